@@ -1,0 +1,104 @@
+-- Worked examples of spellings, traces, models, levels and texts, each by computing.
+use Rattle.std.proofs.Common.{refl, [], ◌∷◌, pos}
+use Rattle.std.specs.Fmt.{digits}
+use Rattle.std.specs.Prelude.{Some, None}
+use Rattle.nano_spec.specs.declared.commands.Command.TheVariants.{SMove, FusionP}
+use Rattle.nano_spec.specs.Legal.{Border, Floating}
+use Rattle.nano_spec.specs.Worked.{coord, diff, voxels_at}
+use Rattle.nano_spec.specs.WorkedBytes.{WorkedSpellings, WorkedTraces, WorkedModels, WorkedTexts}
+use Rattle.nano_spec.proofs.Heads.{bad, cut}
+use Rattle.nano_spec.proofs.Levels.{before, afterwards}
+use Rattle.nano_spec.proofs.Simulation.{legality_is}
+
+pub worked_spellings : WorkedSpellings
+worked_spellings = record {
+  a_move_along_x = (_, refl, refl);
+  a_move_back_along_z = (_, refl, refl);
+  a_move_along_x_and_y = (_, refl, refl);
+  a_move_along_y_and_z = (_, refl, refl);
+  a_primary = (_, refl, refl);
+  a_secondary = (_, refl, refl);
+  a_fission = (_, refl, refl);
+  a_fill = (_, refl, refl);
+  a_void = (_, refl, refl);
+  a_group_fill = (_, refl, refl);
+  a_group_void = (_, refl, refl);
+  without_differences = (_, refl, refl);
+}
+
+pub worked_traces : WorkedTraces
+worked_traces = record {
+  no_bytes = (tt, refl);
+  a_move_along_no_axis = bad (0x04 ∷ []) [] 0 0x04 [] refl refl refl refl refl;
+  a_fill_at_a_corner = bad (0x03 ∷ []) [] 0 0x03 [] refl refl refl refl refl;
+  a_bad_byte_after_a_command = bad (0x77 ∷ 0x04 ∷ []) (FusionP (diff (pos 0) (pos 0) (pos 1)) ∷ []) 1 0x04 [] refl refl refl refl refl;
+  a_move_without_its_length = cut (0x14 ∷ []) [] 0 0x14 [] (SMove (diff (pos 12) (pos 0) (pos 0))) (0x1B ∷ []) refl refl refl refl refl (λ e. cc) refl;
+}
+
+pub worked_models : WorkedModels
+worked_models = record {
+  no_byte = refl;
+  no_resolution = refl;
+  too_great_a_resolution = refl;
+  too_short = refl;
+  too_long = refl;
+  no_wide_resolution = refl;
+  too_small_a_wide_resolution = refl;
+  too_great_a_wide_resolution = refl;
+  an_empty_run = refl;
+  too_long_a_run = refl;
+  a_cut_run = refl;
+  a_byte_after_the_runs = refl;
+  three_runs = refl;
+  three_runs_written = refl;
+  voxels_of_runs = refl;
+  runs_of_voxels = refl;
+  written_without_padding = refl;
+  padding_is_ignored = refl;
+  the_origin_is_full = refl;
+  the_middle_is_full = refl;
+  a_voxel_at_the_border = legality_is 6 (voxels_at 3 (coord 0 0 0 ∷ [])) (Some (Border (coord 0 0 0))) refl;
+  a_column_in_the_box = legality_is 6 (voxels_at 3 (coord 1 0 1 ∷ coord 1 1 1 ∷ [])) None refl;
+  a_voxel_at_the_top = legality_is 6 (voxels_at 3 (coord 1 2 1 ∷ [])) (Some (Border (coord 1 2 1))) refl;
+  a_voxel_at_the_least_x = legality_is 6 (voxels_at 3 (coord 0 0 1 ∷ [])) (Some (Border (coord 0 0 1))) refl;
+  a_voxel_at_the_greatest_x = legality_is 6 (voxels_at 3 (coord 2 0 1 ∷ [])) (Some (Border (coord 2 0 1))) refl;
+  a_voxel_at_the_least_z = legality_is 6 (voxels_at 3 (coord 1 0 0 ∷ [])) (Some (Border (coord 1 0 0))) refl;
+  a_voxel_at_the_greatest_z = legality_is 6 (voxels_at 3 (coord 1 0 2 ∷ [])) (Some (Border (coord 1 0 2))) refl;
+  the_least_at_the_border = legality_is 6 (voxels_at 4 (coord 1 1 1 ∷ coord 3 0 3 ∷ coord 3 1 0 ∷ [])) (Some (Border (coord 3 0 3))) refl;
+  the_least_floating = legality_is 6 (voxels_at 4 (coord 2 1 1 ∷ coord 1 2 2 ∷ [])) (Some (Floating (coord 1 2 2))) refl;
+  an_edge_does_not_ground = legality_is 6 (voxels_at 4 (coord 1 0 1 ∷ coord 2 1 1 ∷ [])) (Some (Floating (coord 2 1 1))) refl;
+  a_floating_voxel = legality_is 6 (voxels_at 3 (coord 1 1 1 ∷ [])) (Some (Floating (coord 1 1 1))) refl;
+  a_level_by_the_nearer_post = before;
+  a_level_by_the_other_post = afterwards;
+}
+
+pub worked_texts : WorkedTexts
+unfolding digits
+worked_texts = record {
+  printed = refl;
+  printed_length = refl;
+  read_again = refl;
+  read_freely = refl;
+  read_nothing = refl;
+  an_unknown_word = refl;
+  no_word = refl;
+  too_few_numbers = refl;
+  no_number = refl;
+  too_many_digits = refl;
+  more_behind = refl;
+  a_small_letter = refl;
+  a_return_in_the_middle = refl;
+  two_returns = refl;
+  a_return_before_a_comment = refl;
+  without_blanks = refl;
+  a_cut_number = refl;
+  a_plus_sign = refl;
+  a_shape_and_a_range = refl;
+  not_ascii_in_an_unknown_word = refl;
+  the_first_faulty_line = refl;
+  not_near = refl;
+  past_a_byte = refl;
+  a_negative_number = refl;
+  not_ascii = refl;
+  not_ascii_in_a_comment = refl;
+}

@@ -1,0 +1,38 @@
+-- Worked examples of the forge, of steps whose groups act one after another, and of work, each by computing.
+use Rattle.std.proofs.Common.{refl}
+use Rattle.nano_spec.specs.declared.outcomes.Rule.TheVariants.{TraceEnds, OutOfSpace, Seeds}
+use Rattle.nano_spec.specs.State.{seed_numbers}
+use Rattle.nano_spec.specs.Work.{stops}
+use Rattle.nano_spec.specs.Worked.{coord}
+use Rattle.nano_spec.proofs.WorkDone.{work_of_a_ring}
+use Rattle.nano_spec.specs.WorkedOthers.{WorkedForge, WorkedOrders, WorkedWork}
+
+pub worked_forge : WorkedForge
+worked_forge = record {
+  mixed_numbers = (refl, refl, refl, refl);
+  another_mixed_number = refl;
+  one_column = refl;
+  one_column_written = refl;
+  no_column = refl;
+  two_columns = refl;
+  two_columns_written = refl;
+  no_room = refl;
+}
+
+pub worked_orders : WorkedOrders
+unfolding seed_numbers
+worked_orders = record {
+  in_rising_order = refl;
+  in_falling_order = refl;
+  a_group_acts_once = refl;
+  a_way_is_filled = refl;
+}
+
+pub worked_work : WorkedWork
+unfolding seed_numbers
+worked_work = record {
+  no_work = stops (record { step = 1; bid = 1; rule = TraceEnds; at = coord 0 0 0 }) refl refl refl;
+  work_of_a_refused_fission = stops (record { step = 1; bid = 1; rule = Seeds; at = coord 0 0 0 }) refl refl refl;
+  work_of_a_ring = work_of_a_ring;
+  work_of_a_command_out_of_space = stops (record { step = 1; bid = 1; rule = OutOfSpace; at = coord 0 0 0 }) refl refl refl;
+}

@@ -1,0 +1,29 @@
+-- When a model is legal (task description, section on models; docs/FORMATS.md, "Geometry").
+use Rattle.std.specs.Prelude.{◌≡◌, ℕ, ◌+◌, Bool, ◌&&◌, not, nat_le, nat_lt, Option, Some, None, option_map, find, MatchOption}
+use Rattle.vox_geom.specs.declared.coordinate.Coord.{Coord}
+use Rattle.nano_spec.specs.Grounded.{FirstUngrounded}
+use Rattle.nano_spec.specs.Matrix.{Matrix, is_full, all_of}
+
+-- why a model is not legal: a full voxel outside the legal box, or one that is not grounded
+pub data NotLegal : Type 0 where
+  Border : Coord → NotLegal
+  Floating : Coord → NotLegal
+
+-- the legal box: x and z from 1 to r - 2, and y from 0 to r - 2
+abbrev pub in_legal_box : ℕ → Coord → Bool
+in_legal_box r c = nat_le 1 c.x && nat_lt (c.x + 1) r && nat_lt (c.y + 1) r && nat_le 1 c.z && nat_lt (c.z + 1) r
+
+-- the least full coordinate outside the legal box
+abbrev pub first_outside : Matrix → Option Coord
+first_outside m = find (λ c. is_full m c && not (in_legal_box m.resolution c)) (all_of m)
+
+-- the model is legal by `None`, or else why not: a voxel outside the box comes first, and then the least that is not grounded
+abbrev pub Legality : Matrix → Option NotLegal → Type 0
+Legality m answer =
+    MatchOption (first_outside m)
+    ((at : Option Coord) × FirstUngrounded m at × (answer ≡ option_map Floating at))
+    (λ c. answer ≡ Some (Border c))
+
+-- the model is legal
+abbrev pub IsLegal : Matrix → Type 0
+IsLegal m = Legality m None

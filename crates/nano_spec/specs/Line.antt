@@ -1,0 +1,71 @@
+-- What a line of text says: nothing, a command, or it is faulty (docs/FORMATS.md, "Trace text").
+use Rattle.std.specs.Prelude.{◌≡◌, IsTrue, Contains, ℕ, ℤ, Bool, cond, nat_lt, ◌==◌, List, [], ◌∷◌, drop, find, take_while, Option, Some, None}
+use Rattle.std.specs.List.{list_all, list_any, before_first, prefix_len}
+use Rattle.std.specs.Str.{bytes_eq}
+use Rattle.nano_spec.specs.declared.commands.Command.{Command}
+use Rattle.nano_spec.specs.LineForm.{is_blank, is_letter, Word, letters, words, form, readings, command_of, has_range}
+
+-- what is wrong with a line
+pub data Fault : Type 0 where
+  NotAscii : Fault
+  UnknownWord : Fault
+  Shape : Fault
+  Range : Fault
+
+-- what a line says: nothing, a command, or it is faulty
+pub data Line : Type 0 where
+  Skipped : Line
+  Says : Command → Line
+  Faulty : Fault → Line
+
+-- the line without a carriage return at its end
+abbrev pub without_return : List ℕ → List ℕ
+without_return [] = []
+without_return (b ∷ []) = cond (b == 13) [] (b ∷ [])
+without_return (b ∷ c ∷ more) = b ∷ without_return (c ∷ more)
+
+-- the line without a carriage return at its end and without its comment, which begins with #
+abbrev pub content : List ℕ → List ℕ
+content line = before_first (λ b. b == 35) (without_return line)
+
+-- the line from its first byte on that is no blank
+abbrev pub from_word : List ℕ → List ℕ
+from_word line = drop (prefix_len is_blank line) line
+
+-- the word of a line that begins with one: the longest run of letters
+abbrev pub word_of : List ℕ → Option Word
+word_of line = find (λ w. bytes_eq (letters w) (take_while is_letter line)) words
+
+-- the rest of a line after its word
+abbrev pub after_word : List ℕ → List ℕ
+after_word line = drop (prefix_len is_letter line) line
+
+-- what the numbers of a reading say
+abbrev pub said : Word → List (List ℤ) → Line
+said w [] = Faulty Shape
+said w (ns ∷ more) = cond (has_range w ns) (Says (command_of w ns)) (Faulty Range)
+
+-- what a line says by its word
+abbrev pub said_by : Option Word → List ℕ → Line
+said_by None rest = Faulty UnknownWord
+said_by (Some w) rest = said w (readings (form w) rest)
+
+-- whether a line has a byte above 7F
+abbrev pub has_high_byte : List ℕ → Bool
+has_high_byte line = list_any (nat_lt 127) line
+
+-- whether nothing is asked of a line but its bytes: it has blanks and a comment at most
+abbrev pub is_skipped : List ℕ → Bool
+is_skipped line = list_all is_blank (content line)
+
+-- the line is of the form of the command: the word is the command's, and the line can be read with its numbers
+abbrev pub IsLineOf : List ℕ → Command → Type 0
+IsLineOf line command =
+    (word : Word) × (ns : List ℤ) × (word_of (from_word (content line)) ≡ Some word) × Contains (readings (form word) (after_word (from_word (content line)))) ns × IsTrue (has_range word ns) × (command ≡ command_of word ns)
+
+-- what a line says
+abbrev pub line_of : List ℕ → Line
+line_of line =
+    cond (has_high_byte line) (Faulty NotAscii)
+    (cond (is_skipped line) Skipped
+    (said_by (word_of (from_word (content line))) (after_word (from_word (content line)))))

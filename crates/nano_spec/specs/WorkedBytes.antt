@@ -1,0 +1,164 @@
+-- Worked examples of spellings, traces, models, levels and texts.
+use Rattle.std.specs.Prelude.{◌≡◌, true, false, flat_map, pos, List, [], ◌∷◌, ◌++◌, Ok, Err, Some, None, codes, length}
+use Rattle.vox_geom.specs.declared.coordinate.Coord.{Coord}
+use Rattle.nano_spec.specs.declared.commands.Command.TheVariants.{Halt, SMove, Fission, Fill}
+use Rattle.nano_spec.specs.Cutting.{Decoding, CutAt, BadAt}
+use Rattle.nano_spec.specs.Legal.{Legality, Border, Floating}
+use Rattle.nano_spec.specs.Level.{Level}
+use Rattle.nano_spec.specs.Matrix.{empty}
+use Rattle.nano_spec.specs.Model.{model, written, volume, runs_in, run_lengths, voxels_of, four_bytes, NoByte, Resolution, Short, Long, WideHead, WideResolution, WideRun, WideShort, WideLong}
+use Rattle.nano_spec.specs.Printing.{print}
+use Rattle.nano_spec.specs.Line.{NotAscii, UnknownWord, Shape, Range}
+use Rattle.nano_spec.specs.Reading.{read}
+use Rattle.nano_spec.specs.Worked.{Assembles, coord, diff, hex, minus, voxels_at}
+
+-- eight voxels at y = 1 round (2,1,2), on the post (3,0,3)
+abbrev pub ring : List Coord
+ring = coord 3 0 3 ∷ coord 1 1 1 ∷ coord 1 1 2 ∷ coord 1 1 3 ∷ coord 2 1 1 ∷ coord 2 1 3 ∷ coord 3 1 1 ∷ coord 3 1 2 ∷ coord 3 1 3 ∷ []
+
+-- how commands are spelled
+pub record WorkedSpellings : Type 0 where
+  pub a_move_along_x : Assembles "SMove <12,0,0>" "14 1B"
+  pub a_move_back_along_z : Assembles "SMove <0,0,-4>" "34 0B"
+  pub a_move_along_x_and_y : Assembles "LMove <3,0,0> <0,-5,0>" "9C 08"
+  pub a_move_along_y_and_z : Assembles "LMove <0,-2,0> <0,0,2>" "EC 73"
+  pub a_primary : Assembles "FusionP <-1,1,0>" "3F"
+  pub a_secondary : Assembles "FusionS <1,-1,0>" "9E"
+  pub a_fission : Assembles "Fission <0,0,1> 5" "75 05"
+  pub a_fill : Assembles "Fill <0,-1,0>" "53"
+  pub a_void : Assembles "Void <1,0,1>" "BA"
+  pub a_group_fill : Assembles "GFill <0,-1,0> <10,-15,20>" "51 28 0F 32"
+  pub a_group_void : Assembles "GVoid <1,0,0> <5,5,-5>" "B0 23 23 19"
+  pub without_differences : Assembles "Halt\nWait\nFlip" "FF FE FD"
+
+-- what the bytes of a trace say
+pub record WorkedTraces : Type 0 where
+  -- the empty trace
+  pub no_bytes : Decoding [] (Ok [])
+  -- the axis 00 is none
+  pub a_move_along_no_axis : Decoding (hex "04") (Err (BadAt 0))
+  -- a corner is no near difference
+  pub a_fill_at_a_corner : Decoding (hex "03") (Err (BadAt 0))
+  -- the bad byte comes second
+  pub a_bad_byte_after_a_command : Decoding (hex "77 04") (Err (BadAt 1))
+  -- the second byte of a move is missing
+  pub a_move_without_its_length : Decoding (hex "14") (Err (CutAt 0))
+
+-- what the bytes of a model say, whether it is legal, and levels
+pub record WorkedModels : Type 0 where
+  -- no byte
+  pub no_byte : model [] ≡ Err NoByte
+  -- the resolution 0
+  pub no_resolution : model (hex "00") ≡ Err (Resolution 0)
+  -- the resolution 251
+  pub too_great_a_resolution : model (hex "FB") ≡ Err (Resolution 251)
+  -- one byte is missing
+  pub too_short : model (hex "03 00 00 00") ≡ Err (Short 5 4)
+  -- one byte is too many
+  pub too_long : model (hex "03 00 00 00 00 00") ≡ Err (Long 5)
+  -- the wide form has three bytes at least
+  pub no_wide_resolution : model (hex "FF") ≡ Err (WideHead 1)
+  -- the resolution 250 has the first form alone
+  pub too_small_a_wide_resolution : model (hex "FF 00 FA") ≡ Err (WideResolution 250)
+  -- the resolution 401
+  pub too_great_a_wide_resolution : model (hex "FF 01 91") ≡ Err (WideResolution 401)
+  -- the second run is 0
+  pub an_empty_run : model (hex "FF 00 FB 00 00 F6 1A 00 00 00 00") ≡ Err (WideRun 1)
+  -- the third run is 1 too long
+  pub too_long_a_run : model (hex "FF 00 FB 00 00 F6 1A 00 00 00 01 00 F0 54 69") ≡ Err (WideRun 2)
+  -- the second run is cut
+  pub a_cut_run : model (hex "FF 00 FB 00 00 F6 1A 00") ≡ Err (WideShort 63002)
+  -- the three runs have all voxels, and one byte is left
+  pub a_byte_after_the_runs : model (hex "FF 00 FB 00 00 F6 1A 00 00 00 01 00 F0 54 68 00") ≡ Err WideLong
+  -- the three runs of the model of resolution 251 with the one voxel (1,0,1)
+  pub three_runs : runs_in (volume 251) 0 0 (hex "00 00 F6 1A 00 00 00 01 00 F0 54 68") ≡ Ok (63002 ∷ 1 ∷ 15750248 ∷ [])
+  -- and how they are written
+  pub three_runs_written : flat_map four_bytes (63002 ∷ 1 ∷ 15750248 ∷ []) ≡ hex "00 00 F6 1A 00 00 00 01 00 F0 54 68"
+  -- the first run is void
+  pub voxels_of_runs : voxels_of false (1 ∷ 2 ∷ 1 ∷ []) ≡ false ∷ true ∷ true ∷ false ∷ []
+  -- the runs of five voxels, of which the first and the last two are full
+  pub runs_of_voxels : run_lengths 0 false (true ∷ false ∷ false ∷ true ∷ true ∷ []) ≡ 0 ∷ 1 ∷ 2 ∷ 2 ∷ []
+  -- unused bits are written 0
+  pub written_without_padding : written (voxels_at 3 (coord 1 0 1 ∷ [])) ≡ hex "03 00 04 00 00"
+  -- the five bits behind the last voxel are ignored
+  pub padding_is_ignored : model (hex "03 00 00 00 F8") ≡ Ok (empty 3)
+  -- the first bit is the origin
+  pub the_origin_is_full : model (hex "03 01 00 00 00") ≡ Ok (voxels_at 3 (coord 0 0 0 ∷ []))
+  -- place 13 is (1,1,1)
+  pub the_middle_is_full : model (hex "03 00 20 00 00") ≡ Ok (voxels_at 3 (coord 1 1 1 ∷ []))
+  -- the origin is outside the legal box
+  pub a_voxel_at_the_border : Legality (voxels_at 3 (coord 0 0 0 ∷ [])) (Some (Border (coord 0 0 0)))
+  -- the other sides of the legal box at resolution 3: the only column in it is (1,0,1) and (1,1,1)
+  pub a_column_in_the_box : Legality (voxels_at 3 (coord 1 0 1 ∷ coord 1 1 1 ∷ [])) None
+  pub a_voxel_at_the_top : Legality (voxels_at 3 (coord 1 2 1 ∷ [])) (Some (Border (coord 1 2 1)))
+  pub a_voxel_at_the_least_x : Legality (voxels_at 3 (coord 0 0 1 ∷ [])) (Some (Border (coord 0 0 1)))
+  pub a_voxel_at_the_greatest_x : Legality (voxels_at 3 (coord 2 0 1 ∷ [])) (Some (Border (coord 2 0 1)))
+  pub a_voxel_at_the_least_z : Legality (voxels_at 3 (coord 1 0 0 ∷ [])) (Some (Border (coord 1 0 0)))
+  pub a_voxel_at_the_greatest_z : Legality (voxels_at 3 (coord 1 0 2 ∷ [])) (Some (Border (coord 1 0 2)))
+  -- the least of two voxels outside the box is answered, although a lesser one floats
+  pub the_least_at_the_border : Legality (voxels_at 4 (coord 1 1 1 ∷ coord 3 0 3 ∷ coord 3 1 0 ∷ [])) (Some (Border (coord 3 0 3)))
+  -- the least of two floating voxels is answered
+  pub the_least_floating : Legality (voxels_at 4 (coord 2 1 1 ∷ coord 1 2 2 ∷ [])) (Some (Floating (coord 1 2 2)))
+  -- voxels that meet at an edge do not ground one another
+  pub an_edge_does_not_ground : Legality (voxels_at 4 (coord 1 0 1 ∷ coord 2 1 1 ∷ [])) (Some (Floating (coord 2 1 1)))
+  -- no voxel is below
+  pub a_floating_voxel : Legality (voxels_at 3 (coord 1 1 1 ∷ [])) (Some (Floating (coord 1 1 1)))
+  -- a ring of eight voxels on two posts
+  pub a_level_by_the_nearer_post : Level (voxels_at 5 (coord 1 0 1 ∷ ring)) (coord 1 1 1) (Some 1)
+  -- the same without the nearer post
+  pub a_level_by_the_other_post : Level (voxels_at 5 ring) (coord 1 1 1) (Some 5)
+
+-- how texts are printed and read
+pub record WorkedTexts : Type 0 where
+  -- a text as it is printed
+  pub printed : print (SMove (diff (pos 1) (pos 0) (pos 0)) ∷ Fill (diff (pos 0) (pos 0) (pos 1)) ∷ SMove (diff (minus 1) (pos 0) (pos 0)) ∷ Halt ∷ []) ≡ codes "SMove <1,0,0>\nFill <0,0,1>\nSMove <-1,0,0>\nHalt\n"
+  -- it has 47 bytes
+  pub printed_length : length (print (SMove (diff (pos 1) (pos 0) (pos 0)) ∷ Fill (diff (pos 0) (pos 0) (pos 1)) ∷ SMove (diff (minus 1) (pos 0) (pos 0)) ∷ Halt ∷ [])) ≡ 47
+  -- and read again
+  pub read_again : read (codes "SMove <1,0,0>\nFill <0,0,1>\nSMove <-1,0,0>\nHalt\n") ≡ Ok (SMove (diff (pos 1) (pos 0) (pos 0)) ∷ Fill (diff (pos 0) (pos 0) (pos 1)) ∷ SMove (diff (minus 1) (pos 0) (pos 0)) ∷ Halt ∷ [])
+  -- with comments, empty lines, blanks and carriage returns
+  pub read_freely : read (codes "# to the voxel\r\n\n\tSMove  < 1 ,0,\t000>\r\nFill<-0,0,001> # filled\r\n \t \nSMove <-1,0,0>\r\nHalt") ≡ Ok (SMove (diff (pos 1) (pos 0) (pos 0)) ∷ Fill (diff (pos 0) (pos 0) (pos 1)) ∷ SMove (diff (minus 1) (pos 0) (pos 0)) ∷ Halt ∷ [])
+  -- the empty text
+  pub read_nothing : read [] ≡ Ok []
+  -- no such word
+  pub an_unknown_word : read (codes "Jump") ≡ Err (record { fault = UnknownWord; line = 1 })
+  -- no word at all
+  pub no_word : read (codes "\n<1,0,0>") ≡ Err (record { fault = UnknownWord; line = 2 })
+  -- a difference has three numbers
+  pub too_few_numbers : read (codes "Fill <0,0>") ≡ Err (record { fault = Shape; line = 1 })
+  -- a Fission has a number
+  pub no_number : read (codes "Fission <0,0,1>") ≡ Err (record { fault = Shape; line = 1 })
+  -- a number has three digits at most
+  pub too_many_digits : read (codes "SMove <0001,0,0>") ≡ Err (record { fault = Shape; line = 1 })
+  -- nothing follows a Halt
+  pub more_behind : read (codes "Halt Halt") ≡ Err (record { fault = Shape; line = 1 })
+  -- words have capital letters
+  pub a_small_letter : read (codes "halt") ≡ Err (record { fault = UnknownWord; line = 1 })
+  -- a carriage return in the middle of a line is no blank
+  pub a_return_in_the_middle : read (codes "Fill\r <0,0,1>") ≡ Err (record { fault = Shape; line = 1 })
+  -- one carriage return is dropped at the end, and a second is not
+  pub two_returns : read (codes "Wait\r\r\n") ≡ Err (record { fault = Shape; line = 1 })
+  -- a carriage return before a comment stays
+  pub a_return_before_a_comment : read (codes "Wait\r# \r\n") ≡ Err (record { fault = Shape; line = 1 })
+  -- no blanks are asked for
+  pub without_blanks : read (codes "Fission<0,0,1>5#") ≡ Ok (Fission (diff (pos 0) (pos 0) (pos 1)) 5 ∷ [])
+  -- a blank within a number
+  pub a_cut_number : read (codes "SMove <1 2,0,0>") ≡ Err (record { fault = Shape; line = 1 })
+  -- a plus sign is no part of a number
+  pub a_plus_sign : read (codes "SMove <+1,0,0>") ≡ Err (record { fault = Shape; line = 1 })
+  -- the shape is asked before the range
+  pub a_shape_and_a_range : read (codes "Fill <1,1,1> 1") ≡ Err (record { fault = Shape; line = 1 })
+  -- a line's bytes are asked before its word
+  pub not_ascii_in_an_unknown_word : read (codes "Jump " ++ 0x80 ∷ []) ≡ Err (record { fault = NotAscii; line = 1 })
+  -- the first faulty line decides
+  pub the_first_faulty_line : read (codes "Wait\nFill <1,1,1>\nJump") ≡ Err (record { fault = Range; line = 2 })
+  -- <1,1,1> is not near
+  pub not_near : read (codes "Fill <1,1,1>") ≡ Err (record { fault = Range; line = 1 })
+  -- a Fission's number is at most 255
+  pub past_a_byte : read (codes "Fission <0,0,1> 256") ≡ Err (record { fault = Range; line = 1 })
+  -- a Fission's number is not negative
+  pub a_negative_number : read (codes "Fission <0,0,1> -1") ≡ Err (record { fault = Range; line = 1 })
+  -- a byte above 7F
+  pub not_ascii : read (codes "Wait\n" ++ 0xC3 ∷ []) ≡ Err (record { fault = NotAscii; line = 2 })
+  -- in a comment too
+  pub not_ascii_in_a_comment : read (codes "Wait\n#" ++ 0xC3 ∷ []) ≡ Err (record { fault = NotAscii; line = 2 })

@@ -1,0 +1,91 @@
+//! Rules, and what comes of a run.
+ghost use Rattle.std.specs.Prelude.{◌≡◌};
+ghost use Rattle.nano_spec.specs.Rule.{name_of, number_of};
+
+use vox_geom::Coord;
+
+/// A rule of a time step or of the end of a run, in the order of their numbers from 1 on
+/// (docs/FORMATS.md, "Rules", says when each is broken, by which bot and where).
+#[derive(Clone, Copy, PartialEq, Eq, Debug)]
+pub enum Rule {
+    TraceEnds,
+    HaltAlone,
+    HaltOrigin,
+    HaltLow,
+    OutOfSpace,
+    Blocked,
+    Seeds,
+    InRegion,
+    Partner,
+    GroupShape,
+    Interference,
+    Ungrounded,
+    AfterHalt,
+    WrongResult,
+    Forbidden,
+}
+
+impl Rule {
+    /// The number of the rule.
+    pub fn number(self) -> u8
+        ensures { result ≡ number_of self }
+    {
+        match self {
+            Rule::TraceEnds => 1,
+            Rule::HaltAlone => 2,
+            Rule::HaltOrigin => 3,
+            Rule::HaltLow => 4,
+            Rule::OutOfSpace => 5,
+            Rule::Blocked => 6,
+            Rule::Seeds => 7,
+            Rule::InRegion => 8,
+            Rule::Partner => 9,
+            Rule::GroupShape => 10,
+            Rule::Interference => 11,
+            Rule::Ungrounded => 12,
+            Rule::AfterHalt => 13,
+            Rule::WrongResult => 14,
+            Rule::Forbidden => 15,
+        }
+    }
+
+    /// The name of the rule, as it is printed.
+    pub fn name(self) -> &'static str
+        ensures { result.now ≡ name_of self }
+    {
+        match self {
+            Rule::TraceEnds => "TraceEnds",
+            Rule::HaltAlone => "HaltAlone",
+            Rule::HaltOrigin => "HaltOrigin",
+            Rule::HaltLow => "HaltLow",
+            Rule::OutOfSpace => "OutOfSpace",
+            Rule::Blocked => "Blocked",
+            Rule::Seeds => "Seeds",
+            Rule::InRegion => "InRegion",
+            Rule::Partner => "Partner",
+            Rule::GroupShape => "GroupShape",
+            Rule::Interference => "Interference",
+            Rule::Ungrounded => "Ungrounded",
+            Rule::AfterHalt => "AfterHalt",
+            Rule::WrongResult => "WrongResult",
+            Rule::Forbidden => "Forbidden",
+        }
+    }
+}
+
+/// The first rule that is broken: in which step, counted from 1, by which bot, and where. The bot is 0 for the rules
+/// that speak of the whole state: `Ungrounded`, `AfterHalt` and `WrongResult`.
+#[derive(Clone, Copy, PartialEq, Eq, Debug)]
+pub struct Broken {
+    pub step: u32,
+    pub bid: u8,
+    pub rule: Rule,
+    pub at: Coord,
+}
+
+/// What comes of a run: its whole energy and the number of its steps, or the first rule that is broken.
+#[derive(Clone, Copy, PartialEq, Eq, Debug)]
+pub enum Verdict {
+    Accepted { energy: i64, steps: u32 },
+    Refused(Broken),
+}

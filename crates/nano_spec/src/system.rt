@@ -1,0 +1,58 @@
+//! The parts of the system's state, and its profiles.
+ghost use Rattle.std.specs.Prelude.{◌≡◌};
+ghost use Rattle.nano_spec.specs.Profile.{full_profile, is_allowed, light_profile};
+
+use crate::commands::Command;
+use vox_geom::Coord;
+
+/// The harmonics of a state. Under `Low` every full voxel has to be grounded; `High` costs ten times the upkeep for space.
+#[derive(Clone, Copy, PartialEq, Eq, Debug)]
+pub enum Harmonics {
+    Low,
+    High,
+}
+
+/// An active bot, with a bid from 1 to 40. Bit k of `seeds` says that k is a seed: the bid of a bot that it can make.
+#[derive(Clone, Copy, PartialEq, Eq, Debug)]
+pub struct Bot {
+    pub bid: u8,
+    pub pos: Coord,
+    pub seeds: u64,
+}
+
+/// What a run may use (docs/FORMATS.md, "Profiles"). The first bot has so many seeds, the numbers from 2 on. Bit k of
+/// `allowed` says that the k-th command, counted from 0 in the order of [`Command`], is allowed.
+#[derive(Clone, Copy, PartialEq, Eq, Debug)]
+pub struct Profile {
+    pub seeds: u8,
+    pub allowed: u16,
+}
+
+impl Profile {
+    /// The profile of the contest: 39 seeds, the numbers 2 to 40, and all commands.
+    pub fn full() -> Profile
+        ensures { result ≡ full_profile }
+    {
+        Profile {
+            seeds: 39,
+            allowed: 0x0FFF,
+        }
+    }
+
+    /// The light profile: 19 seeds, the numbers 2 to 20, and all commands but `Void`, `GFill` and `GVoid`.
+    pub fn light() -> Profile
+        ensures { result ≡ light_profile }
+    {
+        Profile {
+            seeds: 19,
+            allowed: 0x01FF,
+        }
+    }
+
+    /// Whether the command is allowed.
+    pub fn allows(self, c: Command) -> bool
+        ensures { result ≡ is_allowed self c }
+    {
+        (self.allowed >> c.index()) % 2 == 1
+    }
+}

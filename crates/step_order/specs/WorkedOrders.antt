@@ -1,0 +1,47 @@
+-- Worked examples of orders: where a rule is broken the order of the groups matters, and where none is it does not.
+use Rattle.std.specs.Prelude.{◌≡◌, pos, List, [], ◌∷◌, Some, None}
+use Rattle.nano_spec.specs.declared.commands.Command.{Command}
+use Rattle.nano_spec.specs.declared.commands.Command.TheVariants.{SMove, Fill, Fission}
+use Rattle.nano_spec.specs.declared.outcomes.Rule.TheVariants.{Interference}
+use Rattle.nano_spec.specs.declared.system.Bot.{Bot}
+use Rattle.nano_spec.specs.declared.system.Harmonics.TheVariants.{Low}
+use Rattle.nano_spec.specs.Act.{acts}
+use Rattle.nano_spec.specs.Matrix.{empty}
+use Rattle.nano_spec.specs.Profile.{full_profile}
+use Rattle.nano_spec.specs.Rules.{broken}
+use Rattle.nano_spec.specs.State.{IsReady, State}
+use Rattle.nano_spec.specs.Step.{after}
+use Rattle.nano_spec.specs.Worked.{coord, diff, minus}
+use Rattle.nano_spec.specs.Serial.{leader_bids, serial}
+
+-- two bots in an empty space of resolution 3, of which the first has the seeds 5, 6 and 7
+abbrev pub first_bot : Bot
+first_bot = record { bid = 1; pos = coord 0 0 0; seeds = 224 }
+
+abbrev pub second_bot : Bot
+second_bot = record { bid = 2; pos = coord 0 0 2; seeds = 0 }
+
+abbrev pub two_bots : State
+two_bots = record { matrix = empty 3; harmonics = Low; bots = first_bot ∷ second_bot ∷ []; energy = pos 0; profile = full_profile }
+
+-- the first fills (0,0,1), and the second goes there: the groups interfere. In the order of their bids the second meets a blocked way, and in the other it does not
+abbrev pub into_one_place : List Command
+into_one_place = Fill (diff (pos 0) (pos 0) (pos 1)) ∷ SMove (diff (pos 0) (pos 0) (minus 1)) ∷ []
+
+abbrev pub OrderMatters : Type 0
+OrderMatters =
+    (broken two_bots into_one_place 1 ≡ Some (record { step = 1; bid = 1; rule = Interference; at = coord 0 0 1 }))
+    × (serial two_bots into_one_place (1 ∷ 2 ∷ []) ≡ None)
+    × (serial two_bots into_one_place (2 ∷ 1 ∷ []) ≡ Some (after two_bots into_one_place))
+
+-- the first splits, and the second fills a voxel: no rule is broken, and either order ends in one state
+abbrev pub apart : List Command
+apart = Fission (diff (pos 0) (pos 1) (pos 0)) 1 ∷ Fill (diff (pos 1) (pos 0) (pos 0)) ∷ []
+
+abbrev pub OrderIsFree : Type 0
+OrderIsFree =
+    IsReady two_bots
+    × (broken two_bots apart 1 ≡ None)
+    × (leader_bids (acts two_bots.bots apart) ≡ 1 ∷ 2 ∷ [])
+    × (serial two_bots apart (1 ∷ 2 ∷ []) ≡ Some (after two_bots apart))
+    × (serial two_bots apart (2 ∷ 1 ∷ []) ≡ Some (after two_bots apart))

@@ -1,0 +1,121 @@
+-- A region has as many coordinates of the matrix as its size says.
+use Rattle.std.proofs.Common.{◌≡◌, ℕ, zero, suc, ◌+◌, ◌-◌, ◌*◌, ◌/◌, ◌%◌, ◌<◌, ◌≤◌, refl, ap, sym, ◌∙◌, arith, Bool, true, false, cond, ◌&&◌, map, pos}
+use Rattle.std.specs.Prelude.{count_by}
+use Rattle.std.proofs.lemmas.Bool.Decides.{nat_tests}
+use Rattle.std.proofs.lemmas.Int.{ints}
+use Rattle.std.proofs.lemmas.List.Sums.{sum_by-cons}
+use Rattle.std.proofs.Math.Nat.{div-div-eq-div-mul}
+use Rattle.std.proofs.Math.Arith.{digits_div, digits_mod}
+use Rattle.vox_geom.specs.declared.coordinate.Coord.{Coord}
+use Rattle.vox_geom.specs.Point.{point}
+use Rattle.vox_geom.specs.Region.{Corners, IsOrdered, extent, is_between, is_within, size, span}
+use Rattle.vox_geom.specs.Space.{IsInSpace, coordinate_at, coordinates, numbers_from}
+
+-- how many of n numbers, from a on, pass the test
+tally : (ℕ → Bool) → ℕ → ℕ → ℕ
+tally p zero a = 0
+tally p (suc n) a = cond (p a) 1 0 + tally p n (a + 1)
+
+counted : (p : Coord → Bool) (f : ℕ → Coord) (n a : ℕ) → count_by p (map f (numbers_from a n)) ≡ tally (λ k. p (f k)) n a
+unfolding tally
+counted p f zero a = refl
+counted p f (suc n) a = sum_by-cons (λ c. cond (p c) 1 0) (f a) (map f (numbers_from (a + 1) n)) ∙ ap (λ k. cond (p (f a)) 1 0 + k) (counted p f n (a + 1))
+
+same_tally : (p q : ℕ → Bool) (n a : ℕ) → ((k : ℕ) → a ≤ k → k < a + n → p k ≡ q k) → tally p n a ≡ tally q n a
+unfolding tally
+same_tally p q zero a h = refl
+same_tally p q (suc n) a h =
+    ap (λ b. cond b 1 0 + tally p n (a + 1)) (h a (omega arith) (omega arith))
+    ∙ ap (λ k. cond (q a) 1 0 + k) (same_tally p q n (a + 1) (λ k i j. h k (omega arith) (omega arith)))
+
+none_tallied : (n a : ℕ) → tally (λ _. false) n a ≡ 0
+unfolding tally
+none_tallied zero a = refl
+none_tallied (suc n) a = ap (λ k. 0 + k) (none_tallied n (a + 1))
+
+all_tallied : (n a : ℕ) → tally (λ _. true) n a ≡ n
+unfolding tally
+all_tallied zero a = refl
+all_tallied (suc n) a = ap (λ k. 1 + k) (all_tallied n (a + 1)) ∙ omega arith
+
+in_parts : (p : ℕ → Bool) (m n a : ℕ) → tally p (m + n) a ≡ tally p m a + tally p n (a + m)
+unfolding tally
+in_parts p zero n a = let e : 0 + n ≡ n = omega arith in let f : a + 0 ≡ a = omega arith in rw (e, f) (omega arith)
+in_parts p (suc m) n a =
+    let e : suc m + n ≡ suc (m + n) = omega arith in
+    let f : a + suc m ≡ a + 1 + m = omega arith in
+    ap (λ k. tally p k a) e ∙ (ap (λ k. cond (p a) 1 0 + k) (in_parts p m n (a + 1)) ∙ (omega arith ∙ ap (λ v. cond (p a) 1 0 + tally p m (a + 1) + tally p n v) (sym f)))
+
+-- numbers moved up by a
+moved : (p : ℕ → Bool) (n a b : ℕ) → tally p n (a + b) ≡ tally (λ k. p (a + k)) n b
+unfolding tally
+moved p zero a b = refl
+moved p (suc n) a b = let e : a + b + 1 ≡ a + (b + 1) = omega arith in ap (λ v. cond (p (a + b)) 1 0 + tally p n v) e ∙ ap (λ k. cond (p (a + b)) 1 0 + k) (moved p n a (b + 1))
+
+with_test : (b : Bool) (g : ℕ → Bool) (n a : ℕ) → tally (λ k. b && g k) n a ≡ cond b 1 0 * tally g n a
+with_test true g n a = omega arith
+with_test false g n a = none_tallied n a ∙ omega arith
+
+-- pairs of numbers, as n digits before m digits, are counted one by one
+pairs : (f g : ℕ → Bool) (m n : ℕ) → tally (λ p. f (p / m) && g (p % m)) (n * m) 0 ≡ tally f n 0 * tally g m 0
+unfolding tally
+pairs f g m zero = let e : 0 * m ≡ 0 = omega arith in rw e (omega arith)
+pairs f g m (suc n) =
+    let both : ℕ → Bool = λ p. f (p / m) && g (p % m) in
+    let e : suc n * m ≡ n * m + m = omega arith in
+    let split : tally both (n * m + m) 0 ≡ tally both (n * m) 0 + tally both m (0 + n * m) = in_parts both (n * m) m 0 in
+    let up : tally both m (0 + n * m) ≡ tally both m (n * m + 0) = (let i : 0 + n * m ≡ n * m + 0 = omega arith in ap (tally both m) i) in
+    let at : tally both m (n * m + 0) ≡ tally (λ k. both (n * m + k)) m 0 = moved both m (n * m) 0 in
+    let same : tally (λ k. both (n * m + k)) m 0 ≡ tally (λ k. f n && g k) m 0 = same_tally (λ k. both (n * m + k)) (λ k. f n && g k) m 0 (λ k i j. digits k j) in
+    let last : tally (λ k. f n && g k) m 0 ≡ cond (f n) 1 0 * tally g m 0 = with_test (f n) g m 0 in
+    let first : tally both (n * m) 0 ≡ tally f n 0 * tally g m 0 = pairs f g m n in
+    let one : tally f (n + 1) 0 ≡ tally f n 0 + tally f 1 (0 + n) = in_parts f n 1 0 in
+    let here : tally f 1 (0 + n) ≡ cond (f n) 1 0 = (let i : 0 + n ≡ n = omega arith in ap (λ v. cond (f v) 1 0 + 0) i ∙ omega arith) in
+    let whole : tally f (suc n) 0 ≡ tally f n 0 + cond (f n) 1 0 = (let i : suc n ≡ n + 1 = omega arith in ap (λ v. tally f v 0) i) ∙ (one ∙ ap (λ v. tally f n 0 + v) here) in
+    ap (λ v. tally both v 0) e ∙ (split ∙ (ap (λ v. v + tally both m (0 + n * m)) first ∙ (ap (λ v. tally f n 0 * tally g m 0 + v) (up ∙ (at ∙ (same ∙ last))) ∙ (omega arith ∙ ap (λ v. v * tally g m 0) (sym whole)))))
+  where
+    digits : (k : ℕ) → k < 0 + m → (f ((n * m + k) / m) && g ((n * m + k) % m)) ≡ (f n && g k)
+    digits k j = let l : k < m = omega arith in ap (λ v. f v && g ((n * m + k) % m)) (digits_div n l) ∙ ap (λ v. f n && g v) (digits_mod n l)
+
+-- ---- a region's coordinates
+
+inside : (low high v : ℕ) → low ≤ v → v ≤ high → is_between (pos low) (pos high) (pos v) ≡ true
+inside low high v h k = grind (arith, nat_tests)
+
+below : (low high v : ℕ) → low ≤ high → v < low → is_between (pos low) (pos high) (pos v) ≡ false
+below low high v h k = grind (arith, nat_tests)
+
+above : (low high v : ℕ) → low ≤ high → high < v → is_between (pos low) (pos high) (pos v) ≡ false
+above low high v h k = grind (arith, nat_tests)
+
+extent_is : (low high : ℕ) → low ≤ high → extent (pos low) (pos high) ≡ high - low + 1
+extent_is low high h = omega (arith, ints)
+
+-- as many numbers below r lie between two of them as the extent says
+between_tallied : (low high r : ℕ) → low ≤ high → high < r → tally (λ v. is_between (pos low) (pos high) (pos v)) r 0 ≡ extent (pos low) (pos high)
+between_tallied low high r h k =
+    let test : ℕ → Bool = λ v. is_between (pos low) (pos high) (pos v) in
+    let n = high - low + 1 in
+    let m = r - (high + 1) in
+    let e : r ≡ low + (n + m) = omega arith in
+    let front : tally test low 0 ≡ 0 = same_tally test (λ _. false) low 0 (λ v i j. below low high v h (omega arith)) ∙ none_tallied low 0 in
+    let middle : tally test n (0 + low) ≡ n = same_tally test (λ _. true) n (0 + low) (λ v i j. inside low high v (omega arith) (omega arith)) ∙ all_tallied n (0 + low) in
+    let back : tally test m (0 + low + n) ≡ 0 = same_tally test (λ _. false) m (0 + low + n) (λ v i j. above low high v h (omega arith)) ∙ none_tallied m (0 + low + n) in
+    let outer : tally test (low + (n + m)) 0 ≡ tally test low 0 + tally test (n + m) (0 + low) = in_parts test low (n + m) 0 in
+    let inner : tally test (n + m) (0 + low) ≡ tally test n (0 + low) + tally test m (0 + low + n) = in_parts test n m (0 + low) in
+    ap (λ v. tally test v 0) e ∙ (outer ∙ (omega arith ∙ sym (extent_is low high h)))
+
+-- the number of coordinates of the matrix that are in a region is the region's size
+pub region_count : (r : ℕ) (k : Corners) → IsOrdered k → IsInSpace r k.high → count_by (λ c. is_within (span k) (point c)) (coordinates r) ≡ size (span k)
+region_count r k o h =
+    let x : ℕ → Bool = λ v. is_between (pos k.low.x) (pos k.high.x) (pos v) in
+    let y : ℕ → Bool = λ v. is_between (pos k.low.y) (pos k.high.y) (pos v) in
+    let z : ℕ → Bool = λ v. is_between (pos k.low.z) (pos k.high.z) (pos v) in
+    let front : ℕ → Bool = λ q. x (q / r) && y (q % r) in
+    counted (λ c. is_within (span k) (point c)) (coordinate_at r) (r * r * r) 0
+    ∙ (same_tally (λ p. x (p / (r * r)) && y (p / r % r) && z (p % r)) (λ p. front (p / r) && z (p % r)) (r * r * r) 0 (λ p i j. ap (λ v. x v && y (p / r % r) && z (p % r)) (sym (div-div-eq-div-mul p r r)))
+    ∙ (pairs front z r (r * r)
+    ∙ (ap (λ v. v * tally z r 0) (pairs x y r r)
+    ∙ (ap (λ v. v * tally y r 0 * tally z r 0) (between_tallied k.low.x k.high.x r o.x h.x)
+    ∙ (ap (λ v. extent (pos k.low.x) (pos k.high.x) * v * tally z r 0) (between_tallied k.low.y k.high.y r o.y h.y)
+    ∙ ap (λ v. extent (pos k.low.x) (pos k.high.x) * extent (pos k.low.y) (pos k.high.y) * v) (between_tallied k.low.z k.high.z r o.z h.z))))))

@@ -1,0 +1,5 @@
+pub mod Counts
+pub mod Covers
+pub mod Firsts
+pub mod Places
+pub mod Shares

@@ -1,0 +1,5 @@
+pub mod Difference
+pub mod Least
+pub mod Point
+pub mod Region
+pub mod Space

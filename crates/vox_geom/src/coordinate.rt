@@ -1,0 +1,76 @@
+//! Coordinates of a matrix.
+ghost use Rattle.std.specs.Prelude.{◌≡◌, ◌<◌, ◌≤◌, ◌*◌, ◌↔◌, IsSome, IfSome, IsTrue, pos, ◌+ℤ◌, unsigned_abs};
+ghost use Rattle.std.specs.Option.{SomeIff};
+ghost use Rattle.vox_geom.specs.Point.{point, plus as point_plus};
+ghost use Rattle.vox_geom.specs.Space.{IsInSpace, in_range, in_space, place as place_of, coordinate_at};
+
+use crate::MOST_R;
+use crate::difference::Diff;
+
+/// A coordinate of a matrix, ordered by x, then y, then z. The axis y points up.
+#[derive(Clone, Copy, PartialEq, Eq, PartialOrd, Ord, Hash, Default, Debug)]
+pub struct Coord {
+    pub x: u16,
+    pub y: u16,
+    pub z: u16,
+}
+
+/// A component and what is added to it, where the sum is from 0 to r - 1.
+fn shifted(v: u16, by: i16, r: u16) -> Option<u16>
+    ensures { SomeIff result (IsTrue (in_range r (pos v +ℤ by))) (unsigned_abs (pos v +ℤ by)) }
+{
+    let sum = i32::from(v) + i32::from(by);
+    if 0 <= sum && sum < i32::from(r) {
+        Some(sum as u16)
+    } else {
+        None
+    }
+}
+
+impl Coord {
+    /// The coordinate that the difference leads to: `None` exactly where it is outside the matrix.
+    pub fn plus(self, d: Diff, r: u16) -> Option<Coord>
+        requires { IsInSpace r self }
+        ensures within { IsSome result ↔ IsTrue (in_space r (point_plus (point self) d)) }
+        ensures sum { IfSome result (λ c. point c ≡ point_plus (point self) d) }
+    {
+        match (
+            shifted(self.x, d.dx, r),
+            shifted(self.y, d.dy, r),
+            shifted(self.z, d.dz, r),
+        ) {
+            (Some(x), Some(y), Some(z)) => Some(Coord { x, y, z }),
+            _ => None,
+        }
+    }
+
+    /// The coordinate at a place of a matrix of resolution r.
+    #[tactic(auto, using(crate::proofs::Places::places))]
+    pub fn of_place(p: u32, r: u16) -> Coord
+        requires resolution { r ≤ MOST_R }
+        requires place { p < r * r * r }
+        ensures value { result ≡ coordinate_at r p }
+        ensures within { IsInSpace r result }
+        ensures inverse { place_of r result ≡ p }
+    {
+        let side = u32::from(r);
+        Coord {
+            x: (p / (side * side)) as u16,
+            y: (p / side % side) as u16,
+            z: (p % side) as u16,
+        }
+    }
+}
+
+/// The place of a coordinate of a matrix of resolution r, in the order by x, then y, then z.
+#[tactic(auto, using(crate::proofs::Places::places))]
+pub fn place(c: Coord, r: u16) -> u32
+    requires resolution { r ≤ MOST_R }
+    requires within { IsInSpace r c }
+    ensures value { result ≡ place_of r c }
+    ensures below { result < r * r * r }
+    ensures inverse { coordinate_at r result ≡ c }
+{
+    let side = u32::from(r);
+    u32::from(c.x) * side * side + u32::from(c.y) * side + u32::from(c.z)
+}

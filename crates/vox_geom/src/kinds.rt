@@ -1,0 +1,247 @@
+//! Differences of a kind, valid by type.
+ghost use Rattle.std.specs.Prelude.{◌≡◌, ◌≤◌, IsTrue, ◌↔◌};
+ghost use Rattle.std.specs.Option.{SomeIff};
+ghost use Rattle.vox_geom.specs.Difference.{mlen as manhattan_length, clen as chessboard_length, nonzero as nonzero_of, is_linear as is_linear_difference, IsNear, IsFar, IsShort, IsLong};
+
+use crate::difference::Diff;
+use std::marker::Model;
+
+/// The sum of the absolute values.
+fn mlen(d: Diff) -> u32
+    ensures { result ≡ manhattan_length d }
+{
+    u32::from(d.dx.unsigned_abs()) + u32::from(d.dy.unsigned_abs()) + u32::from(d.dz.unsigned_abs())
+}
+
+/// The greatest absolute value.
+fn clen(d: Diff) -> u16
+    ensures { result ≡ chessboard_length d }
+{
+    d.dx.unsigned_abs()
+        .max(d.dy.unsigned_abs().max(d.dz.unsigned_abs()))
+}
+
+/// 1 for a component that is not 0.
+fn nonzero(v: i16) -> u8
+    ensures { result ≡ nonzero_of v }
+{
+    if v == 0 { 0 } else { 1 }
+}
+
+/// Whether exactly one component is not 0.
+fn is_linear(d: Diff) -> bool
+    ensures { result ≡ is_linear_difference d }
+{
+    nonzero(d.dx) + nonzero(d.dy) + nonzero(d.dz) == 1
+}
+
+/// A difference of small components, a byte each.
+#[derive(Clone, Copy, PartialEq, Eq, Hash, Debug)]
+struct Small {
+    dx: i8,
+    dy: i8,
+    dz: i8,
+}
+
+impl Model for Small {
+    ghost use Rattle.vox_geom.specs.declared.difference.Diff.{Diff};
+
+    ghost Value = { Diff };
+
+    ghost view = { λ s. record { dx = s.dx; dy = s.dy; dz = s.dz } };
+
+    ghost inverse = { λ d. record { dx = d.dx; dy = d.dy; dz = d.dz } };
+}
+
+impl Small {
+    /// A difference whose components are at most 30 either way, as those of every kind are.
+    fn of(d: Diff) -> Small
+        requires { chessboard_length d ≤ 30 }
+        ensures { result ≡ d }
+    {
+        Small {
+            dx: d.dx as i8,
+            dy: d.dy as i8,
+            dz: d.dz as i8,
+        }
+    }
+
+    /// The difference that it stands for.
+    fn diff(self) -> Diff
+        ensures { result ≡ self }
+    {
+        Diff {
+            dx: i16::from(self.dx),
+            dy: i16::from(self.dy),
+            dz: i16::from(self.dz),
+        }
+    }
+}
+
+/// A near difference: its Manhattan length is 1 or 2 and its Chessboard length 1. There are 18.
+#[derive(Clone, Copy, PartialEq, Eq, Hash, Debug)]
+pub struct Near {
+    difference: Small,
+}
+
+impl Model for Near {
+    ghost use Rattle.vox_geom.specs.declared.difference.Diff.{Diff};
+    ghost use Rattle.vox_geom.specs.Difference.{IsNear};
+
+    ghost Value = { Diff };
+
+    ghost view = { λ n. n.difference };
+
+    ghost invariant = { λ n. IsNear n.difference };
+
+    ghost inverse = { λ d. record { difference = d } };
+}
+
+impl Near {
+    /// The difference as a near one: `None` exactly where it is none.
+    pub fn of(d: Diff) -> Option<Near>
+        ensures { SomeIff result (IsNear d) d }
+    {
+        if clen(d) == 1 && (mlen(d) == 1 || mlen(d) == 2) {
+            Some(Near {
+                difference: Small::of(d),
+            })
+        } else {
+            None
+        }
+    }
+
+    /// The difference that it stands for.
+    pub fn diff(self) -> Diff
+        ensures value { result ≡ self }
+        ensures kind { IsNear result }
+    {
+        self.difference.diff()
+    }
+}
+
+/// A far difference: its Chessboard length is 1 to 30.
+#[derive(Clone, Copy, PartialEq, Eq, Hash, Debug)]
+pub struct Far {
+    difference: Small,
+}
+
+impl Model for Far {
+    ghost use Rattle.vox_geom.specs.declared.difference.Diff.{Diff};
+    ghost use Rattle.vox_geom.specs.Difference.{IsFar};
+
+    ghost Value = { Diff };
+
+    ghost view = { λ n. n.difference };
+
+    ghost invariant = { λ n. IsFar n.difference };
+
+    ghost inverse = { λ d. record { difference = d } };
+}
+
+impl Far {
+    /// The difference as a far one: `None` exactly where it is none.
+    pub fn of(d: Diff) -> Option<Far>
+        ensures { SomeIff result (IsFar d) d }
+    {
+        if 1 <= clen(d) && clen(d) <= 30 {
+            Some(Far {
+                difference: Small::of(d),
+            })
+        } else {
+            None
+        }
+    }
+
+    /// The difference that it stands for.
+    pub fn diff(self) -> Diff
+        ensures value { result ≡ self }
+        ensures kind { IsFar result }
+    {
+        self.difference.diff()
+    }
+}
+
+/// A short linear difference: along one axis, by 1 to 5.
+#[derive(Clone, Copy, PartialEq, Eq, Hash, Debug)]
+pub struct Short {
+    difference: Small,
+}
+
+impl Model for Short {
+    ghost use Rattle.vox_geom.specs.declared.difference.Diff.{Diff};
+    ghost use Rattle.vox_geom.specs.Difference.{IsShort};
+
+    ghost Value = { Diff };
+
+    ghost view = { λ n. n.difference };
+
+    ghost invariant = { λ n. IsShort n.difference };
+
+    ghost inverse = { λ d. record { difference = d } };
+}
+
+impl Short {
+    /// The difference as a short linear one: `None` exactly where it is none.
+    pub fn of(d: Diff) -> Option<Short>
+        ensures { SomeIff result (IsShort d) d }
+    {
+        if is_linear(d) && mlen(d) <= 5 {
+            Some(Short {
+                difference: Small::of(d),
+            })
+        } else {
+            None
+        }
+    }
+
+    /// The difference that it stands for.
+    pub fn diff(self) -> Diff
+        ensures value { result ≡ self }
+        ensures kind { IsShort result }
+    {
+        self.difference.diff()
+    }
+}
+
+/// A long linear difference: along one axis, by 1 to 15.
+#[derive(Clone, Copy, PartialEq, Eq, Hash, Debug)]
+pub struct Long {
+    difference: Small,
+}
+
+impl Model for Long {
+    ghost use Rattle.vox_geom.specs.declared.difference.Diff.{Diff};
+    ghost use Rattle.vox_geom.specs.Difference.{IsLong};
+
+    ghost Value = { Diff };
+
+    ghost view = { λ n. n.difference };
+
+    ghost invariant = { λ n. IsLong n.difference };
+
+    ghost inverse = { λ d. record { difference = d } };
+}
+
+impl Long {
+    /// The difference as a long linear one: `None` exactly where it is none.
+    pub fn of(d: Diff) -> Option<Long>
+        ensures { SomeIff result (IsLong d) d }
+    {
+        if is_linear(d) && mlen(d) <= 15 {
+            Some(Long {
+                difference: Small::of(d),
+            })
+        } else {
+            None
+        }
+    }
+
+    /// The difference that it stands for.
+    pub fn diff(self) -> Diff
+        ensures value { result ≡ self }
+        ensures kind { IsLong result }
+    {
+        self.difference.diff()
+    }
+}

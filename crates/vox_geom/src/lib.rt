@@ -1,0 +1,24 @@
+//! Coordinates of a matrix, differences and their kinds, regions, and the counter of touches
+//! (docs/FORMATS.md, "Geometry"). Nothing here takes memory.
+#![tactic(auto)]
+
+mod boxes;
+mod coordinate;
+mod difference;
+mod kinds;
+mod laws;
+mod touches;
+
+pub use boxes::Region;
+pub use coordinate::{Coord, place};
+pub use difference::Diff;
+pub use kinds::{Far, Long, Near, Short};
+pub use laws::{least_is_first, places_rise};
+pub use touches::Steps;
+
+/// The greatest resolution of a matrix. Resolutions are 1 to this.
+pub const MOST_R: u16 = 400;
+
+/// Memory was refused: the answer of calls that can fail for want of memory alone.
+#[derive(Clone, Copy, PartialEq, Eq, Debug)]
+pub struct Memory;
