@@ -1,10 +1,11 @@
 -- What a step costs (task description, sections on execution and on commands; that the Halt step pays its upkeep is this project's own: docs/FORMATS.md, "Commands").
-use Rattle.std.specs.Prelude.{◌+◌, ◌*◌, ℤ, pos, negsuc, ◌+ℤ◌, cond, List, [], ◌∷◌, length, map, filter}
+use Rattle.std.specs.Prelude.{ℕ, ◌+◌, ◌*◌, ℤ, pos, negsuc, ◌+ℤ◌, cond, List, [], ◌∷◌, length, map, filter}
 use Rattle.vox_geom.specs.Difference.{mlen}
 use Rattle.vox_geom.specs.Point.{Point, point, plus}
 use Rattle.vox_geom.specs.Region.{between, Span, just, is_within}
 use Rattle.nano_spec.specs.declared.commands.Command.{Command}
 use Rattle.nano_spec.specs.declared.commands.Command.TheVariants.{Halt, Wait, Flip, SMove, LMove, FusionP, FusionS, Fission, Fill, Void, GFill, GVoid}
+use Rattle.nano_spec.specs.declared.system.Harmonics.{Harmonics}
 use Rattle.nano_spec.specs.Act.{Act, position}
 use Rattle.nano_spec.specs.Group.{leaders}
 use Rattle.nano_spec.specs.Matrix.{Matrix, is_full, all_of}
@@ -42,9 +43,13 @@ group_cost m p (Void d) = voiding m (just (plus p d))
 group_cost m p (GFill d f) = filling m (between (plus p d) (plus (plus p d) f))
 group_cost m p (GVoid d f) = voiding m (between (plus p d) (plus (plus p d) f))
 
+-- the upkeep of a step at a resolution, under these harmonics, with this number of bots
+abbrev pub upkeep_of : ℕ → Harmonics → ℕ → ℤ
+upkeep_of r harmonics bots = pos (cond (is_high harmonics) 30 3 * (r * r * r) + 20 * bots)
+
 -- the upkeep of a step, by the harmonics and the bots at its start
 abbrev pub upkeep : State → ℤ
-upkeep s = pos (cond (is_high s.harmonics) 30 3 * (s.matrix.resolution * s.matrix.resolution * s.matrix.resolution) + 20 * length s.bots)
+upkeep s = upkeep_of s.matrix.resolution s.harmonics (length s.bots)
 
 -- the cost of all groups, from the voxels at the step's start
 abbrev pub groups_cost : Matrix → List Act → ℤ

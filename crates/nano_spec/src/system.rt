@@ -13,7 +13,7 @@ pub enum Harmonics {
 }
 
 /// An active bot, with a bid from 1 to 40. Bit k of `seeds` says that k is a seed: the bid of a bot that it can make.
-#[derive(Clone, Copy, PartialEq, Eq, Debug)]
+#[derive(Clone, Copy, PartialEq, Eq, Default, Debug)]
 pub struct Bot {
     pub bid: u8,
     pub pos: Coord,

@@ -1,14 +1,15 @@
 -- A region has as many coordinates of the matrix as its size says.
-use Rattle.std.proofs.Common.{◌≡◌, ℕ, zero, suc, ◌+◌, ◌-◌, ◌*◌, ◌/◌, ◌%◌, ◌<◌, ◌≤◌, refl, ap, sym, ◌∙◌, arith, Bool, true, false, cond, ◌&&◌, map, pos}
-use Rattle.std.specs.Prelude.{count_by}
+use Rattle.std.proofs.Common.{◌≡◌, ℕ, zero, suc, ◌+◌, ◌-◌, ◌*◌, ◌/◌, ◌%◌, ◌<◌, ◌≤◌, refl, ap, sym, ◌∙◌, arith, Bool, true, false, cond, ◌&&◌, ◌||◌, map, pos, negsuc, ℤ, inl, inr}
+use Rattle.std.specs.Prelude.{◌⊎◌, count_by, int_le}
+use Rattle.std.proofs.lemmas.Bool.{cases_lt}
 use Rattle.std.proofs.lemmas.Bool.Decides.{nat_tests}
 use Rattle.std.proofs.lemmas.Int.{ints}
 use Rattle.std.proofs.lemmas.List.Sums.{sum_by-cons}
-use Rattle.std.proofs.Math.Nat.{div-div-eq-div-mul}
+use Rattle.std.proofs.Math.Nat.{div-div-eq-div-mul, mul-le-mul}
 use Rattle.std.proofs.Math.Arith.{digits_div, digits_mod}
 use Rattle.vox_geom.specs.declared.coordinate.Coord.{Coord}
 use Rattle.vox_geom.specs.Point.{point}
-use Rattle.vox_geom.specs.Region.{Corners, IsOrdered, extent, is_between, is_within, size, span}
+use Rattle.vox_geom.specs.Region.{Corners, IsOrdered, Span, extent, is_between, is_within, size, span}
 use Rattle.vox_geom.specs.Space.{IsInSpace, coordinate_at, coordinates, numbers_from}
 
 -- how many of n numbers, from a on, pass the test
@@ -105,17 +106,87 @@ between_tallied low high r h k =
     let inner : tally test (n + m) (0 + low) ≡ tally test n (0 + low) + tally test m (0 + low + n) = in_parts test n m (0 + low) in
     ap (λ v. tally test v 0) e ∙ (outer ∙ (omega arith ∙ sym (extent_is low high h)))
 
--- the number of coordinates of the matrix that are in a region is the region's size
+-- the coordinates of the matrix in a region are counted axis by axis
+axis_by_axis : (r : ℕ) (s : Span) → count_by (λ c. is_within s (point c)) (coordinates r) ≡ tally (λ v. is_between s.from.x s.to.x (pos v)) r 0 * tally (λ v. is_between s.from.y s.to.y (pos v)) r 0 * tally (λ v. is_between s.from.z s.to.z (pos v)) r 0
+axis_by_axis r s =
+    let x : ℕ → Bool = λ v. is_between s.from.x s.to.x (pos v) in
+    let y : ℕ → Bool = λ v. is_between s.from.y s.to.y (pos v) in
+    let z : ℕ → Bool = λ v. is_between s.from.z s.to.z (pos v) in
+    let front : ℕ → Bool = λ q. x (q / r) && y (q % r) in
+    counted (λ c. is_within s (point c)) (coordinate_at r) (r * r * r) 0
+    ∙ (same_tally (λ p. x (p / (r * r)) && y (p / r % r) && z (p % r)) (λ p. front (p / r) && z (p % r)) (r * r * r) 0 (λ p i j. ap (λ v. x v && y (p / r % r) && z (p % r)) (sym (div-div-eq-div-mul p r r)))
+    ∙ (pairs front z r (r * r) ∙ ap (λ v. v * tally z r 0) (pairs x y r r)))
+
+-- the number of coordinates of the matrix that are in a region of it is the region's size
 pub region_count : (r : ℕ) (k : Corners) → IsOrdered k → IsInSpace r k.high → count_by (λ c. is_within (span k) (point c)) (coordinates r) ≡ size (span k)
 region_count r k o h =
-    let x : ℕ → Bool = λ v. is_between (pos k.low.x) (pos k.high.x) (pos v) in
-    let y : ℕ → Bool = λ v. is_between (pos k.low.y) (pos k.high.y) (pos v) in
-    let z : ℕ → Bool = λ v. is_between (pos k.low.z) (pos k.high.z) (pos v) in
-    let front : ℕ → Bool = λ q. x (q / r) && y (q % r) in
-    counted (λ c. is_within (span k) (point c)) (coordinate_at r) (r * r * r) 0
-    ∙ (same_tally (λ p. x (p / (r * r)) && y (p / r % r) && z (p % r)) (λ p. front (p / r) && z (p % r)) (r * r * r) 0 (λ p i j. ap (λ v. x v && y (p / r % r) && z (p % r)) (sym (div-div-eq-div-mul p r r)))
-    ∙ (pairs front z r (r * r)
-    ∙ (ap (λ v. v * tally z r 0) (pairs x y r r)
-    ∙ (ap (λ v. v * tally y r 0 * tally z r 0) (between_tallied k.low.x k.high.x r o.x h.x)
-    ∙ (ap (λ v. extent (pos k.low.x) (pos k.high.x) * v * tally z r 0) (between_tallied k.low.y k.high.y r o.y h.y)
-    ∙ ap (λ v. extent (pos k.low.x) (pos k.high.x) * extent (pos k.low.y) (pos k.high.y) * v) (between_tallied k.low.z k.high.z r o.z h.z))))))
+    let y : ℕ = tally (λ v. is_between (pos k.low.y) (pos k.high.y) (pos v)) r 0 in
+    let z : ℕ = tally (λ v. is_between (pos k.low.z) (pos k.high.z) (pos v)) r 0 in
+    axis_by_axis r (span k)
+    ∙ (ap (λ v. v * y * z) (between_tallied k.low.x k.high.x r o.x h.x)
+    ∙ (ap (λ v. extent (pos k.low.x) (pos k.high.x) * v * z) (between_tallied k.low.y k.high.y r o.y h.y)
+    ∙ ap (λ v. extent (pos k.low.x) (pos k.high.x) * extent (pos k.low.y) (pos k.high.y) * v) (between_tallied k.low.z k.high.z r o.z h.z)))
+
+-- ---- a region that may leave the matrix
+
+-- fewer numbers below r lie between two than the extent says, where some of those are past r
+up_to : (low high r : ℕ) → low ≤ high → tally (λ v. is_between (pos low) (pos high) (pos v)) r 0 ≤ extent (pos low) (pos high)
+up_to low high r h =
+    let test : ℕ → Bool = λ v. is_between (pos low) (pos high) (pos v) in
+    let all : tally test (r + (high + 1)) 0 ≡ extent (pos low) (pos high) = between_tallied low high (r + (high + 1)) h (omega arith) in
+    let split : tally test (r + (high + 1)) 0 ≡ tally test r 0 + tally test (high + 1) (0 + r) = in_parts test r (high + 1) 0 in
+    omega arith
+
+swapped : (a b v : ℤ) → is_between a b v ≡ is_between b a v
+swapped a b v = or_comm (int_le a v && int_le v b) (int_le b v && int_le v a)
+  where
+    or_comm : (p q : Bool) → (p || q) ≡ (q || p)
+    or_comm true true = refl
+    or_comm true false = refl
+    or_comm false true = refl
+    or_comm false false = refl
+
+extent_swapped : (a b : ℕ) → a ≤ b → extent (pos b) (pos a) ≡ extent (pos a) (pos b)
+extent_swapped a b h = omega (arith, ints)
+
+from_nothing : (a b v : ℕ) → is_between (pos a) (negsuc b) (pos v) ≡ is_between (pos 0) (pos a) (pos v)
+from_nothing a b v = grind (arith, nat_tests)
+
+longer : (a b : ℕ) → extent (pos 0) (pos a) ≤ extent (pos a) (negsuc b)
+longer a b = omega (arith, ints)
+
+longer' : (a b : ℕ) → extent (pos 0) (pos b) ≤ extent (negsuc a) (pos b)
+longer' a b = omega (arith, ints)
+
+at_most_extent : (a b : ℤ) (r : ℕ) → tally (λ v. is_between a b (pos v)) r 0 ≤ extent a b
+at_most_extent (pos a) (pos b) r = by (cases_lt a b)
+  where
+    by : ((a < b) ⊎ (b ≤ a)) → tally (λ v. is_between (pos a) (pos b) (pos v)) r 0 ≤ extent (pos a) (pos b)
+    by (inl h) = up_to a b r (omega arith)
+    by (inr h) =
+        let e : tally (λ v. is_between (pos a) (pos b) (pos v)) r 0 ≡ tally (λ v. is_between (pos b) (pos a) (pos v)) r 0 = same_tally (λ v. is_between (pos a) (pos b) (pos v)) (λ v. is_between (pos b) (pos a) (pos v)) r 0 (λ v i j. swapped (pos a) (pos b) (pos v)) in
+        let l = up_to b a r h in
+        let f : extent (pos a) (pos b) ≡ extent (pos b) (pos a) = extent_swapped b a h in
+        omega arith
+at_most_extent (pos a) (negsuc b) r =
+    let e : tally (λ v. is_between (pos a) (negsuc b) (pos v)) r 0 ≡ tally (λ v. is_between (pos 0) (pos a) (pos v)) r 0 = same_tally (λ v. is_between (pos a) (negsuc b) (pos v)) (λ v. is_between (pos 0) (pos a) (pos v)) r 0 (λ v i j. from_nothing a b v) in
+    let l = up_to 0 a r (omega arith) in
+    let f = longer a b in
+    omega arith
+at_most_extent (negsuc a) (pos b) r =
+    let e : tally (λ v. is_between (negsuc a) (pos b) (pos v)) r 0 ≡ tally (λ v. is_between (pos 0) (pos b) (pos v)) r 0 = same_tally (λ v. is_between (negsuc a) (pos b) (pos v)) (λ v. is_between (pos 0) (pos b) (pos v)) r 0 (λ v i j. swapped (negsuc a) (pos b) (pos v) ∙ from_nothing b a v) in
+    let l = up_to 0 b r (omega arith) in
+    let f = longer' a b in
+    omega arith
+at_most_extent (negsuc a) (negsuc b) r =
+    let e : tally (λ v. is_between (negsuc a) (negsuc b) (pos v)) r 0 ≡ 0 = same_tally (λ v. is_between (negsuc a) (negsuc b) (pos v)) (λ _. false) r 0 (λ v i j. refl) ∙ none_tallied r 0 in
+    omega arith
+
+-- a region has at most as many coordinates of the matrix as its size says, also where it leaves the matrix
+pub region_count_most : (r : ℕ) (s : Span) → count_by (λ c. is_within s (point c)) (coordinates r) ≤ size s
+region_count_most r s =
+    let e = axis_by_axis r s in
+    let x = at_most_extent s.from.x s.to.x r in
+    let y = at_most_extent s.from.y s.to.y r in
+    let z = at_most_extent s.from.z s.to.z r in
+    rw e (mul-le-mul (mul-le-mul x y) z)

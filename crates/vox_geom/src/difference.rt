@@ -1,4 +1,6 @@
 //! Differences of coordinates.
+ghost use Rattle.std.specs.Prelude.{◌≡◌};
+ghost use Rattle.vox_geom.specs.Difference.{mlen as manhattan_length, clen as chessboard_length};
 
 /// A difference of two coordinates, of any kind or none. `Near`, `Far`, `Short` and `Long` are those of a kind.
 #[derive(Clone, Copy, PartialEq, Eq, Hash, Debug)]
@@ -6,4 +8,24 @@ pub struct Diff {
     pub dx: i16,
     pub dy: i16,
     pub dz: i16,
+}
+
+impl Diff {
+    /// The Manhattan length: the sum of the absolute values.
+    pub fn mlen(self) -> u32
+        ensures { result ≡ manhattan_length self }
+    {
+        u32::from(self.dx.unsigned_abs())
+            + u32::from(self.dy.unsigned_abs())
+            + u32::from(self.dz.unsigned_abs())
+    }
+
+    /// The Chessboard length: the greatest absolute value.
+    pub fn clen(self) -> u16
+        ensures { result ≡ chessboard_length self }
+    {
+        self.dx
+            .unsigned_abs()
+            .max(self.dy.unsigned_abs().max(self.dz.unsigned_abs()))
+    }
 }

@@ -1,25 +1,10 @@
 //! Differences of a kind, valid by type.
 ghost use Rattle.std.specs.Prelude.{◌≡◌, ◌≤◌, IsTrue, ◌↔◌};
 ghost use Rattle.std.specs.Option.{SomeIff};
-ghost use Rattle.vox_geom.specs.Difference.{mlen as manhattan_length, clen as chessboard_length, nonzero as nonzero_of, is_linear as is_linear_difference, IsNear, IsFar, IsShort, IsLong};
+ghost use Rattle.vox_geom.specs.Difference.{clen as chessboard_length, nonzero as nonzero_of, is_linear as is_linear_difference, IsNear, IsFar, IsShort, IsLong};
 
 use crate::difference::Diff;
 use std::marker::Model;
-
-/// The sum of the absolute values.
-fn mlen(d: Diff) -> u32
-    ensures { result ≡ manhattan_length d }
-{
-    u32::from(d.dx.unsigned_abs()) + u32::from(d.dy.unsigned_abs()) + u32::from(d.dz.unsigned_abs())
-}
-
-/// The greatest absolute value.
-fn clen(d: Diff) -> u16
-    ensures { result ≡ chessboard_length d }
-{
-    d.dx.unsigned_abs()
-        .max(d.dy.unsigned_abs().max(d.dz.unsigned_abs()))
-}
 
 /// 1 for a component that is not 0.
 fn nonzero(v: i16) -> u8
@@ -102,7 +87,7 @@ impl Near {
     pub fn of(d: Diff) -> Option<Near>
         ensures { SomeIff result (IsNear d) d }
     {
-        if clen(d) == 1 && (mlen(d) == 1 || mlen(d) == 2) {
+        if d.clen() == 1 && (d.mlen() == 1 || d.mlen() == 2) {
             Some(Near {
                 difference: Small::of(d),
             })
@@ -144,7 +129,7 @@ impl Far {
     pub fn of(d: Diff) -> Option<Far>
         ensures { SomeIff result (IsFar d) d }
     {
-        if 1 <= clen(d) && clen(d) <= 30 {
+        if 1 <= d.clen() && d.clen() <= 30 {
             Some(Far {
                 difference: Small::of(d),
             })
@@ -186,7 +171,7 @@ impl Short {
     pub fn of(d: Diff) -> Option<Short>
         ensures { SomeIff result (IsShort d) d }
     {
-        if is_linear(d) && mlen(d) <= 5 {
+        if is_linear(d) && d.mlen() <= 5 {
             Some(Short {
                 difference: Small::of(d),
             })
@@ -228,7 +213,7 @@ impl Long {
     pub fn of(d: Diff) -> Option<Long>
         ensures { SomeIff result (IsLong d) d }
     {
-        if is_linear(d) && mlen(d) <= 15 {
+        if is_linear(d) && d.mlen() <= 15 {
             Some(Long {
                 difference: Small::of(d),
             })

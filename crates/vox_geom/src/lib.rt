@@ -13,7 +13,8 @@ pub use boxes::Region;
 pub use coordinate::{Coord, place};
 pub use difference::Diff;
 pub use kinds::{Far, Long, Near, Short};
-pub use laws::{least_is_first, places_rise};
+pub use laws::{a_region_is_no_larger, least_is_first, places_rise};
+use std::alloc::AllocError;
 pub use touches::Steps;
 
 /// The greatest resolution of a matrix. Resolutions are 1 to this.
@@ -22,3 +23,10 @@ pub const MOST_R: u16 = 400;
 /// Memory was refused: the answer of calls that can fail for want of memory alone.
 #[derive(Clone, Copy, PartialEq, Eq, Debug)]
 pub struct Memory;
+
+/// So that `?` hands want of memory on.
+impl From<AllocError> for Memory {
+    fn from(_: AllocError) -> Memory {
+        Memory
+    }
+}

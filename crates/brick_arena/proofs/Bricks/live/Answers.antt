@@ -1,0 +1,9 @@
+use Rattle.std.proofs.Common.{subst}
+use Rattle.brick_arena.specs.Slots.{AreSlots}
+use Rattle.brick_arena.proofs.Standing.{are_slots}
+use Rattle.brick_arena.proofs.Bricks.live.Goals as goal
+
+pub returns-clause-slots : goal.returns-clause-slots
+returns-clause-slots c =
+    let b = c.self.inside in
+    subst AreSlots c.self.view_is (are_slots b.chunks.items b.first_vacant b.vacant b.reached c.self.invariant)

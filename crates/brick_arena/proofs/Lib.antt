@@ -1,0 +1,14 @@
+pub mod Chains
+pub mod Filled
+pub mod GivenBack
+pub mod LiveSlots
+pub mod Lines
+pub mod Looked
+pub mod Places
+pub mod Rows
+pub mod Sharing
+pub mod Standing
+pub mod TakenNew
+pub mod TakenVacant
+pub mod Values
+pub mod Written

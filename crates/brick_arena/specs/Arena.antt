@@ -1,0 +1,47 @@
+-- The chain of vacant slots in the chunks, and the slots that are live in them. Here m is the word at each place.
+use Rattle.std.specs.Prelude.{◌≡◌, ℕ, ◌+◌, ◌*◌, ◌<◌, ◌≤◌, zero, suc, Bool, true, false, nat_eq, ◌||◌, cond, List, [], ◌∷◌, length}
+use Rattle.std.specs.FinMap.{empty, insert, len}
+use Rattle.brick_arena.specs.declared.TheConstants.{SLOT_WORDS, MOST_SLOTS}
+use Rattle.brick_arena.specs.declared.chunk.TheConstants.{CHUNK_SLOTS}
+use Rattle.brick_arena.specs.Chunks.{word_at, AreChunks}
+use Rattle.brick_arena.specs.Slots.{Slots}
+
+-- f at start, start + 1, .., so many values
+unfoldable pub row : {X : Type 0} → (ℕ → X) → ℕ → ℕ → List X
+row f start zero = []
+row f start (suc count) = f start ∷ row f (suc start) count
+
+abbrev pub is_among : ℕ → List ℕ → Bool
+is_among slot [] = false
+is_among slot (other ∷ others) = nat_eq slot other || is_among slot others
+
+abbrev pub AreDistinct : List ℕ → Type 0
+AreDistinct [] = Unit {0}
+AreDistinct (slot ∷ others) = (is_among slot others ≡ false) × AreDistinct others
+
+-- so many vacant slots from the first on, each linked by its first word
+unfoldable pub chain : (ℕ → ℕ) → ℕ → ℕ → List ℕ
+chain m first zero = []
+chain m first (suc count) = first ∷ chain m (m (SLOT_WORDS * first)) count
+
+abbrev pub slot_words : (ℕ → ℕ) → ℕ → List ℕ
+slot_words m slot = row m (SLOT_WORDS * slot) SLOT_WORDS
+
+-- the slots that were reached and are not vacant, each with its words
+unfoldable pub live_slots : (ℕ → ℕ) → List ℕ → ℕ → Slots
+live_slots m vacant zero = empty
+live_slots m vacant (suc slot) = cond (is_among slot vacant) (live_slots m vacant slot) (insert (live_slots m vacant slot) slot (slot_words m slot))
+
+-- what an arena shows: its live slots
+abbrev pub view_of : List (List ℕ) → ℕ → ℕ → ℕ → Slots
+view_of chunks first_vacant vacant reached = live_slots (word_at chunks) (chain (word_at chunks) first_vacant vacant) reached
+
+-- what is so of an arena's fields
+pub record IsArena (cs : List (List ℕ)) (first_vacant vacant reached : ℕ) : Type 0 where
+  pub chunks : AreChunks cs
+  pub room : reached ≤ CHUNK_SLOTS * length cs
+  pub limit : reached ≤ MOST_SLOTS
+  pub below : (slot : ℕ) → is_among slot (chain (word_at cs) first_vacant vacant) ≡ true → slot < reached
+  pub distinct : AreDistinct (chain (word_at cs) first_vacant vacant)
+  pub blank : (place : ℕ) → SLOT_WORDS * reached ≤ place → word_at cs place ≡ 0
+  pub count : reached ≡ len (view_of cs first_vacant vacant reached) + vacant

@@ -1,0 +1,21 @@
+-- The live slots by number, each with its words: what callers see of an arena.
+use Rattle.std.specs.Prelude.{◌≡◌, ℕ, ◌^◌, ◌<◌, List, [], length, slice_index, IsSome, unwrap_or}
+use Rattle.std.specs.Ordering.{nat_cmp}
+use Rattle.std.specs.FinMap.{FinMap, get}
+use Rattle.brick_arena.specs.declared.TheConstants.{SLOT_WORDS, MOST_SLOTS}
+
+abbrev pub Slots : Type 0
+Slots = FinMap nat_cmp (List ℕ)
+
+abbrev pub IsLive : Slots → ℕ → Type 0
+IsLive slots slot = IsSome (get slots slot)
+
+-- the words of a live slot
+abbrev pub words_of : Slots → ℕ → List ℕ
+words_of slots slot = unwrap_or (get slots slot) []
+
+-- what is so of the slots of every arena
+pub record AreSlots (slots : Slots) : Type 0 where
+  pub numbers : (slot : ℕ) → IsLive slots slot → slot < MOST_SLOTS
+  pub lengths : (slot : ℕ) → IsLive slots slot → length (words_of slots slot) ≡ SLOT_WORDS
+  pub words : (slot index : ℕ) → slice_index (words_of slots slot) index < 2 ^ 32

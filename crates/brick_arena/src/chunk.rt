@@ -1,0 +1,166 @@
+//! A chunk of raw memory: the only code with a raw pointer.
+ghost use Rattle.std.specs.Prelude.{◌≡◌, ℕ, ◌+◌, ◌*◌, ◌<◌, ◌≤◌, List, Option, Some, None, length, slice_index, slice_index_or, slice_set, IfOk, IfSome};
+ghost use denote.RawPtr.{Ptr};
+ghost use Rattle.brick_arena.specs.declared.chunk.TheConstants.{CHUNK_WORDS};
+ghost use Rattle.brick_arena.specs.Ownership.{chunk_type, no_words, words_own, words_lent, IsFilled};
+ghost use Rattle.brick_arena.specs.Chunks.{IsBlank, SetsRange};
+
+use std::alloc::{Allocator, Global};
+use std::marker::{Model, PhantomData};
+use vox_geom::Memory;
+
+/// How many slots a chunk has.
+pub(crate) const CHUNK_SLOTS: usize = 64;
+
+/// How many words a chunk has.
+pub(crate) const CHUNK_WORDS: usize = 32_768;
+
+/// How many bytes a chunk has.
+const CHUNK_BYTES: usize = 131_072;
+
+/// How many words are set to 0 at once: those of a cache line.
+pub(crate) const LINE_WORDS: usize = 16;
+
+/// The words of a chunk, from `at` on. A place without a word was never written.
+pub(crate) struct Words {
+    at: *mut u32,
+    pub(crate) ghost words: { List (Option ℕ) },
+    pub(crate) ghost count: { length words ≡ CHUNK_WORDS },
+}
+
+impl Model for Words {
+    ghost also_owns = { λ c. words_own c.at c.words };
+
+    ghost also_shares = { λ c _ κ. words_lent c.at c.words κ };
+}
+
+/// The right to give the chunk at `at` back to `alloc`. It takes no bytes.
+pub(crate) struct Deed<A: Allocator> {
+    marker: PhantomData<A>,
+    pub(crate) ghost alloc: { A },
+    pub(crate) ghost at: { Ptr },
+}
+
+impl<A: Allocator> Model for Deed<A> {
+    ghost also_owns = { λ d. A.dealloc_token d.alloc chunk_type d.at };
+}
+
+/// Room for a chunk, of which no place is written yet.
+pub(crate) fn allocate<A: Allocator>(alloc: &A) -> Option<(Words, Deed<A>)>
+    ensures { IfSome result (λ r. (r.0.words ≡ no_words) × (r.1.alloc ≡ alloc.now) × (r.1.at ≡ r.0.at)) }
+{
+    match alloc.allocate(CHUNK_BYTES, 4) {
+        Ok(block) => {
+            let at = block as *mut u32;
+            let marker = PhantomData;
+            Some((Words { at }, Deed { marker }))
+        }
+        Err(_) => None,
+    }
+}
+
+/// Gives a chunk's memory back.
+pub(crate) fn free<A: Allocator>(words: Words, deed: Deed<A>, alloc: &A)
+    requires { (deed.alloc ≡ alloc.now) × (deed.at ≡ words.at) }
+{
+    let Words { at } = words;
+    let Deed { marker: _ } = deed;
+    unsafe { alloc.deallocate(at as *mut u8, CHUNK_BYTES, 4) }
+}
+
+impl Words {
+    /// Writes a place, whether or not it was written before.
+    pub(crate) fn set(&mut self, index: usize, word: u32)
+        requires { index < CHUNK_WORDS }
+        ensures { (self.new.words ≡ slice_set self.old.words index (Some word)) × (self.new.at ≡ self.old.at) }
+    {
+        unsafe { self.at.add(index).write(word) }
+    }
+
+    /// The word at a place that was written.
+    pub(crate) fn get(&self, index: usize) -> u32
+        requires { IsFilled self.now.words index }
+        ensures { slice_index_or self.now.words index None ≡ Some result }
+    {
+        unsafe { *self.at.add(index) }
+    }
+
+    /// Writes 0 into the places of a line, from `index` on, whether or not they were written before.
+    pub(crate) fn set_line(&mut self, index: usize)
+        requires { index + LINE_WORDS ≤ CHUNK_WORDS }
+        ensures { SetsRange (Some 0) None self.old.words self.new.words index (index + LINE_WORDS) × (self.new.at ≡ self.old.at) }
+    {
+        unsafe { (self.at.add(index) as *mut [u32; LINE_WORDS]).write([0; LINE_WORDS]) }
+    }
+
+    /// Writes 0 into `lines` lines of places from `start` on.
+    pub(crate) fn set_zeros(&mut self, start: usize, lines: usize)
+        requires { start + LINE_WORDS * lines ≤ CHUNK_WORDS }
+        ensures zeros { SetsRange (Some 0) None self.old.words self.new.words start (start + LINE_WORDS * lines) }
+        ensures place { self.new.at ≡ self.old.at }
+    {
+        for line in 0..lines {
+            self.set_line(start + line * LINE_WORDS);
+        }
+    }
+}
+
+/// A chunk, which gives its memory back at its end.
+pub(crate) struct Chunk {
+    words: Words,
+    deed: Deed<Global>,
+    alloc: Global,
+}
+
+impl Model for Chunk {
+    ghost use Rattle.std.specs.Prelude.{◌≡◌, ℕ, List};
+    ghost use Rattle.brick_arena.specs.Known.{known, AllFilled};
+
+    ghost Value = { List ℕ };
+
+    ghost view = { λ c. known c.words.words };
+
+    ghost invariant = { λ c. AllFilled c.words.words × (c.deed.alloc ≡ c.alloc) × (c.deed.at ≡ c.words.at) };
+}
+
+impl Chunk {
+    /// A chunk of zeros.
+    pub(crate) fn new(alloc: Global) -> Result<Chunk, Memory>
+        ensures { IfOk result IsBlank }
+    {
+        let Some((mut words, deed)) = allocate(&alloc) else {
+            return Err(Memory);
+        };
+        words.set_zeros(0, CHUNK_WORDS / LINE_WORDS);
+        Ok(Chunk { words, deed, alloc })
+    }
+
+    pub(crate) fn word(&self, index: usize) -> u32
+        requires { index < length self.now }
+        ensures { result ≡ slice_index self.now index }
+    {
+        self.words.get(index)
+    }
+
+    pub(crate) fn set_word(&mut self, index: usize, word: u32)
+        requires { index < length self.old }
+        ensures { self.new ≡ slice_set self.old index word }
+    {
+        self.words.set(index, word)
+    }
+
+    /// Writes 0 into `lines` lines of words from `start` on.
+    pub(crate) fn set_zeros(&mut self, start: usize, lines: usize)
+        requires { start + LINE_WORDS * lines ≤ length self.old }
+        ensures { SetsRange 0 0 self.old self.new start (start + LINE_WORDS * lines) }
+    {
+        self.words.set_zeros(start, lines)
+    }
+}
+
+impl Drop for Chunk {
+    fn drop(self) {
+        let Chunk { words, deed, alloc } = self;
+        free(words, deed, &alloc)
+    }
+}

@@ -1,0 +1,60 @@
+//! Words over a list of chunks, by place: the words of slot 0, those of slot 1, and so on.
+ghost use Rattle.std.specs.Prelude.{◌≡◌, ◌+◌, ◌*◌, ◌<◌, ◌≤◌, length, OnOk, OnErr};
+ghost use Rattle.brick_arena.specs.Chunks.{word_at, AreChunks, IsStored, IsCleared, HasRoom};
+
+use super::SLOT_WORDS;
+use super::chunk::{CHUNK_SLOTS, CHUNK_WORDS, Chunk, LINE_WORDS};
+use std::alloc::Global;
+use vox_geom::Memory;
+
+/// The place of a slot's word.
+pub(crate) fn place(slot: u32, index: u16) -> usize
+    ensures { result ≡ slot * SLOT_WORDS + index }
+{
+    slot as usize * usize::from(SLOT_WORDS) + usize::from(index)
+}
+
+pub(crate) fn load(chunks: &Vec<Chunk>, place: usize) -> u32
+    requires inside { place < CHUNK_WORDS * length chunks.now.items }
+    requires chunks { AreChunks chunks.now.items }
+    ensures { result ≡ word_at chunks.now.items place }
+{
+    chunks[place / CHUNK_WORDS].word(place % CHUNK_WORDS)
+}
+
+pub(crate) fn store(chunks: &mut Vec<Chunk>, place: usize, word: u32)
+    requires inside { place < CHUNK_WORDS * length chunks.old.items }
+    requires chunks { AreChunks chunks.old.items }
+    ensures { IsStored chunks.old.items chunks.new.items place word }
+{
+    let chunk = &mut chunks[place / CHUNK_WORDS];
+    chunk.set_word(place % CHUNK_WORDS, word);
+}
+
+/// Writes 0 into all words of a slot.
+pub(crate) fn clear(chunks: &mut Vec<Chunk>, slot: u32)
+    requires inside { slot < CHUNK_SLOTS * length chunks.old.items }
+    requires chunks { AreChunks chunks.old.items }
+    ensures { IsCleared chunks.old.items chunks.new.items slot }
+{
+    let chunk = &mut chunks[slot as usize / CHUNK_SLOTS];
+    let start = slot as usize % CHUNK_SLOTS * usize::from(SLOT_WORDS);
+    chunk.set_zeros(start, usize::from(SLOT_WORDS) / LINE_WORDS);
+}
+
+/// Takes a chunk where there is none for the slot yet.
+pub(crate) fn reserve(chunks: &mut Vec<Chunk>, alloc: Global, slot: u32) -> Result<(), Memory>
+    requires near { slot ≤ CHUNK_SLOTS * length chunks.old.items }
+    requires chunks { AreChunks chunks.old.items }
+    ensures ok { OnOk result (HasRoom chunks.old.items chunks.new.items slot) }
+    ensures err { OnErr result (chunks.new.items ≡ chunks.old.items) }
+{
+    if slot as usize / CHUNK_SLOTS < chunks.len() {
+        return Ok(());
+    }
+    let chunk = Chunk::new(alloc)?;
+    let Ok(()) = chunks.push(chunk) else {
+        return Err(Memory);
+    };
+    Ok(())
+}

@@ -1,0 +1,137 @@
+//! Slots of 512 words in raw memory, seen as a finite map from a slot's number to its words.
+#![tactic(auto)]
+
+mod chunk;
+mod chunks;
+#[cfg(test)]
+mod tests;
+
+ghost use Rattle.std.specs.Prelude.{◌≡◌, ◌+◌, ◌<◌, None, replicate, slice_index, slice_set, OnErr, IfOk};
+ghost use Rattle.std.specs.FinMap as map;
+ghost use Rattle.brick_arena.specs.Slots.{IsLive, words_of, AreSlots};
+
+use chunk::Chunk;
+use chunks::{clear, load, place, reserve, store};
+use std::alloc::Global;
+use std::marker::Model;
+use std::sync::ledger::Ledger;
+use vox_geom::{Memory, Steps};
+
+/// How many words a slot has.
+pub const SLOT_WORDS: u16 = 512;
+
+/// The most slots that can be live at a time. The number of a slot is below it.
+pub const MOST_SLOTS: u32 = 1_048_576;
+
+/// Slots of 512 words, each all 0 when it is taken.
+///
+/// The memory is taken in chunks of 64 slots, as they are reached. A vacant slot's first word
+/// links to the next vacant one. All memory is given back at the end.
+#[derive(Drop)]
+pub struct Bricks {
+    alloc: Global,
+    chunks: Vec<Chunk>,
+    // Slots with numbers below this were taken at least once; the words of the others are 0.
+    reached: u32,
+    // How many of those are vacant, and the first of their chain.
+    vacant: u32,
+    first_vacant: u32,
+}
+
+impl Model for Bricks {
+    ghost use Rattle.std.specs.Prelude.{ℕ, List};
+    ghost use Rattle.std.specs.Ordering.{nat_cmp};
+    ghost use Rattle.std.specs.FinMap as map;
+    ghost use Rattle.std.specs.Coded.{coded_ℕ, coded_list};
+    ghost use Rattle.brick_arena.specs.Arena.{view_of, IsArena};
+
+    ghost Value = { map.FinMap nat_cmp (List ℕ) };
+
+    ghost coded = { map.code coded_ℕ (coded_list coded_ℕ) };
+
+    ghost view = { λ b. view_of b.chunks.items b.first_vacant b.vacant b.reached };
+
+    ghost invariant = { λ b. IsArena b.chunks.items b.first_vacant b.vacant b.reached };
+}
+
+impl Bricks {
+    /// No slots. It takes no memory.
+    pub fn new(alloc: Global) -> Bricks
+        ensures { result ≡ map.empty }
+    {
+        Bricks {
+            alloc,
+            chunks: Vec::new(alloc),
+            reached: 0,
+            vacant: 0,
+            first_vacant: 0,
+        }
+    }
+
+    /// How many slots are live.
+    pub fn live(&self) -> u32
+        ensures count { result ≡ map.len self.now }
+        ensures slots { AreSlots self.now }
+    {
+        self.reached - self.vacant
+    }
+
+    /// A slot that was not live, with all words 0. `Memory` leaves the slots as they were.
+    pub fn take(&mut self) -> Result<u32, Memory>
+        requires { map.len self.old < MOST_SLOTS }
+        ensures near { IfOk result (λ slot. slot < MOST_SLOTS) }
+        ensures fresh { IfOk result (λ slot. map.get self.old slot ≡ None) }
+        ensures live { IfOk result (IsLive self.new) }
+        ensures zeros { IfOk result (λ slot. self.new ≡ map.insert self.old slot (replicate SLOT_WORDS 0)) }
+        ensures err { OnErr result (self.new ≡ self.old) }
+        ensures slots { AreSlots self.new }
+    {
+        if self.vacant == 0 {
+            let slot = self.reached;
+            reserve(&mut self.chunks, self.alloc, slot)?;
+            self.reached += 1;
+            return Ok(slot);
+        }
+        let slot = self.first_vacant;
+        self.first_vacant = load(&self.chunks, place(slot, 0));
+        clear(&mut self.chunks, slot);
+        self.vacant -= 1;
+        Ok(slot)
+    }
+
+    /// The slot is live no more.
+    pub fn give(&mut self, slot: u32)
+        requires { IsLive self.old slot }
+        ensures value { self.new ≡ map.remove self.old slot }
+        ensures slots { AreSlots self.new }
+    {
+        store(&mut self.chunks, place(slot, 0), self.first_vacant);
+        self.first_vacant = slot;
+        self.vacant += 1;
+    }
+
+    /// The word at `index` of a live slot, by one touch.
+    pub fn word<L: Ledger>(&self, slot: u32, index: u16, steps: &mut Steps<L>) -> u32
+        requires live { IsLive self.now slot }
+        requires index { index < SLOT_WORDS }
+        ensures value { result ≡ slice_index (words_of self.now slot) index }
+        ensures touch { steps.new ≡ steps.old + 1 }
+        ensures slots { AreSlots self.now }
+    {
+        steps.tick();
+        load(&self.chunks, place(slot, index))
+    }
+
+    /// Writes the word at `index` of a live slot, by one touch.
+    pub fn set_word<L: Ledger>(&mut self, slot: u32, index: u16, word: u32, steps: &mut Steps<L>)
+        requires live { IsLive self.old slot }
+        requires index { index < SLOT_WORDS }
+        ensures value { self.new ≡ map.insert self.old slot (slice_set (words_of self.old slot) index word) }
+        ensures written { slice_index (words_of self.new slot) index ≡ word }
+        ensures touch { steps.new ≡ steps.old + 1 }
+        ensures slots { AreSlots self.new }
+    {
+        steps.tick();
+        store(&mut self.chunks, place(slot, index), word);
+    }
+}

@@ -1,0 +1,10 @@
+//! What steps and commands cost (docs/FORMATS.md, "Commands"). Nothing here takes memory.
+#![tactic(auto)]
+
+mod costs;
+mod laws;
+#[cfg(test)]
+mod tests;
+
+pub use costs::{command_cost, upkeep};
+pub use laws::a_step_changes_the_energy_by_little;

@@ -1,0 +1,22 @@
+-- Counts of faults, and when one rose.
+use Rattle.vox_depot.specs.declared.depot.FetchFault.{FetchFault}
+use Rattle.vox_depot.specs.declared.depot.FetchFault.TheVariants.{Missing, Failed}
+use Rattle.std.specs.Prelude.{Bool, true, false, Result, Ok, Err, ℕ, ◌+◌, ◌-◌, ◌^◌, ◌<◌, ◌≤◌, min}
+
+-- the count is higher than before, or stands at the end of its type
+abbrev pub Rose : ℕ → ℕ → Type 0
+Rose before now = min (before + 1) (2 ^ 64 - 1) ≤ now
+
+-- the count after one more, which stays at the end of its type
+abbrev pub next_count : ℕ → ℕ
+next_count n = min (n + 1) (2 ^ 64 - 1)
+
+-- the call of this number is one of the first 2^64 - 2, in which no count comes to the end of its type
+abbrev pub IsEarly : ℕ → Type 0
+IsEarly number = number < 2 ^ 64 - 2
+
+-- whether the fetch failed
+abbrev pub is_failed : Result ℕ FetchFault → Bool
+is_failed (Ok n) = false
+is_failed (Err Missing) = false
+is_failed (Err Failed) = true
