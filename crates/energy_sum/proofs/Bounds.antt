@@ -21,6 +21,7 @@ use Rattle.nano_spec.specs.Group.{is_leader}
 use Rattle.nano_spec.specs.Matrix.{Matrix, all_of}
 use Rattle.nano_spec.specs.State.{State, is_high}
 use Rattle.nano_spec.specs.Step.{after}
+use Rattle.nano_spec.proofs.Grounding.{left, right}
 use Rattle.energy_sum.specs.Costs.{filling_cost, voiding_cost}
 use Rattle.energy_sum.proofs.Prices.{filling-is, fulls, voiding-is, voids, voids-and-fulls}
 
@@ -31,10 +32,6 @@ cube_most r k h = mul-le-mul (mul-le-mul h h) h
 record IsAtMost (k : ℕ) (z : ℤ) : Type 0 where
   above : z ≤ℤ pos k
   below : pos 0 ≤ℤ (z +ℤ pos k)
-
-right : (a b : Bool) → IsTrue (a && b) → IsTrue b
-right true b h = h
-right false b h = cc
 
 le_of : (a b : ℕ) → IsTrue (nat_le a b) → a ≤ b
 le_of a b h = grind (arith, nat_tests)
@@ -95,10 +92,6 @@ long_most d h = le_of (mlen d) 15 (right (is_linear d) (nat_le (mlen d) 15) h)
 
 short_most : (d : Diff) → IsShort d → mlen d ≤ 5
 short_most d h = le_of (mlen d) 5 (right (is_linear d) (nat_le (mlen d) 5) h)
-
-left : (a b : Bool) → IsTrue (a && b) → IsTrue a
-left true b h = refl
-left false b h = cc
 
 group_most : (m : Matrix) (p : Point) (command : Command) → IsCommand command → IsAtMost 357492 (group_cost m p command)
 group_most m p Halt h = small 0 (omega arith)

@@ -1,0 +1,88 @@
+-- Whole traces: the answer to their bytes is the one that the definition gives.
+use Rattle.std.proofs.Common.{◌≡◌, ◌≢◌, ℕ, ◌+◌, ◌-◌, ◌<◌, ◌≤◌, refl, sym, ◌∙◌, ap, subst, arith, List, [], ◌∷◌, ◌++◌, length, get_or, take, drop}
+use Rattle.std.specs.Prelude.{Result, Ok, Err}
+use Rattle.std.proofs.lemmas.List.{append_assoc, drop-drop, drop_all, length-append, length-drop, take_more, take_rest}
+use Rattle.nano_spec.specs.declared.commands.Command.{Command}
+use Rattle.nano_spec.specs.Command.{IsCommand}
+use Rattle.nano_spec.specs.Cutting.{AreCommands, BeginsSpelling, Cutting, Decoding, NoTrace, CutAt, BadAt}
+use Rattle.nano_spec.specs.Spelling.{spelling, spellings}
+use Rattle.nano_spec.proofs.Traces.{Decoding-unique}
+use Rattle.trace_codec.specs.declared.fault.TraceFault.{TraceFault}
+use Rattle.trace_codec.specs.declared.fault.TraceFault.TheVariants.{Bad, Cut, Memory}
+use Rattle.trace_codec.specs.One.{Spells, IsRefused}
+use Rattle.trace_codec.specs.Whole.{Decodes, IsAnswer}
+use Rattle.trace_codec.proofs.Taken.{are_commands_more, spellings_more, bad_at, cut_at, whole}
+use Rattle.trace_codec.proofs.Unique.{split, len_is}
+
+-- the answer is how the bytes are decoded, and bytes are decoded in one way
+pub is_answer : (bytes : List ℕ) (answer : Result (List Command) TraceFault) (decoding : Result (List Command) NoTrace) → Decodes bytes answer → Decoding bytes decoding → IsAnswer answer decoding
+is_answer bytes (Ok commands) decoding h k = Decoding-unique bytes decoding (Ok commands) k h
+is_answer bytes (Err (Bad offset)) decoding h k = Decoding-unique bytes decoding (Err (BadAt offset)) k h
+is_answer bytes (Err (Cut offset)) decoding h k = Decoding-unique bytes decoding (Err (CutAt offset)) k h
+is_answer bytes (Err Memory) decoding h k = tt
+
+same_commands : (a b : List Command) → (let r : Result (List Command) NoTrace = Ok a in r) ≡ Ok b → a ≡ b
+same_commands a b e = cc
+
+-- commands that are encoded are decoded as the same commands
+pub decoded_again : (commands : List Command) (bytes : List ℕ) (answer : Result (List Command) TraceFault) → Cutting bytes commands → Decodes bytes answer → answer ≢ Err Memory → answer ≡ Ok commands
+decoded_again commands bytes answer h k n = by_answer answer (is_answer bytes answer (Ok commands) k h) n
+  where
+    by_answer : (answer : Result (List Command) TraceFault) → IsAnswer answer (Ok commands) → answer ≢ Err Memory → answer ≡ Ok commands
+    by_answer (Ok others) e n = ap Ok (sym (same_commands commands others e))
+    by_answer (Err (Bad offset)) e n = cc
+    by_answer (Err (Cut offset)) e n = cc
+    by_answer (Err Memory) e n = absurd (n refl)
+
+-- ---- a front of the bytes that is cut
+
+-- the bytes before the start are the spellings of the commands
+pub record HasCut (bytes : List ℕ) (commands : List Command) (start : ℕ) : Type 0 where
+  pub are_commands : AreCommands commands
+  pub bytes_are : bytes ≡ spellings commands ++ drop start bytes
+  pub start_is : start ≡ length (spellings commands)
+  pub within : start ≤ length bytes
+
+pub cut_nothing : (bytes : List ℕ) → HasCut bytes [] 0
+cut_nothing bytes = record { are_commands = tt; bytes_are = refl; start_is = refl; within = omega arith }
+
+cut_on : (bytes : List ℕ) (commands : List Command) (start : ℕ) (c : Command) (len : ℕ) → HasCut bytes commands start → Spells (drop start bytes) c len → HasCut bytes (commands ++ c ∷ []) (start + len)
+cut_on bytes commands start c len h s =
+    let l : length (spellings (commands ++ c ∷ [])) ≡ length (spellings commands ++ spelling c) = ap length (spellings_more commands c) in
+    let m = len_is (drop start bytes) c len s in
+    let w = s.within in
+    let o = h.start_is in
+    let b = h.within in
+    record {
+      are_commands = are_commands_more commands c h.are_commands s.is_command;
+      bytes_are = h.bytes_are ∙ (ap (λ x. spellings commands ++ x) (split (drop start bytes) c len s ∙ ap (λ x. spelling c ++ x) (drop-drop len start bytes)) ∙ (sym (append_assoc (spellings commands) (spelling c) (drop (start + len) bytes)) ∙ ap (λ x. x ++ drop (start + len) bytes) (sym (spellings_more commands c))));
+      start_is = omega (arith, length-append (spellings commands) (spelling c));
+      within = omega (arith, length-drop start bytes);
+    }
+
+some_left : (bytes : List ℕ) (start : ℕ) → start < length bytes → drop start bytes ≢ []
+some_left bytes start l e = let k : length (drop start bytes) ≡ length {A = ℕ} [] = ap length e in absurd (omega (arith, length-drop start bytes))
+
+-- what is left from the start on, as a slice says it
+abbrev pub left_from : List ℕ → ℕ → List ℕ
+left_from bytes start = take (length bytes - start) (drop start bytes)
+
+pub cut_more : (bytes : List ℕ) (commands : List Command) (start : ℕ) (c : Command) (len : ℕ) → HasCut bytes commands start → Spells (left_from bytes start) c len → HasCut bytes (commands ++ c ∷ []) (start + len)
+cut_more bytes commands start c len h s = cut_on bytes commands start c len h (subst (λ (b : List ℕ). Spells b c len) (take_rest bytes start) s)
+
+pub ends_in_command : (bytes : List ℕ) (commands : List Command) (start : ℕ) → HasCut bytes commands start → start < length bytes → BeginsSpelling (left_from bytes start) → Decoding bytes (Err (CutAt start))
+ends_in_command bytes commands start h l b = cut_at bytes commands (drop start bytes) start h.are_commands h.bytes_are h.start_is (some_left bytes start l) (subst (λ (b : List ℕ). BeginsSpelling b) (take_rest bytes start) b)
+
+pub is_refused : (bytes : List ℕ) (commands : List Command) (start : ℕ) → HasCut bytes commands start → IsRefused (left_from bytes start) → Decoding bytes (Err (BadAt start))
+is_refused bytes commands start h r = bad_at bytes commands (drop start bytes) start h.are_commands h.bytes_are h.start_is (subst (λ (b : List ℕ). IsRefused b) (take_rest bytes start) r)
+
+pub is_whole : (bytes : List ℕ) (commands : List Command) (start : ℕ) → HasCut bytes commands start → length bytes ≤ start → Decoding bytes (Ok commands)
+is_whole bytes commands start h l = whole bytes commands (drop start bytes) h.are_commands h.bytes_are (drop_all start bytes l)
+
+-- ---- commands that are encoded one after another
+
+pub encoded_more : (bytes new : List ℕ) (commands : List Command) (i : ℕ) (c : Command) → Cutting bytes (take i commands) → i < length commands → c ≡ get_or commands i c → IsCommand c → new ≡ bytes ++ spelling c → Cutting new (take (i + 1) commands)
+encoded_more bytes new commands i c h l r is_c e =
+    let t : take i commands ++ c ∷ [] ≡ take (i + 1) commands = ap (λ x. take i commands ++ x ∷ []) r ∙ sym (take_more commands i c l) in
+    subst (λ (x : List Command). Cutting new x) t
+    (are_commands_more (take i commands) c h.0 is_c, e ∙ (ap (λ x. x ++ spelling c) h.1 ∙ sym (spellings_more (take i commands) c)))

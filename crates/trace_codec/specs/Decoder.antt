@@ -1,0 +1,62 @@
+-- What a decoder has taken, what it answers to a piece, and what it then is.
+use Rattle.std.specs.Prelude.{◌≡◌, ◌≢◌, ℕ, ◌+◌, ◌≤◌, Bool, true, false, IsTrue, IsFalse, ◌⊎◌, List, [], ◌++◌, length, take, Result, Ok, Err}
+use Rattle.nano_spec.specs.declared.commands.Command.{Command}
+use Rattle.nano_spec.specs.Command.{IsCommand}
+use Rattle.nano_spec.specs.Cutting.{AreCommands, BeginsSpelling}
+use Rattle.nano_spec.specs.Spelling.{spelling, spellings}
+use Rattle.trace_codec.specs.declared.decoder.Fed.{Fed}
+use Rattle.trace_codec.specs.declared.decoder.Fed.TheVariants.{Got, All, Bad}
+use Rattle.trace_codec.specs.declared.fault.TraceFault.{TraceFault}
+use Rattle.trace_codec.specs.declared.fault.TraceFault.TheVariants as fault
+use Rattle.trace_codec.specs.One.{IsRefused}
+
+-- a decoder as contracts see it: the bytes that it holds of the next command, where the first of them stands in the trace, and whether it has failed
+pub record DecoderState : Type 0 where
+  pub held : List ℕ
+  pub offset : ℕ
+  pub failed : Bool
+
+-- a decoder that has taken nothing
+abbrev pub fresh : DecoderState
+fresh = record { held = []; offset = 0; failed = false }
+
+-- the held bytes and the first used ones of the piece spell the command
+pub record Completes (decoder : DecoderState) (piece : List ℕ) (command : Command) (used : ℕ) : Type 0 where
+  pub works : IsFalse decoder.failed
+  pub is_command : IsCommand command
+  pub some : 1 ≤ used
+  pub within : used ≤ length piece
+  pub spelling_is : decoder.held ++ take used piece ≡ spelling command
+
+-- what a decoder answers to a piece
+abbrev pub Answers : DecoderState → List ℕ → Fed → Type 0
+Answers decoder piece (Got command used) = Completes decoder piece command used
+Answers decoder piece All = IsFalse decoder.failed × BeginsSpelling (decoder.held ++ piece)
+Answers decoder piece (Bad offset) = (offset ≡ decoder.offset) × (IsTrue decoder.failed ⊎ IsRefused (decoder.held ++ piece))
+
+-- what a decoder is after that answer
+abbrev pub after : DecoderState → List ℕ → Fed → DecoderState
+after decoder piece (Got command used) = record { held = []; offset = decoder.offset + length (spelling command); failed = false }
+after decoder piece All = record { held = decoder.held ++ piece; offset = decoder.offset; failed = false }
+after decoder piece (Bad offset) = record { held = decoder.held; offset = decoder.offset; failed = true }
+
+-- how many bytes of the piece a decoder has taken with that answer
+abbrev pub taken : List ℕ → Fed → ℕ
+taken piece (Got command used) = used
+taken piece All = length piece
+taken piece (Bad offset) = 0
+
+-- what a decoder answers where no more bytes come
+abbrev pub Ends : {A : Type 0} → DecoderState → Result A TraceFault → Type 0
+Ends decoder (Ok _) = IsFalse decoder.failed × (decoder.held ≡ [])
+Ends decoder (Err (fault.Cut offset)) = IsFalse decoder.failed × (decoder.held ≢ []) × (offset ≡ decoder.offset)
+Ends decoder (Err (fault.Bad offset)) = IsTrue decoder.failed × (offset ≡ decoder.offset)
+Ends decoder (Err fault.Memory) = ⊥
+
+-- the decoder has taken the bytes, and has given the commands: their spellings, and after them what is held, are the bytes
+pub record HasTaken (bytes : List ℕ) (commands : List Command) (decoder : DecoderState) : Type 0 where
+  pub works : IsFalse decoder.failed
+  pub are_commands : AreCommands commands
+  pub bytes_are : bytes ≡ spellings commands ++ decoder.held
+  pub offset_is : decoder.offset ≡ length (spellings commands)
+  pub begins : BeginsSpelling decoder.held

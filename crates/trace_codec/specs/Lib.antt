@@ -1,0 +1,4 @@
+pub mod Decoder
+pub mod FarFront
+pub mod One
+pub mod Whole

@@ -1,0 +1,28 @@
+-- What bytes begin with: a spelling, a part of one, or neither.
+use Rattle.std.specs.Prelude.{◌≡◌, ℕ, ◌≤◌, List, ◌++◌, length, take}
+use Rattle.nano_spec.specs.declared.commands.Command.{Command}
+use Rattle.nano_spec.specs.Command.{IsCommand}
+use Rattle.nano_spec.specs.Cutting.{BeginsSpelling}
+use Rattle.nano_spec.specs.Spelling.{spelling}
+use Rattle.trace_codec.specs.declared.one.One.{One}
+use Rattle.trace_codec.specs.declared.one.One.TheVariants.{Got, More, Bad}
+
+-- the first len of the bytes spell the command
+pub record Spells (bytes : List ℕ) (command : Command) (len : ℕ) : Type 0 where
+  pub is_command : IsCommand command
+  pub within : len ≤ length bytes
+  pub spelling_is : take len bytes ≡ spelling command
+
+-- no spelling begins the bytes
+abbrev pub NoSpelling : List ℕ → Type 0
+NoSpelling bytes = (command : Command) (rest : List ℕ) → IsCommand command → bytes ≡ spelling command ++ rest → ⊥
+
+-- no spelling begins the bytes, and they are no part of one
+abbrev pub IsRefused : List ℕ → Type 0
+IsRefused bytes = NoSpelling bytes × (BeginsSpelling bytes → ⊥)
+
+-- what the bytes begin with
+abbrev pub Says : List ℕ → One → Type 0
+Says bytes (Got command len) = Spells bytes command len
+Says bytes More = BeginsSpelling bytes
+Says bytes Bad = IsRefused bytes

@@ -1,0 +1,136 @@
+//! A trace that comes in pieces.
+ghost use Rattle.std.specs.Prelude.{◌≡◌, ◌+◌, ◌-◌, ◌<◌, ◌≤◌, ◌^◌, [], ◌++◌, length, min, take};
+ghost use Rattle.trace_codec.specs.declared.decoder.Fed.{Fed};
+ghost use Rattle.trace_codec.specs.Decoder.{Answers, Ends, after, fresh, taken};
+ghost use Rattle.trace_codec.specs.One.{Says};
+
+use crate::fault::TraceFault;
+use crate::one::{One, decode_one};
+use arrayvec::ArrayVec;
+use nano_spec::Command;
+use std::marker::Model;
+
+/// What a decoder answers to a piece.
+#[derive(Clone, Copy, PartialEq, Eq, Debug)]
+pub enum Fed {
+    /// The bytes that were held and the first `used` bytes of the piece spell the command. The rest of the piece is to be fed next.
+    Got { command: Command, used: usize },
+    /// The whole piece was taken, and the next is to be fed.
+    All,
+    /// What begins at the offset is no command. From now on every call answers this.
+    Bad { offset: u64 },
+}
+
+/// Cuts a trace that comes in pieces into commands. It holds at most three bytes, those of a command that goes on in the next piece.
+#[derive(Debug, Drop)]
+pub struct Decoder {
+    held: ArrayVec<u8, 3>,
+    offset: u64,
+    failed: bool,
+}
+
+impl Model for Decoder {
+    ghost use Rattle.nano_spec.specs.Cutting.{BeginsSpelling};
+    ghost use Rattle.trace_codec.specs.Decoder.{DecoderState};
+
+    ghost Value = { DecoderState };
+
+    ghost view = { λ d. record { held = d.held.items; offset = d.offset; failed = d.failed } };
+
+    ghost invariant = { λ d. BeginsSpelling d.held.items };
+}
+
+impl Decoder {
+    /// A decoder that has taken nothing.
+    pub fn new() -> Decoder
+        ensures { result ≡ fresh }
+    {
+        Decoder {
+            held: ArrayVec::new(),
+            offset: 0,
+            failed: false,
+        }
+    }
+
+    /// Takes the next bytes of the trace, up to the end of a command. The bytes of a trace are fewer than 2^63.
+    #[inline(always)]
+    pub fn feed(&mut self, piece: &[u8]) -> Fed
+        requires { self.old.offset + length self.old.held + length piece.now < 2 ^ 63 }
+        // What the answer says of the bytes.
+        ensures answer { Answers self.old piece.now result }
+        // No other answer says something true.
+        ensures only { (other : Fed) → Answers self.old piece.now other → other ≡ result }
+        ensures after { self.new ≡ after self.old piece.now result }
+        ensures held { length self.new.held ≤ 3 }
+        ensures taken { self.new.offset + length self.new.held ≡ self.old.offset + length self.old.held + taken piece.now result }
+    {
+        if self.failed {
+            return Fed::Bad {
+                offset: self.offset,
+            };
+        }
+        match self.front(piece) {
+            One::Got { command, len } => {
+                let used = usize::from(len) - self.held.len();
+                self.held.clear();
+                self.offset += u64::from(len);
+                Fed::Got { command, used }
+            }
+            One::More => {
+                self.held.try_extend_from_slice(piece).unwrap();
+                Fed::All
+            }
+            One::Bad => {
+                self.failed = true;
+                Fed::Bad {
+                    offset: self.offset,
+                }
+            }
+        }
+    }
+
+    /// What the held bytes and the piece begin with.
+    #[inline(always)]
+    fn front(&self, piece: &[u8]) -> One
+        ensures { Says (self.now.held ++ piece.now) result }
+    {
+        let mut joined = ArrayVec::new();
+        let bytes = if self.held.is_empty() {
+            piece
+        } else {
+            join(&mut joined, self.held.as_slice(), piece);
+            joined.as_slice()
+        };
+        decode_one(bytes)
+    }
+
+    /// Whether the trace may end here.
+    pub fn end(&self) -> Result<(), TraceFault>
+        ensures { Ends self.now result }
+    {
+        if self.failed {
+            Err(TraceFault::Bad {
+                offset: self.offset,
+            })
+        } else if self.held.is_empty() {
+            Ok(())
+        } else {
+            Err(TraceFault::Cut {
+                offset: self.offset,
+            })
+        }
+    }
+}
+
+/// Makes the first four bytes, or all if there are fewer, of two slices: no spelling is longer.
+#[cold]
+#[inline(never)]
+fn join(joined: &mut ArrayVec<u8, 4>, held: &[u8], piece: &[u8])
+    requires empty { joined.old.items ≡ [] }
+    requires short { length held.now < 4 }
+    ensures { joined.new.items ≡ held.now ++ take (min (length piece.now) (4 - length held.now)) piece.now }
+{
+    let taken = piece.len().min(4 - held.len());
+    joined.try_extend_from_slice(held).unwrap();
+    joined.try_extend_from_slice(&piece[..taken]).unwrap();
+}

@@ -1,0 +1,183 @@
+//! One command from the front of bytes.
+ghost use Rattle.std.specs.Prelude.{◌≡◌, ◌≢◌, ◌+◌, ◌*◌, ◌%◌, ◌<◌, ◌≤◌, ◌∷◌, ◌↔◌, All, IsTrue};
+ghost use Rattle.vox_geom.specs.Difference.{IsNear};
+ghost use Rattle.nano_spec.specs.Spelling.{near_code};
+ghost use Rattle.trace_codec.specs.FarFront.{SaysFar};
+ghost use Rattle.trace_codec.specs.One.{Says};
+ghost use Rattle.trace_codec.specs.declared.one.One.{One};
+
+use crate::codes::{far_at, long_at, near_at, short_at};
+use nano_spec::Command;
+use vox_geom::{Far, Near};
+
+/// What bytes begin with.
+#[derive(Clone, Copy, PartialEq, Eq, Debug)]
+pub enum One {
+    /// The first `len` bytes spell the command.
+    Got { command: Command, len: u8 },
+    /// The bytes are a part of a spelling, and may go on as one. No bytes are such a part.
+    More,
+    /// No spelling begins the bytes, and they are no part of one.
+    Bad,
+}
+
+/// What the bytes begin with. Bytes may follow a command.
+#[inline(always)]
+pub fn decode_one(bytes: &[u8]) -> One
+    // What the answer says of the bytes.
+    ensures answer { Says bytes.now result }
+    // No other answer says something true.
+    ensures only { (other : One) → Says bytes.now other → other ≡ result }
+{
+    match bytes {
+        [] => One::More,
+        [head, rest @ ..] => decode_from(*head, rest),
+    }
+}
+
+/// What a byte and the bytes after it begin with.
+#[inline(always)]
+fn decode_from(head: u8, rest: &[u8]) -> One
+    ensures { Says (head ∷ rest.now) result }
+{
+    if head % 8 == 0b100 {
+        return decode_move(head, rest);
+    }
+    match near_at(head / 8) {
+        Some(near) => decode_near(head % 8, near, rest),
+        // 31 stands for no difference: it is left to the commands that have none.
+        None => match head {
+            0b1111_1111 => got(Command::Halt, 1),
+            0b1111_1110 => got(Command::Wait, 1),
+            0b1111_1101 => got(Command::Flip, 1),
+            _ => One::Bad,
+        },
+    }
+}
+
+/// A command that takes `len` bytes.
+#[inline(always)]
+fn got(command: Command, len: u8) -> One
+    ensures { result ≡ One.Got command len }
+{
+    One::Got { command, len }
+}
+
+/// A command at a near difference, by the low three bits of its first byte and the bytes after it.
+#[inline(always)]
+fn decode_near(kind: u8, near: Near, rest: &[u8]) -> One
+    requires bits { kind < 8 }
+    requires no_move { kind ≢ 4 }
+    requires is_near { IsNear near }
+    ensures { Says ((8 * near_code near + kind) ∷ rest.now) result }
+{
+    match kind {
+        0b111 => got(Command::FusionP(near), 1),
+        0b110 => got(Command::FusionS(near), 1),
+        0b101 => match rest {
+            [] => One::More,
+            [number, ..] => got(Command::Fission(near, *number), 2),
+        },
+        0b011 => got(Command::Fill(near), 1),
+        0b010 => got(Command::Void(near), 1),
+        0b001 => match far_front(rest) {
+            FarFront::Got(far) => got(Command::GFill(near, far), 4),
+            FarFront::More => One::More,
+            FarFront::Bad => One::Bad,
+        },
+        _ => match far_front(rest) {
+            FarFront::Got(far) => got(Command::GVoid(near, far), 4),
+            FarFront::More => One::More,
+            FarFront::Bad => One::Bad,
+        },
+    }
+}
+
+/// What bytes begin with where a far difference is to come.
+enum FarFront {
+    Got(Far),
+    More,
+    Bad,
+}
+
+/// Whether each byte is a component of a far difference and 30, or would be if it were not 0 in all three.
+fn are_raised(bytes: &[u8]) -> bool
+    ensures { IsTrue result ↔ All (λ b. b ≤ 60) bytes.now }
+{
+    bytes.iter().all(|b| *b <= 60)
+}
+
+/// What the bytes begin with where a far difference is to come.
+#[inline(always)]
+fn far_front(bytes: &[u8]) -> FarFront
+    ensures { SaysFar bytes.now result }
+{
+    match bytes {
+        [x, y, z, ..] => match far_at(*x, *y, *z) {
+            Some(far) => FarFront::Got(far),
+            None => FarFront::Bad,
+        },
+        _ if are_raised(bytes) => FarFront::More,
+        _ => FarFront::Bad,
+    }
+}
+
+/// A move, by its first byte, whose low three bits are 100, and the bytes after it.
+#[inline(always)]
+fn decode_move(head: u8, rest: &[u8]) -> One
+    requires { head % 8 ≡ 4 }
+    ensures { Says (head ∷ rest.now) result }
+{
+    let first = head / 16 % 4;
+    let second = head / 64;
+    if first == 0 {
+        One::Bad
+    } else if head / 8 % 2 == 0 {
+        if second == 0 {
+            decode_long(first, rest)
+        } else {
+            One::Bad
+        }
+    } else if second == 0 {
+        One::Bad
+    } else {
+        decode_short(first, second, rest)
+    }
+}
+
+/// A long move along an axis, by the bytes after the first.
+#[inline(always)]
+fn decode_long(axis: u8, rest: &[u8]) -> One
+    requires low { 1 ≤ axis }
+    requires high { axis ≤ 3 }
+    ensures { Says ((16 * axis + 0b0100) ∷ rest.now) result }
+{
+    match rest {
+        [] => One::More,
+        [code, ..] => match long_at(axis, *code) {
+            Some(long) => got(Command::SMove(long), 2),
+            None => One::Bad,
+        },
+    }
+}
+
+/// Two short moves along two axes, by the bytes after the first.
+#[inline(always)]
+fn decode_short(first: u8, second: u8, rest: &[u8]) -> One
+    requires first_low { 1 ≤ first }
+    requires first_high { first ≤ 3 }
+    requires second_low { 1 ≤ second }
+    requires second_high { second ≤ 3 }
+    ensures { Says ((64 * second + 16 * first + 0b1100) ∷ rest.now) result }
+{
+    let [codes, ..] = rest else {
+        return One::More;
+    };
+    let Some(near_move) = short_at(first, *codes % 16) else {
+        return One::Bad;
+    };
+    let Some(far_move) = short_at(second, *codes / 16) else {
+        return One::Bad;
+    };
+    got(Command::LMove(near_move, far_move), 2)
+}

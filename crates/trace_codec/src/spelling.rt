@@ -1,0 +1,136 @@
+//! A command's one spelling.
+ghost use Rattle.std.specs.Prelude.{◌≡◌, ◌+◌, ◌*◌, ◌<◌, ◌≤◌, [], ◌∷◌, unsigned_abs};
+ghost use Rattle.vox_geom.specs.Difference.{IsFar, IsLong, IsNear, IsShort, mlen};
+ghost use Rattle.nano_spec.specs.Command.{IsCommand};
+ghost use Rattle.nano_spec.specs.Spelling.{axis as axis_of, component as component_of, far_bytes, near_code as near_code_of, raised as raised_by, spelling};
+
+use arrayvec::ArrayVec;
+use nano_spec::Command;
+use vox_geom::{Diff, Far, Long, Near, Short};
+
+/// The command's spelling.
+pub fn encode_one(command: Command) -> ArrayVec<u8, 4>
+    ensures spelling { result.items ≡ spelling command }
+    ensures is_command { IsCommand command }
+{
+    match command {
+        Command::Halt => one_byte(0b1111_1111),
+        Command::Wait => one_byte(0b1111_1110),
+        Command::Flip => one_byte(0b1111_1101),
+        Command::SMove(long) => {
+            let head = 16 * axis(long.diff()) + 0b0100;
+            two_bytes(head, long_code(long))
+        }
+        Command::LMove(first, second) => {
+            let head = 64 * axis(second.diff()) + 16 * axis(first.diff()) + 0b1100;
+            two_bytes(head, 16 * short_code(second) + short_code(first))
+        }
+        Command::FusionP(near) => one_byte(near_head(near, 0b111)),
+        Command::FusionS(near) => one_byte(near_head(near, 0b110)),
+        Command::Fission(near, number) => two_bytes(near_head(near, 0b101), number),
+        Command::Fill(near) => one_byte(near_head(near, 0b011)),
+        Command::Void(near) => one_byte(near_head(near, 0b010)),
+        Command::GFill(near, far) => group_bytes(near_head(near, 0b001), far),
+        Command::GVoid(near, far) => group_bytes(near_head(near, 0b000), far),
+    }
+}
+
+fn one_byte(byte: u8) -> ArrayVec<u8, 4>
+    ensures { result.items ≡ byte ∷ [] }
+{
+    let mut bytes = ArrayVec::new();
+    bytes.push(byte);
+    bytes
+}
+
+fn two_bytes(head: u8, second: u8) -> ArrayVec<u8, 4>
+    ensures { result.items ≡ head ∷ second ∷ [] }
+{
+    let mut bytes = one_byte(head);
+    bytes.push(second);
+    bytes
+}
+
+fn group_bytes(head: u8, far: Far) -> ArrayVec<u8, 4>
+    ensures bytes { result.items ≡ head ∷ far_bytes far }
+    ensures kind { IsFar far }
+{
+    let d = far.diff();
+    let mut bytes = one_byte(head);
+    bytes.push(raised(d.dx, 30));
+    bytes.push(raised(d.dy, 30));
+    bytes.push(raised(d.dz, 30));
+    bytes
+}
+
+/// The first byte of a command at a near difference, with these low three bits.
+fn near_head(near: Near, low: u8) -> u8
+    requires { low < 8 }
+    ensures value { result ≡ 8 * near_code_of near + low }
+    ensures kind { IsNear near }
+{
+    8 * near_code(near) + low
+}
+
+/// The number that stands for a near difference.
+#[tactic(auto, using(nano_spec::proofs::Codes::near_bounds))]
+fn near_code(near: Near) -> u8
+    ensures value { result ≡ near_code_of near }
+    ensures below { result ≤ 26 }
+    ensures kind { IsNear near }
+{
+    let d = near.diff();
+    9 * raised(d.dx, 1) + 3 * raised(d.dy, 1) + raised(d.dz, 1)
+}
+
+/// The axis of a linear difference: 1 for x, 2 for y, 3 for z.
+fn axis(d: Diff) -> u8
+    ensures value { result ≡ axis_of d }
+    ensures below { result ≤ 3 }
+{
+    if d.dx != 0 {
+        1
+    } else if d.dy != 0 {
+        2
+    } else {
+        3
+    }
+}
+
+/// The number that stands for a long difference beside its axis.
+fn long_code(long: Long) -> u8
+    ensures value { result ≡ raised_by (component_of long) 15 }
+    ensures below { result ≤ 30 }
+    ensures kind { IsLong long }
+{
+    raised(component(long.diff()), 15)
+}
+
+/// The number that stands for a short difference beside its axis.
+fn short_code(short: Short) -> u8
+    ensures value { result ≡ raised_by (component_of short) 5 }
+    ensures below { result ≤ 10 }
+    ensures kind { IsShort short }
+{
+    raised(component(short.diff()), 5)
+}
+
+/// The one component of a linear difference that is not 0.
+fn component(d: Diff) -> i16
+    requires { mlen d ≤ 15 }
+    ensures value { result ≡ component_of d }
+    ensures within { unsigned_abs result ≤ mlen d }
+{
+    d.dx + d.dy + d.dz
+}
+
+/// A component with what is added to it, so that it is not negative.
+#[tactic(auto, using(nano_spec::proofs::Codes::raised_small))]
+fn raised(component: i16, by: u8) -> u8
+    requires within { unsigned_abs component ≤ by }
+    requires small { by ≤ 30 }
+    ensures value { result ≡ raised_by component by }
+    ensures below { result ≤ 2 * by }
+{
+    (component + i16::from(by)).unsigned_abs() as u8
+}

@@ -1,0 +1,67 @@
+//! Whole traces.
+ghost use Rattle.std.specs.Prelude.{◌≡◌, ◌+◌, ◌*◌, ◌≤◌, IfOk, Result, List, length};
+ghost use Rattle.nano_spec.specs.declared.commands.Command.{Command};
+ghost use Rattle.nano_spec.specs.Cutting.{Cutting, Decoding, NoTrace};
+ghost use Rattle.nano_spec.specs.Spelling.{spellings};
+ghost use Rattle.trace_codec.specs.Whole.{Decodes, IsAnswer};
+
+use crate::fault::TraceFault;
+use crate::one::{One, decode_one};
+use crate::spelling::encode_one;
+use nano_spec::{Command, CommandList};
+use std::alloc::Global;
+use vox_geom::Memory;
+
+/// The commands whose spellings, joined, are the bytes.
+#[tactic(auto, using(crate::proofs::WholeTraces::is_answer))]
+pub fn decode_all(alloc: Global, bytes: &[u8]) -> Result<CommandList, TraceFault>
+    // What the answer says of the bytes.
+    ensures answer { Decodes bytes.now result }
+    // No other answer says something true, but that there is no memory.
+    ensures only { (other : Result (List Command) NoTrace) → Decoding bytes.now other → IsAnswer result other }
+{
+    let mut commands = CommandList::new(alloc);
+    let mut start = 0;
+    while start < bytes.len() {
+        match decode_one(&bytes[start..]) {
+            One::Got { command, len } => {
+                commands.push(command)?;
+                start += usize::from(len);
+            }
+            One::More => {
+                return Err(TraceFault::Cut {
+                    offset: start as u64,
+                });
+            }
+            One::Bad => {
+                return Err(TraceFault::Bad {
+                    offset: start as u64,
+                });
+            }
+        }
+    }
+    Ok(commands)
+}
+
+/// The spellings of the commands, joined.
+pub fn encode_all(alloc: Global, commands: &[Command]) -> Result<Vec<u8>, Memory>
+    ensures { IfOk result (λ bytes. Cutting bytes.items commands.now) }
+{
+    let mut bytes = Vec::with_capacity(alloc, encoded_len(commands)).map_err(|_| Memory)?;
+    for command in commands {
+        let spelling = encode_one(*command);
+        bytes
+            .extend_from_slice(spelling.as_slice())
+            .map_err(|_| Memory)?;
+    }
+    Ok(bytes)
+}
+
+/// How many bytes the spellings of the commands have, if that is a `usize`.
+fn encoded_len(commands: &[Command]) -> usize {
+    let mut len = 0usize;
+    for command in commands {
+        len = len.saturating_add(encode_one(*command).len());
+    }
+    len
+}
