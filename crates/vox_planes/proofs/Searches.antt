@@ -1,0 +1,218 @@
+-- The next bit of a value, and the next voxel of a row that is full or void.
+use Rattle.std.proofs.Common.{◌≡◌, ℕ, zero, suc, ◌+◌, ◌-◌, ◌/◌, ◌%◌, ◌^◌, ◌<◌, ◌≤◌, refl, sym, ◌∙◌, ap, subst, arith, Bool, true, false, cond, not, ◌==◌, List, [], ◌∷◌, get_or, filter, find, Some, None, inl, inr}
+use Rattle.std.specs.Prelude.{◌⊎◌}
+use Rattle.std.specs.Int.{bit_at, bit_not, trailing_zeros, w64}
+use Rattle.std.proofs.lemmas.Bool.{cases_lt}
+use Rattle.std.proofs.lemmas.Nat.{shr-shr, shr_below, shr_le}
+use Rattle.std.proofs.lemmas.Nat.Bits.{bit_at_above, bit_at-lt, bit_at_not, bit_at-trailing_zeros, bit_at-zero}
+use Rattle.vox_geom.specs.declared.coordinate.Coord.{Coord}
+use Rattle.vox_geom.specs.Space.{IsInSpace}
+use Rattle.nano_spec.specs.Matrix.{Matrix, is_full}
+use Rattle.nano_spec.specs.Model.{bit}
+use Rattle.vox_planes.specs.Bits.{IsFree, IsMarked, IsNext, state_of}
+use Rattle.vox_planes.specs.Layers.{bit_index, is_set, layered}
+use Rattle.vox_planes.specs.Voxel.{is_state}
+use Rattle.vox_planes.specs.Walk.{at, row}
+use Rattle.vox_planes.proofs.Voxels.{is_full-layered}
+use Rattle.vox_planes.proofs.Walks.{row-end, row-more}
+
+-- ---- the bits of a word from one on
+
+state-true : (value b : Bool) → state_of value b ≡ true → b ≡ value
+state-true true b e = e
+state-true false true e = cc
+state-true false false e = refl
+
+state-false : (value b : Bool) → state_of value b ≡ false → b ≡ not value
+state-false true b e = e
+state-false false true e = refl
+state-false false false e = cc
+
+is_one : (n k : ℕ) → bit_at n k ≡ 1 → bit n k ≡ true
+is_one n k e = rw e refl
+
+is_zero : (n k : ℕ) → bit_at n k ≡ 0 → bit n k ≡ false
+is_zero n k e = rw e refl
+
+shifted : (v s k : ℕ) → bit_at (v / 2 ^ s) k ≡ bit_at v (s + k)
+shifted v s k = ap (λ n. n % 2) (shr-shr v s k)
+
+bit_from : (ws : List ℕ) (i k : ℕ) → i % 64 + k < 64 → is_set ws (i + k) ≡ bit (get_or ws (i / 64) 0) (i % 64 + k)
+unfolding is_set
+bit_from ws i k l =
+    let d : (i + k) / 64 ≡ i / 64 = omega arith in
+    let m : (i + k) % 64 ≡ i % 64 + k = omega arith in
+    λ t. bit (get_or ws (d t) 0) (m t)
+
+-- a bit past the shift that is not marked has the other value
+unmarked : (ws : List ℕ) (i w v k : ℕ) (value : Bool) → w ≡ get_or ws (i / 64) 0 → IsMarked w v value → i % 64 + k < 64 → bit_at (v / 2 ^ (i % 64)) k ≡ 0 → is_set ws (i + k) ≡ not value
+unmarked ws i w v k value e h l z =
+    bit_from ws i k l
+    ∙ (ap (λ n. bit n (i % 64 + k)) (sym e)
+    ∙ state-false value (bit w (i % 64 + k)) (sym (h.bits (i % 64 + k) l) ∙ is_zero v (i % 64 + k) (sym (shifted v (i % 64) k) ∙ z)))
+
+-- the other word marks the bits of the other value
+pub mark_other : (w : ℕ) → w < 2 ^ 64 → IsMarked w (bit_not w64 w) false
+mark_other w h = record { bits = λ k l. ap (λ n. n == 1) (bit_at_not w64 w k h l) ∙ by (bit_at w k) (bit_at-lt w k) }
+  where
+    by : (v : ℕ) → v < 2 → (1 - v == 1) ≡ not (v == 1)
+    by zero m = refl
+    by (suc zero) m = refl
+    by (suc (suc v)) m = absurd (omega arith)
+
+pub free_word : (ws : List ℕ) (from i w v : ℕ) (value : Bool) → w ≡ get_or ws (i / 64) 0 → IsMarked w v value → v / 2 ^ (i % 64) ≡ 0 → IsFree ws from i value → IsFree ws from (i + (64 - i % 64)) value
+free_word ws from i w v value e h z f = record { free = λ j l m. by j l m (cases_lt j i) }
+  where
+    by : (j : ℕ) → from ≤ j → j < i + (64 - i % 64) → ((j < i) ⊎ (i ≤ j)) → is_set ws j ≡ not value
+    by j l m (inl a) = f.free j l a
+    by j l m (inr a) =
+        let k : ℕ = j - i in
+        let same : i + k ≡ j = omega arith in
+        sym (ap (is_set ws) same) ∙ unmarked ws i w v k value e h (omega arith) (ap (λ n. bit_at n k) z ∙ bit_at-zero k)
+
+pub next_in_word : (ws : List ℕ) (from i w v : ℕ) (value : Bool) → w ≡ get_or ws (i / 64) 0 → v < 2 ^ 64 → IsMarked w v value → 0 < v / 2 ^ (i % 64) → from ≤ i → IsFree ws from i value → IsNext ws from (i + trailing_zeros w64 (v / 2 ^ (i % 64))) value
+next_in_word ws from i w v value e l h p o f =
+    let bits : ℕ = v / 2 ^ (i % 64) in
+    let s : ℕ = i % 64 in
+    let whole : bits < 2 ^ 64 = (let q = shr_le v s in omega arith) in
+    let z = bit_at-trailing_zeros w64 bits p whole in
+    let t : ℕ = trailing_zeros w64 bits in
+    let fits : v < 2 ^ (64 - s + s) = (let q : 64 ≡ 64 - s + s = omega arith in subst (λ (n : ℕ). v < 2 ^ n) q l) in
+    let short : bits < 2 ^ (64 - s) = shr_below v (64 - s) s fits in
+    let near : s + t < 64 = in_range bits s t z.1 short (omega arith) in
+    record {
+      first = omega arith;
+      before = record { free = λ j a b. by j a b z.2 near (cases_lt j i) };
+      here =
+          bit_from ws i t near
+          ∙ (ap (λ n. bit n (s + t)) (sym e)
+          ∙ state-true value (bit w (s + t)) (sym (h.bits (s + t) near) ∙ is_one v (s + t) (sym (shifted v s t) ∙ z.1)));
+    }
+  where
+    in_range : (bits s t : ℕ) → bit_at bits t ≡ 1 → bits < 2 ^ (64 - s) → s < 64 → s + t < 64
+    in_range bits s t one short l = by (cases_lt t (64 - s))
+      where
+        by : ((t < 64 - s) ⊎ (64 - s ≤ t)) → s + t < 64
+        by (inl a) = omega arith
+        by (inr a) = absurd (let none = bit_at_above bits (64 - s) t short a in omega arith)
+
+    by : (j : ℕ) → from ≤ j → j < i + trailing_zeros w64 (v / 2 ^ (i % 64)) → ((k : ℕ) → k < trailing_zeros w64 (v / 2 ^ (i % 64)) → bit_at (v / 2 ^ (i % 64)) k ≡ 0) → i % 64 + trailing_zeros w64 (v / 2 ^ (i % 64)) < 64 → ((j < i) ⊎ (i ≤ j)) → is_set ws j ≡ not value
+    by j a b zeros near (inl c) = f.free j a c
+    by j a b zeros near (inr c) =
+        let k : ℕ = j - i in
+        let same : i + k ≡ j = omega arith in
+        sym (ap (is_set ws) same) ∙ unmarked ws i w v k value e h (omega arith) (zeros k (omega arith))
+
+-- ---- the voxels of a row
+
+find_at : (test : Coord → Bool) (n : ℕ) (c : Coord) (last z : ℕ) → z ≡ c.z + n → z ≤ last → test (at c z) ≡ true → ((y : ℕ) → c.z ≤ y → y < z → test (at c y) ≡ false) → find test (row c last) ≡ Some (at c z)
+find_at test zero c last z e l t none =
+    let same : z ≡ c.z = omega arith in
+    ap (find test) (row-more c last (omega arith))
+    ∙ (ap (λ b. cond b (Some c) (find test (row (at c (c.z + 1)) last))) (sym (ap (λ y. test (at c y)) same) ∙ t)
+    ∙ ap (λ y. Some (at c y)) (sym same))
+find_at test (suc n) c last z e l t none =
+    ap (find test) (row-more c last (omega arith))
+    ∙ (ap (λ b. cond b (Some c) (find test (row (at c (c.z + 1)) last))) (none c.z (omega arith) (omega arith))
+    ∙ find_at test n (at c (c.z + 1)) last z (omega arith) l t (λ y a b. none y (omega arith) b))
+
+find_none : (test : Coord → Bool) (n : ℕ) (c : Coord) (last : ℕ) → last + 1 ≡ c.z + n → ((y : ℕ) → c.z ≤ y → y ≤ last → test (at c y) ≡ false) → find test (row c last) ≡ None
+find_none test zero c last e none = ap (find test) (row-end c last (omega arith))
+find_none test (suc n) c last e none =
+    ap (find test) (row-more c last (omega arith))
+    ∙ (ap (λ b. cond b (Some c) (find test (row (at c (c.z + 1)) last))) (none c.z (omega arith) (omega arith))
+    ∙ find_none test n (at c (c.z + 1)) last (omega arith) (λ y a b. none y (omega arith) b))
+
+-- a voxel of a row, by its bit
+bit_of : (r : ℕ) (ws : List ℕ) (c : Coord) (z : ℕ) → IsInSpace r c → c.z ≤ z → z < r → is_full (layered r ws) (at c z) ≡ is_set ws (bit_index r c + (z - c.z))
+bit_of r ws c z h l m =
+    let within : IsInSpace r (at c z) = record { x = h.x; y = h.y; z = m } in
+    let same : bit_index r (at c z) ≡ bit_index r c + (z - c.z) = omega arith in
+    is_full-layered r ws (at c z) within ∙ ap (is_set ws) same
+
+is-state : (m : Matrix) (value : Bool) (c : Coord) (b : Bool) → is_full m c ≡ b → b ≡ value → is_state m value c ≡ true
+is-state m true c b e f = e ∙ f
+is-state m false c b e f = ap not (e ∙ f)
+
+is-no_state : (m : Matrix) (value : Bool) (c : Coord) (b : Bool) → is_full m c ≡ b → b ≡ not value → is_state m value c ≡ false
+is-no_state m true c b e f = e ∙ f
+is-no_state m false c b e f = ap not (e ∙ f)
+
+pub row_found : (r : ℕ) (ws : List ℕ) (m : Matrix) (c : Coord) (last i : ℕ) (value : Bool) → layered r ws ≡ m → IsInSpace r c → last < r → i ≤ bit_index r c + (last - c.z) → c.z ≤ last → IsNext ws (bit_index r c) i value → find (is_state m value) (row c last) ≡ Some (at c (c.z + (i - bit_index r c)))
+row_found r ws m c last i value e h l il cl n =
+    ap (λ v. find (is_state v value) (row c last)) (sym e)
+    ∙ find_at (is_state (layered r ws) value) (i - bit_index r c) c last (c.z + (i - bit_index r c)) (omega arith) (omega arith) hit none
+  where
+    hit : is_state (layered r ws) value (at c (c.z + (i - bit_index r c))) ≡ true
+    hit =
+        let z : ℕ = c.z + (i - bit_index r c) in
+        let same : bit_index r c + (z - c.z) ≡ i = (let f = n.first in omega arith) in
+        is-state (layered r ws) value (at c z) (is_set ws i) (bit_of r ws c z h (omega arith) (omega arith) ∙ ap (is_set ws) same) n.here
+
+    none : (y : ℕ) → c.z ≤ y → y < c.z + (i - bit_index r c) → is_state (layered r ws) value (at c y) ≡ false
+    none y a b = is-no_state (layered r ws) value (at c y) (is_set ws (bit_index r c + (y - c.z))) (bit_of r ws c y h a (omega arith)) ((n.before).free (bit_index r c + (y - c.z)) (omega arith) (omega arith))
+
+pub row_free : (r : ℕ) (ws : List ℕ) (m : Matrix) (c : Coord) (last : ℕ) (value : Bool) → layered r ws ≡ m → IsInSpace r c → last < r → c.z ≤ last → IsFree ws (bit_index r c) (bit_index r c + (last - c.z) + 1) value → find (is_state m value) (row c last) ≡ None
+row_free r ws m c last value e h l cl f =
+    ap (λ v. find (is_state v value) (row c last)) (sym e)
+    ∙ find_none (is_state (layered r ws) value) (last + 1 - c.z) c last (omega arith) (λ y a b.
+    is-no_state (layered r ws) value (at c y) (is_set ws (bit_index r c + (y - c.z))) (bit_of r ws c y h a (omega arith)) (f.free (bit_index r c + (y - c.z)) (omega arith) (omega arith)))
+
+-- ---- the list of a row, one found voxel after another
+
+-- what is found in a row is of that row, and the list of those that pass begins with it
+pub record IsHead (test : Coord → Bool) (c : Coord) (last : ℕ) (d : Coord) : Type 0 where
+  pub is : d ≡ at c d.z
+  pub low : c.z ≤ d.z
+  pub high : d.z ≤ last
+  pub list : filter test (row c last) ≡ d ∷ filter test (row (at c (d.z + 1)) last)
+
+head_by : (test : Coord → Bool) (n : ℕ) (c : Coord) (last : ℕ) (d : Coord) → n ≡ last + 1 - c.z → find test (row c last) ≡ Some d → IsHead test c last d
+head_by test zero c last d e f = absurd (let none = ap (find test) (row-end c last (omega arith)) in cc)
+head_by test (suc n) c last d e f = by (test c) refl (λ later. head_by test n (at c (c.z + 1)) last d (omega arith) later)
+  where
+    by : (b : Bool) → test c ≡ b → (find test (row (at c (c.z + 1)) last) ≡ Some d → IsHead test (at c (c.z + 1)) last d) → IsHead test c last d
+    by true t rest =
+        let more = row-more c last (omega arith) in
+        let here : Some c ≡ Some d = sym (ap (find test) more ∙ ap (λ b. cond b (Some c) (find test (row (at c (c.z + 1)) last))) t) ∙ f in
+        let same : c ≡ d = cc in
+        subst (λ (v : Coord). IsHead test c last v) same (record {
+          is = refl;
+          low = omega arith;
+          high = omega arith;
+          list = ap (filter test) more ∙ ap (λ b. cond b (c ∷ filter test (row (at c (c.z + 1)) last)) (filter test (row (at c (c.z + 1)) last))) t;
+        })
+    by false t rest =
+        let more = row-more c last (omega arith) in
+        let later : find test (row (at c (c.z + 1)) last) ≡ Some d = sym (ap (find test) more ∙ ap (λ b. cond b (Some c) (find test (row (at c (c.z + 1)) last))) t) ∙ f in
+        let h = rest later in
+        record {
+          is = h.is;
+          low = omega (arith, h.low);
+          high = h.high;
+          list = ap (filter test) more ∙ (ap (λ b. cond b (c ∷ filter test (row (at c (c.z + 1)) last)) (filter test (row (at c (c.z + 1)) last))) t ∙ h.list);
+        }
+
+pub head_of : (test : Coord → Bool) (c : Coord) (last : ℕ) (d : Coord) → find test (row c last) ≡ Some d → IsHead test c last d
+head_of test c last d f = head_by test (last + 1 - c.z) c last d refl f
+
+none_by : (test : Coord → Bool) (xs : List Coord) → find test xs ≡ None → filter test xs ≡ []
+none_by test [] f = refl
+none_by test (x ∷ xs) f = by (test x) f (none_by test xs)
+  where
+    by : (b : Bool) → cond b (Some x) (find test xs) ≡ None → (find test xs ≡ None → filter test xs ≡ []) → cond b (x ∷ filter test xs) (filter test xs) ≡ []
+    by true g rest = cc
+    by false g rest = rest g
+
+pub list_ended : (test : Coord → Bool) (c : Coord) (last : ℕ) → find test (row c last) ≡ None → filter test (row c last) ≡ []
+list_ended test c last f = none_by test (row c last) f
+
+pub free_less : (ws : List ℕ) (from a b : ℕ) (value : Bool) → b ≤ a → IsFree ws from a value → IsFree ws from b value
+free_less ws from a b value l f = record { free = λ j m n. f.free j m (omega arith) }
+
+-- what `next_bit` says, read from the words as they are kept
+pub free_as : (ws us : List ℕ) (from s end e : ℕ) (value : Bool) → ws ≡ us → from ≡ s → end ≡ e → IsFree ws from end value → IsFree us s e value
+free_as ws us from s end e value ew es ee f = subst (λ (v : List ℕ). IsFree v s e value) ew (subst (λ (v : ℕ). IsFree ws v e value) es (subst (λ (v : ℕ). IsFree ws from v value) ee f))
+
+pub next_as : (ws us : List ℕ) (from s i : ℕ) (value : Bool) → ws ≡ us → from ≡ s → IsNext ws from i value → IsNext us s i value
+next_as ws us from s i value ew es n = subst (λ (v : List ℕ). IsNext v s i value) ew (subst (λ (v : ℕ). IsNext ws v i value) es n)

@@ -1,0 +1,22 @@
+-- The next bit of a value among the bits of words.
+use Rattle.std.specs.Prelude.{◌≡◌, ℕ, ◌<◌, ◌≤◌, Bool, cond, not, List}
+use Rattle.nano_spec.specs.Model.{bit}
+use Rattle.vox_planes.specs.Layers.{is_set}
+
+-- whether a bit has the value
+abbrev pub state_of : Bool → Bool → Bool
+state_of value b = cond value b (not b)
+
+-- the bits of the word v are 1 where those of the word w have the value
+pub record IsMarked (w v : ℕ) (value : Bool) : Type 0 where
+  pub bits : (k : ℕ) → k < 64 → bit v k ≡ state_of value (bit w k)
+
+-- no bit of the value stands from an index on and before an end
+pub record IsFree (ws : List ℕ) (from end : ℕ) (value : Bool) : Type 0 where
+  pub free : (j : ℕ) → from ≤ j → j < end → is_set ws j ≡ not value
+
+-- the bit at an index has the value, and none before it does
+pub record IsNext (ws : List ℕ) (from at : ℕ) (value : Bool) : Type 0 where
+  pub first : from ≤ at
+  pub before : IsFree ws from at value
+  pub here : is_set ws at ≡ value

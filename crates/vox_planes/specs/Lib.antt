@@ -1,0 +1,6 @@
+pub mod Bits
+pub mod Changes
+pub mod Difference
+pub mod Layers
+pub mod Voxel
+pub mod Walk

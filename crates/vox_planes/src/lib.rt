@@ -1,0 +1,14 @@
+//! The voxels of a matrix, one bit each (docs/FORMATS.md, "Geometry"), and lists of coordinates to be changed.
+//!
+//! The bits stand in words of 64, in layers of y. In a layer a row of fixed x lies in consecutive bits, so a row is
+//! searched, listed and compared by words. Only `Planes::empty`, `Planes::copy` and `ChangeList::with_room` take memory.
+#![tactic(auto)]
+
+mod change_list;
+mod planes;
+
+pub use change_list::ChangeList;
+pub use planes::Planes;
+
+#[cfg(test)]
+mod tests;

@@ -1,0 +1,211 @@
+//! Searches and lists over a region, row by row.
+ghost use Rattle.std.specs.Prelude.{◌≡◌, ◌+◌, ◌-◌, ◌*◌, ◌^◌, ◌≤◌, ◌<◌, IfSome, IfNone, ◌++◌, ◌&&◌, not, filter, find, length};
+ghost use Rattle.std.specs.Option.{option_or};
+ghost use Rattle.vox_geom.specs.Point.{point};
+ghost use Rattle.vox_geom.specs.Region.{is_within, size, span};
+ghost use Rattle.vox_geom.specs.Space.{IsInSpace, place};
+ghost use Rattle.nano_spec.specs.Matrix.{all_of, is_full};
+ghost use Rattle.vox_planes.specs.Bits.{IsFree, IsMarked, IsNext};
+ghost use Rattle.vox_planes.specs.Voxel.{is_state};
+ghost use Rattle.vox_planes.specs.Walk.{coordinates_from, passes_in, row, row_start, row_size, wall_size};
+
+use super::{Planes, WORD_BITS, bit_index};
+use crate::change_list::ChangeList;
+use std::sync::ledger::Ledger;
+use vox_geom::{Coord, Region, Steps};
+
+impl Planes {
+    /// The first coordinate of a row that is full, or else void, from one on to the last component z.
+    fn row_next<L: Ledger>(
+        &self,
+        first: Coord,
+        last: u16,
+        full: bool,
+        steps: &mut Steps<L>,
+    ) -> Option<Coord>
+        requires within { IsInSpace self.now.resolution first }
+        requires order { first.z ≤ last }
+        requires end { last < self.now.resolution }
+        ensures value { result ≡ find (is_state self.now full) (row first last) }
+        ensures touches { steps.new ≤ steps.old + (last + 1 - first.z) }
+        ensures touches_found { IfSome result (λ c. steps.new + first.z ≤ steps.old + (c.z + 1)) }
+    {
+        let start = bit_index(first, self.resolution);
+        let end = start + usize::from(last - first.z) + 1;
+        let Some(i) = next_bit(&self.words, start, end, full, steps) else {
+            return None;
+        };
+        let z = first.z + (i - start) as u16;
+        Some(Coord { z, ..first })
+    }
+
+    /// The first full coordinate of the region among those with this x.
+    fn wall_full<L: Ledger>(&self, b: &Region, x: u16, steps: &mut Steps<L>) -> Option<Coord>
+        requires within { IsInSpace self.now.resolution b.now.high }
+        requires low { b.now.low.x ≤ x }
+        requires high { x ≤ b.now.high.x }
+        ensures value { option_or result (find (passes_in b.now (is_full self.now)) (coordinates_from self.now.resolution (place self.now.resolution (row_start b.now (x + 1) b.now.low.y)))) ≡ find (passes_in b.now (is_full self.now)) (coordinates_from self.now.resolution (place self.now.resolution (row_start b.now x b.now.low.y))) }
+        ensures touches { steps.new ≤ steps.old + wall_size b.now }
+    {
+        let low = b.low();
+        let high = b.high();
+        for y in low.y..=high.y {
+            let found = self.row_next(Coord { x, y, z: low.z }, high.z, true, steps);
+            if found.is_some() {
+                return found;
+            }
+        }
+        None
+    }
+
+    /// The least full coordinate of the region: `None` exactly where the region is void. At most as many touches as the
+    /// region has coordinates.
+    pub fn region_full<L: Ledger>(&self, b: &Region, steps: &mut Steps<L>) -> Option<Coord>
+        requires { IsInSpace self.now.resolution b.now.high }
+        ensures value { result ≡ find (λ c. is_full self.now c && is_within (span b.now) (point c)) (all_of self.now) }
+        ensures touches { steps.new ≤ steps.old + size (span b.now) }
+    {
+        let low = b.low();
+        let high = b.high();
+        for x in low.x..=high.x {
+            let found = self.wall_full(b, x, steps);
+            if found.is_some() {
+                return found;
+            }
+        }
+        None
+    }
+
+    /// Appends the coordinates of a row that are full, or else those that are void.
+    fn list_row<L: Ledger>(
+        &self,
+        first: Coord,
+        last: u16,
+        full: bool,
+        list: &mut ChangeList,
+        steps: &mut Steps<L>,
+    )
+        requires within { IsInSpace self.now.resolution first }
+        requires order { first.z ≤ last }
+        requires end { last < self.now.resolution }
+        requires room { last + 1 - first.z ≤ list.old.spare }
+        ensures items { list.new.items ≡ list.old.items ++ filter (is_state self.now full) (row first last) }
+        ensures room { list.old.spare + length list.old.items ≤ list.new.spare + length list.new.items }
+        ensures left { list.old.spare ≤ list.new.spare + (last + 1 - first.z) }
+        ensures touches { steps.new ≤ steps.old + (last + 1 - first.z) }
+    {
+        let mut z = first.z;
+        while let Some(c) = self.row_next(Coord { z, ..first }, last, full, steps) {
+            list.push(c);
+            if c.z == last {
+                break;
+            }
+            z = c.z + 1;
+        }
+    }
+
+    /// Appends the full, or else the void, coordinates of the region among those with this x.
+    fn list_wall<L: Ledger>(
+        &self,
+        b: &Region,
+        x: u16,
+        full: bool,
+        list: &mut ChangeList,
+        steps: &mut Steps<L>,
+    )
+        requires within { IsInSpace self.now.resolution b.now.high }
+        requires low { b.now.low.x ≤ x }
+        requires high { x ≤ b.now.high.x }
+        requires room { wall_size b.now ≤ list.old.spare }
+        ensures items { list.new.items ++ filter (passes_in b.now (is_state self.now full)) (coordinates_from self.now.resolution (place self.now.resolution (row_start b.now (x + 1) b.now.low.y))) ≡ list.old.items ++ filter (passes_in b.now (is_state self.now full)) (coordinates_from self.now.resolution (place self.now.resolution (row_start b.now x b.now.low.y))) }
+        ensures room { list.old.spare + length list.old.items ≤ list.new.spare + length list.new.items }
+        ensures left { list.old.spare ≤ list.new.spare + wall_size b.now }
+        ensures touches { steps.new ≤ steps.old + wall_size b.now }
+    {
+        let low = b.low();
+        let high = b.high();
+        for y in low.y..=high.y {
+            self.list_row(Coord { x, y, z: low.z }, high.z, full, list, steps);
+        }
+    }
+
+    /// Appends the full, or else the void, coordinates of the region.
+    fn list_region<L: Ledger>(
+        &self,
+        b: &Region,
+        full: bool,
+        list: &mut ChangeList,
+        steps: &mut Steps<L>,
+    )
+        requires within { IsInSpace self.now.resolution b.now.high }
+        requires room { size (span b.now) ≤ list.old.spare }
+        ensures items { list.new.items ≡ list.old.items ++ filter (passes_in b.now (is_state self.now full)) (all_of self.now) }
+        ensures room { list.old.spare + length list.old.items ≤ list.new.spare + length list.new.items }
+        ensures touches { steps.new ≤ steps.old + size (span b.now) }
+    {
+        let low = b.low();
+        let high = b.high();
+        for x in low.x..=high.x {
+            self.list_wall(b, x, full, list, steps);
+        }
+    }
+
+    /// Appends the void coordinates of the region, in rising order. At most as many touches as the region has coordinates.
+    pub fn list_void<L: Ledger>(&self, b: &Region, list: &mut ChangeList, steps: &mut Steps<L>)
+        requires within { IsInSpace self.now.resolution b.now.high }
+        requires room { size (span b.now) ≤ list.old.spare }
+        ensures items { list.new.items ≡ list.old.items ++ filter (λ c. not (is_full self.now c) && is_within (span b.now) (point c)) (all_of self.now) }
+        ensures room { list.old.spare + length list.old.items ≤ list.new.spare + length list.new.items }
+        ensures touches { steps.new ≤ steps.old + size (span b.now) }
+    {
+        self.list_region(b, false, list, steps);
+    }
+
+    /// Appends the full coordinates of the region, in rising order. At most as many touches as the region has coordinates.
+    pub fn list_full<L: Ledger>(&self, b: &Region, list: &mut ChangeList, steps: &mut Steps<L>)
+        requires within { IsInSpace self.now.resolution b.now.high }
+        requires room { size (span b.now) ≤ list.old.spare }
+        ensures items { list.new.items ≡ list.old.items ++ filter (λ c. is_full self.now c && is_within (span b.now) (point c)) (all_of self.now) }
+        ensures room { list.old.spare + length list.old.items ≤ list.new.spare + length list.new.items }
+        ensures touches { steps.new ≤ steps.old + size (span b.now) }
+    {
+        self.list_region(b, true, list, steps);
+    }
+}
+
+/// A word whose bits are 1 where those of the given one have the value.
+fn marked(word: u64, value: bool) -> u64
+    ensures { IsMarked word result value }
+{
+    if value { word } else { !word }
+}
+
+/// The first bit of a value from one index on and before an end.
+fn next_bit<L: Ledger>(
+    words: &[u64],
+    from: usize,
+    end: usize,
+    value: bool,
+    steps: &mut Steps<L>,
+) -> Option<usize>
+    requires order { from ≤ end }
+    requires within { end ≤ 64 * length words.now }
+    requires small { end < 2 ^ 32 }
+    ensures found { IfSome result (λ i. IsNext words.now from i value) }
+    ensures before_end { IfSome result (λ i. i < end) }
+    ensures none { IfNone result (IsFree words.now from end value) }
+    ensures touches { steps.new ≤ steps.old + (end - from) }
+    ensures touches_found { IfSome result (λ i. steps.new + from ≤ steps.old + (i + 1)) }
+{
+    let mut at = from;
+    while at < end {
+        steps.tick();
+        let bits = marked(words[at / WORD_BITS], value) >> (at % WORD_BITS);
+        if bits != 0 {
+            let found = at + bits.trailing_zeros() as usize;
+            return if found < end { Some(found) } else { None };
+        }
+        at += WORD_BITS - at % WORD_BITS;
+    }
+    None
+}

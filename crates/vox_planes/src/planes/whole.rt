@@ -1,0 +1,90 @@
+//! Counts and comparisons of whole planes.
+ghost use Rattle.std.specs.Prelude.{◌≡◌, ◌+◌, ◌*◌, ◌<◌, ◌≤◌, count_by};
+ghost use Rattle.vox_geom.specs.Least.{LeastOf};
+ghost use Rattle.vox_geom.specs.Space.{is_before as is_before_of};
+ghost use Rattle.nano_spec.specs.Matrix.{all_of, is_full};
+ghost use Rattle.nano_spec.specs.Model.{volume};
+ghost use Rattle.nano_spec.specs.Verdict.{first_difference};
+ghost use Rattle.vox_planes.specs.Difference.{earlier as earlier_of, in_layer_differ};
+ghost use Rattle.vox_planes.specs.Layers.{layer_words as layer_words_of};
+
+use super::{Planes, WORD_BITS, layer_words};
+use std::sync::ledger::Ledger;
+use vox_geom::{Coord, Steps};
+
+impl Planes {
+    /// The number of full voxels. At most as many touches as there are voxels.
+    pub fn count<L: Ledger>(&self, steps: &mut Steps<L>) -> u32
+        ensures value { result ≡ count_by (is_full self.now) (all_of self.now) }
+        ensures touches { steps.new ≤ steps.old + volume self.now.resolution }
+    {
+        let mut full = 0;
+        for word in &self.words {
+            steps.tick();
+            full += word.count_ones();
+        }
+        full
+    }
+
+    /// The least coordinate of a layer at which the two differ: its least x, and there the least z.
+    fn layer_difference<L: Ledger>(
+        &self,
+        other: &Planes,
+        y: u16,
+        steps: &mut Steps<L>,
+    ) -> Option<Coord>
+        requires same { self.now.resolution ≡ other.now.resolution }
+        requires within { y < self.now.resolution }
+        ensures least { LeastOf self.now.resolution (in_layer_differ self.now other.now y) result }
+        ensures touches { steps.new ≤ steps.old + 2 * layer_words_of self.now.resolution }
+    {
+        let side = usize::from(self.resolution);
+        let count = layer_words(self.resolution);
+        let first = usize::from(y) * count;
+        for i in 0..count {
+            steps.tick();
+            steps.tick();
+            let difference = self.words[first + i] ^ other.words[first + i];
+            if difference != 0 {
+                let bit = i * WORD_BITS + difference.trailing_zeros() as usize;
+                return Some(Coord {
+                    x: (bit / side) as u16,
+                    y,
+                    z: (bit % side) as u16,
+                });
+            }
+        }
+        None
+    }
+
+    /// The least coordinate at which the two differ: `None` exactly where they are equal. At most two touches for each voxel.
+    pub fn equal<L: Ledger>(&self, other: &Planes, steps: &mut Steps<L>) -> Option<Coord>
+        requires { self.now.resolution ≡ other.now.resolution }
+        ensures value { result ≡ first_difference self.now other.now }
+        ensures touches { steps.new ≤ steps.old + 2 * volume self.now.resolution }
+    {
+        let mut least = None;
+        for y in 0..self.resolution {
+            least = earlier(least, self.layer_difference(other, y, steps));
+        }
+        least
+    }
+}
+
+/// Whether the one coordinate is before the other.
+fn is_before(a: Coord, b: Coord) -> bool
+    ensures { result ≡ is_before_of a b }
+{
+    a < b
+}
+
+/// The earlier of two coordinates, where they are there.
+fn earlier(a: Option<Coord>, b: Option<Coord>) -> Option<Coord>
+    ensures { result ≡ earlier_of a b }
+{
+    match (a, b) {
+        (Some(c), Some(d)) => Some(if is_before(d, c) { d } else { c }),
+        (Some(c), None) => Some(c),
+        (None, d) => d,
+    }
+}

@@ -1,0 +1,171 @@
+//! Each call with ample memory, at a small resolution and at one whose rows take more than a word.
+ghost use Rattle.std.specs.Prelude.{◌≡◌, ◌<◌, ◌≤◌, IfOk};
+ghost use Rattle.vox_geom.specs.Space.{IsInSpace};
+
+use super::*;
+use std::alloc::Global;
+use std::marker::Brand;
+use std::process::Abort;
+use std::sync::ledger::{Blank, Ledger};
+use std::test::Fail;
+use vox_geom::{Coord, Memory, Region, Steps};
+
+/// The coordinate with these components.
+fn at(x: u16, y: u16, z: u16) -> Coord
+    ensures x { result.x ≡ x }
+    ensures y { result.y ≡ y }
+    ensures z { result.z ≡ z }
+{
+    Coord { x, y, z }
+}
+
+/// The list of the full, or else the void, coordinates of a region is the expected one.
+fn assert_listed<L: Ledger>(
+    rt: &impl Abort,
+    planes: &Planes,
+    list: &mut ChangeList,
+    full: bool,
+    b: &Region,
+    want: &[Coord],
+    steps: &mut Steps<L>,
+)
+    requires { IsInSpace planes.now.resolution b.now.high }
+{
+    let _ = planes.resolution();
+    list.clear();
+    assert!(rt; b.size() <= list.spare());
+    if full {
+        planes.list_full(b, list, steps);
+    } else {
+        planes.list_void(b, list, steps);
+    }
+    assert_eq!(rt; list.as_slice(), want);
+}
+
+/// Two full voxels at resolution 3, and a copy that differs.
+fn small<L: Ledger>(rt: &impl Abort, blank: Blank, alloc: Global) -> Result<(), Memory>
+    requires name { blank.name ≡ L.name }
+    requires parts { blank.parts ≡ L.parts }
+    requires some { 0 < L.parts }
+{
+    let mut steps: Steps<L> = Steps::new(blank);
+    let mut planes = Planes::empty(alloc, 3)?;
+    assert_eq!(rt; planes.resolution(), 3);
+    assert_eq!(rt; planes.count(&mut steps), 0);
+    planes.set(at(1, 0, 2), true);
+    planes.set(at(1, 1, 1), true);
+    planes.set(at(2, 1, 0), true);
+    planes.set(at(1, 1, 1), false);
+    assert!(rt; planes.full_at(at(1, 0, 2), &mut steps));
+    assert!(rt; !planes.full_at(at(1, 1, 1), &mut steps));
+    assert_eq!(rt; planes.count(&mut steps), 2);
+
+    let right = Region::of(at(1, 0, 0), at(2, 1, 2));
+    assert_eq!(rt; planes.region_full(&right, &mut steps), Some(at(1, 0, 2)));
+    let left = Region::of(at(0, 0, 0), at(0, 2, 2));
+    assert_eq!(rt; planes.region_full(&left, &mut steps), None);
+
+    let mut list = ChangeList::with_room(alloc, 27)?;
+    let all = Region::of(at(0, 0, 0), at(2, 2, 2));
+    assert_listed(
+        rt,
+        &planes,
+        &mut list,
+        true,
+        &all,
+        &[at(1, 0, 2), at(2, 1, 0)],
+        &mut steps,
+    );
+    let part = Region::of(at(1, 0, 1), at(1, 1, 2));
+    assert_listed(
+        rt,
+        &planes,
+        &mut list,
+        false,
+        &part,
+        &[at(1, 0, 1), at(1, 1, 1), at(1, 1, 2)],
+        &mut steps,
+    );
+
+    let mut other = planes.copy(alloc)?;
+    assert_eq!(rt; planes.equal(&other, &mut steps), None);
+    other.set(at(2, 0, 0), true);
+    other.set(at(0, 2, 2), true);
+    assert_eq!(rt; planes.equal(&other, &mut steps), Some(at(0, 2, 2)));
+    Ok(())
+}
+
+/// A row of 70 voxels, whose bits stand in three words, and a voxel beside it.
+fn wide<L: Ledger>(rt: &impl Abort, blank: Blank, alloc: Global) -> Result<(), Memory>
+    requires name { blank.name ≡ L.name }
+    requires parts { blank.parts ≡ L.parts }
+    requires some { 0 < L.parts }
+{
+    let mut steps: Steps<L> = Steps::new(blank);
+    let mut planes = Planes::empty(alloc, 70)?;
+    planes.set(at(5, 3, 0), true);
+    planes.set(at(5, 3, 63), true);
+    planes.set(at(5, 3, 64), true);
+    planes.set(at(5, 3, 69), true);
+    planes.set(at(6, 0, 1), true);
+    assert_eq!(rt; planes.count(&mut steps), 5);
+
+    let row = Region::of(at(5, 3, 69), at(5, 3, 1));
+    assert_eq!(rt; planes.region_full(&row, &mut steps), Some(at(5, 3, 63)));
+
+    let mut list = ChangeList::with_room(alloc, 200)?;
+    let rows = Region::of(at(5, 3, 1), at(6, 3, 69));
+    assert_listed(
+        rt,
+        &planes,
+        &mut list,
+        true,
+        &rows,
+        &[at(5, 3, 63), at(5, 3, 64), at(5, 3, 69)],
+        &mut steps,
+    );
+    let part = Region::of(at(5, 3, 62), at(5, 3, 65));
+    assert_listed(
+        rt,
+        &planes,
+        &mut list,
+        false,
+        &part,
+        &[at(5, 3, 62), at(5, 3, 65)],
+        &mut steps,
+    );
+
+    let mut other = planes.copy(alloc)?;
+    other.set(at(6, 0, 1), false);
+    assert_eq!(rt; planes.equal(&other, &mut steps), Some(at(6, 0, 1)));
+    other.set(at(5, 3, 69), false);
+    assert_eq!(rt; planes.equal(&other, &mut steps), Some(at(5, 3, 69)));
+    Ok(())
+}
+
+/// A list of its own: it is filled, read and cleared.
+#[test]
+fn a_list_keeps_its_room(rt: HostRuntime) -> Result<(), Fail> {
+    let mut list = ChangeList::with_room(rt.alloc(), 2)?;
+    assert_eq!(rt; list.spare(), 2);
+    list.push(at(1, 2, 3));
+    list.push(at(3, 2, 1));
+    assert_eq!(rt; list.spare(), 0);
+    assert_eq!(rt; list.as_slice(), [at(1, 2, 3), at(3, 2, 1)].as_slice());
+    list.clear();
+    assert_eq!(rt; list.spare(), 2);
+    assert!(rt; list.as_slice().is_empty());
+    Ok(())
+}
+
+#[test]
+fn three_to_a_row(rt: HostRuntime) -> Result<(), Fail> {
+    small::<Brand>(&rt, Blank::new(1), rt.alloc())?;
+    Ok(())
+}
+
+#[test]
+fn seventy_to_a_row(rt: HostRuntime) -> Result<(), Fail> {
+    wide::<Brand>(&rt, Blank::new(1), rt.alloc())?;
+    Ok(())
+}
