@@ -1,13 +1,15 @@
--- A worked step: eight bots void a block of 27 voxels.
-use Rattle.std.specs.Prelude.{ℕ, ℤ, pos, List, [], ◌∷◌, ◌&&◌, nat_le}
+-- Worked steps: eight bots void a block of 27 voxels, and a bot flips the harmonics.
+use Rattle.std.specs.Prelude.{◌≡◌, ℕ, ℤ, pos, List, [], ◌∷◌, ◌&&◌, nat_le}
 use Rattle.nano_spec.specs.declared.commands.Command.{Command}
-use Rattle.nano_spec.specs.declared.commands.Command.TheVariants.{GVoid}
+use Rattle.nano_spec.specs.declared.commands.Command.TheVariants.{Flip, GVoid}
 use Rattle.nano_spec.specs.declared.system.Bot.{Bot}
-use Rattle.nano_spec.specs.declared.system.Harmonics.TheVariants.{Low}
+use Rattle.nano_spec.specs.declared.system.Harmonics.{Harmonics}
+use Rattle.nano_spec.specs.declared.system.Harmonics.TheVariants.{Low, High}
 use Rattle.nano_spec.specs.Matrix.{Matrix, empty, matrix_where}
 use Rattle.nano_spec.specs.Next.{Next, Goes}
 use Rattle.nano_spec.specs.Profile.{full_profile}
 use Rattle.nano_spec.specs.State.{State}
+use Rattle.nano_spec.specs.Step.{after}
 use Rattle.nano_spec.specs.Worked.{coord, diff, minus}
 
 -- the block from (1,0,1) to (3,2,3), at resolution 5
@@ -37,3 +39,12 @@ with_eight m energy = record { matrix = m; harmonics = Low; bots = eight_bots; e
 -- the step costs 375 for the space, 160 for the bots, and -324 for the voxels
 abbrev pub EightBotsVoidABlock : Type 0
 EightBotsVoidABlock = Next (with_eight block (pos 0)) eight_commands 1 (Goes (with_eight (empty 5) (pos 211)))
+
+-- the only bot at the origin, in an empty space of resolution 3
+abbrev pub with_one : Harmonics → ℤ → State
+with_one harmonics energy = record { matrix = empty 3; harmonics = harmonics; bots = bot 1 0 0 0 ∷ []; energy = energy; profile = full_profile }
+
+-- a Flip pays 81 + 20 where it begins under Low, and 810 + 20 where it begins under High
+pub record FlipsPayByTheirStart : Type 0 where
+  pub from_low : after (with_one Low (pos 0)) (Flip ∷ []) ≡ with_one High (pos 101)
+  pub from_high : after (with_one High (pos 0)) (Flip ∷ []) ≡ with_one Low (pos 830)

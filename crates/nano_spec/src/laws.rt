@@ -30,7 +30,7 @@ ghost use Rattle.nano_spec.specs.WorkedBytes.{WorkedSpellings, WorkedTraces, Wor
 ghost use Rattle.nano_spec.specs.WorkedOthers.{WorkedForge, WorkedOrders, WorkedWork};
 ghost use Rattle.nano_spec.specs.WorkedRules.{MeetingGroups, OrderOfRules};
 ghost use Rattle.nano_spec.specs.WorkedRuns.{AcceptedRuns, RefusedRuns, LightRuns};
-ghost use Rattle.nano_spec.specs.WorkedStep.{EightBotsVoidABlock};
+ghost use Rattle.nano_spec.specs.WorkedStep.{EightBotsVoidABlock, FlipsPayByTheirStart};
 
 use vox_geom::MOST_R;
 
@@ -131,6 +131,7 @@ pub fn worked_runs()
     ensures meeting_groups { MeetingGroups }
     ensures light { LightRuns }
     ensures step { EightBotsVoidABlock }
+    ensures flips { FlipsPayByTheirStart }
 {}
 
 /// Worked examples of spellings, traces, models and texts.

@@ -1,6 +1,6 @@
 use Rattle.nano_spec.proofs.RuleRuns.{order_of_rules, meeting_groups}
 use Rattle.nano_spec.proofs.Runs.{accepted_runs, light_runs, refused_runs}
-use Rattle.nano_spec.proofs.Steps.{eight_bots_void_a_block}
+use Rattle.nano_spec.proofs.Steps.{eight_bots_void_a_block, flips_pay_by_their_start}
 use Rattle.nano_spec.proofs.laws.worked_runs.Goals as goal
 
 pub returns-clause-accepted : goal.returns-clause-accepted
@@ -20,3 +20,6 @@ returns-clause-order_of_rules c = order_of_rules
 
 pub returns-clause-meeting_groups : goal.returns-clause-meeting_groups
 returns-clause-meeting_groups c = meeting_groups
+
+pub returns-clause-flips : goal.returns-clause-flips
+returns-clause-flips c = flips_pay_by_their_start
