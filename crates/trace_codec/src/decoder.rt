@@ -104,6 +104,14 @@ impl Decoder {
         decode_one(bytes)
     }
 
+    /// Where the next command begins, or the one that was refused: how many bytes the commands so far have.
+    #[inline(always)]
+    pub fn offset(&self) -> u64
+        ensures { result ≡ self.now.offset }
+    {
+        self.offset
+    }
+
     /// Whether the trace may end here.
     pub fn end(&self) -> Result<(), TraceFault>
         ensures { Ends self.now result }
