@@ -1,0 +1,15 @@
+//! Model files (docs/FORMATS.md, "Model files") and whether a model is legal ("Geometry").
+//! `read_model`, `write_model`, `legal` and `first_ungrounded` take memory.
+#![tactic(auto)]
+
+mod fault;
+mod laws;
+mod legality;
+mod reading;
+mod writing;
+
+pub use fault::ModelFault;
+pub use laws::reading_and_writing;
+pub use legality::{first_ungrounded, legal};
+pub use reading::read_model;
+pub use writing::write_model;
