@@ -3,13 +3,16 @@
 #![tactic(auto)]
 
 mod fault;
+mod flood;
 mod laws;
+mod least;
 mod legality;
 mod reading;
 mod writing;
 
 pub use fault::ModelFault;
+pub use flood::first_ungrounded;
 pub use laws::reading_and_writing;
-pub use legality::{first_ungrounded, legal};
+pub use legality::legal;
 pub use reading::read_model;
 pub use writing::write_model;

@@ -1,0 +1,4 @@
+pub mod Beside
+pub mod Floods
+pub mod Spreads
+pub mod Boxes
