@@ -5,3 +5,4 @@ pub mod Searches
 pub mod Totals
 pub mod Voxels
 pub mod Walks
+pub mod Placed

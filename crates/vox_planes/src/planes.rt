@@ -6,6 +6,7 @@ ghost use Rattle.nano_spec.specs.Matrix.{empty as empty_of, is_full};
 ghost use Rattle.vox_planes.specs.Layers.{bit_index as bit_index_of, is_set as is_set_of, layer_words as layer_words_of};
 ghost use Rattle.vox_planes.specs.Voxel.{IsWhole, with_voxel};
 
+mod places;
 mod regions;
 mod whole;
 
