@@ -2,3 +2,5 @@ pub mod Beside
 pub mod Floods
 pub mod Spreads
 pub mod Boxes
+pub mod FirstForms
+pub mod WideForms

@@ -3,16 +3,16 @@
 #![tactic(auto)]
 
 mod fault;
+mod files;
+mod first_form;
 mod flood;
 mod laws;
 mod least;
 mod legality;
-mod reading;
-mod writing;
+mod wide_form;
 
 pub use fault::ModelFault;
+pub use files::{read_model, write_model};
 pub use flood::first_ungrounded;
 pub use laws::reading_and_writing;
 pub use legality::legal;
-pub use reading::read_model;
-pub use writing::write_model;
