@@ -4,3 +4,4 @@ pub mod Spreads
 pub mod Boxes
 pub mod FirstForms
 pub mod WideForms
+pub mod Rewritten

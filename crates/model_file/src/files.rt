@@ -1,17 +1,17 @@
 //! Model files in either form.
-ghost use Rattle.std.specs.Prelude.{◌≡◌, IfOk};
+ghost use Rattle.std.specs.Prelude.{◌≡◌, ◌<◌, IfOk};
 ghost use Rattle.nano_spec.specs.Model.{model, written};
 ghost use Rattle.model_file.specs.Fault.{Reads};
 
 use crate::fault::ModelFault;
-use crate::first_form::read_first;
-use crate::wide_form::read_wide;
+use crate::WIDE_MARK;
+use crate::first_form::{FIRST_FORM_MOST_R, read_first, write_first};
+use crate::wide_form::{read_wide, write_wide};
 use std::alloc::Global;
-use vox_geom::Memory;
+use std::marker::Brand;
+use std::sync::ledger::{Blank, Ledger};
+use vox_geom::{Memory, Steps};
 use vox_planes::Planes;
-
-/// The first byte of the wide form.
-const WIDE_MARK: u8 = 0xFF;
 
 /// The model that the bytes say, in either form.
 pub fn read_model(alloc: Global, bytes: &[u8]) -> Result<Planes, ModelFault>
@@ -26,9 +26,23 @@ pub fn read_model(alloc: Global, bytes: &[u8]) -> Result<Planes, ModelFault>
     read_first(alloc, bytes[0], bytes)
 }
 
+/// The bytes of the model, read by a counter of touches that nobody reads.
+fn write_by<L: Ledger>(alloc: Global, planes: &Planes, blank: Blank) -> Result<Vec<u8>, Memory>
+    requires name { blank.name ≡ L.name }
+    requires parts { blank.parts ≡ L.parts }
+    requires some { 0 < L.parts }
+    ensures { IfOk result (λ bytes. bytes.items ≡ written planes.now) }
+{
+    let mut steps: Steps<L> = Steps::new(blank);
+    if planes.resolution() > u16::from(FIRST_FORM_MOST_R) {
+        return write_wide(alloc, planes, &mut steps);
+    }
+    write_first(alloc, planes, &mut steps)
+}
+
 /// The bytes of the model: the first form up to resolution 250, with padding bits 0, and the wide form above.
 pub fn write_model(alloc: Global, planes: &Planes) -> Result<Vec<u8>, Memory>
     ensures { IfOk result (λ bytes. bytes.items ≡ written planes.now) }
 {
-    Err(Memory)
+    write_by::<Brand>(alloc, planes, Blank::new(1))
 }

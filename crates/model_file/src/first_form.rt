@@ -1,12 +1,13 @@
 //! The first form of a model file: the resolution, and a bit for each voxel.
-ghost use Rattle.std.specs.Prelude.{◌≡◌, ◌≤◌, length, map};
+ghost use Rattle.std.specs.Prelude.{◌≡◌, ◌≤◌, ◌+◌, ◌/◌, ◌∷◌, IfOk, length, map};
 ghost use Rattle.vox_geom.specs.Space.{numbers_below};
-ghost use Rattle.nano_spec.specs.Model.{first_form, volume as volume_of, voxel_bit, wanted as wanted_of};
+ghost use Rattle.nano_spec.specs.Model.{byte_at, first_form, volume as volume_of, voxel_bit, wanted as wanted_of};
 ghost use Rattle.model_file.specs.Fault.{Reads};
 
 use crate::fault::ModelFault;
 use std::alloc::Global;
-use vox_geom::MOST_R;
+use std::sync::ledger::Ledger;
+use vox_geom::{MOST_R, Memory, Steps};
 use vox_planes::Planes;
 
 /// The greatest resolution of this form.
@@ -62,4 +63,26 @@ pub fn read_first(alloc: Global, r: u8, bytes: &[u8]) -> Result<Planes, ModelFau
     let mut planes = Planes::empty(alloc, u16::from(r))?;
     set_voxels(&mut planes, bytes);
     Ok(planes)
+}
+
+/// The bytes of the model in this form.
+pub fn write_first<L: Ledger>(
+    alloc: Global,
+    planes: &Planes,
+    steps: &mut Steps<L>,
+) -> Result<Vec<u8>, Memory>
+    requires { planes.now.resolution ≤ FIRST_FORM_MOST_R }
+    ensures { IfOk result (λ bytes. bytes.items ≡ planes.now.resolution ∷ map (byte_at planes.now.voxels) (numbers_below ((volume_of planes.now.resolution + 7) / 8))) }
+{
+    let r = planes.resolution();
+    let places = volume(r);
+    let count = places.div_ceil(8);
+    let mut bytes = Vec::with_capacity(alloc, 1 + count as usize)?;
+    bytes.push(r as u8).map_err(|_| Memory)?;
+    for k in 0..count {
+        let from = 8 * k;
+        let byte = planes.places(from, (places - from).min(8), steps) as u8;
+        bytes.push(byte).map_err(|_| Memory)?;
+    }
+    Ok(bytes)
 }

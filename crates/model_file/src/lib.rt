@@ -16,3 +16,6 @@ pub use files::{read_model, write_model};
 pub use flood::first_ungrounded;
 pub use laws::reading_and_writing;
 pub use legality::legal;
+
+/// The first byte of the wide form.
+const WIDE_MARK: u8 = 0xFF;
