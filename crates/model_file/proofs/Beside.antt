@@ -1,5 +1,5 @@
 -- Adjacent coordinates: one component differs, by one.
-use Rattle.std.proofs.Common.{◌≡◌, ℕ, ◌+◌, ◌-◌, ◌%◌, ◌<◌, ◌≤◌, refl, subst, sym, ◌∙◌, ap, arith, Bool, true, false, ◌==◌, pos, ◌-ℤ◌, inl, inr}
+use Rattle.std.proofs.Common.{◌≡◌, ℕ, ◌+◌, ◌-◌, ◌%◌, ◌<◌, ◌≤◌, refl, subst, sym, ◌∙◌, arith, ◌==◌, pos, ◌-ℤ◌, inl, inr}
 use Rattle.std.specs.Prelude.{IsTrue, ◌⊎◌, unsigned_abs}
 use Rattle.std.proofs.lemmas.Bool.{cases_lt}
 use Rattle.std.proofs.lemmas.Bool.Decides.{nat_tests}

@@ -1,13 +1,12 @@
 -- Which coordinates are in the whole matrix, in its faces and in the legal box.
-use Rattle.std.proofs.Common.{◌≡◌, ℕ, ◌+◌, ◌-◌, ◌<◌, ◌≤◌, refl, sym, ◌∙◌, ap, subst, arith, Bool, true, false, ◌&&◌, ◌||◌, not, pos, min, max, find, Option, Some, None, inl, inr}
-use Rattle.std.specs.Prelude.{IsTrue, IsFalse, ◌⊎◌, nat_le, nat_lt}
-use Rattle.std.proofs.lemmas.Bool.{cases_lt}
+use Rattle.std.proofs.Common.{◌≡◌, ℕ, ◌+◌, ◌<◌, ◌≤◌, refl, sym, ◌∙◌, ap, subst, arith, Bool, true, false, ◌&&◌, ◌||◌, not, pos, min, max, find, Option, Some, None}
+use Rattle.std.specs.Prelude.{nat_le, nat_lt}
 use Rattle.std.proofs.lemmas.Bool.Decides.{nat_tests}
 use Rattle.vox_geom.specs.declared.coordinate.Coord.{Coord}
 use Rattle.vox_geom.specs.Least.{LeastOf}
 use Rattle.vox_geom.specs.Point.{point}
 use Rattle.vox_geom.specs.Region.{Corners, corners, is_between, is_within, span}
-use Rattle.vox_geom.specs.Space.{IsInSpace, coordinates}
+use Rattle.vox_geom.specs.Space.{IsInSpace}
 use Rattle.vox_geom.proofs.Firsts.{first_of}
 use Rattle.nano_spec.specs.Legal.{in_legal_box}
 use Rattle.nano_spec.specs.Matrix.{Matrix, all_of, is_full}
@@ -83,7 +82,6 @@ back_box e = in_box (record { x = 0; y = 0; z = e }) (end_corner e)
 
 abbrev pub top_box : ℕ → Coord → Bool
 top_box e = in_box (record { x = 0; y = e; z = 0 }) (end_corner e)
-
 
 pub outside_is : (r e : ℕ) (c : Coord) → IsInSpace r c → e + 1 ≡ r → (((left_box e c || right_box e c) || (front_box e c || back_box e c)) || top_box e c) ≡ not (in_legal_box r c)
 unfolding in_box

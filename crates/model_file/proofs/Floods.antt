@@ -16,7 +16,7 @@ use Rattle.nano_spec.proofs.Grounding.{left}
 use Rattle.nano_spec.proofs.Island.{same_coordinate}
 use Rattle.model_file.specs.declared.flood.Flood.{Flood}
 use Rattle.model_file.proofs.Beside.{adjacent_right, adjacent_above, adjacent_ahead, adjacent_left, adjacent_below, adjacent_behind, one_less}
-use Rattle.model_file.specs.Flood.{IsTaken, Takes, full_of, passing, weight}
+use Rattle.model_file.specs.Flood.{IsTaken, Takes, full_of, passing}
 
 -- ---- how many are full
 

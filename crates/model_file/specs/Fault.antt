@@ -1,5 +1,5 @@
 -- What is answered to the bytes of a model, and to the question whether it is legal (docs/FORMATS.md, "Model files", "Refusals").
-use Rattle.std.specs.Prelude.{◌≡◌, ℕ, Result, Ok, Err, Option, Some, None, ⊤}
+use Rattle.std.specs.Prelude.{◌≡◌, ℕ, Result, Ok, Err, Some, None, ⊤}
 use Rattle.nano_spec.specs.Legal as legal
 use Rattle.nano_spec.specs.Legal.{Legality}
 use Rattle.nano_spec.specs.Matrix.{Matrix}

@@ -1,7 +1,6 @@
 -- What is answered to the runs of the wide form, and what has become of the matrix (docs/FORMATS.md, "Model files", "The wide form").
-use Rattle.std.specs.Prelude.{◌≡◌, ℕ, ◌++◌, Bool, List, Result, Ok, Err, flat_map}
+use Rattle.std.specs.Prelude.{ℕ, ◌++◌, Bool, List, Result, Ok, Err, flat_map}
 use Rattle.nano_spec.specs.Matrix.{Matrix}
-use Rattle.nano_spec.specs.Model as spec
 use Rattle.nano_spec.specs.Model.{four_bytes, of_runs, run_lengths, runs_in, volume}
 use Rattle.model_file.specs.declared.fault.ModelFault.{ModelFault}
 use Rattle.model_file.specs.Fault.{Reads}

@@ -3,8 +3,8 @@ ghost use Rattle.std.specs.Prelude.{◌≡◌, ◌<◌, IfOk};
 ghost use Rattle.nano_spec.specs.Model.{model, written};
 ghost use Rattle.model_file.specs.Fault.{Reads};
 
-use crate::fault::ModelFault;
 use crate::WIDE_MARK;
+use crate::fault::ModelFault;
 use crate::first_form::{FIRST_FORM_MOST_R, read_first, write_first};
 use crate::wide_form::{read_wide, write_wide};
 use std::alloc::Global;

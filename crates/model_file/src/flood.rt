@@ -48,9 +48,18 @@ impl Flood {
         self.take(Coord { x: c.x + 1, ..c })?;
         self.take(Coord { y: c.y + 1, ..c })?;
         self.take(Coord { z: c.z + 1, ..c })?;
-        self.take(Coord { x: c.x.wrapping_sub(1), ..c })?;
-        self.take(Coord { y: c.y.wrapping_sub(1), ..c })?;
-        self.take(Coord { z: c.z.wrapping_sub(1), ..c })?;
+        self.take(Coord {
+            x: c.x.wrapping_sub(1),
+            ..c
+        })?;
+        self.take(Coord {
+            y: c.y.wrapping_sub(1),
+            ..c
+        })?;
+        self.take(Coord {
+            z: c.z.wrapping_sub(1),
+            ..c
+        })?;
         Ok(())
     }
 

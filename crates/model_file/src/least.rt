@@ -19,7 +19,14 @@ fn least_full_in<L: Ledger>(planes: &Planes, blank: Blank) -> Option<Coord>
     let mut steps: Steps<L> = Steps::new(blank);
     let end = planes.resolution() - 1;
     let low = Coord { x: 0, y: 0, z: 0 };
-    let all = Region::of(low, Coord { x: end, y: end, z: end });
+    let all = Region::of(
+        low,
+        Coord {
+            x: end,
+            y: end,
+            z: end,
+        },
+    );
     planes.region_full(&all, &mut steps)
 }
 
@@ -40,7 +47,11 @@ fn first_outside_in<L: Ledger>(planes: &Planes, blank: Blank) -> Option<Coord>
     let mut steps: Steps<L> = Steps::new(blank);
     let end = planes.resolution() - 1;
     let low = Coord { x: 0, y: 0, z: 0 };
-    let high = Coord { x: end, y: end, z: end };
+    let high = Coord {
+        x: end,
+        y: end,
+        z: end,
+    };
     let left = planes.region_full(&Region::of(low, Coord { x: 0, ..high }), &mut steps);
     let right = planes.region_full(&Region::of(Coord { x: end, ..low }, high), &mut steps);
     let front = planes.region_full(&Region::of(low, Coord { z: 0, ..high }), &mut steps);

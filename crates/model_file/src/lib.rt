@@ -19,3 +19,6 @@ pub use legality::legal;
 
 /// The first byte of the wide form.
 const WIDE_MARK: u8 = 0xFF;
+
+#[cfg(test)]
+mod tests;

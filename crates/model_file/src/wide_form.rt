@@ -7,9 +7,9 @@ ghost use Rattle.vox_planes.specs.Voxel.{IsWhole};
 ghost use Rattle.model_file.specs.Fault.{Reads};
 ghost use Rattle.model_file.specs.Runs.{FillsRuns, with_runs};
 
+use crate::WIDE_MARK;
 use crate::fault::ModelFault;
 use crate::first_form::volume;
-use crate::WIDE_MARK;
 use std::alloc::Global;
 use std::sync::ledger::Ledger;
 use vox_geom::{Coord, MOST_R, Memory, Steps};

@@ -1,7 +1,6 @@
 -- The voxels at places, where one voxel is changed.
-use Rattle.std.proofs.Common.{◌≡◌, ◌≢◌, ℕ, zero, suc, ◌+◌, ◌-◌, ◌*◌, ◌/◌, ◌%◌, ◌^◌, ◌<◌, ◌≤◌, refl, sym, ◌∙◌, ap, subst, arith, Bool, true, false, cond, ◌&&◌, ◌||◌, ◌==◌, List, length, get_or, inl, inr}
-use Rattle.std.specs.Prelude.{IsTrue, IsFalse, ◌⊎◌, nat_le, nat_lt}
-use Rattle.std.specs.Int.{bit_at}
+use Rattle.std.proofs.Common.{◌≡◌, ◌≢◌, ℕ, ◌+◌, ◌-◌, ◌*◌, ◌%◌, ◌^◌, ◌<◌, ◌≤◌, refl, sym, ◌∙◌, ap, subst, arith, Bool, true, false, cond, ◌&&◌, ◌==◌, get_or, inl, inr}
+use Rattle.std.specs.Prelude.{◌⊎◌}
 use Rattle.std.proofs.lemmas.Bool.{cases_lt}
 use Rattle.std.proofs.lemmas.Bool.Decides.{nat_tests}
 use Rattle.std.proofs.lemmas.List.{get_or_past}
@@ -10,10 +9,10 @@ use Rattle.std.proofs.lemmas.Nat.Bits.{bit_at_cat_low, bit_at_cat_high}
 use native.Mathlib.Decide.{ℕ_discrete}
 use Rattle.vox_geom.specs.declared.coordinate.Coord.{Coord}
 use Rattle.vox_geom.specs.Point.{point, same_point}
-use Rattle.vox_geom.specs.Space.{IsInSpace, coordinate_at, in_space, place}
+use Rattle.vox_geom.specs.Space.{coordinate_at, place}
 use Rattle.vox_geom.proofs.Places.{place-coordinate_at}
 use Rattle.vox_geom.proofs.Firsts.{at_in_space}
-use Rattle.nano_spec.specs.Matrix.{Matrix, is_full, matrix_where}
+use Rattle.nano_spec.specs.Matrix.{Matrix, is_full}
 use Rattle.nano_spec.specs.Model.{bit, volume}
 use Rattle.vox_planes.specs.Places.{is_from, voxel_at}
 use Rattle.vox_planes.specs.Voxel.{IsWhole, with_voxel}

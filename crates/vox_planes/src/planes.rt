@@ -10,12 +10,11 @@ mod places;
 mod regions;
 mod whole;
 
-pub use whole::earlier;
-
 use std::alloc::Global;
 use std::marker::Model;
 use std::sync::ledger::Ledger;
 use vox_geom::{Coord, MOST_R, Memory, Steps};
+pub use whole::earlier;
 
 /// The bits of a word.
 const WORD_BITS: usize = 64;

@@ -1,5 +1,4 @@
-use Rattle.std.proofs.Common.{◌≡◌, ◌+◌, ◌-◌, ◌*◌, ◌/◌, ◌<◌, ◌≤◌, ℕ, refl, sym, ◌∙◌, ap, arith, length, drop, take}
-use Rattle.std.proofs.lemmas.List.{take_rest, length-drop}
+use Rattle.std.proofs.Common.{◌≡◌, ◌-◌, ◌≤◌, ◌∙◌, ap, arith, length}
 use Rattle.nano_spec.specs.Model.{volume, voxel_bit}
 use Rattle.model_file.proofs.FirstForms.{byte_is, byte_more, matrix_is, rest_length}
 use Rattle.model_file.proofs.first_form.set_voxels.Goals as goal

@@ -1,6 +1,6 @@
-use Rattle.std.proofs.Common.{◌≡◌, ◌+◌, ◌-◌, ◌*◌, ◌/◌, ◌<◌, ◌≤◌, ◌++◌, ◌∷◌, [], ℕ, refl, sym, ◌∙◌, ap, arith, rules, get_or, false, Bool, length, List, min}
+use Rattle.std.proofs.Common.{◌≡◌, ◌+◌, ◌-◌, ◌*◌, ◌<◌, ◌≤◌, ◌++◌, ◌∷◌, [], ℕ, sym, ◌∙◌, ap, arith, rules, get_or, false, Bool, length, List, min}
 use Rattle.std.proofs.lemmas.List.{get_or_past}
-use Rattle.nano_spec.specs.Model.{byte_at, volume}
+use Rattle.nano_spec.specs.Model.{volume}
 use Rattle.model_file.proofs.FirstForms.{byte_of, byte_pushed}
 use Rattle.model_file.proofs.first_form.write_first.Goals as goal
 

@@ -1,5 +1,4 @@
-use Rattle.std.proofs.Common.{◌≡◌, ℕ, Option, sym, ◌∙◌, ap, subst, refl, All, [], List, arith}
-use Rattle.std.specs.Prelude.{IsTrue, find}
+use Rattle.std.proofs.Common.{◌≡◌, ℕ, Option, subst, []}
 use Rattle.std.proofs.lemmas.List.Elements.{All-same, All-nil}
 use Rattle.vox_geom.specs.declared.coordinate.Coord.{Coord}
 use Rattle.vox_geom.specs.declared.TheConstants.{MOST_R}
@@ -7,7 +6,7 @@ use Rattle.vox_geom.specs.Least.{LeastOf}
 use Rattle.vox_geom.specs.Space.{IsInSpace}
 use Rattle.vox_geom.proofs.Firsts.{first_is}
 use Rattle.nano_spec.specs.Grounded.{FirstUngrounded}
-use Rattle.nano_spec.specs.Matrix.{Matrix, all_of, is_full}
+use Rattle.nano_spec.specs.Matrix.{is_full}
 use Rattle.model_file.specs.declared.flood.Flood.{Flood}
 use Rattle.model_file.proofs.Spreads.{flood_begun, found_within, left_is_ungrounded}
 use Rattle.model_file.proofs.flood.first_ungrounded.Goals as goal

@@ -1,4 +1,4 @@
-use Rattle.std.proofs.Common.{◌-◌, ◌+◌, ◌≡◌, ◌≤◌, arith, ◌&&◌, ◌||◌, zero}
+use Rattle.std.proofs.Common.{◌-◌, ◌+◌, ◌≡◌, arith, ◌&&◌, ◌||◌}
 use Rattle.nano_spec.specs.Matrix.{is_full}
 use Rattle.model_file.proofs.Boxes.{box_least, end_corner, zero_corner, left_box, right_box, front_box, back_box, top_box, least_outside}
 use Rattle.model_file.proofs.least.first_outside_in.Goals as goal

@@ -1,11 +1,11 @@
-use Rattle.std.proofs.Common.{◌≡◌, ◌&&◌, not, refl, sym, ◌∙◌, ap, subst, Option, Some, None, find}
+use Rattle.std.proofs.Common.{◌≡◌, ◌&&◌, not, refl, sym, subst, Option, Some, None}
 use Rattle.std.specs.Prelude.{MatchOption, option_map}
 use Rattle.vox_geom.specs.declared.coordinate.Coord.{Coord}
 use Rattle.vox_geom.specs.Least.{LeastOf}
 use Rattle.vox_geom.proofs.Firsts.{first_is}
 use Rattle.nano_spec.specs.Grounded.{FirstUngrounded}
 use Rattle.nano_spec.specs.Legal.{Border, Floating, Legality, NotLegal, in_legal_box}
-use Rattle.nano_spec.specs.Matrix.{Matrix, all_of, is_full}
+use Rattle.nano_spec.specs.Matrix.{Matrix, is_full}
 use Rattle.model_file.proofs.legality.legal.Goals as goal
 
 -- the answer by the least full voxel outside the box

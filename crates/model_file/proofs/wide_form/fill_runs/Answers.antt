@@ -1,6 +1,6 @@
-use Rattle.std.proofs.Common.{◌≡◌, ◌+◌, ◌-◌, ◌<◌, ◌≤◌, ℕ, refl, sym, ◌∙◌, ap, subst, arith, length, true, false, inl, inr}
+use Rattle.std.proofs.Common.{◌≡◌, ◌-◌, ◌<◌, ◌≤◌, ℕ, ◌∙◌, ap, subst, arith, inl, inr}
 use Rattle.std.specs.Prelude.{◌⊎◌}
-use Rattle.nano_spec.specs.Model.{volume, is_no_run}
+use Rattle.nano_spec.specs.Model.{volume}
 use Rattle.model_file.proofs.WideForms.{bad_run, long_run, no_runs, run_more, runs_end, runs_long, runs_short, void_run}
 use Rattle.model_file.proofs.wide_form.fill_runs.Goals as goal
 

@@ -1,4 +1,4 @@
-use Rattle.std.proofs.Common.{◌≡◌, ◌+◌, ◌-◌, ◌*◌, ◌<◌, ◌≤◌, ℕ, refl, sym, ◌∙◌, ap, subst, arith, length, drop, take, get_or, List}
+use Rattle.std.proofs.Common.{◌≡◌, ◌+◌, ◌-◌, ◌*◌, ◌≤◌, ℕ, ◌∙◌, subst, arith, length, drop, take, List}
 use Rattle.std.specs.Prelude.{Result, Ok, Err, slice_index}
 use Rattle.std.proofs.lemmas.List.{get_or_default, take_rest}
 use Rattle.nano_spec.specs.Matrix.{Matrix}

@@ -1,8 +1,7 @@
-use Rattle.std.proofs.Common.{◌≡◌, ℕ, ◌<◌, refl, sym, ◌∙◌, subst, inl, inr, ap, Bool, true, false, List, ◌++◌, ◌∷◌, []}
+use Rattle.std.proofs.Common.{◌≡◌, ℕ, ◌<◌, refl, sym, ◌∙◌, subst, inl, inr, ap, false}
 use Rattle.std.specs.Prelude.{◌⊎◌}
 use Rattle.vox_geom.specs.declared.coordinate.Coord.{Coord}
 use Rattle.nano_spec.specs.Matrix.{Matrix, is_full}
-use Rattle.model_file.specs.Flood.{Takes}
 use Rattle.model_file.proofs.Floods.{same_or_not, takes_none, takes_one}
 use Rattle.model_file.proofs.flood.Flood.take.Goals as goal
 

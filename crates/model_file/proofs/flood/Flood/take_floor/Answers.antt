@@ -1,4 +1,3 @@
-use Rattle.std.proofs.Common.{◌≡◌, ◌<◌, false}
 use Rattle.model_file.proofs.Spreads.{floor_more}
 use Rattle.model_file.proofs.flood.Flood.take_floor.Goals as goal
 

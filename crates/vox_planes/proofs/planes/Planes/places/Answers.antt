@@ -1,4 +1,4 @@
-use Rattle.std.proofs.Common.{◌≡◌, ◌+◌, ◌*◌, ◌<◌, ◌≤◌, ◌^◌, ◌%◌, ℕ, sym, ◌∙◌, ap, arith, cond, refl, Bool, true, false}
+use Rattle.std.proofs.Common.{◌≡◌, ◌+◌, ◌*◌, ◌<◌, ◌^◌, ◌%◌, ℕ, ◌∙◌, ap, arith, cond, refl, Bool, true, false}
 use mir.Val.{bool_byte}
 use Rattle.vox_geom.specs.Space.{coordinate_at}
 use Rattle.nano_spec.specs.Matrix.{is_full}

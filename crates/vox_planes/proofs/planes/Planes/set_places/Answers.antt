@@ -1,4 +1,4 @@
-use Rattle.std.proofs.Common.{◌≡◌, ◌+◌, ◌-◌, ◌<◌, ◌%◌, ◌/◌, ◌^◌, ◌==◌, ℕ, sym, ◌∙◌, ap, arith}
+use Rattle.std.proofs.Common.{◌≡◌, ◌+◌, ◌-◌, ◌<◌, sym, ◌∙◌, ap, arith}
 use Rattle.vox_geom.specs.Space.{coordinate_at}
 use Rattle.nano_spec.specs.Model.{bit, volume}
 use Rattle.vox_planes.proofs.Placed.{put_more, put_of}
