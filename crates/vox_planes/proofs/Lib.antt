@@ -6,3 +6,4 @@ pub mod Totals
 pub mod Voxels
 pub mod Walks
 pub mod Placed
+pub mod Chunks

@@ -1,71 +1,123 @@
--- The voxels at places, where one voxel is changed.
-use Rattle.std.proofs.Common.{◌≡◌, ◌≢◌, ℕ, ◌+◌, ◌-◌, ◌*◌, ◌%◌, ◌^◌, ◌<◌, ◌≤◌, refl, sym, ◌∙◌, ap, subst, arith, Bool, true, false, cond, ◌&&◌, ◌==◌, get_or, inl, inr}
-use Rattle.std.specs.Prelude.{◌⊎◌}
+-- The voxels at places: those whose bits stand in one word of a row, and many of them part by part.
+use Rattle.std.proofs.Common.{◌≡◌, ◌≢◌, ℕ, ◌+◌, ◌-◌, ◌*◌, ◌/◌, ◌%◌, ◌^◌, ◌<◌, ◌≤◌, refl, sym, ◌∙◌, ap, subst, arith, Bool, true, false, cond, ◌&&◌, ◌==◌, List, length, get_or, inl, inr}
+use Rattle.std.specs.Prelude.{IsFalse, ◌⊎◌, nat_le, nat_lt}
+use Rattle.std.specs.Int.{bit_at}
+use Rattle.std.proofs.Math.Arith.{digits_lt}
 use Rattle.std.proofs.lemmas.Bool.{cases_lt}
 use Rattle.std.proofs.lemmas.Bool.Decides.{nat_tests}
 use Rattle.std.proofs.lemmas.List.{get_or_past}
-use Rattle.std.proofs.lemmas.Nat.{one_shl, pow-add}
-use Rattle.std.proofs.lemmas.Nat.Bits.{bit_at_cat_low, bit_at_cat_high}
-use native.Mathlib.Decide.{ℕ_discrete}
+use Rattle.std.proofs.Math.Nat.{mod-eq_of_lt, mul-le-mul, pow-le-pow_right}
+use Rattle.std.proofs.lemmas.Nat.{pow-add, pow_pos, same_from_place}
+use Rattle.std.proofs.lemmas.Nat.Bits.{bit_at_cat_high, bit_at_cat_low, bit_at_ones}
 use Rattle.vox_geom.specs.declared.coordinate.Coord.{Coord}
-use Rattle.vox_geom.specs.Point.{point, same_point}
-use Rattle.vox_geom.specs.Space.{coordinate_at, place}
-use Rattle.vox_geom.proofs.Places.{place-coordinate_at}
+use Rattle.vox_geom.specs.Space.{IsInSpace, coordinate_at, place}
+use Rattle.vox_geom.proofs.Places.{coordinate_at-place, place-coordinate_at}
 use Rattle.vox_geom.proofs.Firsts.{at_in_space}
-use Rattle.nano_spec.specs.Matrix.{Matrix, is_full}
+use Rattle.nano_spec.specs.Matrix.{Matrix}
 use Rattle.nano_spec.specs.Model.{bit, volume}
+use Rattle.vox_planes.specs.Layers.{IsLayered, bit_index, is_set, layer_words, layered}
 use Rattle.vox_planes.specs.Places.{is_from, voxel_at}
-use Rattle.vox_planes.specs.Voxel.{IsWhole, with_voxel}
-use Rattle.vox_planes.proofs.Voxels.{get_or-where, in_space-of, length-where, same_point-is, same_point-refl}
+use Rattle.vox_planes.specs.Walk.{at}
+use Rattle.vox_planes.proofs.Bits.{in_layer, one_bit}
+use Rattle.vox_planes.proofs.Chunks.{ArePutBits, shifted_bit}
+use Rattle.vox_planes.proofs.Voxels.{get_or-where, length-where}
 
--- the voxel at a place is that of the coordinate
-pub full_place : (m : Matrix) (p : ℕ) → p < volume m.resolution → is_full m (coordinate_at m.resolution p) ≡ voxel_at m p
-full_place m p l =
-    ap (λ s. s && get_or m.voxels (place m.resolution (coordinate_at m.resolution p)) false) (in_space-of m.resolution (coordinate_at m.resolution p) (at_in_space m.resolution p l))
-    ∙ ap (λ q. get_or m.voxels q false) (place-coordinate_at m.resolution p)
+-- ---- which numbers are from one on
 
--- no voxel stands past the last place
-pub none_past : (m : Matrix) (p : ℕ) → IsWhole m → volume m.resolution ≤ p → voxel_at m p ≡ false
-none_past m p w l = get_or_past m.voxels p false (let e = w.voxels in omega arith)
+before_these : (from count p : ℕ) → p < from → is_from from count p ≡ false
+before_these from count p l = grind (arith, nat_tests)
 
-other_place : (r p q : ℕ) → p ≢ q → same_point (point (coordinate_at r q)) (point (coordinate_at r p)) ≡ false
-other_place r p q n = by (same_point (point (coordinate_at r q)) (point (coordinate_at r p))) refl
+one_of_these : (from count p : ℕ) → from ≤ p → p < from + count → is_from from count p ≡ true
+one_of_these from count p h l = grind (arith, nat_tests)
+
+after_these : (from count p : ℕ) → from + count ≤ p → is_from from count p ≡ false
+after_these from count p l = grind (arith, nat_tests)
+
+none_of_these : (from count p : ℕ) → ((k : ℕ) → k < count → p ≡ from + k → ⊥) → is_from from count p ≡ false
+none_of_these from count p h = by (cases_lt p from) (cases_lt p (from + count))
   where
-    by : (b : Bool) → same_point (point (coordinate_at r q)) (point (coordinate_at r p)) ≡ b → b ≡ false
-    by false e = refl
-    by true e = absurd (n (sym (place-coordinate_at r p) ∙ (ap (place r) (sym (same_point-is (coordinate_at r q) (coordinate_at r p) e)) ∙ place-coordinate_at r q)))
+    by : ((p < from) ⊎ (from ≤ p)) → ((p < from + count) ⊎ (from + count ≤ p)) → is_from from count p ≡ false
+    by (inl l) m = before_these from count p l
+    by (inr l) (inr m) = after_these from count p m
+    by (inr l) (inl m) = absurd (h (p - from) (omega arith) (omega arith))
 
--- the voxel at one place is changed
-pub record IsPut (old new : Matrix) (at : ℕ) (b : Bool) : Type 0 where
-  pub here : voxel_at new at ≡ b
-  pub others : (p : ℕ) → at ≢ p → voxel_at new p ≡ voxel_at old p
+-- ---- the bits of places in one row
 
-pub put_of : (m n : Matrix) (p : ℕ) (c : Coord) (b : Bool) → IsWhole m → p < volume m.resolution → c ≡ coordinate_at m.resolution p → n ≡ with_voxel m c b → IsPut m n p b
-put_of m n p c b w l ec en = record {
-  here = ap (λ (k : Matrix). voxel_at k p) is ∙ (get_or-where m.resolution test p l ∙ ap (λ s. cond s b (is_full m at)) (same_point-refl at));
-  others = λ q ne. ap (λ (k : Matrix). voxel_at k q) is ∙ other q ne (cases_lt q (volume m.resolution));
-}
-  where
-    at : Coord
-    at = coordinate_at m.resolution p
+-- the coordinate so many places on in its row
+pub next_place : (r from k : ℕ) → from < volume r → (coordinate_at r from).z + k < r → coordinate_at r (from + k) ≡ at (coordinate_at r from) ((coordinate_at r from).z + k)
+next_place r from k l h =
+    let c : Coord = coordinate_at r from in
+    let i : IsInSpace r (coordinate_at r from) = at_in_space r from l in
+    let within : IsInSpace r (at (coordinate_at r from) ((coordinate_at r from).z + k)) = record { x = i.x; y = i.y; z = h } in
+    let back : place r (coordinate_at r from) ≡ from = place-coordinate_at r from in
+    let on : place r (at (coordinate_at r from) ((coordinate_at r from).z + k)) ≡ from + k = omega arith in
+    ap (coordinate_at r) (sym on) ∙ coordinate_at-place r (at (coordinate_at r from) ((coordinate_at r from).z + k)) within
 
-    test : Coord → Bool
-    test d = cond (same_point (point d) (point at)) b (is_full m d)
+pub next_index : (r from k : ℕ) → from < volume r → (coordinate_at r from).z + k < r → bit_index r (coordinate_at r (from + k)) ≡ bit_index r (coordinate_at r from) + k
+next_index r from k l h = ap (bit_index r) (next_place r from k l h) ∙ omega arith
 
-    is : n ≡ with_voxel m at b
-    is = en ∙ ap (λ (d : Coord). with_voxel m d b) ec
+-- the voxel at a place by its bit
+pub voxel_by_bit : (r : ℕ) (ws : List ℕ) (p : ℕ) → p < volume r → voxel_at (layered r ws) p ≡ is_set ws (bit_index r (coordinate_at r p))
+voxel_by_bit r ws p l = get_or-where r (λ c. is_set ws (bit_index r c)) p l
 
-    other : (q : ℕ) → p ≢ q → ((q < volume m.resolution) ⊎ (volume m.resolution ≤ q)) → voxel_at (with_voxel m at b) q ≡ voxel_at m q
-    other q ne (inl k) = get_or-where m.resolution test q k ∙ (ap (λ s. cond s b (is_full m (coordinate_at m.resolution q))) (other_place m.resolution p q ne) ∙ full_place m q k)
-    other q ne (inr k) = get_or_past (with_voxel m at b).voxels q false (let e = length-where m.resolution test in omega arith) ∙ sym (none_past m q w k)
+no_voxel : (r : ℕ) (ws : List ℕ) (p : ℕ) → volume r ≤ p → voxel_at (layered r ws) p ≡ false
+no_voxel r ws p l = get_or_past (layered r ws).voxels p false (let e = length-where r (λ c. is_set ws (bit_index r c)) in omega arith)
 
--- ---- many places
+-- ---- bits that were put
 
-from_more : (from k p : ℕ) → from + k ≢ p → is_from from (k + 1) p ≡ is_from from k p
-from_more from k p n = grind (arith, nat_tests)
+module _ (r : ℕ) (old new : List ℕ) (from count bits : ℕ) (within : from + count ≤ volume r) (row : (coordinate_at r from).z + count ≤ r) (put : ArePutBits old new (bit_index r (coordinate_at r from)) count bits) where
+  index_of : (k : ℕ) → k < count → bit_index r (coordinate_at r (from + k)) ≡ bit_index r (coordinate_at r from) + k
+  index_of k l = next_index r from k (omega arith) (omega arith)
 
-from_here : (from k : ℕ) → is_from from (k + 1) (from + k) ≡ true
-from_here from k = grind (arith, nat_tests)
+  other_bit : (p : ℕ) → p < volume r → ((k : ℕ) → k < count → p ≡ from + k → ⊥) → is_from (bit_index r (coordinate_at r from)) count (bit_index r (coordinate_at r p)) ≡ false
+  other_bit p l other = none_of_these (bit_index r (coordinate_at r from)) count (bit_index r (coordinate_at r p)) (λ k m e.
+      let less : from + k < volume r = omega arith in
+      let same : coordinate_at r p ≡ coordinate_at r (from + k) = one_bit r (coordinate_at r p) (coordinate_at r (from + k)) (at_in_space r p l) (at_in_space r (from + k) less) (e ∙ sym (index_of k m)) in
+      other k m (sym (place-coordinate_at r p) ∙ (ap (place r) same ∙ place-coordinate_at r (from + k))))
+
+  pub put_voxels : (p : ℕ) → voxel_at (layered r new) p ≡ cond (is_from from count p) (bit bits (p - from)) (voxel_at (layered r old) p)
+  put_voxels p = by (cases_lt p (volume r)) (cases_lt p from) (cases_lt p (from + count))
+    where
+      other : p < volume r → ((k : ℕ) → k < count → p ≡ from + k → ⊥) → is_from from count p ≡ false → voxel_at (layered r new) p ≡ cond (is_from from count p) (bit bits (p - from)) (voxel_at (layered r old) p)
+      other l o f =
+          voxel_by_bit r new p l
+          ∙ (put.others (bit_index r (coordinate_at r p)) (other_bit p l o)
+          ∙ (sym (voxel_by_bit r old p l) ∙ sym (ap (λ b. cond b (bit bits (p - from)) (voxel_at (layered r old) p)) f)))
+
+      by : ((p < volume r) ⊎ (volume r ≤ p)) → ((p < from) ⊎ (from ≤ p)) → ((p < from + count) ⊎ (from + count ≤ p)) → voxel_at (layered r new) p ≡ cond (is_from from count p) (bit bits (p - from)) (voxel_at (layered r old) p)
+      by (inl l) (inl m) n = other l (λ k u e. absurd (omega arith)) (before_these from count p m)
+      by (inl l) (inr m) (inr n) = other l (λ k u e. absurd (omega arith)) (after_these from count p n)
+      by (inl l) (inr m) (inl n) =
+          let on : from + (p - from) ≡ p = omega arith in
+          voxel_by_bit r new p l
+          ∙ (ap (λ q. is_set new (bit_index r (coordinate_at r q))) (sym on)
+          ∙ (ap (is_set new) (index_of (p - from) (omega arith))
+          ∙ (put.here (p - from) (omega arith)
+          ∙ sym (ap (λ b. cond b (bit bits (p - from)) (voxel_at (layered r old) p)) (one_of_these from count p m n)))))
+      by (inr l) m n =
+          no_voxel r new p l
+          ∙ (sym (no_voxel r old p l)
+          ∙ sym (ap (λ b. cond b (bit bits (p - from)) (voxel_at (layered r old) p)) (after_these from count p (omega arith))))
+
+  pub put_layered : length new ≡ length old → IsLayered r old → IsLayered r new
+  put_layered same_length w = record {
+    some = w.some;
+    most = w.most;
+    whole = same_length ∙ w.whole;
+    unused = λ y i l m n. put.others (y * layer_words r * 64 + i) (none_of_these (bit_index r (coordinate_at r from)) count (y * layer_words r * 64 + i) (λ k u e. unused y i l m n k u e)) ∙ w.unused y i l m n;
+  }
+    where
+      unused : (y i : ℕ) → y < r → r * r ≤ i → i < layer_words r * 64 → (k : ℕ) → k < count → y * layer_words r * 64 + i ≡ bit_index r (coordinate_at r from) + k → ⊥
+      unused y i l m n k u e =
+          let c : Coord = coordinate_at r (from + k) in
+          let less : from + k < volume r = omega arith in
+          let h : IsInSpace r (coordinate_at r (from + k)) = at_in_space r (from + k) less in
+          let inside : (coordinate_at r (from + k)).x * r + (coordinate_at r (from + k)).z < r * r = digits_lt h.x h.z in
+          let here : y * layer_words r * 64 + i ≡ bit_index r (coordinate_at r (from + k)) = e ∙ sym (index_of k u) in
+          let same = same_from_place y i (coordinate_at r (from + k)).y ((coordinate_at r (from + k)).x * r + (coordinate_at r (from + k)).z) (layer_words r * 64) n (in_layer r (coordinate_at r (from + k)) h) (omega (arith, here)) in
+          omega (arith, same.1)
+
+-- ---- one part after another
 
 from_none : (from p : ℕ) → is_from from 0 p ≡ false
 from_none from p = grind (arith, nat_tests)
@@ -77,54 +129,87 @@ pub record ArePut (old new : Matrix) (from count : ℕ) (test : ℕ → Bool) : 
 pub put_none : (m : Matrix) (from : ℕ) (test : ℕ → Bool) → ArePut m m from 0 test
 put_none m from test = record { voxels = λ p. sym (ap (λ s. cond s (test p) (voxel_at m p)) (from_none from p)) }
 
-pub put_more : (old mid new : Matrix) (from k : ℕ) (test : ℕ → Bool) (b : Bool) → ArePut old mid from k test → IsPut mid new (from + k) b → b ≡ test (from + k) → ArePut old new from (k + 1) test
-put_more old mid new from k test b h put e = record { voxels = λ p. by p (ℕ_discrete (from + k) p) }
+pub put_parts : (old mid new : Matrix) (from done count : ℕ) (test part : ℕ → Bool) → ArePut old mid from done test → ((p : ℕ) → voxel_at new p ≡ cond (is_from (from + done) count p) (part p) (voxel_at mid p)) →
+    ((p : ℕ) → from + done ≤ p → p < from + done + count → part p ≡ test p) → ArePut old new from (done + count) test
+put_parts old mid new from done count test part h set same = record { voxels = λ p. set p ∙ by p (cases_lt p (from + done)) (cases_lt p (from + done + count)) }
   where
-    by : (p : ℕ) → Dec (from + k ≡ p) → voxel_at new p ≡ cond (is_from from (k + 1) p) (test p) (voxel_at old p)
-    by p (yes s) = subst (λ (q : ℕ). voxel_at new q ≡ cond (is_from from (k + 1) q) (test q) (voxel_at old q)) s (put.here ∙ (e ∙ sym (ap (λ s. cond s (test (from + k)) (voxel_at old (from + k))) (from_here from k))))
-    by p (no n) = put.others p n ∙ (h.voxels p ∙ sym (ap (λ s. cond s (test p) (voxel_at old p)) (from_more from k p n)))
+    earlier : (p : ℕ) → p < from + done → is_from from done p ≡ is_from from (done + count) p
+    earlier p l = grind (arith, nat_tests)
 
--- ---- one more bit of a word
+    by : (p : ℕ) → ((p < from + done) ⊎ (from + done ≤ p)) → ((p < from + done + count) ⊎ (from + done + count ≤ p)) → cond (is_from (from + done) count p) (part p) (voxel_at mid p) ≡ cond (is_from from (done + count) p) (test p) (voxel_at old p)
+    by p (inl l) m =
+        ap (λ b. cond b (part p) (voxel_at mid p)) (before_these (from + done) count p l)
+        ∙ (h.voxels p ∙ ap (λ b. cond b (test p) (voxel_at old p)) (earlier p l))
+    by p (inr l) (inl m) =
+        ap (λ b. cond b (part p) (voxel_at mid p)) (one_of_these (from + done) count p l m)
+        ∙ (same p l m ∙ sym (ap (λ b. cond b (test p) (voxel_at old p)) (one_of_these from (done + count) p (omega arith) (omega arith))))
+    by p (inr l) (inr m) =
+        ap (λ b. cond b (part p) (voxel_at mid p)) (after_these (from + done) count p m)
+        ∙ (h.voxels p
+        ∙ (ap (λ b. cond b (test p) (voxel_at old p)) (after_these from done p l)
+        ∙ sym (ap (λ b. cond b (test p) (voxel_at old p)) (after_these from (done + count) p (omega arith)))))
 
-shifted : (f : Bool) (k : ℕ) → k < 64 → cond {A = ℕ} f 1 0 * 2 ^ k % 2 ^ 64 ≡ cond {A = ℕ} f 1 0 * 2 ^ k
-shifted true k h = omega (arith, one_shl k 64 h)
-shifted false k h = omega arith
+-- the bits that are left of a word
+pub left_bit : (bits from done p : ℕ) → from + done ≤ p → bit (bits / 2 ^ done) (p - (from + done)) ≡ bit bits (p - from)
+left_bit bits from done p l =
+    let e : done + (p - (from + done)) ≡ p - from = omega arith in
+    ap (λ d. d == 1) (shifted_bit bits done (p - (from + done)) ∙ ap (bit_at bits) e)
 
-bit_of : (f : Bool) → bit (cond {A = ℕ} f 1 0) 0 ≡ f
-bit_of true = refl
-bit_of false = refl
+-- all bits of a full word
+pub full_bit : (k : ℕ) → k < 64 → bit (2 ^ 64 - 1) k ≡ true
+full_bit k l = ap (λ d. d == 1) (bit_at_ones 64 k l)
 
--- the bits below k and one more
+-- ---- the bits of voxels
+
+-- the bits below k are those of a test
 pub record HasBits (w k : ℕ) (test : ℕ → Bool) : Type 0 where
   pub bits : (j : ℕ) → j < k → bit w j ≡ test j
   pub below : w < 2 ^ k
 
-pub bits_more : (w v k : ℕ) (f : Bool) (test : ℕ → Bool) → HasBits w k test → k < 64 → f ≡ test k → v ≡ w + cond {A = ℕ} f 1 0 * 2 ^ k % 2 ^ 64 → HasBits v (k + 1) test
-bits_more w v k f test h l e ev = record {
-  bits = λ j m. by j m (ℕ_discrete j k);
-  below = (
-      let next : 2 ^ (k + 1) ≡ 2 ^ k * 2 = pow-add 2 k 1 in
-      let low = h.below in
-      let most : cond {A = ℕ} f 1 0 * 2 ^ k ≤ 1 * 2 ^ k = small f in
-      omega (arith, is)
-      );
+-- a word of n bits, raised by k, and a word of k bits
+raised : (w v k n : ℕ) → w < 2 ^ k → v < 2 ^ n → v * 2 ^ k + w < 2 ^ (k + n)
+raised w v k n lw lv =
+    let top : (v + 1) * 2 ^ k ≤ 2 ^ n * 2 ^ k = mul-le-mul (omega arith) (omega arith) in
+    let both : 2 ^ (k + n) ≡ 2 ^ k * 2 ^ n = pow-add 2 k n in
+    omega arith
+
+not_cut : (v k n : ℕ) → v < 2 ^ n → k + n ≤ 64 → v * 2 ^ k % 2 ^ 64 ≡ v * 2 ^ k
+not_cut v k n lv h =
+    let most : 2 ^ (k + n) ≤ 2 ^ 64 = pow-le-pow_right {n = 2} (omega arith) h in
+    let low : v * 2 ^ k + 0 < 2 ^ (k + n) = raised 0 v k n (pow_pos k) lv in
+    mod-eq_of_lt (omega arith)
+
+-- the bits of one word and, behind them, those of another
+pub bits_joined : (w v u k n : ℕ) (test : ℕ → Bool) → HasBits w k test → v < 2 ^ n → ((j : ℕ) → j < n → bit v j ≡ test (k + j)) → k + n ≤ 64 → u ≡ w + v * 2 ^ k % 2 ^ 64 → HasBits u (k + n) test
+bits_joined w v u k n test h below bits few eu = record {
+  bits = λ j m. by j m (cases_lt j k);
+  below = (let l = raised w v k n h.below below in omega (arith, is));
 }
   where
-    is : v ≡ cond {A = ℕ} f 1 0 * 2 ^ k + w
-    is = ev ∙ (ap (λ n. w + n) (shifted f k l) ∙ omega arith)
+    is : u ≡ v * 2 ^ k + w
+    is = eu ∙ (ap (λ m. w + m) (not_cut v k n below few) ∙ omega arith)
 
-    small : (f : Bool) → cond {A = ℕ} f 1 0 * 2 ^ k ≤ 1 * 2 ^ k
-    small true = omega arith
-    small false = omega arith
+    by : (j : ℕ) → j < k + n → ((j < k) ⊎ (k ≤ j)) → bit u j ≡ test j
+    by j m (inl l) = ap (λ x. bit x j) is ∙ (ap (λ d. d == 1) (bit_at_cat_low v k w j l) ∙ h.bits j l)
+    by j m (inr l) =
+        let on : k + (j - k) ≡ j = omega arith in
+        ap (λ x. bit x j) is ∙ (ap (λ d. d == 1) (bit_at_cat_high v k w j h.below l) ∙ (bits (j - k) (omega arith) ∙ ap test on))
 
-    top : (k - k) ≡ 0
-    top = omega arith
+-- the sum of both fits
+pub joined_fits : (w v k n : ℕ) → w < 2 ^ k → v < 2 ^ n → k + n ≤ 64 → w + v * 2 ^ k % 2 ^ 64 < 2 ^ 64
+joined_fits w v k n lw lv h =
+    let most : 2 ^ (k + n) ≤ 2 ^ 64 = pow-le-pow_right {n = 2} (omega arith) h in
+    let l = raised w v k n lw lv in
+    let e = not_cut v k n lv h in
+    omega arith
 
-    by : (j : ℕ) → j < k + 1 → Dec (j ≡ k) → bit v j ≡ test j
-    by j m (yes s) =
-        ap (λ u. bit u j) is
-        ∙ (ap (λ i. bit (cond {A = ℕ} f 1 0 * 2 ^ k + w) i) s
-        ∙ (ap (λ d. d == 1) (bit_at_cat_high (cond {A = ℕ} f 1 0) k w k h.below (omega arith))
-        ∙ (ap (λ i. bit (cond {A = ℕ} f 1 0) i) top
-        ∙ (bit_of f ∙ (e ∙ ap test (sym s))))))
-    by j m (no n) = ap (λ u. bit u j) is ∙ (ap (λ d. d == 1) (bit_at_cat_low (cond {A = ℕ} f 1 0) k w j (omega arith)) ∙ h.bits j (omega arith))
+-- the bits that were read of one word of a row are those of the voxels
+pub read_voxels : (r : ℕ) (ws ws' : List ℕ) (m : Matrix) (from done n v index : ℕ) (c : Coord) → layered r ws ≡ m → ws' ≡ ws → c ≡ coordinate_at r (from + done) → index ≡ bit_index r c → from + done + n ≤ volume r → (coordinate_at r (from + done)).z + n ≤ r →
+    ((j : ℕ) → j < n → bit v j ≡ is_set ws' (index + j)) → (j : ℕ) → j < n → bit v j ≡ voxel_at m (from + (done + j))
+read_voxels r ws ws' m from done n v index c em ew ec ei within row read j l =
+    let on : from + done + j ≡ from + (done + j) = omega arith in
+    read j l
+    ∙ ((λ i. is_set (ew i) ((ei ∙ ap (bit_index r) ec) i + j))
+    ∙ (ap (is_set ws) (sym (next_index r (from + done) j (omega arith) (omega arith)))
+    ∙ (sym (voxel_by_bit r ws (from + done + j) (omega arith))
+    ∙ (λ i. voxel_at (em i) (on i)))))

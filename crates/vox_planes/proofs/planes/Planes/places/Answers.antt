@@ -1,24 +1,30 @@
-use Rattle.std.proofs.Common.{◌≡◌, ◌+◌, ◌*◌, ◌<◌, ◌^◌, ◌%◌, ℕ, ◌∙◌, ap, arith, cond, refl, Bool, true, false}
-use mir.Val.{bool_byte}
+use Rattle.std.proofs.Common.{◌≡◌, ◌+◌, ◌-◌, ◌*◌, ◌<◌, ◌≤◌, ◌^◌, ◌%◌, ℕ, sym, ◌∙◌, ap, arith, refl}
+use Rattle.vox_geom.specs.declared.coordinate.Coord.{Coord}
 use Rattle.vox_geom.specs.Space.{coordinate_at}
-use Rattle.nano_spec.specs.Matrix.{is_full}
+use Rattle.nano_spec.specs.Matrix.{Matrix}
 use Rattle.nano_spec.specs.Model.{volume}
 use Rattle.vox_planes.specs.Places.{voxel_at}
-use Rattle.vox_planes.proofs.Placed.{bits_more, full_place}
+use Rattle.vox_planes.proofs.Placed.{bits_joined, joined_fits, read_voxels}
 use Rattle.vox_planes.proofs.planes.Planes.places.Goals as goal
 
-byte_is : (f : Bool) → bool_byte f ≡ cond {A = ℕ} f 1 0
-byte_is true = refl
-byte_is false = refl
+pub overflow_add-bits : goal.overflow_add-bits
+overflow_add-bits g c =
+    let b = c.loop-done.invariant.bits in
+    let few : c.loop-done.done + c.part-some.result ≤ 64 = omega (arith, c.part-some.ensures.most, c.requires.few) in
+    let fits : c.loop-done.bits + c.bits_at.result * 2 ^ c.loop-done.done % 2 ^ 64 < 2 ^ 64 = joined_fits c.loop-done.bits c.bits_at.result c.loop-done.done c.part-some.result b.below c.bits_at.ensures.below few in
+    omega arith
 
-pub loop-k-preserved : goal.loop-k-preserved
-loop-k-preserved g c =
-    let m = c.args.self.now in
-    let r = c.resolution-r.ensures.value in
-    let within : c.args.from + c.loop-k.k < volume m.resolution = omega (arith, c.requires.within) in
+pub loop-done-preserved : goal.loop-done-preserved
+loop-done-preserved g c =
+    let v : volume c.self.inside.resolution ≡ volume c.args.self.now.resolution = ap (λ (m : Matrix). volume m.resolution) c.self.view_is in
+    let z : c.of_place-c.result.z ≡ (coordinate_at c.self.inside.resolution (c.args.from + c.loop-done.done)).z = ap (λ (d : Coord). d.z) c.of_place-c.ensures.value in
+    let inside = c.of_place-c.ensures.within in
+    let few : c.loop-done.done + c.part-some.result ≤ 64 = omega (arith, c.part-some.ensures.most, c.requires.few) in
     record {
-      bits = bits_more c.loop-k.bits _ c.loop-k.k c.full_at-full.result (λ j. voxel_at m (c.args.from + j)) c.loop-k.invariant.bits (omega (arith, c.requires.few))
-          (c.full_at-full.ensures.value ∙ (ap (is_full m) (c.of_place.ensures.value ∙ ap (λ n. coordinate_at n (c.args.from + c.loop-k.k)) r) ∙ full_place m (c.args.from + c.loop-k.k) within))
-          (ap (λ n. c.loop-k.bits + n * 2 ^ c.loop-k.k % 2 ^ 64) (c.from.ensures ∙ byte_is c.full_at-full.result));
-      touches = omega (arith, c.loop-k.invariant.touches, c.full_at-full.ensures.touches);
+      bits = bits_joined c.loop-done.bits c.bits_at.result _ c.loop-done.done c.part-some.result (λ j. voxel_at c.args.self.now (c.args.from + j)) c.loop-done.invariant.bits c.bits_at.ensures.below
+          (read_voxels c.self.inside.resolution c.self.inside.words.items c.deref.result.now c.args.self.now c.args.from c.loop-done.done c.part-some.result c.bits_at.result c.bit_index-index.result c.of_place-c.result c.self.view_is c.deref.ensures.value c.of_place-c.ensures.value c.bit_index-index.ensures.value
+          (omega (arith, v, c.requires.within, c.part-some.ensures.most)) (omega (arith, inside.z, c.part-some.ensures.row, c.from.ensures)) c.bits_at.ensures.bits)
+          few refl;
+      few = omega (arith, c.part-some.ensures.most);
+      touches = omega (arith, c.loop-done.invariant.touches, c.tick.ensures, c.part-some.ensures.some);
     }
