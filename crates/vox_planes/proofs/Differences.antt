@@ -188,22 +188,6 @@ layer_differs r ws us y at hw hu ly la f = (used, record { within = within; pass
 abbrev pub below_differ : Matrix → Matrix → ℕ → Coord → Bool
 below_differ m n y c = differ_at m n c && nat_lt c.y y
 
-below-cases : (b : Bool) (v y : ℕ) → IsTrue (b && nat_lt v (y + 1)) → IsTrue (b && nat_lt v y) ⊎ IsTrue (b && (v == y))
-below-cases true v y h = by (cases_lt v y)
-  where
-    by : ((v < y) ⊎ (y ≤ v)) → IsTrue (nat_lt v y) ⊎ IsTrue (v == y)
-    by (inl l) = inl (grind (arith, nat_tests))
-    by (inr l) = inr (grind (arith, nat_tests))
-below-cases false v y h = cc
-
-below-below : (b : Bool) (v y : ℕ) → IsTrue (b && nat_lt v y) → IsTrue (b && nat_lt v (y + 1))
-below-below true v y h = grind (arith, nat_tests)
-below-below false v y h = cc
-
-below-here : (b : Bool) (v y : ℕ) → IsTrue (b && (v == y)) → IsTrue (b && nat_lt v (y + 1))
-below-here true v y h = grind (arith, nat_tests)
-below-here false v y h = cc
-
 contrary : (b : Bool) → IsTrue b → IsFalse b → ⊥
 contrary true t f = cc
 contrary false t f = cc
@@ -211,44 +195,71 @@ contrary false t f = cc
 between : (a b d : Coord) → IsTrue (is_before d a) → IsFalse (is_before d b) → IsTrue (is_before b a)
 between a b d h k = grind (arith, nat_tests)
 
--- the least below a layer and the least of that layer give the least below the next one
-pub least_more : (r : ℕ) (m n : Matrix) (y : ℕ) (a b : Option Coord) → LeastOf r (below_differ m n y) a → LeastOf r (in_layer_differ m n y) b → LeastOf r (below_differ m n (y + 1)) (earlier a b)
-least_more r m n y None None h k = λ d i. false_of (below_differ m n (y + 1) d) (λ t. by d i (below-cases (differ_at m n d) d.y y t))
+either-cases : (a b : Bool) → IsTrue (a || b) → IsTrue a ⊎ IsTrue b
+either-cases true b h = inl refl
+either-cases false b h = inr h
+
+either-first : (a b : Bool) → IsTrue a → IsTrue (a || b)
+either-first true b h = refl
+either-first false b h = cc
+
+either-second : (a b : Bool) → IsTrue b → IsTrue (a || b)
+either-second true b h = refl
+either-second false b h = h
+
+-- the earlier of the least that pass two tests is the least that passes either
+pub earlier-least : (r : ℕ) (f g : Coord → Bool) (a b : Option Coord) → LeastOf r f a → LeastOf r g b → LeastOf r (λ c. f c || g c) (earlier a b)
+earlier-least r f g None None h k = λ d i. false_of (f d || g d) (λ t. by d i (either-cases (f d) (g d) t))
   where
-    by : (d : Coord) → IsInSpace r d → IsTrue (below_differ m n y d) ⊎ IsTrue (in_layer_differ m n y d) → ⊥
-    by d i (inl t) = contrary (below_differ m n y d) t (h d i)
-    by d i (inr t) = contrary (in_layer_differ m n y d) t (k d i)
-least_more r m n y (Some a) None h k = record {
+    by : (d : Coord) → IsInSpace r d → IsTrue (f d) ⊎ IsTrue (g d) → ⊥
+    by d i (inl t) = contrary (f d) t (h d i)
+    by d i (inr t) = contrary (g d) t (k d i)
+earlier-least r f g (Some a) None h k = record {
   within = h.within;
-  passes = below-below (differ_at m n a) a.y y h.passes;
-  least = λ d i t. by d i (below-cases (differ_at m n d) d.y y t);
+  passes = either-first (f a) (g a) h.passes;
+  least = λ d i t. by d i (either-cases (f d) (g d) t);
 }
   where
-    by : (d : Coord) → IsInSpace r d → IsTrue (below_differ m n y d) ⊎ IsTrue (in_layer_differ m n y d) → IsFalse (is_before d a)
+    by : (d : Coord) → IsInSpace r d → IsTrue (f d) ⊎ IsTrue (g d) → IsFalse (is_before d a)
     by d i (inl t) = h.least d i t
-    by d i (inr t) = absurd (contrary (in_layer_differ m n y d) t (k d i))
-least_more r m n y None (Some b) h k = record {
+    by d i (inr t) = absurd (contrary (g d) t (k d i))
+earlier-least r f g None (Some b) h k = record {
   within = k.within;
-  passes = below-here (differ_at m n b) b.y y k.passes;
-  least = λ d i t. by d i (below-cases (differ_at m n d) d.y y t);
+  passes = either-second (f b) (g b) k.passes;
+  least = λ d i t. by d i (either-cases (f d) (g d) t);
 }
   where
-    by : (d : Coord) → IsInSpace r d → IsTrue (below_differ m n y d) ⊎ IsTrue (in_layer_differ m n y d) → IsFalse (is_before d b)
-    by d i (inl t) = absurd (contrary (below_differ m n y d) t (h d i))
+    by : (d : Coord) → IsInSpace r d → IsTrue (f d) ⊎ IsTrue (g d) → IsFalse (is_before d b)
+    by d i (inl t) = absurd (contrary (f d) t (h d i))
     by d i (inr t) = k.least d i t
-least_more r m n y (Some a) (Some b) h k = by (is_before b a) refl
+earlier-least r f g (Some a) (Some b) h k = by (is_before b a) refl
   where
-    second : IsTrue (is_before b a) → (d : Coord) → IsInSpace r d → IsTrue (below_differ m n y d) ⊎ IsTrue (in_layer_differ m n y d) → IsFalse (is_before d b)
-    second e d i (inl t) = false_of (is_before d b) (λ f. contrary (is_before d a) (before-trans d b a f e) (h.least d i t))
+    second : IsTrue (is_before b a) → (d : Coord) → IsInSpace r d → IsTrue (f d) ⊎ IsTrue (g d) → IsFalse (is_before d b)
+    second e d i (inl t) = false_of (is_before d b) (λ l. contrary (is_before d a) (before-trans d b a l e) (h.least d i t))
     second e d i (inr t) = k.least d i t
 
-    first : IsFalse (is_before b a) → (d : Coord) → IsInSpace r d → IsTrue (below_differ m n y d) ⊎ IsTrue (in_layer_differ m n y d) → IsFalse (is_before d a)
+    first : IsFalse (is_before b a) → (d : Coord) → IsInSpace r d → IsTrue (f d) ⊎ IsTrue (g d) → IsFalse (is_before d a)
     first e d i (inl t) = h.least d i t
-    first e d i (inr t) = false_of (is_before d a) (λ f. contrary (is_before b a) (between a b d f (k.least d i t)) e)
+    first e d i (inr t) = false_of (is_before d a) (λ l. contrary (is_before b a) (between a b d l (k.least d i t)) e)
 
-    by : (t : Bool) → is_before b a ≡ t → LeastOf r (below_differ m n (y + 1)) (cond t (Some b) (Some a))
-    by true e = record { within = k.within; passes = below-here (differ_at m n b) b.y y k.passes; least = λ d i t. second e d i (below-cases (differ_at m n d) d.y y t) }
-    by false e = record { within = h.within; passes = below-below (differ_at m n a) a.y y h.passes; least = λ d i t. first e d i (below-cases (differ_at m n d) d.y y t) }
+    by : (t : Bool) → is_before b a ≡ t → LeastOf r (λ c. f c || g c) (cond t (Some b) (Some a))
+    by true e = record { within = k.within; passes = either-second (f b) (g b) k.passes; least = λ d i t. second e d i (either-cases (f d) (g d) t) }
+    by false e = record { within = h.within; passes = either-first (f a) (g a) h.passes; least = λ d i t. first e d i (either-cases (f d) (g d) t) }
+
+below-next : (b : Bool) (v y : ℕ) → ((b && nat_lt v y) || (b && (v == y))) ≡ (b && nat_lt v (y + 1))
+below-next true v y = grind (arith, nat_tests)
+below-next false v y = refl
+
+-- tests that agree have one least
+least-same : (r : ℕ) (f g : Coord → Bool) → ((c : Coord) → f c ≡ g c) → (o : Option Coord) → LeastOf r f o → LeastOf r g o
+least-same r f g same None h = λ d i. sym (same d) ∙ h d i
+least-same r f g same (Some c) h = record { within = h.within; passes = sym (same c) ∙ h.passes; least = λ d i t. h.least d i (same d ∙ t) }
+
+-- the least below a layer and the least of that layer give the least below the next one
+pub least_more : (r : ℕ) (m n : Matrix) (y : ℕ) (a b : Option Coord) → LeastOf r (below_differ m n y) a → LeastOf r (in_layer_differ m n y) b → LeastOf r (below_differ m n (y + 1)) (earlier a b)
+least_more r m n y a b h k =
+    least-same r (λ c. below_differ m n y c || in_layer_differ m n y c) (below_differ m n (y + 1)) (λ c. below-next (differ_at m n c) c.y y) (earlier a b)
+    (earlier-least r (below_differ m n y) (in_layer_differ m n y) a b h k)
 
 all_below : (b : Bool) (v r : ℕ) → v < r → (b && nat_lt v r) ≡ b
 all_below true v r l = grind (arith, nat_tests)

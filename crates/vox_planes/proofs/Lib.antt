@@ -5,3 +5,5 @@ pub mod Searches
 pub mod Totals
 pub mod Voxels
 pub mod Walks
+pub mod Placed
+pub mod Chunks

@@ -41,7 +41,7 @@ get_or-numbers (suc n) a (suc k) d h = omega (arith, get_or-numbers n (a + 1) k 
 pub length-where : (r : ℕ) (test : Coord → Bool) → length (matrix_where r test).voxels ≡ r * r * r
 length-where r test = length-map (coordinates r) test ∙ (length-map (numbers_below (r * r * r)) (coordinate_at r) ∙ length-numbers (r * r * r) 0)
 
-get_or-where : (r : ℕ) (test : Coord → Bool) (k : ℕ) → k < r * r * r → get_or (matrix_where r test).voxels k false ≡ test (coordinate_at r k)
+pub get_or-where : (r : ℕ) (test : Coord → Bool) (k : ℕ) → k < r * r * r → get_or (matrix_where r test).voxels k false ≡ test (coordinate_at r k)
 get_or-where r test k h =
     let ln : length (numbers_below (r * r * r)) ≡ r * r * r = length-numbers (r * r * r) 0 in
     let lc : length (coordinates r) ≡ r * r * r = length-map (numbers_below (r * r * r)) (coordinate_at r) ∙ ln in

@@ -2,5 +2,6 @@ pub mod Bits
 pub mod Changes
 pub mod Difference
 pub mod Layers
+pub mod Places
 pub mod Voxel
 pub mod Walk

@@ -8,7 +8,7 @@ mod change_list;
 mod planes;
 
 pub use change_list::ChangeList;
-pub use planes::Planes;
+pub use planes::{Planes, earlier};
 
 #[cfg(test)]
 mod tests;

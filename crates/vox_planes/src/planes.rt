@@ -1,11 +1,12 @@
 //! Bit planes: which voxels of a matrix are full.
-ghost use Rattle.std.specs.Prelude.{◌≡◌, ◌≢◌, ℕ, ◌+◌, ◌*◌, ◌/◌, ◌%◌, ◌<◌, ◌≤◌, IfOk, length};
+ghost use Rattle.std.specs.Prelude.{◌≡◌, ◌≢◌, ℕ, ◌+◌, ◌*◌, ◌/◌, ◌%◌, ◌<◌, ◌≤◌, IfOk, false, length};
 ghost use Rattle.vox_geom.specs.declared.coordinate.Coord.{Coord as Coordinate};
 ghost use Rattle.vox_geom.specs.Space.{IsInSpace};
 ghost use Rattle.nano_spec.specs.Matrix.{empty as empty_of, is_full};
 ghost use Rattle.vox_planes.specs.Layers.{bit_index as bit_index_of, is_set as is_set_of, layer_words as layer_words_of};
 ghost use Rattle.vox_planes.specs.Voxel.{IsWhole, with_voxel};
 
+mod places;
 mod regions;
 mod whole;
 
@@ -13,6 +14,7 @@ use std::alloc::Global;
 use std::marker::Model;
 use std::sync::ledger::Ledger;
 use vox_geom::{Coord, MOST_R, Memory, Steps};
+pub use whole::earlier;
 
 /// The bits of a word.
 const WORD_BITS: usize = 64;
@@ -138,5 +140,23 @@ impl Planes {
     {
         let i = bit_index(c, self.resolution);
         set_bit(&mut self.words, i, full);
+    }
+
+    /// Makes the voxel at the coordinate void, and answers whether it was full. All other voxels stay.
+    pub fn take(&mut self, c: Coord) -> bool
+        requires { IsInSpace self.old.resolution c }
+        ensures was { result ≡ is_full self.old c }
+        ensures resolution { self.new.resolution ≡ self.old.resolution }
+        ensures here { is_full self.new c ≡ false }
+        ensures others { (d : Coordinate) → d ≢ c → is_full self.new d ≡ is_full self.old d }
+        ensures whole { IsWhole self.new }
+    {
+        let index = bit_index(c, self.resolution);
+        let full = is_set(&self.words, index);
+        if !full {
+            return false;
+        }
+        set_bit(&mut self.words, index, false);
+        true
     }
 }

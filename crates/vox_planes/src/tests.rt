@@ -143,6 +143,33 @@ fn wide<L: Ledger>(rt: &impl Abort, blank: Blank, alloc: Global) -> Result<(), M
     Ok(())
 }
 
+/// Voxels by their places, across the ends of rows and of a wall.
+fn placed<L: Ledger>(rt: &impl Abort, blank: Blank, alloc: Global) -> Result<(), Memory>
+    requires name { blank.name ≡ L.name }
+    requires parts { blank.parts ≡ L.parts }
+    requires some { 0 < L.parts }
+{
+    let mut steps: Steps<L> = Steps::new(blank);
+    let mut planes = Planes::empty(alloc, 70)?;
+    planes.set_places(68, 5, 0b10101);
+    assert!(rt; planes.full_at(at(0, 0, 68), &mut steps));
+    assert!(rt; planes.full_at(at(0, 1, 2), &mut steps));
+    assert_eq!(rt; planes.places(66, 64, &mut steps), 0b1010100);
+
+    planes.fill_places(4760, 4905);
+    assert_eq!(rt; planes.count(&mut steps), 148);
+    assert_eq!(rt; planes.places(4757, 6, &mut steps), 0b111000);
+    assert_eq!(rt; planes.places(4900, 6, &mut steps), 0b011111);
+
+    assert!(rt; planes.take(at(0, 1, 0)));
+    assert!(rt; !planes.take(at(0, 1, 0)));
+    assert_eq!(rt;
+        earlier(Some(at(1, 0, 0)), Some(at(0, 2, 3))),
+        Some(at(0, 2, 3))
+    );
+    Ok(())
+}
+
 /// A list of its own: it is filled, read and cleared.
 #[test]
 fn a_list_keeps_its_room(rt: HostRuntime) -> Result<(), Fail> {
@@ -167,5 +194,11 @@ fn three_to_a_row(rt: HostRuntime) -> Result<(), Fail> {
 #[test]
 fn seventy_to_a_row(rt: HostRuntime) -> Result<(), Fail> {
     wide::<Brand>(&rt, Blank::new(1), rt.alloc())?;
+    Ok(())
+}
+
+#[test]
+fn by_places(rt: HostRuntime) -> Result<(), Fail> {
+    placed::<Brand>(&rt, Blank::new(1), rt.alloc())?;
     Ok(())
 }

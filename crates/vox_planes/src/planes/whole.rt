@@ -1,5 +1,6 @@
 //! Counts and comparisons of whole planes.
-ghost use Rattle.std.specs.Prelude.{◌≡◌, ◌+◌, ◌*◌, ◌<◌, ◌≤◌, count_by};
+ghost use Rattle.std.specs.Prelude.{◌≡◌, ◌+◌, ◌*◌, ◌<◌, ◌≤◌, ◌||◌, ℕ, Bool, count_by};
+ghost use Rattle.vox_geom.specs.declared.coordinate.Coord.{Coord as Coordinate};
 ghost use Rattle.vox_geom.specs.Least.{LeastOf};
 ghost use Rattle.vox_geom.specs.Space.{is_before as is_before_of};
 ghost use Rattle.nano_spec.specs.Matrix.{all_of, is_full};
@@ -79,8 +80,10 @@ fn is_before(a: Coord, b: Coord) -> bool
 }
 
 /// The earlier of two coordinates, where they are there.
-fn earlier(a: Option<Coord>, b: Option<Coord>) -> Option<Coord>
-    ensures { result ≡ earlier_of a b }
+pub fn earlier(a: Option<Coord>, b: Option<Coord>) -> Option<Coord>
+    ensures value { result ≡ earlier_of a b }
+    // The least coordinates that pass two tests give the least that passes either.
+    ensures least { (r : ℕ) (f g : Coordinate → Bool) → LeastOf r f a → LeastOf r g b → LeastOf r (λ c. f c || g c) result }
 {
     match (a, b) {
         (Some(c), Some(d)) => Some(if is_before(d, c) { d } else { c }),

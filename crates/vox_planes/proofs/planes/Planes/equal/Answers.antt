@@ -10,7 +10,7 @@ use Rattle.vox_planes.proofs.planes.Planes.equal.Goals as goal
 
 pub loop-y-preserved : goal.loop-y-preserved
 loop-y-preserved g c = record {
-  least = subst (λ (o : Option Coord). LeastOf c.args.self.now.resolution (below_differ c.args.self.now c.args.other.now (c.loop-y.y + 1)) o) (sym c.earlier-least.ensures) (least_more c.args.self.now.resolution c.args.self.now c.args.other.now c.loop-y.y c.loop-y.least c.layer_difference.result c.loop-y.invariant.least c.layer_difference.ensures.least);
+  least = subst (λ (o : Option Coord). LeastOf c.args.self.now.resolution (below_differ c.args.self.now c.args.other.now (c.loop-y.y + 1)) o) (sym c.earlier-least.ensures.value) (least_more c.args.self.now.resolution c.args.self.now c.args.other.now c.loop-y.y c.loop-y.least c.layer_difference.result c.loop-y.invariant.least c.layer_difference.ensures.least);
   touches = omega (arith, c.loop-y.invariant.touches, c.layer_difference.ensures.touches);
 }
 

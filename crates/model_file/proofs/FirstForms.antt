@@ -1,0 +1,128 @@
+-- The bits of the first form.
+use Rattle.std.proofs.Common.{◌≡◌, ℕ, zero, suc, ◌+◌, ◌-◌, ◌*◌, ◌/◌, ◌%◌, ◌<◌, ◌≤◌, ◌^◌, ◌++◌, ◌==◌, add-one, zero-add, refl, sym, ◌∙◌, ap, arith, Bool, true, false, cond, List, [], ◌∷◌, length, map, get_or, min, drop, take, inl, inr}
+use Rattle.std.specs.Prelude.{◌⊎◌, slice_index, sum_by}
+use Rattle.std.proofs.lemmas.Bool.{cases_lt}
+use Rattle.std.proofs.lemmas.Bool.Decides.{nat_tests}
+use Rattle.std.proofs.lemmas.List.{ext_get_or, get_or-map, get_or_default, length-drop, length-map, take_rest}
+use Rattle.std.proofs.Math.Nat.{pow-le-pow_right}
+use Rattle.std.proofs.lemmas.Nat.Bits.{bit_at_above}
+use Rattle.std.proofs.lemmas.Grind.{get_or_after_one}
+use Rattle.vox_geom.specs.Space.{numbers_below, numbers_from}
+use Rattle.nano_spec.specs.Matrix.{Matrix}
+use Rattle.nano_spec.specs.Model.{bit, byte_at, volume, voxel_bit}
+use Rattle.vox_planes.specs.Places.{is_from, voxel_at}
+
+-- ---- a matrix by its voxels
+
+pub length-numbers : (n a : ℕ) → length (numbers_from a n) ≡ n
+length-numbers zero a = refl
+length-numbers (suc n) a = ap suc (length-numbers n (a + 1))
+
+pub get_or-numbers : (n a k d : ℕ) → k < n → get_or (numbers_from a n) k d ≡ a + k
+get_or-numbers zero a k d h = absurd (omega arith)
+get_or-numbers (suc n) a zero d h = omega arith
+get_or-numbers (suc n) a (suc k) d h = omega (arith, get_or-numbers n (a + 1) k d (omega arith))
+
+pub matrix_is : (m : Matrix) (r : ℕ) (f : ℕ → Bool) → m.resolution ≡ r → length m.voxels ≡ volume r → ((p : ℕ) → p < volume r → voxel_at m p ≡ f p) → m ≡ (record { resolution = r; voxels = map f (numbers_below (volume r)) })
+matrix_is m r f er el h = λ i. record { resolution = er i; voxels = same i }
+  where
+    each : (p : ℕ) → p < volume r → get_or (map f (numbers_below (volume r))) p false ≡ f p
+    each p l =
+        get_or-map f (numbers_below (volume r)) p 0 false (let e = length-numbers (volume r) 0 in omega arith)
+        ∙ ap f (get_or-numbers (volume r) 0 p 0 l ∙ zero-add p)
+
+    same : m.voxels ≡ map f (numbers_below (volume r))
+    same = ext_get_or false m.voxels (map f (numbers_below (volume r))) (el ∙ sym (length-map (numbers_below (volume r)) f ∙ length-numbers (volume r) 0)) (λ p l. let k : p < volume r = omega (arith, el) in h p k ∙ sym (each p k))
+
+-- ---- reading
+
+-- a byte after the first
+pub byte_is : (bytes : List ℕ) (k byte d : ℕ) → k < length (take (length bytes - 1) (drop 1 bytes)) → byte ≡ get_or (take (length bytes - 1) (drop 1 bytes)) k d → byte ≡ slice_index bytes (1 + k)
+byte_is bytes k byte d l e =
+    let rest : take (length bytes - 1) (drop 1 bytes) ≡ drop 1 bytes = take_rest bytes 1 in
+    e ∙ (get_or_default (take (length bytes - 1) (drop 1 bytes)) k d 0 l ∙ (ap (λ xs. get_or xs k 0) rest ∙ get_or_after_one bytes k 0))
+
+pub rest_length : (bytes : List ℕ) → length (take (length bytes - 1) (drop 1 bytes)) ≡ length bytes - 1
+rest_length bytes = ap length (take_rest bytes 1) ∙ length-drop 1 bytes
+
+pub before_these : (from count p : ℕ) → p < from → is_from from count p ≡ false
+before_these from count p l = grind (arith, nat_tests)
+
+pub one_of_these : (from count p : ℕ) → from ≤ p → p < from + count → is_from from count p ≡ true
+one_of_these from count p h l = grind (arith, nat_tests)
+
+pub after_these : (from count p : ℕ) → from + count ≤ p → is_from from count p ≡ false
+after_these from count p l = grind (arith, nat_tests)
+
+-- the voxels of one more byte
+pub byte_more : (old new : Matrix) (bytes : List ℕ) (places from k count byte : ℕ) → from ≡ 8 * k → count ≡ min (places - from) 8 → byte ≡ slice_index bytes (1 + k) →
+    ((p : ℕ) → p < 8 * k → p < places → voxel_at old p ≡ voxel_bit bytes p) →
+    ((p : ℕ) → voxel_at new p ≡ cond (is_from from count p) (bit byte (p - from)) (voxel_at old p)) →
+    (p : ℕ) → p < 8 * (k + 1) → p < places → voxel_at new p ≡ voxel_bit bytes p
+byte_more old new bytes places from k count byte ef ec eb before set p l m = set p ∙ by (cases_lt p from)
+  where
+    by : ((p < from) ⊎ (from ≤ p)) → cond (is_from from count p) (bit byte (p - from)) (voxel_at old p) ≡ voxel_bit bytes p
+    by (inl h) = ap (λ b. cond b (bit byte (p - from)) (voxel_at old p)) (before_these from count p h) ∙ before p (omega arith) m
+    by (inr h) =
+        let q : p / 8 ≡ k = omega arith in
+        let s : p % 8 ≡ p - from = omega arith in
+        ap (λ b. cond b (bit byte (p - from)) (voxel_at old p)) (one_of_these from count p h (omega (arith, ec)))
+        ∙ ((λ i. bit (eb i) (p - from))
+        ∙ sym (λ i. bit (slice_index bytes (1 + q i)) (s i)))
+
+-- ---- writing
+
+numbers_more : {A : Type 0} (f : ℕ → A) (n a : ℕ) → map f (numbers_from a (n + 1)) ≡ map f (numbers_from a n) ++ f (a + n) ∷ []
+numbers_more f n a = ap (λ k. map f (numbers_from a k)) (add-one n) ∙ by n a
+  where
+    by : (n a : ℕ) → map f (numbers_from a (suc n)) ≡ map f (numbers_from a n) ++ f (a + n) ∷ []
+    by zero a = ap (λ v. f v ∷ []) (let e : a ≡ a + 0 = omega arith in e)
+    by (suc n) a = ap (λ xs. f a ∷ xs) (by n (a + 1) ∙ ap (λ v. map f (numbers_from (a + 1) n) ++ f v ∷ []) (let e : a + 1 + n ≡ a + suc n = omega arith in e))
+
+-- a byte is the sum of its bits
+eight : (n : ℕ) → n < 256 → n ≡ n % 2 + n / 2 % 2 * 2 + n / 4 % 2 * 4 + n / 8 % 2 * 8 + n / 16 % 2 * 16 + n / 32 % 2 * 32 + n / 64 % 2 * 64 + n / 128 % 2 * 128
+eight n l = omega arith
+
+worth : (d c : ℕ) → d < 2 → d * c ≡ cond (d == 1) c 0
+worth zero c l = omega arith
+worth (suc zero) c l = omega arith
+worth (suc (suc d)) c l = absurd (omega arith)
+
+bits_sum : (n : ℕ) → n < 256 → n ≡ sum_by (λ i. cond (bit n i) (2 ^ i) 0) (numbers_below 8)
+bits_sum n l =
+    let a : n / 1 % 2 * 1 ≡ cond (bit n 0) 1 0 = worth (n / 1 % 2) 1 (omega arith) in
+    let b : n / 2 % 2 * 2 ≡ cond (bit n 1) 2 0 = worth (n / 2 % 2) 2 (omega arith) in
+    let c : n / 4 % 2 * 4 ≡ cond (bit n 2) 4 0 = worth (n / 4 % 2) 4 (omega arith) in
+    let d : n / 8 % 2 * 8 ≡ cond (bit n 3) 8 0 = worth (n / 8 % 2) 8 (omega arith) in
+    let e : n / 16 % 2 * 16 ≡ cond (bit n 4) 16 0 = worth (n / 16 % 2) 16 (omega arith) in
+    let f : n / 32 % 2 * 32 ≡ cond (bit n 5) 32 0 = worth (n / 32 % 2) 32 (omega arith) in
+    let g : n / 64 % 2 * 64 ≡ cond (bit n 6) 64 0 = worth (n / 64 % 2) 64 (omega arith) in
+    let h : n / 128 % 2 * 128 ≡ cond (bit n 7) 128 0 = worth (n / 128 % 2) 128 (omega arith) in
+    start ∙ (λ j. 0 + a j + b j + c j + d j + e j + f j + g j + h j)
+  where
+    start : n ≡ 0 + n / 1 % 2 * 1 + n / 2 % 2 * 2 + n / 4 % 2 * 4 + n / 8 % 2 * 8 + n / 16 % 2 * 16 + n / 32 % 2 * 32 + n / 64 % 2 * 64 + n / 128 % 2 * 128
+    start = omega (arith, eight n l)
+
+no_bit : (n count i : ℕ) → n < 2 ^ count → count ≤ i → bit n i ≡ false
+no_bit n count i l h = ap (λ d. d == 1) (bit_at_above n count i l h)
+
+-- the byte of so many voxels
+pub byte_of : (voxels : List Bool) (k count byte : ℕ) → count ≤ 8 → byte < 2 ^ count → ((i : ℕ) → i < count → bit byte i ≡ get_or voxels (8 * k + i) false) → ((i : ℕ) → count ≤ i → i < 8 → get_or voxels (8 * k + i) false ≡ false) → byte ≡ byte_at voxels k
+byte_of voxels k count byte few below bits none = bits_sum byte (omega (arith, small)) ∙ same
+  where
+    small : 2 ^ count ≤ 2 ^ 8
+    small = pow-le-pow_right {n = 2} (omega arith) few
+
+    each : (i : ℕ) → i < 8 → bit byte i ≡ get_or voxels (8 * k + i) false
+    each i l = by (cases_lt i count)
+      where
+        by : ((i < count) ⊎ (count ≤ i)) → bit byte i ≡ get_or voxels (8 * k + i) false
+        by (inl h) = bits i h
+        by (inr h) = no_bit byte count i below h ∙ sym (none i h l)
+
+    same : sum_by (λ i. cond (bit byte i) (2 ^ i) 0) (numbers_below 8) ≡ byte_at voxels k
+    same = λ j. 0 + cond (each 0 (omega arith) j) 1 0 + cond (each 1 (omega arith) j) 2 0 + cond (each 2 (omega arith) j) 4 0 + cond (each 3 (omega arith) j) 8 0 + cond (each 4 (omega arith) j) 16 0 + cond (each 5 (omega arith) j) 32 0 + cond (each 6 (omega arith) j) 64 0 + cond (each 7 (omega arith) j) 128 0
+
+pub byte_pushed : (r : ℕ) (voxels : List Bool) (k : ℕ) (old new : List ℕ) (byte : ℕ) → old ≡ r ∷ map (byte_at voxels) (numbers_below k) → new ≡ old ++ byte ∷ [] → byte ≡ byte_at voxels k → new ≡ r ∷ map (byte_at voxels) (numbers_below (k + 1))
+byte_pushed r voxels k old new byte eo en eb =
+    en ∙ ((λ i. eo i ++ eb i ∷ []) ∙ ap (λ xs. r ∷ xs) (ap (λ v. map (byte_at voxels) (numbers_below k) ++ byte_at voxels v ∷ []) (sym (zero-add k)) ∙ sym (numbers_more (byte_at voxels) k 0)))

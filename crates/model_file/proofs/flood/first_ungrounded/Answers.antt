@@ -1,0 +1,28 @@
+use Rattle.std.proofs.Common.{◌≡◌, ℕ, Option, subst, []}
+use Rattle.std.proofs.lemmas.List.Elements.{All-same, All-nil}
+use Rattle.vox_geom.specs.declared.coordinate.Coord.{Coord}
+use Rattle.vox_geom.specs.declared.TheConstants.{MOST_R}
+use Rattle.vox_geom.specs.Least.{LeastOf}
+use Rattle.vox_geom.specs.Space.{IsInSpace}
+use Rattle.vox_geom.proofs.Firsts.{first_is}
+use Rattle.nano_spec.specs.Grounded.{FirstUngrounded}
+use Rattle.nano_spec.specs.Matrix.{is_full}
+use Rattle.model_file.specs.declared.flood.Flood.{Flood}
+use Rattle.model_file.proofs.Spreads.{flood_begun, found_within, left_is_ungrounded}
+use Rattle.model_file.proofs.flood.first_ungrounded.Goals as goal
+
+pub spread-requires-clause-within : goal.spread-requires-clause-within
+spread-requires-clause-within c =
+    let start : Flood = record { remaining = c.in_ok-copy.field-0; found = c.new.result } in
+    found_within (λ d. d.y ≡ 0) start c.take_floor.new.self (let w = c.in_ok-copy.ensures.whole in w.most) (All-same (IsInSpace MOST_R) c.new.result.items [] c.new.ensures.items (All-nil (IsInSpace MOST_R))) c.in_ok-take_floor.ensures.takes
+
+pub returns : goal.returns
+returns c =
+    let start : Flood = record { remaining = c.in_ok-copy.field-0; found = c.new.result } in
+    let m = c.args.planes.now in
+    let begun = flood_begun m start c.take_floor.new.self c.in_ok-copy.ensures.value c.new.ensures.items c.in_ok-take_floor.ensures.takes c.in_ok-take_floor.ensures.gone in
+    let done = c.in_ok-spread.ensures.reaches m begun in
+    let left = c.spread.new.self.remaining in
+    let least = subst (λ (r : ℕ). LeastOf r (is_full left) c.least_full.result) done.resolution c.least_full.ensures in
+    subst (λ (o : Option Coord). FirstUngrounded m o) (first_is m.resolution (is_full left) c.least_full.result least)
+    (left_is_ungrounded m c.spread.new.self (is_full left) done c.in_ok-spread.ensures.all (λ d t. t) (λ d t. t))

@@ -1,0 +1,45 @@
+-- A search from the floor: what is left of a matrix, and the voxels that were taken out of it and not yet looked around.
+use Rattle.std.specs.Prelude.{◌≡◌, ◌⊎◌, ℕ, zero, suc, ◌+◌, ◌*◌, Bool, false, cond, IsTrue, length, Contains}
+use Rattle.vox_geom.specs.declared.coordinate.Coord.{Coord}
+use Rattle.vox_geom.specs.Point.{are_adjacent}
+use Rattle.vox_geom.specs.Space.{coordinate_at}
+use Rattle.nano_spec.specs.Grounded.{Grounded}
+use Rattle.nano_spec.specs.Matrix.{Matrix, is_full}
+use Rattle.model_file.specs.declared.flood.Flood.{Flood}
+
+-- how many of the first numbers pass a test
+unfoldable pub passing : (ℕ → Bool) → ℕ → ℕ
+passing test zero = 0
+passing test (suc n) = passing test n + cond (test n) 1 0
+
+-- how many voxels of a matrix of this resolution are full
+unfoldable pub full_of : ℕ → Matrix → ℕ
+full_of r m = passing (λ p. is_full m (coordinate_at r p)) (r * r * r)
+
+-- how many voxels are left or found
+abbrev pub weight : Flood → ℕ
+weight f = full_of f.remaining.resolution f.remaining + length f.found.items
+
+-- the voxel was there before and is there no longer
+pub record IsTaken (old new : Matrix) (c : Coord) : Type 0 where
+  pub before : IsTrue (is_full old c)
+  pub after : is_full new c ≡ false
+
+-- what a part of the search does: it takes voxels out that are near, and each that it takes it has found
+pub record Takes (near : Coord → Type 0) (old new : Flood) : Type 0 where
+  pub resolution : new.remaining.resolution ≡ old.remaining.resolution
+  pub fewer : (d : Coord) → is_full old.remaining d ≡ false → is_full new.remaining d ≡ false
+  pub taken : (d : Coord) → IsTaken old.remaining new.remaining d → near d × Contains new.found.items d
+  pub kept : (d : Coord) → Contains old.found.items d → Contains new.found.items d
+  pub found : (d : Coord) → Contains new.found.items d → Contains old.found.items d ⊎ IsTaken old.remaining new.remaining d
+  pub weighs : weight new ≡ weight old
+
+-- the search of a matrix has come so far: what was taken out is grounded, and what was found is taken out;
+-- beside a voxel that was taken out nothing is left, unless it is found and was not looked around
+pub record IsFlood (m : Matrix) (f : Flood) : Type 0 where
+  pub resolution : f.remaining.resolution ≡ m.resolution
+  pub fewer : (c : Coord) → is_full m c ≡ false → is_full f.remaining c ≡ false
+  pub grounded : (c : Coord) → IsTaken m f.remaining c → Grounded m c
+  pub found : (c : Coord) → Contains f.found.items c → IsTaken m f.remaining c
+  pub looked : (a b : Coord) → IsTaken m f.remaining a → IsTrue (are_adjacent a b) → IsTrue (is_full f.remaining b) → Contains f.found.items a
+  pub floor : (c : Coord) → c.y ≡ 0 → is_full f.remaining c ≡ false

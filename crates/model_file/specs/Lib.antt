@@ -1,0 +1,4 @@
+pub mod Fault
+pub mod Padding
+pub mod Flood
+pub mod Runs

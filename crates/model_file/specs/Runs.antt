@@ -1,0 +1,15 @@
+-- What is answered to the runs of the wide form, and what has become of the matrix (docs/FORMATS.md, "Model files", "The wide form").
+use Rattle.std.specs.Prelude.{ℕ, ◌++◌, Bool, List, Result, Ok, Err, flat_map}
+use Rattle.nano_spec.specs.Matrix.{Matrix}
+use Rattle.nano_spec.specs.Model.{four_bytes, of_runs, run_lengths, runs_in, volume}
+use Rattle.model_file.specs.declared.fault.ModelFault.{ModelFault}
+use Rattle.model_file.specs.Fault.{Reads}
+
+-- the matrix is that of the runs, or the answer says why they are none
+abbrev pub FillsRuns : ℕ → List ℕ → Matrix → Result (Unit {0}) ModelFault → Type 0
+FillsRuns r bytes m (Ok done) = Reads (of_runs r (runs_in (volume r) 0 0 bytes)) (Ok m)
+FillsRuns r bytes m (Err fault) = Reads (of_runs r (runs_in (volume r) 0 0 bytes)) (Err fault)
+
+-- bytes, and behind them the runs of voxels of which so many of one value were counted already
+abbrev pub with_runs : List ℕ → ℕ → Bool → List Bool → List ℕ
+with_runs bytes run full more = bytes ++ flat_map four_bytes (run_lengths run full more)

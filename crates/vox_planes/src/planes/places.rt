@@ -1,0 +1,128 @@
+//! Voxels by their places, many at a time.
+ghost use Rattle.std.specs.Prelude.{◌≡◌, ◌+◌, ◌-◌, ◌*◌, ◌%◌, ◌^◌, ◌<◌, ◌≤◌, ◌||◌, IsFalse, ℕ, cond, length};
+ghost use Rattle.nano_spec.specs.Model.{bit, volume};
+ghost use Rattle.vox_planes.specs.Layers.{is_set as is_set_of};
+ghost use Rattle.vox_planes.specs.Places.{is_from, voxel_at};
+ghost use Rattle.vox_planes.specs.Voxel.{IsWhole};
+
+use super::{Planes, WORD_BITS, bit_index};
+use std::sync::ledger::Ledger;
+use vox_geom::{Coord, Steps};
+
+impl Planes {
+    /// Makes the first of so many voxels, at consecutive places, full or void by the bits of a word: those whose bits
+    /// stand in one word of a row. How many they are.
+    fn set_part(&mut self, from: u32, most: u32, bits: u64) -> u32
+        requires some { 1 ≤ most }
+        requires few { most ≤ 64 }
+        requires within { from + most ≤ volume self.old.resolution }
+        ensures some { 1 ≤ result }
+        ensures most { result ≤ most }
+        ensures places { (p : ℕ) → voxel_at self.new p ≡ cond (is_from from result p) (bit bits (p - from)) (voxel_at self.old p) }
+        ensures resolution { self.new.resolution ≡ self.old.resolution }
+        ensures whole { IsWhole self.new }
+    {
+        let c = Coord::of_place(from, self.resolution);
+        let index = bit_index(c, self.resolution);
+        let count = part(u32::from(self.resolution - c.z), index, most);
+        put_bits(&mut self.words, index, count, bits);
+        count
+    }
+
+    /// Makes up to 64 voxels, at consecutive places, full or void by the bits of a word. All other voxels stay.
+    pub fn set_places(&mut self, from: u32, count: u32, bits: u64)
+        requires few { count ≤ 64 }
+        requires within { from + count ≤ volume self.old.resolution }
+        ensures places { (p : ℕ) → voxel_at self.new p ≡ cond (is_from from count p) (bit bits (p - from)) (voxel_at self.old p) }
+        ensures resolution { self.new.resolution ≡ self.old.resolution }
+        ensures whole { IsWhole self.new }
+    {
+        let _ = self.resolution();
+        let mut done = 0;
+        while done < count {
+            done += self.set_part(from + done, count - done, bits >> done);
+        }
+    }
+
+    /// Makes the voxels at consecutive places full. All other voxels stay.
+    pub fn fill_places(&mut self, from: u32, end: u32)
+        requires order { from ≤ end }
+        requires within { end ≤ volume self.old.resolution }
+        ensures places { (p : ℕ) → voxel_at self.new p ≡ (is_from from (end - from) p || voxel_at self.old p) }
+        ensures resolution { self.new.resolution ≡ self.old.resolution }
+        ensures whole { IsWhole self.new }
+    {
+        let _ = self.resolution();
+        let mut at = from;
+        while at < end {
+            at += self.set_part(at, (end - at).min(64), u64::MAX);
+        }
+    }
+
+    /// Up to 64 voxels at consecutive places, as the bits of a word. At most as many touches as voxels.
+    pub fn places<L: Ledger>(&self, from: u32, count: u32, steps: &mut Steps<L>) -> u64
+        requires few { count ≤ 64 }
+        requires within { from + count ≤ volume self.now.resolution }
+        ensures bits { (k : ℕ) → k < count → bit result k ≡ voxel_at self.now (from + k) }
+        ensures below { result < 2 ^ count }
+        ensures touches { steps.new ≤ steps.old + count }
+    {
+        let mut bits = 0;
+        let mut done = 0;
+        while done < count {
+            steps.tick();
+            let c = Coord::of_place(from + done, self.resolution);
+            let index = bit_index(c, self.resolution);
+            let some = part(u32::from(self.resolution - c.z), index, count - done);
+            bits += bits_at(&self.words, index, some) << done;
+            done += some;
+        }
+        bits
+    }
+}
+
+/// How many of so many bits from an index on lie in a row that has only some left, and in one word.
+fn part(row: u32, index: usize, most: u32) -> u32
+    requires row { 1 ≤ row }
+    requires some { 1 ≤ most }
+    ensures some { 1 ≤ result }
+    ensures most { result ≤ most }
+    ensures row { result ≤ row }
+    ensures word { index % 64 + result ≤ 64 }
+{
+    let word = (WORD_BITS - index % WORD_BITS) as u32;
+    most.min(row).min(word)
+}
+
+/// The mask of so many bits from one on.
+fn mask(first: u32, count: u32) -> u64
+    requires some { 1 ≤ count }
+    requires within { first + count ≤ 64 }
+    ensures { result ≡ 2 ^ (first + count) - 2 ^ first }
+{
+    (u64::MAX >> (64 - count)) << first
+}
+
+/// So many bits from an index on, which stand in one word.
+fn bits_at(words: &[u64], index: usize, count: u32) -> u64
+    requires within { index < 64 * length words.now }
+    requires some { 1 ≤ count }
+    requires word { index % 64 + count ≤ 64 }
+    ensures bits { (k : ℕ) → k < count → bit result k ≡ is_set_of words.now (index + k) }
+    ensures below { result < 2 ^ count }
+{
+    (words[index / WORD_BITS] >> (index % WORD_BITS)) & mask(0, count)
+}
+
+/// Makes so many bits from an index on, which stand in one word, the lowest bits of another.
+fn put_bits(words: &mut [u64], index: usize, count: u32, bits: u64)
+    requires within { index < 64 * length words.old }
+    requires some { 1 ≤ count }
+    requires word { index % 64 + count ≤ 64 }
+    ensures here { (k : ℕ) → k < count → is_set_of words.new (index + k) ≡ bit bits k }
+    ensures others { (j : ℕ) → IsFalse (is_from index count j) → is_set_of words.new j ≡ is_set_of words.old j }
+{
+    let mask = mask((index % WORD_BITS) as u32, count);
+    let word = &mut words[index / WORD_BITS];
+    *word = (*word & !mask) | ((bits << (index % WORD_BITS)) & mask);
+}
