@@ -1,0 +1,11 @@
+//! Which rule the commands of a step break first, and which bots act together.
+#![tactic(auto)]
+
+mod boxes;
+mod pairs;
+mod partners;
+mod rules;
+mod shapes;
+mod volatile;
+
+pub use pairs::Group;
