@@ -14,7 +14,7 @@ use Rattle.nano_spec.specs.Volatile.{is_volatile}
 use Rattle.step_groups.specs.Boxes.{AreBoxesIn, in_boxes}
 use Rattle.vox_geom.specs.Least.{LeastOf}
 use Rattle.step_groups.specs.Groups.{IsGroup, AreGroups, judge_with}
-use Rattle.step_groups.specs.declared.pairs.Group.{Group}
+use Rattle.step_groups.specs.declared.groups.Group.{Group}
 use Rattle.vox_geom.proofs.Firsts.{first_is}
 use Rattle.step_groups.proofs.Shared.{least_same}
 

@@ -1,10 +1,13 @@
 -- The first broken rule of a step, in the parts in which it is looked for.
-use Rattle.std.proofs.Common.{◌≡◌, ℕ, refl, ap, ◌∙◌, List, [], ◌∷◌, ◌++◌, map, length, Option, Some, None, option_map, arith}
+use Rattle.std.proofs.Common.{◌≡◌, ℕ, refl, ap, sym, ◌∙◌, List, [], ◌∷◌, ◌++◌, map, length, Option, Some, None, option_map, arith}
 use Rattle.std.proofs.lemmas.Option.{slice_get_past}
-use Rattle.std.specs.Prelude.{flat_map, slice_get}
+use Rattle.std.specs.Prelude.{ℤ, flat_map, slice_get}
 use Rattle.nano_spec.specs.declared.commands.Command.{Command}
+use Rattle.nano_spec.specs.declared.outcomes.Broken.{Broken}
 use Rattle.nano_spec.specs.declared.outcomes.Rule.TheVariants.{TraceEnds}
 use Rattle.nano_spec.specs.declared.system.Bot.{Bot}
+use Rattle.nano_spec.specs.declared.system.Harmonics.{Harmonics}
+use Rattle.nano_spec.specs.declared.system.Profile.{Profile}
 use Rattle.nano_spec.specs.Act.{Act, acts}
 use Rattle.nano_spec.specs.First.{first_value}
 use Rattle.nano_spec.specs.Group.{leaders}
@@ -12,7 +15,7 @@ use Rattle.nano_spec.specs.Matrix.{Matrix}
 use Rattle.nano_spec.specs.Rules.{broken, broken_by, fault, rules_of_bots, judge_bots, judge_pairs, judge_trace}
 use Rattle.nano_spec.specs.State.{State}
 use Rattle.std.specs.Option.{option_or}
-use Rattle.step_groups.specs.Judging.{judge_bot, judge_each}
+use Rattle.step_groups.specs.Judging.{judge_bot, judge_each, start_of}
 
 pub first-append : {A : Type 0} (xs ys : List (Option A)) → first_value (xs ++ ys) ≡ option_or (first_value xs) (first_value ys)
 first-append [] ys = refl
@@ -34,3 +37,29 @@ whole s commands step e =
     ap (λ o. first_value (o ∷ (judge_bots s all step ++ judge_pairs s.matrix all step (leaders all)))) none
     ∙ (first-append (judge_bots s all step) (judge_pairs s.matrix all step (leaders all))
     ∙ ap (λ o. option_or o (first_value (judge_pairs s.matrix all step (leaders all)))) (each_is s all step all))
+
+-- the rules do not ask for the energy
+same_start : (m : Matrix) (h : Harmonics) (profile : Profile) (bots : List Bot) (energy : ℤ) (all : List Act) (step : ℕ) (xs : List Act) → judge_each (record (start_of m h profile bots) { energy = energy }) all step xs ≡ judge_each (start_of m h profile bots) all step xs
+same_start m h profile bots energy all step [] = refl
+same_start m h profile bots energy all step (a ∷ xs) = ap (option_or (judge_bot (start_of m h profile bots) all step a)) (same_start m h profile bots energy all step xs)
+
+-- the first rule that a bot breaks is the first of the step
+pub by_bot : (m : Matrix) (h : Harmonics) (profile : Profile) (bots crew : List Bot) (commands : List Command) (step : ℕ) (o : Option Broken) (b : Broken) → bots ≡ crew → length commands ≡ length crew → o ≡ judge_each (start_of m h profile bots) (acts bots commands) step (acts bots commands) → o ≡ Some b → (energy : ℤ) → broken (record (start_of m h profile crew) { energy = energy }) commands step ≡ Some b
+by_bot m h profile bots crew commands step o b same lengths e f energy =
+    let all : List Act = acts crew commands in
+    let each : judge_each (record (start_of m h profile crew) { energy = energy }) all step all ≡ Some b =
+    same_start m h profile crew energy all step all
+    ∙ (ap (λ bs. judge_each (start_of m h profile bs) (acts bs commands) step (acts bs commands)) (sym same) ∙ (sym e ∙ f)) in
+    whole (record (start_of m h profile crew) { energy = energy }) commands step lengths
+    ∙ ap (λ v. option_or v (first_value (judge_pairs m all step (leaders all)))) each
+
+-- where no bot breaks one it is the first pair that interferes
+pub by_pair : (m : Matrix) (h : Harmonics) (profile : Profile) (bots crew : List Bot) (commands : List Command) (step : ℕ) (o p q : Option Broken) → bots ≡ crew → length commands ≡ length crew → o ≡ judge_each (start_of m h profile bots) (acts bots commands) step (acts bots commands) → o ≡ None → p ≡ first_value (judge_pairs m (acts bots commands) step (leaders (acts bots commands))) → p ≡ q → (energy : ℤ) → broken (record (start_of m h profile crew) { energy = energy }) commands step ≡ q
+by_pair m h profile bots crew commands step o p q same lengths e f pairs is energy =
+    let all : List Act = acts crew commands in
+    let each : judge_each (record (start_of m h profile crew) { energy = energy }) all step all ≡ None =
+    same_start m h profile crew energy all step all
+    ∙ (ap (λ bs. judge_each (start_of m h profile bs) (acts bs commands) step (acts bs commands)) (sym same) ∙ (sym e ∙ f)) in
+    whole (record (start_of m h profile crew) { energy = energy }) commands step lengths
+    ∙ (ap (λ v. option_or v (first_value (judge_pairs m all step (leaders all)))) each
+    ∙ (ap (λ bs. first_value (judge_pairs m (acts bs commands) step (leaders (acts bs commands)))) (sym same) ∙ (sym pairs ∙ is)))

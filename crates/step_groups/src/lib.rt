@@ -2,10 +2,12 @@
 #![tactic(auto)]
 
 mod boxes;
+mod groups;
+mod members;
 mod pairs;
 mod partners;
 mod rules;
 mod shapes;
 mod volatile;
 
-pub use pairs::Group;
+pub use groups::{Group, Groups, judge_groups};

@@ -1,5 +1,5 @@
 //! The rules that are judged for each bot.
-ghost use Rattle.std.specs.Prelude.{◌≡◌, ◌+◌, ◌≤◌, length, List, Some, IsTrue, IsFalse, IfSome, IfNone, ℕ, Bool, cond, nat_le, EachIndex, slice_index_or, sum_by};
+ghost use Rattle.std.specs.Prelude.{◌≡◌, ◌+◌, ◌≤◌, length, List, Some, IsTrue, IsFalse, IfSome, IfNone, ℕ, Bool, cond, nat_le, All, sum_by};
 ghost use Rattle.vox_geom.specs.Space.{IsInSpace, in_space};
 ghost use Rattle.vox_geom.specs.Point.{point, plus};
 ghost use Rattle.nano_spec.specs.declared.commands.Command.TheVariants.{Halt, Wait, Flip, SMove, LMove, FusionP, FusionS, Fission as FissionOf, Fill, Void, GFill, GVoid};
@@ -9,7 +9,6 @@ ghost use Rattle.nano_spec.specs.State.{State, seed_list};
 ghost use Rattle.vox_geom.specs.Space.{is_before as is_before_of};
 ghost use Rattle.vox_planes.specs.Difference.{earlier as earlier_of};
 ghost use Rattle.step_groups.specs.Judging.{act, first_fault, judge_bot as judge_bot_of, later_rules, start_of, judge_each, touches_of};
-ghost use Rattle.nano_spec.specs.declared.system.Bot.{Bot as BotOf};
 
 use crate::partners::has_partner;
 use crate::shapes::is_misshapen;
@@ -331,7 +330,7 @@ pub(crate) fn judge_bots<L: Ledger>(
     step: u32,
     steps: &mut Steps<L>,
 ) -> Option<Broken>
-    requires within { EachIndex bots.now (λ i. (b : BotOf) → IsInSpace planes.now.resolution (slice_index_or bots.now i b).pos) }
+    requires within { All (λ b. IsInSpace planes.now.resolution b.pos) bots.now }
     requires lengths { length commands.now ≡ length bots.now }
     ensures value { result ≡ judge_each (start_of planes.now harmonics profile bots.now) (acts bots.now commands.now) step (acts bots.now commands.now) }
     ensures touches { steps.new ≤ steps.old + sum_by (touches_of planes.now) (acts bots.now commands.now) }
