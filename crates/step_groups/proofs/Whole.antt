@@ -1,5 +1,5 @@
 -- The first broken rule of a step, in the parts in which it is looked for.
-use Rattle.std.proofs.Common.{◌≡◌, ℕ, refl, ap, sym, ◌∙◌, List, [], ◌∷◌, ◌++◌, map, length, Option, Some, None, option_map, arith}
+use Rattle.std.proofs.Common.{◌≡◌, ℕ, refl, ap, sym, ◌∙◌, List, [], ◌∷◌, ◌++◌, map, length, Option, Some, None, option_map, arith, Bool, true, false, cond, filter}
 use Rattle.std.proofs.lemmas.Option.{slice_get_past}
 use Rattle.std.specs.Prelude.{ℤ, flat_map, slice_get}
 use Rattle.nano_spec.specs.declared.commands.Command.{Command}
@@ -10,7 +10,7 @@ use Rattle.nano_spec.specs.declared.system.Harmonics.{Harmonics}
 use Rattle.nano_spec.specs.declared.system.Profile.{Profile}
 use Rattle.nano_spec.specs.Act.{Act, acts}
 use Rattle.nano_spec.specs.First.{first_value}
-use Rattle.nano_spec.specs.Group.{leaders}
+use Rattle.nano_spec.specs.Group.{is_leader, leaders}
 use Rattle.nano_spec.specs.Matrix.{Matrix}
 use Rattle.nano_spec.specs.Rules.{broken, broken_by, fault, rules_of_bots, judge_bots, judge_pairs, judge_trace}
 use Rattle.nano_spec.specs.State.{State}
@@ -63,3 +63,31 @@ by_pair m h profile bots crew commands step o p q same lengths e f pairs is ener
     whole (record (start_of m h profile crew) { energy = energy }) commands step lengths
     ∙ (ap (λ v. option_or v (first_value (judge_pairs m all step (leaders all)))) each
     ∙ (ap (λ bs. first_value (judge_pairs m (acts bs commands) step (leaders (acts bs commands)))) (sym same) ∙ (sym pairs ∙ is)))
+
+none_after : {A : Type 0} (o : Option A) → option_or o None ≡ o
+none_after None = refl
+none_after (Some a) = refl
+
+-- a single bot interferes with none
+alone : (m : Matrix) (all : List Act) (step : ℕ) (bots : List Bot) (commands : List Command) → length bots ≡ 1 → first_value (judge_pairs m all step (filter (is_leader all) (acts bots commands))) ≡ None
+alone m all step [] commands e = absurd (omega arith)
+alone m all step (b ∷ []) [] e = refl
+alone m all step (b ∷ []) (c ∷ commands) e = one (is_leader all (record { bot = b; command = c }))
+  where
+    one : (t : Bool) → first_value (judge_pairs m all step (cond t (record { bot = b; command = c } ∷ []) [])) ≡ None
+    one true = refl
+    one false = refl
+alone m all step (b ∷ d ∷ bots) commands e = absurd (omega arith)
+
+single : (s : State) (commands : List Command) (step : ℕ) → length s.bots ≡ 1 → length commands ≡ length s.bots → broken s commands step ≡ judge_each s (acts s.bots commands) step (acts s.bots commands)
+single s commands step e f =
+    let all : List Act = acts s.bots commands in
+    whole s commands step f
+    ∙ (ap (option_or (judge_each s all step all)) (alone s.matrix all step s.bots commands e) ∙ none_after (judge_each s all step all))
+
+-- what a single bot breaks is what it breaks by itself
+pub by_itself : (m : Matrix) (h : Harmonics) (profile : Profile) (bots crew : List Bot) (commands : List Command) (step : ℕ) (o : Option Broken) → bots ≡ crew → length crew ≡ 1 → length commands ≡ length crew → o ≡ judge_each (start_of m h profile bots) (acts bots commands) step (acts bots commands) → (energy : ℤ) → o ≡ broken (record (start_of m h profile crew) { energy = energy }) commands step
+by_itself m h profile bots crew commands step o same one lengths e energy =
+    let all : List Act = acts crew commands in
+    e ∙ (ap (λ bs. judge_each (start_of m h profile bs) (acts bs commands) step (acts bs commands)) same
+    ∙ (sym (same_start m h profile crew energy all step all) ∙ sym (single (record (start_of m h profile crew) { energy = energy }) commands step one lengths)))

@@ -8,6 +8,8 @@ mod pairs;
 mod partners;
 mod rules;
 mod shapes;
+mod single;
 mod volatile;
 
 pub use groups::{Group, Groups, judge_groups};
+pub use single::judge_single;
