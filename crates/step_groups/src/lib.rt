@@ -13,3 +13,6 @@ mod volatile;
 
 pub use groups::{Group, Groups, judge_groups};
 pub use single::judge_single;
+
+#[cfg(test)]
+mod tests;
