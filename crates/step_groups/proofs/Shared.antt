@@ -57,7 +57,7 @@ meets_is r k l None h shared least none = λ d i.
 pub least_same : (r : ℕ) (f g : Coord → Bool) (o : Option Coord) → ((c : Coord) → f c ≡ g c) → LeastOf r f o → LeastOf r g o
 least_same r f g o e h = subst (λ (t : Coord → Bool). LeastOf r t o) (λ i c. e c i) h
 
-any-push : {A : Type 0} (p : A → Bool) (xs : List A) (x : A) → list_any p (xs ++ x ∷ []) ≡ (list_any p xs || p x)
+pub any-push : {A : Type 0} (p : A → Bool) (xs : List A) (x : A) → list_any p (xs ++ x ∷ []) ≡ (list_any p xs || p x)
 any-push p [] x = or_false (p x)
   where
     or_false : (b : Bool) → (b || false) ≡ (false || b)
@@ -94,7 +94,7 @@ more_left r t boxes k x y h i =
     (λ c. or_and (in_boxes boxes c) (is_within (span k) (point c)) (t c) ∙ ap (λ b. b && t c) (sym (any-push (λ l. is_within (span l) (point c)) boxes k)))
     (earliest r (λ c. in_boxes boxes c && t c) (λ c. is_within (span k) (point c) && t c) x y h i)
 
-take_one : {A : Type 0} (xs : List A) (j : ℕ) (x : A) → j < length xs → x ≡ get_or xs j x → take (j + 1) xs ≡ take j xs ++ x ∷ []
+pub take_one : {A : Type 0} (xs : List A) (j : ℕ) (x : A) → j < length xs → x ≡ get_or xs j x → take (j + 1) xs ≡ take j xs ++ x ∷ []
 take_one xs j x h e = rw add-one (take-suc xs j x h ∙ ap (λ v. take j xs ++ v ∷ []) (sym e))
 
 -- a turn of the loop over the right boxes

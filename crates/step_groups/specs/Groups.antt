@@ -12,7 +12,7 @@ use Rattle.nano_spec.specs.Group.{members}
 use Rattle.nano_spec.specs.Matrix.{Matrix}
 use Rattle.nano_spec.specs.Rules.{broken_by, clash}
 use Rattle.nano_spec.specs.Volatile.{is_volatile}
-use Rattle.step_groups.specs.Boxes.{AreBoxesIn, in_boxes}
+use Rattle.step_groups.specs.Boxes.{AreBoxesIn, IsHull, in_boxes}
 use Rattle.step_groups.specs.declared.groups.Group.{Group}
 
 -- the bid of a bot
@@ -36,6 +36,13 @@ AreGroups r all [] [] = Unit {0}
 AreGroups r all [] (g ∷ groups) = ⊥
 AreGroups r all (a ∷ leaders) [] = ⊥
 AreGroups r all (a ∷ leaders) (g ∷ groups) = IsGroup r all a g × AreGroups r all leaders groups
+
+-- each box is around the boxes of one of the groups, in their order
+abbrev pub AreHulls : List Corners → List Group → Type 0
+AreHulls [] [] = Unit {0}
+AreHulls [] (g ∷ groups) = ⊥
+AreHulls (k ∷ hulls) [] = ⊥
+AreHulls (k ∷ hulls) (g ∷ groups) = IsHull k g.boxes.items × AreHulls hulls groups
 
 -- the first group of these leaders that the group interferes with
 abbrev pub judge_with : Matrix → List Act → ℕ → Act → List Act → Option Broken

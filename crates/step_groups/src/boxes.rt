@@ -1,9 +1,10 @@
-//! What boxes share.
-ghost use Rattle.std.specs.Prelude.{◌≡◌, ◌+◌, ◌≤◌, ◌<◌, ◌&&◌, ℕ, length, All};
+//! What boxes share, and the box around them.
+ghost use Rattle.std.specs.Prelude.{◌≡◌, ◌+◌, ◌≤◌, ◌<◌, ◌&&◌, ℕ, length, All, IsTrue};
+ghost use Rattle.vox_geom.specs.declared.coordinate.Coord.{Coord as Coordinate};
 ghost use Rattle.vox_geom.specs.Point.{point};
 ghost use Rattle.vox_geom.specs.Region.{is_within, span};
 ghost use Rattle.vox_geom.specs.Space.{IsInSpace};
-ghost use Rattle.step_groups.specs.Boxes.{IsBoxIn, AreBoxesIn, in_boxes};
+ghost use Rattle.step_groups.specs.Boxes.{IsBoxIn, IsHull, AreBoxesIn, in_boxes};
 ghost use Rattle.vox_geom.specs.Least.{LeastOf};
 
 use crate::rules::earlier;
@@ -31,4 +32,37 @@ pub(crate) fn clash(first: &[Region], second: &[Region]) -> Option<Coord>
         least = earlier(least, shared);
     }
     least
+}
+
+/// The box around two boxes.
+fn around(a: &Region, b: &Region) -> Region
+    ensures first { (c : Coordinate) → IsTrue (is_within (span a.now) (point c)) → IsTrue (is_within (span result) (point c)) }
+    ensures second { (c : Coordinate) → IsTrue (is_within (span b.now) (point c)) → IsTrue (is_within (span result) (point c)) }
+{
+    let low = a.low();
+    let high = a.high();
+    let other_low = b.low();
+    let other_high = b.high();
+    let least = Coord {
+        x: low.x.min(other_low.x),
+        y: low.y.min(other_low.y),
+        z: low.z.min(other_low.z),
+    };
+    let greatest = Coord {
+        x: high.x.max(other_high.x),
+        y: high.y.max(other_high.y),
+        z: high.z.max(other_high.z),
+    };
+    Region::of(least, greatest)
+}
+
+/// A box around all the boxes.
+pub(crate) fn hull(boxes: &[Region]) -> Region
+    ensures { IsHull result boxes.now }
+{
+    let mut all = boxes.first().copied().unwrap_or_default();
+    for i in 0..boxes.len() {
+        all = around(&all, &boxes[i]);
+    }
+    all
 }
