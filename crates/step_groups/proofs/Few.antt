@@ -1,6 +1,6 @@
 -- What is known where no bot breaks a rule of single bots: commands stay in space, and groups have eight members at most.
-use Rattle.std.proofs.Common.{◌≡◌, ℕ, zero, suc, ◌+◌, ◌<◌, ◌≤◌, ◌^◌, refl, ap, sym, ◌∙◌, subst, arith, inl, inr, ◌⊎◌, Bool, true, false, ◌&&◌, ◌||◌, ◌==◌, not, cond, List, [], ◌∷◌, filter, length, map, Option, Some, None, option_map}
-use Rattle.std.specs.Prelude.{IsTrue, All, AllPairs, ◌≢◌, pos, ℤ}
+use Rattle.std.proofs.Common.{◌≡◌, ℕ, zero, suc, ◌+◌, ◌<◌, ◌≤◌, ◌^◌, refl, ap, sym, ◌∙◌, subst, arith, inl, inr, ◌⊎◌, Bool, true, false, ◌||◌, ◌==◌, not, cond, List, [], ◌∷◌, filter, length, map, Option, Some, None, option_map}
+use Rattle.std.specs.Prelude.{IsTrue, AllPairs, ◌≢◌, ℤ}
 use Rattle.std.specs.List.{list_any}
 use Rattle.std.specs.Option.{option_or}
 use Rattle.std.proofs.lemmas.Bool.Decides.{Decides-eqb}
@@ -10,20 +10,19 @@ use Rattle.vox_geom.specs.Region.{Span, between, differs, dimension}
 use Rattle.vox_geom.specs.Space.{coordinate}
 use Rattle.nano_spec.specs.declared.commands.Command.{Command}
 use Rattle.nano_spec.specs.declared.commands.Command.TheVariants.{Halt, Wait, Flip, SMove, LMove, FusionP, FusionS, Fission, Fill, Void, GFill, GVoid}
-use Rattle.nano_spec.specs.declared.outcomes.Broken.{Broken}
 use Rattle.nano_spec.specs.declared.outcomes.Rule.{Rule}
 use Rattle.nano_spec.specs.declared.outcomes.Rule.TheVariants.{OutOfSpace, GroupShape}
 use Rattle.nano_spec.specs.declared.system.Bot.{Bot}
 use Rattle.nano_spec.specs.Act.{Act, acts, position, stays_in_space}
 use Rattle.nano_spec.specs.First.{first_value}
 use Rattle.nano_spec.specs.Group.{are_partners, are_together, fuse, is_pair, members, share_region}
-use Rattle.nano_spec.specs.Rules.{broken_by, fault, here, repeats, rules_of_bots}
+use Rattle.nano_spec.specs.Rules.{broken_by, fault, here, rules_of_bots}
 use Rattle.nano_spec.specs.State.{State}
 use Rattle.step_order.proofs.Facts.{Rising, pairs_in, rising_is}
 use Rattle.step_order.proofs.Lists.{In, first, second, in_map, is_false, any_in, one_of}
 use Rattle.step_order.proofs.Together.{point_is}
 use Rattle.step_groups.specs.Groups.{AreJudged}
-use Rattle.step_groups.specs.Judging.{act, corner_list, judge_bot, judge_each}
+use Rattle.step_groups.specs.Judging.{act, judge_bot, judge_each}
 use Rattle.step_groups.proofs.Joined.{bot_in, in_all}
 use Rattle.step_groups.proofs.Mates.{bots_are, no_filter}
 

@@ -1,12 +1,11 @@
 -- Boxes around boxes.
-use Rattle.std.proofs.Common.{◌≡◌, ℕ, zero, suc, ◌+◌, ◌-◌, ◌<◌, ◌≤◌, refl, ap, sym, ◌∙◌, subst, arith, Bool, true, false, ◌&&◌, ◌||◌, List, [], ◌∷◌, ◌++◌, take, drop, length, length-drop, get_or, Option, Some, None, pos}
-use Rattle.std.specs.Prelude.{IsTrue, IsFalse}
+use Rattle.std.proofs.Common.{◌≡◌, ℕ, zero, suc, ◌+◌, ◌-◌, ◌<◌, ◌≤◌, refl, ap, sym, ◌∙◌, subst, arith, Bool, true, false, ◌&&◌, ◌||◌, List, [], ◌∷◌, ◌++◌, take, drop, length, length-drop, get_or, None, pos}
+use Rattle.std.specs.Prelude.{IsTrue}
 use Rattle.std.proofs.lemmas.List.{take_all}
 use Rattle.std.proofs.lemmas.Bool.Decides.{nat_tests}
 use Rattle.vox_geom.specs.declared.coordinate.Coord.{Coord}
-use Rattle.vox_geom.specs.Least.{LeastOf}
 use Rattle.vox_geom.specs.Point.{Point, point}
-use Rattle.vox_geom.specs.Region.{AreShared, Corners, IsOrdered, between, is_between, is_within, span}
+use Rattle.vox_geom.specs.Region.{Corners, IsOrdered, between, is_between, is_within, span}
 use Rattle.nano_spec.specs.Act.{Act}
 use Rattle.nano_spec.specs.First.{first_value}
 use Rattle.nano_spec.specs.Matrix.{Matrix}
@@ -14,7 +13,6 @@ use Rattle.nano_spec.specs.Rules.{judge_pairs}
 use Rattle.step_groups.specs.Boxes.{IsHull, in_boxes}
 use Rattle.step_groups.specs.Groups.{AreGroups, AreHulls}
 use Rattle.step_groups.specs.declared.groups.Group.{Group}
-use Rattle.step_groups.proofs.Firsts.{untrue}
 use Rattle.step_groups.proofs.Shared.{any-push, both_left, both_right, both_true, take_one}
 
 -- a wider stretch of numbers
@@ -43,13 +41,6 @@ more_around boxes j k all next lt e h f g c t =
     one_of (in_boxes (take j boxes) c) (is_within (span k) (point c)) (is_within (span next) (point c))
     (sym (ap (λ xs. in_boxes xs c) (take_one boxes j k lt e) ∙ any-push (λ l. is_within (span l) (point c)) (take j boxes) k) ∙ t)
     (λ i. f c (h c i)) (g c)
-
-pub all_around : (boxes : List Corners) (j : ℕ) (all : Corners) → length boxes ≤ j → IsHull all (take j boxes) → IsHull all boxes
-all_around boxes j all le h = subst (λ (xs : List Corners). IsHull all xs) (take_all j boxes le) h
-
--- groups with boxes around them that are apart share nothing
-pub apart : (r : ℕ) (k l : Corners) (xs ys : List Corners) → IsHull k xs → IsHull l ys → ((c : Coord) → AreShared k l c → ⊥) → LeastOf r (λ c. in_boxes xs c && in_boxes ys c) None
-apart r k l xs ys h i none = λ d w. untrue (in_boxes xs d && in_boxes ys d) (λ t. none d (h d (both_left (in_boxes xs d) (in_boxes ys d) t), i d (both_right (in_boxes xs d) (in_boxes ys d) t)))
 
 -- ---- the boxes around the groups, place by place
 

@@ -1,12 +1,12 @@
 -- The boxes of a group, and the groups of the leaders so far.
-use Rattle.std.proofs.Common.{◌≡◌, ℕ, zero, suc, ◌+◌, ◌<◌, ◌≤◌, refl, ap, sym, ◌∙◌, subst, arith, inl, inr, Bool, true, false, ◌||◌, not, cond, List, [], ◌∷◌, ◌++◌, filter, length, map, min, max}
+use Rattle.std.proofs.Common.{◌≡◌, ℕ, ◌<◌, ◌≤◌, refl, ap, sym, ◌∙◌, subst, arith, inl, inr, Bool, true, false, ◌||◌, not, cond, List, [], ◌∷◌, ◌++◌, filter, length, map, min, max}
 use Rattle.std.specs.Prelude.{IsTrue, All}
 use Rattle.std.specs.List.{list_any}
 use Rattle.std.proofs.lemmas.List.Folds.{list_any-append}
 use Rattle.std.proofs.lemmas.List.Elements.{filter-append}
 use Rattle.vox_geom.specs.declared.coordinate.Coord.{Coord}
 use Rattle.vox_geom.specs.Point.{Point, point}
-use Rattle.vox_geom.specs.Region.{Corners, between, corners, is_between, is_within, just, span}
+use Rattle.vox_geom.specs.Region.{Corners, between, is_within, just, span}
 use Rattle.vox_geom.specs.Space.{IsInSpace}
 use Rattle.nano_spec.specs.declared.commands.Command.{Command}
 use Rattle.nano_spec.specs.declared.system.Bot.{Bot}
@@ -14,7 +14,7 @@ use Rattle.nano_spec.specs.Act.{Act, acts, position}
 use Rattle.nano_spec.specs.Group.{are_together, is_leader, members}
 use Rattle.nano_spec.specs.Volatile.{is_volatile, is_volatile_of}
 use Rattle.step_order.proofs.Facts.{Rising}
-use Rattle.step_order.proofs.Lists.{In, in_place, place_in, filter_in}
+use Rattle.step_order.proofs.Lists.{In, in_place, place_in}
 use Rattle.step_groups.specs.Boxes.{AreBoxesIn, IsBoxIn, in_boxes}
 use Rattle.step_groups.specs.Groups.{AreGroups, IsGroup, bid_of, spot}
 use Rattle.step_groups.specs.Judging.{is_alone}

@@ -1,5 +1,5 @@
 -- The groups of the leaders up to a place, with one more bot.
-use Rattle.std.proofs.Common.{◌≡◌, ℕ, ◌+◌, ◌-◌, ◌<◌, ◌≤◌, ap, sym, ◌∙◌, subst, arith, Bool, false, true, ◌||◌, List, [], ◌∷◌, ◌++◌, filter, length, length-drop, map, take, drop, get_or}
+use Rattle.std.proofs.Common.{◌≡◌, ℕ, ◌+◌, ◌-◌, ◌<◌, ◌≤◌, ap, sym, ◌∙◌, subst, arith, false, true, ◌||◌, List, [], ◌∷◌, ◌++◌, filter, length, length-drop, map, take, drop, get_or}
 use Rattle.std.specs.Prelude.{IsTrue, All, AllPairs}
 use Rattle.std.specs.List.{list_any}
 use Rattle.std.proofs.lemmas.List.{take_all}

@@ -3,12 +3,11 @@ use Rattle.std.proofs.Common.{◌≡◌, ℕ, ◌+◌, ◌*◌, ◌<◌, ◌≤�
 use Rattle.std.specs.Prelude.{IsTrue, AllPairs, sum, sum_by}
 use Rattle.std.specs.List.{list_any}
 use Rattle.std.proofs.lemmas.List.Sums.{sum_by-cons}
-use Rattle.vox_geom.specs.declared.coordinate.Coord.{Coord}
 use Rattle.vox_geom.specs.Point.{point}
 use Rattle.nano_spec.specs.declared.commands.Command.{Command}
 use Rattle.nano_spec.specs.declared.system.Bot.{Bot}
 use Rattle.nano_spec.specs.Act.{Act, acts, stays_in_space}
-use Rattle.nano_spec.specs.Group.{are_together, is_leader, leaders, members}
+use Rattle.nano_spec.specs.Group.{is_leader, members}
 use Rattle.nano_spec.specs.Matrix.{Matrix, all_of}
 use Rattle.nano_spec.specs.Volatile.{is_volatile_of}
 use Rattle.nano_spec.specs.Work.{volatile_count, volatile_total}

@@ -1,4 +1,4 @@
-use Rattle.step_groups.proofs.Hulls.{all_around, more_around}
+use Rattle.step_groups.proofs.Hulls.{more_around}
 use Rattle.step_groups.proofs.boxes.hull.Goals as goal
 
 pub loop-i-preserved : goal.loop-i-preserved

@@ -1,4 +1,4 @@
-use Rattle.std.proofs.Common.{◌+◌, ◌++◌, ◌∙◌, [], ◌∷◌, List, ap, arith, length, length-append, subst, sym, take}
+use Rattle.std.proofs.Common.{◌+◌, ◌++◌, ◌∙◌, [], ◌∷◌, List, ap, arith, length-append, subst, sym, take}
 use Rattle.vox_geom.specs.Region.{Corners}
 use Rattle.step_groups.specs.Boxes.{IsHull}
 use Rattle.step_groups.specs.Groups.{AreHulls}

@@ -1,8 +1,3 @@
-use Rattle.std.proofs.Common.{◌&&◌, List, subst, sym}
-use Rattle.std.specs.Prelude.{Option}
-use Rattle.vox_geom.specs.declared.coordinate.Coord.{Coord}
-use Rattle.vox_geom.specs.Least.{LeastOf}
-use Rattle.step_groups.specs.Boxes.{in_boxes}
 use Rattle.step_groups.proofs.Couples.{of_slices}
 use Rattle.step_groups.proofs.pairs.shared.Goals as goal
 
