@@ -1,0 +1,84 @@
+-- What is volatile for two bots of one group: the place of each, and for a group command the one region.
+use Rattle.std.proofs.Common.{◌≡◌, refl, sym, ◌∙◌, inl, inr, ◌⊎◌, Bool, true, false, ◌&&◌, ◌||◌}
+use Rattle.std.specs.Prelude.{ℤ, int_le}
+use Rattle.std.specs.List.{list_any}
+use Rattle.vox_geom.specs.Point.{Point, plus}
+use Rattle.vox_geom.specs.Region.{Span, between, is_between, is_within, just, same_extent, same_region}
+use Rattle.nano_spec.specs.declared.commands.Command.{Command}
+use Rattle.nano_spec.specs.declared.commands.Command.TheVariants.{FusionP, FusionS, GFill, GVoid}
+use Rattle.nano_spec.specs.Act.{Act, position}
+use Rattle.nano_spec.specs.Group.{are_partners, fuse, is_pair, share_region}
+use Rattle.nano_spec.specs.Volatile.{is_volatile_of, volatile_regions}
+use Rattle.step_order.proofs.Lists.{one_of}
+use Rattle.step_order.proofs.Together.{extent_is, region_parts}
+
+abbrev within_any : Point → Command → Point → Bool
+within_any q e x = list_any (λ s. is_within s x) (volatile_regions q e)
+
+or_back : (a b : Bool) → (a || b) ≡ (b || a)
+or_back true true = refl
+or_back true false = refl
+or_back false true = refl
+or_back false false = refl
+
+or_false : (b : Bool) → (b || false) ≡ b
+or_false true = refl
+or_false false = refl
+
+between_same : (a b c d v : ℤ) → same_extent a b c d ≡ true → is_between a b v ≡ is_between c d v
+between_same a b c d v h = by (extent_is a b c d h)
+  where
+    by : ((a ≡ c) × (b ≡ d)) ⊎ ((a ≡ d) × (b ≡ c)) → is_between a b v ≡ is_between c d v
+    by (inl e) = λ i. is_between (e.0 i) (e.1 i) v
+    by (inr e) = (λ i. is_between (e.0 i) (e.1 i) v) ∙ or_back (int_le d v && int_le v c) (int_le c v && int_le v d)
+
+-- the same regions have the same points
+within_same : (s t : Span) (x : Point) → same_region s t ≡ true → is_within s x ≡ is_within t x
+within_same s t x h =
+    let p = region_parts s t h in
+    λ i. between_same s.from.x s.to.x t.from.x t.to.x x.x p.0 i && between_same s.from.y s.to.y t.from.y t.to.y x.y p.1 i && between_same s.from.z s.to.z t.from.z t.to.z x.z p.2 i
+
+-- the halves of a fusion make their places volatile
+primary : (p : Point) (c : Command) (q : Point) (e : Command) (x : Point) → fuse p c q e ≡ true → within_any p c x ≡ is_within (just p) x
+primary p (FusionP d) q e x h = or_false (is_within (just p) x)
+primary p c q e x h = cc
+
+secondary : (p : Point) (c : Command) (q : Point) (e : Command) (x : Point) → fuse p c q e ≡ true → within_any q e x ≡ is_within (just q) x
+secondary p (FusionP d) q (FusionS e) x h = or_false (is_within (just q) x)
+secondary p (FusionP d) q e x h = cc
+secondary p c q e x h = cc
+
+partner : (a b : Act) (x : Point) → are_partners a b ≡ true → is_volatile_of x b ≡ is_within (just (position b)) x
+partner a b x h = by (one_of (is_pair a b) (is_pair b a) h)
+  where
+    by : (is_pair a b ≡ true) ⊎ (is_pair b a ≡ true) → is_volatile_of x b ≡ is_within (just (position b)) x
+    by (inl e) = secondary (position a) a.command (position b) b.command x e
+    by (inr e) = primary (position b) b.command (position a) a.command x e
+
+pub of_partner : (a b : Act) (x : Point) → are_partners a b ≡ true → is_volatile_of x b ≡ true → is_within (just (position b)) x ≡ true
+of_partner a b x h v = sym (partner a b x h) ∙ v
+
+pub spot_of_partner : (a b : Act) (x : Point) → are_partners a b ≡ true → is_within (just (position b)) x ≡ true → is_volatile_of x b ≡ true
+spot_of_partner a b x h v = partner a b x h ∙ v
+
+-- members of a group command share the region
+in_region : (here there region other : Bool) → region ≡ other → (there || (other || false)) ≡ true → ((here || (region || false)) || there) ≡ true
+in_region true there region other e h = refl
+in_region false there true other e h = refl
+in_region false true false other e h = refl
+in_region false false false true e h = cc
+in_region false false false false e h = h
+
+pub of_sharer : (p : Point) (c : Command) (q : Point) (e : Command) (x : Point) → share_region p c q e ≡ true → within_any q e x ≡ true → (within_any p c x || is_within (just q) x) ≡ true
+of_sharer p (GFill d f) q (GFill e g) x h v = in_region (is_within (just p) x) (is_within (just q) x) (is_within (between (plus p d) (plus (plus p d) f)) x) (is_within (between (plus q e) (plus (plus q e) g)) x) (within_same (between (plus p d) (plus (plus p d) f)) (between (plus q e) (plus (plus q e) g)) x h) v
+of_sharer p (GVoid d f) q (GVoid e g) x h v = in_region (is_within (just p) x) (is_within (just q) x) (is_within (between (plus p d) (plus (plus p d) f)) x) (is_within (between (plus q e) (plus (plus q e) g)) x) (within_same (between (plus p d) (plus (plus p d) f)) (between (plus q e) (plus (plus q e) g)) x h) v
+of_sharer p c q e x h v = cc
+
+by_spot : (there other : Bool) → there ≡ true → (there || other) ≡ true
+by_spot true other h = refl
+by_spot false other h = cc
+
+pub spot_of_sharer : (p : Point) (c : Command) (q : Point) (e : Command) (x : Point) → share_region p c q e ≡ true → is_within (just q) x ≡ true → within_any q e x ≡ true
+spot_of_sharer p (GFill d f) q (GFill e g) x h v = by_spot (is_within (just q) x) (is_within (between (plus q e) (plus (plus q e) g)) x || false) v
+spot_of_sharer p (GVoid d f) q (GVoid e g) x h v = by_spot (is_within (just q) x) (is_within (between (plus q e) (plus (plus q e) g)) x || false) v
+spot_of_sharer p c q e x h v = cc

@@ -1,0 +1,130 @@
+//! The groups of a step.
+ghost use Rattle.std.specs.Prelude.{◌≡◌, ◌+◌, ◌≤◌, ◌<◌, ◌*◌, ℤ, length, [], All, IfErr, IfOk, OnErr, OnOk, Some, None};
+ghost use Rattle.vox_geom.specs.Space.{IsInSpace};
+ghost use Rattle.nano_spec.specs.Act.{acts};
+ghost use Rattle.nano_spec.specs.Group.{leaders};
+ghost use Rattle.nano_spec.specs.Rules.{broken};
+ghost use Rattle.nano_spec.specs.Work.{volatile_total};
+ghost use Rattle.step_groups.specs.Groups.{AreGroups};
+ghost use Rattle.step_groups.specs.Judging.{start_of};
+
+use crate::members::gather;
+use crate::pairs::judge_pairs;
+use crate::rules::judge_bots;
+use arrayvec::ArrayVec;
+use bot_crew::{Crew, MOST_BOTS};
+use nano_spec::{Broken, Command, Harmonics, Profile};
+use std::marker::Model;
+use std::sync::ledger::Ledger;
+use vox_geom::{Region, Steps};
+use vox_planes::Planes;
+
+/// Bots that act together (docs/FORMATS.md, "Groups"), and the boxes that together hold what is volatile for them.
+/// The leader is the least bid. The members, the leader among them, are in rising order.
+#[derive(Drop)]
+pub struct Group {
+    pub leader: u8,
+    pub members: ArrayVec<u8, 8>,
+    pub boxes: ArrayVec<Region, 9>,
+}
+
+impl Default for Group {
+    fn default() -> Group {
+        Group {
+            leader: 0,
+            members: ArrayVec::new(),
+            boxes: ArrayVec::new(),
+        }
+    }
+}
+
+/// The groups of a step, in rising order of their leaders.
+#[derive(Drop)]
+pub struct Groups {
+    groups: ArrayVec<Group, MOST_BOTS>,
+}
+
+impl Model for Groups {
+    ghost use Rattle.std.specs.Prelude.{List};
+    ghost use Rattle.step_groups.specs.declared.groups.Group.{Group};
+
+    ghost Value = { List Group };
+
+    ghost view = { λ g. g.groups.items };
+}
+
+impl Groups {
+    /// No groups.
+    pub fn new() -> Groups
+        ensures { result ≡ [] }
+    {
+        Groups {
+            groups: ArrayVec::new(),
+        }
+    }
+
+    /// The groups.
+    pub fn list(&self) -> &[Group]
+        ensures { result.now ≡ self.now }
+    {
+        self.groups.as_slice()
+    }
+
+    /// Judges a step by the rules that ask for no other state than the one at its start: for each bot whether its command is
+    /// allowed and then the rules of single bots, and at last whether groups interfere. The groups are then those of the step;
+    /// where a rule is broken there are none. A list of groups that is kept from step to step is not filled anew.
+    pub fn judge<L: Ledger>(
+        &mut self,
+        crew: &Crew,
+        planes: &Planes,
+        harmonics: Harmonics,
+        profile: Profile,
+        commands: &[Command],
+        step: u32,
+        steps: &mut Steps<L>,
+    ) -> Result<(), Broken>
+        requires lengths { length commands.now ≡ length crew.now }
+        requires within { All (λ b. IsInSpace planes.now.resolution b.pos) crew.now }
+        ensures broken { IfErr result (λ b. (energy : ℤ) → broken (record (start_of planes.now harmonics profile crew.now) { energy = energy }) commands.now step ≡ Some b) }
+        ensures unbroken { OnOk result ((energy : ℤ) → broken (record (start_of planes.now harmonics profile crew.now) { energy = energy }) commands.now step ≡ None) }
+        ensures groups { OnOk result (AreGroups planes.now.resolution (acts crew.now commands.now) (leaders (acts crew.now commands.now)) self.new) }
+        ensures none { OnErr result (self.new ≡ []) }
+        ensures touches { steps.new ≤ steps.old + 2 * volatile_total planes.now (acts crew.now commands.now) }
+    {
+        let bots = crew.bots();
+        self.groups.clear();
+        if let Some(broken) = judge_bots(planes, harmonics, profile, bots, commands, step, steps) {
+            return Err(broken);
+        }
+        gather(&mut self.groups, planes, bots, commands);
+        if let Some(broken) = judge_pairs(self.groups.as_slice(), step) {
+            self.groups.clear();
+            return Err(broken);
+        }
+        Ok(())
+    }
+}
+
+/// Judges a step as [`Groups::judge`] does, and gives its groups.
+pub fn judge_groups<L: Ledger>(
+    crew: &Crew,
+    planes: &Planes,
+    harmonics: Harmonics,
+    profile: Profile,
+    commands: &[Command],
+    step: u32,
+    steps: &mut Steps<L>,
+) -> Result<Groups, Broken>
+    requires lengths { length commands.now ≡ length crew.now }
+    requires within { All (λ b. IsInSpace planes.now.resolution b.pos) crew.now }
+    ensures broken { IfErr result (λ b. (energy : ℤ) → broken (record (start_of planes.now harmonics profile crew.now) { energy = energy }) commands.now step ≡ Some b) }
+    ensures unbroken { OnOk result ((energy : ℤ) → broken (record (start_of planes.now harmonics profile crew.now) { energy = energy }) commands.now step ≡ None) }
+    ensures groups { IfOk result (λ g. AreGroups planes.now.resolution (acts crew.now commands.now) (leaders (acts crew.now commands.now)) g) }
+    ensures touches { steps.new ≤ steps.old + 2 * volatile_total planes.now (acts crew.now commands.now) }
+{
+    let mut groups = Groups::new();
+    match groups.judge(crew, planes, harmonics, profile, commands, step, steps) {
+        Ok(()) => Ok(groups),
+        Err(broken) => Err(broken),
+    }
+}

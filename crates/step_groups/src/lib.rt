@@ -1,0 +1,18 @@
+//! Which rule the commands of a step break first, and which bots act together.
+#![tactic(auto)]
+
+mod boxes;
+mod groups;
+mod members;
+mod pairs;
+mod partners;
+mod rules;
+mod shapes;
+mod single;
+mod volatile;
+
+pub use groups::{Group, Groups, judge_groups};
+pub use single::judge_single;
+
+#[cfg(test)]
+mod tests;

@@ -1,0 +1,355 @@
+//! The rules that are judged for each bot.
+ghost use Rattle.std.specs.Prelude.{◌≡◌, ◌+◌, ◌≤◌, length, List, Some, IsTrue, IsFalse, IfSome, IfNone, ℕ, Bool, cond, nat_le, All, sum_by};
+ghost use Rattle.vox_geom.specs.Space.{IsInSpace, in_space};
+ghost use Rattle.vox_geom.specs.Point.{point, plus};
+ghost use Rattle.nano_spec.specs.declared.commands.Command.TheVariants.{Halt, Wait, Flip, SMove, LMove, FusionP, FusionS, Fission as FissionOf, Fill, Void, GFill, GVoid};
+ghost use Rattle.nano_spec.specs.Act.{Act, acts};
+ghost use Rattle.nano_spec.specs.Rules.{broken_by};
+ghost use Rattle.nano_spec.specs.State.{State, seed_list};
+ghost use Rattle.vox_geom.specs.Space.{is_before as is_before_of};
+ghost use Rattle.vox_planes.specs.Difference.{earlier as earlier_of};
+ghost use Rattle.step_groups.specs.Judging.{act, first_fault, judge_bot as judge_bot_of, later_rules, start_of, judge_each, touches_of};
+
+use crate::partners::has_partner;
+use crate::shapes::is_misshapen;
+use bot_crew::seeds_of;
+use nano_spec::{Bot, Broken, Command, Harmonics, Profile, Rule};
+use std::sync::ledger::Ledger;
+use vox_geom::{Coord, Diff, Region, Steps};
+use vox_planes::Planes;
+
+/// The rule is broken at the coordinate, if there is one.
+fn broken_where(step: u32, bot: Bot, rule: Rule, at: Option<Coord>) -> Option<Broken>
+    ensures { result ≡ broken_by step rule bot.bid at }
+{
+    match at {
+        Some(at) => Some(Broken {
+            step,
+            bid: bot.bid,
+            rule,
+            at,
+        }),
+        None => None,
+    }
+}
+
+/// The rule is broken where the bot stands.
+fn broken_here(step: u32, bot: Bot, rule: Rule) -> Option<Broken>
+    ensures { result ≡ broken_by step rule bot.bid (Some bot.pos) }
+{
+    broken_where(step, bot, rule, Some(bot.pos))
+}
+
+/// The rule is broken where the bot stands, if the test says so.
+fn broken_if(step: u32, bot: Bot, rule: Rule, is_broken: bool) -> Option<Broken>
+    ensures { result ≡ broken_by step rule bot.bid (cond is_broken (Some bot.pos) None) }
+{
+    if is_broken {
+        broken_here(step, bot, rule)
+    } else {
+        None
+    }
+}
+
+/// Where a difference leads to: `None` exactly where it leads out of the matrix.
+pub(crate) fn reached(planes: &Planes, from: Coord, d: Diff) -> Option<Coord>
+    requires { IsInSpace planes.now.resolution from }
+    ensures some { IfSome result (λ to. IsTrue (in_space planes.now.resolution (plus (point from) d))) }
+    ensures sum { IfSome result (λ to. point to ≡ plus (point from) d) }
+    ensures none { IfNone result (IsFalse (in_space planes.now.resolution (plus (point from) d))) }
+    ensures within { IfSome result (λ to. IsInSpace planes.now.resolution to) }
+{
+    from.plus(d, planes.resolution())
+}
+
+/// The first rule that a bot with `Halt` breaks.
+fn judge_halt(step: u32, bots: &[Bot], harmonics: Harmonics, bot: Bot) -> Option<Broken>
+    ensures { (s : State) (all : List Act) → result ≡ first_fault (record s { bots = bots.now; harmonics = harmonics }) all step (act bot Halt) later_rules }
+{
+    let origin = Coord { x: 0, y: 0, z: 0 };
+    if bots.len() > 1 {
+        broken_here(step, bot, Rule::HaltAlone)
+    } else if bot.pos != origin {
+        broken_here(step, bot, Rule::HaltOrigin)
+    } else if harmonics == Harmonics::High {
+        broken_here(step, bot, Rule::HaltLow)
+    } else {
+        None
+    }
+}
+
+/// The first rule that a bot with `SMove` breaks.
+fn judge_smove<L: Ledger>(
+    planes: &Planes,
+    step: u32,
+    bot: Bot,
+    d: Diff,
+    steps: &mut Steps<L>,
+) -> Option<Broken>
+    requires { IsInSpace planes.now.resolution bot.pos }
+    ensures value { (s : State) (all : List Act) → result ≡ first_fault (record s { matrix = planes.now }) all step (act bot (SMove d)) later_rules }
+    ensures touches { steps.new ≤ steps.old + touches_of planes.now (act bot (SMove d)) }
+{
+    let Some(to) = reached(planes, bot.pos, d) else {
+        return broken_here(step, bot, Rule::OutOfSpace);
+    };
+    let at = planes.region_full(&Region::of(bot.pos, to), steps);
+    broken_where(step, bot, Rule::Blocked, at)
+}
+
+/// Whether the one coordinate is before the other.
+fn is_before(a: Coord, b: Coord) -> bool
+    ensures { result ≡ is_before_of a b }
+{
+    if a.x != b.x {
+        a.x < b.x
+    } else if a.y != b.y {
+        a.y < b.y
+    } else {
+        a.z < b.z
+    }
+}
+
+/// The earlier of two coordinates, where there are two.
+pub(crate) fn earlier(a: Option<Coord>, b: Option<Coord>) -> Option<Coord>
+    ensures { result ≡ earlier_of a b }
+{
+    match (a, b) {
+        (None, b) => b,
+        (Some(a), None) => Some(a),
+        (Some(a), Some(b)) => if is_before(b, a) { Some(b) } else { Some(a) },
+    }
+}
+
+/// The first rule that a bot with `LMove` breaks.
+fn judge_lmove<L: Ledger>(
+    planes: &Planes,
+    step: u32,
+    bot: Bot,
+    d: Diff,
+    e: Diff,
+    steps: &mut Steps<L>,
+) -> Option<Broken>
+    requires { IsInSpace planes.now.resolution bot.pos }
+    ensures value { (s : State) (all : List Act) → result ≡ first_fault (record s { matrix = planes.now }) all step (act bot (LMove d e)) later_rules }
+    ensures touches { steps.new ≤ steps.old + touches_of planes.now (act bot (LMove d e)) }
+{
+    let Some(mid) = reached(planes, bot.pos, d) else {
+        return broken_here(step, bot, Rule::OutOfSpace);
+    };
+    let Some(to) = reached(planes, mid, e) else {
+        return broken_here(step, bot, Rule::OutOfSpace);
+    };
+    let first = planes.region_full(&Region::of(bot.pos, mid), steps);
+    let second = planes.region_full(&Region::of(mid, to), steps);
+    broken_where(step, bot, Rule::Blocked, earlier(first, second))
+}
+
+/// Whether a fission with m asks for more seeds than the bot has.
+fn lacks_seeds(bot: Bot, m: u8) -> bool
+    ensures { result ≡ nat_le (length (seed_list bot.seeds)) m }
+{
+    seeds_of(bot) <= m
+}
+
+/// The first rule that a bot with `Fission` breaks.
+fn judge_fission<L: Ledger>(
+    planes: &Planes,
+    step: u32,
+    bot: Bot,
+    d: Diff,
+    m: u8,
+    steps: &mut Steps<L>,
+) -> Option<Broken>
+    requires { IsInSpace planes.now.resolution bot.pos }
+    ensures value { (s : State) (all : List Act) → result ≡ first_fault (record s { matrix = planes.now }) all step (act bot (FissionOf d m)) later_rules }
+    ensures touches { steps.new ≤ steps.old + touches_of planes.now (act bot (FissionOf d m)) }
+{
+    let Some(to) = reached(planes, bot.pos, d) else {
+        return broken_here(step, bot, Rule::OutOfSpace);
+    };
+    match planes.region_full(&Region::of(to, to), steps) {
+        Some(at) => broken_where(step, bot, Rule::Blocked, Some(at)),
+        None => broken_if(step, bot, Rule::Seeds, lacks_seeds(bot, m)),
+    }
+}
+
+/// The first rule that a bot with `Wait` or `Flip` breaks: none.
+fn judge_still(step: u32, bot: Bot) -> Option<Broken>
+    ensures wait { (s : State) (all : List Act) → result ≡ first_fault s all step (act bot Wait) later_rules }
+    ensures flip { (s : State) (all : List Act) → result ≡ first_fault s all step (act bot Flip) later_rules }
+{
+    None
+}
+
+/// The first rule that a bot with `Fill` or `Void` breaks.
+fn judge_near(planes: &Planes, step: u32, bot: Bot, d: Diff) -> Option<Broken>
+    requires { IsInSpace planes.now.resolution bot.pos }
+    ensures fill { (s : State) (all : List Act) → result ≡ first_fault (record s { matrix = planes.now }) all step (act bot (Fill d)) later_rules }
+    ensures void { (s : State) (all : List Act) → result ≡ first_fault (record s { matrix = planes.now }) all step (act bot (Void d)) later_rules }
+{
+    let Some(_to) = reached(planes, bot.pos, d) else {
+        return broken_here(step, bot, Rule::OutOfSpace);
+    };
+    None
+}
+
+/// The first rule that a bot with `FusionP` or `FusionS` breaks.
+fn judge_fusion(
+    planes: &Planes,
+    bots: &[Bot],
+    commands: &[Command],
+    step: u32,
+    bot: &Bot,
+    command: &Command,
+    d: Diff,
+) -> Option<Broken>
+    requires within { IsInSpace planes.now.resolution bot.now.pos }
+    requires lengths { length commands.now ≡ length bots.now }
+    ensures primary { (s : State) → command.now ≡ FusionP d → result ≡ first_fault (record s { matrix = planes.now }) (acts bots.now commands.now) step (act bot.now command.now) later_rules }
+    ensures secondary { (s : State) → command.now ≡ FusionS d → result ≡ first_fault (record s { matrix = planes.now }) (acts bots.now commands.now) step (act bot.now command.now) later_rules }
+{
+    let Some(_to) = reached(planes, bot.pos, d) else {
+        return broken_here(step, *bot, Rule::OutOfSpace);
+    };
+    let has = has_partner(bots, commands, bot, command);
+    broken_if(step, *bot, Rule::Partner, !has)
+}
+
+/// The first rule that a bot with a group command breaks.
+fn judge_group(
+    planes: &Planes,
+    bots: &[Bot],
+    commands: &[Command],
+    step: u32,
+    bot: &Bot,
+    command: &Command,
+    d: Diff,
+    f: Diff,
+) -> Option<Broken>
+    requires within { IsInSpace planes.now.resolution bot.now.pos }
+    requires lengths { length commands.now ≡ length bots.now }
+    ensures fill { (s : State) → command.now ≡ GFill d f → result ≡ first_fault (record s { matrix = planes.now }) (acts bots.now commands.now) step (act bot.now command.now) later_rules }
+    ensures void { (s : State) → command.now ≡ GVoid d f → result ≡ first_fault (record s { matrix = planes.now }) (acts bots.now commands.now) step (act bot.now command.now) later_rules }
+{
+    let Some(near) = reached(planes, bot.pos, d) else {
+        return broken_here(step, *bot, Rule::OutOfSpace);
+    };
+    let Some(far) = reached(planes, near, f) else {
+        return broken_here(step, *bot, Rule::OutOfSpace);
+    };
+    let region = Region::of(near, far);
+    if region.has(bot.pos) {
+        return broken_here(step, *bot, Rule::InRegion);
+    }
+    let shape = is_misshapen(bots, commands, bot, command, region.dim());
+    broken_if(step, *bot, Rule::GroupShape, shape)
+}
+
+/// The first rule after the one on the profile that a bot breaks.
+fn judge_later<L: Ledger>(
+    planes: &Planes,
+    harmonics: Harmonics,
+    bots: &[Bot],
+    commands: &[Command],
+    step: u32,
+    bot: &Bot,
+    command: &Command,
+    steps: &mut Steps<L>,
+) -> Option<Broken>
+    requires within { IsInSpace planes.now.resolution bot.now.pos }
+    requires lengths { length commands.now ≡ length bots.now }
+    ensures value { (s : State) → result ≡ first_fault (record s { matrix = planes.now; harmonics = harmonics; bots = bots.now }) (acts bots.now commands.now) step (act bot.now command.now) later_rules }
+    ensures touches { steps.new ≤ steps.old + touches_of planes.now (act bot.now command.now) }
+{
+    match command {
+        Command::Halt => judge_halt(step, bots, harmonics, *bot),
+        Command::Wait => judge_still(step, *bot),
+        Command::Flip => judge_still(step, *bot),
+        Command::SMove(d) => judge_smove(planes, step, *bot, d.diff(), steps),
+        Command::LMove(d, e) => judge_lmove(planes, step, *bot, d.diff(), e.diff(), steps),
+        Command::FusionP(d) => judge_fusion(planes, bots, commands, step, bot, command, d.diff()),
+        Command::FusionS(d) => judge_fusion(planes, bots, commands, step, bot, command, d.diff()),
+        Command::Fission(d, m) => judge_fission(planes, step, *bot, d.diff(), *m, steps),
+        Command::Fill(d) => judge_near(planes, step, *bot, d.diff()),
+        Command::Void(d) => judge_near(planes, step, *bot, d.diff()),
+        Command::GFill(d, f) => judge_group(
+            planes,
+            bots,
+            commands,
+            step,
+            bot,
+            command,
+            d.diff(),
+            f.diff(),
+        ),
+        Command::GVoid(d, f) => judge_group(
+            planes,
+            bots,
+            commands,
+            step,
+            bot,
+            command,
+            d.diff(),
+            f.diff(),
+        ),
+    }
+}
+
+/// The first rule that a bot breaks.
+fn judge_bot<L: Ledger>(
+    planes: &Planes,
+    harmonics: Harmonics,
+    profile: Profile,
+    bots: &[Bot],
+    commands: &[Command],
+    step: u32,
+    bot: &Bot,
+    command: &Command,
+    steps: &mut Steps<L>,
+) -> Option<Broken>
+    requires within { IsInSpace planes.now.resolution bot.now.pos }
+    requires lengths { length commands.now ≡ length bots.now }
+    ensures value { result ≡ judge_bot_of (start_of planes.now harmonics profile bots.now) (acts bots.now commands.now) step (act bot.now command.now) }
+    ensures touches { steps.new ≤ steps.old + touches_of planes.now (act bot.now command.now) }
+{
+    if profile.allows(*command) {
+        judge_later(planes, harmonics, bots, commands, step, bot, command, steps)
+    } else {
+        broken_here(step, *bot, Rule::Forbidden)
+    }
+}
+
+/// The first rule that one of the bots breaks.
+pub(crate) fn judge_bots<L: Ledger>(
+    planes: &Planes,
+    harmonics: Harmonics,
+    profile: Profile,
+    bots: &[Bot],
+    commands: &[Command],
+    step: u32,
+    steps: &mut Steps<L>,
+) -> Option<Broken>
+    requires within { All (λ b. IsInSpace planes.now.resolution b.pos) bots.now }
+    requires lengths { length commands.now ≡ length bots.now }
+    ensures value { result ≡ judge_each (start_of planes.now harmonics profile bots.now) (acts bots.now commands.now) step (acts bots.now commands.now) }
+    ensures touches { steps.new ≤ steps.old + sum_by (touches_of planes.now) (acts bots.now commands.now) }
+{
+    for i in 0..bots.len() {
+        let broken = judge_bot(
+            planes,
+            harmonics,
+            profile,
+            bots,
+            commands,
+            step,
+            &bots[i],
+            &commands[i],
+            steps,
+        );
+        if broken.is_some() {
+            return broken;
+        }
+    }
+    None
+}
