@@ -5,7 +5,7 @@ use Rattle.support_forest.proofs.Store.{brick_inside, few_bricks, number_is}
 use Rattle.support_forest.proofs.cells.Cells.brick_number.Goals as goal
 
 pub place-requires-clause-resolution : goal.place-requires-clause-resolution
-place-requires-clause-resolution c = let s = c.self.inside in let e = c.self.invariant.0 in let k = few_bricks s.resolution c.self.invariant.1.few in omega arith
+place-requires-clause-resolution c = let s = c.self.inside in let e = c.self.invariant.0 in let k = few_bricks s.resolution c.self.invariant.1.0.few in omega arith
 
 pub place-requires-clause-within : goal.place-requires-clause-within
 place-requires-clause-within c =
