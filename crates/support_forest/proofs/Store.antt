@@ -141,3 +141,12 @@ number_is r s n c e h = h ∙ ap (λ (k : ℕ). place k (brick c)) e
 pub side_is : (r n : ℕ) → (r ≤ n * 8) × (n * 8 < r + 8) → n ≡ side r
 unfolding side
 side_is r n h = omega arith
+
+-- voxels of one brick have its number
+pub same_brick : (r : ℕ) (c d : Coord) → brick c ≡ brick d → brick_number r c ≡ brick_number r d
+unfolding brick_number
+same_brick r c d e = ap (place (side r)) e
+
+pub brick_is : (r : ℕ) (c d : Coord) → IsInSpace r c → IsInSpace r d → brick_number r c ≡ brick_number r d → brick c ≡ brick d
+unfolding brick_number
+brick_is r c d h k n = sym (coordinate_at-place (side r) (brick c) (brick_inside r c h)) ∙ (ap (coordinate_at (side r)) n ∙ coordinate_at-place (side r) (brick d) (brick_inside r d k))
