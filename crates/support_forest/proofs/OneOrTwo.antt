@@ -1,5 +1,5 @@
 -- Lists of one or two cells, by the words of their voxels.
-use Rattle.std.proofs.Common.{◌≡◌, ℕ, zero, suc, ◌<◌, inl, inr, refl, sym, ◌∙◌, ap, subst, arith, List, [], ◌∷◌, length}
+use Rattle.std.proofs.Common.{◌≡◌, ℕ, zero, suc, inl, inr, subst, arith, [], ◌∷◌}
 use Rattle.std.specs.Prelude.{◌⊎◌, ◌≢◌, IsTrue, IsFalse}
 use Rattle.std.specs.List.{AllPairs, Contains}
 use Rattle.vox_geom.specs.declared.coordinate.Coord.{Coord}
