@@ -1,0 +1,152 @@
+-- The bricks of a store, their slots and their words.
+use Rattle.std.proofs.Common.{◌≡◌, ℕ, zero, suc, ◌+◌, ◌*◌, ◌/◌, ◌%◌, ◌<◌, ◌≤◌, refl, sym, ◌∙◌, ap, arith, Bool, true, false, cond, ◌&&◌, List, [], ◌∷◌, length, get_or, get_or-set_other, Option, Some, None, is_some, inl, inr, unwrap_or}
+use Rattle.std.specs.Prelude.{nat_lt, count_by}
+use Rattle.std.proofs.Math.ListN.{set}
+use Rattle.std.proofs.lemmas.Bool.{cases_eq, eq-eqb, ne_eqb}
+use Rattle.std.proofs.lemmas.Bool.Decides.{nat_tests}
+use Rattle.std.proofs.lemmas.List.Sums.{sum_by-cons, count_by-le-length}
+use Rattle.std.specs.Cmp.{nat_cmp_total, unsigned_tied}
+use Rattle.std.specs.FinMap.{get, insert, len, get-insert, len-insert}
+use Rattle.vox_geom.specs.declared.coordinate.Coord.{Coord}
+use Rattle.vox_geom.specs.Space.{IsInSpace, place, coordinate_at}
+use Rattle.vox_geom.proofs.Places.{coordinate_at-place}
+use Rattle.brick_arena.specs.Slots.{Slots, IsLive, words_of}
+use Rattle.support_forest.specs.Grid.{Grid, side, brick, brick_number, word_index, slot_at, is_inside, IsStore}
+
+both : (a b : Bool) → a ≡ true → b ≡ true → (a && b) ≡ true
+both true b p q = q
+both false b p q = cc
+
+left : (a b : Bool) → (a && b) ≡ true → a ≡ true
+left true b h = refl
+left false b h = h
+
+right : (a b : Bool) → (a && b) ≡ true → b ≡ true
+right true b h = h
+right false b h = cc
+
+less : (a b : ℕ) → a < b → nat_lt a b ≡ true
+less a b h = grind (arith, nat_tests)
+
+is_less : (a b : ℕ) → nat_lt a b ≡ true → a < b
+is_less a b h = grind (arith, nat_tests)
+
+pub inside : (r : ℕ) (c : Coord) → IsInSpace r c → is_inside r c ≡ true
+inside r c h = both (nat_lt c.x r && nat_lt c.y r) (nat_lt c.z r) (both (nat_lt c.x r) (nat_lt c.y r) (less c.x r h.x) (less c.y r h.y)) (less c.z r h.z)
+
+pub in_space : (r : ℕ) (c : Coord) → is_inside r c ≡ true → IsInSpace r c
+in_space r c h = record {
+  x = is_less c.x r (left (nat_lt c.x r) (nat_lt c.y r) (left (nat_lt c.x r && nat_lt c.y r) (nat_lt c.z r) h));
+  y = is_less c.y r (right (nat_lt c.x r) (nat_lt c.y r) (left (nat_lt c.x r && nat_lt c.y r) (nat_lt c.z r) h));
+  z = is_less c.z r (right (nat_lt c.x r && nat_lt c.y r) (nat_lt c.z r) h);
+}
+
+-- ---- bricks
+
+pub brick_inside : (r : ℕ) (c : Coord) → IsInSpace r c → IsInSpace (side r) (brick c)
+unfolding side
+brick_inside r c h = let x = h.x in let y = h.y in let z = h.z in record { x = omega arith; y = omega arith; z = omega arith }
+
+pub few_bricks : (r : ℕ) → r ≤ 400 → side r ≤ 50
+unfolding side
+few_bricks r h = omega arith
+
+pub cube_of_bricks : (n : ℕ) → n ≤ 50 → n * n * n ≤ 125000
+cube_of_bricks n h =
+    let a : n * n ≤ 50 * n = grind arith in
+    let b : n * n * n ≤ 50 * n * n = grind arith in
+    omega arith
+
+pub index_below : (c : Coord) → word_index c < 512
+unfolding word_index
+index_below c = omega arith
+
+digits : (a b c d e f : ℕ) → 64 * (a % 8) + 8 * (b % 8) + c % 8 ≡ 64 * (d % 8) + 8 * (e % 8) + f % 8 → (a % 8 ≡ d % 8) × (b % 8 ≡ e % 8) × (c % 8 ≡ f % 8)
+digits a b c d e f h = (omega arith, omega arith, omega arith)
+
+same_digits : (a b : ℕ) → a / 8 ≡ b / 8 → a % 8 ≡ b % 8 → a ≡ b
+same_digits a b h k = omega arith
+
+-- two voxels of one brick with one index are one voxel
+pub same_voxel : (r : ℕ) (c d : Coord) → IsInSpace r c → IsInSpace r d → brick_number r c ≡ brick_number r d → word_index c ≡ word_index d → c ≡ d
+unfolding brick_number word_index
+same_voxel r c d h k n i =
+    let b : brick c ≡ brick d = sym (coordinate_at-place (side r) (brick c) (brick_inside r c h)) ∙ (ap (coordinate_at (side r)) n ∙ coordinate_at-place (side r) (brick d) (brick_inside r d k)) in
+    let m = digits c.x c.y c.z d.x d.y d.z i in
+    let x : c.x ≡ d.x = same_digits c.x d.x (ap (λ (p : Coord). p.x) b) m.0 in
+    let y : c.y ≡ d.y = same_digits c.y d.y (ap (λ (p : Coord). p.y) b) m.1 in
+    let z : c.z ≡ d.z = same_digits c.z d.z (ap (λ (p : Coord). p.z) b) m.2 in
+    λ j. record { x = x j; y = y j; z = z j }
+
+-- ---- slots
+
+pub get_here : (v : Slots) (s : ℕ) (words : List ℕ) (q : ℕ) → q ≡ s → get (insert v s words) q ≡ Some words
+get_here v s words q e = get-insert nat_cmp_total v s words q ∙ ap (λ b. cond b (Some words) (get v q)) (unsigned_tied q s ∙ eq-eqb q s e)
+
+pub get_other : (v : Slots) (s : ℕ) (words : List ℕ) (q : ℕ) → (q ≡ s → ⊥) → get (insert v s words) q ≡ get v q
+get_other v s words q n = get-insert nat_cmp_total v s words q ∙ ap (λ b. cond b (Some words) (get v q)) (unsigned_tied q s ∙ ne_eqb q s n)
+
+pub still_live : (v : Slots) (s : ℕ) (words : List ℕ) (q : ℕ) → IsLive v q → IsLive (insert v s words) q
+still_live v s words q h = elim (cases_eq q s) [ inl e ↦ ap is_some (get_here v s words q e) | inr n ↦ ap is_some (get_other v s words q n) ∙ h ]
+
+pub len_replaced : (v : Slots) (s : ℕ) (words : List ℕ) → IsLive v s → len (insert v s words) ≡ len v
+len_replaced v s words h = len-insert nat_cmp_total v s words ∙ ap (λ b. cond b (len v) (len v + 1)) h
+
+pub len_added : (v : Slots) (s : ℕ) (words : List ℕ) → get v s ≡ None → len (insert v s words) ≡ len v + 1
+len_added v s words h = len-insert nat_cmp_total v s words ∙ ap (λ o. cond (is_some o) (len v) (len v + 1)) h
+
+-- a write changes one word
+pub other_word : (v : Slots) (s i w t j : ℕ) → (t ≡ s → j ≡ i → ⊥) → get_or (words_of (insert v s (set (words_of v s) i w)) t) j 0 ≡ get_or (words_of v t) j 0
+other_word v s i w t j n = elim (cases_eq t s) [
+  | inl e ↦
+      let ne : j ≡ i → ⊥ = n e in
+      let k : get_or (set (words_of v s) i w) j 0 ≡ get_or (words_of v s) j 0 = (rw get_or-set_other refl) in
+      ap (λ (o : Option (List ℕ)). get_or (unwrap_or o []) j 0) (get_here v s (set (words_of v s) i w) t e) ∙ (k ∙ ap (λ (q : ℕ). get_or (words_of v q) j 0) (sym e))
+  | inr ne ↦ ap (λ (o : Option (List ℕ)). get_or (unwrap_or o []) j 0) (get_other v s (set (words_of v s) i w) t ne)
+]
+
+one_more : (o : Option ℕ) (n : ℕ) → o ≡ None → 1 + n ≡ cond (is_some o) 1 0 + n + 1
+one_more None n e = omega arith
+one_more (Some s) n e = absurd (none_some s e)
+  where
+    none_some : (s : ℕ) → Some s ≡ None → ⊥
+    none_some s e = let z : true ≡ false = ap is_some e in cc
+
+-- one more brick has a slot
+pub count_taken : (table : List (Option ℕ)) (n s : ℕ) → n < length table → slot_at table n ≡ None → count_by is_some (set table n (Some s)) ≡ count_by is_some table + 1
+count_taken [] n s l e = absurd (omega arith)
+count_taken (o ∷ more) zero s l e =
+    sum_by-cons (λ (p : Option ℕ). cond (is_some p) 1 0) (Some s) more ∙ (one_more o (count_by is_some more) e ∙ ap (λ (k : ℕ). k + 1) (sym (sum_by-cons (λ (p : Option ℕ). cond (is_some p) 1 0) o more)))
+count_taken (o ∷ more) (suc n) s l e =
+    let a : count_by is_some (o ∷ set more n (Some s)) ≡ cond (is_some o) 1 0 + count_by is_some (set more n (Some s)) = sum_by-cons (λ (p : Option ℕ). cond (is_some p) 1 0) o (set more n (Some s)) in
+    let b : count_by is_some (o ∷ more) ≡ cond (is_some o) 1 0 + count_by is_some more = sum_by-cons (λ (p : Option ℕ). cond (is_some p) 1 0) o more in
+    let k : count_by is_some (set more n (Some s)) ≡ count_by is_some more + 1 = count_taken more n s (omega arith) e in
+    omega arith
+
+-- there is room for the slot of each brick
+pub few_live : (g : Grid) → IsStore g → len g.bricks ≤ 125000
+few_live g h =
+    let a : count_by is_some g.table ≤ length g.table = count_by-le-length is_some g.table in
+    let b : length g.table ≡ side g.resolution * side g.resolution * side g.resolution = h.bricks in
+    let d : side g.resolution * side g.resolution * side g.resolution ≤ 125000 = cube_of_bricks (side g.resolution) (few_bricks g.resolution h.few) in
+    let e : len g.bricks ≡ count_by is_some g.table = h.count in
+    omega arith
+
+-- ---- what the code answers
+
+pub number_is : (r s n : ℕ) (c : Coord) → s ≡ side r → n ≡ place s (brick c) → n ≡ brick_number r c
+unfolding brick_number
+number_is r s n c e h = h ∙ ap (λ (k : ℕ). place k (brick c)) e
+
+pub side_is : (r n : ℕ) → (r ≤ n * 8) × (n * 8 < r + 8) → n ≡ side r
+unfolding side
+side_is r n h = omega arith
+
+-- voxels of one brick have its number
+pub same_brick : (r : ℕ) (c d : Coord) → brick c ≡ brick d → brick_number r c ≡ brick_number r d
+unfolding brick_number
+same_brick r c d e = ap (place (side r)) e
+
+pub brick_is : (r : ℕ) (c d : Coord) → IsInSpace r c → IsInSpace r d → brick_number r c ≡ brick_number r d → brick c ≡ brick d
+unfolding brick_number
+brick_is r c d h k n = sym (coordinate_at-place (side r) (brick c) (brick_inside r c h)) ∙ (ap (coordinate_at (side r)) n ∙ coordinate_at-place (side r) (brick d) (brick_inside r d k))

@@ -1,0 +1,66 @@
+//! The lists that calls fill and empty.
+use crate::candidate::Candidate;
+use crate::orphan::Orphan;
+use std::alloc::Global;
+use std::collections::VecDeque;
+use std::mem;
+use vox_geom::Coord;
+
+/// What calls fill and empty, kept between them, so that a call takes no memory where earlier ones took enough.
+#[derive(Drop)]
+pub struct Lists {
+    pub orphans: Vec<Orphan>,
+    pub fresh: Vec<Coord>,
+    pub seeds: Vec<Candidate>,
+    pub found: VecDeque<Candidate>,
+}
+
+impl Lists {
+    ghost use Rattle.std.specs.Prelude.{◌≡◌, []};
+
+    /// Lists that have taken no memory yet.
+    pub fn new(alloc: Global) -> Lists {
+        Lists {
+            orphans: Vec::new(alloc),
+            fresh: Vec::new(alloc),
+            seeds: Vec::new(alloc),
+            found: VecDeque::new(alloc),
+        }
+    }
+
+    /// Takes the list of orphans out, emptied.
+    pub fn take_orphans(&mut self, alloc: Global) -> Vec<Orphan>
+        ensures { result.items ≡ [] }
+    {
+        let mut orphans = mem::replace(&mut self.orphans, Vec::new(alloc));
+        orphans.clear();
+        orphans
+    }
+
+    /// Takes the list of voxels that lost their heights out, emptied.
+    pub fn take_fresh(&mut self, alloc: Global) -> Vec<Coord>
+        ensures { result.items ≡ [] }
+    {
+        let mut fresh = mem::replace(&mut self.fresh, Vec::new(alloc));
+        fresh.clear();
+        fresh
+    }
+
+    /// Takes the list of seeds out, emptied.
+    pub fn take_seeds(&mut self, alloc: Global) -> Vec<Candidate>
+        ensures { result.items ≡ [] }
+    {
+        let mut seeds = mem::replace(&mut self.seeds, Vec::new(alloc));
+        seeds.clear();
+        seeds
+    }
+
+    /// Takes the queue of candidates out, emptied.
+    pub fn take_found(&mut self, alloc: Global) -> VecDeque<Candidate>
+        ensures { result.items ≡ [] }
+    {
+        let mut found = mem::replace(&mut self.found, VecDeque::new(alloc));
+        found.clear();
+        found
+    }
+}
