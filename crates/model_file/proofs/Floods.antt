@@ -1,22 +1,29 @@
 -- The steps of a search from the floor.
-use Rattle.std.proofs.Common.{◌≡◌, ◌≢◌, ℕ, zero, suc, ◌+◌, ◌*◌, ◌<◌, ◌≤◌, refl, sym, ◌∙◌, ap, subst, arith, Bool, true, false, cond, List, [], ◌∷◌, ◌++◌, length, inl, inr}
-use Rattle.std.specs.Prelude.{IsTrue, ◌⊎◌, Contains}
+use Rattle.std.proofs.Common.{◌≡◌, ◌≢◌, ℕ, zero, suc, ◌+◌, ◌-◌, ◌*◌, ◌/◌, ◌%◌, ◌^◌, ◌<◌, ◌≤◌, refl, sym, ◌∙◌, ap, subst, arith, Bool, true, false, cond, not, ◌&&◌, ◌==◌, List, [], ◌∷◌, ◌++◌, length, min, inl, inr}
+use Rattle.std.specs.Prelude.{IsTrue, ◌⊎◌, Contains, nat_le, nat_lt}
+use Rattle.std.specs.Int.{bit_at, trailing_zeros, w64}
+use Rattle.std.proofs.Math.Nat.{pow-le-pow_right}
+use Rattle.std.proofs.lemmas.Bool.{cases_lt}
+use Rattle.std.proofs.lemmas.Bool.Decides.{nat_tests}
 use Rattle.std.proofs.lemmas.List.{length-append}
 use Rattle.std.proofs.lemmas.List.Elements.{Contains-append_left, Contains-push, Contains-push_cases}
-use Rattle.std.proofs.lemmas.Bool.Decides.{nat_tests}
+use Rattle.std.proofs.lemmas.Nat.Bits.{bit_at-trailing_zeros, bit_at_above}
 use native.Mathlib.Decide.{ℕ_discrete}
 use Rattle.vox_geom.specs.declared.coordinate.Coord.{Coord}
-use Rattle.vox_geom.specs.Point.{are_adjacent, point, same_point}
 use Rattle.vox_geom.specs.declared.TheConstants.{MOST_R}
+use Rattle.vox_geom.specs.Point.{are_adjacent, point, same_point}
 use Rattle.vox_geom.specs.Space.{IsInSpace, coordinate_at, in_space, place}
 use Rattle.vox_geom.proofs.Places.{coordinate_at-place, place-coordinate_at}
 use Rattle.nano_spec.specs.Matrix.{Matrix, is_full}
+use Rattle.nano_spec.specs.Model.{bit}
 use Rattle.nano_spec.proofs.Coordinates.{in_space-is, place_below}
 use Rattle.nano_spec.proofs.Grounding.{left}
-use Rattle.nano_spec.proofs.Island.{same_coordinate}
+use Rattle.vox_planes.specs.Places.{is_from, is_marked}
+use Rattle.vox_planes.specs.Walk.{at}
 use Rattle.model_file.specs.declared.flood.Flood.{Flood}
-use Rattle.model_file.proofs.Beside.{adjacent_right, adjacent_above, adjacent_ahead, adjacent_left, adjacent_below, adjacent_behind, one_less}
-use Rattle.model_file.specs.Flood.{IsTaken, Takes, full_of, passing}
+use Rattle.model_file.specs.declared.flood.Stretch.{Stretch}
+use Rattle.model_file.proofs.Stretches.{moved, near_above, near_after, near_before, near_below, near_left, near_moved, near_right, one_less, word_less}
+use Rattle.model_file.specs.Flood.{HasFound, IsAmong, IsBeside, IsStart, IsTaken, Takes, full_of, passing, weight}
 
 -- ---- how many are full
 
@@ -25,97 +32,228 @@ unfolding passing
 passing-same f g zero h = refl
 passing-same f g (suc n) h = λ i. passing-same f g n (λ k l. h k (omega arith)) i + cond (h n (omega arith) i) 1 0
 
-passing-one : (f g : ℕ → Bool) (n q : ℕ) → q < n → f q ≡ true → g q ≡ false → ((k : ℕ) → k < n → k ≢ q → f k ≡ g k) → passing f n ≡ passing g n + 1
+worth : (a b : Bool) → (a ≡ false → b ≡ false) → cond {A = ℕ} b 1 0 ≤ cond {A = ℕ} a 1 0
+worth true true h = omega arith
+worth true false h = omega arith
+worth false true h = let e = h refl in cc
+worth false false h = omega arith
+
+passing-most : (f g : ℕ → Bool) (n : ℕ) → ((k : ℕ) → k < n → f k ≡ false → g k ≡ false) → passing g n ≤ passing f n
 unfolding passing
-passing-one f g zero q l t u h = absurd (omega arith)
-passing-one f g (suc n) q l t u h = by (ℕ_discrete n q) (λ (m : q < n). passing-one f g n q m t u (λ k a b. h k (omega arith) b))
+passing-most f g zero h = omega arith
+passing-most f g (suc n) h =
+    let rest = passing-most f g n (λ k l. h k (omega arith)) in
+    let here = worth (f n) (g n) (h n (omega arith)) in
+    omega arith
+
+passing-less : (f g : ℕ → Bool) (n q : ℕ) → q < n → f q ≡ true → g q ≡ false → ((k : ℕ) → k < n → f k ≡ false → g k ≡ false) → passing g n + 1 ≤ passing f n
+unfolding passing
+passing-less f g zero q l t u h = absurd (omega arith)
+passing-less f g (suc n) q l t u h = by (ℕ_discrete n q) (λ (m : q < n). passing-less f g n q m t u (λ k a. h k (omega arith)))
   where
-    by : Dec (n ≡ q) → (q < n → passing f n ≡ passing g n + 1) → passing f n + cond (f n) 1 0 ≡ passing g n + cond (g n) 1 0 + 1
+    by : Dec (n ≡ q) → (q < n → passing g n + 1 ≤ passing f n) → passing g n + cond (g n) 1 0 + 1 ≤ passing f n + cond (f n) 1 0
     by (yes e) later =
         let one : cond {A = ℕ} (f n) 1 0 ≡ 1 = ap (λ (b : Bool). cond {A = ℕ} b 1 0) (ap f e ∙ t) in
         let none : cond {A = ℕ} (g n) 1 0 ≡ 0 = ap (λ (b : Bool). cond {A = ℕ} b 1 0) (ap g e ∙ u) in
-        let same : passing f n ≡ passing g n = passing-same f g n (λ k m. h k (omega arith) (λ x. absurd (omega arith))) in
+        let most : passing g n ≤ passing f n = passing-most f g n (λ k m. h k (omega arith)) in
         omega arith
     by (no ne) later =
         let less : q < n = omega arith in
-        let rest : passing f n ≡ passing g n + 1 = later less in
-        let same : cond {A = ℕ} (f n) 1 0 ≡ cond (g n) 1 0 = ap (λ (b : Bool). cond {A = ℕ} b 1 0) (h n (omega arith) ne) in
+        let rest : passing g n + 1 ≤ passing f n = later less in
+        let here : cond {A = ℕ} (g n) 1 0 ≤ cond {A = ℕ} (f n) 1 0 = worth (f n) (g n) (h n (omega arith)) in
         omega arith
 
 full_of-same : (r : ℕ) (m n : Matrix) → ((d : Coord) → is_full n d ≡ is_full m d) → full_of r n ≡ full_of r m
 unfolding full_of
 full_of-same r m n h = passing-same (λ p. is_full n (coordinate_at r p)) (λ p. is_full m (coordinate_at r p)) (r * r * r) (λ k l. h (coordinate_at r k))
 
-full_of-one : (r : ℕ) (m n : Matrix) (c : Coord) → IsInSpace r c → is_full m c ≡ true → is_full n c ≡ false → ((d : Coord) → d ≢ c → is_full n d ≡ is_full m d) → full_of r m ≡ full_of r n + 1
+full_of-less : (r : ℕ) (m n : Matrix) (c : Coord) → IsInSpace r c → is_full m c ≡ true → is_full n c ≡ false → ((d : Coord) → is_full m d ≡ false → is_full n d ≡ false) → full_of r n + 1 ≤ full_of r m
 unfolding full_of
-full_of-one r m n c within before after others =
-    passing-one (λ p. is_full m (coordinate_at r p)) (λ p. is_full n (coordinate_at r p)) (r * r * r) (place r c) (place_below r c within)
+full_of-less r m n c within before after others =
+    passing-less (λ p. is_full m (coordinate_at r p)) (λ p. is_full n (coordinate_at r p)) (r * r * r) (place r c) (place_below r c within)
     (ap (is_full m) (coordinate_at-place r c within) ∙ before)
     (ap (is_full n) (coordinate_at-place r c within) ∙ after)
-    (λ k l ne. sym (others (coordinate_at r k) (λ e. ne (sym (place-coordinate_at r k) ∙ ap (place r) e))))
+    (λ k l. others (coordinate_at r k))
 
 -- ---- parts of a search
 
 pub self_same : (c : Coord) → same_point (point c) (point c) ≡ true
 self_same c = grind (arith, nat_tests)
 
--- a coordinate is this one, or it is not
-pub same_or_not : (c d : Coord) → (d ≡ c) ⊎ (d ≢ c)
-same_or_not c d = by (same_point (point d) (point c)) refl
-  where
-    itself : (c d : Coord) → d ≡ c → same_point (point d) (point c) ≡ true
-    itself c d e = ap (λ v. same_point (point d) (point v)) (sym e) ∙ self_same d
-
-    by : (b : Bool) → same_point (point d) (point c) ≡ b → (d ≡ c) ⊎ (d ≢ c)
-    by true e = inl (same_coordinate d c e)
-    by false e = inr (λ s. let t : same_point (point d) (point c) ≡ true = itself c d s in cc)
-
-not_taken : (b : Bool) → IsTrue b → b ≡ false → ⊥
-not_taken b t f = cc
-
 pub full_within : (m : Matrix) (c : Coord) → IsTrue (is_full m c) → IsInSpace m.resolution c
 full_within m c h = in_space-is m.resolution c (left (in_space m.resolution (point c)) _ h)
+
+not_taken : {A : Type 0} (b : Bool) → IsTrue b → b ≡ false → A
+not_taken b t f = cc
+
+pub has_same : (a b : Flood) → b.found.items ≡ a.found.items → (d : Coord) → HasFound a d → HasFound b d
+has_same a b e d h = record { stretch = h.stretch; is_found = subst (λ (xs : List Stretch). Contains xs h.stretch) (sym e) h.is_found; among = h.among }
+
+pub has_more : (a b : Flood) (s : Stretch) → b.found.items ≡ a.found.items ++ s ∷ [] → (d : Coord) → HasFound a d → HasFound b d
+has_more a b s e d h = record { stretch = h.stretch; is_found = subst (λ (xs : List Stretch). Contains xs h.stretch) (sym e) (Contains-append_left a.found.items (s ∷ []) h.stretch h.is_found); among = h.among }
+
+pub has_last : (a b : Flood) (s : Stretch) → b.found.items ≡ a.found.items ++ s ∷ [] → (d : Coord) → IsAmong s d → HasFound b d
+has_last a b s e d h = record { stretch = s; is_found = subst (λ (xs : List Stretch). Contains xs s) (sym e) (Contains-push a.found.items s); among = h }
+
+pub has_cases : (a b : Flood) (s : Stretch) → b.found.items ≡ a.found.items ++ s ∷ [] → (d : Coord) → HasFound b d → HasFound a d ⊎ IsAmong s d
+has_cases a b s e d h = of (Contains-push_cases a.found.items s h.stretch (subst (λ (xs : List Stretch). Contains xs h.stretch) e h.is_found))
+  where
+    of : (Contains a.found.items h.stretch ⊎ (s ≡ h.stretch)) → HasFound a d ⊎ IsAmong s d
+    of (inl k) = inl (record { stretch = h.stretch; is_found = k; among = h.among })
+    of (inr q) = inr (subst (λ (t : Stretch). IsAmong t d) (sym q) h.among)
 
 -- nothing was taken
 pub takes_none : (near : Coord → Type 0) (a b : Flood) → b.remaining.resolution ≡ a.remaining.resolution → ((d : Coord) → is_full b.remaining d ≡ is_full a.remaining d) → b.found.items ≡ a.found.items → Takes near a b
 takes_none near a b r same found = record {
   resolution = r;
   fewer = λ d f. same d ∙ f;
-  taken = λ d t. absurd (not_taken (is_full a.remaining d) t.before (sym (same d) ∙ t.after));
-  kept = λ d c. subst (λ (xs : List Coord). Contains xs d) (sym found) c;
-  found = λ d c. inl (subst (λ (xs : List Coord). Contains xs d) found c);
-  weighs = (λ i. full_of (r i) b.remaining + length (found i)) ∙ ap (λ n. n + length a.found.items) (full_of-same a.remaining.resolution a.remaining b.remaining same);
-}
-
--- one was taken
-pub takes_one : (a b : Flood) (c : Coord) → b.remaining.resolution ≡ a.remaining.resolution → IsInSpace a.remaining.resolution c → is_full a.remaining c ≡ true → is_full b.remaining c ≡ false → ((d : Coord) → d ≢ c → is_full b.remaining d ≡ is_full a.remaining d) → b.found.items ≡ a.found.items ++ c ∷ [] → Takes (λ d. d ≡ c) a b
-takes_one a b c r within before after others found = record {
-  resolution = r;
-  fewer = λ d f. fewer d f (same_or_not c d);
-  taken = λ d t. taken d t (same_or_not c d);
-  kept = λ d k. subst (λ (xs : List Coord). Contains xs d) (sym found) (Contains-append_left a.found.items (c ∷ []) d k);
-  found = λ d k. of (Contains-push_cases a.found.items c d (subst (λ (xs : List Coord). Contains xs d) found k));
+  taken = λ d t. not_taken (is_full a.remaining d) t.before (sym (same d) ∙ t.after);
+  kept = has_same a b found;
+  found = λ d h. inl (has_same b a (sym found) d h);
+  starts = λ s k. inl (subst (λ (xs : List Stretch). Contains xs s) found k);
   weighs = (
-      let one = full_of-one a.remaining.resolution a.remaining b.remaining c within before after others in
-      let more : length b.found.items ≡ length a.found.items + 1 = ap length found ∙ length-append a.found.items (c ∷ []) in
-      let same : full_of b.remaining.resolution b.remaining ≡ full_of a.remaining.resolution b.remaining = ap (λ n. full_of n b.remaining) r in
+      let full : full_of b.remaining.resolution b.remaining ≡ full_of a.remaining.resolution a.remaining = ap (λ n. full_of n b.remaining) r ∙ full_of-same a.remaining.resolution a.remaining b.remaining same in
+      let size : length b.found.items ≡ length a.found.items = ap length found in
       omega arith
       );
 }
+
+-- ---- voxels of a row
+
+parts_of : (first : Coord) (count bits : ℕ) (d : Coord) → is_marked first count bits d ≡ true → (d.x ≡ first.x) × (d.y ≡ first.y) × (first.z ≤ d.z) × (d.z < first.z + count) × (bit bits (d.z - first.z) ≡ true)
+parts_of first count bits d h = by ((d.x == first.x) && (d.y == first.y) && is_from first.z count d.z) refl h
   where
-    fewer : (d : Coord) → is_full a.remaining d ≡ false → ((d ≡ c) ⊎ (d ≢ c)) → is_full b.remaining d ≡ false
-    fewer d f (inl e) = ap (is_full b.remaining) e ∙ after
-    fewer d f (inr n) = others d n ∙ f
+    row : ((d.x == first.x) && (d.y == first.y) && is_from first.z count d.z) ≡ true → (d.x ≡ first.x) × (d.y ≡ first.y) × (first.z ≤ d.z) × (d.z < first.z + count)
+    row t = grind (arith, nat_tests)
 
-    taken : (d : Coord) → IsTaken a.remaining b.remaining d → ((d ≡ c) ⊎ (d ≢ c)) → (d ≡ c) × Contains b.found.items d
-    taken d t (inl e) = (e, subst (λ (xs : List Coord). Contains xs d) (sym found) (subst (λ (v : Coord). Contains (a.found.items ++ c ∷ []) v) (sym e) (Contains-push a.found.items c)))
-    taken d t (inr n) = absurd (not_taken (is_full a.remaining d) t.before (sym (others d n) ∙ t.after))
+    by : (b : Bool) → ((d.x == first.x) && (d.y == first.y) && is_from first.z count d.z) ≡ b → (b && bit bits (d.z - first.z)) ≡ true → (d.x ≡ first.x) × (d.y ≡ first.y) × (first.z ≤ d.z) × (d.z < first.z + count) × (bit bits (d.z - first.z) ≡ true)
+    by true t k = let p = row t in (p.0, p.1, p.2, p.3, k)
+    by false t k = cc
 
-    of : {d : Coord} → (Contains a.found.items d ⊎ (c ≡ d)) → Contains a.found.items d ⊎ IsTaken a.remaining b.remaining d
-    of (inl k) = inl k
-    of {d} (inr e) = inr (record { before = ap (is_full a.remaining) (sym e) ∙ before; after = ap (is_full b.remaining) (sym e) ∙ after })
+marked_by : (first : Coord) (count bits : ℕ) (d : Coord) → d.x ≡ first.x → d.y ≡ first.y → first.z ≤ d.z → d.z < first.z + count → bit bits (d.z - first.z) ≡ true → is_marked first count bits d ≡ true
+marked_by first count bits d x y l u b = ap (λ t. t && bit bits (d.z - first.z)) row ∙ b
+  where
+    row : ((d.x == first.x) && (d.y == first.y) && is_from first.z count d.z) ≡ true
+    row = grind (arith, nat_tests)
 
--- one part after another
+was_marked : (full now marked : Bool) → full ≡ true → now ≡ (full && not marked) → now ≡ false → marked ≡ true
+was_marked true now true f e n = refl
+was_marked true now false f e n = cc
+was_marked false now marked f e n = cc
+
+both_true : (a b : Bool) → (a && b) ≡ true → (a ≡ true) × (b ≡ true)
+both_true true b h = (refl, h)
+both_true false b h = cc
+
+-- a bit of a word that has so many bits
+below_count : (n count k : ℕ) → n < 2 ^ count → bit n k ≡ true → k < count
+below_count n count k l b = by (cases_lt k count)
+  where
+    by : ((k < count) ⊎ (count ≤ k)) → k < count
+    by (inl h) = h
+    by (inr h) = let z : bit n k ≡ false = ap (λ d. d == 1) (bit_at_above n count k l h) in cc
+
+-- the coordinate of a row at a component
+its_place : (first d : Coord) → d.x ≡ first.x → d.y ≡ first.y → first.z ≤ d.z → at first (first.z + (d.z - first.z)) ≡ d
+its_place first d x y l = λ i. record { x = x' i; y = y' i; z = z' i }
+  where
+    x' : first.x ≡ d.x
+    x' = sym x
+
+    y' : first.y ≡ d.y
+    y' = sym y
+
+    z' : first.z + (d.z - first.z) ≡ d.z
+    z' = omega arith
+
+module _ (a b : Flood) (first : Coord) (count bits taken : ℕ) (r : b.remaining.resolution ≡ a.remaining.resolution) (few : count ≤ 64)
+    (was : (k : ℕ) → k < count → bit taken k ≡ (bit bits k && is_full a.remaining (at first (first.z + k))))
+    (left : (d : Coord) → is_full b.remaining d ≡ (is_full a.remaining d && not (is_marked first count bits d))) where
+  fewer_in_row : (d : Coord) → is_full a.remaining d ≡ false → is_full b.remaining d ≡ false
+  fewer_in_row d f = left d ∙ ap (λ t. t && not (is_marked first count bits d)) f
+
+  -- a voxel of the row that was there is one of those that were taken, and it is there no longer
+  taken_bit : (d : Coord) → d.x ≡ first.x → d.y ≡ first.y → first.z ≤ d.z → d.z < first.z + count → bit taken (d.z - first.z) ≡ (bit bits (d.z - first.z) && is_full a.remaining d)
+  taken_bit d x y l u = was (d.z - first.z) (omega arith) ∙ ap (λ c. bit bits (d.z - first.z) && is_full a.remaining c) (its_place first d x y l)
+
+  pub row_gone : (d : Coord) → d.x ≡ first.x → d.y ≡ first.y → first.z ≤ d.z → d.z < first.z + count → bit bits (d.z - first.z) ≡ true → is_full b.remaining d ≡ false
+  row_gone d x y l u h = left d ∙ (ap (λ t. is_full a.remaining d && not t) (marked_by first count bits d x y l u h) ∙ none (is_full a.remaining d))
+    where
+      none : (t : Bool) → (t && false) ≡ false
+      none true = refl
+      none false = refl
+
+  -- where none was taken, all stay
+  pub row_same : taken ≡ 0 → (d : Coord) → is_full b.remaining d ≡ is_full a.remaining d
+  row_same z d = left d ∙ by (is_full a.remaining d) (is_marked first count bits d) refl refl
+    where
+      void : (k : ℕ) → bit taken k ≡ false
+      void k = ap (λ n. bit n k) z ∙ ap (λ d. d == 1) (bit_at_above 0 0 k (omega arith) (omega arith))
+
+      by : (f t : Bool) → is_full a.remaining d ≡ f → is_marked first count bits d ≡ t → (f && not t) ≡ f
+      by false t e k = refl
+      by true false e k = refl
+      by true true e k =
+          let p = parts_of first count bits d k in
+          let s = taken_bit d p.0 p.1 p.2 p.3 in
+          let v = void (d.z - first.z) in
+          let q : (bit bits (d.z - first.z) && is_full a.remaining d) ≡ true = (λ i. p.4 i && e i) in
+          cc
+
+  pub takes_row : IsInSpace a.remaining.resolution first → first.z % 64 ≡ 0 → taken < 2 ^ count → (taken ≡ 0 → ⊥) → taken < 2 ^ 64 → b.found.items ≡ a.found.items ++ record { first = first; bits = taken } ∷ [] → Takes (IsAmong (record { first = first; bits = bits })) a b
+  takes_row within each below some fits items = record {
+    resolution = r;
+    fewer = fewer_in_row;
+    taken = λ d t. of d t (parts_of first count bits d (was_marked (is_full a.remaining d) (is_full b.remaining d) (is_marked first count bits d) t.before (left d) t.after));
+    kept = has_more a b (record { first = first; bits = taken }) items;
+    found = λ d h. known d (has_cases a b (record { first = first; bits = taken }) items d h);
+    starts = λ s k. start s (Contains-push_cases a.found.items (record { first = first; bits = taken }) s (subst (λ (xs : List Stretch). Contains xs s) items k));
+    weighs = (
+        let size : length b.found.items ≡ length a.found.items + 1 = ap length items ∙ length-append a.found.items (record { first = first; bits = taken } ∷ []) in
+        let full : full_of b.remaining.resolution b.remaining ≡ full_of a.remaining.resolution b.remaining = ap (λ n. full_of n b.remaining) r in
+        let less = lighter in
+        omega arith
+        );
+  }
+    where
+      of : (d : Coord) → IsTaken a.remaining b.remaining d → (d.x ≡ first.x) × (d.y ≡ first.y) × (first.z ≤ d.z) × (d.z < first.z + count) × (bit bits (d.z - first.z) ≡ true) → IsAmong (record { first = first; bits = bits }) d × HasFound b d
+      of d t p = (
+        record { x = p.0; y = p.1; from = p.2; to = omega (arith, p.3); here = p.4 },
+        has_last a b (record { first = first; bits = taken }) items d (record { x = p.0; y = p.1; from = p.2; to = omega (arith, p.3); here = taken_bit d p.0 p.1 p.2 p.3 ∙ (λ i. p.4 i && t.before i) }),
+      )
+
+      one_taken : (d : Coord) → IsAmong (record { first = first; bits = taken }) d → IsTaken a.remaining b.remaining d
+      one_taken d h =
+          let u : d.z - first.z < count = below_count taken count (d.z - first.z) below h.here in
+          let l = h.from in
+          let m : d.z < first.z + count = omega arith in
+          let both = both_true (bit bits (d.z - first.z)) (is_full a.remaining d) (sym (taken_bit d h.x h.y h.from m) ∙ h.here) in
+          record { before = both.1; after = row_gone d h.x h.y h.from m both.0 }
+
+      known : (d : Coord) → (HasFound a d ⊎ IsAmong (record { first = first; bits = taken }) d) → HasFound a d ⊎ IsTaken a.remaining b.remaining d
+      known d (inl h) = inl h
+      known d (inr h) = inr (one_taken d h)
+
+      start : (s : Stretch) → (Contains a.found.items s ⊎ ((let t : Stretch = record { first = first; bits = taken } in t) ≡ s)) → Contains a.found.items s ⊎ (IsInSpace a.remaining.resolution s.first × (s.first.z % 64 ≡ 0))
+      start s (inl k) = inl k
+      start s (inr e) = inr (subst (λ (t : Stretch). IsInSpace a.remaining.resolution t.first × (t.first.z % 64 ≡ 0)) e (within, each))
+
+      lighter : full_of a.remaining.resolution b.remaining + 1 ≤ full_of a.remaining.resolution a.remaining
+      lighter =
+          let z = bit_at-trailing_zeros w64 taken (positive taken some) fits in
+          let k : ℕ = trailing_zeros w64 taken in
+          let here : bit taken (trailing_zeros w64 taken) ≡ true = ap (λ d. d == 1) z.1 in
+          let d : Coord = at first (first.z + trailing_zeros w64 taken) in
+          let back : first.z + trailing_zeros w64 taken - first.z ≡ trailing_zeros w64 taken = omega arith in
+          let t = one_taken (at first (first.z + trailing_zeros w64 taken)) (record { x = refl; y = refl; from = omega arith; to = (let l = z.0 in omega arith); here = ap (bit taken) back ∙ here }) in
+          full_of-less a.remaining.resolution a.remaining b.remaining (at first (first.z + trailing_zeros w64 taken)) (full_within a.remaining (at first (first.z + trailing_zeros w64 taken)) t.before) t.before t.after fewer_in_row
+        where
+          positive : (n : ℕ) → (n ≡ 0 → ⊥) → 0 < n
+          positive zero h = absurd (h refl)
+          positive (suc n) h = omega arith
+
+-- ---- one part after another
+
 pub takes_then : (near : Coord → Type 0) (a b c : Flood) → Takes near a b → Takes near b c → Takes near a c
 takes_then near a b c h k = record {
   resolution = k.resolution ∙ h.resolution;
@@ -123,24 +261,29 @@ takes_then near a b c h k = record {
   taken = λ d t. taken d t (is_full b.remaining d) refl;
   kept = λ d m. k.kept d (h.kept d m);
   found = λ d m. of d (k.found d m);
-  weighs = k.weighs ∙ h.weighs;
+  starts = λ s m. start s (k.starts s m);
+  weighs = (let x = k.weighs in let y = h.weighs in omega arith);
 }
   where
-    taken : (d : Coord) → IsTaken a.remaining c.remaining d → (f : Bool) → is_full b.remaining d ≡ f → near d × Contains c.found.items d
+    taken : (d : Coord) → IsTaken a.remaining c.remaining d → (f : Bool) → is_full b.remaining d ≡ f → near d × HasFound c d
     taken d t true e = k.taken d (record { before = e; after = t.after })
     taken d t false e = let at = h.taken d (record { before = t.before; after = e }) in (at.0, k.kept d at.1)
 
     earlier : (d : Coord) → IsTaken b.remaining c.remaining d → (f : Bool) → is_full a.remaining d ≡ f → IsTaken a.remaining c.remaining d
     earlier d t true e = record { before = e; after = t.after }
-    earlier d t false e = absurd (not_taken (is_full b.remaining d) t.before (h.fewer d e))
+    earlier d t false e = not_taken (is_full b.remaining d) t.before (h.fewer d e)
 
-    of : (d : Coord) → (Contains b.found.items d ⊎ IsTaken b.remaining c.remaining d) → Contains a.found.items d ⊎ IsTaken a.remaining c.remaining d
+    of : (d : Coord) → (HasFound b d ⊎ IsTaken b.remaining c.remaining d) → HasFound a d ⊎ IsTaken a.remaining c.remaining d
     of d (inr t) = inr (earlier d t (is_full a.remaining d) refl)
     of d (inl m) = by (h.found d m)
       where
-        by : (Contains a.found.items d ⊎ IsTaken a.remaining b.remaining d) → Contains a.found.items d ⊎ IsTaken a.remaining c.remaining d
+        by : (HasFound a d ⊎ IsTaken a.remaining b.remaining d) → HasFound a d ⊎ IsTaken a.remaining c.remaining d
         by (inl m) = inl m
         by (inr t) = inr (record { before = t.before; after = k.fewer d t.after })
+
+    start : (s : Stretch) → (Contains b.found.items s ⊎ (IsInSpace b.remaining.resolution s.first × (s.first.z % 64 ≡ 0))) → Contains a.found.items s ⊎ (IsInSpace a.remaining.resolution s.first × (s.first.z % 64 ≡ 0))
+    start s (inl m) = h.starts s m
+    start s (inr m) = inr (subst (λ (n : ℕ). IsInSpace n s.first × (s.first.z % 64 ≡ 0)) h.resolution m)
 
 -- what is near by a narrower word is near by a wider one
 pub takes_wider : (near far : Coord → Type 0) (a b : Flood) → ((d : Coord) → IsTrue (is_full a.remaining d) → near d → far d) → Takes near a b → Takes far a b
@@ -150,28 +293,67 @@ takes_wider near far a b wider h = record {
   taken = λ d t. let at = h.taken d t in (wider d t.before at.0, at.1);
   kept = h.kept;
   found = h.found;
+  starts = h.starts;
   weighs = h.weighs;
 }
 
--- one coordinate beside another was taken
-pub takes_beside : (a b : Flood) (c e : Coord) → Takes (λ d. d ≡ e) a b → (IsInSpace a.remaining.resolution e → IsTrue (are_adjacent c e)) → Takes (λ d. IsTrue (are_adjacent c d)) a b
-takes_beside a b c e h near =
-    takes_wider (λ d. d ≡ e) (λ d. IsTrue (are_adjacent c d)) a b
-    (λ d f s. subst (λ (v : Coord). IsTrue (are_adjacent c v)) (sym s) (near (full_within a.remaining e (subst (λ (v : Coord). IsTrue (is_full a.remaining v)) s f)))) h
+-- ---- what is not there
 
--- the six coordinates beside one were taken
-pub takes_around : (a b c d e f g : Flood) (at : Coord) → IsInSpace MOST_R at → a.remaining.resolution ≤ MOST_R →
-    Takes (λ k. k ≡ (record { x = at.x + 1; y = at.y; z = at.z })) a b → Takes (λ k. k ≡ (record { x = at.x; y = at.y + 1; z = at.z })) b c → Takes (λ k. k ≡ (record { x = at.x; y = at.y; z = at.z + 1 })) c d →
-    Takes (λ k. k ≡ (record { x = one_less at.x; y = at.y; z = at.z })) d e → Takes (λ k. k ≡ (record { x = at.x; y = one_less at.y; z = at.z })) e f → Takes (λ k. k ≡ (record { x = at.x; y = at.y; z = one_less at.z })) f g →
-    Takes (λ k. IsTrue (are_adjacent at k)) a g
-takes_around a b c d e f g at w most h1 h2 h3 h4 h5 h6 =
-    let d_most : d.remaining.resolution ≤ MOST_R = rw (h3.resolution, h2.resolution, h1.resolution) most in
+void_by : (m : Matrix) (d : Coord) → (IsInSpace m.resolution d → ⊥) → is_full m d ≡ false
+void_by m d out = by (is_full m d) refl
+  where
+    by : (f : Bool) → is_full m d ≡ f → f ≡ false
+    by false e = refl
+    by true e = absurd (out (full_within m d e))
+
+-- outside the matrix nothing is there
+pub gone_outside : (m : Matrix) (first : Coord) (bits r : ℕ) → r ≡ m.resolution → ((r ≤ first.x) ⊎ ((r ≤ first.y) ⊎ (r ≤ first.z))) → (d : Coord) → IsAmong (record { first = first; bits = bits }) d → is_full m d ≡ false
+gone_outside m first bits r e o d h = void_by m d (λ i. by i o)
+  where
+    by : IsInSpace m.resolution d → ((r ≤ first.x) ⊎ ((r ≤ first.y) ⊎ (r ≤ first.z))) → ⊥
+    by i (inl l) = let x = h.x in let k = i.x in omega arith
+    by i (inr (inl l)) = let y = h.y in let k = i.y in omega arith
+    by i (inr (inr l)) = let z = h.from in let k = i.z in omega arith
+
+-- of a stretch nothing is there after its row was taken
+pub gone_row : (a b : Flood) (first : Coord) (count bits taken : ℕ) (r : b.remaining.resolution ≡ a.remaining.resolution) (few : count ≤ 64)
+    (was : (k : ℕ) → k < count → bit taken k ≡ (bit bits k && is_full a.remaining (at first (first.z + k))))
+    (left : (d : Coord) → is_full b.remaining d ≡ (is_full a.remaining d && not (is_marked first count bits d))) →
+    count ≡ min (a.remaining.resolution - first.z) 64 → (d : Coord) → IsAmong (record { first = first; bits = bits }) d → is_full b.remaining d ≡ false
+gone_row a b first count bits taken r few was left size d h = by (cases_lt d.z (first.z + count))
+  where
+    by : ((d.z < first.z + count) ⊎ (first.z + count ≤ d.z)) → is_full b.remaining d ≡ false
+    by (inl l) = row_gone a b first count bits taken r few was left d h.x h.y h.from l h.here
+    by (inr l) = void_by b.remaining d (λ i. let k = i.z in let t = h.to in let f = h.from in absurd (omega arith))
+
+-- ---- around a stretch
+
+-- a stretch beside another was taken
+pub takes_beside : (a b : Flood) (s t : Stretch) → Takes (IsAmong t) a b → ((d : Coord) → IsInSpace a.remaining.resolution d → IsAmong t d → IsBeside s d) → Takes (IsBeside s) a b
+takes_beside a b s t h near = takes_wider (IsAmong t) (IsBeside s) a b (λ d f k. near d (full_within a.remaining d f) k) h
+
+-- the seven stretches beside one were taken
+pub takes_around : (a b c d e f g h : Flood) (s : Stretch) → IsStart s.first → a.remaining.resolution ≤ MOST_R → s.bits < 2 ^ 64 →
+    Takes (IsAmong (record { first = record { x = s.first.x + 1; y = s.first.y; z = s.first.z }; bits = s.bits })) a b →
+    Takes (IsAmong (record { first = record { x = one_less s.first.x; y = s.first.y; z = s.first.z }; bits = s.bits })) b c →
+    Takes (IsAmong (record { first = record { x = s.first.x; y = s.first.y + 1; z = s.first.z }; bits = s.bits })) c d →
+    Takes (IsAmong (record { first = record { x = s.first.x; y = one_less s.first.y; z = s.first.z }; bits = s.bits })) d e →
+    Takes (IsAmong (record { first = s.first; bits = moved s.bits })) e f →
+    Takes (IsAmong (record { first = record { x = s.first.x; y = s.first.y; z = s.first.z + 64 }; bits = s.bits / 2 ^ 63 })) f g →
+    Takes (IsAmong (record { first = record { x = s.first.x; y = s.first.y; z = word_less s.first.z }; bits = s.bits * 2 ^ 63 % 2 ^ 64 })) g h →
+    Takes (IsBeside s) a h
+takes_around a b c d e f g h s start most fits h1 h2 h3 h4 h5 h6 h7 =
+    let b_most : b.remaining.resolution ≤ MOST_R = rw h1.resolution most in
+    let c_most : c.remaining.resolution ≤ MOST_R = rw h2.resolution b_most in
+    let d_most : d.remaining.resolution ≤ MOST_R = rw h3.resolution c_most in
     let e_most : e.remaining.resolution ≤ MOST_R = rw h4.resolution d_most in
     let f_most : f.remaining.resolution ≤ MOST_R = rw h5.resolution e_most in
-    let near : Coord → Type 0 = λ k. IsTrue (are_adjacent at k) in
-    takes_then near a b g (takes_beside a b at (record { x = at.x + 1; y = at.y; z = at.z }) h1 (λ i. adjacent_right at))
-    (takes_then near b c g (takes_beside b c at (record { x = at.x; y = at.y + 1; z = at.z }) h2 (λ i. adjacent_above at))
-    (takes_then near c d g (takes_beside c d at (record { x = at.x; y = at.y; z = at.z + 1 }) h3 (λ i. adjacent_ahead at))
-    (takes_then near d e g (takes_beside d e at (record { x = one_less at.x; y = at.y; z = at.z }) h4 (λ i. adjacent_left at d.remaining.resolution w.x d_most i.x))
-    (takes_then near e f g (takes_beside e f at (record { x = at.x; y = one_less at.y; z = at.z }) h5 (λ i. adjacent_below at e.remaining.resolution w.y e_most i.y))
-    (takes_beside f g at (record { x = at.x; y = at.y; z = one_less at.z }) h6 (λ i. adjacent_behind at f.remaining.resolution w.z f_most i.z))))))
+    let g_most : g.remaining.resolution ≤ MOST_R = rw h6.resolution f_most in
+    let near : Coord → Type 0 = IsBeside s in
+    takes_then near a b h (takes_beside a b s (record { first = record { x = s.first.x + 1; y = s.first.y; z = s.first.z }; bits = s.bits }) h1 (near_right s a.remaining.resolution start most fits))
+    (takes_then near b c h (takes_beside b c s (record { first = record { x = one_less s.first.x; y = s.first.y; z = s.first.z }; bits = s.bits }) h2 (near_left s b.remaining.resolution start b_most fits))
+    (takes_then near c d h (takes_beside c d s (record { first = record { x = s.first.x; y = s.first.y + 1; z = s.first.z }; bits = s.bits }) h3 (near_above s c.remaining.resolution start c_most fits))
+    (takes_then near d e h (takes_beside d e s (record { first = record { x = s.first.x; y = one_less s.first.y; z = s.first.z }; bits = s.bits }) h4 (near_below s d.remaining.resolution start d_most fits))
+    (takes_then near e f h (takes_beside e f s (record { first = s.first; bits = moved s.bits }) h5 (near_moved s e.remaining.resolution start e_most fits))
+    (takes_then near f g h (takes_beside f g s (record { first = record { x = s.first.x; y = s.first.y; z = s.first.z + 64 }; bits = s.bits / 2 ^ 63 }) h6 (near_after s f.remaining.resolution start f_most fits))
+    (takes_beside g h s (record { first = record { x = s.first.x; y = s.first.y; z = word_less s.first.z }; bits = s.bits * 2 ^ 63 % 2 ^ 64 }) h7 (near_before s g.remaining.resolution start g_most fits)))))))

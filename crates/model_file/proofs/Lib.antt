@@ -5,3 +5,4 @@ pub mod Boxes
 pub mod FirstForms
 pub mod WideForms
 pub mod Rewritten
+pub mod Stretches

@@ -1,6 +1,8 @@
 -- How a search from the floor goes on, and what it has found at its end.
-use Rattle.std.proofs.Common.{◌≡◌, ℕ, ◌+◌, ◌<◌, ◌≤◌, refl, sym, ◌∙◌, ap, subst, arith, Bool, true, false, ◌==◌, List, [], ◌∷◌, ◌++◌, length, inl, inr}
+use Rattle.std.proofs.Common.{◌≡◌, ℕ, ◌+◌, ◌-◌, ◌*◌, ◌%◌, ◌^◌, ◌<◌, ◌≤◌, refl, sym, ◌∙◌, ap, subst, arith, Bool, true, false, ◌==◌, List, [], ◌∷◌, ◌++◌, length, inl, inr}
 use Rattle.std.specs.Prelude.{IsTrue, ◌⊎◌, All, Contains, find, Option, Some, None, cond}
+use Rattle.std.proofs.lemmas.Bool.{cases_lt}
+use Rattle.std.proofs.lemmas.Nat.Bits.{bit_at_ones}
 use native.Mathlib.Decide.{ℕ_discrete}
 use Rattle.std.proofs.lemmas.List.{length-append}
 use Rattle.std.proofs.lemmas.Bool.Decides.{nat_tests}
@@ -12,12 +14,14 @@ use Rattle.vox_geom.specs.Space.{IsInSpace}
 use Rattle.nano_spec.specs.First.{FirstFailing}
 use Rattle.nano_spec.specs.Grounded.{FirstUngrounded, Grounded, is_path}
 use Rattle.nano_spec.specs.Matrix.{Matrix, all_of, is_full}
+use Rattle.nano_spec.specs.Model.{bit}
 use Rattle.nano_spec.proofs.Grounding.{left, right, ungrounded_by}
 use Rattle.nano_spec.proofs.Island.{same_coordinate}
 use Rattle.model_file.specs.declared.flood.Flood.{Flood}
+use Rattle.model_file.specs.declared.flood.Stretch.{Stretch}
 use Rattle.model_file.proofs.Beside.{adjacent-sym}
-use Rattle.model_file.proofs.Floods.{full_within, self_same, takes_then, takes_wider}
-use Rattle.model_file.specs.Flood.{IsFlood, IsTaken, Takes, full_of, weight}
+use Rattle.model_file.proofs.Floods.{full_within, has_cases, has_last, has_more, has_same, self_same, takes_then, takes_wider}
+use Rattle.model_file.specs.Flood.{HasFound, IsAmong, IsBeside, IsFlood, IsStart, IsTaken, Takes, full_of, weight}
 
 contrary : {A : Type 0} (b : Bool) → IsTrue b → b ≡ false → A
 contrary b t f = cc
@@ -40,9 +44,9 @@ one_more m a b f n (d ∷ path, h) =
     let next : IsTrue (are_adjacent a d) = subst (λ (v : Coord). IsTrue (are_adjacent a v)) same n in
     (a ∷ d ∷ path, rw (self_same a, f, next) (right (same_point (point b) (point d)) (is_path m (d ∷ path)) h))
 
--- one voxel that was found is looked around
-pub flood_more : (m : Matrix) (s popped new : Flood) (c : Coord) → IsFlood m s → popped.remaining ≡ s.remaining → s.found.items ≡ popped.found.items ++ c ∷ [] → Takes (λ d. IsTrue (are_adjacent c d)) popped new → ((d : Coord) → IsTrue (are_adjacent c d) → is_full new.remaining d ≡ false) → IsFlood m new
-flood_more m s popped new c fl same items t gone = record {
+-- a stretch that was found is looked around
+pub flood_more : (m : Matrix) (s popped new : Flood) (p : Stretch) → IsFlood m s → popped.remaining ≡ s.remaining → s.found.items ≡ popped.found.items ++ p ∷ [] → Takes (IsBeside p) popped new → ((d : Coord) → IsBeside p d → is_full new.remaining d ≡ false) → IsFlood m new
+flood_more m s popped new p fl same items t gone = record {
   resolution = t.resolution ∙ (ap (λ (l : Matrix). l.resolution) same ∙ fl.resolution);
   fewer = λ d f. less d (fl.fewer d f);
   grounded = λ d k. grounded d k (is_full s.remaining d) refl;
@@ -54,41 +58,44 @@ flood_more m s popped new c fl same items t gone = record {
     less : (d : Coord) → is_full s.remaining d ≡ false → is_full new.remaining d ≡ false
     less d f = t.fewer d (ap (λ (l : Matrix). is_full l d) same ∙ f)
 
-    here : IsTaken m s.remaining c
-    here = fl.found c (subst (λ (xs : List Coord). Contains xs c) (sym items) (Contains-push popped.found.items c))
+    here : (c : Coord) → IsAmong p c → IsTaken m s.remaining c
+    here c h = fl.found c (has_last popped s p items c h)
 
     now : (d : Coord) → is_full s.remaining d ≡ true → is_full new.remaining d ≡ false → IsTaken popped.remaining new.remaining d
     now d e f = record { before = ap (λ (l : Matrix). is_full l d) same ∙ e; after = f }
 
+    reached : (d : Coord) → IsTrue (is_full m d) → IsBeside p d → Grounded m d
+    reached d f h = one_more m d h.one f (adjacent-sym h.one d h.adjacent) (fl.grounded h.one (here h.one h.among))
+
     grounded : (d : Coord) → IsTaken m new.remaining d → (b : Bool) → is_full s.remaining d ≡ b → Grounded m d
     grounded d k false e = fl.grounded d (record { before = k.before; after = e })
-    grounded d k true e = one_more m d c k.before (adjacent-sym c d (t.taken d (now d e k.after)).0) (fl.grounded c here)
+    grounded d k true e = reached d k.before (t.taken d (now d e k.after)).0
 
-    before : (d : Coord) → Contains popped.found.items d → Contains s.found.items d
-    before d k = subst (λ (xs : List Coord). Contains xs d) (sym items) (Contains-append_left popped.found.items (c ∷ []) d k)
-
-    found : (d : Coord) → (Contains popped.found.items d ⊎ IsTaken popped.remaining new.remaining d) → IsTaken m new.remaining d
-    found d (inl k) = let was = fl.found d (before d k) in record { before = was.before; after = less d was.after }
+    found : (d : Coord) → (HasFound popped d ⊎ IsTaken popped.remaining new.remaining d) → IsTaken m new.remaining d
+    found d (inl k) = let was = fl.found d (has_more popped s p items d k) in record { before = was.before; after = less d was.after }
     found d (inr k) = record {
       before = still (is_full m d) (is_full s.remaining d) (fl.fewer d) (sym (ap (λ (l : Matrix). is_full l d) same) ∙ k.before);
       after = k.after;
     }
 
-    looked : (a b : Coord) → IsTaken m new.remaining a → IsTrue (are_adjacent a b) → IsTrue (is_full new.remaining b) → (f : Bool) → is_full s.remaining a ≡ f → Contains new.found.items a
+    looked : (a b : Coord) → IsTaken m new.remaining a → IsTrue (are_adjacent a b) → IsTrue (is_full new.remaining b) → (f : Bool) → is_full s.remaining a ≡ f → HasFound new a
     looked a b k n f true e = (t.taken a (now a e k.after)).1
-    looked a b k n f false e = of (Contains-push_cases popped.found.items c a (subst (λ (xs : List Coord). Contains xs a) items (fl.looked a b (record { before = k.before; after = e }) n (still (is_full s.remaining b) (is_full new.remaining b) (less b) f))))
+    looked a b k n f false e = of (has_cases popped s p items a (fl.looked a b (record { before = k.before; after = e }) n (still (is_full s.remaining b) (is_full new.remaining b) (less b) f)))
       where
-        of : (Contains popped.found.items a ⊎ (c ≡ a)) → Contains new.found.items a
-        of (inl p) = t.kept a p
-        of (inr p) = contrary (is_full new.remaining b) f (gone b (subst (λ (v : Coord). IsTrue (are_adjacent v b)) (sym p) n))
+        of : (HasFound popped a ⊎ IsAmong p a) → HasFound new a
+        of (inl h) = t.kept a h
+        of (inr h) = contrary (is_full new.remaining b) f (gone b (record { one = a; among = h; adjacent = n }))
 
--- what was found stays in space
-pub found_within : (near : Coord → Type 0) (popped new : Flood) → popped.remaining.resolution ≤ MOST_R → All (IsInSpace MOST_R) popped.found.items → Takes near popped new → All (IsInSpace MOST_R) new.found.items
-found_within near popped new most within t = All-weaker (Contains new.found.items) (IsInSpace MOST_R) (λ d k. by d (t.found d k)) new.found.items (All-contains_itself new.found.items)
+-- stretches that were found begin where stretches do
+pub found_starts : (near : Coord → Type 0) (popped new : Flood) → popped.remaining.resolution ≤ MOST_R → All (λ s. IsStart s.first) popped.found.items → Takes near popped new → All (λ s. IsStart s.first) new.found.items
+found_starts near popped new most starts t = All-weaker (Contains new.found.items) (λ s. IsStart s.first) (λ s k. by s (t.starts s k)) new.found.items (All-contains_itself new.found.items)
   where
-    by : (d : Coord) → (Contains popped.found.items d ⊎ IsTaken popped.remaining new.remaining d) → IsInSpace MOST_R d
-    by d (inl k) = All-contains (IsInSpace MOST_R) popped.found.items d within k
-    by d (inr k) = let i : IsInSpace popped.remaining.resolution d = full_within popped.remaining d k.before in record { x = omega (arith, i.x); y = omega (arith, i.y); z = omega (arith, i.z) }
+    by : (s : Stretch) → (Contains popped.found.items s ⊎ (IsInSpace popped.remaining.resolution s.first × (s.first.z % 64 ≡ 0))) → IsStart s.first
+    by s (inl k) = All-contains (λ s. IsStart s.first) popped.found.items s starts k
+    by s (inr k) = let i = k.0 in record { within = record { x = omega (arith, i.x); y = omega (arith, i.y); z = omega (arith, i.z) }; each = k.1 }
+
+in_none : (f : Flood) (d : Coord) → f.found.items ≡ [] → HasFound f d → ⊥
+in_none f d e h = let l : length f.found.items ≡ 0 = ap length e in let k = h.is_found in omega (arith, k.1)
 
 -- the floor was taken
 pub flood_begun : (m : Matrix) (a b : Flood) → a.remaining ≡ m → a.found.items ≡ [] → Takes (λ d. d.y ≡ 0) a b → ((d : Coord) → d.y ≡ 0 → is_full b.remaining d ≡ false) → IsFlood m b
@@ -104,17 +111,11 @@ flood_begun m a b same none t gone = record {
     taken : (d : Coord) → IsTaken m b.remaining d → IsTaken a.remaining b.remaining d
     taken d k = record { before = ap (λ (l : Matrix). is_full l d) same ∙ k.before; after = k.after }
 
-    in_none : (d : Coord) → Contains {X = Coord} [] d → ⊥
-    in_none d k = absurd (omega (arith, k.1))
-
-    found : (d : Coord) → (Contains a.found.items d ⊎ IsTaken a.remaining b.remaining d) → IsTaken m b.remaining d
-    found d (inl k) = absurd (in_none d (subst (λ (xs : List Coord). Contains xs d) none k))
+    found : (d : Coord) → (HasFound a d ⊎ IsTaken a.remaining b.remaining d) → IsTaken m b.remaining d
+    found d (inl k) = absurd (in_none a d none k)
     found d (inr k) = record { before = sym (ap (λ (l : Matrix). is_full l d) same) ∙ k.before; after = k.after }
 
 -- ---- the end
-
-in_none : (xs : List Coord) (d : Coord) → xs ≡ [] → Contains xs d → ⊥
-in_none xs d e k = let l : length xs ≡ 0 = ap length e in omega (arith, k.1)
 
 -- what is left is not grounded
 left_floats : (m : Matrix) (f : Flood) → IsFlood m f → f.found.items ≡ [] → (c : Coord) → IsTrue (is_full f.remaining c) → Grounded m c → ⊥
@@ -127,7 +128,7 @@ left_floats m f fl none c t =
 
     stays : (a b : Coord) → IsTrue (is_full f.remaining a) → IsTrue (is_full m b) → IsTrue (are_adjacent a b) → (v : Bool) → is_full f.remaining b ≡ v → IsTrue (is_full f.remaining b)
     stays a b i g n true e = e
-    stays a b i g n false e = absurd (in_none f.found.items b none (fl.looked b a (record { before = g; after = e }) (adjacent-sym a b n) i))
+    stays a b i g n false e = absurd (in_none f b none (fl.looked b a (record { before = g; after = e }) (adjacent-sym a b n) i))
 
 first_failing : {A : Type 0} (P : A → Type 0) (test : A → Bool) → ((a : A) → test a ≡ true → P a → ⊥) → ((a : A) → test a ≡ false → P a) → (xs : List A) → FirstFailing P xs (find test xs)
 first_failing P test bad good [] = tt
@@ -159,8 +160,8 @@ flood_same m a b same items fl = record {
   resolution = ap (λ (l : Matrix). l.resolution) same ∙ fl.resolution;
   fewer = λ d f. ap (λ (l : Matrix). is_full l d) same ∙ fl.fewer d f;
   grounded = λ d k. fl.grounded d (was d k);
-  found = λ d k. let t = fl.found d (subst (λ (xs : List Coord). Contains xs d) items k) in record { before = t.before; after = ap (λ (l : Matrix). is_full l d) same ∙ t.after };
-  looked = λ d e k n f. subst (λ (xs : List Coord). Contains xs d) (sym items) (fl.looked d e (was d k) n (sym (ap (λ (l : Matrix). is_full l e) same) ∙ f));
+  found = λ d k. let t = fl.found d (has_same b a (sym items) d k) in record { before = t.before; after = ap (λ (l : Matrix). is_full l d) same ∙ t.after };
+  looked = λ d e k n f. has_same a b items d (fl.looked d e (was d k) n (sym (ap (λ (l : Matrix). is_full l e) same) ∙ f));
   floor = λ d e. ap (λ (l : Matrix). is_full l d) same ∙ fl.floor d e;
 }
   where
@@ -169,29 +170,29 @@ flood_same m a b same items fl = record {
 
 -- ---- the measure
 
-pub weight_falls : (near : Coord → Type 0) (s popped new : Flood) (c : Coord) → popped.remaining ≡ s.remaining → s.found.items ≡ popped.found.items ++ c ∷ [] → Takes near popped new → weight new < weight s
-weight_falls near s popped new c same items t =
+pub weight_falls : (near : Coord → Type 0) (s popped new : Flood) (p : Stretch) → popped.remaining ≡ s.remaining → s.found.items ≡ popped.found.items ++ p ∷ [] → Takes near popped new → weight new < weight s
+weight_falls near s popped new p same items t =
     let left : full_of popped.remaining.resolution popped.remaining ≡ full_of s.remaining.resolution s.remaining = ap (λ (l : Matrix). full_of l.resolution l) same in
-    let more : length s.found.items ≡ length popped.found.items + 1 = ap length items ∙ length-append popped.found.items (c ∷ []) in
-    let weighs : weight new ≡ weight popped = t.weighs in
+    let more : length s.found.items ≡ length popped.found.items + 1 = ap length items ∙ length-append popped.found.items (p ∷ []) in
+    let weighs : weight new ≤ weight popped = t.weighs in
     omega arith
 
 -- ---- the floor
 
-at_coord : (d : Coord) (x z : ℕ) → d.x ≡ x → d.y ≡ 0 → d.z ≡ z → d ≡ (record { x = x; y = 0; z = z })
-at_coord d x z e f g = λ i. record { x = e i; y = f i; z = g i }
+all_ones : (k : ℕ) → k < 64 → bit (2 ^ 64 - 1) k ≡ true
+all_ones k l = ap (λ d. d == 1) (bit_at_ones 64 k l)
 
--- one more voxel of a row of the floor was taken
-pub row_more : (a b c : Flood) (x z : ℕ) → Takes (λ d. d.y ≡ 0) a b → ((d : Coord) → d.x ≡ x → d.y ≡ 0 → d.z < z → is_full b.remaining d ≡ false) → Takes (λ d. d ≡ (record { x = x; y = 0; z = z })) b c → is_full c.remaining (record { x = x; y = 0; z = z }) ≡ false →
-    Takes (λ d. d.y ≡ 0) a c × ((d : Coord) → d.x ≡ x → d.y ≡ 0 → d.z < z + 1 → is_full c.remaining d ≡ false)
-row_more a b c x z t before u here = (
-  takes_then (λ d. d.y ≡ 0) a b c t (takes_wider (λ d. d ≡ (record { x = x; y = 0; z = z })) (λ d. d.y ≡ 0) b c (λ d f s. ap (λ (v : Coord). v.y) s) u),
-  λ d ex ey l. by d ex ey l (ℕ_discrete d.z z),
+-- one more stretch of a row of the floor was taken
+pub row_more : (a b c : Flood) (x k : ℕ) → Takes (λ d. d.y ≡ 0) a b → ((d : Coord) → d.x ≡ x → d.y ≡ 0 → d.z < 64 * k → is_full b.remaining d ≡ false) → Takes (IsAmong (record { first = record { x = x; y = 0; z = 64 * k }; bits = 2 ^ 64 - 1 })) b c → ((d : Coord) → IsAmong (record { first = record { x = x; y = 0; z = 64 * k }; bits = 2 ^ 64 - 1 }) d → is_full c.remaining d ≡ false) →
+    Takes (λ d. d.y ≡ 0) a c × ((d : Coord) → d.x ≡ x → d.y ≡ 0 → d.z < 64 * (k + 1) → is_full c.remaining d ≡ false)
+row_more a b c x k t before u here = (
+  takes_then (λ d. d.y ≡ 0) a b c t (takes_wider (IsAmong (record { first = record { x = x; y = 0; z = 64 * k }; bits = 2 ^ 64 - 1 })) (λ d. d.y ≡ 0) b c (λ d f s. s.y) u),
+  λ d ex ey l. by d ex ey l (cases_lt d.z (64 * k)),
 )
   where
-    by : (d : Coord) → d.x ≡ x → d.y ≡ 0 → d.z < z + 1 → Dec (d.z ≡ z) → is_full c.remaining d ≡ false
-    by d ex ey l (yes e) = ap (is_full c.remaining) (at_coord d x z ex ey e) ∙ here
-    by d ex ey l (no n) = u.fewer d (before d ex ey (omega arith))
+    by : (d : Coord) → d.x ≡ x → d.y ≡ 0 → d.z < 64 * (k + 1) → ((d.z < 64 * k) ⊎ (64 * k ≤ d.z)) → is_full c.remaining d ≡ false
+    by d ex ey l (inl m) = u.fewer d (before d ex ey m)
+    by d ex ey l (inr m) = here d (record { x = ex; y = ey; from = m; to = omega arith; here = all_ones (d.z - 64 * k) (omega arith) })
 
 -- one more row of the floor was taken
 pub floor_more : (a b c : Flood) (x : ℕ) → Takes (λ d. d.y ≡ 0) a b → ((d : Coord) → d.x < x → d.y ≡ 0 → is_full b.remaining d ≡ false) → Takes (λ d. d.y ≡ 0) b c → ((d : Coord) → d.x ≡ x → d.y ≡ 0 → is_full c.remaining d ≡ false) →

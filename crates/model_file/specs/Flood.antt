@@ -1,11 +1,33 @@
 -- A search from the floor: what is left of a matrix, and the voxels that were taken out of it and not yet looked around.
-use Rattle.std.specs.Prelude.{◌≡◌, ◌⊎◌, ℕ, zero, suc, ◌+◌, ◌*◌, Bool, false, cond, IsTrue, length, Contains}
+use Rattle.std.specs.Prelude.{◌≡◌, ◌⊎◌, ℕ, zero, suc, ◌+◌, ◌-◌, ◌*◌, ◌%◌, ◌<◌, ◌≤◌, Bool, true, false, cond, IsTrue, length, Contains}
 use Rattle.vox_geom.specs.declared.coordinate.Coord.{Coord}
+use Rattle.vox_geom.specs.declared.TheConstants.{MOST_R}
 use Rattle.vox_geom.specs.Point.{are_adjacent}
-use Rattle.vox_geom.specs.Space.{coordinate_at}
+use Rattle.vox_geom.specs.Space.{IsInSpace, coordinate_at}
 use Rattle.nano_spec.specs.Grounded.{Grounded}
 use Rattle.nano_spec.specs.Matrix.{Matrix, is_full}
+use Rattle.nano_spec.specs.Model.{bit}
 use Rattle.model_file.specs.declared.flood.Flood.{Flood}
+use Rattle.model_file.specs.declared.flood.Stretch.{Stretch}
+
+-- the coordinate is one of the stretch
+pub record IsAmong (s : Stretch) (c : Coord) : Type 0 where
+  pub x : c.x ≡ s.first.x
+  pub y : c.y ≡ s.first.y
+  pub from : s.first.z ≤ c.z
+  pub to : c.z < s.first.z + 64
+  pub here : bit s.bits (c.z - s.first.z) ≡ true
+
+-- the coordinate is beside one of the stretch
+pub record IsBeside (s : Stretch) (d : Coord) : Type 0 where
+  pub one : Coord
+  pub among : IsAmong s one
+  pub adjacent : IsTrue (are_adjacent one d)
+
+-- stretches begin at each 64th coordinate of a row
+pub record IsStart (first : Coord) : Type 0 where
+  pub within : IsInSpace MOST_R first
+  pub each : first.z % 64 ≡ 0
 
 -- how many of the first numbers pass a test
 unfoldable pub passing : (ℕ → Bool) → ℕ → ℕ
@@ -16,9 +38,15 @@ passing test (suc n) = passing test n + cond (test n) 1 0
 unfoldable pub full_of : ℕ → Matrix → ℕ
 full_of r m = passing (λ p. is_full m (coordinate_at r p)) (r * r * r)
 
--- how many voxels are left or found
+-- how many voxels are left, and how many stretches are found
 abbrev pub weight : Flood → ℕ
 weight f = full_of f.remaining.resolution f.remaining + length f.found.items
+
+-- the coordinate is one of those that were found
+pub record HasFound (f : Flood) (c : Coord) : Type 0 where
+  pub stretch : Stretch
+  pub is_found : Contains f.found.items stretch
+  pub among : IsAmong stretch c
 
 -- the voxel was there before and is there no longer
 pub record IsTaken (old new : Matrix) (c : Coord) : Type 0 where
@@ -29,10 +57,11 @@ pub record IsTaken (old new : Matrix) (c : Coord) : Type 0 where
 pub record Takes (near : Coord → Type 0) (old new : Flood) : Type 0 where
   pub resolution : new.remaining.resolution ≡ old.remaining.resolution
   pub fewer : (d : Coord) → is_full old.remaining d ≡ false → is_full new.remaining d ≡ false
-  pub taken : (d : Coord) → IsTaken old.remaining new.remaining d → near d × Contains new.found.items d
-  pub kept : (d : Coord) → Contains old.found.items d → Contains new.found.items d
-  pub found : (d : Coord) → Contains new.found.items d → Contains old.found.items d ⊎ IsTaken old.remaining new.remaining d
-  pub weighs : weight new ≡ weight old
+  pub taken : (d : Coord) → IsTaken old.remaining new.remaining d → near d × HasFound new d
+  pub kept : (d : Coord) → HasFound old d → HasFound new d
+  pub found : (d : Coord) → HasFound new d → HasFound old d ⊎ IsTaken old.remaining new.remaining d
+  pub starts : (s : Stretch) → Contains new.found.items s → Contains old.found.items s ⊎ (IsInSpace old.remaining.resolution s.first × (s.first.z % 64 ≡ 0))
+  pub weighs : weight new ≤ weight old
 
 -- the search of a matrix has come so far: what was taken out is grounded, and what was found is taken out;
 -- beside a voxel that was taken out nothing is left, unless it is found and was not looked around
@@ -40,6 +69,6 @@ pub record IsFlood (m : Matrix) (f : Flood) : Type 0 where
   pub resolution : f.remaining.resolution ≡ m.resolution
   pub fewer : (c : Coord) → is_full m c ≡ false → is_full f.remaining c ≡ false
   pub grounded : (c : Coord) → IsTaken m f.remaining c → Grounded m c
-  pub found : (c : Coord) → Contains f.found.items c → IsTaken m f.remaining c
-  pub looked : (a b : Coord) → IsTaken m f.remaining a → IsTrue (are_adjacent a b) → IsTrue (is_full f.remaining b) → Contains f.found.items a
+  pub found : (c : Coord) → HasFound f c → IsTaken m f.remaining c
+  pub looked : (a b : Coord) → IsTaken m f.remaining a → IsTrue (are_adjacent a b) → IsTrue (is_full f.remaining b) → HasFound f a
   pub floor : (c : Coord) → c.y ≡ 0 → is_full f.remaining c ≡ false

@@ -1,65 +1,87 @@
-//! A search from the floor, which takes each voxel that it reaches out of a copy of the planes.
-ghost use Rattle.std.specs.Prelude.{◌≡◌, ◌<◌, ◌≤◌, [], All, IfOk, IsFalse, IsTrue, true, false};
+//! A search from the floor, many voxels at a time, which takes all that it reaches out of a copy of the planes.
+ghost use Rattle.std.specs.Prelude.{◌≡◌, ◌%◌, ◌≤◌, [], All, IfOk, false};
 ghost use Rattle.vox_geom.specs.declared.coordinate.Coord.{Coord as Coordinate};
-ghost use Rattle.vox_geom.specs.Point.{are_adjacent};
-ghost use Rattle.vox_geom.specs.Space.{IsInSpace};
 ghost use Rattle.nano_spec.specs.Grounded.{FirstUngrounded};
 ghost use Rattle.nano_spec.specs.Matrix.{Matrix, is_full};
-ghost use Rattle.model_file.specs.Flood.{IsFlood, Takes};
+ghost use Rattle.model_file.specs.Flood.{IsAmong, IsBeside, IsFlood, IsStart, Takes};
 
 use crate::least::least_full;
 use std::alloc::Global;
 use vox_geom::{Coord, MOST_R, Memory};
 use vox_planes::Planes;
 
+/// Voxels of one row: those, of 64 from a coordinate on, for which a bit is 1.
+#[derive(Clone, Copy, Debug)]
+struct Stretch {
+    first: Coord,
+    bits: u64,
+}
+
 /// What is left of a matrix, and the voxels that were taken out of it and around which nothing was looked at yet.
 #[derive(Drop)]
 struct Flood {
     remaining: Planes,
-    found: Vec<Coord>,
+    found: Vec<Stretch>,
 }
 
 impl Flood {
-    /// Takes the voxel out, if it is there. A coordinate outside the matrix is not there.
-    fn take(&mut self, c: Coord) -> Result<(), Memory>
-        ensures takes { IfOk result (λ _. Takes (λ d. d ≡ c) self.old self.new) }
-        ensures gone { IfOk result (λ _. is_full self.new.remaining c ≡ false) }
+    /// Takes those voxels of a stretch out that are there. None is there outside the matrix.
+    fn take(&mut self, first: Coord, bits: u64) -> Result<(), Memory>
+        requires { first.z % 64 ≡ 0 }
+        ensures takes { IfOk result (λ _. Takes (IsAmong (record { first = first; bits = bits })) self.old self.new) }
+        ensures gone { IfOk result (λ _. (d : Coordinate) → IsAmong (record { first = first; bits = bits }) d → is_full self.new.remaining d ≡ false) }
     {
         let r = self.remaining.resolution();
-        if r <= c.x || r <= c.y || r <= c.z {
+        if r <= first.x || r <= first.y || r <= first.z {
             return Ok(());
         }
-        if !self.remaining.take(c) {
+        let count = u32::from(r - first.z).min(64);
+        let taken = self.remaining.take_row(first, count, bits);
+        if taken == 0 {
             return Ok(());
         }
-        match self.found.push(c) {
+        match self.found.push(Stretch { first, bits: taken }) {
             Ok(()) => Ok(()),
             Err(_) => Err(Memory),
         }
     }
 
-    /// Takes the voxels beside one out.
-    fn take_around(&mut self, c: Coord) -> Result<(), Memory>
-        requires within { IsInSpace MOST_R c }
+    /// Takes the voxels out that are beside those of a stretch.
+    fn take_around(&mut self, first: Coord, bits: u64) -> Result<(), Memory>
+        requires start { IsStart first }
         requires most { self.old.remaining.resolution ≤ MOST_R }
-        ensures takes { IfOk result (λ _. Takes (λ d. IsTrue (are_adjacent c d)) self.old self.new) }
-        ensures gone { IfOk result (λ _. (d : Coordinate) → IsTrue (are_adjacent c d) → is_full self.new.remaining d ≡ false) }
+        ensures takes { IfOk result (λ _. Takes (IsBeside (record { first = first; bits = bits })) self.old self.new) }
+        ensures gone { IfOk result (λ _. (d : Coordinate) → IsBeside (record { first = first; bits = bits }) d → is_full self.new.remaining d ≡ false) }
     {
-        self.take(Coord { x: c.x + 1, ..c })?;
-        self.take(Coord { y: c.y + 1, ..c })?;
-        self.take(Coord { z: c.z + 1, ..c })?;
-        self.take(Coord {
-            x: c.x.wrapping_sub(1),
-            ..c
-        })?;
-        self.take(Coord {
-            y: c.y.wrapping_sub(1),
-            ..c
-        })?;
-        self.take(Coord {
-            z: c.z.wrapping_sub(1),
-            ..c
-        })?;
+        let Coord { x, y, z } = first;
+        self.take(Coord { x: x + 1, y, z }, bits)?;
+        self.take(
+            Coord {
+                x: x.wrapping_sub(1),
+                y,
+                z,
+            },
+            bits,
+        )?;
+        self.take(Coord { x, y: y + 1, z }, bits)?;
+        self.take(
+            Coord {
+                x,
+                y: y.wrapping_sub(1),
+                z,
+            },
+            bits,
+        )?;
+        self.take(first, (bits << 1) | (bits >> 1))?;
+        self.take(Coord { x, y, z: z + 64 }, bits >> 63)?;
+        self.take(
+            Coord {
+                x,
+                y,
+                z: z.wrapping_sub(64),
+            },
+            bits << 63,
+        )?;
         Ok(())
     }
 
@@ -68,9 +90,9 @@ impl Flood {
         ensures takes { IfOk result (λ _. Takes (λ d. d.y ≡ 0) self.old self.new) }
         ensures gone { IfOk result (λ _. (d : Coordinate) → d.x ≡ x → d.y ≡ 0 → is_full self.new.remaining d ≡ false) }
     {
-        let r = self.remaining.resolution();
-        for z in 0..r {
-            self.take(Coord { x, y: 0, z })?;
+        let words = self.remaining.resolution().div_ceil(64);
+        for k in 0..words {
+            self.take(Coord { x, y: 0, z: 64 * k }, u64::MAX)?;
         }
         Ok(())
     }
@@ -90,12 +112,12 @@ impl Flood {
     /// Takes out all voxels that are reached from those that were found.
     fn spread(&mut self) -> Result<(), Memory>
         requires most { self.old.remaining.resolution ≤ MOST_R }
-        requires within { All (IsInSpace MOST_R) self.old.found.items }
+        requires starts { All (λ s. IsStart s.first) self.old.found.items }
         ensures reaches { IfOk result (λ _. (m : Matrix) → IsFlood m self.old → IsFlood m self.new) }
         ensures all { IfOk result (λ _. self.new.found.items ≡ []) }
     {
-        while let Some(c) = self.found.pop() {
-            self.take_around(c)?;
+        while let Some(stretch) = self.found.pop() {
+            self.take_around(stretch.first, stretch.bits)?;
         }
         Ok(())
     }

@@ -7,3 +7,4 @@ pub mod Voxels
 pub mod Walks
 pub mod Placed
 pub mod Chunks
+pub mod Taken

@@ -24,16 +24,16 @@ use Rattle.vox_planes.proofs.Voxels.{get_or-where, length-where}
 
 -- ---- which numbers are from one on
 
-before_these : (from count p : ℕ) → p < from → is_from from count p ≡ false
+pub before_these : (from count p : ℕ) → p < from → is_from from count p ≡ false
 before_these from count p l = grind (arith, nat_tests)
 
-one_of_these : (from count p : ℕ) → from ≤ p → p < from + count → is_from from count p ≡ true
+pub one_of_these : (from count p : ℕ) → from ≤ p → p < from + count → is_from from count p ≡ true
 one_of_these from count p h l = grind (arith, nat_tests)
 
-after_these : (from count p : ℕ) → from + count ≤ p → is_from from count p ≡ false
+pub after_these : (from count p : ℕ) → from + count ≤ p → is_from from count p ≡ false
 after_these from count p l = grind (arith, nat_tests)
 
-none_of_these : (from count p : ℕ) → ((k : ℕ) → k < count → p ≡ from + k → ⊥) → is_from from count p ≡ false
+pub none_of_these : (from count p : ℕ) → ((k : ℕ) → k < count → p ≡ from + k → ⊥) → is_from from count p ≡ false
 none_of_these from count p h = by (cases_lt p from) (cases_lt p (from + count))
   where
     by : ((p < from) ⊎ (from ≤ p)) → ((p < from + count) ⊎ (from + count ≤ p)) → is_from from count p ≡ false

@@ -1,9 +1,13 @@
 //! Voxels by their places, many at a time.
-ghost use Rattle.std.specs.Prelude.{◌≡◌, ◌+◌, ◌-◌, ◌*◌, ◌%◌, ◌^◌, ◌<◌, ◌≤◌, ◌||◌, IsFalse, ℕ, cond, length};
+ghost use Rattle.std.specs.Prelude.{◌≡◌, ◌+◌, ◌-◌, ◌*◌, ◌%◌, ◌^◌, ◌<◌, ◌≤◌, ◌&&◌, ◌||◌, not, IsFalse, ℕ, cond, length};
+ghost use Rattle.vox_geom.specs.declared.coordinate.Coord.{Coord as Coordinate};
+ghost use Rattle.vox_geom.specs.Space.{IsInSpace};
+ghost use Rattle.nano_spec.specs.Matrix.{is_full};
 ghost use Rattle.nano_spec.specs.Model.{bit, volume};
 ghost use Rattle.vox_planes.specs.Layers.{is_set as is_set_of};
-ghost use Rattle.vox_planes.specs.Places.{is_from, voxel_at};
+ghost use Rattle.vox_planes.specs.Places.{is_from, is_marked, voxel_at};
 ghost use Rattle.vox_planes.specs.Voxel.{IsWhole};
+ghost use Rattle.vox_planes.specs.Walk.{at as in_row};
 
 use super::{Planes, WORD_BITS, bit_index};
 use std::sync::ledger::Ledger;
@@ -79,6 +83,22 @@ impl Planes {
         }
         bits
     }
+
+    /// Makes voxels of a row void: those of so many from a coordinate on for which a word has the bit 1. Which of them
+    /// were full, as the bits of a word. All other voxels stay.
+    pub fn take_row(&mut self, first: Coord, count: u32, bits: u64) -> u64
+        requires few { count ≤ 64 }
+        requires within { IsInSpace self.old.resolution first }
+        requires row { first.z + count ≤ self.old.resolution }
+        ensures was { (k : ℕ) → k < count → bit result k ≡ (bit bits k && is_full self.old (in_row first (first.z + k))) }
+        ensures below { result < 2 ^ count }
+        ensures left { (d : Coordinate) → is_full self.new d ≡ (is_full self.old d && not (is_marked first count bits d)) }
+        ensures resolution { self.new.resolution ≡ self.old.resolution }
+        ensures whole { IsWhole self.new }
+    {
+        let index = bit_index(first, self.resolution);
+        take_bits(&mut self.words, index, count, bits)
+    }
 }
 
 /// How many of so many bits from an index on lie in a row that has only some left, and in one word.
@@ -125,4 +145,39 @@ fn put_bits(words: &mut [u64], index: usize, count: u32, bits: u64)
     let mask = mask((index % WORD_BITS) as u32, count);
     let word = &mut words[index / WORD_BITS];
     *word = (*word & !mask) | ((bits << (index % WORD_BITS)) & mask);
+}
+
+/// Makes bits 0 that stand in one word: those of so many from an index on for which another word has the bit 1. Which
+/// of them were 1.
+fn take_part(words: &mut [u64], index: usize, count: u32, bits: u64) -> u64
+    requires within { index < 64 * length words.old }
+    requires some { 1 ≤ count }
+    requires word { index % 64 + count ≤ 64 }
+    ensures was { (k : ℕ) → k < count → bit result k ≡ (bit bits k && is_set_of words.old (index + k)) }
+    ensures below { result < 2 ^ count }
+    ensures left { (j : ℕ) → is_set_of words.new j ≡ (is_set_of words.old j && not (is_from index count j && bit bits (j - index))) }
+{
+    let present = bits_at(words, index, count);
+    put_bits(words, index, count, present & !bits);
+    present & bits
+}
+
+/// Makes bits 0: those of so many from an index on for which another word has the bit 1. Which of them were 1.
+fn take_bits(words: &mut [u64], index: usize, count: u32, bits: u64) -> u64
+    requires few { count ≤ 64 }
+    requires within { index + count ≤ 64 * length words.old }
+    requires small { index < 2 ^ 32 }
+    ensures was { (k : ℕ) → k < count → bit result k ≡ (bit bits k && is_set_of words.old (index + k)) }
+    ensures below { result < 2 ^ count }
+    ensures left { (j : ℕ) → is_set_of words.new j ≡ (is_set_of words.old j && not (is_from index count j && bit bits (j - index))) }
+{
+    let mut taken = 0;
+    let mut done = 0;
+    while done < count {
+        let at = index + done as usize;
+        let some = part(count - done, at, count - done);
+        taken += take_part(words, at, some, bits >> done) << done;
+        done += some;
+    }
+    taken
 }

@@ -8,13 +8,14 @@ use Rattle.vox_geom.proofs.Firsts.{first_is}
 use Rattle.nano_spec.specs.Grounded.{FirstUngrounded}
 use Rattle.nano_spec.specs.Matrix.{is_full}
 use Rattle.model_file.specs.declared.flood.Flood.{Flood}
-use Rattle.model_file.proofs.Spreads.{flood_begun, found_within, left_is_ungrounded}
+use Rattle.model_file.specs.Flood.{IsStart}
+use Rattle.model_file.proofs.Spreads.{flood_begun, found_starts, left_is_ungrounded}
 use Rattle.model_file.proofs.flood.first_ungrounded.Goals as goal
 
-pub spread-requires-clause-within : goal.spread-requires-clause-within
-spread-requires-clause-within c =
+pub spread-requires-clause-starts : goal.spread-requires-clause-starts
+spread-requires-clause-starts c =
     let start : Flood = record { remaining = c.in_ok-copy.field-0; found = c.new.result } in
-    found_within (λ d. d.y ≡ 0) start c.take_floor.new.self (let w = c.in_ok-copy.ensures.whole in w.most) (All-same (IsInSpace MOST_R) c.new.result.items [] c.new.ensures.items (All-nil (IsInSpace MOST_R))) c.in_ok-take_floor.ensures.takes
+    found_starts (λ d. d.y ≡ 0) start c.take_floor.new.self (let w = c.in_ok-copy.ensures.whole in w.most) (All-same (λ s. IsStart s.first) c.new.result.items [] c.new.ensures.items (All-nil (λ s. IsStart s.first))) c.in_ok-take_floor.ensures.takes
 
 pub returns : goal.returns
 returns c =
