@@ -19,7 +19,8 @@ use Rattle.nano_spec.specs.declared.outcomes.Broken.{Broken}
 use Rattle.nano_spec.specs.declared.outcomes.Rule.TheVariants.{OutOfSpace, Blocked, InRegion, GroupShape}
 use Rattle.nano_spec.specs.declared.system.Bot.{Bot}
 use Rattle.step_groups.specs.Judging.{act, first_fault, later_rules, corner_list}
-use Rattle.step_groups.proofs.Ways.{skip, unblocked, or-false}
+use Rattle.step_groups.proofs.Ways.{skip, unblocked}
+use Rattle.step_groups.proofs.Lists.{or_false}
 
 -- whether the members of a bot's group misfit a region
 abbrev pub misshape : List Act → Act → Span → Bool
@@ -42,7 +43,7 @@ group_rest s step bot a P Q x y t u i j g h =
     let G : Option Broken = broken_by step GroupShape bot.bid (cond (y || false) (Some bot.pos) None) in
     (skip step bot.bid OutOfSpace a (not (in_space r P && (in_space r Q && true))) (B ∷ None ∷ I ∷ None ∷ G ∷ []) (both_in (in_space r P) (in_space r Q) i j)
     ∙ (unblocked step bot.bid s.matrix (all_of s.matrix) (None ∷ I ∷ None ∷ G ∷ []) ∙ last_two I G))
-    ∙ (λ n. first_value (broken_by step InRegion bot.bid (cond ((or-false x ∙ g) n) (Some bot.pos) None) ∷ broken_by step GroupShape bot.bid (cond ((or-false y ∙ h) n) (Some bot.pos) None) ∷ []))
+    ∙ (λ n. first_value (broken_by step InRegion bot.bid (cond ((or_false x ∙ g) n) (Some bot.pos) None) ∷ broken_by step GroupShape bot.bid (cond ((or_false y ∙ h) n) (Some bot.pos) None) ∷ []))
 
 pub group_fill : (s : State) (all : List Act) (step : ℕ) (bot : Bot) (k : Command) (d f : Diff) (t u : Bool) → k ≡ GFill d f → IsTrue (in_space s.matrix.resolution (plus (point bot.pos) d)) → IsTrue (in_space s.matrix.resolution (plus (plus (point bot.pos) d) f)) → is_within (between (plus (point bot.pos) d) (plus (plus (point bot.pos) d) f)) (point bot.pos) ≡ t → misshape all (act bot k) (between (plus (point bot.pos) d) (plus (plus (point bot.pos) d) f)) ≡ u → first_fault s all step (act bot k) later_rules ≡ first_value (broken_by step InRegion bot.bid (cond t (Some bot.pos) None) ∷ broken_by step GroupShape bot.bid (cond u (Some bot.pos) None) ∷ [])
 group_fill s all step bot k d f t u e i j g h =

@@ -17,6 +17,7 @@ use Rattle.step_groups.specs.Groups.{IsGroup, AreGroups, judge_with}
 use Rattle.step_groups.specs.declared.groups.Group.{Group}
 use Rattle.vox_geom.proofs.Firsts.{first_is}
 use Rattle.step_groups.proofs.Shared.{least_same}
+use Rattle.step_groups.proofs.Lists.{to_end}
 
 -- the leader at a place
 pub record Place (r : ℕ) (all leaders : List Act) (j : ℕ) (g : Group) : Type 0 where
@@ -51,8 +52,7 @@ rest r all (a ∷ leaders) (f ∷ groups) (suc j) h = rest r all leaders groups 
 
 pub rest_slice : (r : ℕ) (all leaders : List Act) (groups : List Group) (j : ℕ) → AreGroups r all leaders groups → AreGroups r all (drop j leaders) (take (length groups - j) (drop j groups))
 rest_slice r all leaders groups j h =
-    let le : length (drop j groups) ≤ length groups - j = simp length-drop (omega arith) in
-    subst (λ (gs : List Group). AreGroups r all (drop j leaders) gs) (sym (take_all (length groups - j) (drop j groups) le)) (rest r all leaders groups j h)
+    subst (λ (gs : List Group). AreGroups r all (drop j leaders) gs) (sym (to_end groups j)) (rest r all leaders groups j h)
 
 -- the clash of two leaders, by the boxes of their groups
 pub clash_is : (m : Matrix) (all : List Act) (a b : Act) (g h : Group) (o : Option Coord) → IsGroup m.resolution all a g → IsGroup m.resolution all b h → LeastOf m.resolution (λ c. in_boxes g.boxes.items c && in_boxes h.boxes.items c) o → clash m all a b ≡ o

@@ -25,6 +25,7 @@ use Rattle.step_groups.specs.Groups.{AreJudged}
 use Rattle.step_groups.specs.Judging.{act, judge_bot, judge_each}
 use Rattle.step_groups.proofs.Joined.{bot_in, in_all}
 use Rattle.step_groups.proofs.Mates.{bots_are, no_filter}
+use Rattle.step_groups.proofs.Lists.{or_false}
 
 -- ---- no rule is broken
 
@@ -170,10 +171,6 @@ module _ (bots : List Bot) (commands : List Command) (lengths : length commands 
       let is : (b : Act) → are_together a b ≡ (same b || are_partners a b) = λ b. ap (λ t. (same b || are_partners a b) || t) (h b) ∙ or_false (same b || are_partners a b) in
       let e : length (members all a) ≡ length (filter (λ b. same b || are_partners a b) all) = ap (λ t. length (filter t all)) (λ i b. is b i) in
       omega (arith, e, both, bids, mates)
-    where
-      or_false : (b : Bool) → (b || false) ≡ b
-      or_false true = refl
-      or_false false = refl
 
   few_by : (s : State) (b : Bot) (k : Command) → fault s (acts bots commands) (act b k) GroupShape ≡ None → length (members (acts bots commands) (act b k)) ≤ 8
   few_by s b (GFill d f) e = fits _ (between (plus (position (act b (GFill d f))) d) (plus (plus (position (act b (GFill d f))) d) f)) _ (no_fault (act b (GFill d f)) _ e)

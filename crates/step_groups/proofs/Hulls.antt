@@ -14,6 +14,7 @@ use Rattle.step_groups.specs.Boxes.{IsHull, in_boxes}
 use Rattle.step_groups.specs.Groups.{AreGroups, AreHulls}
 use Rattle.step_groups.specs.declared.groups.Group.{Group}
 use Rattle.step_groups.proofs.Shared.{any-push, both_left, both_right, both_true, take_one}
+use Rattle.step_groups.proofs.Lists.{to_end}
 
 -- a wider stretch of numbers
 wider : (a b l h v : ℕ) → a ≤ b → l ≤ a → b ≤ h → IsTrue (is_between (pos a) (pos b) (pos v)) → IsTrue (is_between (pos l) (pos h) (pos v))
@@ -58,13 +59,10 @@ after [] (x ∷ groups) (suc j) h = absurd h
 after (y ∷ hulls) [] (suc j) h = absurd h
 after (y ∷ hulls) (x ∷ groups) (suc j) h = after hulls groups j h.1
 
-rest : {X : Type 0} (xs : List X) (j : ℕ) → take (length xs - j) (drop j xs) ≡ drop j xs
-rest xs j = let le : length (drop j xs) ≤ length xs - j = simp length-drop (omega arith) in take_all (length xs - j) (drop j xs) le
-
 pub rest_hulls : (hulls : List Corners) (groups : List Group) (j : ℕ) → AreHulls hulls groups → AreHulls (take (length hulls - j) (drop j hulls)) (take (length groups - j) (drop j groups))
 rest_hulls hulls groups j h =
-    subst (λ (ks : List Corners). AreHulls ks (take (length groups - j) (drop j groups))) (sym (rest hulls j))
-    (subst (λ (gs : List Group). AreHulls (drop j hulls) gs) (sym (rest groups j)) (after hulls groups j h))
+    subst (λ (ks : List Corners). AreHulls ks (take (length groups - j) (drop j groups))) (sym (to_end hulls j))
+    (subst (λ (gs : List Group). AreHulls (drop j hulls) gs) (sym (to_end groups j)) (after hulls groups j h))
 
 pub one_more : (hulls : List Corners) (groups : List Group) (k : Corners) (g : Group) → AreHulls hulls groups → IsHull k g.boxes.items → AreHulls (hulls ++ k ∷ []) (groups ++ g ∷ [])
 one_more [] [] k g h i = (i, tt)

@@ -20,6 +20,7 @@ use Rattle.step_groups.specs.Groups.{AreGroups, IsGroup, bid_of, spot}
 use Rattle.step_groups.specs.Judging.{is_alone}
 use Rattle.step_groups.specs.declared.groups.Group.{Group}
 use Rattle.step_groups.proofs.Mates.{group, leads, none_after, none_before, volatile}
+use Rattle.step_groups.proofs.Lists.{or_false}
 
 -- ---- boxes
 
@@ -127,10 +128,6 @@ module _ (r : ℕ) (all xs ys : List Act) (a : Act) (whole : all ≡ xs ++ a ∷
       (mates ∙ ap (λ zs. a.bot.bid ∷ map bid_of zs) (sym after))
       (λ c. boxes c ∙ (sym (or_false (is_volatile_of (point c) a)) ∙ ap (λ zs. is_volatile_of (point c) a || list_any (λ b. is_within (span (spot b)) (point c)) zs) (sym after)))
       space k
-    where
-      or_false : (b : Bool) → (b || false) ≡ b
-      or_false true = refl
-      or_false false = refl
 
   -- a leader of no more than eight has seven after it
   pub few_after : list_any (are_together a) xs ≡ false → length (members all a) ≤ 8 → length (filter (are_together a) ys) ≤ 7

@@ -19,9 +19,7 @@ use Rattle.step_groups.specs.Judging.{act, is_alone}
 use Rattle.step_groups.specs.declared.groups.Group.{Group}
 use Rattle.step_groups.proofs.Joined.{add_alone, add_joined, add_none, all_in, few_after}
 use Rattle.step_groups.proofs.Mates.{bots_are, in_middle, split_at, take_more}
-
-rest : {X : Type 0} (xs : List X) (j : ℕ) → take (length xs - j) (drop j xs) ≡ drop j xs
-rest xs j = let le : length (drop j xs) ≤ length xs - j = simp length-drop (omega arith) in take_all (length xs - j) (drop j xs) le
+use Rattle.step_groups.proofs.Lists.{to_end}
 
 module _ (r : ℕ) (bots : List Bot) (commands : List Command) (i : ℕ) (b : Bot) (k : Command) (lt : i < length bots) (lengths : length commands ≡ length bots) (bi : b ≡ get_or bots i b) (ki : k ≡ get_or commands i k) where
   abbrev all : List Act
@@ -49,7 +47,7 @@ module _ (r : ℕ) (bots : List Bot) (commands : List Command) (i : ℕ) (b : Bo
   one_more = take_more bots commands i b k lt lengths bi ki
 
   after_is : ys ≡ after
-  after_is = λ n. acts (sym (rest bots (i + 1)) n) (sym (rest commands (i + 1)) n)
+  after_is = λ n. acts (sym (to_end bots (i + 1)) n) (sym (to_end commands (i + 1)) n)
 
   here : In (act b k) (acts bots commands)
   here = subst (λ (zs : List Act). In (act b k) zs) (sym whole) (in_middle xs ys a)

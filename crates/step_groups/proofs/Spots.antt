@@ -11,6 +11,7 @@ use Rattle.nano_spec.specs.Group.{are_partners, fuse, is_pair, share_region}
 use Rattle.nano_spec.specs.Volatile.{is_volatile_of, volatile_regions}
 use Rattle.step_order.proofs.Lists.{one_of}
 use Rattle.step_order.proofs.Together.{extent_is, region_parts}
+use Rattle.step_groups.proofs.Lists.{or_false}
 
 abbrev within_any : Point → Command → Point → Bool
 within_any q e x = list_any (λ s. is_within s x) (volatile_regions q e)
@@ -20,10 +21,6 @@ or_back true true = refl
 or_back true false = refl
 or_back false true = refl
 or_back false false = refl
-
-or_false : (b : Bool) → (b || false) ≡ b
-or_false true = refl
-or_false false = refl
 
 between_same : (a b c d v : ℤ) → same_extent a b c d ≡ true → is_between a b v ≡ is_between c d v
 between_same a b c d v h = by (extent_is a b c d h)

@@ -15,6 +15,7 @@ use Rattle.step_order.proofs.Facts.{Rising, rising_is}
 use Rattle.step_order.proofs.Lists.{In}
 use Rattle.step_groups.specs.Judging.{is_alone, touches_of}
 use Rattle.step_groups.proofs.Mates.{bots_are, group, leads, none_after, none_before}
+use Rattle.step_groups.proofs.Lists.{or_false}
 
 -- the elements before one and after it
 record Within {X : Type 0} (x : X) (xs : List X) : Type 0 where
@@ -26,10 +27,6 @@ found : {X : Type 0} (x : X) (xs : List X) → In x xs → Within x xs
 found x [] i = absurd i
 found x (y ∷ ys) (inl e) = record { before = []; after = ys; whole = λ i. sym e i ∷ ys }
 found x (y ∷ ys) (inr i) = let w = found x ys i in record { before = y ∷ w.before; after = w.after; whole = ap (λ zs. y ∷ zs) w.whole }
-
-or_false : (b : Bool) → (b || false) ≡ b
-or_false true = refl
-or_false false = refl
 
 module _ (m : Matrix) (all : List Act) (up : Rising (map (λ (x : Act). x.bot) all)) where
   alone_members : (a : Act) → In a all → IsTrue (is_alone a.command) → members all a ≡ a ∷ []

@@ -24,6 +24,7 @@ use Rattle.step_groups.specs.Judging.{act, first_fault, later_rules}
 use Rattle.nano_spec.specs.Rules.{here, broken_by}
 use Rattle.nano_spec.specs.declared.outcomes.Broken.{Broken}
 use Rattle.nano_spec.specs.declared.outcomes.Rule.{Rule}
+use Rattle.step_groups.proofs.Lists.{or_false}
 
 -- two tests that say the same find the same
 pub find-same : {A : Type 0} (f g : A → Bool) (xs : List A) → ((x : A) → f x ≡ g x) → find f xs ≡ find g xs
@@ -37,17 +38,13 @@ and-false : (b : Bool) → (b && false) ≡ false
 and-false true = refl
 and-false false = refl
 
-pub or-false : (b : Bool) → (b || false) ≡ b
-or-false true = refl
-or-false false = refl
-
 -- where there is no way nothing blocks it
 pub no_way : (m : Matrix) (cs : List Coord) → find (λ c. is_full m c && false) cs ≡ None
 no_way m cs = find-same (λ c. is_full m c && false) (λ _. false) cs (λ c. and-false (is_full m c)) ∙ find-never cs
 
 -- one way
 pub one_way : (m : Matrix) (k : Corners) (s : Span) (cs : List Coord) → ((p : Point) → is_within (span k) p ≡ is_within s p) → find (λ c. is_full m c && is_within (span k) (point c)) cs ≡ find (λ c. is_full m c && (is_within s (point c) || false)) cs
-one_way m k s cs covers = find-same (λ c. is_full m c && is_within (span k) (point c)) (λ c. is_full m c && (is_within s (point c) || false)) cs (λ c i. is_full m c && (covers (point c) ∙ sym (or-false (is_within s (point c)))) i)
+one_way m k s cs covers = find-same (λ c. is_full m c && is_within (span k) (point c)) (λ c. is_full m c && (is_within s (point c) || false)) cs (λ c i. is_full m c && (covers (point c) ∙ sym (or_false (is_within s (point c)))) i)
 
 -- the lists of judgements of one bot
 
@@ -125,7 +122,7 @@ two_ways m k l s t x y p q e f =
     ∙ (λ i. earlier (sym e i) (sym f i)))
   where
     spread : (a b c : Bool) → (a && (b || (c || false))) ≡ ((a && b) || (a && c))
-    spread true b c = ap (λ v. b || v) (or-false c)
+    spread true b c = ap (λ v. b || v) (or_false c)
     spread false b c = refl
 
 pub lmove : (s : State) (all : List Act) (step : ℕ) (bot : Bot) (d e : Diff) (k l : Corners) (mid to : Coord) (x y : Option Coord) → IsTrue (in_space s.matrix.resolution (plus (point bot.pos) d)) → IsTrue (in_space s.matrix.resolution (plus (point mid) e)) → point mid ≡ plus (point bot.pos) d → point to ≡ plus (point mid) e → ((p : Point) → is_within (span k) p ≡ is_within (between (point bot.pos) (point mid)) p) → ((p : Point) → is_within (span l) p ≡ is_within (between (point mid) (point to)) p) → x ≡ find (λ c. is_full s.matrix c && is_within (span k) (point c)) (all_of s.matrix) → y ≡ find (λ c. is_full s.matrix c && is_within (span l) (point c)) (all_of s.matrix) → first_fault s all step (act bot (LMove d e)) later_rules ≡ broken_by step Blocked bot.bid (earlier x y)

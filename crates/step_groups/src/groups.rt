@@ -10,7 +10,7 @@ ghost use Rattle.step_groups.specs.Judging.{start_of};
 
 use crate::members::gather;
 use crate::pairs::judge_pairs;
-use crate::rules::judge_bots;
+use crate::rules::{Step, judge_bots};
 use arrayvec::ArrayVec;
 use bot_crew::{Crew, MOST_BOTS};
 use nano_spec::{Broken, Command, Harmonics, Profile};
@@ -92,8 +92,16 @@ impl Groups {
         ensures touches { steps.new ≤ steps.old + 2 * volatile_total planes.now (acts crew.now commands.now) }
     {
         let bots = crew.bots();
+        let judged = Step {
+            planes,
+            harmonics,
+            profile,
+            bots,
+            commands,
+            number: step,
+        };
         self.groups.clear();
-        if let Some(broken) = judge_bots(planes, harmonics, profile, bots, commands, step, steps) {
+        if let Some(broken) = judge_bots(&judged, steps) {
             return Err(broken);
         }
         gather(&mut self.groups, planes, bots, commands);

@@ -18,6 +18,17 @@ use std::sync::ledger::Ledger;
 use vox_geom::{Coord, Diff, Region, Steps};
 use vox_planes::Planes;
 
+/// A step to be judged.
+#[derive(Clone, Copy)]
+pub(crate) struct Step<'a> {
+    pub(crate) planes: &'a Planes,
+    pub(crate) harmonics: Harmonics,
+    pub(crate) profile: Profile,
+    pub(crate) bots: &'a [Bot],
+    pub(crate) commands: &'a [Command],
+    pub(crate) number: u32,
+}
+
 /// The rule is broken at the coordinate, if there is one.
 fn broken_where(step: u32, bot: Bot, rule: Rule, at: Option<Coord>) -> Option<Broken>
     ensures { result ≡ broken_by step rule bot.bid at }
@@ -195,158 +206,100 @@ fn judge_near(planes: &Planes, step: u32, bot: Bot, d: Diff) -> Option<Broken>
 }
 
 /// The first rule that a bot with `FusionP` or `FusionS` breaks.
-fn judge_fusion(
-    planes: &Planes,
-    bots: &[Bot],
-    commands: &[Command],
-    step: u32,
-    bot: &Bot,
-    command: &Command,
-    d: Diff,
-) -> Option<Broken>
-    requires within { IsInSpace planes.now.resolution bot.now.pos }
-    requires lengths { length commands.now ≡ length bots.now }
-    ensures primary { (s : State) → command.now ≡ FusionP d → result ≡ first_fault (record s { matrix = planes.now }) (acts bots.now commands.now) step (act bot.now command.now) later_rules }
-    ensures secondary { (s : State) → command.now ≡ FusionS d → result ≡ first_fault (record s { matrix = planes.now }) (acts bots.now commands.now) step (act bot.now command.now) later_rules }
+fn judge_fusion(step: &Step, bot: &Bot, command: &Command, d: Diff) -> Option<Broken>
+    requires within { IsInSpace step.now.planes.now.resolution bot.now.pos }
+    requires lengths { length step.now.commands.now ≡ length step.now.bots.now }
+    ensures primary { (s : State) → command.now ≡ FusionP d → result ≡ first_fault (record s { matrix = step.now.planes.now }) (acts step.now.bots.now step.now.commands.now) step.now.number (act bot.now command.now) later_rules }
+    ensures secondary { (s : State) → command.now ≡ FusionS d → result ≡ first_fault (record s { matrix = step.now.planes.now }) (acts step.now.bots.now step.now.commands.now) step.now.number (act bot.now command.now) later_rules }
 {
-    let Some(_to) = reached(planes, bot.pos, d) else {
-        return broken_here(step, *bot, Rule::OutOfSpace);
+    let Some(_to) = reached(step.planes, bot.pos, d) else {
+        return broken_here(step.number, *bot, Rule::OutOfSpace);
     };
-    let has = has_partner(bots, commands, bot, command);
-    broken_if(step, *bot, Rule::Partner, !has)
+    let has = has_partner(step.bots, step.commands, bot, command);
+    broken_if(step.number, *bot, Rule::Partner, !has)
 }
 
 /// The first rule that a bot with a group command breaks.
-fn judge_group(
-    planes: &Planes,
-    bots: &[Bot],
-    commands: &[Command],
-    step: u32,
-    bot: &Bot,
-    command: &Command,
-    d: Diff,
-    f: Diff,
-) -> Option<Broken>
-    requires within { IsInSpace planes.now.resolution bot.now.pos }
-    requires lengths { length commands.now ≡ length bots.now }
-    ensures fill { (s : State) → command.now ≡ GFill d f → result ≡ first_fault (record s { matrix = planes.now }) (acts bots.now commands.now) step (act bot.now command.now) later_rules }
-    ensures void { (s : State) → command.now ≡ GVoid d f → result ≡ first_fault (record s { matrix = planes.now }) (acts bots.now commands.now) step (act bot.now command.now) later_rules }
+fn judge_group(step: &Step, bot: &Bot, command: &Command, d: Diff, f: Diff) -> Option<Broken>
+    requires within { IsInSpace step.now.planes.now.resolution bot.now.pos }
+    requires lengths { length step.now.commands.now ≡ length step.now.bots.now }
+    ensures fill { (s : State) → command.now ≡ GFill d f → result ≡ first_fault (record s { matrix = step.now.planes.now }) (acts step.now.bots.now step.now.commands.now) step.now.number (act bot.now command.now) later_rules }
+    ensures void { (s : State) → command.now ≡ GVoid d f → result ≡ first_fault (record s { matrix = step.now.planes.now }) (acts step.now.bots.now step.now.commands.now) step.now.number (act bot.now command.now) later_rules }
 {
-    let Some(near) = reached(planes, bot.pos, d) else {
-        return broken_here(step, *bot, Rule::OutOfSpace);
+    let Some(near) = reached(step.planes, bot.pos, d) else {
+        return broken_here(step.number, *bot, Rule::OutOfSpace);
     };
-    let Some(far) = reached(planes, near, f) else {
-        return broken_here(step, *bot, Rule::OutOfSpace);
+    let Some(far) = reached(step.planes, near, f) else {
+        return broken_here(step.number, *bot, Rule::OutOfSpace);
     };
     let region = Region::of(near, far);
     if region.has(bot.pos) {
-        return broken_here(step, *bot, Rule::InRegion);
+        return broken_here(step.number, *bot, Rule::InRegion);
     }
-    let shape = is_misshapen(bots, commands, bot, command, region.dim());
-    broken_if(step, *bot, Rule::GroupShape, shape)
+    let shape = is_misshapen(step.bots, step.commands, bot, command, region.dim());
+    broken_if(step.number, *bot, Rule::GroupShape, shape)
 }
 
 /// The first rule after the one on the profile that a bot breaks.
 fn judge_later<L: Ledger>(
-    planes: &Planes,
-    harmonics: Harmonics,
-    bots: &[Bot],
-    commands: &[Command],
-    step: u32,
+    step: &Step,
     bot: &Bot,
     command: &Command,
     steps: &mut Steps<L>,
 ) -> Option<Broken>
-    requires within { IsInSpace planes.now.resolution bot.now.pos }
-    requires lengths { length commands.now ≡ length bots.now }
-    ensures value { (s : State) → result ≡ first_fault (record s { matrix = planes.now; harmonics = harmonics; bots = bots.now }) (acts bots.now commands.now) step (act bot.now command.now) later_rules }
-    ensures touches { steps.new ≤ steps.old + touches_of planes.now (act bot.now command.now) }
+    requires within { IsInSpace step.now.planes.now.resolution bot.now.pos }
+    requires lengths { length step.now.commands.now ≡ length step.now.bots.now }
+    ensures value { (s : State) → result ≡ first_fault (record s { matrix = step.now.planes.now; harmonics = step.now.harmonics; bots = step.now.bots.now }) (acts step.now.bots.now step.now.commands.now) step.now.number (act bot.now command.now) later_rules }
+    ensures touches { steps.new ≤ steps.old + touches_of step.now.planes.now (act bot.now command.now) }
 {
+    let planes = step.planes;
+    let number = step.number;
     match command {
-        Command::Halt => judge_halt(step, bots, harmonics, *bot),
-        Command::Wait => judge_still(step, *bot),
-        Command::Flip => judge_still(step, *bot),
-        Command::SMove(d) => judge_smove(planes, step, *bot, d.diff(), steps),
-        Command::LMove(d, e) => judge_lmove(planes, step, *bot, d.diff(), e.diff(), steps),
-        Command::FusionP(d) => judge_fusion(planes, bots, commands, step, bot, command, d.diff()),
-        Command::FusionS(d) => judge_fusion(planes, bots, commands, step, bot, command, d.diff()),
-        Command::Fission(d, m) => judge_fission(planes, step, *bot, d.diff(), *m, steps),
-        Command::Fill(d) => judge_near(planes, step, *bot, d.diff()),
-        Command::Void(d) => judge_near(planes, step, *bot, d.diff()),
-        Command::GFill(d, f) => judge_group(
-            planes,
-            bots,
-            commands,
-            step,
-            bot,
-            command,
-            d.diff(),
-            f.diff(),
-        ),
-        Command::GVoid(d, f) => judge_group(
-            planes,
-            bots,
-            commands,
-            step,
-            bot,
-            command,
-            d.diff(),
-            f.diff(),
-        ),
+        Command::Halt => judge_halt(number, step.bots, step.harmonics, *bot),
+        Command::Wait => judge_still(number, *bot),
+        Command::Flip => judge_still(number, *bot),
+        Command::SMove(d) => judge_smove(planes, number, *bot, d.diff(), steps),
+        Command::LMove(d, e) => judge_lmove(planes, number, *bot, d.diff(), e.diff(), steps),
+        Command::FusionP(d) => judge_fusion(step, bot, command, d.diff()),
+        Command::FusionS(d) => judge_fusion(step, bot, command, d.diff()),
+        Command::Fission(d, m) => judge_fission(planes, number, *bot, d.diff(), *m, steps),
+        Command::Fill(d) => judge_near(planes, number, *bot, d.diff()),
+        Command::Void(d) => judge_near(planes, number, *bot, d.diff()),
+        Command::GFill(d, f) => judge_group(step, bot, command, d.diff(), f.diff()),
+        Command::GVoid(d, f) => judge_group(step, bot, command, d.diff(), f.diff()),
     }
 }
 
 /// The first rule that a bot breaks.
 fn judge_bot<L: Ledger>(
-    planes: &Planes,
-    harmonics: Harmonics,
-    profile: Profile,
-    bots: &[Bot],
-    commands: &[Command],
-    step: u32,
+    step: &Step,
     bot: &Bot,
     command: &Command,
     steps: &mut Steps<L>,
 ) -> Option<Broken>
-    requires within { IsInSpace planes.now.resolution bot.now.pos }
-    requires lengths { length commands.now ≡ length bots.now }
-    ensures value { result ≡ judge_bot_of (start_of planes.now harmonics profile bots.now) (acts bots.now commands.now) step (act bot.now command.now) }
-    ensures touches { steps.new ≤ steps.old + touches_of planes.now (act bot.now command.now) }
+    requires within { IsInSpace step.now.planes.now.resolution bot.now.pos }
+    requires lengths { length step.now.commands.now ≡ length step.now.bots.now }
+    ensures value { result ≡ judge_bot_of (start_of step.now.planes.now step.now.harmonics step.now.profile step.now.bots.now) (acts step.now.bots.now step.now.commands.now) step.now.number (act bot.now command.now) }
+    ensures touches { steps.new ≤ steps.old + touches_of step.now.planes.now (act bot.now command.now) }
 {
-    if profile.allows(*command) {
-        judge_later(planes, harmonics, bots, commands, step, bot, command, steps)
+    if step.profile.allows(*command) {
+        judge_later(step, bot, command, steps)
     } else {
-        broken_here(step, *bot, Rule::Forbidden)
+        broken_here(step.number, *bot, Rule::Forbidden)
     }
 }
 
 /// The first rule that one of the bots breaks.
-pub(crate) fn judge_bots<L: Ledger>(
-    planes: &Planes,
-    harmonics: Harmonics,
-    profile: Profile,
-    bots: &[Bot],
-    commands: &[Command],
-    step: u32,
-    steps: &mut Steps<L>,
-) -> Option<Broken>
-    requires within { All (λ b. IsInSpace planes.now.resolution b.pos) bots.now }
-    requires lengths { length commands.now ≡ length bots.now }
-    ensures value { result ≡ judge_each (start_of planes.now harmonics profile bots.now) (acts bots.now commands.now) step (acts bots.now commands.now) }
-    ensures touches { steps.new ≤ steps.old + sum_by (touches_of planes.now) (acts bots.now commands.now) }
+pub(crate) fn judge_bots<L: Ledger>(step: &Step, steps: &mut Steps<L>) -> Option<Broken>
+    requires within { All (λ b. IsInSpace step.now.planes.now.resolution b.pos) step.now.bots.now }
+    requires lengths { length step.now.commands.now ≡ length step.now.bots.now }
+    ensures value { result ≡ judge_each (start_of step.now.planes.now step.now.harmonics step.now.profile step.now.bots.now) (acts step.now.bots.now step.now.commands.now) step.now.number (acts step.now.bots.now step.now.commands.now) }
+    ensures touches { steps.new ≤ steps.old + sum_by (touches_of step.now.planes.now) (acts step.now.bots.now step.now.commands.now) }
 {
+    let bots = step.bots;
+    let commands = step.commands;
     for i in 0..bots.len() {
-        let broken = judge_bot(
-            planes,
-            harmonics,
-            profile,
-            bots,
-            commands,
-            step,
-            &bots[i],
-            &commands[i],
-            steps,
-        );
+        let broken = judge_bot(step, &bots[i], &commands[i], steps);
         if broken.is_some() {
             return broken;
         }

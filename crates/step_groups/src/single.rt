@@ -7,7 +7,7 @@ ghost use Rattle.nano_spec.specs.Rules.{broken};
 ghost use Rattle.nano_spec.specs.Work.{volatile_total};
 ghost use Rattle.step_groups.specs.Judging.{start_of};
 
-use crate::rules::judge_bots;
+use crate::rules::{Step, judge_bots};
 use bot_crew::Crew;
 use nano_spec::{Broken, Command, Harmonics, Profile};
 use std::sync::ledger::Ledger;
@@ -33,13 +33,13 @@ pub fn judge_single<L: Ledger>(
     ensures alone { All (λ a. members (acts crew.now commands.now) a ≡ a ∷ []) (acts crew.now commands.now) }
     ensures touches { steps.new ≤ steps.old + 2 * volatile_total planes.now (acts crew.now commands.now) }
 {
-    judge_bots(
+    let judged = Step {
         planes,
         harmonics,
         profile,
-        crew.bots(),
+        bots: crew.bots(),
         commands,
-        step,
-        steps,
-    )
+        number: step,
+    };
+    judge_bots(&judged, steps)
 }
