@@ -1,5 +1,5 @@
 -- What comes of the commands that are left, by the progress so far.
-use Rattle.std.proofs.Common.{◌≡◌, ℕ, ◌+◌, ◌<◌, refl, sym, ◌∙◌, ap, subst, arith, List, [], ◌∷◌, ◌++◌, Bool, true, false, ◌==◌, length, take, drop, append_assoc, append-nil, length-append, Option, Some, None}
+use Rattle.std.proofs.Common.{◌≡◌, ℕ, ◌+◌, ◌<◌, refl, sym, ◌∙◌, ap, subst, arith, List, [], ◌∷◌, ◌++◌, Bool, true, false, ◌==◌, length, take, drop, append_assoc, append-nil, length-append, Some}
 use Rattle.std.specs.Prelude.{MatchBool}
 use Rattle.std.proofs.lemmas.Bool.Decides.{nat_tests}
 use Rattle.std.proofs.lemmas.List.{take_all}
@@ -11,16 +11,15 @@ use Rattle.nano_spec.specs.declared.outcomes.Verdict.{Verdict}
 use Rattle.nano_spec.specs.declared.outcomes.Verdict.TheVariants as verdict
 use Rattle.nano_spec.specs.declared.system.Bot.{Bot}
 use Rattle.nano_spec.specs.declared.system.Profile.{Profile}
-use Rattle.nano_spec.specs.Act.{Act, acts}
+use Rattle.nano_spec.specs.Act.{acts}
 use Rattle.nano_spec.specs.First.{first_value}
 use Rattle.nano_spec.specs.Matrix.{Matrix}
-use Rattle.nano_spec.specs.Next.{Next, Outcome, Goes, Breaks, Settles}
+use Rattle.nano_spec.specs.Next.{Next, Outcome, Goes, Breaks}
 use Rattle.nano_spec.specs.Rules.{broken, judge_trace, judge_bots, judge_pairs}
 use Rattle.nano_spec.specs.Group.{leaders}
-use Rattle.nano_spec.specs.State.{State, opening, origin}
-use Rattle.nano_spec.specs.Step.{after}
+use Rattle.nano_spec.specs.State.{State, origin}
 use Rattle.nano_spec.specs.Verdict.{Run, ends, breaks, goes, VerdictOf, broken_end, ending}
-use Rattle.run_progress.specs.Progress.{Mark, Running, Refused, Halted, Followed, Progress, begun, mark_of, stepped, with_command, Joins, Steps, PushesAt, Pushes, Comes, first, later, FinishesAt, Finishes}
+use Rattle.run_progress.specs.Progress.{Mark, Running, Refused, Halted, Followed, Progress, mark_of, stepped, with_command, Joins, Steps, PushesAt, Pushes, Comes, first, later, FinishesAt, Finishes}
 
 -- ---- what is kept: while the run goes on the next step lacks a command, and after the Halt no bot is left
 

@@ -1,0 +1,91 @@
+//! nanobot: an executor for the models and nanobot traces of the ICFP Programming Contest 2018. It does what its words
+//! say (docs/FORMATS.md, "Printed lines"), and ends with the number of its status.
+#![tactic(auto)]
+
+ghost use Rattle.std.specs.Prelude.{◌≡◌, ◌<◌};
+ghost use Rattle.nanobot_app.specs.Rows.{MayRead, MayStore, texts};
+
+use nanobot_app::{Status, drive};
+use std::alloc::{AllocError, Global};
+use std::env;
+use std::io::ErrorKind;
+use std::marker::Brand;
+use std::process::ExitCode;
+use std::sync::ledger::{Blank, Ledger};
+use vox_depot::{Depot, HostDepot, HostSink, Sink};
+use vox_geom::Steps;
+
+/// The exit status where the words could not be had, which is no status of a call.
+const NO_WORDS: u8 = 11;
+
+/// Why the words could not be had.
+enum NoWords {
+    Memory,
+    Other,
+}
+
+/// The words after the program's name.
+fn words(rt: &HostRuntime) -> Result<Vec<String>, NoWords> {
+    let args = match env::args(rt) {
+        Ok(args) => args,
+        Err(e) if e.kind() == ErrorKind::OutOfMemory => return Err(NoWords::Memory),
+        Err(_) => return Err(NoWords::Other),
+    };
+    match args.skip(1).collect(rt.alloc()) {
+        Ok(words) => Ok(words),
+        Err(AllocError) => Err(NoWords::Memory),
+    }
+}
+
+/// Does what the words say, with a counter of this ledger.
+fn counted<D: Depot, O: Sink, L: Ledger>(
+    alloc: Global,
+    words: &[String],
+    depot: &mut D,
+    out: &mut O,
+    blank: Blank,
+) -> Status
+    requires name { blank.name ≡ L.name }
+    requires parts { blank.parts ≡ L.parts }
+    requires some { 0 < L.parts }
+    requires may_fetch { MayRead D.may_fetch (texts words.now) }
+    requires may_store { MayStore D.may_store (texts words.now) }
+{
+    let mut steps = Steps::<L>::new(blank);
+    drive(alloc, words, depot, out, &mut steps)
+}
+
+/// Writes a line to standard error. Where that fails there is nobody to tell.
+fn tell(rt: &HostRuntime, line: &str) {
+    let _ = rt.eprintln(line);
+}
+
+/// The line on standard error of a status that prints none.
+fn tell_status(rt: &HostRuntime, status: Status) {
+    match status {
+        Status::Depot => tell(rt, "nanobot: a file could not be read or written"),
+        Status::Sink => tell(rt, "nanobot: the output could not be written"),
+        Status::Memory => tell(rt, "nanobot: out of memory"),
+        _ => {}
+    }
+}
+
+fn main(rt: HostRuntime) -> ExitCode {
+    let alloc = rt.alloc();
+    let words = match words(&rt) {
+        Ok(words) => words,
+        Err(NoWords::Memory) => {
+            tell_status(&rt, Status::Memory);
+            return ExitCode::from(Status::Memory.code());
+        }
+        Err(NoWords::Other) => {
+            tell(&rt, "nanobot: the words could not be had");
+            return ExitCode::from(NO_WORDS);
+        }
+    };
+    let mut depot = HostDepot::new(&rt, alloc);
+    let mut out = HostSink::new(rt.stdout());
+    let status = counted::<_, _, Brand>(alloc, &words, &mut depot, &mut out, Blank::new(1));
+    tell_status(&rt, status);
+    ExitCode::from(status.code())
+}

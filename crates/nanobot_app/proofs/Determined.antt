@@ -1,0 +1,168 @@
+-- The answer to the words is one only, and what follows from it.
+use Rattle.std.proofs.Common.{◌≡◌, ◌⊎◌, ◌==◌, ℕ, List, [], ◌∷◌, Option, Some, None, Bool, true, false, codes, refl, sym, ap, ◌∙◌, subst, inl, inr, nat_lt, length}
+use Rattle.std.specs.Prelude.{Result, Ok, Err, MatchOption, MatchBool, IfSome, IsSomeAnd}
+use Rattle.std.specs.Io.KnownBytes.{append_known}
+use Rattle.nano_spec.specs.declared.commands.Command.{Command}
+use Rattle.nano_spec.specs.declared.outcomes.Verdict.{Verdict}
+use Rattle.nano_spec.specs.declared.system.Profile.{Profile}
+use Rattle.nano_spec.specs.Cutting.{Decoding, NoTrace, BadAt, CutAt}
+use Rattle.nano_spec.specs.Legal.{Legality, NotLegal}
+use Rattle.nano_spec.specs.Matrix.{Matrix, empty}
+use Rattle.nano_spec.specs.Model.{NoModel, model}
+use Rattle.nano_spec.specs.Profile.{full_profile}
+use Rattle.nano_spec.specs.Verdict.{VerdictOf}
+use Rattle.vox_depot.specs.Files.{Files, content}
+use Rattle.nanobot_app.specs.declared.report.Report.TheVariants as report
+use Rattle.nanobot_app.specs.declared.report.Who.{Who}
+use Rattle.nanobot_app.specs.declared.report.Who.TheVariants as who
+use Rattle.nanobot_app.specs.declared.status.Status.{Status}
+use Rattle.nanobot_app.specs.declared.status.Status.TheVariants as is
+use Rattle.nanobot_app.specs.Answer.{Answer, AnswerOf, Judged, OfBytes, OfDecoding, OfRun, OfTrace, Reply, WithBoth, WithFile, WithModel, WithSide, not_built, run_limit}
+use Rattle.nanobot_app.specs.Outcome.{DepotRose, IsAnswer, LacksFile, Outcome, Outside, SinkRose}
+use Rattle.nanobot_app.specs.Reading.{gone, reply_of}
+use Rattle.nanobot_app.specs.Report.{not_legal, no_model, of_verdict}
+use Rattle.nanobot_app.specs.Rows.{Row, check, run, words_of, side_word, IsRow}
+use Rattle.nanobot_app.proofs.Parsed.{first_named, same_side, second_named}
+use Rattle.nanobot_app.proofs.Told.{if_some}
+
+-- ---- the row of the words is one
+
+first_word : List (List ℕ) → List ℕ
+first_word [] = []
+first_word (w ∷ ws) = w
+
+check_check : (m m' : List ℕ) → words_of (check m) ≡ words_of (check m') → check m ≡ check m'
+check_check m m' e = cc
+
+pub row_once : (words : List (List ℕ)) (row row' : Row) → IsRow words row → IsRow words row' → row ≡ row'
+row_once words (check m) (check m') h h' = check_check m m' (sym h.written ∙ h'.written)
+row_once words (check m) (run s t b) h h' = absurd (let e = sym h.written ∙ h'.written in cc)
+row_once words (run s t b) (check m) h h' = absurd (let e = sym h.written ∙ h'.written in cc)
+row_once words (run s t b) (run s' t' b') h h' =
+    let e : codes "run" ∷ side_word s ∷ side_word t ∷ b ∷ [] ≡ codes "run" ∷ side_word s' ∷ side_word t' ∷ b' ∷ [] = sym h.written ∙ h'.written in
+    let es : side_word s ≡ side_word s' = cc in
+    let et : side_word t ≡ side_word t' = cc in
+    let eb : b ≡ b' = cc in
+    let ps = same_side s s' (first_named s t b h.named) (first_named s' t' b' h'.named) es in
+    let pt = same_side t t' (second_named s t b h.named) (second_named s' t' b' h'.named) et in
+    λ i. run (ps i) (pt i) (eb i)
+
+-- ---- at most one reply
+
+abbrev Once : (Reply → Type 0) → Type 0
+Once p = (r s : Reply) → p r → p s → r ≡ s
+
+same_reply : (x : Reply) → Once (λ r. r ≡ x)
+same_reply x r s h k = h ∙ sym k
+
+abbrev LegalityLaw : Type 0
+LegalityLaw = (m : Matrix) (a b : Option NotLegal) → Legality m a → Legality m b → a ≡ b
+
+abbrev DecodingLaw : Type 0
+DecodingLaw = (bytes : List ℕ) (a b : Result (List Command) NoTrace) → Decoding bytes a → Decoding bytes b → a ≡ b
+
+abbrev VerdictLaw : Type 0
+VerdictLaw = (source target : Matrix) (commands : List Command) (profile : Profile) (v w : Verdict) → VerdictOf source target commands profile v → VerdictOf source target commands profile w → v ≡ w
+
+module _ (legality : LegalityLaw) (decoding : DecodingLaw) (verdicts : VerdictLaw) where
+  module _ (files : Files) where
+    file_once : (name : List ℕ) (p : List ℕ → Reply → Type 0) → ((bytes : List ℕ) → Once (p bytes)) → Once (WithFile files name p)
+    file_once name p f = by (content files name)
+      where
+        by : (o : Option (List ℕ)) → Once (λ r. MatchOption o (r ≡ gone files) (λ bytes. p bytes r))
+        by None = same_reply (gone files)
+        by (Some bytes) = f bytes
+
+    judged_once : (w : Who) (a : Option NotLegal) (p : Reply → Type 0) → Once p → Once (Judged w files a p)
+    judged_once w None p f = f
+    judged_once w (Some why) p f = same_reply (reply_of files (report.Model w (not_legal why)))
+
+    bytes_once : (w : Who) (said : Result Matrix NoModel) (p : Matrix → Reply → Type 0) → ((m : Matrix) → Once (p m)) → Once (OfBytes w files said p)
+    bytes_once w (Err why) p f r s h k = same_reply (reply_of files (report.Model w (no_model why))) r s h k
+    bytes_once w (Ok m) p f r s h k =
+        let same = legality m h.0 k.0 h.1 k.1 in
+        judged_once w k.0 (p m) (f m) r s (subst (λ (a : Option NotLegal). Judged w files a (p m) r) same h.2) k.2
+
+    model_once : (w : Who) (name : List ℕ) (p : Matrix → Reply → Type 0) → ((m : Matrix) → Once (p m)) → Once (WithModel w files name p)
+    model_once w name p f = file_once name (λ bytes. OfBytes w files (model bytes) p) (λ bytes. bytes_once w (model bytes) p f)
+
+    side_once : (w : Who) (name : Option (List ℕ)) (p : Option Matrix → Reply → Type 0) → ((a : Option Matrix) → Once (p a)) → Once (WithSide w files name p)
+    side_once w None p f = f None
+    side_once w (Some name) p f = model_once w name (λ m. p (Some m)) (λ m. f (Some m))
+
+    choice_once : (t : Bool) (p q : Reply → Type 0) → Once p → Once q → Once (λ r. MatchBool t (p r) (q r))
+    choice_once true p q f g = f
+    choice_once false p q f g = g
+
+    both_once : (a b : Option Matrix) (p : Matrix → Matrix → Reply → Type 0) → ((s t : Matrix) → Once (p s t)) → Once (WithBoth files a b p)
+    both_once None None p f r s h k = absurd h
+    both_once (Some a) None p f r s h k = f a (empty a.resolution) r s h k
+    both_once None (Some b) p f r s h k = f (empty b.resolution) b r s h k
+    both_once (Some a) (Some b) p f r s h k = choice_once (a.resolution == b.resolution) (p a b) (λ r. r ≡ reply_of files (report.Resolutions a.resolution b.resolution)) (f a b) (same_reply (reply_of files (report.Resolutions a.resolution b.resolution))) r s h k
+
+    run_once : (profile : Profile) (source target : Matrix) (commands : List Command) → Once (OfRun profile files source target commands)
+    run_once profile source target commands = by (not_built 0 commands)
+      where
+        by : (o : Option ℕ) → Once (λ r. MatchOption o ((v : Verdict) × VerdictOf source target commands profile v × (r ≡ reply_of files (of_verdict v))) (λ offset. r ≡ reply_of files (report.NotBuilt offset)))
+        by None r s h k = h.2 ∙ (ap (λ (v : Verdict). reply_of files (of_verdict v)) (verdicts source target commands profile h.0 k.0 h.1 k.1) ∙ sym k.2)
+        by (Some offset) r s h k = same_reply (reply_of files (report.NotBuilt offset)) r s h k
+
+    decoded_once : (d : Result (List Command) NoTrace) (p : List Command → Reply → Type 0) → ((commands : List Command) → Once (p commands)) → Once (OfDecoding files d p)
+    decoded_once (Ok commands) p f = f commands
+    decoded_once (Err (BadAt offset)) p f = same_reply (reply_of files (report.TraceBad offset))
+    decoded_once (Err (CutAt offset)) p f = same_reply (reply_of files (report.TraceCut offset))
+
+    decoding_once : (bytes : List ℕ) (p : List Command → Reply → Type 0) → ((commands : List Command) → Once (p commands)) → Once (λ r. (d : Result (List Command) NoTrace) × Decoding bytes d × OfDecoding files d p r)
+    decoding_once bytes p f r s h k =
+        let same = decoding bytes h.0 k.0 h.1 k.1 in
+        decoded_once k.0 p f r s (subst (λ (d : Result (List Command) NoTrace). OfDecoding files d p r) same h.2) k.2
+
+    trace_once : (limit : ℕ) (bytes : List ℕ) (p : List Command → Reply → Type 0) → ((commands : List Command) → Once (p commands)) → Once (OfTrace limit files bytes p)
+    trace_once limit bytes p f =
+        choice_once (nat_lt limit (length bytes)) (λ r. r ≡ reply_of files (report.TraceLong limit)) (λ r. (d : Result (List Command) NoTrace) × Decoding bytes d × OfDecoding files d p r)
+        (same_reply (reply_of files (report.TraceLong limit))) (decoding_once bytes p f)
+
+    row_answer_once : (row : Row) → Once (AnswerOf row files)
+    row_answer_once (check name) = model_once who.Model name _ (λ m. same_reply _)
+    row_answer_once (run source target trace) =
+        side_once who.Source source _ (λ a. side_once who.Target target _ (λ b. both_once a b _ (λ s t. file_once trace _ (λ bytes. trace_once run_limit bytes _ (λ commands. run_once full_profile s t commands)))))
+
+  pub answer_once : (words : List (List ℕ)) (files : Files) (r s : Reply) → Answer words files r → Answer words files s → r ≡ s
+  answer_once words files r s (inl h) (inl k) = h.1 ∙ sym k.1
+  answer_once words files r s (inl h) (inr k) = absurd (h.0 k.0 k.1)
+  answer_once words files r s (inr h) (inl k) = absurd (k.0 h.0 h.1)
+  answer_once words files r s (inr h) (inr k) =
+      let same = row_once words k.0 h.0 k.1 h.1 in
+      row_answer_once files h.0 r s h.2 (subst (λ (row : Row). AnswerOf row files s) same k.2)
+
+-- ---- where no count rose, the status is the answer's, or want of memory
+
+abbrev pub AnswerLaw : Type 0
+AnswerLaw = (words : List (List ℕ)) (files : Files) (r s : Reply) → Answer words files r → Answer words files s → r ≡ s
+
+pub complete : {stores : List ℕ → Type 0} (law : AnswerLaw) (words : List (List ℕ)) (old new : Outside) (result : Status) → Outcome (Answer words) stores old new result
+    → (DepotRose old new → ⊥) → (SinkRose old new → ⊥) → IfSome old.files (λ files. (reply : Reply) → Answer words files reply → (result ≡ reply.status) ⊎ (result ≡ is.Memory))
+complete {stores} law words old new result o no_depot no_sink = if_some old.files (λ files told reply a. by files told reply a result o)
+  where
+    answered : (files : Files) → old.files ≡ Some files → (reply : Reply) → Answer words files reply → (s : Status) → IsAnswer s → Outcome (Answer words) stores old new s → s ≡ reply.status
+    answered files told reply a s is_answer o =
+        let stands = subst (λ t. IfSome t (λ files. (reply : Reply) × Answer words files reply × (new.files ≡ Some reply.after) × ((reply.status ≡ s) × (new.written ≡ append_known old.written reply.line)))) told (o.answer is_answer) in
+        sym stands.3.0 ∙ ap (λ (r : Reply). r.status) (law words files stands.0 reply stands.1 a)
+
+    by : (files : Files) → old.files ≡ Some files → (reply : Reply) → Answer words files reply → (s : Status) → Outcome (Answer words) stores old new s → (s ≡ reply.status) ⊎ (s ≡ is.Memory)
+    by files told reply a is.Depot o = inl (cause (o.depot refl))
+      where
+        cause : DepotRose old new ⊎ LacksFile (Answer words) old → is.Depot ≡ reply.status
+        cause (inl rose) = absurd (no_depot rose)
+        cause (inr lacks) =
+            let here = subst (λ t. IsSomeAnd t (λ files. Answer words files (record { status = is.Depot; line = []; after = files }))) told lacks in
+            ap (λ (r : Reply). r.status) (law words files _ reply here a)
+    by files told reply a is.Sink o = absurd (no_sink (o.sink refl))
+    by files told reply a is.Memory o = inr refl
+    by files told reply a is.Done o = inl (answered files told reply a is.Done tt o)
+    by files told reply a is.Broken o = inl (answered files told reply a is.Broken tt o)
+    by files told reply a is.Words o = inl (answered files told reply a is.Words tt o)
+    by files told reply a is.Model o = inl (answered files told reply a is.Model tt o)
+    by files told reply a is.Trace o = inl (answered files told reply a is.Trace tt o)
+    by files told reply a is.Text o = inl (answered files told reply a is.Text tt o)
+    by files told reply a is.NotYet o = inl (answered files told reply a is.NotYet tt o)

@@ -1,0 +1,174 @@
+-- A run answers 0 exactly where the machine of the definitions takes the whole trace.
+use Rattle.std.proofs.Common.{◌≡◌, ◌⊎◌, ◌==◌, ℕ, ◌≤◌, List, Option, Some, None, Bool, true, false, refl, sym, ap, ◌∙◌, subst, inl, inr, arith, nat_lt, length}
+use Rattle.std.specs.Prelude.{ℤ, Result, Ok, Err, MatchOption, MatchBool, IfSome, IsSomeAnd}
+use Rattle.std.specs.Io.KnownBytes.{append_known}
+use Rattle.std.proofs.lemmas.Bool.Decides.{nat_tests}
+use Rattle.nano_spec.specs.declared.commands.Command.{Command}
+use Rattle.nano_spec.specs.declared.outcomes.Verdict.{Verdict}
+use Rattle.nano_spec.specs.declared.outcomes.Verdict.TheVariants as verdict
+use Rattle.nano_spec.specs.Cutting.{Decoding, NoTrace, BadAt, CutAt}
+use Rattle.nano_spec.specs.Legal.{Legality, NotLegal}
+use Rattle.nano_spec.specs.Matrix.{Matrix, empty}
+use Rattle.nano_spec.specs.Model.{NoModel, model}
+use Rattle.nano_spec.specs.Profile.{full_profile}
+use Rattle.nano_spec.specs.Verdict.{VerdictOf}
+use Rattle.vox_depot.specs.Files.{Files, content}
+use Rattle.nanobot_app.specs.declared.report.Report.{Report}
+use Rattle.nanobot_app.specs.declared.report.Report.TheVariants as report
+use Rattle.nanobot_app.specs.declared.report.Who.{Who}
+use Rattle.nanobot_app.specs.declared.report.Who.TheVariants as who
+use Rattle.nanobot_app.specs.declared.status.Status.{Status}
+use Rattle.nanobot_app.specs.declared.status.Status.TheVariants as is
+use Rattle.nanobot_app.specs.Answer.{Answer, AnswerOf, Judged, OfBytes, OfDecoding, OfRun, OfTrace, Reply, WithBoth, WithFile, WithModel, WithSide, not_built, run_limit}
+use Rattle.nanobot_app.specs.Headline.{IsDoneWith, Takes, TakesBytes}
+use Rattle.nanobot_app.specs.Outcome.{DepotRose, IsAnswer, Outcome, Outside, SinkRose}
+use Rattle.nanobot_app.specs.Reading.{AreBoth, IsModelOf, IsSide, gone, reply_of}
+use Rattle.nanobot_app.specs.Report.{no_model, not_legal, of_verdict, status_of}
+use Rattle.nanobot_app.specs.Rows.{Row, run, IsRow}
+use Rattle.nanobot_app.proofs.Determined.{AnswerLaw, complete, row_once}
+use Rattle.nanobot_app.proofs.Replies.{both_given, side_given}
+use Rattle.nanobot_app.proofs.Told.{if_some}
+
+-- ---- what a run that takes its trace answers
+
+not_longer : (limit size : ℕ) → size ≤ limit → nat_lt limit size ≡ false
+not_longer limit size h = grind (arith, nat_tests)
+
+taken : (files : Files) (source target : Matrix) (trace : List ℕ) (energy : ℤ) (steps : ℕ) → IsSomeAnd (content files trace) (λ bytes. TakesBytes source target bytes energy steps)
+    → WithFile files trace (λ bytes. OfTrace run_limit files bytes (OfRun full_profile files source target)) (reply_of files (report.Accepted energy steps))
+taken files source target trace energy steps h = by (content files trace) h
+  where
+    of_bytes : (bytes : List ℕ) → TakesBytes source target bytes energy steps → OfTrace run_limit files bytes (OfRun full_profile files source target) (reply_of files (report.Accepted energy steps))
+    of_bytes bytes t =
+        subst (λ b. MatchBool b (reply_of files (report.Accepted energy steps) ≡ reply_of files (report.TraceLong run_limit)) ((d : Result (List Command) NoTrace) × Decoding bytes d × OfDecoding files d (OfRun full_profile files source target) (reply_of files (report.Accepted energy steps))))
+        (sym (not_longer run_limit (length bytes) t.0))
+        (Ok t.1.0, t.1.1, subst (λ o. MatchOption o ((v : Verdict) × VerdictOf source target t.1.0 full_profile v × (reply_of files (report.Accepted energy steps) ≡ reply_of files (of_verdict v))) (λ offset. reply_of files (report.Accepted energy steps) ≡ reply_of files (report.NotBuilt offset))) (sym t.1.2) (verdict.Accepted energy steps, t.1.3, refl))
+
+    by : (o : Option (List ℕ)) → IsSomeAnd o (λ bytes. TakesBytes source target bytes energy steps) → MatchOption o (reply_of files (report.Accepted energy steps) ≡ gone files) (λ bytes. OfTrace run_limit files bytes (OfRun full_profile files source target) (reply_of files (report.Accepted energy steps)))
+    by None h = absurd h
+    by (Some bytes) h = of_bytes bytes h
+
+answers_taken : (files : Files) (source target : Option (List ℕ)) (trace : List ℕ) (energy : ℤ) (steps : ℕ) → Takes files source target trace energy steps → AnswerOf (run source target trace) files (reply_of files (report.Accepted energy steps))
+answers_taken files source target trace energy steps t =
+    side_given who.Source files _ source t.source_side _ t.source_is (side_given who.Target files _ target t.target_side _ t.target_is (both_given files _ t.source_side t.target_side t.from t.to _ t.both (taken files t.from t.to trace energy steps t.taken)))
+
+-- ---- what was answered with status 0
+
+-- a reply of another status
+other : (files : Files) (r : Report) (reply : Reply) → reply ≡ reply_of files r → reply.status ≡ is.Done → status_of r ≡ is.Done
+other files r reply e f = sym (ap (λ (x : Reply). x.status) e) ∙ f
+
+not_gone : (files : Files) (reply : Reply) → reply ≡ gone files → reply.status ≡ is.Done → ⊥
+not_gone files reply e f = let no : is.Depot ≡ is.Done = sym (ap (λ (x : Reply). x.status) e) ∙ f in cc
+
+done_model : (w : Who) (files : Files) (name : List ℕ) (p : Matrix → Reply → Type 0) (reply : Reply) → reply.status ≡ is.Done → WithModel w files name p reply → (m : Matrix) × IsModelOf files name m × p m reply
+done_model w files name p reply done h = by (content files name) h
+  where
+    of_legality : (bytes : List ℕ) (m : Matrix) (a : Option NotLegal) → model bytes ≡ Ok m → Legality m a → Judged w files a (p m) reply → (n : Matrix) × ((model bytes ≡ Ok n) × Legality n None) × p n reply
+    of_legality bytes m None e l j = (m, (e, l), j)
+    of_legality bytes m (Some why) e l j = absurd (let no = other files (report.Model w (not_legal why)) reply j done in cc)
+
+    of_bytes : (bytes : List ℕ) (said : Result Matrix NoModel) → model bytes ≡ said → OfBytes w files said p reply → (m : Matrix) × ((model bytes ≡ Ok m) × Legality m None) × p m reply
+    of_bytes bytes (Err why) e h = absurd (let no = other files (report.Model w (no_model why)) reply h done in cc)
+    of_bytes bytes (Ok m) e h = of_legality bytes m h.0 e h.1 h.2
+
+    by : (o : Option (List ℕ)) → MatchOption o (reply ≡ gone files) (λ bytes. OfBytes w files (model bytes) p reply) → (m : Matrix) × IsSomeAnd o (λ bytes. (model bytes ≡ Ok m) × Legality m None) × p m reply
+    by None h = absurd (not_gone files reply h done)
+    by (Some bytes) h = of_bytes bytes (model bytes) refl h
+
+done_side : (w : Who) (files : Files) (name : Option (List ℕ)) (p : Option Matrix → Reply → Type 0) (reply : Reply) → reply.status ≡ is.Done → WithSide w files name p reply → (a : Option Matrix) × IsSide name files a × p a reply
+done_side w files None p reply done h = (None, tt, h)
+done_side w files (Some name) p reply done h = let m = done_model w files name (λ m. p (Some m)) reply done h in (Some m.0, m.1, m.2)
+
+same_number : (a b : ℕ) → (a == b) ≡ true → a ≡ b
+same_number a b e = grind (arith, nat_tests)
+
+done_both : (files : Files) (a b : Option Matrix) (p : Matrix → Matrix → Reply → Type 0) (reply : Reply) → reply.status ≡ is.Done → WithBoth files a b p reply → (s : Matrix) × (t : Matrix) × AreBoth a b s t × p s t reply
+done_both files None None p reply done h = absurd h
+done_both files (Some a) None p reply done h = (a, empty a.resolution, (refl, refl), h)
+done_both files None (Some b) p reply done h = (empty b.resolution, b, (refl, refl), h)
+done_both files (Some a) (Some b) p reply done h = by (a.resolution == b.resolution) refl h
+  where
+    by : (t : Bool) → (a.resolution == b.resolution) ≡ t → MatchBool t (p a b reply) (reply ≡ reply_of files (report.Resolutions a.resolution b.resolution)) → (s : Matrix) × (u : Matrix) × ((s ≡ a) × (u ≡ b) × (a.resolution ≡ b.resolution)) × p s u reply
+    by true e h = (a, b, (refl, refl, same_number a.resolution b.resolution e), h)
+    by false e h = absurd (let no = other files (report.Resolutions a.resolution b.resolution) reply h done in cc)
+
+-- a verdict that is told with status 0
+accepted : (files : Files) (v : Verdict) (reply : Reply) → reply ≡ reply_of files (of_verdict v) → reply.status ≡ is.Done → (energy : ℤ) × (steps : ℕ) × (v ≡ verdict.Accepted energy steps)
+accepted files (verdict.Accepted energy steps) reply e done = (energy, steps, refl)
+accepted files (verdict.Refused broken) reply e done = absurd (let no = other files (report.Broken broken) reply e done in cc)
+
+longer_not : (limit size : ℕ) → nat_lt limit size ≡ false → size ≤ limit
+longer_not limit size e = grind (arith, nat_tests)
+
+module _ (files : Files) (source target : Matrix) (reply : Reply) (done : reply.status ≡ is.Done) where
+  abbrev Found : List ℕ → Type 0
+  Found bytes = (energy : ℤ) × (steps : ℕ) × TakesBytes source target bytes energy steps × (reply ≡ reply_of files (report.Accepted energy steps))
+
+  done_run : (bytes : List ℕ) (commands : List Command) → length bytes ≤ run_limit → Decoding bytes (Ok commands) → OfRun full_profile files source target commands reply → Found bytes
+  done_run bytes commands fits cutting h = by (not_built 0 commands) refl h
+    where
+      by : (o : Option ℕ) → not_built 0 commands ≡ o → MatchOption o ((v : Verdict) × VerdictOf source target commands full_profile v × (reply ≡ reply_of files (of_verdict v))) (λ offset. reply ≡ reply_of files (report.NotBuilt offset)) → Found bytes
+      by None e h =
+          let a = accepted files h.0 reply h.2 done in
+          (a.0, a.1, (fits, (commands, cutting, e, subst (λ (v : Verdict). VerdictOf source target commands full_profile v) a.2 h.1)), h.2 ∙ ap (λ (v : Verdict). reply_of files (of_verdict v)) a.2)
+      by (Some offset) e h = absurd (let no = other files (report.NotBuilt offset) reply h done in cc)
+
+  done_decoding : (bytes : List ℕ) (d : Result (List Command) NoTrace) → length bytes ≤ run_limit → Decoding bytes d → OfDecoding files d (OfRun full_profile files source target) reply → Found bytes
+  done_decoding bytes (Ok commands) fits decoding h = done_run bytes commands fits decoding h
+  done_decoding bytes (Err (BadAt offset)) fits decoding h = absurd (let no = other files (report.TraceBad offset) reply h done in cc)
+  done_decoding bytes (Err (CutAt offset)) fits decoding h = absurd (let no = other files (report.TraceCut offset) reply h done in cc)
+
+  done_trace : (trace : List ℕ) → WithFile files trace (λ bytes. OfTrace run_limit files bytes (OfRun full_profile files source target)) reply
+      → (energy : ℤ) × (steps : ℕ) × IsSomeAnd (content files trace) (λ bytes. TakesBytes source target bytes energy steps) × (reply ≡ reply_of files (report.Accepted energy steps))
+  done_trace trace h = by (content files trace) h
+    where
+      of_bytes : (bytes : List ℕ) (t : Bool) → nat_lt run_limit (length bytes) ≡ t → MatchBool t (reply ≡ reply_of files (report.TraceLong run_limit)) ((d : Result (List Command) NoTrace) × Decoding bytes d × OfDecoding files d (OfRun full_profile files source target) reply) → Found bytes
+      of_bytes bytes true e h = absurd (let no = other files (report.TraceLong run_limit) reply h done in cc)
+      of_bytes bytes false e h = done_decoding bytes h.0 (longer_not run_limit (length bytes) e) h.1 h.2
+
+      by : (o : Option (List ℕ)) → MatchOption o (reply ≡ gone files) (λ bytes. OfTrace run_limit files bytes (OfRun full_profile files source target) reply)
+          → (energy : ℤ) × (steps : ℕ) × IsSomeAnd o (λ bytes. TakesBytes source target bytes energy steps) × (reply ≡ reply_of files (report.Accepted energy steps))
+      by None h = absurd (not_gone files reply h done)
+      by (Some bytes) h = let f = of_bytes bytes (nat_lt run_limit (length bytes)) refl h in (f.0, f.1, f.2, f.3)
+
+takes_done : (files : Files) (source target : Option (List ℕ)) (trace : List ℕ) (reply : Reply) → reply.status ≡ is.Done → AnswerOf (run source target trace) files reply
+    → (energy : ℤ) × (steps : ℕ) × Takes files source target trace energy steps × (reply ≡ reply_of files (report.Accepted energy steps))
+takes_done files source target trace reply done h =
+    let a = done_side who.Source files source _ reply done h in
+    let b = done_side who.Target files target _ reply done a.2 in
+    let m = done_both files a.0 b.0 _ reply done b.2 in
+    let t = done_trace files m.0 m.1 reply done trace m.3 in
+    (t.0, t.1, record { source_side = a.0; target_side = b.0; source_is = a.1; target_is = b.1; from = m.0; to = m.1; both = m.2; taken = t.2 }, t.3)
+
+-- the row of the words answers
+of_the_row : (words : List (List ℕ)) (row : Row) (files : Files) (reply : Reply) → IsRow words row → Answer words files reply → AnswerOf row files reply
+of_the_row words row files reply is_row (inl h) = absurd (h.0 row is_row)
+of_the_row words row files reply is_row (inr h) = subst (λ (r : Row). AnswerOf r files reply) (row_once words h.0 row h.1 is_row) h.2
+
+-- ---- both halves of the headline
+
+module _ {stores : List ℕ → Type 0} (law : AnswerLaw) (words : List (List ℕ)) (old new : Outside) (result : Status) (o : Outcome (Answer words) stores old new result) (source target : Option (List ℕ)) (trace : List ℕ) (is_row : IsRow words (run source target trace)) where
+  stood : (files : Files) → old.files ≡ Some files → IsAnswer result → (reply : Reply) × Answer words files reply × (new.files ≡ Some reply.after) × ((reply.status ≡ result) × (new.written ≡ append_known old.written reply.line))
+  stood files told a = subst (λ t. IfSome t (λ files. (reply : Reply) × Answer words files reply × (new.files ≡ Some reply.after) × ((reply.status ≡ result) × (new.written ≡ append_known old.written reply.line)))) told (o.answer a)
+
+  pub headline_where : (DepotRose old new → ⊥) → (SinkRose old new → ⊥) → (result ≡ is.Memory → ⊥) → IfSome old.files (λ files. (energy : ℤ) (steps : ℕ) → Takes files source target trace energy steps → IsDoneWith result old.written new.written energy steps)
+  headline_where no_depot no_sink no_memory = if_some old.files (λ files told energy steps takes.
+      let reply = reply_of files (report.Accepted energy steps) in
+      let answer : Answer words files reply = inr (run source target trace, is_row, answers_taken files source target trace energy steps takes) in
+      let all = complete law words old new result o no_depot no_sink in
+      let here = subst (λ t. IfSome t (λ files. (reply : Reply) → Answer words files reply → (result ≡ reply.status) ⊎ (result ≡ is.Memory))) told all in
+      done_with files told energy steps reply answer (here reply answer))
+    where
+      done_with : (files : Files) → old.files ≡ Some files → (energy : ℤ) (steps : ℕ) (reply : Reply) → Answer words files (reply_of files (report.Accepted energy steps)) → (result ≡ is.Done) ⊎ (result ≡ is.Memory) → IsDoneWith result old.written new.written energy steps
+      done_with files told energy steps reply answer (inr m) = absurd (no_memory m)
+      done_with files told energy steps reply answer (inl done) =
+          let s = stood files told (subst IsAnswer (sym done) tt) in
+          let same = law words files s.0 (reply_of files (report.Accepted energy steps)) s.1 answer in
+          (done, s.3.1 ∙ ap (λ (r : Reply). append_known old.written r.line) same)
+
+  pub headline_only : result ≡ is.Done → IfSome old.files (λ files. (energy : ℤ) × (steps : ℕ) × Takes files source target trace energy steps × IsDoneWith result old.written new.written energy steps)
+  headline_only done = if_some old.files (λ files told.
+      let s = stood files told (subst IsAnswer (sym done) tt) in
+      let t = takes_done files source target trace s.0 (s.3.0 ∙ done) (of_the_row words (run source target trace) files s.0 is_row s.1) in
+      (t.0, t.1, t.2, (done, s.3.1 ∙ ap (λ (r : Reply). append_known old.written r.line) t.3)))

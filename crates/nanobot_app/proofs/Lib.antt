@@ -1,0 +1,13 @@
+pub mod Lone
+pub mod Effects
+pub mod Begun
+pub mod Stepping
+pub mod Parsed
+pub mod Cut
+pub mod Told
+pub mod Running
+pub mod Tracing
+pub mod Replies
+pub mod Outcomes
+pub mod Determined
+pub mod Headlines

@@ -1,0 +1,110 @@
+-- How the exits of a call make its outcome.
+use Rattle.std.proofs.Common.{◌≡◌, ◌⊎◌, ℕ, List, [], Option, Some, None, refl, sym, ◌∙◌, subst, inl, inr, take}
+use Rattle.std.specs.Prelude.{IfSome, IsSomeAnd}
+use Rattle.std.specs.Io.KnownBytes.{append_known}
+use Rattle.vox_depot.specs.Files.{Files}
+use Rattle.nanobot_app.specs.declared.report.Report.{Report}
+use Rattle.nanobot_app.specs.declared.report.Report.TheVariants as report
+use Rattle.nanobot_app.specs.declared.status.Status.{Status}
+use Rattle.nanobot_app.specs.declared.status.Status.TheVariants as is
+use Rattle.nanobot_app.specs.Answer.{Answer, AnswerOf, Answers}
+use Rattle.nanobot_app.specs.Outcome.{DepotRose, IsAnswer, LacksFile, Outcome, Outside, Printed, RowStores, SinkRose, SparesOthers, StoredBy, Told}
+use Rattle.nanobot_app.specs.Reading.{reply_of}
+use Rattle.nanobot_app.specs.Report.{line_of, status_of}
+use Rattle.nanobot_app.specs.Rows.{IsRow, Row}
+use Rattle.nanobot_app.proofs.Told.{weaker}
+
+not_depot : (s : Status) → IsAnswer s → s ≡ is.Depot → ⊥
+not_depot s a e = subst IsAnswer e a
+
+not_sink : (s : Status) → IsAnswer s → s ≡ is.Sink → ⊥
+not_sink s a e = subst IsAnswer e a
+
+not_memory : (s : Status) → IsAnswer s → s ≡ is.Memory → ⊥
+not_memory s a e = subst IsAnswer e a
+
+pub is_answer : (r : Report) → IsAnswer (status_of r)
+is_answer (report.Accepted energy steps) = tt
+is_answer (report.Legal resolution full) = tt
+is_answer (report.Broken broken) = tt
+is_answer (report.Model who fault) = tt
+is_answer (report.Resolutions source target) = tt
+is_answer (report.TraceBad offset) = tt
+is_answer (report.TraceCut offset) = tt
+is_answer (report.TraceLong limit) = tt
+is_answer (report.NotBuilt offset) = tt
+
+module _ {answers : Answers} {stores : List ℕ → Type 0} (old new : Outside) where
+  -- a line is printed, and the files stand as the answer says
+  pub outcome_printed : (status result : Status) (line : List ℕ) → IsAnswer status
+      → IfSome old.files (λ files. (after : Files) × answers files (record { status = status; line = line; after = after }) × (new.files ≡ Some after))
+      → Printed status line old.written new.written old.sink_faults new.sink_faults result → Outcome answers stores old new result
+  outcome_printed status result line a stands printed = by printed.cases
+    where
+      by : ((result ≡ status) × (new.written ≡ append_known old.written line)) ⊎ ((result ≡ is.Sink) × SinkRose old new × ((n : ℕ) × (new.written ≡ append_known old.written (take n line)))) → Outcome answers stores old new result
+      by (inl done) =
+          let b : IsAnswer result = subst IsAnswer (sym done.0) a in
+          record {
+            answer = λ _. weaker old.files (λ files s. (record { status = status; line = line; after = s.0 }, s.1, s.2, (sym done.0, done.1))) stands;
+            depot = λ e. absurd (not_depot result b e);
+            sink = λ e. absurd (not_sink result b e);
+            after_depot = λ e. absurd (not_depot result b e);
+            after_sink = λ e. absurd (not_sink result b e);
+            after_memory = λ e. absurd (not_memory result b e);
+          }
+      by (inr part) = record {
+        answer = λ b. absurd (not_sink result b part.0);
+        depot = λ e. let no : is.Sink ≡ is.Depot = sym part.0 ∙ e in absurd (cc);
+        sink = λ _. part.1;
+        after_depot = λ e. let no : is.Sink ≡ is.Depot = sym part.0 ∙ e in absurd (cc);
+        after_sink = λ _. weaker old.files (λ files s. (record { status = status; line = line; after = s.0 }, s.1, s.2, part.2)) stands;
+        after_memory = λ e. let no : is.Sink ≡ is.Memory = sym part.0 ∙ e in absurd (cc);
+      }
+
+  pub outcome_memory : (result : Status) → result ≡ is.Memory → new.files ≡ old.files → new.written ≡ old.written → Outcome answers stores old new result
+  outcome_memory result e files written = record {
+    answer = λ b. absurd (not_memory result b e);
+    depot = λ f. let no : is.Memory ≡ is.Depot = sym e ∙ f in absurd (cc);
+    sink = λ f. let no : is.Memory ≡ is.Sink = sym e ∙ f in absurd (cc);
+    after_depot = λ f. let no : is.Memory ≡ is.Depot = sym e ∙ f in absurd (cc);
+    after_sink = λ f. let no : is.Memory ≡ is.Sink = sym e ∙ f in absurd (cc);
+    after_memory = λ _. (files, written);
+  }
+
+  -- a report is told, and no file is stored
+  pub outcome_told : (r : Report) (result : Status) → IfSome old.files (λ files. answers files (reply_of files r)) → new.files ≡ old.files → Told r old.written new.written old.sink_faults new.sink_faults result → Outcome answers stores old new result
+  outcome_told r result answer files told = by told.cases
+    where
+      stands : IfSome old.files (λ files. (after : Files) × answers files (record { status = status_of r; line = line_of r; after = after }) × (new.files ≡ Some after))
+      stands = subst (λ o. IfSome old.files (λ fs. (after : Files) × answers fs (record { status = status_of r; line = line_of r; after = after }) × (o ≡ Some after))) (sym files) (same old.files answer)
+        where
+          same : (o : Option Files) → IfSome o (λ fs. answers fs (reply_of fs r)) → IfSome o (λ fs. (after : Files) × answers fs (record { status = status_of r; line = line_of r; after = after }) × (o ≡ Some after))
+          same None h = tt
+          same (Some fs) h = (fs, h, refl)
+
+      by : ((result ≡ is.Memory) × (new.written ≡ old.written)) ⊎ Printed (status_of r) (line_of r) old.written new.written old.sink_faults new.sink_faults result → Outcome answers stores old new result
+      by (inl none) = outcome_memory result none.0 files none.1
+      by (inr printed) = outcome_printed (status_of r) result (line_of r) (is_answer r) stands printed
+
+-- an outcome of a row is one of its words
+pub outcome_of_row : (words : List (List ℕ)) (row : Row) (old new : Outside) (result : Status) → IsRow words row → Outcome (AnswerOf row) (RowStores row) old new result → Outcome (Answer words) (StoredBy words) old new result
+outcome_of_row words row old new result written o = record {
+  answer = λ a. weaker old.files (λ files s. (s.0, inr (row, written, s.1), s.2, s.3)) (o.answer a);
+  depot = λ e. cause (o.depot e);
+  sink = o.sink;
+  after_depot = λ e. let s = o.after_depot e in (s.0, spared s.1);
+  after_sink = λ e. weaker old.files (λ files s. (s.0, inr (row, written, s.1), s.2, s.3)) (o.after_sink e);
+  after_memory = o.after_memory;
+}
+  where
+    cause : DepotRose old new ⊎ LacksFile (AnswerOf row) old → DepotRose old new ⊎ LacksFile (Answer words) old
+    cause (inl rose) = inl rose
+    cause (inr lacks) = inr (there old.files lacks)
+      where
+        there : (o : Option Files) → IsSomeAnd o (λ files. AnswerOf row files (record { status = is.Depot; line = []; after = files })) → IsSomeAnd o (λ files. Answer words files (record { status = is.Depot; line = []; after = files }))
+        there None h = absurd h
+        there (Some files) h = inr (row, written, h)
+
+    spared : SparesOthers (RowStores row) old new → SparesOthers (StoredBy words) old new
+    spared (inl same) = inl same
+    spared (inr (name, s, kept)) = inr (name, (row, written, s), kept)

@@ -1,0 +1,20 @@
+use Rattle.std.proofs.Common.{◌≡◌, inl, refl, codes, Some}
+use Rattle.std.specs.Prelude.{IfSome}
+use Rattle.vox_depot.specs.Files.{Files}
+use Rattle.nanobot_app.specs.Answer.{Answer}
+use Rattle.nanobot_app.specs.Report.{words_line}
+use Rattle.nanobot_app.specs.Rows.{texts}
+use Rattle.nanobot_app.specs.declared.status.Status.TheVariants as is
+use Rattle.nanobot_app.proofs.Outcomes.{outcome_of_row, outcome_printed}
+use Rattle.nanobot_app.proofs.Told.{if_some}
+use Rattle.nanobot_app.proofs.top_call.run.Goals as goal
+
+pub returns-in-None-clause-outcome : goal.returns-in-None-clause-outcome
+returns-in-None-clause-outcome g c =
+    let told = g.D.Depot.files c.args.depot.now in
+    let stands : IfSome told (λ files. (after : Files) × Answer (texts c.args.words.now) files (record { status = is.Words; line = words_line; after = after }) × (told ≡ Some after)) =
+    if_some {P = λ files. (after : Files) × Answer (texts c.args.words.now) files (record { status = is.Words; line = words_line; after = after }) × (told ≡ Some after)} told (λ files e. (files, inl (c.in-None.ensures, refl), e)) in
+    outcome_printed _ _ is.Words _ (codes "words not understood\n") tt stands c.print.ensures
+
+pub returns-in-Some-clause-outcome : goal.returns-in-Some-clause-outcome
+returns-in-Some-clause-outcome g c = outcome_of_row _ _ _ _ _ c.in-Some.ensures c.run_row.ensures.outcome

@@ -1,0 +1,27 @@
+use Rattle.std.proofs.Common.{◌∙◌, arith, rules, length-take}
+use Rattle.nanobot_app.proofs.Tracing.{underway_end, underway_long, underway_next}
+use Rattle.nanobot_app.proofs.trace.run_trace.Goals as goal
+
+pub returns-then-count-eq0-clause-reads : goal.returns-then-count-eq0-clause-reads
+returns-then-count-eq0-clause-reads g c =
+    let piece = rw c.pieces.invariant.files at c.in_ok-count.ensures.piece in
+    underway_end _ _ c.args.source c.args.profile _ _ _ c.pieces.run c.pieces.invariant.underway piece c.in_ok-count.ensures.bound c.args.target.now _ (omega arith) c.if-count-eq0.true c.pieces.invariant.within (λ bytes run. c.finish.ensures c.args.source c.args.profile bytes run)
+
+pub returns-then-at-gt-LIMIT-clause-reads : goal.returns-then-at-gt-LIMIT-clause-reads
+returns-then-at-gt-LIMIT-clause-reads g c =
+    let piece = rw c.pieces.invariant.files at c.in_ok-count.ensures.piece in
+    underway_long _ _ c.args.source c.args.profile _ _ _ c.pieces.run c.pieces.invariant.underway piece c.in_ok-count.ensures.bound c.args.target.now (omega (arith, c.if-at-gt-LIMIT.true))
+
+pub pieces-preserved : goal.pieces-preserved
+pieces-preserved g c =
+    let piece = rw c.pieces.invariant.files at c.in_ok-count.ensures.piece in
+    let fed = c.in_ok-feed.ensures in
+    let size = length-take c.in_ok-count.count c.fetch.new.buf in
+    record {
+      underway = underway_next _ _ c.args.source c.args.profile _ _ _ c.pieces.run c.pieces.invariant.underway piece c.in_ok-count.ensures.bound c.feed.new.self (λ bytes run. fed.run c.args.source c.args.profile bytes run);
+      within = omega (arith, c.if-at-gt-LIMIT.false);
+      offset = omega (arith, c.feed.ensures.offset, c.pieces.invariant.offset, size);
+      resolution = c.feed.ensures.resolution ∙ c.pieces.invariant.resolution;
+      files = search rules;
+      later = omega (arith, c.in_ok-count.ensures.later, c.pieces.invariant.later);
+    }

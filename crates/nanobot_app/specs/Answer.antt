@@ -1,0 +1,124 @@
+-- What is answered to the words over known files: a status, a line and the files afterwards (docs/FORMATS.md, "Printed lines").
+use Rattle.std.specs.Prelude.{◌≡◌, ◌⊎◌, ℕ, ◌+◌, cond, nat_lt, ◌==◌, List, [], ◌∷◌, length, count_by, Option, Some, None, Result, Ok, Err, MatchOption, MatchBool}
+use Rattle.nano_spec.specs.declared.commands.Command.{Command}
+use Rattle.nano_spec.specs.declared.outcomes.Verdict.{Verdict}
+use Rattle.nano_spec.specs.declared.system.Profile.{Profile}
+use Rattle.nano_spec.specs.Cutting.{Decoding, NoTrace, CutAt, BadAt}
+use Rattle.nano_spec.specs.Legal.{Legality, NotLegal}
+use Rattle.nano_spec.specs.Matrix.{Matrix, all_of, empty, is_full}
+use Rattle.nano_spec.specs.Model.{NoModel, model}
+use Rattle.nano_spec.specs.Profile.{full_profile}
+use Rattle.nano_spec.specs.Spelling.{spelling}
+use Rattle.nano_spec.specs.Verdict.{VerdictOf}
+use Rattle.vox_depot.specs.Files.{Files, content}
+use Rattle.nanobot_app.specs.declared.report.Report.{Report}
+use Rattle.nanobot_app.specs.declared.report.Report.TheVariants.{Legal, Model, NotBuilt, Resolutions, TraceBad, TraceCut, TraceLong}
+use Rattle.nanobot_app.specs.declared.report.Who.{Who}
+use Rattle.nanobot_app.specs.declared.report.Who.TheVariants as who
+use Rattle.nanobot_app.specs.declared.status.Status.{Status}
+use Rattle.nanobot_app.specs.declared.status.Status.TheVariants as is
+use Rattle.nanobot_app.specs.OneBot.{is_built}
+use Rattle.nanobot_app.specs.Report.{line_of, no_model, not_legal, of_verdict, status_of, words_line}
+use Rattle.nanobot_app.specs.Rows.{Row, check, run, IsRow, IsInNoRow}
+
+pub record Reply : Type 0 where
+  pub status : Status
+  pub line : List ℕ
+  pub after : Files
+
+abbrev pub Answers : Type 1
+Answers = Files → Reply → Type 0
+
+-- this report, and the files as they were
+abbrev pub Tells : Report → Files → Reply → Type 0
+Tells report files reply = reply ≡ record { status = status_of report; line = line_of report; after = files }
+
+-- the words are in no row of the table
+abbrev pub IsNoRow : Files → Reply → Type 0
+IsNoRow files reply = reply ≡ record { status = is.Words; line = words_line; after = files }
+
+-- a file is not there: no line
+abbrev pub IsGone : Files → Reply → Type 0
+IsGone files reply = reply ≡ record { status = is.Depot; line = []; after = files }
+
+-- p of the bytes of a file
+abbrev pub WithFile : Files → List ℕ → (List ℕ → Reply → Type 0) → Reply → Type 0
+WithFile files name p reply = MatchOption (content files name) (IsGone files reply) (λ bytes. p bytes reply)
+
+-- ---- models
+
+-- the model, where it is legal
+abbrev pub Judged : Who → Files → Option NotLegal → (Reply → Type 0) → Reply → Type 0
+Judged who files None p = p
+Judged who files (Some why) p = Tells (Model who (not_legal why)) files
+
+-- p of the model that the bytes say, where they do and it is legal
+abbrev pub OfBytes : Who → Files → Result Matrix NoModel → (Matrix → Reply → Type 0) → Reply → Type 0
+OfBytes who files (Err why) p reply = Tells (Model who (no_model why)) files reply
+OfBytes who files (Ok m) p reply = (legality : Option NotLegal) × Legality m legality × Judged who files legality (p m) reply
+
+-- p of the legal model of a file
+abbrev pub WithModel : Who → Files → List ℕ → (Matrix → Reply → Type 0) → Reply → Type 0
+WithModel who files name p = WithFile files name (λ bytes. OfBytes who files (model bytes) p)
+
+-- the same of a source or a target: by `None` it has no file of its own
+abbrev pub WithSide : Who → Files → Option (List ℕ) → (Option Matrix → Reply → Type 0) → Reply → Type 0
+WithSide who files None p = p None
+WithSide who files (Some name) p = WithModel who files name (λ m. p (Some m))
+
+-- p of both models, where they are of one resolution
+abbrev pub WithBoth : Files → Option Matrix → Option Matrix → (Matrix → Matrix → Reply → Type 0) → Reply → Type 0
+WithBoth files None None p reply = ⊥
+WithBoth files (Some s) None p reply = p s (empty s.resolution) reply
+WithBoth files None (Some t) p reply = p (empty t.resolution) t reply
+WithBoth files (Some s) (Some t) p reply = MatchBool (s.resolution == t.resolution) (p s t reply) (Tells (Resolutions s.resolution t.resolution) files reply)
+
+-- ---- traces
+
+-- p of the commands of the bytes
+abbrev pub OfDecoding : Files → Result (List Command) NoTrace → (List Command → Reply → Type 0) → Reply → Type 0
+OfDecoding files (Ok commands) p = p commands
+OfDecoding files (Err (BadAt offset)) p = Tells (TraceBad offset) files
+OfDecoding files (Err (CutAt offset)) p = Tells (TraceCut offset) files
+
+-- the same of bytes that may be too many
+abbrev pub OfTrace : ℕ → Files → List ℕ → (List Command → Reply → Type 0) → Reply → Type 0
+OfTrace limit files bytes p reply =
+    MatchBool (nat_lt limit (length bytes))
+    (Tells (TraceLong limit) files reply)
+    ((decoding : Result (List Command) NoTrace) × Decoding bytes decoding × OfDecoding files decoding p reply)
+
+-- the offset of the first command that the program does not take yet
+abbrev pub not_built : ℕ → List Command → Option ℕ
+not_built offset [] = None
+not_built offset (command ∷ more) = cond (is_built command) (not_built (offset + length (spelling command)) more) (Some offset)
+
+-- the verdict of the commands
+abbrev pub OfRun : Profile → Files → Matrix → Matrix → List Command → Reply → Type 0
+OfRun profile files source target commands reply =
+    MatchOption (not_built 0 commands)
+    ((verdict : Verdict) × VerdictOf source target commands profile verdict × Tells (of_verdict verdict) files reply)
+    (λ offset. Tells (NotBuilt offset) files reply)
+
+-- ---- the rows
+
+-- the most bytes of a trace that is run
+abbrev pub run_limit : ℕ
+run_limit = 1073741824
+
+-- how many voxels are full
+abbrev pub full_count : Matrix → ℕ
+full_count m = count_by (is_full m) (all_of m)
+
+abbrev pub AnswerOf : Row → Answers
+AnswerOf (check name) files = WithModel who.Model files name (λ m. Tells (Legal m.resolution (full_count m)) files)
+AnswerOf (run source target trace) files =
+    WithSide who.Source files source (λ s.
+    WithSide who.Target files target (λ t.
+    WithBoth files s t (λ s t.
+    WithFile files trace (λ bytes.
+    OfTrace run_limit files bytes (OfRun full_profile files s t)))))
+
+-- the answer to the words
+abbrev pub Answer : List (List ℕ) → Answers
+Answer words files reply = (IsInNoRow words × IsNoRow files reply) ⊎ ((row : Row) × IsRow words row × AnswerOf row files reply)

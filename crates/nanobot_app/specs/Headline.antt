@@ -1,0 +1,37 @@
+-- The sentence that the top call carries, over known files: what it means that a run takes its whole trace.
+use Rattle.std.specs.Prelude.{◌≡◌, ℕ, ◌≤◌, ℤ, List, length, Option, None, IsSomeAnd}
+use Rattle.std.specs.Io.KnownBytes.{append_known}
+use Rattle.nano_spec.specs.declared.commands.Command.{Command}
+use Rattle.nano_spec.specs.declared.outcomes.Verdict.TheVariants.{Accepted}
+use Rattle.nano_spec.specs.Cutting.{Cutting}
+use Rattle.nano_spec.specs.Matrix.{Matrix}
+use Rattle.nano_spec.specs.Profile.{full_profile}
+use Rattle.nano_spec.specs.Verdict.{VerdictOf}
+use Rattle.vox_depot.specs.Files.{Files, content}
+use Rattle.nanobot_app.specs.declared.status.Status.{Status}
+use Rattle.nanobot_app.specs.declared.status.Status.TheVariants as is
+use Rattle.nanobot_app.specs.Answer.{not_built, run_limit}
+use Rattle.nanobot_app.specs.declared.report.Report.TheVariants as report
+use Rattle.nanobot_app.specs.Reading.{AreBoth, IsSide}
+use Rattle.nanobot_app.specs.Report.{line_of}
+
+-- the machine of the definitions takes the whole trace from the one model to the other, to a halt, with this energy in so many steps
+abbrev pub TakesBytes : Matrix → Matrix → List ℕ → ℤ → ℕ → Type 0
+TakesBytes source target bytes energy steps = (length bytes ≤ run_limit) × ((commands : List Command) × Cutting bytes commands × (not_built 0 commands ≡ None) × VerdictOf source target commands full_profile (Accepted energy steps))
+
+-- the same of files: both models are legal and of one resolution, and the file of the trace is not too long
+pub record Takes (files : Files) (source target : Option (List ℕ)) (trace : List ℕ) (energy : ℤ) (steps : ℕ) : Type 0 where
+  -- what the files of the source and the target have; `-` has no file
+  pub source_side : Option Matrix
+  pub target_side : Option Matrix
+  pub source_is : IsSide source files source_side
+  pub target_is : IsSide target files target_side
+  -- the models, where what has no file is the empty model of the other's resolution
+  pub from : Matrix
+  pub to : Matrix
+  pub both : AreBoth source_side target_side from to
+  pub taken : IsSomeAnd (content files trace) (λ bytes. TakesBytes from to bytes energy steps)
+
+-- it answers 0 and prints the energy and the number of steps
+abbrev pub IsDoneWith : Status → Option (List ℕ) → Option (List ℕ) → ℤ → ℕ → Type 0
+IsDoneWith result before now energy steps = (result ≡ is.Done) × (now ≡ append_known before (line_of (report.Accepted energy steps)))

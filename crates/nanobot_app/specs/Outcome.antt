@@ -1,0 +1,78 @@
+-- What a call of the top has done to the outside, by its status.
+use Rattle.std.specs.Prelude.{◌≡◌, ◌⊎◌, ℕ, List, [], Option, Some, take, IfSome, IsSomeAnd, ⊤}
+use Rattle.std.specs.Io.KnownBytes.{append_known}
+use Rattle.vox_depot.specs.Causes.{Rose}
+use Rattle.vox_depot.specs.Files.{Files, others}
+use Rattle.nanobot_app.specs.declared.status.Status.{Status}
+use Rattle.nanobot_app.specs.declared.status.Status.TheVariants as is
+use Rattle.nanobot_app.specs.Answer.{Reply, Answers}
+use Rattle.nanobot_app.specs.declared.report.Report.{Report}
+use Rattle.nanobot_app.specs.Report.{line_of, status_of}
+use Rattle.nanobot_app.specs.Rows.{Row, IsRow, stores_of}
+
+-- the depot's files and faults, and the sink's bytes and faults
+pub record Outside : Type 0 where
+  pub files : Option Files
+  pub depot_faults : ℕ
+  pub written : Option (List ℕ)
+  pub sink_faults : ℕ
+
+abbrev pub outside : {D O : Type 0} → (D → Option Files) → (D → ℕ) → (O → Option (List ℕ)) → (O → ℕ) → D → O → Outside
+outside files depot_faults written sink_faults depot out = record { files = files depot; depot_faults = depot_faults depot; written = written out; sink_faults = sink_faults out }
+
+-- a status that is no fault of the outside and no want of memory
+abbrev pub IsAnswer : Status → Type 0
+IsAnswer is.Depot = ⊥
+IsAnswer is.Sink = ⊥
+IsAnswer is.Memory = ⊥
+IsAnswer _ = ⊤
+
+-- where files are told: an answer to them whose files now stand
+abbrev pub Stands : Answers → Outside → Outside → (Reply → Type 0) → Type 0
+Stands answers old new p = IfSome old.files (λ files. (reply : Reply) × answers files reply × (new.files ≡ Some reply.after) × p reply)
+
+abbrev pub DepotRose : Outside → Outside → Type 0
+DepotRose old new = Rose old.depot_faults new.depot_faults
+
+abbrev pub SinkRose : Outside → Outside → Type 0
+SinkRose old new = Rose old.sink_faults new.sink_faults
+
+-- files are told, and a file that is to be read is not there
+abbrev pub LacksFile : Answers → Outside → Type 0
+LacksFile answers old = IsSomeAnd old.files (λ files. answers files (record { status = is.Depot; line = []; after = files }))
+
+-- all files are as they were, but one that is to be stored
+abbrev pub SparesOthers : (List ℕ → Type 0) → Outside → Outside → Type 0
+SparesOthers stores old new = (new.files ≡ old.files) ⊎ ((name : List ℕ) × stores name × (others new.files name ≡ others old.files name))
+
+-- the whole line was written
+abbrev pub Delivered : Status → Outside → Outside → Reply → Type 0
+Delivered result old new reply = (reply.status ≡ result) × (new.written ≡ append_known old.written reply.line)
+
+-- a first part of the line was written
+abbrev pub DeliveredPart : Outside → Outside → Reply → Type 0
+DeliveredPart old new reply = (n : ℕ) × (new.written ≡ append_known old.written (take n reply.line))
+
+pub record Outcome (answers : Answers) (stores : List ℕ → Type 0) (old new : Outside) (result : Status) : Type 0 where
+  pub answer : IsAnswer result → Stands answers old new (Delivered result old new)
+  pub depot : result ≡ is.Depot → DepotRose old new ⊎ LacksFile answers old
+  pub sink : result ≡ is.Sink → SinkRose old new
+  pub after_depot : result ≡ is.Depot → (new.written ≡ old.written) × SparesOthers stores old new
+  pub after_sink : result ≡ is.Sink → Stands answers old new (DeliveredPart old new)
+  pub after_memory : result ≡ is.Memory → (new.files ≡ old.files) × (new.written ≡ old.written)
+
+-- the name that the row of the words stores
+abbrev pub StoredBy : List (List ℕ) → List ℕ → Type 0
+StoredBy words name = (row : Row) × IsRow words row × (stores_of row ≡ Some name)
+
+-- what one put of a line has done: it was written whole, or a first part of it
+pub record Printed (status : Status) (line : List ℕ) (old new : Option (List ℕ)) (before now : ℕ) (result : Status) : Type 0 where
+  pub cases : ((result ≡ status) × (new ≡ append_known old line)) ⊎ ((result ≡ is.Sink) × Rose before now × ((n : ℕ) × (new ≡ append_known old (take n line))))
+
+-- the same of a report, whose line takes memory
+pub record Told (report : Report) (old new : Option (List ℕ)) (before now : ℕ) (result : Status) : Type 0 where
+  pub cases : ((result ≡ is.Memory) × (new ≡ old)) ⊎ Printed (status_of report) (line_of report) old new before now result
+
+-- the name that the row stores
+abbrev pub RowStores : Row → List ℕ → Type 0
+RowStores row name = stores_of row ≡ Some name

@@ -1,0 +1,15 @@
+-- The row that a value of the code stands for.
+use Rattle.std.specs.Prelude.{ℕ, List, Option, Some, None}
+use Rattle.nanobot_app.specs.declared.words.Row as code
+use Rattle.nanobot_app.specs.declared.words.Row.TheVariants.{Check, Run}
+use Rattle.nanobot_app.specs.declared.words.Side as sides
+use Rattle.nanobot_app.specs.declared.words.Side.TheVariants.{Empty, Named}
+use Rattle.nanobot_app.specs.Rows.{Row, check, run}
+
+abbrev pub side_of : sides.Side → Option (List ℕ)
+side_of Empty = None
+side_of (Named name) = Some name.now
+
+abbrev pub row_of : code.Row → Row
+row_of (Check model) = check model.now
+row_of (Run source target trace) = run (side_of source) (side_of target) trace.now

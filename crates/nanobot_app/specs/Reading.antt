@@ -1,0 +1,166 @@
+-- What is found in the files: models, and what comes of a trace.
+use Rattle.std.specs.Prelude.{◌≡◌, ◌≢◌, ◌⊎◌, ℕ, nat_lt, List, [], ◌++◌, length, Option, Some, None, Result, Ok, Err, MatchOption, MatchBool, IfSome, IsSomeAnd, ⊤}
+use Rattle.nano_spec.specs.declared.commands.Command.{Command}
+use Rattle.nano_spec.specs.declared.outcomes.Verdict.{Verdict}
+use Rattle.nano_spec.specs.declared.system.Profile.{Profile}
+use Rattle.nano_spec.specs.Cutting.{Decoding, NoTrace, CutAt, BadAt}
+use Rattle.nano_spec.specs.Legal.{IsLegal, Legality, NotLegal}
+use Rattle.nano_spec.specs.Matrix.{Matrix, empty}
+use Rattle.nano_spec.specs.Model.{NoModel, model}
+use Rattle.nano_spec.specs.Verdict.{VerdictOf}
+use Rattle.model_file.specs.declared.fault.ModelFault.{ModelFault}
+use Rattle.model_file.specs.declared.fault.ModelFault.TheVariants as fault
+use Rattle.run_progress.specs.Progress.{Comes, Progress, Pushes}
+use Rattle.trace_codec.specs.Decoder.{DecoderState, HasTaken}
+use Rattle.vox_depot.specs.Files.{Files, content}
+use Rattle.vox_depot.specs.declared.whole.LoadFault.{LoadFault}
+use Rattle.vox_depot.specs.declared.whole.LoadFault.TheVariants as load
+use Rattle.vox_depot.specs.declared.depot.FetchFault.{FetchFault}
+use Rattle.vox_depot.specs.declared.depot.FetchFault.TheVariants as fetch
+use Rattle.nanobot_app.specs.declared.report.Report.{Report}
+use Rattle.nanobot_app.specs.declared.report.Report.TheVariants.{Model, NotBuilt, Resolutions, TraceBad, TraceCut, TraceLong}
+use Rattle.nanobot_app.specs.declared.report.Who.{Who}
+use Rattle.nanobot_app.specs.declared.stop.Stop.{Stop}
+use Rattle.nanobot_app.specs.declared.stop.Stop.TheVariants as stop
+use Rattle.nanobot_app.specs.declared.status.Status.TheVariants as is
+use Rattle.nanobot_app.specs.Answer.{Answers, Reply, not_built}
+use Rattle.nanobot_app.specs.OneBot.{is_built}
+use Rattle.nanobot_app.specs.Report.{line_of, no_model, not_legal, of_verdict, status_of}
+
+-- ---- why a call stops
+
+-- a model that was refused, or want of memory
+abbrev pub of_fault : Who → ModelFault → Stop
+of_fault who fault.Memory = stop.Memory
+of_fault who f = stop.Told (Model who f)
+
+-- a file that was not loaded
+abbrev pub of_load : LoadFault → Stop
+of_load load.Missing = stop.Depot
+of_load load.Failed = stop.Depot
+of_load load.Memory = stop.Memory
+
+-- a piece that was not fetched
+abbrev pub of_fetch : FetchFault → Stop
+of_fetch fetch.Missing = stop.Depot
+of_fetch fetch.Failed = stop.Depot
+
+-- what a call that reads files comes to: where files are told, P of its value, or R of the report that ends it; a stop without a report comes
+-- where the depot failed or, where files are told, lacks the file of M, or for want of memory
+abbrev pub Reads : {A : Type 0} → Option Files → Type 0 → (Files → A → Type 0) → (Files → Report → Type 0) → (Files → Type 0) → Result A Stop → Type 0
+Reads told rose P R M (Ok a) = IfSome told (λ files. P files a)
+Reads told rose P R M (Err (stop.Told report)) = IfSome told (λ files. R files report)
+Reads told rose P R M (Err stop.Depot) = rose ⊎ IsSomeAnd told M
+Reads told rose P R M (Err stop.Memory) = ⊤
+
+-- ---- models
+
+-- the file of the name has the bytes of this legal model
+abbrev pub IsModelOf : Files → List ℕ → Matrix → Type 0
+IsModelOf files name m = IsSomeAnd (content files name) (λ bytes. (model bytes ≡ Ok m) × IsLegal m)
+
+-- the report on what bytes say that is no legal model
+abbrev pub RefusesBytes : Who → Result Matrix NoModel → Report → Type 0
+RefusesBytes who (Err why) report = report ≡ Model who (no_model why)
+RefusesBytes who (Ok m) report = (why : NotLegal) × Legality m (Some why) × (report ≡ Model who (not_legal why))
+
+abbrev pub RefusesFile : Who → List ℕ → Files → Report → Type 0
+RefusesFile who name files report = IsSomeAnd (content files name) (λ bytes. RefusesBytes who (model bytes) report)
+
+-- there is no file of the name
+abbrev pub Lacks : List ℕ → Files → Type 0
+Lacks name files = content files name ≡ None
+
+-- the same of a source or a target, which may have no file
+abbrev pub IsSide : Option (List ℕ) → Files → Option Matrix → Type 0
+IsSide None files None = ⊤
+IsSide None files (Some m) = ⊥
+IsSide (Some name) files None = ⊥
+IsSide (Some name) files (Some m) = IsModelOf files name m
+
+abbrev pub RefusesSide : Who → Option (List ℕ) → Files → Report → Type 0
+RefusesSide who None files report = ⊥
+RefusesSide who (Some name) files report = RefusesFile who name files report
+
+abbrev pub LacksSide : Option (List ℕ) → Files → Type 0
+LacksSide None files = ⊥
+LacksSide (Some name) files = Lacks name files
+
+-- the source and the target of the sides: what has no file is the empty model of the other's resolution
+abbrev pub AreBoth : Option Matrix → Option Matrix → Matrix → Matrix → Type 0
+AreBoth None None s t = ⊥
+AreBoth (Some a) None s t = (s ≡ a) × (t ≡ empty a.resolution)
+AreBoth None (Some b) s t = (s ≡ empty b.resolution) × (t ≡ b)
+AreBoth (Some a) (Some b) s t = (s ≡ a) × (t ≡ b) × (a.resolution ≡ b.resolution)
+
+-- the report on two models of different resolutions
+abbrev pub AreUnlike : Option Matrix → Option Matrix → Report → Type 0
+AreUnlike (Some a) (Some b) report = (a.resolution ≢ b.resolution) × (report ≡ Resolutions a.resolution b.resolution)
+AreUnlike a b report = ⊥
+
+-- ---- traces
+
+-- a run whose trace comes in pieces: the decoder, the progress, and where the first command stands that is not taken yet
+pub record RunState : Type 0 where
+  pub decoder : DecoderState
+  pub progress : Progress
+  pub not_built : Option ℕ
+
+-- one more command: once one is found that is not taken, no other is looked at
+abbrev pub Takes : Option ℕ → ℕ → Command → Progress → Progress → Option ℕ → Type 0
+Takes (Some first) offset command p q now = now ≡ Some first
+Takes None offset command p q now = MatchBool (is_built command) (Pushes p command q × (now ≡ None)) (now ≡ Some offset)
+
+-- whatever follows the bytes, they are refused at the offset
+abbrev pub AreBad : List ℕ → ℕ → Type 0
+AreBad bytes offset = (more : List ℕ) → Decoding (bytes ++ more) (Err (BadAt offset))
+
+-- the bytes were taken, and this is how the run of their commands stands
+pub record Stands (source : Matrix) (profile : Profile) (bytes : List ℕ) (s : RunState) : Type 0 where
+  pub commands : List Command
+  pub taken : HasTaken bytes commands s.decoder
+  pub built : s.not_built ≡ not_built 0 commands
+  pub progress_is : not_built 0 commands ≡ None → Comes source profile commands s.progress
+
+abbrev pub HasRun : Matrix → Profile → List ℕ → RunState → Type 0
+HasRun source profile bytes s = MatchBool s.decoder.failed (AreBad bytes s.decoder.offset) (Stands source profile bytes s)
+
+-- the report on commands
+abbrev pub OnCommands : Profile → Matrix → Matrix → List Command → Report → Type 0
+OnCommands profile source target commands report = MatchOption (not_built 0 commands) ((verdict : Verdict) × VerdictOf source target commands profile verdict × (report ≡ of_verdict verdict)) (λ offset. report ≡ NotBuilt offset)
+
+-- the report on a decoding
+abbrev pub OnDecoding : Profile → Matrix → Matrix → Result (List Command) NoTrace → Report → Type 0
+OnDecoding profile source target (Ok commands) report = OnCommands profile source target commands report
+OnDecoding profile source target (Err (BadAt offset)) report = report ≡ TraceBad offset
+OnDecoding profile source target (Err (CutAt offset)) report = report ≡ TraceCut offset
+
+-- the report on the bytes of a trace that is not too long
+abbrev pub OnBytes : Profile → Matrix → Matrix → List ℕ → Report → Type 0
+OnBytes profile source target bytes report = (decoding : Result (List Command) NoTrace) × Decoding bytes decoding × OnDecoding profile source target decoding report
+
+-- the report on the bytes of a trace
+abbrev pub OnTrace : ℕ → Profile → Matrix → Matrix → List ℕ → Report → Type 0
+OnTrace limit profile source target bytes report = MatchBool (nat_lt limit (length bytes)) (report ≡ TraceLong limit) (OnBytes profile source target bytes report)
+
+-- the report on the trace of a file
+abbrev pub OnFile : ℕ → Profile → Matrix → Matrix → List ℕ → Files → Report → Type 0
+OnFile limit profile source target name files report = IsSomeAnd (content files name) (λ bytes. OnTrace limit profile source target bytes report)
+
+-- no report ends the call early
+abbrev pub tells_nothing : Files → Report → Type 0
+tells_nothing files report = ⊥
+
+-- ---- what is answered
+
+-- the report as a reply
+abbrev pub reply_of : Files → Report → Reply
+reply_of files report = record { status = status_of report; line = line_of report; after = files }
+
+-- a file is not there
+abbrev pub gone : Files → Reply
+gone files = record { status = is.Depot; line = []; after = files }
+
+-- what is answered without any file that is stored
+abbrev pub Ends : Answers → Option Files → Type 0 → Result Report Stop → Type 0
+Ends answers told rose result = Reads told rose (λ files report. answers files (reply_of files report)) (λ files report. answers files (reply_of files report)) (λ files. answers files (gone files)) result

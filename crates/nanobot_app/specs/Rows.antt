@@ -1,0 +1,72 @@
+-- The table of words: each row as the words that it is written with (this project's own: docs/FORMATS.md, "Printed lines").
+use Rattle.std.specs.Prelude.{◌≡◌, ◌≢◌, ℕ, List, [], ◌∷◌, map, codes, Option, Some, None, String, string_bytes, All, ⊤}
+
+-- a source or a target is the file of a name, or by `None` the empty model of the other's resolution
+pub data Row : Type 0 where
+  check : (model : List ℕ) → Row
+  run : (source target : Option (List ℕ)) (trace : List ℕ) → Row
+
+-- the word of a source or a target
+abbrev pub side_word : Option (List ℕ) → List ℕ
+side_word None = codes "-"
+side_word (Some name) = name
+
+-- the words of a row
+abbrev pub words_of : Row → List (List ℕ)
+words_of (check model) = codes "check" ∷ model ∷ []
+words_of (run source target trace) = codes "run" ∷ side_word source ∷ side_word target ∷ trace ∷ []
+
+-- a name, if there is one, before others
+abbrev pub with_side : Option (List ℕ) → List (List ℕ) → List (List ℕ)
+with_side None names = names
+with_side (Some name) names = name ∷ names
+
+-- the names of the files that it reads, in the order of reading
+abbrev pub reads_of : Row → List (List ℕ)
+reads_of (check model) = model ∷ []
+reads_of (run source target trace) = with_side source (with_side target (trace ∷ []))
+
+-- the name of the file that it stores
+abbrev pub stores_of : Row → Option (List ℕ)
+stores_of (check model) = None
+stores_of (run source target trace) = None
+
+-- the names in it
+abbrev pub names_of : Row → List (List ℕ)
+names_of row = reads_of row
+
+-- one of the two is the file of a name
+abbrev pub HasName : Option (List ℕ) → Option (List ℕ) → Type 0
+HasName None None = ⊥
+HasName source target = ⊤
+
+-- the row is of the table
+abbrev pub IsOfTable : Row → Type 0
+IsOfTable (check model) = ⊤
+IsOfTable (run source target trace) = HasName source target
+
+-- `-` is no name of a file
+abbrev pub IsName : List ℕ → Type 0
+IsName name = name ≢ codes "-"
+
+-- the words are written as this row
+pub record IsRow (words : List (List ℕ)) (row : Row) : Type 0 where
+  pub written : words ≡ words_of row
+  pub named : All IsName (names_of row)
+  pub of_table : IsOfTable row
+
+-- the words are in no row of the table
+abbrev pub IsInNoRow : List (List ℕ) → Type 0
+IsInNoRow words = (row : Row) → IsRow words row → ⊥
+
+-- the bytes of each word
+abbrev pub texts : {Y : Type 0} → List (String Y) → List (List ℕ)
+texts words = map string_bytes words
+
+-- each name that the row of the words reads may be fetched
+abbrev pub MayRead : (List ℕ → Type 0) → List (List ℕ) → Type 0
+MayRead may_fetch words = (row : Row) → IsRow words row → All may_fetch (reads_of row)
+
+-- the name that the row of the words stores may be stored
+abbrev pub MayStore : (List ℕ → Type 0) → List (List ℕ) → Type 0
+MayStore may_store words = (row : Row) (name : List ℕ) → IsRow words row → stores_of row ≡ Some name → may_store name

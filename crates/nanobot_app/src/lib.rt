@@ -1,0 +1,18 @@
+//! The top call: does what the words of the command line say, over any depot and sink (docs/FORMATS.md, "Printed lines").
+#![tactic(auto)]
+
+mod laws;
+mod models;
+mod report;
+mod rows;
+mod runner;
+mod status;
+mod stop;
+mod top_call;
+mod trace;
+mod trace_run;
+mod words;
+
+pub use laws::one_answer;
+pub use status::Status;
+pub use top_call::drive;

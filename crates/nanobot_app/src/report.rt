@@ -1,0 +1,171 @@
+//! What is told of a call, and its lines.
+ghost use Rattle.std.specs.List.{concat};
+ghost use Rattle.std.specs.Prelude.{◌≡◌, ◌∷◌, [], IfOk, codes, decimal, string_bytes};
+ghost use Rattle.nanobot_app.specs.Report.{broken_line as broken_line_of, line_of, model_line as model_line_of, of_verdict, status_of, who_of};
+
+use crate::status::Status;
+use model_file::ModelFault;
+use nano_spec::{Broken, Verdict};
+use std::alloc::{AllocError, Global};
+use vox_geom::Coord;
+
+/// Whose model is refused.
+#[derive(Clone, Copy, PartialEq, Eq, Debug)]
+pub enum Who {
+    Model,
+    Source,
+    Target,
+}
+
+/// What is told of a call whose files could be read: each report has a status and a line.
+#[derive(Clone, Copy, PartialEq, Eq, Debug)]
+pub enum Report {
+    /// A run was accepted.
+    Accepted { energy: i64, steps: u32 },
+    /// A model is legal, and so many of its voxels are full.
+    Legal { resolution: u16, full: u32 },
+    /// A rule was broken.
+    Broken(Broken),
+    /// A model was refused.
+    Model { who: Who, fault: ModelFault },
+    /// The source and the target have different resolutions.
+    Resolutions { source: u16, target: u16 },
+    /// What begins at the offset of a trace is no command.
+    TraceBad { offset: u64 },
+    /// A trace ends within the command that begins there.
+    TraceCut { offset: u64 },
+    /// A trace has more bytes than that.
+    TraceLong { limit: u64 },
+    /// The program does not take the command that begins there yet.
+    NotBuilt { offset: u64 },
+}
+
+impl Who {
+    /// The word of the line.
+    fn name(self) -> &'static str
+        ensures { result.now ≡ who_of self }
+    {
+        match self {
+            Who::Model => "model",
+            Who::Source => "source",
+            Who::Target => "target",
+        }
+    }
+}
+
+/// The line of a coordinate.
+fn at_line(alloc: Global, who: &str, refusal: &str, at: Coord) -> Result<String, AllocError>
+    ensures { IfOk result (λ s. string_bytes s ≡ concat (who.now ∷ refusal.now ∷ codes " " ∷ decimal at.x ∷ codes " " ∷ decimal at.y ∷ codes " " ∷ decimal at.z ∷ codes "\n" ∷ [])) }
+{
+    format!(in alloc; "{who}{refusal} {} {} {}\n", at.x, at.y, at.z)
+}
+
+/// The line of a model that was refused.
+fn model_line(alloc: Global, who: Who, fault: ModelFault) -> Result<String, AllocError>
+    ensures { IfOk result (λ s. string_bytes s ≡ model_line_of who fault) }
+{
+    let who = who.name();
+    match &fault {
+        ModelFault::NoByte => format!(in alloc; "{who} 1 NoByte\n"),
+        ModelFault::Resolution { r } => format!(in alloc; "{who} 2 Resolution {r}\n"),
+        ModelFault::Short { want, have } => {
+            format!(in alloc; "{who} 3 Short want {want} have {have}\n")
+        }
+        ModelFault::Long { want } => format!(in alloc; "{who} 4 Long want {want}\n"),
+        ModelFault::Memory => format!(in alloc; "{who} 5 Memory\n"),
+        ModelFault::Border { at } => at_line(alloc, who, " 6 Border at", *at),
+        ModelFault::Floating { at } => at_line(alloc, who, " 7 Floating at", *at),
+        ModelFault::WideHead { have } => format!(in alloc; "{who} 8 WideHead have {have}\n"),
+        ModelFault::WideResolution { r } => format!(in alloc; "{who} 9 WideResolution {r}\n"),
+        ModelFault::WideRun { index } => format!(in alloc; "{who} 10 WideRun index {index}\n"),
+        ModelFault::WideShort { have } => format!(in alloc; "{who} 11 WideShort have {have}\n"),
+        ModelFault::WideLong => format!(in alloc; "{who} 12 WideLong\n"),
+    }
+}
+
+/// The components of a coordinate.
+fn place(alloc: Global, at: Coord) -> Result<String, AllocError>
+    ensures { IfOk result (λ s. string_bytes s ≡ concat (decimal at.x ∷ codes " " ∷ decimal at.y ∷ codes " " ∷ decimal at.z ∷ [])) }
+{
+    format!(in alloc; "{} {} {}", at.x, at.y, at.z)
+}
+
+/// The line of a rule by its number and its name.
+fn rule_line(
+    alloc: Global,
+    number: u8,
+    name: &str,
+    step: u32,
+    bid: u8,
+    place: &str,
+) -> Result<String, AllocError>
+    ensures { IfOk result (λ s. string_bytes s ≡ concat (codes "broken " ∷ decimal number ∷ codes " " ∷ name.now ∷ codes " step " ∷ decimal step ∷ codes " bid " ∷ decimal bid ∷ codes " at " ∷ place.now ∷ codes "\n" ∷ [])) }
+{
+    format!(in alloc; "broken {number} {name} step {step} bid {bid} at {place}\n")
+}
+
+/// The line of a rule that was broken.
+fn broken_line(alloc: Global, broken: &Broken) -> Result<String, AllocError>
+    ensures { IfOk result (λ s. string_bytes s ≡ broken_line_of broken.now) }
+{
+    let rule = broken.rule;
+    let place = place(alloc, broken.at)?;
+    rule_line(
+        alloc,
+        rule.number(),
+        rule.name(),
+        broken.step,
+        broken.bid,
+        place.as_str(),
+    )
+}
+
+impl Report {
+    /// The report of a verdict.
+    pub fn of_verdict(verdict: Verdict) -> Report
+        ensures { result ≡ of_verdict verdict }
+    {
+        match verdict {
+            Verdict::Accepted { energy, steps } => Report::Accepted { energy, steps },
+            Verdict::Refused(broken) => Report::Broken(broken),
+        }
+    }
+
+    /// The status of the report.
+    pub fn status(&self) -> Status
+        ensures { result ≡ status_of self.now }
+    {
+        match self {
+            Report::Accepted { .. } | Report::Legal { .. } => Status::Done,
+            Report::Broken(_) => Status::Broken,
+            Report::Model { .. } | Report::Resolutions { .. } => Status::Model,
+            Report::TraceBad { .. } | Report::TraceCut { .. } | Report::TraceLong { .. } => {
+                Status::Trace
+            }
+            Report::NotBuilt { .. } => Status::NotYet,
+        }
+    }
+
+    /// The line of the report.
+    pub fn line(&self, alloc: Global) -> Result<String, AllocError>
+        ensures { IfOk result (λ s. string_bytes s ≡ line_of self.now) }
+    {
+        match self {
+            Report::Accepted { energy, steps } => {
+                format!(in alloc; "ok energy {energy} steps {steps}\n")
+            }
+            Report::Legal { resolution, full } => {
+                format!(in alloc; "legal resolution {resolution} full {full}\n")
+            }
+            Report::Broken(broken) => broken_line(alloc, broken),
+            Report::Model { who, fault } => model_line(alloc, *who, *fault),
+            Report::Resolutions { source, target } => {
+                format!(in alloc; "resolutions {source} {target}\n")
+            }
+            Report::TraceBad { offset } => format!(in alloc; "trace bad at {offset}\n"),
+            Report::TraceCut { offset } => format!(in alloc; "trace cut at {offset}\n"),
+            Report::TraceLong { limit } => format!(in alloc; "trace longer than {limit}\n"),
+            Report::NotBuilt { offset } => format!(in alloc; "not built at {offset}\n"),
+        }
+    }
+}

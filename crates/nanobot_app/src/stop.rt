@@ -1,0 +1,77 @@
+//! Why a call ends before its last report.
+ghost use Rattle.std.specs.Prelude.{◌≡◌};
+ghost use Rattle.nanobot_app.specs.declared.stop.Stop.TheVariants as stop;
+ghost use Rattle.nanobot_app.specs.Reading.{of_fault, of_fetch, of_load};
+
+use crate::report::{Report, Who};
+use model_file::ModelFault;
+use std::alloc::AllocError;
+use vox_depot::{FetchFault, LoadFault};
+use vox_geom::Memory;
+
+/// Why a call ends here: something was refused, a file could not be read, or there was no memory.
+#[derive(Clone, Copy, PartialEq, Eq, Debug)]
+pub enum Stop {
+    Told(Report),
+    Depot,
+    Memory,
+}
+
+impl Stop {
+    /// The stop of a model that was not read or is not legal.
+    pub fn of_fault(who: Who, fault: ModelFault) -> Stop
+        ensures { result ≡ of_fault who fault }
+    {
+        match &fault {
+            ModelFault::Memory => Stop::Memory,
+            ModelFault::NoByte
+            | ModelFault::Resolution { .. }
+            | ModelFault::Short { .. }
+            | ModelFault::Long { .. }
+            | ModelFault::Border { .. }
+            | ModelFault::Floating { .. }
+            | ModelFault::WideHead { .. }
+            | ModelFault::WideResolution { .. }
+            | ModelFault::WideRun { .. }
+            | ModelFault::WideShort { .. }
+            | ModelFault::WideLong => Stop::Told(Report::Model { who, fault }),
+        }
+    }
+}
+
+impl From<LoadFault> for Stop {
+    ghost from_gives = { λ fault s. s ≡ of_load fault };
+
+    fn from(fault: LoadFault) -> Self {
+        match fault {
+            LoadFault::Missing | LoadFault::Failed => Stop::Depot,
+            LoadFault::Memory => Stop::Memory,
+        }
+    }
+}
+
+impl From<FetchFault> for Stop {
+    ghost from_gives = { λ fault s. s ≡ of_fetch fault };
+
+    fn from(fault: FetchFault) -> Self {
+        match fault {
+            FetchFault::Missing | FetchFault::Failed => Stop::Depot,
+        }
+    }
+}
+
+impl From<Memory> for Stop {
+    ghost from_gives = { λ _ s. s ≡ stop.Memory };
+
+    fn from(_memory: Memory) -> Self {
+        Stop::Memory
+    }
+}
+
+impl From<AllocError> for Stop {
+    ghost from_gives = { λ _ s. s ≡ stop.Memory };
+
+    fn from(_error: AllocError) -> Self {
+        Stop::Memory
+    }
+}

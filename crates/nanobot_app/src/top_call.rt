@@ -1,0 +1,145 @@
+//! The top call.
+ghost use Rattle.std.specs.Prelude.{◌≡◌, ◌⊎◌, ◌≤◌, ℕ, ℤ, List, Option, [], All, IfSome, IsSomeAnd};
+ghost use Rattle.vox_depot.specs.Causes.{Rose};
+ghost use Rattle.nanobot_app.specs.Answer.{Answer, AnswerOf, Reply};
+ghost use Rattle.nanobot_app.specs.Headline.{IsDoneWith, Takes};
+ghost use Rattle.nanobot_app.specs.Parsing.{row_of};
+ghost use Rattle.nanobot_app.specs.Outcome.{Delivered, DeliveredPart, IsAnswer, Outcome, SparesOthers, Stands, Printed, RowStores, StoredBy, Told, outside};
+ghost use Rattle.nanobot_app.specs.Rows.{IsInNoRow, IsOfTable, IsRow, MayRead, MayStore, reads_of, run as run_of, texts};
+
+use crate::laws::one_answer;
+use crate::report::Report;
+use crate::rows::answer;
+use crate::status::Status;
+use crate::stop::Stop;
+use crate::words::{Row, parse};
+use std::alloc::Global;
+use std::sync::ledger::Ledger;
+use vox_depot::{Depot, Sink, SinkFault};
+use vox_geom::Steps;
+
+/// Writes the line, in one put, and answers the status.
+fn print<O: Sink>(out: &mut O, status: Status, line: &[u8]) -> Status
+    ensures { Printed status line.now (O.written out.old) (O.written out.new) (O.faults out.old) (O.faults out.new) result }
+{
+    match out.put(line) {
+        Ok(()) => status,
+        Err(SinkFault) => Status::Sink,
+    }
+}
+
+/// Writes the line of the report.
+fn tell<O: Sink>(alloc: Global, out: &mut O, report: &Report) -> Status
+    ensures { Told report.now (O.written out.old) (O.written out.new) (O.faults out.old) (O.faults out.new) result }
+{
+    let Ok(line) = report.line(alloc) else {
+        return Status::Memory;
+    };
+    print(out, report.status(), line.as_bytes())
+}
+
+/// Does what the row asks for.
+fn run_row<D: Depot, O: Sink, L: Ledger>(
+    alloc: Global,
+    row: Row<'_>,
+    depot: &mut D,
+    out: &mut O,
+    steps: &mut Steps<L>,
+) -> Status
+    requires may_fetch { All D.may_fetch (reads_of (row_of row)) }
+    requires of_table { IsOfTable (row_of row) }
+    ensures outcome { Outcome (AnswerOf (row_of row.entry)) (RowStores (row_of row.entry))
+        (outside D.files D.faults O.written O.faults depot.old out.old)
+        (outside D.files D.faults O.written O.faults depot.new out.new) result }
+    ensures words { result ≡ Status.Words → ⊥ }
+{
+    match answer(alloc, row, depot, steps) {
+        Ok(report) => tell(alloc, out, &report),
+        Err(Stop::Told(report)) => tell(alloc, out, &report),
+        Err(Stop::Depot) => Status::Depot,
+        Err(Stop::Memory) => Status::Memory,
+    }
+}
+
+/// Does what the words say.
+fn run<D: Depot, O: Sink, L: Ledger>(
+    alloc: Global,
+    words: &[String],
+    depot: &mut D,
+    out: &mut O,
+    steps: &mut Steps<L>,
+) -> Status
+    requires { MayRead D.may_fetch (texts words.now) }
+    ensures outcome { Outcome (Answer (texts words.now)) (StoredBy (texts words.now))
+        (outside D.files D.faults O.written O.faults depot.old out.old)
+        (outside D.files D.faults O.written O.faults depot.new out.new) result }
+    ensures words { result ≡ Status.Words → IsInNoRow (texts words.now) }
+    ensures in_no_row { IsInNoRow (texts words.now) → (result ≡ Status.Words) ⊎ (result ≡ Status.Sink) }
+{
+    match parse(words) {
+        None => print(out, Status::Words, b"words not understood\n"),
+        Some(row) => run_row(alloc, row, depot, out, steps),
+    }
+}
+
+/// Does what the words say (docs/FORMATS.md, "Printed lines"): reads files of the depot, stores at most one, and writes
+/// one line to the sink in one put.
+pub fn drive<D: Depot, O: Sink, L: Ledger>(
+    alloc: Global,
+    words: &[String],
+    depot: &mut D,
+    out: &mut O,
+    steps: &mut Steps<L>,
+) -> Status
+    // Only the names that the row of the words reads or stores are granted.
+    requires may_fetch { MayRead D.may_fetch (texts words.now) }
+    requires may_store { MayStore D.may_store (texts words.now) }
+
+    // `run S T B` answers 0 and prints energy E and step count K exactly when the specification's machine, which judges
+    // all grounding afresh after every step, takes the whole trace B from model S to a halt at the origin in model T with
+    // energy E in K steps: where files are told it does so where the machine takes the trace, if no count rose and memory
+    // was there, and only then. Otherwise it prints the definition's refusal: the clause `answer`.
+    ensures headline_where { (source target : Option (List ℕ)) (trace : List ℕ) → IsRow (texts words.now) (run_of source target trace)
+        → (Rose (D.faults depot.old) (D.faults depot.new) → ⊥) → (Rose (O.faults out.old) (O.faults out.new) → ⊥) → (result ≡ Status.Memory → ⊥)
+        → IfSome (D.files depot.old) (λ files. (energy : ℤ) (count : ℕ) → Takes files source target trace energy count
+        → IsDoneWith result (O.written out.old) (O.written out.new) energy count) }
+    ensures headline_only { (source target : Option (List ℕ)) (trace : List ℕ) → IsRow (texts words.now) (run_of source target trace)
+        → result ≡ Status.Done
+        → IfSome (D.files depot.old) (λ files. (energy : ℤ) × (count : ℕ) × Takes files source target trace energy count
+        × IsDoneWith result (O.written out.old) (O.written out.new) energy count) }
+
+    // A status other than 5, 6 and 7 is the answer's, with its whole line written and its files stored.
+    ensures answer { IsAnswer result → Stands (Answer (texts words.now))
+        (outside D.files D.faults O.written O.faults depot.old out.old)
+        (outside D.files D.faults O.written O.faults depot.new out.new)
+        (Delivered result (outside D.files D.faults O.written O.faults depot.old out.old)
+        (outside D.files D.faults O.written O.faults depot.new out.new)) }
+
+    // Where files are told and no count rose, it is the answer's status or 7.
+    ensures complete { (Rose (D.faults depot.old) (D.faults depot.new) → ⊥) → (Rose (O.faults out.old) (O.faults out.new) → ⊥)
+        → IfSome (D.files depot.old) (λ files. (reply : Reply) → Answer (texts words.now) files reply
+        → (result ≡ reply.status) ⊎ (result ≡ Status.Memory)) }
+
+    // Each status comes by its cause.
+    ensures words { result ≡ Status.Words → IsInNoRow (texts words.now) }
+    ensures in_no_row { IsInNoRow (texts words.now) → (result ≡ Status.Words) ⊎ (result ≡ Status.Sink) }
+    ensures depot { result ≡ Status.Depot → Rose (D.faults depot.old) (D.faults depot.new)
+        ⊎ IsSomeAnd (D.files depot.old) (λ files. Answer (texts words.now) files (record { status = Status.Depot; line = []; after = files })) }
+    ensures sink { result ≡ Status.Sink → Rose (O.faults out.old) (O.faults out.new) }
+
+    // What stands after a fault and after want of memory.
+    ensures nothing_written { result ≡ Status.Depot → O.written out.new ≡ O.written out.old }
+    ensures others_stay { result ≡ Status.Depot → SparesOthers (StoredBy (texts words.now))
+        (outside D.files D.faults O.written O.faults depot.old out.old)
+        (outside D.files D.faults O.written O.faults depot.new out.new) }
+    ensures part_written { result ≡ Status.Sink → Stands (Answer (texts words.now))
+        (outside D.files D.faults O.written O.faults depot.old out.old)
+        (outside D.files D.faults O.written O.faults depot.new out.new)
+        (DeliveredPart (outside D.files D.faults O.written O.faults depot.old out.old)
+        (outside D.files D.faults O.written O.faults depot.new out.new)) }
+    ensures memory_files { result ≡ Status.Memory → D.files depot.new ≡ D.files depot.old }
+    ensures memory_line { result ≡ Status.Memory → O.written out.new ≡ O.written out.old }
+{
+    one_answer();
+    run(alloc, words, depot, out, steps)
+}

@@ -1,0 +1,12 @@
+//! Worked runs of the whole program, over files and output in memory. There is no code here but tests: what the top call
+//! answers is proved, and that it is the contest's and what users are promised is shown by these rows.
+#![tactic(auto)]
+
+#[cfg(test)]
+mod checks;
+#[cfg(test)]
+mod faults;
+#[cfg(test)]
+mod runs;
+#[cfg(test)]
+mod table;

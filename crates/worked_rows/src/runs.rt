@@ -1,0 +1,201 @@
+//! Runs.
+use crate::table::{Row, assert_rows, counted, depot, words};
+use nanobot_app::Status;
+use std::marker::Brand;
+use std::sync::ledger::Blank;
+use std::test::Fail;
+use vox_depot::MemorySink;
+
+/// Runs that end in their target.
+const ACCEPTED: [Row; 7] = [
+    (
+        "run E3 E3 B",
+        &[0xFF],
+        Status::Done,
+        "ok energy 101 steps 1\n",
+    ),
+    (
+        "run - P3 B",
+        &[0x14, 0x10, 0x73, 0x14, 0x0E, 0xFF],
+        Status::Done,
+        "ok energy 420 steps 4\n",
+    ),
+    (
+        "run P3 P3 B",
+        &[0x14, 0x10, 0x73, 0x14, 0x0E, 0xFF],
+        Status::Done,
+        "ok energy 414 steps 4\n",
+    ),
+    (
+        "run - T4 B",
+        &[
+            0xFD, 0x14, 0x10, 0x24, 0x10, 0x73, 0x5B, 0xFD, 0x24, 0x0E, 0x14, 0x0E, 0xFF,
+        ],
+        Status::Done,
+        "ok energy 10580 steps 9\n",
+    ),
+    (
+        "run E1 - B",
+        &[0xFF],
+        Status::Done,
+        "ok energy 23 steps 1\n",
+    ),
+    (
+        "run - WP B",
+        &[0x14, 0x10, 0x73, 0x14, 0x0E, 0xFF],
+        Status::Done,
+        "ok energy 189759108 steps 4\n",
+    ),
+    (
+        "run W4 - B",
+        &[0xFF],
+        Status::Done,
+        "ok energy 192000020 steps 1\n",
+    ),
+];
+
+/// Runs that break a rule.
+const BROKEN: [Row; 11] = [
+    (
+        "run E3 E3 B",
+        &[],
+        Status::Broken,
+        "broken 1 TraceEnds step 1 bid 1 at 0 0 0\n",
+    ),
+    (
+        "run E3 E3 B",
+        &[0xFE],
+        Status::Broken,
+        "broken 1 TraceEnds step 2 bid 1 at 0 0 0\n",
+    ),
+    (
+        "run E4 E4 B",
+        &[0x14, 0x10, 0x24, 0x10, 0x73, 0xFF],
+        Status::Broken,
+        "broken 12 Ungrounded step 3 bid 0 at 1 1 1\n",
+    ),
+    (
+        "run - T4 B",
+        &[
+            0xFD, 0x14, 0x10, 0x24, 0x10, 0x73, 0xFD, 0x24, 0x0E, 0x14, 0x0E, 0xFF,
+        ],
+        Status::Broken,
+        "broken 12 Ungrounded step 5 bid 0 at 1 1 1\n",
+    ),
+    (
+        "run E3 E3 B",
+        &[0xFD, 0xFF],
+        Status::Broken,
+        "broken 4 HaltLow step 2 bid 1 at 0 0 0\n",
+    ),
+    (
+        "run E3 E3 B",
+        &[0x14, 0x10, 0xFF],
+        Status::Broken,
+        "broken 3 HaltOrigin step 2 bid 1 at 1 0 0\n",
+    ),
+    (
+        "run E3 E3 B",
+        &[0xFF, 0xFE],
+        Status::Broken,
+        "broken 13 AfterHalt step 1 bid 0 at 0 0 0\n",
+    ),
+    (
+        "run - P3 B",
+        &[0xFF],
+        Status::Broken,
+        "broken 14 WrongResult step 1 bid 0 at 1 0 1\n",
+    ),
+    (
+        "run E3 E3 B",
+        &[0x14, 0x0E],
+        Status::Broken,
+        "broken 5 OutOfSpace step 1 bid 1 at 0 0 0\n",
+    ),
+    (
+        "run P3 P3 B",
+        &[0x14, 0x10, 0x34, 0x11],
+        Status::Broken,
+        "broken 6 Blocked step 2 bid 1 at 1 0 1\n",
+    ),
+    (
+        "run P3 - B",
+        &[0x14, 0x10, 0x34, 0x11],
+        Status::Broken,
+        "broken 6 Blocked step 2 bid 1 at 1 0 1\n",
+    ),
+];
+
+/// Traces and words that are refused. A bad byte wins over a broken step, and over a command that is not taken yet.
+const REFUSED: [Row; 13] = [
+    ("run E3 E3 B", &[0x04], Status::Trace, "trace bad at 0\n"),
+    ("run E3 E3 B", &[0x03], Status::Trace, "trace bad at 0\n"),
+    ("run E3 E3 B", &[0x14], Status::Trace, "trace cut at 0\n"),
+    (
+        "run E3 E3 B",
+        &[0x77, 0x04],
+        Status::Trace,
+        "trace bad at 1\n",
+    ),
+    (
+        "run E3 E3 B",
+        &[0x14, 0x0E, 0x04],
+        Status::Trace,
+        "trace bad at 2\n",
+    ),
+    ("run E3 E3 B", &[0x77], Status::NotYet, "not built at 0\n"),
+    (
+        "run E3 E3 B",
+        &[0x14, 0x0E, 0x75, 0x00, 0xFF],
+        Status::NotYet,
+        "not built at 2\n",
+    ),
+    ("run E3 E4 B", &[0xFF], Status::Model, "resolutions 3 4\n"),
+    (
+        "run B E3 B",
+        &[0x03, 0x01, 0x00, 0x00, 0x00],
+        Status::Model,
+        "source 6 Border at 0 0 0\n",
+    ),
+    (
+        "run - B B",
+        &[0x03, 0x00, 0x20, 0x00, 0x00],
+        Status::Model,
+        "target 7 Floating at 1 1 1\n",
+    ),
+    ("run - - B", &[], Status::Words, "words not understood\n"),
+    ("run E3 E3 -", &[], Status::Words, "words not understood\n"),
+    ("", &[], Status::Words, "words not understood\n"),
+];
+
+#[test]
+fn runs_that_end_in_their_target(rt: HostRuntime) -> Result<(), Fail> {
+    assert_rows(&rt, rt.alloc(), &ACCEPTED)
+}
+
+#[test]
+fn runs_that_break_a_rule(rt: HostRuntime) -> Result<(), Fail> {
+    assert_rows(&rt, rt.alloc(), &BROKEN)
+}
+
+#[test]
+fn traces_and_words_that_are_refused(rt: HostRuntime) -> Result<(), Fail> {
+    assert_rows(&rt, rt.alloc(), &REFUSED)
+}
+
+/// The greatest resolution of the first form: a file of 1,953,126 bytes.
+#[test]
+fn the_greatest_first_form(rt: HostRuntime) -> Result<(), Fail> {
+    let alloc = rt.alloc();
+    let mut bytes = vec![in alloc; 0u8; 1_953_126]?;
+    bytes[0] = 250;
+    let mut depot = depot(alloc, &[])?;
+    depot.put_file("G", &bytes)?;
+    depot.put_file("B", &[0xFF])?;
+    let mut out = MemorySink::new(alloc, Vec::new(alloc));
+    let words = words(alloc, "run G - B")?;
+    let status = counted::<_, _, Brand>(alloc, &words, &mut depot, &mut out, Blank::new(1));
+    assert_eq!(&rt; out.bytes(), b"ok energy 46875020 steps 1\n".as_slice());
+    assert_eq!(&rt; status, Status::Done);
+    Ok(())
+}

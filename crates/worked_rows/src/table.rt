@@ -1,0 +1,89 @@
+//! Rows of a table: words over known files, and what they answer.
+ghost use Rattle.std.specs.Prelude.{◌≡◌, ◌<◌};
+ghost use Rattle.nanobot_app.specs.Rows.{MayRead, MayStore, texts};
+
+use nanobot_app::{Status, drive};
+use std::alloc::Global;
+use std::marker::Brand;
+use std::process::Abort;
+use std::sync::ledger::{Blank, Ledger};
+use std::test::Fail;
+use vox_depot::{Depot, MemoryDepot, MemorySink, Sink};
+use vox_geom::Steps;
+
+/// Words over the files of the table, with these bytes as the file `B`; and the status and the line that are answered.
+pub type Row = (&'static str, &'static [u8], Status, &'static str);
+
+/// The files of the table by their names: `E3` and `E4` are empty models, `P3` has the voxel (1,0,1), `T4` the voxels (1,0,1) and
+/// (1,1,1), `E1` is of resolution 1, `WP` a wide model with the voxel (1,0,1), `W4` the empty one of resolution 400.
+const FILES: [(&str, &[u8]); 7] = [
+    ("E1", &[0x01, 0x00]),
+    ("E3", &[0x03, 0x00, 0x00, 0x00, 0x00]),
+    ("E4", &[0x04, 0, 0, 0, 0, 0, 0, 0, 0]),
+    ("P3", &[0x03, 0x00, 0x04, 0x00, 0x00]),
+    (
+        "T4",
+        &[0x04, 0x00, 0x00, 0x22, 0x00, 0x00, 0x00, 0x00, 0x00],
+    ),
+    (
+        "WP",
+        &[
+            0xFF, 0x00, 0xFB, 0x00, 0x00, 0xF6, 0x1A, 0x00, 0x00, 0x00, 0x01, 0x00, 0xF0, 0x54,
+            0x68,
+        ],
+    ),
+    ("W4", &[0xFF, 0x01, 0x90, 0x03, 0xD0, 0x90, 0x00]),
+];
+
+/// Calls `drive` with a counter of this ledger.
+pub fn counted<D: Depot, O: Sink, L: Ledger>(
+    alloc: Global,
+    words: &[String],
+    depot: &mut D,
+    out: &mut O,
+    blank: Blank,
+) -> Status
+    requires name { blank.name ≡ L.name }
+    requires parts { blank.parts ≡ L.parts }
+    requires some { 0 < L.parts }
+    requires may_fetch { MayRead D.may_fetch (texts words.now) }
+    requires may_store { MayStore D.may_store (texts words.now) }
+{
+    let mut steps = Steps::<L>::new(blank);
+    drive(alloc, words, depot, out, &mut steps)
+}
+
+/// The words of a line, between single spaces.
+pub fn words(alloc: Global, line: &str) -> Result<Vec<String>, Fail> {
+    let mut words = Vec::new(alloc);
+    if line.is_empty() {
+        return Ok(words);
+    }
+    for word in line.split(' ') {
+        words.push(String::from_str(alloc, word)?)?;
+    }
+    Ok(words)
+}
+
+/// A depot with the files of the table whose calls of these numbers fail.
+pub fn depot(alloc: Global, fails: &[u64]) -> Result<MemoryDepot, Fail> {
+    let mut depot = MemoryDepot::new(alloc, fails.to_vec(alloc)?);
+    for (name, bytes) in &FILES {
+        depot.put_file(name, bytes)?;
+    }
+    Ok(depot)
+}
+
+/// Each row answers its status, and prints its line.
+pub fn assert_rows(rt: &impl Abort, alloc: Global, rows: &[Row]) -> Result<(), Fail> {
+    for (line, bytes, status, printed) in rows {
+        let words = words(alloc, line)?;
+        let mut depot = depot(alloc, &[])?;
+        depot.put_file("B", bytes)?;
+        let mut out = MemorySink::new(alloc, Vec::new(alloc));
+        let answered = counted::<_, _, Brand>(alloc, &words, &mut depot, &mut out, Blank::new(1));
+        assert_eq!(rt; out.bytes(), printed.as_bytes(), "at {}", line);
+        assert_eq!(rt; answered, *status, "at {}", line);
+    }
+    Ok(())
+}
