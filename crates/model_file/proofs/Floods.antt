@@ -169,7 +169,7 @@ its_place first d x y l = λ i. record { x = x' i; y = y' i; z = z' i }
 module _ (a b : Flood) (first : Coord) (count bits taken : ℕ) (r : b.remaining.resolution ≡ a.remaining.resolution) (few : count ≤ 64)
     (was : (k : ℕ) → k < count → bit taken k ≡ (bit bits k && is_full a.remaining (at first (first.z + k))))
     (left : (d : Coord) → is_full b.remaining d ≡ (is_full a.remaining d && not (is_marked first count bits d))) where
-  fewer_in_row : (d : Coord) → is_full a.remaining d ≡ false → is_full b.remaining d ≡ false
+  pub fewer_in_row : (d : Coord) → is_full a.remaining d ≡ false → is_full b.remaining d ≡ false
   fewer_in_row d f = left d ∙ ap (λ t. t && not (is_marked first count bits d)) f
 
   -- a voxel of the row that was there is one of those that were taken, and it is there no longer
@@ -200,57 +200,59 @@ module _ (a b : Flood) (first : Coord) (count bits taken : ℕ) (r : b.remaining
           let q : (bit bits (d.z - first.z) && is_full a.remaining d) ≡ true = (λ i. p.4 i && e i) in
           cc
 
+  row_parts : (d : Coord) → IsTaken a.remaining b.remaining d → (d.x ≡ first.x) × (d.y ≡ first.y) × (first.z ≤ d.z) × (d.z < first.z + count) × (bit bits (d.z - first.z) ≡ true)
+  row_parts d t = parts_of first count bits d (was_marked (is_full a.remaining d) (is_full b.remaining d) (is_marked first count bits d) t.before (left d) t.after)
+
+  -- a voxel that was taken is among those that were asked for, and among those that were taken
+  pub row_asked : (d : Coord) → IsTaken a.remaining b.remaining d → IsAmong (record { first = first; bits = bits }) d
+  row_asked d t = let p = row_parts d t in record { x = p.0; y = p.1; from = p.2; to = omega (arith, p.3); here = p.4 }
+
+  pub row_taken : (d : Coord) → IsTaken a.remaining b.remaining d → IsAmong (record { first = first; bits = taken }) d
+  row_taken d t = let p = row_parts d t in record { x = p.0; y = p.1; from = p.2; to = omega (arith, p.3); here = taken_bit d p.0 p.1 p.2 p.3 ∙ (λ i. p.4 i && t.before i) }
+
+  pub row_was : taken < 2 ^ count → (d : Coord) → IsAmong (record { first = first; bits = taken }) d → IsTaken a.remaining b.remaining d
+  row_was below d h =
+      let u : d.z - first.z < count = below_count taken count (d.z - first.z) below h.here in
+      let l = h.from in
+      let m : d.z < first.z + count = omega arith in
+      let both = both_true (bit bits (d.z - first.z)) (is_full a.remaining d) (sym (taken_bit d h.x h.y h.from m) ∙ h.here) in
+      record { before = both.1; after = row_gone d h.x h.y h.from m both.0 }
+
+  pub row_lighter : taken < 2 ^ count → (taken ≡ 0 → ⊥) → taken < 2 ^ 64 → full_of a.remaining.resolution b.remaining + 1 ≤ full_of a.remaining.resolution a.remaining
+  row_lighter below some fits =
+      let z = bit_at-trailing_zeros w64 taken (positive taken some) fits in
+      let here : bit taken (trailing_zeros w64 taken) ≡ true = ap (λ d. d == 1) z.1 in
+      let back : first.z + trailing_zeros w64 taken - first.z ≡ trailing_zeros w64 taken = omega arith in
+      let t = row_was below (at first (first.z + trailing_zeros w64 taken)) (record { x = refl; y = refl; from = omega arith; to = (let l = z.0 in omega arith); here = ap (bit taken) back ∙ here }) in
+      full_of-less a.remaining.resolution a.remaining b.remaining (at first (first.z + trailing_zeros w64 taken)) (full_within a.remaining (at first (first.z + trailing_zeros w64 taken)) t.before) t.before t.after fewer_in_row
+    where
+      positive : (n : ℕ) → (n ≡ 0 → ⊥) → 0 < n
+      positive zero h = absurd (h refl)
+      positive (suc n) h = omega arith
+
   pub takes_row : IsInSpace a.remaining.resolution first → first.z % 64 ≡ 0 → taken < 2 ^ count → (taken ≡ 0 → ⊥) → taken < 2 ^ 64 → b.found.items ≡ a.found.items ++ record { first = first; bits = taken } ∷ [] → Takes (IsAmong (record { first = first; bits = bits })) a b
   takes_row within each below some fits items = record {
     resolution = r;
     fewer = fewer_in_row;
-    taken = λ d t. of d t (parts_of first count bits d (was_marked (is_full a.remaining d) (is_full b.remaining d) (is_marked first count bits d) t.before (left d) t.after));
+    taken = λ d t. (row_asked d t, has_last a b (record { first = first; bits = taken }) items d (row_taken d t));
     kept = has_more a b (record { first = first; bits = taken }) items;
     found = λ d h. known d (has_cases a b (record { first = first; bits = taken }) items d h);
     starts = λ s k. start s (Contains-push_cases a.found.items (record { first = first; bits = taken }) s (subst (λ (xs : List Stretch). Contains xs s) items k));
     weighs = (
         let size : length b.found.items ≡ length a.found.items + 1 = ap length items ∙ length-append a.found.items (record { first = first; bits = taken } ∷ []) in
         let full : full_of b.remaining.resolution b.remaining ≡ full_of a.remaining.resolution b.remaining = ap (λ n. full_of n b.remaining) r in
-        let less = lighter in
+        let less = row_lighter below some fits in
         omega arith
         );
   }
     where
-      of : (d : Coord) → IsTaken a.remaining b.remaining d → (d.x ≡ first.x) × (d.y ≡ first.y) × (first.z ≤ d.z) × (d.z < first.z + count) × (bit bits (d.z - first.z) ≡ true) → IsAmong (record { first = first; bits = bits }) d × HasFound b d
-      of d t p = (
-        record { x = p.0; y = p.1; from = p.2; to = omega (arith, p.3); here = p.4 },
-        has_last a b (record { first = first; bits = taken }) items d (record { x = p.0; y = p.1; from = p.2; to = omega (arith, p.3); here = taken_bit d p.0 p.1 p.2 p.3 ∙ (λ i. p.4 i && t.before i) }),
-      )
-
-      one_taken : (d : Coord) → IsAmong (record { first = first; bits = taken }) d → IsTaken a.remaining b.remaining d
-      one_taken d h =
-          let u : d.z - first.z < count = below_count taken count (d.z - first.z) below h.here in
-          let l = h.from in
-          let m : d.z < first.z + count = omega arith in
-          let both = both_true (bit bits (d.z - first.z)) (is_full a.remaining d) (sym (taken_bit d h.x h.y h.from m) ∙ h.here) in
-          record { before = both.1; after = row_gone d h.x h.y h.from m both.0 }
-
       known : (d : Coord) → (HasFound a d ⊎ IsAmong (record { first = first; bits = taken }) d) → HasFound a d ⊎ IsTaken a.remaining b.remaining d
       known d (inl h) = inl h
-      known d (inr h) = inr (one_taken d h)
+      known d (inr h) = inr (row_was below d h)
 
       start : (s : Stretch) → (Contains a.found.items s ⊎ ((let t : Stretch = record { first = first; bits = taken } in t) ≡ s)) → Contains a.found.items s ⊎ (IsInSpace a.remaining.resolution s.first × (s.first.z % 64 ≡ 0))
       start s (inl k) = inl k
       start s (inr e) = inr (subst (λ (t : Stretch). IsInSpace a.remaining.resolution t.first × (t.first.z % 64 ≡ 0)) e (within, each))
-
-      lighter : full_of a.remaining.resolution b.remaining + 1 ≤ full_of a.remaining.resolution a.remaining
-      lighter =
-          let z = bit_at-trailing_zeros w64 taken (positive taken some) fits in
-          let k : ℕ = trailing_zeros w64 taken in
-          let here : bit taken (trailing_zeros w64 taken) ≡ true = ap (λ d. d == 1) z.1 in
-          let d : Coord = at first (first.z + trailing_zeros w64 taken) in
-          let back : first.z + trailing_zeros w64 taken - first.z ≡ trailing_zeros w64 taken = omega arith in
-          let t = one_taken (at first (first.z + trailing_zeros w64 taken)) (record { x = refl; y = refl; from = omega arith; to = (let l = z.0 in omega arith); here = ap (bit taken) back ∙ here }) in
-          full_of-less a.remaining.resolution a.remaining b.remaining (at first (first.z + trailing_zeros w64 taken)) (full_within a.remaining (at first (first.z + trailing_zeros w64 taken)) t.before) t.before t.after fewer_in_row
-        where
-          positive : (n : ℕ) → (n ≡ 0 → ⊥) → 0 < n
-          positive zero h = absurd (h refl)
-          positive (suc n) h = omega arith
 
 -- ---- one part after another
 
@@ -333,7 +335,7 @@ pub takes_beside : (a b : Flood) (s t : Stretch) → Takes (IsAmong t) a b → (
 takes_beside a b s t h near = takes_wider (IsAmong t) (IsBeside s) a b (λ d f k. near d (full_within a.remaining d f) k) h
 
 -- the seven stretches beside one were taken
-pub takes_around : (a b c d e f g h : Flood) (s : Stretch) → IsStart s.first → a.remaining.resolution ≤ MOST_R → s.bits < 2 ^ 64 →
+pub takes_around : (a b c d e f g h : Flood) (s : Stretch) → IsStart MOST_R s → a.remaining.resolution ≤ MOST_R → s.bits < 2 ^ 64 →
     Takes (IsAmong (record { first = record { x = s.first.x + 1; y = s.first.y; z = s.first.z }; bits = s.bits })) a b →
     Takes (IsAmong (record { first = record { x = one_less s.first.x; y = s.first.y; z = s.first.z }; bits = s.bits })) b c →
     Takes (IsAmong (record { first = record { x = s.first.x; y = s.first.y + 1; z = s.first.z }; bits = s.bits })) c d →

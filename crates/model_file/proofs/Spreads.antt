@@ -1,8 +1,9 @@
 -- How a search from the floor goes on, and what it has found at its end.
-use Rattle.std.proofs.Common.{◌≡◌, ℕ, ◌+◌, ◌-◌, ◌*◌, ◌%◌, ◌^◌, ◌<◌, ◌≤◌, refl, sym, ◌∙◌, ap, subst, arith, Bool, true, false, ◌==◌, List, [], ◌∷◌, ◌++◌, length, inl, inr}
+use Rattle.std.proofs.Common.{◌≡◌, ℕ, zero, suc, not, ◌&&◌, bit_or, max, ◌+◌, ◌-◌, ◌*◌, ◌%◌, ◌^◌, ◌<◌, ◌≤◌, refl, sym, ◌∙◌, ap, subst, arith, Bool, true, false, ◌==◌, List, [], ◌∷◌, ◌++◌, length, inl, inr}
 use Rattle.std.specs.Prelude.{IsTrue, ◌⊎◌, All, Contains, find, Option, Some, None, cond}
+use Rattle.std.specs.Int.{bit_at}
 use Rattle.std.proofs.lemmas.Bool.{cases_lt}
-use Rattle.std.proofs.lemmas.Nat.Bits.{bit_at_ones}
+use Rattle.std.proofs.lemmas.Nat.Bits.{bit_at-lt, bit_at_ones, bit_at_or}
 use native.Mathlib.Decide.{ℕ_discrete}
 use Rattle.std.proofs.lemmas.List.{length-append}
 use Rattle.std.proofs.lemmas.Bool.Decides.{nat_tests}
@@ -15,12 +16,15 @@ use Rattle.nano_spec.specs.First.{FirstFailing}
 use Rattle.nano_spec.specs.Grounded.{FirstUngrounded, Grounded, is_path}
 use Rattle.nano_spec.specs.Matrix.{Matrix, all_of, is_full}
 use Rattle.nano_spec.specs.Model.{bit}
+use Rattle.vox_planes.specs.Places.{is_marked}
+use Rattle.vox_planes.specs.Walk.{at}
 use Rattle.nano_spec.proofs.Grounding.{left, right, ungrounded_by}
 use Rattle.nano_spec.proofs.Island.{same_coordinate}
 use Rattle.model_file.specs.declared.flood.Flood.{Flood}
 use Rattle.model_file.specs.declared.flood.Stretch.{Stretch}
 use Rattle.model_file.proofs.Beside.{adjacent-sym}
-use Rattle.model_file.proofs.Floods.{full_within, has_cases, has_last, has_more, has_same, self_same, takes_then, takes_wider}
+use Rattle.model_file.proofs.Stretches.{is_one, moved, near_moved, one_of}
+use Rattle.model_file.proofs.Floods.{fewer_in_row, full_within, row_asked, row_taken, row_was, has_cases, has_last, has_more, has_same, self_same, takes_then, takes_wider}
 use Rattle.model_file.specs.Flood.{HasFound, IsAmong, IsBeside, IsFlood, IsStart, IsTaken, Takes, full_of, weight}
 
 contrary : {A : Type 0} (b : Bool) → IsTrue b → b ≡ false → A
@@ -87,12 +91,97 @@ flood_more m s popped new p fl same items t gone = record {
         of (inr h) = contrary (is_full new.remaining b) f (gone b (record { one = a; among = h; adjacent = n }))
 
 -- stretches that were found begin where stretches do
-pub found_starts : (near : Coord → Type 0) (popped new : Flood) → popped.remaining.resolution ≤ MOST_R → All (λ s. IsStart s.first) popped.found.items → Takes near popped new → All (λ s. IsStart s.first) new.found.items
-found_starts near popped new most starts t = All-weaker (Contains new.found.items) (λ s. IsStart s.first) (λ s k. by s (t.starts s k)) new.found.items (All-contains_itself new.found.items)
+pub found_starts : (near : Coord → Type 0) (popped new : Flood) → All (IsStart popped.remaining.resolution) popped.found.items → Takes near popped new → All (IsStart popped.remaining.resolution) new.found.items
+found_starts near popped new starts t = All-weaker (Contains new.found.items) (IsStart popped.remaining.resolution) (λ s k. by s (t.starts s k)) new.found.items (All-contains_itself new.found.items)
   where
-    by : (s : Stretch) → (Contains popped.found.items s ⊎ (IsInSpace popped.remaining.resolution s.first × (s.first.z % 64 ≡ 0))) → IsStart s.first
-    by s (inl k) = All-contains (λ s. IsStart s.first) popped.found.items s starts k
-    by s (inr k) = let i = k.0 in record { within = record { x = omega (arith, i.x); y = omega (arith, i.y); z = omega (arith, i.z) }; each = k.1 }
+    by : (s : Stretch) → (Contains popped.found.items s ⊎ (IsInSpace popped.remaining.resolution s.first × (s.first.z % 64 ≡ 0))) → IsStart popped.remaining.resolution s
+    by s (inl k) = All-contains (IsStart popped.remaining.resolution) popped.found.items s starts k
+    by s (inr k) = record { within = k.0; each = k.1 }
+
+-- a stretch is widened by what is beside it in its own word
+module _ (popped new : Flood) (p : Stretch) (count more : ℕ) (r : new.remaining.resolution ≡ popped.remaining.resolution) (few : count ≤ 64)
+    (was : (k : ℕ) → k < count → bit more k ≡ (bit (moved p.bits) k && is_full popped.remaining (at p.first (p.first.z + k))))
+    (cut : (d : Coord) → is_full new.remaining d ≡ (is_full popped.remaining d && not (is_marked p.first count (moved p.bits) d)))
+    (below_all : more < 2 ^ count) (items : new.found.items ≡ popped.found.items ++ record { first = p.first; bits = bit_or p.bits more } ∷ []) where
+  wide : Stretch
+  wide = record { first = p.first; bits = bit_or p.bits more }
+
+  or_left : (k : ℕ) → bit p.bits k ≡ true → bit (bit_or p.bits more) k ≡ true
+  or_left k h = let e : bit_at p.bits k ≡ 1 = one_of (bit_at p.bits k) h in let l = bit_at-lt more k in is_one (bit_at (bit_or p.bits more) k) (bit_at_or p.bits more k ∙ omega arith)
+
+  or_right : (k : ℕ) → bit more k ≡ true → bit (bit_or p.bits more) k ≡ true
+  or_right k h = let e : bit_at more k ≡ 1 = one_of (bit_at more k) h in let l = bit_at-lt p.bits k in is_one (bit_at (bit_or p.bits more) k) (bit_at_or p.bits more k ∙ omega arith)
+
+  or_either : (k : ℕ) → bit (bit_or p.bits more) k ≡ true → (bit p.bits k ≡ true) ⊎ (bit more k ≡ true)
+  or_either k h = by (bit_at p.bits k) (bit_at-lt p.bits k) refl
+    where
+      all : max (bit_at p.bits k) (bit_at more k) ≡ 1
+      all = sym (bit_at_or p.bits more k) ∙ one_of (bit_at (bit_or p.bits more) k) h
+
+      by : (d : ℕ) → d < 2 → bit_at p.bits k ≡ d → (bit p.bits k ≡ true) ⊎ (bit more k ≡ true)
+      by zero l e = let a : max (bit_at p.bits k) (bit_at more k) ≡ 1 = all in inr (is_one (bit_at more k) (omega arith))
+      by (suc zero) l e = inl (is_one (bit_at p.bits k) e)
+      by (suc (suc d)) l e = absurd (omega arith)
+
+  widened : (d : Coord) → IsAmong p d → IsAmong (record { first = p.first; bits = bit_or p.bits more }) d
+  widened d h = record { x = h.x; y = h.y; from = h.from; to = h.to; here = or_left (d.z - p.first.z) h.here }
+
+  added : (d : Coord) → IsAmong (record { first = p.first; bits = more }) d → IsAmong (record { first = p.first; bits = bit_or p.bits more }) d
+  added d h = record { x = h.x; y = h.y; from = h.from; to = h.to; here = or_right (d.z - p.first.z) h.here }
+
+  either : (d : Coord) → IsAmong (record { first = p.first; bits = bit_or p.bits more }) d → IsAmong p d ⊎ IsAmong (record { first = p.first; bits = more }) d
+  either d h = by (or_either (d.z - p.first.z) h.here)
+    where
+      by : ((bit p.bits (d.z - p.first.z) ≡ true) ⊎ (bit more (d.z - p.first.z) ≡ true)) → IsAmong p d ⊎ IsAmong (record { first = p.first; bits = more }) d
+      by (inl b) = inl (record { x = h.x; y = h.y; from = h.from; to = h.to; here = b })
+      by (inr b) = inr (record { x = h.x; y = h.y; from = h.from; to = h.to; here = b })
+
+  pub flood_wider : (m : Matrix) (s : Flood) → IsStart MOST_R p → popped.remaining.resolution ≤ MOST_R → p.bits < 2 ^ 64 → IsFlood m s → popped.remaining ≡ s.remaining → s.found.items ≡ popped.found.items ++ p ∷ [] → IsFlood m new
+  flood_wider m s start most fits fl same held = record {
+    resolution = r ∙ (ap (λ (l : Matrix). l.resolution) same ∙ fl.resolution);
+    fewer = λ d f. less d (fl.fewer d f);
+    grounded = λ d k. grounded d k (is_full s.remaining d) refl;
+    found = λ d k. found d (has_cases popped new (record { first = p.first; bits = bit_or p.bits more }) items d k);
+    looked = λ a b k n f. looked a b k n f (is_full s.remaining a) refl;
+    floor = λ d e. less d (fl.floor d e);
+  }
+    where
+      less : (d : Coord) → is_full s.remaining d ≡ false → is_full new.remaining d ≡ false
+      less d f = fewer_in_row popped new p.first count (moved p.bits) more r few was cut d (ap (λ (l : Matrix). is_full l d) same ∙ f)
+
+      here : (c : Coord) → IsAmong p c → IsTaken m s.remaining c
+      here c h = fl.found c (has_last popped s p held c h)
+
+      now : (d : Coord) → is_full s.remaining d ≡ true → is_full new.remaining d ≡ false → IsTaken popped.remaining new.remaining d
+      now d e f = record { before = ap (λ (l : Matrix). is_full l d) same ∙ e; after = f }
+
+      reached : (d : Coord) → IsTrue (is_full m d) → IsBeside p d → Grounded m d
+      reached d f h = one_more m d h.one f (adjacent-sym h.one d h.adjacent) (fl.grounded h.one (here h.one h.among))
+
+      grounded : (d : Coord) → IsTaken m new.remaining d → (b : Bool) → is_full s.remaining d ≡ b → Grounded m d
+      grounded d k false e = fl.grounded d (record { before = k.before; after = e })
+      grounded d k true e =
+          let t = now d e k.after in
+          reached d k.before (near_moved p popped.remaining.resolution start most fits d (full_within popped.remaining d t.before) (row_asked popped new p.first count (moved p.bits) more r few was cut d t))
+
+      was_full : (d : Coord) → IsTrue (is_full popped.remaining d) → IsTrue (is_full m d)
+      was_full d t = still (is_full m d) (is_full s.remaining d) (fl.fewer d) (sym (ap (λ (l : Matrix). is_full l d) same) ∙ t)
+
+      found : (d : Coord) → (HasFound popped d ⊎ IsAmong (record { first = p.first; bits = bit_or p.bits more }) d) → IsTaken m new.remaining d
+      found d (inl k) = let t = fl.found d (has_more popped s p held d k) in record { before = t.before; after = less d t.after }
+      found d (inr k) = by (either d k)
+        where
+          by : (IsAmong p d ⊎ IsAmong (record { first = p.first; bits = more }) d) → IsTaken m new.remaining d
+          by (inl h) = let t = here d h in record { before = t.before; after = less d t.after }
+          by (inr h) = let t = row_was popped new p.first count (moved p.bits) more r few was cut below_all d h in record { before = was_full d t.before; after = t.after }
+
+      looked : (a b : Coord) → IsTaken m new.remaining a → IsTrue (are_adjacent a b) → IsTrue (is_full new.remaining b) → (f : Bool) → is_full s.remaining a ≡ f → HasFound new a
+      looked a b k n f true e = has_last popped new (record { first = p.first; bits = bit_or p.bits more }) items a (added a (row_taken popped new p.first count (moved p.bits) more r few was cut a (now a e k.after)))
+      looked a b k n f false e = of (has_cases popped s p held a (fl.looked a b (record { before = k.before; after = e }) n (still (is_full s.remaining b) (is_full new.remaining b) (less b) f)))
+        where
+          of : (HasFound popped a ⊎ IsAmong p a) → HasFound new a
+          of (inl h) = has_more popped new (record { first = p.first; bits = bit_or p.bits more }) items a h
+          of (inr h) = has_last popped new (record { first = p.first; bits = bit_or p.bits more }) items a (widened a h)
 
 in_none : (f : Flood) (d : Coord) → f.found.items ≡ [] → HasFound f d → ⊥
 in_none f d e h = let l : length f.found.items ≡ 0 = ap length e in let k = h.is_found in omega (arith, k.1)

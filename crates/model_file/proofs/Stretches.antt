@@ -46,10 +46,10 @@ low_zero n s j l u =
     ∙ (ap (λ v. bit_at v j) (split ∙ (let e : n * 2 ^ s ≡ n * 2 ^ s + 0 = omega arith in e))
     ∙ (bit_at_cat_low n s 0 j l ∙ bit_at_above 0 0 j (omega arith) (omega arith)))
 
-one_of : (d : ℕ) → (d == 1) ≡ true → d ≡ 1
+pub one_of : (d : ℕ) → (d == 1) ≡ true → d ≡ 1
 one_of d h = grind (arith, nat_tests)
 
-is_one : (d : ℕ) → d ≡ 1 → (d == 1) ≡ true
+pub is_one : (d : ℕ) → d ≡ 1 → (d == 1) ≡ true
 is_one d h = ap (λ v. v == 1) h
 
 inside : (n k : ℕ) → n < 2 ^ 64 → bit n k ≡ true → k < 64
@@ -114,7 +114,7 @@ flat_gap sx sy x y dx dy z ex ey g =
     let none : (z - z) + (z - z) ≡ 0 = omega arith in
     (λ i. ((sx - ex i) + (ex i - sx)) + ((sy - ey i) + (ey i - sy)) + none i) ∙ ap (λ n. n + 0) g
 
-module _ (s : Stretch) (r : ℕ) (start : IsStart s.first) (most : r ≤ MOST_R) (fits : s.bits < 2 ^ 64) where
+module _ (s : Stretch) (r : ℕ) (start : IsStart MOST_R s) (most : r ≤ MOST_R) (fits : s.bits < 2 ^ 64) where
   beside : (c d : Coord) → IsAmong s c → ((c.x - d.x) + (d.x - c.x)) + ((c.y - d.y) + (d.y - c.y)) + ((c.z - d.z) + (d.z - c.z)) ≡ 1 → IsBeside s d
   beside c d a g = record { one = c; among = a; adjacent = adjacent_by c d g }
 

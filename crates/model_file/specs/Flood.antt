@@ -24,10 +24,10 @@ pub record IsBeside (s : Stretch) (d : Coord) : Type 0 where
   pub among : IsAmong s one
   pub adjacent : IsTrue (are_adjacent one d)
 
--- stretches begin at each 64th coordinate of a row
-pub record IsStart (first : Coord) : Type 0 where
-  pub within : IsInSpace MOST_R first
-  pub each : first.z % 64 ≡ 0
+-- a stretch begins in a matrix of this resolution, at each 64th coordinate of a row
+pub record IsStart (r : ℕ) (s : Stretch) : Type 0 where
+  pub within : IsInSpace r s.first
+  pub each : s.first.z % 64 ≡ 0
 
 -- how many of the first numbers pass a test
 unfoldable pub passing : (ℕ → Bool) → ℕ → ℕ

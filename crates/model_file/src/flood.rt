@@ -1,9 +1,11 @@
 //! A search from the floor, many voxels at a time, which takes all that it reaches out of a copy of the planes.
-ghost use Rattle.std.specs.Prelude.{◌≡◌, ◌%◌, ◌≤◌, [], All, IfOk, false};
+ghost use Rattle.std.specs.Prelude.{◌≡◌, ◌%◌, ◌≤◌, ◌++◌, ◌∷◌, [], All, IfOk, false};
 ghost use Rattle.vox_geom.specs.declared.coordinate.Coord.{Coord as Coordinate};
+ghost use Rattle.vox_geom.specs.Space.{IsInSpace};
 ghost use Rattle.nano_spec.specs.Grounded.{FirstUngrounded};
 ghost use Rattle.nano_spec.specs.Matrix.{Matrix, is_full};
-ghost use Rattle.model_file.specs.Flood.{IsAmong, IsBeside, IsFlood, IsStart, Takes};
+ghost use Rattle.model_file.specs.declared.flood.Flood.{Flood as FloodModel};
+ghost use Rattle.model_file.specs.Flood.{IsAmong, IsBeside, IsFlood, IsStart, Takes, weight};
 
 use crate::least::least_full;
 use std::alloc::Global;
@@ -48,7 +50,7 @@ impl Flood {
 
     /// Takes the voxels out that are beside those of a stretch.
     fn take_around(&mut self, first: Coord, bits: u64) -> Result<(), Memory>
-        requires start { IsStart first }
+        requires start { IsStart MOST_R (record { first = first; bits = bits }) }
         requires most { self.old.remaining.resolution ≤ MOST_R }
         ensures takes { IfOk result (λ _. Takes (IsBeside (record { first = first; bits = bits })) self.old self.new) }
         ensures gone { IfOk result (λ _. (d : Coordinate) → IsBeside (record { first = first; bits = bits }) d → is_full self.new.remaining d ≡ false) }
@@ -85,6 +87,35 @@ impl Flood {
         Ok(())
     }
 
+    /// Looks around a stretch: it is found again, wider, where voxels beside it in its own word are there, and else all
+    /// voxels beside it are taken out. Without the first, a search that comes into a word by one voxel would go on by
+    /// single voxels.
+    fn look_around(&mut self, first: Coord, bits: u64) -> Result<(), Memory>
+        requires within { IsInSpace self.old.remaining.resolution first }
+        requires each { first.z % 64 ≡ 0 }
+        requires most { self.old.remaining.resolution ≤ MOST_R }
+        ensures reaches { IfOk result (λ _. (m : Matrix) (s : FloodModel) → IsFlood m s → self.old.remaining ≡ s.remaining → s.found.items ≡ self.old.found.items ++ record { first = first; bits = bits } ∷ [] → IsFlood m self.new) }
+        ensures resolution { IfOk result (λ _. self.new.remaining.resolution ≡ self.old.remaining.resolution) }
+        ensures starts { IfOk result (λ _. All (IsStart self.old.remaining.resolution) self.old.found.items → All (IsStart self.old.remaining.resolution) self.new.found.items) }
+        ensures weighs { IfOk result (λ _. weight self.new ≤ weight self.old) }
+    {
+        let count = u32::from(self.remaining.resolution() - first.z).min(64);
+        let more = self
+            .remaining
+            .take_row(first, count, (bits << 1) | (bits >> 1));
+        if more == 0 {
+            self.take_around(first, bits)?;
+            return Ok(());
+        }
+        match self.found.push(Stretch {
+            first,
+            bits: bits | more,
+        }) {
+            Ok(()) => Ok(()),
+            Err(_) => Err(Memory),
+        }
+    }
+
     /// Takes out the floor's voxels with this x.
     fn take_floor_row(&mut self, x: u16) -> Result<(), Memory>
         ensures takes { IfOk result (λ _. Takes (λ d. d.y ≡ 0) self.old self.new) }
@@ -112,12 +143,12 @@ impl Flood {
     /// Takes out all voxels that are reached from those that were found.
     fn spread(&mut self) -> Result<(), Memory>
         requires most { self.old.remaining.resolution ≤ MOST_R }
-        requires starts { All (λ s. IsStart s.first) self.old.found.items }
+        requires starts { All (IsStart self.old.remaining.resolution) self.old.found.items }
         ensures reaches { IfOk result (λ _. (m : Matrix) → IsFlood m self.old → IsFlood m self.new) }
         ensures all { IfOk result (λ _. self.new.found.items ≡ []) }
     {
         while let Some(stretch) = self.found.pop() {
-            self.take_around(stretch.first, stretch.bits)?;
+            self.look_around(stretch.first, stretch.bits)?;
         }
         Ok(())
     }

@@ -1,4 +1,4 @@
-use Rattle.std.proofs.Common.{◌≡◌, ℕ, Option, subst, []}
+use Rattle.std.proofs.Common.{◌≡◌, ℕ, Option, sym, subst, All, []}
 use Rattle.std.proofs.lemmas.List.Elements.{All-same, All-nil}
 use Rattle.vox_geom.specs.declared.coordinate.Coord.{Coord}
 use Rattle.vox_geom.specs.declared.TheConstants.{MOST_R}
@@ -15,7 +15,9 @@ use Rattle.model_file.proofs.flood.first_ungrounded.Goals as goal
 pub spread-requires-clause-starts : goal.spread-requires-clause-starts
 spread-requires-clause-starts c =
     let start : Flood = record { remaining = c.in_ok-copy.field-0; found = c.new.result } in
-    found_starts (λ d. d.y ≡ 0) start c.take_floor.new.self (let w = c.in_ok-copy.ensures.whole in w.most) (All-same (λ s. IsStart s.first) c.new.result.items [] c.new.ensures.items (All-nil (λ s. IsStart s.first))) c.in_ok-take_floor.ensures.takes
+    let t = c.in_ok-take_floor.ensures.takes in
+    subst (λ (n : ℕ). All (IsStart n) c.take_floor.new.self.found.items) (sym t.resolution)
+    (found_starts (λ d. d.y ≡ 0) start c.take_floor.new.self (All-same (IsStart c.in_ok-copy.field-0.resolution) c.new.result.items [] c.new.ensures.items (All-nil (IsStart c.in_ok-copy.field-0.resolution))) t)
 
 pub returns : goal.returns
 returns c =

@@ -7,7 +7,7 @@ use Rattle.model_file.proofs.flood.Flood.spread.Given as goal
 abbrev pub invariant-loop-stretch : goal.invariant-loop-stretch
 invariant-loop-stretch l = record {
   most : l.self.remaining.resolution ≤ MOST_R;
-  starts : All (λ s. IsStart s.first) l.self.found.items;
+  starts : All (IsStart l.self.remaining.resolution) l.self.found.items;
   reaches : (m : Matrix) → IsFlood m l.initial.self → IsFlood m l.self;
 }
 

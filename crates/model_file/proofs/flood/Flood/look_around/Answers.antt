@@ -1,0 +1,51 @@
+use Rattle.std.proofs.Common.{◌≡◌, ◌+◌, ◌-◌, ◌<◌, ◌≤◌, ◌++◌, ◌∷◌, [], ℕ, refl, sym, ◌∙◌, ap, arith, length, bit_or}
+use Rattle.std.proofs.lemmas.List.{length-append}
+use Rattle.model_file.specs.declared.flood.Flood.{Flood}
+use Rattle.model_file.specs.declared.flood.Stretch.{Stretch}
+use Rattle.vox_geom.specs.declared.TheConstants.{MOST_R}
+use Rattle.model_file.specs.Flood.{IsBeside, IsStart, Takes, full_of}
+use Rattle.model_file.proofs.Floods.{row_lighter, row_same, takes_none, takes_then}
+use Rattle.model_file.proofs.Spreads.{flood_more, flood_wider, found_starts}
+use Rattle.model_file.proofs.Stretches.{moved}
+use Rattle.model_file.proofs.flood.Flood.look_around.Goals as goal
+
+-- where nothing beside it is in its word, all that is beside it is taken by the other part
+both : (c : goal.In_ok-take_around) → Takes (IsBeside (record { first = c.args.first; bits = c.args.bits })) c.args.self.now c.take_around.new.self
+both c =
+    let s : Stretch = record { first = c.args.first; bits = c.args.bits } in
+    let mid : Flood = record { remaining = c.take_row-more.new.self; found = c.args.self.now.found } in
+    let few : c.min-count.result ≤ 64 = omega (arith, c.min-count.ensures) in
+    takes_then (IsBeside s) c.args.self.now mid c.take_around.new.self
+    (takes_none (IsBeside s) c.args.self.now mid c.take_row-more.ensures.resolution
+    (row_same c.args.self.now mid c.args.first c.min-count.result (moved c.args.bits) c.take_row-more.result c.take_row-more.ensures.resolution few c.take_row-more.ensures.was c.take_row-more.ensures.left c.if-more-eq0.true) refl)
+    c.in_ok-take_around.ensures.takes
+
+pub returns-then-more-eq0-clause-reaches : goal.returns-then-more-eq0-clause-reaches
+returns-then-more-eq0-clause-reaches c = λ m s fl same held. flood_more m s c.args.self.now c.take_around.new.self (record { first = c.args.first; bits = c.args.bits }) fl same held (both c) c.in_ok-take_around.ensures.gone
+
+pub returns-then-more-eq0-clause-starts : goal.returns-then-more-eq0-clause-starts
+returns-then-more-eq0-clause-starts c = λ h. found_starts (IsBeside (record { first = c.args.first; bits = c.args.bits })) c.args.self.now c.take_around.new.self h (both c)
+
+pub returns-then-more-eq0-clause-weighs : goal.returns-then-more-eq0-clause-weighs
+returns-then-more-eq0-clause-weighs c = let t = both c in t.weighs
+
+pub returns-in-Ok-clause-reaches : goal.returns-in-Ok-clause-reaches
+returns-in-Ok-clause-reaches c =
+    let p : Stretch = record { first = c.args.first; bits = c.args.bits } in
+    let new : Flood = record { remaining = c.take_row-more.new.self; found = c.push.new.self } in
+    let few : c.min-count.result ≤ 64 = omega (arith, c.min-count.ensures) in
+    let within = c.requires.within in
+    let most = c.requires.most in
+    let fits = c.ranges.bits in
+    let start : IsStart MOST_R p = record { within = record { x = omega (arith, within.x); y = omega (arith, within.y); z = omega (arith, within.z) }; each = c.requires.each } in
+    λ m s fl same held. flood_wider c.args.self.now new p c.min-count.result c.take_row-more.result c.take_row-more.ensures.resolution few c.take_row-more.ensures.was c.take_row-more.ensures.left c.take_row-more.ensures.below c.in-Ok.ensures.items m s start most fits.fits fl same held
+
+pub returns-in-Ok-clause-weighs : goal.returns-in-Ok-clause-weighs
+returns-in-Ok-clause-weighs c =
+    let new : Flood = record { remaining = c.take_row-more.new.self; found = c.push.new.self } in
+    let few : c.min-count.result ≤ 64 = omega (arith, c.min-count.ensures) in
+    let less : full_of c.args.self.now.remaining.resolution c.take_row-more.new.self + 1 ≤ full_of c.args.self.now.remaining.resolution c.args.self.now.remaining =
+    row_lighter c.args.self.now new c.args.first c.min-count.result (moved c.args.bits) c.take_row-more.result c.take_row-more.ensures.resolution few c.take_row-more.ensures.was c.take_row-more.ensures.left c.take_row-more.ensures.below c.if-more-eq0.false c.take_row-more.type_inv in
+    let full : full_of c.take_row-more.new.self.resolution c.take_row-more.new.self ≡ full_of c.args.self.now.remaining.resolution c.take_row-more.new.self = ap (λ n. full_of n c.take_row-more.new.self) c.take_row-more.ensures.resolution in
+    let size : length c.push.new.self.items ≡ length c.args.self.now.found.items + 1 = ap length c.in-Ok.ensures.items ∙ length-append c.args.self.now.found.items (record { first = c.args.first; bits = bit_or c.args.bits c.take_row-more.result } ∷ []) in
+    omega arith
