@@ -1,6 +1,6 @@
 -- Several bits of one word, read and written.
-use Rattle.std.proofs.Common.{◌≡◌, ◌≢◌, ℕ, zero, suc, ◌+◌, ◌-◌, ◌*◌, ◌/◌, ◌%◌, ◌^◌, ◌<◌, ◌≤◌, refl, sym, ◌∙◌, ap, subst, arith, Bool, true, false, ◌&&◌, ◌==◌, List, length, get_or, set, bit_and, bit_or, min, max, inl, inr}
-use Rattle.std.specs.Prelude.{IsFalse, ◌⊎◌, nat_le, nat_lt}
+use Rattle.std.proofs.Common.{◌≡◌, ℕ, zero, suc, ◌+◌, ◌-◌, ◌*◌, ◌/◌, ◌%◌, ◌^◌, ◌<◌, ◌≤◌, sym, ◌∙◌, ap, subst, arith, true, ◌==◌, List, length, get_or, set, bit_and, bit_or, min, max, inl, inr}
+use Rattle.std.specs.Prelude.{IsFalse, ◌⊎◌}
 use Rattle.std.specs.Int.{bit_at, bit_not, w64}
 use Rattle.std.proofs.Math.Nat.{div-add-mod, div-div-eq-div-mul, mod-eq_of_lt, pow-le-pow_right}
 use Rattle.std.proofs.lemmas.Bool.{cases_lt}
@@ -82,7 +82,7 @@ mixed_here w bits s count k h l =
     ap (λ d. d == 1)
     (mixed_bit w bits s (2 ^ (s + count) - 2 ^ s) (s + k)
     ∙ (taken_bit (bit_at w (s + k)) (bit_at (bit_not w64 (2 ^ (s + count) - 2 ^ s)) (s + k)) (bit_at (bits * 2 ^ s % 2 ^ 64) (s + k)) (bit_at (2 ^ (s + count) - 2 ^ s) (s + k)) (bit_at-lt w (s + k))
-        (bit_at_not w64 (2 ^ (s + count) - 2 ^ s) (s + k) (mask_small s count h) (omega arith)) (bit_at-lt (bits * 2 ^ s % 2 ^ 64) (s + k)) one
+    (bit_at_not w64 (2 ^ (s + count) - 2 ^ s) (s + k) (mask_small s count h) (omega arith)) (bit_at-lt (bits * 2 ^ s % 2 ^ 64) (s + k)) one
     ∙ (low_bit (bits * 2 ^ s) 64 (s + k) (omega arith)
     ∙ (raised_bit bits s (s + k) (omega arith) ∙ ap (bit_at bits) back))))
 
@@ -91,7 +91,7 @@ mixed_other w bits s count j h l o =
     ap (λ d. d == 1)
     (mixed_bit w bits s (2 ^ (s + count) - 2 ^ s) j
     ∙ left_bit (bit_at w j) (bit_at (bit_not w64 (2 ^ (s + count) - 2 ^ s)) j) (bit_at (bits * 2 ^ s % 2 ^ 64) j) (bit_at (2 ^ (s + count) - 2 ^ s) j) (bit_at-lt w j)
-        (bit_at_not w64 (2 ^ (s + count) - 2 ^ s) j (mask_small s count h) l) (bit_at-lt (bits * 2 ^ s % 2 ^ 64) j) (none o))
+    (bit_at_not w64 (2 ^ (s + count) - 2 ^ s) j (mask_small s count h) l) (bit_at-lt (bits * 2 ^ s % 2 ^ 64) j) (none o))
   where
     none : ((j < s) ⊎ (s + count ≤ j)) → bit_at (2 ^ (s + count) - 2 ^ s) j ≡ 0
     none (inl m) = bit_at_mask_below s (s + count) j m
