@@ -1,13 +1,11 @@
 -- Adjacent coordinates: one component differs, by one.
-use Rattle.std.proofs.Common.{◌≡◌, ℕ, ◌+◌, ◌-◌, ◌%◌, ◌<◌, ◌≤◌, refl, subst, sym, ◌∙◌, arith, ◌==◌, pos, ◌-ℤ◌, inl, inr}
+use Rattle.std.proofs.Common.{◌≡◌, ℕ, ◌+◌, ◌-◌, ◌<◌, ◌≤◌, refl, sym, ◌∙◌, arith, ◌==◌, pos, ◌-ℤ◌, inl, inr}
 use Rattle.std.specs.Prelude.{IsTrue, ◌⊎◌, unsigned_abs}
 use Rattle.std.proofs.lemmas.Bool.{cases_lt}
 use Rattle.std.proofs.lemmas.Bool.Decides.{nat_tests}
 use Rattle.std.proofs.lemmas.Int.{ints}
 use Rattle.vox_geom.specs.declared.coordinate.Coord.{Coord}
-use Rattle.vox_geom.specs.declared.TheConstants.{MOST_R}
 use Rattle.vox_geom.specs.Point.{are_adjacent}
-use Rattle.vox_geom.specs.Space.{IsInSpace}
 
 gap : (a b : ℕ) → unsigned_abs (pos a -ℤ pos b) ≡ (a - b) + (b - a)
 gap a b = omega (arith, ints)

@@ -1,8 +1,7 @@
 -- The steps of a search from the floor.
-use Rattle.std.proofs.Common.{◌≡◌, ◌≢◌, ℕ, zero, suc, ◌+◌, ◌-◌, ◌*◌, ◌/◌, ◌%◌, ◌^◌, ◌<◌, ◌≤◌, refl, sym, ◌∙◌, ap, subst, arith, Bool, true, false, cond, not, ◌&&◌, ◌==◌, List, [], ◌∷◌, ◌++◌, length, min, inl, inr}
-use Rattle.std.specs.Prelude.{IsTrue, ◌⊎◌, Contains, nat_le, nat_lt}
-use Rattle.std.specs.Int.{bit_at, trailing_zeros, w64}
-use Rattle.std.proofs.Math.Nat.{pow-le-pow_right}
+use Rattle.std.proofs.Common.{◌≡◌, ℕ, zero, suc, ◌+◌, ◌-◌, ◌*◌, ◌/◌, ◌%◌, ◌^◌, ◌<◌, ◌≤◌, refl, sym, ◌∙◌, ap, subst, arith, Bool, true, false, cond, not, ◌&&◌, ◌==◌, List, [], ◌∷◌, ◌++◌, length, min, inl, inr}
+use Rattle.std.specs.Prelude.{IsTrue, ◌⊎◌, Contains}
+use Rattle.std.specs.Int.{trailing_zeros, w64}
 use Rattle.std.proofs.lemmas.Bool.{cases_lt}
 use Rattle.std.proofs.lemmas.Bool.Decides.{nat_tests}
 use Rattle.std.proofs.lemmas.List.{length-append}
@@ -11,9 +10,9 @@ use Rattle.std.proofs.lemmas.Nat.Bits.{bit_at-trailing_zeros, bit_at_above}
 use native.Mathlib.Decide.{ℕ_discrete}
 use Rattle.vox_geom.specs.declared.coordinate.Coord.{Coord}
 use Rattle.vox_geom.specs.declared.TheConstants.{MOST_R}
-use Rattle.vox_geom.specs.Point.{are_adjacent, point, same_point}
+use Rattle.vox_geom.specs.Point.{point, same_point}
 use Rattle.vox_geom.specs.Space.{IsInSpace, coordinate_at, in_space, place}
-use Rattle.vox_geom.proofs.Places.{coordinate_at-place, place-coordinate_at}
+use Rattle.vox_geom.proofs.Places.{coordinate_at-place}
 use Rattle.nano_spec.specs.Matrix.{Matrix, is_full}
 use Rattle.nano_spec.specs.Model.{bit}
 use Rattle.nano_spec.proofs.Coordinates.{in_space-is, place_below}
@@ -23,7 +22,7 @@ use Rattle.vox_planes.specs.Walk.{at}
 use Rattle.model_file.specs.declared.flood.Flood.{Flood}
 use Rattle.model_file.specs.declared.flood.Stretch.{Stretch}
 use Rattle.model_file.proofs.Stretches.{moved, near_above, near_after, near_before, near_below, near_left, near_moved, near_right, one_less, word_less}
-use Rattle.model_file.specs.Flood.{HasFound, IsAmong, IsBeside, IsStart, IsTaken, Takes, full_of, passing, weight}
+use Rattle.model_file.specs.Flood.{HasFound, IsAmong, IsBeside, IsStart, IsTaken, Takes, full_of, passing}
 
 -- ---- how many are full
 

@@ -1,6 +1,6 @@
 -- The voxels at places: those whose bits stand in one word of a row, and many of them part by part.
-use Rattle.std.proofs.Common.{◌≡◌, ◌≢◌, ℕ, ◌+◌, ◌-◌, ◌*◌, ◌/◌, ◌%◌, ◌^◌, ◌<◌, ◌≤◌, refl, sym, ◌∙◌, ap, subst, arith, Bool, true, false, cond, ◌&&◌, ◌==◌, List, length, get_or, inl, inr}
-use Rattle.std.specs.Prelude.{IsFalse, ◌⊎◌, nat_le, nat_lt}
+use Rattle.std.proofs.Common.{◌≡◌, ℕ, ◌+◌, ◌-◌, ◌*◌, ◌/◌, ◌%◌, ◌^◌, ◌<◌, ◌≤◌, sym, ◌∙◌, ap, arith, Bool, true, false, cond, ◌==◌, List, length, inl, inr}
+use Rattle.std.specs.Prelude.{◌⊎◌}
 use Rattle.std.specs.Int.{bit_at}
 use Rattle.std.proofs.Math.Arith.{digits_lt}
 use Rattle.std.proofs.lemmas.Bool.{cases_lt}

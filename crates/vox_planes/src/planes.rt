@@ -1,5 +1,5 @@
 //! Bit planes: which voxels of a matrix are full.
-ghost use Rattle.std.specs.Prelude.{◌≡◌, ◌≢◌, ℕ, ◌+◌, ◌*◌, ◌/◌, ◌%◌, ◌<◌, ◌≤◌, IfOk, false, length};
+ghost use Rattle.std.specs.Prelude.{◌≡◌, ◌≢◌, ℕ, ◌+◌, ◌*◌, ◌/◌, ◌%◌, ◌<◌, ◌≤◌, IfOk, length};
 ghost use Rattle.vox_geom.specs.declared.coordinate.Coord.{Coord as Coordinate};
 ghost use Rattle.vox_geom.specs.Space.{IsInSpace};
 ghost use Rattle.nano_spec.specs.Matrix.{empty as empty_of, is_full};
@@ -140,23 +140,5 @@ impl Planes {
     {
         let i = bit_index(c, self.resolution);
         set_bit(&mut self.words, i, full);
-    }
-
-    /// Makes the voxel at the coordinate void, and answers whether it was full. All other voxels stay.
-    pub fn take(&mut self, c: Coord) -> bool
-        requires { IsInSpace self.old.resolution c }
-        ensures was { result ≡ is_full self.old c }
-        ensures resolution { self.new.resolution ≡ self.old.resolution }
-        ensures here { is_full self.new c ≡ false }
-        ensures others { (d : Coordinate) → d ≢ c → is_full self.new d ≡ is_full self.old d }
-        ensures whole { IsWhole self.new }
-    {
-        let index = bit_index(c, self.resolution);
-        let full = is_set(&self.words, index);
-        if !full {
-            return false;
-        }
-        set_bit(&mut self.words, index, false);
-        true
     }
 }

@@ -161,8 +161,9 @@ fn placed<L: Ledger>(rt: &impl Abort, blank: Blank, alloc: Global) -> Result<(),
     assert_eq!(rt; planes.places(4757, 6, &mut steps), 0b111000);
     assert_eq!(rt; planes.places(4900, 6, &mut steps), 0b011111);
 
-    assert!(rt; planes.take(at(0, 1, 0)));
-    assert!(rt; !planes.take(at(0, 1, 0)));
+    planes.set(at(1, 0, 60), true);
+    assert_eq!(rt; planes.take_row(at(1, 0, 0), 64, !2), 0x1000_0000_0000_001D);
+    assert_eq!(rt; planes.places(4900, 64, &mut steps), 2);
     assert_eq!(rt;
         earlier(Some(at(1, 0, 0)), Some(at(0, 2, 3))),
         Some(at(0, 2, 3))

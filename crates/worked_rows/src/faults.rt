@@ -2,12 +2,10 @@
 ghost use Rattle.std.specs.Prelude.{◌≡◌, ◌≤◌, length, IfOk, IsErrOf, OnErr, None, ⊤};
 ghost use Rattle.vox_depot.specs.Causes.{Rose};
 
-use crate::table::{counted, depot, words};
+use crate::table::{answer, depot, words};
 use nanobot_app::Status;
 use std::alloc::Global;
-use std::marker::Brand;
 use std::process::Abort;
-use std::sync::ledger::Blank;
 use std::test::Fail;
 use vox_depot::{Depot, FetchFault, MemorySink, StoreFault};
 
@@ -81,7 +79,7 @@ fn calls_that_fail(rt: HostRuntime) -> Result<(), Fail> {
         depot.put_file("B", &[0x14, 0x10, 0x73, 0x14, 0x0E, 0xFF])?;
         let mut out = MemorySink::new(alloc, case.sink_fails.to_vec(alloc)?);
         let words = words(alloc, case.words)?;
-        let status = counted::<_, _, Brand>(alloc, &words, &mut depot, &mut out, Blank::new(1));
+        let status = answer(alloc, &words, &mut depot, &mut out);
         assert_eq!(&rt; status, case.status, "at {}", case.words);
         assert_eq!(&rt; out.bytes(), case.printed.as_bytes(), "at {}", case.words);
     }
@@ -132,7 +130,7 @@ fn a_trace_of_a_byte_too_many(rt: HostRuntime) -> Result<(), Fail> {
     let alloc = rt.alloc();
     let words = words(alloc, "run E3 - B")?;
     let mut out = MemorySink::new(alloc, Vec::new(alloc));
-    let status = counted::<_, _, Brand>(alloc, &words, &mut Endless, &mut out, Blank::new(1));
+    let status = answer(alloc, &words, &mut Endless, &mut out);
     assert_eq!(&rt; out.bytes(), b"trace longer than 1073741824\n".as_slice());
     assert_eq!(&rt; status, Status::Trace);
     Ok(())

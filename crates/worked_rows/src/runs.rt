@@ -1,8 +1,7 @@
 //! Runs.
-use crate::table::{Row, assert_rows, counted, depot, words};
+use crate::table::{Row, answer, assert_rows, depot, words};
 use nanobot_app::Status;
-use std::marker::Brand;
-use std::sync::ledger::Blank;
+use std::alloc::Global;
 use std::test::Fail;
 use vox_depot::MemorySink;
 
@@ -183,18 +182,26 @@ fn traces_and_words_that_are_refused(rt: HostRuntime) -> Result<(), Fail> {
     assert_rows(&rt, rt.alloc(), &REFUSED)
 }
 
+/// The bytes of an empty model of the first form, which are this many.
+fn empty_model(alloc: Global, resolution: u8, len: usize) -> Result<Vec<u8>, Fail> {
+    let mut bytes = vec![in alloc; 0u8; len]?;
+    if let Some(first) = bytes.first_mut() {
+        *first = resolution;
+    }
+    Ok(bytes)
+}
+
 /// The greatest resolution of the first form: a file of 1,953,126 bytes.
 #[test]
 fn the_greatest_first_form(rt: HostRuntime) -> Result<(), Fail> {
     let alloc = rt.alloc();
-    let mut bytes = vec![in alloc; 0u8; 1_953_126]?;
-    bytes[0] = 250;
+    let bytes = empty_model(alloc, 250, 1_953_126)?;
     let mut depot = depot(alloc, &[])?;
     depot.put_file("G", &bytes)?;
     depot.put_file("B", &[0xFF])?;
     let mut out = MemorySink::new(alloc, Vec::new(alloc));
     let words = words(alloc, "run G - B")?;
-    let status = counted::<_, _, Brand>(alloc, &words, &mut depot, &mut out, Blank::new(1));
+    let status = answer(alloc, &words, &mut depot, &mut out);
     assert_eq!(&rt; out.bytes(), b"ok energy 46875020 steps 1\n".as_slice());
     assert_eq!(&rt; status, Status::Done);
     Ok(())

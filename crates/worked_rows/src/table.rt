@@ -36,7 +36,7 @@ const FILES: [(&str, &[u8]); 7] = [
 ];
 
 /// Calls `drive` with a counter of this ledger.
-pub fn counted<D: Depot, O: Sink, L: Ledger>(
+fn counted<D: Depot, O: Sink, L: Ledger>(
     alloc: Global,
     words: &[String],
     depot: &mut D,
@@ -51,6 +51,19 @@ pub fn counted<D: Depot, O: Sink, L: Ledger>(
 {
     let mut steps = Steps::<L>::new(blank);
     drive(alloc, words, depot, out, &mut steps)
+}
+
+/// What `drive` answers to the words.
+pub fn answer<D: Depot, O: Sink>(
+    alloc: Global,
+    words: &[String],
+    depot: &mut D,
+    out: &mut O,
+) -> Status
+    requires may_fetch { MayRead D.may_fetch (texts words.now) }
+    requires may_store { MayStore D.may_store (texts words.now) }
+{
+    counted::<D, O, Brand>(alloc, words, depot, out, Blank::new(1))
 }
 
 /// The words of a line, between single spaces.
@@ -81,7 +94,7 @@ pub fn assert_rows(rt: &impl Abort, alloc: Global, rows: &[Row]) -> Result<(), F
         let mut depot = depot(alloc, &[])?;
         depot.put_file("B", bytes)?;
         let mut out = MemorySink::new(alloc, Vec::new(alloc));
-        let answered = counted::<_, _, Brand>(alloc, &words, &mut depot, &mut out, Blank::new(1));
+        let answered = answer(alloc, &words, &mut depot, &mut out);
         assert_eq!(rt; out.bytes(), printed.as_bytes(), "at {}", line);
         assert_eq!(rt; answered, *status, "at {}", line);
     }

@@ -1,9 +1,7 @@
-use Rattle.std.proofs.Common.{◌≡◌, ◌+◌, ◌++◌, ◌∷◌, ◌≤◌, [], ℕ, refl, sym, ◌∙◌, ap, subst, arith, All, length, List}
-use Rattle.std.proofs.lemmas.List.{append-nil, length-append}
+use Rattle.std.proofs.Common.{ℕ, refl, sym, ◌∙◌, subst, All}
+use Rattle.std.proofs.lemmas.List.{append-nil}
 use Rattle.std.proofs.lemmas.List.Elements.{All-pop}
-use Rattle.model_file.specs.declared.flood.Flood.{Flood}
-use Rattle.model_file.specs.declared.flood.Stretch.{Stretch}
-use Rattle.model_file.specs.Flood.{IsStart, weight}
+use Rattle.model_file.specs.Flood.{IsStart}
 use Rattle.model_file.proofs.Spreads.{flood_same}
 use Rattle.model_file.proofs.flood.Flood.spread.Goals as goal
 

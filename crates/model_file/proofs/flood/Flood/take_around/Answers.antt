@@ -1,5 +1,4 @@
-use Rattle.std.proofs.Common.{◌≡◌, ◌+◌, ◌*◌, ◌/◌, ◌%◌, ◌^◌, ◌≤◌, false}
-use Rattle.vox_geom.specs.declared.coordinate.Coord.{Coord}
+use Rattle.std.proofs.Common.{◌≡◌, false}
 use Rattle.nano_spec.specs.Matrix.{is_full}
 use Rattle.model_file.specs.declared.flood.Stretch.{Stretch}
 use Rattle.model_file.proofs.Stretches.{of_seven}

@@ -1,4 +1,3 @@
-use Rattle.std.proofs.Common.{◌≡◌, ◌*◌, ◌<◌, false}
 use Rattle.model_file.proofs.Spreads.{row_more}
 use Rattle.model_file.proofs.flood.Flood.take_floor_row.Goals as goal
 

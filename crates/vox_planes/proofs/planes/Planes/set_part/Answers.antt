@@ -1,10 +1,10 @@
-use Rattle.std.proofs.Common.{◌≡◌, ◌+◌, ◌-◌, ◌<◌, ◌≤◌, ℕ, sym, ◌∙◌, ap, subst, arith, length, cond}
+use Rattle.std.proofs.Common.{◌≡◌, ◌+◌, ◌-◌, ◌≤◌, sym, ◌∙◌, ap, arith, length, cond}
 use Rattle.std.proofs.lemmas.List.{with_items_is}
 use Rattle.vox_geom.specs.declared.coordinate.Coord.{Coord}
 use Rattle.vox_geom.specs.Space.{coordinate_at}
 use Rattle.nano_spec.specs.Matrix.{Matrix}
 use Rattle.nano_spec.specs.Model.{bit, volume}
-use Rattle.vox_planes.specs.Layers.{IsLayered, bit_index}
+use Rattle.vox_planes.specs.Layers.{bit_index}
 use Rattle.vox_planes.specs.Places.{is_from, voxel_at}
 use Rattle.vox_planes.proofs.Chunks.{ArePutBits, put_by}
 use Rattle.vox_planes.proofs.Placed.{put_layered, put_voxels}

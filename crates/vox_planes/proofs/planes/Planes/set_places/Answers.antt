@@ -1,4 +1,4 @@
-use Rattle.std.proofs.Common.{◌≡◌, ◌+◌, ◌-◌, ◌<◌, ◌≤◌, ◌/◌, ◌^◌, ℕ, sym, ◌∙◌, ap, arith}
+use Rattle.std.proofs.Common.{◌+◌, ◌-◌, ◌/◌, ◌^◌, ◌∙◌, arith}
 use Rattle.nano_spec.specs.Model.{bit}
 use Rattle.vox_planes.proofs.Placed.{left_bit, put_parts}
 use Rattle.vox_planes.proofs.planes.Planes.set_places.Goals as goal

@@ -1,9 +1,9 @@
-use Rattle.std.proofs.Common.{◌≡◌, ◌+◌, ◌-◌, ◌<◌, ◌≤◌, ◌&&◌, not, ℕ, sym, ◌∙◌, ap, subst, arith, length}
+use Rattle.std.proofs.Common.{◌≡◌, ◌+◌, ◌≤◌, ◌&&◌, not, ℕ, sym, ◌∙◌, ap, subst, length}
 use Rattle.std.proofs.lemmas.List.{with_items_is}
 use Rattle.vox_geom.specs.Space.{IsInSpace}
 use Rattle.nano_spec.specs.Matrix.{Matrix, is_full}
 use Rattle.nano_spec.specs.Model.{bit}
-use Rattle.vox_planes.specs.Layers.{IsLayered, bit_index}
+use Rattle.vox_planes.specs.Layers.{bit_index}
 use Rattle.vox_planes.specs.Places.{is_marked}
 use Rattle.vox_planes.specs.Walk.{at}
 use Rattle.vox_planes.proofs.Taken.{AreTaken, row_layered, row_left, row_was, taken_by}

@@ -1,4 +1,4 @@
-use Rattle.std.proofs.Common.{◌≡◌, ◌+◌, ◌-◌, ◌*◌, ◌<◌, ◌≤◌, ◌^◌, ◌%◌, ℕ, refl, sym, ◌∙◌, ap, arith}
+use Rattle.std.proofs.Common.{◌+◌, ◌*◌, ◌<◌, ◌≤◌, ◌^◌, ◌%◌, refl, arith}
 use Rattle.vox_planes.proofs.Placed.{joined_fits}
 use Rattle.vox_planes.proofs.Taken.{taken_more}
 use Rattle.vox_planes.proofs.planes.places.take_bits.Goals as goal

@@ -1,4 +1,4 @@
-use Rattle.std.proofs.Common.{◌≡◌, ◌+◌, ◌<◌, ◌≤◌, ◌^◌, ℕ, refl, sym, ◌∙◌, ap, arith}
+use Rattle.std.proofs.Common.{arith}
 use Rattle.vox_planes.proofs.Taken.{part_left, part_was}
 use Rattle.vox_planes.proofs.planes.places.take_part.Goals as goal
 
