@@ -1,2 +1,10 @@
+pub mod Contents
+pub mod Cuts
 pub mod Decimals
+pub mod Differences
+pub mod Fissions
 pub mod Joined
+pub mod Readings
+pub mod Returns
+pub mod Runs
+pub mod Texts

@@ -1,12 +1,16 @@
-//! The law of printed text, the contract of a function that does nothing.
-ghost use Rattle.std.specs.Prelude.{◌≡◌, List};
+//! The law of printing and reading, the contract of a function that does nothing.
+ghost use Rattle.std.specs.Prelude.{◌≡◌, ◌≢◌, List, Result, Ok, Err};
 ghost use Rattle.nano_spec.specs.declared.commands.Command.{Command};
 ghost use Rattle.nano_spec.specs.Cutting.{AreCommands};
 ghost use Rattle.nano_spec.specs.Printing.{print};
+ghost use Rattle.trace_text.specs.declared.fault.TextFault.{TextFault};
+ghost use Rattle.trace_text.specs.declared.fault.TextFault.TheVariants.{Memory};
+ghost use Rattle.trace_text.specs.Text.{Reads};
 
-/// No two traces are printed alike: text says which commands it was printed from.
-pub fn printed_apart()
-    ensures { (some others : List Command) → AreCommands some → AreCommands others → print some ≡ print others → some ≡ others }
+/// Commands that are printed are read as the same commands.
+pub fn printing_and_reading()
+    ensures { (commands : List Command) (answer : Result (List Command) TextFault) →
+        AreCommands commands → Reads (print commands) answer → answer ≢ Err Memory → answer ≡ Ok commands }
 {
     nano_spec::printed_is_read();
 }

@@ -1,11 +1,18 @@
-//! The text of a trace (docs/FORMATS.md, "Trace text"): a line for each command. So far it is printed; the reader of such
-//! text does not stand yet. Only the text that is given takes memory.
+//! The text of a trace (docs/FORMATS.md, "Trace text"): a line for each command, printed and read.
+//! Only `print_trace` and `read_text` take memory, for what they give.
 #![tactic(auto)]
 
+mod fault;
 mod laws;
+mod line;
+mod parts;
 mod print;
 #[cfg(test)]
 mod tests;
+mod text;
+mod word;
 
-pub use laws::printed_apart;
+pub use fault::TextFault;
+pub use laws::printing_and_reading;
 pub use print::print_trace;
+pub use text::read_text;

@@ -1,37 +1,54 @@
-//! A text that shows every command.
+//! Texts of traces, printed and read.
+use crate::fault::TextFault;
 use crate::print::print_trace;
-use nano_spec::Command;
+use crate::text::read_text;
 use std::test::Fail;
-use vox_geom::{Diff, Far, Long, Near, Short};
 
-fn diff(dx: i16, dy: i16, dz: i16) -> Diff {
-    Diff { dx, dy, dz }
-}
+/// What hand-written text is printed as, once it is read.
+const TEXTS: [(&[u8], &[u8]); 5] = [
+    (b"", b""),
+    (b"\n# nothing\r\n \t\n", b""),
+    (
+        b"# to the voxel\r\n\n\tSMove  < 1 ,0,\t000>\r\nFill<-0,0,001> # filled\r\n \t \nSMove <-1,0,0>\r\nHalt",
+        b"SMove <1,0,0>\nFill <0,0,1>\nSMove <-1,0,0>\nHalt\n",
+    ),
+    (b"Fission<0,0,1>5#\n", b"Fission <0,0,1> 5\n"),
+    (
+        b"Wait\nFlip\nLMove <0,-5,0> <0,0,4>\nFusionP <-1,0,0>\nFusionS <1,0,0>\nFission <0,1,1> 255\nVoid <0,0,-1>\nGFill <0,-1,0> <30,0,-30>\nGVoid <0,1,0> <-9,10,0>\n",
+        b"Wait\nFlip\nLMove <0,-5,0> <0,0,4>\nFusionP <-1,0,0>\nFusionS <1,0,0>\nFission <0,1,1> 255\nVoid <0,0,-1>\nGFill <0,-1,0> <30,0,-30>\nGVoid <0,1,0> <-9,10,0>\n",
+    ),
+];
 
 #[test]
-fn every_command_is_printed(rt: HostRuntime) -> Result<(), Fail> {
-    let near = Near::of(diff(-1, 0, 1)).ok_or("another kind")?;
-    let far = Far::of(diff(0, -30, 7)).ok_or("another kind")?;
-    let long = Long::of(diff(0, 15, 0)).ok_or("another kind")?;
-    let short = Short::of(diff(0, 0, -5)).ok_or("another kind")?;
-    let commands = [
-        Command::Halt,
-        Command::Wait,
-        Command::Flip,
-        Command::SMove(long),
-        Command::LMove(short, short),
-        Command::FusionP(near),
-        Command::FusionS(near),
-        Command::Fission(near, 105),
-        Command::Fill(near),
-        Command::Void(near),
-        Command::GFill(near, far),
-        Command::GVoid(near, far),
-    ];
-    let text = print_trace(rt.alloc(), &commands)?;
-    assert_eq!(&rt;
-        text.as_slice(),
-        b"Halt\nWait\nFlip\nSMove <0,15,0>\nLMove <0,0,-5> <0,0,-5>\nFusionP <-1,0,1>\nFusionS <-1,0,1>\nFission <-1,0,1> 105\nFill <-1,0,1>\nVoid <-1,0,1>\nGFill <-1,0,1> <0,-30,7>\nGVoid <-1,0,1> <0,-30,7>\n".as_slice()
-    );
+fn texts_that_are_read(rt: HostRuntime) -> Result<(), Fail> {
+    let alloc = rt.alloc();
+    for (text, printed) in &TEXTS {
+        let Ok(commands) = read_text(alloc, text) else {
+            return Err(Fail::from("a text was refused"));
+        };
+        let again = print_trace(alloc, commands.as_slice())?;
+        assert_eq!(&rt; again.as_slice(), *printed);
+    }
+    Ok(())
+}
+
+/// The first faulty line of a text.
+const FAULTS: [(&[u8], TextFault); 8] = [
+    (b"Jump", TextFault::UnknownWord { line: 1 }),
+    (b"\n<1,0,0>", TextFault::UnknownWord { line: 2 }),
+    (b"Fill <0,0>", TextFault::Shape { line: 1 }),
+    (b"SMove <0001,0,0>", TextFault::Shape { line: 1 }),
+    (b"Fill\r <0,0,1>", TextFault::Shape { line: 1 }),
+    (b"Fill <1,1,1> 1", TextFault::Shape { line: 1 }),
+    (b"Fission <0,0,1> 256", TextFault::Range { line: 1 }),
+    (b"Wait\n#\xC3", TextFault::NotAscii { line: 2 }),
+];
+
+#[test]
+fn texts_that_are_refused(rt: HostRuntime) -> Result<(), Fail> {
+    for (text, fault) in &FAULTS {
+        let refusal = read_text(rt.alloc(), text).err();
+        assert_eq!(&rt; refusal, Some(*fault));
+    }
     Ok(())
 }
