@@ -27,6 +27,14 @@ fault_at line.UnknownWord n = text_fault.UnknownWord n
 fault_at line.Shape n = text_fault.Shape n
 fault_at line.Range n = text_fault.Range n
 
+-- the number by which a refusal is printed
+abbrev pub number_of : TextFault → ℕ
+number_of (text_fault.NotAscii n) = 1
+number_of (text_fault.UnknownWord n) = 2
+number_of (text_fault.Shape n) = 3
+number_of (text_fault.Range n) = 4
+number_of text_fault.Memory = 5
+
 -- what a line says, by the definitions
 abbrev pub line_is : Line → line.Line
 line_is said.Skipped = line.Skipped

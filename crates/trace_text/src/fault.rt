@@ -1,7 +1,7 @@
 //! Why a text is no trace.
 ghost use Rattle.std.specs.Prelude.{◌≡◌};
 ghost use Rattle.trace_text.specs.declared.fault.TextFault.TheVariants.{Memory as no_memory};
-ghost use Rattle.trace_text.specs.Text.{fault_at, fault_of};
+ghost use Rattle.trace_text.specs.Text.{fault_at, fault_of, number_of};
 
 use vox_geom::Memory;
 
@@ -18,6 +18,21 @@ pub enum TextFault {
     Range { line: u32 },
     /// There was no memory.
     Memory,
+}
+
+impl TextFault {
+    /// The number by which the refusal is printed.
+    pub fn number(self) -> u8
+        ensures { result ≡ number_of self }
+    {
+        match self {
+            TextFault::NotAscii { .. } => 1,
+            TextFault::UnknownWord { .. } => 2,
+            TextFault::Shape { .. } => 3,
+            TextFault::Range { .. } => 4,
+            TextFault::Memory => 5,
+        }
+    }
 }
 
 impl From<Memory> for TextFault {

@@ -32,23 +32,24 @@ fn texts_that_are_read(rt: HostRuntime) -> Result<(), Fail> {
     Ok(())
 }
 
-/// The first faulty line of a text.
-const FAULTS: [(&[u8], TextFault); 8] = [
-    (b"Jump", TextFault::UnknownWord { line: 1 }),
-    (b"\n<1,0,0>", TextFault::UnknownWord { line: 2 }),
-    (b"Fill <0,0>", TextFault::Shape { line: 1 }),
-    (b"SMove <0001,0,0>", TextFault::Shape { line: 1 }),
-    (b"Fill\r <0,0,1>", TextFault::Shape { line: 1 }),
-    (b"Fill <1,1,1> 1", TextFault::Shape { line: 1 }),
-    (b"Fission <0,0,1> 256", TextFault::Range { line: 1 }),
-    (b"Wait\n#\xC3", TextFault::NotAscii { line: 2 }),
+/// The first faulty line of a text, and the number of the refusal.
+const FAULTS: [(&[u8], TextFault, u8); 8] = [
+    (b"Jump", TextFault::UnknownWord { line: 1 }, 2),
+    (b"\n<1,0,0>", TextFault::UnknownWord { line: 2 }, 2),
+    (b"Fill <0,0>", TextFault::Shape { line: 1 }, 3),
+    (b"SMove <0001,0,0>", TextFault::Shape { line: 1 }, 3),
+    (b"Fill\r <0,0,1>", TextFault::Shape { line: 1 }, 3),
+    (b"Fill <1,1,1> 1", TextFault::Shape { line: 1 }, 3),
+    (b"Fission <0,0,1> 256", TextFault::Range { line: 1 }, 4),
+    (b"Wait\n#\xC3", TextFault::NotAscii { line: 2 }, 1),
 ];
 
 #[test]
 fn texts_that_are_refused(rt: HostRuntime) -> Result<(), Fail> {
-    for (text, fault) in &FAULTS {
+    for (text, fault, number) in &FAULTS {
         let refusal = read_text(rt.alloc(), text).err();
         assert_eq!(&rt; refusal, Some(*fault));
+        assert_eq!(&rt; fault.number(), *number);
     }
     Ok(())
 }
