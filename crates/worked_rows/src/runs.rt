@@ -26,7 +26,7 @@ const ACCEPTED: [Row; 7] = [
         "ok energy 414 steps 4\n",
     ),
     (
-        "run - T4 B",
+        "run - TOWER B",
         &[
             0xFD, 0x14, 0x10, 0x24, 0x10, 0x73, 0x5B, 0xFD, 0x24, 0x0E, 0x14, 0x0E, 0xFF,
         ],
@@ -46,7 +46,7 @@ const ACCEPTED: [Row; 7] = [
         "ok energy 189759108 steps 4\n",
     ),
     (
-        "run W4 - B",
+        "run WIDE - B",
         &[0xFF],
         Status::Done,
         "ok energy 192000020 steps 1\n",
@@ -74,7 +74,7 @@ const BROKEN: [Row; 11] = [
         "broken 12 Ungrounded step 3 bid 0 at 1 1 1\n",
     ),
     (
-        "run - T4 B",
+        "run - TOWER B",
         &[
             0xFD, 0x14, 0x10, 0x24, 0x10, 0x73, 0xFD, 0x24, 0x0E, 0x14, 0x0E, 0xFF,
         ],

@@ -14,15 +14,15 @@ use vox_geom::Steps;
 /// Words over the files of the table, with these bytes as the file `B`; and the status and the line that are answered.
 pub type Row = (&'static str, &'static [u8], Status, &'static str);
 
-/// The files of the table by their names: `E3` and `E4` are empty models, `P3` has the voxel (1,0,1), `T4` the voxels (1,0,1) and
-/// (1,1,1), `E1` is of resolution 1, `WP` a wide model with the voxel (1,0,1), `W4` the empty one of resolution 400.
+/// The files of the table by their names: `E3` and `E4` are empty models, `P3` has the voxel (1,0,1), `TOWER` the voxels (1,0,1) and
+/// (1,1,1), `E1` is of resolution 1, `WP` a wide model with the voxel (1,0,1), `WIDE` the empty one of resolution 400.
 const FILES: [(&str, &[u8]); 7] = [
     ("E1", &[0x01, 0x00]),
     ("E3", &[0x03, 0x00, 0x00, 0x00, 0x00]),
     ("E4", &[0x04, 0, 0, 0, 0, 0, 0, 0, 0]),
     ("P3", &[0x03, 0x00, 0x04, 0x00, 0x00]),
     (
-        "T4",
+        "TOWER",
         &[0x04, 0x00, 0x00, 0x22, 0x00, 0x00, 0x00, 0x00, 0x00],
     ),
     (
@@ -32,7 +32,7 @@ const FILES: [(&str, &[u8]); 7] = [
             0x68,
         ],
     ),
-    ("W4", &[0xFF, 0x01, 0x90, 0x03, 0xD0, 0x90, 0x00]),
+    ("WIDE", &[0xFF, 0x01, 0x90, 0x03, 0xD0, 0x90, 0x00]),
 ];
 
 /// Calls `drive` with a counter of this ledger.
