@@ -3,26 +3,8 @@
 # the crates that it stands on, and runs it.
 set -eu
 top=$(cd "$(dirname "$0")/../.." && pwd)
-copy=$(mktemp -d)
-trap 'rm -rf "$copy"' EXIT
-mkdir "$copy/crates"
-for crate in vox_geom nano_spec vox_planes model_file; do
-    mkdir "$copy/crates/$crate"
-    (cd "$top/crates/$crate" && tar cf - --exclude=./out .) | (cd "$copy/crates/$crate" && tar xf -)
-done
-cp -r "$top/bench/model/model_bench" "$copy/crates/model_bench"
-# The gate reads every .rt and .antt file of the repository as a crate's, so these end in .txt.
-find "$copy/crates/model_bench" -name '*.txt' -exec sh -c 'mv "$1" "${1%.txt}"' _ {} \;
-cp "$top/HANDLES" "$copy/HANDLES"
-cat > "$copy/crates.txt" <<'LINES'
-vox_geom:
-nano_spec: vox_geom
-vox_planes: nano_spec vox_geom
-model_file: vox_planes nano_spec vox_geom
-model_bench: model_file vox_planes vox_geom
-LINES
-cd "$copy/crates/model_bench"
-rt run > "$copy/log" 2>&1 || { cat "$copy/log"; exit 1; }
+. "$top/bench/build.sh"
+build model 'model_bench: model_file vox_planes vox_geom' vox_geom nano_spec vox_planes model_file
 for round in 1 2 3; do
-    ./out/model_bench
+    "$program"
 done
