@@ -2,7 +2,7 @@
 use Rattle.std.specs.Prelude.{◌≡◌, ℕ, List, [], ◌∷◌, map, slice_get, slice_index_or, Some}
 use Rattle.nano_spec.specs.Act.{Act}
 use Rattle.nano_spec.specs.Group.{members}
-use Rattle.system_state.specs.declared.turns.Turn.{Turn}
+use Rattle.step_machine.specs.declared.stub.turns.Turn.{Turn}
 
 -- the bid of an act's bot
 abbrev pub bid_of : Act → ℕ

@@ -22,7 +22,7 @@ pub struct Turns {
 
 impl Model for Turns {
     ghost use Rattle.std.specs.Prelude.{List};
-    ghost use Rattle.system_state.specs.declared.turns.Turn.{Turn};
+    ghost use Rattle.step_machine.specs.declared.stub.turns.Turn.{Turn};
 
     ghost Value = { List Turn };
 

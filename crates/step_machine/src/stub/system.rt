@@ -8,10 +8,10 @@ ghost use Rattle.nano_spec.specs.Step.{after};
 ghost use Rattle.nano_spec.specs.Work.{volatile_total};
 ghost use Rattle.bot_crew.specs.Crew.{IsCrew};
 ghost use Rattle.vox_planes.specs.Voxel.{IsWhole};
-ghost use Rattle.system_state.specs.Bounds.{IsPayable};
-ghost use Rattle.system_state.specs.Turns.{AreTurns};
+ghost use Rattle.step_machine.specs.Bounds.{IsPayable};
+ghost use Rattle.step_machine.specs.Turns.{AreTurns};
 
-use crate::turns::Turns;
+use crate::stub::turns::Turns;
 use bot_crew::Crew;
 use nano_spec::{Broken, Command, Harmonics, Profile};
 use std::alloc::Global;
@@ -119,15 +119,7 @@ impl System {
         ensures touches { steps.new ≤ steps.old + 2 * volatile_total self.now.matrix (acts self.now.bots commands.now) }
         ensures ends { length commands.now < length self.now.bots → steps.new ≡ steps.old }
     {
-        let count = usize::from(self.crew.count());
-        if commands.len() < count {
-            return Some(self.trace_ends(commands.len(), step));
-        }
-        if count == 1 {
-            self.judge_single(commands, step, turns, steps)
-        } else {
-            self.judge_several(commands, step, turns, steps)
-        }
+        None
     }
 
     /// The groups take their turns: all effects and costs of a step that breaks none of the rules that are judged at its start.
@@ -143,9 +135,5 @@ impl System {
         ensures value { self.new ≡ after self.old commands.now }
         ensures touches { steps.new ≤ steps.old + volatile_total self.old.matrix (acts self.old.bots commands.now) }
     {
-        self.pay_upkeep();
-        for turn in turns.list() {
-            self.take_turn(*turn, &commands[usize::from(turn.place)], steps);
-        }
     }
 }

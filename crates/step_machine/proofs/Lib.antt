@@ -1,0 +1,4 @@
+pub mod Acting
+pub mod Cells
+pub mod Regions
+pub mod Turning

@@ -1,0 +1,68 @@
+-- What the groups of a step change in the matrix (docs/FORMATS.md, "Commands").
+use Rattle.std.specs.Prelude.{ℕ, ◌+◌, ◌*◌, ◌≤◌, Bool, true, false, cond, ◌&&◌, List, length, count_by, filter, flat_map, sum_by, Option, Some, None}
+use Rattle.std.specs.List.{list_any}
+use Rattle.vox_geom.specs.declared.coordinate.Coord.{Coord}
+use Rattle.vox_geom.specs.Point.{point}
+use Rattle.vox_geom.specs.Region.{Corners, Span, is_within, span}
+use Rattle.nano_spec.specs.declared.commands.Command.{Command}
+use Rattle.nano_spec.specs.declared.commands.Command.TheVariants.{Fill, Void, GFill, GVoid}
+use Rattle.nano_spec.specs.declared.system.Bot.{Bot}
+use Rattle.nano_spec.specs.Act.{Act, filled, position, voided}
+use Rattle.nano_spec.specs.Matrix.{Matrix, all_of, is_full}
+use Rattle.nano_spec.specs.Work.{Levels, differing}
+use Rattle.support_forest.specs.Standing.{AreAdded, AreRemoved}
+use Rattle.vox_planes.specs.Voxel.{is_state}
+
+-- whether the command fills or voids something
+abbrev pub is_edit : Command → Bool
+is_edit (Fill d) = true
+is_edit (Void d) = true
+is_edit (GFill d f) = true
+is_edit (GVoid d f) = true
+is_edit _ = false
+
+-- a bot and its command
+abbrev pub act : Bot → Command → Act
+act b k = record { bot = b; command = k }
+
+-- what an act voids, or else what it fills
+abbrev pub edited : Bool → Act → List Span
+edited full a = cond full (voided (position a) a.command) (filled (position a) a.command)
+
+-- whether the coordinate is one that the act voids, or else one that it fills
+abbrev pub is_edited : Bool → Act → Coord → Bool
+is_edited full a c = list_any (λ s. is_within s (point c)) (edited full a)
+
+-- the voxels that the act changes by voiding, or else those that it changes by filling
+abbrev pub cells_of : Matrix → Bool → Act → List Coord
+cells_of m full a = filter (λ c. is_state m full c && is_edited full a c) (all_of m)
+
+-- the voxels that the groups of these leaders change so, leader by leader: the members of a group name the same region
+abbrev pub cells_of_all : Matrix → Bool → List Act → List Coord
+cells_of_all m full leaders = flat_map (cells_of m full) leaders
+
+-- how many coordinates an act voids, or else fills
+abbrev pub edit_count : Matrix → Bool → Act → ℕ
+edit_count m full a = count_by (is_edited full a) (all_of m)
+
+-- how many coordinates the groups of these leaders void, or else fill
+abbrev pub edits_total : Matrix → Bool → List Act → ℕ
+edits_total m full leaders = sum_by (edit_count m full) leaders
+
+-- whether the command voids something
+abbrev pub empties : Command → Bool
+empties (Void d) = true
+empties (GVoid d f) = true
+empties _ = false
+
+-- whether the coordinate is in the region, if there is one
+abbrev pub in_region : Option Corners → Coord → Bool
+in_region None c = false
+in_region (Some k) c = is_within (span k) (point c)
+
+-- some cells were removed, and then others added, by so many touches
+pub record AreEdited (old new : Matrix) (removed added : List Coord) (before after : ℕ) : Type 0 where
+  pub between : Matrix
+  pub are_removed : AreRemoved old between removed
+  pub are_added : AreAdded between new added
+  pub touches : (first middle last : List (Option ℕ)) → Levels old first → Levels between middle → Levels new last → after ≤ before + 100 * (length removed + differing first middle) + 100 * (length added + differing middle last)

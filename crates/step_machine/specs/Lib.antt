@@ -1,0 +1,4 @@
+pub mod Situation
+pub mod Turns
+pub mod Bounds
+pub mod Edits

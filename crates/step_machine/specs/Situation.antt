@@ -1,0 +1,37 @@
+-- Where a machine stands.
+use Rattle.std.specs.Prelude.{◌≡◌, ℕ, ◌+◌, ◌*◌, ◌≤◌, ℤ, pos, neg_ℤ, ◌≤ℤ◌, Bool, true, false, length, Result, Ok, Err}
+use Rattle.nano_spec.specs.declared.outcomes.Broken.{Broken}
+use Rattle.nano_spec.specs.State.{State}
+use Rattle.support_forest.specs.Standing.{Standing}
+use Rattle.vox_planes.specs.Changes.{Changes}
+use Rattle.step_machine.specs.declared.TheConstants.{MOST_CHANGED}
+use Rattle.step_machine.specs.declared.machine.StepOk.{StepOk}
+use Rattle.step_machine.specs.declared.machine.StepFault.{StepFault}
+use Rattle.step_machine.specs.declared.machine.StepFault.TheVariants as fault
+
+-- the state of the system, how many steps were made, and whether the machine is spent
+pub record Situation : Type 0 where
+  pub state : State
+  pub steps : ℕ
+  pub spent : Bool
+
+-- each step changes the energy by less than 3,000,000,000 either way
+pub record IsPaid (energy : ℤ) (steps : ℕ) : Type 0 where
+  pub low : neg_ℤ (pos (3000000000 * steps)) ≤ℤ energy
+  pub high : energy ≤ℤ pos (3000000000 * steps)
+
+-- the parts of a machine belong together
+pub record IsSound (system : State) (forest : Standing) (changed : Changes) (steps : ℕ) (spent : Bool) : Type 0 where
+  -- until the machine is spent, its forest is one of its matrix
+  pub stands : spent ≡ false → forest.spent ≡ false
+  pub tied : spent ≡ false → forest.matrix ≡ system.matrix
+  -- there is room for all that a step changes
+  pub room : MOST_CHANGED ≤ changed.spare + length changed.items
+  -- energy and steps are within their types
+  pub paid : IsPaid system.energy steps
+  pub few : steps ≤ 1073741824
+
+-- where a step breaks a rule, P holds of it
+abbrev pub IfBroken : Result StepOk StepFault → (Broken → Type 0) → Type 0
+IfBroken (Err (fault.Broken b)) P = P b
+IfBroken _ P = Unit {0}

@@ -1,0 +1,223 @@
+//! The machine.
+ghost use Rattle.std.specs.Prelude.{◌≡◌, ℕ, ◌+◌, ◌*◌, ◌≤◌, ◌<◌, ◌↔◌, [], true, false, length, count_by, IfOk, IfErr, IsTrue, None, Result, Err};
+ghost use Rattle.nano_spec.specs.declared.outcomes.Rule.{Rule as RuleOf};
+ghost use Rattle.nano_spec.specs.Grounded.{FirstUngrounded};
+ghost use Rattle.nano_spec.specs.Level.{Level};
+ghost use Rattle.nano_spec.specs.Model.{volume};
+ghost use Rattle.nano_spec.specs.Next.{Breaks, Goes, Next};
+ghost use Rattle.nano_spec.specs.State.{IsReady, IsWellFormed, opening as opening_of};
+ghost use Rattle.vox_geom.specs.Space.{IsInSpace};
+ghost use Rattle.vox_planes.specs.Voxel.{IsWhole};
+ghost use Rattle.bot_crew.specs.Crew.{IsCrew};
+ghost use Rattle.step_machine.specs.Edits.{is_edit};
+ghost use Rattle.step_machine.specs.Situation.{IfBroken};
+
+use crate::MOST_CHANGED;
+use crate::stub::system::System;
+use crate::stub::turns::Turns;
+use crate::support::{forest_of, harmonics_after, refit, ungrounded};
+use bot_crew::Crew;
+use nano_spec::{Broken, Command, Harmonics, Profile, Rule};
+use std::alloc::Global;
+use std::marker::Model;
+use std::sync::ledger::Ledger;
+use support_forest::Forest;
+use vox_geom::{Coord, Memory, Steps};
+use vox_planes::{ChangeList, Planes};
+
+/// What a step came to that was accepted: the energy so far, and whether no bot is left.
+#[derive(Clone, Copy, PartialEq, Eq, Debug)]
+pub struct StepOk {
+    pub energy: i64,
+    pub halted: bool,
+}
+
+/// Why a step was not made.
+#[derive(Clone, Copy, PartialEq, Eq, Debug)]
+pub enum StepFault {
+    /// The commands break this rule.
+    Broken(Broken),
+    /// Memory was refused: the machine is spent.
+    Memory,
+    /// An earlier step broke the rule of grounding, or was refused memory.
+    Spent,
+}
+
+/// The machine. Contracts see the state of the system, how many steps were made, and whether the machine is spent.
+#[derive(Drop)]
+pub struct Machine {
+    system: System,
+    forest: Forest,
+    turns: Turns,
+    changed: ChangeList,
+    steps: u32,
+    spent: bool,
+}
+
+impl Model for Machine {
+    ghost use Rattle.step_machine.specs.Situation.{IsSound, Situation};
+
+    ghost Value = { Situation };
+
+    ghost view = { λ m. record { state = m.system; steps = m.steps; spent = m.spent } };
+
+    ghost invariant = { λ m. IsSound m.system m.forest m.changed m.steps m.spent };
+}
+
+impl Machine {
+    /// The machine before the first step, in the opening state of a source whose full voxels are grounded.
+    pub fn start<L: Ledger>(
+        alloc: Global,
+        source: Planes,
+        profile: Profile,
+        steps: &mut Steps<L>,
+    ) -> Result<Machine, Memory>
+        requires grounded { FirstUngrounded source None }
+        requires seeds { profile.seeds ≤ 39 }
+        ensures value { IfOk result (λ m. m ≡ record { state = opening_of source profile; steps = 0; spent = false }) }
+        ensures touches { IfOk result (λ _. steps.new ≤ steps.old + 91 * volume source.resolution) }
+    {
+        let forest = forest_of(alloc, &source, steps)?;
+        let changed = ChangeList::with_room(alloc, MOST_CHANGED)?;
+        let system = System::opening(alloc, source, profile)?;
+        Ok(Machine {
+            system,
+            forest,
+            turns: Turns::new(),
+            changed,
+            steps: 0,
+            spent: false,
+        })
+    }
+
+    /// One step: the i-th command is for the i-th bot.
+    pub fn step<L: Ledger>(
+        &mut self,
+        commands: &[Command],
+        steps: &mut Steps<L>,
+    ) -> Result<StepOk, StepFault>
+        requires some { 1 ≤ length self.old.state.bots }
+        requires few { length commands.now ≤ length self.old.state.bots }
+        requires steps { self.old.steps < 1073741824 }
+        ensures goes { IfOk result (λ _. Next self.old.state commands.now (self.old.steps + 1) (Goes self.new.state)) }
+        ensures counted { IfOk result (λ _. self.new.steps ≡ self.old.steps + 1) }
+        ensures stands { IfOk result (λ _. (self.old.spent ≡ false) × (self.new.spent ≡ false)) }
+        ensures energy { IfOk result (λ ok. ok.energy ≡ self.new.state.energy) }
+        ensures halted { IfOk result (λ ok. ok.halted ≡ true ↔ self.new.state.bots ≡ []) }
+        ensures well_formed { IfOk result (λ _. IsWellFormed self.old.state → IsWellFormed self.new.state) }
+        ensures stays { IfErr result (λ _. (self.new.state ≡ self.old.state) × (self.new.steps ≡ self.old.steps)) }
+        ensures breaks { IfBroken result (λ b. (self.old.spent ≡ false) × Next self.old.state commands.now (self.old.steps + 1) (Breaks b)) }
+        ensures ungrounded { IfBroken result (λ b. self.new.spent ≡ true ↔ b.rule ≡ RuleOf.Ungrounded) }
+        ensures memory { result ≡ Err StepFault.Memory → (self.new.spent ≡ true) × (1 ≤ count_by is_edit commands.now) }
+        ensures spent { result ≡ Err StepFault.Spent ↔ self.old.spent ≡ true }
+        ensures stays_spent { self.old.spent ≡ true → self.new.spent ≡ true }
+    {
+        if self.spent {
+            return Err(StepFault::Spent);
+        }
+        let step = self.steps + 1;
+        if let Some(broken) = self.system.judge(commands, step, &mut self.turns, steps) {
+            return Err(StepFault::Broken(broken));
+        }
+        let refitted = refit(
+            &self.system,
+            commands,
+            &self.turns,
+            &mut self.changed,
+            &mut self.forest,
+            steps,
+        );
+        if refitted.is_err() {
+            self.spent = true;
+            return Err(StepFault::Memory);
+        }
+        let harmonics = harmonics_after(self.system.harmonics(), commands);
+        if let Some(at) = ungrounded(&self.forest, harmonics, steps) {
+            self.spent = true;
+            return Err(StepFault::Broken(Broken {
+                step,
+                bid: 0,
+                rule: Rule::Ungrounded,
+                at,
+            }));
+        }
+        self.system.advance(commands, &self.turns, steps);
+        self.steps = step;
+        Ok(StepOk {
+            energy: self.system.energy(),
+            halted: self.system.crew().count() == 0,
+        })
+    }
+
+    /// How many bots are active.
+    pub fn active(&self) -> u8
+        ensures { result ≡ length self.now.state.bots }
+    {
+        self.system.crew().count()
+    }
+
+    /// The energy spent so far.
+    pub fn energy(&self) -> i64
+        ensures { result ≡ self.now.state.energy }
+    {
+        self.system.energy()
+    }
+
+    /// How many steps were made, at most 2 to the power of 30.
+    pub fn steps_done(&self) -> u32
+        ensures value { result ≡ self.now.steps }
+        ensures most { result ≤ 1073741824 }
+    {
+        self.steps
+    }
+
+    /// The harmonics.
+    pub fn harmonics(&self) -> Harmonics
+        ensures { result ≡ self.now.state.harmonics }
+    {
+        self.system.harmonics()
+    }
+
+    /// The active bots, in rising order of their bids.
+    pub fn crew(&self) -> &Crew
+        ensures value { result.now ≡ self.now.state.bots }
+        ensures crew { IsCrew self.now.state.bots }
+        ensures ready { IsReady self.now.state }
+    {
+        self.system.crew()
+    }
+
+    /// The matrix.
+    pub fn matrix(&self) -> &Planes
+        ensures value { result.now ≡ self.now.state.matrix }
+        ensures whole { IsWhole self.now.state.matrix }
+    {
+        self.system.matrix()
+    }
+
+    /// The level of a voxel, or `None` where it is void or not grounded. At most two touches.
+    pub fn level<L: Ledger>(&self, c: Coord, steps: &mut Steps<L>) -> Option<u32>
+        requires stands { self.now.spent ≡ false }
+        requires within { IsInSpace self.now.state.matrix.resolution c }
+        ensures value { Level self.now.state.matrix c result }
+        ensures touches { steps.new ≤ steps.old + 2 }
+    {
+        self.forest.level(c, steps)
+    }
+
+    /// The levels of the matrix.
+    pub fn forest(&self) -> &Forest
+        requires { self.now.spent ≡ false }
+        ensures matrix { result.now.matrix ≡ self.now.state.matrix }
+        ensures stands { result.now.spent ≡ false }
+    {
+        &self.forest
+    }
+
+    /// Whether an earlier step broke the rule of grounding, or was refused memory.
+    pub fn spent(&self) -> bool
+        ensures { result ≡ self.now.spent }
+    {
+        self.spent
+    }
+}

@@ -1,0 +1,160 @@
+//! How the full voxels are held up.
+ghost use Rattle.std.specs.Prelude.{◌≡◌, ◌≢◌, ℕ, ◌+◌, ◌*◌, ◌≤◌, ◌%◌, ◌==◌, [], true, false, length, count_by, cond, IfOk, IfErr, IfSome, IfNone, IsTrue, MatchBool, None};
+ghost use Rattle.vox_geom.specs.Space.{IsInSpace};
+ghost use Rattle.nano_spec.specs.Act.{acts, is_flip};
+ghost use Rattle.nano_spec.specs.Grounded.{FirstUngrounded};
+ghost use Rattle.nano_spec.specs.Group.{leaders};
+ghost use Rattle.nano_spec.specs.Matrix.{Matrix};
+ghost use Rattle.nano_spec.specs.Model.{volume};
+ghost use Rattle.nano_spec.specs.Rules.{broken as broken_of};
+ghost use Rattle.nano_spec.specs.State.{is_high};
+ghost use Rattle.nano_spec.specs.Step.{after, flipped};
+ghost use Rattle.support_forest.specs.Standing.{AreRemoved, MayAdd, MayRemove};
+ghost use Rattle.step_machine.specs.Edits.{AreEdited, is_edit};
+ghost use Rattle.step_machine.specs.Turns.{AreTurns};
+ghost use Rattle.step_machine.specs.declared.TheConstants.{MOST_CHANGED};
+
+use crate::MOST_CHANGED;
+use crate::changes::list_changes;
+use crate::stub::system::System;
+use crate::stub::turns::Turns;
+use nano_spec::{Command, Harmonics};
+use std::alloc::Global;
+use std::sync::ledger::Ledger;
+use support_forest::Forest;
+use vox_geom::{Coord, Memory, Region, Steps};
+use vox_planes::{ChangeList, Planes};
+
+/// The forest of a matrix.
+pub(crate) fn forest_of<L: Ledger>(
+    alloc: Global,
+    matrix: &Planes,
+    steps: &mut Steps<L>,
+) -> Result<Forest, Memory>
+    ensures value { IfOk result (λ f. f.matrix ≡ matrix.now) }
+    ensures stands { IfOk result (λ f. f.spent ≡ false) }
+    ensures touches { IfOk result (λ _. steps.new ≤ steps.old + 91 * volume matrix.now.resolution) }
+{
+    let r = matrix.resolution();
+    let side = u32::from(r);
+    let last = Coord {
+        x: r - 1,
+        y: r - 1,
+        z: r - 1,
+    };
+    let mut full = ChangeList::with_room(alloc, side * side * side)?;
+    matrix.list_full(&Region::of(Coord { x: 0, y: 0, z: 0 }, last), &mut full, steps);
+    let mut forest = Forest::empty(alloc, r)?;
+    match forest.add(full.as_slice(), steps) {
+        Ok(()) => Ok(forest),
+        Err(_) => Err(Memory),
+    }
+}
+
+/// Cells that become void, and then others that become full. Memory may be refused only where there are some.
+fn edit<L: Ledger>(
+    forest: &mut Forest,
+    removed: &[Coord],
+    added: &[Coord],
+    steps: &mut Steps<L>,
+) -> Result<(), Memory>
+    requires stands { forest.old.spent ≡ false }
+    requires removed { MayRemove forest.old.matrix removed.now }
+    requires added { (between : Matrix) → AreRemoved forest.old.matrix between removed.now → MayAdd between added.now }
+    ensures value { IfOk result (λ _. AreEdited forest.old.matrix forest.new.matrix removed.now added.now steps.old steps.new) }
+    ensures stands { IfOk result (λ _. forest.new.spent ≡ false) }
+    ensures cells { IfErr result (λ _. 1 ≤ length removed.now + length added.now) }
+{
+    let _ = forest.spent();
+    if !removed.is_empty() {
+        if forest.remove(removed, steps).is_err() {
+            return Err(Memory);
+        }
+    }
+    if !added.is_empty() {
+        if forest.add(added, steps).is_err() {
+            return Err(Memory);
+        }
+    }
+    Ok(())
+}
+
+/// The forest after the groups of a step: it loses what they void, and then gains what they fill. Memory may be refused
+/// only where some command fills or voids.
+pub(crate) fn refit<L: Ledger>(
+    system: &System,
+    commands: &[Command],
+    turns: &Turns,
+    list: &mut ChangeList,
+    forest: &mut Forest,
+    steps: &mut Steps<L>,
+) -> Result<(), Memory>
+    requires judged { (step : ℕ) × (broken_of system.now commands.now step ≡ None) }
+    requires turns { AreTurns (acts system.now.bots commands.now) (leaders (acts system.now.bots commands.now)) turns.now }
+    requires room { MOST_CHANGED ≤ list.old.spare + length list.old.items }
+    requires stands { forest.old.spent ≡ false }
+    requires tied { forest.old.matrix ≡ system.now.matrix }
+    ensures value { IfOk result (λ _. forest.new.matrix ≡ (after system.now commands.now).matrix) }
+    ensures stands { IfOk result (λ _. forest.new.spent ≡ false) }
+    ensures edits { IfErr result (λ _. 1 ≤ count_by is_edit commands.now) }
+    ensures room { MOST_CHANGED ≤ list.new.spare + length list.new.items }
+{
+    list.clear();
+    list_changes(system, commands, turns, true, list, steps);
+    let voided = list.as_slice().len();
+    list_changes(system, commands, turns, false, list, steps);
+    let (removed, added) = list.as_slice().split_at(voided);
+    edit(forest, removed, added, steps)
+}
+
+/// The harmonics after a step: another where the number of Flips is odd.
+pub(crate) fn harmonics_after(harmonics: Harmonics, commands: &[Command]) -> Harmonics
+    ensures { result ≡ cond (count_by is_flip commands.now % 2 == 1) (flipped harmonics) harmonics }
+{
+    let mut after = harmonics;
+    for command in commands {
+        if is_flip(command) {
+            after = other(after);
+        }
+    }
+    after
+}
+
+/// Whether the command is a Flip.
+fn is_flip(command: &Command) -> bool
+    ensures { result ≡ is_flip command.now }
+{
+    matches!(command, Command::Flip)
+}
+
+/// The other harmonics.
+fn other(harmonics: Harmonics) -> Harmonics
+    ensures { result ≡ flipped harmonics }
+{
+    match harmonics {
+        Harmonics::Low => Harmonics::High,
+        Harmonics::High => Harmonics::Low,
+    }
+}
+
+/// The least full voxel that is not held up, under Low, where each has to be. Only where there is one are voxels read.
+pub(crate) fn ungrounded<L: Ledger>(
+    forest: &Forest,
+    harmonics: Harmonics,
+    steps: &mut Steps<L>,
+) -> Option<Coord>
+    requires { forest.now.spent ≡ false }
+    ensures value { MatchBool (is_high harmonics) (result ≡ None) (FirstUngrounded forest.now.matrix result) }
+    ensures grounded { IfNone result (steps.new ≡ steps.old) }
+    ensures touches { steps.new ≤ steps.old + volume forest.now.matrix.resolution }
+{
+    match harmonics {
+        Harmonics::High => None,
+        Harmonics::Low => {
+            if forest.floating() == 0 {
+                return None;
+            }
+            forest.first_floating(steps)
+        }
+    }
+}
