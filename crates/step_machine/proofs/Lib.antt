@@ -1,4 +1,8 @@
 pub mod Acting
+pub mod Apart
 pub mod Cells
+pub mod Changed
+pub mod Refitting
 pub mod Regions
+pub mod Sizes
 pub mod Turning

@@ -10,8 +10,8 @@ use Rattle.vox_geom.specs.Space.{in_space}
 use Rattle.nano_spec.specs.declared.commands.Command.{Command}
 use Rattle.nano_spec.specs.declared.commands.Command.TheVariants.{Halt, Wait, Flip, SMove, LMove, FusionP, FusionS, Fission, Fill, Void, GFill, GVoid}
 use Rattle.nano_spec.specs.declared.system.Bot.{Bot}
-use Rattle.nano_spec.specs.Act.{named_points, stays_in_space}
-use Rattle.step_order.proofs.Lists.{first, second}
+use Rattle.nano_spec.specs.Act.{Act, named_points, stays_in_space}
+use Rattle.step_order.proofs.Lists.{first, not_both, second}
 use Rattle.step_machine.specs.Edits.{act, edited, empties, in_region, is_edited}
 
 -- the region has the coordinates of a span
@@ -42,6 +42,14 @@ other_edit b (Fill d) c = refl
 other_edit b (Void d) c = refl
 other_edit b (GFill d f) c = refl
 other_edit b (GVoid d f) c = refl
+
+-- no coordinate is both voided and filled by one act
+pub one_edit : (a : Act) (c : Coord) → is_edited true a c ≡ true → is_edited false a c ≡ true → ⊥
+one_edit a c v f = by (empties a.command) (other_edit a.bot a.command c)
+  where
+    by : (b : Bool) → is_edited (not b) a c ≡ false → ⊥
+    by true e = not_both f e
+    by false e = not_both v e
 
 -- the far corner of a group command is in space
 pub far_stays : (r : ℕ) (b : Bot) (command l : Command) (p q : Point) → IsTrue (stays_in_space r (act b command)) → command ≡ l → named_points (point b.pos) l ≡ p ∷ q ∷ [] → IsTrue (in_space r q)

@@ -7,7 +7,9 @@ use Rattle.vox_geom.specs.Region.{Corners, Span, is_within, span}
 use Rattle.nano_spec.specs.declared.commands.Command.{Command}
 use Rattle.nano_spec.specs.declared.commands.Command.TheVariants.{Fill, Void, GFill, GVoid}
 use Rattle.nano_spec.specs.declared.system.Bot.{Bot}
-use Rattle.nano_spec.specs.Act.{Act, filled, position, voided}
+use Rattle.nano_spec.specs.Act.{Act, acts, filled, position, voided}
+use Rattle.nano_spec.specs.Group.{leaders}
+use Rattle.nano_spec.specs.State.{State}
 use Rattle.nano_spec.specs.Matrix.{Matrix, all_of, is_full}
 use Rattle.nano_spec.specs.Work.{Levels, differing}
 use Rattle.support_forest.specs.Standing.{AreAdded, AreRemoved}
@@ -41,6 +43,10 @@ cells_of m full a = filter (λ c. is_state m full c && is_edited full a c) (all_
 abbrev pub cells_of_all : Matrix → Bool → List Act → List Coord
 cells_of_all m full leaders = flat_map (cells_of m full) leaders
 
+-- the voxels that the commands of a step change by voiding, or else by filling
+abbrev pub edits_of : State → List Command → Bool → List Coord
+edits_of s commands full = cells_of_all s.matrix full (leaders (acts s.bots commands))
+
 -- how many coordinates an act voids, or else fills
 abbrev pub edit_count : Matrix → Bool → Act → ℕ
 edit_count m full a = count_by (is_edited full a) (all_of m)
@@ -59,10 +65,3 @@ empties _ = false
 abbrev pub in_region : Option Corners → Coord → Bool
 in_region None c = false
 in_region (Some k) c = is_within (span k) (point c)
-
--- some cells were removed, and then others added, by so many touches
-pub record AreEdited (old new : Matrix) (removed added : List Coord) (before after : ℕ) : Type 0 where
-  pub between : Matrix
-  pub are_removed : AreRemoved old between removed
-  pub are_added : AreAdded between new added
-  pub touches : (first middle last : List (Option ℕ)) → Levels old first → Levels between middle → Levels new last → after ≤ before + 100 * (length removed + differing first middle) + 100 * (length added + differing middle last)

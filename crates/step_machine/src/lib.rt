@@ -8,5 +8,5 @@ mod support;
 
 pub use machine::{Machine, StepFault, StepOk};
 
-/// The most voxels that the groups of a step change: 31 * 31 * 31 for each of 40 bots.
-pub(crate) const MOST_CHANGED: u32 = 1_191_640;
+/// The most voxels that the groups of a step change: a group command changes 31 * 31 * 31 at most, and such a one takes 8 of 40 bots.
+pub(crate) const MOST_CHANGED: u32 = 148_955;

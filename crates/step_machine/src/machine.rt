@@ -13,6 +13,7 @@ ghost use Rattle.step_machine.specs.Edits.{is_edit};
 ghost use Rattle.step_machine.specs.Situation.{IfBroken};
 
 use crate::MOST_CHANGED;
+use crate::stub::known::know_all;
 use crate::stub::system::System;
 use crate::stub::turns::Turns;
 use crate::support::{forest_of, harmonics_after, refit, ungrounded};
@@ -119,6 +120,7 @@ impl Machine {
         if let Some(broken) = self.system.judge(commands, step, &mut self.turns, steps) {
             return Err(StepFault::Broken(broken));
         }
+        know_all(commands);
         let refitted = refit(
             &self.system,
             commands,

@@ -1,7 +1,8 @@
 //! How the full voxels are held up.
-ghost use Rattle.std.specs.Prelude.{◌≡◌, ◌≢◌, ℕ, ◌+◌, ◌*◌, ◌≤◌, ◌%◌, ◌==◌, [], true, false, length, count_by, cond, IfOk, IfErr, IfSome, IfNone, IsTrue, MatchBool, None};
+ghost use Rattle.std.specs.Prelude.{◌≡◌, ◌≢◌, ℕ, ◌+◌, ◌*◌, ◌≤◌, ◌%◌, ◌==◌, [], ◌++◌, true, false, length, count_by, cond, IfOk, IfErr, IfSome, IfNone, IsTrue, MatchBool, None};
 ghost use Rattle.vox_geom.specs.Space.{IsInSpace};
 ghost use Rattle.nano_spec.specs.Act.{acts, is_flip};
+ghost use Rattle.nano_spec.specs.Cutting.{AreCommands};
 ghost use Rattle.nano_spec.specs.Grounded.{FirstUngrounded};
 ghost use Rattle.nano_spec.specs.Group.{leaders};
 ghost use Rattle.nano_spec.specs.Matrix.{Matrix};
@@ -9,8 +10,8 @@ ghost use Rattle.nano_spec.specs.Model.{volume};
 ghost use Rattle.nano_spec.specs.Rules.{broken as broken_of};
 ghost use Rattle.nano_spec.specs.State.{is_high};
 ghost use Rattle.nano_spec.specs.Step.{after, flipped};
-ghost use Rattle.support_forest.specs.Standing.{AreRemoved, MayAdd, MayRemove};
-ghost use Rattle.step_machine.specs.Edits.{AreEdited, is_edit};
+ghost use Rattle.support_forest.specs.Standing.{AreAdded, AreRemoved, IsCheap, MayAdd, MayRemove};
+ghost use Rattle.step_machine.specs.Edits.{edits_of, is_edit};
 ghost use Rattle.step_machine.specs.Turns.{AreTurns};
 ghost use Rattle.step_machine.specs.declared.TheConstants.{MOST_CHANGED};
 
@@ -51,32 +52,75 @@ pub(crate) fn forest_of<L: Ledger>(
     }
 }
 
-/// Cells that become void, and then others that become full. Memory may be refused only where there are some.
-fn edit<L: Ledger>(
+/// Cells that become void. Memory may be refused only where there are some.
+fn remove<L: Ledger>(
     forest: &mut Forest,
-    removed: &[Coord],
-    added: &[Coord],
+    cells: &[Coord],
     steps: &mut Steps<L>,
 ) -> Result<(), Memory>
     requires stands { forest.old.spent ≡ false }
-    requires removed { MayRemove forest.old.matrix removed.now }
-    requires added { (between : Matrix) → AreRemoved forest.old.matrix between removed.now → MayAdd between added.now }
-    ensures value { IfOk result (λ _. AreEdited forest.old.matrix forest.new.matrix removed.now added.now steps.old steps.new) }
+    requires cells { MayRemove forest.old.matrix cells.now }
+    ensures value { IfOk result (λ _. AreRemoved forest.old.matrix forest.new.matrix cells.now) }
     ensures stands { IfOk result (λ _. forest.new.spent ≡ false) }
-    ensures cells { IfErr result (λ _. 1 ≤ length removed.now + length added.now) }
+    ensures touches { IfOk result (λ _. IsCheap forest.old.matrix forest.new.matrix cells.now 100 steps.old steps.new) }
+    ensures some { IfErr result (λ _. 1 ≤ length cells.now) }
 {
     let _ = forest.spent();
-    if !removed.is_empty() {
-        if forest.remove(removed, steps).is_err() {
-            return Err(Memory);
-        }
+    if cells.is_empty() {
+        return Ok(());
     }
-    if !added.is_empty() {
-        if forest.add(added, steps).is_err() {
-            return Err(Memory);
-        }
+    match forest.remove(cells, steps) {
+        Ok(()) => Ok(()),
+        Err(_) => Err(Memory),
     }
-    Ok(())
+}
+
+/// Cells that become full. Memory may be refused only where there are some.
+fn add<L: Ledger>(
+    forest: &mut Forest,
+    cells: &[Coord],
+    steps: &mut Steps<L>,
+) -> Result<(), Memory>
+    requires stands { forest.old.spent ≡ false }
+    requires cells { MayAdd forest.old.matrix cells.now }
+    ensures value { IfOk result (λ _. AreAdded forest.old.matrix forest.new.matrix cells.now) }
+    ensures stands { IfOk result (λ _. forest.new.spent ≡ false) }
+    ensures touches { IfOk result (λ _. IsCheap forest.old.matrix forest.new.matrix cells.now 100 steps.old steps.new) }
+    ensures some { IfErr result (λ _. 1 ≤ length cells.now) }
+{
+    let _ = forest.spent();
+    if cells.is_empty() {
+        return Ok(());
+    }
+    match forest.add(cells, steps) {
+        Ok(()) => Ok(()),
+        Err(_) => Err(Memory),
+    }
+}
+
+/// Lists the voxels that the groups of a step change: first those that they void, as many as the answer says, and then
+/// those that they fill.
+fn list_edits<L: Ledger>(
+    system: &System,
+    commands: &[Command],
+    turns: &Turns,
+    list: &mut ChangeList,
+    steps: &mut Steps<L>,
+) -> usize
+    requires judged { (step : ℕ) × (broken_of system.now commands.now step ≡ None) }
+    requires turns { AreTurns (acts system.now.bots commands.now) (leaders (acts system.now.bots commands.now)) turns.now }
+    requires commands { AreCommands commands.now }
+    requires room { MOST_CHANGED ≤ list.old.spare + length list.old.items }
+    ensures items { list.new.items ≡ edits_of system.now commands.now true ++ edits_of system.now commands.now false }
+    ensures voided { result ≡ length (edits_of system.now commands.now true) }
+    ensures room { MOST_CHANGED ≤ list.new.spare + length list.new.items }
+{
+    let _ = system.crew();
+    list.clear();
+    list_changes(system, commands, turns, true, list, steps);
+    let voided = list.as_slice().len();
+    list_changes(system, commands, turns, false, list, steps);
+    voided
 }
 
 /// The forest after the groups of a step: it loses what they void, and then gains what they fill. Memory may be refused
@@ -91,6 +135,7 @@ pub(crate) fn refit<L: Ledger>(
 ) -> Result<(), Memory>
     requires judged { (step : ℕ) × (broken_of system.now commands.now step ≡ None) }
     requires turns { AreTurns (acts system.now.bots commands.now) (leaders (acts system.now.bots commands.now)) turns.now }
+    requires commands { AreCommands commands.now }
     requires room { MOST_CHANGED ≤ list.old.spare + length list.old.items }
     requires stands { forest.old.spent ≡ false }
     requires tied { forest.old.matrix ≡ system.now.matrix }
@@ -99,25 +144,25 @@ pub(crate) fn refit<L: Ledger>(
     ensures edits { IfErr result (λ _. 1 ≤ count_by is_edit commands.now) }
     ensures room { MOST_CHANGED ≤ list.new.spare + length list.new.items }
 {
-    list.clear();
-    list_changes(system, commands, turns, true, list, steps);
-    let voided = list.as_slice().len();
-    list_changes(system, commands, turns, false, list, steps);
+    let _ = system.crew();
+    let voided = list_edits(system, commands, turns, list, steps);
     let (removed, added) = list.as_slice().split_at(voided);
-    edit(forest, removed, added, steps)
+    match remove(forest, removed, steps) {
+        Ok(()) => add(forest, added, steps),
+        Err(Memory) => Err(Memory),
+    }
 }
 
-/// The harmonics after a step: another where the number of Flips is odd.
+/// The harmonics after a step: the others where the number of Flips is odd.
 pub(crate) fn harmonics_after(harmonics: Harmonics, commands: &[Command]) -> Harmonics
     ensures { result ≡ cond (count_by is_flip commands.now % 2 == 1) (flipped harmonics) harmonics }
 {
-    let mut after = harmonics;
-    for command in commands {
-        if is_flip(command) {
-            after = other(after);
-        }
+    let flips = commands.iter().filter(|command| is_flip(command)).count();
+    if flips % 2 == 1 {
+        other(harmonics)
+    } else {
+        harmonics
     }
-    after
 }
 
 /// Whether the command is a Flip.

@@ -1,0 +1,212 @@
+-- The voxels that the groups of a step change, taken together.
+use Rattle.std.proofs.Common.{◌≡◌, ◌≢◌, ℕ, ◌*◌, refl, sym, ◌∙◌, ap, subst, inl, inr, ◌⊎◌, arith, List, [], ◌∷◌, Bool, true, false, ◌&&◌, ◌||◌, not, length}
+use Rattle.std.specs.Prelude.{ℤ, int_le, filter, IsTrue, IsFalse}
+use Rattle.std.specs.List.{AllPairs, Contains, list_any}
+use native.Mathlib.Decide.{ℕ_discrete}
+use Rattle.vox_geom.specs.declared.coordinate.Coord.{Coord}
+use Rattle.vox_geom.specs.Point.{Point, plus, point}
+use Rattle.vox_geom.specs.Region.{Span, between, is_between, is_within, same_region}
+use Rattle.vox_geom.specs.Space.{IsInSpace, coordinates}
+use Rattle.nano_spec.specs.declared.commands.Command.{Command}
+use Rattle.nano_spec.specs.declared.commands.Command.TheVariants.{FusionP, FusionS, GFill, GVoid}
+use Rattle.nano_spec.specs.Act.{Act, filled, position, voided}
+use Rattle.nano_spec.specs.Group.{are_partners, are_together, fuse, is_leader, is_pair, leaders, members, share_region}
+use Rattle.nano_spec.specs.Matrix.{Matrix, all_of, is_full, matrix_where}
+use Rattle.nano_spec.specs.State.{State}
+use Rattle.nano_spec.specs.Step.{is_filled, is_voided, matrix_after}
+use Rattle.nano_spec.specs.Volatile.{is_volatile, is_volatile_of}
+use Rattle.nano_spec.specs.Work.{without_voided}
+use Rattle.support_forest.specs.Standing.{AreAdded, AreRemoved, MayAdd, MayRemove}
+use Rattle.vox_planes.specs.Voxel.{is_state}
+use Rattle.step_order.proofs.Effects.{fills_own, voids_own}
+use Rattle.step_order.proofs.Facts.{IsGood}
+use Rattle.step_order.proofs.Groups.{Differ, differ_acts, differ_filter, led}
+use Rattle.step_order.proofs.Lists.{In, any_in, both, by_left, by_right, filter_in, first, flat_in, in_any, in_filter, in_flat, is_false, not_both, one_of, same_test, second, true_or_false}
+use Rattle.step_order.proofs.Together.{Together, extent_is, itself, partners, region_parts, shares, together_is, with_itself}
+use Rattle.step_order.proofs.Voxels.{as_it_is, coordinates_within, full_where, in_coordinates, matrix_same}
+use Rattle.step_machine.specs.Edits.{cells_of, cells_of_all, edited, is_edited}
+use Rattle.step_machine.proofs.Apart.{Apart, apart_coordinates, apart_filter, apart_flat, held, holds, pairs_of}
+use Rattle.step_machine.proofs.Regions.{one_edit}
+
+-- ---- members of a group make the same edit
+
+either_way : (a b : Bool) → (a || b) ≡ (b || a)
+either_way true true = refl
+either_way true false = refl
+either_way false true = refl
+either_way false false = refl
+
+axis : (a b c d v : ℤ) → ((a ≡ c) × (b ≡ d)) ⊎ ((a ≡ d) × (b ≡ c)) → is_between a b v ≡ is_between c d v
+axis a b c d v (inl e) = λ i. is_between (e.0 i) (e.1 i) v
+axis a b c d v (inr e) = (λ i. is_between (e.0 i) (e.1 i) v) ∙ either_way (int_le d v && int_le v c) (int_le c v && int_le v d)
+
+same_points : (s t : Span) (p : Point) → same_region s t ≡ true → is_within s p ≡ is_within t p
+same_points s t p h =
+    let parts = region_parts s t h in
+    let x = axis s.from.x s.to.x t.from.x t.to.x p.x (extent_is s.from.x s.to.x t.from.x t.to.x parts.0) in
+    let y = axis s.from.y s.to.y t.from.y t.to.y p.y (extent_is s.from.y s.to.y t.from.y t.to.y parts.1) in
+    let z = axis s.from.z s.to.z t.from.z t.to.z p.z (extent_is s.from.z s.to.z t.from.z t.to.z parts.2) in
+    λ i. x i && y i && z i
+
+shared_void : (p : Point) (c : Command) (q : Point) (e : Command) (x : Point) → share_region p c q e ≡ true → list_any (λ s. is_within s x) (voided p c) ≡ list_any (λ s. is_within s x) (voided q e)
+shared_void p (GFill d f) q (GFill e g) x h = refl
+shared_void p (GVoid d f) q (GVoid e g) x h = ap (λ b. b || false) (same_points (between (plus p d) (plus (plus p d) f)) (between (plus q e) (plus (plus q e) g)) x h)
+shared_void p c q e x h = cc
+
+shared_fill : (p : Point) (c : Command) (q : Point) (e : Command) (x : Point) → share_region p c q e ≡ true → list_any (λ s. is_within s x) (filled p c) ≡ list_any (λ s. is_within s x) (filled q e)
+shared_fill p (GFill d f) q (GFill e g) x h = ap (λ b. b || false) (same_points (between (plus p d) (plus (plus p d) f)) (between (plus q e) (plus (plus q e) g)) x h)
+shared_fill p (GVoid d f) q (GVoid e g) x h = refl
+shared_fill p c q e x h = cc
+
+fusion_edits_not : (p : Point) (c : Command) (q : Point) (e : Command) (x : Point) → fuse p c q e ≡ true → (list_any (λ s. is_within s x) (voided p c) ≡ false) × (list_any (λ s. is_within s x) (filled p c) ≡ false) × (list_any (λ s. is_within s x) (voided q e) ≡ false) × (list_any (λ s. is_within s x) (filled q e) ≡ false)
+fusion_edits_not p (FusionP d) q (FusionS e) x h = (refl, refl, refl, refl)
+fusion_edits_not p (FusionP d) q e x h = cc
+fusion_edits_not p c q e x h = cc
+
+same_edit : (full : Bool) (l a : Act) (c : Coord) → (l.bot.bid ≡ a.bot.bid → l ≡ a) → Together l a → is_edited full a c ≡ true → is_edited full l c ≡ true
+same_edit full l a c bids (itself e) h = ap (λ (x : Act). is_edited full x c) (bids e) ∙ h
+same_edit true l a c bids (shares e) h = shared_void (position l) l.command (position a) a.command (point c) e ∙ h
+same_edit false l a c bids (shares e) h = shared_fill (position l) l.command (position a) a.command (point c) e ∙ h
+same_edit full l a c bids (partners e) h = by full (one_of (is_pair l a) (is_pair a l) e) h
+  where
+    by : (full : Bool) → (is_pair l a ≡ true) ⊎ (is_pair a l ≡ true) → is_edited full a c ≡ true → is_edited full l c ≡ true
+    by true (inl f) h = absurd (not_both h (fusion_edits_not (position l) l.command (position a) a.command (point c) f).2)
+    by false (inl f) h = absurd (not_both h (fusion_edits_not (position l) l.command (position a) a.command (point c) f).3)
+    by true (inr f) h = absurd (not_both h (fusion_edits_not (position a) a.command (position l) l.command (point c) f).0)
+    by false (inr f) h = absurd (not_both h (fusion_edits_not (position a) a.command (position l) l.command (point c) f).1)
+
+edits_own : (full : Bool) (a : Act) (c : Coord) → is_edited full a c ≡ true → is_volatile_of (point c) a ≡ true
+edits_own true a c h = voids_own (position a) a.command (point c) h
+edits_own false a c h = fills_own (position a) a.command (point c) h
+
+-- ---- the voxels that the leaders' groups change
+
+-- whether some act edits the coordinate so
+abbrev pub is_changed : Bool → List Act → Coord → Bool
+is_changed full all c = list_any (λ a. is_edited full a c) all
+
+module _ (s : State) (all : List Act) (good : IsGood s all) where
+  leader_is : (l : Act) → In l (leaders all) → In l all
+  leader_is l i = (filter_in (is_leader all) l all i).0
+
+  volatile_for : (full : Bool) (l : Act) (c : Coord) → In l (leaders all) → is_edited full l c ≡ true → is_volatile all l (point c) ≡ true
+  volatile_for full l c i e = in_any (is_volatile_of (point c)) l (members all l) (in_filter (are_together l) l all (leader_is l i) (with_itself l)) (edits_own full l c e)
+
+  -- a leader whose group edits what some act edits
+  leader_edits : (full : Bool) (c : Coord) → is_changed full all c ≡ true → (l : Act) × In l (leaders all) × (is_edited full l c ≡ true)
+  leader_edits full c h =
+      let a = any_in (λ x. is_edited full x c) all h in
+      let l = led all good.apart a.0 a.1 in
+      (l.0, l.1, same_edit full l.0 a.0 c (λ e. good.apart.bids l.0 a.0 (leader_is l.0 l.1) a.1 e) (together_is l.0 a.0 l.2) a.2)
+
+  apart_leaders : Apart (leaders all)
+  apart_leaders = by (leaders all) (differ_filter (λ (a : Act). a.bot.bid) (is_leader all) all (differ_acts all good.rising))
+    where
+      by : (xs : List Act) → Differ (λ (a : Act). a.bot.bid) xs → Apart xs
+      by [] d = tt
+      by (x ∷ xs) d = ((λ i. d.0 x i refl), by xs d.1)
+
+  -- what two leaders' groups change is apart
+  never_both : (full other : Bool) (l d : Act) (c : Coord) → In l (leaders all) → In d (leaders all) → IsInSpace s.matrix.resolution c → is_edited full l c ≡ true → is_edited other d c ≡ true → (l ≡ d → ⊥) → ⊥
+  never_both full other l d c i j w e f ne = good.clear l d i j ne c w (volatile_for full l c i e) (volatile_for other d c j f)
+
+  cell_is : (full : Bool) (a : Act) (c : Coord) → In c (cells_of s.matrix full a) → IsInSpace s.matrix.resolution c × (is_state s.matrix full c ≡ true) × (is_edited full a c ≡ true)
+  cell_is full a c i =
+      let f = filter_in (λ x. is_state s.matrix full x && is_edited full a x) c (all_of s.matrix) i in
+      (coordinates_within s.matrix.resolution c f.0, first (is_state s.matrix full c) (is_edited full a c) f.1, second (is_state s.matrix full c) (is_edited full a c) f.1)
+
+  pub cells_apart : (full : Bool) → Apart (cells_of_all s.matrix full (leaders all))
+  cells_apart full = apart_flat (cells_of s.matrix full) (leaders all) apart_leaders
+      (λ l i. apart_filter (λ c. is_state s.matrix full c && is_edited full l c) (all_of s.matrix) (apart_coordinates s.matrix.resolution))
+      (λ l d c i j p q ne. let w = cell_is full l c p in never_both full full l d c i j w.0 w.2 (cell_is full d c q).2 ne)
+
+  pub cell_of : (full : Bool) (c : Coord) → In c (cells_of_all s.matrix full (leaders all)) → IsInSpace s.matrix.resolution c × (is_state s.matrix full c ≡ true) × (is_changed full all c ≡ true)
+  cell_of full c i =
+      let r = flat_in (cells_of s.matrix full) c (leaders all) i in
+      let w = cell_is full r.0 c r.2 in
+      (w.0, w.1, in_any (λ a. is_edited full a c) r.0 all (leader_is r.0 r.1) w.2)
+
+  pub of_cell : (full : Bool) (c : Coord) → IsInSpace s.matrix.resolution c → is_state s.matrix full c ≡ true → is_changed full all c ≡ true → In c (cells_of_all s.matrix full (leaders all))
+  of_cell full c w e h =
+      let l = leader_edits full c h in
+      in_flat (cells_of s.matrix full) l.0 c (leaders all) l.1 (in_filter (λ x. is_state s.matrix full x && is_edited full l.0 x) c (all_of s.matrix) (in_coordinates s.matrix.resolution c w) (both e l.2))
+
+  -- nothing is both voided and filled
+  pub one_way : (c : Coord) → IsInSpace s.matrix.resolution c → is_changed true all c ≡ true → is_changed false all c ≡ true → ⊥
+  one_way c w v f = by (leader_edits true c v) (leader_edits false c f)
+    where
+      by : (l : Act) × In l (leaders all) × (is_edited true l c ≡ true) → (l : Act) × In l (leaders all) × (is_edited false l c ≡ true) → ⊥
+      by l d = on (ℕ_discrete l.0.bot.bid d.0.bot.bid)
+        where
+          on : Dec (l.0.bot.bid ≡ d.0.bot.bid) → ⊥
+          on (yes e) = one_edit d.0 c (ap (λ (a : Act). is_edited true a c) (sym (good.apart.bids l.0 d.0 (leader_is l.0 l.1) (leader_is d.0 d.1) e)) ∙ l.2) d.2
+          on (no ne) = never_both true false l.0 d.0 c l.1 d.1 w l.2 d.2 (λ e. ne (ap (λ (a : Act). a.bot.bid) e))
+
+  void_state : (c : Coord) → is_state s.matrix false c ≡ true → is_full s.matrix c ≡ false
+  void_state c h = flip (is_full s.matrix c) h
+    where
+      flip : (b : Bool) → not b ≡ true → b ≡ false
+      flip true e = cc
+      flip false e = refl
+
+  state_void : (c : Coord) → is_full s.matrix c ≡ false → is_state s.matrix false c ≡ true
+  state_void c h = ap not h
+
+  -- ---- the forest may lose the ones and then gain the others
+
+  pub may_remove : MayRemove s.matrix (cells_of_all s.matrix true (leaders all))
+  may_remove = record {
+    differ = pairs_of (cells_of_all s.matrix true (leaders all)) (cells_apart true);
+    full = λ c i. (cell_of true c (held c (cells_of_all s.matrix true (leaders all)) i)).1;
+  }
+
+  pub may_add : (between : Matrix) → AreRemoved s.matrix between (cells_of_all s.matrix true (leaders all)) → MayAdd between (cells_of_all s.matrix false (leaders all))
+  may_add between r = record {
+    differ = pairs_of (cells_of_all s.matrix false (leaders all)) (cells_apart false);
+    within = λ c i. subst (λ (n : ℕ). IsInSpace n c) (sym r.resolution) (cell_of false c (held c (cells_of_all s.matrix false (leaders all)) i)).0;
+    void = λ c i. is_false (is_full between c) (λ f. not_both (r.full c f) (void_state c (cell_of false c (held c (cells_of_all s.matrix false (leaders all)) i)).1));
+  }
+
+  -- ---- what it comes to
+
+  module _ (between new : Matrix) (lost : AreRemoved s.matrix between (cells_of_all s.matrix true (leaders all))) (won : AreAdded between new (cells_of_all s.matrix false (leaders all))) where
+    is_left : (c : Coord) → IsInSpace s.matrix.resolution c → is_full between c ≡ true → (is_full s.matrix c && not (is_voided all c)) ≡ true
+    is_left c w f = both (lost.full c f) (ap not (is_false (is_voided all c) (λ v. not_both f (lost.gone c (holds c (cells_of_all s.matrix true (leaders all)) (of_cell true c w (lost.full c f) v))))))
+
+    left_is : (c : Coord) → is_full s.matrix c ≡ true → (is_voided all c ≡ true → ⊥) → is_full between c ≡ true
+    left_is c f n = by (lost.kept c f)
+      where
+        by : IsTrue (is_full between c) ⊎ Contains (cells_of_all s.matrix true (leaders all)) c → is_full between c ≡ true
+        by (inl e) = e
+        by (inr i) = absurd (n (cell_of true c (held c (cells_of_all s.matrix true (leaders all)) i)).2)
+
+    pub between_is : between ≡ without_voided s.matrix all
+    between_is =
+        sym (as_it_is between lost.whole)
+        ∙ (ap (λ r. matrix_where r (is_full between)) lost.resolution
+        ∙ matrix_same s.matrix.resolution (is_full between) (λ c. is_full s.matrix c && not (is_voided all c)) (λ c w. same_test (is_full between c) (is_full s.matrix c && not (is_voided all c))
+            (is_left c w)
+            (λ e. left_is c (first (is_full s.matrix c) (not (is_voided all c)) e) (λ v. not_both (second (is_full s.matrix c) (not (is_voided all c)) e) (ap not v)))))
+
+    there : (c : Coord) → IsInSpace s.matrix.resolution c → is_full new c ≡ true → (is_filled all c || (is_full s.matrix c && not (is_voided all c))) ≡ true
+    there c w f = by (won.full c f)
+      where
+        by : IsTrue (is_full between c) ⊎ Contains (cells_of_all s.matrix false (leaders all)) c → (is_filled all c || (is_full s.matrix c && not (is_voided all c))) ≡ true
+        by (inl e) = by_right (is_filled all c) (is_full s.matrix c && not (is_voided all c)) (is_left c w e)
+        by (inr i) = by_left (is_filled all c) (is_full s.matrix c && not (is_voided all c)) (cell_of false c (held c (cells_of_all s.matrix false (leaders all)) i)).2
+
+    back : (c : Coord) → IsInSpace s.matrix.resolution c → (is_filled all c ≡ true) ⊎ ((is_full s.matrix c && not (is_voided all c)) ≡ true) → is_full new c ≡ true
+    back c w (inl e) = by (true_or_false (is_full s.matrix c))
+      where
+        by : (is_full s.matrix c ≡ true) ⊎ (is_full s.matrix c ≡ false) → is_full new c ≡ true
+        by (inl f) = won.kept c (left_is c f (λ v. one_way c w v e))
+        by (inr f) = won.added c (holds c (cells_of_all s.matrix false (leaders all)) (of_cell false c w (state_void c f) e))
+    back c w (inr e) = won.kept c (left_is c (first (is_full s.matrix c) (not (is_voided all c)) e) (λ v. not_both (second (is_full s.matrix c) (not (is_voided all c)) e) (ap not v)))
+
+    pub new_is : new ≡ matrix_after s.matrix all
+    new_is =
+        sym (as_it_is new won.whole)
+        ∙ (ap (λ r. matrix_where r (is_full new)) (won.resolution ∙ lost.resolution)
+        ∙ matrix_same s.matrix.resolution (is_full new) (λ c. is_filled all c || (is_full s.matrix c && not (is_voided all c))) (λ c w. same_test (is_full new c) (is_filled all c || (is_full s.matrix c && not (is_voided all c)))
+            (there c w)
+            (λ e. back c w (one_of (is_filled all c) (is_full s.matrix c && not (is_voided all c)) e))))

@@ -1,0 +1,250 @@
+-- How many voxels the groups of a step change at most.
+use Rattle.std.proofs.Common.{◌≡◌, ℕ, zero, suc, ◌+◌, ◌*◌, ◌≤◌, ◌<◌, ◌^◌, ◌||◌, ◌==◌, not, refl, sym, ◌∙◌, ap, inl, inr, arith, List, [], ◌∷◌, ◌++◌, Bool, true, false, cond, length, length-append, subst}
+use Rattle.std.specs.Prelude.{count_by, filter, sum_by, flat_map, ℤ, ◌+ℤ◌, unsigned_abs, IsTrue, None, nat_le}
+use Rattle.std.specs.List.{list_any, AllByRecursion}
+use Rattle.std.proofs.lemmas.Bool.Decides.{nat_tests}
+use Rattle.std.proofs.lemmas.Int.{ints}
+use Rattle.std.proofs.lemmas.List.Sums.{sum_by-cons}
+use Rattle.std.proofs.Math.Nat.{mul-le-mul}
+use Rattle.vox_geom.specs.declared.coordinate.Coord.{Coord}
+use Rattle.vox_geom.specs.declared.difference.Diff.{Diff}
+use Rattle.vox_geom.specs.Difference.{IsFar, is_far, is_near}
+use Rattle.vox_geom.specs.Point.{Point, plus, point, same_number}
+use Rattle.vox_geom.specs.Region.{Span, between, differs, dimension, extent, is_within, just, size}
+use Rattle.vox_geom.proofs.Counts.{region_count_most}
+use Rattle.nano_spec.specs.declared.commands.Command.{Command}
+use Rattle.nano_spec.specs.declared.commands.Command.TheVariants.{Halt, Wait, Flip, SMove, LMove, FusionP, FusionS, Fission, Fill, Void, GFill, GVoid}
+use Rattle.nano_spec.specs.declared.system.Bot.{Bot}
+use Rattle.nano_spec.specs.Act.{Act, acts, group_regions, position}
+use Rattle.nano_spec.specs.Command.{is_command}
+use Rattle.nano_spec.specs.Cutting.{AreCommands}
+use Rattle.nano_spec.specs.Group.{are_together, is_leader, leaders, members}
+use Rattle.nano_spec.specs.Rules.{corners_of, here, is_misshapen, repeats}
+use Rattle.nano_spec.specs.State.{State}
+use Rattle.nano_spec.specs.declared.outcomes.Rule.TheVariants.{GroupShape}
+use Rattle.nano_spec.specs.Matrix.{Matrix, all_of}
+use Rattle.step_order.proofs.Lists.{In, all_in, any_in, by_left, filter_in, flat_in, in_any, in_filter, is_false, not_both, second}
+use Rattle.step_order.proofs.Facts.{IsGood}
+use Rattle.step_order.proofs.Groups.{Differ, differ_acts}
+use Rattle.step_order.proofs.Together.{number_is, together_back, together_on, with_itself}
+use Rattle.step_machine.proofs.Apart.{Apart, apart_filter, apart_flat}
+use Rattle.step_machine.specs.Edits.{act, edit_count, edits_total, edited, empties, is_edited}
+
+-- ---- a region by its dimension
+
+extent_itself : (a : ℤ) → extent a a ≡ 1
+extent_itself a = omega (arith, ints)
+
+axis_most : (a b : ℤ) → extent a b ≤ 31 → 2 * extent a b ≤ 31 * 2 ^ differs a b
+axis_most a b h = by (same_number a b) refl
+  where
+    by : (t : Bool) → same_number a b ≡ t → 2 * extent a b ≤ 31 * 2 ^ cond t 0 1
+    by true e = let f : a ≡ b = number_is a b e in let o : extent a b ≡ 1 = ap (extent a) (sym f) ∙ extent_itself a in omega arith
+    by false e = omega arith
+
+eights : (x y z : ℕ) → (2 * x) * (2 * y) * (2 * z) ≡ 8 * (x * y * z)
+eights x y z = grind arith
+
+powers : (t u v : Bool) → (31 * 2 ^ cond t 0 1) * (31 * 2 ^ cond u 0 1) * (31 * 2 ^ cond v 0 1) ≡ 29791 * 2 ^ (cond t 0 1 + cond u 0 1 + cond v 0 1)
+powers true true true = refl
+powers true true false = refl
+powers true false true = refl
+powers true false false = refl
+powers false true true = refl
+powers false true false = refl
+powers false false true = refl
+powers false false false = refl
+
+region_most : (s : Span) → extent s.from.x s.to.x ≤ 31 → extent s.from.y s.to.y ≤ 31 → extent s.from.z s.to.z ≤ 31 → 8 * size s ≤ 29791 * 2 ^ dimension s
+region_most s x y z =
+    let le = mul-le-mul (mul-le-mul (axis_most s.from.x s.to.x x) (axis_most s.from.y s.to.y y)) (axis_most s.from.z s.to.z z) in
+    let e = eights (extent s.from.x s.to.x) (extent s.from.y s.to.y) (extent s.from.z s.to.z) in
+    let p = powers (same_number s.from.x s.to.x) (same_number s.from.y s.to.y) (same_number s.from.z s.to.z) in
+    omega (arith, le, e, p)
+
+far_bounds : (d : Diff) → IsFar d → (unsigned_abs d.dx ≤ 30) × (unsigned_abs d.dy ≤ 30) × (unsigned_abs d.dz ≤ 30)
+far_bounds d h = grind (arith, nat_tests)
+
+extent_far : (a d : ℤ) → unsigned_abs d ≤ 30 → extent a (a +ℤ d) ≤ 31
+extent_far a d h = omega (arith, ints)
+
+far_most : (p : Point) (f : Diff) → IsFar f → 8 * size (between p (plus p f)) ≤ 29791 * 2 ^ dimension (between p (plus p f))
+far_most p f h = let b = far_bounds f h in region_most (between p (plus p f)) (extent_far p.x f.dx b.0) (extent_far p.y f.dy b.1) (extent_far p.z f.dz b.2)
+
+just_one : (p : Point) → size (just p) ≡ 1
+just_one p = λ i. extent_itself p.x i * extent_itself p.y i * extent_itself p.z i
+
+-- ---- how many coordinates an act edits
+
+count_none : (xs : List Coord) → count_by (λ c. false) xs ≡ 0
+count_none [] = refl
+count_none (x ∷ xs) = let e : count_by (λ c. false) (x ∷ xs) ≡ 0 + count_by (λ c. false) xs = sum_by-cons (λ c. 0) x xs in let n = count_none xs in omega arith
+
+or_false : (b : Bool) → (b || false) ≡ b
+or_false true = refl
+or_false false = refl
+
+count_one : (m : Matrix) (s : Span) → count_by (λ c. is_within s (point c) || false) (all_of m) ≤ size s
+count_one m s =
+    let e : count_by (λ c. is_within s (point c) || false) (all_of m) ≡ count_by (λ c. is_within s (point c)) (all_of m) = λ i. count_by (λ c. or_false (is_within s (point c)) i) (all_of m) in
+    let l = region_count_most m.resolution s in
+    omega (arith, e, l)
+
+-- how many coordinates an act voids or fills
+abbrev edits_of : Matrix → Act → ℕ
+edits_of m a = edit_count m true a + edit_count m false a
+
+-- the size of what an act voids or fills, by the number of members that its group needs
+abbrev Fits : Act → ℕ → Type 0
+Fits a n = (list_any (λ s. not (n == 2 ^ dimension s)) (group_regions (position a) a.command) ≡ false) × (1 ≤ n)
+
+one_most : (m : Matrix) (s : Span) (n : ℕ) → 8 * size s ≤ 29791 * n → 8 * (0 + count_by (λ c. is_within s (point c) || false) (all_of m)) ≤ 29791 * n
+one_most m s n h = let l = count_one m s in omega arith
+
+none_most : (m : Matrix) (n : ℕ) → 8 * (count_by (λ c. false) (all_of m) + count_by (λ c. false) (all_of m)) ≤ 29791 * n
+none_most m n = let e = count_none (all_of m) in omega (arith, e)
+
+fits_is : (n k : ℕ) → (not (n == k) || false) ≡ false → n ≡ k
+fits_is n k h = grind (arith, nat_tests)
+
+pub act_most : (m : Matrix) (b : Bot) (k : Command) (n : ℕ) → is_command k ≡ true → Fits (act b k) n → 8 * edits_of m (act b k) ≤ 29791 * n
+act_most m b Halt n h f = none_most m n
+act_most m b Wait n h f = none_most m n
+act_most m b Flip n h f = none_most m n
+act_most m b (SMove d) n h f = none_most m n
+act_most m b (LMove d e) n h f = none_most m n
+act_most m b (FusionP d) n h f = none_most m n
+act_most m b (FusionS d) n h f = none_most m n
+act_most m b (Fission d k) n h f = none_most m n
+act_most m b (Fill d) n h f =
+    let e = count_none (all_of m) in let l = count_one m (just (plus (point b.pos) d)) in let o = just_one (plus (point b.pos) d) in let p = f.1 in omega (arith, e, l, o, p)
+act_most m b (Void d) n h f =
+    let e = count_none (all_of m) in let l = count_one m (just (plus (point b.pos) d)) in let o = just_one (plus (point b.pos) d) in let p = f.1 in omega (arith, e, l, o, p)
+act_most m b (GFill d f) n h g =
+    let e = count_none (all_of m) in
+    let l = count_one m (between (plus (point b.pos) d) (plus (plus (point b.pos) d) f)) in
+    let k = far_most (plus (point b.pos) d) f (second (is_near d) (is_far f) h) in
+    let p = fits_is n (2 ^ dimension (between (plus (point b.pos) d) (plus (plus (point b.pos) d) f))) g.0 in
+    omega (arith, e, l, k, p)
+act_most m b (GVoid d f) n h g =
+    let e = count_none (all_of m) in
+    let l = count_one m (between (plus (point b.pos) d) (plus (plus (point b.pos) d) f)) in
+    let k = far_most (plus (point b.pos) d) f (second (is_near d) (is_far f) h) in
+    let p = fits_is n (2 ^ dimension (between (plus (point b.pos) d) (plus (plus (point b.pos) d) f))) g.0 in
+    omega (arith, e, l, k, p)
+
+-- ---- a list whose elements differ and are of another list
+
+taken_out : {X : Type 0} (x : X) (ys : List X) → In x ys → (zs : List X) × (length ys ≡ suc (length zs)) × ((y : X) → In y ys → (y ≡ x → ⊥) → In y zs)
+taken_out x [] h = absurd h
+taken_out {X} x (z ∷ zs) (inl e) = (zs, refl, other)
+  where
+    other : (y : X) → In y (z ∷ zs) → (y ≡ x → ⊥) → In y zs
+    other y (inl f) n = absurd (n (f ∙ sym e))
+    other y (inr i) n = i
+taken_out {X} x (z ∷ zs) (inr h) = longer (taken_out x zs h)
+  where
+    longer : (ws : List X) × (length zs ≡ suc (length ws)) × ((y : X) → In y zs → (y ≡ x → ⊥) → In y ws) → (ws : List X) × (length (z ∷ zs) ≡ suc (length ws)) × ((y : X) → In y (z ∷ zs) → (y ≡ x → ⊥) → In y ws)
+    longer r = (z ∷ r.0, ap suc r.1, other)
+      where
+        other : (y : X) → In y (z ∷ zs) → (y ≡ x → ⊥) → In y (z ∷ r.0)
+        other y (inl f) n = inl f
+        other y (inr i) n = inr (r.2 y i n)
+
+pub no_more : {X : Type 0} (xs ys : List X) → Apart xs → ((x : X) → In x xs → In x ys) → length xs ≤ length ys
+no_more [] ys a h = omega arith
+no_more {X} (x ∷ xs) ys a h =
+    let r = taken_out x ys (h x (inl refl)) in
+    let l = no_more xs r.0 a.1 (λ y i. r.2 y (h y (inr i)) (λ (e : y ≡ x). a.0 (subst (λ (z : X). In z xs) e i))) in
+    let n = r.1 in
+    omega arith
+
+-- ---- all groups
+
+length_flat : {X Y : Type 0} (f : X → List Y) (xs : List X) → length (flat_map f xs) ≡ sum_by (λ x. length (f x)) xs
+length_flat f [] = refl
+length_flat f (x ∷ xs) =
+    let a = length-append (f x) (flat_map f xs) in
+    let b = sum_by-cons (λ y. length (f y)) x xs in
+    let c = length_flat f xs in
+    omega (arith, a, b, c)
+
+none_of_either : {X : Type 0} (p q : X → Bool) (xs : List X) → list_any (λ x. p x || q x) xs ≡ false → list_any p xs ≡ false
+none_of_either {X} p q xs h = is_false (list_any p xs) (λ (e : list_any p xs ≡ true). let r = any_in p xs e in not_both (in_any (λ (x : X). p x || q x) r.0 xs r.1 (by_left (p r.0) (q r.0) r.2)) h)
+
+some_in : {X : Type 0} (x : X) (xs : List X) → In x xs → 1 ≤ length xs
+some_in x [] h = absurd h
+some_in x (y ∷ ys) h = omega arith
+
+not_here : (a : Act) (b : Bool) → here a b ≡ None → b ≡ false
+not_here a true e = cc
+not_here a false e = refl
+
+le_test : (a b : ℕ) → nat_le a b ≡ true → a ≤ b
+le_test a b h = grind (arith, nat_tests)
+
+abbrev member_count : List Act → Act → ℕ
+member_count all l = length (members all l)
+
+group_totals : (m : Matrix) (all ls : List Act) → ((l : Act) → In l ls → 8 * edits_of m l ≤ 29791 * member_count all l) → 8 * (edits_total m true ls + edits_total m false ls) ≤ 29791 * sum_by (member_count all) ls
+group_totals m all [] h = omega arith
+group_totals m all (l ∷ ls) h =
+    let v = sum_by-cons (edit_count m true) l ls in
+    let f = sum_by-cons (edit_count m false) l ls in
+    let n = sum_by-cons (member_count all) l ls in
+    let a = h l (inl refl) in
+    let b = group_totals m all ls (λ d i. h d (inr i)) in
+    omega (arith, v, f, n, a, b)
+
+module _ (s : State) (all : List Act) (good : IsGood s all) where
+  lead : (l : Act) → In l (leaders all) → In l all
+  lead l i = (filter_in (is_leader all) l all i).0
+
+  -- a bot has one leader
+  one_leader_each : (l d a : Act) → In l (leaders all) → In d (leaders all) → In a (members all l) → In a (members all d) → l ≡ d
+  one_leader_each l d a i j p q =
+      let k = filter_in (are_together l) a all p in
+      let n = filter_in (are_together d) a all q in
+      let ld = together_on all good.apart l a d (lead l i) k.0 (lead d j) k.1 (together_back d a n.1) in
+      let up = le_test l.bot.bid d.bot.bid (all_in (λ b. nat_le l.bot.bid b.bot.bid) d (members all l) (filter_in (is_leader all) l all i).1 (in_filter (are_together l) d all (lead d j) ld)) in
+      let down = le_test d.bot.bid l.bot.bid (all_in (λ b. nat_le d.bot.bid b.bot.bid) l (members all d) (filter_in (is_leader all) d all j).1 (in_filter (are_together d) l all (lead l i) (together_back l d ld))) in
+      good.apart.bids l d (lead l i) (lead d j) (let e : l.bot.bid ≡ d.bot.bid = omega arith in e)
+
+  apart_acts : Apart all
+  apart_acts = by all (differ_acts all good.rising)
+    where
+      by : (xs : List Act) → Differ (λ (a : Act). a.bot.bid) xs → Apart xs
+      by [] d = tt
+      by (x ∷ xs) d = ((λ i. d.0 x i refl), by xs d.1)
+
+  members_most : sum_by (member_count all) (leaders all) ≤ length all
+  members_most =
+      let a = apart_flat (members all) (leaders all) (apart_filter (is_leader all) all apart_acts) (λ l i. apart_filter (are_together l) all apart_acts) (λ l d x i j p q n. n (one_leader_each l d x i j p q)) in
+      let l = no_more (flat_map (members all) (leaders all)) all a (λ x i. let r = flat_in (members all) x (leaders all) i in (filter_in (are_together r.0) x all r.2).0) in
+      let e = length_flat (members all) (leaders all) in
+      omega (arith, l, e)
+
+  fits : (l : Act) → In l (leaders all) → Fits l (member_count all l)
+  fits l i = (
+      none_of_either (λ t. not (length (members all l) == 2 ^ dimension t)) (λ t. repeats (flat_map (λ b. corners_of (position b) b.command) (members all l))) (group_regions (position l) l.command)
+      (not_here l (is_misshapen all l) (good.keeps l GroupShape (lead l i) (inr (inr (inr (inr (inr (inr (inr (inr (inr (inl refl)))))))))))),
+      some_in l (members all l) (in_filter (are_together l) l all (lead l i) (with_itself l)),
+    )
+
+  pub changes_most : length all ≤ 40 → ((a : Act) → In a all → is_command a.command ≡ true) → edits_total s.matrix true (leaders all) + edits_total s.matrix false (leaders all) ≤ 148955
+  changes_most few are =
+      let t = group_totals s.matrix all (leaders all) (λ l i. act_most s.matrix l.bot l.command (member_count all l) (are l (lead l i)) (fits l i)) in
+      let n = members_most in
+      omega (arith, t, n, few)
+
+-- the commands of the acts
+pub commands_are : (bots : List Bot) (commands : List Command) → AreCommands commands → (a : Act) → In a (acts bots commands) → is_command a.command ≡ true
+commands_are [] commands h a i = absurd i
+commands_are (b ∷ bots) [] h a i = absurd i
+commands_are (b ∷ bots) (c ∷ commands) h a (inl e) = ap (λ (x : Act). is_command x.command) e ∙ h.0
+commands_are (b ∷ bots) (c ∷ commands) h a (inr i) = commands_are bots commands h.1 a i
+
+pub acts_few : (bots : List Bot) (commands : List Command) → length (acts bots commands) ≤ length bots
+acts_few [] commands = omega arith
+acts_few (b ∷ bots) [] = omega arith
+acts_few (b ∷ bots) (c ∷ commands) = let l = acts_few bots commands in omega arith
