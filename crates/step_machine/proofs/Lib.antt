@@ -5,4 +5,5 @@ pub mod Changed
 pub mod Refitting
 pub mod Regions
 pub mod Sizes
+pub mod Stepping
 pub mod Turning

@@ -1,11 +1,13 @@
 //! The machine.
-ghost use Rattle.std.specs.Prelude.{◌≡◌, ℕ, ◌+◌, ◌*◌, ◌≤◌, ◌<◌, ◌↔◌, [], true, false, length, count_by, IfOk, IfErr, IsTrue, None, Result, Err};
+ghost use Rattle.std.specs.Prelude.{◌≡◌, ℕ, pos, ◌+ℤ◌, ◌<ℤ◌, ◌+◌, ◌*◌, ◌≤◌, ◌<◌, ◌↔◌, [], true, false, length, count_by, IfOk, IfErr, IsTrue, None, Result, Err};
 ghost use Rattle.nano_spec.specs.declared.outcomes.Rule.{Rule as RuleOf};
+ghost use Rattle.nano_spec.specs.Cutting.{AreCommands};
 ghost use Rattle.nano_spec.specs.Grounded.{FirstUngrounded};
 ghost use Rattle.nano_spec.specs.Level.{Level};
 ghost use Rattle.nano_spec.specs.Model.{volume};
 ghost use Rattle.nano_spec.specs.Next.{Breaks, Goes, Next};
-ghost use Rattle.nano_spec.specs.State.{IsReady, IsWellFormed, opening as opening_of};
+ghost use Rattle.nano_spec.specs.State.{IsReady, IsWellFormed, State, opening as opening_of};
+ghost use Rattle.nano_spec.specs.Step.{after};
 ghost use Rattle.vox_geom.specs.Space.{IsInSpace};
 ghost use Rattle.vox_planes.specs.Voxel.{IsWhole};
 ghost use Rattle.bot_crew.specs.Crew.{IsCrew};
@@ -18,10 +20,12 @@ use crate::stub::system::System;
 use crate::stub::turns::Turns;
 use crate::support::{forest_of, harmonics_after, refit, ungrounded};
 use bot_crew::Crew;
+use energy_sum::a_step_changes_the_energy_by_little;
 use nano_spec::{Broken, Command, Harmonics, Profile, Rule};
 use std::alloc::Global;
 use std::marker::Model;
 use std::sync::ledger::Ledger;
+use step_order::stays_well_formed;
 use support_forest::Forest;
 use vox_geom::{Coord, Memory, Steps};
 use vox_planes::{ChangeList, Planes};
@@ -63,6 +67,19 @@ impl Model for Machine {
     ghost view = { λ m. record { state = m.system; steps = m.steps; spent = m.spent } };
 
     ghost invariant = { λ m. IsSound m.system m.forest m.changed m.steps m.spent };
+}
+
+/// What every step keeps: it changes the energy by little, and it leads from a well-formed state to such a state.
+fn know_step(system: &System, commands: &[Command])
+    ensures commands { AreCommands commands.now }
+    ensures rises { (after system.now commands.now).energy <ℤ (system.now.energy +ℤ pos 3000000000) }
+    ensures falls { system.now.energy <ℤ ((after system.now commands.now).energy +ℤ pos 3000000000) }
+    ensures well_formed { (t : State) (step : ℕ) → IsWellFormed system.now → Next system.now commands.now step (Goes t) → IsWellFormed t }
+{
+    a_step_changes_the_energy_by_little();
+    stays_well_formed();
+    know_all(commands);
+    let _ = (system.matrix().resolution(), system.crew().count());
 }
 
 impl Machine {
@@ -117,21 +134,23 @@ impl Machine {
             return Err(StepFault::Spent);
         }
         let step = self.steps + 1;
+        know_step(&self.system, commands);
         if let Some(broken) = self.system.judge(commands, step, &mut self.turns, steps) {
             return Err(StepFault::Broken(broken));
         }
-        know_all(commands);
-        let refitted = refit(
+        match refit(
             &self.system,
             commands,
             &self.turns,
             &mut self.changed,
             &mut self.forest,
             steps,
-        );
-        if refitted.is_err() {
-            self.spent = true;
-            return Err(StepFault::Memory);
+        ) {
+            Ok(()) => {}
+            Err(Memory) => {
+                self.spent = true;
+                return Err(StepFault::Memory);
+            }
         }
         let harmonics = harmonics_after(self.system.harmonics(), commands);
         if let Some(at) = ungrounded(&self.forest, harmonics, steps) {

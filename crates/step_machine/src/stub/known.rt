@@ -1,5 +1,4 @@
 //! That the differences of a command are of their kinds, which their types keep.
-ghost use Rattle.vox_geom.specs.Difference.{IsFar, IsLong, IsNear, IsShort};
 ghost use Rattle.nano_spec.specs.Command.{IsCommand};
 ghost use Rattle.nano_spec.specs.Cutting.{AreCommands};
 
@@ -22,8 +21,8 @@ pub fn know(command: &Command)
         Command::FusionS(d) => {
             let _ = d.diff();
         }
-        Command::Fission(d, _) => {
-            let _ = d.diff();
+        Command::Fission(d, m) => {
+            let _ = (d.diff(), *m);
         }
         Command::Fill(d) => {
             let _ = d.diff();

@@ -1,0 +1,159 @@
+-- What comes of a step.
+use Rattle.std.proofs.Common.{◌≡◌, ℕ, zero, suc, ◌+◌, ◌*◌, ◌≤◌, ◌<◌, ◌%◌, ◌==◌, refl, sym, ◌∙◌, ap, subst, inl, inr, ◌⊎◌, arith, List, [], ◌∷◌, ◌++◌, Bool, true, false, cond, map, length}
+use Rattle.std.specs.Prelude.{ℤ, pos, ◌+ℤ◌, ◌<ℤ◌, Option, Some, None, count_by, option_map, slice_get, MatchBool, MatchOption}
+use Rattle.std.proofs.lemmas.Int.{ints}
+use Rattle.std.proofs.lemmas.List.Sums.{sum_by-cons}
+use Rattle.nano_spec.specs.declared.commands.Command.{Command}
+use Rattle.nano_spec.specs.declared.outcomes.Broken.{Broken}
+use Rattle.nano_spec.specs.declared.outcomes.Rule.{Rule}
+use Rattle.nano_spec.specs.declared.outcomes.Rule.TheVariants.{Interference, Ungrounded, TraceEnds, HaltAlone, HaltOrigin, HaltLow, OutOfSpace, Blocked, Seeds, InRegion, Partner, GroupShape, Forbidden}
+use Rattle.nano_spec.specs.declared.system.Bot.{Bot}
+use Rattle.nano_spec.specs.declared.system.Harmonics.{Harmonics}
+use Rattle.vox_geom.specs.declared.coordinate.Coord.{Coord}
+use Rattle.nano_spec.specs.Act.{Act, acts, is_flip}
+use Rattle.nano_spec.specs.First.{first_value}
+use Rattle.nano_spec.specs.Grounded.{FirstUngrounded}
+use Rattle.nano_spec.specs.Group.{leaders}
+use Rattle.nano_spec.specs.Matrix.{Matrix}
+use Rattle.nano_spec.specs.Next.{Breaks, Goes, Next, Outcome, Settles, settled}
+use Rattle.nano_spec.specs.Rules.{broken, broken_by, clash, fault, judge_bots, judge_pairs, judge_trace, rules_of_bots}
+use Rattle.nano_spec.specs.State.{IsWellFormed, State, is_high}
+use Rattle.nano_spec.specs.Step.{after, flipped}
+use Rattle.step_order.proofs.Lists.{In, flat_in, in_either, map_in}
+use Rattle.step_machine.specs.Situation.{IsPaid, IsSound, Situation}
+use Rattle.support_forest.specs.Standing.{Standing}
+use Rattle.vox_planes.specs.Changes.{Changes}
+use Rattle.step_machine.specs.declared.TheConstants.{MOST_CHANGED}
+
+-- ---- the harmonics after the step
+
+flips : (bots : List Bot) (commands : List Command) → length commands ≤ length bots → count_by (λ a. is_flip a.command) (acts bots commands) ≡ count_by is_flip commands
+flips [] [] h = refl
+flips [] (c ∷ commands) h = absurd (omega arith)
+flips (b ∷ bots) [] h = refl
+flips (b ∷ bots) (c ∷ commands) h =
+    let f = sum_by-cons (λ (a : Act). cond {A = ℕ} (is_flip a.command) 1 0) (record { bot = b; command = c }) (acts bots commands) in
+    let g = sum_by-cons (λ k. cond {A = ℕ} (is_flip k) 1 0) c commands in
+    let i = flips bots commands (omega arith) in
+    omega (arith, f, g, i)
+
+pub harmonics_are : (s : State) (commands : List Command) (before after_them : Harmonics) → length commands ≤ length s.bots → before ≡ s.harmonics → after_them ≡ cond (count_by is_flip commands % 2 == 1) (flipped before) before → after_them ≡ (after s commands).harmonics
+harmonics_are s commands before after_them h e f = f ∙ ((λ i. cond (count_by is_flip commands % 2 == 1) (flipped (e i)) (e i)) ∙ ap (λ n. cond (n % 2 == 1) (flipped s.harmonics) s.harmonics) (sym (flips s.bots commands h)))
+
+-- ---- what comes of the step, by the least voxel that is not held up
+
+next_is : (s : State) (commands : List Command) (step : ℕ) (outcome : Outcome) → broken s commands step ≡ None → Settles (after s commands) step outcome → Next s commands step outcome
+next_is s commands step outcome e h = subst (λ o. MatchOption o (Settles (after s commands) step outcome) (λ b. outcome ≡ Breaks b)) (sym e) h
+
+-- the harmonics and the matrix after the step, as the machine has them, and the voxel that it found
+pub record IsFound (s : State) (commands : List Command) (harmonics : Harmonics) (matrix : Matrix) (at : Option Coord) : Type 0 where
+  pub harmonics_is : harmonics ≡ (after s commands).harmonics
+  pub matrix_is : matrix ≡ (after s commands).matrix
+  pub found : MatchBool (is_high harmonics) (at ≡ None) (FirstUngrounded matrix at)
+
+found_after : (s : State) (commands : List Command) (h : Harmonics) (m : Matrix) (at : Option Coord) → IsFound s commands h m at → MatchBool (is_high (after s commands).harmonics) (at ≡ None) (FirstUngrounded (after s commands).matrix at)
+found_after s commands h m at f =
+    subst (λ (k : Harmonics). MatchBool (is_high k) (at ≡ None) (FirstUngrounded (after s commands).matrix at)) f.harmonics_is
+    (subst (λ (n : Matrix). MatchBool (is_high h) (at ≡ None) (FirstUngrounded n at)) f.matrix_is f.found)
+
+pub breaks : (s : State) (commands : List Command) (step : ℕ) (h : Harmonics) (m : Matrix) (at : Option Coord) (c : Coord) → broken s commands step ≡ None → IsFound s commands h m at → at ≡ Some c → Next s commands step (Breaks (record { step = step; bid = 0; rule = Ungrounded; at = c }))
+breaks s commands step h m at c e f g = next_is s commands step _ e (by (is_high (after s commands).harmonics) found)
+  where
+    found : MatchBool (is_high (after s commands).harmonics) (Some c ≡ None) (FirstUngrounded (after s commands).matrix (Some c))
+    found = subst (λ o. MatchBool (is_high (after s commands).harmonics) (o ≡ None) (FirstUngrounded (after s commands).matrix o)) g (found_after s commands h m at f)
+
+    by : (b : Bool) → MatchBool b (Some c ≡ None) (FirstUngrounded (after s commands).matrix (Some c)) → MatchBool b (Breaks (record { step = step; bid = 0; rule = Ungrounded; at = c }) ≡ Goes (after s commands)) ((o : Option Coord) × FirstUngrounded (after s commands).matrix o × (Breaks (record { step = step; bid = 0; rule = Ungrounded; at = c }) ≡ settled (after s commands) step o))
+    by true k = cc
+    by false k = (Some c, k, refl)
+
+pub goes : (s t : State) (commands : List Command) (step : ℕ) (h : Harmonics) (m : Matrix) (at : Option Coord) → broken s commands step ≡ None → IsFound s commands h m at → at ≡ None → t ≡ after s commands → Next s commands step (Goes t)
+goes s t commands step h m at e f g k = next_is s commands step (Goes t) e (by (is_high (after s commands).harmonics) (found_after s commands h m at f))
+  where
+    by : (b : Bool) → MatchBool b (at ≡ None) (FirstUngrounded (after s commands).matrix at) → MatchBool b (Goes t ≡ Goes (after s commands)) ((o : Option Coord) × FirstUngrounded (after s commands).matrix o × (Goes t ≡ settled (after s commands) step o))
+    by true n = ap Goes k
+    by false n = (at, n, ap Goes k ∙ ap (settled (after s commands) step) (sym g))
+
+-- ---- the rules that are judged at the start of a step are not that of grounding
+
+first_in : {A : Type 0} (xs : List (Option A)) (a : A) → first_value xs ≡ Some a → In (Some a) xs
+first_in [] a e = cc
+first_in (None ∷ xs) a e = inr (first_in xs a e)
+first_in (Some b ∷ xs) a e = inl (sym e)
+
+rule_is : (step : ℕ) (rule : Rule) (bid : ℕ) (at : Option Coord) (b : Broken) → Some b ≡ broken_by step rule bid at → b.rule ≡ rule
+rule_is step rule bid None b e = cc
+rule_is step rule bid (Some c) b e = let f : b ≡ record { step = step; bid = bid; rule = rule; at = c } = cc in ap (λ (x : Broken). x.rule) f
+
+trace_rule : (o : Option Bot) (step : ℕ) (b : Broken) → Some b ≡ option_map (λ bot. record { step = step; bid = bot.bid; rule = TraceEnds; at = bot.pos }) o → b.rule ≡ TraceEnds
+trace_rule None step b e = cc
+trace_rule (Some bot) step b e = let f : b ≡ record { step = step; bid = bot.bid; rule = TraceEnds; at = bot.pos } = cc in ap (λ (x : Broken). x.rule) f
+
+pairs_rule : (m : Matrix) (all : List Act) (step : ℕ) (xs : List Act) (b : Broken) → In (Some b) (judge_pairs m all step xs) → b.rule ≡ Interference
+pairs_rule m all step [] b i = absurd i
+pairs_rule m all step (x ∷ xs) b i = by (in_either (Some b) (map (λ d. broken_by step Interference x.bot.bid (clash m all x d)) xs) (judge_pairs m all step xs) i) (λ j. pairs_rule m all step xs b j)
+  where
+    by : In (Some b) (map (λ d. broken_by step Interference x.bot.bid (clash m all x d)) xs) ⊎ In (Some b) (judge_pairs m all step xs) → (In (Some b) (judge_pairs m all step xs) → b.rule ≡ Interference) → b.rule ≡ Interference
+    by (inl j) later = let r = map_in (λ d. broken_by step Interference x.bot.bid (clash m all x d)) (Some b) xs j in rule_is step Interference x.bot.bid (clash m all x r.0) b r.2
+    by (inr j) later = later j
+
+bots_rule : (s : State) (all : List Act) (step : ℕ) (b : Broken) → In (Some b) (judge_bots s all step) → In b.rule rules_of_bots
+bots_rule s all step b i =
+    let a = flat_in (λ (x : Act). map (λ rule. broken_by step rule x.bot.bid (fault s all x rule)) rules_of_bots) (Some b) all i in
+    let r = map_in (λ rule. broken_by step rule a.0.bot.bid (fault s all a.0 rule)) (Some b) rules_of_bots a.2 in
+    subst (λ (rule : Rule). In rule rules_of_bots) (sym (rule_is step r.0 a.0.bot.bid (fault s all a.0 r.0) b r.2)) r.1
+
+no_grounding : (rule : Rule) → In rule rules_of_bots → rule ≡ Ungrounded → ⊥
+no_grounding rule (inl e) f = cc
+no_grounding rule (inr (inl e)) f = cc
+no_grounding rule (inr (inr (inl e))) f = cc
+no_grounding rule (inr (inr (inr (inl e)))) f = cc
+no_grounding rule (inr (inr (inr (inr (inl e))))) f = cc
+no_grounding rule (inr (inr (inr (inr (inr (inl e)))))) f = cc
+no_grounding rule (inr (inr (inr (inr (inr (inr (inl e))))))) f = cc
+no_grounding rule (inr (inr (inr (inr (inr (inr (inr (inl e)))))))) f = cc
+no_grounding rule (inr (inr (inr (inr (inr (inr (inr (inr (inl e))))))))) f = cc
+no_grounding rule (inr (inr (inr (inr (inr (inr (inr (inr (inr (inl e)))))))))) f = cc
+no_grounding rule (inr (inr (inr (inr (inr (inr (inr (inr (inr (inr i)))))))))) f = absurd i
+
+pub not_grounding : (s : State) (commands : List Command) (step : ℕ) (b : Broken) → broken s commands step ≡ Some b → b.rule ≡ Ungrounded → ⊥
+not_grounding s commands step b e f = by (first_in (judge_trace s commands step ∷ (judge_bots s (acts s.bots commands) step ++ judge_pairs s.matrix (acts s.bots commands) step (leaders (acts s.bots commands)))) b e)
+  where
+    later : In (Some b) (judge_bots s (acts s.bots commands) step) ⊎ In (Some b) (judge_pairs s.matrix (acts s.bots commands) step (leaders (acts s.bots commands))) → ⊥
+    later (inl i) = no_grounding b.rule (bots_rule s (acts s.bots commands) step b i) f
+    later (inr i) = let g = pairs_rule s.matrix (acts s.bots commands) step (leaders (acts s.bots commands)) b i in cc
+
+    by : In (Some b) (judge_trace s commands step ∷ (judge_bots s (acts s.bots commands) step ++ judge_pairs s.matrix (acts s.bots commands) step (leaders (acts s.bots commands)))) → ⊥
+    by (inl i) = let g = trace_rule (slice_get s.bots (length commands)) step b i in cc
+    by (inr i) = later (in_either (Some b) (judge_bots s (acts s.bots commands) step) (judge_pairs s.matrix (acts s.bots commands) step (leaders (acts s.bots commands))) i)
+
+-- ---- the energy
+
+pub paid_on : (e f : ℤ) (steps : ℕ) → IsPaid e steps → f <ℤ (e +ℤ pos 3000000000) → e <ℤ (f +ℤ pos 3000000000) → IsPaid f (steps + 1)
+paid_on e f steps p up down = record { low = omega (arith, ints, p.low, down); high = omega (arith, ints, p.high, up) }
+
+-- ---- the step of a machine
+
+-- a machine's parts and what is seen of them
+abbrev pub seen : State → ℕ → Bool → Situation
+seen s steps spent = record { state = s; steps = steps; spent = spent }
+
+pub next_seen : (s : State) (steps : ℕ) (spent : Bool) (v : Situation) (commands : List Command) (outcome : Outcome) → seen s steps spent ≡ v → Next s commands (steps + 1) outcome → Next v.state commands (v.steps + 1) outcome
+next_seen s steps spent v commands outcome e n = subst (λ (w : Situation). Next w.state commands (w.steps + 1) outcome) e n
+
+pub few_seen : (s : State) (steps : ℕ) (spent : Bool) (v : Situation) (commands : List Command) → seen s steps spent ≡ v → length commands ≤ length v.state.bots → length commands ≤ length s.bots
+few_seen s steps spent v commands e h = subst (λ (w : Situation). length commands ≤ length w.state.bots) (sym e) h
+
+few_steps : (s : State) (steps : ℕ) (spent : Bool) (v : Situation) → seen s steps spent ≡ v → v.steps < 1073741824 → steps + 1 ≤ 1073741824
+few_steps s steps spent v e h = let f = ap (λ (w : Situation). w.steps) e in omega arith
+
+pub sound_on : (s t : State) (commands : List Command) (old new : Standing) (changed list : Changes) (steps : ℕ) (spent : Bool) (v : Situation) → IsSound s old changed steps spent → seen s steps spent ≡ v → v.steps < 1073741824 → t ≡ after s commands → new.spent ≡ false → new.matrix ≡ (after s commands).matrix → MOST_CHANGED ≤ list.spare + length list.items → (after s commands).energy <ℤ (s.energy +ℤ pos 3000000000) → s.energy <ℤ ((after s commands).energy +ℤ pos 3000000000) → IsSound t new list (steps + 1) spent
+sound_on s t commands old new changed list steps spent v sound e few is stands tied room up down = record {
+  stands = λ _. stands;
+  tied = λ _. tied ∙ ap (λ (x : State). x.matrix) (sym is);
+  room = room;
+  paid = subst (λ (x : State). IsPaid x.energy (steps + 1)) (sym is) (paid_on s.energy (after s commands).energy steps sound.paid up down);
+  few = few_steps s steps spent v e few;
+}
+
+pub formed_seen : (s : State) (steps : ℕ) (spent : Bool) (v : Situation) → seen s steps spent ≡ v → IsWellFormed v.state → IsWellFormed s
+formed_seen s steps spent v e h = subst (λ (w : Situation). IsWellFormed w.state) (sym e) h
