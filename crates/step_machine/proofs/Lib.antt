@@ -5,6 +5,7 @@ pub mod Changed
 pub mod Opening
 pub mod Refitting
 pub mod Regions
+pub mod Running
 pub mod Sizes
 pub mod Stepping
 pub mod Turning

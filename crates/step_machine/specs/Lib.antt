@@ -1,3 +1,4 @@
+pub mod Course
 pub mod Situation
 pub mod Turns
 pub mod Bounds

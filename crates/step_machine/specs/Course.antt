@@ -1,0 +1,48 @@
+-- Where a runner stands.
+use Rattle.std.specs.Prelude.{◌≡◌, ◌≢◌, ℕ, ◌+◌, ◌<◌, ◌≤◌, Bool, false, List, [], ◌∷◌, ◌++◌, length, count_by}
+use Rattle.nano_spec.specs.declared.commands.Command.{Command}
+use Rattle.run_progress.specs.Progress as progress
+use Rattle.run_progress.specs.Progress.{Progress}
+use Rattle.step_machine.specs.declared.runner.Mark.{Mark}
+use Rattle.step_machine.specs.declared.runner.Mark.TheVariants as mark
+use Rattle.step_machine.specs.Edits.{is_edit}
+use Rattle.step_machine.specs.Situation.{Situation}
+
+-- the progress, and whether the runner is spent
+pub record Course : Type 0 where
+  pub progress : Progress
+  pub spent : Bool
+
+-- the mark of a progress
+abbrev pub mark_by : Mark → progress.Mark
+mark_by mark.Running = progress.Running
+mark_by (mark.Refused broken) = progress.Refused broken
+mark_by mark.Halted = progress.Halted
+mark_by mark.Followed = progress.Followed
+
+-- a runner is spent where its machine is, and steps are still to be made
+abbrev pub spent_by : Bool → Mark → Bool
+spent_by spent mark.Running = spent
+spent_by spent _ = false
+
+-- what is seen of a machine, of the commands that have come, and of a mark
+abbrev pub course_of : Situation → List Command → Mark → Course
+course_of machine pending m = record {
+  progress = record { state = machine.state; steps = machine.steps; pending = pending; mark = mark_by m };
+  spent = spent_by machine.spent m;
+}
+
+-- while steps are made, some bot has no command yet
+abbrev pub IsUnderway : Situation → List Command → Mark → Type 0
+IsUnderway machine pending mark.Running = machine.spent ≡ false → length pending < length machine.state.bots
+IsUnderway machine pending _ = Unit {0}
+
+-- one command more makes a step, in which some command fills or voids
+pub record MakesEdits (p : Progress) (command : Command) : Type 0 where
+  pub running : p.mark ≡ progress.Running
+  pub full : length p.pending + 1 ≡ length p.state.bots
+  pub edits : 1 ≤ count_by is_edit (p.pending ++ command ∷ [])
+
+-- one command more makes no step
+abbrev pub MakesNoStep : Progress → Type 0
+MakesNoStep p = p.mark ≡ progress.Running → length p.pending + 1 < length p.state.bots

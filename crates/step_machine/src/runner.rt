@@ -1,0 +1,170 @@
+//! Runs: a machine that takes the commands of a trace one by one.
+ghost use Rattle.std.specs.Prelude.{◌≡◌, ℕ, ◌+◌, ◌*◌, ◌<◌, ◌≤◌, false, true, length, IfOk, IfErr, None};
+ghost use Rattle.nano_spec.specs.Grounded.{FirstUngrounded};
+ghost use Rattle.nano_spec.specs.Model.{volume};
+ghost use Rattle.nano_spec.specs.Profile.{full_profile};
+ghost use Rattle.nano_spec.specs.Verdict.{VerdictOf};
+ghost use Rattle.run_progress.specs.Progress as progress;
+ghost use Rattle.run_progress.specs.Progress.{Finishes, Pushes, begun};
+ghost use Rattle.step_machine.specs.Course.{MakesEdits, MakesNoStep};
+
+use crate::machine::{Machine, StepFault};
+use crate::pending::Pending;
+use nano_spec::{Broken, Command, Profile, Rule, Verdict};
+use run_progress::the_progress_is_the_verdict;
+use std::alloc::Global;
+use std::marker::Model;
+use std::sync::ledger::Ledger;
+use vox_geom::{Coord, Memory, Steps};
+use vox_planes::Planes;
+
+/// Where a run stands: it goes on, or a step was refused, or the last bot has halted, or a command came after that.
+#[derive(Clone, Copy, PartialEq, Eq, Debug)]
+enum Mark {
+    Running,
+    Refused(Broken),
+    Halted,
+    Followed,
+}
+
+/// A run that takes the commands of a trace one by one, and keeps none of them once their step is made. Contracts see
+/// its progress, and whether it is spent.
+#[derive(Drop)]
+pub struct Runner {
+    machine: Machine,
+    pending: Pending,
+    mark: Mark,
+}
+
+impl Model for Runner {
+    ghost use Rattle.step_machine.specs.Course.{Course, IsUnderway, course_of};
+
+    ghost Value = { Course };
+
+    ghost view = { λ r. course_of r.machine r.pending r.mark };
+
+    ghost invariant = { λ r. IsUnderway r.machine r.pending r.mark };
+}
+
+impl Runner {
+    /// The run before its first command, over a source whose full voxels are grounded. At most 91 touches for each voxel.
+    pub fn start<L: Ledger>(
+        alloc: Global,
+        source: Planes,
+        profile: Profile,
+        steps: &mut Steps<L>,
+    ) -> Result<Runner, Memory>
+        requires grounded { FirstUngrounded source None }
+        requires seeds { profile.seeds ≤ 39 }
+        ensures progress { IfOk result (λ r. r.progress ≡ begun source profile) }
+        ensures stands { IfOk result (λ r. r.spent ≡ false) }
+        ensures touches { IfOk result (λ _. steps.new ≤ steps.old + 91 * volume source.resolution) }
+    {
+        let machine = Machine::start(alloc, source, profile, steps)?;
+        let pending = Pending::new(alloc)?;
+        Ok(Runner {
+            machine,
+            pending,
+            mark: Mark::Running,
+        })
+    }
+
+    /// What one more command changes. Memory spends the runner, and comes only where the command makes a step in which
+    /// some command fills or voids. No touch where it makes no step.
+    pub fn push<L: Ledger>(
+        &mut self,
+        command: Command,
+        steps: &mut Steps<L>,
+    ) -> Result<(), Memory>
+        requires stands { self.old.spent ≡ false }
+        requires steps { self.old.progress.steps < 1073741824 }
+        ensures progress { IfOk result (λ _. Pushes self.old.progress command self.new.progress) }
+        ensures stands { IfOk result (λ _. self.new.spent ≡ false) }
+        ensures spent { IfErr result (λ _. self.new.spent ≡ true) }
+        ensures memory { IfErr result (λ _. MakesEdits self.old.progress command) }
+        ensures steps { self.new.progress.steps ≤ self.old.progress.steps + 1 }
+        ensures resolution { self.new.progress.state.matrix.resolution ≡ self.old.progress.state.matrix.resolution }
+        ensures untouched { MakesNoStep self.old.progress → steps.new ≡ steps.old }
+    {
+        match &self.mark {
+            Mark::Running => self.take(command, steps),
+            Mark::Halted => {
+                self.mark = Mark::Followed;
+                Ok(())
+            }
+            Mark::Refused(_) => Ok(()),
+            Mark::Followed => Ok(()),
+        }
+    }
+
+    /// One more command of the next step, which is made once each bot has one.
+    fn take<L: Ledger>(&mut self, command: Command, steps: &mut Steps<L>) -> Result<(), Memory>
+        requires running { self.old.progress.mark ≡ progress.Running }
+        requires stands { self.old.spent ≡ false }
+        requires steps { self.old.progress.steps < 1073741824 }
+        ensures progress { IfOk result (λ _. Pushes self.old.progress command self.new.progress) }
+        ensures stands { IfOk result (λ _. self.new.spent ≡ false) }
+        ensures spent { IfErr result (λ _. self.new.spent ≡ true) }
+        ensures memory { IfErr result (λ _. MakesEdits self.old.progress command) }
+        ensures steps { self.new.progress.steps ≤ self.old.progress.steps + 1 }
+        ensures resolution { self.new.progress.state.matrix.resolution ≡ self.old.progress.state.matrix.resolution }
+        ensures untouched { MakesNoStep self.old.progress → steps.new ≡ steps.old }
+    {
+        let _ = self.machine.crew();
+        self.pending.push(command);
+        if self.pending.as_slice().len() < usize::from(self.machine.active()) {
+            return Ok(());
+        }
+        match self.machine.step(self.pending.as_slice(), steps) {
+            Ok(ok) => {
+                self.pending.clear();
+                if ok.halted {
+                    self.mark = Mark::Halted;
+                }
+                Ok(())
+            }
+            Err(StepFault::Broken(broken)) => {
+                self.mark = Mark::Refused(broken);
+                Ok(())
+            }
+            Err(_) => Err(Memory),
+        }
+    }
+
+    /// The verdict where no further command comes. At most two touches for each voxel.
+    pub fn finish<L: Ledger>(self, target: &Planes, steps: &mut Steps<L>) -> Verdict
+        requires stands { self.spent ≡ false }
+        requires resolution { self.progress.state.matrix.resolution ≡ target.now.resolution }
+        ensures value { Finishes target.now self.progress result }
+        ensures touches { steps.new ≤ steps.old + 2 * volume target.now.resolution }
+    {
+        let steps_done = self.machine.steps_done();
+        match &self.mark {
+            Mark::Running => {
+                let bot = self.machine.crew().bots()[self.pending.as_slice().len()];
+                refused(steps_done + 1, bot.bid, Rule::TraceEnds, bot.pos)
+            }
+            Mark::Refused(broken) => Verdict::Refused(*broken),
+            Mark::Halted => match self.machine.matrix().equal(target, steps) {
+                None => Verdict::Accepted {
+                    energy: self.machine.energy(),
+                    steps: steps_done,
+                },
+                Some(at) => refused(steps_done, 0, Rule::WrongResult, at),
+            },
+            Mark::Followed => refused(steps_done, 0, Rule::AfterHalt, Coord { x: 0, y: 0, z: 0 }),
+        }
+    }
+}
+
+/// The verdict of a rule that is broken.
+fn refused(step: u32, bid: u8, rule: Rule, at: Coord) -> Verdict
+    ensures { result ≡ Verdict.Refused (record { step = step; bid = bid; rule = rule; at = at }) }
+{
+    Verdict::Refused(Broken {
+        step,
+        bid,
+        rule,
+        at,
+    })
+}
