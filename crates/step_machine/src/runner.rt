@@ -168,3 +168,24 @@ fn refused(step: u32, bid: u8, rule: Rule, at: Coord) -> Verdict
         at,
     })
 }
+
+/// The verdict of a trace that is to make the target of the source, by the full profile.
+pub fn judge<L: Ledger>(
+    alloc: Global,
+    source: Planes,
+    target: &Planes,
+    commands: &[Command],
+    steps: &mut Steps<L>,
+) -> Result<Verdict, Memory>
+    requires grounded { FirstUngrounded source None }
+    requires resolution { source.resolution ≡ target.now.resolution }
+    requires few { length commands.now ≤ 1073741824 }
+    ensures { IfOk result (λ v. VerdictOf source target.now commands.now full_profile v) }
+{
+    the_progress_is_the_verdict();
+    let mut runner = Runner::start(alloc, source, Profile::full(), steps)?;
+    for command in commands {
+        runner.push(*command, steps)?;
+    }
+    Ok(runner.finish(target, steps))
+}
