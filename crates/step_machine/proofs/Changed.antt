@@ -75,7 +75,7 @@ same_edit full l a c bids (partners e) h = by full (one_of (is_pair l a) (is_pai
     by true (inr f) h = absurd (not_both h (fusion_edits_not (position a) a.command (position l) l.command (point c) f).0)
     by false (inr f) h = absurd (not_both h (fusion_edits_not (position a) a.command (position l) l.command (point c) f).1)
 
-edits_own : (full : Bool) (a : Act) (c : Coord) → is_edited full a c ≡ true → is_volatile_of (point c) a ≡ true
+pub edits_own : (full : Bool) (a : Act) (c : Coord) → is_edited full a c ≡ true → is_volatile_of (point c) a ≡ true
 edits_own true a c h = voids_own (position a) a.command (point c) h
 edits_own false a c h = fills_own (position a) a.command (point c) h
 
@@ -142,7 +142,7 @@ module _ (s : State) (all : List Act) (good : IsGood s all) where
           on (yes e) = one_edit d.0 c (ap (λ (a : Act). is_edited true a c) (sym (good.apart.bids l.0 d.0 (leader_is l.0 l.1) (leader_is d.0 d.1) e)) ∙ l.2) d.2
           on (no ne) = never_both true false l.0 d.0 c l.1 d.1 w l.2 d.2 (λ e. ne (ap (λ (a : Act). a.bot.bid) e))
 
-  void_state : (c : Coord) → is_state s.matrix false c ≡ true → is_full s.matrix c ≡ false
+  pub void_state : (c : Coord) → is_state s.matrix false c ≡ true → is_full s.matrix c ≡ false
   void_state c h = flip (is_full s.matrix c) h
     where
       flip : (b : Bool) → not b ≡ true → b ≡ false
@@ -169,7 +169,7 @@ module _ (s : State) (all : List Act) (good : IsGood s all) where
 
   -- ---- what it comes to
 
-  module _ (between new : Matrix) (lost : AreRemoved s.matrix between (cells_of_all s.matrix true (leaders all))) (won : AreAdded between new (cells_of_all s.matrix false (leaders all))) where
+  module _ (between : Matrix) (lost : AreRemoved s.matrix between (cells_of_all s.matrix true (leaders all))) where
     is_left : (c : Coord) → IsInSpace s.matrix.resolution c → is_full between c ≡ true → (is_full s.matrix c && not (is_voided all c)) ≡ true
     is_left c w f = both (lost.full c f) (ap not (is_false (is_voided all c) (λ v. not_both f (lost.gone c (holds c (cells_of_all s.matrix true (leaders all)) (of_cell true c w (lost.full c f) v))))))
 
@@ -188,25 +188,26 @@ module _ (s : State) (all : List Act) (good : IsGood s all) where
             (is_left c w)
             (λ e. left_is c (first (is_full s.matrix c) (not (is_voided all c)) e) (λ v. not_both (second (is_full s.matrix c) (not (is_voided all c)) e) (ap not v)))))
 
-    there : (c : Coord) → IsInSpace s.matrix.resolution c → is_full new c ≡ true → (is_filled all c || (is_full s.matrix c && not (is_voided all c))) ≡ true
-    there c w f = by (won.full c f)
-      where
-        by : IsTrue (is_full between c) ⊎ Contains (cells_of_all s.matrix false (leaders all)) c → (is_filled all c || (is_full s.matrix c && not (is_voided all c))) ≡ true
-        by (inl e) = by_right (is_filled all c) (is_full s.matrix c && not (is_voided all c)) (is_left c w e)
-        by (inr i) = by_left (is_filled all c) (is_full s.matrix c && not (is_voided all c)) (cell_of false c (held c (cells_of_all s.matrix false (leaders all)) i)).2
+    module _ (new : Matrix) (won : AreAdded between new (cells_of_all s.matrix false (leaders all))) where
+      there : (c : Coord) → IsInSpace s.matrix.resolution c → is_full new c ≡ true → (is_filled all c || (is_full s.matrix c && not (is_voided all c))) ≡ true
+      there c w f = by (won.full c f)
+        where
+          by : IsTrue (is_full between c) ⊎ Contains (cells_of_all s.matrix false (leaders all)) c → (is_filled all c || (is_full s.matrix c && not (is_voided all c))) ≡ true
+          by (inl e) = by_right (is_filled all c) (is_full s.matrix c && not (is_voided all c)) (is_left c w e)
+          by (inr i) = by_left (is_filled all c) (is_full s.matrix c && not (is_voided all c)) (cell_of false c (held c (cells_of_all s.matrix false (leaders all)) i)).2
 
-    back : (c : Coord) → IsInSpace s.matrix.resolution c → (is_filled all c ≡ true) ⊎ ((is_full s.matrix c && not (is_voided all c)) ≡ true) → is_full new c ≡ true
-    back c w (inl e) = by (true_or_false (is_full s.matrix c))
-      where
-        by : (is_full s.matrix c ≡ true) ⊎ (is_full s.matrix c ≡ false) → is_full new c ≡ true
-        by (inl f) = won.kept c (left_is c f (λ v. one_way c w v e))
-        by (inr f) = won.added c (holds c (cells_of_all s.matrix false (leaders all)) (of_cell false c w (state_void c f) e))
-    back c w (inr e) = won.kept c (left_is c (first (is_full s.matrix c) (not (is_voided all c)) e) (λ v. not_both (second (is_full s.matrix c) (not (is_voided all c)) e) (ap not v)))
+      back : (c : Coord) → IsInSpace s.matrix.resolution c → (is_filled all c ≡ true) ⊎ ((is_full s.matrix c && not (is_voided all c)) ≡ true) → is_full new c ≡ true
+      back c w (inl e) = by (true_or_false (is_full s.matrix c))
+        where
+          by : (is_full s.matrix c ≡ true) ⊎ (is_full s.matrix c ≡ false) → is_full new c ≡ true
+          by (inl f) = won.kept c (left_is c f (λ v. one_way c w v e))
+          by (inr f) = won.added c (holds c (cells_of_all s.matrix false (leaders all)) (of_cell false c w (state_void c f) e))
+      back c w (inr e) = won.kept c (left_is c (first (is_full s.matrix c) (not (is_voided all c)) e) (λ v. not_both (second (is_full s.matrix c) (not (is_voided all c)) e) (ap not v)))
 
-    pub new_is : new ≡ matrix_after s.matrix all
-    new_is =
-        sym (as_it_is new won.whole)
-        ∙ (ap (λ r. matrix_where r (is_full new)) (won.resolution ∙ lost.resolution)
-        ∙ matrix_same s.matrix.resolution (is_full new) (λ c. is_filled all c || (is_full s.matrix c && not (is_voided all c))) (λ c w. same_test (is_full new c) (is_filled all c || (is_full s.matrix c && not (is_voided all c)))
-            (there c w)
-            (λ e. back c w (one_of (is_filled all c) (is_full s.matrix c && not (is_voided all c)) e))))
+      pub new_is : new ≡ matrix_after s.matrix all
+      new_is =
+          sym (as_it_is new won.whole)
+          ∙ (ap (λ r. matrix_where r (is_full new)) (won.resolution ∙ lost.resolution)
+          ∙ matrix_same s.matrix.resolution (is_full new) (λ c. is_filled all c || (is_full s.matrix c && not (is_voided all c))) (λ c w. same_test (is_full new c) (is_filled all c || (is_full s.matrix c && not (is_voided all c)))
+              (there c w)
+              (λ e. back c w (one_of (is_filled all c) (is_full s.matrix c && not (is_voided all c)) e))))

@@ -9,3 +9,4 @@ pub mod Running
 pub mod Sizes
 pub mod Stepping
 pub mod Turning
+pub mod Working

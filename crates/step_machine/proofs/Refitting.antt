@@ -1,6 +1,6 @@
 -- The list of the voxels that a step changes: first those that it voids, and then those that it fills.
 use Rattle.std.proofs.Common.{◌≡◌, ℕ, suc, ◌+◌, ◌≤◌, refl, sym, ◌∙◌, ap, inl, inr, arith, List, [], ◌∷◌, ◌++◌, Bool, true, false, cond, length, take, drop, subst}
-use Rattle.std.specs.Prelude.{None, count_by}
+use Rattle.std.specs.Prelude.{None, Result, Ok, Err, IfOk, count_by}
 use Rattle.std.proofs.lemmas.List.Sums.{sum_by-cons}
 use Rattle.std.proofs.Math.Seq.{drop-append_seam, take-append_seam}
 use Rattle.vox_geom.specs.declared.coordinate.Coord.{Coord}
@@ -14,11 +14,12 @@ use Rattle.nano_spec.specs.Matrix.{Matrix}
 use Rattle.nano_spec.specs.Rules.{broken}
 use Rattle.nano_spec.specs.State.{IsReady, State}
 use Rattle.nano_spec.specs.Step.{after}
+use Rattle.nano_spec.specs.Work.{without_voided}
 use Rattle.support_forest.specs.Standing.{AreAdded, AreRemoved, MayAdd, MayRemove}
 use Rattle.step_order.proofs.Facts.{IsGood, good_is}
 use Rattle.step_order.proofs.Lists.{In, any_in}
 use Rattle.step_machine.specs.Edits.{act, edits_of, edits_total, is_edit, is_edited}
-use Rattle.step_machine.proofs.Changed.{cell_of, may_add, may_remove, new_is}
+use Rattle.step_machine.proofs.Changed.{between_is, cell_of, may_add, may_remove, new_is}
 use Rattle.step_machine.proofs.Sizes.{acts_few, changes_most, commands_are}
 
 pub front_of : (xs ys slice front : List Coord) (n : ℕ) → slice ≡ xs ++ ys → n ≡ length xs → front ≡ take n slice → front ≡ xs
@@ -69,8 +70,11 @@ module _ (s : State) (commands : List Command) (step : ℕ) (ready : IsReady s) 
     pub may_gain : MayAdd between back
     may_gain = subst (λ (cells : List Coord). MayAdd between cells) (sym g) (may_add s (acts s.bots commands) good between lost_is)
 
+    pub between_them : between ≡ without_voided s.matrix (acts s.bots commands)
+    between_them = between_is s (acts s.bots commands) good between lost_is
+
     pub refitted : (new : Matrix) → AreAdded between new back → new ≡ (after s commands).matrix
-    refitted new won = new_is s (acts s.bots commands) good between new lost_is (subst (λ (cells : List Coord). AreAdded between new cells) g won)
+    refitted new won = new_is s (acts s.bots commands) good between lost_is new (subst (λ (cells : List Coord). AreAdded between new cells) g won)
 
   -- a voxel changes only where some command is an edit
   pub edits_some : (full : Bool) (cells : List Coord) → cells ≡ edits_of s commands full → 1 ≤ length cells → 1 ≤ count_by is_edit commands
@@ -79,3 +83,7 @@ module _ (s : State) (commands : List Command) (step : ℕ) (ready : IsReady s) 
       let i : In c (edits_of s commands full) = subst (λ (xs : List Coord). In c xs) e (inl refl) in
       let w = any_in (λ a. is_edited full a c) (acts s.bots commands) (cell_of s (acts s.bots commands) good full c i).2 in
       counted s.bots commands w.0 w.1 (edit_by full w.0.bot w.0.command c w.2)
+
+pub ok_both : {T E : Type 0} (r : Result T E) (P Q R : T → Type 0) → ((t : T) → P t → Q t → R t) → IfOk r P → IfOk r Q → IfOk r R
+ok_both (Ok t) P Q R f p q = f t p q
+ok_both (Err e) P Q R f p q = tt

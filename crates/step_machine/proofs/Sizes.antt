@@ -76,7 +76,7 @@ just_one p = λ i. extent_itself p.x i * extent_itself p.y i * extent_itself p.z
 
 -- ---- how many coordinates an act edits
 
-count_none : (xs : List Coord) → count_by (λ c. false) xs ≡ 0
+pub count_none : (xs : List Coord) → count_by (λ c. false) xs ≡ 0
 count_none [] = refl
 count_none (x ∷ xs) = let e : count_by (λ c. false) (x ∷ xs) ≡ 0 + count_by (λ c. false) xs = sum_by-cons (λ c. 0) x xs in let n = count_none xs in omega arith
 

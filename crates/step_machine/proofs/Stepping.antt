@@ -75,7 +75,7 @@ goes s t commands step h m at e f g k = next_is s commands step (Goes t) e (by (
 
 -- ---- the rules that are judged at the start of a step are not that of grounding
 
-first_in : {A : Type 0} (xs : List (Option A)) (a : A) → first_value xs ≡ Some a → In (Some a) xs
+pub first_in : {A : Type 0} (xs : List (Option A)) (a : A) → first_value xs ≡ Some a → In (Some a) xs
 first_in [] a e = cc
 first_in (None ∷ xs) a e = inr (first_in xs a e)
 first_in (Some b ∷ xs) a e = inl (sym e)
@@ -88,7 +88,7 @@ trace_rule : (o : Option Bot) (step : ℕ) (b : Broken) → Some b ≡ option_ma
 trace_rule None step b e = cc
 trace_rule (Some bot) step b e = let f : b ≡ record { step = step; bid = bot.bid; rule = TraceEnds; at = bot.pos } = cc in ap (λ (x : Broken). x.rule) f
 
-pairs_rule : (m : Matrix) (all : List Act) (step : ℕ) (xs : List Act) (b : Broken) → In (Some b) (judge_pairs m all step xs) → b.rule ≡ Interference
+pub pairs_rule : (m : Matrix) (all : List Act) (step : ℕ) (xs : List Act) (b : Broken) → In (Some b) (judge_pairs m all step xs) → b.rule ≡ Interference
 pairs_rule m all step [] b i = absurd i
 pairs_rule m all step (x ∷ xs) b i = by (in_either (Some b) (map (λ d. broken_by step Interference x.bot.bid (clash m all x d)) xs) (judge_pairs m all step xs) i) (λ j. pairs_rule m all step xs b j)
   where
@@ -96,7 +96,7 @@ pairs_rule m all step (x ∷ xs) b i = by (in_either (Some b) (map (λ d. broken
     by (inl j) later = let r = map_in (λ d. broken_by step Interference x.bot.bid (clash m all x d)) (Some b) xs j in rule_is step Interference x.bot.bid (clash m all x r.0) b r.2
     by (inr j) later = later j
 
-bots_rule : (s : State) (all : List Act) (step : ℕ) (b : Broken) → In (Some b) (judge_bots s all step) → In b.rule rules_of_bots
+pub bots_rule : (s : State) (all : List Act) (step : ℕ) (b : Broken) → In (Some b) (judge_bots s all step) → In b.rule rules_of_bots
 bots_rule s all step b i =
     let a = flat_in (λ (x : Act). map (λ rule. broken_by step rule x.bot.bid (fault s all x rule)) rules_of_bots) (Some b) all i in
     let r = map_in (λ rule. broken_by step rule a.0.bot.bid (fault s all a.0 rule)) (Some b) rules_of_bots a.2 in

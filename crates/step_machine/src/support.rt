@@ -10,6 +10,7 @@ ghost use Rattle.nano_spec.specs.Model.{volume};
 ghost use Rattle.nano_spec.specs.Rules.{broken as broken_of};
 ghost use Rattle.nano_spec.specs.State.{is_high};
 ghost use Rattle.nano_spec.specs.Step.{after, flipped};
+ghost use Rattle.nano_spec.specs.Work.{WorkOfActs, volatile_total};
 ghost use Rattle.support_forest.specs.Standing.{AreAdded, AreRemoved, IsCheap, MayAdd, MayRemove};
 ghost use Rattle.step_machine.specs.Edits.{edits_of, is_edit};
 ghost use Rattle.step_machine.specs.Turns.{AreTurns};
@@ -114,6 +115,7 @@ fn list_edits<L: Ledger>(
     ensures items { list.new.items ≡ edits_of system.now commands.now true ++ edits_of system.now commands.now false }
     ensures voided { result ≡ length (edits_of system.now commands.now true) }
     ensures room { MOST_CHANGED ≤ list.new.spare + length list.new.items }
+    ensures touches { steps.new ≤ steps.old + volatile_total system.now.matrix (acts system.now.bots commands.now) }
 {
     let _ = system.crew();
     list.clear();
@@ -143,6 +145,7 @@ pub(crate) fn refit<L: Ledger>(
     ensures stands { IfOk result (λ _. forest.new.spent ≡ false) }
     ensures edits { IfErr result (λ _. 1 ≤ count_by is_edit commands.now) }
     ensures room { MOST_CHANGED ≤ list.new.spare + length list.new.items }
+    ensures touches { IfOk result (λ _. (n : ℕ) → WorkOfActs system.now.matrix (acts system.now.bots commands.now) n → steps.new + 99 * volatile_total system.now.matrix (acts system.now.bots commands.now) ≤ steps.old + 100 * n) }
 {
     let _ = system.crew();
     let voided = list_edits(system, commands, turns, list, steps);
