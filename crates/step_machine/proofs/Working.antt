@@ -15,9 +15,10 @@ use Rattle.nano_spec.specs.declared.system.Bot.{Bot}
 use Rattle.nano_spec.specs.Act.{Act, acts, stays_in_space}
 use Rattle.nano_spec.specs.Group.{are_together, is_leader, leaders, members}
 use Rattle.nano_spec.specs.Matrix.{Matrix, all_of, differ_at, is_full}
+use Rattle.nano_spec.specs.Model.{volume}
 use Rattle.nano_spec.specs.Rules.{broken, judge_bots, judge_pairs, judge_trace, rules_of_bots}
 use Rattle.nano_spec.specs.State.{IsReady, State}
-use Rattle.nano_spec.specs.Step.{is_filled, is_voided, matrix_after}
+use Rattle.nano_spec.specs.Step.{after, is_filled, is_voided, matrix_after}
 use Rattle.nano_spec.specs.Volatile.{is_volatile_of}
 use Rattle.nano_spec.specs.Work.{Levels, LevelsOfStep, WorkOfActs, WorkOfJudged, WorkOfStep, changed_count, differing, volatile_count, volatile_total, without_voided, work_by_rule}
 use Rattle.support_forest.proofs.Counts.{count_le}
@@ -31,7 +32,8 @@ use Rattle.step_machine.proofs.Acting.{leader_stays}
 use Rattle.step_machine.proofs.Changed.{cell_of, cells_apart, edits_own, one_way, void_state}
 use Rattle.step_machine.proofs.Regions.{other_edit}
 use Rattle.step_machine.proofs.Sizes.{count_none, no_more}
-use Rattle.step_machine.proofs.Stepping.{bots_rule, first_in, pairs_rule}
+use Rattle.step_machine.proofs.Stepping.{bots_rule, first_in, pairs_rule, seen}
+use Rattle.step_machine.specs.Situation.{Situation}
 
 -- ---- what the groups name is volatile
 
@@ -202,3 +204,11 @@ judged_touches s commands step b before after n e touches ends w = by (is_end b.
 -- the work of a step that breaks none of the rules of its start
 pub acts_work : (s : State) (commands : List Command) (step n : ℕ) → broken s commands step ≡ None → WorkOfStep s commands step n → WorkOfActs s.matrix (acts s.bots commands) n
 acts_work s commands step n e w = subst (λ o. WorkOfJudged s (acts s.bots commands) o n) e w
+
+-- ---- the step of a machine
+
+pub work_seen : (s : State) (steps : ℕ) (spent : Bool) (v : Situation) (commands : List Command) (n : ℕ) → seen s steps spent ≡ v → WorkOfStep v.state commands (v.steps + 1) n → WorkOfStep s commands (steps + 1) n
+work_seen s steps spent v commands n e w = subst (λ (x : Situation). WorkOfStep x.state commands (x.steps + 1) n) (sym e) w
+
+pub volume_seen : (s : State) (steps : ℕ) (spent : Bool) (v : Situation) (commands : List Command) (m : Matrix) → seen s steps spent ≡ v → m ≡ (after s commands).matrix → volume m.resolution ≡ volume v.state.matrix.resolution
+volume_seen s steps spent v commands m e f = ap (λ (x : Matrix). volume x.resolution) f ∙ ap (λ (x : Situation). volume x.state.matrix.resolution) e

@@ -1,6 +1,10 @@
 -- Where a machine stands.
 use Rattle.std.specs.Prelude.{◌≡◌, ℕ, ◌+◌, ◌*◌, ◌≤◌, ℤ, pos, neg_ℤ, ◌≤ℤ◌, Bool, true, false, length, Result, Ok, Err}
 use Rattle.nano_spec.specs.declared.outcomes.Broken.{Broken}
+use Rattle.nano_spec.specs.declared.outcomes.Rule.{Rule}
+use Rattle.nano_spec.specs.declared.outcomes.Rule.TheVariants.{Ungrounded}
+use Rattle.nano_spec.specs.Matrix.{Matrix}
+use Rattle.nano_spec.specs.Model.{volume}
 use Rattle.nano_spec.specs.State.{State}
 use Rattle.support_forest.specs.Standing.{Standing}
 use Rattle.vox_planes.specs.Changes.{Changes}
@@ -35,3 +39,8 @@ pub record IsSound (system : State) (forest : Standing) (changed : Changes) (ste
 abbrev pub IfBroken : Result StepOk StepFault → (Broken → Type 0) → Type 0
 IfBroken (Err (fault.Broken b)) P = P b
 IfBroken _ P = Unit {0}
+
+-- how many voxels a step may search besides its work: all of them where it breaks the rule of grounding
+abbrev pub searched_for : Rule → Matrix → ℕ
+searched_for Ungrounded m = volume m.resolution
+searched_for _ m = 0

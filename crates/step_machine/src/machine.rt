@@ -8,11 +8,12 @@ ghost use Rattle.nano_spec.specs.Model.{volume};
 ghost use Rattle.nano_spec.specs.Next.{Breaks, Goes, Next};
 ghost use Rattle.nano_spec.specs.State.{IsReady, IsWellFormed, State, opening as opening_of};
 ghost use Rattle.nano_spec.specs.Step.{after};
+ghost use Rattle.nano_spec.specs.Work.{WorkOfStep};
 ghost use Rattle.vox_geom.specs.Space.{IsInSpace};
 ghost use Rattle.vox_planes.specs.Voxel.{IsWhole};
 ghost use Rattle.bot_crew.specs.Crew.{IsCrew};
 ghost use Rattle.step_machine.specs.Edits.{is_edit};
-ghost use Rattle.step_machine.specs.Situation.{IfBroken};
+ghost use Rattle.step_machine.specs.Situation.{IfBroken, searched_for};
 
 use crate::MOST_CHANGED;
 use crate::stub::known::know_all;
@@ -129,6 +130,8 @@ impl Machine {
         ensures memory { result ≡ Err StepFault.Memory → (self.new.spent ≡ true) × (1 ≤ count_by is_edit commands.now) }
         ensures spent { result ≡ Err StepFault.Spent ↔ self.old.spent ≡ true }
         ensures stays_spent { self.old.spent ≡ true → self.new.spent ≡ true }
+        ensures touches { IfOk result (λ _. (n : ℕ) → WorkOfStep self.old.state commands.now (self.old.steps + 1) n → steps.new ≤ steps.old + 100 * n) }
+        ensures touches_broken { IfBroken result (λ b. (n : ℕ) → WorkOfStep self.old.state commands.now (self.old.steps + 1) n → steps.new ≤ steps.old + 100 * n + searched_for b.rule self.old.state.matrix) }
     {
         if self.spent {
             return Err(StepFault::Spent);

@@ -3,6 +3,7 @@ use Rattle.nano_spec.specs.declared.outcomes.Rule.TheVariants.{Ungrounded}
 use Rattle.nano_spec.specs.Next.{Breaks, Goes, Next}
 use Rattle.nano_spec.specs.Step.{after}
 use Rattle.step_machine.proofs.Stepping.{IsFound, breaks, few_seen, formed_seen, goes, harmonics_are, next_seen, not_grounding, sound_on}
+use Rattle.step_machine.proofs.Working.{acts_work, judged_touches, volume_seen, work_seen}
 use Rattle.step_machine.proofs.machine.Machine.step.Goals as goal
 
 pub returns-in-Some-clause-ungrounded : goal.returns-in-Some-clause-ungrounded
@@ -38,3 +39,27 @@ returns-clause-well_formed g c =
     let h = harmonics_are s k c.harmonics.result c.harmonics_after-harmonics.result (few_seen s c.self.inside.steps c.self.inside.spent c.args.self.now k c.self.view_is c.requires.few) c.harmonics.ensures c.harmonics_after-harmonics.ensures in
     let n = goes s c.advance.new.self k (c.self.inside.steps + 1) c.harmonics_after-harmonics.result c.refit.new.forest.matrix c.ungrounded.result (sym c.judge.ensures.value ∙ c.in_default.is) (record { harmonics_is = h; matrix_is = c.in-Ok.ensures.value; found = c.ungrounded.ensures.value }) c.in_default-ungrounded.is c.advance.ensures.value in
     λ formed. c.know_step.ensures.well_formed c.advance.new.self (c.self.inside.steps + 1) (formed_seen s c.self.inside.steps c.self.inside.spent c.args.self.now c.self.view_is formed) n
+
+pub returns-in-Some-clause-touches_broken : goal.returns-in-Some-clause-touches_broken
+returns-in-Some-clause-touches_broken g c = λ n w.
+    let s = c.self.inside.system in
+    let k = c.args.commands.now in
+    let t = judged_touches s k (c.self.inside.steps + 1) c.in-Some.broken c.args.steps.now c.judge.new.steps n (sym c.judge.ensures.value ∙ c.in-Some.is) c.judge.ensures.touches c.judge.ensures.ends (work_seen s c.self.inside.steps c.self.inside.spent c.args.self.now k n c.self.view_is w) in
+    omega (arith, t)
+
+pub returns-in-Some-ungrounded-clause-touches_broken : goal.returns-in-Some-ungrounded-clause-touches_broken
+returns-in-Some-ungrounded-clause-touches_broken g c = λ n w.
+    let s = c.self.inside.system in
+    let k = c.args.commands.now in
+    let a = acts_work s k (c.self.inside.steps + 1) n (sym c.judge.ensures.value ∙ c.in_default.is) (work_seen s c.self.inside.steps c.self.inside.spent c.args.self.now k n c.self.view_is w) in
+    let t = c.in-Ok.ensures.touches n a in
+    let v = volume_seen s c.self.inside.steps c.self.inside.spent c.args.self.now k c.refit.new.forest.matrix c.self.view_is c.in-Ok.ensures.value in
+    omega (arith, t, v, c.judge.ensures.touches, c.ungrounded.ensures.touches)
+
+pub returns-clause-touches : goal.returns-clause-touches
+returns-clause-touches g c = λ n w.
+    let s = c.self.inside.system in
+    let k = c.args.commands.now in
+    let a = acts_work s k (c.self.inside.steps + 1) n (sym c.judge.ensures.value ∙ c.in_default.is) (work_seen s c.self.inside.steps c.self.inside.spent c.args.self.now k n c.self.view_is w) in
+    let t = c.in-Ok.ensures.touches n a in
+    omega (arith, t, c.judge.ensures.touches, c.in_default-ungrounded.ensures.grounded, c.advance.ensures.touches)
