@@ -1,12 +1,13 @@
 -- Where a runner stands.
 use Rattle.std.specs.Prelude.{◌≡◌, ◌≢◌, ℕ, ◌+◌, ◌<◌, ◌≤◌, Bool, false, List, [], ◌∷◌, ◌++◌, length, count_by}
 use Rattle.nano_spec.specs.declared.commands.Command.{Command}
+use Rattle.nano_spec.specs.Matrix.{Matrix}
 use Rattle.run_progress.specs.Progress as progress
 use Rattle.run_progress.specs.Progress.{Progress}
 use Rattle.step_machine.specs.declared.runner.Mark.{Mark}
 use Rattle.step_machine.specs.declared.runner.Mark.TheVariants as mark
 use Rattle.step_machine.specs.Edits.{is_edit}
-use Rattle.step_machine.specs.Situation.{Situation}
+use Rattle.step_machine.specs.Situation.{Situation, searched_for}
 
 -- the progress, and whether the runner is spent
 pub record Course : Type 0 where
@@ -46,3 +47,12 @@ pub record MakesEdits (p : Progress) (command : Command) : Type 0 where
 -- one command more makes no step
 abbrev pub MakesNoStep : Progress → Type 0
 MakesNoStep p = p.mark ≡ progress.Running → length p.pending + 1 < length p.state.bots
+
+-- while steps are made, some bot has no command yet: so a trace that ends there ends within a step
+abbrev pub LacksCommands : Progress → Type 0
+LacksCommands p = p.mark ≡ progress.Running → length p.pending < length p.state.bots
+
+-- how many voxels were searched besides the work, by the mark after a step in this matrix
+abbrev pub searched_by : progress.Mark → Matrix → ℕ
+searched_by (progress.Refused b) m = searched_for b.rule m
+searched_by _ m = 0

@@ -1,12 +1,13 @@
 //! Runs: a machine that takes the commands of a trace one by one.
-ghost use Rattle.std.specs.Prelude.{◌≡◌, ℕ, ◌+◌, ◌*◌, ◌<◌, ◌≤◌, false, true, length, IfOk, IfErr, None};
+ghost use Rattle.std.specs.Prelude.{◌≡◌, ℕ, ◌+◌, ◌*◌, ◌<◌, ◌≤◌, false, true, [], ◌∷◌, ◌++◌, length, IfOk, IfErr, None};
 ghost use Rattle.nano_spec.specs.Grounded.{FirstUngrounded};
 ghost use Rattle.nano_spec.specs.Model.{volume};
 ghost use Rattle.nano_spec.specs.Profile.{full_profile};
 ghost use Rattle.nano_spec.specs.Verdict.{VerdictOf};
+ghost use Rattle.nano_spec.specs.Work.{Work, WorkOfStep};
 ghost use Rattle.run_progress.specs.Progress as progress;
 ghost use Rattle.run_progress.specs.Progress.{Finishes, Pushes, begun};
-ghost use Rattle.step_machine.specs.Course.{MakesEdits, MakesNoStep};
+ghost use Rattle.step_machine.specs.Course.{LacksCommands, MakesEdits, MakesNoStep, searched_by};
 
 use crate::machine::{Machine, StepFault};
 use crate::pending::Pending;
@@ -58,6 +59,7 @@ impl Runner {
         requires seeds { profile.seeds ≤ 39 }
         ensures progress { IfOk result (λ r. r.progress ≡ begun source profile) }
         ensures stands { IfOk result (λ r. r.spent ≡ false) }
+        ensures lacks { IfOk result (λ r. LacksCommands r.progress) }
         ensures touches { IfOk result (λ _. steps.new ≤ steps.old + 91 * volume source.resolution) }
     {
         let machine = Machine::start(alloc, source, profile, steps)?;
@@ -84,7 +86,9 @@ impl Runner {
         ensures memory { IfErr result (λ _. MakesEdits self.old.progress command) }
         ensures steps { self.new.progress.steps ≤ self.old.progress.steps + 1 }
         ensures resolution { self.new.progress.state.matrix.resolution ≡ self.old.progress.state.matrix.resolution }
+        ensures lacks { IfOk result (λ _. LacksCommands self.new.progress) }
         ensures untouched { MakesNoStep self.old.progress → steps.new ≡ steps.old }
+        ensures touches { IfOk result (λ _. (n : ℕ) → WorkOfStep self.old.progress.state (self.old.progress.pending ++ command ∷ []) (self.old.progress.steps + 1) n → steps.new ≤ steps.old + 100 * n + searched_by self.new.progress.mark self.old.progress.state.matrix) }
     {
         match &self.mark {
             Mark::Running => self.take(command, steps),
@@ -108,7 +112,9 @@ impl Runner {
         ensures memory { IfErr result (λ _. MakesEdits self.old.progress command) }
         ensures steps { self.new.progress.steps ≤ self.old.progress.steps + 1 }
         ensures resolution { self.new.progress.state.matrix.resolution ≡ self.old.progress.state.matrix.resolution }
+        ensures lacks { IfOk result (λ _. LacksCommands self.new.progress) }
         ensures untouched { MakesNoStep self.old.progress → steps.new ≡ steps.old }
+        ensures touches { IfOk result (λ _. (n : ℕ) → WorkOfStep self.old.progress.state (self.old.progress.pending ++ command ∷ []) (self.old.progress.steps + 1) n → steps.new ≤ steps.old + 100 * n + searched_by self.new.progress.mark self.old.progress.state.matrix) }
     {
         let _ = self.machine.crew();
         self.pending.push(command);
@@ -180,7 +186,8 @@ pub fn judge<L: Ledger>(
     requires grounded { FirstUngrounded source None }
     requires resolution { source.resolution ≡ target.now.resolution }
     requires few { length commands.now ≤ 1073741824 }
-    ensures { IfOk result (λ v. VerdictOf source target.now commands.now full_profile v) }
+    ensures value { IfOk result (λ v. VerdictOf source target.now commands.now full_profile v) }
+    ensures touches { IfOk result (λ _. (n : ℕ) → Work source commands.now full_profile n → steps.new ≤ steps.old + 100 * (volume source.resolution + n)) }
 {
     the_progress_is_the_verdict();
     let mut runner = Runner::start(alloc, source, Profile::full(), steps)?;
