@@ -2,6 +2,7 @@ pub mod Acting
 pub mod Apart
 pub mod Cells
 pub mod Changed
+pub mod Judging
 pub mod Opening
 pub mod Refitting
 pub mod Regions

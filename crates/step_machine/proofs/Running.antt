@@ -1,15 +1,12 @@
 -- What one more command changes of a runner.
-use Rattle.std.proofs.Common.{◌≡◌, ℕ, ◌+◌, ◌≤◌, ◌<◌, ◌==◌, refl, sym, ◌∙◌, ap, subst, arith, eq-eqb, List, [], ◌∷◌, ◌++◌, Bool, true, false, length, length-append, take, get_or}
+use Rattle.std.proofs.Common.{◌≡◌, ℕ, ◌+◌, ◌≤◌, ◌<◌, ◌==◌, refl, sym, ◌∙◌, ap, subst, arith, eq-eqb, List, [], ◌∷◌, ◌++◌, Bool, true, false, length, length-append}
 use Rattle.std.specs.Prelude.{MatchBool, ◌↔◌}
 use Rattle.nano_spec.specs.declared.commands.Command.{Command}
 use Rattle.nano_spec.specs.declared.system.Bot.{Bot}
 use Rattle.nano_spec.specs.Next.{Goes, Next}
 use Rattle.nano_spec.specs.State.{State}
-use Rattle.nano_spec.specs.Matrix.{Matrix}
-use Rattle.nano_spec.specs.declared.system.Profile.{Profile}
-use Rattle.step_groups.proofs.Shared.{take_one}
 use Rattle.run_progress.specs.Progress as progress
-use Rattle.run_progress.specs.Progress.{Comes, begun, first, later, Progress, Pushes, PushesAt, Steps, mark_of, with_command}
+use Rattle.run_progress.specs.Progress.{Progress, Pushes, PushesAt, Steps, mark_of, with_command}
 use Rattle.step_machine.specs.declared.runner.Mark.{Mark}
 use Rattle.step_machine.specs.declared.runner.Mark.TheVariants as mark
 use Rattle.step_machine.specs.Course.{Course, IsUnderway, course_of, mark_by}
@@ -60,30 +57,3 @@ as_many pending slice now command bots active count e f l a n le =
     let q = length-append pending (command ∷ []) in
     let r = ap length f in
     omega (arith, p, q, r)
-
--- the runner took the first i commands
-pub record IsJudging (source : Matrix) (profile : Profile) (commands : List Command) (i : ℕ) (runner : Course) : Type 0 where
-  pub comes : Comes source profile (take i commands) runner.progress
-  pub few : runner.progress.steps ≤ i
-  pub resolution : runner.progress.state.matrix.resolution ≡ source.resolution
-  pub stands : runner.spent ≡ false
-
-pub judging_begun : (source : Matrix) (profile : Profile) (commands : List Command) (runner : Course) → runner.progress ≡ begun source profile → runner.spent ≡ false → IsJudging source profile commands 0 runner
-judging_begun source profile commands runner e s = record {
-  comes = first (take_none commands) e;
-  few = let n = ap (λ (p : Progress). p.steps) e in omega arith;
-  resolution = ap (λ (p : Progress). p.state.matrix.resolution) e;
-  stands = s;
-}
-  where
-    take_none : (xs : List Command) → take 0 xs ≡ []
-    take_none [] = refl
-    take_none (x ∷ xs) = refl
-
-pub judging_on : (source : Matrix) (profile : Profile) (commands : List Command) (i : ℕ) (old new : Course) (command : Command) → i < length commands → command ≡ get_or commands i command → IsJudging source profile commands i old → Pushes old.progress command new.progress → new.progress.steps ≤ old.progress.steps + 1 → new.progress.state.matrix.resolution ≡ old.progress.state.matrix.resolution → new.spent ≡ false → IsJudging source profile commands (i + 1) new
-judging_on source profile commands i old new command l e h p n r s = record {
-  comes = later (take i commands) old.progress command h.comes p (take_one commands i command l e);
-  few = omega (arith, h.few, n);
-  resolution = r ∙ h.resolution;
-  stands = s;
-}
