@@ -1,2 +1,5 @@
-pub mod Turns
 pub mod Bounds
+pub mod Effects
+pub mod Painting
+pub mod Turns
+pub mod Work
