@@ -1,6 +1,6 @@
 -- The turns of a step, one after another.
-use Rattle.std.proofs.Common.{rules, ◌≡◌, ℕ, zero, suc, ◌+◌, ◌*◌, ◌<◌, ◌≤◌, refl, sym, ◌∙◌, ap, subst, arith, inl, inr, ◌⊎◌, List, [], ◌∷◌, ◌++◌, Bool, true, false, cond, ◌&&◌, ◌||◌, map, length, take, drop, get_or}
-use Rattle.std.specs.Prelude.{All, Some, None, Option, IfSome, IsPermutation, IsTrue, filter, flat_map, slice_get, slice_index_or, sum, sum_by, count_by, ℤ, ◌+ℤ◌}
+use Rattle.std.proofs.Common.{rules, ◌≡◌, ℕ, zero, suc, ◌+◌, ◌<◌, ◌≤◌, refl, sym, ◌∙◌, ap, subst, arith, inl, inr, ◌⊎◌, List, [], ◌∷◌, ◌++◌, Bool, true, false, cond, map, length, take, drop, get_or}
+use Rattle.std.specs.Prelude.{Some, None, Option, IfSome, IsPermutation, IsTrue, filter, flat_map, slice_get, sum, count_by, ℤ}
 use Rattle.std.specs.List.{Contains, list_any}
 use Rattle.std.proofs.lemmas.Int.{ints}
 use Rattle.std.proofs.lemmas.List.Sorted.{IsPermutation-refl}
@@ -27,14 +27,12 @@ use Rattle.energy_sum.specs.Costs.{is_met, met}
 use Rattle.step_order.specs.SomeGroups.{after_some}
 use Rattle.step_order.proofs.Effects.{fills_own, voids_own}
 use Rattle.step_order.proofs.Facts.{IsGood, good_is, rising_is}
-use Rattle.step_order.proofs.Lists.{In, any_in, filter_in, in_any, in_filter, in_place, in_right, one_of}
-use Rattle.step_order.proofs.Ends.{space_is}
+use Rattle.step_order.proofs.Lists.{In, any_in, filter_in, in_any, in_filter, in_place, in_right}
 use Rattle.system_state.specs.declared.turns.Turn.{Turn}
 use Rattle.system_state.specs.Bounds.{IsWithin}
 use Rattle.system_state.specs.Effects.{MayTake, after_turn}
 use Rattle.system_state.specs.Painting.{met_count}
 use Rattle.system_state.specs.Turns.{AreTurns, IsTurn}
-use Rattle.system_state.proofs.Meeting.{stays}
 use Rattle.system_state.proofs.TurnTaken.{found_there, itself_in, may_take, turn_is_group}
 
 -- ---- the turn at an index

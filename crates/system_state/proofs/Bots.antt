@@ -1,21 +1,21 @@
 -- The bots before and after the turn of a group.
-use Rattle.std.proofs.Common.{◌≡◌, ℕ, ◌<◌, ◌≤◌, refl, sym, ◌∙◌, ap, subst, arith, inl, inr, ◌⊎◌, List, [], ◌∷◌, ◌++◌, Bool, true, false, cond, ◌&&◌, ◌||◌, ◌==◌, eq-eqb, map, not, get_or}
-use Rattle.std.specs.Prelude.{All, Some, None, Option, filter, find, flat_map, option_map, unwrap_or, IsTrue}
-use Rattle.std.specs.List.{list_all, list_any}
+use Rattle.std.proofs.Common.{◌≡◌, ℕ, ◌<◌, refl, sym, ◌∙◌, ap, subst, arith, inl, inr, ◌⊎◌, List, [], ◌∷◌, ◌++◌, Bool, true, false, cond, ◌&&◌, ◌||◌, ◌==◌, eq-eqb, map, not, get_or}
+use Rattle.std.specs.Prelude.{All, Some, None, Option, option_map, unwrap_or}
+use Rattle.std.specs.List.{list_any}
 use Rattle.std.proofs.lemmas.Bool.Decides.{Decides-eqb}
 use Rattle.vox_geom.specs.Point.{point, plus}
-use Rattle.vox_geom.specs.Space.{IsInSpace, coordinate, in_space}
+use Rattle.vox_geom.specs.Space.{IsInSpace, in_space}
 use Rattle.nano_spec.specs.declared.commands.Command.{Command}
 use Rattle.nano_spec.specs.declared.commands.Command.TheVariants.{Halt, Wait, Flip, SMove, LMove, FusionP, FusionS, Fission, Fill, Void, GFill, GVoid}
 use Rattle.nano_spec.specs.declared.system.Bot.{Bot}
-use Rattle.nano_spec.specs.Act.{Act, stays_in_space}
+use Rattle.nano_spec.specs.Act.{stays_in_space}
 use Rattle.nano_spec.specs.Bots.{fused, in_rising_order, moved, newborn, parent, successors}
 use Rattle.step_groups.specs.Judging.{is_alone}
 use Rattle.step_order.proofs.Crews.{Differing, differ_append, differing, in_order, order_in, rising_order, rising_same}
 use Rattle.step_order.proofs.Ends.{space_is}
 use Rattle.step_order.proofs.Facts.{Rising}
 use Rattle.step_order.proofs.Groups.{differ_filter}
-use Rattle.step_order.proofs.Lists.{In, any_in, filter_in, first, in_any, in_either, in_filter, in_left, in_map, in_place, in_right, is_false, map_in, not_both, place_in, second}
+use Rattle.step_order.proofs.Lists.{In, any_in, filter_in, first, in_any, in_either, in_filter, in_left, in_map, in_place, in_right, map_in, not_both, place_in, second}
 use Rattle.bot_crew.specs.Crew.{bot_of, replaced, without}
 use Rattle.bot_crew.proofs.Heirs.{found_in}
 use Rattle.system_state.specs.Effects.{MayTake, act, bots_after, with_partner}

@@ -1,16 +1,16 @@
 -- The turns are those of the groups, one after another.
-use Rattle.std.proofs.Common.{◌≡◌, ℕ, zero, suc, ◌+◌, ◌<◌, ◌≤◌, refl, sym, ◌∙◌, ap, subst, arith, inl, inr, List, [], ◌∷◌, ◌++◌, Bool, true, false, cond, map, length, take, get_or}
+use Rattle.std.proofs.Common.{◌≡◌, ℕ, zero, suc, ◌+◌, ◌<◌, ◌≤◌, refl, sym, ◌∙◌, ap, subst, arith, inl, inr, List, [], ◌∷◌, ◌++◌, Bool, true, false, cond, length, take, get_or}
 use Rattle.std.specs.Prelude.{Some, filter, slice_get, slice_index_or}
 use Rattle.nano_spec.specs.declared.commands.Command.{Command}
 use Rattle.nano_spec.specs.declared.system.Bot.{Bot}
 use Rattle.nano_spec.specs.Act.{Act, acts}
-use Rattle.nano_spec.specs.Group.{is_leader, leaders, members}
+use Rattle.nano_spec.specs.Group.{is_leader, leaders}
 use Rattle.step_groups.specs.declared.groups.Group.{Group}
 use Rattle.step_groups.specs.Groups.{AreGroups, IsGroup} 
 use Rattle.step_order.proofs.Facts.{Rising}
-use Rattle.step_order.proofs.Lists.{In, filter_in, in_map}
+use Rattle.step_order.proofs.Lists.{In, filter_in}
 use Rattle.system_state.specs.declared.turns.Turn.{Turn}
-use Rattle.system_state.specs.Turns.{AreTurns, IsTurn, bid_of}
+use Rattle.system_state.specs.Turns.{AreTurns, IsTurn}
 
 -- ---- the place of a leader
 

@@ -1,31 +1,22 @@
 -- What is known of a group in the state that it meets: its bots are there, it keeps the rules, and where it goes nobody stands.
-use Rattle.std.proofs.Common.{rules, ◌≡◌, ◌≢◌, ℕ, zero, suc, ◌+◌, ◌<◌, ◌≤◌, refl, sym, ◌∙◌, ap, subst, arith, inl, inr, ◌⊎◌, List, [], ◌∷◌, ◌++◌, Bool, true, false, cond, ◌&&◌, ◌||◌, ◌==◌, eq-eqb, map, not, get_or, length, pos}
-use Rattle.std.specs.Prelude.{All, Some, None, Option, filter, find, flat_map, option_map, unwrap_or, IsTrue, IsNone, IfSome, IsPermutation, count_by, is_none, nat_le, nat_lt, slice_index_or, ◌+ℤ◌, ℤ}
-use Rattle.std.specs.List.{Contains, list_all, list_any}
-use Rattle.std.proofs.lemmas.Bool.Decides.{nat_tests, Decides-eqb}
-use Rattle.std.proofs.lemmas.Int.{ints}
+use Rattle.std.proofs.Common.{rules, ◌≡◌, ℕ, ◌+◌, ◌≤◌, refl, sym, ◌∙◌, ap, arith, inl, inr, List, [], ◌∷◌, Bool, true, false, cond, ◌&&◌, ◌||◌, ◌==◌, map, not, length}
+use Rattle.std.specs.Prelude.{Some, None, Option, find, unwrap_or, IsNone, IfSome, is_none, nat_le, nat_lt}
+use Rattle.std.specs.List.{list_all, list_any}
+use Rattle.std.proofs.lemmas.Bool.Decides.{nat_tests}
 use Rattle.vox_geom.specs.declared.coordinate.Coord.{Coord}
-use Rattle.vox_geom.specs.declared.difference.Diff.{Diff}
-use Rattle.vox_geom.specs.Difference.{is_near}
-use Rattle.vox_geom.specs.Point.{Point, point, plus}
-use Rattle.vox_geom.specs.Space.{IsInSpace, coordinate, in_space}
-use Rattle.nano_spec.specs.declared.commands.Command.{Command}
-use Rattle.nano_spec.specs.declared.commands.Command.TheVariants.{Halt, Wait, Flip, SMove, LMove, FusionP, FusionS, Fission, Fill, Void, GFill, GVoid}
+use Rattle.nano_spec.specs.declared.commands.Command.TheVariants.{Halt}
 use Rattle.nano_spec.specs.declared.outcomes.Rule.{Rule}
 use Rattle.nano_spec.specs.declared.outcomes.Rule.TheVariants.{HaltAlone, OutOfSpace, Seeds}
 use Rattle.nano_spec.specs.declared.system.Bot.{Bot}
-use Rattle.nano_spec.specs.Act.{Act, is_halt, position, stays_in_space}
-use Rattle.nano_spec.specs.Bots.{moved, newborn, parent, successors}
-use Rattle.nano_spec.specs.Command.{is_command}
-use Rattle.nano_spec.specs.Rules.{fault, here, lacks_seeds, rules_of_bots}
-use Rattle.nano_spec.specs.Serial.{bot_in, group_in, is_active, keeps_rules}
+use Rattle.nano_spec.specs.Act.{Act, is_halt, stays_in_space}
+use Rattle.nano_spec.specs.Rules.{fault, lacks_seeds, rules_of_bots}
+use Rattle.nano_spec.specs.Serial.{bot_in, is_active, keeps_rules}
 use Rattle.nano_spec.specs.State.{State, seed_list}
 use Rattle.bot_crew.specs.Crew.{bot_at, bot_of, stands_at}
 use Rattle.bot_crew.proofs.Heirs.{found_in, stood}
 use Rattle.step_order.proofs.Crews.{not_here}
-use Rattle.step_order.proofs.Ends.{near_away, space_is}
-use Rattle.step_order.proofs.Lists.{In, all_in, any_in, first, in_left, not_both, second}
-use Rattle.system_state.specs.Effects.{IsFreeFor, MayTake, Needs, act}
+use Rattle.step_order.proofs.Lists.{In, all_in, first, second}
+use Rattle.system_state.specs.Effects.{IsFreeFor}
 
 -- ---- what is known of a group in the state that it meets
 

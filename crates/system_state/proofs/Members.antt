@@ -1,11 +1,11 @@
 -- Who is of a leader's group: itself alone, itself and its partner, or the members of a group command.
-use Rattle.std.proofs.Common.{◌≡◌, ℕ, ◌<◌, ◌≤◌, refl, sym, ◌∙◌, ap, subst, arith, inl, inr, ◌⊎◌, List, [], ◌∷◌, Bool, true, false, cond, ◌&&◌, ◌||◌, ◌==◌, eq-eqb, map, not}
-use Rattle.std.specs.Prelude.{filter, nat_le, IsTrue}
-use Rattle.std.specs.List.{list_all, list_any}
+use Rattle.std.proofs.Common.{◌≡◌, ℕ, ◌<◌, ◌≤◌, refl, sym, ◌∙◌, ap, arith, inl, inr, ◌⊎◌, List, [], ◌∷◌, Bool, true, false, cond, ◌&&◌, ◌==◌, eq-eqb, map, not}
+use Rattle.std.specs.Prelude.{filter, nat_le}
+use Rattle.std.specs.List.{list_any}
 use Rattle.std.proofs.lemmas.Bool.Decides.{nat_tests, Decides-eqb}
 use Rattle.vox_geom.specs.Point.{Point}
 use Rattle.nano_spec.specs.declared.commands.Command.{Command}
-use Rattle.nano_spec.specs.declared.commands.Command.TheVariants.{FusionP, FusionS, GFill, GVoid}
+use Rattle.nano_spec.specs.declared.commands.Command.TheVariants.{FusionP, GFill, GVoid}
 use Rattle.nano_spec.specs.declared.outcomes.Rule.TheVariants.{Partner}
 use Rattle.nano_spec.specs.Act.{Act, is_fusion, position}
 use Rattle.nano_spec.specs.Group.{are_partners, are_together, fuse, is_leader, is_pair, leaders, members, share_region}
@@ -14,7 +14,7 @@ use Rattle.step_groups.specs.Judging.{is_alone}
 use Rattle.step_groups.proofs.Alone.{alone_members}
 use Rattle.step_order.proofs.Crews.{not_here}
 use Rattle.step_order.proofs.Facts.{IsGood, Rising}
-use Rattle.step_order.proofs.Groups.{Differ, differ_acts, filter_only}
+use Rattle.step_order.proofs.Groups.{differ_acts, filter_only}
 use Rattle.step_order.proofs.Lists.{In, all_in, any_in, filter_in, in_filter, in_map, not_both, one_of}
 use Rattle.step_order.proofs.Together.{Together, itself, partners, shares, is_together, one_partner, together_is}
 

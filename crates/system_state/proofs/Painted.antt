@@ -1,5 +1,5 @@
 -- Cells that are made full or void one after another.
-use Rattle.std.proofs.Common.{◌≡◌, ℕ, ◌+◌, ◌*◌, ◌≤◌, refl, sym, ◌∙◌, ap, arith, List, [], ◌∷◌, ◌++◌, Bool, true, false, cond, ◌&&◌, ◌||◌, length, get_or}
+use Rattle.std.proofs.Common.{◌≡◌, ◌+◌, ◌*◌, ◌≤◌, refl, sym, ◌∙◌, ap, arith, List, [], ◌∷◌, ◌++◌, Bool, true, false, cond, ◌&&◌, ◌||◌, length, get_or}
 use Rattle.std.specs.Prelude.{All, not, filter, count_by}
 use Rattle.std.proofs.lemmas.List.Sums.{sum_by-cons}
 use Rattle.std.specs.List.{list_any}
@@ -7,7 +7,7 @@ use Rattle.vox_geom.specs.declared.coordinate.Coord.{Coord}
 use Rattle.vox_geom.specs.Point.{point, same_point}
 use Rattle.vox_geom.specs.Region.{Corners, is_within, span}
 use Rattle.vox_geom.specs.Space.{IsInSpace}
-use Rattle.nano_spec.specs.Matrix.{Matrix, all_of, is_full, matrix_where}
+use Rattle.nano_spec.specs.Matrix.{Matrix, all_of, is_full}
 use Rattle.vox_planes.specs.Voxel.{is_state, with_voxel}
 use Rattle.step_order.proofs.Lists.{In, filter_in, in_any, in_filter, none_any, not_both, place_in}
 use Rattle.step_order.proofs.Voxels.{as_it_is, coordinates_within, full_where, in_coordinates, matrix_same}

@@ -1,5 +1,5 @@
 -- The region that a command makes full or void: the matrix afterwards, and what is met.
-use Rattle.std.proofs.Common.{◌≡◌, ℕ, ◌+◌, ◌-◌, ◌*◌, ◌≤◌, refl, sym, ◌∙◌, ap, arith, List, [], ◌∷◌, ◌++◌, Bool, true, false, cond, ◌&&◌, ◌||◌, length}
+use Rattle.std.proofs.Common.{◌≡◌, ℕ, ◌+◌, ◌-◌, ◌*◌, refl, sym, ◌∙◌, ap, arith, List, [], ◌∷◌, ◌++◌, Bool, true, false, cond, ◌&&◌, ◌||◌, length}
 use Rattle.std.specs.Prelude.{not, count_by}
 use Rattle.std.specs.List.{list_any}
 use Rattle.std.proofs.lemmas.List.Sums.{sum_by-cons}
@@ -8,7 +8,7 @@ use Rattle.vox_geom.specs.Point.{Point, point}
 use Rattle.vox_geom.specs.Region.{Corners, Span, is_within, span}
 use Rattle.nano_spec.specs.declared.commands.Command.{Command}
 use Rattle.nano_spec.specs.declared.system.Bot.{Bot}
-use Rattle.nano_spec.specs.Act.{Act, filled, position, voided}
+use Rattle.nano_spec.specs.Act.{filled, voided}
 use Rattle.nano_spec.specs.Matrix.{Matrix, all_of, is_full, matrix_where}
 use Rattle.nano_spec.specs.Step.{matrix_after}
 use Rattle.energy_sum.specs.Costs.{full_count, is_met, met, void_count}

@@ -1,6 +1,6 @@
 -- The turn of a group can be taken, and does to the state what the definition says of the group.
-use Rattle.std.proofs.Common.{rules, ◌≡◌, ◌≢◌, ℕ, ◌+◌, ◌<◌, ◌≤◌, ◌%◌, refl, sym, ◌∙◌, ap, subst, arith, inl, inr, ◌⊎◌, List, [], ◌∷◌, ◌++◌, Bool, true, false, cond, ◌&&◌, ◌||◌, ◌==◌, map, not, length, pos}
-use Rattle.std.specs.Prelude.{Some, None, Option, nat_lt, filter, find, flat_map, option_map, unwrap_or, IsTrue, IsSome, count_by, slice_index_or, ◌+ℤ◌, ℤ}
+use Rattle.std.proofs.Common.{rules, ◌≡◌, ℕ, ◌+◌, ◌<◌, ◌≤◌, ◌%◌, refl, sym, ◌∙◌, ap, subst, arith, inl, inr, ◌⊎◌, List, [], ◌∷◌, ◌++◌, Bool, true, false, cond, ◌&&◌, ◌||◌, ◌==◌, map, not, length, pos}
+use Rattle.std.specs.Prelude.{Some, None, Option, nat_lt, filter, find, flat_map, option_map, unwrap_or, IsSome, count_by, slice_index_or, ◌+ℤ◌, ℤ}
 use Rattle.std.specs.List.{list_all, list_any}
 use Rattle.std.proofs.lemmas.Int.{ints}
 use Rattle.std.proofs.lemmas.List.Concat.{flat_map_single}
@@ -15,25 +15,25 @@ use Rattle.nano_spec.specs.declared.commands.Command.{Command}
 use Rattle.nano_spec.specs.declared.commands.Command.TheVariants.{Halt, Wait, Flip, SMove, LMove, FusionP, FusionS, Fission, Fill, Void, GFill, GVoid}
 use Rattle.nano_spec.specs.declared.system.Bot.{Bot}
 use Rattle.nano_spec.specs.declared.system.Harmonics.{Harmonics}
-use Rattle.nano_spec.specs.Act.{Act, filled, is_flip, is_fusion, named_points, position, stays_in_space, voided}
-use Rattle.nano_spec.specs.Bots.{fused, in_rising_order, moved, newborn, parent, successors}
+use Rattle.nano_spec.specs.Act.{Act, filled, is_flip, is_fusion, named_points, position, voided}
+use Rattle.nano_spec.specs.Bots.{fused, in_rising_order, moved, newborn, successors}
 use Rattle.nano_spec.specs.Command.{is_command}
 use Rattle.nano_spec.specs.Energy.{group_cost, groups_cost, total}
 use Rattle.nano_spec.specs.Group.{are_partners, are_together, fuse, is_pair, leaders, members, share_region}
-use Rattle.nano_spec.specs.Matrix.{Matrix, is_full, matrix_where}
+use Rattle.nano_spec.specs.Matrix.{is_full, matrix_where}
 use Rattle.nano_spec.specs.Rules.{lacks_seeds}
 use Rattle.nano_spec.specs.Serial.{after_group, bot_in, group_in, keeps_rules}
 use Rattle.nano_spec.specs.State.{State, seed_list}
 use Rattle.nano_spec.specs.Step.{flipped, harmonics_after, is_filled, is_voided, matrix_after}
-use Rattle.bot_crew.specs.Crew.{bot_of, replaced, without}
+use Rattle.bot_crew.specs.Crew.{bot_of, replaced}
 use Rattle.bot_crew.proofs.Heirs.{found_in}
 use Rattle.step_groups.specs.Judging.{is_alone}
 use Rattle.step_order.proofs.Ends.{near_away, region_on, space_is}
 use Rattle.step_order.proofs.Facts.{IsGood, Rising}
 use Rattle.step_order.proofs.Groups.{Differ, differ_acts, differ_filter, one_leader}
-use Rattle.step_order.proofs.Lists.{In, any_in, filter_in, first, flat_same, in_any, in_filter, is_false, map_in, one_of, same_test}
+use Rattle.step_order.proofs.Lists.{In, any_in, first, flat_same, in_any, in_filter, is_false, map_in, one_of, same_test}
 use Rattle.step_order.proofs.Together.{share_back, with_itself}
-use Rattle.system_state.specs.Effects.{MayTake, Needs, act, after_turn, bots_after, with_partner}
+use Rattle.system_state.specs.Effects.{MayTake, Needs, after_turn, bots_after, with_partner}
 use Rattle.system_state.specs.Turns.{bid_of}
 use Rattle.system_state.proofs.Bots.{alone_bots, replaced_itself}
 use Rattle.system_state.proofs.Members.{alone_is, couple, is_group, leader_in, shared}

@@ -1,5 +1,5 @@
 -- What the turn of a group needs and does, by the bot and the command of its leader (docs/FORMATS.md, "Commands").
-use Rattle.std.specs.Prelude.{◌≡◌, ◌≢◌, ℕ, ◌+◌, ◌≤◌, ◌+ℤ◌, List, [], ◌∷◌, length, Option, Some, option_map, unwrap_or, IfSome, IsNone, IsTrue}
+use Rattle.std.specs.Prelude.{◌≡◌, ◌≢◌, ℕ, ◌+◌, ◌≤◌, ◌+ℤ◌, List, [], ◌∷◌, length, Some, option_map, unwrap_or, IfSome, IsNone, IsTrue}
 use Rattle.vox_geom.specs.declared.coordinate.Coord.{Coord}
 use Rattle.vox_geom.specs.Point.{point, plus}
 use Rattle.vox_geom.specs.Space.{IsInSpace, coordinate}

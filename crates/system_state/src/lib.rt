@@ -13,3 +13,6 @@ pub use known::{know, know_all};
 pub use system::System;
 pub use turns::{Turn, Turns};
 pub use work::{Work, work_of};
+
+#[cfg(test)]
+mod tests;

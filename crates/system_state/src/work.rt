@@ -26,19 +26,37 @@ pub fn work_of(r: u16, bot: Bot, command: &Command) -> Option<Work>
     match command {
         Command::Fill(d) => {
             let at = target(r, bot.pos, d.diff());
-            Some(Work { near: at, far: at, full: true })
+            Some(Work {
+                near: at,
+                far: at,
+                full: true,
+            })
         }
         Command::Void(d) => {
             let at = target(r, bot.pos, d.diff());
-            Some(Work { near: at, far: at, full: false })
+            Some(Work {
+                near: at,
+                far: at,
+                full: false,
+            })
         }
         Command::GFill(d, f) => {
             let near = target(r, bot.pos, d.diff());
-            Some(Work { near, far: target(r, near, f.diff()), full: true })
+            let far = target(r, near, f.diff());
+            Some(Work {
+                near,
+                far,
+                full: true,
+            })
         }
         Command::GVoid(d, f) => {
             let near = target(r, bot.pos, d.diff());
-            Some(Work { near, far: target(r, near, f.diff()), full: false })
+            let far = target(r, near, f.diff());
+            Some(Work {
+                near,
+                far,
+                full: false,
+            })
         }
         Command::Halt => None,
         Command::Wait => None,

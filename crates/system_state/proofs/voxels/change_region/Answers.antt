@@ -1,4 +1,4 @@
-use Rattle.std.proofs.Common.{◌≡◌, ◌≤◌, ◌∙◌, arith, rules}
+use Rattle.std.proofs.Common.{◌≡◌, ◌∙◌, arith, rules}
 use Rattle.std.specs.Prelude.{count_by}
 use Rattle.vox_geom.specs.Point.{point}
 use Rattle.vox_geom.specs.Region.{is_within, size, span}

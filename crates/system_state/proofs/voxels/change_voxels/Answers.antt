@@ -1,4 +1,4 @@
-use Rattle.std.proofs.Common.{◌≡◌, ◌≤◌, ◌∙◌, arith}
+use Rattle.std.proofs.Common.{◌≡◌, ◌∙◌, arith}
 use Rattle.system_state.specs.Painting.{met_count, size_in}
 use Rattle.system_state.specs.Work.{region_of}
 use Rattle.system_state.proofs.Spans.{after_none, after_work, full_is, no_full, no_void, size_is, void_is}

@@ -2,12 +2,11 @@ use Rattle.std.proofs.Common.{◌≡◌, ◌≤◌, ◌∙◌, ap, sym, subst, a
 use Rattle.std.specs.Prelude.{All, count_by}
 use Rattle.std.proofs.lemmas.List.Sums.{length-filter}
 use Rattle.nano_spec.specs.Matrix.{all_of}
-use Rattle.vox_geom.specs.declared.coordinate.Coord.{Coord}
 use Rattle.vox_geom.specs.Point.{point}
 use Rattle.vox_geom.specs.Region.{is_within, size, span}
 use Rattle.vox_geom.specs.Space.{IsInSpace}
 use Rattle.system_state.specs.Painting.{other_count, with_cells}
-use Rattle.system_state.proofs.Painted.{others, others_most, others_within, painted_region}
+use Rattle.system_state.proofs.Painted.{others_most, others_within, painted_region}
 use Rattle.system_state.proofs.voxels.paint.Goals as goal
 
 pub set_cells-requires-clause-within : goal.set_cells-requires-clause-within

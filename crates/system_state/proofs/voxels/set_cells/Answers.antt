@@ -1,4 +1,4 @@
-use Rattle.std.proofs.Common.{◌≡◌, ◌∙◌, ap, sym, take, get_or}
+use Rattle.std.proofs.Common.{◌∙◌, ap, sym, take, get_or}
 use Rattle.std.proofs.lemmas.List.{take_more}
 use Rattle.vox_geom.specs.declared.coordinate.Coord.{Coord}
 use Rattle.nano_spec.specs.Matrix.{Matrix}

@@ -1,4 +1,4 @@
-use Rattle.std.proofs.Common.{◌≡◌, ℕ, ◌+◌, ◌*◌, ◌≤◌, map, take}
+use Rattle.std.proofs.Common.{◌≡◌, ◌+◌, ◌*◌, ◌≤◌, map, take}
 use Rattle.std.specs.Prelude.{sum}
 use Rattle.nano_spec.specs.Act.{acts}
 use Rattle.nano_spec.specs.Group.{leaders}

@@ -1,4 +1,4 @@
-use Rattle.std.proofs.Common.{rules, ◌≡◌, ◌≤◌, ◌∙◌, ap, arith, length}
+use Rattle.std.proofs.Common.{◌≡◌, ◌≤◌, ap, arith, length}
 use Rattle.nano_spec.specs.Act.{acts}
 use Rattle.nano_spec.specs.Group.{leaders}
 use Rattle.system_state.proofs.Gathered.{acts_most, as_many, leaders_most}

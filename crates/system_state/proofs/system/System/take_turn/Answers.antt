@@ -1,5 +1,5 @@
-use Rattle.std.proofs.Common.{rules, ◌≡◌, ◌≤◌, ◌+◌, ◌*◌, ◌∙◌, sym, ap, subst, arith, length, List, w64, to_z, of_z}
-use Rattle.std.specs.Prelude.{All, IfSome, Option, Some, ◌+ℤ◌, ℤ}
+use Rattle.std.proofs.Common.{rules, ◌≡◌, ◌+◌, ◌∙◌, sym, ap, subst, arith, List, w64, to_z, of_z}
+use Rattle.std.specs.Prelude.{All, IfSome, Option, ◌+ℤ◌, ℤ}
 use Rattle.nano_spec.specs.declared.system.Bot.{Bot}
 use Rattle.nano_spec.specs.Energy.{group_cost}
 use Rattle.nano_spec.specs.State.{State}
@@ -7,7 +7,7 @@ use Rattle.vox_geom.specs.Point.{point}
 use Rattle.vox_geom.specs.Space.{IsInSpace}
 use Rattle.bot_crew.specs.Crew.{bot_of}
 use Rattle.system_state.specs.Bounds.{IsWithin}
-use Rattle.system_state.specs.Effects.{MayTake, act, after_turn, bots_after}
+use Rattle.system_state.specs.Effects.{MayTake, after_turn, bots_after}
 use Rattle.system_state.proofs.Bots.{turn_within}
 use Rattle.system_state.proofs.Upkeep.{within_more}
 use Rattle.system_state.proofs.system.System.take_turn.Goals as goal
