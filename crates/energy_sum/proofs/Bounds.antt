@@ -50,10 +50,10 @@ extent_just a = omega (arith, ints)
 size_most : (s : Span) → extent s.from.x s.to.x ≤ 31 → extent s.from.y s.to.y ≤ 31 → extent s.from.z s.to.z ≤ 31 → size s ≤ 29791
 size_most s x y z = mul-le-mul (mul-le-mul x y) z
 
-size_just : (p : Point) → size (just p) ≤ 29791
+pub size_just : (p : Point) → size (just p) ≤ 29791
 size_just p = size_most (just p) (extent_just p.x) (extent_just p.y) (extent_just p.z)
 
-size_far : (p : Point) (f : Diff) → IsFar f → size (between p (plus p f)) ≤ 29791
+pub size_far : (p : Point) (f : Diff) → IsFar f → size (between p (plus p f)) ≤ 29791
 size_far p f h = let b = far_bounds f h in size_most (between p (plus p f)) (extent_far p.x f.dx b.0) (extent_far p.y f.dy b.1) (extent_far p.z f.dz b.2)
 
 -- ---- groups
@@ -161,3 +161,10 @@ rises s commands r n h = energy_rises s.energy (cond (is_high s.harmonics) 30 3 
 
 pub falls : (s : State) (commands : List Command) → s.matrix.resolution ≤ 400 → length s.bots ≤ 40 → AreCommands commands → s.energy <ℤ ((after s commands).energy +ℤ pos 3000000000)
 falls s commands r n h = energy_falls s.energy (cond (is_high s.harmonics) 30 3 * (s.matrix.resolution * s.matrix.resolution * s.matrix.resolution) + 20 * length s.bots) (groups_cost s.matrix (acts s.bots commands)) (upkeep_most s r n) (groups_most s commands n h)
+
+-- a group costs little either way
+pub costs_most : (m : Matrix) (p : Point) (command : Command) → IsCommand command → group_cost m p command ≤ℤ pos 357492
+costs_most m p command h = (group_most m p command h).above
+
+pub costs_least : (m : Matrix) (p : Point) (command : Command) → IsCommand command → pos 0 ≤ℤ (group_cost m p command +ℤ pos 357492)
+costs_least m p command h = (group_most m p command h).below

@@ -7,4 +7,4 @@ mod laws;
 mod tests;
 
 pub use costs::{command_cost, upkeep};
-pub use laws::a_step_changes_the_energy_by_little;
+pub use laws::{a_group_costs_little, a_step_changes_the_energy_by_little};

@@ -1,6 +1,6 @@
 -- The groups of a step take their turns: what each meets, and what it leaves.
-use Rattle.std.proofs.Common.{◌≡◌, ℕ, ◌+◌, ◌≤◌, ◌≢◌, refl, sym, ◌∙◌, ap, subst, arith, List, [], ◌∷◌, ◌++◌, true}
-use Rattle.std.specs.Prelude.{None, sum_by, IsPermutation, IsTrue, IsFalse}
+use Rattle.std.proofs.Common.{◌≡◌, ℕ, ◌+◌, ◌≤◌, ◌≢◌, refl, sym, ◌∙◌, ap, subst, arith, inl, inr, List, [], ◌∷◌, ◌++◌, Bool, true, false, cond}
+use Rattle.std.specs.Prelude.{None, flat_map, sum_by, IsPermutation, IsTrue, IsFalse}
 use Rattle.std.specs.List.{Contains}
 use Rattle.std.proofs.lemmas.List.Sums.{sum_by-append}
 use Rattle.std.proofs.lemmas.List.Sorted.{IsPermutation-sym, sum_by-IsPermutation}
@@ -8,22 +8,30 @@ use Rattle.vox_geom.specs.declared.coordinate.Coord.{Coord}
 use Rattle.vox_geom.specs.Point.{point}
 use Rattle.vox_geom.specs.Space.{IsInSpace}
 use Rattle.nano_spec.specs.declared.commands.Command.{Command}
+use Rattle.nano_spec.specs.declared.system.Bot.{Bot}
 use Rattle.nano_spec.specs.Act.{Act, acts}
+use Rattle.nano_spec.specs.Bots.{successors}
 use Rattle.nano_spec.specs.Group.{leaders, members}
 use Rattle.nano_spec.specs.Rules.{broken}
 use Rattle.nano_spec.specs.State.{IsReady, State}
 use Rattle.nano_spec.specs.Step.{after_acts}
 use Rattle.nano_spec.specs.Serial.{after_group, group_in, keeps_rules}
 use Rattle.nano_spec.specs.Volatile.{is_volatile}
-use Rattle.step_order.specs.SomeGroups.{after_some}
-use Rattle.step_order.proofs.Crews.{group_met}
+use Rattle.step_order.specs.SomeGroups.{after_some, became, is_taken}
+use Rattle.step_order.proofs.After.{one_act}
+use Rattle.step_order.proofs.Crews.{group_met, kept, order_in}
 use Rattle.step_order.proofs.Effects.{IsNext}
+use Rattle.step_order.proofs.Ends.{Stands, stands}
 use Rattle.step_order.proofs.Facts.{IsGood, good_is}
 use Rattle.step_order.proofs.Groups.{differ_acts, differ_filter}
 use Rattle.step_order.proofs.Judged.{rules_kept}
-use Rattle.step_order.proofs.Lists.{In, in_left, in_right, is_false, place_in}
+use Rattle.step_order.proofs.Lists.{In, filter_in, flat_in, in_left, in_right, is_false, place_in}
 use Rattle.step_order.proofs.Order.{AreLeaders, AreOrdered, at_last, group_step, in_any_order, listed, next_is, of_onto, onto, onto_sum}
 use Rattle.step_order.proofs.Sums.{hit, one_hit_most}
+use Rattle.step_order.proofs.Together.{with_itself}
+
+held : {X : Type 0} (x : X) (xs : List X) → Contains xs x → In x xs
+held {X} x xs h = subst (λ (y : X). In y xs) h.2 (place_in x xs h.0 h.1)
 
 -- all leaders in some order
 pub in_order : (all order : List Act) → IsPermutation (leaders all) order → AreLeaders all order
@@ -77,6 +85,28 @@ module _ (s : State) (all : List Act) (good : IsGood s all) (before rest : List 
       ∙ (ap (after_some s all) (sym (one_onto l before []))
       ∙ in_any_order s all good (before ++ l ∷ []) rest (subst (λ (xs : List Act). AreLeaders all xs) (sym (moved_over l before rest)) perm)))
 
+  -- a bot where one that comes of the leader is to stand is the leader's
+  pub stands_apart : (x y : Bot) → In x (successors (members all l) l l.command) → In y (after_some s all before).bots → x.pos ≡ y.pos → y ≡ l.bot
+  stands_apart x y i j e = by (subst (λ (bots : List Bot). In y bots) (sym (ap (λ (t : State). t.bots) so_far)) j)
+    where
+      leads : In l all
+      leads = (filter_in _ l all (perm.only l (in_right l before (l ∷ rest) (inl refl)))).0
+
+      stood : (b : Act) (t : Bool) → In y (cond t (successors all b b.command) (b.bot ∷ [])) → Stands b b.command y
+      stood b true k = stands all b b.command y k
+      stood b false (inl f) = inl (ap (λ (z : Bot). z.pos) f)
+      stood b false (inr k) = absurd k
+
+      own : In y (l.bot ∷ []) → y ≡ l.bot
+      own (inl f) = f
+      own (inr k) = absurd k
+
+      by : In y (after_some s all (onto before [])).bots → y ≡ l.bot
+      by k =
+          let w = flat_in (became all (onto before [])) y all (order_in (flat_map (became all (onto before [])) all) y k) in
+          let same = one_act s all good l w.0 x y leads w.1 (stands (members all l) l l.command x i) (stood w.0 (is_taken (onto before []) w.0) w.2) e in
+          own (subst (λ (bots : List Bot). In y bots) (kept s all good (onto before []) l next l leads (with_itself l)) (subst (λ (b : Act). In y (became all (onto before []) b)) (sym same) w.2))
+
 -- the same for the commands of a step that breaks no rule
 module _ (s : State) (commands : List Command) (step : ℕ) (ready : IsReady s) (keep : broken s commands step ≡ None) where
   pub bots_met : (before rest : List Act) (l : Act) → IsPermutation (leaders (acts s.bots commands)) (before ++ l ∷ rest) → group_in (after_some s (acts s.bots commands) before) (acts s.bots commands) l ≡ members (acts s.bots commands) l
@@ -84,6 +114,9 @@ module _ (s : State) (commands : List Command) (step : ℕ) (ready : IsReady s) 
 
   pub rules_met : (before rest : List Act) (l : Act) → IsPermutation (leaders (acts s.bots commands)) (before ++ l ∷ rest) → IsTrue (keeps_rules (after_some s (acts s.bots commands) before) (members (acts s.bots commands) l))
   rules_met before rest l perm = keeps s (acts s.bots commands) (good_is s commands step ready keep) before rest l (in_order (acts s.bots commands) (before ++ l ∷ rest) perm)
+
+  pub places_met : (before rest : List Act) (l : Act) → IsPermutation (leaders (acts s.bots commands)) (before ++ l ∷ rest) → (x y : Bot) → Contains (successors (members (acts s.bots commands) l) l l.command) x → Contains (after_some s (acts s.bots commands) before).bots y → x.pos ≡ y.pos → y ≡ l.bot
+  places_met before rest l perm x y i j e = stands_apart s (acts s.bots commands) (good_is s commands step ready keep) before rest l (in_order (acts s.bots commands) (before ++ l ∷ rest) perm) x y (held x _ i) (held y _ j) e
 
   pub turn_taken : (before rest : List Act) (l : Act) → IsPermutation (leaders (acts s.bots commands)) (before ++ l ∷ rest) → after_group (after_some s (acts s.bots commands) before) (members (acts s.bots commands) l) ≡ after_some s (acts s.bots commands) (before ++ l ∷ [])
   turn_taken before rest l perm = leaves s (acts s.bots commands) (good_is s commands step ready keep) before rest l (in_order (acts s.bots commands) (before ++ l ∷ rest) perm)
@@ -93,6 +126,3 @@ module _ (s : State) (commands : List Command) (step : ℕ) (ready : IsReady s) 
 
   pub apart_are : (l d : Act) (c : Coord) → Contains (leaders (acts s.bots commands)) l → Contains (leaders (acts s.bots commands)) d → l ≢ d → IsInSpace s.matrix.resolution c → IsTrue (is_volatile (acts s.bots commands) l (point c)) → IsFalse (is_volatile (acts s.bots commands) d (point c))
   apart_are l d c i j ne w v = is_false (is_volatile (acts s.bots commands) d (point c)) (λ u. (good_is s commands step ready keep).clear l d (held l (leaders (acts s.bots commands)) i) (held d (leaders (acts s.bots commands)) j) ne c w v u)
-    where
-      held : (a : Act) (xs : List Act) → Contains xs a → In a xs
-      held a xs h = subst (λ (x : Act). In x xs) h.2 (place_in a xs h.0 h.1)

@@ -1,0 +1,10 @@
+pub mod Painted
+pub mod Spans
+pub mod Sizes
+pub mod Bots
+pub mod Members
+pub mod Meeting
+pub mod TurnTaken
+pub mod Upkeep
+pub mod Gathered
+pub mod Advancing

@@ -1,0 +1,38 @@
+use Rattle.std.proofs.Common.{◌≡◌, ◌∙◌, arith}
+use Rattle.system_state.specs.Painting.{met_count, size_in}
+use Rattle.system_state.specs.Work.{region_of}
+use Rattle.system_state.proofs.Spans.{after_none, after_work, full_is, no_full, no_void, size_is, void_is}
+use Rattle.system_state.proofs.voxels.change_voxels.Goals as goal
+
+pub returns-in-Some-clause-matrix : goal.returns-in-Some-clause-matrix
+returns-in-Some-clause-matrix g c =
+    let w = c.in-Some.ensures in
+    c.change_region.ensures.matrix ∙ after_work c.args.matrix.now c.args.bot c.args.command.now (region_of c.in-Some.work) c.in-Some.work.full w.filled w.voided
+
+pub returns-in-Some-clause-void : goal.returns-in-Some-clause-void
+returns-in-Some-clause-void g c =
+    let w = c.in-Some.ensures in
+    c.change_region.ensures.void ∙ void_is c.args.matrix.now c.args.bot c.args.command.now (region_of c.in-Some.work) c.in-Some.work.full w.filled w.voided
+
+pub returns-in-Some-clause-full : goal.returns-in-Some-clause-full
+returns-in-Some-clause-full g c =
+    let w = c.in-Some.ensures in
+    c.change_region.ensures.full ∙ full_is c.args.matrix.now c.args.bot c.args.command.now (region_of c.in-Some.work) c.in-Some.work.full w.filled w.voided
+
+pub returns-in-Some-clause-touches : goal.returns-in-Some-clause-touches
+returns-in-Some-clause-touches g c =
+    let w = c.in-Some.ensures in
+    let t = c.change_region.ensures.touches in
+    let s : size_in c.args.matrix.now (region_of c.in-Some.work) ≡ met_count c.args.matrix.now c.args.bot c.args.command.now = size_is c.args.matrix.now c.args.bot c.args.command.now (region_of c.in-Some.work) c.in-Some.work.full w.filled w.voided in
+    omega arith
+
+pub returns-in-None-clause-matrix : goal.returns-in-None-clause-matrix
+returns-in-None-clause-matrix g c =
+    let w = c.in-None.ensures in
+    after_none c.args.matrix.now c.args.bot c.args.command.now c.resolution.ensures.whole.voxels w.filled w.voided
+
+pub returns-in-None-clause-void : goal.returns-in-None-clause-void
+returns-in-None-clause-void g c = let w = c.in-None.ensures in no_void c.args.matrix.now c.args.bot c.args.command.now w.filled w.voided
+
+pub returns-in-None-clause-full : goal.returns-in-None-clause-full
+returns-in-None-clause-full g c = let w = c.in-None.ensures in no_full c.args.matrix.now c.args.bot c.args.command.now w.filled w.voided

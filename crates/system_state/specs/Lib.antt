@@ -1,0 +1,5 @@
+pub mod Bounds
+pub mod Effects
+pub mod Painting
+pub mod Turns
+pub mod Work

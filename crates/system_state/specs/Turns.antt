@@ -1,0 +1,22 @@
+-- The turns of the groups of a step (docs/FORMATS.md, "Groups").
+use Rattle.std.specs.Prelude.{◌≡◌, ℕ, List, [], ◌∷◌, map, slice_get, slice_index_or, Some}
+use Rattle.nano_spec.specs.Act.{Act}
+use Rattle.nano_spec.specs.Group.{members}
+use Rattle.system_state.specs.declared.turns.Turn.{Turn}
+
+-- the bid of an act's bot
+abbrev pub bid_of : Act → ℕ
+bid_of a = a.bot.bid
+
+-- the turn of the group that the act's bot leads: its place among the acts, and the bid of the second member, or 0 where it is alone
+pub record IsTurn (all : List Act) (a : Act) (t : Turn) : Type 0 where
+  pub leader : t.leader ≡ a.bot.bid
+  pub place : slice_get all t.place ≡ Some a
+  pub partner : t.partner ≡ slice_index_or (map bid_of (members all a)) 1 0
+
+-- the turns of the groups of these leaders, in their order
+abbrev pub AreTurns : List Act → List Act → List Turn → Type 0
+AreTurns all [] [] = Unit {0}
+AreTurns all [] (t ∷ turns) = ⊥
+AreTurns all (a ∷ leaders) [] = ⊥
+AreTurns all (a ∷ leaders) (t ∷ turns) = IsTurn all a t × AreTurns all leaders turns

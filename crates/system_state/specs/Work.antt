@@ -1,0 +1,26 @@
+-- What a command makes full or void (docs/FORMATS.md, "Commands").
+use Rattle.std.specs.Prelude.{◌≡◌, ℕ, ◌≤◌, cond, [], ◌∷◌}
+use Rattle.vox_geom.specs.Point.{point}
+use Rattle.vox_geom.specs.Region.{Span, between, size}
+use Rattle.vox_geom.specs.Space.{IsInSpace}
+use Rattle.nano_spec.specs.declared.commands.Command.{Command}
+use Rattle.nano_spec.specs.declared.system.Bot.{Bot}
+use Rattle.nano_spec.specs.Act.{filled, voided}
+use Rattle.system_state.specs.declared.work.Work.{Work}
+
+-- the region
+abbrev pub region_of : Work → Span
+region_of w = between (point w.near) (point w.far)
+
+-- the command fills and voids nothing
+pub record IsIdle (bot : Bot) (command : Command) : Type 0 where
+  pub filled : filled (point bot.pos) command ≡ []
+  pub voided : voided (point bot.pos) command ≡ []
+
+-- the command fills the region, or else voids it, and nothing else
+pub record IsWork (r : ℕ) (bot : Bot) (command : Command) (w : Work) : Type 0 where
+  pub near : IsInSpace r w.near
+  pub far : IsInSpace r w.far
+  pub filled : filled (point bot.pos) command ≡ cond w.full (region_of w ∷ []) []
+  pub voided : voided (point bot.pos) command ≡ cond w.full [] (region_of w ∷ [])
+  pub small : size (region_of w) ≤ 29791

@@ -1,0 +1,52 @@
+//! That the differences of a command are of their kinds, which their types keep.
+ghost use Rattle.nano_spec.specs.Command.{IsCommand};
+ghost use Rattle.nano_spec.specs.Cutting.{AreCommands};
+
+use nano_spec::Command;
+
+/// The differences of the command are of their kinds.
+pub fn know(command: &Command)
+    ensures { IsCommand command.now }
+{
+    match command {
+        Command::SMove(d) => {
+            let _ = d.diff();
+        }
+        Command::LMove(d, e) => {
+            let _ = (d.diff(), e.diff());
+        }
+        Command::FusionP(d) => {
+            let _ = d.diff();
+        }
+        Command::FusionS(d) => {
+            let _ = d.diff();
+        }
+        Command::Fission(d, m) => {
+            let _ = (d.diff(), *m);
+        }
+        Command::Fill(d) => {
+            let _ = d.diff();
+        }
+        Command::Void(d) => {
+            let _ = d.diff();
+        }
+        Command::GFill(d, f) => {
+            let _ = (d.diff(), f.diff());
+        }
+        Command::GVoid(d, f) => {
+            let _ = (d.diff(), f.diff());
+        }
+        Command::Halt => {}
+        Command::Wait => {}
+        Command::Flip => {}
+    }
+}
+
+/// The differences of all commands are of their kinds.
+pub fn know_all(commands: &[Command])
+    ensures { AreCommands commands.now }
+{
+    for command in commands {
+        know(command);
+    }
+}

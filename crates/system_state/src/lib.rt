@@ -1,0 +1,18 @@
+//! The state of the system (docs/FORMATS.md, "State"): matrix, harmonics, bots, energy and profile, the judgement of the
+//! commands of a step, and the effects of its groups, one group after another. Only [`System::opening`] takes memory.
+#![tactic(auto)]
+
+mod known;
+mod moves;
+mod system;
+mod turns;
+mod voxels;
+mod work;
+
+pub use known::{know, know_all};
+pub use system::System;
+pub use turns::{Turn, Turns};
+pub use work::{Work, work_of};
+
+#[cfg(test)]
+mod tests;

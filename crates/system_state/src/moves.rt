@@ -1,0 +1,44 @@
+//! What the turn of a group does to the bots.
+ghost use Rattle.std.specs.Prelude.{◌≡◌, IsTrue};
+ghost use Rattle.vox_geom.specs.Point.{point, plus};
+ghost use Rattle.vox_geom.specs.Space.{IsInSpace, coordinate, in_space};
+ghost use Rattle.system_state.specs.Effects.{MayTake, bots_after};
+
+use bot_crew::Crew;
+use nano_spec::{Bot, Command};
+use vox_geom::{Coord, Diff};
+
+/// The coordinate that a difference leads to within a matrix of resolution r.
+pub(crate) fn target(r: u16, from: Coord, d: Diff) -> Coord
+    requires from { IsInSpace r from }
+    requires within { IsTrue (in_space r (plus (point from) d)) }
+    ensures value { result ≡ coordinate (plus (point from) d) }
+    ensures sum { point result ≡ plus (point from) d }
+    ensures stays { IsInSpace r result }
+{
+    from.plus(d, r).unwrap_or(from)
+}
+
+/// The bots after the turn of the bot's group.
+pub(crate) fn move_bots(crew: &mut Crew, r: u16, bot: Bot, partner: u8, command: &Command)
+    requires { MayTake r crew.old bot partner command.now }
+    ensures { crew.new ≡ bots_after crew.old bot partner command.now }
+{
+    match command {
+        Command::Halt => crew.halt(),
+        Command::SMove(d) => crew.move_to(bot.bid, target(r, bot.pos, d.diff())),
+        Command::LMove(d, e) => {
+            let middle = target(r, bot.pos, d.diff());
+            crew.move_to(bot.bid, target(r, middle, e.diff()));
+        }
+        Command::Fission(d, m) => crew.fission(bot.bid, target(r, bot.pos, d.diff()), *m),
+        Command::FusionP(_) => crew.fusion(bot.bid, partner),
+        Command::FusionS(_) => crew.fusion(partner, bot.bid),
+        Command::Wait => {}
+        Command::Flip => {}
+        Command::Fill(_) => {}
+        Command::Void(_) => {}
+        Command::GFill(_, _) => {}
+        Command::GVoid(_, _) => {}
+    }
+}

@@ -1,0 +1,314 @@
+//! The state of the system.
+ghost use Rattle.std.specs.Prelude.{◌≡◌, ℕ, ◌+◌, ◌*◌, ◌≤◌, ◌<◌, pos, ◌+ℤ◌, ◌≤ℤ◌, [], ◌∷◌, List, length, IfOk, IfNone, IfSome, None, Some};
+ghost use Rattle.nano_spec.specs.declared.commands.Command.{Command as Trace};
+ghost use Rattle.nano_spec.specs.declared.system.Bot.{Bot as ActiveBot};
+ghost use Rattle.nano_spec.specs.Act.{acts};
+ghost use Rattle.nano_spec.specs.Group.{leaders};
+ghost use Rattle.nano_spec.specs.Energy.{upkeep as upkeep_of, upkeep_of as upkeep_at_of};
+ghost use Rattle.nano_spec.specs.Rules.{broken as broken_of, judge_trace};
+ghost use Rattle.nano_spec.specs.State.{IsReady, opening as opening_of};
+ghost use Rattle.nano_spec.specs.Step.{after, harmonics_after};
+ghost use Rattle.nano_spec.specs.Work.{volatile_total};
+ghost use Rattle.bot_crew.specs.Crew.{IsCrew, bot_of};
+ghost use Rattle.vox_planes.specs.Voxel.{IsWhole};
+ghost use Rattle.system_state.specs.Bounds.{IsPayable, IsWithin};
+ghost use Rattle.system_state.specs.Effects.{MayTake, act, after_turn};
+ghost use Rattle.system_state.specs.Painting.{met_count};
+ghost use Rattle.system_state.specs.Turns.{AreTurns};
+
+use crate::known::know_all;
+use crate::moves::move_bots;
+use crate::turns::{Turn, Turns, gather};
+use crate::voxels::pay_turn;
+use bot_crew::{Crew, crew_is_ready, group_is_replaced};
+use energy_sum::upkeep;
+use nano_spec::{Broken, Command, Harmonics, Profile, Rule};
+use std::alloc::Global;
+use std::marker::Model;
+use std::sync::ledger::Ledger;
+use step_groups::judge_single;
+use step_order::groups_take_turns;
+use vox_geom::{MOST_R, Memory, Steps};
+use vox_planes::{ChangeList, Planes};
+
+/// The most voxels that one group changes: a region of 31 by 31 by 31.
+const MOST_OF_GROUP: u32 = 29_791;
+
+/// The other harmonics after a Flip.
+fn harmonics_by(harmonics: Harmonics, command: &Command) -> Harmonics
+    ensures { (bot : ActiveBot) → result ≡ harmonics_after harmonics (act bot command.now ∷ []) }
+{
+    match command {
+        Command::Flip => match harmonics {
+            Harmonics::Low => Harmonics::High,
+            Harmonics::High => Harmonics::Low,
+        },
+        Command::Halt => harmonics,
+        Command::Wait => harmonics,
+        Command::SMove(_) => harmonics,
+        Command::LMove(_, _) => harmonics,
+        Command::FusionP(_) => harmonics,
+        Command::FusionS(_) => harmonics,
+        Command::Fission(_, _) => harmonics,
+        Command::Fill(_) => harmonics,
+        Command::Void(_) => harmonics,
+        Command::GFill(_, _) => harmonics,
+        Command::GVoid(_, _) => harmonics,
+    }
+}
+
+/// The upkeep of a step, which is less than 2 to the power of 31.
+#[tactic(auto, using(crate::proofs::Upkeep::upkeep_most))]
+fn upkeep_at(resolution: u16, harmonics: Harmonics, bots: u8) -> i64
+    requires resolution { resolution ≤ MOST_R }
+    requires bots { bots ≤ 40 }
+    ensures value { result ≡ upkeep_at_of resolution harmonics bots }
+    ensures low { pos 0 ≤ℤ result }
+    ensures high { result ≤ℤ pos 2000000000 }
+{
+    upkeep(resolution, harmonics, bots)
+}
+
+/// The energy after a cost.
+fn paid(energy: i64, cost: i64) -> i64
+    requires energy { IsWithin 9000000000000000000 energy }
+    requires cost { IsWithin 2000000000 cost }
+    ensures { result ≡ energy +ℤ cost }
+{
+    energy + cost
+}
+
+/// The state of the system. Contracts see the state of the definitions; it is ready for a step at all times.
+#[derive(Drop)]
+pub struct System {
+    matrix: Planes,
+    crew: Crew,
+    harmonics: Harmonics,
+    energy: i64,
+    profile: Profile,
+    changed: ChangeList,
+}
+
+impl Model for System {
+    ghost use Rattle.std.specs.Prelude.{◌≤◌, length, ◌+◌, All};
+    ghost use Rattle.vox_geom.specs.Space.{IsInSpace};
+    ghost use Rattle.nano_spec.specs.State.{State};
+
+    ghost Value = { State };
+
+    ghost view = { λ s. record { matrix = s.matrix; harmonics = s.harmonics; bots = s.crew; energy = s.energy; profile = s.profile } };
+
+    ghost invariant = { λ s. All (λ b. IsInSpace s.matrix.resolution b.pos) s.crew × (29791 ≤ s.changed.spare + length s.changed.items) };
+}
+
+impl System {
+    /// The state before the first step, with room for the changes of a step.
+    pub fn opening(alloc: Global, source: Planes, profile: Profile) -> Result<System, Memory>
+        requires { profile.seeds ≤ 39 }
+        ensures { IfOk result (λ s. s ≡ opening_of source profile) }
+    {
+        let changed = ChangeList::with_room(alloc, MOST_OF_GROUP)?;
+        let _ = source.resolution();
+        Ok(System {
+            matrix: source,
+            crew: Crew::opening(profile),
+            harmonics: Harmonics::Low,
+            energy: 0,
+            profile,
+            changed,
+        })
+    }
+
+    /// The matrix.
+    pub fn matrix(&self) -> &Planes
+        ensures value { result.now ≡ self.now.matrix }
+        ensures whole { IsWhole self.now.matrix }
+    {
+        let _ = self.matrix.resolution();
+        &self.matrix
+    }
+
+    /// The active bots, in rising order of their bids.
+    pub fn crew(&self) -> &Crew
+        ensures value { result.now ≡ self.now.bots }
+        ensures crew { IsCrew self.now.bots }
+        ensures ready { IsReady self.now }
+    {
+        crew_is_ready();
+        let _ = self.matrix.resolution();
+        let _ = self.crew.bots();
+        &self.crew
+    }
+
+    /// The harmonics.
+    pub fn harmonics(&self) -> Harmonics
+        ensures { result ≡ self.now.harmonics }
+    {
+        self.harmonics
+    }
+
+    /// The energy spent so far.
+    pub fn energy(&self) -> i64
+        ensures { result ≡ self.now.energy }
+    {
+        self.energy
+    }
+
+    /// The profile.
+    pub fn profile(&self) -> Profile
+        ensures { result ≡ self.now.profile }
+    {
+        self.profile
+    }
+
+    /// Judges the commands of a step by the rules that ask for no other state than the one at its start: the first rule that
+    /// is broken, or `None`, and then the turns are those of the groups. It reads voxels only where each bot has a command.
+    pub fn judge<L: Ledger>(
+        &self,
+        commands: &[Command],
+        step: u32,
+        turns: &mut Turns,
+        steps: &mut Steps<L>,
+    ) -> Option<Broken>
+        requires some { 1 ≤ length self.now.bots }
+        requires few { length commands.now ≤ length self.now.bots }
+        ensures value { result ≡ broken_of self.now commands.now step }
+        ensures turns { IfNone result (AreTurns (acts self.now.bots commands.now) (leaders (acts self.now.bots commands.now)) turns.new) }
+        ensures touches { steps.new ≤ steps.old + 2 * volatile_total self.now.matrix (acts self.now.bots commands.now) }
+        ensures ends { length commands.now < length self.now.bots → steps.new ≡ steps.old }
+    {
+        let count = usize::from(self.crew.count());
+        if commands.len() < count {
+            return Some(self.trace_ends(commands.len(), step));
+        }
+        if count == 1 {
+            self.judge_single(commands, step, turns, steps)
+        } else {
+            self.judge_several(commands, step, turns, steps)
+        }
+    }
+
+    /// The trace ends within the step, before the command of the bot at a place.
+    fn trace_ends(&self, place: usize, step: u32) -> Broken
+        requires { place < length self.now.bots }
+        ensures { (commands : List Trace) → length commands ≡ place → Some result ≡ judge_trace self.now commands step }
+    {
+        let bot = &self.crew.bots()[place];
+        Broken {
+            step,
+            bid: bot.bid,
+            rule: Rule::TraceEnds,
+            at: bot.pos,
+        }
+    }
+
+    /// Judges the step of a single bot.
+    fn judge_single<L: Ledger>(
+        &self,
+        commands: &[Command],
+        step: u32,
+        turns: &mut Turns,
+        steps: &mut Steps<L>,
+    ) -> Option<Broken>
+        requires one { length self.now.bots ≡ 1 }
+        requires commands { length commands.now ≡ length self.now.bots }
+        ensures value { result ≡ broken_of self.now commands.now step }
+        ensures turns { AreTurns (acts self.now.bots commands.now) (leaders (acts self.now.bots commands.now)) turns.new }
+        ensures touches { steps.new ≤ steps.old + 2 * volatile_total self.now.matrix (acts self.now.bots commands.now) }
+    {
+        turns.set_single(self.crew.bots()[0].bid);
+        judge_single(
+            &self.crew,
+            &self.matrix,
+            self.harmonics,
+            self.profile,
+            commands,
+            step,
+            steps,
+        )
+    }
+
+    /// Judges the step of several bots.
+    fn judge_several<L: Ledger>(
+        &self,
+        commands: &[Command],
+        step: u32,
+        turns: &mut Turns,
+        steps: &mut Steps<L>,
+    ) -> Option<Broken>
+        requires commands { length commands.now ≡ length self.now.bots }
+        ensures value { result ≡ broken_of self.now commands.now step }
+        ensures turns { IfNone result (AreTurns (acts self.now.bots commands.now) (leaders (acts self.now.bots commands.now)) turns.new) }
+        ensures touches { steps.new ≤ steps.old + 2 * volatile_total self.now.matrix (acts self.now.bots commands.now) }
+    {
+        let judged = turns.groups.judge(
+            &self.crew,
+            &self.matrix,
+            self.harmonics,
+            self.profile,
+            commands,
+            step,
+            steps,
+        );
+        match judged {
+            Ok(()) => {
+                gather(&mut turns.turns, turns.groups.list(), self.crew.bots());
+                None
+            }
+            Err(broken) => Some(broken),
+        }
+    }
+
+    /// The upkeep of a step is paid.
+    fn pay_upkeep(&mut self)
+        requires { IsPayable self.old.energy }
+        ensures value { self.new ≡ record self.old { energy = self.old.energy +ℤ upkeep_of self.old } }
+        ensures within { IsWithin 4611686020427387904 self.new.energy }
+    {
+        let resolution = self.matrix.resolution();
+        let upkeep = upkeep_at(resolution, self.harmonics, self.crew.count());
+        self.energy = paid(self.energy, upkeep);
+    }
+
+    /// The turn of a group, by the command of its leader.
+    fn take_turn<L: Ledger>(&mut self, turn: Turn, command: &Command, steps: &mut Steps<L>)
+        requires may { IfSome (bot_of self.old.bots turn.leader) (λ bot. MayTake self.old.matrix.resolution self.old.bots bot turn.partner command.now) }
+        requires payable { IsWithin 9000000000000000000 self.old.energy }
+        ensures value { IfSome (bot_of self.old.bots turn.leader) (λ bot. self.new ≡ after_turn self.old bot turn.partner command.now) }
+        ensures within { (k : ℕ) → IsWithin k self.old.energy → IsWithin (k + 357492) self.new.energy }
+        ensures touches { IfSome (bot_of self.old.bots turn.leader) (λ bot. steps.new ≤ steps.old + met_count self.old.matrix bot command.now) }
+    {
+        let resolution = self.matrix.resolution();
+        let Some(bot) = self.crew.bot(turn.leader) else {
+            return;
+        };
+        let cost = pay_turn(&mut self.matrix, &mut self.changed, bot, command, steps);
+        move_bots(&mut self.crew, resolution, bot, turn.partner, command);
+        self.harmonics = harmonics_by(self.harmonics, command);
+        self.energy = paid(self.energy, cost);
+    }
+
+    /// The groups take their turns: all effects and costs of a step that breaks none of the rules that are judged at its start.
+    pub fn advance<L: Ledger>(
+        &mut self,
+        commands: &[Command],
+        turns: &Turns,
+        steps: &mut Steps<L>,
+    )
+        requires judged { (step : ℕ) × (broken_of self.old commands.now step ≡ None) }
+        requires turns { AreTurns (acts self.old.bots commands.now) (leaders (acts self.old.bots commands.now)) turns.now }
+        requires payable { IsPayable self.old.energy }
+        ensures value { self.new ≡ after self.old commands.now }
+        ensures touches { steps.new ≤ steps.old + volatile_total self.old.matrix (acts self.old.bots commands.now) }
+    {
+        know_all(commands);
+        groups_take_turns();
+        group_is_replaced();
+        let _ = self.crew();
+        self.pay_upkeep();
+        for turn in turns.list() {
+            let _ = self.crew();
+            self.take_turn(*turn, &commands[usize::from(turn.place)], steps);
+        }
+    }
+}

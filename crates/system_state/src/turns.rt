@@ -1,0 +1,112 @@
+//! The turns of the groups of a step.
+ghost use Rattle.std.specs.Prelude.{◌≡◌, ◌<◌, ◌≤◌, ℕ, List, AllPairs, length, slice_index_or};
+ghost use Rattle.nano_spec.specs.declared.commands.Command.{Command};
+ghost use Rattle.nano_spec.specs.declared.system.Bot.{Bot as ActiveBot};
+ghost use Rattle.nano_spec.specs.Act.{acts};
+ghost use Rattle.nano_spec.specs.Group.{leaders};
+ghost use Rattle.step_groups.specs.Groups.{AreGroups};
+ghost use Rattle.system_state.specs.Turns.{AreTurns};
+
+use arrayvec::ArrayVec;
+use bot_crew::MOST_BOTS;
+use nano_spec::Bot;
+use std::marker::Model;
+use step_groups::{Group, Groups};
+
+/// The turn of one group of a step: the bid of its leader, the leader's place among the bots at the step's start, and the
+/// bid of its second member, 0 where the leader is alone.
+#[derive(Clone, Copy, PartialEq, Eq, Default, Debug)]
+pub struct Turn {
+    pub leader: u8,
+    pub place: u8,
+    pub partner: u8,
+}
+
+/// The turns of a step, in rising order of their leaders. It is kept from step to step.
+#[derive(Drop)]
+pub struct Turns {
+    pub(crate) groups: Groups,
+    pub(crate) turns: ArrayVec<Turn, MOST_BOTS>,
+}
+
+impl Model for Turns {
+    ghost use Rattle.std.specs.Prelude.{List};
+    ghost use Rattle.system_state.specs.declared.turns.Turn.{Turn};
+
+    ghost Value = { List Turn };
+
+    ghost view = { λ t. t.turns.items };
+}
+
+impl Turns {
+    ghost use Rattle.std.specs.Prelude.{◌≡◌, [], ◌∷◌};
+
+    /// No turns.
+    pub fn new() -> Turns
+        ensures { result ≡ [] }
+    {
+        Turns {
+            groups: Groups::new(),
+            turns: ArrayVec::new(),
+        }
+    }
+
+    /// The turns.
+    pub fn list(&self) -> &[Turn]
+        ensures { result.now ≡ self.now }
+    {
+        self.turns.as_slice()
+    }
+
+    /// The turn of the only bot.
+    pub(crate) fn set_single(&mut self, bid: u8)
+        ensures { self.new ≡ record { leader = bid; place = 0; partner = 0 } ∷ [] }
+    {
+        self.turns.clear();
+        self.turns.push(Turn {
+            leader: bid,
+            place: 0,
+            partner: 0,
+        });
+    }
+}
+
+/// The bid of the second member, 0 where there is none.
+fn partner_of(group: &Group) -> u8
+    ensures { result ≡ slice_index_or group.now.members.items 1 0 }
+{
+    match group.members.get(1) {
+        Some(bid) => *bid,
+        None => 0,
+    }
+}
+
+/// The place of the bot with the bid, where there is one.
+fn place_of(bots: &[Bot], bid: u8) -> u8
+    requires { length bots.now ≤ 40 }
+    ensures { (k : ℕ) → k < length bots.now → (d : ActiveBot) → (slice_index_or bots.now k d).bid ≡ bid → (result < length bots.now) × ((slice_index_or bots.now result d).bid ≡ bid) }
+{
+    for i in 0..bots.len() {
+        if bots[i].bid == bid {
+            return i as u8;
+        }
+    }
+    0
+}
+
+/// The turns of the groups of a step of these bots.
+pub(crate) fn gather(turns: &mut ArrayVec<Turn, MOST_BOTS>, groups: &[Group], bots: &[Bot])
+    requires bots { length bots.now ≤ 40 }
+    requires groups { length groups.now ≤ 40 }
+    requires rising { AllPairs (λ a b. a.bid < b.bid) bots.now }
+    ensures { (r : ℕ) (commands : List Command) → length commands ≡ length bots.now → AreGroups r (acts bots.now commands) (leaders (acts bots.now commands)) groups.now → AreTurns (acts bots.now commands) (leaders (acts bots.now commands)) turns.new.items }
+{
+    turns.clear();
+    for group in groups {
+        turns.push(Turn {
+            leader: group.leader,
+            place: place_of(bots, group.leader),
+            partner: partner_of(group),
+        });
+    }
+}

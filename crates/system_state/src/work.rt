@@ -1,0 +1,70 @@
+//! Which voxels a command changes.
+ghost use Rattle.std.specs.Prelude.{◌≡◌, MatchOption, IsTrue};
+ghost use Rattle.vox_geom.specs.Space.{IsInSpace};
+ghost use Rattle.nano_spec.specs.Act.{stays_in_space};
+ghost use Rattle.system_state.specs.Effects.{act};
+ghost use Rattle.system_state.specs.Work.{IsIdle, IsWork};
+
+use crate::moves::target;
+use nano_spec::{Bot, Command};
+use vox_geom::{Coord};
+
+/// The region between two corners that a command makes full or void.
+#[derive(Clone, Copy, PartialEq, Eq, Debug)]
+pub struct Work {
+    pub near: Coord,
+    pub far: Coord,
+    pub full: bool,
+}
+
+/// The region that the command of the bot makes full or void, if it does. Condition: its coordinates are in space.
+pub fn work_of(r: u16, bot: Bot, command: &Command) -> Option<Work>
+    requires within { IsInSpace r bot.pos }
+    requires stays { IsTrue (stays_in_space r (act bot command.now)) }
+    ensures { MatchOption result (IsIdle bot command.now) (IsWork r bot command.now) }
+{
+    match command {
+        Command::Fill(d) => {
+            let at = target(r, bot.pos, d.diff());
+            Some(Work {
+                near: at,
+                far: at,
+                full: true,
+            })
+        }
+        Command::Void(d) => {
+            let at = target(r, bot.pos, d.diff());
+            Some(Work {
+                near: at,
+                far: at,
+                full: false,
+            })
+        }
+        Command::GFill(d, f) => {
+            let near = target(r, bot.pos, d.diff());
+            let far = target(r, near, f.diff());
+            Some(Work {
+                near,
+                far,
+                full: true,
+            })
+        }
+        Command::GVoid(d, f) => {
+            let near = target(r, bot.pos, d.diff());
+            let far = target(r, near, f.diff());
+            Some(Work {
+                near,
+                far,
+                full: false,
+            })
+        }
+        Command::Halt => None,
+        Command::Wait => None,
+        Command::Flip => None,
+        Command::SMove(_) => None,
+        Command::LMove(_, _) => None,
+        Command::FusionP(_) => None,
+        Command::FusionS(_) => None,
+        Command::Fission(_, _) => None,
+    }
+}
