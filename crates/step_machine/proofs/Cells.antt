@@ -1,8 +1,6 @@
 -- The voxels that one act changes.
 use Rattle.std.proofs.Common.{◌≡◌, ℕ, ◌+◌, ◌≤◌, refl, sym, ◌∙◌, ap, inl, arith, List, [], ◌∷◌, ◌++◌, Bool, true, false, ◌&&◌, length}
 use Rattle.std.specs.Prelude.{count_by, filter, Some, None}
-use Rattle.std.specs.Bool.{beq}
-use Rattle.std.proofs.Common.{not}
 use Rattle.std.proofs.lemmas.List.Sums.{length-filter}
 use Rattle.std.proofs.Common.{length-append}
 use Rattle.std.proofs.lemmas.List.{append-nil}
@@ -18,8 +16,7 @@ use Rattle.nano_spec.specs.Matrix.{Matrix, all_of}
 use Rattle.vox_planes.specs.Voxel.{is_state}
 use Rattle.support_forest.proofs.Counts.{count_le}
 use Rattle.step_order.proofs.Lists.{In, filter_in, second, not_both}
-use Rattle.step_machine.specs.Edits.{act, cells_of, edit_count, empties, is_edited}
-use Rattle.step_machine.proofs.Regions.{other_edit}
+use Rattle.step_machine.specs.Edits.{cells_of, edit_count, is_edited}
 
 -- the region has the coordinates that the act edits
 abbrev pub IsRegionOf : Corners → Bool → Act → Type 0
@@ -62,25 +59,3 @@ listed_none m full a old spare before e = record { items = sym (append-none old)
 
     append-none : (xs : List Coord) → xs ++ [] ≡ xs
     append-none xs = simp append-nil
-
--- ---- the act's edit is of the kind that is listed, or of the other
-
-unlike : (a full : Bool) → not (beq a full) ≡ true → not a ≡ full
-unlike true true h = cc
-unlike true false h = refl
-unlike false true h = refl
-unlike false false h = cc
-
-pub alike : (a full : Bool) → not (beq a full) ≡ false → a ≡ full
-alike true true h = refl
-alike true false h = cc
-alike false true h = cc
-alike false false h = refl
-
--- the command makes no such edit
-pub no_edit : (b : Bot) (command : Command) (e full : Bool) → e ≡ empties command → not (beq e full) ≡ true → (c : Coord) → false ≡ is_edited full (act b command) c
-no_edit b command e full s h c = sym (other_edit b command c) ∙ ap (λ f. is_edited f (act b command) c) (ap not (sym s) ∙ unlike e full h)
-
--- the region of the command's edit is one of such an edit
-pub the_edit : (b : Bot) (command : Command) (e full : Bool) (k : Corners) → e ≡ empties command → not (beq e full) ≡ false → IsRegionOf k (empties command) (act b command) → IsRegionOf k full (act b command)
-the_edit b command e full k s h r c = r c ∙ ap (λ f. is_edited f (act b command) c) (sym s ∙ alike e full h)

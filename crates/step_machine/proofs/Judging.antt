@@ -1,9 +1,9 @@
 -- A whole trace, command by command: the progress, and how often voxels are touched.
-use Rattle.std.proofs.Common.{◌≡◌, ℕ, zero, suc, ◌+◌, ◌*◌, ◌≤◌, ◌<◌, ◌==◌, refl, sym, ◌∙◌, ap, subst, inl, inr, arith, List, [], ◌∷◌, ◌++◌, append_assoc, Bool, true, false, length, length-append, take, drop, get_or}
+use Rattle.std.proofs.Common.{◌≡◌, ℕ, zero, suc, ◌+◌, ◌*◌, ◌≤◌, ◌<◌, ◌==◌, refl, sym, ◌∙◌, ap, subst, inl, inr, arith, List, [], ◌∷◌, ◌++◌, append_assoc, Bool, true, false, length, length-append, take, drop, get_or, add-one}
 use Rattle.std.specs.Prelude.{MatchBool, ◌≢◌}
 use Rattle.std.proofs.lemmas.Bool.Decides.{nat_tests}
 use Rattle.std.proofs.lemmas.List.{append-nil, drop_all}
-use Rattle.std.proofs.Math.Seq.{drop-append_seam, take-append_seam}
+use Rattle.std.proofs.Math.Seq.{drop-append_seam, take-append_seam, take-suc}
 use Rattle.nano_spec.specs.declared.commands.Command.{Command}
 use Rattle.nano_spec.specs.declared.outcomes.Broken.{Broken}
 use Rattle.nano_spec.specs.declared.outcomes.Rule.{Rule}
@@ -18,7 +18,6 @@ use Rattle.nano_spec.specs.Work.{Work, WorkFrom, WorkOfStep, rests, stops, works
 use Rattle.nano_spec.proofs.Unique.{Next-unique}
 use Rattle.run_progress.specs.Progress as progress
 use Rattle.run_progress.specs.Progress.{Comes, begun, first, later, mark_of, Progress, Pushes, PushesAt, Steps, stepped, with_command}
-use Rattle.step_groups.proofs.Shared.{take_one}
 use Rattle.step_machine.specs.Situation.{searched_for}
 use Rattle.step_machine.specs.Course.{Course, LacksCommands, MakesNoStep, searched_by}
 
@@ -179,7 +178,7 @@ judging_begun source profile commands runner start e s k = record {
 
 pub judging_on : (source : Matrix) (profile : Profile) (commands : List Command) (i : ℕ) (old new : Course) (command : Command) (start before after : ℕ) → i < length commands → command ≡ get_or commands i command → IsJudging source profile commands i old start before → Pushes old.progress command new.progress → new.progress.steps ≤ old.progress.steps + 1 → new.progress.state.matrix.resolution ≡ old.progress.state.matrix.resolution → new.spent ≡ false → LacksCommands new.progress → Touched old.progress new.progress command before after → IsJudging source profile commands (i + 1) new start after
 judging_on source profile commands i old new command start before after l e h p n r s k t = record {
-  comes = later (take i commands) old.progress command h.comes p (take_one commands i command l e);
+  comes = later (take i commands) old.progress command h.comes p (rw add-one (take-suc commands i command l ∙ ap (λ k. take i commands ++ k ∷ []) (sym e)));
   few = omega (arith, h.few, n);
   resolution = r ∙ h.resolution;
   stands = s;

@@ -18,7 +18,8 @@ use Rattle.nano_spec.specs.Work.{without_voided}
 use Rattle.support_forest.specs.Standing.{AreAdded, AreRemoved, MayAdd, MayRemove}
 use Rattle.step_order.proofs.Facts.{IsGood, good_is}
 use Rattle.step_order.proofs.Lists.{In, any_in}
-use Rattle.step_machine.specs.Edits.{act, edits_of, edits_total, is_edit, is_edited}
+use Rattle.system_state.specs.Effects.{act}
+use Rattle.step_machine.specs.Edits.{edits_of, edits_total, is_edit, is_edited}
 use Rattle.step_machine.proofs.Changed.{between_is, cell_of, may_add, may_remove, new_is}
 use Rattle.step_machine.proofs.Sizes.{acts_few, changes_most, commands_are}
 

@@ -1,32 +1,71 @@
 -- The region that a command fills or voids, and the coordinates that it has.
-use Rattle.std.proofs.Common.{◌≡◌, ℕ, refl, sym, ◌∙◌, ap, List, [], ◌∷◌, Bool, true, false, ◌&&◌, ◌||◌, not}
-use Rattle.std.specs.Prelude.{Some, IsTrue}
-use Rattle.std.specs.List.{list_all, list_any}
+use Rattle.std.proofs.Common.{◌≡◌, ℕ, ◌<◌, refl, sym, ◌∙◌, ap, arith, List, [], ◌∷◌, Bool, true, false, cond, ◌||◌, not}
+use Rattle.std.specs.Bool.{beq}
+use Rattle.std.specs.Prelude.{max}
+use Rattle.std.specs.List.{list_any}
 use Rattle.vox_geom.specs.declared.coordinate.Coord.{Coord}
-use Rattle.vox_geom.specs.declared.difference.Diff.{Diff}
-use Rattle.vox_geom.specs.Point.{Point, plus, point}
-use Rattle.vox_geom.specs.Region.{Corners, Span, is_within, span}
-use Rattle.vox_geom.specs.Space.{in_space}
+use Rattle.vox_geom.specs.Point.{point}
+use Rattle.vox_geom.specs.Region.{Corners, Span, corners, is_within}
+use Rattle.vox_geom.specs.Space.{IsInSpace}
 use Rattle.nano_spec.specs.declared.commands.Command.{Command}
 use Rattle.nano_spec.specs.declared.commands.Command.TheVariants.{Halt, Wait, Flip, SMove, LMove, FusionP, FusionS, Fission, Fill, Void, GFill, GVoid}
 use Rattle.nano_spec.specs.declared.system.Bot.{Bot}
-use Rattle.nano_spec.specs.Act.{Act, named_points, stays_in_space}
-use Rattle.step_order.proofs.Lists.{first, not_both, second}
-use Rattle.step_machine.specs.Edits.{act, edited, empties, in_region, is_edited}
-
--- the region has the coordinates of a span
-abbrev pub Covers : Corners → Span → Type 0
-Covers k s = (p : Point) → is_within (span k) p ≡ is_within s p
+use Rattle.nano_spec.specs.Act.{Act, filled, voided}
+use Rattle.step_order.proofs.Lists.{not_both}
+use Rattle.system_state.specs.declared.work.Work.{Work}
+use Rattle.system_state.specs.Effects.{act}
+use Rattle.system_state.specs.Work.{IsIdle, IsWork, region_of}
+use Rattle.step_machine.specs.Edits.{is_edited}
 
 or_false : (b : Bool) → b ≡ (b || false)
 or_false true = refl
 or_false false = refl
 
-one : (k : Corners) (s : Span) (spans : List Span) (c : Coord) → Covers k s → spans ≡ s ∷ [] → is_within (span k) (point c) ≡ list_any (λ t. is_within t (point c)) spans
-one k s spans c h e = h (point c) ∙ (or_false (is_within s (point c)) ∙ ap (λ ts. list_any (λ t. is_within t (point c)) ts) (sym e))
+one : (s : Span) (spans : List Span) (c : Coord) → spans ≡ s ∷ [] → is_within s (point c) ≡ list_any (λ t. is_within t (point c)) spans
+one s spans c e = or_false (is_within s (point c)) ∙ ap (λ ts. list_any (λ t. is_within t (point c)) ts) (sym e)
 
-pub covers_edit : (k : Corners) (s : Span) (b : Bot) (command l : Command) → Covers k s → command ≡ l → edited (empties l) (act b l) ≡ s ∷ [] → (c : Coord) → in_region (Some k) c ≡ is_edited (empties command) (act b command) c
-covers_edit k s b command l h e f c = one k s (edited (empties command) (act b command)) c h (ap (λ m. edited (empties m) (act b m)) e ∙ f)
+none : (spans : List Span) (c : Coord) → spans ≡ [] → false ≡ list_any (λ t. is_within t (point c)) spans
+none spans c e = ap (λ ts. list_any (λ t. is_within t (point c)) ts) (sym e)
+
+-- the region is edited so, where it is not as it is to be
+pub edits_region : (r : ℕ) (b : Bot) (k : Command) (w : Work) (full : Bool) → IsWork r b k w → beq w.full full ≡ false → (c : Coord) → is_within (region_of w) (point c) ≡ is_edited full (act b k) c
+edits_region r b k w full h e c = by w.full full h.filled h.voided e
+  where
+    by : (f full : Bool) → filled (point b.pos) k ≡ cond f (region_of w ∷ []) [] → voided (point b.pos) k ≡ cond f [] (region_of w ∷ []) → beq f full ≡ false → is_within (region_of w) (point c) ≡ is_edited full (act b k) c
+    by true true p q e = cc
+    by true false p q e = one (region_of w) (filled (point b.pos) k) c p
+    by false true p q e = one (region_of w) (voided (point b.pos) k) c q
+    by false false p q e = cc
+
+-- and else nothing is
+pub edits_nothing : (r : ℕ) (b : Bot) (k : Command) (w : Work) (full : Bool) → IsWork r b k w → beq w.full full ≡ true → (c : Coord) → false ≡ is_edited full (act b k) c
+edits_nothing r b k w full h e c = by w.full full h.filled h.voided e
+  where
+    by : (f full : Bool) → filled (point b.pos) k ≡ cond f (region_of w ∷ []) [] → voided (point b.pos) k ≡ cond f [] (region_of w ∷ []) → beq f full ≡ true → false ≡ is_edited full (act b k) c
+    by true true p q e = none (voided (point b.pos) k) c q
+    by true false p q e = cc
+    by false true p q e = cc
+    by false false p q e = none (filled (point b.pos) k) c p
+
+pub idle_edits_nothing : (b : Bot) (k : Command) (full : Bool) → IsIdle b k → (c : Coord) → false ≡ is_edited full (act b k) c
+idle_edits_nothing b k true h c = none (voided (point b.pos) k) c h.voided
+idle_edits_nothing b k false h c = none (filled (point b.pos) k) c h.filled
+
+-- the region between two coordinates of the matrix is in it
+pub high_within : (r : ℕ) (k : Corners) (a b : Coord) → k ≡ corners a b → IsInSpace r a → IsInSpace r b → IsInSpace r k.high
+high_within r k a b e h i =
+    let x : k.high.x ≡ max a.x b.x = ap (λ (c : Corners). c.high.x) e in
+    let y : k.high.y ≡ max a.y b.y = ap (λ (c : Corners). c.high.y) e in
+    let z : k.high.z ≡ max a.z b.z = ap (λ (c : Corners). c.high.z) e in
+    record { x = omega (arith, x, h.x, i.x); y = omega (arith, y, h.y, i.y); z = omega (arith, z, h.z, i.z) }
+
+-- ---- an act voids or fills
+
+-- whether the command voids something
+abbrev pub empties : Command → Bool
+empties (Void d) = true
+empties (GVoid d f) = true
+empties _ = false
 
 -- a command that voids fills nothing, and the other way round
 pub other_edit : (b : Bot) (command : Command) (c : Coord) → is_edited (not (empties command)) (act b command) c ≡ false
@@ -50,9 +89,3 @@ one_edit a c v f = by (empties a.command) (other_edit a.bot a.command c)
     by : (b : Bool) → is_edited (not b) a c ≡ false → ⊥
     by true e = not_both f e
     by false e = not_both v e
-
--- the far corner of a group command is in space
-pub far_stays : (r : ℕ) (b : Bot) (command l : Command) (p q : Point) → IsTrue (stays_in_space r (act b command)) → command ≡ l → named_points (point b.pos) l ≡ p ∷ q ∷ [] → IsTrue (in_space r q)
-far_stays r b command l p q h e n =
-    let all : (in_space r p && (in_space r q && true)) ≡ true = sym (ap (λ k. list_all (in_space r) (named_points (point b.pos) k)) e ∙ ap (list_all (in_space r)) n) ∙ h in
-    first (in_space r q) true (second (in_space r p) (in_space r q && true) all)

@@ -28,7 +28,8 @@ use Rattle.step_order.proofs.Facts.{IsGood}
 use Rattle.step_order.proofs.Groups.{Differ, differ_acts}
 use Rattle.step_order.proofs.Together.{number_is, together_back, together_on, with_itself}
 use Rattle.step_machine.proofs.Apart.{Apart, apart_filter, apart_flat}
-use Rattle.step_machine.specs.Edits.{act, edit_count, edits_total, edited, empties, is_edited}
+use Rattle.step_machine.specs.Edits.{edit_count, edits_total, is_edited}
+use Rattle.system_state.specs.Effects.{act}
 
 -- ---- a region by its dimension
 

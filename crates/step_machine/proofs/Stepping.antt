@@ -129,7 +129,7 @@ not_grounding s commands step b e f = by (first_in (judge_trace s commands step 
 -- ---- the energy
 
 pub paid_on : (e f : ℤ) (steps : ℕ) → IsPaid e steps → f <ℤ (e +ℤ pos 3000000000) → e <ℤ (f +ℤ pos 3000000000) → IsPaid f (steps + 1)
-paid_on e f steps p up down = record { low = omega (arith, ints, p.low, down); high = omega (arith, ints, p.high, up) }
+paid_on e f steps p up down = record { above = omega (arith, ints, p.above, up); below = omega (arith, ints, p.below, down) }
 
 -- ---- the step of a machine
 

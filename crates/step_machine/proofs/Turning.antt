@@ -11,9 +11,10 @@ use Rattle.nano_spec.specs.Act.{Act, acts}
 use Rattle.nano_spec.specs.Matrix.{Matrix}
 use Rattle.vox_planes.specs.Changes.{Changes}
 use Rattle.step_order.proofs.Lists.{In}
-use Rattle.step_machine.specs.Edits.{act, cells_of, cells_of_all, edit_count, edits_total}
-use Rattle.step_machine.specs.Turns.{AreTurns, IsTurn}
-use Rattle.step_machine.specs.declared.stub.turns.Turn.{Turn}
+use Rattle.system_state.specs.Effects.{act}
+use Rattle.step_machine.specs.Edits.{cells_of, cells_of_all, edit_count, edits_total}
+use Rattle.system_state.specs.Turns.{AreTurns, IsTurn}
+use Rattle.system_state.specs.declared.turns.Turn.{Turn}
 
 -- the voxels of the first i leaders were appended
 pub record IsListing (m : Matrix) (full : Bool) (ls : List Act) (i : ℕ) (old new : Changes) (before after : ℕ) : Type 0 where

@@ -26,11 +26,11 @@ use Rattle.step_order.proofs.Facts.{IsGood, good_is}
 use Rattle.step_order.proofs.Lists.{In, both, by_left, by_right, filter_in, in_any, in_either, in_filter, is_false, not_both, true_or_false}
 use Rattle.step_order.proofs.Together.{with_itself}
 use Rattle.step_order.proofs.Voxels.{full_where, in_coordinates}
-use Rattle.step_machine.specs.Edits.{cells_of_all, edit_count, edits_of, edits_total, empties, is_edited}
+use Rattle.step_machine.specs.Edits.{cells_of_all, edit_count, edits_of, edits_total, is_edited}
 use Rattle.step_machine.proofs.Apart.{Apart, apart_append}
 use Rattle.step_machine.proofs.Acting.{leader_stays}
 use Rattle.step_machine.proofs.Changed.{cell_of, cells_apart, edits_own, one_way, void_state}
-use Rattle.step_machine.proofs.Regions.{other_edit}
+use Rattle.step_machine.proofs.Regions.{empties, other_edit}
 use Rattle.step_machine.proofs.Sizes.{count_none, no_more}
 use Rattle.step_machine.proofs.Stepping.{bots_rule, first_in, pairs_rule, seen}
 use Rattle.step_machine.specs.Situation.{Situation}

@@ -23,10 +23,6 @@ is_edit (GFill d f) = true
 is_edit (GVoid d f) = true
 is_edit _ = false
 
--- a bot and its command
-abbrev pub act : Bot → Command → Act
-act b k = record { bot = b; command = k }
-
 -- what an act voids, or else what it fills
 abbrev pub edited : Bool → Act → List Span
 edited full a = cond full (voided (position a) a.command) (filled (position a) a.command)
@@ -54,14 +50,3 @@ edit_count m full a = count_by (is_edited full a) (all_of m)
 -- how many coordinates the groups of these leaders void, or else fill
 abbrev pub edits_total : Matrix → Bool → List Act → ℕ
 edits_total m full leaders = sum_by (edit_count m full) leaders
-
--- whether the command voids something
-abbrev pub empties : Command → Bool
-empties (Void d) = true
-empties (GVoid d f) = true
-empties _ = false
-
--- whether the coordinate is in the region, if there is one
-abbrev pub in_region : Option Corners → Coord → Bool
-in_region None c = false
-in_region (Some k) c = is_within (span k) (point c)

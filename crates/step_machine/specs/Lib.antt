@@ -1,5 +1,3 @@
 pub mod Course
-pub mod Situation
-pub mod Turns
-pub mod Bounds
 pub mod Edits
+pub mod Situation

@@ -1,5 +1,5 @@
 -- Where a machine stands.
-use Rattle.std.specs.Prelude.{◌≡◌, ℕ, ◌+◌, ◌*◌, ◌≤◌, ℤ, pos, neg_ℤ, ◌≤ℤ◌, Bool, true, false, length, Result, Ok, Err}
+use Rattle.std.specs.Prelude.{◌≡◌, ℕ, ◌+◌, ◌*◌, ◌≤◌, ℤ, Bool, true, false, length, Result, Ok, Err}
 use Rattle.nano_spec.specs.declared.outcomes.Broken.{Broken}
 use Rattle.nano_spec.specs.declared.outcomes.Rule.{Rule}
 use Rattle.nano_spec.specs.declared.outcomes.Rule.TheVariants.{Ungrounded}
@@ -8,6 +8,7 @@ use Rattle.nano_spec.specs.Model.{volume}
 use Rattle.nano_spec.specs.State.{State}
 use Rattle.support_forest.specs.Standing.{Standing}
 use Rattle.vox_planes.specs.Changes.{Changes}
+use Rattle.system_state.specs.Bounds.{IsWithin}
 use Rattle.step_machine.specs.declared.TheConstants.{MOST_CHANGED}
 use Rattle.step_machine.specs.declared.machine.StepOk.{StepOk}
 use Rattle.step_machine.specs.declared.machine.StepFault.{StepFault}
@@ -20,9 +21,8 @@ pub record Situation : Type 0 where
   pub spent : Bool
 
 -- each step changes the energy by less than 3,000,000,000 either way
-pub record IsPaid (energy : ℤ) (steps : ℕ) : Type 0 where
-  pub low : neg_ℤ (pos (3000000000 * steps)) ≤ℤ energy
-  pub high : energy ≤ℤ pos (3000000000 * steps)
+abbrev pub IsPaid : ℤ → ℕ → Type 0
+IsPaid energy steps = IsWithin (3000000000 * steps) energy
 
 -- the parts of a machine belong together
 pub record IsSound (system : State) (forest : Standing) (changed : Changes) (steps : ℕ) (spent : Bool) : Type 0 where

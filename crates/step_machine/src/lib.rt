@@ -5,7 +5,6 @@ mod changes;
 mod machine;
 mod pending;
 mod runner;
-mod stub;
 mod support;
 
 pub use machine::{Machine, StepFault, StepOk};

@@ -16,9 +16,6 @@ ghost use Rattle.step_machine.specs.Edits.{is_edit};
 ghost use Rattle.step_machine.specs.Situation.{IfBroken, searched_for};
 
 use crate::MOST_CHANGED;
-use crate::stub::known::know_all;
-use crate::stub::system::System;
-use crate::stub::turns::Turns;
 use crate::support::{forest_of, harmonics_after, refit, ungrounded};
 use bot_crew::Crew;
 use energy_sum::a_step_changes_the_energy_by_little;
@@ -28,6 +25,7 @@ use std::marker::Model;
 use std::sync::ledger::Ledger;
 use step_order::stays_well_formed;
 use support_forest::Forest;
+use system_state::{System, Turns, know_all};
 use vox_geom::{Coord, Memory, Steps};
 use vox_planes::{ChangeList, Planes};
 

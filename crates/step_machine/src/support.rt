@@ -13,17 +13,16 @@ ghost use Rattle.nano_spec.specs.Step.{after, flipped};
 ghost use Rattle.nano_spec.specs.Work.{WorkOfActs, volatile_total};
 ghost use Rattle.support_forest.specs.Standing.{AreAdded, AreRemoved, IsCheap, MayAdd, MayRemove};
 ghost use Rattle.step_machine.specs.Edits.{edits_of, is_edit};
-ghost use Rattle.step_machine.specs.Turns.{AreTurns};
+ghost use Rattle.system_state.specs.Turns.{AreTurns};
 ghost use Rattle.step_machine.specs.declared.TheConstants.{MOST_CHANGED};
 
 use crate::MOST_CHANGED;
 use crate::changes::list_changes;
-use crate::stub::system::System;
-use crate::stub::turns::Turns;
 use nano_spec::{Command, Harmonics};
 use std::alloc::Global;
 use std::sync::ledger::Ledger;
 use support_forest::Forest;
+use system_state::{System, Turns};
 use vox_geom::{Coord, Memory, Region, Steps};
 use vox_planes::{ChangeList, Planes};
 
