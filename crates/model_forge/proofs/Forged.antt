@@ -1,5 +1,5 @@
 -- The whole model, of which row after row is forged.
-use Rattle.std.proofs.Common.{◌≡◌, ℕ, zero, suc, ◌+◌, ◌*◌, ◌/◌, ◌%◌, ◌<◌, ◌≤◌, refl, sym, ◌∙◌, ap, subst, inl, inr, ◌⊎◌, arith, true, false, ◌&&◌, ◌||◌, ◌==◌, length}
+use Rattle.std.proofs.Common.{◌≡◌, ℕ, zero, suc, ◌+◌, ◌*◌, ◌/◌, ◌%◌, ◌<◌, ◌≤◌, refl, sym, ◌∙◌, ap, subst, inl, inr, ◌⊎◌, arith, false, ◌&&◌, ◌||◌, ◌==◌, length}
 use Rattle.std.specs.Prelude.{nat_lt}
 use Rattle.std.proofs.Math.Nat.{div-eq_of_lt, le-div_iff_mul-le}
 use Rattle.std.proofs.lemmas.Bool.{cases_lt}
@@ -15,12 +15,7 @@ use Rattle.vox_planes.specs.Voxel.{IsWhole}
 use Rattle.vox_planes.proofs.Voxels.{get_or-where, length-where}
 use Rattle.model_forge.specs.declared.tower.Tower.{Tower}
 use Rattle.model_forge.specs.Forging.{IsForged, is_forged, row_place}
-
-lower : (a b : ℕ) → a < b → nat_lt a b ≡ true
-lower a b l = grind (arith, nat_tests)
-
-no_lower : (a b : ℕ) → b ≤ a → nat_lt a b ≡ false
-no_lower a b l = grind (arith, nat_tests)
+use Rattle.model_forge.proofs.InRow.{lower, no_lower}
 
 -- a coordinate that is not over the columns' places is void
 outside : (number r : ℕ) (tower : Tower) (c : Coord) → is_inner r c ≡ false → is_forged number r tower c ≡ false

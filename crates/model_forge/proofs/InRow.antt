@@ -13,19 +13,19 @@ use Rattle.model_forge.specs.Forging.{AreHeights, IsForged, is_forged, row_place
 
 -- ---- tests
 
-lower : (a b : ℕ) → a < b → nat_lt a b ≡ true
+pub lower : (a b : ℕ) → a < b → nat_lt a b ≡ true
 lower a b l = grind (arith, nat_tests)
 
-no_lower : (a b : ℕ) → b ≤ a → nat_lt a b ≡ false
+pub no_lower : (a b : ℕ) → b ≤ a → nat_lt a b ≡ false
 no_lower a b l = grind (arith, nat_tests)
 
-pub below : (from count p : ℕ) → p < from → is_from from count p ≡ false
+below : (from count p : ℕ) → p < from → is_from from count p ≡ false
 below from count p l = grind (arith, nat_tests)
 
-pub among : (from count p : ℕ) → from ≤ p → p < from + count → is_from from count p ≡ true
+among : (from count p : ℕ) → from ≤ p → p < from + count → is_from from count p ≡ true
 among from count p l m = grind (arith, nat_tests)
 
-pub beyond : (from count p : ℕ) → from + count ≤ p → is_from from count p ≡ false
+beyond : (from count p : ℕ) → from + count ≤ p → is_from from count p ≡ false
 beyond from count p l = grind (arith, nat_tests)
 
 same_test : (a b c d : ℕ) → a + d ≡ c + b → (a == c) ≡ (b == d)
