@@ -25,14 +25,12 @@ use Rattle.nanobot_app.specs.Outcome.{DepotRose, IsAnswer, Outcome, Outside, Sin
 use Rattle.nanobot_app.specs.Reading.{AreBoth, IsModelOf, IsSide, gone, reply_of}
 use Rattle.nanobot_app.specs.Report.{no_model, not_legal, of_verdict, status_of}
 use Rattle.nanobot_app.specs.Rows.{Row, run, IsRow}
+use Rattle.nanobot_app.proofs.Loads.{not_longer}
 use Rattle.nanobot_app.proofs.Determined.{AnswerLaw, complete, row_once}
 use Rattle.nanobot_app.proofs.Replies.{both_given, side_given}
 use Rattle.nanobot_app.proofs.Told.{if_some}
 
 -- ---- what a run that takes its trace answers
-
-not_longer : (limit size : ℕ) → size ≤ limit → nat_lt limit size ≡ false
-not_longer limit size h = grind (arith, nat_tests)
 
 taken : (files : Files) (source target : Matrix) (trace : List ℕ) (energy : ℤ) (steps : ℕ) → IsSomeAnd (content files trace) (λ bytes. TakesBytes source target bytes energy steps)
     → WithFile files trace (λ bytes. OfTrace run_limit files bytes (OfRun full_profile files source target)) (reply_of files (report.Accepted energy steps))

@@ -136,18 +136,18 @@ module _ (limit : ℕ) (profile : Profile) (files : Files) (source target : Matr
 -- ---- where a call ends
 
 -- an early stop
-pub stops : {A : Type 0} (answers : Answers) (told : Option Files) (rose wider : Type 0) (P : Files → A → Type 0) (R : Files → Report → Type 0) (M : Files → Type 0) (s : Stop) → Reads told rose P R M (Err s) → (rose → wider)
-    → IfSome told (λ files. ((r : Report) → R files r → answers files (reply_of files r)) × (M files → answers files (gone files))) → Ends answers told wider (Err s)
-stops answers told rose wider P R M (stop.Told r) reads w f = elim told as (λ o. IfSome o (λ files. R files r) → IfSome o (λ files. ((r : Report) → R files r → answers files (reply_of files r)) × (M files → answers files (gone files))) → IfSome o (λ files. answers files (reply_of files r))) [
+pub stops : {A : Type 0} (B : Type 0) (Q : Files → B → Type 0) (answers : Answers) (told : Option Files) (rose wider : Type 0) (P : Files → A → Type 0) (R : Files → Report → Type 0) (M : Files → Type 0) (s : Stop) → Reads told rose P R M (Err s) → (rose → wider)
+    → IfSome told (λ files. ((r : Report) → R files r → answers files (reply_of files r)) × (M files → answers files (gone files))) → Reads told wider Q (λ files r. answers files (reply_of files r)) (λ files. answers files (gone files)) (Err s)
+stops B Q answers told rose wider P R M (stop.Told r) reads w f = elim told as (λ o. IfSome o (λ files. R files r) → IfSome o (λ files. ((r : Report) → R files r → answers files (reply_of files r)) × (M files → answers files (gone files))) → IfSome o (λ files. answers files (reply_of files r))) [
   | None ↦ λ a b. tt
   | Some files ↦ λ a b. b.0 r a
 ] reads f
-stops answers told rose wider P R M stop.Depot (inl h) w f = inl (w h)
-stops answers told rose wider P R M stop.Depot (inr h) w f = inr (elim told as (λ o. IsSomeAnd o M → IfSome o (λ files. ((r : Report) → R files r → answers files (reply_of files r)) × (M files → answers files (gone files))) → IsSomeAnd o (λ files. answers files (gone files))) [
+stops B Q answers told rose wider P R M stop.Depot (inl h) w f = inl (w h)
+stops B Q answers told rose wider P R M stop.Depot (inr h) w f = inr (elim told as (λ o. IsSomeAnd o M → IfSome o (λ files. ((r : Report) → R files r → answers files (reply_of files r)) × (M files → answers files (gone files))) → IsSomeAnd o (λ files. answers files (gone files))) [
   | None ↦ λ a b. a
   | Some files ↦ λ a b. b.1 a
 ] h f)
-stops answers told rose wider P R M stop.Memory reads w f = tt
+stops B Q answers told rose wider P R M stop.Memory reads w f = tt
 
 -- ---- `run`
 
@@ -160,7 +160,7 @@ module _ (told : Option Files) (source target : Option (List ℕ)) (trace : List
   pub target_stops : (later : Option Files) (before between now : ℕ) (s : Stop) → later ≡ told → before ≤ between
       → Reads {A = Option Matrix} later (Rose between now) (IsSide target) (RefusesSide who.Target target) (LacksSide target) (Err s) → Ends (AnswerOf (run source target trace)) told (Rose before now) (Err s)
   target_stops later before between now s same l reads =
-      stops (AnswerOf (run source target trace)) told (Rose between now) (Rose before now) (IsSide target) (RefusesSide who.Target target) (LacksSide target) s
+      stops Report (λ files r. AnswerOf (run source target trace) files (reply_of files r)) (AnswerOf (run source target trace)) told (Rose between now) (Rose before now) (IsSide target) (RefusesSide who.Target target) (LacksSide target) s
       (subst (λ (o : Option Files). Reads {A = Option Matrix} o (Rose between now) (IsSide target) (RefusesSide who.Target target) (LacksSide target) (Err s)) same reads)
       (rose_since before between now l)
       (weaker told (λ files is. ((λ r h. side_given who.Source files _ source a _ is (side_refused who.Target files _ target r h)), (λ h. side_given who.Source files _ source a _ is (side_lacks who.Target files _ target h)))) first)
@@ -179,7 +179,7 @@ module _ (told : Option Files) (source target : Option (List ℕ)) (trace : List
         let here = subst (λ (o : Option Files). IfSome o (λ files. OnFile run_limit full_profile s t trace files r)) same reads in
         weaker told (λ files is. side_given who.Source files _ source a _ is.0.0 (side_given who.Target files _ target b _ is.0.1 (both_given files _ a b s t _ are (trace_given run_limit full_profile files s t trace r is.1)))) (both_told _ _ told (both_told _ _ told first second) here)
     run_ends later before between now s t (Err x) are same l reads =
-        stops (AnswerOf (run source target trace)) told (Rose between now) (Rose before now) (OnFile run_limit full_profile s t trace) tells_nothing (Lacks trace) x
+        stops Report (λ files r. AnswerOf (run source target trace) files (reply_of files r)) (AnswerOf (run source target trace)) told (Rose between now) (Rose before now) (OnFile run_limit full_profile s t trace) tells_nothing (Lacks trace) x
         (subst (λ (o : Option Files). Reads o (Rose between now) (OnFile run_limit full_profile s t trace) tells_nothing (Lacks trace) (Err x)) same reads)
         (rose_since before between now l)
         (weaker told (λ files is. ((λ r h. absurd h), (λ h. side_given who.Source files _ source a _ is.0 (side_given who.Target files _ target b _ is.1 (both_given files _ a b s t _ are (trace_lacks run_limit full_profile files s t trace h)))))) (both_told _ _ told first second))

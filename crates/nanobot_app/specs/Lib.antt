@@ -5,4 +5,5 @@ pub mod Parsing
 pub mod Answer
 pub mod Outcome
 pub mod Reading
+pub mod Effects
 pub mod Headline

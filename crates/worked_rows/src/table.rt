@@ -87,7 +87,7 @@ pub fn depot(alloc: Global, fails: &[u64]) -> Result<MemoryDepot, Fail> {
     Ok(depot)
 }
 
-/// Each row answers its status, and prints its line.
+/// Each row answers its status, prints its line, and stores no file `C`.
 pub fn assert_rows(rt: &impl Abort, alloc: Global, rows: &[Row]) -> Result<(), Fail> {
     for (line, bytes, status, printed) in rows {
         let words = words(alloc, line)?;
@@ -97,6 +97,7 @@ pub fn assert_rows(rt: &impl Abort, alloc: Global, rows: &[Row]) -> Result<(), F
         let answered = answer(alloc, &words, &mut depot, &mut out);
         assert_eq!(rt; out.bytes(), printed.as_bytes(), "at {}", line);
         assert_eq!(rt; answered, *status, "at {}", line);
+        assert!(rt; depot.file("C").is_none(), "at {}", line);
     }
     Ok(())
 }
