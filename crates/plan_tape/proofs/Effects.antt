@@ -1,18 +1,17 @@
 -- What a command of the only bot changes, and what it costs.
-use Rattle.std.proofs.Common.{◌≡◌, ℕ, zero, suc, ◌+◌, ◌*◌, ◌<◌, ◌≤◌, refl, sym, ◌∙◌, ap, subst, inl, inr, arith, List, [], ◌∷◌, Bool, true, false, cond, ◌&&◌, ◌||◌, not, nat_le, map}
+use Rattle.std.proofs.Common.{◌≡◌, ℕ, zero, suc, ◌+◌, ◌*◌, ◌<◌, ◌≤◌, refl, sym, ◌∙◌, ap, inl, inr, arith, List, [], ◌∷◌, Bool, true, false, cond, ◌&&◌, ◌||◌, not, nat_le, map}
 use Rattle.std.specs.Prelude.{ℤ, pos, negsuc, unsigned_abs, ◌+ℤ◌, filter, int_le}
 use Rattle.std.specs.List.{list_all}
 use Rattle.std.proofs.lemmas.Bool.Decides.{nat_tests}
 use Rattle.std.proofs.lemmas.Int.{ints}
 use Rattle.vox_geom.specs.declared.coordinate.Coord.{Coord}
 use Rattle.vox_geom.specs.declared.difference.Diff.{Diff}
-use Rattle.vox_geom.specs.Difference.{mlen}
 use Rattle.vox_geom.specs.Point.{Point, point, plus, same_point}
 use Rattle.vox_geom.specs.Region.{just, is_within}
 use Rattle.vox_geom.specs.Space.{IsInSpace, in_range, in_space, coordinate, coordinate_at, coordinates, numbers_from, place}
-use Rattle.vox_geom.proofs.Places.{coordinate_at-place, place-coordinate_at}
+use Rattle.vox_geom.proofs.Places.{place-coordinate_at}
 use Rattle.nano_spec.specs.declared.commands.Command.{Command}
-use Rattle.nano_spec.specs.declared.commands.Command.TheVariants.{Fill, Void, SMove}
+use Rattle.nano_spec.specs.declared.commands.Command.TheVariants.{Fill, Void}
 use Rattle.nano_spec.specs.declared.system.Bot.{Bot}
 use Rattle.nano_spec.specs.Act.{Act, position, filled, voided}
 use Rattle.nano_spec.specs.Energy.{group_cost, groups_cost, price, total}

@@ -1,7 +1,6 @@
 -- The only bot breaks no rule.
 use Rattle.std.proofs.Common.{◌≡◌, ℕ, refl, ap, List, [], ◌∷◌, Bool, true, false, cond, ◌&&◌, ◌||◌}
 use Rattle.std.specs.Prelude.{ℤ, None, find, IsTrue}
-use Rattle.vox_geom.specs.declared.coordinate.Coord.{Coord}
 use Rattle.vox_geom.specs.declared.difference.Diff.{Diff}
 use Rattle.vox_geom.specs.Point.{point, plus, same_point}
 use Rattle.vox_geom.specs.Region.{between, is_within}

@@ -4,3 +4,4 @@ pub mod Runs
 pub mod Legs
 pub mod Steps
 pub mod Written
+pub mod Gone

@@ -1,13 +1,13 @@
 -- One more step of the only bot, and many moves.
-use Rattle.std.proofs.Common.{◌≡◌, ℕ, zero, suc, ◌+◌, ◌*◌, ◌<◌, ◌≤◌, refl, sym, ◌∙◌, ap, subst, arith, List, [], ◌∷◌, ◌++◌, Bool, true, false, cond, length, length-append, append_assoc, append-nil, lit<, get_or, inl, inr}
-use Rattle.std.specs.Prelude.{All, ℤ, pos, negsuc, ◌+ℤ◌, ◌-ℤ◌, unsigned_abs, Option, None, IsTrue}
+use Rattle.std.proofs.Common.{◌≡◌, ℕ, zero, suc, ◌+◌, ◌*◌, ◌<◌, refl, sym, ◌∙◌, ap, subst, arith, List, [], ◌∷◌, ◌++◌, true, false, cond, length, length-append, append_assoc, append-nil, lit<, inl, inr}
+use Rattle.std.specs.Prelude.{ℤ, pos, negsuc, ◌+ℤ◌, ◌-ℤ◌, unsigned_abs, Option, None}
 use Rattle.std.specs.Bool.{MatchBool}
 use Rattle.std.proofs.lemmas.Grind.{flat_map-append}
 use Rattle.std.proofs.lemmas.Int.{ints}
 use Rattle.vox_geom.specs.declared.coordinate.Coord.{Coord}
 use Rattle.vox_geom.specs.declared.difference.Diff.{Diff}
 use Rattle.vox_geom.specs.Difference.{mlen}
-use Rattle.vox_geom.specs.Point.{Point, point, plus, same_point}
+use Rattle.vox_geom.specs.Point.{Point, point, plus}
 use Rattle.vox_geom.specs.Region.{between}
 use Rattle.vox_geom.specs.Space.{IsInSpace, in_space, coordinate}
 use Rattle.nano_spec.specs.declared.commands.Command.{Command}
@@ -15,24 +15,23 @@ use Rattle.nano_spec.specs.declared.commands.Command.TheVariants.{Halt, Flip, SM
 use Rattle.nano_spec.specs.declared.system.Bot.{Bot}
 use Rattle.nano_spec.specs.declared.system.Harmonics.{Harmonics}
 use Rattle.nano_spec.specs.declared.system.Harmonics.TheVariants.{Low, High}
-use Rattle.nano_spec.specs.declared.system.Profile.{Profile}
-use Rattle.nano_spec.specs.Bots.{bots_after, moved}
+use Rattle.nano_spec.specs.Bots.{bots_after}
 use Rattle.nano_spec.specs.Energy.{groups_cost, upkeep, upkeep_of}
 use Rattle.nano_spec.specs.Grounded.{FirstUngrounded}
 use Rattle.nano_spec.specs.Matrix.{Matrix, is_full}
 use Rattle.nano_spec.specs.Next.{Next, Goes, settled}
 use Rattle.nano_spec.specs.Rules.{broken}
 use Rattle.nano_spec.specs.Spelling.{spelling, spellings}
-use Rattle.nano_spec.specs.State.{State, is_high, origin, first_bot}
+use Rattle.nano_spec.specs.State.{State, is_high, origin}
 use Rattle.nano_spec.specs.Step.{after, matrix_after, harmonics_after, flipped}
 use Rattle.step_order.proofs.Voxels.{in_space_is}
 use Rattle.vox_planes.specs.Voxel.{IsWhole, with_voxel}
 use Rattle.plan_tape.specs.declared.axis.Axis.{Axis}
 use Rattle.plan_tape.specs.declared.axis.Axis.TheVariants.{X, Y, Z}
 use Rattle.plan_tape.specs.Leg.{AreLegs, AreVoidTo, IsLeg, IsOnward, IsVoidAlong, MayMove, along, component_of, distance, gap, moves_to, put}
-use Rattle.plan_tape.specs.Progress.{IsAllowed, IsBounded, IsHeld, IsReachable, IsReached, IsVoid, Progress, Writes, beside, bots_at, bytes, spot, starting, state_of, upkeep_of_step}
-use Rattle.plan_tape.specs.Reaches.{Reaches, starts, steps_on}
-use Rattle.plan_tape.proofs.Effects.{cost_is, fill_cost, matrix_filled, matrix_voided, of_point, untouched, void_cost}
+use Rattle.plan_tape.specs.Progress.{IsAllowed, IsHeld, IsReachable, IsVoid, Progress, beside, bots_at, spot, state_of, upkeep_of_step}
+use Rattle.plan_tape.specs.Reaches.{Reaches, steps_on}
+use Rattle.plan_tape.proofs.Effects.{cost_is, fill_cost, matrix_filled, matrix_voided, untouched, void_cost}
 use Rattle.plan_tape.proofs.Faults.{IsFaultless, fill_faults, flip_faults, halt_faults, lone, move_faults, unbroken, void_faults, with_one}
 use Rattle.plan_tape.proofs.Legs.{bots_at-bots_at, bots_at-spot, first_void, last_void, length-bots_at, mlen-along, plus-along, put-component_of, put-put, put_in_space, spot-bots_at}
 
@@ -267,7 +266,7 @@ length-joined x y z =
     let b : length (x ++ y) ≡ length x + length y = length-append x y in
     omega arith
 
-spellings-joined : (x y : List Command) → length (spellings (x ++ y)) ≡ length (spellings x) + length (spellings y)
+pub spellings-joined : (x y : List Command) → length (spellings (x ++ y)) ≡ length (spellings x) + length (spellings y)
 spellings-joined x y = ap length (flat_map-append spelling x y) ∙ length-append (spellings x) (spellings y)
 
 -- what a tape shows after moves to a coordinate

@@ -1,9 +1,8 @@
 -- What a tape is after one command of its only bot, and after many moves.
-use Rattle.std.proofs.Common.{◌≡◌, ℕ, zero, suc, ◌+◌, ◌*◌, ◌<◌, ◌≤◌, refl, sym, ◌∙◌, ap, subst, arith, List, [], ◌∷◌, ◌++◌, Bool, true, false, cond, length, None, length-append, append_assoc, append-nil, get_or}
+use Rattle.std.proofs.Common.{◌≡◌, ℕ, zero, suc, ◌+◌, ◌*◌, ◌<◌, refl, sym, ◌∙◌, ap, subst, arith, List, [], ◌∷◌, ◌++◌, true, false, cond, length, None, length-append, append-nil}
 use Rattle.std.specs.Prelude.{All, ℤ, pos, negsuc, ◌+ℤ◌, unsigned_abs}
 use Rattle.std.proofs.lemmas.Grind.{flat_map-append}
 use Rattle.std.proofs.lemmas.Int.{ints}
-use Rattle.vox_geom.specs.declared.coordinate.Coord.{Coord}
 use Rattle.vox_geom.specs.declared.difference.Diff.{Diff}
 use Rattle.vox_geom.specs.Space.{IsInSpace}
 use Rattle.nano_spec.specs.declared.commands.Command.{Command}
@@ -15,14 +14,13 @@ use Rattle.nano_spec.specs.declared.system.Profile.{Profile}
 use Rattle.nano_spec.specs.Energy.{upkeep_of}
 use Rattle.nano_spec.specs.Grounded.{FirstUngrounded}
 use Rattle.nano_spec.specs.Matrix.{Matrix, is_full}
-use Rattle.nano_spec.specs.Model.{volume}
 use Rattle.nano_spec.specs.Spelling.{spelling, spellings}
 use Rattle.nano_spec.specs.State.{origin, first_bot}
 use Rattle.nano_spec.specs.Step.{flipped}
 use Rattle.vox_planes.specs.Voxel.{IsWhole, with_voxel}
 use Rattle.plan_tape.specs.Progress.{IsAllowed, IsBounded, IsHeld, IsReachable, IsReached, Progress, Writes, beside, bytes, spot, starting, upkeep_of_step}
 use Rattle.plan_tape.specs.Reaches.{starts}
-use Rattle.plan_tape.proofs.Steps.{Does, IsRun, fills, flips, halts, one_more, only_bot, progress_after, voids}
+use Rattle.plan_tape.proofs.Steps.{Does, fills, flips, halts, one_more, only_bot, progress_after, voids}
 
 -- the tape before the first command
 pub started : (source : Matrix) (profile : Profile) → IsWhole source → FirstUngrounded source None → IsReached (starting source profile)
@@ -56,7 +54,7 @@ charged_by p count r cost result energy e f v b = record {
   bounded = subst (λ (z : ℤ). IsBounded z (p.steps + count)) (sym e) b;
 }
 
-upkeep_is : (p : Progress) → length p.bots ≡ 1 → upkeep_of_step p ≡ unsigned_abs (upkeep_of p.matrix.resolution p.harmonics 1)
+pub upkeep_is : (p : Progress) → length p.bots ≡ 1 → upkeep_of_step p ≡ unsigned_abs (upkeep_of p.matrix.resolution p.harmonics 1)
 upkeep_is p l = ap (λ n. unsigned_abs (upkeep_of p.matrix.resolution p.harmonics n)) l
 
 once : (n : ℕ) → 1 * n ≡ n

@@ -1,5 +1,5 @@
 //! Moves along an axis.
-ghost use Rattle.std.specs.Prelude.{◌≡◌, ◌≢◌, ◌⊎◌, ℕ, ◌+◌, List, ◌++◌, pos, neg_ℤ, ◌≤ℤ◌, ◌-ℤ◌, ◌<◌, ◌≤◌, vec_capacity, vec_len};
+ghost use Rattle.std.specs.Prelude.{◌≡◌, ◌≢◌, ◌⊎◌, ℕ, ◌+◌, ◌*◌, List, ◌++◌, pos, neg_ℤ, ◌≤ℤ◌, ◌-ℤ◌, ◌<◌, ◌≤◌, vec_capacity, vec_len};
 ghost use Rattle.vox_geom.specs.Space.{IsInSpace};
 ghost use Rattle.nano_spec.specs.declared.commands.Command.{Command as CommandOf};
 ghost use Rattle.plan_tape.specs.Leg.{IsLeastLeg, IsOnward, along, distance as distance_of, gap as gap_of, moves as moves_of, moves_to as moves_to_of};
@@ -43,10 +43,18 @@ pub fn moves_to(a: Coord, b: Coord) -> u32
 }
 
 /// How far one coordinate is from another along the axes.
-pub fn distance(a: Coord, b: Coord) -> u32
+fn distance(a: Coord, b: Coord) -> u32
     ensures { result ≡ distance_of a b }
 {
     u32::from(gap(a.x, b.x)) + u32::from(gap(a.y, b.y)) + u32::from(gap(a.z, b.z))
+}
+
+/// What moves along the axes from one coordinate to another cost beside their upkeep.
+pub fn cost_of_way(a: Coord, b: Coord) -> i64
+    ensures value { result ≡ pos (2 * distance_of a b) }
+    ensures most { result ≤ℤ pos (30 * moves_to_of a b) }
+{
+    2 * i64::from(distance(a, b))
 }
 
 /// Where the next move on the way ends.

@@ -12,7 +12,7 @@ ghost use Rattle.bot_crew.specs.Crew.{IsCrew};
 ghost use Rattle.plan_tape.specs.Leg.{AreVoidTo, MayMove, Moves, moves_to as moves_to_of};
 ghost use Rattle.plan_tape.specs.Progress.{AreAlike, IsAccepted, IsAllowed, IsHeld, IsReachable, Writes, beside as beside_of, spot, starting};
 
-use crate::axis::{Axis, distance, moves_to, push_leg};
+use crate::axis::{Axis, cost_of_way, moves_to, push_leg};
 use crate::costs::charged;
 use crate::voxels::is_full;
 use bot_crew::Crew;
@@ -262,7 +262,7 @@ impl Tape {
             self.matrix.resolution(),
             self.harmonics,
             count,
-            2 * i64::from(distance(from, to)),
+            cost_of_way(from, to),
         );
         self.crew.move_to(bid, to);
         self.steps += count;

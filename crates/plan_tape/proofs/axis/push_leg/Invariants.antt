@@ -1,4 +1,4 @@
-use Rattle.std.proofs.Common.{◌≡◌, ℕ, ◌+◌, ◌≤◌, List, ◌++◌, length}
+use Rattle.std.proofs.Common.{◌≡◌, ◌+◌, ◌≤◌, List, ◌++◌, length}
 use Rattle.std.specs.Prelude.{vec_capacity, vec_len}
 use Rattle.nano_spec.specs.declared.commands.Command.{Command}
 use Rattle.plan_tape.specs.Leg.{IsLeg, moves}

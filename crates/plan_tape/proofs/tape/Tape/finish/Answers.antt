@@ -1,6 +1,4 @@
-use Rattle.std.proofs.Common.{◌≡◌, rules, sym, subst, to_z, of_z, w64}
-use Rattle.std.specs.Prelude.{ℤ}
-use Rattle.plan_tape.specs.Progress.{IsAccepted}
+use Rattle.std.proofs.Common.{◌≡◌, rules, to_z, of_z, w64}
 use Rattle.plan_tape.proofs.Runs.{finished}
 use Rattle.plan_tape.proofs.tape.Tape.finish.Goals as goal
 

@@ -1,10 +1,9 @@
-use Rattle.std.proofs.Common.{◌≡◌, ◌+◌, ◌*◌, refl, rules, sym, ◌∙◌, ap, subst, true, false, cond, [], ◌∷◌, ◌++◌, pos, negsuc, to_z, of_z, w64}
+use Rattle.std.proofs.Common.{◌≡◌, ◌+◌, ◌*◌, rules, sym, ◌∙◌, ap, [], ◌∷◌, ◌++◌, pos, to_z, of_z, w64}
 use Rattle.std.specs.Prelude.{◌+ℤ◌, unsigned_abs}
 use Rattle.nano_spec.specs.declared.commands.Command.TheVariants.{Flip}
 use Rattle.nano_spec.specs.Energy.{upkeep_of}
 use Rattle.nano_spec.specs.Step.{flipped}
 use Rattle.plan_tape.specs.contracts.tape.Tape.{the_view}
-use Rattle.plan_tape.specs.Progress.{Progress}
 use Rattle.plan_tape.proofs.Written.{IsCharged, Makes, charged_by, flip_makes}
 use Rattle.plan_tape.proofs.tape.Tape.flip.Goals as goal
 use Rattle.plan_tape.proofs.tape.Tape.flip.Goals.{in-Low, in-High}

@@ -1,4 +1,4 @@
-use Rattle.std.proofs.Common.{sym, subst}
+use Rattle.std.proofs.Common.{subst}
 use Rattle.vox_planes.specs.Voxel.{IsWhole}
 use Rattle.plan_tape.proofs.Written.{started}
 use Rattle.plan_tape.proofs.tape.Tape.start_as.Goals as goal

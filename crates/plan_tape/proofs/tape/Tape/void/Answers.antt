@@ -1,4 +1,4 @@
-use Rattle.std.proofs.Common.{◌≡◌, ◌+◌, ◌*◌, refl, rules, sym, ◌∙◌, ap, subst, true, false, cond, [], ◌∷◌, ◌++◌, pos, negsuc, to_z, of_z, w64}
+use Rattle.std.proofs.Common.{◌≡◌, ◌+◌, ◌*◌, rules, ◌∙◌, ap, false, cond, [], ◌∷◌, ◌++◌, pos, negsuc, to_z, of_z, w64}
 use Rattle.std.specs.Prelude.{◌+ℤ◌, unsigned_abs}
 use Rattle.nano_spec.specs.declared.commands.Command.TheVariants.{Void}
 use Rattle.nano_spec.specs.Energy.{upkeep_of}
