@@ -6,3 +6,6 @@ mod paint;
 mod plan;
 
 pub use plan::plan_layers;
+
+#[cfg(test)]
+mod tests;
