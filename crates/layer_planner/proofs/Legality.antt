@@ -1,15 +1,16 @@
 -- Where a legal model is void, and when two models are the same.
 use Rattle.std.proofs.Common.{◌≡◌, ℕ, ◌+◌, ◌-◌, cond, ◌≤◌, ◌⊎◌, inl, inr, nat_le, nat_lt, refl, sym, ◌∙◌, ap, subst, arith, List, [], ◌∷◌, Bool, true, false, ◌&&◌, ◌||◌, not}
-use Rattle.std.specs.Prelude.{IsTrue, Option, Some, None, find, pos, MatchOption, option_map}
+use Rattle.std.specs.Prelude.{IsTrue, None, find, pos}
 use Rattle.std.proofs.lemmas.Bool.Decides.{nat_tests}
 use Rattle.vox_geom.specs.declared.coordinate.Coord.{Coord}
 use Rattle.vox_geom.specs.Point.{point}
 use Rattle.vox_geom.specs.Region.{is_between}
 use Rattle.vox_geom.specs.Space.{IsInSpace, in_space}
 use Rattle.nano_spec.specs.Grounded.{FirstUngrounded}
-use Rattle.nano_spec.specs.Legal.{Border, Floating, IsLegal, first_outside, in_legal_box}
+use Rattle.nano_spec.specs.Legal.{IsLegal, in_legal_box}
 use Rattle.nano_spec.specs.Matrix.{Matrix, empty, is_full, all_of, differ_at, matrix_where}
 use Rattle.nano_spec.specs.Verdict.{first_difference}
+use Rattle.nano_spec.proofs.Opening.{legal_is}
 use Rattle.step_order.proofs.Lists.{find_none}
 use Rattle.step_order.proofs.Voxels.{as_it_is, full_where, in_coordinates, matrix_same}
 use Rattle.vox_planes.specs.Voxel.{IsWhole}
@@ -19,18 +20,6 @@ use Rattle.layer_planner.specs.Painting.{IsPainted, IsVoidFrom, below_layer, fro
 use Rattle.layer_planner.proofs.Paints.{space}
 
 -- ---- legal models
-
-by_outside : (m : Matrix) (at : Option Coord) → first_outside m ≡ at → MatchOption at ((c : Option Coord) × FirstUngrounded m c × (None ≡ option_map Floating c)) (λ c. None ≡ Some (Border c)) → (first_outside m ≡ None) × FirstUngrounded m None
-by_outside m None e h = (e, grounded h.0 h.1 h.2)
-  where
-    grounded : (c : Option Coord) → FirstUngrounded m c → None ≡ option_map Floating c → FirstUngrounded m None
-    grounded None f g = f
-    grounded (Some c) f g = cc
-by_outside m (Some c) e h = cc
-
--- no voxel is outside the legal box, and all is grounded
-pub legal_is : (m : Matrix) → IsLegal m → (first_outside m ≡ None) × FirstUngrounded m None
-legal_is m h = by_outside m (first_outside m) refl h
 
 within : (r : ℕ) (c : Coord) (more : Bool) → (in_space r (point c) && more) ≡ true → in_space r (point c) ≡ true
 within r c more e = left (in_space r (point c)) more e

@@ -13,7 +13,7 @@ use Rattle.plan_tape.specs.Leg.{Moves, moves_to}
 use Rattle.plan_tape.specs.Progress.{Progress, Writes, beside, spot}
 use Rattle.layer_planner.specs.Painting.{CanPaint, IsPainted, Paints, coord, down, layer_bytes, voxel}
 use Rattle.layer_planner.proofs.Paints.{painted_set, voxel-is}
-use Rattle.layer_planner.proofs.Ways.{no_moves, stands_at, still_alone}
+use Rattle.layer_planner.proofs.Ways.{no_moves}
 
 -- ---- a voxel that is written from above
 
@@ -36,7 +36,7 @@ not_there y q c l e = by (voxel c.x c.y c.z q) refl
 pub wrote : (a b c : Progress) (goal : Matrix) (k : Command) (v : Bool) (cost : ℤ) (x y z : ℕ) → CanPaint a goal y → x < a.matrix.resolution → z < a.matrix.resolution → Moves a b (coord x (y + 1) z) → Writes b c k (with_voxel b.matrix (beside b down) v) b.harmonics b.bots cost → length (spelling k) ≡ 1 → is_full goal (coord x y z) ≡ v → Paints a c goal (voxel x y z) (coord x (y + 1) z) (coord x (y + 1) z) 1
 wrote a b c goal k v cost x y z ready hx hz m w s e =
     let sweep = ready.sweep in
-    let stands : spot b.bots ≡ coord x (y + 1) z = stands_at a b (coord x (y + 1) z) sweep.alone m in
+    let stands : spot b.bots ≡ coord x (y + 1) z = m.there in
     let stays : spot c.bots ≡ coord x (y + 1) z = ap spot w.bots_are ∙ stands in
     let em : c.matrix ≡ with_voxel a.matrix (coord x y z) v = w.matrix ∙ (λ i. with_voxel (m.matrix i) (below_spot b x y z stands i) v) in
     let er : c.matrix.resolution ≡ a.matrix.resolution = ap (λ (q : Matrix). q.resolution) em in
@@ -49,7 +49,7 @@ wrote a b c goal k v cost x y z ready hx hz m w s e =
       resolution = er;
       painted = painted;
       ready = record {
-        alone = ap length w.bots_are ∙ still_alone a b (coord x (y + 1) z) sweep.alone m;
+        alone = ap length w.bots_are ∙ m.alone;
         high = w.harmonics ∙ (m.harmonics ∙ sweep.high);
         full = w.profile ∙ (m.profile ∙ sweep.full);
         same = sweep.same ∙ sym er;

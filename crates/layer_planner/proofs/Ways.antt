@@ -1,15 +1,14 @@
 -- The ways above the layers that are left, and how many moves they take.
-use Rattle.std.proofs.Common.{◌≡◌, ◌⊎◌, inl, inr, ℕ, ◌+◌, ◌*◌, ◌≤◌, sym, ◌∙◌, refl, ap, arith, Bool, true, false, ◌&&◌, length, List, [], ◌∷◌}
+use Rattle.std.proofs.Common.{◌≡◌, ◌⊎◌, inl, inr, ℕ, ◌+◌, ◌*◌, ◌≤◌, sym, ◌∙◌, refl, arith, Bool, true, false, ◌&&◌}
 use Rattle.std.specs.Prelude.{pos, IsTrue}
 use Rattle.std.proofs.lemmas.Bool.Decides.{nat_tests}
 use Rattle.vox_geom.specs.declared.coordinate.Coord.{Coord}
 use Rattle.vox_geom.specs.Region.{is_between}
-use Rattle.nano_spec.specs.declared.system.Bot.{Bot}
 use Rattle.nano_spec.specs.declared.system.Harmonics.{Harmonics}
 use Rattle.nano_spec.specs.declared.system.Harmonics.TheVariants.{Low, High}
 use Rattle.nano_spec.specs.Matrix.{Matrix, is_full}
-use Rattle.plan_tape.specs.Leg.{AreVoidTo, Moves, moves, moves_to}
-use Rattle.plan_tape.specs.Progress.{IsHeld, Progress, bots_at, spot}
+use Rattle.plan_tape.specs.Leg.{AreVoidTo, moves, moves_to}
+use Rattle.plan_tape.specs.Progress.{IsHeld}
 use Rattle.layer_planner.specs.Painting.{IsVoidFrom, coord}
 
 -- ---- where all is void
@@ -63,20 +62,3 @@ next_layer r y z h l m = omega (arith)
 
 pub next_voxel : (x y z : ℕ) → 2 * moves_to (coord x y z) (coord x y (z + 1)) ≤ 2
 next_voxel x y z = omega (arith)
-
--- ---- the only bot, moved
-
-pub spot-bots_at : (bots : List Bot) (c : Coord) → length bots ≡ 1 → spot (bots_at bots c) ≡ c
-spot-bots_at [] c e = absurd (omega arith)
-spot-bots_at (b ∷ bots) c e = refl
-
-pub length-bots_at : (bots : List Bot) (c : Coord) → length (bots_at bots c) ≡ length bots
-length-bots_at [] c = refl
-length-bots_at (b ∷ bots) c = refl
-
--- what moves leave
-pub stands_at : (a b : Progress) (to : Coord) → length a.bots ≡ 1 → Moves a b to → spot b.bots ≡ to
-stands_at a b to l m = ap spot m.bots ∙ spot-bots_at a.bots to l
-
-pub still_alone : (a b : Progress) (to : Coord) → length a.bots ≡ 1 → Moves a b to → length b.bots ≡ 1
-still_alone a b to l m = ap length m.bots ∙ (length-bots_at a.bots to ∙ l)

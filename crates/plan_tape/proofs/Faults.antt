@@ -1,6 +1,6 @@
 -- The only bot breaks no rule.
-use Rattle.std.proofs.Common.{◌≡◌, ℕ, refl, ap, List, [], ◌∷◌, Bool, true, false, cond, ◌&&◌, ◌||◌}
-use Rattle.std.specs.Prelude.{ℤ, None, find, IsTrue}
+use Rattle.std.proofs.Common.{◌≡◌, ℕ, refl, ap, [], ◌∷◌, Bool, true, false, cond, ◌&&◌, ◌||◌}
+use Rattle.std.specs.Prelude.{ℤ, None, IsTrue}
 use Rattle.vox_geom.specs.declared.difference.Diff.{Diff}
 use Rattle.vox_geom.specs.Point.{point, plus, same_point}
 use Rattle.vox_geom.specs.Region.{between, is_within}
@@ -20,6 +20,7 @@ use Rattle.nano_spec.specs.Matrix.{Matrix, is_full, all_of}
 use Rattle.nano_spec.specs.Profile.{is_allowed}
 use Rattle.nano_spec.specs.Rules.{broken, fault, judge_pairs}
 use Rattle.nano_spec.specs.State.{State, origin}
+use Rattle.step_order.proofs.Lists.{none_find}
 use Rattle.plan_tape.specs.Progress.{IsVoid}
 
 -- the only bot with its command
@@ -42,10 +43,6 @@ no_pairs m a step false = refl
 pub unbroken : (m : Matrix) (h : Harmonics) (b : Bot) (e : ℤ) (profile : Profile) (k : Command) (step : ℕ) → IsFaultless m h b e profile k → broken (with_one m h b e profile) (k ∷ []) step ≡ None
 unbroken m h b e profile k step f = simp f (ap first_value (no_pairs m (lone b k) step (is_leader (lone b k ∷ []) (lone b k))))
 
-pub none_of : {A : Type 0} (test : A → Bool) (xs : List A) → ((x : A) → test x ≡ false) → find test xs ≡ None
-none_of test [] h = refl
-none_of test (x ∷ xs) h = rw (h x) (none_of test xs h)
-
 no_way : (b : Bool) → (b && false) ≡ false
 no_way true = refl
 no_way false = refl
@@ -57,30 +54,30 @@ in_the_way false full f = no_way full
 module _ (m : Matrix) (h : Harmonics) (b : Bot) (e : ℤ) (profile : Profile) where
   pub flip_faults : is_allowed profile Flip ≡ true → IsFaultless m h b e profile Flip
   flip_faults a Forbidden = rw a refl
-  flip_faults a Blocked = none_of _ (all_of m) (λ c. no_way (is_full m c))
+  flip_faults a Blocked = none_find _ (all_of m) (λ c i. no_way (is_full m c))
   flip_faults a _ = refl
 
   pub fill_faults : (d : Diff) → is_allowed profile (Fill d) ≡ true → in_space m.resolution (plus (point b.pos) d) ≡ true → IsFaultless m h b e profile (Fill d)
   fill_faults d a i Forbidden = rw a refl
   fill_faults d a i OutOfSpace = rw i refl
-  fill_faults d a i Blocked = none_of _ (all_of m) (λ c. no_way (is_full m c))
+  fill_faults d a i Blocked = none_find _ (all_of m) (λ c i. no_way (is_full m c))
   fill_faults d a i _ = refl
 
   pub void_faults : (d : Diff) → is_allowed profile (Void d) ≡ true → in_space m.resolution (plus (point b.pos) d) ≡ true → IsFaultless m h b e profile (Void d)
   void_faults d a i Forbidden = rw a refl
   void_faults d a i OutOfSpace = rw i refl
-  void_faults d a i Blocked = none_of _ (all_of m) (λ c. no_way (is_full m c))
+  void_faults d a i Blocked = none_find _ (all_of m) (λ c i. no_way (is_full m c))
   void_faults d a i _ = refl
 
   pub move_faults : (d : Diff) → is_allowed profile (SMove d) ≡ true → in_space m.resolution (plus (point b.pos) d) ≡ true → IsVoid m (between (point b.pos) (plus (point b.pos) d)) → IsFaultless m h b e profile (SMove d)
   move_faults d a i v Forbidden = rw a refl
   move_faults d a i v OutOfSpace = rw i refl
-  move_faults d a i v Blocked = none_of _ (all_of m) (λ c. in_the_way (is_within (between (point b.pos) (plus (point b.pos) d)) (point c)) (is_full m c) (v c))
+  move_faults d a i v Blocked = none_find _ (all_of m) (λ c j. in_the_way (is_within (between (point b.pos) (plus (point b.pos) d)) (point c)) (is_full m c) (v c))
   move_faults d a i v _ = refl
 
   pub halt_faults : is_allowed profile Halt ≡ true → same_point (point b.pos) (point origin) ≡ true → h ≡ Low → IsFaultless m h b e profile Halt
   halt_faults a o l Forbidden = rw a refl
   halt_faults a o l HaltOrigin = rw o refl
   halt_faults a o l HaltLow = rw l refl
-  halt_faults a o l Blocked = none_of _ (all_of m) (λ c. no_way (is_full m c))
+  halt_faults a o l Blocked = none_find _ (all_of m) (λ c i. no_way (is_full m c))
   halt_faults a o l _ = refl

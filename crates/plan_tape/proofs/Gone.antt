@@ -1,6 +1,6 @@
 -- What a tape is after its only bot went somewhere.
 use Rattle.std.proofs.Common.{◌≡◌, ℕ, zero, suc, ◌+◌, ◌*◌, ◌≤◌, refl, sym, ◌∙◌, ap, subst, arith, List, [], ◌∷◌, ◌++◌, Bool, true, false, cond, length, get_or, ◌==◌}
-use Rattle.std.specs.Prelude.{All, ℤ, pos, ◌+ℤ◌, unsigned_abs, IfSome, Some, None}
+use Rattle.std.specs.Prelude.{All, ℤ, pos, ◌+ℤ◌, IfSome, Some, None}
 use Rattle.std.proofs.lemmas.Bool.Decides.{nat_tests}
 use Rattle.std.proofs.lemmas.Int.{ints}
 use Rattle.vox_geom.specs.declared.coordinate.Coord.{Coord}
@@ -9,13 +9,13 @@ use Rattle.vox_geom.specs.Space.{IsInSpace}
 use Rattle.nano_spec.specs.declared.commands.Command.{Command}
 use Rattle.nano_spec.specs.declared.system.Bot.{Bot}
 use Rattle.nano_spec.specs.Bots.{moved}
-use Rattle.nano_spec.specs.Energy.{upkeep_of}
 use Rattle.nano_spec.specs.Spelling.{spellings}
 use Rattle.bot_crew.specs.Crew.{bot_at, bot_of, replaced, stands_at}
 use Rattle.plan_tape.specs.Leg.{AreLegs, AreVoidTo, MayMove, Moves, distance, moves_to}
 use Rattle.plan_tape.specs.Progress.{IsReached, Progress, bots_at, bytes, spot, upkeep_of_step}
+use Rattle.plan_tape.proofs.Legs.{length-bots_at, spot-bots_at}
 use Rattle.plan_tape.proofs.Steps.{IsRun, legs_bytes, progress_at, spellings-joined, walked_to}
-use Rattle.plan_tape.proofs.Written.{IsCharged, now_of, upkeep_is}
+use Rattle.plan_tape.proofs.Written.{IsCharged, now_of}
 
 -- ---- the crew of one bot
 
@@ -74,12 +74,12 @@ spot_placed p r l = by p.bots l r.placed
 
 module _ (inside old : Progress) (e : inside ≡ old) (r : IsReached inside) (to : Coord) (commands moves : List Command) (bots : List Bot) (energy : ℤ) (count : ℕ) where
   abbrev Result : Progress → Type 0
-  Result o = length o.bots ≡ 1 → MayMove o → IsInSpace o.matrix.resolution to → AreVoidTo o.matrix (spot o.bots) to → o.steps + moves_to (spot o.bots) to ≤ 1073741824 → AreLegs (spot o.bots) to moves → commands ≡ inside.commands ++ moves → bots ≡ bots_at inside.bots to → count ≡ moves_to (spot o.bots) to → IsCharged inside count (pos (2 * distance (spot o.bots) to)) energy → Comes o (now_of inside commands inside.matrix inside.harmonics bots energy count) to
+  Result o = length o.bots ≡ 1 → MayMove o → IsInSpace o.matrix.resolution to → AreVoidTo o.matrix (spot o.bots) to → o.steps + moves_to (spot o.bots) to ≤ 1073741824 → AreLegs (spot o.bots) to moves → commands ≡ inside.commands ++ moves → bots ≡ bots_at inside.bots to → count ≡ moves_to (spot o.bots) to → IsCharged o count (pos (2 * distance (spot o.bots) to)) energy → Comes o (now_of inside commands inside.matrix inside.harmonics bots energy count) to
 
   pub go_makes : Result old
   go_makes = subst Result e (λ l may t v n legs ec eb en ee.
       let paid : energy ≡ inside.energy +ℤ pos (moves_to (spot inside.bots) to * upkeep_of_step inside + 2 * distance (spot inside.bots) to) =
-      (ee.value ∙ (paid_once inside.energy (count * unsigned_abs (upkeep_of inside.matrix.resolution inside.harmonics 1)) (2 * distance (spot inside.bots) to) ∙ (λ j. inside.energy +ℤ pos (en j * sym (upkeep_is inside l) j + 2 * distance (spot inside.bots) to)))) in
+      (ee.value ∙ (paid_once inside.energy (count * upkeep_of_step inside) (2 * distance (spot inside.bots) to) ∙ ap (λ n. inside.energy +ℤ pos (n * upkeep_of_step inside + 2 * distance (spot inside.bots) to)) en)) in
       let all : progress_at inside to moves ≡ now_of inside commands inside.matrix inside.harmonics bots energy count =
       (let fc = sym ec in let fb = sym eb in let fe = sym paid in let fn = sym en in λ j. record { source = inside.source; commands = fc j; matrix = inside.matrix; harmonics = inside.harmonics; bots = fb j; energy = fe j; profile = inside.profile; steps = inside.steps + fn j }) in
       record {
@@ -100,6 +100,8 @@ module _ (inside old : Progress) (e : inside ≡ old) (r : IsReached inside) (to
           matrix = refl;
           harmonics = refl;
           bots = eb;
+          alone = ap length eb ∙ (length-bots_at inside.bots to ∙ l);
+          there = ap spot eb ∙ spot-bots_at inside.bots to l;
           energy = paid;
           steps = ap (λ k. inside.steps + k) en;
           bytes_are = bytes_gone inside (now_of inside commands inside.matrix inside.harmonics bots energy count) moves ec ∙ ap (λ k. bytes inside + k) (legs_bytes inside to moves legs);

@@ -10,9 +10,9 @@ use Rattle.nano_spec.specs.Matrix.{Matrix, is_full, all_of, differ_at}
 use Rattle.nano_spec.specs.Next.{Next, Goes}
 use Rattle.nano_spec.specs.State.{State}
 use Rattle.nano_spec.specs.Verdict.{Run, ends, goes, VerdictOf, compared}
+use Rattle.step_order.proofs.Lists.{none_find}
 use Rattle.plan_tape.specs.Progress.{AreAlike, IsAccepted, IsReached, Progress}
 use Rattle.plan_tape.specs.Reaches.{Reaches, starts, steps_on}
-use Rattle.plan_tape.proofs.Faults.{none_of}
 
 -- a step of the run
 one_more : (target : Matrix) (s t : State) (step rest : List Command) (done : ℕ) (v : Verdict) (bots : List Bot) → s.bots ≡ bots → 0 < length bots → length step ≡ length s.bots → Next s step (done + 1) (Goes t) → Run target t rest (done + 1) v → Run target s (step ++ rest) done v
@@ -36,7 +36,7 @@ alike false b e = rw (← e) refl
 accepted : {source : Matrix} {profile : Profile} {commands : List Command} {s : State} {steps : ℕ} (target : Matrix) → Reaches source profile commands s steps → s.bots ≡ [] → AreAlike s.matrix target → VerdictOf source target commands profile (Accepted s.energy steps)
 accepted {source} {profile} {commands} {s} {steps} target h none same =
     subst (λ (k : List Command). VerdictOf source target k profile (Accepted s.energy steps)) (append-nil commands)
-    (run_of target [] (Accepted s.energy steps) h (ends none (sym (ap (compared s.energy steps) (none_of (differ_at s.matrix target) (all_of s.matrix) (λ c. alike (is_full s.matrix c) (is_full target c) (same c)))))))
+    (run_of target [] (Accepted s.energy steps) h (ends none (sym (ap (compared s.energy steps) (none_find (differ_at s.matrix target) (all_of s.matrix) (λ c i. alike (is_full s.matrix c) (is_full target c) (same c)))))))
 
 -- the same of a tape
 pub finished : (p q : Progress) → p ≡ q → IsReached p → q.bots ≡ [] → (target : Matrix) → AreAlike q.matrix target → IsAccepted q.source target p.commands q.profile p.energy p.steps

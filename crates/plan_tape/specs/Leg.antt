@@ -93,6 +93,8 @@ pub record Moves (old new : Progress) (to : Coord) : Type 0 where
   pub matrix : new.matrix ≡ old.matrix
   pub harmonics : new.harmonics ≡ old.harmonics
   pub bots : new.bots ≡ bots_at old.bots to
+  pub alone : length new.bots ≡ 1
+  pub there : spot new.bots ≡ to
   pub energy : new.energy ≡ old.energy +ℤ pos (moves_to (spot old.bots) to * upkeep_of_step old + 2 * distance (spot old.bots) to)
   pub steps : new.steps ≡ old.steps + moves_to (spot old.bots) to
   pub bytes_are : bytes new ≡ bytes old + 2 * moves_to (spot old.bots) to

@@ -17,7 +17,7 @@ fn lone_upkeep(resolution: u16, harmonics: Harmonics) -> u64
 }
 
 /// The upkeep of so many steps of one bot.
-fn upkeep_of_steps(count: u32, resolution: u16, harmonics: Harmonics) -> i64
+pub fn upkeep_of_steps(count: u32, resolution: u16, harmonics: Harmonics) -> i64
     requires resolution { resolution ≤ MOST_R }
     requires count { count ≤ 1073741824 }
     ensures value { result ≡ pos (count * unsigned_abs (upkeep_of resolution harmonics 1)) }
@@ -28,22 +28,16 @@ fn upkeep_of_steps(count: u32, resolution: u16, harmonics: Harmonics) -> i64
     (u64::from(count) * each) as i64
 }
 
-/// The energy after so many more steps of one bot, which cost this together beside their upkeep.
-pub fn charged(
-    energy: i64,
-    steps: u32,
-    resolution: u16,
-    harmonics: Harmonics,
-    count: u32,
-    cost: i64,
-) -> i64
-    requires resolution { resolution ≤ MOST_R }
+/// The energy after so many more steps with this upkeep, which cost this together beside it.
+pub fn charged(energy: i64, steps: u32, count: u32, upkeep: i64, cost: i64) -> i64
     requires steps { steps + count ≤ 1073741824 }
     requires bounded { IsBounded energy steps }
+    requires least { pos 0 ≤ℤ upkeep }
+    requires most { upkeep ≤ℤ pos (1920000020 * count) }
     requires low { neg_ℤ (pos (12 * count)) ≤ℤ cost }
     requires high { cost ≤ℤ pos (30 * count) }
-    ensures value { result ≡ (energy +ℤ pos (count * unsigned_abs (upkeep_of resolution harmonics 1))) +ℤ cost }
+    ensures value { result ≡ (energy +ℤ upkeep) +ℤ cost }
     ensures bounded { IsBounded result (steps + count) }
 {
-    energy + upkeep_of_steps(count, resolution, harmonics) + cost
+    energy + upkeep + cost
 }

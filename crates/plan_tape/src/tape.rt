@@ -1,5 +1,5 @@
 //! The tape.
-ghost use Rattle.std.specs.Prelude.{◌≡◌, ◌+◌, ◌<◌, ◌≤◌, All, ◌∷◌, [], IfOk, OnOk, OnErr, cond, length, negsuc, pos, true, false, vec_capacity, vec_len};
+ghost use Rattle.std.specs.Prelude.{◌≡◌, ◌+◌, ◌*◌, ◌++◌, ◌<◌, ◌≤◌, ◌+ℤ◌, ◌≤ℤ◌, All, ◌∷◌, [], IfOk, OnOk, OnErr, cond, length, neg_ℤ, negsuc, pos, true, false, vec_capacity, vec_len};
 ghost use Rattle.vox_geom.specs.declared.coordinate.Coord.{Coord as Coordinate};
 ghost use Rattle.vox_geom.specs.Space.{IsInSpace};
 ghost use Rattle.nano_spec.specs.Grounded.{FirstUngrounded};
@@ -10,10 +10,10 @@ ghost use Rattle.nano_spec.specs.Step.{flipped};
 ghost use Rattle.vox_planes.specs.Voxel.{IsWhole, with_voxel};
 ghost use Rattle.bot_crew.specs.Crew.{IsCrew};
 ghost use Rattle.plan_tape.specs.Leg.{AreVoidTo, MayMove, Moves, moves_to as moves_to_of};
-ghost use Rattle.plan_tape.specs.Progress.{AreAlike, IsAccepted, IsAllowed, IsHeld, IsReachable, Writes, beside as beside_of, spot, starting};
+ghost use Rattle.plan_tape.specs.Progress.{AreAlike, IsAccepted, IsAllowed, IsBounded, IsHeld, IsReachable, Writes, beside as beside_of, spot, starting, upkeep_of_step};
 
 use crate::axis::{Axis, cost_of_way, moves_to, push_leg};
-use crate::costs::charged;
+use crate::costs::{charged, upkeep_of_steps};
 use crate::voxels::is_full;
 use bot_crew::Crew;
 use nano_spec::{Command, CommandList, Harmonics, Profile};
@@ -61,6 +61,16 @@ fn take_room(commands: &mut Vec<Command>, count: u32) -> Result<(), Memory>
     ensures room { OnOk result (vec_len commands.old + count ≤ vec_capacity commands.new) }
 {
     commands.reserve(count as usize)?;
+    Ok(())
+}
+
+/// Adds a command. Where there is no memory, the commands stay as they were.
+fn write(commands: &mut Vec<Command>, command: Command) -> Result<(), Memory>
+    ensures ok { OnOk result (commands.new.items ≡ commands.old.items ++ command ∷ []) }
+    ensures err { OnErr result (commands.new.items ≡ commands.old.items) }
+{
+    take_room(commands, 1)?;
+    commands.push_reserved(command);
     Ok(())
 }
 
@@ -158,6 +168,19 @@ impl Tape {
         beside
     }
 
+    /// The energy after so many more steps of the only bot, which cost this together beside their upkeep.
+    fn energy_after(&self, count: u32, cost: i64) -> i64
+        requires alone { length self.now.bots ≡ 1 }
+        requires limit { self.now.steps + count ≤ 1073741824 }
+        requires low { neg_ℤ (pos (12 * count)) ≤ℤ cost }
+        requires high { cost ≤ℤ pos (30 * count) }
+        ensures value { result ≡ (self.now.energy +ℤ pos (count * upkeep_of_step self.now)) +ℤ cost }
+        ensures bounded { IsBounded result (self.now.steps + count) }
+    {
+        let upkeep = upkeep_of_steps(count, self.matrix.resolution(), self.harmonics);
+        charged(self.energy, self.steps, count, upkeep, cost)
+    }
+
     /// The only bot changes the harmonics. Where they are Low then, each full voxel is grounded.
     pub fn flip(&mut self) -> Result<(), Memory>
         requires alone { length self.old.bots ≡ 1 }
@@ -167,16 +190,9 @@ impl Tape {
         ensures ok { OnOk result (Writes self.old self.new Command.Flip self.old.matrix (flipped self.old.harmonics) self.old.bots (pos 0)) }
         ensures err { OnErr result (self.new ≡ self.old) }
     {
-        take_room(&mut self.commands, 1)?;
-        self.commands.push_reserved(Command::Flip);
-        self.energy = charged(
-            self.energy,
-            self.steps,
-            self.matrix.resolution(),
-            self.harmonics,
-            1,
-            0,
-        );
+        let energy = self.energy_after(1, 0);
+        write(&mut self.commands, Command::Flip)?;
+        self.energy = energy;
         self.harmonics = match self.harmonics {
             Harmonics::Low => Harmonics::High,
             Harmonics::High => Harmonics::Low,
@@ -196,17 +212,10 @@ impl Tape {
         ensures err { OnErr result (self.new ≡ self.old) }
     {
         let at = self.beside(d.diff());
-        take_room(&mut self.commands, 1)?;
-        self.commands.push_reserved(Command::Fill(d));
-        let cost = if is_full(&self.matrix, at) { 6 } else { 12 };
-        self.energy = charged(
-            self.energy,
-            self.steps,
-            self.matrix.resolution(),
-            self.harmonics,
-            1,
-            cost,
-        );
+        let cost = if is_full(self.matrix(), at) { 6 } else { 12 };
+        let energy = self.energy_after(1, cost);
+        write(&mut self.commands, Command::Fill(d))?;
+        self.energy = energy;
         self.matrix.set(at, true);
         self.steps += 1;
         Ok(())
@@ -223,17 +232,10 @@ impl Tape {
         ensures err { OnErr result (self.new ≡ self.old) }
     {
         let at = self.beside(d.diff());
-        take_room(&mut self.commands, 1)?;
-        self.commands.push_reserved(Command::Void(d));
-        let cost = if is_full(&self.matrix, at) { -12 } else { 3 };
-        self.energy = charged(
-            self.energy,
-            self.steps,
-            self.matrix.resolution(),
-            self.harmonics,
-            1,
-            cost,
-        );
+        let cost = if is_full(self.matrix(), at) { -12 } else { 3 };
+        let energy = self.energy_after(1, cost);
+        write(&mut self.commands, Command::Void(d))?;
+        self.energy = energy;
         self.matrix.set(at, false);
         self.steps += 1;
         Ok(())
@@ -252,18 +254,12 @@ impl Tape {
         let from = self.spot();
         let bid = self.crew.bots()[0].bid;
         let count = moves_to(from, to);
+        let energy = self.energy_after(count, cost_of_way(from, to));
         take_room(&mut self.commands, count)?;
         push_leg(&mut self.commands, Axis::X, from.x, to.x);
         push_leg(&mut self.commands, Axis::Y, from.y, to.y);
         push_leg(&mut self.commands, Axis::Z, from.z, to.z);
-        self.energy = charged(
-            self.energy,
-            self.steps,
-            self.matrix.resolution(),
-            self.harmonics,
-            count,
-            cost_of_way(from, to),
-        );
+        self.energy = energy;
         self.crew.move_to(bid, to);
         self.steps += count;
         Ok(())
@@ -279,16 +275,9 @@ impl Tape {
         ensures ok { OnOk result (Writes self.old self.new Command.Halt self.old.matrix self.old.harmonics [] (pos 0)) }
         ensures err { OnErr result (self.new ≡ self.old) }
     {
-        take_room(&mut self.commands, 1)?;
-        self.commands.push_reserved(Command::Halt);
-        self.energy = charged(
-            self.energy,
-            self.steps,
-            self.matrix.resolution(),
-            self.harmonics,
-            1,
-            0,
-        );
+        let energy = self.energy_after(1, 0);
+        write(&mut self.commands, Command::Halt)?;
+        self.energy = energy;
         self.crew.halt();
         self.steps += 1;
         Ok(())

@@ -7,7 +7,6 @@ use Rattle.plan_tape.specs.Progress.{Progress, spot}
 use Rattle.layer_planner.specs.Painting.{coord}
 use Rattle.layer_planner.proofs.Bounds.{bytes-starting, way_up}
 use Rattle.layer_planner.proofs.Legality.{ways_home_at}
-use Rattle.layer_planner.proofs.Ways.{stands_at, still_alone}
 use Rattle.layer_planner.proofs.plan.opened.Goals as goal
 
 pub go-requires-clause-ways : goal.go-requires-clause-ways
@@ -35,8 +34,8 @@ returns-clause-opened c =
       matrix = m.matrix ∙ (w.matrix ∙ (ap (λ (x : Progress). x.matrix) e ∙ sym source));
       high = m.harmonics ∙ (w.harmonics ∙ ap (λ (x : Progress). flipped x.harmonics) e);
       full = m.profile ∙ (w.profile ∙ ap (λ (x : Progress). x.profile) e);
-      alone = still_alone t c.go.new.self to alone m;
-      there = stands_at t c.go.new.self to alone m ∙ ap (λ n. coord 0 (n - 1) 0) (c.resolution-r.ensures.value ∙ sym same);
+      alone = m.alone;
+      there = m.there ∙ ap (λ n. coord 0 (n - 1) 0) (c.resolution-r.ensures.value ∙ sym same);
       bytes_are = let one = w.bytes_are in let more = m.bytes_are in omega arith;
       steps_are = let one = w.steps in let more = m.steps in omega arith;
     }

@@ -1,13 +1,12 @@
 use Rattle.std.proofs.Common.{◌≡◌, ◌+◌, ◌*◌, refl, rules, sym, ◌∙◌, ap, subst, List, ◌++◌, append_assoc, pos, to_z, of_z, w64}
-use Rattle.std.specs.Prelude.{◌+ℤ◌, unsigned_abs, length}
+use Rattle.std.specs.Prelude.{◌+ℤ◌, length}
 use Rattle.vox_geom.specs.declared.coordinate.Coord.{Coord}
 use Rattle.nano_spec.specs.declared.commands.Command.{Command}
-use Rattle.nano_spec.specs.Energy.{upkeep_of}
 use Rattle.plan_tape.specs.contracts.tape.Tape.{the_view}
 use Rattle.plan_tape.specs.Leg.{AreLegs, distance, moves_to}
-use Rattle.plan_tape.specs.Progress.{Progress, spot}
+use Rattle.plan_tape.specs.Progress.{Progress, spot, upkeep_of_step}
 use Rattle.plan_tape.proofs.Gone.{Comes, free_one, go_makes, moved_one}
-use Rattle.plan_tape.proofs.Written.{IsCharged, charged_by}
+use Rattle.plan_tape.proofs.Written.{IsCharged, charged_as}
 use Rattle.plan_tape.proofs.tape.Tape.go.Goals as goal
 
 pub move_to-requires-clause-free : goal.move_to-requires-clause-free
@@ -24,15 +23,13 @@ legs c =
       z.2 ∙ (ap (λ xs. xs ++ z.0) (y.2 ∙ ap (λ xs. xs ++ y.0) (x.2 ∙ ap (λ xs. xs ++ x.0) c.take_room.ensures.items)) ∙ (ap (λ xs. xs ++ z.0) (append_assoc old x.0 y.0) ∙ append_assoc old (x.0 ++ y.0) z.0)),
     )
 
-charge : (c : goal.After-self-2-1) → IsCharged (the_view c.self.inside) c.moves_to-count.result (pos (2 * distance (spot c.args.self.now.bots) c.args.to)) (to_z w64 (of_z w64 c.charged-self-inside.result))
+charge : (c : goal.After-self-2-1) → IsCharged c.args.self.now c.moves_to-count.result (pos (2 * distance (spot c.args.self.now.bots) c.args.to)) (to_z w64 (of_z w64 c.energy_after-energy.result))
 charge c =
-    let r = c.self.inside in
-    let back : to_z w64 (of_z w64 c.charged-self-inside.result) ≡ c.charged-self-inside.result = search rules in
-    let value : c.charged-self-inside.result ≡ (r.energy +ℤ pos (c.moves_to-count.result * unsigned_abs (upkeep_of c.resolution.result r.harmonics 1))) +ℤ pos (2 * distance c.spot-from.result c.args.to) = search rules in
-    let cost = ap (λ p. pos (2 * distance p c.args.to)) c.spot-from.ensures.value in
-    charged_by (the_view r) c.moves_to-count.result c.resolution.result (pos (2 * distance (spot c.args.self.now.bots) c.args.to)) c.charged-self-inside.result _ back c.resolution.ensures.value (value ∙ ap (λ k. (r.energy +ℤ pos (c.moves_to-count.result * unsigned_abs (upkeep_of c.resolution.result r.harmonics 1))) +ℤ k) cost) c.charged-self-inside.ensures.bounded
+    let old = c.args.self.now in
+    let value : c.energy_after-energy.result ≡ (old.energy +ℤ pos (c.moves_to-count.result * upkeep_of_step old)) +ℤ pos (2 * distance c.spot-from.result c.args.to) = search rules in
+    charged_as old c.moves_to-count.result _ c.energy_after-energy.result _ (search rules) (value ∙ ap (λ p. (old.energy +ℤ pos (c.moves_to-count.result * upkeep_of_step old)) +ℤ pos (2 * distance p c.args.to)) c.spot-from.ensures.value) c.energy_after-energy.ensures.bounded
 
-comes : (c : goal.After-self-2-1) → Comes c.args.self.now (the_view (record { source = c.self.inside.source; commands = c.push_leg-3.new.commands; matrix = c.self.inside.matrix; harmonics = c.self.inside.harmonics; crew = c.move_to.new.self; energy = to_z w64 (of_z w64 c.charged-self-inside.result); profile = c.self.inside.profile; steps = c.self.inside.steps + c.moves_to-count.result })) c.args.to
+comes : (c : goal.After-self-2-1) → Comes c.args.self.now (the_view (record { source = c.self.inside.source; commands = c.push_leg-3.new.commands; matrix = c.self.inside.matrix; harmonics = c.self.inside.harmonics; crew = c.move_to.new.self; energy = to_z w64 (of_z w64 c.energy_after-energy.result); profile = c.self.inside.profile; steps = c.self.inside.steps + c.moves_to-count.result })) c.args.to
 comes c =
     let r = c.self.inside in
     let l = legs c in
