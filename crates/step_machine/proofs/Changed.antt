@@ -185,8 +185,8 @@ module _ (s : State) (all : List Act) (good : IsGood s all) where
         sym (as_it_is between lost.whole)
         ∙ (ap (λ r. matrix_where r (is_full between)) lost.resolution
         ∙ matrix_same s.matrix.resolution (is_full between) (λ c. is_full s.matrix c && not (is_voided all c)) (λ c w. same_test (is_full between c) (is_full s.matrix c && not (is_voided all c))
-            (is_left c w)
-            (λ e. left_is c (first (is_full s.matrix c) (not (is_voided all c)) e) (λ v. not_both (second (is_full s.matrix c) (not (is_voided all c)) e) (ap not v)))))
+        (is_left c w)
+        (λ e. left_is c (first (is_full s.matrix c) (not (is_voided all c)) e) (λ v. not_both (second (is_full s.matrix c) (not (is_voided all c)) e) (ap not v)))))
 
     module _ (new : Matrix) (won : AreAdded between new (cells_of_all s.matrix false (leaders all))) where
       there : (c : Coord) → IsInSpace s.matrix.resolution c → is_full new c ≡ true → (is_filled all c || (is_full s.matrix c && not (is_voided all c))) ≡ true
@@ -209,5 +209,5 @@ module _ (s : State) (all : List Act) (good : IsGood s all) where
           sym (as_it_is new won.whole)
           ∙ (ap (λ r. matrix_where r (is_full new)) (won.resolution ∙ lost.resolution)
           ∙ matrix_same s.matrix.resolution (is_full new) (λ c. is_filled all c || (is_full s.matrix c && not (is_voided all c))) (λ c w. same_test (is_full new c) (is_filled all c || (is_full s.matrix c && not (is_voided all c)))
-              (there c w)
-              (λ e. back c w (one_of (is_filled all c) (is_full s.matrix c && not (is_voided all c)) e))))
+          (there c w)
+          (λ e. back c w (one_of (is_filled all c) (is_full s.matrix c && not (is_voided all c)) e))))

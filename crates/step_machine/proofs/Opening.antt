@@ -87,8 +87,8 @@ module _ (m : Matrix) (r : ℕ) (k : Corners) (cells : List Coord) (h : AreFull 
       sym (as_it_is new b.whole)
       ∙ (ap (λ n. matrix_where n (is_full new)) (b.resolution ∙ h.resolution)
       ∙ (matrix_same m.resolution (is_full new) (is_full m) (λ c w. same_test (is_full new c) (is_full m c)
-          (λ f. by c (b.full c f))
-          (λ f. b.added c (holds c cells (subst (λ (xs : List Coord). In c xs) (sym all_full) (in_filter (is_full m) c (all_of m) (in_coordinates m.resolution c w) f)))))
+      (λ f. by c (b.full c f))
+      (λ f. b.added c (holds c cells (subst (λ (xs : List Coord). In c xs) (sym all_full) (in_filter (is_full m) c (all_of m) (in_coordinates m.resolution c w) f)))))
       ∙ as_it_is m h.whole.voxels))
     where
       by : (c : Coord) → IsTrue (is_full (empty r) c) ⊎ Contains cells c → is_full m c ≡ true

@@ -227,10 +227,10 @@ module _ (s : State) (all : List Act) (good : IsGood s all) where
 
   fits : (l : Act) → In l (leaders all) → Fits l (member_count all l)
   fits l i = (
-      none_of_either (λ t. not (length (members all l) == 2 ^ dimension t)) (λ t. repeats (flat_map (λ b. corners_of (position b) b.command) (members all l))) (group_regions (position l) l.command)
-      (not_here l (is_misshapen all l) (good.keeps l GroupShape (lead l i) (inr (inr (inr (inr (inr (inr (inr (inr (inr (inl refl)))))))))))),
-      some_in l (members all l) (in_filter (are_together l) l all (lead l i) (with_itself l)),
-    )
+    none_of_either (λ t. not (length (members all l) == 2 ^ dimension t)) (λ t. repeats (flat_map (λ b. corners_of (position b) b.command) (members all l))) (group_regions (position l) l.command)
+        (not_here l (is_misshapen all l) (good.keeps l GroupShape (lead l i) (inr (inr (inr (inr (inr (inr (inr (inr (inr (inl refl)))))))))))),
+    some_in l (members all l) (in_filter (are_together l) l all (lead l i) (with_itself l)),
+  )
 
   pub changes_most : length all ≤ 40 → ((a : Act) → In a all → is_command a.command ≡ true) → edits_total s.matrix true (leaders all) + edits_total s.matrix false (leaders all) ≤ 148955
   changes_most few are =

@@ -56,10 +56,10 @@ module _ (s : State) (commands : List Command) (step : ℕ) (ready : IsReady s) 
       let e = edits_one s.matrix l in
       let own = filter_in (is_leader (acts s.bots commands)) l (acts s.bots commands) i in
       let le = count_le (is_edited (empties l.command) l) (λ c. list_any (is_volatile_of (point c)) (filter (stays_in_space s.matrix.resolution) (members (acts s.bots commands) l)))
-          (λ c h. in_any (is_volatile_of (point c)) l (filter (stays_in_space s.matrix.resolution) (members (acts s.bots commands) l))
-              (in_filter (stays_in_space s.matrix.resolution) l (members (acts s.bots commands) l) (in_filter (are_together l) l (acts s.bots commands) own.0 (with_itself l)) (leader_stays s commands step ready keeps l i))
-              (edits_own (empties l.command) l c h))
-          (all_of s.matrix) in
+      (λ c h. in_any (is_volatile_of (point c)) l (filter (stays_in_space s.matrix.resolution) (members (acts s.bots commands) l))
+      (in_filter (stays_in_space s.matrix.resolution) l (members (acts s.bots commands) l) (in_filter (are_together l) l (acts s.bots commands) own.0 (with_itself l)) (leader_stays s commands step ready keeps l i))
+      (edits_own (empties l.command) l c h))
+      (all_of s.matrix) in
       omega (arith, e, le)
 
   pub edits_are_volatile : edits_total s.matrix true (leaders (acts s.bots commands)) + edits_total s.matrix false (leaders (acts s.bots commands)) ≤ volatile_total s.matrix (acts s.bots commands)
@@ -103,7 +103,7 @@ module _ (s : State) (commands : List Command) (step : ℕ) (ready : IsReady s) 
   pub all_change : length (edits_of s commands true) + length (edits_of s commands false) ≤ changed_count s.matrix (matrix_after s.matrix (acts s.bots commands))
   all_change =
       let l = no_more (edits_of s commands true ++ edits_of s commands false) (filter (differ_at s.matrix (matrix_after s.matrix (acts s.bots commands))) (all_of s.matrix)) apart_all
-          (λ c i. by c (in_either c (edits_of s commands true) (edits_of s commands false) i)) in
+      (λ c i. by c (in_either c (edits_of s commands true) (edits_of s commands false) i)) in
       let n = length-append (edits_of s commands true) (edits_of s commands false) in
       let e = length-filter (differ_at s.matrix (matrix_after s.matrix (acts s.bots commands))) (all_of s.matrix) in
       omega (arith, l, n, e)
@@ -114,9 +114,9 @@ module _ (s : State) (commands : List Command) (step : ℕ) (ready : IsReady s) 
 
   -- the touches of the list, of what is removed and of what is added
   pub refit_touches : (between new : Matrix) (front back : List Coord) (before listed middle after n : ℕ) → between ≡ without_voided s.matrix (acts s.bots commands) → new ≡ matrix_after s.matrix (acts s.bots commands) → front ≡ edits_of s commands true → back ≡ edits_of s commands false → listed ≤ before + volatile_total s.matrix (acts s.bots commands)
-    → ((first last : List (Option ℕ)) → Levels s.matrix first → Levels between last → middle ≤ listed + 100 * (length front + differing first last))
-    → ((first last : List (Option ℕ)) → Levels between first → Levels new last → after ≤ middle + 100 * (length back + differing first last))
-    → WorkOfActs s.matrix (acts s.bots commands) n → after + 99 * volatile_total s.matrix (acts s.bots commands) ≤ before + 100 * n
+      → ((first last : List (Option ℕ)) → Levels s.matrix first → Levels between last → middle ≤ listed + 100 * (length front + differing first last))
+      → ((first last : List (Option ℕ)) → Levels between first → Levels new last → after ≤ middle + 100 * (length back + differing first last))
+      → WorkOfActs s.matrix (acts s.bots commands) n → after + 99 * volatile_total s.matrix (acts s.bots commands) ≤ before + 100 * n
   refit_touches between new front back before listed middle after n b a f g l lose win w =
       let levels = w.0 in
       let lost = lose levels.before levels.between levels.before_are (subst (λ (m : Matrix). Levels m levels.between) (sym b) levels.between_are) in

@@ -44,7 +44,11 @@ pub(crate) fn forest_of<L: Ledger>(
         z: r - 1,
     };
     let mut full = ChangeList::with_room(alloc, side * side * side)?;
-    matrix.list_full(&Region::of(Coord { x: 0, y: 0, z: 0 }, last), &mut full, steps);
+    matrix.list_full(
+        &Region::of(Coord { x: 0, y: 0, z: 0 }, last),
+        &mut full,
+        steps,
+    );
     let mut forest = Forest::empty(alloc, r)?;
     match forest.add(full.as_slice(), steps) {
         Ok(()) => Ok(forest),
@@ -76,11 +80,7 @@ fn remove<L: Ledger>(
 }
 
 /// Cells that become full. Memory may be refused only where there are some.
-fn add<L: Ledger>(
-    forest: &mut Forest,
-    cells: &[Coord],
-    steps: &mut Steps<L>,
-) -> Result<(), Memory>
+fn add<L: Ledger>(forest: &mut Forest, cells: &[Coord], steps: &mut Steps<L>) -> Result<(), Memory>
     requires stands { forest.old.spent ≡ false }
     requires cells { MayAdd forest.old.matrix cells.now }
     ensures value { IfOk result (λ _. AreAdded forest.old.matrix forest.new.matrix cells.now) }

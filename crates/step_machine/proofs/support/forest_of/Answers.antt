@@ -9,7 +9,10 @@ pub add-requires : goal.add-requires
 add-requires g c =
     let m = c.args.matrix.now in
     let full : AreFull m c.resolution-r.result c.of.result c.as_slice.result.now = record {
-      whole = c.resolution-r.ensures.whole; resolution = c.resolution-r.ensures.value; region = c.of.ensures.corners; covers = c.of.ensures.covers;
+      whole = c.resolution-r.ensures.whole;
+      resolution = c.resolution-r.ensures.value;
+      region = c.of.ensures.corners;
+      covers = c.of.ensures.covers;
       cells_are = c.as_slice.ensures ∙ (c.list_full.ensures.items ∙ ap (λ xs. xs ++ filter (λ x. is_full m x && is_within (span c.of.result) (point x)) (all_of m)) c.in_ok-full.ensures.empty);
     } in
     λ _. may_add_all m c.resolution-r.result c.of.result c.as_slice.result.now full c.in_ok-forest.forest.matrix c.in_ok-forest.ensures.value
@@ -18,7 +21,10 @@ pub returns-in-Ok-clause-value : goal.returns-in-Ok-clause-value
 returns-in-Ok-clause-value g c =
     let m = c.args.matrix.now in
     let full : AreFull m c.resolution-r.result c.of.result c.as_slice.result.now = record {
-      whole = c.resolution-r.ensures.whole; resolution = c.resolution-r.ensures.value; region = c.of.ensures.corners; covers = c.of.ensures.covers;
+      whole = c.resolution-r.ensures.whole;
+      resolution = c.resolution-r.ensures.value;
+      region = c.of.ensures.corners;
+      covers = c.of.ensures.covers;
       cells_are = c.as_slice.ensures ∙ (c.list_full.ensures.items ∙ ap (λ xs. xs ++ filter (λ x. is_full m x && is_within (span c.of.result) (point x)) (all_of m)) c.in_ok-full.ensures.empty);
     } in
     added_all m c.resolution-r.result c.of.result c.as_slice.result.now full c.in_ok-forest.forest.matrix c.add.new.self.matrix c.in_ok-forest.ensures.value c.in-Ok.ensures.value
@@ -27,7 +33,10 @@ pub returns-in-Ok-clause-touches : goal.returns-in-Ok-clause-touches
 returns-in-Ok-clause-touches g c =
     let m = c.args.matrix.now in
     let full : AreFull m c.resolution-r.result c.of.result c.as_slice.result.now = record {
-      whole = c.resolution-r.ensures.whole; resolution = c.resolution-r.ensures.value; region = c.of.ensures.corners; covers = c.of.ensures.covers;
+      whole = c.resolution-r.ensures.whole;
+      resolution = c.resolution-r.ensures.value;
+      region = c.of.ensures.corners;
+      covers = c.of.ensures.covers;
       cells_are = c.as_slice.ensures ∙ (c.list_full.ensures.items ∙ ap (λ xs. xs ++ filter (λ x. is_full m x && is_within (span c.of.result) (point x)) (all_of m)) c.in_ok-full.ensures.empty);
     } in
     touches_all m c.resolution-r.result c.of.result c.as_slice.result.now full c.args.steps.now c.list_full.new.steps c.add.new.steps c.list_full.ensures.touches
