@@ -20,7 +20,7 @@ use Rattle.nanobot_app.specs.declared.report.Who.{Who}
 use Rattle.nanobot_app.specs.declared.report.Who.TheVariants as who
 use Rattle.nanobot_app.specs.declared.status.Status.{Status}
 use Rattle.nanobot_app.specs.declared.status.Status.TheVariants as is
-use Rattle.nanobot_app.specs.Answer.{Answer, AnswerOf, Judged, OfBytes, OfDecoding, OfReading, OfRun, OfText, OfTrace, Reply, WithBoth, WithFile, WithModel, WithSide, dis_limit, not_built, run_limit, text_limit}
+use Rattle.nanobot_app.specs.Answer.{Answer, AnswerOf, Judged, OfBytes, OfDecoding, OfReading, OfRun, OfText, OfTrace, Reply, WithBoth, WithFile, WithModel, WithSide, dis_limit, run_limit, text_limit}
 use Rattle.nanobot_app.specs.Outcome.{DepotRose, IsAnswer, LacksFile, Outcome, Outside, SinkRose}
 use Rattle.nanobot_app.specs.Reading.{gone, reply_of}
 use Rattle.nanobot_app.specs.Report.{faulty_text, not_legal, no_model, of_verdict}
@@ -125,11 +125,7 @@ module _ (legality : LegalityLaw) (decoding : DecodingLaw) (verdicts : VerdictLa
     both_once (Some a) (Some b) p f r s h k = choice_once (a.resolution == b.resolution) (p a b) (λ r. r ≡ reply_of files (report.Resolutions a.resolution b.resolution)) (f a b) (same_reply (reply_of files (report.Resolutions a.resolution b.resolution))) r s h k
 
     run_once : (profile : Profile) (source target : Matrix) (commands : List Command) → Once (OfRun profile files source target commands)
-    run_once profile source target commands = by (not_built 0 commands)
-      where
-        by : (o : Option ℕ) → Once (λ r. MatchOption o ((v : Verdict) × VerdictOf source target commands profile v × (r ≡ reply_of files (of_verdict v))) (λ offset. r ≡ reply_of files (report.NotBuilt offset)))
-        by None r s h k = h.2 ∙ (ap (λ (v : Verdict). reply_of files (of_verdict v)) (verdicts source target commands profile h.0 k.0 h.1 k.1) ∙ sym k.2)
-        by (Some offset) r s h k = same_reply (reply_of files (report.NotBuilt offset)) r s h k
+    run_once profile source target commands r s h k = h.2 ∙ (ap (λ (v : Verdict). reply_of files (of_verdict v)) (verdicts source target commands profile h.0 k.0 h.1 k.1) ∙ sym k.2)
 
     decoded_once : (d : Result (List Command) NoTrace) (p : List Command → Reply → Type 0) → ((commands : List Command) → Once (p commands)) → Once (OfDecoding files d p)
     decoded_once (Ok commands) p f = f commands
@@ -201,4 +197,3 @@ complete {stores} law words old new result o no_depot no_sink = if_some old.file
     by files told reply a is.Model o = inl (answered files told reply a is.Model tt o)
     by files told reply a is.Trace o = inl (answered files told reply a is.Trace tt o)
     by files told reply a is.Text o = inl (answered files told reply a is.Text tt o)
-    by files told reply a is.NotYet o = inl (answered files told reply a is.NotYet tt o)

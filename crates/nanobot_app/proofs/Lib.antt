@@ -1,15 +1,12 @@
-pub mod Begun
 pub mod Cut
 pub mod Determined
-pub mod Effects
+pub mod Empty
 pub mod Headlines
 pub mod Loads
-pub mod Lone
 pub mod Outcomes
 pub mod Parsed
 pub mod Replies
 pub mod Running
-pub mod Stepping
 pub mod Stored
 pub mod Told
 pub mod Tracing

@@ -40,7 +40,6 @@ is_answer (report.TraceCut offset) = tt
 is_answer (report.TraceLong limit) = tt
 is_answer (report.Text fault) = tt
 is_answer (report.TextLong limit) = tt
-is_answer (report.NotBuilt offset) = tt
 
 module _ {answers : Answers} {stores : List ℕ → Type 0} (old new : Outside) where
   -- a line is printed, and the files stand as the answer says

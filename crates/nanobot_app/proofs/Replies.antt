@@ -3,13 +3,11 @@ use Rattle.std.proofs.Common.{◌≡◌, ℕ, ◌≤◌, ◌==◌, List, length,
 use Rattle.std.specs.Prelude.{Option, Some, None, Result, Ok, Err, MatchOption, MatchBool, IfSome, IsSomeAnd}
 use Rattle.std.proofs.lemmas.Bool.Decides.{nat_tests}
 use Rattle.nano_spec.specs.declared.commands.Command.{Command}
-use Rattle.nano_spec.specs.declared.outcomes.Verdict.{Verdict}
 use Rattle.nano_spec.specs.declared.system.Profile.{Profile}
 use Rattle.nano_spec.specs.Cutting.{Decoding, NoTrace, BadAt, CutAt}
 use Rattle.nano_spec.specs.Legal.{IsLegal}
 use Rattle.nano_spec.specs.Matrix.{Matrix}
 use Rattle.nano_spec.specs.Model.{NoModel, model}
-use Rattle.nano_spec.specs.Verdict.{VerdictOf}
 use Rattle.vox_depot.specs.Causes.{Rose}
 use Rattle.vox_depot.specs.Files.{Files, content}
 use Rattle.nanobot_app.specs.declared.report.Report.{Report}
@@ -20,9 +18,8 @@ use Rattle.nanobot_app.specs.declared.stop.Stop.TheVariants as stop
 use Rattle.nanobot_app.specs.declared.report.Who.TheVariants as who
 use Rattle.nano_spec.specs.Profile.{full_profile}
 use Rattle.nanobot_app.specs.Rows.{run}
-use Rattle.nanobot_app.specs.Answer.{AnswerOf, Answers, run_limit, OfBytes, OfDecoding, OfRun, OfTrace, Reply, WithBoth, WithFile, WithModel, WithSide, not_built}
+use Rattle.nanobot_app.specs.Answer.{AnswerOf, Answers, run_limit, OfBytes, OfDecoding, OfRun, OfTrace, Reply, WithBoth, WithFile, WithModel, WithSide}
 use Rattle.nanobot_app.specs.Reading.{AreBoth, AreUnlike, Ends, IsModelOf, IsSide, Lacks, LacksSide, OnBytes, OnCommands, OnDecoding, OnFile, OnTrace, Reads, RefusesBytes, RefusesFile, RefusesSide, gone, reply_of, tells_nothing}
-use Rattle.nanobot_app.specs.Report.{of_verdict}
 use Rattle.nanobot_app.proofs.Told.{weaker}
 
 -- ---- counts of faults
@@ -102,12 +99,7 @@ module _ (files : Files) (p : Matrix → Matrix → Reply → Type 0) where
 
 module _ (limit : ℕ) (profile : Profile) (files : Files) (source target : Matrix) where
   of_commands : (commands : List Command) (told : Report) → OnCommands profile source target commands told → OfRun profile files source target commands (reply_of files told)
-  of_commands commands told h = by (not_built 0 commands) h
-    where
-      by : (o : Option ℕ) → MatchOption o ((verdict : Verdict) × VerdictOf source target commands profile verdict × (told ≡ of_verdict verdict)) (λ offset. told ≡ report.NotBuilt offset)
-          → MatchOption o ((verdict : Verdict) × VerdictOf source target commands profile verdict × (reply_of files told ≡ reply_of files (of_verdict verdict))) (λ offset. reply_of files told ≡ reply_of files (report.NotBuilt offset))
-      by None h = (h.0, h.1, ap (reply_of files) h.2)
-      by (Some offset) h = ap (reply_of files) h
+  of_commands commands told h = (h.0, h.1, ap (reply_of files) h.2)
 
   of_decoding : (decoding : Result (List Command) NoTrace) (told : Report) → OnDecoding profile source target decoding told → OfDecoding files decoding (OfRun profile files source target) (reply_of files told)
   of_decoding (Ok commands) told h = of_commands commands told h

@@ -1,5 +1,5 @@
 -- What is answered to the words over known files: a status, a line and the files afterwards (docs/FORMATS.md, "Printed lines").
-use Rattle.std.specs.Prelude.{◌≡◌, ◌⊎◌, ℕ, ◌+◌, cond, nat_lt, ◌==◌, List, [], ◌∷◌, length, count_by, Option, Some, None, Result, Ok, Err, MatchOption, MatchBool}
+use Rattle.std.specs.Prelude.{◌≡◌, ◌⊎◌, ℕ, nat_lt, ◌==◌, List, [], length, count_by, Option, Some, None, Result, Ok, Err, MatchOption, MatchBool}
 use Rattle.std.specs.FinMap as finite
 use Rattle.nano_spec.specs.declared.commands.Command.{Command}
 use Rattle.nano_spec.specs.declared.outcomes.Verdict.{Verdict}
@@ -12,16 +12,15 @@ use Rattle.nano_spec.specs.Model.{NoModel, model, written}
 use Rattle.nano_spec.specs.Printing.{print}
 use Rattle.nano_spec.specs.Profile.{full_profile}
 use Rattle.nano_spec.specs.Reading.{FaultyLine, read}
-use Rattle.nano_spec.specs.Spelling.{spelling, spellings}
+use Rattle.nano_spec.specs.Spelling.{spellings}
 use Rattle.nano_spec.specs.Verdict.{VerdictOf}
 use Rattle.vox_depot.specs.Files.{Files, content}
 use Rattle.nanobot_app.specs.declared.report.Report.{Report}
-use Rattle.nanobot_app.specs.declared.report.Report.TheVariants.{Forged, Legal, Model, NotBuilt, Resolutions, Stored, TextLong, TraceBad, TraceCut, TraceLong}
+use Rattle.nanobot_app.specs.declared.report.Report.TheVariants.{Forged, Legal, Model, Resolutions, Stored, TextLong, TraceBad, TraceCut, TraceLong}
 use Rattle.nanobot_app.specs.declared.report.Who.{Who}
 use Rattle.nanobot_app.specs.declared.report.Who.TheVariants as who
 use Rattle.nanobot_app.specs.declared.status.Status.{Status}
 use Rattle.nanobot_app.specs.declared.status.Status.TheVariants as is
-use Rattle.nanobot_app.specs.OneBot.{is_built}
 use Rattle.nanobot_app.specs.Report.{faulty_text, line_of, no_model, not_legal, of_verdict, status_of, words_line}
 use Rattle.nanobot_app.specs.Rows.{Row, asm, check, dis, make, run, IsRow, IsInNoRow}
 
@@ -117,17 +116,9 @@ OfText files bytes p reply = MatchBool (nat_lt text_limit (length bytes)) (Tells
 
 -- ---- runs
 
--- the offset of the first command that the program does not take yet
-abbrev pub not_built : ℕ → List Command → Option ℕ
-not_built offset [] = None
-not_built offset (command ∷ more) = cond (is_built command) (not_built (offset + length (spelling command)) more) (Some offset)
-
 -- the verdict of the commands
 abbrev pub OfRun : Profile → Files → Matrix → Matrix → List Command → Reply → Type 0
-OfRun profile files source target commands reply =
-    MatchOption (not_built 0 commands)
-    ((verdict : Verdict) × VerdictOf source target commands profile verdict × Tells (of_verdict verdict) files reply)
-    (λ offset. Tells (NotBuilt offset) files reply)
+OfRun profile files source target commands reply = (verdict : Verdict) × VerdictOf source target commands profile verdict × Tells (of_verdict verdict) files reply
 
 -- ---- the rows
 

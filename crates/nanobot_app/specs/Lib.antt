@@ -1,4 +1,3 @@
-pub mod OneBot
 pub mod Report
 pub mod Rows
 pub mod Parsing

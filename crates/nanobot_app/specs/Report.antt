@@ -36,7 +36,6 @@ code_of is.Depot = 5
 code_of is.Sink = 6
 code_of is.Memory = 7
 code_of is.Text = 8
-code_of is.NotYet = 10
 
 -- the status of a report
 abbrev pub status_of : Report → Status
@@ -52,7 +51,6 @@ status_of (report.TraceCut offset) = is.Trace
 status_of (report.TraceLong limit) = is.Trace
 status_of (report.Text fault) = is.Text
 status_of (report.TextLong limit) = is.Text
-status_of (report.NotBuilt offset) = is.NotYet
 
 -- whose model is refused
 abbrev pub who_of : Who → List ℕ
@@ -109,7 +107,6 @@ line_of (report.TraceCut offset) = concat (codes "trace cut at " ∷ decimal off
 line_of (report.TraceLong limit) = concat (codes "trace longer than " ∷ decimal limit ∷ codes "\n" ∷ [])
 line_of (report.Text fault) = text_line fault
 line_of (report.TextLong limit) = concat (codes "text longer than " ∷ decimal limit ∷ codes "\n" ∷ [])
-line_of (report.NotBuilt offset) = concat (codes "not built at " ∷ decimal offset ∷ codes "\n" ∷ [])
 
 -- ---- what the definitions come to, as reports
 

@@ -7,7 +7,6 @@ mod laws;
 mod models;
 mod report;
 mod rows;
-mod runner;
 mod status;
 mod stop;
 mod top_call;

@@ -45,8 +45,6 @@ pub enum Report {
     Text(TextFault),
     /// A text has more bytes than that.
     TextLong { limit: u64 },
-    /// The program does not take the command that begins there yet.
-    NotBuilt { offset: u64 },
 }
 
 impl Who {
@@ -178,7 +176,6 @@ impl Report {
                 Status::Trace
             }
             Report::Text(_) | Report::TextLong { .. } => Status::Text,
-            Report::NotBuilt { .. } => Status::NotYet,
         }
     }
 
@@ -209,7 +206,6 @@ impl Report {
             Report::TraceLong { limit } => format!(in alloc; "trace longer than {limit}\n"),
             Report::Text(fault) => text_line(alloc, *fault),
             Report::TextLong { limit } => format!(in alloc; "text longer than {limit}\n"),
-            Report::NotBuilt { offset } => format!(in alloc; "not built at {offset}\n"),
         }
     }
 }
