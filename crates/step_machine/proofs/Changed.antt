@@ -1,16 +1,16 @@
 -- The voxels that the groups of a step change, taken together.
-use Rattle.std.proofs.Common.{◌≡◌, ◌≢◌, ℕ, ◌*◌, refl, sym, ◌∙◌, ap, subst, inl, inr, ◌⊎◌, arith, List, [], ◌∷◌, Bool, true, false, ◌&&◌, ◌||◌, not, length}
-use Rattle.std.specs.Prelude.{ℤ, int_le, filter, IsTrue, IsFalse}
-use Rattle.std.specs.List.{AllPairs, Contains, list_any}
+use Rattle.std.proofs.Common.{◌≡◌, ℕ, refl, sym, ◌∙◌, ap, subst, inl, inr, ◌⊎◌, List, [], ◌∷◌, Bool, true, false, ◌&&◌, ◌||◌, not}
+use Rattle.std.specs.Prelude.{ℤ, int_le, IsTrue}
+use Rattle.std.specs.List.{Contains, list_any}
 use native.Mathlib.Decide.{ℕ_discrete}
 use Rattle.vox_geom.specs.declared.coordinate.Coord.{Coord}
 use Rattle.vox_geom.specs.Point.{Point, plus, point}
 use Rattle.vox_geom.specs.Region.{Span, between, is_between, is_within, same_region}
-use Rattle.vox_geom.specs.Space.{IsInSpace, coordinates}
+use Rattle.vox_geom.specs.Space.{IsInSpace}
 use Rattle.nano_spec.specs.declared.commands.Command.{Command}
 use Rattle.nano_spec.specs.declared.commands.Command.TheVariants.{FusionP, FusionS, GFill, GVoid}
 use Rattle.nano_spec.specs.Act.{Act, filled, position, voided}
-use Rattle.nano_spec.specs.Group.{are_partners, are_together, fuse, is_leader, is_pair, leaders, members, share_region}
+use Rattle.nano_spec.specs.Group.{are_together, fuse, is_leader, is_pair, leaders, members, share_region}
 use Rattle.nano_spec.specs.Matrix.{Matrix, all_of, is_full, matrix_where}
 use Rattle.nano_spec.specs.State.{State}
 use Rattle.nano_spec.specs.Step.{is_filled, is_voided, matrix_after}
@@ -23,8 +23,8 @@ use Rattle.step_order.proofs.Facts.{IsGood}
 use Rattle.step_order.proofs.Groups.{Differ, differ_acts, differ_filter, led}
 use Rattle.step_order.proofs.Lists.{In, any_in, both, by_left, by_right, filter_in, first, flat_in, in_any, in_filter, in_flat, is_false, not_both, one_of, same_test, second, true_or_false}
 use Rattle.step_order.proofs.Together.{Together, extent_is, itself, partners, region_parts, shares, together_is, with_itself}
-use Rattle.step_order.proofs.Voxels.{as_it_is, coordinates_within, full_where, in_coordinates, matrix_same}
-use Rattle.step_machine.specs.Edits.{cells_of, cells_of_all, edited, is_edited}
+use Rattle.step_order.proofs.Voxels.{as_it_is, coordinates_within, in_coordinates, matrix_same}
+use Rattle.step_machine.specs.Edits.{cells_of, cells_of_all, is_edited}
 use Rattle.step_machine.proofs.Apart.{Apart, apart_coordinates, apart_filter, apart_flat, held, holds, pairs_of}
 use Rattle.step_machine.proofs.Regions.{one_edit}
 
@@ -185,8 +185,8 @@ module _ (s : State) (all : List Act) (good : IsGood s all) where
         sym (as_it_is between lost.whole)
         ∙ (ap (λ r. matrix_where r (is_full between)) lost.resolution
         ∙ matrix_same s.matrix.resolution (is_full between) (λ c. is_full s.matrix c && not (is_voided all c)) (λ c w. same_test (is_full between c) (is_full s.matrix c && not (is_voided all c))
-            (is_left c w)
-            (λ e. left_is c (first (is_full s.matrix c) (not (is_voided all c)) e) (λ v. not_both (second (is_full s.matrix c) (not (is_voided all c)) e) (ap not v)))))
+        (is_left c w)
+        (λ e. left_is c (first (is_full s.matrix c) (not (is_voided all c)) e) (λ v. not_both (second (is_full s.matrix c) (not (is_voided all c)) e) (ap not v)))))
 
     module _ (new : Matrix) (won : AreAdded between new (cells_of_all s.matrix false (leaders all))) where
       there : (c : Coord) → IsInSpace s.matrix.resolution c → is_full new c ≡ true → (is_filled all c || (is_full s.matrix c && not (is_voided all c))) ≡ true
@@ -209,5 +209,5 @@ module _ (s : State) (all : List Act) (good : IsGood s all) where
           sym (as_it_is new won.whole)
           ∙ (ap (λ r. matrix_where r (is_full new)) (won.resolution ∙ lost.resolution)
           ∙ matrix_same s.matrix.resolution (is_full new) (λ c. is_filled all c || (is_full s.matrix c && not (is_voided all c))) (λ c w. same_test (is_full new c) (is_filled all c || (is_full s.matrix c && not (is_voided all c)))
-              (there c w)
-              (λ e. back c w (one_of (is_filled all c) (is_full s.matrix c && not (is_voided all c)) e))))
+          (there c w)
+          (λ e. back c w (one_of (is_filled all c) (is_full s.matrix c && not (is_voided all c)) e))))

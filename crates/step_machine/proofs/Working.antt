@@ -1,12 +1,11 @@
 -- How often a step touches voxels, by its work.
-use Rattle.std.proofs.Common.{◌≡◌, ℕ, ◌+◌, ◌*◌, ◌≤◌, ◌<◌, refl, sym, ◌∙◌, ap, subst, inl, inr, ◌⊎◌, arith, List, [], ◌∷◌, ◌++◌, Bool, true, false, ◌&&◌, ◌||◌, not, map, length, length-append}
-use Rattle.std.specs.Prelude.{Option, Some, None, count_by, filter, sum, sum_by, slice_get, option_map}
+use Rattle.std.proofs.Common.{◌≡◌, ℕ, ◌+◌, ◌*◌, ◌≤◌, ◌<◌, refl, sym, ◌∙◌, ap, subst, inl, inr, ◌⊎◌, arith, List, [], ◌∷◌, ◌++◌, Bool, true, false, ◌&&◌, ◌||◌, not, length, length-append}
+use Rattle.std.specs.Prelude.{Option, Some, None, count_by, filter, sum_by, slice_get, option_map}
 use Rattle.std.specs.List.{list_any}
 use Rattle.std.proofs.lemmas.List.Sums.{length-filter, sum-map, sum_by-cons}
 use Rattle.std.proofs.lemmas.Option.{slice_get_within}
 use Rattle.vox_geom.specs.declared.coordinate.Coord.{Coord}
 use Rattle.vox_geom.specs.Point.{point}
-use Rattle.vox_geom.specs.Space.{IsInSpace}
 use Rattle.nano_spec.specs.declared.commands.Command.{Command}
 use Rattle.nano_spec.specs.declared.outcomes.Broken.{Broken}
 use Rattle.nano_spec.specs.declared.outcomes.Rule.{Rule}
@@ -20,13 +19,13 @@ use Rattle.nano_spec.specs.Rules.{broken, judge_bots, judge_pairs, judge_trace, 
 use Rattle.nano_spec.specs.State.{IsReady, State}
 use Rattle.nano_spec.specs.Step.{after, is_filled, is_voided, matrix_after}
 use Rattle.nano_spec.specs.Volatile.{is_volatile_of}
-use Rattle.nano_spec.specs.Work.{Levels, LevelsOfStep, WorkOfActs, WorkOfJudged, WorkOfStep, changed_count, differing, volatile_count, volatile_total, without_voided, work_by_rule}
+use Rattle.nano_spec.specs.Work.{Levels, WorkOfActs, WorkOfJudged, WorkOfStep, changed_count, differing, volatile_count, volatile_total, without_voided, work_by_rule}
 use Rattle.support_forest.proofs.Counts.{count_le}
 use Rattle.step_order.proofs.Facts.{IsGood, good_is}
-use Rattle.step_order.proofs.Lists.{In, both, by_left, by_right, filter_in, in_any, in_either, in_filter, is_false, not_both, true_or_false}
+use Rattle.step_order.proofs.Lists.{In, both, by_left, by_right, filter_in, in_any, in_either, in_filter, not_both}
 use Rattle.step_order.proofs.Together.{with_itself}
 use Rattle.step_order.proofs.Voxels.{full_where, in_coordinates}
-use Rattle.step_machine.specs.Edits.{cells_of_all, edit_count, edits_of, edits_total, is_edited}
+use Rattle.step_machine.specs.Edits.{edit_count, edits_of, edits_total, is_edited}
 use Rattle.step_machine.proofs.Apart.{Apart, apart_append}
 use Rattle.step_machine.proofs.Acting.{leader_stays}
 use Rattle.step_machine.proofs.Changed.{cell_of, cells_apart, edits_own, one_way, void_state}
@@ -56,10 +55,10 @@ module _ (s : State) (commands : List Command) (step : ℕ) (ready : IsReady s) 
       let e = edits_one s.matrix l in
       let own = filter_in (is_leader (acts s.bots commands)) l (acts s.bots commands) i in
       let le = count_le (is_edited (empties l.command) l) (λ c. list_any (is_volatile_of (point c)) (filter (stays_in_space s.matrix.resolution) (members (acts s.bots commands) l)))
-          (λ c h. in_any (is_volatile_of (point c)) l (filter (stays_in_space s.matrix.resolution) (members (acts s.bots commands) l))
-              (in_filter (stays_in_space s.matrix.resolution) l (members (acts s.bots commands) l) (in_filter (are_together l) l (acts s.bots commands) own.0 (with_itself l)) (leader_stays s commands step ready keeps l i))
-              (edits_own (empties l.command) l c h))
-          (all_of s.matrix) in
+      (λ c h. in_any (is_volatile_of (point c)) l (filter (stays_in_space s.matrix.resolution) (members (acts s.bots commands) l))
+      (in_filter (stays_in_space s.matrix.resolution) l (members (acts s.bots commands) l) (in_filter (are_together l) l (acts s.bots commands) own.0 (with_itself l)) (leader_stays s commands step ready keeps l i))
+      (edits_own (empties l.command) l c h))
+      (all_of s.matrix) in
       omega (arith, e, le)
 
   pub edits_are_volatile : edits_total s.matrix true (leaders (acts s.bots commands)) + edits_total s.matrix false (leaders (acts s.bots commands)) ≤ volatile_total s.matrix (acts s.bots commands)
@@ -103,7 +102,7 @@ module _ (s : State) (commands : List Command) (step : ℕ) (ready : IsReady s) 
   pub all_change : length (edits_of s commands true) + length (edits_of s commands false) ≤ changed_count s.matrix (matrix_after s.matrix (acts s.bots commands))
   all_change =
       let l = no_more (edits_of s commands true ++ edits_of s commands false) (filter (differ_at s.matrix (matrix_after s.matrix (acts s.bots commands))) (all_of s.matrix)) apart_all
-          (λ c i. by c (in_either c (edits_of s commands true) (edits_of s commands false) i)) in
+      (λ c i. by c (in_either c (edits_of s commands true) (edits_of s commands false) i)) in
       let n = length-append (edits_of s commands true) (edits_of s commands false) in
       let e = length-filter (differ_at s.matrix (matrix_after s.matrix (acts s.bots commands))) (all_of s.matrix) in
       omega (arith, l, n, e)
@@ -114,9 +113,9 @@ module _ (s : State) (commands : List Command) (step : ℕ) (ready : IsReady s) 
 
   -- the touches of the list, of what is removed and of what is added
   pub refit_touches : (between new : Matrix) (front back : List Coord) (before listed middle after n : ℕ) → between ≡ without_voided s.matrix (acts s.bots commands) → new ≡ matrix_after s.matrix (acts s.bots commands) → front ≡ edits_of s commands true → back ≡ edits_of s commands false → listed ≤ before + volatile_total s.matrix (acts s.bots commands)
-    → ((first last : List (Option ℕ)) → Levels s.matrix first → Levels between last → middle ≤ listed + 100 * (length front + differing first last))
-    → ((first last : List (Option ℕ)) → Levels between first → Levels new last → after ≤ middle + 100 * (length back + differing first last))
-    → WorkOfActs s.matrix (acts s.bots commands) n → after + 99 * volatile_total s.matrix (acts s.bots commands) ≤ before + 100 * n
+      → ((first last : List (Option ℕ)) → Levels s.matrix first → Levels between last → middle ≤ listed + 100 * (length front + differing first last))
+      → ((first last : List (Option ℕ)) → Levels between first → Levels new last → after ≤ middle + 100 * (length back + differing first last))
+      → WorkOfActs s.matrix (acts s.bots commands) n → after + 99 * volatile_total s.matrix (acts s.bots commands) ≤ before + 100 * n
   refit_touches between new front back before listed middle after n b a f g l lose win w =
       let levels = w.0 in
       let lost = lose levels.before levels.between levels.before_are (subst (λ (m : Matrix). Levels m levels.between) (sym b) levels.between_are) in

@@ -73,11 +73,7 @@ impl Runner {
 
     /// What one more command changes. Memory spends the runner, and comes only where the command makes a step in which
     /// some command fills or voids. No touch where it makes no step.
-    pub fn push<L: Ledger>(
-        &mut self,
-        command: Command,
-        steps: &mut Steps<L>,
-    ) -> Result<(), Memory>
+    pub fn push<L: Ledger>(&mut self, command: Command, steps: &mut Steps<L>) -> Result<(), Memory>
         requires stands { self.old.spent ≡ false }
         requires steps { self.old.progress.steps < 1073741824 }
         ensures progress { IfOk result (λ _. Pushes self.old.progress command self.new.progress) }

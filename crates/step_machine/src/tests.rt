@@ -68,7 +68,12 @@ fn step<L: Ledger>(
 }
 
 /// The level of a voxel.
-fn level<L: Ledger>(rt: &impl Abort, machine: &Machine, c: Coord, steps: &mut Steps<L>) -> Option<u32> {
+fn level<L: Ledger>(
+    rt: &impl Abort,
+    machine: &Machine,
+    c: Coord,
+    steps: &mut Steps<L>,
+) -> Option<u32> {
     let resolution = machine.matrix().resolution();
     assert!(rt; !machine.spent());
     assert!(rt; c.x < resolution);
@@ -87,11 +92,29 @@ fn posts<L: Ledger>(rt: &impl Abort, blank: Blank, alloc: Global) -> Result<(), 
     let empty = source(rt, alloc, 4, &[], &mut steps)?;
     let mut machine = Machine::start(alloc, empty, Profile::full(), &mut steps)?;
     let fill = [Command::Fill(near(rt, 1, 0, 0))];
-    assert_eq!(rt; step(rt, &mut machine, &fill, &mut steps), Ok(StepOk { energy: 224, halted: false }));
+    assert_eq!(rt;
+        step(rt, &mut machine, &fill, &mut steps),
+        Ok(StepOk {
+            energy: 224,
+            halted: false
+        })
+    );
     let fill = [Command::Fill(near(rt, 1, 1, 0))];
-    assert_eq!(rt; step(rt, &mut machine, &fill, &mut steps), Ok(StepOk { energy: 448, halted: false }));
-    assert_eq!(rt; level(rt, &machine, Coord { x: 1, y: 1, z: 0 }, &mut steps), Some(1));
-    assert_eq!(rt; level(rt, &machine, Coord { x: 1, y: 2, z: 0 }, &mut steps), None);
+    assert_eq!(rt;
+        step(rt, &mut machine, &fill, &mut steps),
+        Ok(StepOk {
+            energy: 448,
+            halted: false
+        })
+    );
+    assert_eq!(rt;
+        level(rt, &machine, Coord { x: 1, y: 1, z: 0 }, &mut steps),
+        Some(1)
+    );
+    assert_eq!(rt;
+        level(rt, &machine, Coord { x: 1, y: 2, z: 0 }, &mut steps),
+        None
+    );
     let void = [Command::Void(near(rt, 1, 0, 0))];
     let broken = Broken {
         step: 3,
@@ -99,8 +122,14 @@ fn posts<L: Ledger>(rt: &impl Abort, blank: Blank, alloc: Global) -> Result<(), 
         rule: Rule::Ungrounded,
         at: Coord { x: 1, y: 1, z: 0 },
     };
-    assert_eq!(rt; step(rt, &mut machine, &void, &mut steps), Err(StepFault::Broken(broken)));
-    assert_eq!(rt; step(rt, &mut machine, &void, &mut steps), Err(StepFault::Spent));
+    assert_eq!(rt;
+        step(rt, &mut machine, &void, &mut steps),
+        Err(StepFault::Broken(broken))
+    );
+    assert_eq!(rt;
+        step(rt, &mut machine, &void, &mut steps),
+        Err(StepFault::Spent)
+    );
     assert_eq!(rt; machine.energy(), 448);
     assert_eq!(rt; machine.harmonics(), Harmonics::Low);
     assert_eq!(rt; machine.crew().count(), 1);
@@ -124,13 +153,40 @@ fn eight_bots<L: Ledger>(rt: &impl Abort, machine: &mut Machine, steps: &mut Ste
     assert!(rt; step(rt, machine, &part, steps).is_ok());
     let rise = [Command::Fission(near(rt, 0, 1, 0), 1), on()];
     assert!(rt; step(rt, machine, &rise, steps).is_ok());
-    let more = [Command::Fission(near(rt, 0, 0, 1), 0), Command::Fission(near(rt, 0, 1, 0), 1), up()];
+    let more = [
+        Command::Fission(near(rt, 0, 0, 1), 0),
+        Command::Fission(near(rt, 0, 1, 0), 1),
+        up(),
+    ];
     assert!(rt; step(rt, machine, &more, steps).is_ok());
-    let five = [Command::Wait, Command::Fission(near(rt, 0, 0, 1), 0), up(), Command::Fission(near(rt, 0, 0, 1), 0), on()];
+    let five = [
+        Command::Wait,
+        Command::Fission(near(rt, 0, 0, 1), 0),
+        up(),
+        Command::Fission(near(rt, 0, 0, 1), 0),
+        on(),
+    ];
     assert!(rt; step(rt, machine, &five, steps).is_ok());
-    let seven = [Command::Wait, Command::Wait, Command::Fission(near(rt, 0, 0, 1), 0), on(), Command::Wait, on(), Command::Wait];
+    let seven = [
+        Command::Wait,
+        Command::Wait,
+        Command::Fission(near(rt, 0, 0, 1), 0),
+        on(),
+        Command::Wait,
+        on(),
+        Command::Wait,
+    ];
     assert!(rt; step(rt, machine, &seven, steps).is_ok());
-    let last = [Command::Wait, Command::Wait, Command::Wait, on(), Command::Wait, Command::Wait, Command::Wait, Command::Wait];
+    let last = [
+        Command::Wait,
+        Command::Wait,
+        Command::Wait,
+        on(),
+        Command::Wait,
+        Command::Wait,
+        Command::Wait,
+        Command::Wait,
+    ];
     assert!(rt; step(rt, machine, &last, steps).is_ok());
 }
 
@@ -165,7 +221,13 @@ fn block<L: Ledger>(rt: &impl Abort, blank: Blank, alloc: Global) -> Result<(), 
     ];
     assert!(rt; before >= 0);
     assert!(rt; before <= 1_000_000);
-    assert_eq!(rt; step(rt, &mut machine, &void, &mut steps), Ok(StepOk { energy: before + 211, halted: false }));
+    assert_eq!(rt;
+        step(rt, &mut machine, &void, &mut steps),
+        Ok(StepOk {
+            energy: before + 211,
+            halted: false
+        })
+    );
     assert_eq!(rt; machine.matrix().count(&mut steps), 0);
     assert!(rt; !machine.spent());
     assert_eq!(rt; machine.forest().floating(), 0);
@@ -221,7 +283,10 @@ fn traces<L: Ledger>(rt: &impl Abort, blank: Blank, alloc: Global) -> Result<(),
         energy: 420,
         steps: 4,
     };
-    assert_eq!(rt; verdict(rt, alloc, &filled, &trace[..4], &mut steps)?, accepted);
+    assert_eq!(rt;
+        verdict(rt, alloc, &filled, &trace[..4], &mut steps)?,
+        accepted
+    );
     let ends = refused(4, 1, Rule::TraceEnds, origin);
     assert_eq!(rt; verdict(rt, alloc, &filled, &trace[..3], &mut steps)?, ends);
     let after = refused(4, 0, Rule::AfterHalt, origin);

@@ -50,9 +50,9 @@ returns-in-Ok-clause-touches g c =
     ok_both c.add.result (λ _. AreAdded c.remove.new.forest.matrix c.add.new.forest.matrix c.split_at.result.1.now) (λ _. IsCheap c.remove.new.forest.matrix c.add.new.forest.matrix c.split_at.result.1.now 100 c.remove.new.steps c.add.new.steps)
     (λ _. (n : ℕ) → WorkOfActs c.args.system.now.matrix (acts c.args.system.now.bots c.args.commands.now) n → c.add.new.steps + 99 * volatile_total c.args.system.now.matrix (acts c.args.system.now.bots c.args.commands.now) ≤ c.args.steps.now + 100 * n)
     (λ _ won cheap n w.
-        refit_touches c.args.system.now c.args.commands.now c.requires.judged.0 c.crew.ensures.ready c.requires.judged.1 c.remove.new.forest.matrix c.add.new.forest.matrix c.split_at.result.0.now c.split_at.result.1.now c.args.steps.now c.list_edits-voided.new.steps c.remove.new.steps c.add.new.steps n between
-        (refitted c.args.system.now c.args.commands.now c.requires.judged.0 c.crew.ensures.ready c.requires.judged.1 c.args.forest.now.matrix c.remove.new.forest.matrix c.split_at.result.0.now c.split_at.result.1.now c.requires.tied front back c.in-Ok.ensures.value c.add.new.forest.matrix won)
-        front back c.list_edits-voided.ensures.touches
-        (λ first last f l. c.in-Ok.ensures.touches first last (subst (λ (m : Matrix). Levels m first) (sym c.requires.tied) f) l)
-        cheap w)
+    refit_touches c.args.system.now c.args.commands.now c.requires.judged.0 c.crew.ensures.ready c.requires.judged.1 c.remove.new.forest.matrix c.add.new.forest.matrix c.split_at.result.0.now c.split_at.result.1.now c.args.steps.now c.list_edits-voided.new.steps c.remove.new.steps c.add.new.steps n between
+    (refitted c.args.system.now c.args.commands.now c.requires.judged.0 c.crew.ensures.ready c.requires.judged.1 c.args.forest.now.matrix c.remove.new.forest.matrix c.split_at.result.0.now c.split_at.result.1.now c.requires.tied front back c.in-Ok.ensures.value c.add.new.forest.matrix won)
+    front back c.list_edits-voided.ensures.touches
+    (λ first last f l. c.in-Ok.ensures.touches first last (subst (λ (m : Matrix). Levels m first) (sym c.requires.tied) f) l)
+    cheap w)
     c.add.ensures.value c.add.ensures.touches
