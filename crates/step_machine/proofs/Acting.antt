@@ -1,13 +1,13 @@
 -- What is known of the acts of a step that breaks no rule.
-use Rattle.std.proofs.Common.{◌≡◌, ℕ, refl, sym, ◌∙◌, ap, inl, inr, List, [], ◌∷◌, Bool, true, false, not}
-use Rattle.std.specs.Prelude.{Some, None, IsTrue, find}
+use Rattle.std.proofs.Common.{◌≡◌, ℕ, refl, inl, inr, List, Bool, true, false, not}
+use Rattle.std.specs.Prelude.{None, IsTrue}
 use Rattle.nano_spec.specs.declared.commands.Command.{Command}
 use Rattle.nano_spec.specs.declared.outcomes.Rule.TheVariants.{OutOfSpace}
 use Rattle.nano_spec.specs.Act.{Act, acts, stays_in_space}
 use Rattle.nano_spec.specs.Group.{is_leader, leaders}
 use Rattle.nano_spec.specs.Rules.{broken, here}
 use Rattle.nano_spec.specs.State.{IsReady, State}
-use Rattle.step_order.proofs.Facts.{IsGood, good_is}
+use Rattle.step_order.proofs.Facts.{good_is}
 use Rattle.step_order.proofs.Lists.{In, filter_in}
 
 not_here : (a : Act) (b : Bool) → here a (not b) ≡ None → b ≡ true

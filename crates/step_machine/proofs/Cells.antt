@@ -1,6 +1,6 @@
 -- The voxels that one act changes.
-use Rattle.std.proofs.Common.{◌≡◌, ℕ, ◌+◌, ◌≤◌, refl, sym, ◌∙◌, ap, inl, arith, List, [], ◌∷◌, ◌++◌, Bool, true, false, ◌&&◌, length}
-use Rattle.std.specs.Prelude.{count_by, filter, Some, None}
+use Rattle.std.proofs.Common.{◌≡◌, ℕ, ◌+◌, ◌≤◌, refl, sym, ◌∙◌, ap, inl, arith, List, [], ◌∷◌, ◌++◌, Bool, false, ◌&&◌, length}
+use Rattle.std.specs.Prelude.{count_by, filter}
 use Rattle.std.proofs.lemmas.List.Sums.{length-filter}
 use Rattle.std.proofs.Common.{length-append}
 use Rattle.std.proofs.lemmas.List.{append-nil}
@@ -9,8 +9,6 @@ use Rattle.vox_geom.specs.Point.{point}
 use Rattle.vox_geom.specs.Region.{Corners, IsOrdered, is_within, size, span}
 use Rattle.vox_geom.specs.Space.{IsInSpace, coordinates}
 use Rattle.vox_geom.proofs.Counts.{region_count}
-use Rattle.nano_spec.specs.declared.commands.Command.{Command}
-use Rattle.nano_spec.specs.declared.system.Bot.{Bot}
 use Rattle.nano_spec.specs.Act.{Act}
 use Rattle.nano_spec.specs.Matrix.{Matrix, all_of}
 use Rattle.vox_planes.specs.Voxel.{is_state}

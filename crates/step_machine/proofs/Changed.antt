@@ -1,16 +1,16 @@
 -- The voxels that the groups of a step change, taken together.
-use Rattle.std.proofs.Common.{◌≡◌, ◌≢◌, ℕ, ◌*◌, refl, sym, ◌∙◌, ap, subst, inl, inr, ◌⊎◌, arith, List, [], ◌∷◌, Bool, true, false, ◌&&◌, ◌||◌, not, length}
-use Rattle.std.specs.Prelude.{ℤ, int_le, filter, IsTrue, IsFalse}
-use Rattle.std.specs.List.{AllPairs, Contains, list_any}
+use Rattle.std.proofs.Common.{◌≡◌, ℕ, refl, sym, ◌∙◌, ap, subst, inl, inr, ◌⊎◌, List, [], ◌∷◌, Bool, true, false, ◌&&◌, ◌||◌, not}
+use Rattle.std.specs.Prelude.{ℤ, int_le, IsTrue}
+use Rattle.std.specs.List.{Contains, list_any}
 use native.Mathlib.Decide.{ℕ_discrete}
 use Rattle.vox_geom.specs.declared.coordinate.Coord.{Coord}
 use Rattle.vox_geom.specs.Point.{Point, plus, point}
 use Rattle.vox_geom.specs.Region.{Span, between, is_between, is_within, same_region}
-use Rattle.vox_geom.specs.Space.{IsInSpace, coordinates}
+use Rattle.vox_geom.specs.Space.{IsInSpace}
 use Rattle.nano_spec.specs.declared.commands.Command.{Command}
 use Rattle.nano_spec.specs.declared.commands.Command.TheVariants.{FusionP, FusionS, GFill, GVoid}
 use Rattle.nano_spec.specs.Act.{Act, filled, position, voided}
-use Rattle.nano_spec.specs.Group.{are_partners, are_together, fuse, is_leader, is_pair, leaders, members, share_region}
+use Rattle.nano_spec.specs.Group.{are_together, fuse, is_leader, is_pair, leaders, members, share_region}
 use Rattle.nano_spec.specs.Matrix.{Matrix, all_of, is_full, matrix_where}
 use Rattle.nano_spec.specs.State.{State}
 use Rattle.nano_spec.specs.Step.{is_filled, is_voided, matrix_after}
@@ -23,8 +23,8 @@ use Rattle.step_order.proofs.Facts.{IsGood}
 use Rattle.step_order.proofs.Groups.{Differ, differ_acts, differ_filter, led}
 use Rattle.step_order.proofs.Lists.{In, any_in, both, by_left, by_right, filter_in, first, flat_in, in_any, in_filter, in_flat, is_false, not_both, one_of, same_test, second, true_or_false}
 use Rattle.step_order.proofs.Together.{Together, extent_is, itself, partners, region_parts, shares, together_is, with_itself}
-use Rattle.step_order.proofs.Voxels.{as_it_is, coordinates_within, full_where, in_coordinates, matrix_same}
-use Rattle.step_machine.specs.Edits.{cells_of, cells_of_all, edited, is_edited}
+use Rattle.step_order.proofs.Voxels.{as_it_is, coordinates_within, in_coordinates, matrix_same}
+use Rattle.step_machine.specs.Edits.{cells_of, cells_of_all, is_edited}
 use Rattle.step_machine.proofs.Apart.{Apart, apart_coordinates, apart_filter, apart_flat, held, holds, pairs_of}
 use Rattle.step_machine.proofs.Regions.{one_edit}
 

@@ -1,5 +1,5 @@
 -- The region that a command fills or voids, and the coordinates that it has.
-use Rattle.std.proofs.Common.{◌≡◌, ℕ, ◌<◌, refl, sym, ◌∙◌, ap, arith, List, [], ◌∷◌, Bool, true, false, cond, ◌||◌, not}
+use Rattle.std.proofs.Common.{◌≡◌, ℕ, refl, sym, ◌∙◌, ap, arith, List, [], ◌∷◌, Bool, true, false, cond, ◌||◌, not}
 use Rattle.std.specs.Bool.{beq}
 use Rattle.std.specs.Prelude.{max}
 use Rattle.std.specs.List.{list_any}

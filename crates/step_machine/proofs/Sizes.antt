@@ -1,7 +1,7 @@
 -- How many voxels the groups of a step change at most.
-use Rattle.std.proofs.Common.{◌≡◌, ℕ, zero, suc, ◌+◌, ◌*◌, ◌≤◌, ◌<◌, ◌^◌, ◌||◌, ◌==◌, not, refl, sym, ◌∙◌, ap, inl, inr, arith, List, [], ◌∷◌, ◌++◌, Bool, true, false, cond, length, length-append, subst}
-use Rattle.std.specs.Prelude.{count_by, filter, sum_by, flat_map, ℤ, ◌+ℤ◌, unsigned_abs, IsTrue, None, nat_le}
-use Rattle.std.specs.List.{list_any, AllByRecursion}
+use Rattle.std.proofs.Common.{◌≡◌, ℕ, suc, ◌+◌, ◌*◌, ◌≤◌, ◌^◌, ◌||◌, ◌==◌, not, refl, sym, ◌∙◌, ap, inl, inr, arith, List, [], ◌∷◌, Bool, true, false, cond, length, length-append, subst}
+use Rattle.std.specs.Prelude.{count_by, sum_by, flat_map, ℤ, ◌+ℤ◌, unsigned_abs, None, nat_le}
+use Rattle.std.specs.List.{list_any}
 use Rattle.std.proofs.lemmas.Bool.Decides.{nat_tests}
 use Rattle.std.proofs.lemmas.Int.{ints}
 use Rattle.std.proofs.lemmas.List.Sums.{sum_by-cons}
@@ -28,7 +28,7 @@ use Rattle.step_order.proofs.Facts.{IsGood}
 use Rattle.step_order.proofs.Groups.{Differ, differ_acts}
 use Rattle.step_order.proofs.Together.{number_is, together_back, together_on, with_itself}
 use Rattle.step_machine.proofs.Apart.{Apart, apart_filter, apart_flat}
-use Rattle.step_machine.specs.Edits.{edit_count, edits_total, is_edited}
+use Rattle.step_machine.specs.Edits.{edit_count, edits_total}
 use Rattle.system_state.specs.Effects.{act}
 
 -- ---- a region by its dimension

@@ -1,6 +1,6 @@
 -- The groups of a step, turn by turn.
 use Rattle.std.proofs.Common.{◌≡◌, ℕ, zero, suc, ◌+◌, ◌<◌, ◌≤◌, refl, sym, ◌∙◌, ap, arith, inl, inr, List, [], ◌∷◌, ◌++◌, Bool, length, get_or, drop, subst, append_assoc}
-use Rattle.std.specs.Prelude.{Some, None, slice_get, slice_index_or, IsTrue}
+use Rattle.std.specs.Prelude.{Some, slice_get, slice_index_or}
 use Rattle.std.proofs.lemmas.List.{append-nil, drop_all}
 use Rattle.std.proofs.lemmas.List.Sums.{sum_by-cons}
 use Rattle.nano_spec.specs.Group.{leaders}

@@ -1,12 +1,11 @@
 -- How often a step touches voxels, by its work.
-use Rattle.std.proofs.Common.{◌≡◌, ℕ, ◌+◌, ◌*◌, ◌≤◌, ◌<◌, refl, sym, ◌∙◌, ap, subst, inl, inr, ◌⊎◌, arith, List, [], ◌∷◌, ◌++◌, Bool, true, false, ◌&&◌, ◌||◌, not, map, length, length-append}
-use Rattle.std.specs.Prelude.{Option, Some, None, count_by, filter, sum, sum_by, slice_get, option_map}
+use Rattle.std.proofs.Common.{◌≡◌, ℕ, ◌+◌, ◌*◌, ◌≤◌, ◌<◌, refl, sym, ◌∙◌, ap, subst, inl, inr, ◌⊎◌, arith, List, [], ◌∷◌, ◌++◌, Bool, true, false, ◌&&◌, ◌||◌, not, length, length-append}
+use Rattle.std.specs.Prelude.{Option, Some, None, count_by, filter, sum_by, slice_get, option_map}
 use Rattle.std.specs.List.{list_any}
 use Rattle.std.proofs.lemmas.List.Sums.{length-filter, sum-map, sum_by-cons}
 use Rattle.std.proofs.lemmas.Option.{slice_get_within}
 use Rattle.vox_geom.specs.declared.coordinate.Coord.{Coord}
 use Rattle.vox_geom.specs.Point.{point}
-use Rattle.vox_geom.specs.Space.{IsInSpace}
 use Rattle.nano_spec.specs.declared.commands.Command.{Command}
 use Rattle.nano_spec.specs.declared.outcomes.Broken.{Broken}
 use Rattle.nano_spec.specs.declared.outcomes.Rule.{Rule}
@@ -20,13 +19,13 @@ use Rattle.nano_spec.specs.Rules.{broken, judge_bots, judge_pairs, judge_trace, 
 use Rattle.nano_spec.specs.State.{IsReady, State}
 use Rattle.nano_spec.specs.Step.{after, is_filled, is_voided, matrix_after}
 use Rattle.nano_spec.specs.Volatile.{is_volatile_of}
-use Rattle.nano_spec.specs.Work.{Levels, LevelsOfStep, WorkOfActs, WorkOfJudged, WorkOfStep, changed_count, differing, volatile_count, volatile_total, without_voided, work_by_rule}
+use Rattle.nano_spec.specs.Work.{Levels, WorkOfActs, WorkOfJudged, WorkOfStep, changed_count, differing, volatile_count, volatile_total, without_voided, work_by_rule}
 use Rattle.support_forest.proofs.Counts.{count_le}
 use Rattle.step_order.proofs.Facts.{IsGood, good_is}
-use Rattle.step_order.proofs.Lists.{In, both, by_left, by_right, filter_in, in_any, in_either, in_filter, is_false, not_both, true_or_false}
+use Rattle.step_order.proofs.Lists.{In, both, by_left, by_right, filter_in, in_any, in_either, in_filter, not_both}
 use Rattle.step_order.proofs.Together.{with_itself}
 use Rattle.step_order.proofs.Voxels.{full_where, in_coordinates}
-use Rattle.step_machine.specs.Edits.{cells_of_all, edit_count, edits_of, edits_total, is_edited}
+use Rattle.step_machine.specs.Edits.{edit_count, edits_of, edits_total, is_edited}
 use Rattle.step_machine.proofs.Apart.{Apart, apart_append}
 use Rattle.step_machine.proofs.Acting.{leader_stays}
 use Rattle.step_machine.proofs.Changed.{cell_of, cells_apart, edits_own, one_way, void_state}

@@ -1,18 +1,15 @@
 -- What the groups of a step change in the matrix (docs/FORMATS.md, "Commands").
-use Rattle.std.specs.Prelude.{ℕ, ◌+◌, ◌*◌, ◌≤◌, Bool, true, false, cond, ◌&&◌, List, length, count_by, filter, flat_map, sum_by, Option, Some, None}
+use Rattle.std.specs.Prelude.{ℕ, Bool, true, false, cond, ◌&&◌, List, count_by, filter, flat_map, sum_by}
 use Rattle.std.specs.List.{list_any}
 use Rattle.vox_geom.specs.declared.coordinate.Coord.{Coord}
 use Rattle.vox_geom.specs.Point.{point}
-use Rattle.vox_geom.specs.Region.{Corners, Span, is_within, span}
+use Rattle.vox_geom.specs.Region.{Span, is_within}
 use Rattle.nano_spec.specs.declared.commands.Command.{Command}
 use Rattle.nano_spec.specs.declared.commands.Command.TheVariants.{Fill, Void, GFill, GVoid}
-use Rattle.nano_spec.specs.declared.system.Bot.{Bot}
 use Rattle.nano_spec.specs.Act.{Act, acts, filled, position, voided}
 use Rattle.nano_spec.specs.Group.{leaders}
 use Rattle.nano_spec.specs.State.{State}
-use Rattle.nano_spec.specs.Matrix.{Matrix, all_of, is_full}
-use Rattle.nano_spec.specs.Work.{Levels, differing}
-use Rattle.support_forest.specs.Standing.{AreAdded, AreRemoved}
+use Rattle.nano_spec.specs.Matrix.{Matrix, all_of}
 use Rattle.vox_planes.specs.Voxel.{is_state}
 
 -- whether the command fills or voids something

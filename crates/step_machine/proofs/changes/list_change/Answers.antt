@@ -1,4 +1,4 @@
-use Rattle.std.proofs.Common.{◌≡◌, ◌∙◌, arith}
+use Rattle.std.proofs.Common.{◌∙◌, arith}
 use Rattle.vox_geom.specs.Point.{point}
 use Rattle.step_machine.proofs.Cells.{IsRegionOf, listed, listed_none, size_is}
 use Rattle.step_machine.proofs.Regions.{edits_nothing, edits_region, high_within, idle_edits_nothing}

@@ -1,8 +1,7 @@
-use Rattle.std.proofs.Common.{◌≡◌, ◌+◌, ◌≤◌, refl, sym, ◌∙◌, ap, subst, arith, length}
+use Rattle.std.proofs.Common.{sym, ◌∙◌, ap, subst, arith, length}
 use Rattle.std.specs.Prelude.{IsTrue}
 use Rattle.nano_spec.specs.Act.{acts, stays_in_space}
 use Rattle.nano_spec.specs.Group.{leaders}
-use Rattle.step_machine.specs.Edits.{edit_count}
 use Rattle.step_machine.proofs.Acting.{leader_stays}
 use Rattle.step_machine.proofs.Turning.{among_bots, among_commands, as_many, listing_all, listing_more, room_for, turned, turned_leads, turned_rest}
 use Rattle.step_machine.proofs.changes.list_changes.Goals as goal

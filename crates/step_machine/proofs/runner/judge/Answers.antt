@@ -1,7 +1,7 @@
-use Rattle.std.proofs.Common.{◌≡◌, ◌∙◌, ap, arith}
+use Rattle.std.proofs.Common.{◌∙◌, ap}
 use Rattle.nano_spec.specs.Profile.{full_profile}
 use Rattle.run_progress.specs.Progress.{begun}
-use Rattle.step_machine.proofs.Judging.{judged_within, judging_begun, judging_on}
+use Rattle.step_machine.proofs.Judging.{judging_begun, judging_on}
 use Rattle.step_machine.proofs.runner.judge.Goals as goal
 
 pub loop-command-init : goal.loop-command-init

@@ -1,4 +1,4 @@
-use Rattle.std.proofs.Common.{◌≡◌, ◌++◌, ◌∙◌, ap, arith, length, true, false}
+use Rattle.std.proofs.Common.{◌++◌, ◌∙◌, ap, arith, true, false}
 use Rattle.step_machine.specs.Edits.{edits_of}
 use Rattle.step_machine.proofs.Refitting.{room_for_all}
 use Rattle.step_machine.proofs.Working.{edits_are_volatile}

@@ -1,8 +1,6 @@
-use Rattle.std.proofs.Common.{◌≡◌, ◌+◌, ◌∙◌, sym, refl, ap, arith, rules}
-use Rattle.nano_spec.specs.declared.outcomes.Rule.TheVariants.{Ungrounded}
-use Rattle.nano_spec.specs.Next.{Breaks, Goes, Next}
-use Rattle.nano_spec.specs.Step.{after}
-use Rattle.step_machine.proofs.Stepping.{IsFound, breaks, few_seen, formed_seen, goes, harmonics_are, next_seen, not_grounding, sound_on}
+use Rattle.std.proofs.Common.{◌+◌, ◌∙◌, sym, arith, rules}
+use Rattle.nano_spec.specs.Next.{Goes}
+use Rattle.step_machine.proofs.Stepping.{breaks, few_seen, formed_seen, goes, harmonics_are, next_seen, not_grounding, sound_on}
 use Rattle.step_machine.proofs.Working.{acts_work, judged_touches, volume_seen, work_seen}
 use Rattle.step_machine.proofs.machine.Machine.step.Goals as goal
 

@@ -1,6 +1,4 @@
-use Rattle.std.proofs.Common.{◌≡◌, ◌+◌, ◌≤◌, ◌<◌, ◌∙◌, sym, refl, ap, arith, length}
-use Rattle.run_progress.specs.Progress as progress
-use Rattle.run_progress.specs.Progress.{Progress, mark_of}
+use Rattle.std.proofs.Common.{◌∙◌, sym, ap, length}
 use Rattle.step_machine.specs.Course.{mark_by}
 use Rattle.step_machine.proofs.Running.{as_many, halted_mark, is_running, made, running_mark, some_lack}
 use Rattle.step_machine.proofs.runner.Runner.take.Goals as goal

@@ -1,0 +1,303 @@
+//! That calls succeed with ample memory, and worked steps and traces.
+ghost use Rattle.std.specs.Prelude.{◌≡◌, ◌<◌, ◌≤◌, false, length, IfOk, None};
+ghost use Rattle.nano_spec.specs.Grounded.{FirstUngrounded};
+ghost use Rattle.vox_geom.specs.Space.{IsInSpace};
+
+use super::*;
+use crate::support::forest_of;
+use nano_spec::{Broken, Command, Harmonics, Profile, Rule, Verdict};
+use std::alloc::Global;
+use std::marker::Brand;
+use std::process::Abort;
+use std::sync::ledger::{Blank, Ledger};
+use std::test::Fail;
+use vox_geom::{Coord, Diff, Far, Long, Memory, Near, Steps};
+use vox_planes::Planes;
+
+fn near(rt: &impl Abort, dx: i16, dy: i16, dz: i16) -> Near {
+    Near::of(Diff { dx, dy, dz }).expect(rt, "near")
+}
+
+fn far(rt: &impl Abort, dx: i16, dy: i16, dz: i16) -> Far {
+    Far::of(Diff { dx, dy, dz }).expect(rt, "far")
+}
+
+fn long(rt: &impl Abort, dx: i16, dy: i16, dz: i16) -> Long {
+    Long::of(Diff { dx, dy, dz }).expect(rt, "long")
+}
+
+/// The matrix of a resolution in which these voxels are full, each of which is held up.
+fn source<L: Ledger>(
+    rt: &impl Abort,
+    alloc: Global,
+    r: u16,
+    full: &[Coord],
+    steps: &mut Steps<L>,
+) -> Result<Planes, Memory>
+    requires some { 1 ≤ r }
+    requires most { r ≤ 400 }
+    ensures grounded { IfOk result (λ p. FirstUngrounded p None) }
+    ensures resolution { IfOk result (λ p. p.resolution ≡ r) }
+{
+    let mut matrix = Planes::empty(alloc, r)?;
+    for c in full {
+        let resolution = matrix.resolution();
+        assert!(rt; c.x < resolution);
+        assert!(rt; c.y < resolution);
+        assert!(rt; c.z < resolution);
+        matrix.set(*c, true);
+    }
+    let forest = forest_of(alloc, &matrix, steps)?;
+    assert!(rt; forest.floating() == 0);
+    assert!(rt; matrix.resolution() == r);
+    Ok(matrix)
+}
+
+/// A step whose conditions the test looks after.
+fn step<L: Ledger>(
+    rt: &impl Abort,
+    machine: &mut Machine,
+    commands: &[Command],
+    steps: &mut Steps<L>,
+) -> Result<StepOk, StepFault> {
+    let bots = usize::from(machine.active());
+    assert!(rt; bots >= 1);
+    assert!(rt; commands.len() <= bots);
+    assert!(rt; machine.steps_done() < 1000);
+    machine.step(commands, steps)
+}
+
+/// The level of a voxel.
+fn level<L: Ledger>(
+    rt: &impl Abort,
+    machine: &Machine,
+    c: Coord,
+    steps: &mut Steps<L>,
+) -> Option<u32> {
+    let resolution = machine.matrix().resolution();
+    assert!(rt; !machine.spent());
+    assert!(rt; c.x < resolution);
+    assert!(rt; c.y < resolution);
+    assert!(rt; c.z < resolution);
+    machine.level(c, steps)
+}
+
+/// Under Low a bot fills two voxels, one on the other, and the lower one is voided.
+fn posts<L: Ledger>(rt: &impl Abort, blank: Blank, alloc: Global) -> Result<(), Memory>
+    requires name { blank.name ≡ L.name }
+    requires parts { blank.parts ≡ L.parts }
+    requires some { 0 < L.parts }
+{
+    let mut steps: Steps<L> = Steps::new(blank);
+    let empty = source(rt, alloc, 4, &[], &mut steps)?;
+    let mut machine = Machine::start(alloc, empty, Profile::full(), &mut steps)?;
+    let fill = [Command::Fill(near(rt, 1, 0, 0))];
+    assert_eq!(rt;
+        step(rt, &mut machine, &fill, &mut steps),
+        Ok(StepOk {
+            energy: 224,
+            halted: false
+        })
+    );
+    let fill = [Command::Fill(near(rt, 1, 1, 0))];
+    assert_eq!(rt;
+        step(rt, &mut machine, &fill, &mut steps),
+        Ok(StepOk {
+            energy: 448,
+            halted: false
+        })
+    );
+    assert_eq!(rt;
+        level(rt, &machine, Coord { x: 1, y: 1, z: 0 }, &mut steps),
+        Some(1)
+    );
+    assert_eq!(rt;
+        level(rt, &machine, Coord { x: 1, y: 2, z: 0 }, &mut steps),
+        None
+    );
+    let void = [Command::Void(near(rt, 1, 0, 0))];
+    let broken = Broken {
+        step: 3,
+        bid: 0,
+        rule: Rule::Ungrounded,
+        at: Coord { x: 1, y: 1, z: 0 },
+    };
+    assert_eq!(rt;
+        step(rt, &mut machine, &void, &mut steps),
+        Err(StepFault::Broken(broken))
+    );
+    assert_eq!(rt;
+        step(rt, &mut machine, &void, &mut steps),
+        Err(StepFault::Spent)
+    );
+    assert_eq!(rt; machine.energy(), 448);
+    assert_eq!(rt; machine.harmonics(), Harmonics::Low);
+    assert_eq!(rt; machine.crew().count(), 1);
+    assert_eq!(rt; machine.matrix().count(&mut steps), 2);
+    Ok(())
+}
+
+#[test]
+fn a_step_that_breaks_grounding_spends_the_machine(rt: HostRuntime) -> Result<(), Fail> {
+    posts::<Brand>(&rt, Blank::new(1), rt.alloc())?;
+    Ok(())
+}
+
+/// Eight bots take their places round a block: four by four, one side of it and the other.
+fn eight_bots<L: Ledger>(rt: &impl Abort, machine: &mut Machine, steps: &mut Steps<L>) {
+    let up = || Command::SMove(long(rt, 0, 1, 0));
+    let on = || Command::SMove(long(rt, 0, 0, 1));
+    let split = [Command::Fission(near(rt, 1, 0, 0), 3)];
+    assert!(rt; step(rt, machine, &split, steps).is_ok());
+    let part = [on(), Command::SMove(long(rt, 3, 0, 0))];
+    assert!(rt; step(rt, machine, &part, steps).is_ok());
+    let rise = [Command::Fission(near(rt, 0, 1, 0), 1), on()];
+    assert!(rt; step(rt, machine, &rise, steps).is_ok());
+    let more = [
+        Command::Fission(near(rt, 0, 0, 1), 0),
+        Command::Fission(near(rt, 0, 1, 0), 1),
+        up(),
+    ];
+    assert!(rt; step(rt, machine, &more, steps).is_ok());
+    let five = [
+        Command::Wait,
+        Command::Fission(near(rt, 0, 0, 1), 0),
+        up(),
+        Command::Fission(near(rt, 0, 0, 1), 0),
+        on(),
+    ];
+    assert!(rt; step(rt, machine, &five, steps).is_ok());
+    let seven = [
+        Command::Wait,
+        Command::Wait,
+        Command::Fission(near(rt, 0, 0, 1), 0),
+        on(),
+        Command::Wait,
+        on(),
+        Command::Wait,
+    ];
+    assert!(rt; step(rt, machine, &seven, steps).is_ok());
+    let last = [
+        Command::Wait,
+        Command::Wait,
+        Command::Wait,
+        on(),
+        Command::Wait,
+        Command::Wait,
+        Command::Wait,
+        Command::Wait,
+    ];
+    assert!(rt; step(rt, machine, &last, steps).is_ok());
+}
+
+/// Eight bots void a block of 3 by 3 by 3 at once.
+fn block<L: Ledger>(rt: &impl Abort, blank: Blank, alloc: Global) -> Result<(), Memory>
+    requires name { blank.name ≡ L.name }
+    requires parts { blank.parts ≡ L.parts }
+    requires some { 0 < L.parts }
+{
+    let mut steps: Steps<L> = Steps::new(blank);
+    let mut full = Vec::new(alloc);
+    for x in 1..4 {
+        for y in 0..3 {
+            for z in 1..4 {
+                full.push(Coord { x, y, z }).map_err(|_| Memory)?;
+            }
+        }
+    }
+    let block = source(rt, alloc, 5, &full, &mut steps)?;
+    let mut machine = Machine::start(alloc, block, Profile::full(), &mut steps)?;
+    eight_bots(rt, &mut machine, &mut steps);
+    let before = machine.energy();
+    let void = [
+        Command::GVoid(near(rt, 1, 0, 0), far(rt, 2, 2, 2)),
+        Command::GVoid(near(rt, -1, 0, 0), far(rt, -2, 2, 2)),
+        Command::GVoid(near(rt, -1, 0, 0), far(rt, -2, -2, 2)),
+        Command::GVoid(near(rt, -1, 0, 0), far(rt, -2, -2, -2)),
+        Command::GVoid(near(rt, -1, 0, 0), far(rt, -2, 2, -2)),
+        Command::GVoid(near(rt, 1, 0, 0), far(rt, 2, -2, 2)),
+        Command::GVoid(near(rt, 1, 0, 0), far(rt, 2, -2, -2)),
+        Command::GVoid(near(rt, 1, 0, 0), far(rt, 2, 2, -2)),
+    ];
+    assert!(rt; before >= 0);
+    assert!(rt; before <= 1_000_000);
+    assert_eq!(rt;
+        step(rt, &mut machine, &void, &mut steps),
+        Ok(StepOk {
+            energy: before + 211,
+            halted: false
+        })
+    );
+    assert_eq!(rt; machine.matrix().count(&mut steps), 0);
+    assert!(rt; !machine.spent());
+    assert_eq!(rt; machine.forest().floating(), 0);
+    Ok(())
+}
+
+#[test]
+fn eight_bots_void_a_block_at_once(rt: HostRuntime) -> Result<(), Fail> {
+    block::<Brand>(&rt, Blank::new(1), rt.alloc())?;
+    Ok(())
+}
+
+/// The verdict of a trace from the empty matrix of resolution 3.
+fn verdict<L: Ledger>(
+    rt: &impl Abort,
+    alloc: Global,
+    target: &[Coord],
+    commands: &[Command],
+    steps: &mut Steps<L>,
+) -> Result<Verdict, Memory> {
+    let empty = source(rt, alloc, 3, &[], steps)?;
+    let target = source(rt, alloc, 3, target, steps)?;
+    assert!(rt; commands.len() < 1000);
+    judge(alloc, empty, &target, commands, steps)
+}
+
+fn refused(step: u32, bid: u8, rule: Rule, at: Coord) -> Verdict {
+    Verdict::Refused(Broken {
+        step,
+        bid,
+        rule,
+        at,
+    })
+}
+
+/// A bot fills the voxel (1,0,1) and comes home.
+fn traces<L: Ledger>(rt: &impl Abort, blank: Blank, alloc: Global) -> Result<(), Memory>
+    requires name { blank.name ≡ L.name }
+    requires parts { blank.parts ≡ L.parts }
+    requires some { 0 < L.parts }
+{
+    let mut steps: Steps<L> = Steps::new(blank);
+    let trace = [
+        Command::SMove(long(rt, 1, 0, 0)),
+        Command::Fill(near(rt, 0, 0, 1)),
+        Command::SMove(long(rt, -1, 0, 0)),
+        Command::Halt,
+        Command::Halt,
+    ];
+    let origin = Coord { x: 0, y: 0, z: 0 };
+    let filled = [Coord { x: 1, y: 0, z: 1 }];
+    let accepted = Verdict::Accepted {
+        energy: 420,
+        steps: 4,
+    };
+    assert_eq!(rt;
+        verdict(rt, alloc, &filled, &trace[..4], &mut steps)?,
+        accepted
+    );
+    let ends = refused(4, 1, Rule::TraceEnds, origin);
+    assert_eq!(rt; verdict(rt, alloc, &filled, &trace[..3], &mut steps)?, ends);
+    let after = refused(4, 0, Rule::AfterHalt, origin);
+    assert_eq!(rt; verdict(rt, alloc, &filled, &trace, &mut steps)?, after);
+    let wrong = refused(4, 0, Rule::WrongResult, filled[0]);
+    assert_eq!(rt; verdict(rt, alloc, &[], &trace[..4], &mut steps)?, wrong);
+    Ok(())
+}
+
+#[test]
+fn a_trace_has_its_verdict(rt: HostRuntime) -> Result<(), Fail> {
+    traces::<Brand>(&rt, Blank::new(1), rt.alloc())?;
+    Ok(())
+}
