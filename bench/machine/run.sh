@@ -1,0 +1,8 @@
+#!/bin/sh
+# How long a machine takes for a step of one bot that moves, that fills and voids, and for the opening of a full model:
+# builds bench/machine in a copy of the crates that it stands on, and runs it.
+set -eu
+top=$(cd "$(dirname "$0")/../.." && pwd)
+. "$top/bench/build.sh"
+build machine 'step_machine_bench: step_machine support_forest vox_planes nano_spec vox_geom' vox_geom nano_spec step_order run_progress energy_sum brick_arena bot_crew vox_planes step_groups system_state support_forest step_machine
+"$program"
