@@ -7,6 +7,8 @@ mod checks;
 #[cfg(test)]
 mod faults;
 #[cfg(test)]
+mod large;
+#[cfg(test)]
 mod runs;
 #[cfg(test)]
 mod stores;

@@ -1,9 +1,7 @@
 //! Runs.
-use crate::table::{Row, answer, assert_rows, depot, words};
+use crate::table::{Row, assert_rows};
 use nanobot_app::Status;
-use std::alloc::Global;
 use std::test::Fail;
-use vox_depot::MemorySink;
 
 /// Runs that end in their target.
 const ACCEPTED: [Row; 14] = [
@@ -308,29 +306,4 @@ fn traces_and_words_that_are_refused(rt: HostRuntime) -> Result<(), Fail> {
 #[test]
 fn runs_under_the_light_profile(rt: HostRuntime) -> Result<(), Fail> {
     assert_rows(&rt, rt.alloc(), &LIGHT)
-}
-
-/// The bytes of an empty model of the first form, which are this many.
-fn empty_model(alloc: Global, resolution: u8, len: usize) -> Result<Vec<u8>, Fail> {
-    let mut bytes = vec![in alloc; 0u8; len]?;
-    if let Some(first) = bytes.first_mut() {
-        *first = resolution;
-    }
-    Ok(bytes)
-}
-
-/// The greatest resolution of the first form: a file of 1,953,126 bytes.
-#[test]
-fn the_greatest_first_form(rt: HostRuntime) -> Result<(), Fail> {
-    let alloc = rt.alloc();
-    let bytes = empty_model(alloc, 250, 1_953_126)?;
-    let mut depot = depot(alloc, &[])?;
-    depot.put_file("G", &bytes)?;
-    depot.put_file("B", &[0xFF])?;
-    let mut out = MemorySink::new(alloc, Vec::new(alloc));
-    let words = words(alloc, "run G - B")?;
-    let status = answer(alloc, &words, &mut depot, &mut out);
-    assert_eq!(&rt; out.bytes(), b"ok energy 46875020 steps 1\n".as_slice());
-    assert_eq!(&rt; status, Status::Done);
-    Ok(())
 }
