@@ -4,7 +4,7 @@ use Rattle.std.specs.Prelude.{Result, Ok, Err}
 use Rattle.std.proofs.lemmas.Bool.Decides.{nat_tests}
 use Rattle.std.proofs.lemmas.List.{length-take, take-append-drop, take_all}
 use Rattle.std.proofs.lemmas.Bool.{cases_lt}
-use Rattle.energy_sum.proofs.Bounds.{cube_most}
+use Rattle.std.proofs.Math.Nat.{mul-le-mul}
 use Rattle.nano_spec.specs.Matrix.{Matrix}
 use Rattle.vox_geom.specs.Space.{numbers_below}
 use Rattle.nano_spec.specs.Model.{NoModel, Long, Resolution, Short, WideLong, WideResolution, WideRun, WideShort, model, first_form, is_no_run, number_of_four, of_runs, runs_in, volume, voxel_bit, wanted, wide_form, wide_model, with_run}
@@ -71,7 +71,7 @@ wide_same : (r n : ℕ) (runs : List ℕ) → 256000004 < n → n ≤ length run
 wide_same r n runs h l =
     where_true (nat_le 251 r && nat_le r 400) (of_runs r (runs_in (volume r) 0 0 (take n runs))) (of_runs r (runs_in (volume r) 0 0 runs)) (Err (WideResolution r))
     (λ e. let size : length (take n runs) ≡ n = length-take n runs ∙ omega arith in
-    let most : r * r * r ≤ 400 * 400 * 400 = cube_most r 400 (at_most e) in
+    let most : r * r * r ≤ 400 * 400 * 400 = mul-le-mul (mul-le-mul (at_most e) (at_most e)) (at_most e) in
     ap (of_runs r) (sym (first_same (volume r) 64000000 (take n runs) (drop n runs) (omega (arith, most)) (omega (arith, size))) ∙ ap (runs_in (volume r) 0 0) (take-append-drop n runs)))
   where
     at_most : (nat_le 251 r && nat_le r 400) ≡ true → r ≤ 400
@@ -94,7 +94,7 @@ long r bytes h =
 first_form_same : (r : ℕ) (xs ys : List ℕ) → 2000000 < length xs → 2000000 < length ys → first_form r xs ≡ first_form r ys
 first_form_same r xs ys h k =
     where_true (nat_le 1 r && nat_le r 250) (sized r xs) (sized r ys) (Err (Resolution r))
-    (λ e. let most : r * r * r ≤ 250 * 250 * 250 = cube_most r 250 (at_most e) in
+    (λ e. let most : r * r * r ≤ 250 * 250 * 250 = mul-le-mul (mul-le-mul (at_most e) (at_most e)) (at_most e) in
     let few : wanted r ≤ 2000000 = few_wanted (r * r * r) most in
     long r xs (omega (arith, few)) ∙ sym (long r ys (omega (arith, few))))
   where

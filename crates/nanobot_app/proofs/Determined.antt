@@ -1,6 +1,8 @@
 -- The answer to the words is one only, and what follows from it.
-use Rattle.std.proofs.Common.{◌≡◌, ◌⊎◌, ◌==◌, ℕ, List, [], ◌∷◌, Option, Some, None, Bool, true, false, codes, refl, sym, ap, ◌∙◌, subst, inl, inr, nat_lt, length}
-use Rattle.std.specs.Prelude.{Result, Ok, Err, MatchOption, MatchBool, IfSome, IsSomeAnd}
+use Rattle.std.proofs.Common.{◌≡◌, ◌⊎◌, ◌==◌, ℕ, List, [], ◌∷◌, Option, Some, None, Bool, true, false, codes, decimal, refl, arith, sym, ap, ◌∙◌, subst, inl, inr, nat_lt, length}
+use Rattle.std.specs.Str.{bytes_eq}
+use Rattle.std.specs.Prelude.{IsFalse, IsTrue, Result, Ok, Err, MatchOption, MatchBool, IfSome, IsSomeAnd}
+use Rattle.std.proofs.lemmas.Fmt.{decimal_injective}
 use Rattle.std.specs.Io.KnownBytes.{append_known}
 use Rattle.nano_spec.specs.declared.commands.Command.{Command}
 use Rattle.nano_spec.specs.declared.outcomes.Verdict.{Verdict}
@@ -10,6 +12,7 @@ use Rattle.nano_spec.specs.Legal.{Legality, NotLegal}
 use Rattle.nano_spec.specs.Matrix.{Matrix, empty}
 use Rattle.nano_spec.specs.Model.{NoModel, model}
 use Rattle.nano_spec.specs.Profile.{full_profile}
+use Rattle.nano_spec.specs.Reading.{FaultyLine, read}
 use Rattle.nano_spec.specs.Verdict.{VerdictOf}
 use Rattle.vox_depot.specs.Files.{Files, content}
 use Rattle.nanobot_app.specs.declared.report.Report.TheVariants as report
@@ -17,27 +20,35 @@ use Rattle.nanobot_app.specs.declared.report.Who.{Who}
 use Rattle.nanobot_app.specs.declared.report.Who.TheVariants as who
 use Rattle.nanobot_app.specs.declared.status.Status.{Status}
 use Rattle.nanobot_app.specs.declared.status.Status.TheVariants as is
-use Rattle.nanobot_app.specs.Answer.{Answer, AnswerOf, Judged, OfBytes, OfDecoding, OfRun, OfTrace, Reply, WithBoth, WithFile, WithModel, WithSide, not_built, run_limit}
+use Rattle.nanobot_app.specs.Answer.{Answer, AnswerOf, Judged, OfBytes, OfDecoding, OfReading, OfRun, OfText, OfTrace, Reply, WithBoth, WithFile, WithModel, WithSide, dis_limit, run_limit, text_limit}
 use Rattle.nanobot_app.specs.Outcome.{DepotRose, IsAnswer, LacksFile, Outcome, Outside, SinkRose}
 use Rattle.nanobot_app.specs.Reading.{gone, reply_of}
-use Rattle.nanobot_app.specs.Report.{not_legal, no_model, of_verdict}
-use Rattle.nanobot_app.specs.Rows.{Row, check, run, words_of, side_word, IsRow}
+use Rattle.nanobot_app.specs.Report.{faulty_text, not_legal, no_model, of_verdict}
+use Rattle.nanobot_app.specs.Rows.{Row, asm, check, dis, make, run, words_of, side_word, IsRow}
 use Rattle.nanobot_app.proofs.Parsed.{first_named, same_side, second_named}
 use Rattle.nanobot_app.proofs.Told.{if_some}
 
 -- ---- the row of the words is one
 
-first_word : List (List ℕ) → List ℕ
+abbrev first_word : List (List ℕ) → List ℕ
 first_word [] = []
 first_word (w ∷ ws) = w
+
+-- rows whose first words differ are written otherwise
+other_heads : (row row' : Row) → IsTrue (bytes_eq (first_word (words_of row)) (first_word (words_of row))) → IsFalse (bytes_eq (first_word (words_of row)) (first_word (words_of row'))) → words_of row ≡ words_of row' → ⊥
+other_heads row row' same other e = let t = subst (λ ws. IsTrue (bytes_eq (first_word (words_of row)) (first_word ws))) e same in cc
 
 check_check : (m m' : List ℕ) → words_of (check m) ≡ words_of (check m') → check m ≡ check m'
 check_check m m' e = cc
 
+same_asm : (x b x' b' : List ℕ) → words_of (asm x b) ≡ words_of (asm x' b') → asm x b ≡ asm x' b'
+same_asm x b x' b' e = cc
+
+same_dis : (b x b' x' : List ℕ) → words_of (dis b x) ≡ words_of (dis b' x') → dis b x ≡ dis b' x'
+same_dis b x b' x' e = cc
+
 pub row_once : (words : List (List ℕ)) (row row' : Row) → IsRow words row → IsRow words row' → row ≡ row'
 row_once words (check m) (check m') h h' = check_check m m' (sym h.written ∙ h'.written)
-row_once words (check m) (run s t b) h h' = absurd (let e = sym h.written ∙ h'.written in cc)
-row_once words (run s t b) (check m) h h' = absurd (let e = sym h.written ∙ h'.written in cc)
 row_once words (run s t b) (run s' t' b') h h' =
     let e : codes "run" ∷ side_word s ∷ side_word t ∷ b ∷ [] ≡ codes "run" ∷ side_word s' ∷ side_word t' ∷ b' ∷ [] = sym h.written ∙ h'.written in
     let es : side_word s ≡ side_word s' = cc in
@@ -46,6 +57,19 @@ row_once words (run s t b) (run s' t' b') h h' =
     let ps = same_side s s' (first_named s t b h.named) (first_named s' t' b' h'.named) es in
     let pt = same_side t t' (second_named s t b h.named) (second_named s' t' b' h'.named) et in
     λ i. run (ps i) (pt i) (eb i)
+row_once words (asm x b) (asm x' b') h h' = same_asm x b x' b' (sym h.written ∙ h'.written)
+row_once words (dis b x) (dis b' x') h h' = same_dis b x b' x' (sym h.written ∙ h'.written)
+row_once words (make n r m) (make n' r' m') h h' =
+    let e : codes "make" ∷ decimal n ∷ decimal r ∷ m ∷ [] ≡ codes "make" ∷ decimal n' ∷ decimal r' ∷ m' ∷ [] = sym h.written ∙ h'.written in
+    let en : decimal n ≡ decimal n' = cc in
+    let er : decimal r ≡ decimal r' = cc in
+    let em : m ≡ m' = cc in
+    let a = h.of_table in
+    let b = h'.of_table in
+    let pn : n ≡ n' = decimal_injective n n' (omega arith) (omega arith) en in
+    let pr : r ≡ r' = decimal_injective r r' (omega arith) (omega arith) er in
+    λ i. make (pn i) (pr i) (em i)
+row_once words row row' h h' = absurd (other_heads row row' refl refl (sym h.written ∙ h'.written))
 
 -- ---- at most one reply
 
@@ -101,11 +125,7 @@ module _ (legality : LegalityLaw) (decoding : DecodingLaw) (verdicts : VerdictLa
     both_once (Some a) (Some b) p f r s h k = choice_once (a.resolution == b.resolution) (p a b) (λ r. r ≡ reply_of files (report.Resolutions a.resolution b.resolution)) (f a b) (same_reply (reply_of files (report.Resolutions a.resolution b.resolution))) r s h k
 
     run_once : (profile : Profile) (source target : Matrix) (commands : List Command) → Once (OfRun profile files source target commands)
-    run_once profile source target commands = by (not_built 0 commands)
-      where
-        by : (o : Option ℕ) → Once (λ r. MatchOption o ((v : Verdict) × VerdictOf source target commands profile v × (r ≡ reply_of files (of_verdict v))) (λ offset. r ≡ reply_of files (report.NotBuilt offset)))
-        by None r s h k = h.2 ∙ (ap (λ (v : Verdict). reply_of files (of_verdict v)) (verdicts source target commands profile h.0 k.0 h.1 k.1) ∙ sym k.2)
-        by (Some offset) r s h k = same_reply (reply_of files (report.NotBuilt offset)) r s h k
+    run_once profile source target commands r s h k = h.2 ∙ (ap (λ (v : Verdict). reply_of files (of_verdict v)) (verdicts source target commands profile h.0 k.0 h.1 k.1) ∙ sym k.2)
 
     decoded_once : (d : Result (List Command) NoTrace) (p : List Command → Reply → Type 0) → ((commands : List Command) → Once (p commands)) → Once (OfDecoding files d p)
     decoded_once (Ok commands) p f = f commands
@@ -122,10 +142,22 @@ module _ (legality : LegalityLaw) (decoding : DecodingLaw) (verdicts : VerdictLa
         choice_once (nat_lt limit (length bytes)) (λ r. r ≡ reply_of files (report.TraceLong limit)) (λ r. (d : Result (List Command) NoTrace) × Decoding bytes d × OfDecoding files d p r)
         (same_reply (reply_of files (report.TraceLong limit))) (decoding_once bytes p f)
 
+    reading_once : (d : Result (List Command) FaultyLine) (p : List Command → Reply → Type 0) → ((commands : List Command) → Once (p commands)) → Once (OfReading files d p)
+    reading_once (Ok commands) p f = f commands
+    reading_once (Err faulty) p f = same_reply (reply_of files (faulty_text faulty))
+
+    text_once : (bytes : List ℕ) (p : List Command → Reply → Type 0) → ((commands : List Command) → Once (p commands)) → Once (OfText files bytes p)
+    text_once bytes p f =
+        choice_once (nat_lt text_limit (length bytes)) (λ r. r ≡ reply_of files (report.TextLong text_limit)) (OfReading files (read bytes) p)
+        (same_reply (reply_of files (report.TextLong text_limit))) (reading_once (read bytes) p f)
+
     row_answer_once : (row : Row) → Once (AnswerOf row files)
     row_answer_once (check name) = model_once who.Model name _ (λ m. same_reply _)
     row_answer_once (run source target trace) =
         side_once who.Source source _ (λ a. side_once who.Target target _ (λ b. both_once a b _ (λ s t. file_once trace _ (λ bytes. trace_once run_limit bytes _ (λ commands. run_once full_profile s t commands)))))
+    row_answer_once (asm text trace) = file_once text _ (λ bytes. text_once bytes _ (λ commands. same_reply _))
+    row_answer_once (dis trace text) = file_once trace _ (λ bytes. trace_once dis_limit bytes _ (λ commands. same_reply _))
+    row_answer_once (make number resolution name) = same_reply _
 
   pub answer_once : (words : List (List ℕ)) (files : Files) (r s : Reply) → Answer words files r → Answer words files s → r ≡ s
   answer_once words files r s (inl h) (inl k) = h.1 ∙ sym k.1
@@ -165,4 +197,3 @@ complete {stores} law words old new result o no_depot no_sink = if_some old.file
     by files told reply a is.Model o = inl (answered files told reply a is.Model tt o)
     by files told reply a is.Trace o = inl (answered files told reply a is.Trace tt o)
     by files told reply a is.Text o = inl (answered files told reply a is.Text tt o)
-    by files told reply a is.NotYet o = inl (answered files told reply a is.NotYet tt o)

@@ -19,20 +19,18 @@ use Rattle.nanobot_app.specs.declared.report.Who.{Who}
 use Rattle.nanobot_app.specs.declared.report.Who.TheVariants as who
 use Rattle.nanobot_app.specs.declared.status.Status.{Status}
 use Rattle.nanobot_app.specs.declared.status.Status.TheVariants as is
-use Rattle.nanobot_app.specs.Answer.{Answer, AnswerOf, Judged, OfBytes, OfDecoding, OfRun, OfTrace, Reply, WithBoth, WithFile, WithModel, WithSide, not_built, run_limit}
+use Rattle.nanobot_app.specs.Answer.{Answer, AnswerOf, Judged, OfBytes, OfDecoding, OfRun, OfTrace, Reply, WithBoth, WithFile, WithModel, WithSide, run_limit}
 use Rattle.nanobot_app.specs.Headline.{IsDoneWith, Takes, TakesBytes}
 use Rattle.nanobot_app.specs.Outcome.{DepotRose, IsAnswer, Outcome, Outside, SinkRose}
 use Rattle.nanobot_app.specs.Reading.{AreBoth, IsModelOf, IsSide, gone, reply_of}
 use Rattle.nanobot_app.specs.Report.{no_model, not_legal, of_verdict, status_of}
 use Rattle.nanobot_app.specs.Rows.{Row, run, IsRow}
+use Rattle.nanobot_app.proofs.Loads.{not_longer}
 use Rattle.nanobot_app.proofs.Determined.{AnswerLaw, complete, row_once}
 use Rattle.nanobot_app.proofs.Replies.{both_given, side_given}
 use Rattle.nanobot_app.proofs.Told.{if_some}
 
 -- ---- what a run that takes its trace answers
-
-not_longer : (limit size : ℕ) → size ≤ limit → nat_lt limit size ≡ false
-not_longer limit size h = grind (arith, nat_tests)
 
 taken : (files : Files) (source target : Matrix) (trace : List ℕ) (energy : ℤ) (steps : ℕ) → IsSomeAnd (content files trace) (λ bytes. TakesBytes source target bytes energy steps)
     → WithFile files trace (λ bytes. OfTrace run_limit files bytes (OfRun full_profile files source target)) (reply_of files (report.Accepted energy steps))
@@ -42,7 +40,7 @@ taken files source target trace energy steps h = by (content files trace) h
     of_bytes bytes t =
         subst (λ b. MatchBool b (reply_of files (report.Accepted energy steps) ≡ reply_of files (report.TraceLong run_limit)) ((d : Result (List Command) NoTrace) × Decoding bytes d × OfDecoding files d (OfRun full_profile files source target) (reply_of files (report.Accepted energy steps))))
         (sym (not_longer run_limit (length bytes) t.0))
-        (Ok t.1.0, t.1.1, subst (λ o. MatchOption o ((v : Verdict) × VerdictOf source target t.1.0 full_profile v × (reply_of files (report.Accepted energy steps) ≡ reply_of files (of_verdict v))) (λ offset. reply_of files (report.Accepted energy steps) ≡ reply_of files (report.NotBuilt offset))) (sym t.1.2) (verdict.Accepted energy steps, t.1.3, refl))
+        (Ok t.1.0, t.1.1, (verdict.Accepted energy steps, t.1.2, refl))
 
     by : (o : Option (List ℕ)) → IsSomeAnd o (λ bytes. TakesBytes source target bytes energy steps) → MatchOption o (reply_of files (report.Accepted energy steps) ≡ gone files) (λ bytes. OfTrace run_limit files bytes (OfRun full_profile files source target) (reply_of files (report.Accepted energy steps)))
     by None h = absurd h
@@ -106,13 +104,9 @@ module _ (files : Files) (source target : Matrix) (reply : Reply) (done : reply.
   Found bytes = (energy : ℤ) × (steps : ℕ) × TakesBytes source target bytes energy steps × (reply ≡ reply_of files (report.Accepted energy steps))
 
   done_run : (bytes : List ℕ) (commands : List Command) → length bytes ≤ run_limit → Decoding bytes (Ok commands) → OfRun full_profile files source target commands reply → Found bytes
-  done_run bytes commands fits cutting h = by (not_built 0 commands) refl h
-    where
-      by : (o : Option ℕ) → not_built 0 commands ≡ o → MatchOption o ((v : Verdict) × VerdictOf source target commands full_profile v × (reply ≡ reply_of files (of_verdict v))) (λ offset. reply ≡ reply_of files (report.NotBuilt offset)) → Found bytes
-      by None e h =
-          let a = accepted files h.0 reply h.2 done in
-          (a.0, a.1, (fits, (commands, cutting, e, subst (λ (v : Verdict). VerdictOf source target commands full_profile v) a.2 h.1)), h.2 ∙ ap (λ (v : Verdict). reply_of files (of_verdict v)) a.2)
-      by (Some offset) e h = absurd (let no = other files (report.NotBuilt offset) reply h done in cc)
+  done_run bytes commands fits cutting h =
+      let a = accepted files h.0 reply h.2 done in
+      (a.0, a.1, (fits, (commands, cutting, subst (λ (v : Verdict). VerdictOf source target commands full_profile v) a.2 h.1)), h.2 ∙ ap (λ (v : Verdict). reply_of files (of_verdict v)) a.2)
 
   done_decoding : (bytes : List ℕ) (d : Result (List Command) NoTrace) → length bytes ≤ run_limit → Decoding bytes d → OfDecoding files d (OfRun full_profile files source target) reply → Found bytes
   done_decoding bytes (Ok commands) fits decoding h = done_run bytes commands fits decoding h

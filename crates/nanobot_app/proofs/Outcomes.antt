@@ -1,17 +1,21 @@
 -- How the exits of a call make its outcome.
-use Rattle.std.proofs.Common.{◌≡◌, ◌⊎◌, ℕ, List, [], Option, Some, None, refl, sym, ◌∙◌, subst, inl, inr, take}
+use Rattle.std.proofs.Common.{◌≡◌, ◌⊎◌, ℕ, ◌≤◌, List, [], Option, Some, None, refl, sym, ap, ◌∙◌, subst, inl, inr, take}
 use Rattle.std.specs.Prelude.{IfSome, IsSomeAnd}
 use Rattle.std.specs.Io.KnownBytes.{append_known}
-use Rattle.vox_depot.specs.Files.{Files}
+use Rattle.vox_depot.specs.Files.{Files, others}
+use Rattle.nanobot_app.specs.declared.effect.Effect.{Effect}
+use Rattle.nanobot_app.specs.declared.effect.NewFile.{NewFile}
 use Rattle.nanobot_app.specs.declared.report.Report.{Report}
 use Rattle.nanobot_app.specs.declared.report.Report.TheVariants as report
 use Rattle.nanobot_app.specs.declared.status.Status.{Status}
 use Rattle.nanobot_app.specs.declared.status.Status.TheVariants as is
-use Rattle.nanobot_app.specs.Answer.{Answer, AnswerOf, Answers}
+use Rattle.nanobot_app.specs.Answer.{Answer, AnswerOf, Answers, with_file}
+use Rattle.nanobot_app.specs.Effects.{Finished, IsFor, IsLost, files_with, reply_by, told_with}
 use Rattle.nanobot_app.specs.Outcome.{DepotRose, IsAnswer, LacksFile, Outcome, Outside, Printed, RowStores, SinkRose, SparesOthers, StoredBy, Told}
 use Rattle.nanobot_app.specs.Reading.{reply_of}
 use Rattle.nanobot_app.specs.Report.{line_of, status_of}
 use Rattle.nanobot_app.specs.Rows.{IsRow, Row}
+use Rattle.nanobot_app.proofs.Replies.{rose_since}
 use Rattle.nanobot_app.proofs.Told.{weaker}
 
 not_depot : (s : Status) → IsAnswer s → s ≡ is.Depot → ⊥
@@ -26,13 +30,16 @@ not_memory s a e = subst IsAnswer e a
 pub is_answer : (r : Report) → IsAnswer (status_of r)
 is_answer (report.Accepted energy steps) = tt
 is_answer (report.Legal resolution full) = tt
+is_answer (report.Stored commands bytes) = tt
+is_answer (report.Forged resolution full) = tt
 is_answer (report.Broken broken) = tt
 is_answer (report.Model who fault) = tt
 is_answer (report.Resolutions source target) = tt
 is_answer (report.TraceBad offset) = tt
 is_answer (report.TraceCut offset) = tt
 is_answer (report.TraceLong limit) = tt
-is_answer (report.NotBuilt offset) = tt
+is_answer (report.Text fault) = tt
+is_answer (report.TextLong limit) = tt
 
 module _ {answers : Answers} {stores : List ℕ → Type 0} (old new : Outside) where
   -- a line is printed, and the files stand as the answer says
@@ -85,6 +92,42 @@ module _ {answers : Answers} {stores : List ℕ → Type 0} (old new : Outside) 
       by : ((result ≡ is.Memory) × (new.written ≡ old.written)) ⊎ Printed (status_of r) (line_of r) old.written new.written old.sink_faults new.sink_faults result → Outcome answers stores old new result
       by (inl none) = outcome_memory result none.0 files none.1
       by (inr printed) = outcome_printed (status_of r) result (line_of r) (is_answer r) stands printed
+
+  -- a file could not be stored
+  outcome_lost : (result : Status) → result ≡ is.Depot → DepotRose old new → new.written ≡ old.written → SparesOthers stores old new → Outcome answers stores old new result
+  outcome_lost result e rose written spared = record {
+    answer = λ b. absurd (not_depot result b e);
+    depot = λ _. inl rose;
+    sink = λ f. let no : is.Depot ≡ is.Sink = sym e ∙ f in absurd (cc);
+    after_depot = λ _. (written, spared);
+    after_sink = λ f. let no : is.Depot ≡ is.Sink = sym e ∙ f in absurd (cc);
+    after_memory = λ f. let no : is.Depot ≡ is.Memory = sym e ∙ f in absurd (cc);
+  }
+
+-- an effect is finished, after files were read
+pub outcome_finished : {answers : Answers} (stored : Option (List ℕ)) (effect : Effect) (old mid new : Outside) (result : Status) → IfSome old.files (λ files. answers files (reply_by files effect)) → IsFor stored effect.file → mid.files ≡ old.files → old.depot_faults ≤ mid.depot_faults
+    → mid.written ≡ old.written → mid.sink_faults ≡ old.sink_faults → Finished effect mid new result → Outcome answers (λ name. stored ≡ Some name) old new result
+outcome_finished {answers} stored effect old mid new result answer for files faults written sink finished = by finished.cases
+  where
+    spared : (o : Option NewFile) → IsFor stored o → IsLost o mid.files new.files → SparesOthers (λ name. stored ≡ Some name) old new
+    spared None named lost = inl (lost ∙ files)
+    spared (Some file) named lost = inr (file.name.now, named, lost ∙ ap (λ t. others t file.name.now) files)
+
+    kept : (told : Option Files) (o : Option NewFile) (now : Option Files) → now ≡ told_with told o → IfSome told (λ fs. answers fs (record { status = status_of effect.report; line = line_of effect.report; after = files_with fs o }))
+        → IfSome told (λ fs. (after : Files) × answers fs (record { status = status_of effect.report; line = line_of effect.report; after = after }) × (now ≡ Some after))
+    kept None o now e h = tt
+    kept (Some fs) None now e h = (fs, h, e)
+    kept (Some fs) (Some file) now e h = (with_file fs file.name.now file.bytes.items, h, e)
+
+    by : ((result ≡ is.Memory) × (new.files ≡ mid.files) × (new.written ≡ mid.written))
+        ⊎ (((result ≡ is.Depot) × DepotRose mid new × (new.written ≡ mid.written) × IsLost effect.file mid.files new.files)
+        ⊎ ((new.files ≡ told_with mid.files effect.file) × Printed (status_of effect.report) (line_of effect.report) mid.written new.written mid.sink_faults new.sink_faults result)) → Outcome answers (λ name. stored ≡ Some name) old new result
+    by (inl none) = outcome_memory old new result none.0 (none.1 ∙ files) (none.2 ∙ written)
+    by (inr (inl lost)) = outcome_lost old new result lost.0 (rose_since old.depot_faults mid.depot_faults new.depot_faults faults lost.1) (lost.2 ∙ written) (spared effect.file for lost.3)
+    by (inr (inr done)) =
+        outcome_printed old new (status_of effect.report) result (line_of effect.report) (is_answer effect.report)
+        (kept old.files effect.file new.files (done.0 ∙ ap (λ t. told_with t effect.file) files) answer)
+        (subst (λ w. Printed (status_of effect.report) (line_of effect.report) w new.written old.sink_faults new.sink_faults result) written (subst (λ n. Printed (status_of effect.report) (line_of effect.report) mid.written new.written n new.sink_faults result) sink done.1))
 
 -- an outcome of a row is one of its words
 pub outcome_of_row : (words : List (List ℕ)) (row : Row) (old new : Outside) (result : Status) → IsRow words row → Outcome (AnswerOf row) (RowStores row) old new result → Outcome (Answer words) (StoredBy words) old new result

@@ -3,13 +3,11 @@ use Rattle.std.proofs.Common.{◌≡◌, ℕ, ◌≤◌, ◌==◌, List, length,
 use Rattle.std.specs.Prelude.{Option, Some, None, Result, Ok, Err, MatchOption, MatchBool, IfSome, IsSomeAnd}
 use Rattle.std.proofs.lemmas.Bool.Decides.{nat_tests}
 use Rattle.nano_spec.specs.declared.commands.Command.{Command}
-use Rattle.nano_spec.specs.declared.outcomes.Verdict.{Verdict}
 use Rattle.nano_spec.specs.declared.system.Profile.{Profile}
 use Rattle.nano_spec.specs.Cutting.{Decoding, NoTrace, BadAt, CutAt}
 use Rattle.nano_spec.specs.Legal.{IsLegal}
 use Rattle.nano_spec.specs.Matrix.{Matrix}
 use Rattle.nano_spec.specs.Model.{NoModel, model}
-use Rattle.nano_spec.specs.Verdict.{VerdictOf}
 use Rattle.vox_depot.specs.Causes.{Rose}
 use Rattle.vox_depot.specs.Files.{Files, content}
 use Rattle.nanobot_app.specs.declared.report.Report.{Report}
@@ -20,9 +18,8 @@ use Rattle.nanobot_app.specs.declared.stop.Stop.TheVariants as stop
 use Rattle.nanobot_app.specs.declared.report.Who.TheVariants as who
 use Rattle.nano_spec.specs.Profile.{full_profile}
 use Rattle.nanobot_app.specs.Rows.{run}
-use Rattle.nanobot_app.specs.Answer.{AnswerOf, Answers, run_limit, OfBytes, OfDecoding, OfRun, OfTrace, Reply, WithBoth, WithFile, WithModel, WithSide, not_built}
+use Rattle.nanobot_app.specs.Answer.{AnswerOf, Answers, run_limit, OfBytes, OfDecoding, OfRun, OfTrace, Reply, WithBoth, WithFile, WithModel, WithSide}
 use Rattle.nanobot_app.specs.Reading.{AreBoth, AreUnlike, Ends, IsModelOf, IsSide, Lacks, LacksSide, OnBytes, OnCommands, OnDecoding, OnFile, OnTrace, Reads, RefusesBytes, RefusesFile, RefusesSide, gone, reply_of, tells_nothing}
-use Rattle.nanobot_app.specs.Report.{of_verdict}
 use Rattle.nanobot_app.proofs.Told.{weaker}
 
 -- ---- counts of faults
@@ -102,12 +99,7 @@ module _ (files : Files) (p : Matrix → Matrix → Reply → Type 0) where
 
 module _ (limit : ℕ) (profile : Profile) (files : Files) (source target : Matrix) where
   of_commands : (commands : List Command) (told : Report) → OnCommands profile source target commands told → OfRun profile files source target commands (reply_of files told)
-  of_commands commands told h = by (not_built 0 commands) h
-    where
-      by : (o : Option ℕ) → MatchOption o ((verdict : Verdict) × VerdictOf source target commands profile verdict × (told ≡ of_verdict verdict)) (λ offset. told ≡ report.NotBuilt offset)
-          → MatchOption o ((verdict : Verdict) × VerdictOf source target commands profile verdict × (reply_of files told ≡ reply_of files (of_verdict verdict))) (λ offset. reply_of files told ≡ reply_of files (report.NotBuilt offset))
-      by None h = (h.0, h.1, ap (reply_of files) h.2)
-      by (Some offset) h = ap (reply_of files) h
+  of_commands commands told h = (h.0, h.1, ap (reply_of files) h.2)
 
   of_decoding : (decoding : Result (List Command) NoTrace) (told : Report) → OnDecoding profile source target decoding told → OfDecoding files decoding (OfRun profile files source target) (reply_of files told)
   of_decoding (Ok commands) told h = of_commands commands told h
@@ -136,18 +128,18 @@ module _ (limit : ℕ) (profile : Profile) (files : Files) (source target : Matr
 -- ---- where a call ends
 
 -- an early stop
-pub stops : {A : Type 0} (answers : Answers) (told : Option Files) (rose wider : Type 0) (P : Files → A → Type 0) (R : Files → Report → Type 0) (M : Files → Type 0) (s : Stop) → Reads told rose P R M (Err s) → (rose → wider)
-    → IfSome told (λ files. ((r : Report) → R files r → answers files (reply_of files r)) × (M files → answers files (gone files))) → Ends answers told wider (Err s)
-stops answers told rose wider P R M (stop.Told r) reads w f = elim told as (λ o. IfSome o (λ files. R files r) → IfSome o (λ files. ((r : Report) → R files r → answers files (reply_of files r)) × (M files → answers files (gone files))) → IfSome o (λ files. answers files (reply_of files r))) [
+pub stops : {A : Type 0} (B : Type 0) (Q : Files → B → Type 0) (answers : Answers) (told : Option Files) (rose wider : Type 0) (P : Files → A → Type 0) (R : Files → Report → Type 0) (M : Files → Type 0) (s : Stop) → Reads told rose P R M (Err s) → (rose → wider)
+    → IfSome told (λ files. ((r : Report) → R files r → answers files (reply_of files r)) × (M files → answers files (gone files))) → Reads told wider Q (λ files r. answers files (reply_of files r)) (λ files. answers files (gone files)) (Err s)
+stops B Q answers told rose wider P R M (stop.Told r) reads w f = elim told as (λ o. IfSome o (λ files. R files r) → IfSome o (λ files. ((r : Report) → R files r → answers files (reply_of files r)) × (M files → answers files (gone files))) → IfSome o (λ files. answers files (reply_of files r))) [
   | None ↦ λ a b. tt
   | Some files ↦ λ a b. b.0 r a
 ] reads f
-stops answers told rose wider P R M stop.Depot (inl h) w f = inl (w h)
-stops answers told rose wider P R M stop.Depot (inr h) w f = inr (elim told as (λ o. IsSomeAnd o M → IfSome o (λ files. ((r : Report) → R files r → answers files (reply_of files r)) × (M files → answers files (gone files))) → IsSomeAnd o (λ files. answers files (gone files))) [
+stops B Q answers told rose wider P R M stop.Depot (inl h) w f = inl (w h)
+stops B Q answers told rose wider P R M stop.Depot (inr h) w f = inr (elim told as (λ o. IsSomeAnd o M → IfSome o (λ files. ((r : Report) → R files r → answers files (reply_of files r)) × (M files → answers files (gone files))) → IsSomeAnd o (λ files. answers files (gone files))) [
   | None ↦ λ a b. a
   | Some files ↦ λ a b. b.1 a
 ] h f)
-stops answers told rose wider P R M stop.Memory reads w f = tt
+stops B Q answers told rose wider P R M stop.Memory reads w f = tt
 
 -- ---- `run`
 
@@ -160,7 +152,7 @@ module _ (told : Option Files) (source target : Option (List ℕ)) (trace : List
   pub target_stops : (later : Option Files) (before between now : ℕ) (s : Stop) → later ≡ told → before ≤ between
       → Reads {A = Option Matrix} later (Rose between now) (IsSide target) (RefusesSide who.Target target) (LacksSide target) (Err s) → Ends (AnswerOf (run source target trace)) told (Rose before now) (Err s)
   target_stops later before between now s same l reads =
-      stops (AnswerOf (run source target trace)) told (Rose between now) (Rose before now) (IsSide target) (RefusesSide who.Target target) (LacksSide target) s
+      stops Report (λ files r. AnswerOf (run source target trace) files (reply_of files r)) (AnswerOf (run source target trace)) told (Rose between now) (Rose before now) (IsSide target) (RefusesSide who.Target target) (LacksSide target) s
       (subst (λ (o : Option Files). Reads {A = Option Matrix} o (Rose between now) (IsSide target) (RefusesSide who.Target target) (LacksSide target) (Err s)) same reads)
       (rose_since before between now l)
       (weaker told (λ files is. ((λ r h. side_given who.Source files _ source a _ is (side_refused who.Target files _ target r h)), (λ h. side_given who.Source files _ source a _ is (side_lacks who.Target files _ target h)))) first)
@@ -179,7 +171,7 @@ module _ (told : Option Files) (source target : Option (List ℕ)) (trace : List
         let here = subst (λ (o : Option Files). IfSome o (λ files. OnFile run_limit full_profile s t trace files r)) same reads in
         weaker told (λ files is. side_given who.Source files _ source a _ is.0.0 (side_given who.Target files _ target b _ is.0.1 (both_given files _ a b s t _ are (trace_given run_limit full_profile files s t trace r is.1)))) (both_told _ _ told (both_told _ _ told first second) here)
     run_ends later before between now s t (Err x) are same l reads =
-        stops (AnswerOf (run source target trace)) told (Rose between now) (Rose before now) (OnFile run_limit full_profile s t trace) tells_nothing (Lacks trace) x
+        stops Report (λ files r. AnswerOf (run source target trace) files (reply_of files r)) (AnswerOf (run source target trace)) told (Rose between now) (Rose before now) (OnFile run_limit full_profile s t trace) tells_nothing (Lacks trace) x
         (subst (λ (o : Option Files). Reads o (Rose between now) (OnFile run_limit full_profile s t trace) tells_nothing (Lacks trace) (Err x)) same reads)
         (rose_since before between now l)
         (weaker told (λ files is. ((λ r h. absurd h), (λ h. side_given who.Source files _ source a _ is.0 (side_given who.Target files _ target b _ is.1 (both_given files _ a b s t _ are (trace_lacks run_limit full_profile files s t trace h)))))) (both_told _ _ told first second))

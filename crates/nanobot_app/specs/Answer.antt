@@ -1,25 +1,28 @@
 -- What is answered to the words over known files: a status, a line and the files afterwards (docs/FORMATS.md, "Printed lines").
-use Rattle.std.specs.Prelude.{◌≡◌, ◌⊎◌, ℕ, ◌+◌, cond, nat_lt, ◌==◌, List, [], ◌∷◌, length, count_by, Option, Some, None, Result, Ok, Err, MatchOption, MatchBool}
+use Rattle.std.specs.Prelude.{◌≡◌, ◌⊎◌, ℕ, nat_lt, ◌==◌, List, [], length, count_by, Option, Some, None, Result, Ok, Err, MatchOption, MatchBool}
+use Rattle.std.specs.FinMap as finite
 use Rattle.nano_spec.specs.declared.commands.Command.{Command}
 use Rattle.nano_spec.specs.declared.outcomes.Verdict.{Verdict}
 use Rattle.nano_spec.specs.declared.system.Profile.{Profile}
 use Rattle.nano_spec.specs.Cutting.{Decoding, NoTrace, CutAt, BadAt}
+use Rattle.nano_spec.specs.Forge.{forged}
 use Rattle.nano_spec.specs.Legal.{Legality, NotLegal}
 use Rattle.nano_spec.specs.Matrix.{Matrix, all_of, empty, is_full}
-use Rattle.nano_spec.specs.Model.{NoModel, model}
+use Rattle.nano_spec.specs.Model.{NoModel, model, written}
+use Rattle.nano_spec.specs.Printing.{print}
 use Rattle.nano_spec.specs.Profile.{full_profile}
-use Rattle.nano_spec.specs.Spelling.{spelling}
+use Rattle.nano_spec.specs.Reading.{FaultyLine, read}
+use Rattle.nano_spec.specs.Spelling.{spellings}
 use Rattle.nano_spec.specs.Verdict.{VerdictOf}
 use Rattle.vox_depot.specs.Files.{Files, content}
 use Rattle.nanobot_app.specs.declared.report.Report.{Report}
-use Rattle.nanobot_app.specs.declared.report.Report.TheVariants.{Legal, Model, NotBuilt, Resolutions, TraceBad, TraceCut, TraceLong}
+use Rattle.nanobot_app.specs.declared.report.Report.TheVariants.{Forged, Legal, Model, Resolutions, Stored, TextLong, TraceBad, TraceCut, TraceLong}
 use Rattle.nanobot_app.specs.declared.report.Who.{Who}
 use Rattle.nanobot_app.specs.declared.report.Who.TheVariants as who
 use Rattle.nanobot_app.specs.declared.status.Status.{Status}
 use Rattle.nanobot_app.specs.declared.status.Status.TheVariants as is
-use Rattle.nanobot_app.specs.OneBot.{is_built}
-use Rattle.nanobot_app.specs.Report.{line_of, no_model, not_legal, of_verdict, status_of, words_line}
-use Rattle.nanobot_app.specs.Rows.{Row, check, run, IsRow, IsInNoRow}
+use Rattle.nanobot_app.specs.Report.{faulty_text, line_of, no_model, not_legal, of_verdict, status_of, words_line}
+use Rattle.nanobot_app.specs.Rows.{Row, asm, check, dis, make, run, IsRow, IsInNoRow}
 
 pub record Reply : Type 0 where
   pub status : Status
@@ -32,6 +35,14 @@ Answers = Files → Reply → Type 0
 -- this report, and the files as they were
 abbrev pub Tells : Report → Files → Reply → Type 0
 Tells report files reply = reply ≡ record { status = status_of report; line = line_of report; after = files }
+
+-- the files, of which that of the name now has these bytes
+abbrev pub with_file : Files → List ℕ → List ℕ → Files
+with_file files name bytes = finite.insert files name bytes
+
+-- this report, and the file of the name now has these bytes
+abbrev pub Stores : Report → List ℕ → List ℕ → Files → Reply → Type 0
+Stores report name bytes files reply = reply ≡ record { status = status_of report; line = line_of report; after = with_file files name bytes }
 
 -- the words are in no row of the table
 abbrev pub IsNoRow : Files → Reply → Type 0
@@ -88,17 +99,26 @@ OfTrace limit files bytes p reply =
     (Tells (TraceLong limit) files reply)
     ((decoding : Result (List Command) NoTrace) × Decoding bytes decoding × OfDecoding files decoding p reply)
 
--- the offset of the first command that the program does not take yet
-abbrev pub not_built : ℕ → List Command → Option ℕ
-not_built offset [] = None
-not_built offset (command ∷ more) = cond (is_built command) (not_built (offset + length (spelling command)) more) (Some offset)
+-- ---- texts
+
+-- p of the commands that the text says
+abbrev pub OfReading : Files → Result (List Command) FaultyLine → (List Command → Reply → Type 0) → Reply → Type 0
+OfReading files (Ok commands) p = p commands
+OfReading files (Err faulty) p = Tells (faulty_text faulty) files
+
+-- the most bytes of a text
+abbrev pub text_limit : ℕ
+text_limit = 1073741824
+
+-- the same of a text that may be too long
+abbrev pub OfText : Files → List ℕ → (List Command → Reply → Type 0) → Reply → Type 0
+OfText files bytes p reply = MatchBool (nat_lt text_limit (length bytes)) (Tells (TextLong text_limit) files reply) (OfReading files (read bytes) p reply)
+
+-- ---- runs
 
 -- the verdict of the commands
 abbrev pub OfRun : Profile → Files → Matrix → Matrix → List Command → Reply → Type 0
-OfRun profile files source target commands reply =
-    MatchOption (not_built 0 commands)
-    ((verdict : Verdict) × VerdictOf source target commands profile verdict × Tells (of_verdict verdict) files reply)
-    (λ offset. Tells (NotBuilt offset) files reply)
+OfRun profile files source target commands reply = (verdict : Verdict) × VerdictOf source target commands profile verdict × Tells (of_verdict verdict) files reply
 
 -- ---- the rows
 
@@ -110,6 +130,10 @@ run_limit = 1073741824
 abbrev pub full_count : Matrix → ℕ
 full_count m = count_by (is_full m) (all_of m)
 
+-- the most bytes of a trace that is printed
+abbrev pub dis_limit : ℕ
+dis_limit = 50000000
+
 abbrev pub AnswerOf : Row → Answers
 AnswerOf (check name) files = WithModel who.Model files name (λ m. Tells (Legal m.resolution (full_count m)) files)
 AnswerOf (run source target trace) files =
@@ -118,6 +142,15 @@ AnswerOf (run source target trace) files =
     WithBoth files s t (λ s t.
     WithFile files trace (λ bytes.
     OfTrace run_limit files bytes (OfRun full_profile files s t)))))
+AnswerOf (asm text trace) files =
+    WithFile files text (λ bytes.
+    OfText files bytes (λ commands.
+    Stores (Stored (length commands) (length (spellings commands))) trace (spellings commands) files))
+AnswerOf (dis trace text) files =
+    WithFile files trace (λ bytes.
+    OfTrace dis_limit files bytes (λ commands.
+    Stores (Stored (length commands) (length (print commands))) text (print commands) files))
+AnswerOf (make number resolution name) files = Stores (Forged resolution (full_count (forged number resolution))) name (written (forged number resolution)) files
 
 -- the answer to the words
 abbrev pub Answer : List (List ℕ) → Answers

@@ -1,5 +1,5 @@
 -- The sentence that the top call carries, over known files: what it means that a run takes its whole trace.
-use Rattle.std.specs.Prelude.{◌≡◌, ℕ, ◌≤◌, ℤ, List, length, Option, None, IsSomeAnd}
+use Rattle.std.specs.Prelude.{◌≡◌, ℕ, ◌≤◌, ℤ, List, length, Option, IsSomeAnd}
 use Rattle.std.specs.Io.KnownBytes.{append_known}
 use Rattle.nano_spec.specs.declared.commands.Command.{Command}
 use Rattle.nano_spec.specs.declared.outcomes.Verdict.TheVariants.{Accepted}
@@ -10,14 +10,14 @@ use Rattle.nano_spec.specs.Verdict.{VerdictOf}
 use Rattle.vox_depot.specs.Files.{Files, content}
 use Rattle.nanobot_app.specs.declared.status.Status.{Status}
 use Rattle.nanobot_app.specs.declared.status.Status.TheVariants as is
-use Rattle.nanobot_app.specs.Answer.{not_built, run_limit}
+use Rattle.nanobot_app.specs.Answer.{run_limit}
 use Rattle.nanobot_app.specs.declared.report.Report.TheVariants as report
 use Rattle.nanobot_app.specs.Reading.{AreBoth, IsSide}
 use Rattle.nanobot_app.specs.Report.{line_of}
 
 -- the machine of the definitions takes the whole trace from the one model to the other, to a halt, with this energy in so many steps
 abbrev pub TakesBytes : Matrix → Matrix → List ℕ → ℤ → ℕ → Type 0
-TakesBytes source target bytes energy steps = (length bytes ≤ run_limit) × ((commands : List Command) × Cutting bytes commands × (not_built 0 commands ≡ None) × VerdictOf source target commands full_profile (Accepted energy steps))
+TakesBytes source target bytes energy steps = (length bytes ≤ run_limit) × ((commands : List Command) × Cutting bytes commands × VerdictOf source target commands full_profile (Accepted energy steps))
 
 -- the same of files: both models are legal and of one resolution, and the file of the trace is not too long
 pub record Takes (files : Files) (source target : Option (List ℕ)) (trace : List ℕ) (energy : ℤ) (steps : ℕ) : Type 0 where

@@ -1,31 +1,36 @@
 -- What is found in the files: models, and what comes of a trace.
-use Rattle.std.specs.Prelude.{◌≡◌, ◌≢◌, ◌⊎◌, ℕ, nat_lt, List, [], ◌++◌, length, Option, Some, None, Result, Ok, Err, MatchOption, MatchBool, IfSome, IsSomeAnd, ⊤}
+use Rattle.std.specs.Prelude.{◌≡◌, ◌≢◌, ◌⊎◌, ℕ, ◌≤◌, nat_lt, List, [], ◌++◌, length, Option, Some, None, Result, Ok, Err, MatchBool, IfSome, IsSomeAnd, ⊤}
 use Rattle.nano_spec.specs.declared.commands.Command.{Command}
 use Rattle.nano_spec.specs.declared.outcomes.Verdict.{Verdict}
 use Rattle.nano_spec.specs.declared.system.Profile.{Profile}
-use Rattle.nano_spec.specs.Cutting.{Decoding, NoTrace, CutAt, BadAt}
+use Rattle.nano_spec.specs.Cutting.{Cutting, Decoding, NoTrace, CutAt, BadAt}
 use Rattle.nano_spec.specs.Legal.{IsLegal, Legality, NotLegal}
 use Rattle.nano_spec.specs.Matrix.{Matrix, empty}
 use Rattle.nano_spec.specs.Model.{NoModel, model}
+use Rattle.nano_spec.specs.Reading.{FaultyLine, read}
 use Rattle.nano_spec.specs.Verdict.{VerdictOf}
 use Rattle.model_file.specs.declared.fault.ModelFault.{ModelFault}
 use Rattle.model_file.specs.declared.fault.ModelFault.TheVariants as fault
-use Rattle.run_progress.specs.Progress.{Comes, Progress, Pushes}
+use Rattle.run_progress.specs.Progress.{Comes}
+use Rattle.step_machine.specs.Course.{Course}
 use Rattle.trace_codec.specs.Decoder.{DecoderState, HasTaken}
+use Rattle.trace_codec.specs.declared.fault.TraceFault.{TraceFault}
+use Rattle.trace_codec.specs.declared.fault.TraceFault.TheVariants as trace
+use Rattle.trace_text.specs.declared.fault.TextFault.{TextFault}
+use Rattle.trace_text.specs.declared.fault.TextFault.TheVariants as text
 use Rattle.vox_depot.specs.Files.{Files, content}
 use Rattle.vox_depot.specs.declared.whole.LoadFault.{LoadFault}
 use Rattle.vox_depot.specs.declared.whole.LoadFault.TheVariants as load
 use Rattle.vox_depot.specs.declared.depot.FetchFault.{FetchFault}
 use Rattle.vox_depot.specs.declared.depot.FetchFault.TheVariants as fetch
 use Rattle.nanobot_app.specs.declared.report.Report.{Report}
-use Rattle.nanobot_app.specs.declared.report.Report.TheVariants.{Model, NotBuilt, Resolutions, TraceBad, TraceCut, TraceLong}
+use Rattle.nanobot_app.specs.declared.report.Report.TheVariants.{Model, Resolutions, Text, TextLong, TraceBad, TraceCut, TraceLong}
 use Rattle.nanobot_app.specs.declared.report.Who.{Who}
 use Rattle.nanobot_app.specs.declared.stop.Stop.{Stop}
 use Rattle.nanobot_app.specs.declared.stop.Stop.TheVariants as stop
 use Rattle.nanobot_app.specs.declared.status.Status.TheVariants as is
-use Rattle.nanobot_app.specs.Answer.{Answers, Reply, not_built}
-use Rattle.nanobot_app.specs.OneBot.{is_built}
-use Rattle.nanobot_app.specs.Report.{line_of, no_model, not_legal, of_verdict, status_of}
+use Rattle.nanobot_app.specs.Answer.{Answers, Reply, dis_limit, text_limit}
+use Rattle.nanobot_app.specs.Report.{faulty_text, line_of, no_model, no_trace, not_legal, of_verdict, status_of}
 
 -- ---- why a call stops
 
@@ -44,6 +49,17 @@ of_load load.Memory = stop.Memory
 abbrev pub of_fetch : FetchFault → Stop
 of_fetch fetch.Missing = stop.Depot
 of_fetch fetch.Failed = stop.Depot
+
+-- a text that was refused, or want of memory
+abbrev pub of_text : TextFault → Stop
+of_text text.Memory = stop.Memory
+of_text f = stop.Told (Text f)
+
+-- a trace that was refused, or want of memory
+abbrev pub of_trace : TraceFault → Stop
+of_trace (trace.Bad offset) = stop.Told (TraceBad offset)
+of_trace (trace.Cut offset) = stop.Told (TraceCut offset)
+of_trace trace.Memory = stop.Memory
 
 -- what a call that reads files comes to: where files are told, P of its value, or R of the report that ends it; a stop without a report comes
 -- where the depot failed or, where files are told, lacks the file of M, or for want of memory
@@ -98,18 +114,37 @@ abbrev pub AreUnlike : Option Matrix → Option Matrix → Report → Type 0
 AreUnlike (Some a) (Some b) report = (a.resolution ≢ b.resolution) × (report ≡ Resolutions a.resolution b.resolution)
 AreUnlike a b report = ⊥
 
+-- ---- commands
+
+-- the file of the name is a text that says these commands
+abbrev pub IsTextOf : Files → List ℕ → List Command → Type 0
+IsTextOf files name commands = IsSomeAnd (content files name) (λ bytes. (length bytes ≤ text_limit) × (read bytes ≡ Ok commands))
+
+-- the report on what a text says that says no commands
+abbrev pub RefusesReading : Result (List Command) FaultyLine → Report → Type 0
+RefusesReading (Ok commands) report = ⊥
+RefusesReading (Err faulty) report = report ≡ faulty_text faulty
+
+abbrev pub RefusesText : List ℕ → Files → Report → Type 0
+RefusesText name files report = IsSomeAnd (content files name) (λ bytes. MatchBool (nat_lt text_limit (length bytes)) (report ≡ TextLong text_limit) (RefusesReading (read bytes) report))
+
+-- the file of the name is a trace of these commands
+abbrev pub IsTraceOf : Files → List ℕ → List Command → Type 0
+IsTraceOf files name commands = IsSomeAnd (content files name) (λ bytes. (length bytes ≤ dis_limit) × Cutting bytes commands)
+
+-- the report on bytes that are no trace
+abbrev pub RefusesDecoding : List ℕ → Report → Type 0
+RefusesDecoding bytes report = (why : NoTrace) × Decoding bytes (Err why) × (report ≡ no_trace why)
+
+abbrev pub RefusesTrace : List ℕ → Files → Report → Type 0
+RefusesTrace name files report = IsSomeAnd (content files name) (λ bytes. MatchBool (nat_lt dis_limit (length bytes)) (report ≡ TraceLong dis_limit) (RefusesDecoding bytes report))
+
 -- ---- traces
 
--- a run whose trace comes in pieces: the decoder, the progress, and where the first command stands that is not taken yet
+-- a run whose trace comes in pieces: the decoder, and where the run stands
 pub record RunState : Type 0 where
   pub decoder : DecoderState
-  pub progress : Progress
-  pub not_built : Option ℕ
-
--- one more command: once one is found that is not taken, no other is looked at
-abbrev pub Takes : Option ℕ → ℕ → Command → Progress → Progress → Option ℕ → Type 0
-Takes (Some first) offset command p q now = now ≡ Some first
-Takes None offset command p q now = MatchBool (is_built command) (Pushes p command q × (now ≡ None)) (now ≡ Some offset)
+  pub run : Course
 
 -- whatever follows the bytes, they are refused at the offset
 abbrev pub AreBad : List ℕ → ℕ → Type 0
@@ -119,15 +154,14 @@ AreBad bytes offset = (more : List ℕ) → Decoding (bytes ++ more) (Err (BadAt
 pub record Stands (source : Matrix) (profile : Profile) (bytes : List ℕ) (s : RunState) : Type 0 where
   pub commands : List Command
   pub taken : HasTaken bytes commands s.decoder
-  pub built : s.not_built ≡ not_built 0 commands
-  pub progress_is : not_built 0 commands ≡ None → Comes source profile commands s.progress
+  pub progress_is : Comes source profile commands s.run.progress
 
 abbrev pub HasRun : Matrix → Profile → List ℕ → RunState → Type 0
 HasRun source profile bytes s = MatchBool s.decoder.failed (AreBad bytes s.decoder.offset) (Stands source profile bytes s)
 
 -- the report on commands
 abbrev pub OnCommands : Profile → Matrix → Matrix → List Command → Report → Type 0
-OnCommands profile source target commands report = MatchOption (not_built 0 commands) ((verdict : Verdict) × VerdictOf source target commands profile verdict × (report ≡ of_verdict verdict)) (λ offset. report ≡ NotBuilt offset)
+OnCommands profile source target commands report = (verdict : Verdict) × VerdictOf source target commands profile verdict × (report ≡ of_verdict verdict)
 
 -- the report on a decoding
 abbrev pub OnDecoding : Profile → Matrix → Matrix → Result (List Command) NoTrace → Report → Type 0

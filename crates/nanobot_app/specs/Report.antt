@@ -6,13 +6,18 @@ use Rattle.vox_geom.specs.declared.coordinate.Coord.{Coord}
 use Rattle.nano_spec.specs.declared.outcomes.Broken.{Broken}
 use Rattle.nano_spec.specs.declared.outcomes.Verdict.{Verdict}
 use Rattle.nano_spec.specs.declared.outcomes.Verdict.TheVariants as verdict
+use Rattle.nano_spec.specs.Cutting.{BadAt, CutAt, NoTrace}
 use Rattle.nano_spec.specs.Legal as legal
 use Rattle.nano_spec.specs.Legal.{NotLegal}
 use Rattle.nano_spec.specs.Model as model
 use Rattle.nano_spec.specs.Model.{NoModel}
+use Rattle.nano_spec.specs.Reading.{FaultyLine}
 use Rattle.nano_spec.specs.Rule.{number_of, name_of}
 use Rattle.model_file.specs.declared.fault.ModelFault.{ModelFault}
 use Rattle.model_file.specs.declared.fault.ModelFault.TheVariants as fault
+use Rattle.trace_text.specs.Text.{fault_at}
+use Rattle.trace_text.specs.declared.fault.TextFault.{TextFault}
+use Rattle.trace_text.specs.declared.fault.TextFault.TheVariants as text
 use Rattle.nanobot_app.specs.declared.status.Status.{Status}
 use Rattle.nanobot_app.specs.declared.status.Status.TheVariants as is
 use Rattle.nanobot_app.specs.declared.report.Report.{Report}
@@ -31,19 +36,21 @@ code_of is.Depot = 5
 code_of is.Sink = 6
 code_of is.Memory = 7
 code_of is.Text = 8
-code_of is.NotYet = 10
 
 -- the status of a report
 abbrev pub status_of : Report → Status
 status_of (report.Accepted energy steps) = is.Done
 status_of (report.Legal resolution full) = is.Done
+status_of (report.Stored commands bytes) = is.Done
+status_of (report.Forged resolution full) = is.Done
 status_of (report.Broken broken) = is.Broken
 status_of (report.Model who fault) = is.Model
 status_of (report.Resolutions source target) = is.Model
 status_of (report.TraceBad offset) = is.Trace
 status_of (report.TraceCut offset) = is.Trace
 status_of (report.TraceLong limit) = is.Trace
-status_of (report.NotBuilt offset) = is.NotYet
+status_of (report.Text fault) = is.Text
+status_of (report.TextLong limit) = is.Text
 
 -- whose model is refused
 abbrev pub who_of : Who → List ℕ
@@ -74,6 +81,14 @@ model_line who fault.WideLong = concat (who_of who ∷ codes " 12 WideLong\n" �
 abbrev pub broken_line : Broken → List ℕ
 broken_line b = concat (codes "broken " ∷ decimal (number_of b.rule) ∷ codes " " ∷ name_of b.rule ∷ codes " step " ∷ decimal b.step ∷ codes " bid " ∷ decimal b.bid ∷ codes " at" ∷ coordinate_parts b.at (codes "\n" ∷ []))
 
+-- the line of a text that is refused; want of memory is told by no line
+abbrev pub text_line : TextFault → List ℕ
+text_line (text.NotAscii line) = concat (codes "text 1 NotAscii line " ∷ decimal line ∷ codes "\n" ∷ [])
+text_line (text.UnknownWord line) = concat (codes "text 2 UnknownWord line " ∷ decimal line ∷ codes "\n" ∷ [])
+text_line (text.Shape line) = concat (codes "text 3 Shape line " ∷ decimal line ∷ codes "\n" ∷ [])
+text_line (text.Range line) = concat (codes "text 4 Range line " ∷ decimal line ∷ codes "\n" ∷ [])
+text_line text.Memory = codes "text 5 Memory\n"
+
 -- the line of words that are in no row of the table
 abbrev pub words_line : List ℕ
 words_line = codes "words not understood\n"
@@ -82,13 +97,16 @@ words_line = codes "words not understood\n"
 abbrev pub line_of : Report → List ℕ
 line_of (report.Accepted energy steps) = concat (codes "ok energy " ∷ signed_decimal energy ∷ codes " steps " ∷ decimal steps ∷ codes "\n" ∷ [])
 line_of (report.Legal resolution full) = concat (codes "legal resolution " ∷ decimal resolution ∷ codes " full " ∷ decimal full ∷ codes "\n" ∷ [])
+line_of (report.Stored commands bytes) = concat (codes "commands " ∷ decimal commands ∷ codes " bytes " ∷ decimal bytes ∷ codes "\n" ∷ [])
+line_of (report.Forged resolution full) = concat (codes "model resolution " ∷ decimal resolution ∷ codes " full " ∷ decimal full ∷ codes "\n" ∷ [])
 line_of (report.Broken broken) = broken_line broken
 line_of (report.Model who fault) = model_line who fault
 line_of (report.Resolutions source target) = concat (codes "resolutions " ∷ decimal source ∷ codes " " ∷ decimal target ∷ codes "\n" ∷ [])
 line_of (report.TraceBad offset) = concat (codes "trace bad at " ∷ decimal offset ∷ codes "\n" ∷ [])
 line_of (report.TraceCut offset) = concat (codes "trace cut at " ∷ decimal offset ∷ codes "\n" ∷ [])
 line_of (report.TraceLong limit) = concat (codes "trace longer than " ∷ decimal limit ∷ codes "\n" ∷ [])
-line_of (report.NotBuilt offset) = concat (codes "not built at " ∷ decimal offset ∷ codes "\n" ∷ [])
+line_of (report.Text fault) = text_line fault
+line_of (report.TextLong limit) = concat (codes "text longer than " ∷ decimal limit ∷ codes "\n" ∷ [])
 
 -- ---- what the definitions come to, as reports
 
@@ -104,10 +122,19 @@ no_model (model.WideRun index) = fault.WideRun index
 no_model (model.WideShort have) = fault.WideShort have
 no_model model.WideLong = fault.WideLong
 
+-- bytes that are no trace
+abbrev pub no_trace : NoTrace → Report
+no_trace (BadAt offset) = report.TraceBad offset
+no_trace (CutAt offset) = report.TraceCut offset
+
 -- a model that is not legal
 abbrev pub not_legal : NotLegal → ModelFault
 not_legal (legal.Border at) = fault.Border at
 not_legal (legal.Floating at) = fault.Floating at
+
+-- a text with a faulty line
+abbrev pub faulty_text : FaultyLine → Report
+faulty_text faulty = report.Text (fault_at faulty.fault faulty.line)
 
 -- a verdict
 abbrev pub of_verdict : Verdict → Report

@@ -1,10 +1,14 @@
 -- The table of words: each row as the words that it is written with (this project's own: docs/FORMATS.md, "Printed lines").
-use Rattle.std.specs.Prelude.{◌≡◌, ◌≢◌, ℕ, List, [], ◌∷◌, map, codes, Option, Some, None, String, string_bytes, All, ⊤}
+use Rattle.std.specs.Prelude.{◌≡◌, ◌≢◌, ◌<◌, ◌≤◌, ◌^◌, ℕ, List, [], ◌∷◌, map, codes, decimal, Option, Some, None, String, string_bytes, All, ⊤}
+use Rattle.vox_geom.specs.declared.TheConstants.{MOST_R}
 
 -- a source or a target is the file of a name, or by `None` the empty model of the other's resolution
 pub data Row : Type 0 where
   check : (model : List ℕ) → Row
   run : (source target : Option (List ℕ)) (trace : List ℕ) → Row
+  asm : (text trace : List ℕ) → Row
+  dis : (trace text : List ℕ) → Row
+  make : (number resolution : ℕ) (model : List ℕ) → Row
 
 -- the word of a source or a target
 abbrev pub side_word : Option (List ℕ) → List ℕ
@@ -15,6 +19,9 @@ side_word (Some name) = name
 abbrev pub words_of : Row → List (List ℕ)
 words_of (check model) = codes "check" ∷ model ∷ []
 words_of (run source target trace) = codes "run" ∷ side_word source ∷ side_word target ∷ trace ∷ []
+words_of (asm text trace) = codes "asm" ∷ text ∷ trace ∷ []
+words_of (dis trace text) = codes "dis" ∷ trace ∷ text ∷ []
+words_of (make number resolution model) = codes "make" ∷ decimal number ∷ decimal resolution ∷ model ∷ []
 
 -- a name, if there is one, before others
 abbrev pub with_side : Option (List ℕ) → List (List ℕ) → List (List ℕ)
@@ -25,25 +32,38 @@ with_side (Some name) names = name ∷ names
 abbrev pub reads_of : Row → List (List ℕ)
 reads_of (check model) = model ∷ []
 reads_of (run source target trace) = with_side source (with_side target (trace ∷ []))
+reads_of (asm text trace) = text ∷ []
+reads_of (dis trace text) = trace ∷ []
+reads_of (make number resolution model) = []
 
 -- the name of the file that it stores
 abbrev pub stores_of : Row → Option (List ℕ)
 stores_of (check model) = None
 stores_of (run source target trace) = None
+stores_of (asm text trace) = Some trace
+stores_of (dis trace text) = Some text
+stores_of (make number resolution model) = Some model
 
 -- the names in it
 abbrev pub names_of : Row → List (List ℕ)
-names_of row = reads_of row
+names_of row = with_side (stores_of row) (reads_of row)
 
 -- one of the two is the file of a name
 abbrev pub HasName : Option (List ℕ) → Option (List ℕ) → Type 0
 HasName None None = ⊥
 HasName source target = ⊤
 
+-- a number and a resolution of the forge
+abbrev pub CanForge : ℕ → ℕ → Type 0
+CanForge number resolution = (number < 2 ^ 32) × (1 ≤ resolution) × (resolution ≤ MOST_R)
+
 -- the row is of the table
 abbrev pub IsOfTable : Row → Type 0
 IsOfTable (check model) = ⊤
 IsOfTable (run source target trace) = HasName source target
+IsOfTable (asm text trace) = ⊤
+IsOfTable (dis trace text) = ⊤
+IsOfTable (make number resolution model) = CanForge number resolution
 
 -- `-` is no name of a file
 abbrev pub IsName : List ℕ → Type 0

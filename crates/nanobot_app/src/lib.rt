@@ -1,11 +1,12 @@
 //! The top call: does what the words of the command line say, over any depot and sink (docs/FORMATS.md, "Printed lines").
 #![tactic(auto)]
 
+mod commands;
+mod effect;
 mod laws;
 mod models;
 mod report;
 mod rows;
-mod runner;
 mod status;
 mod stop;
 mod top_call;

@@ -1,5 +1,6 @@
 //! Models of files.
-ghost use Rattle.std.specs.Prelude.{◌≡◌, ◌≤◌, ℕ, List, Some, None, Err, IfOk};
+ghost use Rattle.std.specs.Prelude.{◌≡◌, ◌≤◌, ℕ, List, Some, None, Err, IfOk, IfSome};
+ghost use Rattle.nano_spec.specs.Grounded.{FirstUngrounded};
 ghost use Rattle.nanobot_app.specs.declared.report.Report.{Report as ReportOf};
 ghost use Rattle.vox_depot.specs.Causes.{Rose};
 ghost use Rattle.nanobot_app.specs.Parsing.{side_of};
@@ -27,6 +28,7 @@ pub fn load_model<D: Depot>(
     ensures reads { Reads (D.files depot.old) (Rose (D.faults depot.old) (D.faults depot.new)) (λ files m. IsModelOf files name.now m) (RefusesFile who name.now) (Lacks name.now) result }
     ensures files { D.files depot.new ≡ D.files depot.old }
     ensures later { D.faults depot.old ≤ D.faults depot.new }
+    ensures grounded { IfOk result (λ m. FirstUngrounded m None) }
 {
     let bytes = load(alloc, depot, name, MOST_BYTES)?;
     let planes = match read_model(alloc, &bytes) {
@@ -51,6 +53,7 @@ pub fn load_side<D: Depot>(
     ensures files { D.files depot.new ≡ D.files depot.old }
     ensures later { D.faults depot.old ≤ D.faults depot.new }
     ensures named { IfOk result (λ loaded. loaded ≡ None → side_of side.entry ≡ None) }
+    ensures grounded { IfOk result (λ loaded. IfSome loaded (λ m. FirstUngrounded m None)) }
 {
     match side {
         Side::Empty => Ok(None),
@@ -64,11 +67,13 @@ pub fn both(
     source: Option<Planes>,
     target: Option<Planes>,
 ) -> Result<(Planes, Planes), Stop>
-    requires { source ≡ None → target ≡ None → ⊥ }
+    requires some { source ≡ None → target ≡ None → ⊥ }
+    requires grounded { IfSome source (λ m. FirstUngrounded m None) }
     ensures models { IfOk result (λ pair. AreBoth source target pair.0 pair.1) }
     ensures unlike { (report : ReportOf) → result ≡ Err (Stop.Told report) → AreUnlike source target report }
     ensures depot { result ≡ Err Stop.Depot → ⊥ }
     ensures resolutions { IfOk result (λ pair. pair.0.resolution ≡ pair.1.resolution) }
+    ensures grounded { IfOk result (λ pair. FirstUngrounded pair.0 None) }
 {
     match (source, target) {
         (Some(source), Some(target)) => {

@@ -1,12 +1,13 @@
 //! What is told of a call, and its lines.
 ghost use Rattle.std.specs.List.{concat};
-ghost use Rattle.std.specs.Prelude.{◌≡◌, ◌∷◌, [], IfOk, codes, decimal, string_bytes};
-ghost use Rattle.nanobot_app.specs.Report.{broken_line as broken_line_of, line_of, model_line as model_line_of, of_verdict, status_of, who_of};
+ghost use Rattle.std.specs.Prelude.{◌≡◌, ◌∷◌, [], IfOk, codes, decimal, length, string_bytes};
+ghost use Rattle.nanobot_app.specs.Report.{broken_line as broken_line_of, line_of, model_line as model_line_of, of_verdict, status_of, text_line as text_line_of, who_of};
 
 use crate::status::Status;
 use model_file::ModelFault;
-use nano_spec::{Broken, Verdict};
+use nano_spec::{Broken, Command, Verdict};
 use std::alloc::{AllocError, Global};
+use trace_text::TextFault;
 use vox_geom::Coord;
 
 /// Whose model is refused.
@@ -24,6 +25,10 @@ pub enum Report {
     Accepted { energy: i64, steps: u32 },
     /// A model is legal, and so many of its voxels are full.
     Legal { resolution: u16, full: u32 },
+    /// A file of so many bytes has the bytes, or the text, of so many commands.
+    Stored { commands: u64, bytes: u64 },
+    /// A model was forged, and so many of its voxels are full.
+    Forged { resolution: u16, full: u32 },
     /// A rule was broken.
     Broken(Broken),
     /// A model was refused.
@@ -36,8 +41,10 @@ pub enum Report {
     TraceCut { offset: u64 },
     /// A trace has more bytes than that.
     TraceLong { limit: u64 },
-    /// The program does not take the command that begins there yet.
-    NotBuilt { offset: u64 },
+    /// A text was refused.
+    Text(TextFault),
+    /// A text has more bytes than that.
+    TextLong { limit: u64 },
 }
 
 impl Who {
@@ -80,6 +87,19 @@ fn model_line(alloc: Global, who: Who, fault: ModelFault) -> Result<String, Allo
         ModelFault::WideRun { index } => format!(in alloc; "{who} 10 WideRun index {index}\n"),
         ModelFault::WideShort { have } => format!(in alloc; "{who} 11 WideShort have {have}\n"),
         ModelFault::WideLong => format!(in alloc; "{who} 12 WideLong\n"),
+    }
+}
+
+/// The line of a text that was refused.
+fn text_line(alloc: Global, fault: TextFault) -> Result<String, AllocError>
+    ensures { IfOk result (λ s. string_bytes s ≡ text_line_of fault) }
+{
+    match &fault {
+        TextFault::NotAscii { line } => format!(in alloc; "text 1 NotAscii line {line}\n"),
+        TextFault::UnknownWord { line } => format!(in alloc; "text 2 UnknownWord line {line}\n"),
+        TextFault::Shape { line } => format!(in alloc; "text 3 Shape line {line}\n"),
+        TextFault::Range { line } => format!(in alloc; "text 4 Range line {line}\n"),
+        TextFault::Memory => format!(in alloc; "text 5 Memory\n"),
     }
 }
 
@@ -131,18 +151,31 @@ impl Report {
         }
     }
 
+    /// The report on a file that has these bytes, of so many commands.
+    pub fn stored(commands: &[Command], bytes: &[u8]) -> Report
+        ensures { result ≡ Report.Stored (length commands.now) (length bytes.now) }
+    {
+        Report::Stored {
+            commands: commands.len() as u64,
+            bytes: bytes.len() as u64,
+        }
+    }
+
     /// The status of the report.
     pub fn status(&self) -> Status
         ensures { result ≡ status_of self.now }
     {
         match self {
-            Report::Accepted { .. } | Report::Legal { .. } => Status::Done,
+            Report::Accepted { .. }
+            | Report::Legal { .. }
+            | Report::Stored { .. }
+            | Report::Forged { .. } => Status::Done,
             Report::Broken(_) => Status::Broken,
             Report::Model { .. } | Report::Resolutions { .. } => Status::Model,
             Report::TraceBad { .. } | Report::TraceCut { .. } | Report::TraceLong { .. } => {
                 Status::Trace
             }
-            Report::NotBuilt { .. } => Status::NotYet,
+            Report::Text(_) | Report::TextLong { .. } => Status::Text,
         }
     }
 
@@ -157,6 +190,12 @@ impl Report {
             Report::Legal { resolution, full } => {
                 format!(in alloc; "legal resolution {resolution} full {full}\n")
             }
+            Report::Stored { commands, bytes } => {
+                format!(in alloc; "commands {commands} bytes {bytes}\n")
+            }
+            Report::Forged { resolution, full } => {
+                format!(in alloc; "model resolution {resolution} full {full}\n")
+            }
             Report::Broken(broken) => broken_line(alloc, broken),
             Report::Model { who, fault } => model_line(alloc, *who, *fault),
             Report::Resolutions { source, target } => {
@@ -165,7 +204,8 @@ impl Report {
             Report::TraceBad { offset } => format!(in alloc; "trace bad at {offset}\n"),
             Report::TraceCut { offset } => format!(in alloc; "trace cut at {offset}\n"),
             Report::TraceLong { limit } => format!(in alloc; "trace longer than {limit}\n"),
-            Report::NotBuilt { offset } => format!(in alloc; "not built at {offset}\n"),
+            Report::Text(fault) => text_line(alloc, *fault),
+            Report::TextLong { limit } => format!(in alloc; "text longer than {limit}\n"),
         }
     }
 }

@@ -1,21 +1,29 @@
 //! What each row of the table of words asks for.
-ghost use Rattle.std.specs.Prelude.{◌≡◌, ◌≤◌, ℕ, All, List, Some, None};
+ghost use Rattle.std.specs.Prelude.{◌≡◌, ◌≤◌, ℕ, All, IfOk, List, Option, Some, None};
 ghost use Rattle.vox_depot.specs.Causes.{Rose};
+ghost use Rattle.vox_depot.specs.Files.{Files};
 ghost use Rattle.nanobot_app.specs.Answer.{AnswerOf};
 ghost use Rattle.nanobot_app.specs.Parsing.{row_of, side_of};
 ghost use Rattle.nanobot_app.specs.Reading.{Ends};
-ghost use Rattle.nanobot_app.specs.Rows.{IsOfTable, check as check_row, reads_of, run as run_row};
+ghost use Rattle.nanobot_app.specs.Effects.{Finishes, IsFor};
+ghost use Rattle.nanobot_app.specs.Rows.{IsOfTable, asm as asm_row, check as check_row, dis as dis_row, make as make_row, reads_of, run as run_row, stores_of};
 
+use crate::commands::{load_text, load_trace};
+use crate::effect::Effect;
 use crate::models::{both, load_model, load_side};
 use crate::report::{Report, Who};
 use crate::stop::Stop;
 use crate::trace::run_trace;
 use crate::words::{Row, Side};
+use model_file::write_model;
+use model_forge::forge;
 use nano_spec::Profile;
 use std::alloc::Global;
 use std::sync::ledger::Ledger;
+use trace_codec::encode_all;
+use trace_text::print_trace;
 use vox_depot::Depot;
-use vox_geom::Steps;
+use vox_geom::{MOST_R, Steps};
 
 /// `check`: the resolution and the number of full voxels of a legal model.
 fn check<D: Depot, L: Ledger>(
@@ -59,25 +67,93 @@ fn run<D: Depot, L: Ledger>(
     run_trace(alloc, depot, trace, source, &target, Profile::full(), steps)
 }
 
-/// What a row of the table asks for.
-pub fn answer<D: Depot, L: Ledger>(
+/// `asm`: the bytes of the commands that a text says.
+fn asm<'a, D: Depot>(
     alloc: Global,
-    row: Row<'_>,
+    depot: &mut D,
+    text: &str,
+    trace: &'a str,
+) -> Result<Effect<'a>, Stop>
+    requires { D.may_fetch text.now }
+    ensures finishes { Finishes (AnswerOf (asm_row text.now trace.now)) (D.files depot.old) (Rose (D.faults depot.old) (D.faults depot.new)) result }
+    ensures named { IfOk result (λ effect. IsFor (Some trace.now) effect.file) }
+    ensures files { D.files depot.new ≡ D.files depot.old }
+    ensures later { D.faults depot.old ≤ D.faults depot.new }
+{
+    let commands = load_text(alloc, depot, text)?;
+    let bytes = encode_all(alloc, commands.as_slice())?;
+    let report = Report::stored(commands.as_slice(), bytes.as_slice());
+    Ok(Effect::storing(report, trace, bytes))
+}
+
+/// `dis`: the text of the commands of a trace.
+fn dis<'a, D: Depot>(
+    alloc: Global,
+    depot: &mut D,
+    trace: &str,
+    text: &'a str,
+) -> Result<Effect<'a>, Stop>
+    requires { D.may_fetch trace.now }
+    ensures finishes { Finishes (AnswerOf (dis_row trace.now text.now)) (D.files depot.old) (Rose (D.faults depot.old) (D.faults depot.new)) result }
+    ensures named { IfOk result (λ effect. IsFor (Some text.now) effect.file) }
+    ensures files { D.files depot.new ≡ D.files depot.old }
+    ensures later { D.faults depot.old ≤ D.faults depot.new }
+{
+    let commands = load_trace(alloc, depot, trace)?;
+    let bytes = print_trace(alloc, commands.as_slice())?;
+    let report = Report::stored(commands.as_slice(), bytes.as_slice());
+    Ok(Effect::storing(report, text, bytes))
+}
+
+/// `make`: the model that is forged of a number.
+fn make<'a, L: Ledger>(
+    alloc: Global,
+    number: u32,
+    resolution: u16,
+    model: &'a str,
+    steps: &mut Steps<L>,
+) -> Result<Effect<'a>, Stop>
+    requires some { 1 ≤ resolution }
+    requires most { resolution ≤ MOST_R }
+    ensures finishes { (told : Option Files) (before now : ℕ) → Finishes (AnswerOf (make_row number resolution model.now)) told (Rose before now) result }
+    ensures named { IfOk result (λ effect. IsFor (Some model.now) effect.file) }
+{
+    let planes = forge(alloc, number, resolution)?;
+    let bytes = write_model(alloc, &planes)?;
+    let report = Report::Forged {
+        resolution,
+        full: planes.count(steps),
+    };
+    Ok(Effect::storing(report, model, bytes))
+}
+
+/// What a row of the table comes to. Files are read, and none is stored yet.
+pub fn answer<'a, D: Depot, L: Ledger>(
+    alloc: Global,
+    row: Row<'a>,
     depot: &mut D,
     steps: &mut Steps<L>,
-) -> Result<Report, Stop>
+) -> Result<Effect<'a>, Stop>
     requires may_fetch { All D.may_fetch (reads_of (row_of row)) }
     requires of_table { IsOfTable (row_of row) }
-    ensures ends { Ends (AnswerOf (row_of row.entry)) (D.files depot.old) (Rose (D.faults depot.old) (D.faults depot.new)) result }
+    ensures finishes { Finishes (AnswerOf (row_of row.entry)) (D.files depot.old) (Rose (D.faults depot.old) (D.faults depot.new)) result }
+    ensures named { IfOk result (λ effect. IsFor (stores_of (row_of row.entry)) effect.file) }
     ensures files { D.files depot.new ≡ D.files depot.old }
     ensures later { D.faults depot.old ≤ D.faults depot.new }
 {
     match row {
-        Row::Check { model } => check(alloc, depot, model, steps),
+        Row::Check { model } => Effect::telling(check(alloc, depot, model, steps)),
         Row::Run {
             source,
             target,
             trace,
-        } => run(alloc, depot, source, target, trace, steps),
+        } => Effect::telling(run(alloc, depot, source, target, trace, steps)),
+        Row::Asm { text, trace } => asm(alloc, depot, text, trace),
+        Row::Dis { trace, text } => dis(alloc, depot, trace, text),
+        Row::Make {
+            number,
+            resolution,
+            model,
+        } => make(alloc, number, resolution, model, steps),
     }
 }

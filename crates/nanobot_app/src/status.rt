@@ -23,8 +23,6 @@ pub enum Status {
     Memory,
     /// A text was refused.
     Text,
-    /// A trace has a command that the program does not take yet.
-    NotYet,
 }
 
 impl Status {
@@ -42,7 +40,6 @@ impl Status {
             Status::Sink => 6,
             Status::Memory => 7,
             Status::Text => 8,
-            Status::NotYet => 10,
         }
     }
 }

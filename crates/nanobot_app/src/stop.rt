@@ -1,11 +1,13 @@
 //! Why a call ends before its last report.
 ghost use Rattle.std.specs.Prelude.{◌≡◌};
 ghost use Rattle.nanobot_app.specs.declared.stop.Stop.TheVariants as stop;
-ghost use Rattle.nanobot_app.specs.Reading.{of_fault, of_fetch, of_load};
+ghost use Rattle.nanobot_app.specs.Reading.{of_fault, of_fetch, of_load, of_text, of_trace};
 
 use crate::report::{Report, Who};
 use model_file::ModelFault;
 use std::alloc::AllocError;
+use trace_codec::TraceFault;
+use trace_text::TextFault;
 use vox_depot::{FetchFault, LoadFault};
 use vox_geom::Memory;
 
@@ -35,6 +37,30 @@ impl Stop {
             | ModelFault::WideRun { .. }
             | ModelFault::WideShort { .. }
             | ModelFault::WideLong => Stop::Told(Report::Model { who, fault }),
+        }
+    }
+
+    /// The stop of a text that was not read.
+    pub fn of_text(fault: TextFault) -> Stop
+        ensures { result ≡ of_text fault }
+    {
+        match &fault {
+            TextFault::Memory => Stop::Memory,
+            TextFault::NotAscii { .. }
+            | TextFault::UnknownWord { .. }
+            | TextFault::Shape { .. }
+            | TextFault::Range { .. } => Stop::Told(Report::Text(fault)),
+        }
+    }
+
+    /// The stop of a trace that was not decoded.
+    pub fn of_trace(fault: TraceFault) -> Stop
+        ensures { result ≡ of_trace fault }
+    {
+        match fault {
+            TraceFault::Bad { offset } => Stop::Told(Report::TraceBad { offset }),
+            TraceFault::Cut { offset } => Stop::Told(Report::TraceCut { offset }),
+            TraceFault::Memory => Stop::Memory,
         }
     }
 }

@@ -1,12 +1,14 @@
 //! The top call.
-ghost use Rattle.std.specs.Prelude.{◌≡◌, ◌⊎◌, ◌≤◌, ℕ, ℤ, List, Option, [], All, IfSome, IsSomeAnd};
+ghost use Rattle.std.specs.Prelude.{◌≡◌, ◌⊎◌, ◌≤◌, ℕ, ℤ, List, Option, Some, [], All, IfSome, IsSomeAnd};
 ghost use Rattle.vox_depot.specs.Causes.{Rose};
 ghost use Rattle.nanobot_app.specs.Answer.{Answer, AnswerOf, Reply};
+ghost use Rattle.nanobot_app.specs.Effects.{Finished, MayKeep};
 ghost use Rattle.nanobot_app.specs.Headline.{IsDoneWith, Takes};
 ghost use Rattle.nanobot_app.specs.Parsing.{row_of};
 ghost use Rattle.nanobot_app.specs.Outcome.{Delivered, DeliveredPart, IsAnswer, Outcome, SparesOthers, Stands, Printed, RowStores, StoredBy, Told, outside};
-ghost use Rattle.nanobot_app.specs.Rows.{IsInNoRow, IsOfTable, IsRow, MayRead, MayStore, reads_of, run as run_of, texts};
+ghost use Rattle.nanobot_app.specs.Rows.{IsInNoRow, IsOfTable, IsRow, MayRead, MayStore, reads_of, run as run_of, stores_of, texts};
 
+use crate::effect::Effect;
 use crate::laws::one_answer;
 use crate::report::Report;
 use crate::rows::answer;
@@ -38,6 +40,29 @@ fn tell<O: Sink>(alloc: Global, out: &mut O, report: &Report) -> Status
     print(out, report.status(), line.as_bytes())
 }
 
+/// Stores the file of the effect, if there is one, and then writes the line of its report. The memory for the line is
+/// taken first.
+fn finish<D: Depot, O: Sink>(
+    alloc: Global,
+    depot: &mut D,
+    out: &mut O,
+    effect: &Effect<'_>,
+) -> Status
+    requires { MayKeep D.may_store effect.now.file }
+    ensures finished { Finished effect.now
+        (outside D.files D.faults O.written O.faults depot.old out.old)
+        (outside D.files D.faults O.written O.faults depot.new out.new) result }
+    ensures later { D.faults depot.old ≤ D.faults depot.new }
+{
+    let Ok(line) = effect.report.line(alloc) else {
+        return Status::Memory;
+    };
+    if effect.keep(depot).is_err() {
+        return Status::Depot;
+    }
+    print(out, effect.report.status(), line.as_bytes())
+}
+
 /// Does what the row asks for.
 fn run_row<D: Depot, O: Sink, L: Ledger>(
     alloc: Global,
@@ -47,6 +72,7 @@ fn run_row<D: Depot, O: Sink, L: Ledger>(
     steps: &mut Steps<L>,
 ) -> Status
     requires may_fetch { All D.may_fetch (reads_of (row_of row)) }
+    requires may_store { (name : List ℕ) → stores_of (row_of row) ≡ Some name → D.may_store name }
     requires of_table { IsOfTable (row_of row) }
     ensures outcome { Outcome (AnswerOf (row_of row.entry)) (RowStores (row_of row.entry))
         (outside D.files D.faults O.written O.faults depot.old out.old)
@@ -54,7 +80,7 @@ fn run_row<D: Depot, O: Sink, L: Ledger>(
     ensures words { result ≡ Status.Words → ⊥ }
 {
     match answer(alloc, row, depot, steps) {
-        Ok(report) => tell(alloc, out, &report),
+        Ok(effect) => finish(alloc, depot, out, &effect),
         Err(Stop::Told(report)) => tell(alloc, out, &report),
         Err(Stop::Depot) => Status::Depot,
         Err(Stop::Memory) => Status::Memory,
@@ -69,7 +95,8 @@ fn run<D: Depot, O: Sink, L: Ledger>(
     out: &mut O,
     steps: &mut Steps<L>,
 ) -> Status
-    requires { MayRead D.may_fetch (texts words.now) }
+    requires may_fetch { MayRead D.may_fetch (texts words.now) }
+    requires may_store { MayStore D.may_store (texts words.now) }
     ensures outcome { Outcome (Answer (texts words.now)) (StoredBy (texts words.now))
         (outside D.files D.faults O.written O.faults depot.old out.old)
         (outside D.files D.faults O.written O.faults depot.new out.new) result }

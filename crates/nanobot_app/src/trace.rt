@@ -1,5 +1,6 @@
 //! Traces of files, in pieces.
-ghost use Rattle.std.specs.Prelude.{◌≡◌, ◌≤◌};
+ghost use Rattle.std.specs.Prelude.{◌≡◌, ◌≤◌, None};
+ghost use Rattle.nano_spec.specs.Grounded.{FirstUngrounded};
 ghost use Rattle.vox_depot.specs.Causes.{Rose};
 ghost use Rattle.nanobot_app.specs.Answer.{run_limit};
 ghost use Rattle.nanobot_app.specs.Reading.{Lacks, OnFile, Reads, tells_nothing};
@@ -31,13 +32,14 @@ pub fn run_trace<D: Depot, L: Ledger>(
     steps: &mut Steps<L>,
 ) -> Result<Report, Stop>
     requires may_fetch { D.may_fetch name.now }
+    requires grounded { FirstUngrounded source None }
     requires seeds { profile.seeds ≤ 39 }
     requires resolutions { source.resolution ≡ target.now.resolution }
     ensures reads { Reads (D.files depot.old) (Rose (D.faults depot.old) (D.faults depot.new)) (OnFile run_limit profile source target.now name.now) tells_nothing (Lacks name.now) result }
     ensures files { D.files depot.new ≡ D.files depot.old }
     ensures later { D.faults depot.old ≤ D.faults depot.new }
 {
-    let mut run = TraceRun::start(alloc, source, profile);
+    let mut run = TraceRun::start(alloc, source, profile, steps)?;
     let mut buf = [0u8; PIECE];
     let mut at = 0;
     'pieces: loop {

@@ -1,29 +1,27 @@
 //! A run whose trace comes in pieces.
-ghost use Rattle.std.specs.Prelude.{◌≡◌, ◌+◌, ◌<◌, ◌≤◌, ◌^◌, ℕ, List, [], ◌++◌, length, IfOk, OnOk};
+ghost use Rattle.std.specs.Prelude.{◌≡◌, ◌+◌, ◌<◌, ◌≤◌, ℕ, List, [], ◌++◌, false, length, None, IfOk, OnOk};
 ghost use Rattle.nano_spec.specs.declared.system.Profile.{Profile as ProfileOf};
+ghost use Rattle.nano_spec.specs.Grounded.{FirstUngrounded};
 ghost use Rattle.nano_spec.specs.Matrix.{Matrix};
-ghost use Rattle.run_progress.specs.Progress.{begun};
-ghost use Rattle.nanobot_app.specs.Reading.{HasRun, OnBytes, Takes};
+ghost use Rattle.nanobot_app.specs.Reading.{HasRun, OnBytes};
 
 use crate::report::Report;
-use crate::runner::{Built, Runner};
-use nano_spec::{Command, Profile};
+use nano_spec::Profile;
 use run_progress::the_progress_is_the_verdict;
 use std::alloc::Global;
 use std::marker::Model;
 use std::sync::ledger::Ledger;
+use step_machine::Runner;
 use trace_codec::{Decoder, Fed, TraceFault, pieces_decode};
 use vox_geom::{Memory, Steps};
 use vox_planes::Planes;
 
-/// A run whose trace comes in pieces: the commands go to the engine one by one, and none is kept. Decoding goes on after a
-/// step was refused, and after a command that the engine does not take.
+/// A run whose trace comes in pieces: the commands go to the machine one by one, and none is kept once its step is made.
+/// Decoding goes on after a step was refused.
 #[derive(Drop)]
 pub struct TraceRun {
     decoder: Decoder,
     runner: Runner,
-    /// Where the first command begins that the engine does not take.
-    not_built: Option<u64>,
 }
 
 impl Model for TraceRun {
@@ -32,47 +30,49 @@ impl Model for TraceRun {
 
     ghost Value = { RunState };
 
-    ghost view = { λ t. record { decoder = t.decoder; progress = t.runner; not_built = t.not_built } };
+    ghost view = { λ t. record { decoder = t.decoder; run = t.runner } };
 
-    ghost invariant = { λ t. t.runner.steps ≤ t.decoder.offset };
+    ghost invariant = { λ t. t.runner.progress.steps ≤ t.decoder.offset };
 }
 
 impl TraceRun {
     /// The run before the first byte.
-    pub fn start(alloc: Global, source: Planes, profile: Profile) -> TraceRun
-        requires { profile.seeds ≤ 39 }
-        ensures run { HasRun source profile [] result }
-        ensures offset { result.decoder.offset + length result.decoder.held ≡ 0 }
-        ensures resolution { result.progress.state.matrix.resolution ≡ source.resolution }
+    pub fn start<L: Ledger>(
+        alloc: Global,
+        source: Planes,
+        profile: Profile,
+        steps: &mut Steps<L>,
+    ) -> Result<TraceRun, Memory>
+        requires grounded { FirstUngrounded source None }
+        requires seeds { profile.seeds ≤ 39 }
+        ensures run { IfOk result (HasRun source profile []) }
+        ensures offset { IfOk result (λ t. t.decoder.offset + length t.decoder.held ≡ 0) }
+        ensures resolution { IfOk result (λ t. t.run.progress.state.matrix.resolution ≡ source.resolution) }
+        ensures stands { IfOk result (λ t. t.run.spent ≡ false) }
     {
         pieces_decode();
-        TraceRun {
+        let runner = Runner::start(alloc, source, profile, steps)?;
+        Ok(TraceRun {
             decoder: Decoder::new(),
-            runner: Runner::start(alloc, source, profile),
-            not_built: None,
-        }
+            runner,
+        })
     }
 
     /// Takes the next bytes of the trace.
     pub fn feed<L: Ledger>(&mut self, piece: &[u8], steps: &mut Steps<L>) -> Result<(), Memory>
-        requires { self.old.decoder.offset + length self.old.decoder.held + length piece.now ≤ 1073741824 }
+        requires offset { self.old.decoder.offset + length self.old.decoder.held + length piece.now ≤ 1073741824 }
+        requires stands { self.old.run.spent ≡ false }
         ensures run { (source : Matrix) (profile : ProfileOf) (bytes : List ℕ) → HasRun source profile bytes self.old → OnOk result (HasRun source profile (bytes ++ piece.now) self.new) }
         ensures offset { self.new.decoder.offset + length self.new.decoder.held ≤ self.old.decoder.offset + length self.old.decoder.held + length piece.now }
-        ensures resolution { self.new.progress.state.matrix.resolution ≡ self.old.progress.state.matrix.resolution }
+        ensures resolution { self.new.run.progress.state.matrix.resolution ≡ self.old.run.progress.state.matrix.resolution }
+        ensures stands { OnOk result (self.new.run.spent ≡ false) }
     {
         pieces_decode();
         let mut at = 0;
         while at < piece.len() {
-            let offset = self.decoder.offset();
             match self.decoder.feed(&piece[at..]) {
                 Fed::Got { command, used } => {
-                    self.not_built = take(
-                        &mut self.runner,
-                        self.not_built,
-                        offset,
-                        command,
-                        steps,
-                    )?;
+                    self.runner.push(command, steps)?;
                     at += used;
                 }
                 Fed::All => return Ok(()),
@@ -84,7 +84,8 @@ impl TraceRun {
 
     /// The report on the trace, where no more bytes come.
     pub fn finish<L: Ledger>(self, target: &Planes, steps: &mut Steps<L>) -> Report
-        requires { self.progress.state.matrix.resolution ≡ target.now.resolution }
+        requires stands { self.run.spent ≡ false }
+        requires resolution { self.run.progress.state.matrix.resolution ≡ target.now.resolution }
         ensures { (source : Matrix) (profile : ProfileOf) (bytes : List ℕ) → HasRun source profile bytes self → OnBytes profile source target.now bytes result }
     {
         pieces_decode();
@@ -93,33 +94,7 @@ impl TraceRun {
             Err(TraceFault::Bad { offset }) => Report::TraceBad { offset },
             Err(TraceFault::Cut { offset }) => Report::TraceCut { offset },
             Err(TraceFault::Memory) => unreachable!(),
-            Ok(()) => match self.not_built {
-                Some(offset) => Report::NotBuilt { offset },
-                None => Report::of_verdict(self.runner.finish(target, steps)),
-            },
+            Ok(()) => Report::of_verdict(self.runner.finish(target, steps)),
         }
     }
-}
-
-/// Gives the command to the engine, if it takes it, and until one was found that it does not take. Answers where the first such command begins.
-fn take<L: Ledger>(
-    runner: &mut Runner,
-    not_built: Option<u64>,
-    offset: u64,
-    command: Command,
-    steps: &mut Steps<L>,
-) -> Result<Option<u64>, Memory>
-    requires { runner.old.steps < 1073741824 }
-    ensures takes { IfOk result (λ now. Takes not_built offset command runner.old runner.new now) }
-    ensures steps { runner.new.steps ≤ runner.old.steps + 1 }
-    ensures resolution { runner.new.state.matrix.resolution ≡ runner.old.state.matrix.resolution }
-{
-    if not_built.is_some() {
-        return Ok(not_built);
-    }
-    let Some(built) = Built::of(command) else {
-        return Ok(Some(offset));
-    };
-    runner.push(built, steps)?;
-    Ok(None)
 }

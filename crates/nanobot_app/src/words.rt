@@ -1,7 +1,10 @@
 //! The words of the program.
-ghost use Rattle.std.specs.Prelude.{◌≡◌, ◌↔◌, ℕ, List, Option, [], ◌∷◌, IsTrue, MatchOption, codes};
-ghost use Rattle.nanobot_app.specs.Rows.{check, run, side_word, HasName, IsRow, IsInNoRow, IsName, texts};
+ghost use Rattle.std.specs.Prelude.{◌≡◌, ◌↔◌, ◌<◌, ◌≤◌, ◌^◌, ℕ, List, Option, [], ◌∷◌, IsTrue, MatchOption, codes, decimal};
+ghost use Rattle.nanobot_app.specs.Rows.{asm, check, dis, make, run, side_word, HasName, IsRow, IsInNoRow, IsName, texts};
 ghost use Rattle.nanobot_app.specs.Parsing.{row_of, side_of};
+
+use itoa::Buffer;
+use vox_geom::MOST_R;
 
 /// A source or a target: the file of a name, or the empty model of the other's resolution.
 #[derive(Clone, Copy)]
@@ -22,6 +25,22 @@ pub enum Row<'a> {
         source: Side<'a>,
         target: Side<'a>,
         trace: &'a str,
+    },
+    /// The bytes of the commands that the text says, as a file.
+    Asm {
+        text: &'a str,
+        trace: &'a str,
+    },
+    /// The text of the commands of the trace, as a file.
+    Dis {
+        trace: &'a str,
+        text: &'a str,
+    },
+    /// The model that is forged of a number, as a file.
+    Make {
+        number: u32,
+        resolution: u16,
+        model: &'a str,
     },
 }
 
@@ -54,6 +73,98 @@ fn parse_check(words: &[String]) -> Option<&str>
         }
     }
     None
+}
+
+/// The words, where they are three.
+fn three(words: &[String]) -> Option<(&str, &str, &str)>
+    ensures { MatchOption result ((a b c : List ℕ) → texts words.now ≡ a ∷ b ∷ c ∷ [] → ⊥) (λ r. texts words.now ≡ r.0.now ∷ r.1.now ∷ r.2.now ∷ []) }
+{
+    match words {
+        [a, b, c] => Some((a.as_str(), b.as_str(), c.as_str())),
+        _ => None,
+    }
+}
+
+/// The two names behind a word, where the words are three and the first is that word.
+fn parse_names<'a>(words: &'a [String], word: &str) -> Option<(&'a str, &'a str)>
+    ensures { MatchOption result ((a b : List ℕ) → texts words.now ≡ word.now ∷ a ∷ b ∷ [] → IsName a → IsName b → ⊥)
+        (λ names. (texts words.now ≡ word.now ∷ names.0.now ∷ names.1.now ∷ []) × IsName names.0.now × IsName names.1.now) }
+{
+    let (first, a, b) = three(words)?;
+    if first != word {
+        return None;
+    }
+    if !is_name(a) {
+        return None;
+    }
+    if !is_name(b) {
+        return None;
+    }
+    Some((a, b))
+}
+
+/// The text and the trace after `asm`.
+fn parse_asm(words: &[String]) -> Option<Row<'_>>
+    ensures { MatchOption result ((x b : List ℕ) → IsRow (texts words.now) (asm x b) → ⊥) (λ row. IsRow (texts words.now) (row_of row)) }
+{
+    let (text, trace) = parse_names(words, "asm")?;
+    Some(Row::Asm { text, trace })
+}
+
+/// The trace and the text after `dis`.
+fn parse_dis(words: &[String]) -> Option<Row<'_>>
+    ensures { MatchOption result ((b x : List ℕ) → IsRow (texts words.now) (dis b x) → ⊥) (λ row. IsRow (texts words.now) (row_of row)) }
+{
+    let (trace, text) = parse_names(words, "dis")?;
+    Some(Row::Dis { trace, text })
+}
+
+/// The number that the word has in decimal digits, without sign or leading zero.
+fn parse_number(word: &str) -> Option<u32>
+    ensures { MatchOption result ((n : ℕ) → n < 2 ^ 32 → word.now ≡ decimal n → ⊥) (λ n. word.now ≡ decimal n) }
+{
+    let Ok(number) = word.parse::<u32>() else {
+        return None;
+    };
+    let mut buffer = Buffer::new();
+    if buffer.format(number) != word {
+        return None;
+    }
+    Some(number)
+}
+
+/// The resolution of a model that the word has in decimal digits, without sign or leading zero.
+fn parse_resolution(word: &str) -> Option<u16>
+    ensures { MatchOption result ((r : ℕ) → 1 ≤ r → r ≤ MOST_R → word.now ≡ decimal r → ⊥) (λ r. (word.now ≡ decimal r) × (1 ≤ r) × (r ≤ MOST_R)) }
+{
+    let number = parse_number(word)?;
+    if number < 1 {
+        return None;
+    }
+    if number > u32::from(MOST_R) {
+        return None;
+    }
+    Some(number as u16)
+}
+
+/// The number, the resolution and the model after `make`.
+fn parse_make(words: &[String]) -> Option<Row<'_>>
+    ensures { MatchOption result ((n r : ℕ) (m : List ℕ) → IsRow (texts words.now) (make n r m) → ⊥) (λ row. IsRow (texts words.now) (row_of row)) }
+{
+    let (word, number, resolution, model) = four(words)?;
+    if word != "make" {
+        return None;
+    }
+    if !is_name(model) {
+        return None;
+    }
+    let number = parse_number(number)?;
+    let resolution = parse_resolution(resolution)?;
+    Some(Row::Make {
+        number,
+        resolution,
+        model,
+    })
 }
 
 /// The words, where they are four.
@@ -106,5 +217,14 @@ pub fn parse(words: &[String]) -> Option<Row<'_>>
     if let Some(model) = parse_check(words) {
         return Some(Row::Check { model });
     }
-    parse_run(words)
+    if let Some(row) = parse_run(words) {
+        return Some(row);
+    }
+    if let Some(row) = parse_asm(words) {
+        return Some(row);
+    }
+    if let Some(row) = parse_dis(words) {
+        return Some(row);
+    }
+    parse_make(words)
 }

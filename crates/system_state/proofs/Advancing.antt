@@ -161,7 +161,6 @@ module _ (s : State) (commands : List Command) (step : ℕ) (ready : IsReady s) 
     (turns : List Turn) (are : AreTurns (acts s.bots commands) (leaders (acts s.bots commands)) turns) (i : ℕ) (lt : i < length turns) (d : Turn)
     (turn_of : OfTurns TurnOf)
     (now : State) (taken : now ≡ after_some s (acts s.bots commands) (take i (leaders (acts s.bots commands)))) (now_ready : IsReady now) where
-
   here : (l : Act) × (leaders (acts s.bots commands) ≡ take i (leaders (acts s.bots commands)) ++ l ∷ drop (i + 1) (leaders (acts s.bots commands))) × IsTurn (acts s.bots commands) l (get_or turns i d) × (take (i + 1) (leaders (acts s.bots commands)) ≡ take i (leaders (acts s.bots commands)) ++ l ∷ [])
   here = turn_at (acts s.bots commands) (leaders (acts s.bots commands)) turns i d are lt
 
@@ -221,11 +220,11 @@ module _ (s : State) (commands : List Command) (step : ℕ) (ready : IsReady s) 
       let a : new ≤ old + met_count now.matrix here.0.bot command = subst (λ (o : Option Bot). IfSome o (λ bot. new ≤ old + met_count now.matrix bot command)) found_now h in
       let b : met_count now.matrix here.0.bot command ≡ met_count s.matrix here.0.bot here.0.command = (λ j. met_count (taken j).matrix here.0.bot (command_is command e j)) in
       let m : met_count s.matrix here.0.bot here.0.command ≤ volatile_count s.matrix (acts s.bots commands) here.0 = met_volatile s.matrix (acts s.bots commands) here.0
-          (itself_in s (acts s.bots commands) good here.0 leads (after_some s (acts s.bots commands) (take i (leaders (acts s.bots commands)))) law.bots law.rules apart_there
-          (rising_is (after_some s (acts s.bots commands) (take i (leaders (acts s.bots commands)))).bots ready_there.rising) within_there (get_or turns i d).partner here.2.partner)
-          may.stays in
+      (itself_in s (acts s.bots commands) good here.0 leads (after_some s (acts s.bots commands) (take i (leaders (acts s.bots commands)))) law.bots law.rules apart_there
+      (rising_is (after_some s (acts s.bots commands) (take i (leaders (acts s.bots commands)))).bots ready_there.rising) within_there (get_or turns i d).partner here.2.partner)
+      may.stays in
       let t : sum (map (volatile_count s.matrix (acts s.bots commands)) (take (i + 1) (leaders (acts s.bots commands)))) ≡ sum (map (volatile_count s.matrix (acts s.bots commands)) (take i (leaders (acts s.bots commands)))) + volatile_count s.matrix (acts s.bots commands) here.0 =
-          ap (λ (xs : List Act). sum (map (volatile_count s.matrix (acts s.bots commands)) xs)) here.3 ∙ sums_more (volatile_count s.matrix (acts s.bots commands)) (take i (leaders (acts s.bots commands))) here.0 in
+      ap (λ (xs : List Act). sum (map (volatile_count s.matrix (acts s.bots commands)) xs)) here.3 ∙ sums_more (volatile_count s.matrix (acts s.bots commands)) (take i (leaders (acts s.bots commands))) here.0 in
       omega arith
 
 pub within_wider : (a b : ℕ) (e : ℤ) → a ≤ b → IsWithin a e → IsWithin b e

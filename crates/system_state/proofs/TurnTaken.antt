@@ -143,7 +143,6 @@ module _ (s : State) (all : List Act) (good : IsGood s all) (l : Act) (leads : I
     (met : group_in t all l ≡ members all l) (keeps : keeps_rules t (members all l) ≡ true) (apart : StandsApart t (members all l) l)
     (rising : Rising t.bots) (within : (b : Bot) → In b t.bots → IsInSpace t.matrix.resolution b.pos)
     (partner : ℕ) (partner_is : partner ≡ slice_index_or (map bid_of (members all l)) 1 0) where
-
   pub itself_in : In l (members all l)
   itself_in = in_filter (are_together l) l all (leader_in s all good l leads) (with_itself l)
 
@@ -185,9 +184,9 @@ module _ (s : State) (all : List Act) (good : IsGood s all) (l : Act) (leads : I
   needs known (SMove d) e = free_for t.bots l.bot (coordinate (plus (point l.bot.pos) d)) (comes (SMove d) e (moved l.bot (plus (point l.bot.pos) d)) (inl refl))
   needs known (LMove d f) e = free_for t.bots l.bot (coordinate (plus (plus (point l.bot.pos) d) f)) (comes (LMove d f) e (moved l.bot (plus (plus (point l.bot.pos) d) f)) (inl refl))
   needs known (Fission d m) e = (
-      nobody t.bots l.bot (coordinate (plus (point l.bot.pos) d)) (comes (Fission d m) e (newborn l.bot (plus (point l.bot.pos) d) m) (inr (inl refl))) away,
-      enough (length (seed_list l.bot.seeds)) m (sym (ap (lacks_seeds (seed_list l.bot.seeds)) e) ∙ seeded t (members all l) keeps l itself_in),
-    )
+    nobody t.bots l.bot (coordinate (plus (point l.bot.pos) d)) (comes (Fission d m) e (newborn l.bot (plus (point l.bot.pos) d) m) (inr (inl refl))) away,
+    enough (length (seed_list l.bot.seeds)) m (sym (ap (lacks_seeds (seed_list l.bot.seeds)) e) ∙ seeded t (members all l) keeps l itself_in),
+  )
     where
       near : is_near d ≡ true
       near = first (is_near d) (nat_lt m 256) (sym (ap is_command e) ∙ known)

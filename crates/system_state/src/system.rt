@@ -289,12 +289,7 @@ impl System {
     }
 
     /// The groups take their turns: all effects and costs of a step that breaks none of the rules that are judged at its start.
-    pub fn advance<L: Ledger>(
-        &mut self,
-        commands: &[Command],
-        turns: &Turns,
-        steps: &mut Steps<L>,
-    )
+    pub fn advance<L: Ledger>(&mut self, commands: &[Command], turns: &Turns, steps: &mut Steps<L>)
         requires judged { (step : ℕ) × (broken_of self.old commands.now step ≡ None) }
         requires turns { AreTurns (acts self.old.bots commands.now) (leaders (acts self.old.bots commands.now)) turns.now }
         requires payable { IsPayable self.old.energy }

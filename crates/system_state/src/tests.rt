@@ -54,8 +54,14 @@ fn of_one<L: Ledger>(rt: &impl Abort, blank: Blank, alloc: Global) -> Result<(),
     let mut system = System::opening(alloc, Planes::empty(alloc, 3)?, Profile::full())?;
     let out = Command::SMove(long(rt, -1));
     let none: [Command; 0] = [];
-    assert_eq!(rt; step(rt, &mut system, &mut turns, &[out], &mut steps), Some(Rule::OutOfSpace));
-    assert_eq!(rt; step(rt, &mut system, &mut turns, &none, &mut steps), Some(Rule::TraceEnds));
+    assert_eq!(rt;
+        step(rt, &mut system, &mut turns, &[out], &mut steps),
+        Some(Rule::OutOfSpace)
+    );
+    assert_eq!(rt;
+        step(rt, &mut system, &mut turns, &none, &mut steps),
+        Some(Rule::TraceEnds)
+    );
     let table = [
         (Command::SMove(long(rt, 1)), 103),
         (Command::Fill(near(rt, 1)), 216),
@@ -63,7 +69,10 @@ fn of_one<L: Ledger>(rt: &impl Abort, blank: Blank, alloc: Global) -> Result<(),
         (Command::Halt, 420),
     ];
     for (command, energy) in table {
-        assert_eq!(rt; step(rt, &mut system, &mut turns, &[command], &mut steps), None);
+        assert_eq!(rt;
+            step(rt, &mut system, &mut turns, &[command], &mut steps),
+            None
+        );
         assert_eq!(rt; system.energy(), energy);
     }
     assert_eq!(rt; system.crew().count(), 0);
@@ -87,15 +96,24 @@ fn of_two<L: Ledger>(rt: &impl Abort, blank: Blank, alloc: Global) -> Result<(),
     let mut turns = Turns::new();
     let mut system = System::opening(alloc, Planes::empty(alloc, 3)?, Profile::full())?;
     let split = Command::Fission(near(rt, 1), 0);
-    assert_eq!(rt; step(rt, &mut system, &mut turns, &[split], &mut steps), None);
+    assert_eq!(rt;
+        step(rt, &mut system, &mut turns, &[split], &mut steps),
+        None
+    );
     assert_eq!(rt; system.energy(), 125);
     let flips = [Command::Flip, Command::Flip];
     assert_eq!(rt; step(rt, &mut system, &mut turns, &flips, &mut steps), None);
     assert_eq!(rt; system.energy(), 246);
-    let fuse = [Command::FusionP(near(rt, 1)), Command::FusionS(near(rt, -1))];
+    let fuse = [
+        Command::FusionP(near(rt, 1)),
+        Command::FusionS(near(rt, -1)),
+    ];
     assert_eq!(rt; step(rt, &mut system, &mut turns, &fuse, &mut steps), None);
     assert_eq!(rt; system.energy(), 343);
-    assert_eq!(rt; step(rt, &mut system, &mut turns, &[Command::Halt], &mut steps), None);
+    assert_eq!(rt;
+        step(rt, &mut system, &mut turns, &[Command::Halt], &mut steps),
+        None
+    );
     assert_eq!(rt; system.energy(), 444);
     Ok(())
 }

@@ -7,7 +7,7 @@ ghost use Rattle.system_state.specs.Work.{IsIdle, IsWork};
 
 use crate::moves::target;
 use nano_spec::{Bot, Command};
-use vox_geom::{Coord};
+use vox_geom::Coord;
 
 /// The region between two corners that a command makes full or void.
 #[derive(Clone, Copy, PartialEq, Eq, Debug)]

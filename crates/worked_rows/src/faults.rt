@@ -125,6 +125,18 @@ impl Depot for Endless {
     }
 }
 
+/// The same trace is too long to be printed, and is refused so before its first byte is.
+#[test]
+fn a_trace_too_long_to_be_printed(rt: HostRuntime) -> Result<(), Fail> {
+    let alloc = rt.alloc();
+    let words = words(alloc, "dis B X")?;
+    let mut out = MemorySink::new(alloc, Vec::new(alloc));
+    let status = answer(alloc, &words, &mut Endless, &mut out);
+    assert_eq!(&rt; out.bytes(), b"trace longer than 50000000\n".as_slice());
+    assert_eq!(&rt; status, Status::Trace);
+    Ok(())
+}
+
 #[test]
 fn a_trace_of_a_byte_too_many(rt: HostRuntime) -> Result<(), Fail> {
     let alloc = rt.alloc();

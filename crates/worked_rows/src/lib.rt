@@ -9,4 +9,6 @@ mod faults;
 #[cfg(test)]
 mod runs;
 #[cfg(test)]
+mod stores;
+#[cfg(test)]
 mod table;

@@ -6,7 +6,7 @@ use std::test::Fail;
 use vox_depot::MemorySink;
 
 /// Runs that end in their target.
-const ACCEPTED: [Row; 7] = [
+const ACCEPTED: [Row; 14] = [
     (
         "run E3 E3 B",
         &[0xFF],
@@ -51,10 +51,58 @@ const ACCEPTED: [Row; 7] = [
         Status::Done,
         "ok energy 192000020 steps 1\n",
     ),
+    (
+        "run E3 E3 B",
+        &[0x75, 0x26, 0x77, 0x66, 0xFF],
+        Status::Done,
+        "ok energy 323 steps 3\n",
+    ),
+    (
+        "run E3 E3 B",
+        &[0x75, 0x00, 0xFD, 0xFD, 0x77, 0x66, 0xFF],
+        Status::Done,
+        "ok energy 444 steps 4\n",
+    ),
+    (
+        "run E3 E3 B",
+        &[0x9C, 0x66, 0x9C, 0x44, 0xFF],
+        Status::Done,
+        "ok energy 319 steps 3\n",
+    ),
+    (
+        "run - LINE B",
+        &[
+            0x75, 0x00, 0xFE, 0x34, 0x11, 0xB9, 0x1E, 0x1E, 0x20, 0xB1, 0x1E, 0x1E, 0x1C, 0xFE,
+            0x34, 0x0D, 0x77, 0x66, 0xFF,
+        ],
+        Status::Done,
+        "ok energy 2494 steps 6\n",
+    ),
+    (
+        "run LINE - B",
+        &[
+            0x75, 0x00, 0xFE, 0x34, 0x11, 0xB8, 0x1E, 0x1E, 0x20, 0xB0, 0x1E, 0x1E, 0x1C, 0xFE,
+            0x34, 0x0D, 0x77, 0x66, 0xFF,
+        ],
+        Status::Done,
+        "ok energy 2422 steps 6\n",
+    ),
+    (
+        "run E3 E3 B",
+        &[0xBA, 0xFF],
+        Status::Done,
+        "ok energy 205 steps 2\n",
+    ),
+    (
+        "run POSTS ARCH B",
+        &[0xBA, 0xFF],
+        Status::Done,
+        "ok energy 778 steps 2\n",
+    ),
 ];
 
 /// Runs that break a rule.
-const BROKEN: [Row; 11] = [
+const BROKEN: [Row; 20] = [
     (
         "run E3 E3 B",
         &[],
@@ -123,10 +171,64 @@ const BROKEN: [Row; 11] = [
         Status::Broken,
         "broken 6 Blocked step 2 bid 1 at 1 0 1\n",
     ),
+    (
+        "run E4 E4 B",
+        &[0x75, 0x00, 0xB3, 0xAB],
+        Status::Broken,
+        "broken 11 Interference step 2 bid 1 at 1 0 0\n",
+    ),
+    (
+        "run E3 E3 B",
+        &[0x75, 0x00, 0x34, 0x10, 0x34, 0x0E],
+        Status::Broken,
+        "broken 11 Interference step 2 bid 1 at 0 0 0\n",
+    ),
+    (
+        "run E3 E3 B",
+        &[0x75, 0x27],
+        Status::Broken,
+        "broken 7 Seeds step 1 bid 1 at 0 0 0\n",
+    ),
+    (
+        "run - LINE B",
+        &[0xB9, 0x1E, 0x1E, 0x20],
+        Status::Broken,
+        "broken 10 GroupShape step 1 bid 1 at 0 0 0\n",
+    ),
+    (
+        "run - LINE B",
+        &[0x75, 0x00, 0xB9, 0x1E, 0x1E, 0x20, 0xB1, 0x1E, 0x1E, 0x20],
+        Status::Broken,
+        "broken 10 GroupShape step 2 bid 1 at 0 0 0\n",
+    ),
+    (
+        "run RING - B",
+        &[0xBA, 0xFF],
+        Status::Broken,
+        "broken 12 Ungrounded step 1 bid 0 at 1 1 1\n",
+    ),
+    (
+        "run E3 E3 B",
+        &[0x75, 0x00, 0xFF, 0xFF],
+        Status::Broken,
+        "broken 2 HaltAlone step 2 bid 1 at 0 0 0\n",
+    ),
+    (
+        "run E3 E3 B",
+        &[0x71, 0x1E, 0x1E, 0x1D],
+        Status::Broken,
+        "broken 8 InRegion step 1 bid 1 at 0 0 0\n",
+    ),
+    (
+        "run E3 E3 B",
+        &[0x77],
+        Status::Broken,
+        "broken 9 Partner step 1 bid 1 at 0 0 0\n",
+    ),
 ];
 
-/// Traces and words that are refused. A bad byte wins over a broken step, and over a command that is not taken yet.
-const REFUSED: [Row; 13] = [
+/// Traces and words that are refused. A bad byte wins over a broken step.
+const REFUSED: [Row; 11] = [
     ("run E3 E3 B", &[0x04], Status::Trace, "trace bad at 0\n"),
     ("run E3 E3 B", &[0x03], Status::Trace, "trace bad at 0\n"),
     ("run E3 E3 B", &[0x14], Status::Trace, "trace cut at 0\n"),
@@ -141,13 +243,6 @@ const REFUSED: [Row; 13] = [
         &[0x14, 0x0E, 0x04],
         Status::Trace,
         "trace bad at 2\n",
-    ),
-    ("run E3 E3 B", &[0x77], Status::NotYet, "not built at 0\n"),
-    (
-        "run E3 E3 B",
-        &[0x14, 0x0E, 0x75, 0x00, 0xFF],
-        Status::NotYet,
-        "not built at 2\n",
     ),
     ("run E3 E4 B", &[0xFF], Status::Model, "resolutions 3 4\n"),
     (

@@ -16,7 +16,9 @@ pub type Row = (&'static str, &'static [u8], Status, &'static str);
 
 /// The files of the table by their names: `E3` and `E4` are empty models, `P3` has the voxel (1,0,1), `TOWER` the voxels (1,0,1) and
 /// (1,1,1), `E1` is of resolution 1, `WP` a wide model with the voxel (1,0,1), `WIDE` the empty one of resolution 400.
-const FILES: [(&str, &[u8]); 7] = [
+/// Of resolution 5: `LINE` has the voxels (1,0,1), (1,0,2) and (1,0,3); `RING` eight voxels at y = 1 round (2,1,2) on the post (1,0,1), `POSTS` the same on
+/// a second post (3,0,3) too, and `ARCH` those of `POSTS` without the first post.
+const FILES: [(&str, &[u8]); 11] = [
     ("E1", &[0x01, 0x00]),
     ("E3", &[0x03, 0x00, 0x00, 0x00, 0x00]),
     ("E4", &[0x04, 0, 0, 0, 0, 0, 0, 0, 0]),
@@ -33,6 +35,34 @@ const FILES: [(&str, &[u8]); 7] = [
         ],
     ),
     ("WIDE", &[0xFF, 0x01, 0x90, 0x03, 0xD0, 0x90, 0x00]),
+    (
+        "LINE",
+        &[
+            0x05, 0x00, 0x00, 0x00, 0x1C, 0x00, 0x00, 0x00, 0x00, 0x00, 0x00, 0x00, 0x00, 0x00,
+            0x00, 0x00, 0x00,
+        ],
+    ),
+    (
+        "RING",
+        &[
+            0x05, 0x00, 0x00, 0x00, 0x84, 0x03, 0x00, 0x00, 0x05, 0x00, 0x00, 0x0E, 0x00, 0x00,
+            0x00, 0x00, 0x00,
+        ],
+    ),
+    (
+        "POSTS",
+        &[
+            0x05, 0x00, 0x00, 0x00, 0x84, 0x03, 0x00, 0x00, 0x05, 0x00, 0x40, 0x0E, 0x00, 0x00,
+            0x00, 0x00, 0x00,
+        ],
+    ),
+    (
+        "ARCH",
+        &[
+            0x05, 0x00, 0x00, 0x00, 0x80, 0x03, 0x00, 0x00, 0x05, 0x00, 0x40, 0x0E, 0x00, 0x00,
+            0x00, 0x00, 0x00,
+        ],
+    ),
 ];
 
 /// Calls `drive` with a counter of this ledger.
@@ -87,7 +117,7 @@ pub fn depot(alloc: Global, fails: &[u64]) -> Result<MemoryDepot, Fail> {
     Ok(depot)
 }
 
-/// Each row answers its status, and prints its line.
+/// Each row answers its status, prints its line, and stores no file `C`.
 pub fn assert_rows(rt: &impl Abort, alloc: Global, rows: &[Row]) -> Result<(), Fail> {
     for (line, bytes, status, printed) in rows {
         let words = words(alloc, line)?;
@@ -97,6 +127,7 @@ pub fn assert_rows(rt: &impl Abort, alloc: Global, rows: &[Row]) -> Result<(), F
         let answered = answer(alloc, &words, &mut depot, &mut out);
         assert_eq!(rt; out.bytes(), printed.as_bytes(), "at {}", line);
         assert_eq!(rt; answered, *status, "at {}", line);
+        assert!(rt; depot.file("C").is_none(), "at {}", line);
     }
     Ok(())
 }

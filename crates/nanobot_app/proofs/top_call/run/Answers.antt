@@ -18,3 +18,6 @@ returns-in-None-clause-outcome g c =
 
 pub returns-in-Some-clause-outcome : goal.returns-in-Some-clause-outcome
 returns-in-Some-clause-outcome g c = outcome_of_row _ _ _ _ _ c.in-Some.ensures c.run_row.ensures.outcome
+
+pub run_row-requires-clause-may_store : goal.run_row-requires-clause-may_store
+run_row-requires-clause-may_store g c = λ name stored. c.requires.may_store _ name c.in-Some.ensures stored

@@ -22,6 +22,7 @@ pieces-preserved g c =
       within = omega (arith, c.if-at-gt-LIMIT.false);
       offset = omega (arith, c.feed.ensures.offset, c.pieces.invariant.offset, size);
       resolution = c.feed.ensures.resolution ∙ c.pieces.invariant.resolution;
+      stands = fed.stands;
       files = search rules;
       later = omega (arith, c.in_ok-count.ensures.later, c.pieces.invariant.later);
     }

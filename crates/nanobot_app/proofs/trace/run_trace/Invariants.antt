@@ -1,4 +1,4 @@
-use Rattle.std.proofs.Common.{◌≡◌, ◌+◌, ◌-◌, ◌≤◌, length}
+use Rattle.std.proofs.Common.{◌≡◌, ◌+◌, ◌-◌, ◌≤◌, false, length}
 use Rattle.nanobot_app.proofs.Tracing.{IsUnderway}
 use Rattle.nanobot_app.proofs.trace.run_trace.Given as goal
 
@@ -7,7 +7,8 @@ invariant-pieces g l = record {
   underway : IsUnderway (g.D.Depot.files l.fn.depot) l.name l.fn.source l.fn.profile l.at l.run;
   within : l.at ≤ 1073741824;
   offset : l.run.decoder.offset + length l.run.decoder.held ≤ l.at;
-  resolution : l.run.progress.state.matrix.resolution ≡ l.fn.source.resolution;
+  resolution : l.run.run.progress.state.matrix.resolution ≡ l.fn.source.resolution;
+  stands : l.run.run.spent ≡ false;
   files : g.D.Depot.files l.depot ≡ g.D.Depot.files l.fn.depot;
   later : g.D.Depot.faults l.fn.depot ≤ g.D.Depot.faults l.depot;
 }

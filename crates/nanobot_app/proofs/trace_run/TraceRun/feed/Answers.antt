@@ -3,7 +3,7 @@ use Rattle.std.proofs.lemmas.List.{take_all}
 use Rattle.nano_spec.specs.Spelling.{spelling}
 use Rattle.trace_codec.specs.Decoder.{Answers, DecoderState, after}
 use Rattle.trace_codec.specs.declared.decoder.Fed.TheVariants.{All, Bad, Got}
-use Rattle.nanobot_app.specs.Reading.{HasRun, RunState, Takes}
+use Rattle.nanobot_app.specs.Reading.{HasRun, RunState}
 use Rattle.nanobot_app.proofs.Running.{all_step, bad_step, got_step, longer}
 use Rattle.nanobot_app.proofs.trace_run.TraceRun.feed.Goals as goal
 
@@ -11,11 +11,12 @@ pub loop-at-init : goal.loop-at-init
 loop-at-init g c =
     let decoder : c.self.inside.decoder ≡ c.args.self.now.decoder = ap (λ (s : RunState). s.decoder) c.self.view_is in (
       omega arith,
-      λ source profile bytes run. subst (λ (b : List ℕ). HasRun source profile b (record { decoder = c.self.inside.decoder; progress = c.self.inside.runner; not_built = c.self.inside.not_built })) (sym (append-nil bytes))
+      λ source profile bytes run. subst (λ (b : List ℕ). HasRun source profile b (record { decoder = c.self.inside.decoder; run = c.self.inside.runner })) (sym (append-nil bytes))
           (subst (λ (s : RunState). HasRun source profile bytes s) (sym c.self.view_is) run),
       (let o = ap (λ (d : DecoderState). d.offset + length d.held) decoder in omega (arith, o)),
       c.self.invariant,
-      ap (λ (s : RunState). s.progress.state.matrix.resolution) c.self.view_is,
+      ap (λ (s : RunState). s.run.progress.state.matrix.resolution) c.self.view_is,
+      ap (λ (s : RunState). s.run.spent) c.self.view_is ∙ c.requires.stands,
     )
 
 -- what is left of the piece is fed whole
@@ -27,12 +28,10 @@ loop-at-preserved g c =
     let piece = c.args.piece.now in
     let at = c.loop-at.at in
     let inside = c.loop-at.self-inside in
-    let s : RunState = record { decoder = inside.decoder; progress = inside.runner; not_built = inside.not_built } in
+    let s : RunState = record { decoder = inside.decoder; run = inside.runner } in
     let command = c.in-Got.command in
     let used = c.in-Got.used in
     let answer : Answers inside.decoder (drop at piece) (Got command used) = subst (λ (b : List ℕ). Answers inside.decoder b (Got command used)) (whole piece at) c.in-Got.ensures.answer in
-    let takes : Takes inside.not_built inside.decoder.offset command inside.runner c.take.new.runner c.in_ok-self-inside-in-Got.field-0 =
-    subst (λ (n : ℕ). Takes inside.not_built n command inside.runner c.take.new.runner c.in_ok-self-inside-in-Got.field-0) c.offset-offset.ensures (c.in_ok-self-inside-in-Got.ensures {u = tt}).takes in
     let size : length (drop at piece) ≡ length piece - at = length-drop at piece in
     let decoder : c.feed.new.self ≡ after inside.decoder (drop at piece) (Got command used) = c.in-Got.ensures.after in
     let taken = c.in-Got.ensures.taken in
@@ -40,14 +39,15 @@ loop-at-preserved g c =
     let offset : c.feed.new.self.offset ≡ inside.decoder.offset + length (spelling command) = ap (λ (d : DecoderState). d.offset) decoder in
     let some : 1 ≤ length (spelling command) = longer inside.decoder (drop at piece) command used answer in
     let fewer = c.loop-at.invariant.3 in
-    let one = (c.in_ok-self-inside-in-Got.ensures {u = tt}).steps in (
+    let one = c.push.ensures.steps in (
       omega (arith, answer.within, size),
       λ source profile bytes run.
-          subst (λ (d : DecoderState). HasRun source profile (bytes ++ take (at + used) piece) (record { decoder = d; progress = c.take.new.runner; not_built = c.in_ok-self-inside-in-Got.field-0 })) (sym decoder)
-          (got_step source profile bytes piece at s (c.loop-at.invariant.1 source profile bytes run) c.pieces_decode.ensures.got command used c.take.new.runner c.in_ok-self-inside-in-Got.field-0 answer takes),
+          subst (λ (d : DecoderState). HasRun source profile (bytes ++ take (at + used) piece) (record { decoder = d; run = c.push.new.self })) (sym decoder)
+          (got_step source profile bytes piece at s (c.loop-at.invariant.1 source profile bytes run) c.pieces_decode.ensures.got command used c.push.new.self answer c.in_ok-push-in-Got.ensures.progress),
       omega (arith, taken, old),
       omega (arith, offset, some, fewer, one),
-      c.take.ensures.resolution ∙ c.loop-at.invariant.4,
+      c.push.ensures.resolution ∙ c.loop-at.invariant.4,
+      c.in_ok-push-in-Got.ensures.stands,
     )
 
 pub returns-in-All-clause-run : goal.returns-in-All-clause-run
@@ -55,10 +55,10 @@ returns-in-All-clause-run g c = λ source profile bytes run.
     let piece = c.args.piece.now in
     let at = c.loop-at.at in
     let inside = c.loop-at.self-inside in
-    let s : RunState = record { decoder = inside.decoder; progress = inside.runner; not_built = inside.not_built } in
+    let s : RunState = record { decoder = inside.decoder; run = inside.runner } in
     let answer : Answers inside.decoder (drop at piece) All = subst (λ (b : List ℕ). Answers inside.decoder b All) (whole piece at) c.in-All.ensures.answer in
     let decoder : c.feed.new.self ≡ after inside.decoder (drop at piece) All = c.in-All.ensures.after ∙ ap (λ (b : List ℕ). after inside.decoder b All) (whole piece at) in
-    subst (λ (d : DecoderState). HasRun source profile (bytes ++ piece) (record { decoder = d; progress = inside.runner; not_built = inside.not_built })) (sym decoder)
+    subst (λ (d : DecoderState). HasRun source profile (bytes ++ piece) (record { decoder = d; run = inside.runner })) (sym decoder)
     (all_step source profile bytes piece at s (c.loop-at.invariant.1 source profile bytes run) c.pieces_decode.ensures.all answer)
 
 pub returns-in-Bad-clause-run : goal.returns-in-Bad-clause-run
@@ -66,12 +66,12 @@ returns-in-Bad-clause-run g c = λ source profile bytes run.
     let piece = c.args.piece.now in
     let at = c.loop-at.at in
     let inside = c.loop-at.self-inside in
-    let s : RunState = record { decoder = inside.decoder; progress = inside.runner; not_built = inside.not_built } in
+    let s : RunState = record { decoder = inside.decoder; run = inside.runner } in
     let answer : Answers inside.decoder (drop at piece) (Bad c.in-Bad.offset) = subst (λ (b : List ℕ). Answers inside.decoder b (Bad c.in-Bad.offset)) (whole piece at) c.in-Bad.ensures.answer in
-    subst (λ (d : DecoderState). HasRun source profile (bytes ++ piece) (record { decoder = d; progress = inside.runner; not_built = inside.not_built })) (sym c.in-Bad.ensures.after)
+    subst (λ (d : DecoderState). HasRun source profile (bytes ++ piece) (record { decoder = d; run = inside.runner })) (sym c.in-Bad.ensures.after)
     (bad_step source profile bytes piece at s (c.loop-at.invariant.1 source profile bytes run) c.pieces_decode.ensures.bad c.in-Bad.offset answer)
 
 pub returns-clause-run : goal.returns-clause-run
 returns-clause-run g c = λ source profile bytes run.
     let all : take c.loop-at.at c.args.piece.now ≡ c.args.piece.now = take_all c.loop-at.at c.args.piece.now c.loop-at-test.false in
-    subst (λ (b : List ℕ). HasRun source profile (bytes ++ b) (record { decoder = c.loop-at.self-inside.decoder; progress = c.loop-at.self-inside.runner; not_built = c.loop-at.self-inside.not_built })) all (c.loop-at.invariant.1 source profile bytes run)
+    subst (λ (b : List ℕ). HasRun source profile (bytes ++ b) (record { decoder = c.loop-at.self-inside.decoder; run = c.loop-at.self-inside.runner })) all (c.loop-at.invariant.1 source profile bytes run)

@@ -1,4 +1,4 @@
-use Rattle.std.proofs.Common.{◌≡◌, length, take, ◌-◌, ◌+◌, ◌≤◌, ℕ, List, ◌++◌}
+use Rattle.std.proofs.Common.{◌≡◌, false, length, take, ◌-◌, ◌+◌, ◌≤◌, ℕ, List, ◌++◌}
 use Rattle.nano_spec.specs.declared.system.Profile.{Profile}
 use Rattle.nano_spec.specs.Matrix.{Matrix}
 use Rattle.nanobot_app.specs.Reading.{HasRun}
@@ -7,10 +7,11 @@ use Rattle.nanobot_app.proofs.trace_run.TraceRun.feed.Given as goal
 abbrev pub invariant-loop-at : goal.invariant-loop-at
 invariant-loop-at g l =
     (l.at ≤ length l.piece)
-    × ((source : Matrix) (profile : Profile) (bytes : List ℕ) → HasRun source profile bytes l.fn.self → HasRun source profile (bytes ++ take l.at l.piece) (record { decoder = l.self-inside.decoder; progress = l.self-inside.runner; not_built = l.self-inside.not_built }))
+    × ((source : Matrix) (profile : Profile) (bytes : List ℕ) → HasRun source profile bytes l.fn.self → HasRun source profile (bytes ++ take l.at l.piece) (record { decoder = l.self-inside.decoder; run = l.self-inside.runner }))
     × (l.self-inside.decoder.offset + length l.self-inside.decoder.held ≤ l.fn.self.decoder.offset + length l.fn.self.decoder.held + l.at)
-    × (l.self-inside.runner.steps ≤ l.self-inside.decoder.offset)
-    × (l.self-inside.runner.state.matrix.resolution ≡ l.fn.self.progress.state.matrix.resolution)
+    × (l.self-inside.runner.progress.steps ≤ l.self-inside.decoder.offset)
+    × (l.self-inside.runner.progress.state.matrix.resolution ≡ l.fn.self.run.progress.state.matrix.resolution)
+    × (l.self-inside.runner.spent ≡ false)
 
 abbrev pub decreases-loop-at : goal.decreases-loop-at
 decreases-loop-at g l = length l.piece - l.at

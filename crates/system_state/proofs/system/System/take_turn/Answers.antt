@@ -15,13 +15,12 @@ use Rattle.system_state.proofs.system.System.take_turn.Goals as goal
 pub invariant_of-self : goal.invariant_of-self
 invariant_of-self g c =
     let may : MayTake c.self.inside.matrix.resolution c.self.inside.crew c.in-Some.bot c.args.turn.partner c.args.command.now =
-        subst (λ (o : Option Bot). IfSome o (λ bot. MayTake c.self.inside.matrix.resolution c.self.inside.crew bot c.args.turn.partner c.args.command.now)) (sym c.in-Some.ensures)
-        (subst (λ (t : State). IfSome (bot_of t.bots c.args.turn.leader) (λ bot. MayTake t.matrix.resolution t.bots bot c.args.turn.partner c.args.command.now)) (sym c.self.view_is) c.requires.may) in
+    subst (λ (o : Option Bot). IfSome o (λ bot. MayTake c.self.inside.matrix.resolution c.self.inside.crew bot c.args.turn.partner c.args.command.now)) (sym c.in-Some.ensures)
+    (subst (λ (t : State). IfSome (bot_of t.bots c.args.turn.leader) (λ bot. MayTake t.matrix.resolution t.bots bot c.args.turn.partner c.args.command.now)) (sym c.self.view_is) c.requires.may) in
     let room = c.pay_turn-cost.ensures.room in
-    let had = c.self.invariant.1 in
-    (
+    let had = c.self.invariant.1 in (
       subst (λ (bots : List Bot). All (λ b. IsInSpace c.pay_turn-cost.new.matrix.resolution b.pos) bots) (sym c.move_bots.ensures)
-      (subst (λ r. All (λ b. IsInSpace r b.pos) (bots_after c.self.inside.crew c.in-Some.bot c.args.turn.partner c.args.command.now)) (sym (ap (λ m. m.resolution) c.pay_turn-cost.ensures.matrix)) (turn_within c.self.inside.matrix.resolution c.self.inside.crew c.in-Some.bot c.args.turn.partner c.args.command.now c.self.invariant.0 may)),
+          (subst (λ r. All (λ b. IsInSpace r b.pos) (bots_after c.self.inside.crew c.in-Some.bot c.args.turn.partner c.args.command.now)) (sym (ap (λ m. m.resolution) c.pay_turn-cost.ensures.matrix)) (turn_within c.self.inside.matrix.resolution c.self.inside.crew c.in-Some.bot c.args.turn.partner c.args.command.now c.self.invariant.0 may)),
       omega arith,
     )
 
@@ -31,7 +30,7 @@ returns-clause-value g c =
     let had : to_z w64 (of_z w64 c.self.inside.energy) ≡ c.self.inside.energy = search rules in
     let cost : to_z w64 (of_z w64 c.pay_turn-cost.result) ≡ c.pay_turn-cost.result = search rules in
     let energy : to_z w64 (of_z w64 c.paid-self-inside.result) ≡ c.self.inside.energy +ℤ group_cost c.self.inside.matrix (point c.in-Some.bot.pos) c.args.command.now =
-        same ∙ (c.paid-self-inside.ensures ∙ (λ i. had i +ℤ (cost ∙ c.pay_turn-cost.ensures.cost) i)) in
+    same ∙ (c.paid-self-inside.ensures ∙ (λ i. had i +ℤ (cost ∙ c.pay_turn-cost.ensures.cost) i)) in
     let new : State = record { matrix = c.pay_turn-cost.new.matrix; harmonics = c.harmonics_by-self-inside.result; bots = c.move_bots.new.crew; energy = to_z w64 (of_z w64 c.paid-self-inside.result); profile = c.self.inside.profile } in
     let old : State = record { matrix = c.self.inside.matrix; harmonics = c.self.inside.harmonics; bots = c.self.inside.crew; energy = c.self.inside.energy; profile = c.self.inside.profile } in
     subst (λ (t : State). IfSome (bot_of t.bots c.args.turn.leader) (λ bot. new ≡ after_turn t bot c.args.turn.partner c.args.command.now)) c.self.view_is

@@ -1,0 +1,10 @@
+#!/bin/sh
+# How long it takes to plan full models of the resolutions 100 and 250, from nothing and to nothing: builds bench/layer in
+# a copy of the crates that it stands on, and runs it.
+set -eu
+top=$(cd "$(dirname "$0")/../.." && pwd)
+. "$top/bench/build.sh"
+build layer 'layer_bench: layer_planner plan_tape model_file vox_planes nano_spec vox_geom' vox_geom nano_spec step_order energy_sum bot_crew vox_planes model_file plan_tape layer_planner
+for round in 1 2 3; do
+    "$program"
+done

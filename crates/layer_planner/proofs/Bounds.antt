@@ -1,0 +1,37 @@
+-- How many bytes and steps a plan has.
+use Rattle.std.proofs.Common.{◌≡◌, ℕ, zero, suc, ◌+◌, ◌-◌, ◌*◌, ◌<◌, ◌≤◌, List, length, ap, arith, mul-le-mul}
+use Rattle.nano_spec.specs.declared.commands.Command.{Command}
+use Rattle.nano_spec.specs.declared.system.Profile.{Profile}
+use Rattle.nano_spec.specs.Matrix.{Matrix}
+use Rattle.nano_spec.specs.Spelling.{spellings}
+use Rattle.plan_tape.specs.Leg.{moves_to}
+use Rattle.plan_tape.specs.Progress.{Progress, bytes, starting}
+use Rattle.layer_planner.specs.Painting.{coord, layer_bytes}
+
+cube : (r : ℕ) → r ≤ 400 → r * r * r ≤ 64000000
+cube r h =
+    let square : r * r ≤ 400 * 400 = mul-le-mul h h in
+    mul-le-mul square h
+
+-- both sweeps, the way up, the way home, two Flips and the Halt
+pub total : (r : ℕ) → 1 ≤ r → r + 3 + 2 * ((r - 1) * layer_bytes r) + 2 * r + 2 ≤ 8 * r * r * r + 200
+total zero h = omega arith
+total (suc s) h = let e : suc s - 1 ≡ s = omega arith in rw e (omega arith)
+
+pub total_fits : (r : ℕ) → 1 ≤ r → r ≤ 400 → r + 3 + 2 * ((r - 1) * layer_bytes r) + 2 * r + 2 < 1073741824
+total_fits r h l = omega (arith, total r h, cube r l)
+
+pub way_up : (r : ℕ) → 1 ≤ r → 2 * moves_to (coord 0 0 0) (coord 0 (r - 1) 0) ≤ r
+way_up r h = omega arith
+
+pub way_down : (r : ℕ) → 1 ≤ r → 2 * moves_to (coord 0 r 0) (coord 0 0 0) ≤ r + 1
+way_down r h = omega arith
+
+pub bytes-starting : (t : Progress) (source : Matrix) (profile : Profile) → t ≡ starting source profile → bytes t ≡ 0
+unfolding bytes
+bytes-starting t source profile e = ap bytes e
+
+-- the length of the spellings of a plan
+pub bytes_of : (t : Progress) (commands : List Command) → commands ≡ t.commands → length (spellings commands) ≡ bytes t
+unfolding bytes
+bytes_of t commands e = ap (λ c. length (spellings c)) e

@@ -1,0 +1,5 @@
+pub mod Bounds
+pub mod Legality
+pub mod Paints
+pub mod Sweeps
+pub mod Ways

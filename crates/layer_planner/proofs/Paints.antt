@@ -1,0 +1,228 @@
+-- Painting by parts.
+use Rattle.std.proofs.Common.{◌≡◌, ℕ, ◌+◌, ◌-◌, ◌*◌, ◌<◌, ◌≤◌, refl, sym, ◌∙◌, ap, arith, Bool, true, false, cond, ◌&&◌, ◌||◌, ◌==◌, nat_le, nat_lt}
+use Rattle.std.specs.Prelude.{pos}
+use Rattle.std.proofs.lemmas.Bool.Decides.{nat_tests}
+use Rattle.vox_geom.specs.declared.coordinate.Coord.{Coord}
+use Rattle.vox_geom.specs.Point.{point, same_point, same_number}
+use Rattle.vox_geom.specs.Space.{IsInSpace, in_range, in_space}
+use Rattle.nano_spec.specs.Matrix.{Matrix, is_full}
+use Rattle.step_order.proofs.Voxels.{full_where, in_space_is}
+use Rattle.vox_planes.specs.Voxel.{with_voxel}
+use Rattle.plan_tape.specs.Leg.{moves_to}
+use Rattle.plan_tape.specs.Progress.{Progress, spot}
+use Rattle.layer_planner.specs.Painting.{CanPaint, CanSweep, IsPainted, Paints, below_layer, from_layer, in_layer, in_row, layer, row, voxel}
+use Rattle.layer_planner.proofs.Ways.{moves_on}
+
+-- ---- one voxel
+
+same_is : (a b : ℕ) → same_number (pos a) (pos b) ≡ (a == b)
+same_is a b = grind (arith, nat_tests)
+
+here_is : (q c : Coord) → same_point (point q) (point c) ≡ voxel c.x c.y c.z q
+here_is q c = λ i. same_is q.x c.x i && same_is q.y c.y i && same_is q.z c.z i
+
+three : (a b d : Bool) → (a && b && d) ≡ true → (a ≡ true) × (b ≡ true) × (d ≡ true)
+three true true true e = (refl, refl, refl)
+three true true false e = cc
+three true false d e = cc
+three false b d e = cc
+
+equal : (a b : ℕ) → (a == b) ≡ true → a ≡ b
+equal a b h = grind (arith, nat_tests)
+
+-- a coordinate that passes the test of a voxel is that voxel
+pub voxel-is : (q c : Coord) → voxel c.x c.y c.z q ≡ true → q ≡ c
+voxel-is q c h =
+    let p = three (q.x == c.x) (q.y == c.y) (q.z == c.z) h in
+    let x = equal q.x c.x p.0 in
+    let y = equal q.y c.y p.1 in
+    let z = equal q.z c.z p.2 in
+    λ j. record { x = x j; y = y j; z = z j }
+
+below : (r v : ℕ) → in_range r (pos v) ≡ true → v < r
+below r v h = grind (arith, nat_tests)
+
+pub space : (r : ℕ) (q : Coord) → in_space r (point q) ≡ true → IsInSpace r q
+space r q h = let p = three (in_range r (pos q.x)) (in_range r (pos q.y)) (in_range r (pos q.z)) h in record { x = below r q.x p.0; y = below r q.y p.1; z = below r q.z p.2 }
+
+both : {b : Bool} → b ≡ false → b ≡ true → ⊥
+both f g = let h = sym f ∙ g in cc
+
+outside : (r : ℕ) (q c : Coord) → IsInSpace r c → in_space r (point q) ≡ false → voxel c.x c.y c.z q ≡ false
+outside r q c i o = by (voxel c.x c.y c.z q) refl
+  where
+    by : (t : Bool) → voxel c.x c.y c.z q ≡ t → voxel c.x c.y c.z q ≡ false
+    by false e = e
+    by true e = absurd (both (sym (ap (λ (d : Coord). in_space r (point d)) (voxel-is q c e)) ∙ o) (in_space_is r c i))
+
+none : (a b : Bool) → a ≡ false → (a && b) ≡ false
+none a b e = rw e refl
+
+-- the voxels of a matrix of which one was changed
+full_with : (m : Matrix) (c : Coord) (b : Bool) (q : Coord) → IsInSpace m.resolution c → is_full (with_voxel m c b) q ≡ cond (voxel c.x c.y c.z q) b (is_full m q)
+full_with m c b q i = by (in_space m.resolution (point q)) refl
+  where
+    by : (s : Bool) → in_space m.resolution (point q) ≡ s → is_full (with_voxel m c b) q ≡ cond (voxel c.x c.y c.z q) b (is_full m q)
+    by true s =
+        full_where m.resolution (λ d. cond (same_point (point d) (point c)) b (is_full m d)) q (space m.resolution q s)
+        ∙ ap (λ t. cond t b (is_full m q)) (here_is q c)
+    by false s =
+        none (in_space m.resolution (point q)) _ s
+        ∙ sym (ap (λ t. cond t b (is_full m q)) (outside m.resolution q c i s) ∙ none (in_space m.resolution (point q)) _ s)
+
+-- a voxel that is set to what the goal says
+pub painted_set : (m goal : Matrix) (c : Coord) (b : Bool) → IsInSpace m.resolution c → is_full goal c ≡ b → IsPainted (with_voxel m c b) m goal (voxel c.x c.y c.z)
+painted_set m goal c b i e = λ q. full_with m c b q i ∙ by q (voxel c.x c.y c.z q) refl
+  where
+    by : (q : Coord) (t : Bool) → voxel c.x c.y c.z q ≡ t → cond t b (is_full m q) ≡ cond t (is_full goal q) (is_full m q)
+    by q true s = sym (ap (is_full goal) (voxel-is q c s) ∙ e)
+    by q false s = refl
+
+-- ---- parts
+
+both_parts : (a b g o : Bool) → cond a g (cond b g o) ≡ cond (a || b) g o
+both_parts true b g o = refl
+both_parts false b g o = refl
+
+-- one part after another
+pub painted_more : (a b m goal : Matrix) (first last all : Coord → Bool) → IsPainted b m goal first → IsPainted a b goal last → ((c : Coord) → all c ≡ (last c || first c)) → IsPainted a m goal all
+painted_more a b m goal first last all p q e =
+    λ c. q c ∙ (ap (cond (last c) (is_full goal c)) (p c) ∙ (both_parts (last c) (first c) (is_full goal c) (is_full m c) ∙ ap (λ t. cond t (is_full goal c) (is_full m c)) (sym (e c))))
+
+z_more : (a b : Bool) (v z : ℕ) → (a && b && nat_lt v (z + 1)) ≡ ((a && b && v == z) || (a && b && nat_lt v z))
+z_more true true v z = grind (arith, nat_tests)
+z_more true false v z = refl
+z_more false b v z = refl
+
+pub in_row-more : (x y z : ℕ) (c : Coord) → in_row x y (z + 1) c ≡ (voxel x y z c || in_row x y z c)
+in_row-more x y z c = z_more (c.x == x) (c.y == y) c.z z
+
+x_more : (b : Bool) (v x : ℕ) → (nat_lt v (x + 1) && b) ≡ ((v == x && b) || (nat_lt v x && b))
+x_more true v x = grind (arith, nat_tests)
+x_more false v x = grind (arith, nat_tests)
+
+pub in_layer-more : (x y : ℕ) (c : Coord) → in_layer (x + 1) y c ≡ (row x y c || in_layer x y c)
+in_layer-more x y c = x_more (c.y == y) c.x x
+
+pub from_layer-more : (y : ℕ) (c : Coord) → 0 < y → from_layer (y - 1) c ≡ (layer (y - 1) c || from_layer y c)
+from_layer-more y c h = by c.y
+  where
+    by : (v : ℕ) → nat_le (y - 1) v ≡ (v == y - 1 || nat_le y v)
+    by v = grind (arith, nat_tests)
+
+pub below_layer-more : (y : ℕ) (c : Coord) → below_layer (y + 1) c ≡ (layer y c || below_layer y c)
+below_layer-more y c = by c.y
+  where
+    by : (v : ℕ) → nat_lt v (y + 1) ≡ (v == y || nat_lt v y)
+    by v = grind (arith, nat_tests)
+
+-- ---- whole rows and layers
+
+outside_z : (a b c d : Bool) → c ≡ false → (a && b && c && d) ≡ false
+outside_z true true c d e = rw e refl
+outside_z true false c d e = refl
+outside_z false b c d e = refl
+
+outside_x : (a b c d : Bool) → a ≡ false → (a && b && c && d) ≡ false
+outside_x a b c d e = rw e refl
+
+past : (r v : ℕ) → nat_lt v r ≡ false → in_range r (pos v) ≡ false
+past r v e = grind (arith, nat_tests)
+
+void_past_z : (m : Matrix) (c : Coord) → nat_lt c.z m.resolution ≡ false → is_full m c ≡ false
+void_past_z m c e = outside_z (in_range m.resolution (pos c.x)) (in_range m.resolution (pos c.y)) (in_range m.resolution (pos c.z)) _ (past m.resolution c.z e)
+
+void_past_x : (m : Matrix) (c : Coord) → nat_lt c.x m.resolution ≡ false → is_full m c ≡ false
+void_past_x m c e = outside_x (in_range m.resolution (pos c.x)) (in_range m.resolution (pos c.y)) (in_range m.resolution (pos c.z)) _ (past m.resolution c.x e)
+
+all_false : (t a b c : Bool) → a ≡ false → b ≡ false → c ≡ false → a ≡ cond t b c
+all_false true a b c e f g = e ∙ sym f
+all_false false a b c e f g = e ∙ sym g
+
+module _ (a m goal : Matrix) (r : ℕ) (ra : a.resolution ≡ r) (rm : m.resolution ≡ r) (rg : goal.resolution ≡ r) where
+  pub whole_row : (x y : ℕ) → IsPainted a m goal (in_row x y r) → IsPainted a m goal (row x y)
+  whole_row x y p = λ c. by c (nat_lt c.z r) refl
+    where
+      end : (c : Coord) → (s t : Bool) → nat_lt c.z r ≡ true → (s && t && nat_lt c.z r) ≡ (s && t)
+      end c true true e = e
+      end c true false e = refl
+      end c false t e = refl
+
+      by : (c : Coord) (t : Bool) → nat_lt c.z r ≡ t → is_full a c ≡ cond (row x y c) (is_full goal c) (is_full m c)
+      by c true e = p c ∙ ap (λ s. cond s (is_full goal c) (is_full m c)) (end c (c.x == x) (c.y == y) e)
+      by c false e = all_false (row x y c) _ _ _ (void_past_z a c (ap (nat_lt c.z) ra ∙ e)) (void_past_z goal c (ap (nat_lt c.z) rg ∙ e)) (void_past_z m c (ap (nat_lt c.z) rm ∙ e))
+
+  pub whole_layer : (y : ℕ) → IsPainted a m goal (in_layer r y) → IsPainted a m goal (layer y)
+  whole_layer y p = λ c. by c (nat_lt c.x r) refl
+    where
+      by : (c : Coord) (t : Bool) → nat_lt c.x r ≡ t → is_full a c ≡ cond (layer y c) (is_full goal c) (is_full m c)
+      by c true e = p c ∙ ap (λ s. cond (s && c.y == y) (is_full goal c) (is_full m c)) e
+      by c false e = all_false (layer y c) _ _ _ (void_past_x a c (ap (nat_lt c.x) ra ∙ e)) (void_past_x goal c (ap (nat_lt c.x) rg ∙ e)) (void_past_x m c (ap (nat_lt c.x) rm ∙ e))
+
+-- ---- tapes
+
+-- nothing is painted yet
+pub paints_none : (a : Progress) (goal : Matrix) (none : Coord → Bool) (at : Coord) → CanSweep a goal → ((c : Coord) → none c ≡ false) → Paints a a goal none at at 0
+paints_none a goal none at k e = record { source = refl; resolution = refl; painted = λ c. rw (e c) refl; ready = k; bytes_are = omega arith; steps_are = omega arith }
+
+-- one part after another
+pub paints_more : (a b c : Progress) (goal : Matrix) (first last all : Coord → Bool) (p q s : Coord) (k n most : ℕ) → Paints a b goal first p q k → Paints b c goal last q s n → ((d : Coord) → all d ≡ (last d || first d)) → k + n ≤ most → Paints a c goal all p s most
+paints_more a b c goal first last all p q s k n most h g e l = record {
+  source = g.source ∙ h.source;
+  resolution = g.resolution ∙ h.resolution;
+  painted = painted_more c.matrix b.matrix a.matrix goal first last all h.painted g.painted e;
+  ready = g.ready;
+  bytes_are = let x = h.bytes_are in let y = g.bytes_are in omega arith;
+  steps_are = let x = h.steps_are in let y = g.steps_are in omega arith;
+}
+
+-- the way to another coordinate
+pub paints_to : (a b : Progress) (goal : Matrix) (done : Coord → Bool) (p q s : Coord) (k n most : ℕ) → Paints a b goal done p q k → 2 * moves_to q s ≤ n → k + n ≤ most → Paints a b goal done p s most
+paints_to a b goal done p q s k n most h l m = record {
+  source = h.source;
+  resolution = h.resolution;
+  painted = h.painted;
+  ready = h.ready;
+  bytes_are = let x = h.bytes_are in let w = moves_on (spot b.bots) q s in omega arith;
+  steps_are = let x = h.steps_are in let w = moves_on (spot b.bots) q s in omega arith;
+}
+
+-- where the voxels that are told by another test are the same
+pub paints_as : (a b : Progress) (goal : Matrix) (done all : Coord → Bool) (p q : Coord) (k : ℕ) → Paints a b goal done p q k → IsPainted b.matrix a.matrix goal all → Paints a b goal all p q k
+paints_as a b goal done all p q k h i = record { source = h.source; resolution = h.resolution; painted = i; ready = h.ready; bytes_are = h.bytes_are; steps_are = h.steps_are }
+
+-- painting goes on where nothing was painted above the layer
+pub paints_on : (a b : Progress) (goal : Matrix) (y : ℕ) (done : Coord → Bool) (p q : Coord) (k : ℕ) → CanPaint a goal y → Paints a b goal done p q k → ((c : Coord) → y + 1 ≤ c.y → done c ≡ false) → CanPaint b goal y
+paints_on a b goal y done p q k c h n = record {
+  sweep = h.ready;
+  within = let w = c.within in let r = h.resolution in omega arith;
+  above = λ d l. h.painted d ∙ (ap (λ t. cond t (is_full goal d) (is_full a.matrix d)) (n d l) ∙ c.above d l);
+}
+
+above_y : (b : Bool) (v y : ℕ) → y + 1 ≤ v → (b && v == y) ≡ false
+above_y true v y h = grind (arith, nat_tests)
+above_y false v y h = refl
+
+above_yz : (a b : Bool) (v y : ℕ) → y + 1 ≤ v → (a && v == y && b) ≡ false
+above_yz true b v y h = rw (above_y true v y h) refl
+above_yz false b v y h = refl
+
+pub above_row : (x y z : ℕ) (c : Coord) → y + 1 ≤ c.y → in_row x y z c ≡ false
+above_row x y z c h = above_yz (c.x == x) (nat_lt c.z z) c.y y h
+
+pub above_layers : (x y : ℕ) (c : Coord) → y + 1 ≤ c.y → in_layer x y c ≡ false
+above_layers x y c h = above_y (nat_lt c.x x) c.y y h
+
+no_z : (a b : Bool) (v : ℕ) → (a && b && nat_lt v 0) ≡ false
+no_z true true v = grind (arith, nat_tests)
+no_z true false v = refl
+no_z false b v = refl
+
+pub none_in_row : (x y : ℕ) (c : Coord) → in_row x y 0 c ≡ false
+none_in_row x y c = no_z (c.x == x) (c.y == y) c.z
+
+no_x : (b : Bool) (v : ℕ) → (nat_lt v 0 && b) ≡ false
+no_x b v = rw (let e : nat_lt v 0 ≡ false = grind (arith, nat_tests) in e) refl
+
+pub none_in_layer : (y : ℕ) (c : Coord) → in_layer 0 y c ≡ false
+none_in_layer y c = no_x (c.y == y) c.x

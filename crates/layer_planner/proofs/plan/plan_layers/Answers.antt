@@ -1,0 +1,7 @@
+use Rattle.std.proofs.Common.{◌∙◌, ap}
+use Rattle.nano_spec.specs.Matrix.{Matrix, is_full}
+use Rattle.layer_planner.proofs.Legality.{empty_is_void}
+use Rattle.layer_planner.proofs.plan.plan_layers.Goals as goal
+
+pub rebuild-requires-clause-nothing : goal.rebuild-requires-clause-nothing
+rebuild-requires-clause-nothing c = λ d l. ap (λ (m : Matrix). is_full m d) c.in_ok-nothing.ensures.value ∙ empty_is_void c.resolution.result d

@@ -1,0 +1,99 @@
+//! Voxels, rows and layers that are made those of a goal, from one layer above.
+ghost use Rattle.std.specs.Prelude.{◌≡◌, ◌+◌, ◌-◌, ◌*◌, ◌<◌, ◌≤◌, OnOk};
+ghost use Rattle.vox_geom.specs.Space.{IsInSpace};
+ghost use Rattle.plan_tape.specs.Progress.{spot};
+ghost use Rattle.layer_planner.specs.Painting.{CanPaint, CanSweep, IsVoidFrom, Paints, below_layer, coord, down as down_of, from_layer, layer, layer_bytes, row, row_bytes, steps_to, voxel};
+ghost use Rattle.layer_planner.specs.Phases.{end, top};
+
+use plan_tape::{Tape, is_full};
+use vox_geom::{Coord, Diff, Memory, Near};
+use vox_planes::Planes;
+
+/// The difference to the voxel below.
+fn down() -> Near
+    ensures { result ≡ down_of }
+{
+    let Some(near) = Near::of(Diff {
+        dx: 0,
+        dy: -1,
+        dz: 0,
+    }) else {
+        unreachable!()
+    };
+    near
+}
+
+/// Makes one voxel that of the goal, where it is not so yet.
+fn paint_voxel(tape: &mut Tape, goal: &Planes, x: u16, y: u16, z: u16) -> Result<(), Memory>
+    requires ready { CanPaint tape.old goal.now y }
+    requires x { x < tape.old.matrix.resolution }
+    requires z { z < tape.old.matrix.resolution }
+    requires limit { steps_to tape.old (coord x (y + 1) z) < 1073741824 }
+    ensures { OnOk result (Paints tape.old tape.new goal.now (voxel x y z) (coord x (y + 1) z) (coord x (y + 1) z) 1) }
+{
+    let c = Coord { x, y, z };
+    let is_wanted = is_full(goal, c);
+    if is_full(tape.matrix(), c) == is_wanted {
+        return Ok(());
+    }
+    tape.go(Coord { x, y: y + 1, z })?;
+    if is_wanted {
+        tape.fill(down())
+    } else {
+        tape.void(down())
+    }
+}
+
+/// Makes the row of x and y that of the goal.
+fn paint_row(tape: &mut Tape, goal: &Planes, x: u16, y: u16) -> Result<(), Memory>
+    requires ready { CanPaint tape.old goal.now y }
+    requires x { x < tape.old.matrix.resolution }
+    requires limit { steps_to tape.old (coord x (y + 1) 0) + 3 * tape.old.matrix.resolution < 1073741824 }
+    ensures { OnOk result (Paints tape.old tape.new goal.now (row x y) (coord x (y + 1) 0) (coord x (y + 1) tape.old.matrix.resolution) (3 * tape.old.matrix.resolution)) }
+{
+    for z in 0..goal.resolution() {
+        paint_voxel(tape, goal, x, y, z)?;
+    }
+    Ok(())
+}
+
+/// Makes the layer of y that of the goal.
+fn paint_layer(tape: &mut Tape, goal: &Planes, y: u16) -> Result<(), Memory>
+    requires ready { CanPaint tape.old goal.now y }
+    requires limit { steps_to tape.old (coord 0 (y + 1) 0) + tape.old.matrix.resolution * row_bytes tape.old.matrix.resolution < 1073741824 }
+    ensures { OnOk result (Paints tape.old tape.new goal.now (layer y) (coord 0 (y + 1) 0) (coord tape.old.matrix.resolution (y + 1) 0) (tape.old.matrix.resolution * row_bytes tape.old.matrix.resolution)) }
+{
+    for x in 0..goal.resolution() {
+        paint_row(tape, goal, x, y)?;
+    }
+    Ok(())
+}
+
+/// Voids all layers, from the top down.
+pub fn clear(tape: &mut Tape, nothing: &Planes) -> Result<(), Memory>
+    requires ready { CanSweep tape.old nothing.now }
+    requires top { IsVoidFrom tape.old.matrix (tape.old.matrix.resolution - 1) }
+    requires nothing { IsVoidFrom nothing.now 0 }
+    requires limit { steps_to tape.old (top tape.old.matrix) + (tape.old.matrix.resolution - 1) * layer_bytes tape.old.matrix.resolution < 1073741824 }
+    ensures { OnOk result (Paints tape.old tape.new nothing.now (from_layer 0) (top tape.old.matrix) (coord 0 0 0) ((tape.old.matrix.resolution - 1) * layer_bytes tape.old.matrix.resolution)) }
+{
+    let mut y = nothing.resolution() - 1;
+    while y > 0 {
+        y -= 1;
+        paint_layer(tape, nothing, y)?;
+    }
+    Ok(())
+}
+
+/// Makes all layers those of the goal, from the floor up.
+pub fn build(tape: &mut Tape, goal: &Planes) -> Result<(), Memory>
+    requires ready { CanSweep tape.old goal.now }
+    requires void { IsVoidFrom tape.old.matrix 0 }
+    requires limit { steps_to tape.old (coord 0 1 0) + (tape.old.matrix.resolution - 1) * layer_bytes tape.old.matrix.resolution < 1073741824 }
+    ensures { OnOk result (Paints tape.old tape.new goal.now (below_layer (tape.old.matrix.resolution - 1)) (coord 0 1 0) (end tape.old.matrix) ((tape.old.matrix.resolution - 1) * layer_bytes tape.old.matrix.resolution)) }
+{
+    for y in 0..goal.resolution() - 1 {
+        paint_layer(tape, goal, y)?;
+    }
+    Ok(())
+}

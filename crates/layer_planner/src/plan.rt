@@ -1,0 +1,120 @@
+//! The plan.
+ghost use Rattle.std.specs.Prelude.{◌≡◌, ◌≢◌, ◌+◌, ◌*◌, ◌<◌, ◌≤◌, [], ◌∷◌, IfOk, OnOk, IsFalse, IsTrue, length};
+ghost use Rattle.nano_spec.specs.Legal.{IsLegal};
+ghost use Rattle.nano_spec.specs.Profile.{full_profile};
+ghost use Rattle.nano_spec.specs.Spelling.{spellings};
+ghost use Rattle.plan_tape.specs.Progress.{IsAccepted};
+ghost use Rattle.layer_planner.specs.Painting.{IsVoidFrom};
+ghost use Rattle.layer_planner.specs.Phases.{IsOpened, IsRebuilt};
+
+use crate::paint::{build, clear};
+use nano_spec::Command;
+use plan_tape::{Plan, Tape};
+use std::alloc::Global;
+use std::marker::Brand;
+use std::sync::ledger::{Blank, Ledger};
+use vox_geom::{Coord, Memory, Steps};
+use vox_planes::Planes;
+
+/// Whether both models are the same, counted in a ledger of its own.
+fn are_same_in<L: Ledger>(source: &Planes, target: &Planes, blank: Blank) -> bool
+    requires same { source.now.resolution ≡ target.now.resolution }
+    requires name { blank.name ≡ L.name }
+    requires parts { blank.parts ≡ L.parts }
+    requires some { 0 < L.parts }
+    ensures same { IsTrue result → source.now ≡ target.now }
+    ensures differ { IsFalse result → source.now ≢ target.now }
+{
+    let _ = source.resolution();
+    let _ = target.resolution();
+    let mut steps: Steps<L> = Steps::new(blank);
+    source.equal(target, &mut steps).is_none()
+}
+
+/// Whether both models are the same.
+fn are_same(source: &Planes, target: &Planes) -> bool
+    requires { source.now.resolution ≡ target.now.resolution }
+    ensures same { IsTrue result → source.now ≡ target.now }
+    ensures differ { IsFalse result → source.now ≢ target.now }
+{
+    are_same_in::<Brand>(source, target, Blank::new(1))
+}
+
+/// The tape with the bot at the top above the origin, under High.
+fn opened(alloc: Global, source: Planes) -> Result<Tape, Memory>
+    requires legal { IsLegal source }
+    ensures source { IfOk result (λ t. t.source ≡ source) }
+    ensures opened { IfOk result IsOpened }
+{
+    let r = source.resolution();
+    let mut tape = Tape::start(alloc, source)?;
+    tape.flip()?;
+    tape.go(Coord {
+        x: 0,
+        y: r - 1,
+        z: 0,
+    })?;
+    Ok(tape)
+}
+
+/// Voids all of the source and builds the target.
+fn rebuild(tape: &mut Tape, nothing: &Planes, target: &Planes) -> Result<(), Memory>
+    requires opened { IsOpened tape.old }
+    requires source { IsLegal tape.old.source }
+    requires target { IsLegal target.now }
+    requires same { target.now.resolution ≡ tape.old.source.resolution }
+    requires size { nothing.now.resolution ≡ tape.old.source.resolution }
+    requires nothing { IsVoidFrom nothing.now 0 }
+    ensures source { OnOk result (tape.new.source ≡ tape.old.source) }
+    ensures rebuilt { OnOk result (IsRebuilt tape.new target.now) }
+{
+    let _ = target.resolution();
+    clear(tape, nothing)?;
+    build(tape, target)?;
+    Ok(())
+}
+
+/// The plan, once the bot is home.
+fn closed(mut tape: Tape, target: &Planes) -> Result<Plan, Memory>
+    requires rebuilt { IsRebuilt tape target.now }
+    requires target { IsLegal target.now }
+    ensures accepted { IfOk result (λ plan. IsAccepted tape.source target.now plan.commands full_profile plan.energy plan.steps) }
+    ensures bytes { IfOk result (λ plan. length (spellings plan.commands) ≤ 8 * target.now.resolution * target.now.resolution * target.now.resolution + 200) }
+{
+    let _ = target.resolution();
+    let _ = tape.matrix();
+    tape.go(Coord { x: 0, y: 0, z: 0 })?;
+    tape.flip()?;
+    tape.halt()?;
+    Ok(tape.finish())
+}
+
+/// The plan that changes nothing.
+fn only_halt(alloc: Global, source: Planes) -> Result<Plan, Memory>
+    requires legal { IsLegal source }
+    ensures accepted { IfOk result (λ plan. IsAccepted source source plan.commands full_profile plan.energy plan.steps) }
+    ensures commands { IfOk result (λ plan. plan.commands ≡ Command.Halt ∷ []) }
+{
+    let mut tape = Tape::start(alloc, source)?;
+    tape.halt()?;
+    Ok(tape.finish())
+}
+
+/// A plan that makes the target of the source, by one bot. Both models are legal. Its commands are spelled in at most
+/// 8 * r * r * r + 200 bytes at resolution r; where both models are the same, they are a Halt alone.
+pub fn plan_layers(alloc: Global, source: &Planes, target: &Planes) -> Result<Plan, Memory>
+    requires source { IsLegal source.now }
+    requires target { IsLegal target.now }
+    requires same { source.now.resolution ≡ target.now.resolution }
+    ensures accepted { IfOk result (λ plan. IsAccepted source.now target.now plan.commands full_profile plan.energy plan.steps) }
+    ensures bytes { IfOk result (λ plan. length (spellings plan.commands) ≤ 8 * source.now.resolution * source.now.resolution * source.now.resolution + 200) }
+    ensures halt_alone { source.now ≡ target.now → IfOk result (λ plan. plan.commands ≡ Command.Halt ∷ []) }
+{
+    if are_same(source, target) {
+        return only_halt(alloc, source.copy(alloc)?);
+    }
+    let nothing = Planes::empty(alloc, target.resolution())?;
+    let mut tape = opened(alloc, source.copy(alloc)?)?;
+    rebuild(&mut tape, &nothing, target)?;
+    closed(tape, target)
+}

@@ -1,0 +1,5 @@
+pub mod Bits
+pub mod Forged
+pub mod InRow
+pub mod Sizes
+pub mod Towers

@@ -1,0 +1,2 @@
+pub mod Forging
+pub mod Tower

@@ -1,0 +1,49 @@
+//! The first of the tallest columns.
+ghost use Rattle.std.specs.Prelude.{◌≡◌, ◌+◌, ◌<◌, ◌≤◌};
+ghost use Rattle.nano_spec.specs.Forge.{line_of_tallest, tallest};
+ghost use Rattle.model_forge.specs.Tower.{IsInside, highest, row_of};
+
+use crate::columns::height;
+use vox_geom::MOST_R;
+
+/// A column: its height and its z.
+#[derive(Clone, Copy)]
+pub struct Tower {
+    pub height: u16,
+    pub z: u16,
+}
+
+impl Tower {
+    /// The tower, or the first of the tallest columns of one x where that is higher.
+    fn or_higher(self, number: u32, r: u16, x: u16) -> Tower
+        requires some { 2 ≤ r }
+        requires most { r ≤ MOST_R }
+        requires x { x < r }
+        ensures value { result ≡ highest number r self (row_of r x) }
+        ensures inside { IsInside r self → IsInside r result }
+    {
+        let mut tower = self;
+        for z in 1..r - 1 {
+            let height = height(number, r, x, z);
+            if height > tower.height {
+                tower = Tower { height, z };
+            }
+        }
+        tower
+    }
+
+    /// The first of the tallest columns, by x and then by z. Its height is 0 where no column has a height.
+    pub fn of(number: u32, r: u16) -> Tower
+        requires some { 1 ≤ r }
+        requires most { r ≤ MOST_R }
+        ensures height { result.height ≡ tallest number r }
+        ensures z { 0 < result.height → result.z ≡ line_of_tallest number r }
+        ensures inside { IsInside r result }
+    {
+        let mut tower = Tower { height: 0, z: 0 };
+        for x in 1..r - 1 {
+            tower = tower.or_higher(number, r, x);
+        }
+        tower
+    }
+}

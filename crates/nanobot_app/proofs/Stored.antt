@@ -1,0 +1,86 @@
+-- The answers of the rows that store a file, by what was found in the files.
+use Rattle.std.proofs.Common.{◌≡◌, ℕ, ◌≤◌, List, length, refl, sym, ap, ◌∙◌, subst, Bool, true, false, nat_lt}
+use Rattle.std.specs.Prelude.{Option, Some, None, Result, Ok, Err, MatchOption, MatchBool, IfSome, IsSomeAnd}
+use Rattle.nano_spec.specs.declared.commands.Command.{Command}
+use Rattle.nano_spec.specs.Cutting.{BadAt, CutAt, Cutting, Decoding, NoTrace}
+use Rattle.nano_spec.specs.Printing.{print}
+use Rattle.nano_spec.specs.Reading.{FaultyLine, read}
+use Rattle.vox_depot.specs.Files.{Files, content}
+use Rattle.nanobot_app.specs.declared.effect.Effect.{Effect}
+use Rattle.nanobot_app.specs.declared.effect.NewFile.{NewFile}
+use Rattle.nanobot_app.specs.declared.report.Report.{Report}
+use Rattle.nanobot_app.specs.declared.report.Report.TheVariants as report
+use Rattle.nanobot_app.specs.declared.stop.Stop.{Stop}
+use Rattle.nanobot_app.specs.Answer.{AnswerOf, OfDecoding, OfReading, OfText, OfTrace, Reply, Stores, WithFile, dis_limit, text_limit, with_file}
+use Rattle.nanobot_app.specs.Effects.{Finishes, reply_by}
+use Rattle.nanobot_app.specs.Reading.{IsTextOf, IsTraceOf, Lacks, Reads, RefusesDecoding, RefusesReading, RefusesText, RefusesTrace, gone, reply_of}
+use Rattle.nanobot_app.specs.Report.{line_of, no_trace, status_of}
+use Rattle.nanobot_app.specs.Rows.{dis}
+use Rattle.nanobot_app.proofs.Loads.{not_longer}
+use Rattle.nanobot_app.proofs.Replies.{stops}
+use Rattle.nanobot_app.proofs.Told.{if_some, weaker}
+
+-- a file that is not there
+pub file_lacks : (files : Files) (name : List ℕ) (p : List ℕ → Reply → Type 0) → Lacks name files → WithFile files name p (gone files)
+file_lacks files name p h = subst (λ (o : Option (List ℕ)). MatchOption o (gone files ≡ gone files) (λ bytes. p bytes (gone files))) (sym h) refl
+
+-- what holds of the bytes of a file
+of_file : (files : Files) (name : List ℕ) (P : List ℕ → Type 0) (p : List ℕ → Reply → Type 0) (reply : Reply) → ((bytes : List ℕ) → P bytes → p bytes reply) → IsSomeAnd (content files name) P → WithFile files name p reply
+of_file files name P p reply f h = by (content files name) h
+  where
+    by : (o : Option (List ℕ)) → IsSomeAnd o P → MatchOption o (reply ≡ gone files) (λ bytes. p bytes reply)
+    by None h = absurd h
+    by (Some bytes) h = f bytes h
+
+module _ (files : Files) (name : List ℕ) (p : List Command → Reply → Type 0) where
+  pub text_given : (commands : List Command) (reply : Reply) → IsTextOf files name commands → p commands reply → WithFile files name (λ bytes. OfText files bytes p) reply
+  text_given commands reply is h = of_file files name (λ bytes. (length bytes ≤ text_limit) × (read bytes ≡ Ok commands)) (λ bytes. OfText files bytes p) reply (λ bytes g.
+      subst (λ b. MatchBool b (reply ≡ reply_of files (report.TextLong text_limit)) (OfReading files (read bytes) p reply)) (sym (not_longer text_limit (length bytes) g.0))
+      (subst (λ (r : Result (List Command) FaultyLine). OfReading files r p reply) (sym g.1) h)) is
+
+  pub text_refused : (told : Report) → RefusesText name files told → WithFile files name (λ bytes. OfText files bytes p) (reply_of files told)
+  text_refused told refuses = of_file files name (λ bytes. MatchBool (nat_lt text_limit (length bytes)) (told ≡ report.TextLong text_limit) (RefusesReading (read bytes) told)) (λ bytes. OfText files bytes p) (reply_of files told) (λ bytes g. by (nat_lt text_limit (length bytes)) (read bytes) g) refuses
+    where
+      by : (b : Bool) (r : Result (List Command) FaultyLine) → MatchBool b (told ≡ report.TextLong text_limit) (RefusesReading r told) → MatchBool b (reply_of files told ≡ reply_of files (report.TextLong text_limit)) (OfReading files r p (reply_of files told))
+      by true r e = ap (reply_of files) e
+      by false (Ok commands) e = absurd e
+      by false (Err faulty) e = ap (reply_of files) e
+
+  pub trace_given : (commands : List Command) (reply : Reply) → IsTraceOf files name commands → p commands reply → WithFile files name (λ bytes. OfTrace dis_limit files bytes p) reply
+  trace_given commands reply is h = of_file files name (λ bytes. (length bytes ≤ dis_limit) × Cutting bytes commands) (λ bytes. OfTrace dis_limit files bytes p) reply (λ bytes g.
+      subst (λ b. MatchBool b (reply ≡ reply_of files (report.TraceLong dis_limit)) ((d : Result (List Command) NoTrace) × Decoding bytes d × OfDecoding files d p reply)) (sym (not_longer dis_limit (length bytes) g.0))
+      (Ok commands, g.1, h)) is
+
+  pub trace_refused : (told : Report) → RefusesTrace name files told → WithFile files name (λ bytes. OfTrace dis_limit files bytes p) (reply_of files told)
+  trace_refused told refuses = of_file files name (λ bytes. MatchBool (nat_lt dis_limit (length bytes)) (told ≡ report.TraceLong dis_limit) (RefusesDecoding bytes told)) (λ bytes. OfTrace dis_limit files bytes p) (reply_of files told) (λ bytes g. by bytes (nat_lt dis_limit (length bytes)) g) refuses
+    where
+      none : (bytes : List ℕ) (why : NoTrace) → Decoding bytes (Err why) → told ≡ no_trace why → (d : Result (List Command) NoTrace) × Decoding bytes d × OfDecoding files d p (reply_of files told)
+      none bytes (BadAt offset) decoding e = (Err (BadAt offset), decoding, ap (reply_of files) e)
+      none bytes (CutAt offset) decoding e = (Err (CutAt offset), decoding, ap (reply_of files) e)
+
+      by : (bytes : List ℕ) (b : Bool) → MatchBool b (told ≡ report.TraceLong dis_limit) (RefusesDecoding bytes told)
+          → MatchBool b (reply_of files told ≡ reply_of files (report.TraceLong dis_limit)) ((d : Result (List Command) NoTrace) × Decoding bytes d × OfDecoding files d p (reply_of files told))
+      by bytes true e = ap (reply_of files) e
+      by bytes false w = none bytes w.0 w.1 w.2
+
+-- ---- `dis`
+
+-- what is told with a file that is stored
+stored_reply : (files : Files) (effect : Effect) (told : Report) (file : NewFile) (name bytes : List ℕ) → effect ≡ record { report = told; file = Some file } → file.name.now ≡ name → file.bytes.items ≡ bytes → Stores told name bytes files (reply_by files effect)
+stored_reply files effect told file name bytes e en eb = ap (reply_by files) e ∙ (λ i. record { status = status_of told; line = line_of told; after = with_file files (en i) (eb i) })
+
+module _ (told : Option Files) (trace text : List ℕ) where
+  -- what the commands come to
+  abbrev Prints : Files → List Command → Reply → Type 0
+  Prints files commands = Stores (report.Stored (length commands) (length (print commands))) text (print commands) files
+
+  pub dis_stops : (rose : Type 0) (s : Stop) → Reads {A = List Command} told rose (λ files commands. IsTraceOf files trace commands) (RefusesTrace trace) (Lacks trace) (Err s) → Finishes (AnswerOf (dis trace text)) told rose (Err s)
+  dis_stops rose s reads =
+      stops Effect (λ files effect. AnswerOf (dis trace text) files (reply_by files effect)) (AnswerOf (dis trace text)) told rose rose (λ files commands. IsTraceOf files trace commands) (RefusesTrace trace) (Lacks trace) s reads (λ h. h)
+      (if_some told (λ files _. ((λ r h. trace_refused files trace (Prints files) r h), (λ h. file_lacks files trace (λ bytes. OfTrace dis_limit files bytes (Prints files)) h))))
+
+  pub dis_ends : (commands : List Command) (effect : Effect) (counts : Report) (file : NewFile) → IfSome told (λ files. IsTraceOf files trace commands) → effect ≡ record { report = counts; file = Some file } → counts ≡ report.Stored (length commands) (length file.bytes.items)
+      → file.name.now ≡ text → file.bytes.items ≡ print commands → IfSome told (λ files. AnswerOf (dis trace text) files (reply_by files effect))
+  dis_ends commands effect counts file found e ec en eb = weaker told (λ files is. trace_given files trace (Prints files) commands (reply_by files effect) is
+      (stored_reply files effect (report.Stored (length commands) (length (print commands))) file text (print commands)
+      (e ∙ (λ i. record { report = (ec ∙ ap (λ xs. report.Stored (length commands) (length xs)) eb) i; file = Some file })) en eb)) found

@@ -1,0 +1,58 @@
+//! What a row comes to.
+ghost use Rattle.std.specs.Prelude.{◌≡◌, ◌≤◌, OnOk, OnErr, Some};
+ghost use Rattle.vox_depot.specs.Causes.{Rose};
+ghost use Rattle.nanobot_app.specs.Effects.{IsLost, MayKeep, alone, told_with};
+
+use crate::report::Report;
+use crate::stop::Stop;
+use vox_depot::{Depot, StoreFault};
+
+/// A file that is to be stored.
+#[derive(Drop)]
+pub struct NewFile<'a> {
+    pub name: &'a str,
+    pub bytes: Vec<u8>,
+}
+
+/// What a row comes to: a report, and the file that is stored before the report is told. All memory for both was taken.
+#[derive(Drop)]
+pub struct Effect<'a> {
+    pub report: Report,
+    pub file: Option<NewFile<'a>>,
+}
+
+impl<'a> Effect<'a> {
+    /// A report alone.
+    pub fn telling(told: Result<Report, Stop>) -> Result<Effect<'a>, Stop>
+        ensures { result ≡ alone told }
+    {
+        match told {
+            Ok(report) => Ok(Effect { report, file: None }),
+            Err(stop) => Err(stop),
+        }
+    }
+
+    /// A report and a file.
+    pub fn storing(report: Report, name: &'a str, bytes: Vec<u8>) -> Effect<'a>
+        ensures { result ≡ record { report = report; file = Some (record { name = name.entry; bytes = bytes }) } }
+    {
+        Effect {
+            report,
+            file: Some(NewFile { name, bytes }),
+        }
+    }
+
+    /// Stores the file, if there is one.
+    pub fn keep<D: Depot>(&self, depot: &mut D) -> Result<(), StoreFault>
+        requires { MayKeep D.may_store self.now.file }
+        ensures kept { OnOk result (D.files depot.new ≡ told_with (D.files depot.old) self.now.file) }
+        ensures lost { OnErr result (IsLost self.now.file (D.files depot.old) (D.files depot.new)) }
+        ensures failed { OnErr result (Rose (D.faults depot.old) (D.faults depot.new)) }
+        ensures later { D.faults depot.old ≤ D.faults depot.new }
+    {
+        match &self.file {
+            None => Ok(()),
+            Some(file) => depot.store(file.name, file.bytes.as_slice()),
+        }
+    }
+}

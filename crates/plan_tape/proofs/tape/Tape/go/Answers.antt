@@ -1,0 +1,44 @@
+use Rattle.std.proofs.Common.{◌≡◌, ◌+◌, ◌*◌, refl, rules, sym, ◌∙◌, ap, subst, List, ◌++◌, append_assoc, pos, to_z, of_z, w64}
+use Rattle.std.specs.Prelude.{◌+ℤ◌, length}
+use Rattle.vox_geom.specs.declared.coordinate.Coord.{Coord}
+use Rattle.nano_spec.specs.declared.commands.Command.{Command}
+use Rattle.plan_tape.specs.contracts.tape.Tape.{the_view}
+use Rattle.plan_tape.specs.Leg.{AreLegs, distance, moves_to}
+use Rattle.plan_tape.specs.Progress.{Progress, spot, upkeep_of_step}
+use Rattle.plan_tape.proofs.Gone.{Comes, free_one, go_makes, moved_one}
+use Rattle.plan_tape.proofs.Written.{IsCharged, charged_as}
+use Rattle.plan_tape.proofs.tape.Tape.go.Goals as goal
+
+pub move_to-requires-clause-free : goal.move_to-requires-clause-free
+move_to-requires-clause-free c = free_one c.self.inside.crew c.bots.result.now c.args.to _ (subst (λ (o : Progress). length o.bots ≡ 1) (sym c.self.view_is) c.requires.alone) c.bots.ensures.value
+
+legs : (c : goal.After-self-2-1) → (moves : List Command) × AreLegs (spot c.args.self.now.bots) c.args.to moves × (c.push_leg-3.new.commands.items ≡ c.self.inside.commands.items ++ moves)
+legs c =
+    let old = c.self.inside.commands.items in
+    let x = c.push_leg.ensures.leg in
+    let y = c.push_leg-2.ensures.leg in
+    let z = c.push_leg-3.ensures.leg in (
+      x.0 ++ y.0 ++ z.0,
+      subst (λ (p : Coord). AreLegs p c.args.to (x.0 ++ y.0 ++ z.0)) c.spot-from.ensures.value (record { x = x.0; y = y.0; z = z.0; joined = refl; along_x = x.1; along_y = y.1; along_z = z.1 }),
+      z.2 ∙ (ap (λ xs. xs ++ z.0) (y.2 ∙ ap (λ xs. xs ++ y.0) (x.2 ∙ ap (λ xs. xs ++ x.0) c.take_room.ensures.items)) ∙ (ap (λ xs. xs ++ z.0) (append_assoc old x.0 y.0) ∙ append_assoc old (x.0 ++ y.0) z.0)),
+    )
+
+charge : (c : goal.After-self-2-1) → IsCharged c.args.self.now c.moves_to-count.result (pos (2 * distance (spot c.args.self.now.bots) c.args.to)) (to_z w64 (of_z w64 c.energy_after-energy.result))
+charge c =
+    let old = c.args.self.now in
+    let value : c.energy_after-energy.result ≡ (old.energy +ℤ pos (c.moves_to-count.result * upkeep_of_step old)) +ℤ pos (2 * distance c.spot-from.result c.args.to) = search rules in
+    charged_as old c.moves_to-count.result _ c.energy_after-energy.result _ (search rules) (value ∙ ap (λ p. (old.energy +ℤ pos (c.moves_to-count.result * upkeep_of_step old)) +ℤ pos (2 * distance p c.args.to)) c.spot-from.ensures.value) c.energy_after-energy.ensures.bounded
+
+comes : (c : goal.After-self-2-1) → Comes c.args.self.now (the_view (record { source = c.self.inside.source; commands = c.push_leg-3.new.commands; matrix = c.self.inside.matrix; harmonics = c.self.inside.harmonics; crew = c.move_to.new.self; energy = to_z w64 (of_z w64 c.energy_after-energy.result); profile = c.self.inside.profile; steps = c.self.inside.steps + c.moves_to-count.result })) c.args.to
+comes c =
+    let r = c.self.inside in
+    let l = legs c in
+    let bots = moved_one r.crew c.bots.result.now c.move_to.new.self c.args.to _ (subst (λ (o : Progress). length o.bots ≡ 1) (sym c.self.view_is) c.requires.alone) c.bots.ensures.value c.move_to.ensures.moved in
+    let count = c.moves_to-count.ensures.value ∙ ap (λ p. moves_to p c.args.to) c.spot-from.ensures.value in
+    go_makes (the_view r) c.args.self.now c.self.view_is c.self.invariant c.args.to c.push_leg-3.new.commands.items l.0 c.move_to.new.self _ c.moves_to-count.result c.requires.alone c.requires.allowed c.requires.within c.requires.ways c.requires.limit l.1 l.2 bots count (charge c)
+
+pub invariant_of-self-2 : goal.invariant_of-self-2
+invariant_of-self-2 c = (comes c).reached
+
+pub returns-clause-ok : goal.returns-clause-ok
+returns-clause-ok c = (comes c).moves

@@ -1,0 +1,3 @@
+pub mod Leg
+pub mod Progress
+pub mod Reaches

@@ -1,0 +1,144 @@
+//! Moves along an axis.
+ghost use Rattle.std.specs.Prelude.{◌≡◌, ◌≢◌, ◌⊎◌, ℕ, ◌+◌, ◌*◌, List, ◌++◌, pos, neg_ℤ, ◌≤ℤ◌, ◌-ℤ◌, ◌<◌, ◌≤◌, vec_capacity, vec_len};
+ghost use Rattle.vox_geom.specs.Space.{IsInSpace};
+ghost use Rattle.nano_spec.specs.declared.commands.Command.{Command as CommandOf};
+ghost use Rattle.plan_tape.specs.Leg.{IsLeastLeg, IsOnward, along, distance as distance_of, gap as gap_of, moves as moves_of, moves_to as moves_to_of};
+
+use nano_spec::Command;
+use vox_geom::{Coord, Diff, Long, MOST_R};
+
+/// An axis.
+#[derive(Clone, Copy, PartialEq, Eq, Debug)]
+pub enum Axis {
+    X,
+    Y,
+    Z,
+}
+
+/// The most that one move goes.
+const MOST_MOVE: u16 = 15;
+
+/// How far one component is from another.
+fn gap(a: u16, b: u16) -> u16
+    ensures { result ≡ gap_of a b }
+{
+    if a < b { b - a } else { a - b }
+}
+
+/// The least number of moves from one component to another.
+fn moves(a: u16, b: u16) -> u32
+    ensures { result ≡ moves_of a b }
+{
+    (u32::from(gap(a, b)) + 14) / 15
+}
+
+/// The least number of moves along x, y and z from one coordinate to another.
+pub fn moves_to(a: Coord, b: Coord) -> u32
+    requires from { IsInSpace MOST_R a }
+    requires to { IsInSpace MOST_R b }
+    ensures value { result ≡ moves_to_of a b }
+    ensures most { result ≤ 81 }
+{
+    moves(a.x, b.x) + moves(a.y, b.y) + moves(a.z, b.z)
+}
+
+/// How far one coordinate is from another along the axes.
+fn distance(a: Coord, b: Coord) -> u32
+    ensures { result ≡ distance_of a b }
+{
+    u32::from(gap(a.x, b.x)) + u32::from(gap(a.y, b.y)) + u32::from(gap(a.z, b.z))
+}
+
+/// What moves along the axes from one coordinate to another cost beside their upkeep.
+pub fn cost_of_way(a: Coord, b: Coord) -> i64
+    ensures value { result ≡ pos (2 * distance_of a b) }
+    ensures most { result ≤ℤ pos (30 * moves_to_of a b) }
+{
+    2 * i64::from(distance(a, b))
+}
+
+/// Where the next move on the way ends.
+fn next_stop(at: u16, to: u16) -> u16
+    requires differ { at ≢ to }
+    ensures onward { IsOnward at result to }
+    ensures near { (result ≤ at + 15) × (at ≤ result + 15) }
+    ensures count { moves_of at to ≡ moves_of result to + 1 }
+{
+    if at < to {
+        if to - at <= MOST_MOVE {
+            to
+        } else {
+            at + MOST_MOVE
+        }
+    } else if at - to <= MOST_MOVE {
+        to
+    } else {
+        at - MOST_MOVE
+    }
+}
+
+/// What leads from one component to another.
+fn step(at: u16, next: u16) -> i16
+    requires differ { at ≢ next }
+    requires at { at ≤ MOST_R }
+    requires next { next ≤ MOST_R }
+    requires near { (next ≤ at + 15) × (at ≤ next + 15) }
+    ensures value { result ≡ pos next -ℤ pos at }
+    ensures some { result ≢ pos 0 }
+    ensures low { neg_ℤ (pos 15) ≤ℤ result }
+    ensures high { result ≤ℤ pos 15 }
+{
+    next as i16 - at as i16
+}
+
+/// The difference along an axis.
+fn difference(axis: Axis, by: i16) -> Long
+    requires some { by ≢ pos 0 }
+    requires low { neg_ℤ (pos 15) ≤ℤ by }
+    requires high { by ≤ℤ pos 15 }
+    ensures { result ≡ along axis by }
+{
+    let none = Diff {
+        dx: 0,
+        dy: 0,
+        dz: 0,
+    };
+    let d = match axis {
+        Axis::X => Diff { dx: by, ..none },
+        Axis::Y => Diff { dy: by, ..none },
+        Axis::Z => Diff { dz: by, ..none },
+    };
+    let Some(long) = Long::of(d) else {
+        unreachable!()
+    };
+    long
+}
+
+/// The difference from one component to another along an axis.
+fn towards(axis: Axis, at: u16, next: u16) -> Long
+    requires differ { at ≢ next }
+    requires at { at ≤ MOST_R }
+    requires next { next ≤ MOST_R }
+    requires near { (next ≤ at + 15) × (at ≤ next + 15) }
+    ensures { result ≡ along axis (pos next -ℤ pos at) }
+{
+    let by = step(at, next);
+    difference(axis, by)
+}
+
+/// Adds the least moves along an axis from one component to another. There is room for them.
+pub fn push_leg(commands: &mut Vec<Command>, axis: Axis, from: u16, to: u16)
+    requires from { from ≤ MOST_R }
+    requires to { to ≤ MOST_R }
+    requires room { vec_len commands.old + moves_of from to ≤ vec_capacity commands.old }
+    ensures leg { (moves : List CommandOf) × IsLeastLeg axis from to moves × (commands.new.items ≡ commands.old.items ++ moves) }
+    ensures len { vec_len commands.new ≡ vec_len commands.old + moves_of from to }
+    ensures capacity { vec_capacity commands.new ≡ vec_capacity commands.old }
+{
+    let mut at = from;
+    while at != to {
+        let next = next_stop(at, to);
+        commands.push_reserved(Command::SMove(towards(axis, at, next)));
+        at = next;
+    }
+}

@@ -1,0 +1,12 @@
+//! Plans that are written step by step, each accepted by the definitions (docs/FORMATS.md, "Rules").
+//!
+//! A planner meets the conditions of a [`Tape`]'s calls and gets a trace that runs: no step is judged here a second time.
+#![tactic(auto)]
+
+mod axis;
+mod costs;
+mod tape;
+mod voxels;
+
+pub use tape::{Plan, Tape};
+pub use voxels::is_full;

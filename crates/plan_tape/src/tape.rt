@@ -1,0 +1,300 @@
+//! The tape.
+ghost use Rattle.std.specs.Prelude.{◌≡◌, ◌+◌, ◌*◌, ◌++◌, ◌<◌, ◌≤◌, ◌+ℤ◌, ◌≤ℤ◌, All, ◌∷◌, [], IfOk, OnOk, OnErr, cond, length, neg_ℤ, negsuc, pos, true, false, vec_capacity, vec_len};
+ghost use Rattle.vox_geom.specs.declared.coordinate.Coord.{Coord as Coordinate};
+ghost use Rattle.vox_geom.specs.Space.{IsInSpace};
+ghost use Rattle.nano_spec.specs.Grounded.{FirstUngrounded};
+ghost use Rattle.nano_spec.specs.Matrix.{Matrix as MatrixValue, is_full as is_full_of};
+ghost use Rattle.nano_spec.specs.Profile.{full_profile};
+ghost use Rattle.nano_spec.specs.State.{origin};
+ghost use Rattle.nano_spec.specs.Step.{flipped};
+ghost use Rattle.vox_planes.specs.Voxel.{IsWhole, with_voxel};
+ghost use Rattle.bot_crew.specs.Crew.{IsCrew};
+ghost use Rattle.plan_tape.specs.Leg.{AreVoidTo, MayMove, Moves, moves_to as moves_to_of};
+ghost use Rattle.plan_tape.specs.Progress.{AreAlike, IsAccepted, IsAllowed, IsBounded, IsHeld, IsReachable, Writes, beside as beside_of, spot, starting, upkeep_of_step};
+
+use crate::axis::{Axis, cost_of_way, moves_to, push_leg};
+use crate::costs::{charged, upkeep_of_steps};
+use crate::voxels::is_full;
+use bot_crew::Crew;
+use nano_spec::{Command, CommandList, Harmonics, Profile};
+use std::alloc::Global;
+use std::marker::Model;
+use vox_geom::{Coord, Diff, Memory, Near};
+use vox_planes::Planes;
+
+/// A plan: its commands, and the energy and the number of steps with which the definitions accept them.
+#[derive(Drop)]
+pub struct Plan {
+    pub commands: CommandList,
+    pub energy: i64,
+    pub steps: u32,
+}
+
+/// A plan in the making: the source, the commands so far, and the state that they reach, every step accepted. A call that
+/// is refused memory leaves the tape as it was.
+#[derive(Drop)]
+pub struct Tape {
+    source: Planes,
+    commands: Vec<Command>,
+    matrix: Planes,
+    harmonics: Harmonics,
+    crew: Crew,
+    energy: i64,
+    profile: Profile,
+    steps: u32,
+}
+
+impl Model for Tape {
+    ghost use Rattle.plan_tape.specs.Progress.{Progress, IsReached};
+
+    ghost Value = { Progress };
+
+    ghost view = { λ t. record { source = t.source; commands = t.commands.items; matrix = t.matrix; harmonics = t.harmonics; bots = t.crew; energy = t.energy; profile = t.profile; steps = t.steps } };
+
+    ghost invariant = { λ t. IsReached (record { source = t.source; commands = t.commands.items; matrix = t.matrix; harmonics = t.harmonics; bots = t.crew; energy = t.energy; profile = t.profile; steps = t.steps }) };
+}
+
+/// Takes room for so many more commands.
+fn take_room(commands: &mut Vec<Command>, count: u32) -> Result<(), Memory>
+    ensures items { commands.new.items ≡ commands.old.items }
+    ensures len { vec_len commands.new ≡ vec_len commands.old }
+    ensures room { OnOk result (vec_len commands.old + count ≤ vec_capacity commands.new) }
+{
+    commands.reserve(count as usize)?;
+    Ok(())
+}
+
+/// Adds a command. Where there is no memory, the commands stay as they were.
+fn write(commands: &mut Vec<Command>, command: Command) -> Result<(), Memory>
+    ensures ok { OnOk result (commands.new.items ≡ commands.old.items ++ command ∷ []) }
+    ensures err { OnErr result (commands.new.items ≡ commands.old.items) }
+{
+    take_room(commands, 1)?;
+    commands.push_reserved(command);
+    Ok(())
+}
+
+impl Tape {
+    /// The tape before the first command, with the profile of the contest. The source is grounded.
+    pub fn start(alloc: Global, source: Planes) -> Result<Tape, Memory>
+        requires grounded { FirstUngrounded source None }
+        ensures { IfOk result (λ t. t ≡ starting source full_profile) }
+    {
+        Tape::start_as(alloc, source, Profile::full())
+    }
+
+    /// The tape before the first command, with this profile. The source is grounded.
+    pub fn start_as(alloc: Global, source: Planes, profile: Profile) -> Result<Tape, Memory>
+        requires grounded { FirstUngrounded source None }
+        requires seeds { profile.seeds ≤ 39 }
+        ensures { IfOk result (λ t. t ≡ starting source profile) }
+    {
+        let matrix = source.copy(alloc)?;
+        Ok(Tape {
+            source,
+            commands: Vec::new(alloc),
+            matrix,
+            harmonics: Harmonics::Low,
+            crew: Crew::opening(profile),
+            energy: 0,
+            profile,
+            steps: 0,
+        })
+    }
+
+    /// The matrix.
+    pub fn matrix(&self) -> &Planes
+        ensures value { result.now ≡ self.now.matrix }
+        ensures whole { IsWhole self.now.matrix }
+    {
+        let _ = self.matrix.resolution();
+        &self.matrix
+    }
+
+    /// The active bots.
+    pub fn crew(&self) -> &Crew
+        ensures value { result.now ≡ self.now.bots }
+        ensures crew { IsCrew self.now.bots }
+        ensures within { All (λ b. IsInSpace self.now.matrix.resolution b.pos) self.now.bots }
+    {
+        let _ = self.crew.bots();
+        &self.crew
+    }
+
+    /// The harmonics.
+    pub fn harmonics(&self) -> Harmonics
+        ensures value { result ≡ self.now.harmonics }
+        ensures held { IsHeld self.now.harmonics self.now.matrix }
+    {
+        self.harmonics
+    }
+
+    /// The energy so far.
+    pub fn energy(&self) -> i64
+        ensures { result ≡ self.now.energy }
+    {
+        self.energy
+    }
+
+    /// How many steps were made: at most 2^30.
+    pub fn steps_done(&self) -> u32
+        ensures value { result ≡ self.now.steps }
+        ensures most { result ≤ 1073741824 }
+    {
+        self.steps
+    }
+
+    /// Where the only bot is.
+    fn spot(&self) -> Coord
+        requires { length self.now.bots ≡ 1 }
+        ensures value { result ≡ spot self.now.bots }
+        ensures within { IsInSpace self.now.matrix.resolution result }
+    {
+        let bot = self.crew.bots()[0];
+        bot.pos
+    }
+
+    /// The coordinate that the difference leads to from the only bot.
+    fn beside(&self, d: Diff) -> Coord
+        requires alone { length self.now.bots ≡ 1 }
+        requires reachable { IsReachable self.now d }
+        ensures value { result ≡ beside_of self.now d }
+        ensures within { IsInSpace self.now.matrix.resolution result }
+    {
+        let at = self.spot();
+        let Some(beside) = at.plus(d, self.matrix.resolution()) else {
+            unreachable!()
+        };
+        beside
+    }
+
+    /// The energy after so many more steps of the only bot, which cost this together beside their upkeep.
+    fn energy_after(&self, count: u32, cost: i64) -> i64
+        requires alone { length self.now.bots ≡ 1 }
+        requires limit { self.now.steps + count ≤ 1073741824 }
+        requires low { neg_ℤ (pos (12 * count)) ≤ℤ cost }
+        requires high { cost ≤ℤ pos (30 * count) }
+        ensures value { result ≡ (self.now.energy +ℤ pos (count * upkeep_of_step self.now)) +ℤ cost }
+        ensures bounded { IsBounded result (self.now.steps + count) }
+    {
+        let upkeep = upkeep_of_steps(count, self.matrix.resolution(), self.harmonics);
+        charged(self.energy, self.steps, count, upkeep, cost)
+    }
+
+    /// The only bot changes the harmonics. Where they are Low then, each full voxel is grounded.
+    pub fn flip(&mut self) -> Result<(), Memory>
+        requires alone { length self.old.bots ≡ 1 }
+        requires allowed { IsAllowed self.old Command.Flip }
+        requires held { IsHeld (flipped self.old.harmonics) self.old.matrix }
+        requires limit { self.old.steps < 1073741824 }
+        ensures ok { OnOk result (Writes self.old self.new Command.Flip self.old.matrix (flipped self.old.harmonics) self.old.bots (pos 0)) }
+        ensures err { OnErr result (self.new ≡ self.old) }
+    {
+        let energy = self.energy_after(1, 0);
+        write(&mut self.commands, Command::Flip)?;
+        self.energy = energy;
+        self.harmonics = match self.harmonics {
+            Harmonics::Low => Harmonics::High,
+            Harmonics::High => Harmonics::Low,
+        };
+        self.steps += 1;
+        Ok(())
+    }
+
+    /// The only bot fills the voxel that the difference leads to. Under Low, each full voxel is grounded then.
+    pub fn fill(&mut self, d: Near) -> Result<(), Memory>
+        requires alone { length self.old.bots ≡ 1 }
+        requires allowed { IsAllowed self.old (Command.Fill d) }
+        requires reachable { IsReachable self.old d }
+        requires held { IsHeld self.old.harmonics (with_voxel self.old.matrix (beside_of self.old d) true) }
+        requires limit { self.old.steps < 1073741824 }
+        ensures ok { OnOk result (Writes self.old self.new (Command.Fill d) (with_voxel self.old.matrix (beside_of self.old d) true) self.old.harmonics self.old.bots (cond (is_full_of self.old.matrix (beside_of self.old d)) (pos 6) (pos 12))) }
+        ensures err { OnErr result (self.new ≡ self.old) }
+    {
+        let at = self.beside(d.diff());
+        let cost = if is_full(self.matrix(), at) { 6 } else { 12 };
+        let energy = self.energy_after(1, cost);
+        write(&mut self.commands, Command::Fill(d))?;
+        self.energy = energy;
+        self.matrix.set(at, true);
+        self.steps += 1;
+        Ok(())
+    }
+
+    /// The only bot voids the voxel that the difference leads to. Under Low, each full voxel is grounded then.
+    pub fn void(&mut self, d: Near) -> Result<(), Memory>
+        requires alone { length self.old.bots ≡ 1 }
+        requires allowed { IsAllowed self.old (Command.Void d) }
+        requires reachable { IsReachable self.old d }
+        requires held { IsHeld self.old.harmonics (with_voxel self.old.matrix (beside_of self.old d) false) }
+        requires limit { self.old.steps < 1073741824 }
+        ensures ok { OnOk result (Writes self.old self.new (Command.Void d) (with_voxel self.old.matrix (beside_of self.old d) false) self.old.harmonics self.old.bots (cond (is_full_of self.old.matrix (beside_of self.old d)) (negsuc 11) (pos 3))) }
+        ensures err { OnErr result (self.new ≡ self.old) }
+    {
+        let at = self.beside(d.diff());
+        let cost = if is_full(self.matrix(), at) { -12 } else { 3 };
+        let energy = self.energy_after(1, cost);
+        write(&mut self.commands, Command::Void(d))?;
+        self.energy = energy;
+        self.matrix.set(at, false);
+        self.steps += 1;
+        Ok(())
+    }
+
+    /// The only bot goes to a coordinate by moves along x, then y, then z, as few along each as can be. The three ways are void.
+    pub fn go(&mut self, to: Coord) -> Result<(), Memory>
+        requires alone { length self.old.bots ≡ 1 }
+        requires allowed { MayMove self.old }
+        requires within { IsInSpace self.old.matrix.resolution to }
+        requires ways { AreVoidTo self.old.matrix (spot self.old.bots) to }
+        requires limit { self.old.steps + moves_to_of (spot self.old.bots) to ≤ 1073741824 }
+        ensures ok { OnOk result (Moves self.old self.new to) }
+        ensures err { OnErr result (self.new ≡ self.old) }
+    {
+        let from = self.spot();
+        let bid = self.crew.bots()[0].bid;
+        let count = moves_to(from, to);
+        let energy = self.energy_after(count, cost_of_way(from, to));
+        take_room(&mut self.commands, count)?;
+        push_leg(&mut self.commands, Axis::X, from.x, to.x);
+        push_leg(&mut self.commands, Axis::Y, from.y, to.y);
+        push_leg(&mut self.commands, Axis::Z, from.z, to.z);
+        self.energy = energy;
+        self.crew.move_to(bid, to);
+        self.steps += count;
+        Ok(())
+    }
+
+    /// The only bot halts at the origin, under Low.
+    pub fn halt(&mut self) -> Result<(), Memory>
+        requires alone { length self.old.bots ≡ 1 }
+        requires allowed { IsAllowed self.old Command.Halt }
+        requires home { spot self.old.bots ≡ origin }
+        requires low { self.old.harmonics ≡ Harmonics.Low }
+        requires limit { self.old.steps < 1073741824 }
+        ensures ok { OnOk result (Writes self.old self.new Command.Halt self.old.matrix self.old.harmonics [] (pos 0)) }
+        ensures err { OnErr result (self.new ≡ self.old) }
+    {
+        let energy = self.energy_after(1, 0);
+        write(&mut self.commands, Command::Halt)?;
+        self.energy = energy;
+        self.crew.halt();
+        self.steps += 1;
+        Ok(())
+    }
+
+    /// The plan. The definitions accept it for every target that has the tape's voxels. It takes no memory.
+    pub fn finish(self) -> Plan
+        requires { self.bots ≡ [] }
+        ensures commands { result.commands ≡ self.commands }
+        ensures energy { result.energy ≡ self.energy }
+        ensures steps { result.steps ≡ self.steps }
+        ensures accepted { (target : MatrixValue) → AreAlike self.matrix target → IsAccepted self.source target result.commands self.profile result.energy result.steps }
+    {
+        Plan {
+            commands: CommandList::from_vec(self.commands),
+            energy: self.energy,
+            steps: self.steps,
+        }
+    }
+}

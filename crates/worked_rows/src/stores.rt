@@ -1,0 +1,206 @@
+//! Words that store a file.
+use crate::table::{Row, answer, assert_rows, depot, words};
+use nanobot_app::Status;
+use std::alloc::Global;
+use std::process::Abort;
+use std::test::Fail;
+use vox_depot::MemorySink;
+
+/// Words over the file `B`, the line that is printed, and the name and the bytes of the file that is stored.
+struct Storing {
+    words: &'static str,
+    bytes: &'static [u8],
+    printed: &'static str,
+    name: &'static str,
+    stored: &'static [u8],
+}
+
+/// Four commands as text, as a trace, and as text that nobody would print.
+const TEXT: &[u8] = b"SMove <1,0,0>\nFill <0,0,1>\nSMove <-1,0,0>\nHalt\n";
+
+const TRACE: &[u8] = &[0x14, 0x10, 0x73, 0x14, 0x0E, 0xFF];
+
+const LOOSE_TEXT: &[u8] =
+    b"# four commands\r\n\r\n\tSMove < 1 ,0,\t00>\r\n  \nFill<0,0,1> # beside\nSMove <-1,0,0>\t\r\nHalt";
+
+const STORING: [Storing; 9] = [
+    Storing {
+        words: "asm B C",
+        bytes: TEXT,
+        printed: "commands 4 bytes 6\n",
+        name: "C",
+        stored: TRACE,
+    },
+    Storing {
+        words: "asm B B",
+        bytes: LOOSE_TEXT,
+        printed: "commands 4 bytes 6\n",
+        name: "B",
+        stored: TRACE,
+    },
+    Storing {
+        words: "asm B C",
+        bytes: b"# nothing",
+        printed: "commands 0 bytes 0\n",
+        name: "C",
+        stored: &[],
+    },
+    Storing {
+        words: "dis B C",
+        bytes: TRACE,
+        printed: "commands 4 bytes 47\n",
+        name: "C",
+        stored: TEXT,
+    },
+    Storing {
+        words: "make 0 4 C",
+        bytes: &[],
+        printed: "model resolution 4 full 3\n",
+        name: "C",
+        stored: &[0x04, 0x00, 0x00, 0x02, 0x00, 0x06, 0x00, 0x00, 0x00],
+    },
+    Storing {
+        words: "make 0 3 C",
+        bytes: &[],
+        printed: "model resolution 3 full 2\n",
+        name: "C",
+        stored: &[0x03, 0x00, 0x24, 0x00, 0x00],
+    },
+    Storing {
+        words: "make 1 3 C",
+        bytes: &[],
+        printed: "model resolution 3 full 0\n",
+        name: "C",
+        stored: &[0x03, 0x00, 0x00, 0x00, 0x00],
+    },
+    Storing {
+        words: "make 4294967295 1 B",
+        bytes: &[],
+        printed: "model resolution 1 full 0\n",
+        name: "B",
+        stored: &[0x01, 0x00],
+    },
+    Storing {
+        words: "dis B C",
+        bytes: &[],
+        printed: "commands 0 bytes 0\n",
+        name: "C",
+        stored: &[],
+    },
+];
+
+/// Texts, traces and words that are refused.
+const REFUSED: [Row; 19] = [
+    (
+        "asm B C",
+        b"Jump\n",
+        Status::Text,
+        "text 2 UnknownWord line 1\n",
+    ),
+    (
+        "asm B C",
+        b"Fill <0,0>\n",
+        Status::Text,
+        "text 3 Shape line 1\n",
+    ),
+    (
+        "asm B C",
+        b"Fill <1,1,1>\n",
+        Status::Text,
+        "text 4 Range line 1\n",
+    ),
+    (
+        "asm B C",
+        b"Fission <0,0,1> 256\n",
+        Status::Text,
+        "text 4 Range line 1\n",
+    ),
+    (
+        "asm B C",
+        b"Wait\n\xC3",
+        Status::Text,
+        "text 1 NotAscii line 2\n",
+    ),
+    ("dis B C", &[0x04], Status::Trace, "trace bad at 0\n"),
+    ("dis B C", &[0xFF, 0x14], Status::Trace, "trace cut at 1\n"),
+    ("dis C B", &[], Status::Depot, ""),
+    ("asm C B", &[], Status::Depot, ""),
+    ("make 01 3 C", &[], Status::Words, "words not understood\n"),
+    ("make +1 3 C", &[], Status::Words, "words not understood\n"),
+    ("make 0 03 C", &[], Status::Words, "words not understood\n"),
+    ("make 0 0 C", &[], Status::Words, "words not understood\n"),
+    ("make 0 401 C", &[], Status::Words, "words not understood\n"),
+    (
+        "make 4294967296 3 C",
+        &[],
+        Status::Words,
+        "words not understood\n",
+    ),
+    ("make 0 3 -", &[], Status::Words, "words not understood\n"),
+    ("asm - C", TEXT, Status::Words, "words not understood\n"),
+    ("asm B -", TEXT, Status::Words, "words not understood\n"),
+    ("dis B -", TRACE, Status::Words, "words not understood\n"),
+];
+
+/// The words over the file `B`, with these calls of the depot and the sink failing, answer the status, print the line and
+/// leave the file of the name with these bytes.
+fn assert_stored(
+    rt: &impl Abort,
+    alloc: Global,
+    case: &Storing,
+    depot_fails: &[u64],
+    sink_fails: &[u64],
+    status: Status,
+) -> Result<(), Fail> {
+    let mut depot = depot(alloc, depot_fails)?;
+    depot.put_file("B", case.bytes)?;
+    let mut out = MemorySink::new(alloc, sink_fails.to_vec(alloc)?);
+    let words = words(alloc, case.words)?;
+    let answered = answer(alloc, &words, &mut depot, &mut out);
+    assert_eq!(rt; answered, status, "at {}", case.words);
+    assert_eq!(rt; out.bytes(), case.printed.as_bytes(), "at {}", case.words);
+    assert_eq!(rt;
+        depot.file(case.name),
+        Some(case.stored),
+        "at {}",
+        case.words
+    );
+    Ok(())
+}
+
+#[test]
+fn files_that_are_stored(rt: HostRuntime) -> Result<(), Fail> {
+    for case in &STORING {
+        assert_stored(&rt, rt.alloc(), case, &[], &[], Status::Done)?;
+    }
+    Ok(())
+}
+
+#[test]
+fn what_is_refused_stores_nothing(rt: HostRuntime) -> Result<(), Fail> {
+    assert_rows(&rt, rt.alloc(), &REFUSED)
+}
+
+/// A line of which half is written: the file stands.
+const HALF: Storing = Storing {
+    words: "asm B C",
+    bytes: TEXT,
+    printed: "commands ",
+    name: "C",
+    stored: TRACE,
+};
+
+/// A file that could not be stored: there is no line, and the other files stand.
+const LOST: Storing = Storing {
+    words: "dis B C",
+    bytes: TRACE,
+    printed: "",
+    name: "B",
+    stored: TRACE,
+};
+
+#[test]
+fn stores_and_lines_that_fail(rt: HostRuntime) -> Result<(), Fail> {
+    assert_stored(&rt, rt.alloc(), &HALF, &[], &[0], Status::Sink)?;
+    assert_stored(&rt, rt.alloc(), &LOST, &[2], &[], Status::Depot)
+}
