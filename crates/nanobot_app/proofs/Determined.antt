@@ -1,7 +1,7 @@
 -- The answer to the words is one only, and what follows from it.
 use Rattle.std.proofs.Common.{◌≡◌, ◌⊎◌, ◌==◌, ℕ, List, [], ◌∷◌, Option, Some, None, Bool, true, false, codes, decimal, refl, arith, sym, ap, ◌∙◌, subst, inl, inr, nat_lt, length}
 use Rattle.std.specs.Str.{bytes_eq}
-use Rattle.std.specs.Prelude.{IsFalse, IsTrue, Result, Ok, Err, MatchOption, MatchBool, IfSome, IsSomeAnd}
+use Rattle.std.specs.Prelude.{All, IsFalse, IsTrue, Result, Ok, Err, MatchOption, MatchBool, IfSome, IsSomeAnd}
 use Rattle.std.proofs.lemmas.Fmt.{decimal_injective}
 use Rattle.std.specs.Io.KnownBytes.{append_known}
 use Rattle.nano_spec.specs.declared.commands.Command.{Command}
@@ -11,7 +11,7 @@ use Rattle.nano_spec.specs.Cutting.{Decoding, NoTrace, BadAt, CutAt}
 use Rattle.nano_spec.specs.Legal.{Legality, NotLegal}
 use Rattle.nano_spec.specs.Matrix.{Matrix, empty}
 use Rattle.nano_spec.specs.Model.{NoModel, model}
-use Rattle.nano_spec.specs.Profile.{full_profile}
+use Rattle.nano_spec.specs.Profile.{full_profile, light_profile}
 use Rattle.nano_spec.specs.Reading.{FaultyLine, read}
 use Rattle.nano_spec.specs.Verdict.{VerdictOf}
 use Rattle.vox_depot.specs.Files.{Files, content}
@@ -20,11 +20,11 @@ use Rattle.nanobot_app.specs.declared.report.Who.{Who}
 use Rattle.nanobot_app.specs.declared.report.Who.TheVariants as who
 use Rattle.nanobot_app.specs.declared.status.Status.{Status}
 use Rattle.nanobot_app.specs.declared.status.Status.TheVariants as is
-use Rattle.nanobot_app.specs.Answer.{Answer, AnswerOf, Judged, OfBytes, OfDecoding, OfReading, OfRun, OfText, OfTrace, Reply, WithBoth, WithFile, WithModel, WithSide, dis_limit, run_limit, text_limit}
+use Rattle.nanobot_app.specs.Answer.{Answer, AnswerOf, AnswerOfRun, Judged, OfBytes, OfDecoding, OfReading, OfRun, OfText, OfTrace, Reply, WithBoth, WithFile, WithModel, WithSide, dis_limit, run_limit, text_limit}
 use Rattle.nanobot_app.specs.Outcome.{DepotRose, IsAnswer, LacksFile, Outcome, Outside, SinkRose}
 use Rattle.nanobot_app.specs.Reading.{gone, reply_of}
 use Rattle.nanobot_app.specs.Report.{faulty_text, not_legal, no_model, of_verdict}
-use Rattle.nanobot_app.specs.Rows.{Row, asm, check, dis, make, run, words_of, side_word, IsRow}
+use Rattle.nanobot_app.specs.Rows.{Row, asm, check, dis, light, make, run, words_of, side_word, IsName, IsRow, with_side}
 use Rattle.nanobot_app.proofs.Parsed.{first_named, same_side, second_named}
 use Rattle.nanobot_app.proofs.Told.{if_some}
 
@@ -47,16 +47,27 @@ same_asm x b x' b' e = cc
 same_dis : (b x b' x' : List ℕ) → words_of (dis b x) ≡ words_of (dis b' x') → dis b x ≡ dis b' x'
 same_dis b x b' x' e = cc
 
+-- a source, a target and a trace are those of their words
+same_operands : (f : Option (List ℕ) → Option (List ℕ) → List ℕ → Row) (s t s' t' : Option (List ℕ)) (b b' : List ℕ) → All IsName (with_side s (with_side t (b ∷ []))) → All IsName (with_side s' (with_side t' (b' ∷ [])))
+    → side_word s ≡ side_word s' → side_word t ≡ side_word t' → b ≡ b' → f s t b ≡ f s' t' b'
+same_operands f s t s' t' b b' h h' es et eb =
+    let ps = same_side s s' (first_named s t b h) (first_named s' t' b' h') es in
+    let pt = same_side t t' (second_named s t b h) (second_named s' t' b' h') et in
+    λ i. f (ps i) (pt i) (eb i)
+
+run_light : (s t s' t' : Option (List ℕ)) (b b' : List ℕ) → words_of (run s t b) ≡ words_of (light s' t' b') → ⊥
+run_light s t s' t' b b' e = cc
+
 pub row_once : (words : List (List ℕ)) (row row' : Row) → IsRow words row → IsRow words row' → row ≡ row'
 row_once words (check m) (check m') h h' = check_check m m' (sym h.written ∙ h'.written)
 row_once words (run s t b) (run s' t' b') h h' =
     let e : codes "run" ∷ side_word s ∷ side_word t ∷ b ∷ [] ≡ codes "run" ∷ side_word s' ∷ side_word t' ∷ b' ∷ [] = sym h.written ∙ h'.written in
-    let es : side_word s ≡ side_word s' = cc in
-    let et : side_word t ≡ side_word t' = cc in
-    let eb : b ≡ b' = cc in
-    let ps = same_side s s' (first_named s t b h.named) (first_named s' t' b' h'.named) es in
-    let pt = same_side t t' (second_named s t b h.named) (second_named s' t' b' h'.named) et in
-    λ i. run (ps i) (pt i) (eb i)
+    same_operands run s t s' t' b b' h.named h'.named (cc) (cc) (cc)
+row_once words (light s t b) (light s' t' b') h h' =
+    let e : codes "run" ∷ codes "light" ∷ side_word s ∷ side_word t ∷ b ∷ [] ≡ codes "run" ∷ codes "light" ∷ side_word s' ∷ side_word t' ∷ b' ∷ [] = sym h.written ∙ h'.written in
+    same_operands light s t s' t' b b' h.named h'.named (cc) (cc) (cc)
+row_once words (run s t b) (light s' t' b') h h' = absurd (run_light s t s' t' b b' (sym h.written ∙ h'.written))
+row_once words (light s t b) (run s' t' b') h h' = absurd (run_light s' t' s t b' b (sym h'.written ∙ h.written))
 row_once words (asm x b) (asm x' b') h h' = same_asm x b x' b' (sym h.written ∙ h'.written)
 row_once words (dis b x) (dis b' x') h h' = same_dis b x b' x' (sym h.written ∙ h'.written)
 row_once words (make n r m) (make n' r' m') h h' =
@@ -151,10 +162,14 @@ module _ (legality : LegalityLaw) (decoding : DecodingLaw) (verdicts : VerdictLa
         choice_once (nat_lt text_limit (length bytes)) (λ r. r ≡ reply_of files (report.TextLong text_limit)) (OfReading files (read bytes) p)
         (same_reply (reply_of files (report.TextLong text_limit))) (reading_once (read bytes) p f)
 
+    run_answer_once : (profile : Profile) (source target : Option (List ℕ)) (trace : List ℕ) → Once (AnswerOfRun profile source target trace files)
+    run_answer_once profile source target trace =
+        side_once who.Source source _ (λ a. side_once who.Target target _ (λ b. both_once a b _ (λ s t. file_once trace _ (λ bytes. trace_once run_limit bytes _ (λ commands. run_once profile s t commands)))))
+
     row_answer_once : (row : Row) → Once (AnswerOf row files)
     row_answer_once (check name) = model_once who.Model name _ (λ m. same_reply _)
-    row_answer_once (run source target trace) =
-        side_once who.Source source _ (λ a. side_once who.Target target _ (λ b. both_once a b _ (λ s t. file_once trace _ (λ bytes. trace_once run_limit bytes _ (λ commands. run_once full_profile s t commands)))))
+    row_answer_once (run source target trace) = run_answer_once full_profile source target trace
+    row_answer_once (light source target trace) = run_answer_once light_profile source target trace
     row_answer_once (asm text trace) = file_once text _ (λ bytes. text_once bytes _ (λ commands. same_reply _))
     row_answer_once (dis trace text) = file_once trace _ (λ bytes. trace_once dis_limit bytes _ (λ commands. same_reply _))
     row_answer_once (make number resolution name) = same_reply _

@@ -16,9 +16,7 @@ use Rattle.nanobot_app.specs.declared.report.Who.{Who}
 use Rattle.nanobot_app.specs.declared.stop.Stop.{Stop}
 use Rattle.nanobot_app.specs.declared.stop.Stop.TheVariants as stop
 use Rattle.nanobot_app.specs.declared.report.Who.TheVariants as who
-use Rattle.nano_spec.specs.Profile.{full_profile}
-use Rattle.nanobot_app.specs.Rows.{run}
-use Rattle.nanobot_app.specs.Answer.{AnswerOf, Answers, run_limit, OfBytes, OfDecoding, OfRun, OfTrace, Reply, WithBoth, WithFile, WithModel, WithSide}
+use Rattle.nanobot_app.specs.Answer.{AnswerOfRun, Answers, run_limit, OfBytes, OfDecoding, OfRun, OfTrace, Reply, WithBoth, WithFile, WithModel, WithSide}
 use Rattle.nanobot_app.specs.Reading.{AreBoth, AreUnlike, Ends, IsModelOf, IsSide, Lacks, LacksSide, OnBytes, OnCommands, OnDecoding, OnFile, OnTrace, Reads, RefusesBytes, RefusesFile, RefusesSide, gone, reply_of, tells_nothing}
 use Rattle.nanobot_app.proofs.Told.{weaker}
 
@@ -147,31 +145,31 @@ both_told : (P Q : Files → Type 0) (told : Option Files) → IfSome told P →
 both_told P Q None a b = tt
 both_told P Q (Some files) a b = (a, b)
 
-module _ (told : Option Files) (source target : Option (List ℕ)) (trace : List ℕ) (a : Option Matrix) (first : IfSome told (λ files. IsSide source files a)) where
+module _ (profile : Profile) (told : Option Files) (source target : Option (List ℕ)) (trace : List ℕ) (a : Option Matrix) (first : IfSome told (λ files. IsSide source files a)) where
   -- the target stops the call
   pub target_stops : (later : Option Files) (before between now : ℕ) (s : Stop) → later ≡ told → before ≤ between
-      → Reads {A = Option Matrix} later (Rose between now) (IsSide target) (RefusesSide who.Target target) (LacksSide target) (Err s) → Ends (AnswerOf (run source target trace)) told (Rose before now) (Err s)
+      → Reads {A = Option Matrix} later (Rose between now) (IsSide target) (RefusesSide who.Target target) (LacksSide target) (Err s) → Ends (AnswerOfRun profile source target trace) told (Rose before now) (Err s)
   target_stops later before between now s same l reads =
-      stops Report (λ files r. AnswerOf (run source target trace) files (reply_of files r)) (AnswerOf (run source target trace)) told (Rose between now) (Rose before now) (IsSide target) (RefusesSide who.Target target) (LacksSide target) s
+      stops Report (λ files r. AnswerOfRun profile source target trace files (reply_of files r)) (AnswerOfRun profile source target trace) told (Rose between now) (Rose before now) (IsSide target) (RefusesSide who.Target target) (LacksSide target) s
       (subst (λ (o : Option Files). Reads {A = Option Matrix} o (Rose between now) (IsSide target) (RefusesSide who.Target target) (LacksSide target) (Err s)) same reads)
       (rose_since before between now l)
       (weaker told (λ files is. ((λ r h. side_given who.Source files _ source a _ is (side_refused who.Target files _ target r h)), (λ h. side_given who.Source files _ source a _ is (side_lacks who.Target files _ target h)))) first)
 
   module _ (b : Option Matrix) (second : IfSome told (λ files. IsSide target files b)) where
     -- the resolutions differ, or there is no memory
-    pub both_stop : (rose : Type 0) (s : Stop) → ((r : Report) → s ≡ stop.Told r → AreUnlike a b r) → (s ≡ stop.Depot → ⊥) → Ends (AnswerOf (run source target trace)) told rose (Err s)
+    pub both_stop : (rose : Type 0) (s : Stop) → ((r : Report) → s ≡ stop.Told r → AreUnlike a b r) → (s ≡ stop.Depot → ⊥) → Ends (AnswerOfRun profile source target trace) told rose (Err s)
     both_stop rose (stop.Told r) unlike depot = weaker told (λ files is. side_given who.Source files _ source a _ is.0 (side_given who.Target files _ target b _ is.1 (both_unlike files _ a b r (unlike r refl)))) (both_told _ _ told first second)
     both_stop rose stop.Depot unlike depot = absurd (depot refl)
     both_stop rose stop.Memory unlike depot = tt
 
     -- the trace
     pub run_ends : (later : Option Files) (before between now : ℕ) (s t : Matrix) (r : Result Report Stop) → AreBoth a b s t → later ≡ told → before ≤ between
-        → Reads later (Rose between now) (OnFile run_limit full_profile s t trace) tells_nothing (Lacks trace) r → Ends (AnswerOf (run source target trace)) told (Rose before now) r
+        → Reads later (Rose between now) (OnFile run_limit profile s t trace) tells_nothing (Lacks trace) r → Ends (AnswerOfRun profile source target trace) told (Rose before now) r
     run_ends later before between now s t (Ok r) are same l reads =
-        let here = subst (λ (o : Option Files). IfSome o (λ files. OnFile run_limit full_profile s t trace files r)) same reads in
-        weaker told (λ files is. side_given who.Source files _ source a _ is.0.0 (side_given who.Target files _ target b _ is.0.1 (both_given files _ a b s t _ are (trace_given run_limit full_profile files s t trace r is.1)))) (both_told _ _ told (both_told _ _ told first second) here)
+        let here = subst (λ (o : Option Files). IfSome o (λ files. OnFile run_limit profile s t trace files r)) same reads in
+        weaker told (λ files is. side_given who.Source files _ source a _ is.0.0 (side_given who.Target files _ target b _ is.0.1 (both_given files _ a b s t _ are (trace_given run_limit profile files s t trace r is.1)))) (both_told _ _ told (both_told _ _ told first second) here)
     run_ends later before between now s t (Err x) are same l reads =
-        stops Report (λ files r. AnswerOf (run source target trace) files (reply_of files r)) (AnswerOf (run source target trace)) told (Rose between now) (Rose before now) (OnFile run_limit full_profile s t trace) tells_nothing (Lacks trace) x
-        (subst (λ (o : Option Files). Reads o (Rose between now) (OnFile run_limit full_profile s t trace) tells_nothing (Lacks trace) (Err x)) same reads)
+        stops Report (λ files r. AnswerOfRun profile source target trace files (reply_of files r)) (AnswerOfRun profile source target trace) told (Rose between now) (Rose before now) (OnFile run_limit profile s t trace) tells_nothing (Lacks trace) x
+        (subst (λ (o : Option Files). Reads o (Rose between now) (OnFile run_limit profile s t trace) tells_nothing (Lacks trace) (Err x)) same reads)
         (rose_since before between now l)
-        (weaker told (λ files is. ((λ r h. absurd h), (λ h. side_given who.Source files _ source a _ is.0 (side_given who.Target files _ target b _ is.1 (both_given files _ a b s t _ are (trace_lacks run_limit full_profile files s t trace h)))))) (both_told _ _ told first second))
+        (weaker told (λ files is. ((λ r h. absurd h), (λ h. side_given who.Source files _ source a _ is.0 (side_given who.Target files _ target b _ is.1 (both_given files _ a b s t _ are (trace_lacks run_limit profile files s t trace h)))))) (both_told _ _ told first second))

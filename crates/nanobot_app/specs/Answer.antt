@@ -10,7 +10,7 @@ use Rattle.nano_spec.specs.Legal.{Legality, NotLegal}
 use Rattle.nano_spec.specs.Matrix.{Matrix, all_of, empty, is_full}
 use Rattle.nano_spec.specs.Model.{NoModel, model, written}
 use Rattle.nano_spec.specs.Printing.{print}
-use Rattle.nano_spec.specs.Profile.{full_profile}
+use Rattle.nano_spec.specs.Profile.{full_profile, light_profile}
 use Rattle.nano_spec.specs.Reading.{FaultyLine, read}
 use Rattle.nano_spec.specs.Spelling.{spellings}
 use Rattle.nano_spec.specs.Verdict.{VerdictOf}
@@ -22,7 +22,7 @@ use Rattle.nanobot_app.specs.declared.report.Who.TheVariants as who
 use Rattle.nanobot_app.specs.declared.status.Status.{Status}
 use Rattle.nanobot_app.specs.declared.status.Status.TheVariants as is
 use Rattle.nanobot_app.specs.Report.{faulty_text, line_of, no_model, not_legal, of_verdict, status_of, words_line}
-use Rattle.nanobot_app.specs.Rows.{Row, asm, check, dis, make, run, IsRow, IsInNoRow}
+use Rattle.nanobot_app.specs.Rows.{Row, asm, check, dis, light, make, run, IsRow, IsInNoRow}
 
 pub record Reply : Type 0 where
   pub status : Status
@@ -134,14 +134,19 @@ full_count m = count_by (is_full m) (all_of m)
 abbrev pub dis_limit : ℕ
 dis_limit = 50000000
 
-abbrev pub AnswerOf : Row → Answers
-AnswerOf (check name) files = WithModel who.Model files name (λ m. Tells (Legal m.resolution (full_count m)) files)
-AnswerOf (run source target trace) files =
+-- the verdict of a trace from a source to a target, by a profile
+abbrev pub AnswerOfRun : Profile → Option (List ℕ) → Option (List ℕ) → List ℕ → Answers
+AnswerOfRun profile source target trace files =
     WithSide who.Source files source (λ s.
     WithSide who.Target files target (λ t.
     WithBoth files s t (λ s t.
     WithFile files trace (λ bytes.
-    OfTrace run_limit files bytes (OfRun full_profile files s t)))))
+    OfTrace run_limit files bytes (OfRun profile files s t)))))
+
+abbrev pub AnswerOf : Row → Answers
+AnswerOf (check name) files = WithModel who.Model files name (λ m. Tells (Legal m.resolution (full_count m)) files)
+AnswerOf (run source target trace) files = AnswerOfRun full_profile source target trace files
+AnswerOf (light source target trace) files = AnswerOfRun light_profile source target trace files
 AnswerOf (asm text trace) files =
     WithFile files text (λ bytes.
     OfText files bytes (λ commands.

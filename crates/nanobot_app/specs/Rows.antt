@@ -6,6 +6,7 @@ use Rattle.vox_geom.specs.declared.TheConstants.{MOST_R}
 pub data Row : Type 0 where
   check : (model : List ℕ) → Row
   run : (source target : Option (List ℕ)) (trace : List ℕ) → Row
+  light : (source target : Option (List ℕ)) (trace : List ℕ) → Row
   asm : (text trace : List ℕ) → Row
   dis : (trace text : List ℕ) → Row
   make : (number resolution : ℕ) (model : List ℕ) → Row
@@ -19,6 +20,7 @@ side_word (Some name) = name
 abbrev pub words_of : Row → List (List ℕ)
 words_of (check model) = codes "check" ∷ model ∷ []
 words_of (run source target trace) = codes "run" ∷ side_word source ∷ side_word target ∷ trace ∷ []
+words_of (light source target trace) = codes "run" ∷ codes "light" ∷ side_word source ∷ side_word target ∷ trace ∷ []
 words_of (asm text trace) = codes "asm" ∷ text ∷ trace ∷ []
 words_of (dis trace text) = codes "dis" ∷ trace ∷ text ∷ []
 words_of (make number resolution model) = codes "make" ∷ decimal number ∷ decimal resolution ∷ model ∷ []
@@ -32,6 +34,7 @@ with_side (Some name) names = name ∷ names
 abbrev pub reads_of : Row → List (List ℕ)
 reads_of (check model) = model ∷ []
 reads_of (run source target trace) = with_side source (with_side target (trace ∷ []))
+reads_of (light source target trace) = with_side source (with_side target (trace ∷ []))
 reads_of (asm text trace) = text ∷ []
 reads_of (dis trace text) = trace ∷ []
 reads_of (make number resolution model) = []
@@ -40,6 +43,7 @@ reads_of (make number resolution model) = []
 abbrev pub stores_of : Row → Option (List ℕ)
 stores_of (check model) = None
 stores_of (run source target trace) = None
+stores_of (light source target trace) = None
 stores_of (asm text trace) = Some trace
 stores_of (dis trace text) = Some text
 stores_of (make number resolution model) = Some model
@@ -61,6 +65,7 @@ CanForge number resolution = (number < 2 ^ 32) × (1 ≤ resolution) × (resolut
 abbrev pub IsOfTable : Row → Type 0
 IsOfTable (check model) = ⊤
 IsOfTable (run source target trace) = HasName source target
+IsOfTable (light source target trace) = HasName source target
 IsOfTable (asm text trace) = ⊤
 IsOfTable (dis trace text) = ⊤
 IsOfTable (make number resolution model) = CanForge number resolution
@@ -68,6 +73,14 @@ IsOfTable (make number resolution model) = CanForge number resolution
 -- `-` is no name of a file
 abbrev pub IsName : List ℕ → Type 0
 IsName name = name ≢ codes "-"
+
+-- three words are written as this source, this target and this trace
+pub record AreOperands (x y z : List ℕ) (source target : Option (List ℕ)) (trace : List ℕ) : Type 0 where
+  pub source_is : x ≡ side_word source
+  pub target_is : y ≡ side_word target
+  pub trace_is : z ≡ trace
+  pub named : All IsName (with_side source (with_side target (trace ∷ [])))
+  pub of_table : HasName source target
 
 -- the words are written as this row
 pub record IsRow (words : List (List ℕ)) (row : Row) : Type 0 where

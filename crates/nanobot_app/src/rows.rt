@@ -2,11 +2,11 @@
 ghost use Rattle.std.specs.Prelude.{◌≡◌, ◌≤◌, ℕ, All, IfOk, List, Option, Some, None};
 ghost use Rattle.vox_depot.specs.Causes.{Rose};
 ghost use Rattle.vox_depot.specs.Files.{Files};
-ghost use Rattle.nanobot_app.specs.Answer.{AnswerOf};
+ghost use Rattle.nanobot_app.specs.Answer.{AnswerOf, AnswerOfRun};
 ghost use Rattle.nanobot_app.specs.Parsing.{row_of, side_of};
 ghost use Rattle.nanobot_app.specs.Reading.{Ends};
 ghost use Rattle.nanobot_app.specs.Effects.{Finishes, IsFor};
-ghost use Rattle.nanobot_app.specs.Rows.{IsOfTable, asm as asm_row, check as check_row, dis as dis_row, make as make_row, reads_of, run as run_row, stores_of};
+ghost use Rattle.nanobot_app.specs.Rows.{IsOfTable, asm as asm_row, check as check_row, dis as dis_row, make as make_row, reads_of, stores_of};
 
 use crate::commands::{load_text, load_trace};
 use crate::effect::Effect;
@@ -44,27 +44,29 @@ fn check<D: Depot, L: Ledger>(
     })
 }
 
-/// `run`: the verdict of a trace from a source to a target.
+/// `run` and `run light`: the verdict of a trace from a source to a target, by a profile.
 fn run<D: Depot, L: Ledger>(
     alloc: Global,
     depot: &mut D,
     source: Side<'_>,
     target: Side<'_>,
     trace: &str,
+    profile: Profile,
     steps: &mut Steps<L>,
 ) -> Result<Report, Stop>
     requires source { (name : List ℕ) → side_of source ≡ Some name → D.may_fetch name }
     requires target { (name : List ℕ) → side_of target ≡ Some name → D.may_fetch name }
     requires trace { D.may_fetch trace.now }
     requires some { side_of source ≡ None → side_of target ≡ None → ⊥ }
-    ensures ends { Ends (AnswerOf (run_row (side_of source.entry) (side_of target.entry) trace.now)) (D.files depot.old) (Rose (D.faults depot.old) (D.faults depot.new)) result }
+    requires seeds { profile.seeds ≤ 39 }
+    ensures ends { Ends (AnswerOfRun profile (side_of source.entry) (side_of target.entry) trace.now) (D.files depot.old) (Rose (D.faults depot.old) (D.faults depot.new)) result }
     ensures files { D.files depot.new ≡ D.files depot.old }
     ensures later { D.faults depot.old ≤ D.faults depot.new }
 {
     let source = load_side(alloc, depot, source, Who::Source)?;
     let target = load_side(alloc, depot, target, Who::Target)?;
     let (source, target) = both(alloc, source, target)?;
-    run_trace(alloc, depot, trace, source, &target, Profile::full(), steps)
+    run_trace(alloc, depot, trace, source, &target, profile, steps)
 }
 
 /// `asm`: the bytes of the commands that a text says.
@@ -147,7 +149,18 @@ pub fn answer<'a, D: Depot, L: Ledger>(
             source,
             target,
             trace,
-        } => Effect::telling(run(alloc, depot, source, target, trace, steps)),
+        } => {
+            let full = Profile::full();
+            Effect::telling(run(alloc, depot, source, target, trace, full, steps))
+        }
+        Row::Light {
+            source,
+            target,
+            trace,
+        } => {
+            let light = Profile::light();
+            Effect::telling(run(alloc, depot, source, target, trace, light, steps))
+        }
         Row::Asm { text, trace } => asm(alloc, depot, text, trace),
         Row::Dis { trace, text } => dis(alloc, depot, trace, text),
         Row::Make {

@@ -135,7 +135,8 @@ pub fn drive<D: Depot, O: Sink, L: Ledger>(
         → IfSome (D.files depot.old) (λ files. (energy : ℤ) × (count : ℕ) × Takes files source target trace energy count
         × IsDoneWith result (O.written out.old) (O.written out.new) energy count) }
 
-    // A status other than 5, 6 and 7 is the answer's, with its whole line written and its files stored.
+    // A status other than 5, 6 and 7 is the answer's, with its whole line written and its files stored. `run light S T B`
+    // is answered as `run S T B` is, with the verdict of the light profile in place of the full one.
     ensures answer { IsAnswer result → Stands (Answer (texts words.now))
         (outside D.files D.faults O.written O.faults depot.old out.old)
         (outside D.files D.faults O.written O.faults depot.new out.new)

@@ -1,6 +1,6 @@
 //! The words of the program.
 ghost use Rattle.std.specs.Prelude.{◌≡◌, ◌↔◌, ◌<◌, ◌≤◌, ◌^◌, ℕ, List, Option, [], ◌∷◌, IsTrue, MatchOption, codes, decimal};
-ghost use Rattle.nanobot_app.specs.Rows.{asm, check, dis, make, run, side_word, HasName, IsRow, IsInNoRow, IsName, texts};
+ghost use Rattle.nanobot_app.specs.Rows.{asm, check, dis, light, make, run, side_word, AreOperands, HasName, IsRow, IsInNoRow, IsName, texts};
 ghost use Rattle.nanobot_app.specs.Parsing.{row_of, side_of};
 
 use itoa::Buffer;
@@ -22,6 +22,12 @@ pub enum Row<'a> {
     },
     /// What comes of the trace from the source to the target?
     Run {
+        source: Side<'a>,
+        target: Side<'a>,
+        trace: &'a str,
+    },
+    /// The same under the light profile.
+    Light {
         source: Side<'a>,
         target: Side<'a>,
         trace: &'a str,
@@ -187,6 +193,22 @@ fn has_name(source: Side<'_>, target: Side<'_>) -> bool
     }
 }
 
+/// The source and the target of two words, where a third is the name of a trace and one of the two is the file of a name.
+fn parse_sides<'a>(source: &'a str, target: &'a str, trace: &str) -> Option<(Side<'a>, Side<'a>)>
+    ensures { MatchOption result ((s t : Option (List ℕ)) (b : List ℕ) → AreOperands source.now target.now trace.now s t b → ⊥)
+        (λ sides. AreOperands source.now target.now trace.now (side_of sides.0) (side_of sides.1) trace.now) }
+{
+    if !is_name(trace) {
+        return None;
+    }
+    let first = parse_side(source);
+    let second = parse_side(target);
+    if !has_name(first, second) {
+        return None;
+    }
+    Some((first, second))
+}
+
 /// The source, the target and the trace after `run`.
 fn parse_run(words: &[String]) -> Option<Row<'_>>
     ensures { MatchOption result ((s t : Option (List ℕ)) (b : List ℕ) → IsRow (texts words.now) (run s t b) → ⊥) (λ row. IsRow (texts words.now) (row_of row)) }
@@ -195,15 +217,37 @@ fn parse_run(words: &[String]) -> Option<Row<'_>>
     if word != "run" {
         return None;
     }
-    if !is_name(trace) {
-        return None;
-    }
-    let source = parse_side(source);
-    let target = parse_side(target);
-    if !has_name(source, target) {
-        return None;
-    }
+    let (source, target) = parse_sides(source, target, trace)?;
     Some(Row::Run {
+        source,
+        target,
+        trace,
+    })
+}
+
+/// The words, where they are five.
+fn five(words: &[String]) -> Option<(&str, &str, &str, &str, &str)>
+    ensures { MatchOption result ((a b c d e : List ℕ) → texts words.now ≡ a ∷ b ∷ c ∷ d ∷ e ∷ [] → ⊥) (λ r. texts words.now ≡ r.0.now ∷ r.1.now ∷ r.2.now ∷ r.3.now ∷ r.4.now ∷ []) }
+{
+    match words {
+        [a, b, c, d, e] => Some((a.as_str(), b.as_str(), c.as_str(), d.as_str(), e.as_str())),
+        _ => None,
+    }
+}
+
+/// The source, the target and the trace after `run light`.
+fn parse_light(words: &[String]) -> Option<Row<'_>>
+    ensures { MatchOption result ((s t : Option (List ℕ)) (b : List ℕ) → IsRow (texts words.now) (light s t b) → ⊥) (λ row. IsRow (texts words.now) (row_of row)) }
+{
+    let (word, profile, source, target, trace) = five(words)?;
+    if word != "run" {
+        return None;
+    }
+    if profile != "light" {
+        return None;
+    }
+    let (source, target) = parse_sides(source, target, trace)?;
+    Some(Row::Light {
         source,
         target,
         trace,
@@ -218,6 +262,9 @@ pub fn parse(words: &[String]) -> Option<Row<'_>>
         return Some(Row::Check { model });
     }
     if let Some(row) = parse_run(words) {
+        return Some(row);
+    }
+    if let Some(row) = parse_light(words) {
         return Some(row);
     }
     if let Some(row) = parse_asm(words) {

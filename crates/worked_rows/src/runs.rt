@@ -262,6 +262,34 @@ const REFUSED: [Row; 11] = [
     ("", &[], Status::Words, "words not understood\n"),
 ];
 
+/// Runs under the light profile.
+const LIGHT: [Row; 4] = [
+    (
+        "run light - P3 B",
+        &[0x14, 0x10, 0x73, 0x14, 0x0E, 0xFF],
+        Status::Done,
+        "ok energy 420 steps 4\n",
+    ),
+    (
+        "run light E3 E3 B",
+        &[0x75, 0x12, 0x77, 0x66, 0xFF],
+        Status::Done,
+        "ok energy 323 steps 3\n",
+    ),
+    (
+        "run light E3 E3 B",
+        &[0x75, 0x13],
+        Status::Broken,
+        "broken 7 Seeds step 1 bid 1 at 0 0 0\n",
+    ),
+    (
+        "run light E3 E3 B",
+        &[0x71, 0x1E, 0x1E, 0x1D],
+        Status::Broken,
+        "broken 15 Forbidden step 1 bid 1 at 0 0 0\n",
+    ),
+];
+
 #[test]
 fn runs_that_end_in_their_target(rt: HostRuntime) -> Result<(), Fail> {
     assert_rows(&rt, rt.alloc(), &ACCEPTED)
@@ -275,6 +303,11 @@ fn runs_that_break_a_rule(rt: HostRuntime) -> Result<(), Fail> {
 #[test]
 fn traces_and_words_that_are_refused(rt: HostRuntime) -> Result<(), Fail> {
     assert_rows(&rt, rt.alloc(), &REFUSED)
+}
+
+#[test]
+fn runs_under_the_light_profile(rt: HostRuntime) -> Result<(), Fail> {
+    assert_rows(&rt, rt.alloc(), &LIGHT)
 }
 
 /// The bytes of an empty model of the first form, which are this many.

@@ -8,7 +8,7 @@ pub returns-in_err-target-clause-ends : goal.returns-in_err-target-clause-ends
 returns-in_err-target-clause-ends g c =
     let is : c.from_residual-in_err-target.result ≡ Err c.in_err-target.field-0.0 = search rules in
     rw is
-    (target_stops _ (side_of c.args.source) (side_of c.args.target) c.args.trace.now c.in_ok-source.source (c.in_ok-source.ensures {u = tt}).reads
+    (target_stops c.args.profile _ (side_of c.args.source) (side_of c.args.target) c.args.trace.now c.in_ok-source.source (c.in_ok-source.ensures {u = tt}).reads
     _ _ _ _ c.in_err-target.field-0.0 c.load_side.ensures.files c.load_side.ensures.later (c.in_err-target.ensures {u = tt}).reads)
 
 pub returns-in_err-source-2-clause-ends : goal.returns-in_err-source-2-clause-ends
@@ -17,13 +17,12 @@ returns-in_err-source-2-clause-ends g c =
     let second = rw c.load_side.ensures.files at (c.in_ok-target.ensures {u = tt}).reads in
     let both = c.in_err-source-2.ensures {u = tt} in
     rw is
-    (both_stop _ (side_of c.args.source) (side_of c.args.target) c.args.trace.now c.in_ok-source.source (c.in_ok-source.ensures {u = tt}).reads c.in_ok-target.target second
+    (both_stop c.args.profile _ (side_of c.args.source) (side_of c.args.target) c.args.trace.now c.in_ok-source.source (c.in_ok-source.ensures {u = tt}).reads c.in_ok-target.target second
     _ c.in_err-source-2.field-0.0 (λ r e. both.unlike r (ap (λ (s : Stop). Err s) e)) (λ e. both.depot (ap (λ (s : Stop). Err s) e)))
 
 pub returns-clause-ends : goal.returns-clause-ends
 returns-clause-ends g c =
     let second = rw c.load_side.ensures.files at (c.in_ok-target.ensures {u = tt}).reads in
     let models = (c.in_ok-source-2.ensures {u = tt}).models in
-    let reads = rw c.full.ensures at c.run_trace.ensures.reads in
-    run_ends _ (side_of c.args.source) (side_of c.args.target) c.args.trace.now c.in_ok-source.source (c.in_ok-source.ensures {u = tt}).reads c.in_ok-target.target second
-    _ _ _ _ c.in_ok-source-2.source c.in_ok-source-2.target c.run_trace.result models (c.load_side-2.ensures.files ∙ c.load_side.ensures.files) (omega (arith, c.load_side.ensures.later, c.load_side-2.ensures.later)) reads
+    run_ends c.args.profile _ (side_of c.args.source) (side_of c.args.target) c.args.trace.now c.in_ok-source.source (c.in_ok-source.ensures {u = tt}).reads c.in_ok-target.target second
+    _ _ _ _ c.in_ok-source-2.source c.in_ok-source-2.target c.run_trace.result models (c.load_side-2.ensures.files ∙ c.load_side.ensures.files) (omega (arith, c.load_side.ensures.later, c.load_side-2.ensures.later)) c.run_trace.ensures.reads

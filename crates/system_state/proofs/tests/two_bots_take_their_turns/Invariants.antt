@@ -1,4 +1,4 @@
 use Rattle.system_state.proofs.tests.two_bots_take_their_turns.Given as goal
 
-abbrev pub ghosts-of_one : goal.ghosts-of_one
-ghosts-of_one _ a = record { name = a.blank.name; parts = a.blank.parts }
+abbrev pub ghosts-of_two : goal.ghosts-of_two
+ghosts-of_two _ a = record { name = a.blank.name; parts = a.blank.parts }
