@@ -58,13 +58,8 @@ pub fn work_of(r: u16, bot: Bot, command: &Command) -> Option<Work>
                 full: false,
             })
         }
-        Command::Halt => None,
-        Command::Wait => None,
-        Command::Flip => None,
-        Command::SMove(_) => None,
-        Command::LMove(_, _) => None,
-        Command::FusionP(_) => None,
-        Command::FusionS(_) => None,
-        Command::Fission(_, _) => None,
+        Command::Halt | Command::Wait | Command::Flip => None,
+        Command::SMove(_) | Command::LMove(_, _) | Command::Fission(_, _) => None,
+        Command::FusionP(_) | Command::FusionS(_) => None,
     }
 }
