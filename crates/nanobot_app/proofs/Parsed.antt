@@ -90,9 +90,6 @@ module _ (words : List (List ℕ)) (w x y z : List ℕ) (are : words ≡ w ∷ x
   same_words : w ∷ x ∷ y ∷ z ∷ [] ≡ codes "run" ∷ side_word s ∷ side_word t ∷ b ∷ []
   same_words = sym are ∙ row.written
 
-  pub other_word : (w ≡ codes "run" → ⊥) → ⊥
-  other_word n = let e = same_words in n (cc)
-
   pub run_operands : AreOperands x y z s t b
   run_operands = let e = same_words in record { source_is = cc; target_is = cc; trace_is = cc; named = row.named; of_table = row.of_table }
 
@@ -101,19 +98,5 @@ module _ (words : List (List ℕ)) (w p x y z : List ℕ) (are : words ≡ w ∷
   same_light : w ∷ p ∷ x ∷ y ∷ z ∷ [] ≡ codes "run" ∷ codes "light" ∷ side_word s ∷ side_word t ∷ b ∷ []
   same_light = sym are ∙ row.written
 
-  pub other_light : (w ≡ codes "run" → ⊥) → ⊥
-  other_light n = let e = same_light in n (cc)
-
-  pub other_profile : (p ≡ codes "light" → ⊥) → ⊥
-  other_profile n = let e = same_light in n (cc)
-
   pub light_operands : AreOperands x y z s t b
   light_operands = let e = same_light in record { source_is = cc; target_is = cc; trace_is = cc; named = row.named; of_table = row.of_table }
-
--- the words of a source, a target and a trace are in the rows of `run` and `run light`
-module _ (words : List (List ℕ)) (x y z : List ℕ) (s t : Option (List ℕ)) (are : AreOperands x y z s t z) where
-  pub is_run : words ≡ codes "run" ∷ x ∷ y ∷ z ∷ [] → IsRow words (run s t z)
-  is_run e = record { written = e ∙ (λ i. codes "run" ∷ are.source_is i ∷ are.target_is i ∷ z ∷ []); named = are.named; of_table = are.of_table }
-
-  pub is_light : words ≡ codes "run" ∷ codes "light" ∷ x ∷ y ∷ z ∷ [] → IsRow words (light s t z)
-  is_light e = record { written = e ∙ (λ i. codes "run" ∷ codes "light" ∷ are.source_is i ∷ are.target_is i ∷ z ∷ []); named = are.named; of_table = are.of_table }
