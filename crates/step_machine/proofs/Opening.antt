@@ -1,6 +1,6 @@
 -- The forest of a matrix, made of all its full voxels.
-use Rattle.std.proofs.Common.{◌≡◌, ◌≢◌, ℕ, ◌+◌, ◌-◌, ◌*◌, ◌≤◌, ◌<◌, refl, sym, ◌∙◌, ap, subst, inl, inr, ◌⊎◌, arith, List, [], ◌++◌, Bool, true, false, ◌&&◌, length}
-use Rattle.std.specs.Prelude.{filter, pos, slice_index_or, IsTrue, min, max}
+use Rattle.std.proofs.Common.{◌≡◌, ◌≢◌, ℕ, ◌+◌, ◌-◌, ◌*◌, ◌≤◌, ◌<◌, refl, sym, ◌∙◌, ap, subst, inl, inr, ◌⊎◌, arith, List, [], ◌∷◌, ◌++◌, zero, suc, Bool, true, false, ◌&&◌, length}
+use Rattle.std.specs.Prelude.{filter, pos, slice_index_or, All, IsTrue, IsFalse, min, max}
 use Rattle.std.specs.List.{AllPairs, Contains}
 use Rattle.std.proofs.lemmas.Bool.Decides.{nat_tests}
 use Rattle.std.proofs.lemmas.Int.{ints}
@@ -9,6 +9,9 @@ use Rattle.vox_geom.specs.declared.coordinate.Coord.{Coord}
 use Rattle.vox_geom.specs.Point.{Point, point}
 use Rattle.vox_geom.specs.Region.{Corners, between, corners, extent, is_between, is_within, size, span}
 use Rattle.vox_geom.specs.Space.{IsInSpace, in_space, place}
+use Rattle.nano_spec.specs.declared.system.Bot.{Bot}
+use Rattle.nano_spec.specs.declared.system.Profile.{Profile}
+use Rattle.nano_spec.specs.State.{first_bot, origin}
 use Rattle.nano_spec.specs.Matrix.{Matrix, all_of, empty, is_full, matrix_where}
 use Rattle.nano_spec.specs.Model.{volume}
 use Rattle.support_forest.specs.Standing.{AreAdded, IsVoid, MayAdd}
@@ -108,3 +111,8 @@ module _ (m : Matrix) (cells : List Coord) (whole : IsWhole m) (full : cells ≡
       let le = count_by-le-length (is_full m) (all_of m) in
       let v = length_coordinates m.resolution in
       omega (arith, l, a, n, c, le, v)
+
+-- the first bot stands in a void voxel
+pub first_stands : (m : Matrix) (profile : Profile) → IsFalse (is_full m origin) → All (λ (b : Bot). IsFalse (is_full m b.pos)) (first_bot profile ∷ [])
+first_stands m profile h zero d l = h
+first_stands m profile h (suc i) d l = absurd (omega arith)

@@ -12,28 +12,16 @@ use Rattle.step_machine.specs.declared.runner.Mark.TheVariants as mark
 use Rattle.step_machine.specs.Course.{Course, IsUnderway, course_of, mark_by}
 use Rattle.step_machine.specs.Situation.{Situation}
 
-module _ (machine : Situation) (pending : List Command) (m : Mark) (v : Course) (seen : course_of machine pending m ≡ v) (runs : v.progress.mark ≡ progress.Running) where
-  marked : mark_by m ≡ progress.Running
-  marked = ap (λ (w : Course). w.progress.mark) seen ∙ runs
-
-  pub is_running : m ≡ mark.Running
-  is_running = by m marked
-    where
-      by : (n : Mark) → mark_by n ≡ progress.Running → n ≡ mark.Running
-      by mark.Running e = refl
-      by (mark.Refused b) e = cc
-      by mark.Halted e = cc
-      by mark.Followed e = cc
-
+module _ (machine : Situation) (pending : List Command) (m : Mark) (v : Course) (seen : course_of machine pending m ≡ v) (runs : m ≡ mark.Running) where
   -- some bot has no command yet
   pub some_lack : v.spent ≡ false → IsUnderway machine pending m → length pending < length machine.state.bots
-  some_lack e u = (subst (λ (n : Mark). IsUnderway machine pending n) is_running u) (subst (λ (n : Mark). (course_of machine pending n).spent ≡ false) is_running (ap (λ (w : Course). w.spent) seen ∙ e))
+  some_lack e u = (subst (λ (n : Mark). IsUnderway machine pending n) runs u) (subst (λ (n : Mark). (course_of machine pending n).spent ≡ false) runs (ap (λ (w : Course). w.spent) seen ∙ e))
 
   -- the last command of a step that is made
   pub made : (command : Command) (now : List Command) (t : State) (q : Progress) → now ≡ pending ++ command ∷ [] → length now ≡ length machine.state.bots → Next machine.state now (machine.steps + 1) (Goes t) → q ≡ record { state = t; steps = machine.steps + 1; pending = []; mark = mark_of t.bots } → Pushes v.progress command q
   made command now t q e l n f =
       subst (λ (w : Course). Pushes w.progress command q) seen
-      (subst (λ (k : progress.Mark). PushesAt k (course_of machine pending m).progress command q) (sym marked) joins)
+      (subst (λ (k : progress.Mark). PushesAt k (course_of machine pending m).progress command q) (sym (ap mark_by runs)) joins)
     where
       steps : Steps (with_command (course_of machine pending m).progress command) q
       steps = (Goes t, subst (λ (xs : List Command). Next machine.state xs (machine.steps + 1) (Goes t)) e n, f)

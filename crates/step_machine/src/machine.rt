@@ -1,12 +1,13 @@
 //! The machine.
-ghost use Rattle.std.specs.Prelude.{◌≡◌, ℕ, pos, ◌+ℤ◌, ◌<ℤ◌, ◌+◌, ◌*◌, ◌≤◌, ◌<◌, ◌↔◌, [], true, false, length, count_by, IfOk, IfErr, IsTrue, None, Result, Err};
+ghost use Rattle.std.specs.Prelude.{◌≡◌, ℕ, pos, ◌+ℤ◌, ◌<ℤ◌, ◌+◌, ◌*◌, ◌≤◌, ◌<◌, ◌↔◌, [], true, false, length, count_by, IfOk, IfErr, IsFalse, IsTrue, None, Result, Err};
 ghost use Rattle.nano_spec.specs.declared.outcomes.Rule.{Rule as RuleOf};
 ghost use Rattle.nano_spec.specs.Cutting.{AreCommands};
 ghost use Rattle.nano_spec.specs.Grounded.{FirstUngrounded};
 ghost use Rattle.nano_spec.specs.Level.{Level};
+ghost use Rattle.nano_spec.specs.Matrix.{is_full};
 ghost use Rattle.nano_spec.specs.Model.{volume};
 ghost use Rattle.nano_spec.specs.Next.{Breaks, Goes, Next};
-ghost use Rattle.nano_spec.specs.State.{IsReady, IsWellFormed, State, opening as opening_of};
+ghost use Rattle.nano_spec.specs.State.{IsReady, IsWellFormed, State, opening as opening_of, origin};
 ghost use Rattle.nano_spec.specs.Step.{after};
 ghost use Rattle.nano_spec.specs.Work.{WorkOfStep};
 ghost use Rattle.vox_geom.specs.Space.{IsInSpace};
@@ -19,7 +20,9 @@ use crate::MOST_CHANGED;
 use crate::support::{forest_of, harmonics_after, refit, ungrounded};
 use bot_crew::Crew;
 use energy_sum::a_step_changes_the_energy_by_little;
-use nano_spec::{Broken, Command, Harmonics, Profile, Rule};
+use nano_spec::{
+    Broken, Command, Harmonics, Profile, Rule, opening_is_ready, ready_and_well_formed,
+};
 use std::alloc::Global;
 use std::marker::Model;
 use std::sync::ledger::Ledger;
@@ -92,8 +95,12 @@ impl Machine {
         requires grounded { FirstUngrounded source None }
         requires seeds { profile.seeds ≤ 39 }
         ensures value { IfOk result (λ m. m ≡ record { state = opening_of source profile; steps = 0; spent = false }) }
+        ensures well_formed { IfOk result (λ m. IsFalse (is_full source origin) → IsWellFormed m.state) }
         ensures touches { IfOk result (λ _. steps.new ≤ steps.old + 91 * volume source.resolution) }
     {
+        opening_is_ready();
+        ready_and_well_formed();
+        let _ = source.resolution();
         let forest = forest_of(alloc, &source, steps)?;
         let changed = ChangeList::with_room(alloc, MOST_CHANGED)?;
         let system = System::opening(alloc, source, profile)?;

@@ -5,7 +5,6 @@ ghost use Rattle.nano_spec.specs.Model.{volume};
 ghost use Rattle.nano_spec.specs.Profile.{full_profile};
 ghost use Rattle.nano_spec.specs.Verdict.{VerdictOf};
 ghost use Rattle.nano_spec.specs.Work.{Work, WorkOfStep};
-ghost use Rattle.run_progress.specs.Progress as progress;
 ghost use Rattle.run_progress.specs.Progress.{Finishes, Pushes, begun};
 ghost use Rattle.step_machine.specs.Course.{LacksCommands, MakesEdits, MakesNoStep, searched_by};
 
@@ -87,31 +86,14 @@ impl Runner {
         ensures touches { IfOk result (λ _. (n : ℕ) → WorkOfStep self.old.progress.state (self.old.progress.pending ++ command ∷ []) (self.old.progress.steps + 1) n → steps.new ≤ steps.old + 100 * n + searched_by self.new.progress.mark self.old.progress.state.matrix) }
     {
         match &self.mark {
-            Mark::Running => self.take(command, steps),
+            Mark::Running => {}
             Mark::Halted => {
                 self.mark = Mark::Followed;
-                Ok(())
+                return Ok(());
             }
-            Mark::Refused(_) => Ok(()),
-            Mark::Followed => Ok(()),
+            Mark::Refused(_) => return Ok(()),
+            Mark::Followed => return Ok(()),
         }
-    }
-
-    /// One more command of the next step, which is made once each bot has one.
-    fn take<L: Ledger>(&mut self, command: Command, steps: &mut Steps<L>) -> Result<(), Memory>
-        requires running { self.old.progress.mark ≡ progress.Running }
-        requires stands { self.old.spent ≡ false }
-        requires steps { self.old.progress.steps < 1073741824 }
-        ensures progress { IfOk result (λ _. Pushes self.old.progress command self.new.progress) }
-        ensures stands { IfOk result (λ _. self.new.spent ≡ false) }
-        ensures spent { IfErr result (λ _. self.new.spent ≡ true) }
-        ensures memory { IfErr result (λ _. MakesEdits self.old.progress command) }
-        ensures steps { self.new.progress.steps ≤ self.old.progress.steps + 1 }
-        ensures resolution { self.new.progress.state.matrix.resolution ≡ self.old.progress.state.matrix.resolution }
-        ensures lacks { IfOk result (λ _. LacksCommands self.new.progress) }
-        ensures untouched { MakesNoStep self.old.progress → steps.new ≡ steps.old }
-        ensures touches { IfOk result (λ _. (n : ℕ) → WorkOfStep self.old.progress.state (self.old.progress.pending ++ command ∷ []) (self.old.progress.steps + 1) n → steps.new ≤ steps.old + 100 * n + searched_by self.new.progress.mark self.old.progress.state.matrix) }
-    {
         let _ = self.machine.crew();
         self.pending.push(command);
         if self.pending.as_slice().len() < usize::from(self.machine.active()) {
@@ -160,7 +142,7 @@ impl Runner {
 }
 
 /// The verdict of a rule that is broken.
-fn refused(step: u32, bid: u8, rule: Rule, at: Coord) -> Verdict
+pub(crate) fn refused(step: u32, bid: u8, rule: Rule, at: Coord) -> Verdict
     ensures { result ≡ Verdict.Refused (record { step = step; bid = bid; rule = rule; at = at }) }
 {
     Verdict::Refused(Broken {

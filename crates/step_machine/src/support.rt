@@ -91,21 +91,21 @@ fn remove<L: Ledger>(
 
 /// Cells that become full. Memory may be refused only where there are some.
 fn add<L: Ledger>(forest: &mut Forest, cells: &[Coord], steps: &mut Steps<L>) -> Result<(), Memory>
-    requires stands { forest.old.spent ≡ false }
     requires cells { MayAdd forest.old.matrix cells.now }
+    requires stands { forest.old.spent ≡ false }
     ensures value { IfOk result (λ _. AreAdded forest.old.matrix forest.new.matrix cells.now) }
-    ensures stands { IfOk result (λ _. forest.new.spent ≡ false) }
     ensures touches { IfOk result (λ _. IsCheap forest.old.matrix forest.new.matrix cells.now 100 steps.old steps.new) }
+    ensures stands { IfOk result (λ _. forest.new.spent ≡ false) }
     ensures some { IfErr result (λ _. 1 ≤ length cells.now) }
 {
     let _ = forest.spent();
-    if cells.is_empty() {
-        return Ok(());
+    if !cells.is_empty() {
+        return match forest.add(cells, steps) {
+            Ok(()) => Ok(()),
+            Err(_) => Err(Memory),
+        };
     }
-    match forest.add(cells, steps) {
-        Ok(()) => Ok(()),
-        Err(_) => Err(Memory),
-    }
+    Ok(())
 }
 
 /// Lists the voxels that the groups of a step change: first those that they void, as many as the answer says, and then

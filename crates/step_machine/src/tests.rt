@@ -4,6 +4,7 @@ ghost use Rattle.nano_spec.specs.Grounded.{FirstUngrounded};
 ghost use Rattle.vox_geom.specs.Space.{IsInSpace};
 
 use super::*;
+use crate::runner::refused;
 use crate::support::forest_of;
 use nano_spec::{Broken, Command, Harmonics, Profile, Rule, Verdict};
 use std::alloc::Global;
@@ -252,15 +253,6 @@ fn verdict<L: Ledger>(
     let target = source(rt, alloc, 3, target, steps)?;
     assert!(rt; commands.len() < 1000);
     judge(alloc, empty, &target, commands, steps)
-}
-
-fn refused(step: u32, bid: u8, rule: Rule, at: Coord) -> Verdict {
-    Verdict::Refused(Broken {
-        step,
-        bid,
-        rule,
-        at,
-    })
 }
 
 /// A bot fills the voxel (1,0,1) and comes home.
