@@ -5,6 +5,7 @@ pub mod Headlines
 pub mod Loads
 pub mod Outcomes
 pub mod Parsed
+pub mod Paying
 pub mod Replies
 pub mod Running
 pub mod Stored

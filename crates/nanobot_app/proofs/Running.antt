@@ -23,10 +23,10 @@ use Rattle.nanobot_app.specs.Report.{of_verdict}
 
 -- ---- pieces
 
-part : (bytes piece : List ℕ) (at used : ℕ) → (bytes ++ take at piece) ++ take used (drop at piece) ≡ bytes ++ take (at + used) piece
+pub part : (bytes piece : List ℕ) (at used : ℕ) → (bytes ++ take at piece) ++ take used (drop at piece) ≡ bytes ++ take (at + used) piece
 part bytes piece at used = append_assoc bytes (take at piece) (take used (drop at piece)) ∙ ap (λ t. bytes ++ t) (sym (take-add at used piece))
 
-rest : (bytes piece : List ℕ) (at : ℕ) → (bytes ++ take at piece) ++ drop at piece ≡ bytes ++ piece
+pub rest : (bytes piece : List ℕ) (at : ℕ) → (bytes ++ take at piece) ++ drop at piece ≡ bytes ++ piece
 rest bytes piece at = append_assoc bytes (take at piece) (drop at piece) ∙ ap (λ t. bytes ++ t) (take-append-drop at piece)
 
 stands_of : (source : Matrix) (profile : Profile) (bytes : List ℕ) (s : RunState) → IsFalse s.decoder.failed → HasRun source profile bytes s → Stands source profile bytes s
@@ -38,12 +38,12 @@ started source profile d r taken e f =
     (record { commands = []; taken = taken; progress_is = first refl f })
 
 -- what the decoder's law says of a command
-abbrev GotLaw : Type 0
+abbrev pub GotLaw : Type 0
 GotLaw = (bytes piece : List ℕ) (commands : List Command) (decoder : DecoderState) (command : Command) (used : ℕ) →
     HasTaken bytes commands decoder → Answers decoder piece (Got command used) →
     HasTaken (bytes ++ take used piece) (commands ++ command ∷ []) (after decoder piece (Got command used))
 
-abbrev AllLaw : Type 0
+abbrev pub AllLaw : Type 0
 AllLaw = (bytes piece : List ℕ) (commands : List Command) (decoder : DecoderState) →
     HasTaken bytes commands decoder → Answers decoder piece All → HasTaken (bytes ++ piece) commands (after decoder piece All)
 

@@ -19,7 +19,7 @@ pub underway : (told : Option Files) (name : List ℕ) (source : Matrix) (profil
 underway told name source profile run h = record { front = λ files file t c. (omega arith, h) }
 
 -- what is known of the file where it is told, in the form of a premise
-from_told : (told : Option Files) (name : List ℕ) (P : List ℕ → Type 0) → IfTold told name P → (files : Files) (file : List ℕ) → told ≡ Some files → content files name ≡ Some file → P file
+pub from_told : (told : Option Files) (name : List ℕ) (P : List ℕ → Type 0) → IfTold told name P → (files : Files) (file : List ℕ) → told ≡ Some files → content files name ≡ Some file → P file
 from_told told name P h files file t c = let here = subst (λ o. IfTold o name P) t h in subst (λ o. IsSomeAnd o P) c here
 
 -- the other way: where files are told there is such a file, and each such file has P
@@ -39,7 +39,7 @@ to_told told name P Q h all = outer told h all
     ] h all
 
 -- the bytes that a piece has
-piece_has : (file buf : List ℕ) (at n : ℕ) → n ≤ length buf → IsPiece file at n buf → at ≤ length file → at + n ≤ length file
+pub piece_has : (file buf : List ℕ) (at n : ℕ) → n ≤ length buf → IsPiece file at n buf → at ≤ length file → at + n ≤ length file
 piece_has file buf at n fits p h =
     let e = ap length p.same in
     let a = length-take n buf in

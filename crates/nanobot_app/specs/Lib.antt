@@ -6,3 +6,4 @@ pub mod Outcome
 pub mod Reading
 pub mod Effects
 pub mod Headline
+pub mod Touching

@@ -1,5 +1,5 @@
 //! What each row of the table of words asks for.
-ghost use Rattle.std.specs.Prelude.{◌≡◌, ◌≤◌, ℕ, All, IfOk, List, Option, Some, None};
+ghost use Rattle.std.specs.Prelude.{◌≡◌, ◌≤◌, ℕ, All, Err, IfOk, List, Option, Some, None};
 ghost use Rattle.vox_depot.specs.Causes.{Rose};
 ghost use Rattle.vox_depot.specs.Files.{Files};
 ghost use Rattle.nanobot_app.specs.Answer.{AnswerOf, AnswerOfRun};
@@ -7,6 +7,7 @@ ghost use Rattle.nanobot_app.specs.Parsing.{row_of, side_of};
 ghost use Rattle.nanobot_app.specs.Reading.{Ends};
 ghost use Rattle.nanobot_app.specs.Effects.{Finishes, IsFor};
 ghost use Rattle.nanobot_app.specs.Rows.{IsOfTable, asm as asm_row, check as check_row, dis as dis_row, make as make_row, reads_of, stores_of};
+ghost use Rattle.nanobot_app.specs.Touching.{IsRowWithin, IsRunWithin};
 
 use crate::commands::{load_text, load_trace};
 use crate::effect::Effect;
@@ -62,6 +63,7 @@ fn run<D: Depot, L: Ledger>(
     ensures ends { Ends (AnswerOfRun profile (side_of source.entry) (side_of target.entry) trace.now) (D.files depot.old) (Rose (D.faults depot.old) (D.faults depot.new)) result }
     ensures files { D.files depot.new ≡ D.files depot.old }
     ensures later { D.faults depot.old ≤ D.faults depot.new }
+    ensures within { (result ≡ Err Stop.Memory → ⊥) → IsRunWithin profile (side_of source.entry) (side_of target.entry) trace.now (D.files depot.old) steps.old steps.new }
 {
     let source = load_side(alloc, depot, source, Who::Source)?;
     let target = load_side(alloc, depot, target, Who::Target)?;
@@ -142,6 +144,7 @@ pub fn answer<'a, D: Depot, L: Ledger>(
     ensures named { IfOk result (λ effect. IsFor (stores_of (row_of row.entry)) effect.file) }
     ensures files { D.files depot.new ≡ D.files depot.old }
     ensures later { D.faults depot.old ≤ D.faults depot.new }
+    ensures within { (result ≡ Err Stop.Memory → ⊥) → IsRowWithin (row_of row.entry) (D.files depot.old) steps.old steps.new }
 {
     match row {
         Row::Check { model } => Effect::telling(check(alloc, depot, model, steps)),

@@ -6,7 +6,8 @@ ghost use Rattle.nanobot_app.specs.Effects.{Finished, MayKeep};
 ghost use Rattle.nanobot_app.specs.Headline.{IsDoneWith, Takes};
 ghost use Rattle.nanobot_app.specs.Parsing.{row_of};
 ghost use Rattle.nanobot_app.specs.Outcome.{Delivered, DeliveredPart, IsAnswer, Outcome, SparesOthers, Stands, Printed, RowStores, StoredBy, Told, outside};
-ghost use Rattle.nanobot_app.specs.Rows.{IsInNoRow, IsOfTable, IsRow, MayRead, MayStore, reads_of, run as run_of, stores_of, texts};
+ghost use Rattle.nanobot_app.specs.Rows.{IsInNoRow, IsOfTable, IsRow, MayRead, MayStore, Row as RowOf, reads_of, run as run_of, stores_of, texts};
+ghost use Rattle.nanobot_app.specs.Touching.{IsRowWithin};
 
 use crate::effect::Effect;
 use crate::laws::one_answer;
@@ -78,6 +79,7 @@ fn run_row<D: Depot, O: Sink, L: Ledger>(
         (outside D.files D.faults O.written O.faults depot.old out.old)
         (outside D.files D.faults O.written O.faults depot.new out.new) result }
     ensures words { result ≡ Status.Words → ⊥ }
+    ensures within { (result ≡ Status.Memory → ⊥) → IsRowWithin (row_of row.entry) (D.files depot.old) steps.old steps.new }
 {
     match answer(alloc, row, depot, steps) {
         Ok(effect) => finish(alloc, depot, out, &effect),
@@ -102,6 +104,7 @@ fn run<D: Depot, O: Sink, L: Ledger>(
         (outside D.files D.faults O.written O.faults depot.new out.new) result }
     ensures words { result ≡ Status.Words → IsInNoRow (texts words.now) }
     ensures in_no_row { IsInNoRow (texts words.now) → (result ≡ Status.Words) ⊎ (result ≡ Status.Sink) }
+    ensures within { (row : RowOf) → IsRow (texts words.now) row → (result ≡ Status.Memory → ⊥) → IsRowWithin row (D.files depot.old) steps.old steps.new }
 {
     match parse(words) {
         None => print(out, Status::Words, b"words not understood\n"),
@@ -167,6 +170,9 @@ pub fn drive<D: Depot, O: Sink, L: Ledger>(
         (outside D.files D.faults O.written O.faults depot.new out.new)) }
     ensures memory_files { result ≡ Status.Memory → D.files depot.new ≡ D.files depot.old }
     ensures memory_line { result ≡ Status.Memory → O.written out.new ≡ O.written out.old }
+
+    // A run makes at most a hundred touches for each voxel of its source and for each part of the work of its trace.
+    ensures touches { (row : RowOf) → IsRow (texts words.now) row → (result ≡ Status.Memory → ⊥) → IsRowWithin row (D.files depot.old) steps.old steps.new }
 {
     one_answer();
     run(alloc, words, depot, out, steps)

@@ -1,9 +1,10 @@
 //! Traces of files, in pieces.
-ghost use Rattle.std.specs.Prelude.{◌≡◌, ◌≤◌, None};
+ghost use Rattle.std.specs.Prelude.{◌≡◌, ◌≤◌, Err, None};
 ghost use Rattle.nano_spec.specs.Grounded.{FirstUngrounded};
 ghost use Rattle.vox_depot.specs.Causes.{Rose};
 ghost use Rattle.nanobot_app.specs.Answer.{run_limit};
 ghost use Rattle.nanobot_app.specs.Reading.{Lacks, OnFile, Reads, tells_nothing};
+ghost use Rattle.nanobot_app.specs.Touching.{IsWithinFile};
 
 use crate::report::Report;
 use crate::stop::Stop;
@@ -11,6 +12,7 @@ use crate::trace_run::TraceRun;
 use nano_spec::Profile;
 use std::alloc::Global;
 use std::sync::ledger::Ledger;
+use step_machine::the_work_pays;
 use vox_depot::Depot;
 use vox_geom::Steps;
 use vox_planes::Planes;
@@ -38,7 +40,9 @@ pub fn run_trace<D: Depot, L: Ledger>(
     ensures reads { Reads (D.files depot.old) (Rose (D.faults depot.old) (D.faults depot.new)) (OnFile run_limit profile source target.now name.now) tells_nothing (Lacks name.now) result }
     ensures files { D.files depot.new ≡ D.files depot.old }
     ensures later { D.faults depot.old ≤ D.faults depot.new }
+    ensures within { (result ≡ Err Stop.Memory → ⊥) → IsWithinFile profile source (D.files depot.old) name.now steps.old steps.new }
 {
+    the_work_pays();
     let mut run = TraceRun::start(alloc, source, profile, steps)?;
     let mut buf = [0u8; PIECE];
     let mut at = 0;

@@ -1,7 +1,8 @@
 -- A whole trace, command by command: the progress, and how often voxels are touched.
-use Rattle.std.proofs.Common.{◌≡◌, ℕ, zero, suc, ◌+◌, ◌*◌, ◌≤◌, ◌<◌, ◌==◌, refl, sym, ◌∙◌, ap, subst, arith, List, [], ◌∷◌, ◌++◌, append_assoc, Bool, true, false, length, length-append, take, drop, get_or, add-one}
+use Rattle.std.proofs.Common.{◌≡◌, ℕ, ◌+◌, ◌*◌, ◌≤◌, ◌<◌, ◌==◌, refl, sym, ◌∙◌, ap, subst, arith, List, [], ◌∷◌, ◌++◌, append_assoc, Bool, true, false, length, length-append, take, drop, get_or, add-one}
 use Rattle.std.specs.Prelude.{MatchBool}
 use Rattle.std.proofs.lemmas.Bool.Decides.{nat_tests}
+use Rattle.std.proofs.lemmas.List.{take-append-drop}
 use Rattle.std.proofs.Math.Seq.{drop-append_seam, take-append_seam, take-suc}
 use Rattle.nano_spec.specs.declared.commands.Command.{Command}
 use Rattle.nano_spec.specs.declared.outcomes.Broken.{Broken}
@@ -17,24 +18,14 @@ use Rattle.nano_spec.specs.Work.{Work, WorkFrom, WorkOfStep, rests, stops, works
 use Rattle.nano_spec.proofs.Unique.{Next-unique}
 use Rattle.run_progress.specs.Progress as progress
 use Rattle.run_progress.specs.Progress.{Comes, begun, first, later, mark_of, Progress, Pushes, PushesAt, Steps, stepped, with_command}
+use Rattle.step_machine.specs.Course.{Course, searched_by}
+use Rattle.step_machine.specs.Payment.{IsPaid, LeftAt, Touches}
 use Rattle.step_machine.specs.Situation.{searched_for}
-use Rattle.step_machine.specs.Course.{Course, LacksCommands, MakesNoStep, searched_by}
 
 -- ---- the work that is left
 
--- while steps are made: what is left of the work of the trace pays for what is still to be touched
-abbrev pub LeftAt : progress.Mark → Progress → List Command → ℕ → ℕ → ℕ → ℕ → Type 0
-LeftAt progress.Running p rest v start now n = (more : ℕ) × WorkFrom p.state (p.pending ++ rest) p.steps more × (now + 100 * more ≤ start + 100 * n)
-LeftAt _ p rest v start now n = now ≤ start + 100 * n + v
-
-abbrev pub Left : Progress → List Command → ℕ → ℕ → ℕ → ℕ → Type 0
+abbrev Left : Progress → List Command → ℕ → ℕ → ℕ → ℕ → Type 0
 Left p rest v start now n = LeftAt p.mark p rest v start now n
-
--- what one push touched
-pub record Touched (p q : Progress) (command : Command) (before after : ℕ) : Type 0 where
-  pub lacks : LacksCommands p
-  pub untouched : MakesNoStep p → after ≡ before
-  pub touches : (n : ℕ) → WorkOfStep p.state (p.pending ++ command ∷ []) (p.steps + 1) n → after ≤ before + 100 * n + searched_by q.mark p.state.matrix
 
 searched_most : (m : progress.Mark) (n : Matrix) → searched_by m n ≤ volume n.resolution
 searched_most progress.Running n = omega arith
@@ -50,8 +41,8 @@ searched_not : (bots : List Bot) (n : Matrix) → searched_by (mark_of bots) n �
 searched_not [] n = refl
 searched_not (b ∷ bots) n = refl
 
-fewer : (a b : ℕ) → (a == b) ≡ false → a ≤ b → a < b
-fewer a b h l = grind (arith, nat_tests)
+unlike : (a b : ℕ) → (a == b) ≡ false → a ≡ b → ⊥
+unlike a b h e = grind (arith, nat_tests)
 
 test_is : (a b : ℕ) → (a == b) ≡ true → a ≡ b
 test_is a b h = grind (arith, nat_tests)
@@ -75,17 +66,15 @@ pay (stops b a next w) (Breaks c) some k = w
 pay {s} {all} {steps} (works {t = u} n m a next w from e) (Goes t) some k = (n, m, w, subst (λ (x : State). WorkFrom x (drop (length s.bots) all) (steps + 1) m) (same_state u t (Next-unique s (take (length s.bots) all) (steps + 1) (Goes u) (Goes t) next k)) from, e)
 pay {s} {all} {steps} (works {t = u} n m a next w from e) (Breaks c) some k = absurd (not_both c u (Next-unique s (take (length s.bots) all) (steps + 1) (Breaks c) (Goes u) k next))
 
-module _ (p q : Progress) (command : Command) (rest : List Command) (v start before after n : ℕ) (t : Touched p q command before after) (space : volume p.state.matrix.resolution ≡ v) (runs : p.mark ≡ progress.Running) where
+module _ (p q : Progress) (command : Command) (rest : List Command) (v start before after n : ℕ) (t : Touches p q command before after) (space : volume p.state.matrix.resolution ≡ v) (runs : p.mark ≡ progress.Running) where
   joined : p.pending ++ command ∷ rest ≡ (p.pending ++ command ∷ []) ++ rest
   joined = sym (append_assoc p.pending (command ∷ []) rest)
 
   -- no step is made
   waits : (length (p.pending ++ command ∷ []) == length p.state.bots) ≡ false → q ≡ with_command p command → (more : ℕ) → WorkFrom p.state (p.pending ++ command ∷ rest) p.steps more → before + 100 * more ≤ start + 100 * n → Left q rest v start after n
   waits b e more w l =
-      let u = t.lacks runs in
       let a = length-append p.pending (command ∷ []) in
-      let f = fewer (length (p.pending ++ command ∷ [])) (length p.state.bots) b (omega (arith, a, u)) in
-      let same : after ≡ before = t.untouched (λ _. omega (arith, a, f)) in
+      let same : after ≡ before = t.untouched (λ _ e. unlike (length (p.pending ++ command ∷ [])) (length p.state.bots) b (omega (arith, a, e))) in
       subst (λ (x : Progress). Left x rest v start after n) (sym e)
       (subst (λ (m : progress.Mark). LeftAt m (with_command p command) rest v start after n) (sym runs)
       (more, subst (λ (xs : List Command). WorkFrom p.state xs p.steps more) joined w, omega (arith, same, l)))
@@ -109,13 +98,13 @@ module _ (p q : Progress) (command : Command) (rest : List Command) (v start bef
     made : (outcome : Outcome) → Next p.state (p.pending ++ command ∷ []) (p.steps + 1) outcome → q ≡ stepped (with_command p command) outcome → (more : ℕ) → WorkFrom p.state (p.pending ++ command ∷ rest) p.steps more → before + 100 * more ≤ start + 100 * n → Left q rest v start after n
     made (Goes u) k e more w l =
         let r = pay w (Goes u) some (subst (λ (xs : List Command). Next p.state xs (p.steps + 1) (Goes u)) (sym front) k) in
-        let h = t.touches r.0 (subst (λ (xs : List Command). WorkOfStep p.state xs (p.steps + 1) r.0) front r.2) in
+        let h = t.paid r.0 (subst (λ (xs : List Command). WorkOfStep p.state xs (p.steps + 1) r.0) front r.2) in
         let s : searched_by q.mark p.state.matrix ≡ 0 = ap (λ (x : Progress). searched_by x.mark p.state.matrix) e ∙ searched_not u.bots p.state.matrix in
         let sum = r.4 in
         subst (λ (x : Progress). Left x rest v start after n) (sym e) (on u u.bots refl r.1 (subst (λ (xs : List Command). WorkFrom u xs (p.steps + 1) r.1) back r.3) (omega (arith, h, s, sum, l)))
     made (Breaks b) k e more w l =
         let r = pay w (Breaks b) some (subst (λ (xs : List Command). Next p.state xs (p.steps + 1) (Breaks b)) (sym front) k) in
-        let h = t.touches more (subst (λ (xs : List Command). WorkOfStep p.state xs (p.steps + 1) more) front r) in
+        let h = t.paid more (subst (λ (xs : List Command). WorkOfStep p.state xs (p.steps + 1) more) front r) in
         let s = searched_most q.mark p.state.matrix in
         let z = space in
         subst (λ (x : Progress). Left x rest v start after n) (sym e) (omega (arith, h, s, z, l))
@@ -128,7 +117,7 @@ module _ (p q : Progress) (command : Command) (rest : List Command) (v start bef
       by false e k = waits e k w.0 w.1 w.2
 
 -- one push more
-left_on : (p q : Progress) (command : Command) (rest : List Command) (v start before after n : ℕ) → Touched p q command before after → volume p.state.matrix.resolution ≡ v → Pushes p command q → Left p (command ∷ rest) v start before n → Left q rest v start after n
+left_on : (p q : Progress) (command : Command) (rest : List Command) (v start before after n : ℕ) → Touches p q command before after → volume p.state.matrix.resolution ≡ v → Pushes p command q → Left p (command ∷ rest) v start before n → Left q rest v start after n
 left_on p q command rest v start before after n t space h l = by p.mark refl h l
   where
     no_step : (m : progress.Mark) → p.mark ≡ m → (m ≡ progress.Running → ⊥) → after ≡ before
@@ -146,6 +135,25 @@ left_on p q command rest v start before after n t space h l = by p.mark refl h l
         let s = no_step progress.Followed e (λ f. cc) in
         subst (λ (x : Progress). Left x rest v start after n) (sym j) (subst (λ (m : progress.Mark). LeftAt m p rest v start after n) (sym e) (omega (arith, s, w)))
 
+-- ---- commands that come one after another
+
+pub paid_at_first : (source : Matrix) (profile : Profile) (p : Progress) (start : ℕ) → p ≡ begun source profile → IsPaid source profile [] p start start
+paid_at_first source profile p start e = λ rest n w. subst (λ (x : Progress). Left x rest (volume source.resolution) start start n) (sym e) (n, w, omega arith)
+
+pub paid_on : (source : Matrix) (profile : Profile) (commands : List Command) (p q : Progress) (command : Command) (start before after : ℕ) → p.state.matrix.resolution ≡ source.resolution → Pushes p command q → Touches p q command before after → IsPaid source profile commands p start before → IsPaid source profile (commands ++ command ∷ []) q start after
+paid_on source profile commands p q command start before after same pushes t paid = λ rest n w.
+    left_on p q command rest (volume source.resolution) start before after n t (ap volume same) pushes
+    (paid (command ∷ rest) n (subst (λ (xs : List Command). Work source xs profile n) (append_assoc commands (command ∷ []) rest) w))
+
+pub paid_within : (source : Matrix) (profile : Profile) (commands rest : List Command) (p : Progress) (start now n : ℕ) → IsPaid source profile commands p start now → Work source (commands ++ rest) profile n → now ≤ start + 100 * n + volume source.resolution
+paid_within source profile commands rest p start now n paid w = by p.mark (paid rest n w)
+  where
+    by : (m : progress.Mark) → LeftAt m p rest (volume source.resolution) start now n → now ≤ start + 100 * n + volume source.resolution
+    by progress.Running l = let k = l.2 in omega (arith, k)
+    by (progress.Refused b) l = l
+    by progress.Halted l = l
+    by progress.Followed l = l
+
 -- ---- the loop over the commands
 
 -- the runner took the first i commands
@@ -154,49 +162,33 @@ pub record IsJudging (source : Matrix) (profile : Profile) (commands : List Comm
   pub few : runner.progress.steps ≤ i
   pub resolution : runner.progress.state.matrix.resolution ≡ source.resolution
   pub stands : runner.spent ≡ false
-  pub lacks : LacksCommands runner.progress
-  pub left : (n : ℕ) → Work source commands profile n → Left runner.progress (drop i commands) (volume source.resolution) start now n
+  pub paid : IsPaid source profile (take i commands) runner.progress start now
 
-pub judging_begun : (source : Matrix) (profile : Profile) (commands : List Command) (runner : Course) (start : ℕ) → runner.progress ≡ begun source profile → runner.spent ≡ false → LacksCommands runner.progress → IsJudging source profile commands 0 runner start start
-judging_begun source profile commands runner start e s k = record {
+pub judging_begun : (source : Matrix) (profile : Profile) (commands : List Command) (runner : Course) (start : ℕ) → runner.progress ≡ begun source profile → runner.spent ≡ false → IsJudging source profile commands 0 runner start start
+judging_begun source profile commands runner start e s = record {
   comes = first (take_none commands) e;
   few = let n = ap (λ (p : Progress). p.steps) e in omega arith;
   resolution = ap (λ (p : Progress). p.state.matrix.resolution) e;
   stands = s;
-  lacks = k;
-  left = λ n w. subst (λ (p : Progress). Left p (drop 0 commands) (volume source.resolution) start start n) (sym e) (n, subst (λ (xs : List Command). WorkFrom (begun source profile).state xs 0 n) (sym (drop_none commands)) w, omega arith);
+  paid = subst (λ (xs : List Command). IsPaid source profile xs runner.progress start start) (sym (take_none commands)) (paid_at_first source profile runner.progress start e);
 }
   where
     take_none : (xs : List Command) → take 0 xs ≡ []
     take_none [] = refl
     take_none (x ∷ xs) = refl
 
-    drop_none : (xs : List Command) → drop 0 xs ≡ xs
-    drop_none [] = refl
-    drop_none (x ∷ xs) = refl
-
-pub judging_on : (source : Matrix) (profile : Profile) (commands : List Command) (i : ℕ) (old new : Course) (command : Command) (start before after : ℕ) → i < length commands → command ≡ get_or commands i command → IsJudging source profile commands i old start before → Pushes old.progress command new.progress → new.progress.steps ≤ old.progress.steps + 1 → new.progress.state.matrix.resolution ≡ old.progress.state.matrix.resolution → new.spent ≡ false → LacksCommands new.progress → Touched old.progress new.progress command before after → IsJudging source profile commands (i + 1) new start after
-judging_on source profile commands i old new command start before after l e h p n r s k t = record {
-  comes = later (take i commands) old.progress command h.comes p (rw add-one (take-suc commands i command l ∙ ap (λ k. take i commands ++ k ∷ []) (sym e)));
+pub judging_on : (source : Matrix) (profile : Profile) (commands : List Command) (i : ℕ) (old new : Course) (command : Command) (start before after : ℕ) → i < length commands → command ≡ get_or commands i command → IsJudging source profile commands i old start before → Pushes old.progress command new.progress → new.progress.steps ≤ old.progress.steps + 1 → new.progress.state.matrix.resolution ≡ old.progress.state.matrix.resolution → new.spent ≡ false → Touches old.progress new.progress command before after → IsJudging source profile commands (i + 1) new start after
+judging_on source profile commands i old new command start before after l e h p n r s t = record {
+  comes = later (take i commands) old.progress command h.comes p one_more;
   few = omega (arith, h.few, n);
   resolution = r ∙ h.resolution;
   stands = s;
-  lacks = k;
-  left = λ w work. left_on old.progress new.progress command (drop (i + 1) commands) (volume source.resolution) start before after w t (ap volume h.resolution) p
-      (subst (λ (xs : List Command). Left old.progress xs (volume source.resolution) start before w) (drop_one commands i l e) (h.left w work));
+  paid = subst (λ (xs : List Command). IsPaid source profile xs new.progress start after) (sym one_more) (paid_on source profile (take i commands) old.progress new.progress command start before after h.resolution p t h.paid);
 }
   where
-    drop_one : (xs : List Command) (j : ℕ) → j < length xs → command ≡ get_or xs j command → drop j xs ≡ command ∷ drop (j + 1) xs
-    drop_one [] j l e = absurd (omega arith)
-    drop_one (x ∷ xs) zero l e = ap (λ y. y ∷ xs) (sym e)
-    drop_one (x ∷ xs) (suc j) l e = drop_one xs j (omega arith) e ∙ ap (λ k. command ∷ drop k (x ∷ xs)) (let f : suc (j + 1) ≡ suc j + 1 = omega arith in f)
+    one_more : take (i + 1) commands ≡ take i commands ++ command ∷ []
+    one_more = rw add-one (take-suc commands i command l ∙ ap (λ k. take i commands ++ k ∷ []) (sym e))
 
 -- what was touched until no command is left
 pub judged_within : (source : Matrix) (profile : Profile) (commands : List Command) (i : ℕ) (runner : Course) (start now n : ℕ) → IsJudging source profile commands i runner start now → Work source commands profile n → now ≤ start + 100 * n + volume source.resolution
-judged_within source profile commands i runner start now n h w = by runner.progress.mark (h.left n w)
-  where
-    by : (m : progress.Mark) → LeftAt m runner.progress (drop i commands) (volume source.resolution) start now n → now ≤ start + 100 * n + volume source.resolution
-    by progress.Running l = let k = l.2 in omega (arith, k)
-    by (progress.Refused b) l = l
-    by progress.Halted l = l
-    by progress.Followed l = l
+judged_within source profile commands i runner start now n h w = paid_within source profile (take i commands) (drop i commands) runner.progress start now n h.paid (subst (λ (xs : List Command). Work source xs profile n) (sym (take-append-drop i commands)) w)

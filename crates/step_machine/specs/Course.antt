@@ -1,5 +1,5 @@
 -- Where a runner stands.
-use Rattle.std.specs.Prelude.{◌≡◌, ℕ, ◌+◌, ◌<◌, ◌≤◌, Bool, false, List, [], ◌∷◌, ◌++◌, length, count_by}
+use Rattle.std.specs.Prelude.{◌≡◌, ◌≢◌, ℕ, ◌+◌, ◌<◌, ◌≤◌, Bool, false, List, [], ◌∷◌, ◌++◌, length, count_by}
 use Rattle.nano_spec.specs.declared.commands.Command.{Command}
 use Rattle.nano_spec.specs.Matrix.{Matrix}
 use Rattle.run_progress.specs.Progress as progress
@@ -46,7 +46,7 @@ pub record MakesEdits (p : Progress) (command : Command) : Type 0 where
 
 -- one command more makes no step
 abbrev pub MakesNoStep : Progress → Type 0
-MakesNoStep p = p.mark ≡ progress.Running → length p.pending + 1 < length p.state.bots
+MakesNoStep p = p.mark ≡ progress.Running → length p.pending + 1 ≢ length p.state.bots
 
 -- while steps are made, some bot has no command yet: so a trace that ends there ends within a step
 abbrev pub LacksCommands : Progress → Type 0

@@ -1,3 +1,4 @@
 pub mod Course
 pub mod Edits
+pub mod Payment
 pub mod Situation

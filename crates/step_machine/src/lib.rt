@@ -2,11 +2,13 @@
 #![tactic(auto)]
 
 mod changes;
+mod laws;
 mod machine;
 mod pending;
 mod runner;
 mod support;
 
+pub use laws::the_work_pays;
 pub use machine::{Machine, StepFault, StepOk};
 pub use runner::{Runner, judge};
 

@@ -1,10 +1,12 @@
-use Rattle.std.proofs.Common.{◌≡◌, inl, refl, codes, Some}
+use Rattle.std.proofs.Common.{◌≡◌, inl, refl, subst, codes, Some}
 use Rattle.std.specs.Prelude.{IfSome}
 use Rattle.vox_depot.specs.Files.{Files}
 use Rattle.nanobot_app.specs.Answer.{Answer}
 use Rattle.nanobot_app.specs.Report.{words_line}
-use Rattle.nanobot_app.specs.Rows.{texts}
+use Rattle.nanobot_app.specs.Rows.{Row, texts}
+use Rattle.nanobot_app.specs.Touching.{IsRowWithin}
 use Rattle.nanobot_app.specs.declared.status.Status.TheVariants as is
+use Rattle.nanobot_app.proofs.Determined.{row_once}
 use Rattle.nanobot_app.proofs.Outcomes.{outcome_of_row, outcome_printed}
 use Rattle.nanobot_app.proofs.Told.{if_some}
 use Rattle.nanobot_app.proofs.top_call.run.Goals as goal
@@ -21,3 +23,10 @@ returns-in-Some-clause-outcome g c = outcome_of_row _ _ _ _ _ c.in-Some.ensures 
 
 pub run_row-requires-clause-may_store : goal.run_row-requires-clause-may_store
 run_row-requires-clause-may_store g c = λ name stored. c.requires.may_store _ name c.in-Some.ensures stored
+
+pub returns-in-None-clause-within : goal.returns-in-None-clause-within
+returns-in-None-clause-within g c = λ row is no_memory. absurd (c.in-None.ensures row is)
+
+pub returns-in-Some-clause-within : goal.returns-in-Some-clause-within
+returns-in-Some-clause-within g c = λ row is no_memory.
+    subst (λ (x : Row). IsRowWithin x (g.D.Depot.files c.args.depot.now) c.args.steps.now c.run_row.new.steps) (row_once (texts c.args.words.now) _ row c.in-Some.ensures is) (c.run_row.ensures.within no_memory)

@@ -1,11 +1,12 @@
-use Rattle.std.proofs.Common.{◌∙◌, arith, rules, length-take}
+use Rattle.std.proofs.Common.{◌∙◌, ◌+◌, ◌*◌, ◌≤◌, ℕ, arith, rules, length-take, subst, sym}
+use Rattle.nanobot_app.proofs.Paying.{paying, paying_next, paying_within}
 use Rattle.nanobot_app.proofs.Tracing.{underway_end, underway_long, underway_next}
 use Rattle.nanobot_app.proofs.trace.run_trace.Goals as goal
 
 pub returns-then-count-eq0-clause-reads : goal.returns-then-count-eq0-clause-reads
 returns-then-count-eq0-clause-reads g c =
     let piece = rw c.pieces.invariant.files at c.in_ok-count.ensures.piece in
-    underway_end _ _ c.args.source c.args.profile _ _ _ c.pieces.run c.pieces.invariant.underway piece c.in_ok-count.ensures.bound c.args.target.now _ (omega arith) c.if-count-eq0.true c.pieces.invariant.within (λ bytes run. c.finish.ensures c.args.source c.args.profile bytes run)
+    underway_end _ _ c.args.source c.args.profile _ _ _ c.pieces.run c.pieces.invariant.underway piece c.in_ok-count.ensures.bound c.args.target.now _ (omega arith) c.if-count-eq0.true c.pieces.invariant.within (λ bytes run. c.finish.ensures.report c.args.source c.args.profile bytes run)
 
 pub returns-then-at-gt-LIMIT-clause-reads : goal.returns-then-at-gt-LIMIT-clause-reads
 returns-then-at-gt-LIMIT-clause-reads g c =
@@ -25,4 +26,19 @@ pieces-preserved g c =
       stands = fed.stands;
       files = search rules;
       later = omega (arith, c.in_ok-count.ensures.later, c.pieces.invariant.later);
+      paying = paying_next _ _ c.args.source c.args.profile _ c.pieces.run c.start.new.steps c.pieces.steps c.pieces.invariant.paying _ _ c.feed.new.self c.feed.new.steps piece c.in_ok-count.ensures.bound
+          (λ bytes paid. fed.paid c.args.source c.args.profile bytes c.start.new.steps c.pieces.invariant.resolution paid);
     }
+
+pub returns-then-count-eq0-clause-within : goal.returns-then-count-eq0-clause-within
+returns-then-count-eq0-clause-within g c = λ _.
+    paying_within _ _ c.args.source c.args.profile _ c.pieces.run c.start.new.steps c.pieces.steps c.pieces.invariant.paying c.the_work_pays.ensures.all _ _ c.in_ok-run.ensures.touches
+    (subst (λ (r : ℕ). c.finish.new.steps ≤ c.pieces.steps + 2 * (r * r * r)) (sym c.requires.resolutions) c.finish.ensures.touches)
+
+pub returns-then-at-gt-LIMIT-clause-within : goal.returns-then-at-gt-LIMIT-clause-within
+returns-then-at-gt-LIMIT-clause-within g c = λ _.
+    paying_within _ _ c.args.source c.args.profile _ c.pieces.run c.start.new.steps c.pieces.steps c.pieces.invariant.paying c.the_work_pays.ensures.all _ _ c.in_ok-run.ensures.touches (omega arith)
+
+pub returns-in_err-count-clause-within : goal.returns-in_err-count-clause-within
+returns-in_err-count-clause-within g c = λ _.
+    paying_within _ _ c.args.source c.args.profile _ c.pieces.run c.start.new.steps c.pieces.steps c.pieces.invariant.paying c.the_work_pays.ensures.all _ _ c.in_ok-run.ensures.touches (omega arith)

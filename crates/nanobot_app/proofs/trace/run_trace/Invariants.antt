@@ -1,4 +1,5 @@
 use Rattle.std.proofs.Common.{◌≡◌, ◌+◌, ◌-◌, ◌≤◌, false, length}
+use Rattle.nanobot_app.proofs.Paying.{IsPaying}
 use Rattle.nanobot_app.proofs.Tracing.{IsUnderway}
 use Rattle.nanobot_app.proofs.trace.run_trace.Given as goal
 
@@ -11,6 +12,7 @@ invariant-pieces g l = record {
   stands : l.run.run.spent ≡ false;
   files : g.D.Depot.files l.depot ≡ g.D.Depot.files l.fn.depot;
   later : g.D.Depot.faults l.fn.depot ≤ g.D.Depot.faults l.depot;
+  paying : IsPaying (g.D.Depot.files l.fn.depot) l.name l.fn.source l.fn.profile l.at l.run l.initial.steps l.steps;
 }
 
 abbrev pub decreases-pieces : goal.decreases-pieces

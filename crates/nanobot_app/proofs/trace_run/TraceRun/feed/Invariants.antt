@@ -2,6 +2,7 @@ use Rattle.std.proofs.Common.{◌≡◌, false, length, take, ◌-◌, ◌+◌, 
 use Rattle.nano_spec.specs.declared.system.Profile.{Profile}
 use Rattle.nano_spec.specs.Matrix.{Matrix}
 use Rattle.nanobot_app.specs.Reading.{HasRun}
+use Rattle.nanobot_app.specs.Touching.{HasPaid}
 use Rattle.nanobot_app.proofs.trace_run.TraceRun.feed.Given as goal
 
 abbrev pub invariant-loop-at : goal.invariant-loop-at
@@ -12,6 +13,7 @@ invariant-loop-at g l =
     × (l.self-inside.runner.progress.steps ≤ l.self-inside.decoder.offset)
     × (l.self-inside.runner.progress.state.matrix.resolution ≡ l.fn.self.run.progress.state.matrix.resolution)
     × (l.self-inside.runner.spent ≡ false)
+    × ((source : Matrix) (profile : Profile) (bytes : List ℕ) (start : ℕ) → l.fn.self.run.progress.state.matrix.resolution ≡ source.resolution → HasPaid source profile bytes l.fn.self start l.fn.steps → HasPaid source profile (bytes ++ take l.at l.piece) (record { decoder = l.self-inside.decoder; run = l.self-inside.runner }) start l.steps)
 
 abbrev pub decreases-loop-at : goal.decreases-loop-at
 decreases-loop-at g l = length l.piece - l.at

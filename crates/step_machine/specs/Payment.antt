@@ -1,0 +1,26 @@
+-- How often voxels are touched while the commands of a run come, beside the work of the run.
+use Rattle.std.specs.Prelude.{◌≡◌, ℕ, ◌+◌, ◌*◌, ◌≤◌, List, [], ◌∷◌, ◌++◌}
+use Rattle.nano_spec.specs.declared.commands.Command.{Command}
+use Rattle.nano_spec.specs.declared.system.Profile.{Profile}
+use Rattle.nano_spec.specs.Matrix.{Matrix}
+use Rattle.nano_spec.specs.Model.{volume}
+use Rattle.nano_spec.specs.Work.{Work, WorkFrom, WorkOfStep}
+use Rattle.run_progress.specs.Progress as progress
+use Rattle.run_progress.specs.Progress.{Progress}
+use Rattle.step_machine.specs.Course.{MakesNoStep, searched_by}
+
+-- one more command: no touch where it makes no step, and else at most a hundred times the work of the step, beside a search for
+-- what floats where that is found
+pub record Touches (p q : Progress) (command : Command) (before after : ℕ) : Type 0 where
+  pub untouched : MakesNoStep p → after ≡ before
+  pub paid : (n : ℕ) → WorkOfStep p.state (p.pending ++ command ∷ []) (p.steps + 1) n → after ≤ before + 100 * n + searched_by q.mark p.state.matrix
+
+-- from start to now the touches are paid for by n, the work of a run: while steps are made, what is left of the work pays for what is
+-- still to be touched; after that a search of a whole matrix may have been made beside it
+abbrev pub LeftAt : progress.Mark → Progress → List Command → ℕ → ℕ → ℕ → ℕ → Type 0
+LeftAt progress.Running p rest searched start now n = (more : ℕ) × WorkFrom p.state (p.pending ++ rest) p.steps more × (now + 100 * more ≤ start + 100 * n)
+LeftAt _ p rest searched start now n = now ≤ start + 100 * n + searched
+
+-- whatever commands follow those that have come, the touches from start to now are paid for by the work of them all
+abbrev pub IsPaid : Matrix → Profile → List Command → Progress → ℕ → ℕ → Type 0
+IsPaid source profile commands p start now = (rest : List Command) (n : ℕ) → Work source (commands ++ rest) profile n → LeftAt p.mark p rest (volume source.resolution) start now n

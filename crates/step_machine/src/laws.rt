@@ -1,0 +1,18 @@
+//! The law of the touches of a run.
+ghost use Rattle.std.specs.Prelude.{◌≡◌, ℕ, ◌+◌, ◌*◌, ◌≤◌, List, [], ◌∷◌, ◌++◌};
+ghost use Rattle.nano_spec.specs.declared.commands.Command.{Command as CommandOf};
+ghost use Rattle.nano_spec.specs.declared.system.Profile.{Profile};
+ghost use Rattle.nano_spec.specs.Matrix.{Matrix};
+ghost use Rattle.nano_spec.specs.Model.{volume};
+ghost use Rattle.nano_spec.specs.Work.{Work};
+ghost use Rattle.run_progress.specs.Progress.{Progress, Pushes, begun};
+ghost use Rattle.step_machine.specs.Payment.{IsPaid, Touches};
+
+/// The work of a run pays for its touches, command by command: from its opening on, after each more command, and so in
+/// all, but for one search of the matrix.
+pub fn the_work_pays()
+    ensures first { (source : Matrix) (profile : Profile) (p : Progress) (start : ℕ) → p ≡ begun source profile → IsPaid source profile [] p start start }
+    ensures push { (source : Matrix) (profile : Profile) (commands : List CommandOf) (p q : Progress) (command : CommandOf) (start before after : ℕ) → p.state.matrix.resolution ≡ source.resolution → Pushes p command q → Touches p q command before after → IsPaid source profile commands p start before → IsPaid source profile (commands ++ command ∷ []) q start after }
+    ensures all { (source : Matrix) (profile : Profile) (commands rest : List CommandOf) (p : Progress) (start now n : ℕ) → IsPaid source profile commands p start now → Work source (commands ++ rest) profile n → now ≤ start + 100 * n + volume source.resolution }
+{
+}
