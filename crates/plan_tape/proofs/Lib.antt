@@ -5,3 +5,4 @@ pub mod Legs
 pub mod Steps
 pub mod Written
 pub mod Gone
+pub mod Taken

@@ -5,6 +5,7 @@
 
 mod axis;
 mod costs;
+mod several;
 mod tape;
 mod voxels;
 
