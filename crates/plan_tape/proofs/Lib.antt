@@ -6,3 +6,4 @@ pub mod Steps
 pub mod Written
 pub mod Gone
 pub mod Taken
+pub mod Voids

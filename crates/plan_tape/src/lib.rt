@@ -11,3 +11,6 @@ mod voxels;
 
 pub use tape::{Plan, Tape};
 pub use voxels::is_full;
+
+#[cfg(test)]
+mod tests;
