@@ -56,8 +56,14 @@ fn step<L: Ledger>(
     tape.step(commands)
 }
 
+/// The plan of a tape that all bots have left.
+fn finished(rt: &impl Abort, tape: Tape) -> Plan {
+    assert!(rt; tape.crew().count() == 0);
+    tape.finish()
+}
+
 /// A bot splits, both go out and come back, and they fuse again.
-fn of_two<L: Ledger>(rt: &impl Abort, alloc: Global, blank: Blank) -> Result<(), Memory>
+fn of_two<L: Ledger>(rt: &impl Abort, alloc: Global, blank: Blank) -> Result<Plan, Memory>
     requires name { blank.name ≡ L.name }
     requires parts { blank.parts ≡ L.parts }
     requires some { 0 < L.parts }
@@ -82,25 +88,16 @@ fn of_two<L: Ledger>(rt: &impl Abort, alloc: Global, blank: Blank) -> Result<(),
         Command::FusionS(near(rt, -1)),
     ];
     step(rt, &mut tape, &mut system, &mut turns, &fuse, &mut steps)?;
-    assert_eq!(rt; tape.energy(), 476);
-    step(
-        rt,
-        &mut tape,
-        &mut system,
-        &mut turns,
-        &[Command::Halt],
-        &mut steps,
-    )?;
-    assert!(rt; tape.crew().count() == 0);
-    let plan = tape.finish();
-    assert_eq!(rt; plan.energy, 577);
-    assert_eq!(rt; plan.steps, 5);
-    assert_eq!(rt; plan.commands.as_slice().len(), 8);
-    Ok(())
+    let halt = [Command::Halt];
+    step(rt, &mut tape, &mut system, &mut turns, &halt, &mut steps)?;
+    Ok(finished(rt, tape))
 }
 
 #[test]
 fn two_bots_go_out_and_come_home(rt: HostRuntime) -> Result<(), Fail> {
-    of_two::<Brand>(&rt, rt.alloc(), Blank::new(1))?;
+    let plan = of_two::<Brand>(&rt, rt.alloc(), Blank::new(1))?;
+    assert_eq!(rt; plan.energy, 577);
+    assert_eq!(rt; plan.steps, 5);
+    assert_eq!(rt; plan.commands.as_slice().len(), 8);
     Ok(())
 }
