@@ -32,14 +32,18 @@ free_one (a ∷ b ∷ bots) now c d l e = absurd (omega arith)
 same_bid : (n : ℕ) → (n == n) ≡ true
 same_bid n = grind (arith, nat_tests)
 
-pub moved_one : (bots now new : List Bot) (c : Coord) (d : Bot) → length bots ≡ 1 → now ≡ bots → IfSome (bot_of bots (get_or now 0 d).bid) (λ (b : Bot). new ≡ replaced bots ((get_or now 0 d).bid ∷ []) (moved b (point c) ∷ [])) → new ≡ bots_at bots c
-moved_one [] now new c d l e h = absurd (omega arith)
-moved_one (b ∷ []) now new c d l e h = by (b.bid == b.bid) (same_bid b.bid) (rw e at h)
+-- what holds of the bots after the only one moved
+pub moved_one : (P : List Bot → Type 0) (bots now : List Bot) (c : Coord) (d : Bot) → length bots ≡ 1 → now ≡ bots → IfSome (bot_of bots (get_or now 0 d).bid) (λ (b : Bot). P (replaced bots ((get_or now 0 d).bid ∷ []) (moved b (point c) ∷ []))) → P (bots_at bots c)
+moved_one P [] now c d l e h = absurd (omega arith)
+moved_one P (b ∷ []) now c d l e h = by (b.bid == b.bid) (same_bid b.bid) (rw e at h)
   where
-    by : (same : Bool) → same ≡ true → IfSome (cond same (Some b) None) (λ (a : Bot). new ≡ replaced (b ∷ []) (b.bid ∷ []) (moved a (point c) ∷ [])) → new ≡ record { bid = b.bid; pos = c; seeds = b.seeds } ∷ []
-    by true s h = h ∙ (rw (same_bid b.bid) refl)
+    only : replaced (b ∷ []) (b.bid ∷ []) (moved b (point c) ∷ []) ≡ record { bid = b.bid; pos = c; seeds = b.seeds } ∷ []
+    only = rw (same_bid b.bid) refl
+
+    by : (same : Bool) → same ≡ true → IfSome (cond same (Some b) None) (λ (a : Bot). P (replaced (b ∷ []) (b.bid ∷ []) (moved a (point c) ∷ []))) → P (record { bid = b.bid; pos = c; seeds = b.seeds } ∷ [])
+    by true s h = subst P only h
     by false s h = cc
-moved_one (a ∷ b ∷ bots) now new c d l e h = absurd (omega arith)
+moved_one P (a ∷ b ∷ bots) now c d l e h = absurd (omega arith)
 
 -- ---- the tape
 

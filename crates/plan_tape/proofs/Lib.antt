@@ -5,3 +5,5 @@ pub mod Legs
 pub mod Steps
 pub mod Written
 pub mod Gone
+pub mod Taken
+pub mod Voids

@@ -17,6 +17,7 @@ use Rattle.nano_spec.specs.Matrix.{Matrix, is_full}
 use Rattle.nano_spec.specs.Profile.{is_allowed}
 use Rattle.nano_spec.specs.Spelling.{spelling, spellings}
 use Rattle.nano_spec.specs.State.{State, origin, first_bot}
+use Rattle.nano_spec.specs.Step.{after}
 use Rattle.nano_spec.specs.Verdict.{VerdictOf}
 use Rattle.vox_planes.specs.Voxel.{IsWhole}
 use Rattle.plan_tape.specs.Reaches.{Reaches}
@@ -35,6 +36,10 @@ pub record Progress : Type 0 where
 -- the state
 abbrev pub state_of : Progress → State
 state_of p = record { matrix = p.matrix; harmonics = p.harmonics; bots = p.bots; energy = p.energy; profile = p.profile }
+
+-- what is seen of the parts of a tape
+abbrev pub progress_of : Matrix → List Command → State → ℕ → Progress
+progress_of source commands s steps = record { source = source; commands = commands; matrix = s.matrix; harmonics = s.harmonics; bots = s.bots; energy = s.energy; profile = s.profile; steps = steps }
 
 -- the tape before the first command
 abbrev pub starting : Matrix → Profile → Progress
@@ -105,6 +110,12 @@ pub record Writes (old new : Progress) (command : Command) (m : Matrix) (h : Har
   pub energy : new.energy ≡ (old.energy +ℤ pos (upkeep_of_step old)) +ℤ cost
   pub steps : new.steps ≡ old.steps + 1
   pub bytes_are : bytes new ≡ bytes old + length (spelling command)
+
+-- ---- all bots
+
+-- the tape after a step in which the i-th command is for the i-th bot
+abbrev pub stepped : Progress → List Command → Progress
+stepped p commands = progress_of p.source (p.commands ++ commands) (after (state_of p) commands) (p.steps + 1)
 
 -- ---- the end
 

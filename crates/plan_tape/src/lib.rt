@@ -5,8 +5,12 @@
 
 mod axis;
 mod costs;
+mod several;
 mod tape;
 mod voxels;
 
 pub use tape::{Plan, Tape};
 pub use voxels::is_full;
+
+#[cfg(test)]
+mod tests;

@@ -5,20 +5,24 @@ ghost use Rattle.vox_geom.specs.Space.{IsInSpace};
 ghost use Rattle.nano_spec.specs.Grounded.{FirstUngrounded};
 ghost use Rattle.nano_spec.specs.Matrix.{Matrix as MatrixValue, is_full as is_full_of};
 ghost use Rattle.nano_spec.specs.Profile.{full_profile};
+ghost use Rattle.nano_spec.specs.Rules.{broken as broken_of};
+ghost use Rattle.nano_spec.specs.Spelling.{spellings};
 ghost use Rattle.nano_spec.specs.State.{origin};
 ghost use Rattle.nano_spec.specs.Step.{flipped};
 ghost use Rattle.vox_planes.specs.Voxel.{IsWhole, with_voxel};
 ghost use Rattle.bot_crew.specs.Crew.{IsCrew};
 ghost use Rattle.plan_tape.specs.Leg.{AreVoidTo, MayMove, Moves, moves_to as moves_to_of};
-ghost use Rattle.plan_tape.specs.Progress.{AreAlike, IsAccepted, IsAllowed, IsBounded, IsHeld, IsReachable, Writes, beside as beside_of, spot, starting, upkeep_of_step};
+ghost use Rattle.plan_tape.specs.Progress.{AreAlike, IsAccepted, IsAllowed, IsBounded, IsHeld, IsReachable, Writes, beside as beside_of, bytes, spot, starting, state_of, stepped, upkeep_of_step};
 
 use crate::axis::{Axis, cost_of_way, moves_to, push_leg};
 use crate::costs::{charged, upkeep_of_steps};
+use crate::several::advance;
 use crate::voxels::is_full;
 use bot_crew::Crew;
 use nano_spec::{Command, CommandList, Harmonics, Profile};
 use std::alloc::Global;
 use std::marker::Model;
+use system_state::{System, Turns};
 use vox_geom::{Coord, Diff, Memory, Near};
 use vox_planes::Planes;
 
@@ -36,22 +40,19 @@ pub struct Plan {
 pub struct Tape {
     source: Planes,
     commands: Vec<Command>,
-    matrix: Planes,
-    harmonics: Harmonics,
-    crew: Crew,
-    energy: i64,
-    profile: Profile,
+    system: System,
+    turns: Turns,
     steps: u32,
 }
 
 impl Model for Tape {
-    ghost use Rattle.plan_tape.specs.Progress.{Progress, IsReached};
+    ghost use Rattle.plan_tape.specs.Progress.{Progress, IsReached, progress_of};
 
     ghost Value = { Progress };
 
-    ghost view = { λ t. record { source = t.source; commands = t.commands.items; matrix = t.matrix; harmonics = t.harmonics; bots = t.crew; energy = t.energy; profile = t.profile; steps = t.steps } };
+    ghost view = { λ t. progress_of t.source t.commands.items t.system t.steps };
 
-    ghost invariant = { λ t. IsReached (record { source = t.source; commands = t.commands.items; matrix = t.matrix; harmonics = t.harmonics; bots = t.crew; energy = t.energy; profile = t.profile; steps = t.steps }) };
+    ghost invariant = { λ t. IsReached (progress_of t.source t.commands.items t.system t.steps) };
 }
 
 /// Takes room for so many more commands.
@@ -74,6 +75,27 @@ fn write(commands: &mut Vec<Command>, command: Command) -> Result<(), Memory>
     Ok(())
 }
 
+/// Adds commands. Where there is no memory, the commands stay as they were.
+fn write_all(commands: &mut Vec<Command>, more: &[Command]) -> Result<(), Memory>
+    ensures ok { OnOk result (commands.new.items ≡ commands.old.items ++ more.now) }
+    ensures err { OnErr result (commands.new.items ≡ commands.old.items) }
+{
+    match commands.extend_from_slice(more) {
+        Ok(()) => Ok(()),
+        Err(_) => Err(Memory),
+    }
+}
+
+/// The other harmonics.
+fn other(harmonics: Harmonics) -> Harmonics
+    ensures { result ≡ flipped harmonics }
+{
+    match harmonics {
+        Harmonics::Low => Harmonics::High,
+        Harmonics::High => Harmonics::Low,
+    }
+}
+
 impl Tape {
     /// The tape before the first command, with the profile of the contest. The source is grounded.
     pub fn start(alloc: Global, source: Planes) -> Result<Tape, Memory>
@@ -90,14 +112,12 @@ impl Tape {
         ensures { IfOk result (λ t. t ≡ starting source profile) }
     {
         let matrix = source.copy(alloc)?;
+        let system = System::opening(alloc, matrix, profile)?;
         Ok(Tape {
             source,
             commands: Vec::new(alloc),
-            matrix,
-            harmonics: Harmonics::Low,
-            crew: Crew::opening(profile),
-            energy: 0,
-            profile,
+            system,
+            turns: Turns::new(),
             steps: 0,
         })
     }
@@ -107,8 +127,7 @@ impl Tape {
         ensures value { result.now ≡ self.now.matrix }
         ensures whole { IsWhole self.now.matrix }
     {
-        let _ = self.matrix.resolution();
-        &self.matrix
+        self.system.matrix()
     }
 
     /// The active bots.
@@ -117,8 +136,7 @@ impl Tape {
         ensures crew { IsCrew self.now.bots }
         ensures within { All (λ b. IsInSpace self.now.matrix.resolution b.pos) self.now.bots }
     {
-        let _ = self.crew.bots();
-        &self.crew
+        self.system.crew()
     }
 
     /// The harmonics.
@@ -126,14 +144,14 @@ impl Tape {
         ensures value { result ≡ self.now.harmonics }
         ensures held { IsHeld self.now.harmonics self.now.matrix }
     {
-        self.harmonics
+        self.system.harmonics()
     }
 
     /// The energy so far.
     pub fn energy(&self) -> i64
         ensures { result ≡ self.now.energy }
     {
-        self.energy
+        self.system.energy()
     }
 
     /// How many steps were made: at most 2^30.
@@ -150,7 +168,7 @@ impl Tape {
         ensures value { result ≡ spot self.now.bots }
         ensures within { IsInSpace self.now.matrix.resolution result }
     {
-        let bot = self.crew.bots()[0];
+        let bot = self.crew().bots()[0];
         bot.pos
     }
 
@@ -162,7 +180,7 @@ impl Tape {
         ensures within { IsInSpace self.now.matrix.resolution result }
     {
         let at = self.spot();
-        let Some(beside) = at.plus(d, self.matrix.resolution()) else {
+        let Some(beside) = at.plus(d, self.matrix().resolution()) else {
             unreachable!()
         };
         beside
@@ -177,8 +195,27 @@ impl Tape {
         ensures value { result ≡ (self.now.energy +ℤ pos (count * upkeep_of_step self.now)) +ℤ cost }
         ensures bounded { IsBounded result (self.now.steps + count) }
     {
-        let upkeep = upkeep_of_steps(count, self.matrix.resolution(), self.harmonics);
-        charged(self.energy, self.steps, count, upkeep, cost)
+        let resolution = self.system.matrix().resolution();
+        let upkeep = upkeep_of_steps(count, resolution, self.system.harmonics());
+        charged(self.system.energy(), self.steps, count, upkeep, cost)
+    }
+
+    /// One step of all bots: the i-th command is for the i-th bot. Where harmonics are Low then, each full voxel is grounded.
+    pub fn step(&mut self, commands: &[Command]) -> Result<(), Memory>
+        requires some { 1 ≤ length self.old.bots }
+        requires commands { length commands.now ≡ length self.old.bots }
+        requires unbroken { broken_of (state_of self.old) commands.now (self.old.steps + 1) ≡ None }
+        requires held { IsHeld (stepped self.old commands.now).harmonics (stepped self.old commands.now).matrix }
+        requires limit { self.old.steps < 1073741824 }
+        ensures ok { OnOk result (self.new ≡ stepped self.old commands.now) }
+        ensures bytes { OnOk result (bytes self.new ≡ bytes self.old + length (spellings commands.now)) }
+        ensures err { OnErr result (self.new ≡ self.old) }
+    {
+        let step = self.steps + 1;
+        write_all(&mut self.commands, commands)?;
+        advance(&mut self.system, &mut self.turns, commands, step);
+        self.steps = step;
+        Ok(())
     }
 
     /// The only bot changes the harmonics. Where they are Low then, each full voxel is grounded.
@@ -192,11 +229,8 @@ impl Tape {
     {
         let energy = self.energy_after(1, 0);
         write(&mut self.commands, Command::Flip)?;
-        self.energy = energy;
-        self.harmonics = match self.harmonics {
-            Harmonics::Low => Harmonics::High,
-            Harmonics::High => Harmonics::Low,
-        };
+        self.system.set_energy(energy);
+        self.system.set_harmonics(other(self.system.harmonics()));
         self.steps += 1;
         Ok(())
     }
@@ -215,8 +249,8 @@ impl Tape {
         let cost = if is_full(self.matrix(), at) { 6 } else { 12 };
         let energy = self.energy_after(1, cost);
         write(&mut self.commands, Command::Fill(d))?;
-        self.energy = energy;
-        self.matrix.set(at, true);
+        self.system.set_energy(energy);
+        self.system.set_voxel(at, true);
         self.steps += 1;
         Ok(())
     }
@@ -235,8 +269,8 @@ impl Tape {
         let cost = if is_full(self.matrix(), at) { -12 } else { 3 };
         let energy = self.energy_after(1, cost);
         write(&mut self.commands, Command::Void(d))?;
-        self.energy = energy;
-        self.matrix.set(at, false);
+        self.system.set_energy(energy);
+        self.system.set_voxel(at, false);
         self.steps += 1;
         Ok(())
     }
@@ -252,15 +286,15 @@ impl Tape {
         ensures err { OnErr result (self.new ≡ self.old) }
     {
         let from = self.spot();
-        let bid = self.crew.bots()[0].bid;
+        let bid = self.system.crew().bots()[0].bid;
         let count = moves_to(from, to);
         let energy = self.energy_after(count, cost_of_way(from, to));
         take_room(&mut self.commands, count)?;
         push_leg(&mut self.commands, Axis::X, from.x, to.x);
         push_leg(&mut self.commands, Axis::Y, from.y, to.y);
         push_leg(&mut self.commands, Axis::Z, from.z, to.z);
-        self.energy = energy;
-        self.crew.move_to(bid, to);
+        self.system.move_to(bid, to);
+        self.system.set_energy(energy);
         self.steps += count;
         Ok(())
     }
@@ -277,8 +311,8 @@ impl Tape {
     {
         let energy = self.energy_after(1, 0);
         write(&mut self.commands, Command::Halt)?;
-        self.energy = energy;
-        self.crew.halt();
+        self.system.set_energy(energy);
+        self.system.halt();
         self.steps += 1;
         Ok(())
     }
@@ -293,7 +327,7 @@ impl Tape {
     {
         Plan {
             commands: CommandList::from_vec(self.commands),
-            energy: self.energy,
+            energy: self.system.energy(),
             steps: self.steps,
         }
     }

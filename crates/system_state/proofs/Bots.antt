@@ -157,7 +157,7 @@ alone_bots bots bot partner command h rising i lone = by command h lone
 
 -- ---- all bots after a turn
 
-in_all : (r : ℕ) (bots : List Bot) → All (λ b. IsInSpace r b.pos) bots → (b : Bot) → In b bots → IsInSpace r b.pos
+pub in_all : (r : ℕ) (bots : List Bot) → All (λ b. IsInSpace r b.pos) bots → (b : Bot) → In b bots → IsInSpace r b.pos
 in_all r bots h b i = let p = in_place b b bots i in subst (λ (c : Bot). IsInSpace r c.pos) p.2 (h p.0 b p.1)
 
 pub turn_within : (r : ℕ) (bots : List Bot) (bot : Bot) (partner : ℕ) (command : Command) → All (λ b. IsInSpace r b.pos) bots → MayTake r bots bot partner command → All (λ b. IsInSpace r b.pos) (bots_after bots bot partner command)

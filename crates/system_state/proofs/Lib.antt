@@ -8,3 +8,4 @@ pub mod TurnTaken
 pub mod Upkeep
 pub mod Gathered
 pub mod Advancing
+pub mod Parts

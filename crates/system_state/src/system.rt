@@ -16,6 +16,8 @@ ghost use Rattle.system_state.specs.Effects.{MayTake, act, after_turn};
 ghost use Rattle.system_state.specs.Painting.{met_count};
 ghost use Rattle.system_state.specs.Turns.{AreTurns};
 
+mod parts;
+
 use crate::known::know_all;
 use crate::moves::move_bots;
 use crate::turns::{Turn, Turns, gather};

@@ -2,17 +2,19 @@ use Rattle.std.proofs.Common.{◌≡◌, ◌+◌, ◌*◌, refl, rules, sym, ◌
 use Rattle.std.specs.Prelude.{◌+ℤ◌, length}
 use Rattle.vox_geom.specs.declared.coordinate.Coord.{Coord}
 use Rattle.nano_spec.specs.declared.commands.Command.{Command}
+use Rattle.nano_spec.specs.declared.system.Bot.{Bot}
+use Rattle.nano_spec.specs.State.{State}
 use Rattle.plan_tape.specs.contracts.tape.Tape.{the_view}
 use Rattle.plan_tape.specs.Leg.{AreLegs, distance, moves_to}
-use Rattle.plan_tape.specs.Progress.{Progress, spot, upkeep_of_step}
+use Rattle.plan_tape.specs.Progress.{Progress, bots_at, progress_of, spot, upkeep_of_step}
 use Rattle.plan_tape.proofs.Gone.{Comes, free_one, go_makes, moved_one}
 use Rattle.plan_tape.proofs.Written.{IsCharged, charged_as}
 use Rattle.plan_tape.proofs.tape.Tape.go.Goals as goal
 
 pub move_to-requires-clause-free : goal.move_to-requires-clause-free
-move_to-requires-clause-free c = free_one c.self.inside.crew c.bots.result.now c.args.to _ (subst (λ (o : Progress). length o.bots ≡ 1) (sym c.self.view_is) c.requires.alone) c.bots.ensures.value
+move_to-requires-clause-free c = free_one c.self.inside.system.bots c.bots.result.now c.args.to _ (subst (λ (o : Progress). length o.bots ≡ 1) (sym c.self.view_is) c.requires.alone) (c.bots.ensures.value ∙ c.crew.ensures.value)
 
-legs : (c : goal.After-self-2-1) → (moves : List Command) × AreLegs (spot c.args.self.now.bots) c.args.to moves × (c.push_leg-3.new.commands.items ≡ c.self.inside.commands.items ++ moves)
+legs : (c : goal.After-self-1) → (moves : List Command) × AreLegs (spot c.args.self.now.bots) c.args.to moves × (c.push_leg-3.new.commands.items ≡ c.self.inside.commands.items ++ moves)
 legs c =
     let old = c.self.inside.commands.items in
     let x = c.push_leg.ensures.leg in
@@ -23,19 +25,24 @@ legs c =
       z.2 ∙ (ap (λ xs. xs ++ z.0) (y.2 ∙ ap (λ xs. xs ++ y.0) (x.2 ∙ ap (λ xs. xs ++ x.0) c.take_room.ensures.items)) ∙ (ap (λ xs. xs ++ z.0) (append_assoc old x.0 y.0) ∙ append_assoc old (x.0 ++ y.0) z.0)),
     )
 
-charge : (c : goal.After-self-2-1) → IsCharged c.args.self.now c.moves_to-count.result (pos (2 * distance (spot c.args.self.now.bots) c.args.to)) (to_z w64 (of_z w64 c.energy_after-energy.result))
+charge : (c : goal.After-self-1) → IsCharged c.args.self.now c.moves_to-count.result (pos (2 * distance (spot c.args.self.now.bots) c.args.to)) (to_z w64 (of_z w64 c.energy_after-energy.result))
 charge c =
     let old = c.args.self.now in
     let value : c.energy_after-energy.result ≡ (old.energy +ℤ pos (c.moves_to-count.result * upkeep_of_step old)) +ℤ pos (2 * distance c.spot-from.result c.args.to) = search rules in
     charged_as old c.moves_to-count.result _ c.energy_after-energy.result _ (search rules) (value ∙ ap (λ p. (old.energy +ℤ pos (c.moves_to-count.result * upkeep_of_step old)) +ℤ pos (2 * distance p c.args.to)) c.spot-from.ensures.value) c.energy_after-energy.ensures.bounded
 
-comes : (c : goal.After-self-2-1) → Comes c.args.self.now (the_view (record { source = c.self.inside.source; commands = c.push_leg-3.new.commands; matrix = c.self.inside.matrix; harmonics = c.self.inside.harmonics; crew = c.move_to.new.self; energy = to_z w64 (of_z w64 c.energy_after-energy.result); profile = c.self.inside.profile; steps = c.self.inside.steps + c.moves_to-count.result })) c.args.to
+comes : (c : goal.After-self-1) → Comes c.args.self.now (progress_of c.self.inside.source c.push_leg-3.new.commands.items c.set_energy.new.self (c.self.inside.steps + c.moves_to-count.result)) c.args.to
 comes c =
     let r = c.self.inside in
+    let old = c.args.self.now in
     let l = legs c in
-    let bots = moved_one r.crew c.bots.result.now c.move_to.new.self c.args.to _ (subst (λ (o : Progress). length o.bots ≡ 1) (sym c.self.view_is) c.requires.alone) c.bots.ensures.value c.move_to.ensures.moved in
+    let energy = to_z w64 (of_z w64 c.energy_after-energy.result) in
     let count = c.moves_to-count.ensures.value ∙ ap (λ p. moves_to p c.args.to) c.spot-from.ensures.value in
-    go_makes (the_view r) c.args.self.now c.self.view_is c.self.invariant c.args.to c.push_leg-3.new.commands.items l.0 c.move_to.new.self _ c.moves_to-count.result c.requires.alone c.requires.allowed c.requires.within c.requires.ways c.requires.limit l.1 l.2 bots count (charge c)
+    let moved : c.move_to.new.self ≡ record r.system { bots = bots_at r.system.bots c.args.to } =
+    moved_one (λ (bots : List Bot). c.move_to.new.self ≡ record r.system { bots = bots }) r.system.bots c.bots.result.now c.args.to _ (subst (λ (o : Progress). length o.bots ≡ 1) (sym c.self.view_is) c.requires.alone) (c.bots.ensures.value ∙ c.crew.ensures.value) c.move_to.ensures.moved in
+    let now : c.set_energy.new.self ≡ record r.system { bots = bots_at r.system.bots c.args.to; energy = energy } = c.set_energy.ensures ∙ (λ i. record (moved i) { energy = energy }) in
+    subst (λ (s : State). Comes old (progress_of r.source c.push_leg-3.new.commands.items s (r.steps + c.moves_to-count.result)) c.args.to) (sym now)
+    (go_makes (the_view r) old c.self.view_is c.self.invariant c.args.to c.push_leg-3.new.commands.items l.0 (bots_at r.system.bots c.args.to) energy c.moves_to-count.result c.requires.alone c.requires.allowed c.requires.within c.requires.ways c.requires.limit l.1 l.2 refl count (charge c))
 
 pub invariant_of-self-2 : goal.invariant_of-self-2
 invariant_of-self-2 c = (comes c).reached

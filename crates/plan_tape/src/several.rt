@@ -1,0 +1,55 @@
+//! A step of all bots.
+ghost use Rattle.std.specs.Prelude.{◌≡◌, ◌≤◌, ◌<◌, ◌<ℤ◌, ◌+ℤ◌, pos, length, All, None};
+ghost use Rattle.vox_geom.specs.Space.{IsInSpace};
+ghost use Rattle.nano_spec.specs.Rules.{broken as broken_of};
+ghost use Rattle.nano_spec.specs.Step.{after};
+ghost use Rattle.vox_planes.specs.Voxel.{IsWhole};
+ghost use Rattle.system_state.specs.Bounds.{IsPayable};
+
+use energy_sum::a_step_changes_the_energy_by_little;
+use nano_spec::Command;
+use std::marker::Brand;
+use std::sync::ledger::{Blank, Ledger};
+use system_state::{System, Turns, know_all};
+use vox_geom::Steps;
+
+/// The groups take their turns, counted in a ledger of its own.
+fn advance_in<L: Ledger>(
+    system: &mut System,
+    turns: &mut Turns,
+    commands: &[Command],
+    step: u32,
+    blank: Blank,
+)
+    requires some { 1 ≤ length system.old.bots }
+    requires few { length commands.now ≤ length system.old.bots }
+    requires unbroken { broken_of system.old commands.now step ≡ None }
+    requires payable { IsPayable system.old.energy }
+    requires name { blank.name ≡ L.name }
+    requires parts { blank.parts ≡ L.parts }
+    requires at_least { 0 < L.parts }
+    ensures { system.new ≡ after system.old commands.now }
+{
+    let mut steps: Steps<L> = Steps::new(blank);
+    let _ = system.judge(commands, step, turns, &mut steps);
+    system.advance(commands, turns, &mut steps);
+}
+
+/// The state after the commands of a step that breaks no rule, where nobody counts the touches.
+pub fn advance(system: &mut System, turns: &mut Turns, commands: &[Command], step: u32)
+    requires some { 1 ≤ length system.old.bots }
+    requires few { length commands.now ≤ length system.old.bots }
+    requires unbroken { broken_of system.old commands.now step ≡ None }
+    requires payable { IsPayable system.old.energy }
+    ensures value { system.new ≡ after system.old commands.now }
+    ensures whole { IsWhole system.new.matrix }
+    ensures within { All (λ b. IsInSpace system.new.matrix.resolution b.pos) system.new.bots }
+    ensures rises { system.new.energy <ℤ (system.old.energy +ℤ pos 3000000000) }
+    ensures falls { system.old.energy <ℤ (system.new.energy +ℤ pos 3000000000) }
+{
+    a_step_changes_the_energy_by_little();
+    know_all(commands);
+    let _ = (system.matrix().resolution(), system.crew().count());
+    advance_in::<Brand>(system, turns, commands, step, Blank::new(1));
+    let _ = (system.matrix().resolution(), system.crew().count());
+}

@@ -1,0 +1,54 @@
+//! Changes of one part of the state, for a caller that knows the rules and the costs itself.
+ghost use Rattle.std.specs.Prelude.{◌≡◌, [], ◌∷◌, length, IfSome};
+ghost use Rattle.vox_geom.specs.Point.{point};
+ghost use Rattle.vox_geom.specs.Space.{IsInSpace};
+ghost use Rattle.nano_spec.specs.Bots.{moved};
+ghost use Rattle.vox_planes.specs.Voxel.{IsWhole, with_voxel};
+ghost use Rattle.bot_crew.specs.Crew.{IsActive, bot_at, bot_of, replaced};
+
+use super::System;
+use nano_spec::Harmonics;
+use vox_geom::Coord;
+
+impl System {
+    /// Makes the voxel at the coordinate full or void.
+    pub fn set_voxel(&mut self, c: Coord, full: bool)
+        requires { IsInSpace self.old.matrix.resolution c }
+        ensures value { self.new ≡ record self.old { matrix = with_voxel self.old.matrix c full } }
+        ensures whole { IsWhole self.new.matrix }
+    {
+        self.matrix.set(c, full);
+    }
+
+    /// Puts other harmonics in place.
+    pub fn set_harmonics(&mut self, harmonics: Harmonics)
+        ensures { self.new ≡ record self.old { harmonics = harmonics } }
+    {
+        self.harmonics = harmonics;
+    }
+
+    /// Puts another energy in place.
+    pub fn set_energy(&mut self, energy: i64)
+        ensures { self.new ≡ record self.old { energy = energy } }
+    {
+        self.energy = energy;
+    }
+
+    /// The bot goes to a coordinate at which no other stands.
+    pub fn move_to(&mut self, bid: u8, c: Coord)
+        requires active { IsActive self.old.bots bid }
+        requires free { IfSome (bot_at self.old.bots c) (λ b. b.bid ≡ bid) }
+        requires within { IsInSpace self.old.matrix.resolution c }
+        ensures moved { IfSome (bot_of self.old.bots bid) (λ b. self.new ≡ record self.old { bots = replaced self.old.bots (bid ∷ []) (moved b (point c) ∷ []) }) }
+    {
+        self.crew.move_to(bid, c);
+    }
+
+    /// The last bot halts: no bot is left.
+    pub fn halt(&mut self)
+        requires { length self.old.bots ≡ 1 }
+        ensures { self.new ≡ record self.old { bots = [] } }
+    {
+        self.crew.halt();
+    }
+}
