@@ -7,4 +7,5 @@ pub mod Meeting
 pub mod TurnTaken
 pub mod Upkeep
 pub mod Gathered
+pub mod Arranged
 pub mod Advancing
