@@ -3,6 +3,7 @@
 
 mod changes;
 mod machine;
+mod order;
 mod pending;
 mod runner;
 mod support;

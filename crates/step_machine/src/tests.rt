@@ -293,3 +293,71 @@ fn a_trace_has_its_verdict(rt: HostRuntime) -> Result<(), Fail> {
     traces::<Brand>(&rt, Blank::new(1), rt.alloc())?;
     Ok(())
 }
+
+/// Two bots, of which the second was just born beside the first, make a step whose groups are applied in rising order of
+/// their leaders, or in falling order.
+fn second_step<L: Ledger>(
+    rt: &impl Abort,
+    alloc: Global,
+    commands: &[Command],
+    falling: bool,
+    steps: &mut Steps<L>,
+) -> Result<Machine, Memory> {
+    let empty = source(rt, alloc, 5, &[], steps)?;
+    let mut machine = Machine::start(alloc, empty, Profile::full(), steps)?;
+    let split = [Command::Fission(near(rt, 0, 0, 1), 0)];
+    assert!(rt; step(rt, &mut machine, &split, steps).is_ok());
+    assert!(rt; machine.active() == 2);
+    assert!(rt; commands.len() == 2);
+    assert!(rt; machine.steps_done() < 1000);
+    let mut order = machine.leaders(commands);
+    assert!(rt; order.len() == 2);
+    assert!(rt; order[0] == 1);
+    if falling {
+        order.as_mut_slice().reverse();
+    }
+    let made = machine.step_in_order(commands, order.as_slice(), steps);
+    assert!(rt; made.is_ok());
+    Ok(machine)
+}
+
+/// A step of two bots in both orders of its groups ends in one state, with this energy.
+fn both_orders<L: Ledger>(
+    rt: &impl Abort,
+    alloc: Global,
+    commands: &[Command],
+    energy: i64,
+    steps: &mut Steps<L>,
+) -> Result<(), Memory> {
+    let rising = second_step(rt, alloc, commands, false, steps)?;
+    let falling = second_step(rt, alloc, commands, true, steps)?;
+    assert_eq!(rt; rising.crew().bots(), falling.crew().bots());
+    assert!(rt; rising.matrix().resolution() == falling.matrix().resolution());
+    assert_eq!(rt; rising.matrix().equal(falling.matrix(), steps), None);
+    assert_eq!(rt; rising.harmonics(), falling.harmonics());
+    assert_eq!(rt; rising.energy(), energy);
+    assert_eq!(rt; falling.energy(), energy);
+    Ok(())
+}
+
+/// One bot waits and the other moves; one splits and the other fills a voxel.
+fn orders<L: Ledger>(rt: &impl Abort, blank: Blank, alloc: Global) -> Result<(), Memory>
+    requires name { blank.name ≡ L.name }
+    requires parts { blank.parts ≡ L.parts }
+    requires some { 0 < L.parts }
+{
+    let mut steps: Steps<L> = Steps::new(blank);
+    let moves = [Command::Wait, Command::SMove(long(rt, 0, 0, 2))];
+    both_orders(rt, alloc, &moves, 838, &mut steps)?;
+    let changes = [
+        Command::Fission(near(rt, 0, 1, 0), 1),
+        Command::Fill(near(rt, 1, 0, 0)),
+    ];
+    both_orders(rt, alloc, &changes, 870, &mut steps)
+}
+
+#[test]
+fn both_orders_of_two_groups_end_in_one_state(rt: HostRuntime) -> Result<(), Fail> {
+    orders::<Brand>(&rt, Blank::new(1), rt.alloc())?;
+    Ok(())
+}
