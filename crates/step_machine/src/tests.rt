@@ -1,11 +1,15 @@
 //! That calls succeed with ample memory, and worked steps and traces.
-ghost use Rattle.std.specs.Prelude.{◌≡◌, ◌<◌, ◌≤◌, false, length, IfOk, None};
+ghost use Rattle.std.specs.Prelude.{◌≡◌, ◌<◌, ◌≤◌, false, length, IfOk, IsPermutation, None};
+ghost use Rattle.nano_spec.specs.Act.{acts};
 ghost use Rattle.nano_spec.specs.Grounded.{FirstUngrounded};
+ghost use Rattle.nano_spec.specs.Serial.{leader_bids};
 ghost use Rattle.vox_geom.specs.Space.{IsInSpace};
 
 use super::*;
 use crate::runner::refused;
 use crate::support::forest_of;
+use arrayvec::ArrayVec;
+use bot_crew::MOST_BOTS;
 use nano_spec::{Broken, Command, Harmonics, Profile, Rule, Verdict};
 use std::alloc::Global;
 use std::marker::Brand;
@@ -294,6 +298,27 @@ fn a_trace_has_its_verdict(rt: HostRuntime) -> Result<(), Fail> {
     Ok(())
 }
 
+/// The leaders of a step of the bots 1 and 2, in rising order or in falling order.
+fn order_of(
+    rt: &impl Abort,
+    machine: &Machine,
+    commands: &[Command],
+    falling: bool,
+) -> ArrayVec<u8, MOST_BOTS>
+    requires { length commands.now ≡ length machine.now.state.bots }
+    ensures { IsPermutation (leader_bids (acts machine.now.state.bots commands.now)) result.items }
+{
+    let rising = machine.leaders(commands);
+    assert!(rt; rising.as_slice() == [1, 2].as_slice());
+    if !falling {
+        return rising;
+    }
+    let mut order = rising;
+    order.as_mut_slice().reverse();
+    assert!(rt; order.as_slice() == [2, 1].as_slice());
+    order
+}
+
 /// Two bots, of which the second was just born beside the first, make a step whose groups are applied in rising order of
 /// their leaders, or in falling order.
 fn second_step<L: Ledger>(
@@ -310,12 +335,7 @@ fn second_step<L: Ledger>(
     assert!(rt; machine.active() == 2);
     assert!(rt; commands.len() == 2);
     assert!(rt; machine.steps_done() < 1000);
-    let mut order = machine.leaders(commands);
-    assert!(rt; order.len() == 2);
-    assert!(rt; order[0] == 1);
-    if falling {
-        order.as_mut_slice().reverse();
-    }
+    let order = order_of(rt, &machine, commands, falling);
     let made = machine.step_in_order(commands, order.as_slice(), steps);
     assert!(rt; made.is_ok());
     Ok(machine)
