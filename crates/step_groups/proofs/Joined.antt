@@ -86,10 +86,10 @@ one_more r all [] (f ∷ groups) a g h k = absurd h
 one_more r all (l ∷ leaders) [] a g h k = absurd h
 one_more r all (l ∷ leaders) (f ∷ groups) a g h k = (h.0, one_more r all leaders groups a g h.1 k)
 
-with_leader : (all xs : List Act) (a : Act) (b : Bool) → is_leader all a ≡ b → filter (is_leader all) (xs ++ a ∷ []) ≡ filter (is_leader all) xs ++ cond b (a ∷ []) []
+pub with_leader : (all xs : List Act) (a : Act) (b : Bool) → is_leader all a ≡ b → filter (is_leader all) (xs ++ a ∷ []) ≡ filter (is_leader all) xs ++ cond b (a ∷ []) []
 with_leader all xs a b e = filter-append (is_leader all) xs (a ∷ []) ∙ ap (λ t. filter (is_leader all) xs ++ cond t (a ∷ []) []) e
 
-nothing_more : {X : Type 0} (xs : List X) → xs ++ [] ≡ xs
+pub nothing_more : {X : Type 0} (xs : List X) → xs ++ [] ≡ xs
 nothing_more [] = refl
 nothing_more (x ∷ xs) = ap (λ ys. x ∷ ys) (nothing_more xs)
 

@@ -3,6 +3,7 @@
 
 mod boxes;
 mod groups;
+mod leading;
 mod members;
 mod pairs;
 mod partners;
@@ -12,6 +13,7 @@ mod single;
 mod volatile;
 
 pub use groups::{Group, Groups, judge_groups};
+pub use leading::leaders;
 pub use single::judge_single;
 
 #[cfg(test)]

@@ -43,7 +43,7 @@ fn acts_alone(command: &Command) -> bool
 }
 
 /// Whether one of these bots is of the bot's group.
-fn has_mate(bots: &[Bot], commands: &[Command], bot: &Bot, command: &Command) -> bool
+pub(crate) fn has_mate(bots: &[Bot], commands: &[Command], bot: &Bot, command: &Command) -> bool
     requires { length commands.now ≡ length bots.now }
     ensures { result ≡ list_any (are_together_of (act bot.now command.now)) (acts bots.now commands.now) }
 {

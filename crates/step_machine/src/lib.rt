@@ -4,6 +4,7 @@
 mod changes;
 mod laws;
 mod machine;
+mod order;
 mod pending;
 mod runner;
 mod support;

@@ -1,12 +1,14 @@
 //! The machine.
-ghost use Rattle.std.specs.Prelude.{◌≡◌, ℕ, pos, ◌+ℤ◌, ◌<ℤ◌, ◌+◌, ◌*◌, ◌≤◌, ◌<◌, ◌↔◌, [], true, false, length, count_by, IfOk, IfErr, IsFalse, IsTrue, None, Result, Err};
+ghost use Rattle.std.specs.Prelude.{◌≡◌, ℕ, pos, ◌+ℤ◌, ◌<ℤ◌, ◌+◌, ◌*◌, ◌≤◌, ◌<◌, ◌↔◌, [], true, false, length, count_by, IfOk, IfErr, IfSome, IsFalse, IsPermutation, IsTrue, None, Result, Err};
 ghost use Rattle.nano_spec.specs.declared.outcomes.Rule.{Rule as RuleOf};
+ghost use Rattle.nano_spec.specs.Act.{acts};
 ghost use Rattle.nano_spec.specs.Cutting.{AreCommands};
 ghost use Rattle.nano_spec.specs.Grounded.{FirstUngrounded};
 ghost use Rattle.nano_spec.specs.Level.{Level};
 ghost use Rattle.nano_spec.specs.Matrix.{is_full};
 ghost use Rattle.nano_spec.specs.Model.{volume};
 ghost use Rattle.nano_spec.specs.Next.{Breaks, Goes, Next};
+ghost use Rattle.nano_spec.specs.Serial.{leader_bids};
 ghost use Rattle.nano_spec.specs.State.{IsReady, IsWellFormed, State, opening as opening_of, origin};
 ghost use Rattle.nano_spec.specs.Step.{after};
 ghost use Rattle.nano_spec.specs.Work.{WorkOfStep};
@@ -17,8 +19,10 @@ ghost use Rattle.step_machine.specs.Edits.{is_edit};
 ghost use Rattle.step_machine.specs.Situation.{IfBroken, searched_for};
 
 use crate::MOST_CHANGED;
+use crate::order::take_turns;
 use crate::support::{forest_of, harmonics_after, refit, ungrounded};
-use bot_crew::Crew;
+use arrayvec::ArrayVec;
+use bot_crew::{Crew, MOST_BOTS};
 use energy_sum::a_step_changes_the_energy_by_little;
 use nano_spec::{
     Broken, Command, Harmonics, Profile, Rule, opening_is_ready, ready_and_well_formed,
@@ -26,6 +30,7 @@ use nano_spec::{
 use std::alloc::Global;
 use std::marker::Model;
 use std::sync::ledger::Ledger;
+use step_groups::leaders;
 use step_order::stays_well_formed;
 use support_forest::Forest;
 use system_state::{System, Turns, know_all};
@@ -138,6 +143,74 @@ impl Machine {
         ensures touches { IfOk result (λ _. (n : ℕ) → WorkOfStep self.old.state commands.now (self.old.steps + 1) n → steps.new ≤ steps.old + 100 * n) }
         ensures touches_broken { IfBroken result (λ b. (n : ℕ) → WorkOfStep self.old.state commands.now (self.old.steps + 1) n → steps.new ≤ steps.old + 100 * n + searched_for b.rule self.old.state.matrix) }
     {
+        self.make_step(commands, None, steps)
+    }
+
+    /// The same step with the same answer, its groups being applied one after another in the order of their leaders that is
+    /// given: some order of [`Machine::leaders`].
+    pub fn step_in_order<L: Ledger>(
+        &mut self,
+        commands: &[Command],
+        order: &[u8],
+        steps: &mut Steps<L>,
+    ) -> Result<StepOk, StepFault>
+        requires some { 1 ≤ length self.old.state.bots }
+        requires commands { length commands.now ≡ length self.old.state.bots }
+        requires order { IsPermutation (leader_bids (acts self.old.state.bots commands.now)) order.now }
+        requires steps { self.old.steps < 1073741824 }
+        ensures goes { IfOk result (λ _. Next self.old.state commands.now (self.old.steps + 1) (Goes self.new.state)) }
+        ensures counted { IfOk result (λ _. self.new.steps ≡ self.old.steps + 1) }
+        ensures stands { IfOk result (λ _. (self.old.spent ≡ false) × (self.new.spent ≡ false)) }
+        ensures energy { IfOk result (λ ok. ok.energy ≡ self.new.state.energy) }
+        ensures halted { IfOk result (λ ok. ok.halted ≡ true ↔ self.new.state.bots ≡ []) }
+        ensures well_formed { IfOk result (λ _. IsWellFormed self.old.state → IsWellFormed self.new.state) }
+        ensures stays { IfErr result (λ _. (self.new.state ≡ self.old.state) × (self.new.steps ≡ self.old.steps)) }
+        ensures breaks { IfBroken result (λ b. (self.old.spent ≡ false) × Next self.old.state commands.now (self.old.steps + 1) (Breaks b)) }
+        ensures ungrounded { IfBroken result (λ b. self.new.spent ≡ true ↔ b.rule ≡ RuleOf.Ungrounded) }
+        ensures memory { result ≡ Err StepFault.Memory → (self.new.spent ≡ true) × (1 ≤ count_by is_edit commands.now) }
+        ensures spent { result ≡ Err StepFault.Spent ↔ self.old.spent ≡ true }
+        ensures stays_spent { self.old.spent ≡ true → self.new.spent ≡ true }
+        ensures touches { IfOk result (λ _. (n : ℕ) → WorkOfStep self.old.state commands.now (self.old.steps + 1) n → steps.new ≤ steps.old + 100 * n) }
+        ensures touches_broken { IfBroken result (λ b. (n : ℕ) → WorkOfStep self.old.state commands.now (self.old.steps + 1) n → steps.new ≤ steps.old + 100 * n + searched_for b.rule self.old.state.matrix) }
+    {
+        self.make_step(commands, Some(order), steps)
+    }
+
+    /// The bids of the leaders of the step's groups, in rising order, also where the step breaks a rule.
+    pub fn leaders(&self, commands: &[Command]) -> ArrayVec<u8, MOST_BOTS>
+        requires { length commands.now ≡ length self.now.state.bots }
+        ensures { result.items ≡ leader_bids (acts self.now.state.bots commands.now) }
+    {
+        leaders(self.system.crew(), commands)
+    }
+
+    /// A step whose groups are applied in the order that is given, or else in rising order.
+    fn make_step<L: Ledger>(
+        &mut self,
+        commands: &[Command],
+        order: Option<&[u8]>,
+        steps: &mut Steps<L>,
+    ) -> Result<StepOk, StepFault>
+        requires some { 1 ≤ length self.old.state.bots }
+        requires few { length commands.now ≤ length self.old.state.bots }
+        requires commands { IfSome order (λ _. length commands.now ≡ length self.old.state.bots) }
+        requires order { IfSome order (λ o. IsPermutation (leader_bids (acts self.old.state.bots commands.now)) o.now) }
+        requires steps { self.old.steps < 1073741824 }
+        ensures goes { IfOk result (λ _. Next self.old.state commands.now (self.old.steps + 1) (Goes self.new.state)) }
+        ensures counted { IfOk result (λ _. self.new.steps ≡ self.old.steps + 1) }
+        ensures stands { IfOk result (λ _. (self.old.spent ≡ false) × (self.new.spent ≡ false)) }
+        ensures energy { IfOk result (λ ok. ok.energy ≡ self.new.state.energy) }
+        ensures halted { IfOk result (λ ok. ok.halted ≡ true ↔ self.new.state.bots ≡ []) }
+        ensures well_formed { IfOk result (λ _. IsWellFormed self.old.state → IsWellFormed self.new.state) }
+        ensures stays { IfErr result (λ _. (self.new.state ≡ self.old.state) × (self.new.steps ≡ self.old.steps)) }
+        ensures breaks { IfBroken result (λ b. (self.old.spent ≡ false) × Next self.old.state commands.now (self.old.steps + 1) (Breaks b)) }
+        ensures ungrounded { IfBroken result (λ b. self.new.spent ≡ true ↔ b.rule ≡ RuleOf.Ungrounded) }
+        ensures memory { result ≡ Err StepFault.Memory → (self.new.spent ≡ true) × (1 ≤ count_by is_edit commands.now) }
+        ensures spent { result ≡ Err StepFault.Spent ↔ self.old.spent ≡ true }
+        ensures stays_spent { self.old.spent ≡ true → self.new.spent ≡ true }
+        ensures touches { IfOk result (λ _. (n : ℕ) → WorkOfStep self.old.state commands.now (self.old.steps + 1) n → steps.new ≤ steps.old + 100 * n) }
+        ensures touches_broken { IfBroken result (λ b. (n : ℕ) → WorkOfStep self.old.state commands.now (self.old.steps + 1) n → steps.new ≤ steps.old + 100 * n + searched_for b.rule self.old.state.matrix) }
+    {
         if self.spent {
             return Err(StepFault::Spent);
         }
@@ -170,7 +243,7 @@ impl Machine {
                 at,
             }));
         }
-        self.system.advance(commands, &self.turns, steps);
+        take_turns(&mut self.system, commands, &mut self.turns, order, steps);
         self.steps = step;
         Ok(StepOk {
             energy: self.system.energy(),

@@ -1,11 +1,15 @@
 //! That calls succeed with ample memory, and worked steps and traces.
-ghost use Rattle.std.specs.Prelude.{◌≡◌, ◌<◌, ◌≤◌, false, length, IfOk, None};
+ghost use Rattle.std.specs.Prelude.{◌≡◌, ◌<◌, ◌≤◌, false, length, IfOk, IsPermutation, None};
+ghost use Rattle.nano_spec.specs.Act.{acts};
 ghost use Rattle.nano_spec.specs.Grounded.{FirstUngrounded};
+ghost use Rattle.nano_spec.specs.Serial.{leader_bids};
 ghost use Rattle.vox_geom.specs.Space.{IsInSpace};
 
 use super::*;
 use crate::runner::refused;
 use crate::support::forest_of;
+use arrayvec::ArrayVec;
+use bot_crew::MOST_BOTS;
 use nano_spec::{Broken, Command, Harmonics, Profile, Rule, Verdict};
 use std::alloc::Global;
 use std::marker::Brand;
@@ -291,5 +295,89 @@ fn traces<L: Ledger>(rt: &impl Abort, blank: Blank, alloc: Global) -> Result<(),
 #[test]
 fn a_trace_has_its_verdict(rt: HostRuntime) -> Result<(), Fail> {
     traces::<Brand>(&rt, Blank::new(1), rt.alloc())?;
+    Ok(())
+}
+
+/// The leaders of a step of the bots 1 and 2, in rising order or in falling order.
+fn order_of(
+    rt: &impl Abort,
+    machine: &Machine,
+    commands: &[Command],
+    falling: bool,
+) -> ArrayVec<u8, MOST_BOTS>
+    requires { length commands.now ≡ length machine.now.state.bots }
+    ensures { IsPermutation (leader_bids (acts machine.now.state.bots commands.now)) result.items }
+{
+    let rising = machine.leaders(commands);
+    assert!(rt; rising.as_slice() == [1, 2].as_slice());
+    if !falling {
+        return rising;
+    }
+    let mut order = rising;
+    order.as_mut_slice().reverse();
+    assert!(rt; order.as_slice() == [2, 1].as_slice());
+    order
+}
+
+/// Two bots, of which the second was just born beside the first, make a step whose groups are applied in rising order of
+/// their leaders, or in falling order.
+fn second_step<L: Ledger>(
+    rt: &impl Abort,
+    alloc: Global,
+    commands: &[Command],
+    falling: bool,
+    steps: &mut Steps<L>,
+) -> Result<Machine, Memory> {
+    let empty = source(rt, alloc, 5, &[], steps)?;
+    let mut machine = Machine::start(alloc, empty, Profile::full(), steps)?;
+    let split = [Command::Fission(near(rt, 0, 0, 1), 0)];
+    assert!(rt; step(rt, &mut machine, &split, steps).is_ok());
+    assert!(rt; machine.active() == 2);
+    assert!(rt; commands.len() == 2);
+    assert!(rt; machine.steps_done() < 1000);
+    let order = order_of(rt, &machine, commands, falling);
+    let made = machine.step_in_order(commands, order.as_slice(), steps);
+    assert!(rt; made.is_ok());
+    Ok(machine)
+}
+
+/// A step of two bots in both orders of its groups ends in one state, with this energy.
+fn both_orders<L: Ledger>(
+    rt: &impl Abort,
+    alloc: Global,
+    commands: &[Command],
+    energy: i64,
+    steps: &mut Steps<L>,
+) -> Result<(), Memory> {
+    let rising = second_step(rt, alloc, commands, false, steps)?;
+    let falling = second_step(rt, alloc, commands, true, steps)?;
+    assert_eq!(rt; rising.crew().bots(), falling.crew().bots());
+    assert!(rt; rising.matrix().resolution() == falling.matrix().resolution());
+    assert_eq!(rt; rising.matrix().equal(falling.matrix(), steps), None);
+    assert_eq!(rt; rising.harmonics(), falling.harmonics());
+    assert_eq!(rt; rising.energy(), energy);
+    assert_eq!(rt; falling.energy(), energy);
+    Ok(())
+}
+
+/// One bot waits and the other moves; one splits and the other fills a voxel.
+fn orders<L: Ledger>(rt: &impl Abort, blank: Blank, alloc: Global) -> Result<(), Memory>
+    requires name { blank.name ≡ L.name }
+    requires parts { blank.parts ≡ L.parts }
+    requires some { 0 < L.parts }
+{
+    let mut steps: Steps<L> = Steps::new(blank);
+    let moves = [Command::Wait, Command::SMove(long(rt, 0, 0, 2))];
+    both_orders(rt, alloc, &moves, 838, &mut steps)?;
+    let changes = [
+        Command::Fission(near(rt, 0, 1, 0), 1),
+        Command::Fill(near(rt, 1, 0, 0)),
+    ];
+    both_orders(rt, alloc, &changes, 870, &mut steps)
+}
+
+#[test]
+fn both_orders_of_two_groups_end_in_one_state(rt: HostRuntime) -> Result<(), Fail> {
+    orders::<Brand>(&rt, Blank::new(1), rt.alloc())?;
     Ok(())
 }

@@ -3,7 +3,6 @@ use Rattle.std.proofs.Common.{rules, ◌≡◌, ℕ, zero, suc, ◌+◌, ◌<◌
 use Rattle.std.specs.Prelude.{Some, None, Option, IfSome, IsPermutation, IsTrue, filter, flat_map, slice_get, sum, count_by, ℤ}
 use Rattle.std.specs.List.{Contains, list_any}
 use Rattle.std.proofs.lemmas.Int.{ints}
-use Rattle.std.proofs.lemmas.List.Sorted.{IsPermutation-refl}
 use Rattle.std.proofs.lemmas.List.Sums.{sum_by-cons}
 use Rattle.vox_geom.specs.declared.coordinate.Coord.{Coord}
 use Rattle.vox_geom.specs.Point.{point}
@@ -27,6 +26,7 @@ use Rattle.energy_sum.specs.Costs.{is_met, met}
 use Rattle.step_order.specs.SomeGroups.{after_some}
 use Rattle.step_order.proofs.Effects.{fills_own, voids_own}
 use Rattle.step_order.proofs.Facts.{IsGood, good_is, rising_is}
+use Rattle.step_order.proofs.Order.{listed}
 use Rattle.step_order.proofs.Lists.{In, any_in, filter_in, in_any, in_filter, in_place, in_right}
 use Rattle.system_state.specs.declared.turns.Turn.{Turn}
 use Rattle.system_state.specs.Bounds.{IsWithin}
@@ -154,46 +154,43 @@ no_turn = record { leader = 0; place = 0; partner = 0 }
 abbrev pub Replaces : Type 0
 Replaces = (u : State) (group : List Act) → (after_group u group).bots ≡ replaced u.bots (map (λ (a : Act). a.bot.bid) group) (flat_map (λ (a : Act). successors group a a.command) group)
 
-pub at_turn : (xs : List Act) (before rest : List Act) (l : Act) → xs ≡ before ++ l ∷ rest → IsPermutation xs (before ++ l ∷ rest)
-at_turn xs before rest l e = subst (λ (ys : List Act). IsPermutation xs ys) e (IsPermutation-refl xs)
-
 module _ (s : State) (commands : List Command) (step : ℕ) (ready : IsReady s) (keep : broken s commands step ≡ None) (known : AreCommands commands)
-    (turns : List Turn) (are : AreTurns (acts s.bots commands) (leaders (acts s.bots commands)) turns) (i : ℕ) (lt : i < length turns) (d : Turn)
+    (order : List Act) (perm : IsPermutation (leaders (acts s.bots commands)) order) (turns : List Turn) (are : AreTurns (acts s.bots commands) order turns) (i : ℕ) (lt : i < length turns) (d : Turn)
     (turn_of : OfTurns TurnOf)
-    (now : State) (taken : now ≡ after_some s (acts s.bots commands) (take i (leaders (acts s.bots commands)))) (now_ready : IsReady now) where
-  here : (l : Act) × (leaders (acts s.bots commands) ≡ take i (leaders (acts s.bots commands)) ++ l ∷ drop (i + 1) (leaders (acts s.bots commands))) × IsTurn (acts s.bots commands) l (get_or turns i d) × (take (i + 1) (leaders (acts s.bots commands)) ≡ take i (leaders (acts s.bots commands)) ++ l ∷ [])
-  here = turn_at (acts s.bots commands) (leaders (acts s.bots commands)) turns i d are lt
+    (now : State) (taken : now ≡ after_some s (acts s.bots commands) (take i order)) (now_ready : IsReady now) where
+  here : (l : Act) × (order ≡ take i order ++ l ∷ drop (i + 1) order) × IsTurn (acts s.bots commands) l (get_or turns i d) × (take (i + 1) order ≡ take i order ++ l ∷ [])
+  here = turn_at (acts s.bots commands) order turns i d are lt
 
   leads : In here.0 (leaders (acts s.bots commands))
-  leads = subst (λ (xs : List Act). In here.0 xs) (sym here.1) (in_right here.0 (take i (leaders (acts s.bots commands))) (here.0 ∷ drop (i + 1) (leaders (acts s.bots commands))) (inl refl))
+  leads = listed (leaders (acts s.bots commands)) order perm here.0 (subst (λ (xs : List Act). In here.0 xs) (sym here.1) (in_right here.0 (take i order) (here.0 ∷ drop (i + 1) order) (inl refl)))
 
-  law : TurnOf s (acts s.bots commands) (take i (leaders (acts s.bots commands))) here.0
-  law = turn_of s commands step ready keep (take i (leaders (acts s.bots commands))) (drop (i + 1) (leaders (acts s.bots commands))) here.0 (at_turn (leaders (acts s.bots commands)) (take i (leaders (acts s.bots commands))) (drop (i + 1) (leaders (acts s.bots commands))) here.0 here.1)
+  law : TurnOf s (acts s.bots commands) (take i order) here.0
+  law = turn_of s commands step ready keep (take i order) (drop (i + 1) order) here.0 (subst (λ (xs : List Act). IsPermutation (leaders (acts s.bots commands)) xs) here.1 perm)
 
   good : IsGood s (acts s.bots commands)
   good = good_is s commands step ready keep
 
-  ready_there : IsReady (after_some s (acts s.bots commands) (take i (leaders (acts s.bots commands))))
+  ready_there : IsReady (after_some s (acts s.bots commands) (take i order))
   ready_there = subst (λ (t : State). IsReady t) taken now_ready
 
-  within_there : (b : Bot) → In b (after_some s (acts s.bots commands) (take i (leaders (acts s.bots commands)))).bots → IsInSpace s.matrix.resolution b.pos
-  within_there b j = let p = in_place b b (after_some s (acts s.bots commands) (take i (leaders (acts s.bots commands)))).bots j in subst (λ (c : Bot). IsInSpace s.matrix.resolution c.pos) p.2 (ready_there.within p.0 b p.1)
+  within_there : (b : Bot) → In b (after_some s (acts s.bots commands) (take i order)).bots → IsInSpace s.matrix.resolution b.pos
+  within_there b j = let p = in_place b b (after_some s (acts s.bots commands) (take i order)).bots j in subst (λ (c : Bot). IsInSpace s.matrix.resolution c.pos) p.2 (ready_there.within p.0 b p.1)
 
-  apart_there : (x y : Bot) → In x (successors (members (acts s.bots commands) here.0) here.0 here.0.command) → In y (after_some s (acts s.bots commands) (take i (leaders (acts s.bots commands)))).bots → x.pos ≡ y.pos → y ≡ here.0.bot
+  apart_there : (x y : Bot) → In x (successors (members (acts s.bots commands) here.0) here.0 here.0.command) → In y (after_some s (acts s.bots commands) (take i order)).bots → x.pos ≡ y.pos → y ≡ here.0.bot
   apart_there x y j k e = law.places x y (contained x _ j) (contained y _ k) e
 
-  may : MayTake s.matrix.resolution (after_some s (acts s.bots commands) (take i (leaders (acts s.bots commands)))).bots here.0.bot (get_or turns i d).partner here.0.command
-  may = may_take s (acts s.bots commands) good here.0 leads (after_some s (acts s.bots commands) (take i (leaders (acts s.bots commands)))) law.bots law.rules apart_there
-      (rising_is (after_some s (acts s.bots commands) (take i (leaders (acts s.bots commands)))).bots ready_there.rising) within_there (get_or turns i d).partner here.2.partner
+  may : MayTake s.matrix.resolution (after_some s (acts s.bots commands) (take i order)).bots here.0.bot (get_or turns i d).partner here.0.command
+  may = may_take s (acts s.bots commands) good here.0 leads (after_some s (acts s.bots commands) (take i order)) law.bots law.rules apart_there
+      (rising_is (after_some s (acts s.bots commands) (take i order)).bots ready_there.rising) within_there (get_or turns i d).partner here.2.partner
       (known_at s.bots commands known here.0 (filter_in (is_leader (acts s.bots commands)) here.0 (acts s.bots commands) leads).0)
 
   found_now : bot_of now.bots (get_or turns i d).leader ≡ Some here.0.bot
   found_now =
       (λ j. bot_of (taken j).bots (here.2.leader j))
-      ∙ found_there s (acts s.bots commands) good here.0 leads (after_some s (acts s.bots commands) (take i (leaders (acts s.bots commands)))) law.bots law.rules apart_there
-      (rising_is (after_some s (acts s.bots commands) (take i (leaders (acts s.bots commands)))).bots ready_there.rising) within_there (get_or turns i d).partner here.2.partner here.0
-      (itself_in s (acts s.bots commands) good here.0 leads (after_some s (acts s.bots commands) (take i (leaders (acts s.bots commands)))) law.bots law.rules apart_there
-      (rising_is (after_some s (acts s.bots commands) (take i (leaders (acts s.bots commands)))).bots ready_there.rising) within_there (get_or turns i d).partner here.2.partner)
+      ∙ found_there s (acts s.bots commands) good here.0 leads (after_some s (acts s.bots commands) (take i order)) law.bots law.rules apart_there
+      (rising_is (after_some s (acts s.bots commands) (take i order)).bots ready_there.rising) within_there (get_or turns i d).partner here.2.partner here.0
+      (itself_in s (acts s.bots commands) good here.0 leads (after_some s (acts s.bots commands) (take i order)) law.bots law.rules apart_there
+      (rising_is (after_some s (acts s.bots commands) (take i order)).bots ready_there.rising) within_there (get_or turns i d).partner here.2.partner)
 
   pub place_below : (get_or turns i d).place < length commands
   place_below = (command_at s.bots commands (get_or turns i d).place here.0 here.2.place).0
@@ -205,26 +202,26 @@ module _ (s : State) (commands : List Command) (step : ℕ) (ready : IsReady s) 
   may_now command e =
       subst (λ (o : Option Bot). IfSome o (λ bot. MayTake now.matrix.resolution now.bots bot (get_or turns i d).partner command)) (sym found_now)
       (subst (λ (t : State). MayTake t.matrix.resolution t.bots here.0.bot (get_or turns i d).partner command) (sym taken)
-      (subst (λ (c : Command). MayTake s.matrix.resolution (after_some s (acts s.bots commands) (take i (leaders (acts s.bots commands)))).bots here.0.bot (get_or turns i d).partner c) (sym (command_is command e)) may))
+      (subst (λ (c : Command). MayTake s.matrix.resolution (after_some s (acts s.bots commands) (take i order)).bots here.0.bot (get_or turns i d).partner c) (sym (command_is command e)) may))
 
-  pub taken_more : Replaces → (command : Command) → command ≡ get_or commands (get_or turns i d).place command → (new : State) → IfSome (bot_of now.bots (get_or turns i d).leader) (λ bot. new ≡ after_turn now bot (get_or turns i d).partner command) → new ≡ after_some s (acts s.bots commands) (take (i + 1) (leaders (acts s.bots commands)))
+  pub taken_more : Replaces → (command : Command) → command ≡ get_or commands (get_or turns i d).place command → (new : State) → IfSome (bot_of now.bots (get_or turns i d).leader) (λ bot. new ≡ after_turn now bot (get_or turns i d).partner command) → new ≡ after_some s (acts s.bots commands) (take (i + 1) order)
   taken_more replaces command e new h =
       subst (λ (o : Option Bot). IfSome o (λ bot. new ≡ after_turn now bot (get_or turns i d).partner command)) found_now h
       ∙ ((λ j. after_turn (taken j) here.0.bot (get_or turns i d).partner (command_is command e j))
-      ∙ (turn_is_group s (acts s.bots commands) good here.0 leads (after_some s (acts s.bots commands) (take i (leaders (acts s.bots commands)))) law.bots law.rules apart_there
-      (rising_is (after_some s (acts s.bots commands) (take i (leaders (acts s.bots commands)))).bots ready_there.rising) within_there (get_or turns i d).partner here.2.partner replaces
+      ∙ (turn_is_group s (acts s.bots commands) good here.0 leads (after_some s (acts s.bots commands) (take i order)) law.bots law.rules apart_there
+      (rising_is (after_some s (acts s.bots commands) (take i order)).bots ready_there.rising) within_there (get_or turns i d).partner here.2.partner replaces
       ∙ (law.next ∙ ap (after_some s (acts s.bots commands)) (sym here.3))))
 
-  pub touched_more : (command : Command) → command ≡ get_or commands (get_or turns i d).place command → (old new start : ℕ) → IfSome (bot_of now.bots (get_or turns i d).leader) (λ bot. new ≤ old + met_count now.matrix bot command) → old ≤ start + sum (map (volatile_count s.matrix (acts s.bots commands)) (take i (leaders (acts s.bots commands)))) → new ≤ start + sum (map (volatile_count s.matrix (acts s.bots commands)) (take (i + 1) (leaders (acts s.bots commands))))
+  pub touched_more : (command : Command) → command ≡ get_or commands (get_or turns i d).place command → (old new start : ℕ) → IfSome (bot_of now.bots (get_or turns i d).leader) (λ bot. new ≤ old + met_count now.matrix bot command) → old ≤ start + sum (map (volatile_count s.matrix (acts s.bots commands)) (take i order)) → new ≤ start + sum (map (volatile_count s.matrix (acts s.bots commands)) (take (i + 1) order))
   touched_more command e old new start h k =
       let a : new ≤ old + met_count now.matrix here.0.bot command = subst (λ (o : Option Bot). IfSome o (λ bot. new ≤ old + met_count now.matrix bot command)) found_now h in
       let b : met_count now.matrix here.0.bot command ≡ met_count s.matrix here.0.bot here.0.command = (λ j. met_count (taken j).matrix here.0.bot (command_is command e j)) in
       let m : met_count s.matrix here.0.bot here.0.command ≤ volatile_count s.matrix (acts s.bots commands) here.0 = met_volatile s.matrix (acts s.bots commands) here.0
-      (itself_in s (acts s.bots commands) good here.0 leads (after_some s (acts s.bots commands) (take i (leaders (acts s.bots commands)))) law.bots law.rules apart_there
-      (rising_is (after_some s (acts s.bots commands) (take i (leaders (acts s.bots commands)))).bots ready_there.rising) within_there (get_or turns i d).partner here.2.partner)
+      (itself_in s (acts s.bots commands) good here.0 leads (after_some s (acts s.bots commands) (take i order)) law.bots law.rules apart_there
+      (rising_is (after_some s (acts s.bots commands) (take i order)).bots ready_there.rising) within_there (get_or turns i d).partner here.2.partner)
       may.stays in
-      let t : sum (map (volatile_count s.matrix (acts s.bots commands)) (take (i + 1) (leaders (acts s.bots commands)))) ≡ sum (map (volatile_count s.matrix (acts s.bots commands)) (take i (leaders (acts s.bots commands)))) + volatile_count s.matrix (acts s.bots commands) here.0 =
-      ap (λ (xs : List Act). sum (map (volatile_count s.matrix (acts s.bots commands)) xs)) here.3 ∙ sums_more (volatile_count s.matrix (acts s.bots commands)) (take i (leaders (acts s.bots commands))) here.0 in
+      let t : sum (map (volatile_count s.matrix (acts s.bots commands)) (take (i + 1) order)) ≡ sum (map (volatile_count s.matrix (acts s.bots commands)) (take i order)) + volatile_count s.matrix (acts s.bots commands) here.0 =
+      ap (λ (xs : List Act). sum (map (volatile_count s.matrix (acts s.bots commands)) xs)) here.3 ∙ sums_more (volatile_count s.matrix (acts s.bots commands)) (take i order) here.0 in
       omega arith
 
 pub within_wider : (a b : ℕ) (e : ℤ) → a ≤ b → IsWithin a e → IsWithin b e

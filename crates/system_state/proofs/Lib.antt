@@ -7,5 +7,6 @@ pub mod Meeting
 pub mod TurnTaken
 pub mod Upkeep
 pub mod Gathered
+pub mod Arranged
 pub mod Advancing
 pub mod Parts

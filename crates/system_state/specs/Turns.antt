@@ -1,7 +1,7 @@
 -- The turns of the groups of a step (docs/FORMATS.md, "Groups").
-use Rattle.std.specs.Prelude.{◌≡◌, ℕ, List, [], ◌∷◌, map, slice_get, slice_index_or, Some}
+use Rattle.std.specs.Prelude.{◌≡◌, ℕ, List, [], ◌∷◌, map, slice_get, slice_index_or, IsPermutation, Some}
 use Rattle.nano_spec.specs.Act.{Act}
-use Rattle.nano_spec.specs.Group.{members}
+use Rattle.nano_spec.specs.Group.{leaders, members}
 use Rattle.system_state.specs.declared.turns.Turn.{Turn}
 
 -- the bid of an act's bot
@@ -18,5 +18,15 @@ pub record IsTurn (all : List Act) (a : Act) (t : Turn) : Type 0 where
 abbrev pub AreTurns : List Act → List Act → List Turn → Type 0
 AreTurns all [] [] = Unit {0}
 AreTurns all [] (t ∷ turns) = ⊥
-AreTurns all (a ∷ leaders) [] = ⊥
-AreTurns all (a ∷ leaders) (t ∷ turns) = IsTurn all a t × AreTurns all leaders turns
+AreTurns all (a ∷ firsts) [] = ⊥
+AreTurns all (a ∷ firsts) (t ∷ turns) = IsTurn all a t × AreTurns all firsts turns
+
+-- the bid of a turn's leader
+abbrev pub leader_of : Turn → ℕ
+leader_of t = t.leader
+
+-- the turns of all groups of a step, each once, in some order of their leaders
+pub record AreAllTurns (all : List Act) (turns : List Turn) : Type 0 where
+  pub order : List Act
+  pub groups : IsPermutation (leaders all) order
+  pub each : AreTurns all order turns

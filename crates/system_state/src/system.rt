@@ -1,11 +1,12 @@
 //! The state of the system.
-ghost use Rattle.std.specs.Prelude.{◌≡◌, ℕ, ◌+◌, ◌*◌, ◌≤◌, ◌<◌, pos, ◌+ℤ◌, ◌≤ℤ◌, [], ◌∷◌, List, length, IfOk, IfNone, IfSome, None, Some};
+ghost use Rattle.std.specs.Prelude.{◌≡◌, ℕ, ◌+◌, ◌*◌, ◌≤◌, ◌<◌, pos, ◌+ℤ◌, ◌≤ℤ◌, [], ◌∷◌, List, length, map, IfOk, IfNone, IfSome, IsPermutation, None, Some};
 ghost use Rattle.nano_spec.specs.declared.commands.Command.{Command as Trace};
 ghost use Rattle.nano_spec.specs.declared.system.Bot.{Bot as ActiveBot};
 ghost use Rattle.nano_spec.specs.Act.{acts};
 ghost use Rattle.nano_spec.specs.Group.{leaders};
 ghost use Rattle.nano_spec.specs.Energy.{upkeep as upkeep_of, upkeep_of as upkeep_at_of};
 ghost use Rattle.nano_spec.specs.Rules.{broken as broken_of, judge_trace};
+ghost use Rattle.nano_spec.specs.Serial.{leader_bids};
 ghost use Rattle.nano_spec.specs.State.{IsReady, opening as opening_of};
 ghost use Rattle.nano_spec.specs.Step.{after, harmonics_after};
 ghost use Rattle.nano_spec.specs.Work.{volatile_total};
@@ -14,7 +15,7 @@ ghost use Rattle.vox_planes.specs.Voxel.{IsWhole};
 ghost use Rattle.system_state.specs.Bounds.{IsPayable, IsWithin};
 ghost use Rattle.system_state.specs.Effects.{MayTake, act, after_turn};
 ghost use Rattle.system_state.specs.Painting.{met_count};
-ghost use Rattle.system_state.specs.Turns.{AreTurns};
+ghost use Rattle.system_state.specs.Turns.{AreAllTurns, AreTurns, leader_of};
 
 mod parts;
 
@@ -290,10 +291,10 @@ impl System {
         self.energy = paid(self.energy, cost);
     }
 
-    /// The groups take their turns: all effects and costs of a step that breaks none of the rules that are judged at its start.
-    pub fn advance<L: Ledger>(&mut self, commands: &[Command], turns: &Turns, steps: &mut Steps<L>)
+    /// The groups take their turns, one after another: all effects and costs of a step that breaks no rule at its start.
+    fn take_turns<L: Ledger>(&mut self, commands: &[Command], turns: &Turns, steps: &mut Steps<L>)
         requires judged { (step : ℕ) × (broken_of self.old commands.now step ≡ None) }
-        requires turns { AreTurns (acts self.old.bots commands.now) (leaders (acts self.old.bots commands.now)) turns.now }
+        requires turns { AreAllTurns (acts self.old.bots commands.now) turns.now }
         requires payable { IsPayable self.old.energy }
         ensures value { self.new ≡ after self.old commands.now }
         ensures touches { steps.new ≤ steps.old + volatile_total self.old.matrix (acts self.old.bots commands.now) }
@@ -307,5 +308,39 @@ impl System {
             let _ = self.crew();
             self.take_turn(*turn, &commands[usize::from(turn.place)], steps);
         }
+    }
+
+    /// All effects and costs of a step that breaks none of the rules that are judged at its start, group by group in rising
+    /// order of their leaders.
+    pub fn advance<L: Ledger>(&mut self, commands: &[Command], turns: &Turns, steps: &mut Steps<L>)
+        requires judged { (step : ℕ) × (broken_of self.old commands.now step ≡ None) }
+        requires turns { AreTurns (acts self.old.bots commands.now) (leaders (acts self.old.bots commands.now)) turns.now }
+        requires payable { IsPayable self.old.energy }
+        ensures value { self.new ≡ after self.old commands.now }
+        ensures touches { steps.new ≤ steps.old + volatile_total self.old.matrix (acts self.old.bots commands.now) }
+    {
+        self.take_turns(commands, turns, steps);
+    }
+
+    /// The same, group by group in the order of their leaders that is given, in which the turns are left.
+    pub fn advance_in_order<L: Ledger>(
+        &mut self,
+        commands: &[Command],
+        turns: &mut Turns,
+        order: &[u8],
+        steps: &mut Steps<L>,
+    )
+        requires commands { length commands.now ≡ length self.old.bots }
+        requires judged { (step : ℕ) × (broken_of self.old commands.now step ≡ None) }
+        requires turns { AreTurns (acts self.old.bots commands.now) (leaders (acts self.old.bots commands.now)) turns.old }
+        requires order { IsPermutation (leader_bids (acts self.old.bots commands.now)) order.now }
+        requires payable { IsPayable self.old.energy }
+        ensures value { self.new ≡ after self.old commands.now }
+        ensures arranged { map leader_of turns.new ≡ order.now }
+        ensures touches { steps.new ≤ steps.old + volatile_total self.old.matrix (acts self.old.bots commands.now) }
+    {
+        let _ = self.crew();
+        turns.arrange(order);
+        self.take_turns(commands, turns, steps);
     }
 }

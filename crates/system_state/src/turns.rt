@@ -1,11 +1,12 @@
 //! The turns of the groups of a step.
-ghost use Rattle.std.specs.Prelude.{◌≡◌, ◌<◌, ◌≤◌, ℕ, List, AllPairs, length, slice_index_or};
+ghost use Rattle.std.specs.Prelude.{◌≡◌, ◌<◌, ◌≤◌, ℕ, List, AllPairs, IsPermutation, length, map, slice_index_or};
+ghost use Rattle.std.specs.List.{Contains};
 ghost use Rattle.nano_spec.specs.declared.commands.Command.{Command};
 ghost use Rattle.nano_spec.specs.declared.system.Bot.{Bot as ActiveBot};
 ghost use Rattle.nano_spec.specs.Act.{acts};
 ghost use Rattle.nano_spec.specs.Group.{leaders};
 ghost use Rattle.step_groups.specs.Groups.{AreGroups};
-ghost use Rattle.system_state.specs.Turns.{AreTurns};
+ghost use Rattle.system_state.specs.Turns.{AreAllTurns, AreTurns, leader_of};
 
 use arrayvec::ArrayVec;
 use bot_crew::MOST_BOTS;
@@ -22,7 +23,7 @@ pub struct Turn {
     pub partner: u8,
 }
 
-/// The turns of a step, in rising order of their leaders. It is kept from step to step.
+/// The turns of a step, in rising order of their leaders until they are arranged. It is kept from step to step.
 #[derive(Drop)]
 pub struct Turns {
     pub(crate) groups: Groups,
@@ -69,6 +70,33 @@ impl Turns {
             partner: 0,
         });
     }
+
+    /// Puts the turns in the order of these leaders.
+    pub(crate) fn arrange(&mut self, order: &[u8])
+        requires { IsPermutation (map leader_of self.old) order.now }
+        ensures leaders { map leader_of self.new ≡ order.now }
+        ensures groups { (bots : List ActiveBot) (commands : List Command) → AllPairs (λ a b. a.bid < b.bid) bots → length commands ≡ length bots → AreTurns (acts bots commands) (leaders (acts bots commands)) self.old → AreAllTurns (acts bots commands) self.new }
+    {
+        let mut arranged = ArrayVec::new();
+        for leader in order {
+            arranged.push(turn_of(self.turns.as_slice(), *leader));
+        }
+        self.turns = arranged;
+    }
+}
+
+/// The turn of a leader.
+fn turn_of(turns: &[Turn], leader: u8) -> Turn
+    requires { Contains (map leader_of turns.now) leader }
+    ensures leader { result.leader ≡ leader }
+    ensures is_one { Contains turns.now result }
+{
+    for turn in turns {
+        if turn.leader == leader {
+            return *turn;
+        }
+    }
+    Turn::default()
 }
 
 /// The bid of the second member, 0 where there is none.
