@@ -1,0 +1,97 @@
+//! Puts a voxel beside others whose levels stay as they are.
+ghost use Rattle.std.specs.Prelude.{◌≡◌, ℕ, ◌+◌, ◌<◌, ◌≤◌, IfOk, MatchBool};
+ghost use Rattle.vox_geom.specs.Space.{IsInSpace};
+ghost use Rattle.vox_geom.specs.declared.coordinate.Coord.{Coord};
+ghost use Rattle.support_forest.specs.Directions.{Toward};
+ghost use Rattle.support_forest.specs.Grid.{word_at};
+ghost use Rattle.support_forest.specs.Placing.{HavePlaced, IsAround};
+ghost use Rattle.support_forest.specs.Words.{AreExact};
+
+use crate::cells::Cells;
+use crate::directions::neighbor;
+use std::alloc::AllocError;
+use std::sync::ledger::Ledger;
+use vox_geom::{Coord, Steps};
+
+/// What lies around a void voxel: the least height that it is offered, 0 where it is offered none, with the direction of
+/// the parent; the greatest height of a neighbour; and whether a full neighbour has no height.
+#[derive(Clone, Copy)]
+pub struct Around {
+    pub height: u32,
+    pub toward: u8,
+    pub highest: u32,
+    pub is_loose: bool,
+}
+
+/// What is known with one more neighbour.
+fn with_neighbor(around: Around, d: u8, word: u32) -> Around
+    ensures { (w : Coord → ℕ) (c q : Coord) → Toward d c q → word ≡ w q → IsAround w c around d → IsAround w c result (d + 1) }
+{
+    if word == 0 {
+        return around;
+    }
+    if word < 8 {
+        return Around {
+            is_loose: true,
+            ..around
+        };
+    }
+    let height = word / 8;
+    let highest = around.highest.max(height);
+    if around.height != 0 && around.height <= height + 1 {
+        return Around { highest, ..around };
+    }
+    Around {
+        height: height + 1,
+        toward: d,
+        highest,
+        is_loose: around.is_loose,
+    }
+}
+
+/// What lies around a void voxel.
+fn look_around<L: Ledger>(cells: &Cells, c: Coord, steps: &mut Steps<L>) -> Around
+    requires within { IsInSpace cells.now.resolution c }
+    requires space { (q : Coord) → 0 < word_at cells.now q → IsInSpace cells.now.resolution q }
+    ensures around { IsAround (word_at cells.now) c result 7 }
+    ensures few { cells.now.resolution ≤ 400 }
+    ensures touches { steps.new ≤ steps.old + 6 }
+{
+    let r = cells.resolution();
+    let mut around = Around {
+        height: if c.y == 0 { 1 } else { 0 },
+        toward: 0,
+        highest: 0,
+        is_loose: false,
+    };
+    for d in 1..7u8 {
+        if let Some(q) = neighbor(c, d, r) {
+            let word = cells.word(q, steps);
+            around = with_neighbor(around, d, word);
+        }
+    }
+    around
+}
+
+/// Makes a void voxel full, where no other level changes by it, and tells whether it did: otherwise all stays.
+pub fn place<L: Ledger>(
+    cells: &mut Cells,
+    c: Coord,
+    steps: &mut Steps<L>,
+) -> Result<bool, AllocError>
+    requires exact { AreExact cells.old.resolution (word_at cells.old) }
+    requires within { IsInSpace cells.old.resolution c }
+    requires void { word_at cells.old c ≡ 0 }
+    ensures { IfOk result (λ done. MatchBool done (HavePlaced cells.old cells.new c steps.old steps.new) (cells.new ≡ cells.old × steps.new ≤ steps.old + 6)) }
+{
+    let around = look_around(cells, c, steps);
+    if around.height == 0 {
+        cells.fill(c, 1, steps)?;
+        return Ok(true);
+    }
+    if around.is_loose || around.height + 1 < around.highest {
+        return Ok(false);
+    }
+    cells.fill(c, 8 * around.height + u32::from(around.toward), steps)?;
+    Ok(true)
+}
