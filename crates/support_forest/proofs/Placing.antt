@@ -17,6 +17,9 @@ use Rattle.support_forest.proofs.Depth.{not_deep}
 use Rattle.support_forest.proofs.Settling.{same_or_not, sound_range}
 use Rattle.support_forest.proofs.Sides.{back, one_toward, toward_range_seven}
 
+pub positive : (n : ℕ) → (n ≡ 0 → ⊥) → 0 < n
+positive n h = elim (cases_lt 0 n) [ inl l ↦ l | inr l ↦ absurd (h (omega arith)) ]
+
 -- ---- one neighbour more
 
 the_word : (w : Coord → ℕ) (c q p : Coord) (d k : ℕ) → Toward d c q → Toward k c p → d ≡ k → w p ≡ w q

@@ -14,6 +14,11 @@ pub record IsAround (w : Coord → ℕ) (c : Coord) (a : Around) (d : ℕ) : Typ
   pub highest : (k : ℕ) (q : Coord) → k < d → Toward k c q → 8 ≤ w q → height w q ≤ a.highest
   pub loose : (k : ℕ) (q : Coord) → k < d → Toward k c q → 0 < w q → w q < 8 → a.is_loose ≡ true
 
+-- the word is that of the neighbour in the direction, 0 where there is none
+pub record IsWordToward (w : Coord → ℕ) (c : Coord) (d word : ℕ) : Type 0 where
+  pub each : (q : Coord) → Toward d c q → w q ≡ word
+  pub some : 0 < word → (q : Coord) × Toward d c q
+
 -- the voxel became full, and the words are exact
 pub record HavePlaced (old new : Grid) (c : Coord) (before after : ℕ) : Type 0 where
   pub resolution : new.resolution ≡ old.resolution

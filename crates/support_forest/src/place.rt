@@ -2,9 +2,8 @@
 ghost use Rattle.std.specs.Prelude.{◌≡◌, ℕ, ◌+◌, ◌<◌, ◌≤◌, IfOk, MatchBool};
 ghost use Rattle.vox_geom.specs.Space.{IsInSpace};
 ghost use Rattle.vox_geom.specs.declared.coordinate.Coord.{Coord};
-ghost use Rattle.support_forest.specs.Directions.{Toward};
 ghost use Rattle.support_forest.specs.Grid.{word_at};
-ghost use Rattle.support_forest.specs.Placing.{HavePlaced, IsAround};
+ghost use Rattle.support_forest.specs.Placing.{HavePlaced, IsAround, IsWordToward};
 ghost use Rattle.support_forest.specs.Words.{AreExact};
 
 use crate::cells::Cells;
@@ -23,9 +22,9 @@ pub struct Around {
     pub is_loose: bool,
 }
 
-/// What is known with one more neighbour.
+/// What is known with one more neighbour, of this word.
 fn with_neighbor(around: Around, d: u8, word: u32) -> Around
-    ensures { (w : Coord → ℕ) (c q : Coord) → Toward d c q → word ≡ w q → IsAround w c around d → IsAround w c result (d + 1) }
+    ensures { (w : Coord → ℕ) (c : Coord) → IsWordToward w c d word → IsAround w c around d → IsAround w c result (d + 1) }
 {
     if word == 0 {
         return around;
@@ -49,29 +48,22 @@ fn with_neighbor(around: Around, d: u8, word: u32) -> Around
     }
 }
 
-/// What is known once the neighbour in a direction was looked at.
-fn look_toward<L: Ledger>(
-    cells: &Cells,
-    c: Coord,
-    around: Around,
-    d: u8,
-    steps: &mut Steps<L>,
-) -> Around
+/// The word of the neighbour in a direction, 0 where there is none.
+fn word_toward<L: Ledger>(cells: &Cells, c: Coord, d: u8, steps: &mut Steps<L>) -> u32
     requires direction { (0 < d) × (d ≤ 6) }
     requires within { IsInSpace cells.now.resolution c }
     requires space { (q : Coord) → 0 < word_at cells.now q → IsInSpace cells.now.resolution q }
-    ensures around { IsAround (word_at cells.now) c around d → IsAround (word_at cells.now) c result (d + 1) }
+    ensures word { IsWordToward (word_at cells.now) c d result }
     ensures few { cells.now.resolution ≤ 400 }
     ensures touch { steps.new ≤ steps.old + 1 }
 {
-    let Some(q) = neighbor(c, d, cells.resolution()) else {
-        return around;
-    };
-    let word = cells.word(q, steps);
-    with_neighbor(around, d, word)
+    match neighbor(c, d, cells.resolution()) {
+        Some(q) => cells.word(q, steps),
+        None => 0,
+    }
 }
 
-/// What lies around a void voxel. One call for each direction is quicker than a loop.
+/// What lies around a void voxel. The six words are read before they are looked at: one call for each is quicker than a loop.
 fn look_around<L: Ledger>(cells: &Cells, c: Coord, steps: &mut Steps<L>) -> Around
     requires within { IsInSpace cells.now.resolution c }
     requires space { (q : Coord) → 0 < word_at cells.now q → IsInSpace cells.now.resolution q }
@@ -79,18 +71,24 @@ fn look_around<L: Ledger>(cells: &Cells, c: Coord, steps: &mut Steps<L>) -> Arou
     ensures few { cells.now.resolution ≤ 400 }
     ensures touches { steps.new ≤ steps.old + 6 }
 {
-    let known = Around {
+    let one = word_toward(cells, c, 1, steps);
+    let two = word_toward(cells, c, 2, steps);
+    let three = word_toward(cells, c, 3, steps);
+    let four = word_toward(cells, c, 4, steps);
+    let five = word_toward(cells, c, 5, steps);
+    let six = word_toward(cells, c, 6, steps);
+    let mut around = Around {
         height: if c.y == 0 { 1 } else { 0 },
         toward: 0,
         highest: 0,
         is_loose: false,
     };
-    let one = look_toward(cells, c, known, 1, steps);
-    let two = look_toward(cells, c, one, 2, steps);
-    let three = look_toward(cells, c, two, 3, steps);
-    let four = look_toward(cells, c, three, 4, steps);
-    let five = look_toward(cells, c, four, 5, steps);
-    look_toward(cells, c, five, 6, steps)
+    around = with_neighbor(around, 1, one);
+    around = with_neighbor(around, 2, two);
+    around = with_neighbor(around, 3, three);
+    around = with_neighbor(around, 4, four);
+    around = with_neighbor(around, 5, five);
+    with_neighbor(around, 6, six)
 }
 
 /// Makes a void voxel full, where no other level changes by it, and tells whether it did: otherwise all stays.
