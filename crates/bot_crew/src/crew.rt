@@ -1,5 +1,5 @@
 //! The active bots.
-ghost use Rattle.std.specs.Prelude.{◌≡◌, ◌≢◌, ℕ, ◌+◌, ◌<◌, ◌≤◌, [], ◌∷◌, length, option_map, slice_index_or, IfSome, IsNone};
+ghost use Rattle.std.specs.Prelude.{◌≡◌, ◌≢◌, ℕ, ◌+◌, ◌<◌, ◌≤◌, [], ◌∷◌, length, option_map, slice_index_or, AllPairs, IfSome, IsNone};
 ghost use Rattle.vox_geom.specs.Point.{point};
 ghost use Rattle.nano_spec.specs.declared.system.Bot.{Bot as ActiveBot};
 ghost use Rattle.nano_spec.specs.Bots.{fused, moved, newborn, parent};
@@ -48,6 +48,20 @@ fn place_of(bots: &[Bot], bid: u8) -> usize
     bots.len()
 }
 
+/// The place of a bid among rising bots. Where all lesser bids are there it is one less than the bid: this is tried first.
+fn place_among(bots: &[Bot], bid: u8) -> usize
+    requires { AllPairs (λ a b. a.bid < b.bid) bots.now }
+    ensures within { result ≤ length bots.now }
+    ensures before { (k : ℕ) (d : ActiveBot) → k < result → (slice_index_or bots.now k d).bid < bid }
+    ensures from { (d : ActiveBot) → result < length bots.now → bid ≤ (slice_index_or bots.now result d).bid }
+{
+    let likely = usize::from(bid.saturating_sub(1));
+    if likely < bots.len() && bots[likely].bid == bid {
+        return likely;
+    }
+    place_of(bots, bid)
+}
+
 impl Crew {
     /// The bots of an opening: the bot with bid 1 at (0,0,0), whose seeds are the profile's number of seeds from 2 on.
     pub fn opening(profile: Profile) -> Crew
@@ -83,7 +97,7 @@ impl Crew {
     pub fn bot(&self, bid: u8) -> Option<Bot>
         ensures { result ≡ bot_of self.now bid }
     {
-        let Some(bot) = self.bots.get(place_of(&self.bots, bid)) else {
+        let Some(bot) = self.bots.get(place_among(&self.bots, bid)) else {
             return None;
         };
         if bot.bid == bid { Some(*bot) } else { None }
@@ -107,7 +121,7 @@ impl Crew {
         requires free { IfSome (bot_at self.old c) (λ b. b.bid ≡ bid) }
         ensures moved { IfSome (bot_of self.old bid) (λ b. self.new ≡ replaced self.old (bid ∷ []) (moved b (point c) ∷ [])) }
     {
-        let place = place_of(&self.bots, bid);
+        let place = place_among(&self.bots, bid);
         self.bots[place].pos = c;
     }
 

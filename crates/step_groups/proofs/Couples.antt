@@ -1,6 +1,5 @@
 -- The groups of leaders, place by place.
-use Rattle.std.proofs.Common.{◌≡◌, ℕ, zero, suc, ◌+◌, ◌<◌, ◌≤◌, refl, ap, sym, ◌∙◌, arith, List, [], ◌∷◌, ◌++◌, ◌-◌, take, drop, length, length-drop, get_or, map, Option, Some, None, ◌&&◌, subst}
-use Rattle.std.proofs.lemmas.List.{take_all}
+use Rattle.std.proofs.Common.{◌≡◌, ℕ, zero, suc, ◌+◌, ◌<◌, ◌≤◌, refl, ap, sym, ◌∙◌, arith, List, [], ◌∷◌, ◌++◌, ◌-◌, take, drop, length, get_or, map, Option, Some, None, ◌&&◌, subst}
 use Rattle.vox_geom.specs.declared.coordinate.Coord.{Coord}
 use Rattle.vox_geom.specs.Point.{point}
 use Rattle.vox_geom.specs.Region.{Corners}

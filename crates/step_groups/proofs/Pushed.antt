@@ -1,8 +1,7 @@
 -- The groups of the leaders up to a place, with one more bot.
-use Rattle.std.proofs.Common.{◌≡◌, ℕ, ◌+◌, ◌-◌, ◌<◌, ◌≤◌, ap, sym, ◌∙◌, subst, arith, false, true, ◌||◌, List, [], ◌∷◌, ◌++◌, filter, length, length-drop, map, take, drop, get_or}
+use Rattle.std.proofs.Common.{◌≡◌, ℕ, ◌+◌, ◌-◌, ◌<◌, ◌≤◌, ap, sym, ◌∙◌, subst, false, true, ◌||◌, List, [], ◌∷◌, ◌++◌, filter, length, map, take, drop, get_or}
 use Rattle.std.specs.Prelude.{IsTrue, All, AllPairs}
 use Rattle.std.specs.List.{list_any}
-use Rattle.std.proofs.lemmas.List.{take_all}
 use Rattle.vox_geom.specs.declared.coordinate.Coord.{Coord}
 use Rattle.vox_geom.specs.Point.{point}
 use Rattle.vox_geom.specs.Region.{is_within, span}

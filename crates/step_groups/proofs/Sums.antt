@@ -1,5 +1,5 @@
 -- The touches of all bots: a bot that reads voxels is alone, so it leads a group whose volatile coordinates pay for them.
-use Rattle.std.proofs.Common.{◌≡◌, ℕ, ◌+◌, ◌*◌, ◌<◌, ◌≤◌, refl, ap, sym, ◌∙◌, subst, arith, inl, inr, Bool, true, false, ◌&&◌, ◌||◌, not, cond, List, [], ◌∷◌, ◌++◌, count_by, filter, length, map}
+use Rattle.std.proofs.Common.{◌≡◌, ℕ, ◌+◌, ◌*◌, ◌<◌, ◌≤◌, refl, ap, sym, ◌∙◌, subst, arith, inl, inr, Bool, true, false, ◌&&◌, not, cond, List, [], ◌∷◌, ◌++◌, count_by, filter, length, map}
 use Rattle.std.specs.Prelude.{IsTrue, AllPairs, sum, sum_by}
 use Rattle.std.specs.List.{list_any}
 use Rattle.std.proofs.lemmas.List.Sums.{sum_by-cons}
@@ -29,14 +29,14 @@ found x (y ∷ ys) (inl e) = record { before = []; after = ys; whole = λ i. sym
 found x (y ∷ ys) (inr i) = let w = found x ys i in record { before = y ∷ w.before; after = w.after; whole = ap (λ zs. y ∷ zs) w.whole }
 
 module _ (m : Matrix) (all : List Act) (up : Rising (map (λ (x : Act). x.bot) all)) where
-  alone_members : (a : Act) → In a all → IsTrue (is_alone a.command) → members all a ≡ a ∷ []
+  pub alone_members : (a : Act) → In a all → IsTrue (is_alone a.command) → members all a ≡ a ∷ []
   alone_members a i h =
       let w = found a all i in
       let up' : Rising (map (λ (x : Act). x.bot) (w.before ++ a ∷ w.after)) = subst (λ (zs : List Act). Rising (map (λ (x : Act). x.bot) zs)) w.whole up in
       ap (λ (zs : List Act). members zs a) w.whole
       ∙ (group w.before w.after a up' (none_before w.before w.after a up' h) ∙ ap (λ zs. a ∷ zs) (none_after w.before w.after a up' h))
 
-  alone_leads : (a : Act) → In a all → IsTrue (is_alone a.command) → is_leader all a ≡ true
+  pub alone_leads : (a : Act) → In a all → IsTrue (is_alone a.command) → is_leader all a ≡ true
   alone_leads a i h =
       let w = found a all i in
       let up' : Rising (map (λ (x : Act). x.bot) (w.before ++ a ∷ w.after)) = subst (λ (zs : List Act). Rising (map (λ (x : Act). x.bot) zs)) w.whole up in

@@ -1,3 +1,4 @@
 pub mod Judging
 pub mod Boxes
 pub mod Groups
+pub mod Apart

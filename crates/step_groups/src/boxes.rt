@@ -35,7 +35,7 @@ pub(crate) fn clash(first: &[Region], second: &[Region]) -> Option<Coord>
 }
 
 /// The box around two boxes.
-fn around(a: &Region, b: &Region) -> Region
+pub(crate) fn around(a: &Region, b: &Region) -> Region
     ensures first { (c : Coordinate) → IsTrue (is_within (span a.now) (point c)) → IsTrue (is_within (span result) (point c)) }
     ensures second { (c : Coordinate) → IsTrue (is_within (span b.now) (point c)) → IsTrue (is_within (span result) (point c)) }
 {

@@ -1,13 +1,15 @@
 //! The groups of a step.
-ghost use Rattle.std.specs.Prelude.{◌≡◌, ◌+◌, ◌≤◌, ◌<◌, ◌*◌, ℤ, length, [], All, IfErr, IfOk, OnErr, OnOk, Some, None};
+ghost use Rattle.std.specs.Prelude.{◌≡◌, ◌+◌, ◌≤◌, ◌<◌, ◌*◌, ℤ, length, [], ◌∷◌, All, IsTrue, IfErr, IfOk, OnErr, OnOk, Some, None};
+ghost use Rattle.std.specs.List.{list_all};
 ghost use Rattle.vox_geom.specs.Space.{IsInSpace};
 ghost use Rattle.nano_spec.specs.Act.{acts};
-ghost use Rattle.nano_spec.specs.Group.{leaders};
+ghost use Rattle.nano_spec.specs.Group.{leaders, members};
 ghost use Rattle.nano_spec.specs.Rules.{broken};
 ghost use Rattle.nano_spec.specs.Work.{volatile_total};
 ghost use Rattle.step_groups.specs.Groups.{AreGroups};
-ghost use Rattle.step_groups.specs.Judging.{start_of};
+ghost use Rattle.step_groups.specs.Judging.{is_alone, start_of};
 
+use crate::apart::are_apart;
 use crate::members::gather;
 use crate::pairs::judge_pairs;
 use crate::rules::{Step, judge_bots};
@@ -110,6 +112,46 @@ impl Groups {
             return Err(broken);
         }
         Ok(())
+    }
+
+    /// Judges a step in which each command needs no other bot, so that each bot is a group of its own: the first rule that is
+    /// broken. Mostly boxes around what is volatile for the bots are apart, and no group is made.
+    pub fn judge_lone<L: Ledger>(
+        &mut self,
+        crew: &Crew,
+        planes: &Planes,
+        harmonics: Harmonics,
+        profile: Profile,
+        commands: &[Command],
+        step: u32,
+        steps: &mut Steps<L>,
+    ) -> Option<Broken>
+        requires lengths { length commands.now ≡ length crew.now }
+        requires within { All (λ b. IsInSpace planes.now.resolution b.pos) crew.now }
+        requires lone { IsTrue (list_all is_alone commands.now) }
+        ensures value { (energy : ℤ) → result ≡ broken (record (start_of planes.now harmonics profile crew.now) { energy = energy }) commands.now step }
+        ensures leads { leaders (acts crew.now commands.now) ≡ acts crew.now commands.now }
+        ensures alone { All (λ a. members (acts crew.now commands.now) a ≡ a ∷ []) (acts crew.now commands.now) }
+        ensures touches { steps.new ≤ steps.old + 2 * volatile_total planes.now (acts crew.now commands.now) }
+    {
+        let bots = crew.bots();
+        let judged = Step {
+            planes,
+            harmonics,
+            profile,
+            bots,
+            commands,
+            number: step,
+        };
+        if let Some(broken) = judge_bots(&judged, steps) {
+            return Some(broken);
+        }
+        if are_apart(planes, bots, commands) {
+            return None;
+        }
+        self.groups.clear();
+        gather(&mut self.groups, planes, bots, commands);
+        judge_pairs(self.groups.as_slice(), step)
     }
 }
 

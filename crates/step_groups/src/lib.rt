@@ -1,6 +1,7 @@
 //! Which rule the commands of a step break first, and which bots act together.
 #![tactic(auto)]
 
+mod apart;
 mod boxes;
 mod groups;
 mod leading;
@@ -12,6 +13,7 @@ mod shapes;
 mod single;
 mod volatile;
 
+pub use apart::all_act_alone;
 pub use groups::{Group, Groups, judge_groups};
 pub use leading::leaders;
 pub use single::judge_single;

@@ -23,7 +23,7 @@ use vox_geom::Region;
 use vox_planes::Planes;
 
 /// Whether the command needs no other bot, so that its bot is a group of its own.
-fn acts_alone(command: &Command) -> bool
+pub(crate) fn acts_alone(command: &Command) -> bool
     ensures { result ≡ is_alone command.now }
 {
     match command {

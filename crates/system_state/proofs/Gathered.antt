@@ -1,16 +1,17 @@
 -- The turns are those of the groups, one after another.
 use Rattle.std.proofs.Common.{◌≡◌, ℕ, zero, suc, ◌+◌, ◌<◌, ◌≤◌, refl, sym, ◌∙◌, ap, subst, arith, inl, inr, List, [], ◌∷◌, ◌++◌, Bool, true, false, cond, length, take, get_or}
-use Rattle.std.specs.Prelude.{Some, filter, slice_get, slice_index_or}
+use Rattle.std.specs.Prelude.{All, Some, filter, map, slice_get, slice_index_or}
 use Rattle.nano_spec.specs.declared.commands.Command.{Command}
 use Rattle.nano_spec.specs.declared.system.Bot.{Bot}
 use Rattle.nano_spec.specs.Act.{Act, acts}
-use Rattle.nano_spec.specs.Group.{is_leader, leaders}
+use Rattle.nano_spec.specs.Group.{is_leader, leaders, members}
 use Rattle.step_groups.specs.declared.groups.Group.{Group}
 use Rattle.step_groups.specs.Groups.{AreGroups, IsGroup}
 use Rattle.step_order.proofs.Facts.{Rising}
 use Rattle.step_order.proofs.Lists.{In, filter_in}
 use Rattle.system_state.specs.declared.turns.Turn.{Turn}
-use Rattle.system_state.specs.Turns.{AreTurns, IsTurn}
+use Rattle.step_groups.proofs.Joined.{all_in}
+use Rattle.system_state.specs.Turns.{AreTurns, IsTurn, bid_of}
 
 -- ---- the place of a leader
 
@@ -104,3 +105,31 @@ pub acts_most : (bots : List Bot) (commands : List Command) → length (acts bot
 acts_most [] commands = omega arith
 acts_most (b ∷ bots) [] = omega arith
 acts_most (b ∷ bots) (c ∷ commands) = let r = acts_most bots commands in omega arith
+
+-- ---- bots each of which is a group of its own
+
+-- the act at a place
+act_here : (bots : List Bot) (commands : List Command) (i : ℕ) (b : Bot) → length commands ≡ length bots → i < length bots → b ≡ get_or bots i b → (a : Act) × (a.bot.bid ≡ b.bid) × (slice_get (acts bots commands) i ≡ Some a) × In a (acts bots commands) × (take (i + 1) (acts bots commands) ≡ take i (acts bots commands) ++ a ∷ [])
+act_here [] commands i b e l h = absurd (omega arith)
+act_here (x ∷ bots) [] i b e l h = absurd (omega arith)
+act_here (x ∷ bots) (k ∷ commands) zero b e l h = (record { bot = x; command = k }, ap (λ (y : Bot). y.bid) (sym h), refl, inl refl, refl)
+act_here (x ∷ bots) (k ∷ commands) (suc i) b e l h =
+    let w = act_here bots commands i b (omega arith) (omega arith) h in
+    (w.0, w.1, w.2, inr w.3, ap (λ n. take n (acts (x ∷ bots) (k ∷ commands))) (let f : suc i + 1 ≡ suc (i + 1) = omega arith in f) ∙ ap (λ (xs : List Act). record { bot = x; command = k } ∷ xs) w.4)
+
+pub lone_turn_more : (bots : List Bot) (commands : List Command) (turns : List Turn) (i : ℕ) (b : Bot) → length commands ≡ length bots → i < length bots → b ≡ get_or bots i b → All (λ a. members (acts bots commands) a ≡ a ∷ []) (acts bots commands) → AreTurns (acts bots commands) (take i (acts bots commands)) turns → AreTurns (acts bots commands) (take (i + 1) (acts bots commands)) (turns ++ record { leader = b.bid; place = i; partner = 0 } ∷ [])
+lone_turn_more bots commands turns i b e l h alone so_far =
+    let all = acts bots commands in
+    let w = act_here bots commands i b e l h in
+    let mates : members all w.0 ≡ w.0 ∷ [] = all_in (λ (a : Act). members all a ≡ a ∷ []) w.0 all alone w.3 in
+    subst (λ (xs : List Act). AreTurns all xs (turns ++ record { leader = b.bid; place = i; partner = 0 } ∷ [])) (sym w.4)
+    (turn_more all (take i all) turns w.0 (record { leader = b.bid; place = i; partner = 0 }) so_far (record {
+      leader = sym w.1;
+      place = w.2;
+      partner = ap (λ ms. slice_index_or (map bid_of ms) 1 0) (sym mates);
+    }))
+
+pub acts_count : (bots : List Bot) (commands : List Command) → length commands ≡ length bots → length (acts bots commands) ≡ length bots
+acts_count [] commands e = refl
+acts_count (b ∷ bots) [] e = absurd (omega arith)
+acts_count (b ∷ bots) (c ∷ commands) e = let n = acts_count bots commands (omega arith) in omega arith

@@ -1,12 +1,21 @@
 //! What the turn of a group does to the bots.
-ghost use Rattle.std.specs.Prelude.{◌≡◌, IsTrue};
+ghost use Rattle.std.specs.Prelude.{◌≡◌, ◌<◌, ◌+ℤ◌, pos, IsTrue};
 ghost use Rattle.vox_geom.specs.Point.{point, plus};
-ghost use Rattle.vox_geom.specs.Space.{IsInSpace, coordinate, in_space};
+ghost use Rattle.vox_geom.specs.Space.{IsInSpace, coordinate, in_range, in_space};
 ghost use Rattle.system_state.specs.Effects.{MayTake, bots_after};
 
 use bot_crew::Crew;
 use nano_spec::{Bot, Command};
 use vox_geom::{Coord, Diff};
+
+/// A component and what is added to it, where the sum is from 0 to r - 1.
+fn shifted(r: u16, v: u16, by: i16) -> u16
+    requires { IsTrue (in_range r (pos v +ℤ by)) }
+    ensures sum { pos result ≡ (pos v +ℤ by) }
+    ensures below { result < r }
+{
+    (i32::from(v) + i32::from(by)) as u16
+}
 
 /// The coordinate that a difference leads to within a matrix of resolution r.
 pub(crate) fn target(r: u16, from: Coord, d: Diff) -> Coord
@@ -16,7 +25,11 @@ pub(crate) fn target(r: u16, from: Coord, d: Diff) -> Coord
     ensures sum { point result ≡ plus (point from) d }
     ensures stays { IsInSpace r result }
 {
-    from.plus(d, r).unwrap_or(from)
+    Coord {
+        x: shifted(r, from.x, d.dx),
+        y: shifted(r, from.y, d.dy),
+        z: shifted(r, from.z, d.dz),
+    }
 }
 
 /// The bots after the turn of the bot's group.

@@ -1,5 +1,6 @@
 //! The state of the system.
-ghost use Rattle.std.specs.Prelude.{◌≡◌, ℕ, ◌+◌, ◌*◌, ◌≤◌, ◌<◌, pos, ◌+ℤ◌, ◌≤ℤ◌, [], ◌∷◌, List, length, map, IfOk, IfNone, IfSome, IsPermutation, None, Some};
+ghost use Rattle.std.specs.Prelude.{◌≡◌, ℕ, ◌+◌, ◌*◌, ◌≤◌, ◌<◌, pos, ◌+ℤ◌, ◌≤ℤ◌, [], ◌∷◌, List, length, map, IfOk, IfNone, IfSome, IsPermutation, IsTrue, None, Some};
+ghost use Rattle.std.specs.List.{list_all};
 ghost use Rattle.nano_spec.specs.declared.commands.Command.{Command as Trace};
 ghost use Rattle.nano_spec.specs.declared.system.Bot.{Bot as ActiveBot};
 ghost use Rattle.nano_spec.specs.Act.{acts};
@@ -11,6 +12,7 @@ ghost use Rattle.nano_spec.specs.State.{IsReady, opening as opening_of};
 ghost use Rattle.nano_spec.specs.Step.{after, harmonics_after};
 ghost use Rattle.nano_spec.specs.Work.{volatile_total};
 ghost use Rattle.bot_crew.specs.Crew.{IsCrew, bot_of};
+ghost use Rattle.step_groups.specs.Judging.{is_alone};
 ghost use Rattle.vox_planes.specs.Voxel.{IsWhole};
 ghost use Rattle.system_state.specs.Bounds.{IsPayable, IsWithin};
 ghost use Rattle.system_state.specs.Effects.{MayTake, act, after_turn};
@@ -21,7 +23,7 @@ mod parts;
 
 use crate::known::know_all;
 use crate::moves::move_bots;
-use crate::turns::{Turn, Turns, gather};
+use crate::turns::{Turn, Turns, gather, gather_lone};
 use crate::voxels::pay_turn;
 use bot_crew::{Crew, crew_is_ready, group_is_replaced};
 use energy_sum::upkeep;
@@ -29,7 +31,7 @@ use nano_spec::{Broken, Command, Harmonics, Profile, Rule};
 use std::alloc::Global;
 use std::marker::Model;
 use std::sync::ledger::Ledger;
-use step_groups::judge_single;
+use step_groups::{all_act_alone, judge_single};
 use step_order::groups_take_turns;
 use vox_geom::{MOST_R, Memory, Steps};
 use vox_planes::{ChangeList, Planes};
@@ -186,6 +188,8 @@ impl System {
         }
         if count == 1 {
             self.judge_single(commands, step, turns, steps)
+        } else if all_act_alone(commands) {
+            self.judge_lone(commands, step, turns, steps)
         } else {
             self.judge_several(commands, step, turns, steps)
         }
@@ -221,6 +225,32 @@ impl System {
     {
         turns.set_single(self.crew.bots()[0].bid);
         judge_single(
+            &self.crew,
+            &self.matrix,
+            self.harmonics,
+            self.profile,
+            commands,
+            step,
+            steps,
+        )
+    }
+
+    /// Judges the step of bots each of which is a group of its own.
+    fn judge_lone<L: Ledger>(
+        &self,
+        commands: &[Command],
+        step: u32,
+        turns: &mut Turns,
+        steps: &mut Steps<L>,
+    ) -> Option<Broken>
+        requires lone { IsTrue (list_all is_alone commands.now) }
+        requires commands { length commands.now ≡ length self.now.bots }
+        ensures value { result ≡ broken_of self.now commands.now step }
+        ensures turns { AreTurns (acts self.now.bots commands.now) (leaders (acts self.now.bots commands.now)) turns.new }
+        ensures touches { steps.new ≤ steps.old + 2 * volatile_total self.now.matrix (acts self.now.bots commands.now) }
+    {
+        gather_lone(&mut turns.turns, self.crew.bots());
+        turns.groups.judge_lone(
             &self.crew,
             &self.matrix,
             self.harmonics,

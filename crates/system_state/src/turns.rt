@@ -1,10 +1,10 @@
 //! The turns of the groups of a step.
-ghost use Rattle.std.specs.Prelude.{◌≡◌, ◌<◌, ◌≤◌, ℕ, List, AllPairs, IsPermutation, length, map, slice_index_or};
+ghost use Rattle.std.specs.Prelude.{◌≡◌, ◌<◌, ◌≤◌, ℕ, [], ◌∷◌, List, All, AllPairs, IsPermutation, length, map, slice_index_or};
 ghost use Rattle.std.specs.List.{Contains};
 ghost use Rattle.nano_spec.specs.declared.commands.Command.{Command};
 ghost use Rattle.nano_spec.specs.declared.system.Bot.{Bot as ActiveBot};
 ghost use Rattle.nano_spec.specs.Act.{acts};
-ghost use Rattle.nano_spec.specs.Group.{leaders};
+ghost use Rattle.nano_spec.specs.Group.{leaders, members};
 ghost use Rattle.step_groups.specs.Groups.{AreGroups};
 ghost use Rattle.system_state.specs.Turns.{AreAllTurns, AreTurns, leader_of};
 
@@ -135,6 +135,21 @@ pub(crate) fn gather(turns: &mut ArrayVec<Turn, MOST_BOTS>, groups: &[Group], bo
             leader: group.leader,
             place: place_of(bots, group.leader),
             partner: partner_of(group),
+        });
+    }
+}
+
+/// The turns of bots each of which is a group of its own.
+pub(crate) fn gather_lone(turns: &mut ArrayVec<Turn, MOST_BOTS>, bots: &[Bot])
+    requires { length bots.now ≤ 40 }
+    ensures { (commands : List Command) → length commands ≡ length bots.now → leaders (acts bots.now commands) ≡ acts bots.now commands → All (λ a. members (acts bots.now commands) a ≡ a ∷ []) (acts bots.now commands) → AreTurns (acts bots.now commands) (leaders (acts bots.now commands)) turns.new.items }
+{
+    turns.clear();
+    for i in 0..bots.len() {
+        turns.push(Turn {
+            leader: bots[i].bid,
+            place: i as u8,
+            partner: 0,
         });
     }
 }

@@ -34,6 +34,26 @@ fn set_cells(matrix: &mut Planes, cells: &[Coord], full: bool)
     }
 }
 
+/// Lists the voxel if it is not yet full, or else not yet void.
+fn list_other<L: Ledger>(
+    matrix: &Planes,
+    changed: &mut ChangeList,
+    c: Coord,
+    full: bool,
+    steps: &mut Steps<L>,
+)
+    requires within { IsInSpace matrix.now.resolution c }
+    requires room { 1 ≤ changed.old.spare + length changed.old.items }
+    ensures items { changed.new.items ≡ cond (is_state matrix.now (not full) c) (c ∷ []) [] }
+    ensures room { changed.old.spare + length changed.old.items ≤ changed.new.spare + length changed.new.items }
+    ensures touch { steps.new ≤ steps.old + 1 }
+{
+    changed.clear();
+    if matrix.full_at(c, steps) != full {
+        changed.push(c);
+    }
+}
+
 /// Lists the voxels of the region that are not yet full, or else not yet void.
 fn list_others<L: Ledger>(
     matrix: &Planes,
@@ -48,6 +68,11 @@ fn list_others<L: Ledger>(
     ensures room { changed.old.spare + length changed.old.items ≤ changed.new.spare + length changed.new.items }
     ensures touches { steps.new ≤ steps.old + size (span region.now) }
 {
+    let c = region.low();
+    if c == region.high() {
+        list_other(matrix, changed, c, full, steps);
+        return;
+    }
     changed.clear();
     if full {
         matrix.list_void(region, changed, steps);

@@ -1,0 +1,33 @@
+use Rattle.std.proofs.Common.{arith, get_or}
+use Rattle.std.proofs.lemmas.List.{get_or_default}
+use Rattle.nano_spec.specs.declared.system.Bot.{Bot}
+use Rattle.step_groups.specs.Judging.{act}
+use Rattle.step_groups.proofs.Lone.{boxed_more}
+use Rattle.step_groups.proofs.Mates.{take_more}
+use Rattle.step_groups.proofs.Pushed.{stays_here}
+use Rattle.step_groups.proofs.apart.are_apart.Goals as goal
+
+-- what reading gives past the end
+abbrev blank : Bot
+blank = record { bid = 0; pos = record { x = 0; y = 0; z = 0 }; seeds = 0 }
+
+pub own_hull-hull-requires-clause-stays : goal.own_hull-hull-requires-clause-stays
+own_hull-hull-requires-clause-stays c =
+    let bots = c.args.bots.now in
+    let i = c.loop-i.i in
+    stays_here c.args.planes.now.resolution bots c.args.commands.now i (get_or bots i blank) c.index-commands-i.result c.loop-i-test.true c.requires.lengths (get_or_default bots i blank (get_or bots i blank) c.loop-i-test.true) c.index-commands-i.is c.requires.stays
+
+pub loop-i-preserved : goal.loop-i-preserved
+loop-i-preserved c =
+    let bots = c.args.bots.now in
+    let i = c.loop-i.i in
+    let b = get_or bots i blank in
+    let k = c.index-commands-i.result in
+    record {
+      boxed = boxed_more _ _ (act b k) c.loop-i.hulls.items c.push.new.self.items c.as_slice.result.now c.as_slice-in-loop-i.result.now c.loop-i.all c.with_box-all.result c.own_hull-hull.result
+          c.loop-i.invariant.boxed
+          (take_more bots c.args.commands.now i b k c.loop-i-test.true c.requires.lengths (get_or_default bots i blank b c.loop-i-test.true) c.index-commands-i.is)
+          c.push.ensures.items c.as_slice.ensures.value c.as_slice-in-loop-i.ensures.value c.own_hull-hull.ensures
+          (c.is_apart.ensures c.if-not-is_apart.false) c.with_box-all.ensures;
+      len = let l = c.push.ensures.len in let m = c.loop-i.invariant.len in omega arith;
+    }

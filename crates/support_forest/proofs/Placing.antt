@@ -1,0 +1,266 @@
+-- A voxel that becomes full beside others whose levels stay as they are.
+use Rattle.std.proofs.Common.{◌≡◌, ℕ, ◌+◌, ◌*◌, ◌/◌, ◌%◌, ◌<◌, ◌≤◌, ◌⊎◌, inl, inr, sym, ◌∙◌, ap, subst, arith, Bool, true, false, List, length}
+use Rattle.std.specs.Prelude.{slice_index_or, MatchBool}
+use Rattle.std.specs.List.{Contains}
+use Rattle.std.proofs.lemmas.Bool.{cases_lt, false≢true}
+use Rattle.std.proofs.lemmas.List.{get_or_default}
+use Rattle.vox_geom.specs.declared.coordinate.Coord.{Coord}
+use Rattle.vox_geom.specs.Space.{IsInSpace}
+use Rattle.support_forest.specs.declared.candidate.Candidate.{Candidate}
+use Rattle.support_forest.specs.declared.place.Around.{Around}
+use Rattle.support_forest.specs.Directions.{Toward, AreBeside}
+use Rattle.support_forest.specs.Grid.{Grid, word_at}
+use Rattle.support_forest.specs.Placing.{HavePlaced, IsAround}
+use Rattle.support_forest.specs.Waiting.{CanAdd, HaveAdded}
+use Rattle.support_forest.specs.Words.{height, AreExact, AreSettling, IsSound, IsWritten}
+use Rattle.support_forest.proofs.Depth.{not_deep}
+use Rattle.support_forest.proofs.Settling.{same_or_not, sound_range}
+use Rattle.support_forest.proofs.Sides.{back, one_toward, toward_range_seven}
+
+pub positive : (n : ℕ) → (n ≡ 0 → ⊥) → 0 < n
+positive n h = elim (cases_lt 0 n) [ inl l ↦ l | inr l ↦ absurd (h (omega arith)) ]
+
+-- ---- one neighbour more
+
+the_word : (w : Coord → ℕ) (c q p : Coord) (d k : ℕ) → Toward d c q → Toward k c p → d ≡ k → w p ≡ w q
+the_word w c q p d k t u e = ap w (sym (one_toward k c q p (subst (λ (j : ℕ). Toward j c q) e t) u))
+
+-- what was known of the directions below, and what the one more adds
+pub one_more : (w : Coord → ℕ) (c q : Coord) (a b : Around) (d : ℕ) → Toward d c q → IsAround w c a d →
+    (c.y ≡ 0 → b.height ≡ 1) →
+    ((b.height ≡ 0) ⊎ IsSound w (record { at = c; height = b.height; toward = b.toward })) →
+    ((n : ℕ) → (0 < a.height) × (a.height ≤ n) → (0 < b.height) × (b.height ≤ n)) →
+    a.highest ≤ b.highest → (a.is_loose ≡ true → b.is_loose ≡ true) →
+    (8 ≤ w q → (0 < b.height) × (b.height ≤ height w q + 1) × (height w q ≤ b.highest)) →
+    (0 < w q → w q < 8 → b.is_loose ≡ true) →
+    IsAround w c b (d + 1)
+one_more w c q a b d t i floor sound lower higher looser near loose = record {
+  floor = floor;
+  sound = sound;
+  least = λ k p l u h. elim (cases_lt k d) [
+    | inl m ↦ lower (height w p + 1) (i.least k p m u h)
+    | inr m ↦ let e : w p ≡ w q = the_word w c q p d k t u (omega arith) in let n = near (omega arith) in (n.0, omega (arith, n.1))
+  ];
+  highest = λ k p l u h. elim (cases_lt k d) [
+    | inl m ↦ let n : height w p ≤ a.highest = i.highest k p m u h in omega arith
+    | inr m ↦ let e : w p ≡ w q = the_word w c q p d k t u (omega arith) in let n = near (omega arith) in omega (arith, n.2)
+  ];
+  loose = λ k p l u f h. elim (cases_lt k d) [
+    | inl m ↦ looser (i.loose k p m u f h)
+    | inr m ↦ let e : w p ≡ w q = the_word w c q p d k t u (omega arith) in loose (omega arith) (omega arith)
+  ];
+}
+
+-- no neighbour lies in the direction, or it is void
+pub around_void : (w : Coord → ℕ) (c : Coord) (a : Around) (d : ℕ) → ((q : Coord) → Toward d c q → w q ≡ 0) → IsAround w c a d → IsAround w c a (d + 1)
+around_void w c a d z i = record {
+  floor = i.floor;
+  sound = i.sound;
+  least = λ k p l u h. elim (cases_lt k d) [ inl m ↦ i.least k p m u h | inr m ↦ absurd (let e = none k p u (omega arith) in omega arith) ];
+  highest = λ k p l u h. elim (cases_lt k d) [ inl m ↦ i.highest k p m u h | inr m ↦ absurd (let e = none k p u (omega arith) in omega arith) ];
+  loose = λ k p l u f h. elim (cases_lt k d) [ inl m ↦ i.loose k p m u f h | inr m ↦ absurd (let e = none k p u (omega arith) in omega arith) ];
+}
+  where
+    none : (k : ℕ) (p : Coord) → Toward k c p → k ≡ d → w p ≡ 0
+    none k p u e = z p (subst (λ (j : ℕ). Toward j c p) e u)
+
+-- ---- exact words with one more voxel
+
+-- no height is greater than there are coordinates
+pub exact_low : (r : ℕ) (w : Coord → ℕ) (q : Coord) → AreExact r w → 8 ≤ w q → height w q ≤ r * r * r
+exact_low r w q e h = not_deep r w (λ _. ⊥) (height w q) q settling (λ y n. absurd n) (omega arith) h
+  where
+    settling : AreSettling r w (λ _. ⊥)
+    settling = record {
+      space = e.space;
+      form = e.form;
+      floor = λ c f y. let k : w c ≡ 8 = e.floor c f y in inl (omega arith);
+      parent = λ c g. elim (e.parent c g) [ inl k ↦ inl k | inr k ↦ inr (k.0, k.1, k.2, omega (arith, k.3)) ];
+      near = λ a b f g n. inl (e.near a b f g n);
+      sound = λ x n. absurd n;
+      within = λ x n. absurd n;
+    }
+
+beside_back : (a b : Coord) → AreBeside a b → AreBeside b a
+beside_back a b n = let k = back n.direction a b n.toward in record { direction = k.direction; toward = k.toward }
+
+not_beside : (d : ℕ) (a b : Coord) → a ≡ b → Toward d a b → ⊥
+unfolding Toward
+not_beside d a b e h = apart (ap (λ (c : Coord). c.x) e) (ap (λ (c : Coord). c.y) e) (ap (λ (c : Coord). c.z) e) h
+  where
+    apart : a.x ≡ b.x → a.y ≡ b.y → a.z ≡ b.z → ((d ≡ 1) × (a.x ≡ b.x + 1) × (a.y ≡ b.y) × (a.z ≡ b.z)) ⊎ (((d ≡ 2) × (b.x ≡ a.x + 1) × (a.y ≡ b.y) × (a.z ≡ b.z)) ⊎ (((d ≡ 3) × (a.x ≡ b.x) × (a.y ≡ b.y + 1) × (a.z ≡ b.z)) ⊎ (((d ≡ 4) × (a.x ≡ b.x) × (b.y ≡ a.y + 1) × (a.z ≡ b.z)) ⊎ (((d ≡ 5) × (a.x ≡ b.x) × (a.y ≡ b.y) × (a.z ≡ b.z + 1)) ⊎ ((d ≡ 6) × (a.x ≡ b.x) × (a.y ≡ b.y) × (b.z ≡ a.z + 1)))))) → ⊥
+    apart x y z (inl k) = omega arith
+    apart x y z (inr (inl k)) = omega arith
+    apart x y z (inr (inr (inl k))) = omega arith
+    apart x y z (inr (inr (inr (inl k)))) = omega arith
+    apart x y z (inr (inr (inr (inr (inl k))))) = omega arith
+    apart x y z (inr (inr (inr (inr (inr k))))) = omega arith
+
+-- what the neighbours allow the voxel's word to be
+record Fits (r : ℕ) (w : Coord → ℕ) (c : Coord) (word : ℕ) : Type 0 where
+  some : 0 < word
+  form : word < 8 → word ≤ 1
+  floor : c.y ≡ 0 → word ≡ 8
+  parent : 8 ≤ word → ((word ≡ 8) × (c.y ≡ 0)) ⊎ ((q : Coord) × Toward (word % 8) c q × (8 ≤ w q) × (height w q + 1 ≡ word / 8))
+  above : (b : Coord) → 8 ≤ w b → AreBeside c b → (8 ≤ word) × (word / 8 ≤ height w b + 1)
+  below : (a : Coord) → 0 < w a → 8 ≤ word → AreBeside a c → (8 ≤ w a) × (height w a ≤ word / 8 + 1)
+
+exact_with : (r : ℕ) (w v : Coord → ℕ) (c : Coord) (word : ℕ) → AreExact r w → IsInSpace r c → w c ≡ 0 → Fits r w c word → IsWritten w v c word → AreExact r v
+exact_with r w v c word e s z f k = record {
+  space = λ d g. elim (same_or_not d c) [ inl m ↦ subst (λ (x : Coord). IsInSpace r x) (sym m) s | inr m ↦ let o = k.kept d m in e.space d (omega arith) ];
+  form = λ d g. elim (same_or_not d c) [ inl m ↦ let n = at d m in let h : word ≤ 1 = f.form (omega arith) in omega arith | inr m ↦ let o = k.kept d m in let h : w d ≤ 1 = e.form d (omega arith) in omega arith ];
+  floor = λ d g y. elim (same_or_not d c) [ inl m ↦ at d m ∙ f.floor (sym (ap (λ (x : Coord). x.y) m) ∙ y) | inr m ↦ k.kept d m ∙ e.floor d (let o = k.kept d m in omega arith) y ];
+  parent = λ d g. elim (same_or_not d c) [
+    | inl m ↦ own d m g
+    | inr m ↦ let o = k.kept d m in elim (e.parent d (omega arith)) [
+      | inl p ↦ inl (o ∙ p.0, p.1)
+      | inr p ↦ let n = still p.0 p.2 in inr (p.0, subst (λ (j : ℕ). Toward (j % 8) d p.0) (sym o) p.1, omega (arith, p.2), omega (arith, p.3))
+    ]
+  ];
+  near = λ a b g h n. elim (same_or_not a c) [
+    | inl m ↦ elim (same_or_not b c) [
+      | inl o ↦ absurd (not_beside n.direction a b (m ∙ sym o) n.toward)
+      | inr o ↦ let x = at a m in let y = k.kept b o in let q = f.above b (omega arith) (subst (λ (t : Coord). AreBeside t b) m n) in (omega (arith, q.0), omega (arith, q.1))
+    ]
+    | inr m ↦ elim (same_or_not b c) [
+      | inl o ↦ let x = k.kept a m in let y = at b o in let q = f.below a (omega arith) (omega arith) (subst (λ (t : Coord). AreBeside a t) o n) in (omega (arith, q.0), omega (arith, q.1))
+      | inr o ↦ let x = k.kept a m in let y = k.kept b o in let q = e.near a b (omega arith) (omega arith) n in (omega (arith, q.0), omega (arith, q.1))
+    ]
+  ];
+}
+  where
+    at : (d : Coord) → d ≡ c → v d ≡ word
+    at d m = ap v m ∙ k.here
+
+    still : (q : Coord) → 8 ≤ w q → v q ≡ w q
+    still q h = k.kept q (λ m. let o : w q ≡ w c = ap w m in omega arith)
+
+    own : (d : Coord) → d ≡ c → 8 ≤ v d → ((v d ≡ 8) × (d.y ≡ 0)) ⊎ ((q : Coord) × Toward (v d % 8) d q × (8 ≤ v q) × (height v q + 1 ≡ height v d))
+    own d m g = let n = at d m in elim (f.parent (omega arith)) [
+      | inl p ↦ inl (n ∙ p.0, ap (λ (x : Coord). x.y) m ∙ p.1)
+      | inr p ↦ let o = still p.0 p.2 in inr (p.0, subst (λ (x : Coord). Toward (v d % 8) x p.0) (sym m) (subst (λ (j : ℕ). Toward (j % 8) c p.0) (sym n) p.1), omega (arith, p.2), omega (arith, p.3))
+    ]
+
+-- ---- the voxel is offered no height
+
+fits_alone : (r : ℕ) (w : Coord → ℕ) (c : Coord) (a : Around) → IsAround w c a 7 → a.height ≡ 0 → Fits r w c 1
+fits_alone r w c a i z = record {
+  some = omega arith;
+  form = λ h. omega arith;
+  floor = λ y. let h : a.height ≡ 1 = i.floor y in absurd (omega arith);
+  parent = λ h. absurd (omega arith);
+  above = λ b h n. let t = toward_range_seven n.direction c b n.toward in let k = i.least n.direction b t.1 n.toward h in absurd (omega (arith, k.0));
+  below = λ b g h n. absurd (omega arith);
+}
+
+-- ---- the voxel is offered a height, by which no neighbour improves
+
+fits_below : (r : ℕ) (w : Coord → ℕ) (c : Coord) (a : Around) → AreExact r w → r * r * r ≤ 64000000 → IsAround w c a 7 → (a.height ≡ 0 → ⊥) → a.is_loose ≡ false → a.highest ≤ a.height + 1 → Fits r w c (8 * a.height + a.toward)
+fits_below r w c a e few i z firm calm =
+    let x : Candidate = record { at = c; height = a.height; toward = a.toward } in
+    let sound : IsSound w x = elim i.sound [ inl n ↦ absurd (z n) | inr s ↦ s ] in
+    let range = sound_range w x sound in
+    let low = not_high r w c a e few i sound in
+    record {
+      some = omega (arith, range.0);
+      form = λ h. omega (arith, range.0);
+      floor = λ y. let h : a.height ≡ 1 = i.floor y in let t = on_floor w x sound h in omega arith;
+      parent = λ h. by_sound r w c a e i sound range.1;
+      above = λ b h n. let t = toward_range_seven n.direction c b n.toward in let k = i.least n.direction b t.1 n.toward h in (omega (arith, range.0), omega (arith, range.1, k.1));
+      below = λ b g h n. neighbour b g (beside_back b c n) range.1 low;
+    }
+  where
+    on_floor : (w : Coord → ℕ) (x : Candidate) → IsSound w x → x.height ≡ 1 → x.toward ≡ 0
+    on_floor w x (inl s) h = s.0
+    on_floor w x (inr s) h = let q = s.2 in let k = s.3 in absurd (omega arith)
+
+    not_high : (r : ℕ) (w : Coord → ℕ) (c : Coord) (a : Around) → AreExact r w → r * r * r ≤ 64000000 → IsAround w c a 7 → IsSound w (record { at = c; height = a.height; toward = a.toward }) → a.height ≤ 64000001
+    not_high r w c a e few i (inl s) = omega (arith, s.1)
+    not_high r w c a e few i (inr s) =
+        let t = toward_range_seven a.toward c s.0 s.1 in
+        let k = i.least a.toward s.0 t.1 s.1 s.2 in
+        let l = exact_low r w s.0 e s.2 in
+        omega (arith, k.1)
+
+    by_sound : (r : ℕ) (w : Coord → ℕ) (c : Coord) (a : Around) → AreExact r w → IsAround w c a 7 → IsSound w (record { at = c; height = a.height; toward = a.toward }) → a.toward ≤ 6 → (((8 * a.height + a.toward) ≡ 8) × (c.y ≡ 0)) ⊎ ((q : Coord) × Toward ((8 * a.height + a.toward) % 8) c q × (8 ≤ w q) × (height w q + 1 ≡ (8 * a.height + a.toward) / 8))
+    by_sound r w c a e i (inl s) t = inl (omega (arith, s.0, s.1), s.2)
+    by_sound r w c a e i (inr s) t =
+        let m : a.toward ≡ (8 * a.height + a.toward) % 8 = omega arith in
+        let u = toward_range_seven a.toward c s.0 s.1 in
+        let k = i.least a.toward s.0 u.1 s.1 s.2 in
+        inr (s.0, subst (λ (j : ℕ). Toward j c s.0) m s.1, s.2, omega (arith, s.3, k.1))
+
+    neighbour : (b : Coord) → 0 < w b → AreBeside c b → a.toward ≤ 6 → a.height ≤ 64000001 → (8 ≤ w b) × (height w b ≤ (8 * a.height + a.toward) / 8 + 1)
+    neighbour b g n t low =
+        let u = toward_range_seven n.direction c b n.toward in
+        elim (cases_lt (w b) 8) [
+          | inl m ↦ absurd (false≢true (sym firm ∙ i.loose n.direction b u.1 n.toward g m))
+          | inr m ↦ let l : height w b ≤ a.highest = i.highest n.direction b u.1 n.toward (omega arith) in (omega arith, omega arith)
+        ]
+
+-- the word that is written is a small number
+pub word_small : (r : ℕ) (w : Coord → ℕ) (c : Coord) (a : Around) → AreExact r w → r * r * r ≤ 64000000 → IsAround w c a 7 → a.height ≤ 64000001
+word_small r w c a e few i = elim i.sound [
+  | inl z ↦ omega arith
+  | inr s ↦ elim s [
+    | inl f ↦ omega (arith, f.1)
+    | inr f ↦
+        let t = toward_range_seven a.toward c f.0 f.1 in
+        let k = i.least a.toward f.0 t.1 f.1 f.2 in
+        let l = exact_low r w f.0 e f.2 in
+        omega (arith, k.1)
+  ]
+]
+
+pub toward_small : (w : Coord → ℕ) (c : Coord) (a : Around) → IsAround w c a 7 → (a.height ≡ 0 → ⊥) → a.toward ≤ 6
+toward_small w c a i z = elim i.sound [ inl n ↦ absurd (z n) | inr s ↦ (sound_range w (record { at = c; height = a.height; toward = a.toward }) s).1 ]
+
+-- ---- nothing is known yet
+
+pub around_none : (w : Coord → ℕ) (c : Coord) (a : Around) → ((c.y ≡ 0) × (a.height ≡ 1)) ⊎ ((c.y ≡ 0 → ⊥) × (a.height ≡ 0)) → a.toward ≡ 0 → IsAround w c a 1
+around_none w c a h t = record {
+  floor = λ y. elim h [ inl k ↦ k.1 | inr k ↦ absurd (k.0 y) ];
+  sound = elim h [ inl k ↦ inr (inl (t, k.1, k.0)) | inr k ↦ inl k.1 ];
+  least = λ k q l u g. let r = toward_range_seven k c q u in absurd (omega (arith, r.0));
+  highest = λ k q l u g. let r = toward_range_seven k c q u in absurd (omega (arith, r.0));
+  loose = λ k q l u f g. let r = toward_range_seven k c q u in absurd (omega (arith, r.0));
+}
+
+-- ---- the voxel is full
+
+placed_with : (old new : Grid) (c : Coord) (word before mid after : ℕ) → AreExact old.resolution (word_at old) → IsInSpace old.resolution c → word_at old c ≡ 0 → Fits old.resolution (word_at old) c word → IsWritten (word_at old) (word_at new) c word → new.resolution ≡ old.resolution → mid ≤ before + 6 → after ≡ mid + 1 → HavePlaced old new c before after
+placed_with old new c word before mid after e s z f k r m t = record {
+  resolution = r;
+  exact = subst (λ (n : ℕ). AreExact n (word_at new)) (sym r) (exact_with old.resolution (word_at old) (word_at new) c word e s z f k);
+  full = omega (arith, k.here, f.some);
+  kept = k.kept;
+  cost = omega arith;
+}
+
+pub placed_alone : (old new : Grid) (c : Coord) (a : Around) (before mid after : ℕ) → AreExact old.resolution (word_at old) → IsInSpace old.resolution c → word_at old c ≡ 0 → IsAround (word_at old) c a 7 → a.height ≡ 0 → IsWritten (word_at old) (word_at new) c 1 → new.resolution ≡ old.resolution → mid ≤ before + 6 → after ≡ mid + 1 → HavePlaced old new c before after
+placed_alone old new c a before mid after e s z i h k r m t = placed_with old new c 1 before mid after e s z (fits_alone old.resolution (word_at old) c a i h) k r m t
+
+pub placed_below : (old new : Grid) (c : Coord) (a : Around) (before mid after : ℕ) → AreExact old.resolution (word_at old) → old.resolution * old.resolution * old.resolution ≤ 64000000 → IsInSpace old.resolution c → word_at old c ≡ 0 → IsAround (word_at old) c a 7 → (a.height ≡ 0 → ⊥) → a.is_loose ≡ false → a.highest ≤ a.height + 1 → IsWritten (word_at old) (word_at new) c (8 * a.height + a.toward) → new.resolution ≡ old.resolution → mid ≤ before + 6 → after ≡ mid + 1 → HavePlaced old new c before after
+placed_below old new c a before mid after e few s z i h firm calm k r m t = placed_with old new c (8 * a.height + a.toward) before mid after e s z (fits_below old.resolution (word_at old) c a e few i h firm calm) k r m t
+
+-- ---- the only cell
+
+only_one : (cells : List Coord) (c x : Coord) → length cells ≡ 1 → c ≡ slice_index_or cells 0 c → Contains cells x → c ≡ x
+only_one cells c x l e h =
+    let k : h.0 < length cells = h.1 in
+    let z : h.0 ≡ 0 = omega arith in
+    e ∙ (get_or_default cells 0 c x (omega arith) ∙ (ap (λ (n : ℕ). slice_index_or cells n x) (sym z) ∙ h.2))
+
+pub placed_added : (old new : Grid) (cells : List Coord) (c : Coord) (before after : ℕ) → length cells ≡ 1 → c ≡ slice_index_or cells 0 c → CanAdd old cells → HavePlaced old new c before after → HaveAdded old new cells 20 before after
+placed_added old new cells c before after l e a p = record {
+  resolution = p.resolution;
+  exact = p.exact;
+  full = λ x f. elim (same_or_not x c) [ inl m ↦ inr (0, omega arith, get_or_default cells 0 x c (omega arith) ∙ (sym e ∙ sym m)) | inr m ↦ let k = p.kept x m in inl (omega arith) ];
+  kept = λ x f. elim (same_or_not x c) [ inl m ↦ let k : word_at new x ≡ word_at new c = ap (word_at new) m in omega (arith, p.full) | inr m ↦ let k = p.kept x m in omega arith ];
+  added = λ x h. subst (λ (y : Coord). 0 < word_at new y) (only_one cells c x l e h) p.full;
+  cost = omega (arith, p.cost);
+}
+
+pub when : (b : Bool) (P Q : Type 0) → b ≡ true → MatchBool b P Q → P
+when true P Q e h = h
+when false P Q e h = cc

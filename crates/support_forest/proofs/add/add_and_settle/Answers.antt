@@ -1,0 +1,34 @@
+use Rattle.std.proofs.Common.{◌≡◌, Bool, true, false, not, refl, arith}
+use Rattle.std.proofs.lemmas.List.{get_or_default}
+use Rattle.std.proofs.lemmas.List.Elements.{Contains-get_or}
+use Rattle.support_forest.specs.Waiting.{HaveResettled}
+use Rattle.support_forest.proofs.Marks.{in_space_by, marked_none, marked_more, marked_low, next_void, all_marked, can_resettle, have_added}
+use Rattle.support_forest.proofs.Seeds.{ok_then}
+use Rattle.support_forest.proofs.add.add_and_settle.Goals as goal
+
+not_false : (b : Bool) → not b ≡ false → b ≡ true
+not_false true h = refl
+not_false false h = cc
+
+pub loop-c-init : goal.loop-c-init
+loop-c-init g c = marked_none _ _ _
+
+pub fill-requires-clause-void : goal.fill-requires-clause-void
+fill-requires-clause-void g c = next_void _ _ _ _ _ _ _ c.requires c.loop-c.invariant c.loop-c-test.true (get_or_default _ _ _ _ c.loop-c-test.true)
+
+pub fill-requires-clause-within : goal.fill-requires-clause-within
+fill-requires-clause-within g c = in_space_by _ _ _ c.loop-c.invariant.resolution (c.requires.space _ (Contains-get_or _ _ _ c.loop-c-test.true))
+
+pub loop-c-preserved : goal.loop-c-preserved
+loop-c-preserved g c = marked_more _ _ _ _ _ _ _ _ _ c.loop-c.invariant c.loop-c-test.true (get_or_default _ _ _ _ c.loop-c-test.true) c.in_ok-fill.ensures.written c.fill.ensures.resolution c.in_ok-fill.ensures.touch
+
+pub resettle-requires-clause-none : goal.resettle-requires-clause-none
+resettle-requires-clause-none g c e = marked_low _ _ _ _ _ _ c.loop-c.invariant (c.is_blank-are_levels.ensures (not_false _ e))
+
+pub resettle-requires-clause-can : goal.resettle-requires-clause-can
+resettle-requires-clause-can g c = can_resettle _ _ _ c.requires (all_marked _ _ _ _ _ _ c.loop-c.invariant c.loop-c-test.false)
+
+pub returns : goal.returns
+returns g c =
+    ok_then c.resettle.result (HaveResettled c.loop-c.cells c.resettle.new.cells c.args.new.now c.loop-c.steps c.resettle.new.steps) _
+    (λ h. have_added _ _ _ _ _ _ _ _ c.requires c.loop-c.invariant c.loop-c-test.false (let e = c.loop-c.auto.c-index-end in omega arith) h) c.resettle.ensures
