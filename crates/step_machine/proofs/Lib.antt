@@ -4,6 +4,7 @@ pub mod Cells
 pub mod Changed
 pub mod Judging
 pub mod Opening
+pub mod Ordered
 pub mod Refitting
 pub mod Regions
 pub mod Running

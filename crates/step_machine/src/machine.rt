@@ -1,5 +1,5 @@
 //! The machine.
-ghost use Rattle.std.specs.Prelude.{◌≡◌, ℕ, pos, ◌+ℤ◌, ◌<ℤ◌, ◌+◌, ◌*◌, ◌≤◌, ◌<◌, ◌↔◌, [], true, false, length, count_by, IfOk, IfErr, IfSome, IsFalse, IsPermutation, IsTrue, None, Result, Err};
+ghost use Rattle.std.specs.Prelude.{◌≡◌, ℕ, pos, ◌+ℤ◌, ◌<ℤ◌, ◌+◌, ◌*◌, ◌≤◌, ◌<◌, ◌↔◌, [], true, false, length, count_by, IfOk, IfErr, IfSome, IsFalse, IsPermutation, IsTrue, None, Some, Result, Err};
 ghost use Rattle.nano_spec.specs.declared.outcomes.Rule.{Rule as RuleOf};
 ghost use Rattle.nano_spec.specs.Act.{acts};
 ghost use Rattle.nano_spec.specs.Cutting.{AreCommands};
@@ -8,7 +8,7 @@ ghost use Rattle.nano_spec.specs.Level.{Level};
 ghost use Rattle.nano_spec.specs.Matrix.{is_full};
 ghost use Rattle.nano_spec.specs.Model.{volume};
 ghost use Rattle.nano_spec.specs.Next.{Breaks, Goes, Next};
-ghost use Rattle.nano_spec.specs.Serial.{leader_bids};
+ghost use Rattle.nano_spec.specs.Serial.{leader_bids, serial};
 ghost use Rattle.nano_spec.specs.State.{IsReady, IsWellFormed, State, opening as opening_of, origin};
 ghost use Rattle.nano_spec.specs.Step.{after};
 ghost use Rattle.nano_spec.specs.Work.{WorkOfStep};
@@ -31,7 +31,7 @@ use std::alloc::Global;
 use std::marker::Model;
 use std::sync::ledger::Ledger;
 use step_groups::leaders;
-use step_order::stays_well_formed;
+use step_order::{every_order, stays_well_formed};
 use support_forest::Forest;
 use system_state::{System, Turns, know_all};
 use vox_geom::{Coord, Memory, Steps};
@@ -172,7 +172,10 @@ impl Machine {
         ensures stays_spent { self.old.spent ≡ true → self.new.spent ≡ true }
         ensures touches { IfOk result (λ _. (n : ℕ) → WorkOfStep self.old.state commands.now (self.old.steps + 1) n → steps.new ≤ steps.old + 100 * n) }
         ensures touches_broken { IfBroken result (λ b. (n : ℕ) → WorkOfStep self.old.state commands.now (self.old.steps + 1) n → steps.new ≤ steps.old + 100 * n + searched_for b.rule self.old.state.matrix) }
+        ensures serial { IfOk result (λ _. serial self.old.state commands.now order.now ≡ Some self.new.state) }
     {
+        every_order();
+        let _ = self.crew();
         self.make_step(commands, Some(order), steps)
     }
 
