@@ -20,12 +20,12 @@ use Rattle.nanobot_app.specs.declared.report.Who.{Who}
 use Rattle.nanobot_app.specs.declared.report.Who.TheVariants as who
 use Rattle.nanobot_app.specs.declared.status.Status.{Status}
 use Rattle.nanobot_app.specs.declared.status.Status.TheVariants as is
-use Rattle.nanobot_app.specs.Answer.{Answer, AnswerOf, AnswerOfRun, Judged, OfBytes, OfDecoding, OfReading, OfRun, OfText, OfTrace, Reply, WithBoth, WithFile, WithModel, WithSide, dis_limit, run_limit, text_limit}
+use Rattle.nanobot_app.specs.Answer.{Answer, AnswerOf, AnswerOfRun, AskNoPlan, Judged, OfBytes, OfDecoding, OfLayerPlan, OfReading, OfRun, OfText, OfTrace, Reply, WithBoth, WithFile, WithModel, WithModels, WithSide, dis_limit, run_limit, text_limit}
 use Rattle.nanobot_app.specs.Outcome.{DepotRose, IsAnswer, LacksFile, Outcome, Outside, SinkRose}
 use Rattle.nanobot_app.specs.Reading.{gone, reply_of}
 use Rattle.nanobot_app.specs.Report.{faulty_text, not_legal, no_model, of_verdict}
-use Rattle.nanobot_app.specs.Rows.{Row, asm, check, dis, light, make, run, words_of, side_word, IsName, IsRow, with_side}
-use Rattle.nanobot_app.proofs.Parsed.{first_named, same_side, second_named}
+use Rattle.nanobot_app.specs.Rows.{Row, asm, check, dis, light, make, plan_layer, run, words_of, side_word, IsName, IsRow, with_side}
+use Rattle.nanobot_app.proofs.Parsed.{first_named, same_side, second_named, trace_last}
 use Rattle.nanobot_app.proofs.Told.{if_some}
 
 -- ---- the row of the words is one
@@ -80,15 +80,12 @@ row_once words (make n r m) (make n' r' m') h h' =
     let pn : n ≡ n' = decimal_injective n n' (omega arith) (omega arith) en in
     let pr : r ≡ r' = decimal_injective r r' (omega arith) (omega arith) er in
     λ i. make (pn i) (pr i) (em i)
+row_once words (plan_layer s t b) (plan_layer s' t' b') h h' =
+    let e : codes "plan" ∷ codes "layer" ∷ side_word s ∷ side_word t ∷ b ∷ [] ≡ codes "plan" ∷ codes "layer" ∷ side_word s' ∷ side_word t' ∷ b' ∷ [] = sym h.written ∙ h'.written in
+    same_operands plan_layer s t s' t' b b' (trace_last s t b h.named) (trace_last s' t' b' h'.named) (cc) (cc) (cc)
 row_once words row row' h h' = absurd (other_heads row row' refl refl (sym h.written ∙ h'.written))
 
--- ---- at most one reply
-
-abbrev Once : (Reply → Type 0) → Type 0
-Once p = (r s : Reply) → p r → p s → r ≡ s
-
-same_reply : (x : Reply) → Once (λ r. r ≡ x)
-same_reply x r s h k = h ∙ sym k
+-- ---- at most one reply, or one part of it
 
 abbrev LegalityLaw : Type 0
 LegalityLaw = (m : Matrix) (a b : Option NotLegal) → Legality m a → Legality m b → a ≡ b
@@ -99,7 +96,18 @@ DecodingLaw = (bytes : List ℕ) (a b : Result (List Command) NoTrace) → Decod
 abbrev VerdictLaw : Type 0
 VerdictLaw = (source target : Matrix) (commands : List Command) (profile : Profile) (v w : Verdict) → VerdictOf source target commands profile v → VerdictOf source target commands profile w → v ≡ w
 
-module _ (legality : LegalityLaw) (decoding : DecodingLaw) (verdicts : VerdictLaw) where
+-- the words ask for a plan
+abbrev pub IsPlan : Row → Type 0
+IsPlan (plan_layer source target trace) = Unit {0}
+IsPlan row = ⊥
+
+module _ {A : Type 0} (part : Reply → A) (legality : LegalityLaw) (decoding : DecodingLaw) (verdicts : VerdictLaw) where
+  abbrev Once : (Reply → Type 0) → Type 0
+  Once p = (r s : Reply) → p r → p s → part r ≡ part s
+
+  same_reply : (x : Reply) → Once (λ r. r ≡ x)
+  same_reply x r s h k = ap part (h ∙ sym k)
+
   module _ (files : Files) where
     file_once : (name : List ℕ) (p : List ℕ → Reply → Type 0) → ((bytes : List ℕ) → Once (p bytes)) → Once (WithFile files name p)
     file_once name p f = by (content files name)
@@ -136,7 +144,7 @@ module _ (legality : LegalityLaw) (decoding : DecodingLaw) (verdicts : VerdictLa
     both_once (Some a) (Some b) p f r s h k = choice_once (a.resolution == b.resolution) (p a b) (λ r. r ≡ reply_of files (report.Resolutions a.resolution b.resolution)) (f a b) (same_reply (reply_of files (report.Resolutions a.resolution b.resolution))) r s h k
 
     run_once : (profile : Profile) (source target : Matrix) (commands : List Command) → Once (OfRun profile files source target commands)
-    run_once profile source target commands r s h k = h.2 ∙ (ap (λ (v : Verdict). reply_of files (of_verdict v)) (verdicts source target commands profile h.0 k.0 h.1 k.1) ∙ sym k.2)
+    run_once profile source target commands r s h k = ap part (h.2 ∙ (ap (λ (v : Verdict). reply_of files (of_verdict v)) (verdicts source target commands profile h.0 k.0 h.1 k.1) ∙ sym k.2))
 
     decoded_once : (d : Result (List Command) NoTrace) (p : List Command → Reply → Type 0) → ((commands : List Command) → Once (p commands)) → Once (OfDecoding files d p)
     decoded_once (Ok commands) p f = f commands
@@ -162,39 +170,62 @@ module _ (legality : LegalityLaw) (decoding : DecodingLaw) (verdicts : VerdictLa
         choice_once (nat_lt text_limit (length bytes)) (λ r. r ≡ reply_of files (report.TextLong text_limit)) (OfReading files (read bytes) p)
         (same_reply (reply_of files (report.TextLong text_limit))) (reading_once (read bytes) p f)
 
+    models_once : (source target : Option (List ℕ)) (p : Matrix → Matrix → Reply → Type 0) → ((s t : Matrix) → Once (p s t)) → Once (WithModels files source target p)
+    models_once source target p f = side_once who.Source source _ (λ a. side_once who.Target target _ (λ b. both_once a b p f))
+
     run_answer_once : (profile : Profile) (source target : Option (List ℕ)) (trace : List ℕ) → Once (AnswerOfRun profile source target trace files)
-    run_answer_once profile source target trace =
-        side_once who.Source source _ (λ a. side_once who.Target target _ (λ b. both_once a b _ (λ s t. file_once trace _ (λ bytes. trace_once run_limit bytes _ (λ commands. run_once profile s t commands)))))
+    run_answer_once profile source target trace = models_once source target _ (λ s t. file_once trace _ (λ bytes. trace_once run_limit bytes _ (λ commands. run_once profile s t commands)))
 
-    row_answer_once : (row : Row) → Once (AnswerOf row files)
-    row_answer_once (check name) = model_once who.Model name _ (λ m. same_reply _)
-    row_answer_once (run source target trace) = run_answer_once full_profile source target trace
-    row_answer_once (light source target trace) = run_answer_once light_profile source target trace
-    row_answer_once (asm text trace) = file_once text _ (λ bytes. text_once bytes _ (λ commands. same_reply _))
-    row_answer_once (dis trace text) = file_once trace _ (λ bytes. trace_once dis_limit bytes _ (λ commands. same_reply _))
-    row_answer_once (make number resolution name) = same_reply _
+    -- two plans have the same status at least
+    plan_once : ((r s : Reply) → r.status ≡ s.status → part r ≡ part s) → (name : List ℕ) (source target : Matrix) → Once (OfLayerPlan name files source target)
+    plan_once told name source target r s h k = told r s (ap (λ (x : Reply). x.status) h.4 ∙ sym (ap (λ (x : Reply). x.status) k.4))
 
-  pub answer_once : (words : List (List ℕ)) (files : Files) (r s : Reply) → Answer words files r → Answer words files s → r ≡ s
-  answer_once words files r s (inl h) (inl k) = h.1 ∙ sym k.1
-  answer_once words files r s (inl h) (inr k) = absurd (h.0 k.0 k.1)
-  answer_once words files r s (inr h) (inl k) = absurd (k.0 h.0 h.1)
-  answer_once words files r s (inr h) (inr k) =
+    row_answer_once : (row : Row) → (IsPlan row → (r s : Reply) → r.status ≡ s.status → part r ≡ part s) → Once (AnswerOf row files)
+    row_answer_once (check name) told = model_once who.Model name _ (λ m. same_reply _)
+    row_answer_once (run source target trace) told = run_answer_once full_profile source target trace
+    row_answer_once (light source target trace) told = run_answer_once light_profile source target trace
+    row_answer_once (asm text trace) told = file_once text _ (λ bytes. text_once bytes _ (λ commands. same_reply _))
+    row_answer_once (dis trace text) told = file_once trace _ (λ bytes. trace_once dis_limit bytes _ (λ commands. same_reply _))
+    row_answer_once (make number resolution name) told = same_reply _
+    row_answer_once (plan_layer source target trace) told = models_once source target _ (λ s t. plan_once (told tt) trace s t)
+
+  part_once : (words : List (List ℕ)) (files : Files) (r s : Reply) → ((row : Row) → IsRow words row → IsPlan row → (r s : Reply) → r.status ≡ s.status → part r ≡ part s) → Answer words files r → Answer words files s → part r ≡ part s
+  part_once words files r s told (inl h) (inl k) = ap part (h.1 ∙ sym k.1)
+  part_once words files r s told (inl h) (inr k) = absurd (h.0 k.0 k.1)
+  part_once words files r s told (inr h) (inl k) = absurd (k.0 h.0 h.1)
+  part_once words files r s told (inr h) (inr k) =
       let same = row_once words k.0 h.0 k.1 h.1 in
-      row_answer_once files h.0 r s h.2 (subst (λ (row : Row). AnswerOf row files s) same k.2)
+      row_answer_once files h.0 (told h.0 h.1) r s h.2 (subst (λ (row : Row). AnswerOf row files s) same k.2)
+
+module _ (legality : LegalityLaw) (decoding : DecodingLaw) (verdicts : VerdictLaw) where
+  -- words have one answer where they ask for no plan
+  pub answer_once : (words : List (List ℕ)) (files : Files) (r s : Reply) → AskNoPlan words → Answer words files r → Answer words files s → r ≡ s
+  answer_once words files r s no_plan h k = part_once (λ (x : Reply). x) legality decoding verdicts words files r s no h k
+    where
+      no : (row : Row) → IsRow words row → IsPlan row → (r s : Reply) → r.status ≡ s.status → r ≡ s
+      no (plan_layer source target trace) is plan r s e = absurd (no_plan source target trace is)
+      no row is plan r s e = absurd plan
+
+  -- words have one status
+  pub status_once : (words : List (List ℕ)) (files : Files) (r s : Reply) → Answer words files r → Answer words files s → r.status ≡ s.status
+  status_once words files r s h k = part_once (λ (x : Reply). x.status) legality decoding verdicts words files r s (λ row is plan r s e. e) h k
 
 -- ---- where no count rose, the status is the answer's, or want of memory
 
-abbrev pub AnswerLaw : Type 0
-AnswerLaw = (words : List (List ℕ)) (files : Files) (r s : Reply) → Answer words files r → Answer words files s → r ≡ s
+abbrev pub StatusLaw : Type 0
+StatusLaw = (words : List (List ℕ)) (files : Files) (r s : Reply) → Answer words files r → Answer words files s → r.status ≡ s.status
 
-pub complete : {stores : List ℕ → Type 0} (law : AnswerLaw) (words : List (List ℕ)) (old new : Outside) (result : Status) → Outcome (Answer words) stores old new result
+abbrev pub AnswerLaw : Type 0
+AnswerLaw = (words : List (List ℕ)) (files : Files) (r s : Reply) → AskNoPlan words → Answer words files r → Answer words files s → r ≡ s
+
+pub complete : {stores : List ℕ → Type 0} (law : StatusLaw) (words : List (List ℕ)) (old new : Outside) (result : Status) → Outcome (Answer words) stores old new result
     → (DepotRose old new → ⊥) → (SinkRose old new → ⊥) → IfSome old.files (λ files. (reply : Reply) → Answer words files reply → (result ≡ reply.status) ⊎ (result ≡ is.Memory))
 complete {stores} law words old new result o no_depot no_sink = if_some old.files (λ files told reply a. by files told reply a result o)
   where
     answered : (files : Files) → old.files ≡ Some files → (reply : Reply) → Answer words files reply → (s : Status) → IsAnswer s → Outcome (Answer words) stores old new s → s ≡ reply.status
     answered files told reply a s is_answer o =
         let stands = subst (λ t. IfSome t (λ files. (reply : Reply) × Answer words files reply × (new.files ≡ Some reply.after) × ((reply.status ≡ s) × (new.written ≡ append_known old.written reply.line)))) told (o.answer is_answer) in
-        sym stands.3.0 ∙ ap (λ (r : Reply). r.status) (law words files stands.0 reply stands.1 a)
+        sym stands.3.0 ∙ law words files stands.0 reply stands.1 a
 
     by : (files : Files) → old.files ≡ Some files → (reply : Reply) → Answer words files reply → (s : Status) → Outcome (Answer words) stores old new s → (s ≡ reply.status) ⊎ (s ≡ is.Memory)
     by files told reply a is.Depot o = inl (cause (o.depot refl))
@@ -203,7 +234,7 @@ complete {stores} law words old new result o no_depot no_sink = if_some old.file
         cause (inl rose) = absurd (no_depot rose)
         cause (inr lacks) =
             let here = subst (λ t. IsSomeAnd t (λ files. Answer words files (record { status = is.Depot; line = []; after = files }))) told lacks in
-            ap (λ (r : Reply). r.status) (law words files _ reply here a)
+            law words files _ reply here a
     by files told reply a is.Sink o = absurd (no_sink (o.sink refl))
     by files told reply a is.Memory o = inr refl
     by files told reply a is.Done o = inl (answered files told reply a is.Done tt o)

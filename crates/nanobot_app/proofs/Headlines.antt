@@ -19,15 +19,15 @@ use Rattle.nanobot_app.specs.declared.report.Who.{Who}
 use Rattle.nanobot_app.specs.declared.report.Who.TheVariants as who
 use Rattle.nanobot_app.specs.declared.status.Status.{Status}
 use Rattle.nanobot_app.specs.declared.status.Status.TheVariants as is
-use Rattle.nanobot_app.specs.Answer.{Answer, AnswerOf, Judged, OfBytes, OfDecoding, OfRun, OfTrace, Reply, WithBoth, WithFile, WithModel, WithSide, run_limit}
+use Rattle.nanobot_app.specs.Answer.{Answer, AnswerOf, AskNoPlan, Judged, OfBytes, OfDecoding, OfRun, OfTrace, Reply, WithBoth, WithFile, WithModel, WithModels, WithSide, run_limit}
 use Rattle.nanobot_app.specs.Headline.{IsDoneWith, Takes, TakesBytes}
 use Rattle.nanobot_app.specs.Outcome.{DepotRose, IsAnswer, Outcome, Outside, SinkRose}
-use Rattle.nanobot_app.specs.Reading.{AreBoth, IsModelOf, IsSide, gone, reply_of}
+use Rattle.nanobot_app.specs.Reading.{AreBoth, AreModels, IsModelOf, IsSide, gone, reply_of}
 use Rattle.nanobot_app.specs.Report.{no_model, not_legal, of_verdict, status_of}
-use Rattle.nanobot_app.specs.Rows.{Row, run, IsRow}
+use Rattle.nanobot_app.specs.Rows.{Row, plan_layer, run, IsRow}
 use Rattle.nanobot_app.proofs.Loads.{not_longer}
-use Rattle.nanobot_app.proofs.Determined.{AnswerLaw, complete, row_once}
-use Rattle.nanobot_app.proofs.Replies.{both_given, side_given}
+use Rattle.nanobot_app.proofs.Determined.{AnswerLaw, StatusLaw, complete, row_once}
+use Rattle.nanobot_app.proofs.Replies.{models_given}
 use Rattle.nanobot_app.proofs.Told.{if_some}
 
 -- ---- what a run that takes its trace answers
@@ -46,9 +46,9 @@ taken files source target trace energy steps h = by (content files trace) h
     by None h = absurd h
     by (Some bytes) h = of_bytes bytes h
 
-answers_taken : (files : Files) (source target : Option (List ℕ)) (trace : List ℕ) (energy : ℤ) (steps : ℕ) → Takes files source target trace energy steps → AnswerOf (run source target trace) files (reply_of files (report.Accepted energy steps))
+pub answers_taken : (files : Files) (source target : Option (List ℕ)) (trace : List ℕ) (energy : ℤ) (steps : ℕ) → Takes files source target trace energy steps → AnswerOf (run source target trace) files (reply_of files (report.Accepted energy steps))
 answers_taken files source target trace energy steps t =
-    side_given who.Source files _ source t.source_side _ t.source_is (side_given who.Target files _ target t.target_side _ t.target_is (both_given files _ t.source_side t.target_side t.from t.to _ t.both (taken files t.from t.to trace energy steps t.taken)))
+    models_given files source target _ t.from t.to _ t.models (taken files t.from t.to trace energy steps t.taken)
 
 -- ---- what was answered with status 0
 
@@ -91,6 +91,13 @@ done_both files (Some a) (Some b) p reply done h = by (a.resolution == b.resolut
     by true e h = (a, b, (refl, refl, same_number a.resolution b.resolution e), h)
     by false e h = absurd (let no = other files (report.Resolutions a.resolution b.resolution) reply h done in cc)
 
+pub done_models : (files : Files) (source target : Option (List ℕ)) (p : Matrix → Matrix → Reply → Type 0) (reply : Reply) → reply.status ≡ is.Done → WithModels files source target p reply → (s : Matrix) × (t : Matrix) × AreModels source target files s t × p s t reply
+done_models files source target p reply done h =
+    let a = done_side who.Source files source _ reply done h in
+    let b = done_side who.Target files target _ reply done a.2 in
+    let m = done_both files a.0 b.0 p reply done b.2 in
+    (m.0, m.1, record { source_side = a.0; target_side = b.0; source_is = a.1; target_is = b.1; both = m.2 }, m.3)
+
 -- a verdict that is told with status 0
 accepted : (files : Files) (v : Verdict) (reply : Reply) → reply ≡ reply_of files (of_verdict v) → reply.status ≡ is.Done → (energy : ℤ) × (steps : ℕ) × (v ≡ verdict.Accepted energy steps)
 accepted files (verdict.Accepted energy steps) reply e done = (energy, steps, refl)
@@ -129,20 +136,25 @@ module _ (files : Files) (source target : Matrix) (reply : Reply) (done : reply.
 takes_done : (files : Files) (source target : Option (List ℕ)) (trace : List ℕ) (reply : Reply) → reply.status ≡ is.Done → AnswerOf (run source target trace) files reply
     → (energy : ℤ) × (steps : ℕ) × Takes files source target trace energy steps × (reply ≡ reply_of files (report.Accepted energy steps))
 takes_done files source target trace reply done h =
-    let a = done_side who.Source files source _ reply done h in
-    let b = done_side who.Target files target _ reply done a.2 in
-    let m = done_both files a.0 b.0 _ reply done b.2 in
+    let m = done_models files source target _ reply done h in
     let t = done_trace files m.0 m.1 reply done trace m.3 in
-    (t.0, t.1, record { source_side = a.0; target_side = b.0; source_is = a.1; target_is = b.1; from = m.0; to = m.1; both = m.2; taken = t.2 }, t.3)
+    (t.0, t.1, record { from = m.0; to = m.1; models = m.2; taken = t.2 }, t.3)
 
 -- the row of the words answers
 of_the_row : (words : List (List ℕ)) (row : Row) (files : Files) (reply : Reply) → IsRow words row → Answer words files reply → AnswerOf row files reply
 of_the_row words row files reply is_row (inl h) = absurd (h.0 row is_row)
 of_the_row words row files reply is_row (inr h) = subst (λ (r : Row). AnswerOf r files reply) (row_once words h.0 row h.1 is_row) h.2
 
+-- words that ask for a run ask for no plan
+run_is_no_plan : (words : List (List ℕ)) (source target : Option (List ℕ)) (trace : List ℕ) → IsRow words (run source target trace) → AskNoPlan words
+run_is_no_plan words source target trace is s t b other = differ (row_once words (run source target trace) (plan_layer s t b) is other)
+  where
+    differ : run source target trace ≡ plan_layer s t b → ⊥
+    differ e = cc
+
 -- ---- both halves of the headline
 
-module _ {stores : List ℕ → Type 0} (law : AnswerLaw) (words : List (List ℕ)) (old new : Outside) (result : Status) (o : Outcome (Answer words) stores old new result) (source target : Option (List ℕ)) (trace : List ℕ) (is_row : IsRow words (run source target trace)) where
+module _ {stores : List ℕ → Type 0} (statuses : StatusLaw) (law : AnswerLaw) (words : List (List ℕ)) (old new : Outside) (result : Status) (o : Outcome (Answer words) stores old new result) (source target : Option (List ℕ)) (trace : List ℕ) (is_row : IsRow words (run source target trace)) where
   stood : (files : Files) → old.files ≡ Some files → IsAnswer result → (reply : Reply) × Answer words files reply × (new.files ≡ Some reply.after) × ((reply.status ≡ result) × (new.written ≡ append_known old.written reply.line))
   stood files told a = subst (λ t. IfSome t (λ files. (reply : Reply) × Answer words files reply × (new.files ≡ Some reply.after) × ((reply.status ≡ result) × (new.written ≡ append_known old.written reply.line)))) told (o.answer a)
 
@@ -150,7 +162,7 @@ module _ {stores : List ℕ → Type 0} (law : AnswerLaw) (words : List (List �
   headline_where no_depot no_sink no_memory = if_some old.files (λ files told energy steps takes.
       let reply = reply_of files (report.Accepted energy steps) in
       let answer : Answer words files reply = inr (run source target trace, is_row, answers_taken files source target trace energy steps takes) in
-      let all = complete law words old new result o no_depot no_sink in
+      let all = complete statuses words old new result o no_depot no_sink in
       let here = subst (λ t. IfSome t (λ files. (reply : Reply) → Answer words files reply → (result ≡ reply.status) ⊎ (result ≡ is.Memory))) told all in
       done_with files told energy steps reply answer (here reply answer))
     where
@@ -158,7 +170,7 @@ module _ {stores : List ℕ → Type 0} (law : AnswerLaw) (words : List (List �
       done_with files told energy steps reply answer (inr m) = absurd (no_memory m)
       done_with files told energy steps reply answer (inl done) =
           let s = stood files told (subst IsAnswer (sym done) tt) in
-          let same = law words files s.0 (reply_of files (report.Accepted energy steps)) s.1 answer in
+          let same = law words files s.0 (reply_of files (report.Accepted energy steps)) (run_is_no_plan words source target trace is_row) s.1 answer in
           (done, s.3.1 ∙ ap (λ (r : Reply). append_known old.written r.line) same)
 
   pub headline_only : result ≡ is.Done → IfSome old.files (λ files. (energy : ℤ) × (steps : ℕ) × Takes files source target trace energy steps × IsDoneWith result old.written new.written energy steps)

@@ -6,6 +6,7 @@ pub mod Loads
 pub mod Outcomes
 pub mod Parsed
 pub mod Paying
+pub mod Plans
 pub mod Replies
 pub mod Running
 pub mod Stored

@@ -32,6 +32,7 @@ is_answer (report.Accepted energy steps) = tt
 is_answer (report.Legal resolution full) = tt
 is_answer (report.Stored commands bytes) = tt
 is_answer (report.Forged resolution full) = tt
+is_answer (report.Planned energy steps commands bytes) = tt
 is_answer (report.Broken broken) = tt
 is_answer (report.Model who fault) = tt
 is_answer (report.Resolutions source target) = tt

@@ -19,9 +19,8 @@ use Rattle.step_machine.specs.Payment.{IsPaid, Touches}
 use Rattle.trace_codec.specs.Decoder.{Answers, DecoderState, HasTaken, after, fresh}
 use Rattle.trace_codec.specs.declared.decoder.Fed.TheVariants.{Got, All, Bad}
 use Rattle.vox_depot.specs.Files.{Files, IfTold, IsPiece, content}
-use Rattle.nanobot_app.specs.Reading.{AreBoth, IsModelOf, IsSide, RunState}
-use Rattle.nanobot_app.specs.Rows.{Row, asm, check, dis, light, make, run}
-use Rattle.nanobot_app.specs.Touching.{AreInFront, BeginWith, HasGiven, HasPaid, IsRowWithin, IsRunWithin, IsWithin, IsWithinFile}
+use Rattle.nanobot_app.specs.Reading.{AreBoth, AreModels, IsModelOf, IsSide, RunState}
+use Rattle.nanobot_app.specs.Touching.{AreInFront, BeginWith, HasGiven, HasPaid, IsRunWithin, IsWithinFile}
 use Rattle.nanobot_app.proofs.Running.{AllLaw, GotLaw, part, rest}
 use Rattle.nanobot_app.proofs.Tracing.{from_told, piece_has}
 
@@ -180,17 +179,20 @@ source_once (Some a) None s t u v h k = h.0 ∙ sym k.0
 source_once None (Some b) s t u v h k = h.0 ∙ sym k.0
 source_once (Some a) (Some b) s t u v h k = h.0 ∙ sym k.0
 
+models_once : (files : Files) (source target : Option (List ℕ)) (s t u v : Matrix) → AreModels source target files s t → AreModels source target files u v → s ≡ u
+models_once files source target s t u v h k =
+    let first = side_once files source h.source_side k.source_side h.source_is k.source_is in
+    let second = side_once files target h.target_side k.target_side h.target_is k.target_is in
+    source_once k.source_side k.target_side s t u v (subst (λ (x : Option Matrix). AreBoth x k.target_side s t) first (subst (λ (x : Option Matrix). AreBoth h.source_side x s t) second h.both)) k.both
+
 told_is : (told : Option Files) (P : Files → Type 0) (files : Files) → told ≡ Some files → IfSome told P → P files
 told_is told P files e h = subst (λ (o : Option Files). IfSome o P) e h
 
 module _ (profile : Profile) (told : Option Files) (source target : Option (List ℕ)) (trace : List ℕ) where
-  pub run_within : (a b : Option Matrix) (s t : Matrix) (later : Option Files) (before now : ℕ) → IfSome told (λ files. IsSide source files a) → IfSome told (λ files. IsSide target files b) → AreBoth a b s t → later ≡ told → IsWithinFile profile s later trace before now → IsRunWithin profile source target trace told before now
-  run_within a b s t later before now first second both same w = λ files c d from to e ic id these.
-      let u = side_once files source a c (told_is told (λ files. IsSide source files a) files e first) ic in
-      let v = side_once files target b d (told_is told (λ files. IsSide target files b) files e second) id in
-      let both_now : AreBoth c d s t = subst (λ (x : Option Matrix). AreBoth x d s t) u (subst (λ (x : Option Matrix). AreBoth a x s t) v both) in
+  pub run_within : (s t : Matrix) (later : Option Files) (before now : ℕ) → IfSome told (λ files. AreModels source target files s t) → later ≡ told → IsWithinFile profile s later trace before now → IsRunWithin profile source target trace told before now
+  run_within s t later before now found same w = λ files from to e these.
       let here : IsWithinFile profile s told trace before now = subst (λ (o : Option Files). IsWithinFile profile s o trace before now) same w in
-      subst (λ (m : Matrix). IsWithinFile profile m told trace before now) (source_once c d s t from to both_now these) here
+      subst (λ (m : Matrix). IsWithinFile profile m told trace before now) (models_once files source target s t from to (told_is told (λ files. AreModels source target files s t) files e found) these) here
 
   pub run_untouched : (before now : ℕ) → now ≡ before → IsRunWithin profile source target trace told before now
-  run_untouched before now same = λ files a b from to e ia ib both these bytes t c commands n front work. omega (arith, same)
+  run_untouched before now same = λ files from to e these others bytes t c commands n front work. omega (arith, same)

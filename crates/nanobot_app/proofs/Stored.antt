@@ -1,23 +1,25 @@
 -- The answers of the rows that store a file, by what was found in the files.
 use Rattle.std.proofs.Common.{◌≡◌, ℕ, ◌≤◌, List, length, refl, sym, ap, ◌∙◌, subst, Bool, true, false, nat_lt}
-use Rattle.std.specs.Prelude.{Option, Some, None, Result, Ok, Err, MatchOption, MatchBool, IfSome, IsSomeAnd}
+use Rattle.std.specs.Prelude.{ℤ, Option, Some, None, Result, Ok, Err, MatchOption, MatchBool, IfSome, IsSomeAnd}
 use Rattle.nano_spec.specs.declared.commands.Command.{Command}
 use Rattle.nano_spec.specs.Cutting.{BadAt, CutAt, Cutting, Decoding, NoTrace}
+use Rattle.nano_spec.specs.Matrix.{Matrix}
 use Rattle.nano_spec.specs.Printing.{print}
 use Rattle.nano_spec.specs.Reading.{FaultyLine, read}
+use Rattle.nano_spec.specs.Spelling.{spellings}
 use Rattle.vox_depot.specs.Files.{Files, content}
 use Rattle.nanobot_app.specs.declared.effect.Effect.{Effect}
 use Rattle.nanobot_app.specs.declared.effect.NewFile.{NewFile}
 use Rattle.nanobot_app.specs.declared.report.Report.{Report}
 use Rattle.nanobot_app.specs.declared.report.Report.TheVariants as report
 use Rattle.nanobot_app.specs.declared.stop.Stop.{Stop}
-use Rattle.nanobot_app.specs.Answer.{AnswerOf, OfDecoding, OfReading, OfText, OfTrace, Reply, Stores, WithFile, dis_limit, text_limit, with_file}
+use Rattle.nanobot_app.specs.Answer.{AnswerOf, IsLayerPlan, OfDecoding, OfLayerPlan, OfReading, OfText, OfTrace, Reply, Stores, WithFile, dis_limit, text_limit, with_file}
 use Rattle.nanobot_app.specs.Effects.{Finishes, reply_by}
-use Rattle.nanobot_app.specs.Reading.{IsTextOf, IsTraceOf, Lacks, Reads, RefusesDecoding, RefusesReading, RefusesText, RefusesTrace, gone, reply_of}
+use Rattle.nanobot_app.specs.Reading.{AreModels, IsTextOf, IsTraceOf, Lacks, LacksModels, Reads, RefusesDecoding, RefusesModels, RefusesReading, RefusesText, RefusesTrace, gone, reply_of}
 use Rattle.nanobot_app.specs.Report.{line_of, no_trace, status_of}
-use Rattle.nanobot_app.specs.Rows.{dis}
+use Rattle.nanobot_app.specs.Rows.{dis, plan_layer}
 use Rattle.nanobot_app.proofs.Loads.{not_longer}
-use Rattle.nanobot_app.proofs.Replies.{stops}
+use Rattle.nanobot_app.proofs.Replies.{ReadsModels, models_given, models_lack, models_refused, stops}
 use Rattle.nanobot_app.proofs.Told.{if_some, weaker}
 
 -- a file that is not there
@@ -84,3 +86,23 @@ module _ (told : Option Files) (trace text : List ℕ) where
   dis_ends commands effect counts file found e ec en eb = weaker told (λ files is. trace_given files trace (Prints files) commands (reply_by files effect) is
       (stored_reply files effect (report.Stored (length commands) (length (print commands))) file text (print commands)
       (e ∙ (λ i. record { report = (ec ∙ ap (λ xs. report.Stored (length commands) (length xs)) eb) i; file = Some file })) en eb)) found
+
+-- ---- `plan layer`
+
+module _ (told : Option Files) (source target : Option (List ℕ)) (trace : List ℕ) where
+  -- the models stop the call
+  pub plan_stops : (rose : Type 0) (s : Stop) → ReadsModels told source target rose (Err s) → Finishes (AnswerOf (plan_layer source target trace)) told rose (Err s)
+  plan_stops rose s reads =
+      stops Effect (λ files effect. AnswerOf (plan_layer source target trace) files (reply_by files effect)) (AnswerOf (plan_layer source target trace)) told rose rose (λ files (models : Matrix × Matrix). AreModels source target files models.0 models.1) (RefusesModels source target) (LacksModels source target) s
+      reads (λ h. h) (if_some told (λ files _. ((λ r h. models_refused files source target _ r h), (λ h. models_lack files source target _ h))))
+
+  pub plan_ends : (s t : Matrix) (commands : List Command) (energy : ℤ) (steps : ℕ) (effect : Effect) (counts : Report) (file : NewFile) → IfSome told (λ files. AreModels source target files s t) → IsLayerPlan s t commands energy steps
+      → effect ≡ record { report = counts; file = Some file } → counts ≡ report.Planned energy steps (length commands) (length file.bytes.items) → file.name.now ≡ trace → file.bytes.items ≡ spellings commands → IfSome told (λ files. AnswerOf (plan_layer source target trace) files (reply_by files effect))
+  plan_ends s t commands energy steps effect counts file found plan e ec en eb = weaker told (λ files is. models_given files source target (OfLayerPlan trace files) s t (reply_by files effect) is (
+    commands,
+    energy,
+    steps,
+    plan,
+    stored_reply files effect (report.Planned energy steps (length commands) (length (spellings commands))) file trace (spellings commands)
+        (e ∙ (λ i. record { report = (ec ∙ ap (λ (xs : List ℕ). report.Planned energy steps (length commands) (length xs)) eb) i; file = Some file })) en eb,
+  )) found

@@ -1,14 +1,16 @@
 -- What is answered to the words over known files: a status, a line and the files afterwards (docs/FORMATS.md, "Printed lines").
-use Rattle.std.specs.Prelude.{◌≡◌, ◌⊎◌, ℕ, nat_lt, ◌==◌, List, [], length, count_by, Option, Some, None, Result, Ok, Err, MatchOption, MatchBool}
+use Rattle.std.specs.Prelude.{◌≡◌, ◌⊎◌, ℕ, ◌+◌, ◌*◌, ◌≤◌, ℤ, nat_lt, ◌==◌, List, [], ◌∷◌, length, count_by, Option, Some, None, Result, Ok, Err, MatchOption, MatchBool}
 use Rattle.std.specs.FinMap as finite
 use Rattle.nano_spec.specs.declared.commands.Command.{Command}
+use Rattle.nano_spec.specs.declared.commands.Command.TheVariants.{Halt}
 use Rattle.nano_spec.specs.declared.outcomes.Verdict.{Verdict}
+use Rattle.nano_spec.specs.declared.outcomes.Verdict.TheVariants as verdict
 use Rattle.nano_spec.specs.declared.system.Profile.{Profile}
-use Rattle.nano_spec.specs.Cutting.{Decoding, NoTrace, CutAt, BadAt}
+use Rattle.nano_spec.specs.Cutting.{AreCommands, Decoding, NoTrace, CutAt, BadAt}
 use Rattle.nano_spec.specs.Forge.{forged}
 use Rattle.nano_spec.specs.Legal.{Legality, NotLegal}
 use Rattle.nano_spec.specs.Matrix.{Matrix, all_of, empty, is_full}
-use Rattle.nano_spec.specs.Model.{NoModel, model, written}
+use Rattle.nano_spec.specs.Model.{NoModel, model, volume, written}
 use Rattle.nano_spec.specs.Printing.{print}
 use Rattle.nano_spec.specs.Profile.{full_profile, light_profile}
 use Rattle.nano_spec.specs.Reading.{FaultyLine, read}
@@ -16,13 +18,13 @@ use Rattle.nano_spec.specs.Spelling.{spellings}
 use Rattle.nano_spec.specs.Verdict.{VerdictOf}
 use Rattle.vox_depot.specs.Files.{Files, content}
 use Rattle.nanobot_app.specs.declared.report.Report.{Report}
-use Rattle.nanobot_app.specs.declared.report.Report.TheVariants.{Forged, Legal, Model, Resolutions, Stored, TextLong, TraceBad, TraceCut, TraceLong}
+use Rattle.nanobot_app.specs.declared.report.Report.TheVariants.{Forged, Legal, Model, Planned, Resolutions, Stored, TextLong, TraceBad, TraceCut, TraceLong}
 use Rattle.nanobot_app.specs.declared.report.Who.{Who}
 use Rattle.nanobot_app.specs.declared.report.Who.TheVariants as who
 use Rattle.nanobot_app.specs.declared.status.Status.{Status}
 use Rattle.nanobot_app.specs.declared.status.Status.TheVariants as is
 use Rattle.nanobot_app.specs.Report.{faulty_text, line_of, no_model, not_legal, of_verdict, status_of, words_line}
-use Rattle.nanobot_app.specs.Rows.{Row, asm, check, dis, light, make, run, IsRow, IsInNoRow}
+use Rattle.nanobot_app.specs.Rows.{Row, asm, check, dis, light, make, plan_layer, run, IsRow, IsInNoRow}
 
 pub record Reply : Type 0 where
   pub status : Status
@@ -84,6 +86,10 @@ WithBoth files (Some s) None p reply = p s (empty s.resolution) reply
 WithBoth files None (Some t) p reply = p (empty t.resolution) t reply
 WithBoth files (Some s) (Some t) p reply = MatchBool (s.resolution == t.resolution) (p s t reply) (Tells (Resolutions s.resolution t.resolution) files reply)
 
+-- p of the models of a source and a target: what has no file is the empty model of the other's resolution
+abbrev pub WithModels : Files → Option (List ℕ) → Option (List ℕ) → (Matrix → Matrix → Reply → Type 0) → Reply → Type 0
+WithModels files source target p = WithSide who.Source files source (λ s. WithSide who.Target files target (λ t. WithBoth files s t p))
+
 -- ---- traces
 
 -- p of the commands of the bytes
@@ -120,6 +126,22 @@ OfText files bytes p reply = MatchBool (nat_lt text_limit (length bytes)) (Tells
 abbrev pub OfRun : Profile → Files → Matrix → Matrix → List Command → Reply → Type 0
 OfRun profile files source target commands reply = (verdict : Verdict) × VerdictOf source target commands profile verdict × Tells (of_verdict verdict) files reply
 
+-- ---- plans
+
+-- a plan of the layer planner: the definitions accept the commands from the one model to the other with this energy in so many steps, and
+-- their spellings have at most 8 bytes for each voxel and 200 more; where both models are the same, it is a Halt alone
+pub record IsLayerPlan (source target : Matrix) (commands : List Command) (energy : ℤ) (steps : ℕ) : Type 0 where
+  pub are_commands : AreCommands commands
+  pub accepted : VerdictOf source target commands full_profile (verdict.Accepted energy steps)
+  pub bytes : length (spellings commands) ≤ 8 * volume source.resolution + 200
+  pub halt_alone : source ≡ target → commands ≡ Halt ∷ []
+
+-- such a plan is stored as a trace of the name; which one is free
+abbrev pub OfLayerPlan : List ℕ → Files → Matrix → Matrix → Reply → Type 0
+OfLayerPlan name files source target reply =
+    (commands : List Command) × (energy : ℤ) × (steps : ℕ) × IsLayerPlan source target commands energy steps
+    × Stores (Planned energy steps (length commands) (length (spellings commands))) name (spellings commands) files reply
+
 -- ---- the rows
 
 -- the most bytes of a trace that is run
@@ -137,11 +159,9 @@ dis_limit = 50000000
 -- the verdict of a trace from a source to a target, by a profile
 abbrev pub AnswerOfRun : Profile → Option (List ℕ) → Option (List ℕ) → List ℕ → Answers
 AnswerOfRun profile source target trace files =
-    WithSide who.Source files source (λ s.
-    WithSide who.Target files target (λ t.
-    WithBoth files s t (λ s t.
+    WithModels files source target (λ s t.
     WithFile files trace (λ bytes.
-    OfTrace run_limit files bytes (OfRun profile files s t)))))
+    OfTrace run_limit files bytes (OfRun profile files s t)))
 
 abbrev pub AnswerOf : Row → Answers
 AnswerOf (check name) files = WithModel who.Model files name (λ m. Tells (Legal m.resolution (full_count m)) files)
@@ -156,6 +176,11 @@ AnswerOf (dis trace text) files =
     OfTrace dis_limit files bytes (λ commands.
     Stores (Stored (length commands) (length (print commands))) text (print commands) files))
 AnswerOf (make number resolution name) files = Stores (Forged resolution (full_count (forged number resolution))) name (written (forged number resolution)) files
+AnswerOf (plan_layer source target trace) files = WithModels files source target (OfLayerPlan trace files)
+
+-- the words ask for no plan
+abbrev pub AskNoPlan : List (List ℕ) → Type 0
+AskNoPlan words = (source target : Option (List ℕ)) (trace : List ℕ) → IsRow words (plan_layer source target trace) → ⊥
 
 -- the answer to the words
 abbrev pub Answer : List (List ℕ) → Answers

@@ -12,7 +12,7 @@ use Rattle.nanobot_app.specs.declared.status.Status.{Status}
 use Rattle.nanobot_app.specs.declared.status.Status.TheVariants as is
 use Rattle.nanobot_app.specs.Answer.{run_limit}
 use Rattle.nanobot_app.specs.declared.report.Report.TheVariants as report
-use Rattle.nanobot_app.specs.Reading.{AreBoth, IsSide}
+use Rattle.nanobot_app.specs.Reading.{AreModels}
 use Rattle.nanobot_app.specs.Report.{line_of}
 
 -- the machine of the definitions takes the whole trace from the one model to the other, to a halt, with this energy in so many steps
@@ -21,15 +21,10 @@ TakesBytes source target bytes energy steps = (length bytes ≤ run_limit) × ((
 
 -- the same of files: both models are legal and of one resolution, and the file of the trace is not too long
 pub record Takes (files : Files) (source target : Option (List ℕ)) (trace : List ℕ) (energy : ℤ) (steps : ℕ) : Type 0 where
-  -- what the files of the source and the target have; `-` has no file
-  pub source_side : Option Matrix
-  pub target_side : Option Matrix
-  pub source_is : IsSide source files source_side
-  pub target_is : IsSide target files target_side
   -- the models, where what has no file is the empty model of the other's resolution
   pub from : Matrix
   pub to : Matrix
-  pub both : AreBoth source_side target_side from to
+  pub models : AreModels source target files from to
   pub taken : IsSomeAnd (content files trace) (λ bytes. TakesBytes from to bytes energy steps)
 
 -- it answers 0 and prints the energy and the number of steps

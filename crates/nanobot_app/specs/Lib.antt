@@ -7,3 +7,4 @@ pub mod Reading
 pub mod Effects
 pub mod Headline
 pub mod Touching
+pub mod Plans

@@ -26,6 +26,7 @@ use Rattle.vox_depot.specs.declared.depot.FetchFault.TheVariants as fetch
 use Rattle.nanobot_app.specs.declared.report.Report.{Report}
 use Rattle.nanobot_app.specs.declared.report.Report.TheVariants.{Model, Resolutions, Text, TextLong, TraceBad, TraceCut, TraceLong}
 use Rattle.nanobot_app.specs.declared.report.Who.{Who}
+use Rattle.nanobot_app.specs.declared.report.Who.TheVariants as who
 use Rattle.nanobot_app.specs.declared.stop.Stop.{Stop}
 use Rattle.nanobot_app.specs.declared.stop.Stop.TheVariants as stop
 use Rattle.nanobot_app.specs.declared.status.Status.TheVariants as is
@@ -113,6 +114,26 @@ AreBoth (Some a) (Some b) s t = (s ≡ a) × (t ≡ b) × (a.resolution ≡ b.re
 abbrev pub AreUnlike : Option Matrix → Option Matrix → Report → Type 0
 AreUnlike (Some a) (Some b) report = (a.resolution ≢ b.resolution) × (report ≡ Resolutions a.resolution b.resolution)
 AreUnlike a b report = ⊥
+
+-- the legal models of a source and a target
+pub record AreModels (source target : Option (List ℕ)) (files : Files) (s t : Matrix) : Type 0 where
+  -- what the files of the source and the target have; `-` has no file
+  pub source_side : Option Matrix
+  pub target_side : Option Matrix
+  pub source_is : IsSide source files source_side
+  pub target_is : IsSide target files target_side
+  pub both : AreBoth source_side target_side s t
+
+-- the report on a source and a target that are no such models: the source is refused, or else the target, or else their resolutions differ
+pub data RefusesModels (source target : Option (List ℕ)) (files : Files) (report : Report) : Type 0 where
+  by_source : RefusesSide who.Source source files report → RefusesModels source target files report
+  by_target : (s : Option Matrix) → IsSide source files s → RefusesSide who.Target target files report → RefusesModels source target files report
+  by_both : (s t : Option Matrix) → IsSide source files s → IsSide target files t → AreUnlike s t report → RefusesModels source target files report
+
+-- there is no file of the source, or else none of the target
+pub data LacksModels (source target : Option (List ℕ)) (files : Files) : Type 0 where
+  lacks_source : LacksSide source files → LacksModels source target files
+  lacks_target : (s : Option Matrix) → IsSide source files s → LacksSide target files → LacksModels source target files
 
 -- ---- commands
 

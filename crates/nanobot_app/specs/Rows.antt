@@ -10,6 +10,7 @@ pub data Row : Type 0 where
   asm : (text trace : List ℕ) → Row
   dis : (trace text : List ℕ) → Row
   make : (number resolution : ℕ) (model : List ℕ) → Row
+  plan_layer : (source target : Option (List ℕ)) (trace : List ℕ) → Row
 
 -- the word of a source or a target
 abbrev pub side_word : Option (List ℕ) → List ℕ
@@ -24,6 +25,7 @@ words_of (light source target trace) = codes "run" ∷ codes "light" ∷ side_wo
 words_of (asm text trace) = codes "asm" ∷ text ∷ trace ∷ []
 words_of (dis trace text) = codes "dis" ∷ trace ∷ text ∷ []
 words_of (make number resolution model) = codes "make" ∷ decimal number ∷ decimal resolution ∷ model ∷ []
+words_of (plan_layer source target trace) = codes "plan" ∷ codes "layer" ∷ side_word source ∷ side_word target ∷ trace ∷ []
 
 -- a name, if there is one, before others
 abbrev pub with_side : Option (List ℕ) → List (List ℕ) → List (List ℕ)
@@ -38,6 +40,7 @@ reads_of (light source target trace) = with_side source (with_side target (trace
 reads_of (asm text trace) = text ∷ []
 reads_of (dis trace text) = trace ∷ []
 reads_of (make number resolution model) = []
+reads_of (plan_layer source target trace) = with_side source (with_side target [])
 
 -- the name of the file that it stores
 abbrev pub stores_of : Row → Option (List ℕ)
@@ -47,6 +50,7 @@ stores_of (light source target trace) = None
 stores_of (asm text trace) = Some trace
 stores_of (dis trace text) = Some text
 stores_of (make number resolution model) = Some model
+stores_of (plan_layer source target trace) = Some trace
 
 -- the names in it
 abbrev pub names_of : Row → List (List ℕ)
@@ -69,6 +73,7 @@ IsOfTable (light source target trace) = HasName source target
 IsOfTable (asm text trace) = ⊤
 IsOfTable (dis trace text) = ⊤
 IsOfTable (make number resolution model) = CanForge number resolution
+IsOfTable (plan_layer source target trace) = HasName source target
 
 -- `-` is no name of a file
 abbrev pub IsName : List ℕ → Type 0
@@ -79,6 +84,12 @@ pub record AreOperands (x y z : List ℕ) (source target : Option (List ℕ)) (t
   pub source_is : x ≡ side_word source
   pub target_is : y ≡ side_word target
   pub trace_is : z ≡ trace
+  pub named : All IsName (with_side source (with_side target (trace ∷ [])))
+  pub of_table : HasName source target
+
+-- five words are two given ones, and then written as this source, this target and this trace
+pub record AreWith (words : List (List ℕ)) (first second : List ℕ) (source target : Option (List ℕ)) (trace : List ℕ) : Type 0 where
+  pub written : words ≡ first ∷ second ∷ side_word source ∷ side_word target ∷ trace ∷ []
   pub named : All IsName (with_side source (with_side target (trace ∷ [])))
   pub of_table : HasName source target
 

@@ -11,7 +11,7 @@ use Rattle.nano_spec.specs.Work.{Work}
 use Rattle.step_machine.specs.Payment.{IsPaid}
 use Rattle.trace_codec.specs.Decoder.{DecoderState, HasTaken}
 use Rattle.vox_depot.specs.Files.{Files, content}
-use Rattle.nanobot_app.specs.Reading.{AreBoth, IsSide, RunState}
+use Rattle.nanobot_app.specs.Reading.{AreModels, RunState}
 use Rattle.nanobot_app.specs.Rows.{Row, light, run}
 
 -- ---- the bound
@@ -30,7 +30,7 @@ IsWithinFile profile source told trace before after = (files : Files) (bytes : L
 
 -- the same of the legal models of a source and a target
 abbrev pub IsRunWithin : Profile → Option (List ℕ) → Option (List ℕ) → List ℕ → Option Files → ℕ → ℕ → Type 0
-IsRunWithin profile source target trace told before after = (files : Files) (a b : Option Matrix) (from to : Matrix) → told ≡ Some files → IsSide source files a → IsSide target files b → AreBoth a b from to → IsWithinFile profile from told trace before after
+IsRunWithin profile source target trace told before after = (files : Files) (from to : Matrix) → told ≡ Some files → AreModels source target files from to → IsWithinFile profile from told trace before after
 
 -- the same of a row that runs a trace
 abbrev pub IsRowWithin : Row → Option Files → ℕ → ℕ → Type 0

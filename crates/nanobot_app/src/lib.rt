@@ -14,6 +14,6 @@ mod trace;
 mod trace_run;
 mod words;
 
-pub use laws::one_answer;
+pub use laws::{a_plan_is_accepted, one_answer};
 pub use status::Status;
 pub use top_call::drive;

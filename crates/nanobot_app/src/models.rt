@@ -1,10 +1,10 @@
 //! Models of files.
 ghost use Rattle.std.specs.Prelude.{◌≡◌, ◌≤◌, ℕ, List, Some, None, Err, IfOk, IfSome};
-ghost use Rattle.nano_spec.specs.Grounded.{FirstUngrounded};
+ghost use Rattle.nano_spec.specs.Legal.{IsLegal};
 ghost use Rattle.nanobot_app.specs.declared.report.Report.{Report as ReportOf};
 ghost use Rattle.vox_depot.specs.Causes.{Rose};
 ghost use Rattle.nanobot_app.specs.Parsing.{side_of};
-ghost use Rattle.nanobot_app.specs.Reading.{AreBoth, AreUnlike, IsModelOf, IsSide, Lacks, LacksSide, Reads, RefusesFile, RefusesSide};
+ghost use Rattle.nanobot_app.specs.Reading.{AreBoth, AreModels, AreUnlike, IsModelOf, IsSide, Lacks, LacksModels, LacksSide, Reads, RefusesFile, RefusesModels, RefusesSide};
 
 use crate::report::{Report, Who};
 use crate::stop::Stop;
@@ -28,7 +28,7 @@ pub fn load_model<D: Depot>(
     ensures reads { Reads (D.files depot.old) (Rose (D.faults depot.old) (D.faults depot.new)) (λ files m. IsModelOf files name.now m) (RefusesFile who name.now) (Lacks name.now) result }
     ensures files { D.files depot.new ≡ D.files depot.old }
     ensures later { D.faults depot.old ≤ D.faults depot.new }
-    ensures grounded { IfOk result (λ m. FirstUngrounded m None) }
+    ensures legal { IfOk result IsLegal }
 {
     let bytes = load(alloc, depot, name, MOST_BYTES)?;
     let planes = match read_model(alloc, &bytes) {
@@ -42,7 +42,7 @@ pub fn load_model<D: Depot>(
 }
 
 /// The legal model of a source or a target, or none where it has no file.
-pub fn load_side<D: Depot>(
+fn load_side<D: Depot>(
     alloc: Global,
     depot: &mut D,
     side: Side<'_>,
@@ -53,7 +53,7 @@ pub fn load_side<D: Depot>(
     ensures files { D.files depot.new ≡ D.files depot.old }
     ensures later { D.faults depot.old ≤ D.faults depot.new }
     ensures named { IfOk result (λ loaded. loaded ≡ None → side_of side.entry ≡ None) }
-    ensures grounded { IfOk result (λ loaded. IfSome loaded (λ m. FirstUngrounded m None)) }
+    ensures legal { IfOk result (λ loaded. IfSome loaded IsLegal) }
 {
     match side {
         Side::Empty => Ok(None),
@@ -62,18 +62,20 @@ pub fn load_side<D: Depot>(
 }
 
 /// The source and the target: what has no file is the empty model of the other's resolution.
-pub fn both(
+fn both(
     alloc: Global,
     source: Option<Planes>,
     target: Option<Planes>,
 ) -> Result<(Planes, Planes), Stop>
     requires some { source ≡ None → target ≡ None → ⊥ }
-    requires grounded { IfSome source (λ m. FirstUngrounded m None) }
+    requires source { IfSome source IsLegal }
+    requires target { IfSome target IsLegal }
     ensures models { IfOk result (λ pair. AreBoth source target pair.0 pair.1) }
     ensures unlike { (report : ReportOf) → result ≡ Err (Stop.Told report) → AreUnlike source target report }
     ensures depot { result ≡ Err Stop.Depot → ⊥ }
     ensures resolutions { IfOk result (λ pair. pair.0.resolution ≡ pair.1.resolution) }
-    ensures grounded { IfOk result (λ pair. FirstUngrounded pair.0 None) }
+    ensures source { IfOk result (λ pair. IsLegal pair.0) }
+    ensures target { IfOk result (λ pair. IsLegal pair.1) }
 {
     match (source, target) {
         (Some(source), Some(target)) => {
@@ -95,4 +97,26 @@ pub fn both(
         }
         (None, None) => unreachable!(),
     }
+}
+
+/// The legal models of a source and a target, of one resolution.
+pub fn load_models<D: Depot>(
+    alloc: Global,
+    depot: &mut D,
+    source: Side<'_>,
+    target: Side<'_>,
+) -> Result<(Planes, Planes), Stop>
+    requires source { (name : List ℕ) → side_of source ≡ Some name → D.may_fetch name }
+    requires target { (name : List ℕ) → side_of target ≡ Some name → D.may_fetch name }
+    requires some { side_of source ≡ None → side_of target ≡ None → ⊥ }
+    ensures reads { Reads (D.files depot.old) (Rose (D.faults depot.old) (D.faults depot.new)) (λ files models. AreModels (side_of source.entry) (side_of target.entry) files models.0 models.1) (RefusesModels (side_of source.entry) (side_of target.entry)) (LacksModels (side_of source.entry) (side_of target.entry)) result }
+    ensures files { D.files depot.new ≡ D.files depot.old }
+    ensures later { D.faults depot.old ≤ D.faults depot.new }
+    ensures resolutions { IfOk result (λ models. models.0.resolution ≡ models.1.resolution) }
+    ensures source { IfOk result (λ models. IsLegal models.0) }
+    ensures target { IfOk result (λ models. IsLegal models.1) }
+{
+    let source = load_side(alloc, depot, source, Who::Source)?;
+    let target = load_side(alloc, depot, target, Who::Target)?;
+    both(alloc, source, target)
 }

@@ -6,6 +6,7 @@ ghost use Rattle.nanobot_app.specs.Report.{broken_line as broken_line_of, line_o
 use crate::status::Status;
 use model_file::ModelFault;
 use nano_spec::{Broken, Command, Verdict};
+use plan_tape::Plan;
 use std::alloc::{AllocError, Global};
 use trace_text::TextFault;
 use vox_geom::Coord;
@@ -22,29 +23,62 @@ pub enum Who {
 #[derive(Clone, Copy, PartialEq, Eq, Debug)]
 pub enum Report {
     /// A run was accepted.
-    Accepted { energy: i64, steps: u32 },
+    Accepted {
+        energy: i64,
+        steps: u32,
+    },
     /// A model is legal, and so many of its voxels are full.
-    Legal { resolution: u16, full: u32 },
+    Legal {
+        resolution: u16,
+        full: u32,
+    },
     /// A file of so many bytes has the bytes, or the text, of so many commands.
-    Stored { commands: u64, bytes: u64 },
+    Stored {
+        commands: u64,
+        bytes: u64,
+    },
     /// A model was forged, and so many of its voxels are full.
-    Forged { resolution: u16, full: u32 },
+    Forged {
+        resolution: u16,
+        full: u32,
+    },
+    /// A plan of so many commands, spelled in so many bytes, is accepted with this energy in so many steps.
+    Planned {
+        energy: i64,
+        steps: u32,
+        commands: u64,
+        bytes: u64,
+    },
     /// A rule was broken.
     Broken(Broken),
     /// A model was refused.
-    Model { who: Who, fault: ModelFault },
+    Model {
+        who: Who,
+        fault: ModelFault,
+    },
     /// The source and the target have different resolutions.
-    Resolutions { source: u16, target: u16 },
+    Resolutions {
+        source: u16,
+        target: u16,
+    },
     /// What begins at the offset of a trace is no command.
-    TraceBad { offset: u64 },
+    TraceBad {
+        offset: u64,
+    },
     /// A trace ends within the command that begins there.
-    TraceCut { offset: u64 },
+    TraceCut {
+        offset: u64,
+    },
     /// A trace has more bytes than that.
-    TraceLong { limit: u64 },
+    TraceLong {
+        limit: u64,
+    },
     /// A text was refused.
     Text(TextFault),
     /// A text has more bytes than that.
-    TextLong { limit: u64 },
+    TextLong {
+        limit: u64,
+    },
 }
 
 impl Who {
@@ -161,6 +195,18 @@ impl Report {
         }
     }
 
+    /// The report on a plan whose commands have these bytes.
+    pub fn planned(plan: &Plan, bytes: &[u8]) -> Report
+        ensures { result ≡ Report.Planned plan.now.energy plan.now.steps (length plan.now.commands) (length bytes.now) }
+    {
+        Report::Planned {
+            energy: plan.energy,
+            steps: plan.steps,
+            commands: plan.commands.as_slice().len() as u64,
+            bytes: bytes.len() as u64,
+        }
+    }
+
     /// The status of the report.
     pub fn status(&self) -> Status
         ensures { result ≡ status_of self.now }
@@ -169,7 +215,8 @@ impl Report {
             Report::Accepted { .. }
             | Report::Legal { .. }
             | Report::Stored { .. }
-            | Report::Forged { .. } => Status::Done,
+            | Report::Forged { .. }
+            | Report::Planned { .. } => Status::Done,
             Report::Broken(_) => Status::Broken,
             Report::Model { .. } | Report::Resolutions { .. } => Status::Model,
             Report::TraceBad { .. } | Report::TraceCut { .. } | Report::TraceLong { .. } => {
@@ -195,6 +242,16 @@ impl Report {
             }
             Report::Forged { resolution, full } => {
                 format!(in alloc; "model resolution {resolution} full {full}\n")
+            }
+            Report::Planned {
+                energy,
+                steps,
+                commands,
+                bytes,
+            } => {
+                format!(in alloc;
+                    "plan energy {energy} steps {steps} commands {commands} bytes {bytes}\n"
+                )
             }
             Report::Broken(broken) => broken_line(alloc, broken),
             Report::Model { who, fault } => model_line(alloc, *who, *fault),

@@ -6,16 +6,17 @@ ghost use Rattle.nanobot_app.specs.Answer.{AnswerOf, AnswerOfRun};
 ghost use Rattle.nanobot_app.specs.Parsing.{row_of, side_of};
 ghost use Rattle.nanobot_app.specs.Reading.{Ends};
 ghost use Rattle.nanobot_app.specs.Effects.{Finishes, IsFor};
-ghost use Rattle.nanobot_app.specs.Rows.{IsOfTable, asm as asm_row, check as check_row, dis as dis_row, make as make_row, reads_of, stores_of};
+ghost use Rattle.nanobot_app.specs.Rows.{IsOfTable, asm as asm_row, check as check_row, dis as dis_row, make as make_row, plan_layer as plan_row, reads_of, stores_of};
 ghost use Rattle.nanobot_app.specs.Touching.{IsRowWithin, IsRunWithin};
 
 use crate::commands::{load_text, load_trace};
 use crate::effect::Effect;
-use crate::models::{both, load_model, load_side};
+use crate::models::{load_model, load_models};
 use crate::report::{Report, Who};
 use crate::stop::Stop;
 use crate::trace::run_trace;
 use crate::words::{Row, Side};
+use layer_planner::plan_layers;
 use model_file::write_model;
 use model_forge::forge;
 use nano_spec::Profile;
@@ -65,9 +66,7 @@ fn run<D: Depot, L: Ledger>(
     ensures later { D.faults depot.old ≤ D.faults depot.new }
     ensures within { (result ≡ Err Stop.Memory → ⊥) → IsRunWithin profile (side_of source.entry) (side_of target.entry) trace.now (D.files depot.old) steps.old steps.new }
 {
-    let source = load_side(alloc, depot, source, Who::Source)?;
-    let target = load_side(alloc, depot, target, Who::Target)?;
-    let (source, target) = both(alloc, source, target)?;
+    let (source, target) = load_models(alloc, depot, source, target)?;
     run_trace(alloc, depot, trace, source, &target, profile, steps)
 }
 
@@ -131,6 +130,29 @@ fn make<'a, L: Ledger>(
     Ok(Effect::storing(report, model, bytes))
 }
 
+/// `plan layer`: the trace of a plan that makes the target of the source.
+fn plan_layer<'a, D: Depot>(
+    alloc: Global,
+    depot: &mut D,
+    source: Side<'_>,
+    target: Side<'_>,
+    trace: &'a str,
+) -> Result<Effect<'a>, Stop>
+    requires source { (name : List ℕ) → side_of source ≡ Some name → D.may_fetch name }
+    requires target { (name : List ℕ) → side_of target ≡ Some name → D.may_fetch name }
+    requires some { side_of source ≡ None → side_of target ≡ None → ⊥ }
+    ensures finishes { Finishes (AnswerOf (plan_row (side_of source.entry) (side_of target.entry) trace.now)) (D.files depot.old) (Rose (D.faults depot.old) (D.faults depot.new)) result }
+    ensures named { IfOk result (λ effect. IsFor (Some trace.now) effect.file) }
+    ensures files { D.files depot.new ≡ D.files depot.old }
+    ensures later { D.faults depot.old ≤ D.faults depot.new }
+{
+    let (source, target) = load_models(alloc, depot, source, target)?;
+    let plan = plan_layers(alloc, &source, &target)?;
+    let bytes = encode_all(alloc, plan.commands.as_slice())?;
+    let report = Report::planned(&plan, bytes.as_slice());
+    Ok(Effect::storing(report, trace, bytes))
+}
+
 /// What a row of the table comes to. Files are read, and none is stored yet.
 pub fn answer<'a, D: Depot, L: Ledger>(
     alloc: Global,
@@ -171,5 +193,10 @@ pub fn answer<'a, D: Depot, L: Ledger>(
             resolution,
             model,
         } => make(alloc, number, resolution, model, steps),
+        Row::PlanLayer {
+            source,
+            target,
+            trace,
+        } => plan_layer(alloc, depot, source, target, trace),
     }
 }

@@ -1,6 +1,6 @@
 //! The words of the program.
 ghost use Rattle.std.specs.Prelude.{◌≡◌, ◌↔◌, ◌<◌, ◌≤◌, ◌^◌, ℕ, List, Option, [], ◌∷◌, IsTrue, MatchOption, codes, decimal};
-ghost use Rattle.nanobot_app.specs.Rows.{asm, check, dis, light, make, run, side_word, AreOperands, HasName, IsRow, IsInNoRow, IsName, texts};
+ghost use Rattle.nanobot_app.specs.Rows.{asm, check, dis, light, make, plan_layer, run, side_word, AreOperands, AreWith, HasName, IsRow, IsInNoRow, IsName, texts};
 ghost use Rattle.nanobot_app.specs.Parsing.{row_of, side_of};
 
 use itoa::Buffer;
@@ -47,6 +47,12 @@ pub enum Row<'a> {
         number: u32,
         resolution: u16,
         model: &'a str,
+    },
+    /// The trace of the layer planner from the source to the target, as a file.
+    PlanLayer {
+        source: Side<'a>,
+        target: Side<'a>,
+        trace: &'a str,
     },
 }
 
@@ -235,19 +241,44 @@ fn five(words: &[String]) -> Option<(&str, &str, &str, &str, &str)>
     }
 }
 
+/// The source, the target and the trace behind two words, where the words are five and the first are those two.
+fn parse_operands<'a>(
+    words: &'a [String],
+    first: &str,
+    second: &str,
+) -> Option<(Side<'a>, Side<'a>, &'a str)>
+    ensures { MatchOption result ((s t : Option (List ℕ)) (b : List ℕ) → AreWith (texts words.now) first.now second.now s t b → ⊥)
+        (λ operands. AreWith (texts words.now) first.now second.now (side_of operands.0) (side_of operands.1) operands.2.now) }
+{
+    let (a, b, source, target, trace) = five(words)?;
+    if a != first {
+        return None;
+    }
+    if b != second {
+        return None;
+    }
+    let (source, target) = parse_sides(source, target, trace)?;
+    Some((source, target, trace))
+}
+
 /// The source, the target and the trace after `run light`.
 fn parse_light(words: &[String]) -> Option<Row<'_>>
     ensures { MatchOption result ((s t : Option (List ℕ)) (b : List ℕ) → IsRow (texts words.now) (light s t b) → ⊥) (λ row. IsRow (texts words.now) (row_of row)) }
 {
-    let (word, profile, source, target, trace) = five(words)?;
-    if word != "run" {
-        return None;
-    }
-    if profile != "light" {
-        return None;
-    }
-    let (source, target) = parse_sides(source, target, trace)?;
+    let (source, target, trace) = parse_operands(words, "run", "light")?;
     Some(Row::Light {
+        source,
+        target,
+        trace,
+    })
+}
+
+/// The source, the target and the trace after `plan layer`.
+fn parse_plan_layer(words: &[String]) -> Option<Row<'_>>
+    ensures { MatchOption result ((s t : Option (List ℕ)) (b : List ℕ) → IsRow (texts words.now) (plan_layer s t b) → ⊥) (λ row. IsRow (texts words.now) (row_of row)) }
+{
+    let (source, target, trace) = parse_operands(words, "plan", "layer")?;
+    Some(Row::PlanLayer {
         source,
         target,
         trace,
@@ -273,5 +304,8 @@ pub fn parse(words: &[String]) -> Option<Row<'_>>
     if let Some(row) = parse_dis(words) {
         return Some(row);
     }
-    parse_make(words)
+    if let Some(row) = parse_make(words) {
+        return Some(row);
+    }
+    parse_plan_layer(words)
 }

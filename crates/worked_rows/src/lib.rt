@@ -9,6 +9,8 @@ mod faults;
 #[cfg(test)]
 mod large;
 #[cfg(test)]
+mod plans;
+#[cfg(test)]
 mod runs;
 #[cfg(test)]
 mod stores;

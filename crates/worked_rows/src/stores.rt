@@ -23,7 +23,7 @@ const TRACE: &[u8] = &[0x14, 0x10, 0x73, 0x14, 0x0E, 0xFF];
 const LOOSE_TEXT: &[u8] =
     b"# four commands\r\n\r\n\tSMove < 1 ,0,\t00>\r\n  \nFill<0,0,1> # beside\nSMove <-1,0,0>\t\r\nHalt";
 
-const STORING: [Storing; 9] = [
+const STORING: [Storing; 10] = [
     Storing {
         words: "asm B C",
         bytes: TEXT,
@@ -87,10 +87,17 @@ const STORING: [Storing; 9] = [
         name: "C",
         stored: &[],
     },
+    Storing {
+        words: "plan layer P3 P3 B",
+        bytes: &[],
+        printed: "plan energy 101 steps 1 commands 1 bytes 1\n",
+        name: "B",
+        stored: &[0xFF],
+    },
 ];
 
 /// Texts, traces and words that are refused.
-const REFUSED: [Row; 19] = [
+const REFUSED: [Row; 25] = [
     (
         "asm B C",
         b"Jump\n",
@@ -140,6 +147,27 @@ const REFUSED: [Row; 19] = [
     ("asm - C", TEXT, Status::Words, "words not understood\n"),
     ("asm B -", TEXT, Status::Words, "words not understood\n"),
     ("dis B -", TRACE, Status::Words, "words not understood\n"),
+    (
+        "plan layer - - C",
+        &[],
+        Status::Words,
+        "words not understood\n",
+    ),
+    (
+        "plan layer P3 - -",
+        &[],
+        Status::Words,
+        "words not understood\n",
+    ),
+    ("plan P3 - C", &[], Status::Words, "words not understood\n"),
+    (
+        "plan layer E3 E4 C",
+        &[],
+        Status::Model,
+        "resolutions 3 4\n",
+    ),
+    ("plan layer E3 B C", &[], Status::Model, "target 1 NoByte\n"),
+    ("plan layer X E3 C", &[], Status::Depot, ""),
 ];
 
 /// The words over the file `B`, with these calls of the depot and the sink failing, answer the status, print the line and

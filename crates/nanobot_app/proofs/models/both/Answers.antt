@@ -1,9 +1,8 @@
-use Rattle.std.proofs.Common.{sym, subst}
-use Rattle.std.specs.Prelude.{None}
-use Rattle.nano_spec.specs.Grounded.{FirstUngrounded}
-use Rattle.nano_spec.specs.Matrix.{Matrix}
-use Rattle.nanobot_app.proofs.Empty.{empty_is_grounded}
+use Rattle.nanobot_app.proofs.Empty.{legal_where_empty}
 use Rattle.nanobot_app.proofs.models.both.Goals as goal
 
-pub returns-in_ok-source-in-None-Some-clause-grounded : goal.returns-in_ok-source-in-None-Some-clause-grounded
-returns-in_ok-source-in-None-Some-clause-grounded c = subst (λ (m : Matrix). FirstUngrounded m None) (sym c.in_ok-source-in-None-Some.ensures.value) (empty_is_grounded _)
+pub returns-in_ok-source-in-None-Some-clause-source : goal.returns-in_ok-source-in-None-Some-clause-source
+returns-in_ok-source-in-None-Some-clause-source c = legal_where_empty c.in_ok-source-in-None-Some.source c.resolution-in-None-Some.result c.in_ok-source-in-None-Some.ensures.value
+
+pub returns-in_ok-target-in-Some-None-clause-target : goal.returns-in_ok-target-in-Some-None-clause-target
+returns-in_ok-target-in-Some-None-clause-target c = legal_where_empty c.in_ok-target-in-Some-None.target c.resolution-in-Some-None.result c.in_ok-target-in-Some-None.ensures.value

@@ -12,11 +12,11 @@ returns-in-Make-clause-finishes g c = rw c.in-Make.is (c.make.ensures.finishes _
 pub returns-in-Run-clause-within : goal.returns-in-Run-clause-within
 returns-in-Run-clause-within g c = λ no_memory.
     subst (λ (row : Row). IsRowWithin (row_of row) (g.D.Depot.files c.args.depot.now) c.args.steps.now c.run.new.steps) (sym c.in-Run.is)
-    (subst (λ (profile : Profile). IsRunWithin profile (side_of c.in-Run.source) (side_of c.in-Run.target) c.in-Run.trace.now (g.D.Depot.files c.args.depot.now) c.args.steps.now c.run.new.steps) c.full.ensures
+    (subst (λ (profile : Profile). IsRunWithin profile (side_of c.in-Run.source) (side_of c.in-Run.target) c.in-Run.trace.now (g.D.Depot.files c.args.depot.now) c.args.steps.now c.run.new.steps) c.full-full.ensures
     (c.run.ensures.within (λ e. no_memory (c.telling-in-Run.ensures ∙ ap alone e))))
 
 pub returns-in-Light-clause-within : goal.returns-in-Light-clause-within
 returns-in-Light-clause-within g c = λ no_memory.
     subst (λ (row : Row). IsRowWithin (row_of row) (g.D.Depot.files c.args.depot.now) c.args.steps.now c.run-in-Light.new.steps) (sym c.in-Light.is)
-    (subst (λ (profile : Profile). IsRunWithin profile (side_of c.in-Light.source) (side_of c.in-Light.target) c.in-Light.trace.now (g.D.Depot.files c.args.depot.now) c.args.steps.now c.run-in-Light.new.steps) c.light.ensures
+    (subst (λ (profile : Profile). IsRunWithin profile (side_of c.in-Light.source) (side_of c.in-Light.target) c.in-Light.trace.now (g.D.Depot.files c.args.depot.now) c.args.steps.now c.run-in-Light.new.steps) c.light-light.ensures
     (c.run-in-Light.ensures.within (λ e. no_memory (c.telling-in-Light.ensures ∙ ap alone e))))

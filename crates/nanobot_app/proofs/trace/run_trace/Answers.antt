@@ -1,5 +1,5 @@
 use Rattle.std.proofs.Common.{◌∙◌, ◌+◌, ◌*◌, ◌≤◌, ℕ, arith, rules, length-take, subst, sym}
-use Rattle.nanobot_app.proofs.Paying.{paying, paying_next, paying_within}
+use Rattle.nanobot_app.proofs.Paying.{paying_next, paying_within}
 use Rattle.nanobot_app.proofs.Tracing.{underway_end, underway_long, underway_next}
 use Rattle.nanobot_app.proofs.trace.run_trace.Goals as goal
 
