@@ -63,6 +63,22 @@ fn got(command: Command, len: u8) -> One
     One::Got { command, len }
 }
 
+/// The command of one byte at a near difference, by the low three bits of the byte.
+#[inline(always)]
+fn one_byte(kind: u8, near: Near) -> Command
+    ensures primary { kind ≡ 7 → result ≡ Command.FusionP near }
+    ensures secondary { kind ≡ 6 → result ≡ Command.FusionS near }
+    ensures fill { kind ≡ 3 → result ≡ Command.Fill near }
+    ensures void { kind ≡ 2 → result ≡ Command.Void near }
+{
+    match kind {
+        0b111 => Command::FusionP(near),
+        0b110 => Command::FusionS(near),
+        0b011 => Command::Fill(near),
+        _ => Command::Void(near),
+    }
+}
+
 /// A command at a near difference, by the low three bits of its first byte and the bytes after it.
 #[inline(always)]
 fn decode_near(kind: u8, near: Near, rest: &[u8]) -> One
@@ -72,14 +88,11 @@ fn decode_near(kind: u8, near: Near, rest: &[u8]) -> One
     ensures { Says ((8 * near_code near + kind) ∷ rest.now) result }
 {
     match kind {
-        0b111 => got(Command::FusionP(near), 1),
-        0b110 => got(Command::FusionS(near), 1),
+        0b111 | 0b110 | 0b011 | 0b010 => got(one_byte(kind, near), 1),
         0b101 => match rest {
             [] => One::More,
             [number, ..] => got(Command::Fission(near, *number), 2),
         },
-        0b011 => got(Command::Fill(near), 1),
-        0b010 => got(Command::Void(near), 1),
         0b001 => match far_front(rest) {
             FarFront::Got(far) => got(Command::GFill(near, far), 4),
             FarFront::More => One::More,
@@ -128,21 +141,29 @@ fn decode_move(head: u8, rest: &[u8]) -> One
     requires { head % 8 ≡ 4 }
     ensures { Says (head ∷ rest.now) result }
 {
+    match head {
+        0b0001_0100 => decode_long(1, rest),
+        0b0010_0100 => decode_long(2, rest),
+        0b0011_0100 => decode_long(3, rest),
+        _ => decode_two_moves(head, rest),
+    }
+}
+
+/// Two short moves, by their first byte, and the bytes after it.
+#[inline(always)]
+fn decode_two_moves(head: u8, rest: &[u8]) -> One
+    requires low_bits { head % 8 ≡ 4 }
+    requires not_x { head ≢ 0b0001_0100 }
+    requires not_y { head ≢ 0b0010_0100 }
+    requires not_z { head ≢ 0b0011_0100 }
+    ensures { Says (head ∷ rest.now) result }
+{
     let first = head / 16 % 4;
     let second = head / 64;
-    if first == 0 {
-        One::Bad
-    } else if head / 8 % 2 == 0 {
-        if second == 0 {
-            decode_long(first, rest)
-        } else {
-            One::Bad
-        }
-    } else if second == 0 {
-        One::Bad
-    } else {
-        decode_short(first, second, rest)
+    if first == 0 || second == 0 || head / 8 % 2 == 0 {
+        return One::Bad;
     }
+    decode_short(first, second, rest)
 }
 
 /// A long move along an axis, by the bytes after the first.

@@ -12,7 +12,7 @@ pub returns-in-Bad : goal.returns-in-Bad
 returns-in-Bad c = refused_group c.args.near c.args.kind c.args.rest.now (omega arith) c.requires.is_near c.in-Bad.ensures
 
 pub returns-in-More-far_front : goal.returns-in-More-far_front
-returns-in-More-far_front c = begins_group c.args.near c.args.kind c.args.rest.now (omega arith) c.requires.is_near c.in-More-far_front.ensures
+returns-in-More-far_front c = begins_group c.args.near c.args.kind c.args.rest.now (grind arith) c.requires.is_near c.in-More-far_front.ensures
 
 pub returns-in-Bad-far_front : goal.returns-in-Bad-far_front
-returns-in-Bad-far_front c = refused_group c.args.near c.args.kind c.args.rest.now (omega arith) c.requires.is_near c.in-Bad-far_front.ensures
+returns-in-Bad-far_front c = refused_group c.args.near c.args.kind c.args.rest.now (grind arith) c.requires.is_near c.in-Bad-far_front.ensures
