@@ -3,10 +3,9 @@ use Rattle.std.proofs.Common.{◌≡◌, ℕ, zero, suc, ◌+◌, ◌-◌, ◌*�
 use Rattle.std.specs.Prelude.{◌⊎◌, slice_index, sum_by}
 use Rattle.std.proofs.lemmas.Bool.{cases_lt}
 use Rattle.std.proofs.lemmas.Bool.Decides.{nat_tests}
-use Rattle.std.proofs.lemmas.List.{ext_get_or, get_or-map, get_or_default, length-drop, length-map, take_rest}
+use Rattle.std.proofs.lemmas.List.{ext_get_or, get_or-drop, get_or-map, get_or_default, length-drop, length-map, take_rest}
 use Rattle.std.proofs.Math.Nat.{pow-le-pow_right}
 use Rattle.std.proofs.lemmas.Nat.Bits.{bit_at_above}
-use Rattle.std.proofs.lemmas.Grind.{get_or_after_one}
 use Rattle.vox_geom.specs.Space.{numbers_below, numbers_from}
 use Rattle.nano_spec.specs.Matrix.{Matrix}
 use Rattle.nano_spec.specs.Model.{bit, byte_at, volume, voxel_bit}
@@ -36,14 +35,14 @@ matrix_is m r f er el h = λ i. record { resolution = er i; voxels = same i }
 
 -- ---- reading
 
--- a byte after the first
-pub byte_is : (bytes : List ℕ) (k byte d : ℕ) → k < length (take (length bytes - 1) (drop 1 bytes)) → byte ≡ get_or (take (length bytes - 1) (drop 1 bytes)) k d → byte ≡ slice_index bytes (1 + k)
-byte_is bytes k byte d l e =
-    let rest : take (length bytes - 1) (drop 1 bytes) ≡ drop 1 bytes = take_rest bytes 1 in
-    e ∙ (get_or_default (take (length bytes - 1) (drop 1 bytes)) k d 0 l ∙ (ap (λ xs. get_or xs k 0) rest ∙ get_or_after_one bytes k 0))
+-- a byte of the rest from one on
+pub byte_is : (bytes : List ℕ) (s k byte d : ℕ) → k < length (take (length bytes - s) (drop s bytes)) → byte ≡ get_or (take (length bytes - s) (drop s bytes)) k d → byte ≡ slice_index bytes (s + k)
+byte_is bytes s k byte d l e =
+    let rest : take (length bytes - s) (drop s bytes) ≡ drop s bytes = take_rest bytes s in
+    e ∙ (get_or_default (take (length bytes - s) (drop s bytes)) k d 0 l ∙ (ap (λ xs. get_or xs k 0) rest ∙ get_or-drop s bytes k 0))
 
-pub rest_length : (bytes : List ℕ) → length (take (length bytes - 1) (drop 1 bytes)) ≡ length bytes - 1
-rest_length bytes = ap length (take_rest bytes 1) ∙ length-drop 1 bytes
+pub rest_length : (bytes : List ℕ) (s : ℕ) → length (take (length bytes - s) (drop s bytes)) ≡ length bytes - s
+rest_length bytes s = ap length (take_rest bytes s) ∙ length-drop s bytes
 
 pub before_these : (from count p : ℕ) → p < from → is_from from count p ≡ false
 before_these from count p l = grind (arith, nat_tests)

@@ -6,3 +6,4 @@ pub mod FirstForms
 pub mod WideForms
 pub mod Rewritten
 pub mod Stretches
+pub mod Octets

@@ -2,3 +2,4 @@ pub mod Fault
 pub mod Padding
 pub mod Flood
 pub mod Runs
+pub mod Words

@@ -16,7 +16,7 @@ use vox_geom::{Coord, Region, Steps};
 
 impl Planes {
     /// The first coordinate of a row that is full, or else void, from one on to the last component z.
-    fn row_next<L: Ledger>(
+    pub fn row_next<L: Ledger>(
         &self,
         first: Coord,
         last: u16,

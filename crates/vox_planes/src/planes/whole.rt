@@ -28,7 +28,7 @@ impl Planes {
     }
 
     /// The least coordinate of a layer at which the two differ: its least x, and there the least z.
-    fn layer_difference<L: Ledger>(
+    pub fn layer_difference<L: Ledger>(
         &self,
         other: &Planes,
         y: u16,
