@@ -64,7 +64,7 @@ by_pair m h profile bots crew commands step o p q same lengths e f pairs is ener
     ∙ (ap (λ v. option_or v (first_value (judge_pairs m all step (leaders all)))) each
     ∙ (ap (λ bs. first_value (judge_pairs m (acts bs commands) step (leaders (acts bs commands)))) (sym same) ∙ (sym pairs ∙ is)))
 
-none_after : {A : Type 0} (o : Option A) → option_or o None ≡ o
+pub none_after : {A : Type 0} (o : Option A) → option_or o None ≡ o
 none_after None = refl
 none_after (Some a) = refl
 

@@ -1,10 +1,10 @@
 -- The rules of single bots, bot by bot (docs/FORMATS.md, "Rules").
-use Rattle.std.specs.Prelude.{ℕ, ◌*◌, Bool, true, false, ◌&&◌, cond, pos, List, [], ◌∷◌, flat_map, count_by, Option, Some, None}
+use Rattle.std.specs.Prelude.{ℕ, ◌*◌, Bool, true, false, ◌&&◌, cond, pos, List, [], ◌∷◌, flat_map, count_by, Option, Some, None, Result, Ok, Err}
 use Rattle.std.specs.Option.{option_or}
 use Rattle.vox_geom.specs.declared.difference.Diff.{Diff}
 use Rattle.vox_geom.specs.Point.{Point, point, plus}
 use Rattle.nano_spec.specs.declared.commands.Command.{Command}
-use Rattle.nano_spec.specs.declared.commands.Command.TheVariants.{FusionP, FusionS, GFill, GVoid}
+use Rattle.nano_spec.specs.declared.commands.Command.TheVariants.{Fill, FusionP, FusionS, GFill, GVoid, Void}
 use Rattle.nano_spec.specs.declared.outcomes.Broken.{Broken}
 use Rattle.nano_spec.specs.declared.outcomes.Rule.{Rule}
 use Rattle.nano_spec.specs.declared.outcomes.Rule.TheVariants.{HaltAlone, HaltOrigin, HaltLow, OutOfSpace, Blocked, Seeds, InRegion, Partner, GroupShape}
@@ -25,6 +25,16 @@ act bot command = record { bot = bot; command = command }
 -- the first of the rules that a bot breaks
 abbrev pub first_fault : State → List Act → ℕ → Act → List Rule → Option Broken
 first_fault s all step a rules = first_value (judge_by rules s all step a)
+
+-- the rule that is broken, where one is
+abbrev pub fault_of : {T : Type 0} → Result T Broken → Option Broken
+fault_of (Ok value) = None
+fault_of (Err broken) = Some broken
+
+-- the command that fills the voxel at a difference, or else the one that voids it
+abbrev pub edit_of : Bool → Diff → Command
+edit_of true d = Fill d
+edit_of false d = Void d
 
 -- the first rule that a bot breaks
 abbrev pub judge_bot : State → List Act → ℕ → Act → Option Broken

@@ -16,7 +16,7 @@ mod volatile;
 pub use apart::all_act_alone;
 pub use groups::{Group, Groups, judge_groups};
 pub use leading::leaders;
-pub use single::judge_single;
+pub use single::{judge_edit, judge_move, judge_single};
 
 #[cfg(test)]
 mod tests;

@@ -1,5 +1,5 @@
 //! The rules that are judged for each bot.
-ghost use Rattle.std.specs.Prelude.{◌≡◌, ◌+◌, ◌≤◌, length, List, Some, IsTrue, IsFalse, IfSome, IfNone, ℕ, Bool, cond, nat_le, All, sum_by};
+ghost use Rattle.std.specs.Prelude.{◌≡◌, ◌+◌, ◌≤◌, length, List, Some, IsTrue, IsFalse, IfOk, IfSome, IfNone, ℕ, Bool, cond, nat_le, All, sum_by};
 ghost use Rattle.vox_geom.specs.Space.{IsInSpace, in_space};
 ghost use Rattle.vox_geom.specs.Point.{point, plus};
 ghost use Rattle.nano_spec.specs.declared.commands.Command.TheVariants.{Halt, Wait, Flip, SMove, LMove, FusionP, FusionS, Fission as FissionOf, Fill, Void, GFill, GVoid};
@@ -8,7 +8,7 @@ ghost use Rattle.nano_spec.specs.Rules.{broken_by};
 ghost use Rattle.nano_spec.specs.State.{State, seed_list};
 ghost use Rattle.vox_geom.specs.Space.{is_before as is_before_of};
 ghost use Rattle.vox_planes.specs.Difference.{earlier as earlier_of};
-ghost use Rattle.step_groups.specs.Judging.{act, first_fault, judge_bot as judge_bot_of, later_rules, start_of, judge_each, touches_of};
+ghost use Rattle.step_groups.specs.Judging.{act, fault_of, first_fault, judge_bot as judge_bot_of, later_rules, start_of, judge_each, touches_of};
 
 use crate::partners::has_partner;
 use crate::shapes::is_misshapen;
@@ -89,6 +89,41 @@ fn judge_halt(step: u32, bots: &[Bot], harmonics: Harmonics, bot: Bot) -> Option
     }
 }
 
+/// The rule is broken there.
+pub(crate) fn breaks(step: u32, bot: Bot, rule: Rule, at: Coord) -> Broken
+    ensures { Some result ≡ broken_by step rule bot.bid (Some at) }
+{
+    Broken {
+        step,
+        bid: bot.bid,
+        rule,
+        at,
+    }
+}
+
+/// Where a bot with `SMove` gets to, or the first rule that it breaks.
+pub(crate) fn end_of_move<L: Ledger>(
+    planes: &Planes,
+    step: u32,
+    bot: Bot,
+    d: Diff,
+    steps: &mut Steps<L>,
+) -> Result<Coord, Broken>
+    requires { IsInSpace planes.now.resolution bot.pos }
+    ensures value { (s : State) (all : List Act) → fault_of result ≡ first_fault (record s { matrix = planes.now }) all step (act bot (SMove d)) later_rules }
+    ensures sum { IfOk result (λ to. point to ≡ plus (point bot.pos) d) }
+    ensures within { IfOk result (λ to. IsInSpace planes.now.resolution to) }
+    ensures touches { steps.new ≤ steps.old + touches_of planes.now (act bot (SMove d)) }
+{
+    let Some(to) = reached(planes, bot.pos, d) else {
+        return Err(breaks(step, bot, Rule::OutOfSpace, bot.pos));
+    };
+    match planes.region_full(&Region::of(bot.pos, to), steps) {
+        None => Ok(to),
+        Some(at) => Err(breaks(step, bot, Rule::Blocked, at)),
+    }
+}
+
 /// The first rule that a bot with `SMove` breaks.
 fn judge_smove<L: Ledger>(
     planes: &Planes,
@@ -101,11 +136,10 @@ fn judge_smove<L: Ledger>(
     ensures value { (s : State) (all : List Act) → result ≡ first_fault (record s { matrix = planes.now }) all step (act bot (SMove d)) later_rules }
     ensures touches { steps.new ≤ steps.old + touches_of planes.now (act bot (SMove d)) }
 {
-    let Some(to) = reached(planes, bot.pos, d) else {
-        return broken_here(step, bot, Rule::OutOfSpace);
-    };
-    let at = planes.region_full(&Region::of(bot.pos, to), steps);
-    broken_where(step, bot, Rule::Blocked, at)
+    match end_of_move(planes, step, bot, d, steps) {
+        Ok(_) => None,
+        Err(broken) => Some(broken),
+    }
 }
 
 /// Whether the one coordinate is before the other.
@@ -193,16 +227,30 @@ fn judge_still(step: u32, bot: Bot) -> Option<Broken>
     None
 }
 
+/// Which voxel a bot with `Fill` or `Void` names, or the first rule that it breaks.
+pub(crate) fn named_by(planes: &Planes, step: u32, bot: Bot, d: Diff) -> Result<Coord, Broken>
+    requires { IsInSpace planes.now.resolution bot.pos }
+    ensures fill { (s : State) (all : List Act) → fault_of result ≡ first_fault (record s { matrix = planes.now }) all step (act bot (Fill d)) later_rules }
+    ensures void { (s : State) (all : List Act) → fault_of result ≡ first_fault (record s { matrix = planes.now }) all step (act bot (Void d)) later_rules }
+    ensures sum { IfOk result (λ at. point at ≡ plus (point bot.pos) d) }
+    ensures within { IfOk result (λ at. IsInSpace planes.now.resolution at) }
+{
+    let Some(at) = reached(planes, bot.pos, d) else {
+        return Err(breaks(step, bot, Rule::OutOfSpace, bot.pos));
+    };
+    Ok(at)
+}
+
 /// The first rule that a bot with `Fill` or `Void` breaks.
 fn judge_near(planes: &Planes, step: u32, bot: Bot, d: Diff) -> Option<Broken>
     requires { IsInSpace planes.now.resolution bot.pos }
     ensures fill { (s : State) (all : List Act) → result ≡ first_fault (record s { matrix = planes.now }) all step (act bot (Fill d)) later_rules }
     ensures void { (s : State) (all : List Act) → result ≡ first_fault (record s { matrix = planes.now }) all step (act bot (Void d)) later_rules }
 {
-    let Some(_to) = reached(planes, bot.pos, d) else {
-        return broken_here(step, bot, Rule::OutOfSpace);
-    };
-    None
+    match named_by(planes, step, bot, d) {
+        Ok(_) => None,
+        Err(broken) => Some(broken),
+    }
 }
 
 /// The first rule that a bot with `FusionP` or `FusionS` breaks.

@@ -1,17 +1,20 @@
 //! The step of a single bot.
-ghost use Rattle.std.specs.Prelude.{◌≡◌, ◌≤◌, ◌+◌, ◌*◌, ℤ, All, length, [], ◌∷◌};
+ghost use Rattle.std.specs.Prelude.{◌≡◌, ◌≤◌, ◌+◌, ◌*◌, ℤ, All, IfOk, length, [], ◌∷◌};
+ghost use Rattle.vox_geom.specs.Point.{point, plus};
 ghost use Rattle.vox_geom.specs.Space.{IsInSpace};
+ghost use Rattle.nano_spec.specs.declared.commands.Command.TheVariants.{SMove};
+ghost use Rattle.nano_spec.specs.declared.system.Harmonics.{Harmonics as HarmonicsOf};
 ghost use Rattle.nano_spec.specs.Act.{acts};
 ghost use Rattle.nano_spec.specs.Group.{leaders, members};
 ghost use Rattle.nano_spec.specs.Rules.{broken};
 ghost use Rattle.nano_spec.specs.Work.{volatile_total};
-ghost use Rattle.step_groups.specs.Judging.{start_of};
+ghost use Rattle.step_groups.specs.Judging.{edit_of, fault_of, start_of};
 
-use crate::rules::{Step, judge_bots};
+use crate::rules::{Step, breaks, end_of_move, judge_bots, named_by};
 use bot_crew::Crew;
-use nano_spec::{Broken, Command, Harmonics, Profile};
+use nano_spec::{Bot, Broken, Command, Harmonics, Profile, Rule};
 use std::sync::ledger::Ledger;
-use vox_geom::Steps;
+use vox_geom::{Coord, Long, Near, Steps};
 use vox_planes::Planes;
 
 /// The first rule that the command of a single bot breaks, as [`crate::judge_groups`] judges it. The bot is the one group of
@@ -42,4 +45,58 @@ pub fn judge_single<L: Ledger>(
         number: step,
     };
     judge_bots(&judged, steps)
+}
+
+/// Where the only bot gets to by a straight move, or the first rule that the step breaks. The way is read once.
+pub fn judge_move<L: Ledger>(
+    planes: &Planes,
+    profile: Profile,
+    bot: Bot,
+    d: Long,
+    step: u32,
+    steps: &mut Steps<L>,
+) -> Result<Coord, Broken>
+    requires within { IsInSpace planes.now.resolution bot.pos }
+    ensures value { (harmonics : HarmonicsOf) (energy : ℤ) → fault_of result ≡ broken (record (start_of planes.now harmonics profile (bot ∷ [])) { energy = energy }) (SMove d ∷ []) step }
+    ensures sum { IfOk result (λ to. point to ≡ plus (point bot.pos) d) }
+    ensures stays { IfOk result (λ to. IsInSpace planes.now.resolution to) }
+    ensures touches { steps.new ≤ steps.old + 2 * volatile_total planes.now (acts (bot ∷ []) (SMove d ∷ [])) }
+{
+    if profile.allows(Command::SMove(d)) {
+        end_of_move(planes, step, bot, d.diff(), steps)
+    } else {
+        Err(breaks(step, bot, Rule::Forbidden, bot.pos))
+    }
+}
+
+/// Which voxel the only bot fills, or else voids, or the first rule that the step breaks. No voxel is read.
+pub fn judge_edit(
+    planes: &Planes,
+    profile: Profile,
+    bot: Bot,
+    d: Near,
+    full: bool,
+    step: u32,
+) -> Result<Coord, Broken>
+    requires within { IsInSpace planes.now.resolution bot.pos }
+    ensures value { (harmonics : HarmonicsOf) (energy : ℤ) → fault_of result ≡ broken (record (start_of planes.now harmonics profile (bot ∷ [])) { energy = energy }) (edit_of full d ∷ []) step }
+    ensures sum { IfOk result (λ at. point at ≡ plus (point bot.pos) d) }
+    ensures stays { IfOk result (λ at. IsInSpace planes.now.resolution at) }
+{
+    if profile.allows(edit(d, full)) {
+        named_by(planes, step, bot, d.diff())
+    } else {
+        Err(breaks(step, bot, Rule::Forbidden, bot.pos))
+    }
+}
+
+/// The command that fills, or else voids.
+fn edit(d: Near, full: bool) -> Command
+    ensures { result ≡ edit_of full d }
+{
+    if full {
+        Command::Fill(d)
+    } else {
+        Command::Void(d)
+    }
 }

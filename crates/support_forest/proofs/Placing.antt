@@ -7,12 +7,14 @@ use Rattle.std.proofs.lemmas.List.{get_or_default}
 use Rattle.vox_geom.specs.declared.coordinate.Coord.{Coord}
 use Rattle.vox_geom.specs.Space.{IsInSpace}
 use Rattle.support_forest.specs.declared.candidate.Candidate.{Candidate}
+use Rattle.support_forest.specs.declared.beside.Beside.{Beside}
 use Rattle.support_forest.specs.declared.place.Around.{Around}
 use Rattle.support_forest.specs.Directions.{Toward, AreBeside}
 use Rattle.support_forest.specs.Grid.{Grid, word_at}
-use Rattle.support_forest.specs.Placing.{HavePlaced, IsAround}
+use Rattle.support_forest.specs.Placing.{AreBesideWords, HavePlaced, IsAround, LeavesRoom, MayStand}
 use Rattle.support_forest.specs.Waiting.{CanAdd, HaveAdded}
 use Rattle.support_forest.specs.Words.{height, AreExact, AreSettling, IsSound, IsWritten}
+use Rattle.support_forest.proofs.Nearby.{each_beside, toward_down}
 use Rattle.support_forest.proofs.Depth.{not_deep}
 use Rattle.support_forest.proofs.Settling.{same_or_not, sound_range}
 use Rattle.support_forest.proofs.Sides.{back, one_toward, toward_range_seven}
@@ -198,6 +200,30 @@ fits_below r w c a e few i z firm calm =
           | inr m ↦ let l : height w b ≤ a.highest = i.highest n.direction b u.1 n.toward (omega arith) in (omega arith, omega arith)
         ]
 
+-- ---- the voxel stands on the one under it
+
+fits_over : (r : ℕ) (w : Coord → ℕ) (c : Coord) (b : Beside) → AreBesideWords w c b → MayStand b → Fits r w c (8 * (b.under / 8) + 11)
+fits_over r w c b k m =
+    let down = k.under.some (let h = m.under in omega arith) in
+    let same : w down.0 ≡ b.under = k.under.each down.0 down.1 in
+    let digit : 3 ≡ (8 * (b.under / 8) + 11) % 8 = omega arith in
+    record {
+      some = omega arith;
+      form = λ h. omega arith;
+      floor = λ y. let h = toward_down c down.0 down.1 in absurd (omega arith);
+      parent = λ h. inr (down.0, subst (λ (j : ℕ). Toward j c down.0) digit down.1, (let u = m.under in omega arith), omega arith);
+      above = λ q h n. (omega arith, each_beside w c q b (λ v. 8 ≤ v → (8 * (b.under / 8) + 11) / 8 ≤ v / 8 + 1) k (above b.left m.left) (above b.right m.right) (λ u. omega arith) (above b.over m.over) (above b.near m.near) (above b.far m.far) n h);
+      below = λ q f h n. each_beside w c q b (λ v. 0 < v → (8 ≤ v) × (v / 8 ≤ (8 * (b.under / 8) + 11) / 8 + 1)) k (below b.left m.left) (below b.right m.right) (λ u. (m.under, omega arith)) (below b.over m.over) (below b.near m.near) (below b.far m.far) (beside_back q c n) f;
+    }
+  where
+    above : (v : ℕ) → LeavesRoom v (b.under / 8) → 8 ≤ v → (8 * (b.under / 8) + 11) / 8 ≤ v / 8 + 1
+    above v (inl z) h = absurd (omega arith)
+    above v (inr z) h = let l = z.0 in omega arith
+
+    below : (v : ℕ) → LeavesRoom v (b.under / 8) → 0 < v → (8 ≤ v) × (v / 8 ≤ (8 * (b.under / 8) + 11) / 8 + 1)
+    below v (inl z) h = absurd (omega arith)
+    below v (inr z) h = let l = z.0 in let u = z.1 in let g = m.under in (omega arith, omega arith)
+
 -- the word that is written is a small number
 pub word_small : (r : ℕ) (w : Coord → ℕ) (c : Coord) (a : Around) → AreExact r w → r * r * r ≤ 64000000 → IsAround w c a 7 → a.height ≤ 64000001
 word_small r w c a e few i = elim i.sound [
@@ -243,9 +269,20 @@ placed_alone old new c a before mid after e s z i h k r m t = placed_with old ne
 pub placed_below : (old new : Grid) (c : Coord) (a : Around) (before mid after : ℕ) → AreExact old.resolution (word_at old) → old.resolution * old.resolution * old.resolution ≤ 64000000 → IsInSpace old.resolution c → word_at old c ≡ 0 → IsAround (word_at old) c a 7 → (a.height ≡ 0 → ⊥) → a.is_loose ≡ false → a.highest ≤ a.height + 1 → IsWritten (word_at old) (word_at new) c (8 * a.height + a.toward) → new.resolution ≡ old.resolution → mid ≤ before + 6 → after ≡ mid + 1 → HavePlaced old new c before after
 placed_below old new c a before mid after e few s z i h firm calm k r m t = placed_with old new c (8 * a.height + a.toward) before mid after e s z (fits_below old.resolution (word_at old) c a e few i h firm calm) k r m t
 
+pub placed_over : (old new : Grid) (c : Coord) (b : Beside) (before mid after : ℕ) → AreExact old.resolution (word_at old) → IsInSpace old.resolution c → word_at old c ≡ 0 → AreBesideWords (word_at old) c b → MayStand b → IsWritten (word_at old) (word_at new) c (8 * (b.under / 8) + 11) → new.resolution ≡ old.resolution → mid ≤ before + 6 → after ≡ mid + 1 → HavePlaced old new c before after
+placed_over old new c b before mid after e s z i m k r l t = placed_with old new c (8 * (b.under / 8) + 11) before mid after e s z (fits_over old.resolution (word_at old) c b i m) k r l t
+
+-- a voxel has a small height where one stands on it
+pub under_small : (r : ℕ) (w : Coord → ℕ) (c : Coord) (b : Beside) → AreExact r w → r * r * r ≤ 64000000 → AreBesideWords w c b → MayStand b → b.under / 8 ≤ 64000000
+under_small r w c b e few k m =
+    let down = k.under.some (let h = m.under in omega arith) in
+    let same : w down.0 ≡ b.under = k.under.each down.0 down.1 in
+    let low = exact_low r w down.0 e (let h = m.under in omega arith) in
+    omega arith
+
 -- ---- the only cell
 
-only_one : (cells : List Coord) (c x : Coord) → length cells ≡ 1 → c ≡ slice_index_or cells 0 c → Contains cells x → c ≡ x
+pub only_one : (cells : List Coord) (c x : Coord) → length cells ≡ 1 → c ≡ slice_index_or cells 0 c → Contains cells x → c ≡ x
 only_one cells c x l e h =
     let k : h.0 < length cells = h.1 in
     let z : h.0 ≡ 0 = omega arith in

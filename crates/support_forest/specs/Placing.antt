@@ -1,6 +1,7 @@
 -- A voxel that becomes full beside others whose levels stay as they are.
-use Rattle.std.specs.Prelude.{◌≡◌, true, ℕ, ◌+◌, ◌<◌, ◌≤◌, ◌⊎◌}
+use Rattle.std.specs.Prelude.{◌≡◌, true, ℕ, ◌+◌, ◌*◌, ◌/◌, ◌<◌, ◌≤◌, ◌⊎◌}
 use Rattle.vox_geom.specs.declared.coordinate.Coord.{Coord}
+use Rattle.support_forest.specs.declared.beside.Beside.{Beside}
 use Rattle.support_forest.specs.declared.place.Around.{Around}
 use Rattle.support_forest.specs.Directions.{Toward}
 use Rattle.support_forest.specs.Grid.{Grid, word_at}
@@ -18,6 +19,28 @@ pub record IsAround (w : Coord → ℕ) (c : Coord) (a : Around) (d : ℕ) : Typ
 pub record IsWordToward (w : Coord → ℕ) (c : Coord) (d word : ℕ) : Type 0 where
   pub each : (q : Coord) → Toward d c q → w q ≡ word
   pub some : 0 < word → (q : Coord) × Toward d c q
+
+-- the words are those of the voxel's neighbours
+pub record AreBesideWords (w : Coord → ℕ) (c : Coord) (b : Beside) : Type 0 where
+  pub left : IsWordToward w c 1 b.left
+  pub right : IsWordToward w c 2 b.right
+  pub under : IsWordToward w c 3 b.under
+  pub over : IsWordToward w c 4 b.over
+  pub near : IsWordToward w c 5 b.near
+  pub far : IsWordToward w c 6 b.far
+
+-- the word is that of a void voxel, or of one with a height from the one given up to two above it
+abbrev pub LeavesRoom : ℕ → ℕ → Type 0
+LeavesRoom word height = (word ≡ 0) ⊎ ((8 * height ≤ word) × (word < 8 * height + 24))
+
+-- a voxel that stands on the one under it changes no other level
+pub record MayStand (b : Beside) : Type 0 where
+  pub under : 8 ≤ b.under
+  pub left : LeavesRoom b.left (b.under / 8)
+  pub right : LeavesRoom b.right (b.under / 8)
+  pub over : LeavesRoom b.over (b.under / 8)
+  pub near : LeavesRoom b.near (b.under / 8)
+  pub far : LeavesRoom b.far (b.under / 8)
 
 -- the voxel became full, and the words are exact
 pub record HavePlaced (old new : Grid) (c : Coord) (before after : ℕ) : Type 0 where

@@ -1,18 +1,18 @@
 //! Puts a voxel beside others whose levels stay as they are.
-ghost use Rattle.std.specs.Prelude.{◌≡◌, ℕ, ◌+◌, ◌<◌, ◌≤◌, IfOk, MatchBool};
+ghost use Rattle.std.specs.Prelude.{◌≡◌, ℕ, ◌+◌, ◌<◌, ◌≤◌, IfOk, MatchBool, true};
 ghost use Rattle.vox_geom.specs.Space.{IsInSpace};
 ghost use Rattle.vox_geom.specs.declared.coordinate.Coord.{Coord};
 ghost use Rattle.support_forest.specs.Grid.{word_at};
-ghost use Rattle.support_forest.specs.Placing.{HavePlaced, IsAround, IsWordToward};
+ghost use Rattle.support_forest.specs.Placing.{AreBesideWords, HavePlaced, IsAround, IsWordToward, LeavesRoom, MayStand};
 ghost use Rattle.support_forest.specs.Words.{AreExact};
 
+use crate::beside::{Beside, words_beside};
 use crate::cells::Cells;
-use crate::directions::neighbor;
 use std::alloc::AllocError;
 use std::sync::ledger::Ledger;
 use vox_geom::{Coord, Steps};
 
-/// What lies around a void voxel: the least height that it is offered, 0 where it is offered none, with the direction of
+/// What lies around a voxel: the least height that it is offered, 0 where it is offered none, with the direction of
 /// the parent; the greatest height of a neighbour; and whether a full neighbour has no height.
 #[derive(Clone, Copy)]
 pub struct Around {
@@ -48,47 +48,52 @@ fn with_neighbor(around: Around, d: u8, word: u32) -> Around
     }
 }
 
-/// The word of the neighbour in a direction, 0 where there is none.
-fn word_toward<L: Ledger>(cells: &Cells, c: Coord, d: u8, steps: &mut Steps<L>) -> u32
-    requires direction { (0 < d) × (d ≤ 6) }
-    requires within { IsInSpace cells.now.resolution c }
-    requires space { (q : Coord) → 0 < word_at cells.now q → IsInSpace cells.now.resolution q }
-    ensures word { IsWordToward (word_at cells.now) c d result }
-    ensures few { cells.now.resolution ≤ 400 }
-    ensures touch { steps.new ≤ steps.old + 1 }
+/// What lies around a voxel before any neighbour is looked at: the floor.
+pub fn nothing_around(c: Coord) -> Around
+    ensures { (w : Coord → ℕ) → IsAround w c result 1 }
 {
-    match neighbor(c, d, cells.resolution()) {
-        Some(q) => cells.word(q, steps),
-        None => 0,
-    }
-}
-
-/// What lies around a void voxel. The six words are read before they are looked at: one call for each is quicker than a loop.
-fn look_around<L: Ledger>(cells: &Cells, c: Coord, steps: &mut Steps<L>) -> Around
-    requires within { IsInSpace cells.now.resolution c }
-    requires space { (q : Coord) → 0 < word_at cells.now q → IsInSpace cells.now.resolution q }
-    ensures around { IsAround (word_at cells.now) c result 7 }
-    ensures few { cells.now.resolution ≤ 400 }
-    ensures touches { steps.new ≤ steps.old + 6 }
-{
-    let one = word_toward(cells, c, 1, steps);
-    let two = word_toward(cells, c, 2, steps);
-    let three = word_toward(cells, c, 3, steps);
-    let four = word_toward(cells, c, 4, steps);
-    let five = word_toward(cells, c, 5, steps);
-    let six = word_toward(cells, c, 6, steps);
-    let mut around = Around {
+    Around {
         height: if c.y == 0 { 1 } else { 0 },
         toward: 0,
         highest: 0,
         is_loose: false,
-    };
-    around = with_neighbor(around, 1, one);
-    around = with_neighbor(around, 2, two);
-    around = with_neighbor(around, 3, three);
-    around = with_neighbor(around, 4, four);
-    around = with_neighbor(around, 5, five);
-    with_neighbor(around, 6, six)
+    }
+}
+
+/// What lies around a voxel, by the words beside it.
+pub fn look_around(c: Coord, beside: Beside) -> Around
+    ensures { (w : Coord → ℕ) → AreBesideWords w c beside → IsAround w c result 7 }
+{
+    let mut around = nothing_around(c);
+    around = with_neighbor(around, 1, beside.left);
+    around = with_neighbor(around, 2, beside.right);
+    around = with_neighbor(around, 3, beside.under);
+    around = with_neighbor(around, 4, beside.over);
+    around = with_neighbor(around, 5, beside.near);
+    with_neighbor(around, 6, beside.far)
+}
+
+/// Whether the word is that of a void voxel, or of one with a height from the one given up to two above it.
+#[inline(always)]
+fn leaves_room(word: u32, height: u32) -> bool
+    requires { height < 536870912 }
+    ensures { result ≡ true → LeavesRoom word height }
+{
+    word == 0 || (word >= 8 * height && word - 8 * height < 24)
+}
+
+/// Whether a void voxel may stand on the one under it while all other levels stay.
+#[inline(always)]
+fn may_stand(beside: Beside) -> bool
+    ensures { result ≡ true → MayStand beside }
+{
+    let height = beside.under / 8;
+    height > 0
+        && leaves_room(beside.left, height)
+        && leaves_room(beside.right, height)
+        && leaves_room(beside.over, height)
+        && leaves_room(beside.near, height)
+        && leaves_room(beside.far, height)
 }
 
 /// Makes a void voxel full, where no other level changes by it, and tells whether it did: otherwise all stays.
@@ -102,7 +107,12 @@ pub fn place<L: Ledger>(
     requires void { word_at cells.old c ≡ 0 }
     ensures { IfOk result (λ done. MatchBool done (HavePlaced cells.old cells.new c steps.old steps.new) (cells.new ≡ cells.old × steps.new ≤ steps.old + 6)) }
 {
-    let around = look_around(cells, c, steps);
+    let beside = words_beside(cells, c, steps);
+    if may_stand(beside) {
+        cells.fill(c, 8 * (beside.under / 8) + 11, steps)?;
+        return Ok(true);
+    }
+    let around = look_around(c, beside);
     if around.height == 0 {
         cells.fill(c, 1, steps)?;
         return Ok(true);

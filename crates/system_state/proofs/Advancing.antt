@@ -63,13 +63,13 @@ command_at (b ∷ bots) (c ∷ commands) zero a e = (omega arith, λ d. ap (λ (
     same k = cc
 command_at (b ∷ bots) (c ∷ commands) (suc k) a e = let r = command_at bots commands k a e in (omega arith, r.1)
 
-known_at : (bots : List Bot) (commands : List Command) → AreCommands commands → (a : Act) → In a (acts bots commands) → is_command a.command ≡ true
+pub known_at : (bots : List Bot) (commands : List Command) → AreCommands commands → (a : Act) → In a (acts bots commands) → is_command a.command ≡ true
 known_at [] commands h a i = absurd i
 known_at (b ∷ bots) [] h a i = absurd i
 known_at (b ∷ bots) (c ∷ commands) h a (inl e) = ap (λ (x : Act). is_command x.command) e ∙ h.0
 known_at (b ∷ bots) (c ∷ commands) h a (inr i) = known_at bots commands h.1 a i
 
-contained : {X : Type 0} (x : X) (xs : List X) → In x xs → Contains xs x
+pub contained : {X : Type 0} (x : X) (xs : List X) → In x xs → Contains xs x
 contained x xs i = let p = in_place x x xs i in (p.0, p.1, p.2)
 
 -- ---- touches

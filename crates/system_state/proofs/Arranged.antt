@@ -70,7 +70,7 @@ leaders_are all (a ∷ firsts) [] h = absurd h
 leaders_are all (a ∷ firsts) (t ∷ turns) h = λ i. h.0.leader i ∷ leaders_are all firsts turns h.1 i
 
 -- each turn is that of one of the leaders
-one_of_them : (all firsts : List Act) (turns : List Turn) → AreTurns all firsts turns → (t : Turn) → In t turns → (a : Act) × In a firsts × IsTurn all a t
+pub one_of_them : (all firsts : List Act) (turns : List Turn) → AreTurns all firsts turns → (t : Turn) → In t turns → (a : Act) × In a firsts × IsTurn all a t
 one_of_them all [] [] h t i = absurd i
 one_of_them all [] (x ∷ turns) h t i = absurd h
 one_of_them all (a ∷ firsts) [] h t i = absurd h
@@ -78,7 +78,7 @@ one_of_them all (a ∷ firsts) (x ∷ turns) h t (inl e) = (a, inl refl, subst (
 one_of_them all (a ∷ firsts) (x ∷ turns) h t (inr i) = let w = one_of_them all firsts turns h.1 t i in (w.0, inr w.1, w.2)
 
 -- no two have one bid
-same_act : (xs : List Act) → Differ bid_of xs → (a b : Act) → In a xs → In b xs → a.bot.bid ≡ b.bot.bid → a ≡ b
+pub same_act : (xs : List Act) → Differ bid_of xs → (a b : Act) → In a xs → In b xs → a.bot.bid ≡ b.bot.bid → a ≡ b
 same_act [] d a b i j e = absurd i
 same_act (x ∷ xs) d a b (inl i) (inl j) e = i ∙ sym j
 same_act (x ∷ xs) d a b (inl i) (inr j) e = absurd (d.0 b j (ap bid_of (sym i) ∙ e))

@@ -11,3 +11,7 @@ pub mod Gathered
 pub mod Arranged
 pub mod Advancing
 pub mod Parts
+pub mod Following
+pub mod OnlyBot
+pub mod OnlyMove
+pub mod OnlyEdit

@@ -32,7 +32,7 @@ place_below r c h =
     omega arith
 
 -- a test that passes at one coordinate alone
-only_one : (r : ℕ) (test : Coord → Bool) (c : Coord) → IsInSpace r c → ((d : Coord) → (d ≡ c → ⊥) → test d ≡ false) → filter test (coordinates r) ≡ cond (test c) (c ∷ []) []
+pub only_one : (r : ℕ) (test : Coord → Bool) (c : Coord) → IsInSpace r c → ((d : Coord) → (d ≡ c → ⊥) → test d ≡ false) → filter test (coordinates r) ≡ cond (test c) (c ∷ []) []
 only_one r test c s h =
     let e : coordinate_at r (place r c) ≡ c = coordinate_at-place r c s in
     let b : place r c < r * r * r = place_below r c s in

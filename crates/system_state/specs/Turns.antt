@@ -1,7 +1,12 @@
 -- The turns of the groups of a step (docs/FORMATS.md, "Groups").
-use Rattle.std.specs.Prelude.{◌≡◌, ℕ, List, [], ◌∷◌, map, slice_get, slice_index_or, IsPermutation, Some}
-use Rattle.nano_spec.specs.Act.{Act}
+use Rattle.std.specs.Prelude.{◌≡◌, ℕ, List, [], ◌∷◌, ◌++◌, map, slice_get, slice_index_or, IsPermutation, Some}
+use Rattle.nano_spec.specs.declared.commands.Command.{Command}
+use Rattle.nano_spec.specs.declared.system.Bot.{Bot}
+use Rattle.nano_spec.specs.Act.{Act, acts}
 use Rattle.nano_spec.specs.Group.{leaders, members}
+use Rattle.nano_spec.specs.Serial.{acts_of, leader_bids}
+use Rattle.nano_spec.specs.State.{State}
+use Rattle.step_order.specs.SomeGroups.{after_some}
 use Rattle.system_state.specs.declared.turns.Turn.{Turn}
 
 -- the bid of an act's bot
@@ -30,3 +35,12 @@ pub record AreAllTurns (all : List Act) (turns : List Turn) : Type 0 where
   pub order : List Act
   pub groups : IsPermutation (leaders all) order
   pub each : AreTurns all order turns
+
+-- the bots after the groups of the leaders with these bids
+abbrev pub bots_after_some : State → List Command → List ℕ → List Bot
+bots_after_some s commands bids = (after_some s (acts s.bots commands) (acts_of (acts s.bots commands) bids)).bots
+
+-- the group of a leader takes its turn after those of some others, whose turns led to the bots
+pub record FollowsOn (s : State) (commands : List Command) (before : List ℕ) (leader : ℕ) (rest : List ℕ) (bots : List Bot) : Type 0 where
+  pub leaders : IsPermutation (leader_bids (acts s.bots commands)) (before ++ leader ∷ rest)
+  pub bots_are : bots ≡ bots_after_some s commands before

@@ -1,6 +1,7 @@
 //! The state of the system.
-ghost use Rattle.std.specs.Prelude.{◌≡◌, ℕ, ◌+◌, ◌*◌, ◌≤◌, ◌<◌, pos, ◌+ℤ◌, ◌≤ℤ◌, [], ◌∷◌, List, length, map, IfOk, IfNone, IfSome, IsPermutation, IsTrue, None, Some};
+ghost use Rattle.std.specs.Prelude.{◌≡◌, ℕ, ◌+◌, ◌*◌, ◌≤◌, ◌<◌, pos, ◌+ℤ◌, ◌≤ℤ◌, [], ◌∷◌, ◌++◌, List, length, map, All, IfOk, IfNone, IfSome, IsPermutation, IsTrue, None, Some};
 ghost use Rattle.std.specs.List.{list_all};
+ghost use Rattle.vox_geom.specs.Space.{IsInSpace};
 ghost use Rattle.nano_spec.specs.declared.commands.Command.{Command as Trace};
 ghost use Rattle.nano_spec.specs.declared.system.Bot.{Bot as ActiveBot};
 ghost use Rattle.nano_spec.specs.Act.{acts};
@@ -17,13 +18,14 @@ ghost use Rattle.vox_planes.specs.Voxel.{IsWhole};
 ghost use Rattle.system_state.specs.Bounds.{IsPayable, IsWithin};
 ghost use Rattle.system_state.specs.Effects.{MayTake, act, after_turn};
 ghost use Rattle.system_state.specs.Painting.{met_count};
-ghost use Rattle.system_state.specs.Turns.{AreAllTurns, AreTurns, leader_of};
+ghost use Rattle.system_state.specs.Turns.{AreAllTurns, AreTurns, FollowsOn, bots_after_some, leader_of};
 
+mod alone;
 mod parts;
 
 use crate::known::know_all;
 use crate::moves::move_bots;
-use crate::turns::{Turn, Turns, gather, gather_lone};
+use crate::turns::{Turn, Turns, gather, gather_lone, turn_of};
 use crate::voxels::pay_turn;
 use bot_crew::{Crew, crew_is_ready, group_is_replaced};
 use energy_sum::upkeep;
@@ -119,6 +121,29 @@ impl System {
             crew: Crew::opening(profile),
             harmonics: Harmonics::Low,
             energy: 0,
+            profile,
+            changed,
+        })
+    }
+
+    /// The state that has these parts, with room for the changes of a step.
+    pub fn at(
+        alloc: Global,
+        matrix: Planes,
+        crew: Crew,
+        harmonics: Harmonics,
+        energy: i64,
+        profile: Profile,
+    ) -> Result<System, Memory>
+        requires { All (λ b. IsInSpace matrix.resolution b.pos) crew }
+        ensures { IfOk result (λ s. s ≡ record { matrix = matrix; harmonics = harmonics; bots = crew; energy = energy; profile = profile }) }
+    {
+        let changed = ChangeList::with_room(alloc, MOST_OF_GROUP)?;
+        Ok(System {
+            matrix,
+            crew,
+            harmonics,
+            energy,
             profile,
             changed,
         })
@@ -372,5 +397,27 @@ impl System {
         let _ = self.crew();
         turns.arrange(order);
         self.take_turns(commands, turns, steps);
+    }
+
+    /// What the turn of one group more makes of the bots of a step that breaks no rule, after the turns of some others.
+    pub fn move_group(&self, crew: &mut Crew, commands: &[Command], turns: &Turns, leader: u8)
+        requires judged { (step : ℕ) × (broken_of self.now commands.now step ≡ None) }
+        requires turns { AreTurns (acts self.now.bots commands.now) (leaders (acts self.now.bots commands.now)) turns.now }
+        requires within { All (λ b. IsInSpace self.now.matrix.resolution b.pos) crew.old }
+        requires next { (before : List ℕ) × (rest : List ℕ) × FollowsOn self.now commands.now before leader rest crew.old }
+        ensures bots { (before rest : List ℕ) → FollowsOn self.now commands.now before leader rest crew.old → crew.new ≡ bots_after_some self.now commands.now (before ++ leader ∷ []) }
+        ensures within { All (λ b. IsInSpace self.now.matrix.resolution b.pos) crew.new }
+    {
+        know_all(commands);
+        groups_take_turns();
+        group_is_replaced();
+        let _ = self.crew();
+        let _ = crew.bots();
+        let turn = turn_of(turns.list(), leader);
+        let Some(bot) = crew.bot(leader) else {
+            return;
+        };
+        let command = &commands[usize::from(turn.place)];
+        move_bots(crew, self.matrix.resolution(), bot, turn.partner, command);
     }
 }

@@ -86,7 +86,7 @@ impl Turns {
 }
 
 /// The turn of a leader.
-fn turn_of(turns: &[Turn], leader: u8) -> Turn
+pub(crate) fn turn_of(turns: &[Turn], leader: u8) -> Turn
     requires { Contains (map leader_of turns.now) leader }
     ensures leader { result.leader ≡ leader }
     ensures is_one { Contains turns.now result }

@@ -23,7 +23,7 @@ use vox_geom::{Coord, Region, Steps};
 use vox_planes::{ChangeList, Planes};
 
 /// Makes the cells full or void.
-fn set_cells(matrix: &mut Planes, cells: &[Coord], full: bool)
+pub(crate) fn set_cells(matrix: &mut Planes, cells: &[Coord], full: bool)
     requires whole { IsWhole matrix.old }
     requires within { All (λ c. IsInSpace matrix.old.resolution c) cells.now }
     ensures value { matrix.new ≡ with_cells matrix.old cells.now full }

@@ -1,12 +1,15 @@
 //! Changes of one part of the state, for a caller that knows the rules and the costs itself.
-ghost use Rattle.std.specs.Prelude.{◌≡◌, [], ◌∷◌, length, IfSome};
+ghost use Rattle.std.specs.Prelude.{◌≡◌, [], ◌∷◌, length, All, IfSome};
 ghost use Rattle.vox_geom.specs.Point.{point};
 ghost use Rattle.vox_geom.specs.Space.{IsInSpace};
 ghost use Rattle.nano_spec.specs.Bots.{moved};
 ghost use Rattle.vox_planes.specs.Voxel.{IsWhole, with_voxel};
 ghost use Rattle.bot_crew.specs.Crew.{IsActive, bot_at, bot_of, replaced};
+ghost use Rattle.system_state.specs.Painting.{with_cells};
 
 use super::System;
+use crate::voxels::set_cells;
+use bot_crew::Crew;
 use nano_spec::Harmonics;
 use vox_geom::Coord;
 
@@ -18,6 +21,23 @@ impl System {
         ensures whole { IsWhole self.new.matrix }
     {
         self.matrix.set(c, full);
+    }
+
+    /// Makes the voxels at the coordinates full or void.
+    pub fn set_voxels(&mut self, cells: &[Coord], full: bool)
+        requires { All (λ c. IsInSpace self.old.matrix.resolution c) cells.now }
+        ensures { self.new ≡ record self.old { matrix = with_cells self.old.matrix cells.now full } }
+    {
+        let _ = self.matrix.resolution();
+        set_cells(&mut self.matrix, cells, full);
+    }
+
+    /// Puts other bots in place.
+    pub fn set_crew(&mut self, crew: Crew)
+        requires { All (λ b. IsInSpace self.old.matrix.resolution b.pos) crew }
+        ensures { self.new ≡ record self.old { bots = crew } }
+    {
+        self.crew = crew;
     }
 
     /// Puts other harmonics in place.

@@ -1,0 +1,45 @@
+-- The step of the only bot, of which one rule is judged after another.
+use Rattle.std.proofs.Common.{◌≡◌, ℕ, zero, suc, ◌+◌, ◌*◌, ◌<◌, ◌≤◌, refl, ap, sym, ◌∙◌, subst, arith, List, [], ◌∷◌, not, map, Bool, true, false, Option, rules}
+use Rattle.std.specs.Prelude.{ℤ, AllPairs, sum_by}
+use Rattle.std.proofs.lemmas.List.Sums.{sum_by-cons}
+use Rattle.vox_geom.specs.declared.difference.Diff.{Diff}
+use Rattle.nano_spec.specs.declared.commands.Command.{Command}
+use Rattle.nano_spec.specs.declared.commands.Command.TheVariants.{Fill, Void}
+use Rattle.nano_spec.specs.declared.outcomes.Broken.{Broken}
+use Rattle.nano_spec.specs.declared.outcomes.Rule.TheVariants.{Forbidden}
+use Rattle.nano_spec.specs.declared.system.Bot.{Bot}
+use Rattle.nano_spec.specs.declared.system.Harmonics.{Harmonics}
+use Rattle.nano_spec.specs.declared.system.Profile.{Profile}
+use Rattle.nano_spec.specs.Act.{Act, acts}
+use Rattle.nano_spec.specs.Matrix.{Matrix}
+use Rattle.nano_spec.specs.Profile.{is_allowed}
+use Rattle.nano_spec.specs.Rules.{broken, broken_by, fault}
+use Rattle.nano_spec.specs.State.{State}
+use Rattle.nano_spec.specs.Work.{volatile_total}
+use Rattle.step_groups.specs.Judging.{act, edit_of, first_fault, later_rules, start_of, touches_of}
+use Rattle.step_groups.proofs.Sums.{touched}
+use Rattle.step_groups.proofs.Ways.{skip}
+use Rattle.step_groups.proofs.Whole.{by_itself, none_after}
+
+-- of a command that the profile allows the later rules decide
+pub allowed : (m : Matrix) (h : Harmonics) (profile : Profile) (b : Bot) (k : Command) (step : ℕ) (o : Option Broken) → is_allowed profile k ≡ true → ((s : State) (all : List Act) → o ≡ first_fault (record s { matrix = m }) all step (act b k) later_rules) → (energy : ℤ) → o ≡ broken (record (start_of m h profile (b ∷ [])) { energy = energy }) (k ∷ []) step
+allowed m h profile b k step o may later energy =
+    let s : State = start_of m h profile (b ∷ []) in
+    let all : List Act = act b k ∷ [] in
+    by_itself m h profile (b ∷ []) (b ∷ []) (k ∷ []) step o refl refl refl
+    (later s all ∙ (sym (skip step b.bid Forbidden (act b k) (not (is_allowed profile k)) (map (λ rule. broken_by step rule b.bid (fault s all (act b k) rule)) later_rules) (ap not may)) ∙ sym (none_after _)))
+    energy
+
+one_rises : (b : Bot) → AllPairs (λ x y. x.bid < y.bid) (b ∷ [])
+one_rises b = search rules
+
+-- what its rules read is volatile
+pub read_once : (m : Matrix) (b : Bot) (k : Command) (before after : ℕ) → after ≤ before + touches_of m (act b k) → after ≤ before + 2 * volatile_total m (acts (b ∷ []) (k ∷ []))
+read_once m b k before after le =
+    let e = sum_by-cons (touches_of m) (act b k) [] in
+    touched m (b ∷ []) (b ∷ []) (k ∷ []) before after refl refl (one_rises b) (omega (arith, e, le))
+
+-- what holds of filling and of voiding
+pub by_kind : (P : Command → Type 0) (d : Diff) (full : Bool) → P (Fill d) → P (Void d) → P (edit_of full d)
+by_kind P d true fill void = fill
+by_kind P d false fill void = void

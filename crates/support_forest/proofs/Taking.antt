@@ -1,0 +1,68 @@
+-- A voxel that becomes void while the levels of the others stay as they are.
+use Rattle.std.proofs.Common.{◌≡◌, ℕ, ◌+◌, ◌%◌, ◌<◌, ◌≤◌, inl, inr, refl, sym, ◌∙◌, ap, subst, arith, List, length}
+use Rattle.std.specs.Prelude.{slice_index_or}
+use Rattle.std.proofs.lemmas.List.{get_or_default}
+use Rattle.vox_geom.specs.declared.coordinate.Coord.{Coord}
+use Rattle.support_forest.specs.declared.beside.Beside.{Beside}
+use Rattle.support_forest.specs.Directions.{Toward}
+use Rattle.support_forest.specs.Grid.{Grid, word_at}
+use Rattle.support_forest.specs.Losing.{CanRemove, HaveRemoved}
+use Rattle.support_forest.specs.Placing.{AreBesideWords}
+use Rattle.support_forest.specs.Taking.{HaveTaken, NoneHangs}
+use Rattle.support_forest.specs.Words.{AreExact, IsWritten}
+use Rattle.support_forest.proofs.Placing.{only_one}
+use Rattle.support_forest.proofs.Settling.{same_or_not}
+
+-- no voxel has its parent there
+abbrev IsNoParent : (Coord → ℕ) → Coord → Type 0
+IsNoParent w c = (q : Coord) → 8 ≤ w q → Toward (w q % 8) q c → ⊥
+
+none_hangs : (w : Coord → ℕ) (c : Coord) (b : Beside) → AreBesideWords w c b → NoneHangs b → IsNoParent w c
+unfolding Toward
+none_hangs w c b k n q h t = by t
+  where
+    by : Toward (w q % 8) q c → ⊥
+    by (inl d) = let e : w q ≡ b.right = k.right.each q (inr (inl (refl, omega arith, omega arith, omega arith))) in n.right (omega arith) (omega arith)
+    by (inr (inl d)) = let e : w q ≡ b.left = k.left.each q (inl (refl, omega arith, omega arith, omega arith)) in n.left (omega arith) (omega arith)
+    by (inr (inr (inl d))) = let e : w q ≡ b.over = k.over.each q (inr (inr (inr (inl (refl, omega arith, omega arith, omega arith))))) in n.over (omega arith) (omega arith)
+    by (inr (inr (inr (inl d)))) = let e : w q ≡ b.under = k.under.each q (inr (inr (inl (refl, omega arith, omega arith, omega arith)))) in n.under (omega arith) (omega arith)
+    by (inr (inr (inr (inr (inl d))))) = let e : w q ≡ b.far = k.far.each q (inr (inr (inr (inr (inr (refl, omega arith, omega arith, omega arith)))))) in n.far (omega arith) (omega arith)
+    by (inr (inr (inr (inr (inr d))))) = let e : w q ≡ b.near = k.near.each q (inr (inr (inr (inr (inl (refl, omega arith, omega arith, omega arith)))))) in n.near (omega arith) (omega arith)
+
+exact_without : (r : ℕ) (w v : Coord → ℕ) (c : Coord) → AreExact r w → IsNoParent w c → IsWritten w v c 0 → AreExact r v
+exact_without r w v c e n k = record {
+  space = λ d f. let s = still d (omega arith) in e.space d (omega arith);
+  form = λ d l. elim (same_or_not d c) [ inl m ↦ let z : v d ≡ 0 = ap v m ∙ k.here in omega arith | inr m ↦ let s = k.kept d m in let h : w d ≤ 1 = e.form d (omega arith) in omega arith ];
+  floor = λ d f y. let s = still d f in s ∙ e.floor d (omega arith) y;
+  parent = λ d h. let s = still d (omega arith) in elim (e.parent d (omega arith)) [
+    | inl p ↦ inl (s ∙ p.0, p.1)
+    | inr p ↦
+        let o : v p.0 ≡ w p.0 = k.kept p.0 (λ m. n d (omega arith) (subst (λ (x : Coord). Toward (w d % 8) d x) m p.1)) in
+        inr (p.0, subst (λ (j : ℕ). Toward (j % 8) d p.0) (sym s) p.1, omega (arith, p.2), omega (arith, p.3))
+  ];
+  near = λ a b f h i. let s = still a f in let t = still b (omega arith) in let q = e.near a b (omega arith) (omega arith) i in (omega (arith, q.0), omega (arith, q.1));
+}
+  where
+    still : (d : Coord) → 0 < v d → v d ≡ w d
+    still d f = k.kept d (λ m. let z : v d ≡ 0 = ap v m ∙ k.here in omega arith)
+
+pub taken : (old new : Grid) (c : Coord) (b : Beside) (before mid next after : ℕ) → AreExact old.resolution (word_at old) → AreBesideWords (word_at old) c b → NoneHangs b → IsWritten (word_at old) (word_at new) c 0 → new.resolution ≡ old.resolution → mid ≤ before + 6 → next ≤ mid + 1 → after ≡ next + 1 → HaveTaken old new c before after
+taken old new c b before mid next after e k n w r l m t = record {
+  resolution = r;
+  exact = subst (λ (s : ℕ). AreExact s (word_at new)) (sym r) (exact_without old.resolution (word_at old) (word_at new) c e (none_hangs (word_at old) c b k n) w);
+  gone = w.here;
+  kept = w.kept;
+  cost = omega arith;
+}
+
+-- ---- the only one
+
+pub taken_removed : (old new : Grid) (gone : List Coord) (c : Coord) (before after : ℕ) → length gone ≡ 1 → c ≡ slice_index_or gone 0 c → CanRemove old gone → HaveTaken old new c before after → HaveRemoved old new gone 56 before after
+taken_removed old new gone c before after l e a p = record {
+  resolution = p.resolution;
+  exact = p.exact;
+  full = λ x f. elim (same_or_not x c) [ inl m ↦ let k : word_at new x ≡ word_at new c = ap (word_at new) m in let g = p.gone in absurd (omega arith) | inr m ↦ let k = p.kept x m in omega arith ];
+  voided = λ x h. subst (λ (y : Coord). word_at new y ≡ 0) (only_one gone c x l e h) p.gone;
+  kept = λ x f. elim (same_or_not x c) [ inl m ↦ inr (0, omega arith, get_or_default gone 0 x c (omega arith) ∙ (sym e ∙ sym m)) | inr m ↦ let k = p.kept x m in inl (omega arith) ];
+  cost = omega (arith, p.cost);
+}

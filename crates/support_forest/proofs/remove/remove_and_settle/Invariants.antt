@@ -1,0 +1,8 @@
+use Rattle.support_forest.proofs.Handling.{IsHandled, to_lose}
+use Rattle.support_forest.proofs.remove.remove_and_settle.Given as goal
+
+abbrev pub invariant-loop-i : goal.invariant-loop-i
+invariant-loop-i g l = IsHandled l.fn.cells l.cells l.gone l.queue.items l.fresh.items l.i l.fn.steps l.steps
+
+abbrev pub decreases-loop-i : goal.decreases-loop-i
+decreases-loop-i g l = to_lose l.fn.cells l.cells l.queue.items l.i

@@ -1,0 +1,27 @@
+-- A voxel that becomes void while the levels of the others stay as they are.
+use Rattle.std.specs.Prelude.{◌≡◌, ℕ, ◌+◌, ◌%◌, ◌≤◌}
+use Rattle.vox_geom.specs.declared.coordinate.Coord.{Coord}
+use Rattle.support_forest.specs.declared.beside.Beside.{Beside}
+use Rattle.support_forest.specs.Grid.{Grid, word_at}
+use Rattle.support_forest.specs.Words.{AreExact}
+
+-- the word says no parent in that direction
+abbrev pub HangsNot : ℕ → ℕ → Type 0
+HangsNot word toward = 8 ≤ word → word % 8 ≡ toward → ⊥
+
+-- no neighbour has its parent in the voxel between them
+pub record NoneHangs (b : Beside) : Type 0 where
+  pub left : HangsNot b.left 2
+  pub right : HangsNot b.right 1
+  pub under : HangsNot b.under 4
+  pub over : HangsNot b.over 3
+  pub near : HangsNot b.near 6
+  pub far : HangsNot b.far 5
+
+-- the voxel became void, and the words are exact
+pub record HaveTaken (old new : Grid) (c : Coord) (before after : ℕ) : Type 0 where
+  pub resolution : new.resolution ≡ old.resolution
+  pub exact : AreExact new.resolution (word_at new)
+  pub gone : word_at new c ≡ 0
+  pub kept : (d : Coord) → (d ≡ c → ⊥) → word_at new d ≡ word_at old d
+  pub cost : after ≤ before + 8

@@ -1,0 +1,44 @@
+-- The step of the only bot by a straight move.
+use Rattle.std.proofs.Common.{◌≡◌, ℕ, ◌+◌, ◌*◌, ◌==◌, refl, sym, subst, arith, List, [], ◌∷◌, Bool, true, false, cond}
+use Rattle.std.specs.Prelude.{pos, ◌+ℤ◌, IfSome, Some, None}
+use Rattle.std.proofs.lemmas.Bool.Decides.{nat_tests}
+use Rattle.vox_geom.specs.declared.coordinate.Coord.{Coord}
+use Rattle.vox_geom.specs.declared.difference.Diff.{Diff}
+use Rattle.vox_geom.specs.Difference.{mlen}
+use Rattle.vox_geom.specs.Point.{point, plus}
+use Rattle.nano_spec.specs.declared.commands.Command.TheVariants.{SMove}
+use Rattle.nano_spec.specs.declared.system.Bot.{Bot}
+use Rattle.nano_spec.specs.Bots.{moved}
+use Rattle.nano_spec.specs.Energy.{upkeep}
+use Rattle.nano_spec.specs.State.{State}
+use Rattle.nano_spec.specs.Step.{after}
+use Rattle.bot_crew.specs.Crew.{bot_of, replaced}
+use Rattle.vox_planes.specs.Voxel.{IsWhole}
+use Rattle.system_state.specs.Effects.{act}
+use Rattle.system_state.proofs.OnlyBot.{cost_is, untouched}
+
+-- ---- the crew of one bot
+
+same_bid : (n : ℕ) → (n == n) ≡ true
+same_bid n = grind (arith, nat_tests)
+
+-- what holds of the bots after the only one moved
+pub moved_one : (P : List Bot → Type 0) (bots : List Bot) (b : Bot) (c : Coord) → bots ≡ b ∷ [] → IfSome (bot_of bots b.bid) (λ (a : Bot). P (replaced bots (b.bid ∷ []) (moved a (point c) ∷ []))) → P (moved b (point c) ∷ [])
+moved_one P bots b c e h = by (b.bid == b.bid) (same_bid b.bid) (subst (λ (bs : List Bot). IfSome (bot_of bs b.bid) (λ (a : Bot). P (replaced bs (b.bid ∷ []) (moved a (point c) ∷ [])))) e h)
+  where
+    only : replaced (b ∷ []) (b.bid ∷ []) (moved b (point c) ∷ []) ≡ moved b (point c) ∷ []
+    only = rw (same_bid b.bid) refl
+
+    by : (same : Bool) → same ≡ true → IfSome (cond same (Some b) None) (λ (a : Bot). P (replaced (b ∷ []) (b.bid ∷ []) (moved a (point c) ∷ []))) → P (moved b (point c) ∷ [])
+    by true s h = subst P only h
+    by false s h = cc
+
+-- the state after the move
+pub moved_on : (s : State) (b : Bot) (d : Diff) (to : Coord) → s.bots ≡ b ∷ [] → IsWhole s.matrix → point to ≡ plus (point b.pos) d → record s { energy = (s.energy +ℤ upkeep s) +ℤ pos (2 * mlen d); bots = moved b (point to) ∷ [] } ≡ after s (SMove d ∷ [])
+moved_on s b d to only whole there =
+    let start : State = record s { bots = b ∷ [] } in
+    let same : start ≡ s = λ i. record s { bots = sym only i } in
+    let matrix = sym (untouched s.matrix (act b (SMove d)) whole refl refl) in
+    let cost = sym (cost_is s.matrix b (SMove d)) in
+    subst (λ (t : State). record t { energy = (t.energy +ℤ upkeep t) +ℤ pos (2 * mlen d); bots = moved b (point to) ∷ [] } ≡ after t (SMove d ∷ [])) same
+    (λ i. record { matrix = matrix i; harmonics = s.harmonics; bots = moved b (there i) ∷ []; energy = (s.energy +ℤ upkeep start) +ℤ cost i; profile = s.profile })

@@ -1,0 +1,21 @@
+use Rattle.std.proofs.Common.{◌≡◌, ◌*◌, ◌∙◌, ap, pos, List, [], ◌∷◌, of_z, to_z, w64, rules}
+use Rattle.std.specs.Prelude.{◌+ℤ◌}
+use Rattle.vox_geom.specs.Difference.{mlen}
+use Rattle.vox_geom.specs.Point.{point}
+use Rattle.nano_spec.specs.declared.system.Bot.{Bot}
+use Rattle.nano_spec.specs.Bots.{moved}
+use Rattle.nano_spec.specs.Energy.{upkeep}
+use Rattle.nano_spec.specs.State.{State}
+use Rattle.system_state.proofs.OnlyMove.{moved_on, moved_one}
+use Rattle.system_state.proofs.system.System.move_alone.Goals as goal
+
+pub returns-in-Ok-clause-moved : goal.returns-in-Ok-clause-moved
+returns-in-Ok-clause-moved g c =
+    let s : State = c.args.self.now in
+    let b : Bot = c.only_bot-bot.result in
+    let there : List Bot = moved b (point c.in-Ok.to) ∷ [] in
+    let same : to_z w64 (of_z w64 c.cost_of_move.result) ≡ c.cost_of_move.result = search rules in
+    let payment : c.pay.new.self ≡ record s { energy = (s.energy +ℤ upkeep s) +ℤ pos (2 * mlen c.args.d) } = c.pay.ensures ∙ ap (λ z. record s { energy = (s.energy +ℤ upkeep s) +ℤ z }) (same ∙ c.cost_of_move.ensures.value) in
+    let gone : c.move_to.new.self ≡ record c.pay.new.self { bots = there } =
+    moved_one (λ (bots : List Bot). c.move_to.new.self ≡ record c.pay.new.self { bots = bots }) c.pay.new.self.bots b c.in-Ok.to (ap (λ (t : State). t.bots) payment ∙ c.only_bot-bot.ensures.only) c.move_to.ensures.moved in
+    gone ∙ (ap (λ (t : State). record t { bots = there }) payment ∙ moved_on s b c.args.d c.in-Ok.to c.only_bot-bot.ensures.only c.matrix.ensures.whole c.in-Ok.ensures.sum)

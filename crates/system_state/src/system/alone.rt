@@ -1,0 +1,116 @@
+//! The step of the only bot by a command that needs no other, made at once: no turns are gathered.
+ghost use Rattle.std.specs.Prelude.{◌≡◌, ◌+◌, ◌*◌, ◌≤◌, pos, negsuc, ◌+ℤ◌, [], ◌∷◌, cond, length, IfOk, IfSome, IfNone};
+ghost use Rattle.vox_geom.specs.declared.difference.Diff.{Diff as Difference};
+ghost use Rattle.vox_geom.specs.Difference.{mlen};
+ghost use Rattle.vox_geom.specs.Point.{point, plus};
+ghost use Rattle.vox_geom.specs.Space.{IsInSpace};
+ghost use Rattle.nano_spec.specs.declared.commands.Command.TheVariants.{SMove};
+ghost use Rattle.nano_spec.specs.declared.system.Bot.{Bot as ActiveBot};
+ghost use Rattle.nano_spec.specs.Act.{acts};
+ghost use Rattle.nano_spec.specs.Energy.{upkeep as upkeep_of};
+ghost use Rattle.nano_spec.specs.Matrix.{is_full};
+ghost use Rattle.nano_spec.specs.Rules.{broken as broken_of};
+ghost use Rattle.nano_spec.specs.Step.{after};
+ghost use Rattle.nano_spec.specs.Work.{volatile_total};
+ghost use Rattle.step_groups.specs.Judging.{edit_of, fault_of};
+ghost use Rattle.system_state.specs.Bounds.{IsPayable, IsWithin};
+
+use super::{System, paid};
+use nano_spec::{Bot, Broken};
+use std::sync::ledger::Ledger;
+use step_groups::{judge_edit, judge_move};
+use vox_geom::{Coord, Long, Near, Steps};
+
+impl System {
+    /// The only bot.
+    fn only_bot(&self) -> Bot
+        requires { length self.now.bots ≡ 1 }
+        ensures only { self.now.bots ≡ result ∷ [] }
+        ensures within { IsInSpace self.now.matrix.resolution result.pos }
+    {
+        let _ = self.crew();
+        self.crew.bots()[0]
+    }
+
+    /// The upkeep of a step and a cost are paid.
+    fn pay(&mut self, cost: i64)
+        requires payable { IsPayable self.old.energy }
+        requires small { IsWithin 2000000000 cost }
+        ensures { self.new ≡ record self.old { energy = (self.old.energy +ℤ upkeep_of self.old) +ℤ cost } }
+    {
+        self.pay_upkeep();
+        self.energy = paid(self.energy, cost);
+    }
+
+    /// The step of the only bot by a straight move: the rule that it breaks, or `None`, and then all effects and costs. The
+    /// rule of grounding is not judged.
+    pub fn move_alone<L: Ledger>(
+        &mut self,
+        d: Long,
+        step: u32,
+        steps: &mut Steps<L>,
+    ) -> Option<Broken>
+        requires one { length self.old.bots ≡ 1 }
+        requires payable { IsPayable self.old.energy }
+        ensures value { result ≡ broken_of self.old (SMove d ∷ []) step }
+        ensures moved { IfNone result (self.new ≡ after self.old (SMove d ∷ [])) }
+        ensures stays { IfSome result (λ _. self.new ≡ self.old) }
+        ensures touches { steps.new ≤ steps.old + 2 * volatile_total self.old.matrix (acts self.old.bots (SMove d ∷ [])) }
+    {
+        let _ = self.matrix();
+        let bot = self.only_bot();
+        match judge_move(&self.matrix, self.profile, bot, d, step, steps) {
+            Ok(to) => {
+                self.pay(cost_of_move(d));
+                self.move_to(bot.bid, to);
+                None
+            }
+            Err(broken) => Some(broken),
+        }
+    }
+
+    /// Which voxel the only bot fills, or else voids, or the first rule that the step breaks at its start.
+    pub fn judge_edit(&self, d: Near, full: bool, step: u32) -> Result<Coord, Broken>
+        requires one { length self.now.bots ≡ 1 }
+        ensures value { fault_of result ≡ broken_of self.now (edit_of full d ∷ []) step }
+        ensures named { IfOk result (λ at. (b : ActiveBot) → self.now.bots ≡ b ∷ [] → point at ≡ plus (point b.pos) d) }
+        ensures stays { IfOk result (λ at. IsInSpace self.now.matrix.resolution at) }
+    {
+        let bot = self.only_bot();
+        judge_edit(&self.matrix, self.profile, bot, d, full, step)
+    }
+
+    /// All effects and costs of a step in which the only bot fills the voxel at the coordinate, or else voids it.
+    pub fn edit_alone(&mut self, at: Coord, full: bool, was_full: bool)
+        requires one { length self.old.bots ≡ 1 }
+        requires payable { IsPayable self.old.energy }
+        requires within { IsInSpace self.old.matrix.resolution at }
+        requires was { was_full ≡ is_full self.old.matrix at }
+        ensures { (b : ActiveBot) (d : Difference) → self.old.bots ≡ b ∷ [] → point at ≡ plus (point b.pos) d → self.new ≡ after self.old (edit_of full d ∷ []) }
+    {
+        self.pay(cost_of_edit(full, was_full));
+        self.set_voxel(at, full);
+    }
+}
+
+/// What filling a voxel, or else voiding it, costs beside the upkeep.
+fn cost_of_edit(full: bool, was_full: bool) -> i64
+    ensures value { result ≡ cond full (cond was_full (pos 6) (pos 12)) (cond was_full (negsuc 11) (pos 3)) }
+    ensures small { IsWithin 2000000000 result }
+{
+    if full {
+        if was_full { 6 } else { 12 }
+    } else if was_full {
+        -12
+    } else {
+        3
+    }
+}
+
+/// What a straight move costs beside the upkeep.
+fn cost_of_move(d: Long) -> i64
+    ensures value { result ≡ pos (2 * mlen d) }
+    ensures small { IsWithin 2000000000 result }
+{
+    2 * i64::from(d.diff().mlen())
+}
