@@ -63,7 +63,7 @@ fusion_edits_not p (FusionP d) q (FusionS e) x h = (refl, refl, refl, refl)
 fusion_edits_not p (FusionP d) q e x h = cc
 fusion_edits_not p c q e x h = cc
 
-same_edit : (full : Bool) (l a : Act) (c : Coord) → (l.bot.bid ≡ a.bot.bid → l ≡ a) → Together l a → is_edited full a c ≡ true → is_edited full l c ≡ true
+pub same_edit : (full : Bool) (l a : Act) (c : Coord) → (l.bot.bid ≡ a.bot.bid → l ≡ a) → Together l a → is_edited full a c ≡ true → is_edited full l c ≡ true
 same_edit full l a c bids (itself e) h = ap (λ (x : Act). is_edited full x c) (bids e) ∙ h
 same_edit true l a c bids (shares e) h = shared_void (position l) l.command (position a) a.command (point c) e ∙ h
 same_edit false l a c bids (shares e) h = shared_fill (position l) l.command (position a) a.command (point c) e ∙ h
@@ -149,7 +149,7 @@ module _ (s : State) (all : List Act) (good : IsGood s all) where
       flip true e = cc
       flip false e = refl
 
-  state_void : (c : Coord) → is_full s.matrix c ≡ false → is_state s.matrix false c ≡ true
+  pub state_void : (c : Coord) → is_full s.matrix c ≡ false → is_state s.matrix false c ≡ true
   state_void c h = ap not h
 
   -- ---- the forest may lose the ones and then gain the others

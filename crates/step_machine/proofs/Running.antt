@@ -1,5 +1,5 @@
 -- What one more command changes of a runner.
-use Rattle.std.proofs.Common.{◌≡◌, ℕ, ◌+◌, ◌≤◌, ◌<◌, ◌==◌, refl, sym, ◌∙◌, ap, subst, arith, eq-eqb, List, [], ◌∷◌, ◌++◌, Bool, true, false, length, length-append}
+use Rattle.std.proofs.Common.{◌≡◌, ◌+◌, ◌==◌, refl, sym, ◌∙◌, ap, subst, eq-eqb, List, [], ◌∷◌, ◌++◌, Bool, true, false, length, length-append}
 use Rattle.std.specs.Prelude.{MatchBool, ◌↔◌}
 use Rattle.nano_spec.specs.declared.commands.Command.{Command}
 use Rattle.nano_spec.specs.declared.system.Bot.{Bot}
@@ -9,25 +9,21 @@ use Rattle.run_progress.specs.Progress as progress
 use Rattle.run_progress.specs.Progress.{Progress, Pushes, PushesAt, Steps, mark_of, with_command}
 use Rattle.step_machine.specs.declared.runner.Mark.{Mark}
 use Rattle.step_machine.specs.declared.runner.Mark.TheVariants as mark
-use Rattle.step_machine.specs.Course.{Course, IsUnderway, course_of, mark_by}
+use Rattle.step_machine.specs.Course.{Course, course_of, mark_by}
 use Rattle.step_machine.specs.Situation.{Situation}
 
 module _ (machine : Situation) (pending : List Command) (m : Mark) (v : Course) (seen : course_of machine pending m ≡ v) (runs : m ≡ mark.Running) where
-  -- some bot has no command yet
-  pub some_lack : v.spent ≡ false → IsUnderway machine pending m → length pending < length machine.state.bots
-  some_lack e u = (subst (λ (n : Mark). IsUnderway machine pending n) runs u) (subst (λ (n : Mark). (course_of machine pending n).spent ≡ false) runs (ap (λ (w : Course). w.spent) seen ∙ e))
-
   -- the last command of a step that is made
-  pub made : (command : Command) (now : List Command) (t : State) (q : Progress) → now ≡ pending ++ command ∷ [] → length now ≡ length machine.state.bots → Next machine.state now (machine.steps + 1) (Goes t) → q ≡ record { state = t; steps = machine.steps + 1; pending = []; mark = mark_of t.bots } → Pushes v.progress command q
-  made command now t q e l n f =
+  pub made : (command : Command) (t : State) (q : Progress) → length pending + 1 ≡ length machine.state.bots → Next machine.state (pending ++ command ∷ []) (machine.steps + 1) (Goes t) → q ≡ record { state = t; steps = machine.steps + 1; pending = []; mark = mark_of t.bots } → Pushes v.progress command q
+  made command t q l n f =
       subst (λ (w : Course). Pushes w.progress command q) seen
       (subst (λ (k : progress.Mark). PushesAt k (course_of machine pending m).progress command q) (sym (ap mark_by runs)) joins)
     where
       steps : Steps (with_command (course_of machine pending m).progress command) q
-      steps = (Goes t, subst (λ (xs : List Command). Next machine.state xs (machine.steps + 1) (Goes t)) e n, f)
+      steps = (Goes t, n, f)
 
       joins : MatchBool (length (pending ++ command ∷ []) == length machine.state.bots) (Steps (with_command (course_of machine pending m).progress command) q) (q ≡ with_command (course_of machine pending m).progress command)
-      joins = subst (λ (b : Bool). MatchBool b (Steps (with_command (course_of machine pending m).progress command) q) (q ≡ with_command (course_of machine pending m).progress command)) (sym (eq-eqb (length (pending ++ command ∷ [])) (length machine.state.bots) (ap length (sym e) ∙ l))) steps
+      joins = subst (λ (b : Bool). MatchBool b (Steps (with_command (course_of machine pending m).progress command) q) (q ≡ with_command (course_of machine pending m).progress command)) (sym (eq-eqb (length (pending ++ command ∷ [])) (length machine.state.bots) (length-append pending (command ∷ []) ∙ l))) steps
 
 -- the mark after a step
 pub halted_mark : (bots : List Bot) (halted : Bool) → (halted ≡ true ↔ bots ≡ []) → halted ≡ true → progress.Halted ≡ mark_of bots
@@ -37,11 +33,3 @@ halted_mark (b ∷ bots) halted h e = let f = h.0 e in cc
 pub running_mark : (bots : List Bot) (halted : Bool) → (halted ≡ true ↔ bots ≡ []) → halted ≡ false → progress.Running ≡ mark_of bots
 running_mark [] halted h e = let f = h.1 refl in cc
 running_mark (b ∷ bots) halted h e = refl
-
--- each bot has a command
-pub as_many : (pending slice now : List Command) (command : Command) (bots active count : ℕ) → now ≡ pending ++ command ∷ [] → slice ≡ now → length pending < bots → active ≡ bots → count ≡ active → count ≤ length slice → length now ≡ bots
-as_many pending slice now command bots active count e f l a n le =
-    let p = ap length e in
-    let q = length-append pending (command ∷ []) in
-    let r = ap length f in
-    omega (arith, p, q, r)

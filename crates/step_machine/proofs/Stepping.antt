@@ -151,9 +151,11 @@ sound_on s t commands old new changed list steps spent v sound e few is stands t
   stands = λ _. stands;
   tied = λ _. tied ∙ ap (λ (x : State). x.matrix) (sym is);
   room = room;
+  seeds = subst (λ (x : State). x.profile.seeds ≤ 39) (sym is) sound.seeds;
   paid = subst (λ (x : State). IsPaid x.energy (steps + 1)) (sym is) (paid_on s.energy (after s commands).energy steps sound.paid up down);
   few = few_steps s steps spent v e few;
 }
 
-pub formed_seen : (s : State) (steps : ℕ) (spent : Bool) (v : Situation) → seen s steps spent ≡ v → IsWellFormed v.state → IsWellFormed s
-formed_seen s steps spent v e h = subst (λ (w : Situation). IsWellFormed w.state) (sym e) h
+-- an accepted step keeps a state well-formed
+pub formed_on : (s t : State) (commands : List Command) (step : ℕ) → ((u : State) (step : ℕ) → IsWellFormed s → Next s commands step (Goes u) → IsWellFormed u) → Next s commands step (Goes (after s commands)) → t ≡ after s commands → IsWellFormed s → IsWellFormed t
+formed_on s t commands step keeps next is formed = subst (λ (u : State). IsWellFormed u) (sym is) (keeps (after s commands) step formed next)

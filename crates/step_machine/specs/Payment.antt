@@ -1,19 +1,28 @@
--- How often voxels are touched while the commands of a run come, beside the work of the run.
+-- How often voxels are touched, beside the work of a step or of a run.
 use Rattle.std.specs.Prelude.{◌≡◌, ℕ, ◌+◌, ◌*◌, ◌≤◌, List, [], ◌∷◌, ◌++◌}
 use Rattle.nano_spec.specs.declared.commands.Command.{Command}
 use Rattle.nano_spec.specs.declared.system.Profile.{Profile}
 use Rattle.nano_spec.specs.Matrix.{Matrix}
 use Rattle.nano_spec.specs.Model.{volume}
+use Rattle.nano_spec.specs.State.{State}
 use Rattle.nano_spec.specs.Work.{Work, WorkFrom, WorkOfStep}
 use Rattle.run_progress.specs.Progress as progress
 use Rattle.run_progress.specs.Progress.{Progress}
 use Rattle.step_machine.specs.Course.{MakesNoStep, searched_by}
 
+-- the touches from began to ended are within the work of the step: at most a hundred for each unit of it
+abbrev pub IsWithinWork : State → List Command → ℕ → ℕ → ℕ → Type 0
+IsWithinWork s commands step began ended = (n : ℕ) × WorkOfStep s commands step n × (ended ≤ began + 100 * n)
+
+-- the touches from began to ended are within the work of the run: at most a hundred for each unit of it and for each voxel
+abbrev pub IsWithinWorkOfRun : Matrix → List Command → Profile → ℕ → ℕ → Type 0
+IsWithinWorkOfRun source commands profile began ended = (n : ℕ) × Work source commands profile n × (ended ≤ began + 100 * (volume source.resolution + n))
+
 -- one more command: no touch where it makes no step, and else at most a hundred times the work of the step, beside a search for
 -- what floats where that is found
 pub record Touches (p q : Progress) (command : Command) (before after : ℕ) : Type 0 where
   pub untouched : MakesNoStep p → after ≡ before
-  pub paid : (n : ℕ) → WorkOfStep p.state (p.pending ++ command ∷ []) (p.steps + 1) n → after ≤ before + 100 * n + searched_by q.mark p.state.matrix
+  pub paid : IsWithinWork p.state (p.pending ++ command ∷ []) (p.steps + 1) (before + searched_by q.mark p.state.matrix) after
 
 -- from start to now the touches are paid for by n, the work of a run: while steps are made, what is left of the work pays for what is
 -- still to be touched; after that a search of a whole matrix may have been made beside it

@@ -10,7 +10,6 @@ use Rattle.support_forest.specs.Standing.{Standing}
 use Rattle.vox_planes.specs.Changes.{Changes}
 use Rattle.system_state.specs.Bounds.{IsWithin}
 use Rattle.step_machine.specs.declared.TheConstants.{MOST_CHANGED}
-use Rattle.step_machine.specs.declared.machine.StepOk.{StepOk}
 use Rattle.step_machine.specs.declared.machine.StepFault.{StepFault}
 use Rattle.step_machine.specs.declared.machine.StepFault.TheVariants as fault
 
@@ -31,12 +30,14 @@ pub record IsSound (system : State) (forest : Standing) (changed : Changes) (ste
   pub tied : spent ≡ false → forest.matrix ≡ system.matrix
   -- there is room for all that a step changes
   pub room : MOST_CHANGED ≤ changed.spare + length changed.items
+  -- the profile gives no more seeds than there are bids
+  pub seeds : system.profile.seeds ≤ 39
   -- energy and steps are within their types
   pub paid : IsPaid system.energy steps
   pub few : steps ≤ 1073741824
 
 -- where a step breaks a rule, P holds of it
-abbrev pub IfBroken : Result StepOk StepFault → (Broken → Type 0) → Type 0
+abbrev pub IfBroken : {T : Type 0} → Result T StepFault → (Broken → Type 0) → Type 0
 IfBroken (Err (fault.Broken b)) P = P b
 IfBroken _ P = Unit {0}
 

@@ -1,12 +1,20 @@
-//! The law of the touches of a run.
-ghost use Rattle.std.specs.Prelude.{◌≡◌, ℕ, ◌+◌, ◌*◌, ◌≤◌, List, [], ◌∷◌, ◌++◌};
+//! The laws of work, and of the touches that it pays for.
+ghost use Rattle.std.specs.Prelude.{◌≡◌, ℕ, ◌+◌, ◌*◌, ◌≤◌, List, [], ◌∷◌, ◌++◌, Option};
 ghost use Rattle.nano_spec.specs.declared.commands.Command.{Command as CommandOf};
 ghost use Rattle.nano_spec.specs.declared.system.Profile.{Profile};
 ghost use Rattle.nano_spec.specs.Matrix.{Matrix};
 ghost use Rattle.nano_spec.specs.Model.{volume};
-ghost use Rattle.nano_spec.specs.Work.{Work};
+ghost use Rattle.nano_spec.specs.State.{State};
+ghost use Rattle.nano_spec.specs.Work.{Levels, Work, WorkOfStep};
 ghost use Rattle.run_progress.specs.Progress.{Progress, Pushes, begun};
 ghost use Rattle.step_machine.specs.Payment.{IsPaid, Touches};
+
+/// Every matrix has its levels, and so every step has a work, and every run.
+pub fn every_run_has_work()
+    ensures levels { (m : Matrix) → (levels : List (Option ℕ)) × Levels m levels }
+    ensures step { (s : State) (commands : List CommandOf) (step : ℕ) → (n : ℕ) × WorkOfStep s commands step n }
+    ensures run { (source : Matrix) (commands : List CommandOf) (profile : Profile) → (n : ℕ) × Work source commands profile n }
+{}
 
 /// The work of a run pays for its touches, command by command: from its opening on, after each more command, and so in
 /// all, but for one search of the matrix.

@@ -8,10 +8,12 @@ mod order;
 mod pending;
 mod runner;
 mod support;
+mod undo;
 
-pub use laws::the_work_pays;
+pub use laws::{every_run_has_work, the_work_pays};
 pub use machine::{Machine, StepFault, StepOk};
 pub use runner::{Runner, judge};
+pub use undo::Undo;
 
 /// The most voxels that the groups of a step change: a group command changes 31 * 31 * 31 at most, and such a one takes 8 of 40 bots.
 pub(crate) const MOST_CHANGED: u32 = 148_955;

@@ -1,32 +1,33 @@
 //! The machine.
-ghost use Rattle.std.specs.Prelude.{◌≡◌, ℕ, pos, ◌+ℤ◌, ◌<ℤ◌, ◌+◌, ◌*◌, ◌≤◌, ◌<◌, ◌↔◌, [], true, false, length, count_by, IfOk, IfErr, IfSome, IsFalse, IsPermutation, IsTrue, None, Some, Result, Err};
-ghost use Rattle.nano_spec.specs.declared.outcomes.Rule.{Rule as RuleOf};
+ghost use Rattle.std.specs.Prelude.{◌≡◌, ℕ, pos, ◌+ℤ◌, ◌<ℤ◌, ◌+◌, ◌*◌, ◌≤◌, ◌<◌, ◌↔◌, [], true, false, length, count_by, IfOk, IfSome, IsFalse, IsPermutation, None, Some, Err};
 ghost use Rattle.nano_spec.specs.Act.{acts};
 ghost use Rattle.nano_spec.specs.Cutting.{AreCommands};
 ghost use Rattle.nano_spec.specs.Grounded.{FirstUngrounded};
 ghost use Rattle.nano_spec.specs.Level.{Level};
 ghost use Rattle.nano_spec.specs.Matrix.{is_full};
 ghost use Rattle.nano_spec.specs.Model.{volume};
-ghost use Rattle.nano_spec.specs.Next.{Breaks, Goes, Next};
+ghost use Rattle.nano_spec.specs.Next.{Goes, Next};
 ghost use Rattle.nano_spec.specs.Serial.{leader_bids, serial};
 ghost use Rattle.nano_spec.specs.State.{IsReady, IsWellFormed, State, opening as opening_of, origin};
 ghost use Rattle.nano_spec.specs.Step.{after};
-ghost use Rattle.nano_spec.specs.Work.{WorkOfStep};
 ghost use Rattle.vox_geom.specs.Space.{IsInSpace};
 ghost use Rattle.vox_planes.specs.Voxel.{IsWhole};
 ghost use Rattle.bot_crew.specs.Crew.{IsCrew};
 ghost use Rattle.step_machine.specs.Edits.{is_edit};
-ghost use Rattle.step_machine.specs.Situation.{IfBroken, searched_for};
+ghost use Rattle.step_machine.specs.Situation.{IsPaid};
+ghost use Rattle.step_machine.specs.Stepped.{Stepped};
+ghost use Rattle.step_machine.specs.Undoing.{MayStand, state_of};
+
+mod alone;
+mod noted;
 
 use crate::MOST_CHANGED;
 use crate::order::take_turns;
-use crate::support::{forest_of, harmonics_after, refit, ungrounded};
+use crate::support::{forest_of, settle};
 use arrayvec::ArrayVec;
 use bot_crew::{Crew, MOST_BOTS};
 use energy_sum::a_step_changes_the_energy_by_little;
-use nano_spec::{
-    Broken, Command, Harmonics, Profile, Rule, opening_is_ready, ready_and_well_formed,
-};
+use nano_spec::{Broken, Command, Harmonics, Profile, opening_is_ready, ready_and_well_formed};
 use std::alloc::Global;
 use std::marker::Model;
 use std::sync::ledger::Ledger;
@@ -58,6 +59,7 @@ pub enum StepFault {
 /// The machine. Contracts see the state of the system, how many steps were made, and whether the machine is spent.
 #[derive(Drop)]
 pub struct Machine {
+    alloc: Global,
     system: System,
     forest: Forest,
     turns: Turns,
@@ -89,6 +91,17 @@ fn know_step(system: &System, commands: &[Command])
     let _ = (system.matrix().resolution(), system.crew().count());
 }
 
+/// What a step answers that leads to the system's state.
+fn made(system: &System) -> StepOk
+    ensures energy { result.energy ≡ system.now.energy }
+    ensures halted { result.halted ≡ true ↔ system.now.bots ≡ [] }
+{
+    StepOk {
+        energy: system.energy(),
+        halted: system.crew().count() == 0,
+    }
+}
+
 impl Machine {
     /// The machine before the first step, in the opening state of a source whose full voxels are grounded.
     pub fn start<L: Ledger>(
@@ -110,6 +123,7 @@ impl Machine {
         let changed = ChangeList::with_room(alloc, MOST_CHANGED)?;
         let system = System::opening(alloc, source, profile)?;
         Ok(Machine {
+            alloc,
             system,
             forest,
             turns: Turns::new(),
@@ -119,7 +133,36 @@ impl Machine {
         })
     }
 
-    /// One step: the i-th command is for the i-th bot.
+    /// The machine in the state of these parts, after so many steps. At most 91 touches for each voxel.
+    pub fn at<L: Ledger>(
+        alloc: Global,
+        matrix: Planes,
+        crew: Crew,
+        harmonics: Harmonics,
+        energy: i64,
+        steps_done: u32,
+        profile: Profile,
+        steps: &mut Steps<L>,
+    ) -> Result<Machine, Memory>
+        requires { MayStand (state_of matrix crew harmonics energy profile) steps_done }
+        ensures value { IfOk result (λ m. m ≡ record { state = state_of matrix crew harmonics energy profile; steps = steps_done; spent = false }) }
+        ensures touches { IfOk result (λ _. steps.new ≤ steps.old + 91 * volume matrix.resolution) }
+    {
+        let forest = forest_of(alloc, &matrix, steps)?;
+        let changed = ChangeList::with_room(alloc, MOST_CHANGED)?;
+        let system = System::at(alloc, matrix, crew, harmonics, energy, profile)?;
+        Ok(Machine {
+            alloc,
+            system,
+            forest,
+            turns: Turns::new(),
+            changed,
+            steps: steps_done,
+            spent: false,
+        })
+    }
+
+    /// One step: the i-th command is for the i-th bot. Memory may be refused only where some command fills or voids.
     pub fn step<L: Ledger>(
         &mut self,
         commands: &[Command],
@@ -128,21 +171,14 @@ impl Machine {
         requires some { 1 ≤ length self.old.state.bots }
         requires few { length commands.now ≤ length self.old.state.bots }
         requires steps { self.old.steps < 1073741824 }
-        ensures goes { IfOk result (λ _. Next self.old.state commands.now (self.old.steps + 1) (Goes self.new.state)) }
-        ensures counted { IfOk result (λ _. self.new.steps ≡ self.old.steps + 1) }
-        ensures stands { IfOk result (λ _. (self.old.spent ≡ false) × (self.new.spent ≡ false)) }
-        ensures energy { IfOk result (λ ok. ok.energy ≡ self.new.state.energy) }
-        ensures halted { IfOk result (λ ok. ok.halted ≡ true ↔ self.new.state.bots ≡ []) }
-        ensures well_formed { IfOk result (λ _. IsWellFormed self.old.state → IsWellFormed self.new.state) }
-        ensures stays { IfErr result (λ _. (self.new.state ≡ self.old.state) × (self.new.steps ≡ self.old.steps)) }
-        ensures breaks { IfBroken result (λ b. (self.old.spent ≡ false) × Next self.old.state commands.now (self.old.steps + 1) (Breaks b)) }
-        ensures ungrounded { IfBroken result (λ b. self.new.spent ≡ true ↔ b.rule ≡ RuleOf.Ungrounded) }
-        ensures memory { result ≡ Err StepFault.Memory → (self.new.spent ≡ true) × (1 ≤ count_by is_edit commands.now) }
-        ensures spent { result ≡ Err StepFault.Spent ↔ self.old.spent ≡ true }
-        ensures stays_spent { self.old.spent ≡ true → self.new.spent ≡ true }
-        ensures touches { IfOk result (λ _. (n : ℕ) → WorkOfStep self.old.state commands.now (self.old.steps + 1) n → steps.new ≤ steps.old + 100 * n) }
-        ensures touches_broken { IfBroken result (λ b. (n : ℕ) → WorkOfStep self.old.state commands.now (self.old.steps + 1) n → steps.new ≤ steps.old + 100 * n + searched_for b.rule self.old.state.matrix) }
+        ensures stepped { Stepped self.old self.new commands.now result steps.old steps.new }
+        ensures memory { result ≡ Err StepFault.Memory → 1 ≤ count_by is_edit commands.now }
     {
+        if commands.len() == 1 {
+            if let Some(answer) = self.step_alone(&commands[0], steps) {
+                return answer;
+            }
+        }
         self.make_step(commands, None, steps)
     }
 
@@ -158,20 +194,8 @@ impl Machine {
         requires commands { length commands.now ≡ length self.old.state.bots }
         requires order { IsPermutation (leader_bids (acts self.old.state.bots commands.now)) order.now }
         requires steps { self.old.steps < 1073741824 }
-        ensures goes { IfOk result (λ _. Next self.old.state commands.now (self.old.steps + 1) (Goes self.new.state)) }
-        ensures counted { IfOk result (λ _. self.new.steps ≡ self.old.steps + 1) }
-        ensures stands { IfOk result (λ _. (self.old.spent ≡ false) × (self.new.spent ≡ false)) }
-        ensures energy { IfOk result (λ ok. ok.energy ≡ self.new.state.energy) }
-        ensures halted { IfOk result (λ ok. ok.halted ≡ true ↔ self.new.state.bots ≡ []) }
-        ensures well_formed { IfOk result (λ _. IsWellFormed self.old.state → IsWellFormed self.new.state) }
-        ensures stays { IfErr result (λ _. (self.new.state ≡ self.old.state) × (self.new.steps ≡ self.old.steps)) }
-        ensures breaks { IfBroken result (λ b. (self.old.spent ≡ false) × Next self.old.state commands.now (self.old.steps + 1) (Breaks b)) }
-        ensures ungrounded { IfBroken result (λ b. self.new.spent ≡ true ↔ b.rule ≡ RuleOf.Ungrounded) }
-        ensures memory { result ≡ Err StepFault.Memory → (self.new.spent ≡ true) × (1 ≤ count_by is_edit commands.now) }
-        ensures spent { result ≡ Err StepFault.Spent ↔ self.old.spent ≡ true }
-        ensures stays_spent { self.old.spent ≡ true → self.new.spent ≡ true }
-        ensures touches { IfOk result (λ _. (n : ℕ) → WorkOfStep self.old.state commands.now (self.old.steps + 1) n → steps.new ≤ steps.old + 100 * n) }
-        ensures touches_broken { IfBroken result (λ b. (n : ℕ) → WorkOfStep self.old.state commands.now (self.old.steps + 1) n → steps.new ≤ steps.old + 100 * n + searched_for b.rule self.old.state.matrix) }
+        ensures stepped { Stepped self.old self.new commands.now result steps.old steps.new }
+        ensures memory { result ≡ Err StepFault.Memory → 1 ≤ count_by is_edit commands.now }
         ensures serial { IfOk result (λ _. serial self.old.state commands.now order.now ≡ Some self.new.state) }
     {
         every_order();
@@ -199,20 +223,8 @@ impl Machine {
         requires commands { IfSome order (λ _. length commands.now ≡ length self.old.state.bots) }
         requires order { IfSome order (λ o. IsPermutation (leader_bids (acts self.old.state.bots commands.now)) o.now) }
         requires steps { self.old.steps < 1073741824 }
-        ensures goes { IfOk result (λ _. Next self.old.state commands.now (self.old.steps + 1) (Goes self.new.state)) }
-        ensures counted { IfOk result (λ _. self.new.steps ≡ self.old.steps + 1) }
-        ensures stands { IfOk result (λ _. (self.old.spent ≡ false) × (self.new.spent ≡ false)) }
-        ensures energy { IfOk result (λ ok. ok.energy ≡ self.new.state.energy) }
-        ensures halted { IfOk result (λ ok. ok.halted ≡ true ↔ self.new.state.bots ≡ []) }
-        ensures well_formed { IfOk result (λ _. IsWellFormed self.old.state → IsWellFormed self.new.state) }
-        ensures stays { IfErr result (λ _. (self.new.state ≡ self.old.state) × (self.new.steps ≡ self.old.steps)) }
-        ensures breaks { IfBroken result (λ b. (self.old.spent ≡ false) × Next self.old.state commands.now (self.old.steps + 1) (Breaks b)) }
-        ensures ungrounded { IfBroken result (λ b. self.new.spent ≡ true ↔ b.rule ≡ RuleOf.Ungrounded) }
-        ensures memory { result ≡ Err StepFault.Memory → (self.new.spent ≡ true) × (1 ≤ count_by is_edit commands.now) }
-        ensures spent { result ≡ Err StepFault.Spent ↔ self.old.spent ≡ true }
-        ensures stays_spent { self.old.spent ≡ true → self.new.spent ≡ true }
-        ensures touches { IfOk result (λ _. (n : ℕ) → WorkOfStep self.old.state commands.now (self.old.steps + 1) n → steps.new ≤ steps.old + 100 * n) }
-        ensures touches_broken { IfBroken result (λ b. (n : ℕ) → WorkOfStep self.old.state commands.now (self.old.steps + 1) n → steps.new ≤ steps.old + 100 * n + searched_for b.rule self.old.state.matrix) }
+        ensures stepped { Stepped self.old self.new commands.now result steps.old steps.new }
+        ensures memory { result ≡ Err StepFault.Memory → 1 ≤ count_by is_edit commands.now }
     {
         if self.spent {
             return Err(StepFault::Spent);
@@ -222,36 +234,24 @@ impl Machine {
         if let Some(broken) = self.system.judge(commands, step, &mut self.turns, steps) {
             return Err(StepFault::Broken(broken));
         }
-        match refit(
+        match settle(
             &self.system,
             commands,
+            step,
             &self.turns,
             &mut self.changed,
             &mut self.forest,
             steps,
         ) {
-            Ok(()) => {}
-            Err(Memory) => {
+            Ok(_) => {}
+            Err(fault) => {
                 self.spent = true;
-                return Err(StepFault::Memory);
+                return Err(fault);
             }
-        }
-        let harmonics = harmonics_after(self.system.harmonics(), commands);
-        if let Some(at) = ungrounded(&self.forest, harmonics, steps) {
-            self.spent = true;
-            return Err(StepFault::Broken(Broken {
-                step,
-                bid: 0,
-                rule: Rule::Ungrounded,
-                at,
-            }));
         }
         take_turns(&mut self.system, commands, &mut self.turns, order, steps);
         self.steps = step;
-        Ok(StepOk {
-            energy: self.system.energy(),
-            halted: self.system.crew().count() == 0,
-        })
+        Ok(made(&self.system))
     }
 
     /// How many bots are active.
@@ -263,9 +263,26 @@ impl Machine {
 
     /// The energy spent so far.
     pub fn energy(&self) -> i64
-        ensures { result ≡ self.now.state.energy }
+        ensures value { result ≡ self.now.state.energy }
+        ensures paid { IsPaid self.now.state.energy self.now.steps }
     {
         self.system.energy()
+    }
+
+    /// The profile.
+    pub fn profile(&self) -> Profile
+        ensures value { result ≡ self.now.state.profile }
+        ensures seeds { self.now.state.profile.seeds ≤ 39 }
+    {
+        let _ = self.steps;
+        self.system.profile()
+    }
+
+    /// The state of the system, in which the commands of a step can be judged without being made.
+    pub fn system(&self) -> &System
+        ensures { result.now ≡ self.now.state }
+    {
+        &self.system
     }
 
     /// How many steps were made, at most 2 to the power of 30.

@@ -1,14 +1,16 @@
 //! Runs: a machine that takes the commands of a trace one by one.
-ghost use Rattle.std.specs.Prelude.{◌≡◌, ℕ, ◌+◌, ◌*◌, ◌<◌, ◌≤◌, false, true, [], ◌∷◌, ◌++◌, length, IfOk, IfErr, None};
+ghost use Rattle.std.specs.Prelude.{◌≡◌, ℕ, ◌+◌, ◌*◌, ◌<◌, ◌≤◌, false, true, [], ◌∷◌, ◌++◌, length, count_by, IfOk, IfErr, IfNone, IfSome, None, Some, Err};
 ghost use Rattle.nano_spec.specs.Grounded.{FirstUngrounded};
 ghost use Rattle.nano_spec.specs.Model.{volume};
 ghost use Rattle.nano_spec.specs.Profile.{full_profile};
 ghost use Rattle.nano_spec.specs.Verdict.{VerdictOf};
-ghost use Rattle.nano_spec.specs.Work.{Work, WorkOfStep};
 ghost use Rattle.run_progress.specs.Progress.{Finishes, Pushes, begun};
 ghost use Rattle.step_machine.specs.Course.{LacksCommands, MakesEdits, MakesNoStep, searched_by};
+ghost use Rattle.step_machine.specs.Edits.{is_edit};
+ghost use Rattle.step_machine.specs.Payment.{IsWithinWork, IsWithinWorkOfRun};
+ghost use Rattle.step_machine.specs.Stepped.{Stepped};
 
-use crate::machine::{Machine, StepFault};
+use crate::machine::{Machine, StepFault, StepOk};
 use crate::pending::Pending;
 use nano_spec::{Broken, Command, Profile, Rule, Verdict};
 use run_progress::the_progress_is_the_verdict;
@@ -44,6 +46,50 @@ impl Model for Runner {
     ghost view = { λ r. course_of r.machine r.pending r.mark };
 
     ghost invariant = { λ r. IsUnderway r.machine r.pending r.mark };
+}
+
+/// One command more for the next step, which is made where each bot has one then: `None` where some bot still has none. The
+/// command of an only bot is kept only where its step is not made.
+fn take<L: Ledger>(
+    machine: &mut Machine,
+    pending: &mut Pending,
+    command: Command,
+    steps: &mut Steps<L>,
+) -> Option<Result<StepOk, StepFault>>
+    requires lacks { length pending.old < length machine.old.state.bots }
+    requires steps { machine.old.steps < 1073741824 }
+    ensures full { IfSome result (λ _. length pending.old + 1 ≡ length machine.old.state.bots) }
+    ensures stepped { IfSome result (λ answer. Stepped machine.old machine.new (pending.old ++ command ∷ []) answer steps.old steps.new) }
+    ensures cleared { IfSome result (λ answer. IfOk answer (λ _. pending.new ≡ [])) }
+    ensures kept { IfSome result (λ answer. IfErr answer (λ _. pending.new ≡ pending.old ++ command ∷ [])) }
+    ensures memory { result ≡ Some (Err StepFault.Memory) → 1 ≤ count_by is_edit (pending.old ++ command ∷ []) }
+    ensures lacks { IfNone result (length pending.old + 1 < length machine.old.state.bots) }
+    ensures joins { IfNone result (pending.new ≡ pending.old ++ command ∷ []) }
+    ensures stays { IfNone result (machine.new ≡ machine.old) }
+    ensures untouched { IfNone result (steps.new ≡ steps.old) }
+{
+    let _ = machine.crew();
+    if pending.as_slice().is_empty() {
+        match machine.step_alone(&command, steps) {
+            None => {}
+            Some(Ok(ok)) => return Some(Ok(ok)),
+            Some(Err(fault)) => {
+                pending.push(command);
+                return Some(Err(fault));
+            }
+        }
+    }
+    pending.push(command);
+    if pending.as_slice().len() < usize::from(machine.active()) {
+        return None;
+    }
+    match machine.step(pending.as_slice(), steps) {
+        Ok(ok) => {
+            pending.clear();
+            Some(Ok(ok))
+        }
+        Err(fault) => Some(Err(fault)),
+    }
 }
 
 impl Runner {
@@ -83,7 +129,7 @@ impl Runner {
         ensures resolution { self.new.progress.state.matrix.resolution ≡ self.old.progress.state.matrix.resolution }
         ensures lacks { IfOk result (λ _. LacksCommands self.new.progress) }
         ensures untouched { MakesNoStep self.old.progress → steps.new ≡ steps.old }
-        ensures touches { IfOk result (λ _. (n : ℕ) → WorkOfStep self.old.progress.state (self.old.progress.pending ++ command ∷ []) (self.old.progress.steps + 1) n → steps.new ≤ steps.old + 100 * n + searched_by self.new.progress.mark self.old.progress.state.matrix) }
+        ensures touches { IfOk result (λ _. IsWithinWork self.old.progress.state (self.old.progress.pending ++ command ∷ []) (self.old.progress.steps + 1) (steps.old + searched_by self.new.progress.mark self.old.progress.state.matrix) steps.new) }
     {
         match &self.mark {
             Mark::Running => {}
@@ -94,24 +140,19 @@ impl Runner {
             Mark::Refused(_) => return Ok(()),
             Mark::Followed => return Ok(()),
         }
-        let _ = self.machine.crew();
-        self.pending.push(command);
-        if self.pending.as_slice().len() < usize::from(self.machine.active()) {
-            return Ok(());
-        }
-        match self.machine.step(self.pending.as_slice(), steps) {
-            Ok(ok) => {
-                self.pending.clear();
+        match take(&mut self.machine, &mut self.pending, command, steps) {
+            None => Ok(()),
+            Some(Ok(ok)) => {
                 if ok.halted {
                     self.mark = Mark::Halted;
                 }
                 Ok(())
             }
-            Err(StepFault::Broken(broken)) => {
+            Some(Err(StepFault::Broken(broken))) => {
                 self.mark = Mark::Refused(broken);
                 Ok(())
             }
-            Err(_) => Err(Memory),
+            Some(Err(_)) => Err(Memory),
         }
     }
 
@@ -165,7 +206,7 @@ pub fn judge<L: Ledger>(
     requires resolution { source.resolution ≡ target.now.resolution }
     requires few { length commands.now ≤ 1073741824 }
     ensures value { IfOk result (λ v. VerdictOf source target.now commands.now full_profile v) }
-    ensures touches { IfOk result (λ _. (n : ℕ) → Work source commands.now full_profile n → steps.new ≤ steps.old + 100 * (volume source.resolution + n)) }
+    ensures touches { IfOk result (λ _. IsWithinWorkOfRun source commands.now full_profile steps.old steps.new) }
 {
     the_progress_is_the_verdict();
     let mut runner = Runner::start(alloc, source, Profile::full(), steps)?;

@@ -1,6 +1,8 @@
 //! How the full voxels are held up.
-ghost use Rattle.std.specs.Prelude.{◌≡◌, ◌≢◌, ℕ, ◌+◌, ◌*◌, ◌≤◌, ◌%◌, ◌==◌, [], ◌++◌, true, false, filter, length, count_by, cond, IfOk, IfErr, IfSome, IfNone, IsTrue, MatchBool, None};
+ghost use Rattle.std.specs.Prelude.{◌≡◌, ◌≢◌, ℕ, ◌+◌, ◌*◌, ◌≤◌, ◌%◌, ◌==◌, ◌&&◌, not, [], ◌∷◌, ◌++◌, true, false, filter, length, count_by, cond, IfOk, IfErr, IfSome, IfNone, IsTrue, MatchBool, None, Err};
+ghost use Rattle.vox_geom.specs.Point.{point, plus};
 ghost use Rattle.vox_geom.specs.Space.{IsInSpace};
+ghost use Rattle.nano_spec.specs.declared.system.Bot.{Bot};
 ghost use Rattle.nano_spec.specs.Act.{acts, is_flip};
 ghost use Rattle.nano_spec.specs.Cutting.{AreCommands};
 ghost use Rattle.nano_spec.specs.Grounded.{FirstUngrounded};
@@ -11,19 +13,23 @@ ghost use Rattle.nano_spec.specs.Rules.{broken as broken_of};
 ghost use Rattle.nano_spec.specs.State.{is_high};
 ghost use Rattle.nano_spec.specs.Step.{after, flipped};
 ghost use Rattle.nano_spec.specs.Work.{WorkOfActs, volatile_total};
+ghost use Rattle.step_groups.specs.Judging.{edit_of};
 ghost use Rattle.support_forest.specs.Standing.{AreAdded, AreRemoved, IsCheap, MayAdd, MayRemove};
 ghost use Rattle.step_machine.specs.Edits.{edits_of, is_edit};
+ghost use Rattle.step_machine.specs.Settling.{IsSettled, IsUnsettled};
+ghost use Rattle.step_machine.specs.Undoing.{IsUndoneBy, matrix_before, without_filled};
 ghost use Rattle.system_state.specs.Turns.{AreTurns};
 ghost use Rattle.step_machine.specs.declared.TheConstants.{MOST_CHANGED};
 
 use crate::MOST_CHANGED;
 use crate::changes::list_changes;
-use nano_spec::{Command, Harmonics};
+use crate::machine::StepFault;
+use nano_spec::{Broken, Command, Harmonics, Rule};
 use std::alloc::Global;
 use std::sync::ledger::Ledger;
 use support_forest::Forest;
 use system_state::{System, Turns};
-use vox_geom::{Coord, Memory, Region, Steps};
+use vox_geom::{Coord, Memory, Near, Region, Steps};
 use vox_planes::{ChangeList, Planes};
 
 /// Lists all full voxels of a matrix.
@@ -134,16 +140,46 @@ fn list_edits<L: Ledger>(
     voided
 }
 
-/// The forest after the groups of a step: it loses what they void, and then gains what they fill. Memory may be refused
-/// only where some command fills or voids.
-pub(crate) fn refit<L: Ledger>(
+/// The forest after the groups of a step: it loses what they void, and then gains what they fill. Memory may be refused only
+/// where some command fills or voids.
+fn refit_cells<L: Ledger>(
+    system: &System,
+    commands: &[Command],
+    removed: &[Coord],
+    added: &[Coord],
+    forest: &mut Forest,
+    steps: &mut Steps<L>,
+) -> Result<(), Memory>
+    requires judged { (step : ℕ) × (broken_of system.now commands.now step ≡ None) }
+    requires removed { removed.now ≡ edits_of system.now commands.now true }
+    requires added { added.now ≡ edits_of system.now commands.now false }
+    requires stands { forest.old.spent ≡ false }
+    requires tied { forest.old.matrix ≡ system.now.matrix }
+    ensures value { IfOk result (λ _. forest.new.matrix ≡ (after system.now commands.now).matrix) }
+    ensures stands { IfOk result (λ _. forest.new.spent ≡ false) }
+    ensures edits { IfErr result (λ _. 1 ≤ count_by is_edit commands.now) }
+    ensures touches { IfOk result (λ _. (before n : ℕ) → steps.old ≤ before + volatile_total system.now.matrix (acts system.now.bots commands.now) → WorkOfActs system.now.matrix (acts system.now.bots commands.now) n → steps.new + 99 * volatile_total system.now.matrix (acts system.now.bots commands.now) ≤ before + 100 * n) }
+{
+    let _ = system.crew();
+    match remove(forest, removed, steps) {
+        Ok(()) => {}
+        Err(Memory) => return Err(Memory),
+    }
+    match add(forest, added, steps) {
+        Ok(()) => Ok(()),
+        Err(Memory) => Err(Memory),
+    }
+}
+
+/// The same, where these voxels are still to be listed: first those that are voided, as many as the answer says.
+fn refit<L: Ledger>(
     system: &System,
     commands: &[Command],
     turns: &Turns,
     list: &mut ChangeList,
     forest: &mut Forest,
     steps: &mut Steps<L>,
-) -> Result<(), Memory>
+) -> Result<usize, Memory>
     requires judged { (step : ℕ) × (broken_of system.now commands.now step ≡ None) }
     requires turns { AreTurns (acts system.now.bots commands.now) (leaders (acts system.now.bots commands.now)) turns.now }
     requires commands { AreCommands commands.now }
@@ -152,21 +188,173 @@ pub(crate) fn refit<L: Ledger>(
     requires tied { forest.old.matrix ≡ system.now.matrix }
     ensures value { IfOk result (λ _. forest.new.matrix ≡ (after system.now commands.now).matrix) }
     ensures stands { IfOk result (λ _. forest.new.spent ≡ false) }
+    ensures items { list.new.items ≡ edits_of system.now commands.now true ++ edits_of system.now commands.now false }
+    ensures voided { IfOk result (λ voided. voided ≡ length (edits_of system.now commands.now true)) }
     ensures edits { IfErr result (λ _. 1 ≤ count_by is_edit commands.now) }
     ensures room { MOST_CHANGED ≤ list.new.spare + length list.new.items }
     ensures touches { IfOk result (λ _. (n : ℕ) → WorkOfActs system.now.matrix (acts system.now.bots commands.now) n → steps.new + 99 * volatile_total system.now.matrix (acts system.now.bots commands.now) ≤ steps.old + 100 * n) }
 {
-    let _ = system.crew();
     let voided = list_edits(system, commands, turns, list, steps);
     let (removed, added) = list.as_slice().split_at(voided);
-    match remove(forest, removed, steps) {
-        Ok(()) => add(forest, added, steps),
+    match refit_cells(system, commands, removed, added, forest, steps) {
+        Ok(()) => Ok(voided),
         Err(Memory) => Err(Memory),
     }
 }
 
+/// What a cell is removed from that is filled, or else voided, and what it is added to: it changes where it was otherwise.
+fn parted(cell: &[Coord], full: bool, was: bool) -> (&[Coord], &[Coord])
+    ensures removed { result.0.now ≡ cond (not full && was) cell.now [] }
+    ensures added { result.1.now ≡ cond (full && not was) cell.now [] }
+{
+    let none = &cell[..0];
+    if full {
+        if was { (none, none) } else { (none, cell) }
+    } else if was {
+        (cell, none)
+    } else {
+        (none, none)
+    }
+}
+
+/// The forest after the only bot filled the voxel at the coordinate, or else voided it, and whether that was full.
+fn refit_one<L: Ledger>(
+    system: &System,
+    commands: &[Command],
+    d: Near,
+    at: Coord,
+    full: bool,
+    forest: &mut Forest,
+    steps: &mut Steps<L>,
+) -> Result<bool, Memory>
+    requires judged { (step : ℕ) × (broken_of system.now commands.now step ≡ None) }
+    requires one { length system.now.bots ≡ 1 }
+    requires command { commands.now ≡ edit_of full d ∷ [] }
+    requires named { (b : Bot) → system.now.bots ≡ b ∷ [] → point at ≡ plus (point b.pos) d }
+    requires within { IsInSpace system.now.matrix.resolution at }
+    requires stands { forest.old.spent ≡ false }
+    requires tied { forest.old.matrix ≡ system.now.matrix }
+    ensures value { IfOk result (λ _. forest.new.matrix ≡ (after system.now commands.now).matrix) }
+    ensures stands { IfOk result (λ _. forest.new.spent ≡ false) }
+    ensures was { IfOk result (λ was. was ≡ is_full system.now.matrix at) }
+    ensures touches { IfOk result (λ _. (n : ℕ) → WorkOfActs system.now.matrix (acts system.now.bots commands.now) n → steps.new + 99 * volatile_total system.now.matrix (acts system.now.bots commands.now) ≤ steps.old + 100 * n) }
+{
+    let _ = system.crew();
+    let was = system.matrix().full_at(at, steps);
+    let cell = [at];
+    let (removed, added) = parted(&cell, full, was);
+    match refit_cells(system, commands, removed, added, forest, steps) {
+        Ok(()) => Ok(was),
+        Err(Memory) => Err(Memory),
+    }
+}
+
+/// The forest before a step that is taken back: it loses what became full, and then gains what became void.
+pub(crate) fn refit_back<L: Ledger>(
+    forest: &mut Forest,
+    filled: &[Coord],
+    voided: &[Coord],
+    steps: &mut Steps<L>,
+) -> Result<(), Memory>
+    requires stands { forest.old.spent ≡ false }
+    requires filled { MayRemove forest.old.matrix filled.now }
+    requires voided { MayAdd (without_filled forest.old.matrix filled.now) voided.now }
+    ensures value { IfOk result (λ _. forest.new.matrix ≡ matrix_before forest.old.matrix filled.now voided.now) }
+    ensures stands { IfOk result (λ _. forest.new.spent ≡ false) }
+    ensures touches { IfOk result (λ _. IsUndoneBy forest.old.matrix filled.now voided.now steps.old steps.new) }
+{
+    match remove(forest, filled, steps) {
+        Ok(()) => {}
+        Err(Memory) => return Err(Memory),
+    }
+    match add(forest, voided, steps) {
+        Ok(()) => Ok(()),
+        Err(Memory) => Err(Memory),
+    }
+}
+
+/// What comes of a step that breaks no rule at its start, before its groups act: the forest after it, in which no voxel may
+/// float under Low, and a list of the voxels that change: first those that are voided, as many as the answer says, and then
+/// those that are filled.
+pub(crate) fn settle<L: Ledger>(
+    system: &System,
+    commands: &[Command],
+    step: u32,
+    turns: &Turns,
+    list: &mut ChangeList,
+    forest: &mut Forest,
+    steps: &mut Steps<L>,
+) -> Result<usize, StepFault>
+    requires judged { broken_of system.now commands.now step ≡ None }
+    requires turns { AreTurns (acts system.now.bots commands.now) (leaders (acts system.now.bots commands.now)) turns.now }
+    requires few { length commands.now ≤ length system.now.bots }
+    requires commands { AreCommands commands.now }
+    requires room { MOST_CHANGED ≤ list.old.spare + length list.old.items }
+    requires stands { forest.old.spent ≡ false }
+    requires tied { forest.old.matrix ≡ system.now.matrix }
+    ensures settled { IfOk result (λ _. IsSettled system.now commands.now step forest.new steps.old steps.new) }
+    ensures unsettled { IfErr result (λ fault. IsUnsettled system.now commands.now step fault steps.old steps.new) }
+    ensures memory { result ≡ Err StepFault.Memory → 1 ≤ count_by is_edit commands.now }
+    ensures items { list.new.items ≡ edits_of system.now commands.now true ++ edits_of system.now commands.now false }
+    ensures voided { IfOk result (λ voided. voided ≡ length (edits_of system.now commands.now true)) }
+    ensures room { MOST_CHANGED ≤ list.new.spare + length list.new.items }
+{
+    let voided = match refit(system, commands, turns, list, forest, steps) {
+        Ok(voided) => voided,
+        Err(Memory) => return Err(StepFault::Memory),
+    };
+    let harmonics = harmonics_after(system.harmonics(), commands);
+    match ungrounded(forest, harmonics, steps) {
+        None => Ok(voided),
+        Some(at) => Err(StepFault::Broken(Broken {
+            step,
+            bid: 0,
+            rule: Rule::Ungrounded,
+            at,
+        })),
+    }
+}
+
+/// The same for a step of the only bot that fills the voxel at the coordinate, or else voids it. The answer is whether that
+/// was full.
+pub(crate) fn settle_one<L: Ledger>(
+    system: &System,
+    commands: &[Command],
+    d: Near,
+    at: Coord,
+    full: bool,
+    step: u32,
+    forest: &mut Forest,
+    steps: &mut Steps<L>,
+) -> Result<bool, StepFault>
+    requires judged { broken_of system.now commands.now step ≡ None }
+    requires one { length system.now.bots ≡ 1 }
+    requires command { commands.now ≡ edit_of full d ∷ [] }
+    requires named { (b : Bot) → system.now.bots ≡ b ∷ [] → point at ≡ plus (point b.pos) d }
+    requires within { IsInSpace system.now.matrix.resolution at }
+    requires stands { forest.old.spent ≡ false }
+    requires tied { forest.old.matrix ≡ system.now.matrix }
+    ensures settled { IfOk result (λ _. IsSettled system.now commands.now step forest.new steps.old steps.new) }
+    ensures unsettled { IfErr result (λ fault. IsUnsettled system.now commands.now step fault steps.old steps.new) }
+    ensures was { IfOk result (λ was. was ≡ is_full system.now.matrix at) }
+{
+    let was = match refit_one(system, commands, d, at, full, forest, steps) {
+        Ok(was) => was,
+        Err(Memory) => return Err(StepFault::Memory),
+    };
+    match ungrounded(forest, system.harmonics(), steps) {
+        None => Ok(was),
+        Some(at) => Err(StepFault::Broken(Broken {
+            step,
+            bid: 0,
+            rule: Rule::Ungrounded,
+            at,
+        })),
+    }
+}
+
 /// The harmonics after a step: the others where the number of Flips is odd.
-pub(crate) fn harmonics_after(harmonics: Harmonics, commands: &[Command]) -> Harmonics
+fn harmonics_after(harmonics: Harmonics, commands: &[Command]) -> Harmonics
     ensures { result ≡ cond (count_by is_flip commands.now % 2 == 1) (flipped harmonics) harmonics }
 {
     let flips = commands.iter().filter(|command| is_flip(command)).count();
@@ -195,7 +383,7 @@ fn other(harmonics: Harmonics) -> Harmonics
 }
 
 /// The least full voxel that is not held up, under Low, where each has to be. Only where there is one are voxels read.
-pub(crate) fn ungrounded<L: Ledger>(
+fn ungrounded<L: Ledger>(
     forest: &Forest,
     harmonics: Harmonics,
     steps: &mut Steps<L>,

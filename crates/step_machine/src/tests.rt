@@ -3,6 +3,7 @@ ghost use Rattle.std.specs.Prelude.{◌≡◌, ◌<◌, ◌≤◌, false, length
 ghost use Rattle.nano_spec.specs.Act.{acts};
 ghost use Rattle.nano_spec.specs.Grounded.{FirstUngrounded};
 ghost use Rattle.nano_spec.specs.Serial.{leader_bids};
+ghost use Rattle.nano_spec.specs.State.{IsWellFormed};
 ghost use Rattle.vox_geom.specs.Space.{IsInSpace};
 
 use super::*;
@@ -379,5 +380,158 @@ fn orders<L: Ledger>(rt: &impl Abort, blank: Blank, alloc: Global) -> Result<(),
 #[test]
 fn both_orders_of_two_groups_end_in_one_state(rt: HostRuntime) -> Result<(), Fail> {
     orders::<Brand>(&rt, Blank::new(1), rt.alloc())?;
+    Ok(())
+}
+
+/// A machine over a ring of eight voxels round (2,1,2), with the posts that hold it up.
+fn ring<L: Ledger>(
+    rt: &impl Abort,
+    alloc: Global,
+    posts: &[Coord],
+    steps: &mut Steps<L>,
+) -> Result<Machine, Memory> {
+    let mut full = Vec::new(alloc);
+    for c in posts {
+        full.push(*c).map_err(|_| Memory)?;
+    }
+    for x in 1..4 {
+        for z in 1..4 {
+            if x != 2 || z != 2 {
+                full.push(Coord { x, y: 1, z }).map_err(|_| Memory)?;
+            }
+        }
+    }
+    let ring = source(rt, alloc, 5, &full, steps)?;
+    Machine::start(alloc, ring, Profile::full(), steps)
+}
+
+/// The levels of the ring: those of three voxels at one of its corners, and of the others.
+fn ring_levels<L: Ledger>(
+    rt: &impl Abort,
+    machine: &Machine,
+    corner: u32,
+    beside: u32,
+    steps: &mut Steps<L>,
+) {
+    let levels = [
+        (Coord { x: 1, y: 1, z: 1 }, corner),
+        (Coord { x: 1, y: 1, z: 2 }, beside),
+        (Coord { x: 2, y: 1, z: 1 }, beside),
+        (Coord { x: 1, y: 1, z: 3 }, 3),
+        (Coord { x: 2, y: 1, z: 3 }, 2),
+        (Coord { x: 3, y: 0, z: 3 }, 0),
+        (Coord { x: 3, y: 1, z: 1 }, 3),
+        (Coord { x: 3, y: 1, z: 2 }, 2),
+        (Coord { x: 3, y: 1, z: 3 }, 1),
+    ];
+    for (c, expected) in levels.iter() {
+        assert_eq!(rt; level(rt, machine, *c, steps), Some(*expected));
+    }
+}
+
+/// Of a ring on two posts the one is voided: the corner above it hangs then on the other. On that post alone a ring floats
+/// without it, and the machine is spent.
+fn rings<L: Ledger>(rt: &impl Abort, blank: Blank, alloc: Global) -> Result<(), Memory>
+    requires name { blank.name ≡ L.name }
+    requires parts { blank.parts ≡ L.parts }
+    requires some { 0 < L.parts }
+{
+    let mut steps: Steps<L> = Steps::new(blank);
+    let posts = [Coord { x: 1, y: 0, z: 1 }, Coord { x: 3, y: 0, z: 3 }];
+    let void = [Command::Void(near(rt, 1, 0, 1))];
+    let mut machine = ring(rt, alloc, &posts, &mut steps)?;
+    ring_levels(rt, &machine, 1, 2, &mut steps);
+    assert!(rt; step(rt, &mut machine, &void, &mut steps).is_ok());
+    ring_levels(rt, &machine, 5, 4, &mut steps);
+    assert_eq!(rt; level(rt, &machine, posts[0], &mut steps), None);
+    let mut machine = ring(rt, alloc, &posts[..1], &mut steps)?;
+    let broken = Broken {
+        step: 1,
+        bid: 0,
+        rule: Rule::Ungrounded,
+        at: Coord { x: 1, y: 1, z: 1 },
+    };
+    assert_eq!(rt;
+        step(rt, &mut machine, &void, &mut steps),
+        Err(StepFault::Broken(broken))
+    );
+    let wait = [Command::Wait];
+    assert_eq!(rt;
+        step(rt, &mut machine, &wait, &mut steps),
+        Err(StepFault::Spent)
+    );
+    Ok(())
+}
+
+#[test]
+fn a_ring_hangs_on_its_other_post_or_floats(rt: HostRuntime) -> Result<(), Fail> {
+    rings::<Brand>(&rt, Blank::new(1), rt.alloc())?;
+    Ok(())
+}
+
+/// A machine over an empty matrix.
+fn empty_machine<L: Ledger>(
+    rt: &impl Abort,
+    alloc: Global,
+    steps: &mut Steps<L>,
+) -> Result<Machine, Memory>
+    ensures { IfOk result (λ m. IsWellFormed m.state) }
+{
+    let empty = source(rt, alloc, 4, &[], steps)?;
+    let full = empty.full_at(Coord { x: 0, y: 0, z: 0 }, steps);
+    assert!(rt; !full);
+    Machine::start(alloc, empty, Profile::full(), steps)
+}
+
+/// The leaders of a step.
+fn leaders_of(machine: &Machine, commands: &[Command]) -> ArrayVec<u8, MOST_BOTS>
+    requires { length commands.now ≡ length machine.now.state.bots }
+    ensures { IsPermutation (leader_bids (acts machine.now.state.bots commands.now)) result.items }
+{
+    machine.leaders(commands)
+}
+
+/// A step of one bot that fills a voxel, and that is taken back.
+fn made_and_undone<L: Ledger>(
+    rt: &impl Abort,
+    machine: &mut Machine,
+    commands: &[Command],
+    steps: &mut Steps<L>,
+) -> Result<(), Memory>
+    requires { IsWellFormed machine.old.state }
+{
+    assert!(rt; machine.active() == 1);
+    assert!(rt; machine.steps_done() < 1000);
+    assert!(rt; commands.len() == 1);
+    let order = leaders_of(machine, commands);
+    match machine.step_noted(commands, order.as_slice(), steps) {
+        Err(_) => Err(Memory),
+        Ok((made, undo)) => {
+            assert_eq!(rt; made.energy, 224);
+            assert_eq!(rt; machine.matrix().count(steps), 1);
+            machine.undo(&undo, steps)
+        }
+    }
+}
+
+/// A bot fills a voxel, and the step is taken back.
+fn noted<L: Ledger>(rt: &impl Abort, blank: Blank, alloc: Global) -> Result<(), Memory>
+    requires name { blank.name ≡ L.name }
+    requires parts { blank.parts ≡ L.parts }
+    requires some { 0 < L.parts }
+{
+    let mut steps: Steps<L> = Steps::new(blank);
+    let mut machine = empty_machine(rt, alloc, &mut steps)?;
+    let fill = [Command::Fill(near(rt, 1, 0, 0))];
+    made_and_undone(rt, &mut machine, &fill, &mut steps)?;
+    assert_eq!(rt; machine.energy(), 0);
+    assert_eq!(rt; machine.steps_done(), 0);
+    assert_eq!(rt; machine.matrix().count(&mut steps), 0);
+    Ok(())
+}
+
+#[test]
+fn a_noted_step_is_taken_back(rt: HostRuntime) -> Result<(), Fail> {
+    noted::<Brand>(&rt, Blank::new(1), rt.alloc())?;
     Ok(())
 }

@@ -3,6 +3,7 @@ use Rattle.nano_spec.specs.Model.{volume}
 use Rattle.nano_spec.specs.Profile.{full_profile}
 use Rattle.run_progress.specs.Progress.{begun}
 use Rattle.step_machine.proofs.Judging.{judged_within, judging_begun, judging_on}
+use Rattle.step_machine.proofs.Weighing.{run_work}
 use Rattle.step_machine.proofs.runner.judge.Goals as goal
 
 pub loop-command-init : goal.loop-command-init
@@ -16,9 +17,10 @@ loop-command-preserved g c =
     (record { untouched = c.push.ensures.untouched; paid = c.in_ok-push.ensures.touches })
 
 pub returns-clause-touches : goal.returns-clause-touches
-returns-clause-touches g c = λ n work.
-    let within = judged_within c.args.source full_profile c.args.commands.now c.loop-command.command-index c.loop-command.runner c.start.new.steps c.loop-command.steps n c.loop-command.invariant work in
+returns-clause-touches g c =
+    let work = run_work c.args.source c.args.commands.now full_profile in
+    let within = judged_within c.args.source full_profile c.args.commands.now c.loop-command.command-index c.loop-command.runner c.start.new.steps c.loop-command.steps work.0 c.loop-command.invariant work.1 in
     let first = c.in_ok-runner.ensures.touches in
     let last = c.finish.ensures.touches in
     let same : volume c.args.source.resolution ≡ volume c.args.target.now.resolution = ap volume c.requires.resolution in
-    omega (arith, within, first, last, same)
+    (work.0, work.1, omega (arith, within, first, last, same))

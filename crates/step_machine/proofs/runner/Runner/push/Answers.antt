@@ -1,22 +1,41 @@
-use Rattle.std.proofs.Common.{◌∙◌, sym, ap, length}
-use Rattle.step_machine.specs.Course.{mark_by}
-use Rattle.step_machine.proofs.Running.{as_many, halted_mark, made, running_mark, some_lack}
+use Rattle.std.proofs.Common.{◌∙◌, ◌+◌, ◌++◌, [], ◌∷◌, refl, ap}
+use Rattle.step_machine.specs.Course.{mark_by, searched_by}
+use Rattle.step_machine.proofs.Running.{halted_mark, made, running_mark}
+use Rattle.step_machine.proofs.Weighing.{untouched_within}
 use Rattle.step_machine.proofs.runner.Runner.push.Goals as goal
+
+pub returns-in-Halted-clause-touches : goal.returns-in-Halted-clause-touches
+returns-in-Halted-clause-touches g c =
+    let p = c.args.self.now.progress in
+    untouched_within p.state (p.pending ++ c.args.command ∷ []) (p.steps + 1) 0 c.args.steps.now c.args.steps.now refl
+
+pub returns-in-Refused-clause-touches : goal.returns-in-Refused-clause-touches
+returns-in-Refused-clause-touches g c =
+    let p = c.args.self.now.progress in
+    untouched_within p.state (p.pending ++ c.args.command ∷ []) (p.steps + 1) (searched_by p.mark p.state.matrix) c.args.steps.now c.args.steps.now refl
+
+pub returns-in-Followed-clause-touches : goal.returns-in-Followed-clause-touches
+returns-in-Followed-clause-touches g c =
+    let p = c.args.self.now.progress in
+    untouched_within p.state (p.pending ++ c.args.command ∷ []) (p.steps + 1) (searched_by p.mark p.state.matrix) c.args.steps.now c.args.steps.now refl
+
+pub returns-in-None-clause-touches : goal.returns-in-None-clause-touches
+returns-in-None-clause-touches g c =
+    let p = c.args.self.now.progress in
+    untouched_within p.state (p.pending ++ c.args.command ∷ []) (p.steps + 1) (searched_by (mark_by c.self.inside.mark) p.state.matrix) c.args.steps.now c.take.new.steps c.in-None.ensures.untouched
 
 pub returns-then-ok-clause-progress : goal.returns-then-ok-clause-progress
 returns-then-ok-clause-progress g c =
-    let lack = some_lack c.self.inside.machine c.self.inside.pending c.self.inside.mark c.args.self.now c.self.view_is c.in-Running.is c.requires.stands c.self.invariant in
-    let now = c.as_slice-2.ensures ∙ c.push.ensures in
-    let all = as_many c.self.inside.pending c.as_slice.result.now c.as_slice-2.result.now c.args.command (length c.self.inside.machine.state.bots) c.active.result c.from.result now (c.as_slice.ensures ∙ sym c.as_slice-2.ensures) lack c.active.ensures c.from.ensures c.if-as_slice-from.false in
+    let stepped = rw c.in-Some-Ok.field-0-is at c.in-Some-Ok.ensures.stepped in
+    let cleared = rw c.in-Some-Ok.field-0-is at c.in-Some-Ok.ensures.cleared in
     made c.self.inside.machine c.self.inside.pending c.self.inside.mark c.args.self.now c.self.view_is c.in-Running.is
-    c.args.command c.as_slice-2.result.now c.step.new.self.state _ now all c.in-Ok.ensures.goes
-    (λ i. record { state = c.step.new.self.state; steps = c.in-Ok.ensures.counted i; pending = c.clear.ensures i; mark = halted_mark c.step.new.self.state.bots c.in-Ok.ok.halted c.in-Ok.ensures.halted c.if-ok.true i })
+    c.args.command c.take.new.machine.state _ c.in-Some-Ok.ensures.full stepped.goes
+    (λ i. record { state = c.take.new.machine.state; steps = stepped.counted i; pending = cleared i; mark = halted_mark c.take.new.machine.state.bots c.in-Some-Ok.ok.halted stepped.halted c.if-ok.true i })
 
 pub returns-else-ok-clause-progress : goal.returns-else-ok-clause-progress
 returns-else-ok-clause-progress g c =
-    let lack = some_lack c.self.inside.machine c.self.inside.pending c.self.inside.mark c.args.self.now c.self.view_is c.in-Running.is c.requires.stands c.self.invariant in
-    let now = c.as_slice-2.ensures ∙ c.push.ensures in
-    let all = as_many c.self.inside.pending c.as_slice.result.now c.as_slice-2.result.now c.args.command (length c.self.inside.machine.state.bots) c.active.result c.from.result now (c.as_slice.ensures ∙ sym c.as_slice-2.ensures) lack c.active.ensures c.from.ensures c.if-as_slice-from.false in
+    let stepped = rw c.in-Some-Ok.field-0-is at c.in-Some-Ok.ensures.stepped in
+    let cleared = rw c.in-Some-Ok.field-0-is at c.in-Some-Ok.ensures.cleared in
     made c.self.inside.machine c.self.inside.pending c.self.inside.mark c.args.self.now c.self.view_is c.in-Running.is
-    c.args.command c.as_slice-2.result.now c.step.new.self.state _ now all c.in-Ok.ensures.goes
-    (λ i. record { state = c.step.new.self.state; steps = c.in-Ok.ensures.counted i; pending = c.clear.ensures i; mark = (ap mark_by c.in-Running.is ∙ running_mark c.step.new.self.state.bots c.in-Ok.ok.halted c.in-Ok.ensures.halted c.if-ok.false) i })
+    c.args.command c.take.new.machine.state _ c.in-Some-Ok.ensures.full stepped.goes
+    (λ i. record { state = c.take.new.machine.state; steps = stepped.counted i; pending = cleared i; mark = (ap mark_by c.in-Running.is ∙ running_mark c.take.new.machine.state.bots c.in-Some-Ok.ok.halted stepped.halted c.if-ok.false) i })

@@ -1,0 +1,111 @@
+-- The step of the only bot by filling or voiding a voxel: which cells change.
+use Rattle.std.proofs.Common.{◌≡◌, ℕ, ◌+◌, ◌≤◌, refl, sym, ◌∙◌, ap, arith, List, [], ◌∷◌, Bool, true, false, ◌&&◌, ◌||◌, not, cond, length, append-nil, filter}
+use Rattle.std.specs.Prelude.{None, IsTrue, count_by}
+use Rattle.std.proofs.lemmas.List.Sums.{length-filter, sum_by-cons}
+use Rattle.vox_geom.specs.declared.coordinate.Coord.{Coord}
+use Rattle.vox_geom.specs.declared.difference.Diff.{Diff}
+use Rattle.vox_geom.specs.Point.{point, plus, same_point}
+use Rattle.vox_geom.specs.Region.{is_within, just}
+use Rattle.vox_geom.specs.Space.{IsInSpace}
+use Rattle.nano_spec.specs.declared.commands.Command.{Command}
+use Rattle.nano_spec.specs.declared.system.Bot.{Bot}
+use Rattle.nano_spec.specs.Act.{acts}
+use Rattle.nano_spec.specs.Group.{leaders}
+use Rattle.nano_spec.specs.Matrix.{Matrix, all_of, is_full}
+use Rattle.nano_spec.specs.Rules.{broken}
+use Rattle.nano_spec.specs.State.{IsReady, State}
+use Rattle.nano_spec.specs.Step.{after, harmonics_after}
+use Rattle.nano_spec.specs.Work.{volatile_total}
+use Rattle.step_groups.specs.Judging.{edit_of}
+use Rattle.step_groups.proofs.Alone.{single_leaders}
+use Rattle.vox_planes.proofs.Voxels.{same_point-is, same_point-refl}
+use Rattle.system_state.specs.Effects.{act}
+use Rattle.system_state.proofs.OnlyBot.{within_just}
+use Rattle.system_state.proofs.Single.{only_one}
+use Rattle.step_machine.specs.Edits.{cells_of, cells_of_all, edit_count, edits_of, edits_total}
+use Rattle.step_machine.proofs.Still.{only_bot}
+use Rattle.step_machine.proofs.Working.{edits_are_volatile}
+
+or_false : (b : Bool) → (b || false) ≡ b
+or_false true = refl
+or_false false = refl
+
+and_true : (a b : Bool) → b ≡ true → (a && b) ≡ a
+and_true true b e = e
+and_true false b e = refl
+
+and_false : (a b : Bool) → (IsTrue b → ⊥) → (a && b) ≡ false
+and_false true true h = absurd (h refl)
+and_false true false h = refl
+and_false false b h = refl
+
+none_pass : (test : Coord → Bool) (xs : List Coord) → filter (λ c. test c && false) xs ≡ []
+none_pass test [] = refl
+none_pass test (x ∷ xs) = rw (and_false (test x) false (λ e. cc)) (none_pass test xs)
+
+-- the cells of a step are those of the only bot
+one_edit : (s : State) (b : Bot) (k : Command) (full : Bool) → s.bots ≡ b ∷ [] → edits_of s (k ∷ []) full ≡ cells_of s.matrix full (act b k)
+one_edit s b k full only =
+    ap (λ (bots : List Bot). cells_of_all s.matrix full (leaders (acts bots (k ∷ [])))) only
+    ∙ (ap (cells_of_all s.matrix full) (single_leaders b k) ∙ append-nil (cells_of s.matrix full (act b k)))
+
+module _ (m : Matrix) (b : Bot) (d : Diff) (at : Coord) (named : point at ≡ plus (point b.pos) d) (stays : IsInSpace m.resolution at) where
+  here : (c : Coord) → (is_within (just (plus (point b.pos) d)) (point c) || false) ≡ same_point (point c) (point at)
+  here c = or_false (is_within (just (plus (point b.pos) d)) (point c)) ∙ (within_just (plus (point b.pos) d) (point c) ∙ ap (same_point (point c)) (sym named))
+
+  cell_by : (test : Coord → Bool) → filter (λ c. test c && (is_within (just (plus (point b.pos) d)) (point c) || false)) (all_of m) ≡ cond (test at) (at ∷ []) []
+  cell_by test =
+      ap (λ (f : Coord → Bool). filter (λ c. test c && f c) (all_of m)) (λ i c. here c i)
+      ∙ (only_one m.resolution (λ c. test c && same_point (point c) (point at)) at stays (λ c ne. and_false (test c) (same_point (point c) (point at)) (λ h. ne (same_point-is c at h)))
+      ∙ ap (λ t. cond t (at ∷ []) []) (and_true (test at) (same_point (point at) (point at)) (same_point-refl at)))
+
+  cell_there : filter (λ c. is_within (just (plus (point b.pos) d)) (point c) || false) (all_of m) ≡ at ∷ []
+  cell_there = cell_by (λ c. true)
+
+  removed : (full : Bool) → cells_of m true (act b (edit_of full d)) ≡ cond (not full && is_full m at) (at ∷ []) []
+  removed true = none_pass (is_full m) (all_of m)
+  removed false = cell_by (is_full m)
+
+  added : (full : Bool) → cells_of m false (act b (edit_of full d)) ≡ cond (full && not (is_full m at)) (at ∷ []) []
+  added true = cell_by (λ c. not (is_full m c))
+  added false = none_pass (λ c. not (is_full m c)) (all_of m)
+
+  counted_there : count_by (λ c. is_within (just (plus (point b.pos) d)) (point c) || false) (all_of m) ≡ 1
+  counted_there = sym (length-filter (λ c. is_within (just (plus (point b.pos) d)) (point c) || false) (all_of m)) ∙ ap length cell_there
+
+  one_counted : (full : Bool) → 1 ≤ edit_count m true (act b (edit_of full d)) + edit_count m false (act b (edit_of full d))
+  one_counted true = let e = counted_there in omega (arith, e)
+  one_counted false = let e = counted_there in omega (arith, e)
+
+module _ (s : State) (d : Diff) (at : Coord) (full : Bool) (commands : List Command) (one : length s.bots ≡ 1) (command : commands ≡ edit_of full d ∷ []) (named : (b : Bot) → s.bots ≡ b ∷ [] → point at ≡ plus (point b.pos) d) (stays : IsInSpace s.matrix.resolution at) where
+  pub removed_are : (was : Bool) (cell now : List Coord) → was ≡ is_full s.matrix at → cell ≡ at ∷ [] → now ≡ cond (not full && was) cell [] → now ≡ edits_of s commands true
+  removed_are was cell now e f g =
+      let o = only_bot s.bots one in
+      g ∙ ((λ i. cond (not full && e i) (f i) []) ∙ (sym (removed s.matrix o.0 d at (named o.0 o.1) stays full) ∙ (sym (one_edit s o.0 (edit_of full d) true o.1) ∙ ap (λ ks. edits_of s ks true) (sym command))))
+
+  pub added_are : (was : Bool) (cell now : List Coord) → was ≡ is_full s.matrix at → cell ≡ at ∷ [] → now ≡ cond (full && not was) cell [] → now ≡ edits_of s commands false
+  added_are was cell now e f g =
+      let o = only_bot s.bots one in
+      g ∙ ((λ i. cond (full && not (e i)) (f i) []) ∙ (sym (added s.matrix o.0 d at (named o.0 o.1) stays full) ∙ (sym (one_edit s o.0 (edit_of full d) false o.1) ∙ ap (λ ks. edits_of s ks false) (sym command))))
+
+  pub harmonics_stay : s.harmonics ≡ (after s commands).harmonics
+  harmonics_stay =
+      let o = only_bot s.bots one in
+      by full ∙ (ap (λ (bots : List Bot). harmonics_after s.harmonics (acts bots (edit_of full d ∷ []))) (sym o.1) ∙ ap (λ ks. (after s ks).harmonics) (sym command))
+    where
+      by : (f : Bool) → s.harmonics ≡ harmonics_after s.harmonics (acts ((only_bot s.bots one).0 ∷ []) (edit_of f d ∷ []))
+      by true = refl
+      by false = refl
+
+  -- the voxel is volatile
+  pub one_volatile : (step : ℕ) → IsReady s → broken s commands step ≡ None → 1 ≤ volatile_total s.matrix (acts s.bots commands)
+  one_volatile step ready keeps =
+      let o = only_bot s.bots one in
+      let v = edits_are_volatile s commands step ready keeps in
+      let leads : leaders (acts s.bots commands) ≡ act o.0 (edit_of full d) ∷ [] = (λ i. leaders (acts (o.1 i) (command i))) ∙ single_leaders o.0 (edit_of full d) in
+      let t : edits_total s.matrix true (leaders (acts s.bots commands)) ≡ edits_total s.matrix true (act o.0 (edit_of full d) ∷ []) = ap (edits_total s.matrix true) leads in
+      let f : edits_total s.matrix false (leaders (acts s.bots commands)) ≡ edits_total s.matrix false (act o.0 (edit_of full d) ∷ []) = ap (edits_total s.matrix false) leads in
+      let x = sum_by-cons (edit_count s.matrix true) (act o.0 (edit_of full d)) [] in
+      let y = sum_by-cons (edit_count s.matrix false) (act o.0 (edit_of full d)) [] in
+      let n = one_counted s.matrix o.0 d at (named o.0 o.1) stays full in
+      omega (arith, v, t, f, x, y, n)

@@ -1,0 +1,25 @@
+use Rattle.std.proofs.Common.{sym, ◌∙◌, ap, arith, subst, true}
+use Rattle.nano_spec.specs.Matrix.{Matrix}
+use Rattle.nano_spec.specs.Work.{Levels}
+use Rattle.support_forest.specs.Standing.{MayAdd}
+use Rattle.system_state.specs.Painting.{with_cells}
+use Rattle.step_machine.proofs.Taking.{added_is, removed_is}
+use Rattle.step_machine.proofs.support.refit_back.Goals as goal
+
+pub add-requires-clause-cells : goal.add-requires-clause-cells
+add-requires-clause-cells g c =
+    subst (λ (m : Matrix). MayAdd m c.args.voided.now) (sym (removed_is c.args.forest.now.matrix c.remove.new.forest.matrix c.args.filled.now c.in-Ok.ensures.value)) c.requires.voided
+
+pub returns-in-Ok-add-clause-value : goal.returns-in-Ok-add-clause-value
+returns-in-Ok-add-clause-value g c =
+    added_is c.remove.new.forest.matrix c.add.new.forest.matrix c.args.voided.now c.in-Ok-add.ensures.value
+    ∙ ap (λ (m : Matrix). with_cells m c.args.voided.now true) (removed_is c.args.forest.now.matrix c.remove.new.forest.matrix c.args.filled.now c.in-Ok.ensures.value)
+
+pub returns-in-Ok-add-clause-touches : goal.returns-in-Ok-add-clause-touches
+returns-in-Ok-add-clause-touches g c = λ first middle last f m l.
+    let without = removed_is c.args.forest.now.matrix c.remove.new.forest.matrix c.args.filled.now c.in-Ok.ensures.value in
+    let back = added_is c.remove.new.forest.matrix c.add.new.forest.matrix c.args.voided.now c.in-Ok-add.ensures.value ∙ ap (λ (n : Matrix). with_cells n c.args.voided.now true) without in
+    let between = subst (λ (n : Matrix). Levels n middle) (sym without) m in
+    let lost = c.in-Ok.ensures.touches first middle f between in
+    let won = c.in-Ok-add.ensures.touches middle last between (subst (λ (n : Matrix). Levels n last) (sym back) l) in
+    omega (arith, lost, won)

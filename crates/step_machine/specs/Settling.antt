@@ -1,0 +1,38 @@
+-- What comes of a step that breaks no rule at its start, before its groups act.
+use Rattle.std.specs.Prelude.{◌≡◌, ℕ, ◌+◌, ◌*◌, ◌≤◌, List, false}
+use Rattle.nano_spec.specs.declared.commands.Command.{Command}
+use Rattle.nano_spec.specs.declared.outcomes.Broken.{Broken}
+use Rattle.nano_spec.specs.declared.outcomes.Rule.TheVariants.{Ungrounded}
+use Rattle.nano_spec.specs.Act.{acts}
+use Rattle.nano_spec.specs.Model.{volume}
+use Rattle.nano_spec.specs.Next.{Breaks, Goes, Next}
+use Rattle.nano_spec.specs.State.{State}
+use Rattle.nano_spec.specs.Step.{after}
+use Rattle.nano_spec.specs.Work.{WorkOfActs, volatile_total}
+use Rattle.support_forest.specs.Standing.{Standing}
+use Rattle.step_machine.specs.declared.machine.StepFault.{StepFault}
+use Rattle.step_machine.specs.declared.machine.StepFault.TheVariants as fault
+
+-- each touch is paid for by a hundredth of the step's work, in which each volatile coordinate still leaves 99
+abbrev pub IsPaidBy : State → List Command → ℕ → ℕ → Type 0
+IsPaidBy s commands began ended =
+    (n : ℕ) → WorkOfActs s.matrix (acts s.bots commands) n → ended + 99 * volatile_total s.matrix (acts s.bots commands) ≤ began + 100 * n
+
+-- the step goes to its state, and the forest is that of this state
+pub record IsSettled (s : State) (commands : List Command) (step : ℕ) (forest : Standing) (began ended : ℕ) : Type 0 where
+  pub goes : Next s commands step (Goes (after s commands))
+  pub tied : forest.matrix ≡ (after s commands).matrix
+  pub stands : forest.spent ≡ false
+  pub touches : IsPaidBy s commands began ended
+
+-- the step breaks the rule of grounding
+pub record IsFloating (s : State) (commands : List Command) (step : ℕ) (b : Broken) (began ended : ℕ) : Type 0 where
+  pub breaks : Next s commands step (Breaks b)
+  pub rule : b.rule ≡ Ungrounded
+  pub touches : IsPaidBy s commands (began + volume s.matrix.resolution) ended
+
+-- the step is not made: it breaks the rule of grounding, or memory was refused
+abbrev pub IsUnsettled : State → List Command → ℕ → StepFault → ℕ → ℕ → Type 0
+IsUnsettled s commands step (fault.Broken b) began ended = IsFloating s commands step b began ended
+IsUnsettled s commands step fault.Memory began ended = Unit {0}
+IsUnsettled s commands step fault.Spent began ended = ⊥

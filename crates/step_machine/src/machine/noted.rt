@@ -1,0 +1,100 @@
+//! Steps that are noted, and that are taken back.
+ghost use Rattle.std.specs.Prelude.{◌≡◌, ◌<◌, ◌≤◌, false, true, length, IfOk, IfErr, IsPermutation, Some};
+ghost use Rattle.nano_spec.specs.Act.{acts};
+ghost use Rattle.nano_spec.specs.Serial.{leader_bids, serial};
+ghost use Rattle.nano_spec.specs.State.{IsWellFormed};
+ghost use Rattle.step_machine.specs.Stepped.{Stepped};
+ghost use Rattle.step_machine.specs.Undoing.{HaveChanged, IsUndoneBy, MayUndo, state_before, without_note};
+
+use super::{Machine, StepFault, StepOk, know_step, made};
+use crate::order::take_turns;
+use crate::support::refit_back;
+use crate::undo::{Undo, settle_noted};
+use nano_spec::Command;
+use std::sync::ledger::Ledger;
+use step_order::every_order;
+use vox_geom::{Memory, Steps};
+
+impl Machine {
+    /// As [`Machine::step_in_order`], with a note by which the step can be taken back. Memory may be refused to every step.
+    pub fn step_noted<L: Ledger>(
+        &mut self,
+        commands: &[Command],
+        order: &[u8],
+        steps: &mut Steps<L>,
+    ) -> Result<(StepOk, Undo), StepFault>
+        requires some { 1 ≤ length self.old.state.bots }
+        requires commands { length commands.now ≡ length self.old.state.bots }
+        requires order { IsPermutation (leader_bids (acts self.old.state.bots commands.now)) order.now }
+        requires steps { self.old.steps < 1073741824 }
+        ensures stepped { Stepped self.old self.new commands.now (without_note result) steps.old steps.new }
+        ensures serial { IfOk result (λ _. serial self.old.state commands.now order.now ≡ Some self.new.state) }
+        ensures voxels { IfOk result (λ made. HaveChanged self.new.state.matrix made.1) }
+        ensures before { IfOk result (λ made. state_before self.new.state made.1 ≡ self.old.state) }
+        ensures counted { IfOk result (λ made. made.1.steps ≡ self.old.steps) }
+        ensures undo { IfOk result (λ made. IsWellFormed self.old.state → MayUndo self.new.state made.1) }
+    {
+        every_order();
+        if self.spent {
+            return Err(StepFault::Spent);
+        }
+        let step = self.steps + 1;
+        let _ = self.system.crew();
+        know_step(&self.system, commands);
+        if let Some(broken) = self.system.judge(commands, step, &mut self.turns, steps) {
+            return Err(StepFault::Broken(broken));
+        }
+        let undo = match settle_noted(
+            self.alloc,
+            &self.system,
+            commands,
+            step,
+            &self.turns,
+            &mut self.changed,
+            &mut self.forest,
+            steps,
+        ) {
+            Ok(undo) => undo,
+            Err(fault) => {
+                self.spent = true;
+                return Err(fault);
+            }
+        };
+        take_turns(
+            &mut self.system,
+            commands,
+            &mut self.turns,
+            Some(order),
+            steps,
+        );
+        self.steps = step;
+        Ok((made(&self.system), undo))
+    }
+
+    /// Takes the step of a note back: the machine is in the state that the note tells. Memory spends the machine.
+    pub fn undo<L: Ledger>(&mut self, undo: &Undo, steps: &mut Steps<L>) -> Result<(), Memory>
+        requires stands { self.old.spent ≡ false }
+        requires may { MayUndo self.old.state undo.now }
+        ensures value { IfOk result (λ _. self.new ≡ record { state = state_before self.old.state undo.now; steps = undo.now.steps; spent = false }) }
+        ensures memory { IfErr result (λ _. self.new ≡ record self.old { spent = true }) }
+        ensures touches { IfOk result (λ _. IsUndoneBy self.old.state.matrix undo.now.filled.items undo.now.voided.items steps.old steps.new) }
+    {
+        let filled = undo.filled.as_slice();
+        let voided = undo.voided.as_slice();
+        let _ = self.system.matrix();
+        match refit_back(&mut self.forest, filled, voided, steps) {
+            Ok(()) => {}
+            Err(Memory) => {
+                self.spent = true;
+                return Err(Memory);
+            }
+        }
+        self.system.set_voxels(filled, false);
+        self.system.set_voxels(voided, true);
+        self.system.set_crew(undo.crew.copy());
+        self.system.set_harmonics(undo.harmonics);
+        self.system.set_energy(undo.energy);
+        self.steps = undo.steps;
+        Ok(())
+    }
+}

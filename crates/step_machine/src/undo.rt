@@ -1,0 +1,108 @@
+//! Notes of steps, by which they are taken back.
+ghost use Rattle.std.specs.Prelude.{◌≡◌, ◌+◌, ◌≤◌, false, length, take, drop, IfOk, IfErr, None};
+ghost use Rattle.nano_spec.specs.Act.{acts};
+ghost use Rattle.nano_spec.specs.Cutting.{AreCommands};
+ghost use Rattle.nano_spec.specs.Group.{leaders};
+ghost use Rattle.nano_spec.specs.Rules.{broken as broken_of};
+ghost use Rattle.system_state.specs.Turns.{AreTurns};
+ghost use Rattle.step_machine.specs.Settling.{IsSettled, IsUnsettled};
+ghost use Rattle.step_machine.specs.Undoing.{IsNote};
+ghost use Rattle.step_machine.specs.declared.TheConstants.{MOST_CHANGED};
+
+use crate::MOST_CHANGED;
+use crate::machine::StepFault;
+use crate::support::settle;
+use bot_crew::Crew;
+use nano_spec::{Command, Harmonics};
+use std::alloc::Global;
+use std::sync::ledger::Ledger;
+use support_forest::Forest;
+use system_state::{System, Turns};
+use vox_geom::{Coord, Memory, Steps};
+use vox_planes::ChangeList;
+
+/// The note of a step: what there was before it, and the voxels that became full and void.
+#[derive(Drop)]
+pub struct Undo {
+    pub crew: Crew,
+    pub harmonics: Harmonics,
+    pub energy: i64,
+    pub steps: u32,
+    pub filled: ChangeList,
+    pub voided: ChangeList,
+}
+
+/// A list of the same coordinates.
+fn list_of(alloc: Global, cells: &[Coord]) -> Result<ChangeList, Memory>
+    requires { length cells.now ≤ 64000000 }
+    ensures { IfOk result (λ l. l.items ≡ cells.now) }
+{
+    let mut list = ChangeList::with_room(alloc, cells.len() as u32)?;
+    for c in cells {
+        list.push(*c);
+    }
+    Ok(list)
+}
+
+/// The note of a step of a system that changes these voxels: first those that it voids, as many as is said, and then those
+/// that it fills.
+fn note(
+    alloc: Global,
+    system: &System,
+    steps_done: u32,
+    changed: &[Coord],
+    voided: usize,
+) -> Result<Undo, Memory>
+    requires voided { voided ≤ length changed.now }
+    requires few { length changed.now ≤ 64000000 }
+    ensures crew { IfOk result (λ undo. undo.crew ≡ system.now.bots) }
+    ensures harmonics { IfOk result (λ undo. undo.harmonics ≡ system.now.harmonics) }
+    ensures energy { IfOk result (λ undo. undo.energy ≡ system.now.energy) }
+    ensures steps { IfOk result (λ undo. undo.steps ≡ steps_done) }
+    ensures voids { IfOk result (λ undo. undo.voided.items ≡ take voided changed.now) }
+    ensures fills { IfOk result (λ undo. undo.filled.items ≡ drop voided changed.now) }
+{
+    let (voided, filled) = changed.split_at(voided);
+    let voided = list_of(alloc, voided)?;
+    let filled = list_of(alloc, filled)?;
+    Ok(Undo {
+        crew: system.crew().copy(),
+        harmonics: system.harmonics(),
+        energy: system.energy(),
+        steps: steps_done,
+        filled,
+        voided,
+    })
+}
+
+/// As [`settle`], with the note of the step. Memory may be refused to every step.
+pub(crate) fn settle_noted<L: Ledger>(
+    alloc: Global,
+    system: &System,
+    commands: &[Command],
+    step: u32,
+    turns: &Turns,
+    list: &mut ChangeList,
+    forest: &mut Forest,
+    steps: &mut Steps<L>,
+) -> Result<Undo, StepFault>
+    requires step { 1 ≤ step }
+    requires judged { broken_of system.now commands.now step ≡ None }
+    requires turns { AreTurns (acts system.now.bots commands.now) (leaders (acts system.now.bots commands.now)) turns.now }
+    requires few { length commands.now ≤ length system.now.bots }
+    requires commands { AreCommands commands.now }
+    requires room { MOST_CHANGED ≤ list.old.spare + length list.old.items }
+    requires stands { forest.old.spent ≡ false }
+    requires tied { forest.old.matrix ≡ system.now.matrix }
+    ensures settled { IfOk result (λ _. IsSettled system.now commands.now step forest.new steps.old steps.new) }
+    ensures unsettled { IfErr result (λ fault. IsUnsettled system.now commands.now step fault steps.old steps.new) }
+    ensures note { IfOk result (λ undo. IsNote system.now commands.now step undo) }
+    ensures room { MOST_CHANGED ≤ list.new.spare + length list.new.items }
+{
+    let _ = (system.crew().count(), system.matrix().resolution());
+    let voided = settle(system, commands, step, turns, list, forest, steps)?;
+    match note(alloc, system, step - 1, list.as_slice(), voided) {
+        Ok(undo) => Ok(undo),
+        Err(Memory) => Err(StepFault::Memory),
+    }
+}
