@@ -1,0 +1,177 @@
+-- What the parts of a line say, by its word.
+use Rattle.std.proofs.Common.{◌≡◌, ◌<◌, ◌≤◌, ◌∙◌, ◌+◌, ℕ, zero, suc, Bool, true, false, cond, not, List, [], ◌∷◌, Option, Some, None, codes, decimal, find, refl, arith, sym, ap, subst, nat_lt}
+use Rattle.std.specs.Prelude.{◌&&◌, ◌||◌, ◌==◌, MatchBool, MatchOption, Result, Ok, Err, ⊤}
+use Rattle.std.specs.List.{list_any, onto_first, slice_split}
+use Rattle.std.specs.Str.{bytes_eq}
+use Rattle.std.proofs.lemmas.Bool.Decides.{nat_tests}
+use Rattle.std.proofs.lemmas.Slice.Eq.{bytes_eq-Decides}
+use Rattle.vox_geom.specs.declared.coordinate.Coord.{Coord}
+use Rattle.nano_spec.specs.Line.{Fault, NotAscii, UnknownWord, Shape, Range}
+use Rattle.trace_text.specs.declared.fault.TextFault.{TextFault}
+use Rattle.trace_text.specs.declared.fault.TextFault.TheVariants as refusal
+use Rattle.step_debugger.specs.Session as session
+use Rattle.debug_script.specs.declared.line.ScriptLine.{ScriptLine}
+use Rattle.debug_script.specs.declared.line.ScriptLine.TheVariants as code
+use Rattle.debug_script.specs.declared.word.Word.{Word}
+use Rattle.debug_script.specs.declared.word.Word.TheVariants as word
+use Rattle.debug_script.specs.Calls.{IsReadBy, all_words, letters}
+use Rattle.debug_script.specs.Script.{Back, Bots, Form, Group, HasFewDigits, IsForm, PartsSay, Step, Voxel, has_unknown_word, parts, parts_of, said}
+
+-- ---- a line has a part
+
+abbrev IsSome : List (List ℕ) → Type 0
+IsSome [] = ⊥
+IsSome (x ∷ xs) = ⊤
+
+some : (xs : List ℕ) → IsSome (slice_split (λ b. b == 32) xs)
+some [] = tt
+some (x ∷ xs) = two (x == 32) (slice_split (λ b. b == 32) xs) (some xs)
+  where
+    two : (t : Bool) (ys : List (List ℕ)) → IsSome ys → IsSome (cond t ([] ∷ ys) (onto_first x ys))
+    two true ys h = tt
+    two false [] h = absurd h
+    two false (y ∷ ys) h = tt
+
+pub parts_some : (xs : List ℕ) → parts xs ≡ [] → ⊥
+parts_some xs e = subst IsSome e (some xs)
+
+-- a line with a space has more than one part
+pub more_parts : (line part rest : List ℕ) (n : ℕ) → parts line ≡ part ∷ parts rest → parts line ≡ decimal n ∷ [] → ⊥
+more_parts line part rest n e f = parts_some rest (by (parts rest) (sym e ∙ f))
+  where
+    by : (ps : List (List ℕ)) → part ∷ ps ≡ decimal n ∷ [] → ps ≡ []
+    by ps g = cc
+
+-- ---- the words
+
+word_is : (w : Word) (bytes : List ℕ) → bytes_eq (letters w) bytes ≡ true → bytes ≡ letters w
+word_is w bytes e = sym ((bytes_eq-Decides (letters w) bytes).0 e)
+
+module _ (bytes : List ℕ) where
+  abbrev is_it : Word → Bool
+  is_it w = bytes_eq (letters w) bytes
+
+  found_on : (v w : Word) (rest : Option Word) → (rest ≡ Some w → is_it w ≡ true) → (b : Bool) → is_it v ≡ b → cond b (Some v) rest ≡ Some w → is_it w ≡ true
+  found_on v w rest later true f e = let same : v ≡ w = cc in subst (λ x. is_it x ≡ true) same f
+  found_on v w rest later false f e = later e
+
+  found : (ws : List Word) (w : Word) → find is_it ws ≡ Some w → is_it w ≡ true
+  found [] w e = absurd (let none : None ≡ Some w = e in cc)
+  found (v ∷ ws) w e = found_on v w (find is_it ws) (found ws w) (is_it v) refl e
+
+  pub word_found : (w : Word) → Some w ≡ find is_it all_words → bytes ≡ letters w
+  word_found w e = word_is w bytes (found all_words w (sym e))
+
+  missed_on : (v : Word) (rest : Option Word) (others : Bool) → (rest ≡ None → others ≡ false) → (b : Bool) → cond b (Some v) rest ≡ None → (b || others) ≡ false
+  missed_on v rest others later true e = absurd (let none : Some v ≡ None = e in cc)
+  missed_on v rest others later false e = later e
+
+  missed : (ws : List Word) → find is_it ws ≡ None → list_any is_it ws ≡ false
+  missed [] e = refl
+  missed (v ∷ ws) e = missed_on v (find is_it ws) (list_any is_it ws) (missed ws) (is_it v) e
+
+  pub word_missed : (more : List (List ℕ)) → None ≡ find is_it all_words → has_unknown_word (bytes ∷ more) ≡ true
+  word_missed more e = ap not (missed all_words (sym e))
+
+-- ---- the form of a line, by its word
+
+abbrev first : List (List ℕ) → List ℕ
+first [] = []
+first (part ∷ more) = part
+
+-- the first part tells forms apart
+apart : (v : List ℕ) (ps : List (List ℕ)) (f : Form) → bytes_eq v v ≡ true → bytes_eq v (first (parts_of f)) ≡ false → v ∷ ps ≡ parts_of f → ⊥
+apart v ps f same other e =
+    let g : bytes_eq v v ≡ bytes_eq v (first (parts_of f)) = ap (λ (xs : List (List ℕ)). bytes_eq v (first xs)) e in
+    let clash : true ≡ false = sym same ∙ (g ∙ other) in
+    cc
+
+behind : (v : List ℕ) (ps qs : List (List ℕ)) → v ∷ ps ≡ v ∷ qs → ps ≡ qs
+behind v ps qs e = cc
+
+-- what follows the first part
+pub rest_is : (a b : List ℕ) (ps qs : List (List ℕ)) → a ∷ ps ≡ b ∷ qs → ps ≡ qs
+rest_is a b ps qs e = cc
+
+module _ (ps : List (List ℕ)) where
+  pub no_group : ((n : ℕ) → HasFewDigits n → ps ≡ decimal n ∷ [] → ⊥) → (f : Form) → IsForm (codes "group" ∷ ps) f → ⊥
+  no_group none (Group n) h = none n h.short (behind (codes "group") ps (decimal n ∷ []) h.parts_are)
+  no_group none f h = apart (codes "group") ps f refl refl h.parts_are
+
+  pub no_voxel : ((x y z : ℕ) → HasFewDigits x → HasFewDigits y → HasFewDigits z → ps ≡ decimal x ∷ decimal y ∷ decimal z ∷ [] → ⊥) → (f : Form) → IsForm (codes "voxel" ∷ ps) f → ⊥
+  no_voxel none (Voxel x y z) h = none x y z h.short.0 h.short.1 h.short.2 (behind (codes "voxel") ps (decimal x ∷ decimal y ∷ decimal z ∷ []) h.parts_are)
+  no_voxel none f h = apart (codes "voxel") ps f refl refl h.parts_are
+
+  pub no_step : (ps ≡ [] → ⊥) → (f : Form) → IsForm (codes "step" ∷ ps) f → ⊥
+  no_step behind_it Step h = behind_it (behind (codes "step") ps [] h.parts_are)
+  no_step behind_it f h = apart (codes "step") ps f refl refl h.parts_are
+
+  pub no_back : (ps ≡ [] → ⊥) → (f : Form) → IsForm (codes "back" ∷ ps) f → ⊥
+  no_back behind_it Back h = behind_it (behind (codes "back") ps [] h.parts_are)
+  no_back behind_it f h = apart (codes "back") ps f refl refl h.parts_are
+
+  pub no_bots : (ps ≡ [] → ⊥) → (f : Form) → IsForm (codes "bots" ∷ ps) f → ⊥
+  no_bots behind_it Bots h = behind_it (behind (codes "bots") ps [] h.parts_are)
+  no_bots behind_it f h = apart (codes "bots") ps f refl refl h.parts_are
+
+-- ---- ranges
+
+below : (a b : ℕ) → a < b → nat_lt a b ≡ true
+below a b h = grind (arith, nat_tests)
+
+not_below : (a b : ℕ) → b ≤ a → nat_lt a b ≡ false
+not_below a b h = grind (arith, nat_tests)
+
+and_false : (b : Bool) → (b && false) ≡ false
+and_false true = refl
+and_false false = refl
+
+module _ (r number : ℕ) (ps : List (List ℕ)) (n : ℕ) (few : HasFewDigits n) (are : ps ≡ decimal n ∷ []) where
+  group_form : IsForm (codes "group" ∷ ps) (Group n)
+  group_form = record { parts_are = ap (λ (qs : List (List ℕ)). codes "group" ∷ qs) are; short = few }
+
+  out : (nat_lt 0 n && nat_lt n 41) ≡ false → IsReadBy (PartsSay r (codes "group" ∷ ps)) number (Err (refusal.Range number))
+  out e = (Range, (Group n, group_form, ap (λ b. cond b (Some (session.Group n)) None) e), refl)
+
+  pub group_too_low : n < 1 → IsReadBy (PartsSay r (codes "group" ∷ ps)) number (Err (refusal.Range number))
+  group_too_low l = out (ap (λ b. b && nat_lt n 41) (not_below 0 n (omega arith)))
+
+  pub group_too_high : 40 < n → IsReadBy (PartsSay r (codes "group" ∷ ps)) number (Err (refusal.Range number))
+  group_too_high l = out (ap (λ b. nat_lt 0 n && b) (not_below n 41 (omega arith)) ∙ and_false (nat_lt 0 n))
+
+  pub group_in_range : 1 ≤ n → n ≤ 40 → IsReadBy (PartsSay r (codes "group" ∷ ps)) number (Ok (code.Group n))
+  group_in_range l h =
+      let e : (nat_lt 0 n && nat_lt n 41) ≡ true = ap (λ b. b && nat_lt n 41) (below 0 n (omega arith)) ∙ below n 41 (omega arith) in
+      (Group n, group_form, ap (λ b. cond b (Some (session.Group n)) None) e)
+
+module _ (r number : ℕ) (ps : List (List ℕ)) (x y z : ℕ) (fx : HasFewDigits x) (fy : HasFewDigits y) (fz : HasFewDigits z) (are : ps ≡ decimal x ∷ decimal y ∷ decimal z ∷ []) where
+  voxel_form : IsForm (codes "voxel" ∷ ps) (Voxel x y z)
+  voxel_form = record { parts_are = ap (λ (qs : List (List ℕ)). codes "voxel" ∷ qs) are; short = (fx, fy, fz) }
+
+  abbrev at : Coord
+  at = record { x = x; y = y; z = z }
+
+  outside : (nat_lt x r && nat_lt y r && nat_lt z r) ≡ false → IsReadBy (PartsSay r (codes "voxel" ∷ ps)) number (Err (refusal.Range number))
+  outside e = (Range, (Voxel x y z, voxel_form, ap (λ b. cond b (Some (session.Voxel at)) None) e), refl)
+
+  pub x_too_high : r ≤ x → IsReadBy (PartsSay r (codes "voxel" ∷ ps)) number (Err (refusal.Range number))
+  x_too_high l = outside (ap (λ b. b && nat_lt y r && nat_lt z r) (not_below x r l))
+
+  pub y_too_high : x < r → r ≤ y → IsReadBy (PartsSay r (codes "voxel" ∷ ps)) number (Err (refusal.Range number))
+  y_too_high lx l = outside (ap (λ b. b && nat_lt y r && nat_lt z r) (below x r lx) ∙ ap (λ b. b && nat_lt z r) (not_below y r l))
+
+  pub z_too_high : x < r → y < r → r ≤ z → IsReadBy (PartsSay r (codes "voxel" ∷ ps)) number (Err (refusal.Range number))
+  z_too_high lx ly l = outside (ap (λ b. b && nat_lt y r && nat_lt z r) (below x r lx) ∙ (ap (λ b. b && nat_lt z r) (below y r ly) ∙ not_below z r l))
+
+  pub voxel_in_range : x < r → y < r → z < r → IsReadBy (PartsSay r (codes "voxel" ∷ ps)) number (Ok (code.Voxel at))
+  voxel_in_range lx ly lz =
+      let e : (nat_lt x r && nat_lt y r && nat_lt z r) ≡ true = ap (λ b. b && nat_lt y r && nat_lt z r) (below x r lx) ∙ (ap (λ b. b && nat_lt z r) (below y r ly) ∙ below z r lz) in
+      (Voxel x y z, voxel_form, ap (λ b. cond b (Some (session.Voxel at)) None) e)
+
+-- ---- words
+
+pub has_shape_fault : (r number : ℕ) (line : List (List ℕ)) → has_unknown_word line ≡ false → ((f : Form) → IsForm line f → ⊥) → IsReadBy (PartsSay r line) number (Err (refusal.Shape number))
+has_shape_fault r number line known none = (Shape, (known, none), refl)
+
+pub has_word_fault : (r number : ℕ) (line : List (List ℕ)) → has_unknown_word line ≡ true → IsReadBy (PartsSay r line) number (Err (refusal.UnknownWord number))
+has_word_fault r number line unknown = (UnknownWord, unknown, refl)

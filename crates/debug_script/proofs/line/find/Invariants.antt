@@ -1,0 +1,10 @@
+use Rattle.std.proofs.Common.{length, ◌-◌, not}
+use Rattle.std.specs.Prelude.{◌==◌}
+use Rattle.trace_text.proofs.Runs.{Pass}
+use Rattle.debug_script.proofs.line.find.Given as goal
+
+abbrev pub invariant-loop-len : goal.invariant-loop-len
+invariant-loop-len l = Pass (λ b. not (b == l.byte)) l.bytes l.len
+
+abbrev pub decreases-loop-len : goal.decreases-loop-len
+decreases-loop-len l = length l.bytes - l.len

@@ -1,0 +1,4 @@
+pub mod Calls
+pub mod Printing
+pub mod Script
+pub mod Sessions

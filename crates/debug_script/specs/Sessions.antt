@@ -1,0 +1,30 @@
+-- What a script prints (docs/FORMATS.md, "Sessions").
+use Rattle.std.specs.Prelude.{◌≡◌, ℕ, false, List, [], ◌∷◌, ◌++◌, IsSomeAnd, Option}
+use Rattle.nano_spec.specs.declared.commands.Command.{Command}
+use Rattle.nano_spec.specs.declared.system.Profile.{Profile}
+use Rattle.nano_spec.specs.Matrix.{Matrix}
+use Rattle.step_debugger.specs.Debugging.{Debugging}
+use Rattle.step_debugger.specs.Session.{Answers, Line, Report, Session, opened}
+use Rattle.debug_script.specs.Printing.{printed}
+
+-- the lines, one after another, answered from a session on, print this
+abbrev pub Prints : List Command → List Line → Session → List ℕ → Type 0
+Prints commands [] s text = text ≡ []
+Prints commands (line ∷ more) s text =
+    (t : Session) × (report : Report) × (rest : List ℕ) × Answers commands line s t report × Prints commands more t rest × (text ≡ printed report ++ rest)
+
+-- the lines over the commands of a trace print this, from the opening of the source on
+abbrev pub PrintsFrom : Matrix → Profile → List Command → List Line → List ℕ → Type 0
+PrintsFrom source profile commands script text = Prints commands script (opened source profile) text
+
+-- a line was answered: what it prints was put at the end of the text, and memory was not refused
+pub record IsTold (line : Line) (old new : Debugging) (before after : List ℕ) : Type 0 where
+  pub report : Report
+  pub answers : Answers old.commands line old.session new.session report
+  pub text : after ≡ before ++ printed report
+  pub commands : new.commands ≡ old.commands
+  pub stands : new.spent ≡ false
+
+-- the lines of the report, if there is one, were put at the end of the text
+abbrev pub IsPut : Option Report → List ℕ → List ℕ → Type 0
+IsPut told before after = IsSomeAnd told (λ report. after ≡ before ++ printed report)

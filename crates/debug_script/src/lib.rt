@@ -1,0 +1,18 @@
+//! The script of the step debugger (docs/FORMATS.md, "Sessions"): its lines as they are read, and a session as it is printed.
+#![tactic(auto)]
+
+mod laws;
+mod line;
+mod print;
+mod read;
+mod report;
+mod word;
+
+pub use laws::{one_script, one_text};
+pub use line::ScriptLine;
+pub use print::print_session;
+pub use read::read_script;
+pub use report::broken_line;
+
+#[cfg(test)]
+mod tests;

@@ -1,0 +1,204 @@
+//! What a line of a script says.
+ghost use Rattle.std.specs.List.{position_or_len};
+ghost use Rattle.std.specs.Prelude.{◌≡◌, ◌==◌, ◌∷◌, ◌<◌, ◌≤◌, ℕ, List, [], MatchOption, codes, decimal, length};
+ghost use Rattle.debug_script.specs.Calls.{IsReadBy, letters};
+ghost use Rattle.debug_script.specs.Script.{HasFewDigits, LineSays, PartsSay, parts};
+
+use crate::word::Word;
+use itoa::Buffer;
+use trace_text::TextFault;
+use vox_geom::Coord;
+
+/// A line of a script.
+#[derive(Clone, Copy, PartialEq, Eq, Debug)]
+pub enum ScriptLine {
+    /// The next step is made.
+    Step,
+    /// The group of a leader is begun.
+    Group { leader: u8 },
+    /// What is begun is dropped, or else the last step is taken back.
+    Back,
+    /// The active bots are told.
+    Bots,
+    /// A voxel and its level are told.
+    Voxel { at: Coord },
+}
+
+/// Where the byte first stands, or how many bytes there are.
+#[tactic(auto, using(trace_text::proofs::Runs::none_yet, trace_text::proofs::Runs::passes_on, trace_text::proofs::Runs::stops_at, trace_text::proofs::Runs::ends_at))]
+pub(crate) fn find(byte: u8, bytes: &[u8]) -> usize
+    ensures value { result ≡ position_or_len (λ b. b == byte) bytes.now }
+    ensures bound { result ≤ length bytes.now }
+{
+    let mut len = 0;
+    while len < bytes.len() {
+        if bytes[len] == byte {
+            return len;
+        }
+        len += 1;
+    }
+    len
+}
+
+/// The first part of a line, and what follows its space, where it has one.
+#[tactic(auto, using(crate::proofs::Parts::one_part, crate::proofs::Parts::first_part))]
+fn cut_part(line: &[u8]) -> (&[u8], Option<&[u8]>)
+    ensures { MatchOption result.1 (parts line.now ≡ result.0.now ∷ []) (λ rest. parts line.now ≡ result.0.now ∷ parts rest.now) }
+{
+    let end = find(b' ', line);
+    if end == line.len() {
+        return (line, None);
+    }
+    (&line[..end], Some(&line[end + 1..]))
+}
+
+/// The number that the part has in at most five decimal digits, without sign or leading zeros.
+fn number(part: &[u8]) -> Option<u32>
+    ensures { MatchOption result ((n : ℕ) → HasFewDigits n → part.now ≡ decimal n → ⊥) (λ n. HasFewDigits n × (part.now ≡ decimal n)) }
+{
+    let Ok(text) = str::from_utf8(part) else {
+        return None;
+    };
+    let Ok(number) = text.parse::<u32>() else {
+        return None;
+    };
+    if number > 99_999 {
+        return None;
+    }
+    let mut buffer = Buffer::new();
+    if buffer.format(number) != text {
+        return None;
+    }
+    Some(number)
+}
+
+/// The line of a word that stands alone.
+fn read_word(word: Word, number: u32) -> Result<ScriptLine, TextFault>
+    ensures { (r : ℕ) → IsReadBy (PartsSay r (letters word ∷ [])) number result }
+{
+    match word {
+        Word::Step => Ok(ScriptLine::Step),
+        Word::Back => Ok(ScriptLine::Back),
+        Word::Bots => Ok(ScriptLine::Bots),
+        Word::Group => Err(TextFault::Shape { line: number }),
+        Word::Voxel => Err(TextFault::Shape { line: number }),
+    }
+}
+
+/// The one number behind a word.
+fn one_number(rest: &[u8]) -> Option<u32>
+    ensures { MatchOption result ((n : ℕ) → HasFewDigits n → parts rest.now ≡ decimal n ∷ [] → ⊥) (λ n. HasFewDigits n × (parts rest.now ≡ decimal n ∷ [])) }
+{
+    let (part, more) = cut_part(rest);
+    match more {
+        None => number(part),
+        Some(_) => None,
+    }
+}
+
+/// The number behind a word, and what follows its space.
+fn first_number(rest: &[u8]) -> Option<(u32, &[u8])>
+    ensures { MatchOption result ((n : ℕ) (next : List ℕ) (more : List (List ℕ)) → HasFewDigits n → parts rest.now ≡ decimal n ∷ next ∷ more → ⊥)
+        (λ first. HasFewDigits first.0 × (parts rest.now ≡ decimal first.0 ∷ parts first.1.now)) }
+{
+    let (part, more) = cut_part(rest);
+    let more = more?;
+    let number = number(part)?;
+    Some((number, more))
+}
+
+/// The line of the word `group` and what follows it.
+fn read_group(rest: &[u8], number: u32) -> Result<ScriptLine, TextFault>
+    ensures { (r : ℕ) → IsReadBy (PartsSay r (codes "group" ∷ parts rest.now)) number result }
+{
+    let Some(leader) = one_number(rest) else {
+        return Err(TextFault::Shape { line: number });
+    };
+    if leader < 1 {
+        return Err(TextFault::Range { line: number });
+    }
+    if leader > 40 {
+        return Err(TextFault::Range { line: number });
+    }
+    Ok(ScriptLine::Group {
+        leader: leader as u8,
+    })
+}
+
+/// Three numbers behind a word.
+fn three_numbers(rest: &[u8]) -> Option<(u32, u32, u32)>
+    ensures { MatchOption result ((x y z : ℕ) → HasFewDigits x → HasFewDigits y → HasFewDigits z → parts rest.now ≡ decimal x ∷ decimal y ∷ decimal z ∷ [] → ⊥)
+        (λ n. HasFewDigits n.0 × HasFewDigits n.1 × HasFewDigits n.2 × (parts rest.now ≡ decimal n.0 ∷ decimal n.1 ∷ decimal n.2 ∷ [])) }
+{
+    let (x, rest) = first_number(rest)?;
+    let (y, rest) = first_number(rest)?;
+    let z = one_number(rest)?;
+    Some((x, y, z))
+}
+
+/// The line of the word `voxel` and what follows it.
+fn read_voxel(rest: &[u8], number: u32, resolution: u16) -> Result<ScriptLine, TextFault>
+    ensures { IsReadBy (PartsSay resolution (codes "voxel" ∷ parts rest.now)) number result }
+{
+    let Some((x, y, z)) = three_numbers(rest) else {
+        return Err(TextFault::Shape { line: number });
+    };
+    let most = u32::from(resolution);
+    if x >= most {
+        return Err(TextFault::Range { line: number });
+    }
+    if y >= most {
+        return Err(TextFault::Range { line: number });
+    }
+    if z >= most {
+        return Err(TextFault::Range { line: number });
+    }
+    let at = Coord {
+        x: x as u16,
+        y: y as u16,
+        z: z as u16,
+    };
+    Ok(ScriptLine::Voxel { at })
+}
+
+/// The line of a word and what follows its space.
+fn read_numbers(
+    word: Word,
+    rest: &[u8],
+    number: u32,
+    resolution: u16,
+) -> Result<ScriptLine, TextFault>
+    ensures { IsReadBy (PartsSay resolution (letters word ∷ parts rest.now)) number result }
+{
+    match word {
+        Word::Group => read_group(rest, number),
+        Word::Voxel => read_voxel(rest, number, resolution),
+        Word::Step => Err(TextFault::Shape { line: number }),
+        Word::Back => Err(TextFault::Shape { line: number }),
+        Word::Bots => Err(TextFault::Shape { line: number }),
+    }
+}
+
+/// What the parts of a line of this number say.
+fn read_parts(line: &[u8], number: u32, resolution: u16) -> Result<ScriptLine, TextFault>
+    ensures { IsReadBy (PartsSay resolution (parts line.now)) number result }
+{
+    let (first, rest) = cut_part(line);
+    let Some(word) = Word::of(first) else {
+        return Err(TextFault::UnknownWord { line: number });
+    };
+    match rest {
+        None => read_word(word, number),
+        Some(rest) => read_numbers(word, rest, number, resolution),
+    }
+}
+
+/// What the line of this number says, which has no line feed.
+pub(crate) fn read_line(line: &[u8], number: u32, resolution: u16) -> Result<ScriptLine, TextFault>
+    ensures { IsReadBy (LineSays resolution line.now) number result }
+{
+    if !line.is_ascii() {
+        return Err(TextFault::NotAscii { line: number });
+    }
+    read_parts(line, number, resolution)
+}

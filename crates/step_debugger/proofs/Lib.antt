@@ -1,0 +1,12 @@
+pub mod Between
+pub mod Empty
+pub mod Functional
+pub mod Grouping
+pub mod Making
+pub mod Notes
+pub mod Ordering
+pub mod Restoring
+pub mod Returning
+pub mod Standing
+pub mod TouchedBack
+pub mod Trying

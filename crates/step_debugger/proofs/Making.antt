@@ -1,0 +1,190 @@
+-- The next step is tried.
+use Rattle.std.proofs.Common.{◌≡◌, ℕ, ◌+◌, ◌-◌, ◌≤◌, refl, sym, ◌∙◌, ap, subst, arith, List, [], ◌∷◌, ◌++◌, Bool, true, false, length, take, drop, length-drop, length-take}
+use Rattle.std.specs.Prelude.{◌↔◌, All, Ok, Err}
+use Rattle.circular_buffer.specs.Buffer.{Buffer, keep_last}
+use Rattle.nano_spec.specs.declared.commands.Command.{Command}
+use Rattle.nano_spec.specs.declared.outcomes.Broken.{Broken}
+use Rattle.nano_spec.specs.declared.outcomes.Rule.{Rule}
+use Rattle.nano_spec.specs.declared.outcomes.Rule.TheVariants.{Ungrounded}
+use Rattle.nano_spec.specs.declared.system.Bot.{Bot}
+use Rattle.nano_spec.specs.Next.{Breaks, Goes, Next}
+use Rattle.nano_spec.specs.State.{IsReady, IsWellFormed, State}
+use Rattle.vox_geom.specs.Space.{IsInSpace}
+use Rattle.step_machine.specs.Situation.{Situation}
+use Rattle.step_machine.specs.Stepped.{Stepped}
+use Rattle.step_machine.specs.Undoing.{MayUndo, state_before}
+use Rattle.step_machine.specs.declared.machine.StepOk.{StepOk}
+use Rattle.step_machine.specs.declared.machine.StepFault.TheVariants as fault
+use Rattle.step_machine.specs.declared.undo.Undo.{Undo}
+use Rattle.step_debugger.specs.Session.{Made, Point, Refused, Session, Steps, dropped, latest, made, most_past, next_commands, none_left, refused}
+use Rattle.step_debugger.specs.Debugging.{Debugging, debugging_of, point_before, point_of, points_of}
+use Rattle.step_debugger.specs.Kept.{Begin, Fit, IsKept, LeadTo, LeadsTo}
+use Rattle.step_debugger.proofs.Notes.{lead_drop, lead_more, points_latest, points_more}
+use Rattle.step_debugger.proofs.Returning.{fit}
+
+take_long : (n : ℕ) (xs : List Command) → length (take n xs) ≡ n → n ≤ length xs
+take_long n xs e = let l = length-take n xs in omega (arith, l)
+
+halted_is : (b : Bool) (bots : List Bot) → (b ≡ true ↔ bots ≡ []) → b ≡ none_left bots
+halted_is b [] h = h.1 refl
+halted_is false (x ∷ bots) h = refl
+halted_is true (x ∷ bots) h = let e : x ∷ bots ≡ [] = h.0 refl in cc
+
+pub refused_other : (rule : Rule) (s : Session) → (rule ≡ Ungrounded → ⊥) → refused rule s ≡ s
+refused_other Ungrounded s h = absurd (h refl)
+refused_other rule s h = refl
+
+pub refused_last : (rule : Rule) (s : Session) → rule ≡ Ungrounded → refused rule s ≡ dropped s
+refused_last rule s e = ap (λ (r : Rule). refused r s) e
+
+module _ (v : Situation) (notes : Buffer Undo) (commands : List Command) (taken : ℕ) (begun left : List ℕ) (bots : List Bot) (d : Debugging)
+    (e : debugging_of v notes.items commands taken begun ≡ d) (kept : IsKept v notes commands taken begun left bots) (stands : d.spent ≡ false) where
+  pub here : Fit (point_of v taken) notes.items commands begun left bots
+  here = fit v notes commands taken begun left bots d e kept stands
+
+  pub within : taken ≤ length commands
+  within = here.taken
+
+  pub formed : IsWellFormed v.state
+  formed = here.well_formed
+
+  module _ (n : ℕ) (next : List Command) (count : n ≡ length v.state.bots) (next_is : next ≡ take n (drop taken commands)) where
+    next_here : next ≡ next_commands commands (point_of v taken)
+    next_here = next_is ∙ ap (λ k. take k (drop taken commands)) count
+
+    pub all_given : length (next_commands d.commands d.session.point) ≡ length d.session.point.state.bots → length next ≡ length v.state.bots
+    all_given h = ap length next_here ∙ subst (λ (x : Debugging). length (next_commands x.commands x.session.point) ≡ length x.session.point.state.bots) (sym e) h
+
+    pub some_bots : 1 ≤ length d.session.point.state.bots → 1 ≤ length v.state.bots
+    some_bots h = subst (λ (x : Debugging). 1 ≤ length x.session.point.state.bots) (sym e) h
+
+    module _ (all : length next ≡ length v.state.bots) (some : 1 ≤ length v.state.bots) where
+      pub taken_most : taken + n ≤ length commands
+      taken_most =
+          let l = take_long n (drop taken commands) (sym (ap length next_is) ∙ (all ∙ sym count)) in
+          let r = length-drop taken commands in
+          let s = some in
+          let c = count in
+          let t = within in
+          omega (arith, l, r, s, c, t)
+
+      -- the step was made
+      module _ (w : Situation) (undo : Undo) (ok : StepOk) (began ended : ℕ) (stepped : Stepped v w next (Ok ok) began ended) (before : state_before w.state undo ≡ v.state) (counted : undo.steps ≡ v.steps) (may : IsWellFormed v.state → MayUndo w.state undo)
+          (rest : Buffer Undo) (pushed : rest ≡ record { items = keep_last notes.capacity (notes.items ++ undo ∷ []); capacity = notes.capacity }) where
+        crew_is : length undo.crew ≡ n
+        crew_is = ap (λ (s : State). length s.bots) before ∙ sym count
+
+        point_is : point_before (point_of w (taken + n)) undo ≡ point_of v taken
+        point_is = λ i. record { state = before i; steps = counted i; taken = less i }
+          where
+            less : taken + n - length undo.crew ≡ taken
+            less = let c = crew_is in omega (arith, c)
+
+        leads : LeadsTo (point_of w (taken + n)) undo
+        leads = record {
+          may = may formed;
+          counted = let c = stepped.counted in omega (arith, c, counted);
+          some = let c = crew_is in let k = count in let s = some in omega (arith, c, k, s);
+          taken = let c = crew_is in let h = here.counted in omega (arith, c, h, counted);
+        }
+
+        latest_is : rest.items ≡ latest most_past (notes.items ++ undo ∷ [])
+        latest_is = ap (λ (b : Buffer Undo). b.items) pushed ∙ ap (λ k. latest k (notes.items ++ undo ∷ [])) kept.capacity
+
+        leads_all : LeadTo (point_of w (taken + n)) rest.items
+        leads_all =
+            subst (λ (us : List Undo). LeadTo (point_of w (taken + n)) us) (sym latest_is)
+            (lead_drop (point_of w (taken + n)) (length (notes.items ++ undo ∷ []) - most_past) (notes.items ++ undo ∷ [])
+            (lead_more (point_of w (taken + n)) notes.items undo (subst (λ (q : Point). LeadTo q notes.items) (sym point_is) here.notes_lead) leads))
+
+        begins : (now : List ℕ) → now ≡ [] → (standing : List Bot) → standing ≡ w.state.bots → Begin commands (point_of w (taken + n)) now left standing
+        begins [] f standing g = g
+        begins (x ∷ now) f standing g = cc
+
+        pub kept_made : (now : List ℕ) → now ≡ [] → (standing : List Bot) → standing ≡ w.state.bots → IsReady w.state → IsKept w rest commands (taken + n) now left standing
+        kept_made now f standing g ready = record {
+          few = kept.few;
+          capacity = ap (λ (b : Buffer Undo). b.capacity) pushed ∙ kept.capacity;
+          fit = λ _. record {
+            well_formed = stepped.well_formed formed;
+            counted = let c = stepped.counted in let h = here.counted in let k = count in let s = some in omega (arith, c, h, k, s);
+            taken = taken_most;
+            notes_lead = leads_all;
+            begin = begins now f standing g;
+            within = subst (λ (bs : List Bot). All (λ b. IsInSpace w.state.matrix.resolution b.pos) bs) (sym g) ready.within;
+          };
+        }
+
+        past_is : points_of (point_of w (taken + n)) rest.items ≡ latest most_past (points_of (point_of v taken) notes.items ++ point_of v taken ∷ [])
+        past_is =
+            ap (points_of (point_of w (taken + n))) latest_is
+            ∙ (points_latest (point_of w (taken + n)) most_past (notes.items ++ undo ∷ [])
+            ∙ ap (latest most_past) (points_more (point_of w (taken + n)) notes.items undo ∙ (λ i. points_of (point_is i) notes.items ++ point_is i ∷ [])))
+
+        session_is : (now : List ℕ) → now ≡ [] → (debugging_of w rest.items commands (taken + n) now).session ≡ made (debugging_of v notes.items commands taken begun).session w.state
+        session_is now f = λ i. record { point = record { state = w.state; steps = stepped.counted i; taken = taken + count i }; past = past_is i; begun = f i }
+
+        pub session_made : (now : List ℕ) → now ≡ [] → Steps d.commands d.session (debugging_of w rest.items commands (taken + n) now).session (Made w.steps ok.energy ok.halted)
+        session_made now f = subst (λ (x : Debugging). Steps x.commands x.session (debugging_of w rest.items commands (taken + n) now).session (Made w.steps ok.energy ok.halted)) e (
+          Goes w.state,
+          subst (λ (xs : List Command). Next v.state xs (v.steps + 1) (Goes w.state)) next_here stepped.goes,
+          (session_is now f, λ i. Made (stepped.counted i) (stepped.energy i) (halted_is ok.halted w.state.bots stepped.halted i)),
+        )
+
+      -- the step was refused
+      module _ (w : Situation) (b : Broken) (began ended : ℕ) (stepped : Stepped v w next (Err (fault.Broken b)) began ended) where
+        point_stays : point_of w taken ≡ point_of v taken
+        point_stays = λ i. record { state = stepped.stays.0 i; steps = stepped.stays.1 i; taken = taken }
+
+        breaks : Next v.state (next_commands commands (point_of v taken)) (v.steps + 1) (Breaks b)
+        breaks = subst (λ (xs : List Command). Next v.state xs (v.steps + 1) (Breaks b)) next_here stepped.breaks.1
+
+        -- by a rule that is judged at its start
+        session_stays : (debugging_of w notes.items commands taken begun).session ≡ (debugging_of v notes.items commands taken begun).session
+        session_stays = λ i. record { point = point_stays i; past = points_of (point_stays i) notes.items; begun = begun }
+
+        pub session_refused : w.spent ≡ false → Steps d.commands d.session (debugging_of w notes.items commands taken begun).session (Refused b)
+        session_refused free = subst (λ (x : Debugging). Steps x.commands x.session (debugging_of w notes.items commands taken begun).session (Refused b)) e (
+          Breaks b,
+          breaks,
+          (session_stays ∙ sym (refused_other b.rule (debugging_of v notes.items commands taken begun).session (λ f. let g = stepped.ungrounded.1 f in not_spent free g)), refl),
+        )
+          where
+            not_spent : w.spent ≡ false → w.spent ≡ true → ⊥
+            not_spent f g = absurd_of (sym f ∙ g)
+              where
+                absurd_of : false ≡ true → ⊥
+                absurd_of h = cc
+
+        -- by the rule of grounding, after which the machine is made anew
+        module _ (spent : w.spent ≡ true) (u : Situation) (anew : u ≡ record { state = w.state; steps = w.steps; spent = false }) (now : List ℕ) (none : now ≡ []) where
+          point_anew : point_of u taken ≡ point_of v taken
+          point_anew = ap (λ (x : Situation). point_of x taken) anew ∙ point_stays
+
+          begins_anew : (xs : List ℕ) → xs ≡ [] → (standing : List Bot) → standing ≡ u.state.bots → Begin commands (point_of u taken) xs left standing
+          begins_anew [] f standing g = g
+          begins_anew (x ∷ xs) f standing g = cc
+
+          pub kept_anew : (standing : List Bot) → standing ≡ u.state.bots → IsReady u.state → IsKept u notes commands taken now left standing
+          kept_anew standing g ready = record {
+            few = kept.few;
+            capacity = kept.capacity;
+            fit = λ _. record {
+              well_formed = subst (λ (q : Point). IsWellFormed q.state) (sym point_anew) here.well_formed;
+              counted = subst (λ (q : Point). q.steps ≤ q.taken) (sym point_anew) here.counted;
+              taken = here.taken;
+              notes_lead = subst (λ (q : Point). LeadTo q notes.items) (sym point_anew) here.notes_lead;
+              begin = begins_anew now none standing g;
+              within = subst (λ (bs : List Bot). All (λ b. IsInSpace u.state.matrix.resolution b.pos) bs) (sym g) ready.within;
+            };
+          }
+
+          session_anew : (debugging_of u notes.items commands taken now).session ≡ dropped (debugging_of v notes.items commands taken begun).session
+          session_anew = λ i. record { point = point_anew i; past = points_of (point_anew i) notes.items; begun = none i }
+
+          pub session_ungrounded : Steps d.commands d.session (debugging_of u notes.items commands taken now).session (Refused b)
+          session_ungrounded = subst (λ (x : Debugging). Steps x.commands x.session (debugging_of u notes.items commands taken now).session (Refused b)) e (
+            Breaks b,
+            breaks,
+            (session_anew ∙ sym (refused_last b.rule (debugging_of v notes.items commands taken begun).session (stepped.ungrounded.0 spent)), refl),
+          )

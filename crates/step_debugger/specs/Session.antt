@@ -1,0 +1,174 @@
+-- A session, in which a trace is walked forwards and backwards, step by step or group by group (docs/FORMATS.md, "Sessions").
+use Rattle.std.specs.Prelude.{◌≡◌, ℕ, ◌+◌, ◌-◌, ℤ, Bool, true, false, cond, ◌&&◌, not, ◌==◌, List, [], ◌∷◌, ◌++◌, length, take, drop, Option, Some, MatchBool, MatchOption}
+use Rattle.std.specs.List.{list_any}
+use Rattle.vox_geom.specs.declared.coordinate.Coord.{Coord}
+use Rattle.nano_spec.specs.declared.commands.Command.{Command}
+use Rattle.nano_spec.specs.declared.outcomes.Broken.{Broken}
+use Rattle.nano_spec.specs.declared.outcomes.Rule.{Rule}
+use Rattle.nano_spec.specs.declared.outcomes.Rule.TheVariants.{Ungrounded}
+use Rattle.nano_spec.specs.declared.system.Bot.{Bot}
+use Rattle.nano_spec.specs.declared.system.Profile.{Profile}
+use Rattle.nano_spec.specs.Act.{acts}
+use Rattle.nano_spec.specs.Level.{Level}
+use Rattle.nano_spec.specs.Matrix.{Matrix, is_full}
+use Rattle.nano_spec.specs.Next.{Breaks, Goes, Next, Outcome}
+use Rattle.nano_spec.specs.Rules.{broken}
+use Rattle.nano_spec.specs.Serial.{leader_bids, serial}
+use Rattle.nano_spec.specs.State.{State, opening}
+
+-- a state, with how many steps were made and how many commands were taken until then
+pub record Point : Type 0 where
+  pub state : State
+  pub steps : ℕ
+  pub taken : ℕ
+
+-- the point where it stands, the points before it, of which the last comes last, and the leaders of the groups that are begun, in the
+-- order in which they were begun
+pub record Session : Type 0 where
+  pub point : Point
+  pub past : List Point
+  pub begun : List ℕ
+
+-- how many points are kept
+abbrev pub most_past : ℕ
+most_past = 4096
+
+-- the last n elements of a list
+abbrev pub latest : {X : Type 0} → ℕ → List X → List X
+latest n xs = drop (length xs - n) xs
+
+-- the session at its start
+abbrev pub opened : Matrix → Profile → Session
+opened source profile = record { point = record { state = opening source profile; steps = 0; taken = 0 }; past = []; begun = [] }
+
+-- the commands of the next step: one for each bot, as far as there are any
+abbrev pub next_commands : List Command → Point → List Command
+next_commands commands p = take (length p.state.bots) (drop p.taken commands)
+
+-- the bids of the leaders of the next step, in rising order
+abbrev pub next_leaders : List Command → Point → List ℕ
+next_leaders commands p = leader_bids (acts p.state.bots (next_commands commands p))
+
+-- the state after the begun groups alone, one after another
+abbrev pub middle_state : List Command → Session → Option State
+middle_state commands s = serial s.point.state (next_commands commands s.point) s.begun
+
+-- a line of a script
+pub data Line : Type 0 where
+  Step : Line
+  Group : ℕ → Line
+  Back : Line
+  Bots : Line
+  Voxel : Coord → Line
+
+-- what is printed for a line
+pub data Report : Type 0 where
+  -- no bot is active
+  Ended : Report
+  -- the next commands break a rule
+  Refused : Broken → Report
+  -- a step was made: their number, the energy, and whether no bot is left
+  Made : ℕ → ℤ → Bool → Report
+  -- this is no leader of the step, or its group is begun
+  NoLeader : ℕ → Report
+  -- the group of this leader was begun, in the step of this number
+  Begun : ℕ → ℕ → Report
+  -- there is no earlier point
+  NoHistory : Report
+  -- an earlier point stands again: its number of steps and its energy
+  Returned : ℕ → ℤ → Report
+  -- the active bots
+  Crew : List Bot → Report
+  -- a voxel that is void, and one that is full with its level
+  IsVoid : Coord → Report
+  IsFull : Coord → Option ℕ → Report
+
+-- nothing is begun any more
+abbrev pub dropped : Session → Session
+dropped s = record s { begun = [] }
+
+-- the state is reached by the next step: the point joins the past, which loses its oldest where it is full
+abbrev pub made : Session → State → Session
+made s t = record {
+  point = record { state = t; steps = s.point.steps + 1; taken = s.point.taken + length s.point.state.bots };
+  past = latest most_past (s.past ++ s.point ∷ []);
+  begun = [];
+}
+
+-- after a rule is broken all stays, but that after the rule of grounding nothing is begun
+abbrev pub refused : Rule → Session → Session
+refused Ungrounded s = dropped s
+refused rule s = s
+
+-- whether no bot is left
+abbrev pub none_left : List Bot → Bool
+none_left [] = true
+none_left (bot ∷ bots) = false
+
+-- what an outcome of the next step changes, and what is printed
+abbrev pub Follows : Session → Session → Report → Outcome → Type 0
+Follows s t report (Goes u) = (t ≡ made s u) × (report ≡ Made (s.point.steps + 1) u.energy (none_left u.bots))
+Follows s t report (Breaks b) = (t ≡ refused b.rule s) × (report ≡ Refused b)
+
+-- the next step is tried
+abbrev pub Steps : List Command → Session → Session → Report → Type 0
+Steps commands s t report =
+    (outcome : Outcome) × Next s.point.state (next_commands commands s.point) (s.point.steps + 1) outcome × Follows s t report outcome
+
+-- where no bot is active the run has ended, and else P holds
+abbrev pub UnlessEnded : List Bot → Session → Session → Report → Type 0 → Type 0
+UnlessEnded [] s t report P = (t ≡ s) × (report ≡ Ended)
+UnlessEnded (bot ∷ bots) s t report P = P
+
+-- whether a bid is that of a leader of the next step whose group is not begun
+abbrev pub may_begin : List Command → Session → ℕ → Bool
+may_begin commands s bid = list_any (λ k. k == bid) (next_leaders commands s.point) && not (list_any (λ k. k == bid) s.begun)
+
+-- whether all groups of the next step but one are begun
+abbrev pub is_last : List Command → Session → Bool
+is_last commands s = length s.begun + 1 == length (next_leaders commands s.point)
+
+-- a group is begun, where its leader is one and its group is not begun; the last one makes the step
+abbrev pub Begins : List Command → ℕ → Session → Session → Report → Type 0
+Begins commands bid s t report =
+    MatchBool (may_begin commands s bid)
+    (MatchBool (is_last commands s)
+    (Steps commands s t report)
+    ((t ≡ record s { begun = s.begun ++ bid ∷ [] }) × (report ≡ Begun bid (s.point.steps + 1))))
+    ((t ≡ s) × (report ≡ NoLeader bid))
+
+-- a group is begun unless the next commands break a rule that is judged at a step's start
+abbrev pub Groups : List Command → ℕ → Session → Session → Report → Type 0
+Groups commands bid s t report =
+    MatchOption (broken s.point.state (next_commands commands s.point) (s.point.steps + 1)) (Begins commands bid s t report) (λ b. (t ≡ s) × (report ≡ Refused b))
+
+-- the point stands again
+abbrev pub is_returned : Point → Report
+is_returned p = Returned p.steps p.state.energy
+
+-- the last point of the past stands again
+pub record IsBack (s t : Session) (report : Report) : Type 0 where
+  pub earlier : List Point
+  pub last : Point
+  pub past : s.past ≡ earlier ++ last ∷ []
+  pub session : t ≡ record { point = last; past = earlier; begun = [] }
+  pub report_is : report ≡ is_returned last
+
+-- where nothing is begun the last step is taken back
+abbrev pub TakesBack : List Point → Session → Session → Report → Type 0
+TakesBack [] s t report = (t ≡ s) × (report ≡ NoHistory)
+TakesBack (p ∷ past) s t report = IsBack s t report
+
+-- what is begun is dropped, or else the last step is taken back
+abbrev pub GoesBack : List ℕ → Session → Session → Report → Type 0
+GoesBack [] s t report = TakesBack s.past s t report
+GoesBack (bid ∷ begun) s t report = (t ≡ dropped s) × (report ≡ is_returned s.point)
+
+-- what a line changes, and what is printed
+abbrev pub Answers : List Command → Line → Session → Session → Report → Type 0
+Answers commands Step s t report = UnlessEnded s.point.state.bots s t report (Steps commands s t report)
+Answers commands (Group bid) s t report = UnlessEnded s.point.state.bots s t report (Groups commands bid s t report)
+Answers commands Back s t report = GoesBack s.begun s t report
+Answers commands Bots s t report = (t ≡ s) × ((m : State) × (middle_state commands s ≡ Some m) × (report ≡ Crew m.bots))
+Answers commands (Voxel c) s t report =
+    (t ≡ s) × ((level : Option ℕ) × Level s.point.state.matrix c level × (report ≡ cond (is_full s.point.state.matrix c) (IsFull c level) (IsVoid c)))

@@ -1,0 +1,35 @@
+//! Why a call of the debugger did not do its work.
+ghost use Rattle.std.specs.Prelude.{◌≡◌};
+ghost use Rattle.step_debugger.specs.Calls.{number_of};
+
+use nano_spec::Broken;
+
+/// Why a call of the debugger did not do its work.
+#[derive(Clone, Copy, PartialEq, Eq, Debug)]
+pub enum DebugFault {
+    /// The next commands break this rule.
+    Broken(Broken),
+    /// No bot is active.
+    Ended,
+    /// There is no earlier step to go back to.
+    NoHistory,
+    /// This is no leader of the step, or its group is begun.
+    NotLeader { leader: u8 },
+    /// Memory was refused: no further call may be made.
+    Memory,
+}
+
+impl DebugFault {
+    /// The number of the fault.
+    pub fn number(self) -> u8
+        ensures { result ≡ number_of self }
+    {
+        match self {
+            DebugFault::Broken(_) => 1,
+            DebugFault::Ended => 2,
+            DebugFault::NoHistory => 3,
+            DebugFault::NotLeader { .. } => 4,
+            DebugFault::Memory => 5,
+        }
+    }
+}

@@ -1,0 +1,83 @@
+//! Parts of a step: its commands, and the order of its groups.
+ghost use Rattle.std.specs.Prelude.{◌≡◌, ◌+◌, ◌<◌, ◌≤◌, false, ◌==◌, ◌++◌, length, take, drop, slice_index, IfOk, IfNone, IfSome, Some};
+ghost use Rattle.std.specs.List.{list_any};
+ghost use Rattle.nano_spec.specs.Rules.{broken};
+ghost use Rattle.nano_spec.specs.State.{IsWellFormed};
+
+use arrayvec::ArrayVec;
+use bot_crew::MOST_BOTS;
+use nano_spec::{Broken, Command, Rule};
+use std::alloc::Global;
+use std::sync::ledger::Ledger;
+use step_machine::Machine;
+use vox_geom::{Memory, Steps};
+
+/// The commands of the next step: one for each of so many bots, as far as there are any.
+pub(crate) fn next_commands(commands: &[Command], taken: u32, count: u8) -> &[Command]
+    requires { taken ≤ length commands.now }
+    ensures { result.now ≡ take count (drop taken commands.now) }
+{
+    let (_, rest) = commands.split_at(taken as usize);
+    let (next, _) = rest.split_at(usize::from(count).min(rest.len()));
+    next
+}
+
+/// The rule that is broken where some bot has no command.
+pub(crate) fn trace_ends(machine: &Machine, next: &[Command]) -> Broken
+    requires lacks { length next.now < length machine.now.state.bots }
+    requires steps { machine.now.steps < 1073741824 }
+    ensures { broken machine.now.state next.now (machine.now.steps + 1) ≡ Some result }
+{
+    let bot = &machine.crew().bots()[next.len()];
+    Broken {
+        step: machine.steps_done() + 1,
+        bid: bot.bid,
+        rule: Rule::TraceEnds,
+        at: bot.pos,
+    }
+}
+
+/// Appends bids.
+pub(crate) fn append(order: &mut ArrayVec<u8, MOST_BOTS>, bids: &[u8])
+    requires { length order.old.items + length bids.now ≤ MOST_BOTS }
+    ensures { order.new.items ≡ order.old.items ++ bids.now }
+{
+    for bid in bids {
+        order.push(*bid);
+    }
+}
+
+/// The place of a bid among bids.
+pub(crate) fn place_of(bids: &[u8], bid: u8) -> Option<usize>
+    ensures found { IfSome result (λ i. (i < length bids.now) × (slice_index bids.now i ≡ bid)) }
+    ensures none { IfNone result (list_any (λ k. k == bid) bids.now ≡ false) }
+{
+    for (i, here) in bids.iter().enumerate() {
+        if *here == bid {
+            return Some(i);
+        }
+    }
+    None
+}
+
+/// Another machine in the state of the one that is given.
+pub(crate) fn anew<L: Ledger>(
+    alloc: Global,
+    machine: &Machine,
+    steps: &mut Steps<L>,
+) -> Result<Machine, Memory>
+    requires { IsWellFormed machine.now.state }
+    ensures { IfOk result (λ m. m ≡ record machine.now { spent = false }) }
+{
+    let matrix = machine.matrix().copy(alloc)?;
+    Machine::at(
+        alloc,
+        matrix,
+        machine.crew().copy(),
+        machine.harmonics(),
+        machine.energy(),
+        machine.steps_done(),
+        machine.profile(),
+        steps,
+    )
+}
