@@ -15,13 +15,13 @@ use Rattle.nano_spec.specs.declared.system.Bot.{Bot}
 use Rattle.nano_spec.specs.Matrix.{Matrix}
 use Rattle.plan_tape.specs.declared.axis.Axis.{Axis}
 use Rattle.plan_tape.specs.declared.axis.Axis.TheVariants.{X, Y, Z}
-use Rattle.plan_tape.specs.Leg.{IsLeg, IsLeastLeg, IsOnward, IsVoidAlong, along, component_of, gap, moves, put}
+use Rattle.plan_tape.specs.Leg.{IsLeg, IsLeastLeg, IsMove, IsOnward, IsVoidAlong, along, component_of, gap, moves, put}
 use Rattle.plan_tape.specs.Progress.{IsVoid, bots_at, spot}
 
 -- ---- moves, one after another
 
 -- moves that any moves to the end complete are completed so with one more
-pub one_more_move : (axis : Axis) (from at v to : ℕ) (done : List Command) (d : Diff) → d ≡ along axis (pos v -ℤ pos at) → IsOnward at v to → ((rest : List Command) → IsLeg axis at to rest → IsLeg axis from to (done ++ rest)) → (rest : List Command) → IsLeg axis v to rest → IsLeg axis from to ((done ++ SMove d ∷ []) ++ rest)
+pub one_more_move : (axis : Axis) (from at v to : ℕ) (done : List Command) (d : Diff) → d ≡ along axis (pos v -ℤ pos at) → IsMove at v to → ((rest : List Command) → IsLeg axis at to rest → IsLeg axis from to (done ++ rest)) → (rest : List Command) → IsLeg axis v to rest → IsLeg axis from to ((done ++ SMove d ∷ []) ++ rest)
 one_more_move axis from at v to done d e o f rest h = rw (append_assoc done (SMove d ∷ []) rest) (f (SMove d ∷ rest) (v, ap SMove e, o, h))
 
 pub no_more_moves : (axis : Axis) (from at to : ℕ) (done : List Command) → at ≡ to → ((rest : List Command) → IsLeg axis at to rest → IsLeg axis from to (done ++ rest)) → length done + moves at to ≡ moves from to → IsLeastLeg axis from to done

@@ -1,4 +1,4 @@
-pub mod Effects
+pub mod Crowds
 pub mod Faults
 pub mod Runs
 pub mod Legs
@@ -7,3 +7,5 @@ pub mod Written
 pub mod Gone
 pub mod Taken
 pub mod Voids
+pub mod Works
+pub mod Many

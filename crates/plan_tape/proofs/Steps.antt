@@ -31,7 +31,7 @@ use Rattle.plan_tape.specs.declared.axis.Axis.TheVariants.{X, Y, Z}
 use Rattle.plan_tape.specs.Leg.{AreLegs, AreVoidTo, IsLeg, IsOnward, IsVoidAlong, MayMove, along, component_of, distance, gap, moves_to, put}
 use Rattle.plan_tape.specs.Progress.{IsAllowed, IsHeld, IsReachable, IsVoid, Progress, beside, bots_at, spot, state_of, upkeep_of_step}
 use Rattle.plan_tape.specs.Reaches.{Reaches, steps_on}
-use Rattle.plan_tape.proofs.Effects.{cost_is, fill_cost, matrix_filled, matrix_voided, untouched, void_cost}
+use Rattle.system_state.proofs.OnlyBot.{cost_is, fill_cost, matrix_filled, matrix_voided, untouched, void_cost}
 use Rattle.plan_tape.proofs.Faults.{IsFaultless, fill_faults, flip_faults, halt_faults, lone, move_faults, unbroken, void_faults, with_one}
 use Rattle.plan_tape.proofs.Legs.{bots_at-bots_at, bots_at-spot, first_void, last_void, length-bots_at, mlen-along, plus-along, put-component_of, put-put, put_in_space, spot-bots_at}
 
@@ -207,7 +207,7 @@ walked [] p axis a b w g alone i at l may v leg r = subst IsRun (λ j. stayed j)
         λ j. record { source = p.source; commands = ec j; matrix = p.matrix; harmonics = p.harmonics; bots = eb j; energy = ee j; profile = p.profile; steps = es j }
 walked (k ∷ more) p axis a b w g alone i at l may v leg r =
     subst IsRun after_all (walked more q axis u b w g (length-bots_at p.bots (beside p d) ∙ alone) (subst (λ (c : Coord). IsInSpace p.matrix.resolution c) (sym spot_is) (put_in_space axis p.matrix.resolution (spot p.bots) u i u_below)) (ap (component_of axis) spot_is ∙ component_of-put axis (spot p.bots) u) l may
-    (subst (λ (c : Coord). IsVoidAlong p.matrix axis c b) (sym spot_is) (last_void p.matrix axis (spot p.bots) a u b leg.2 from_here)) leg.3 run)
+    (subst (λ (c : Coord). IsVoidAlong p.matrix axis c b) (sym spot_is) (last_void p.matrix axis (spot p.bots) a u b leg.2.onward from_here)) leg.3 run)
   where
     u : ℕ
     u = leg.0
@@ -228,7 +228,7 @@ walked (k ∷ more) p axis a b w g alone i at l may v leg r =
     beside_is = ap coordinate to_is
 
     u_below : u < p.matrix.resolution
-    u_below = below leg.2
+    u_below = below leg.2.onward
       where
         below : IsOnward a u b → u < p.matrix.resolution
         below (inl h) = omega arith
@@ -244,7 +244,7 @@ walked (k ∷ more) p axis a b w g alone i at l may v leg r =
     run =
         let o = only_bot p.bots alone in
         let reaches : IsReachable p d = ap (in_space p.matrix.resolution) to_is ∙ in_space_is p.matrix.resolution (put axis (spot p.bots) u) (put_in_space axis p.matrix.resolution (spot p.bots) u i u_below) in
-        let void : IsVoid p.matrix (between (point (spot p.bots)) (plus (point (spot p.bots)) d)) = subst (λ (x : Point). IsVoid p.matrix (between (point (spot p.bots)) x)) (sym to_is) (subst (λ (c : Coord). IsVoid p.matrix (between (point c) (point (put axis (spot p.bots) u)))) from_is (first_void p.matrix axis (spot p.bots) a u b leg.2 from_here)) in
+        let void : IsVoid p.matrix (between (point (spot p.bots)) (plus (point (spot p.bots)) d)) = subst (λ (x : Point). IsVoid p.matrix (between (point (spot p.bots)) x)) (sym to_is) (subst (λ (c : Coord). IsVoid p.matrix (between (point c) (point (put axis (spot p.bots) u)))) from_is (first_void p.matrix axis (spot p.bots) a u b leg.2.onward from_here)) in
         one_more p o.0 (SMove d) p.matrix p.harmonics (bots_at p.bots (beside p d)) (pos (2 * mlen d)) o.1 r (goes p w alone d (may d) reaches void g)
 
     after_all : progress_along q axis u b more ≡ progress_along p axis a b (k ∷ more)
@@ -254,7 +254,7 @@ walked (k ∷ more) p axis a b w g alone i at l may v leg r =
         let up : upkeep_of_step q ≡ upkeep_of_step p = ap (λ n. unsigned_abs (upkeep_of p.matrix.resolution p.harmonics n)) (length-bots_at p.bots (beside p d)) in
         let el : mlen d ≡ gap a u = mlen-along axis a u in
         let ee : q.energy +ℤ pos (length more * upkeep_of_step q + 2 * gap u b) ≡ p.energy +ℤ pos (suc (length more) * upkeep_of_step p + 2 * gap a b) =
-        (ap (λ n. q.energy +ℤ pos (length more * n + 2 * gap u b)) up ∙ (ap (λ n. ((p.energy +ℤ pos (upkeep_of_step p)) +ℤ pos (2 * n)) +ℤ pos (length more * upkeep_of_step p + 2 * gap u b)) el ∙ (paid_on p.energy (length more) (upkeep_of_step p) (gap a u) (gap u b) ∙ ap (λ n. p.energy +ℤ pos (suc (length more) * upkeep_of_step p + 2 * n)) (sym (onward_gap a u b leg.2))))) in
+        (ap (λ n. q.energy +ℤ pos (length more * n + 2 * gap u b)) up ∙ (ap (λ n. ((p.energy +ℤ pos (upkeep_of_step p)) +ℤ pos (2 * n)) +ℤ pos (length more * upkeep_of_step p + 2 * gap u b)) el ∙ (paid_on p.energy (length more) (upkeep_of_step p) (gap a u) (gap u b) ∙ ap (λ n. p.energy +ℤ pos (suc (length more) * upkeep_of_step p + 2 * n)) (sym (onward_gap a u b leg.2.onward))))) in
         let es : p.steps + 1 + length more ≡ p.steps + suc (length more) = omega arith in
         λ j. record { source = p.source; commands = ec j; matrix = p.matrix; harmonics = p.harmonics; bots = eb j; energy = ee j; profile = p.profile; steps = es j }
 

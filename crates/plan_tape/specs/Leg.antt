@@ -41,10 +41,15 @@ moves a b = (gap a b + 14) / 15
 abbrev pub IsOnward : ℕ → ℕ → ℕ → Type 0
 IsOnward a v b = (a < v × v ≤ b) ⊎ (b ≤ v × v < a)
 
--- moves along an axis that lead from one component to another, each of them nearer to the end
+-- one move leads from a component to one that is at most 15 away, on the way to another
+pub record IsMove (a v b : ℕ) : Type 0 where
+  pub onward : IsOnward a v b
+  pub near : gap a v ≤ 15
+
+-- moves along an axis that lead from one component to another, each of at most 15 and nearer to the end
 abbrev pub IsLeg : Axis → ℕ → ℕ → List Command → Type 0
 IsLeg axis a b [] = a ≡ b
-IsLeg axis a b (command ∷ more) = (v : ℕ) × (command ≡ SMove (along axis (pos v -ℤ pos a))) × IsOnward a v b × IsLeg axis v b more
+IsLeg axis a b (command ∷ more) = (v : ℕ) × (command ≡ SMove (along axis (pos v -ℤ pos a))) × IsMove a v b × IsLeg axis v b more
 
 -- such moves, as few as can be
 pub record IsLeastLeg (axis : Axis) (a b : ℕ) (commands : List Command) : Type 0 where

@@ -1,3 +1,4 @@
+pub mod Crowd
 pub mod Leg
 pub mod Progress
 pub mod Reaches

@@ -58,7 +58,7 @@ pub fn cost_of_way(a: Coord, b: Coord) -> i64
 }
 
 /// Where the next move on the way ends.
-fn next_stop(at: u16, to: u16) -> u16
+pub fn next_stop(at: u16, to: u16) -> u16
     requires differ { at ≢ to }
     ensures onward { IsOnward at result to }
     ensures near { (result ≤ at + 15) × (at ≤ result + 15) }
@@ -115,7 +115,7 @@ fn difference(axis: Axis, by: i16) -> Long
 }
 
 /// The difference from one component to another along an axis.
-fn towards(axis: Axis, at: u16, next: u16) -> Long
+pub fn towards(axis: Axis, at: u16, next: u16) -> Long
     requires differ { at ≢ next }
     requires at { at ≤ MOST_R }
     requires next { next ≤ MOST_R }

@@ -5,10 +5,13 @@
 
 mod axis;
 mod costs;
+mod laws;
 mod several;
 mod tape;
 mod voxels;
 
+pub use axis::{Axis, next_stop, towards};
+pub use laws::seeds_bound_the_bots;
 pub use tape::{Plan, Tape};
 pub use voxels::is_full;
 

@@ -1,28 +1,39 @@
 //! The tape.
-ghost use Rattle.std.specs.Prelude.{◌≡◌, ◌+◌, ◌*◌, ◌++◌, ◌<◌, ◌≤◌, ◌+ℤ◌, ◌≤ℤ◌, All, ◌∷◌, [], IfOk, OnOk, OnErr, cond, length, neg_ℤ, negsuc, pos, true, false, vec_capacity, vec_len};
+ghost use Rattle.std.specs.List.{AllByRecursion, Contains};
+ghost use Rattle.std.specs.Prelude.{◌≡◌, ◌+◌, ◌*◌, ◌++◌, ◌<◌, ◌≤◌, ◌+ℤ◌, ◌≤ℤ◌, All, Bool, ◌∷◌, [], IfOk, IsTrue, OnOk, OnErr, cond, length, neg_ℤ, negsuc, pos, true, false, vec_capacity, vec_len};
 ghost use Rattle.vox_geom.specs.declared.coordinate.Coord.{Coord as Coordinate};
+ghost use Rattle.vox_geom.specs.Region.{Span};
 ghost use Rattle.vox_geom.specs.Space.{IsInSpace};
+ghost use Rattle.nano_spec.specs.Act.{Act, acts};
+ghost use Rattle.nano_spec.specs.Bots.{fused, successors};
+ghost use Rattle.nano_spec.specs.Group.{is_pair};
+ghost use Rattle.nano_spec.specs.Cutting.{AreCommands};
 ghost use Rattle.nano_spec.specs.Grounded.{FirstUngrounded};
 ghost use Rattle.nano_spec.specs.Matrix.{Matrix as MatrixValue, is_full as is_full_of};
 ghost use Rattle.nano_spec.specs.Profile.{full_profile};
 ghost use Rattle.nano_spec.specs.Rules.{broken as broken_of};
 ghost use Rattle.nano_spec.specs.Spelling.{spellings};
-ghost use Rattle.nano_spec.specs.State.{origin};
+ghost use Rattle.nano_spec.specs.State.{IsReady, origin};
 ghost use Rattle.nano_spec.specs.Step.{flipped};
 ghost use Rattle.vox_planes.specs.Voxel.{IsWhole, with_voxel};
 ghost use Rattle.bot_crew.specs.Crew.{IsCrew};
+ghost use Rattle.step_order.specs.Acting.{with_region};
+ghost use Rattle.step_order.specs.Unbroken.{AreFree, AreOneGroup};
+ghost use Rattle.plan_tape.specs.Crowd.{AllStep, CanMoveAll, CanPaintAll, FillsOrWaits, FusesOrWaits, SplitsOrWaits, bots_fused, bots_gone, bots_split, with_fills};
 ghost use Rattle.plan_tape.specs.Leg.{AreVoidTo, MayMove, Moves, moves_to as moves_to_of};
+ghost use Rattle.plan_tape.specs.Reaches.{Reaches};
 ghost use Rattle.plan_tape.specs.Progress.{AreAlike, IsAccepted, IsAllowed, IsBounded, IsHeld, IsReachable, Writes, beside as beside_of, bytes, spot, starting, state_of, stepped, upkeep_of_step};
 
 use crate::axis::{Axis, cost_of_way, moves_to, push_leg};
 use crate::costs::{charged, upkeep_of_steps};
 use crate::several::advance;
 use crate::voxels::is_full;
-use bot_crew::Crew;
+use bot_crew::{Crew, crew_is_ready};
 use nano_spec::{Command, CommandList, Harmonics, Profile};
 use std::alloc::Global;
 use std::marker::Model;
-use system_state::{System, Turns};
+use step_order::{bots_act, free_bots_break_no_rule, one_group_acts, one_group_breaks_no_rule};
+use system_state::{System, Turns, know_all};
 use vox_geom::{Coord, Diff, Memory, Near};
 use vox_planes::Planes;
 
@@ -218,6 +229,105 @@ impl Tape {
         Ok(())
     }
 
+    /// The state is the one that the definitions reach from the source by the commands, every step accepted.
+    pub fn know_reached(&self)
+        ensures reached { Reaches self.now.source self.now.profile self.now.commands (state_of self.now) self.now.steps }
+    {
+        let _ = &self.source;
+    }
+
+    /// The state is ready for a step.
+    pub fn know_ready(&self)
+        ensures ready { IsReady (state_of self.now) }
+        ensures held { IsHeld self.now.harmonics self.now.matrix }
+    {
+        crew_is_ready();
+        let _ = self.matrix().resolution();
+        let _ = self.crew().bots();
+        let _ = self.harmonics();
+    }
+
+    /// Each bot waits or makes a move along an axis. The ways are free, and lie apart.
+    pub fn move_all(&mut self, commands: &[Command]) -> Result<(), Memory>
+        requires some { 1 ≤ length self.old.bots }
+        requires commands { length commands.now ≡ length self.old.bots }
+        requires moves { CanMoveAll self.old commands.now }
+        requires limit { self.old.steps < 1073741824 }
+        ensures ok { OnOk result (AllStep self.old self.new commands.now self.old.matrix self.old.harmonics (bots_gone self.old.bots commands.now)) }
+        ensures err { OnErr result (self.new ≡ self.old) }
+    {
+        free_bots_break_no_rule();
+        bots_act();
+        self.know_ready();
+        self.step(commands)
+    }
+
+    /// All bots make one region full or void together, under High.
+    pub fn paint_all(&mut self, commands: &[Command]) -> Result<(), Memory>
+        requires some { 1 ≤ length self.old.bots }
+        requires commands { length commands.now ≡ length self.old.bots }
+        requires group { CanPaintAll self.old commands.now }
+        requires high { self.old.harmonics ≡ Harmonics.High }
+        requires limit { self.old.steps < 1073741824 }
+        ensures ok { OnOk result ((region : Span) (full : Bool) → AreOneGroup (state_of self.old) region full (acts self.old.bots commands.now) → AllStep self.old self.new commands.now (with_region self.old.matrix region full) self.old.harmonics self.old.bots) }
+        ensures err { OnErr result (self.new ≡ self.old) }
+    {
+        one_group_breaks_no_rule();
+        one_group_acts();
+        self.know_ready();
+        self.step(commands)
+    }
+
+    /// Each bot fills a voxel beside itself or waits; what they name lies apart. Under Low, each full voxel is grounded then.
+    pub fn fill_all(&mut self, fills: &[Command]) -> Result<(), Memory>
+        requires some { 1 ≤ length self.old.bots }
+        requires commands { length fills.now ≡ length self.old.bots }
+        requires fills { AllByRecursion FillsOrWaits fills.now }
+        requires free { AreFree (state_of self.old) (acts self.old.bots fills.now) }
+        requires held { IsHeld self.old.harmonics (with_fills self.old.matrix (acts self.old.bots fills.now)) }
+        requires limit { self.old.steps < 1073741824 }
+        ensures ok { OnOk result (AllStep self.old self.new fills.now (with_fills self.old.matrix (acts self.old.bots fills.now)) self.old.harmonics self.old.bots) }
+        ensures err { OnErr result (self.new ≡ self.old) }
+    {
+        free_bots_break_no_rule();
+        bots_act();
+        self.know_ready();
+        self.step(fills)
+    }
+
+    /// Each bot splits or waits; what they name lies apart.
+    pub fn split_all(&mut self, splits: &[Command]) -> Result<(), Memory>
+        requires some { 1 ≤ length self.old.bots }
+        requires commands { length splits.now ≡ length self.old.bots }
+        requires splits { AllByRecursion SplitsOrWaits splits.now }
+        requires free { AreFree (state_of self.old) (acts self.old.bots splits.now) }
+        requires limit { self.old.steps < 1073741824 }
+        ensures ok { OnOk result (AllStep self.old self.new splits.now self.old.matrix self.old.harmonics (bots_split self.old.bots splits.now)) }
+        ensures err { OnErr result (self.new ≡ self.old) }
+    {
+        free_bots_break_no_rule();
+        bots_act();
+        self.know_ready();
+        self.step(splits)
+    }
+
+    /// Each bot fuses with another or waits; what those name that do not fuse with one another lies apart.
+    pub fn fuse_all(&mut self, fusions: &[Command]) -> Result<(), Memory>
+        requires some { 1 ≤ length self.old.bots }
+        requires commands { length fusions.now ≡ length self.old.bots }
+        requires fuses { AllByRecursion FusesOrWaits fusions.now }
+        requires free { AreFree (state_of self.old) (acts self.old.bots fusions.now) }
+        requires limit { self.old.steps < 1073741824 }
+        ensures ok { OnOk result (AllStep self.old self.new fusions.now self.old.matrix self.old.harmonics (bots_fused self.old.bots fusions.now)) }
+        ensures primary { (first second : Act) → Contains (acts self.old.bots fusions.now) first → Contains (acts self.old.bots fusions.now) second → IsTrue (is_pair first second) → successors (acts self.old.bots fusions.now) first first.command ≡ fused first.bot second.bot ∷ [] }
+        ensures err { OnErr result (self.new ≡ self.old) }
+    {
+        free_bots_break_no_rule();
+        bots_act();
+        self.know_ready();
+        self.step(fusions)
+    }
+
     /// The only bot changes the harmonics. Where they are Low then, each full voxel is grounded.
     pub fn flip(&mut self) -> Result<(), Memory>
         requires alone { length self.old.bots ≡ 1 }
@@ -323,8 +433,10 @@ impl Tape {
         ensures commands { result.commands ≡ self.commands }
         ensures energy { result.energy ≡ self.energy }
         ensures steps { result.steps ≡ self.steps }
+        ensures are_commands { AreCommands result.commands }
         ensures accepted { (target : MatrixValue) → AreAlike self.matrix target → IsAccepted self.source target result.commands self.profile result.energy result.steps }
     {
+        know_all(&self.commands);
         Plan {
             commands: CommandList::from_vec(self.commands),
             energy: self.system.energy(),

@@ -13,7 +13,7 @@ loop-at-preserved c =
       so_far = (
         s.0 ++ SMove d ∷ [],
         c.push_reserved.ensures.items ∙ (ap (λ xs. xs ++ SMove d ∷ []) s.1 ∙ append_assoc c.args.commands.now.items s.0 (SMove d ∷ [])),
-        one_more_move c.args.axis c.args.from c.loop-at.at c.next_stop-next.result c.args.to s.0 d c.towards.ensures c.next_stop-next.ensures.onward s.2,
+        one_more_move c.args.axis c.args.from c.loop-at.at c.next_stop-next.result c.args.to s.0 d c.towards.ensures (record { onward = c.next_stop-next.ensures.onward; near = let n = c.next_stop-next.ensures.near in omega arith }) s.2,
         let all = s.3 in omega arith,
       );
       len = let len = c.loop-at.invariant.len in let one = c.push_reserved.ensures.len in omega arith;
