@@ -1,6 +1,6 @@
 -- Where a legal model is void, and when two models are the same.
-use Rattle.std.proofs.Common.{◌≡◌, ℕ, ◌+◌, ◌-◌, cond, ◌≤◌, ◌⊎◌, inl, inr, nat_le, nat_lt, refl, sym, ◌∙◌, ap, subst, arith, List, [], ◌∷◌, Bool, true, false, ◌&&◌, ◌||◌, not}
-use Rattle.std.specs.Prelude.{IsTrue, None, find, pos}
+use Rattle.std.proofs.Common.{◌≡◌, ℕ, ◌+◌, ◌-◌, cond, ◌<◌, ◌≤◌, ◌⊎◌, inl, inr, nat_le, nat_lt, refl, sym, ◌∙◌, ap, subst, arith, Bool, true, false, ◌&&◌, not}
+use Rattle.std.specs.Prelude.{IsTrue, None, pos}
 use Rattle.std.proofs.lemmas.Bool.Decides.{nat_tests}
 use Rattle.vox_geom.specs.declared.coordinate.Coord.{Coord}
 use Rattle.vox_geom.specs.Point.{point}
@@ -8,8 +8,7 @@ use Rattle.vox_geom.specs.Region.{is_between}
 use Rattle.vox_geom.specs.Space.{IsInSpace, in_space}
 use Rattle.nano_spec.specs.Grounded.{FirstUngrounded}
 use Rattle.nano_spec.specs.Legal.{IsLegal, in_legal_box}
-use Rattle.nano_spec.specs.Matrix.{Matrix, empty, is_full, all_of, differ_at, matrix_where}
-use Rattle.nano_spec.specs.Verdict.{first_difference}
+use Rattle.nano_spec.specs.Matrix.{Matrix, empty, is_full, all_of, matrix_where}
 use Rattle.nano_spec.proofs.Opening.{legal_is}
 use Rattle.step_order.proofs.Lists.{find_none}
 use Rattle.step_order.proofs.Voxels.{as_it_is, full_where, in_coordinates, matrix_same}
@@ -34,7 +33,7 @@ in_box true false e f = cc
 in_box false box e f = cc
 
 -- a full voxel of a legal model is in the legal box
-legal_box : (m : Matrix) (c : Coord) → IsLegal m → is_full m c ≡ true → in_legal_box m.resolution c ≡ true
+pub legal_box : (m : Matrix) (c : Coord) → IsLegal m → is_full m c ≡ true → in_legal_box m.resolution c ≡ true
 legal_box m c h f =
     in_box (is_full m c) (in_legal_box m.resolution c)
     (find_none (λ d. is_full m d && not (in_legal_box m.resolution d)) c (all_of m) (legal_is m h).0 (in_coordinates m.resolution c (space m.resolution c (within m.resolution c _ f)))) f
@@ -101,39 +100,26 @@ alike_is_same m n v w e h =
     ∙ (matrix_same m.resolution (is_full m) (is_full n) h
     ∙ (ap (λ r. matrix_where r (is_full n)) e ∙ as_it_is n w.voxels))
 
-unlike : (a b : Bool) → ((a && not b) || (b && not a)) ≡ false → a ≡ b
-unlike true true e = refl
-unlike true false e = cc
-unlike false true e = cc
-unlike false false e = refl
+-- below the layer down to which the source was voided all is as it was
+pub left_alone : (source b nothing : Matrix) (low : ℕ) → IsPainted b source nothing (from_layer low) → (c : Coord) → c.y < low → is_full b c ≡ is_full source c
+left_alone source b nothing low p c l = let f : from_layer low c ≡ false = grind (arith, nat_tests) in p c ∙ ap (λ t. cond t (is_full nothing c) (is_full source c)) f
 
-pub no_difference : (m n : Matrix) → IsWhole m → IsWhole n → m.resolution ≡ n.resolution → first_difference m n ≡ None → m ≡ n
-no_difference m n v w e h = alike_is_same m n v w e (λ c i. unlike (is_full m c) (is_full n c) (find_none (differ_at m n) c (all_of m) h (in_coordinates m.resolution c i)))
+-- and from it on all is void
+pub void_from : (source b nothing : Matrix) (low : ℕ) → IsVoidFrom nothing 0 → IsPainted b source nothing (from_layer low) → IsVoidFrom b low
+void_from source b nothing low n p = λ c l. let t : from_layer low c ≡ true = grind (arith, nat_tests) in p c ∙ (ap (λ t. cond t (is_full nothing c) (is_full source c)) t ∙ n c (omega arith))
 
-like : (a : Bool) → ((a && not a) || (a && not a)) ≡ false
-like true = refl
-like false = refl
-
-pub same_difference : (m n : Matrix) → m ≡ n → first_difference m n ≡ None
-same_difference m n e = subst (λ (k : Matrix). first_difference m k ≡ None) e (none (differ_at m m) (all_of m) (λ c. like (is_full m c)))
+-- where all was void from a layer on and was built, the voxels are those of the target
+pub rebuilt_is : (b c target : Matrix) (low : ℕ) → IsLegal target → b.resolution ≡ target.resolution → low < b.resolution → IsVoidFrom b low → IsPainted c b target (below_layer (b.resolution - 1)) → AreAlike c target
+rebuilt_is b c target low h e l void q = λ d. by d (below_layer (b.resolution - 1) d) refl
   where
-    none : (test : Coord → Bool) (xs : List Coord) → ((c : Coord) → test c ≡ false) → find test xs ≡ None
-    none test [] h = refl
-    none test (c ∷ xs) h = rw (h c) (none test xs h)
-
--- where all has been voided and built again, the voxels are those of the target
-pub rebuilt_is : (source b c nothing target : Matrix) → IsLegal target → b.resolution ≡ target.resolution → IsVoidFrom nothing 0 → IsPainted b source nothing (from_layer 0) → IsPainted c b target (below_layer (b.resolution - 1)) → AreAlike c target
-rebuilt_is source b c nothing target h e n p q = λ d. by d (below_layer (b.resolution - 1) d) refl
-  where
-    void : (d : Coord) → is_full b d ≡ false
-    void d = let all : from_layer 0 d ≡ true = grind (arith, nat_tests) in p d ∙ (ap (λ t. cond t (is_full nothing d) (is_full source d)) all ∙ n d (omega arith))
-
-    high : (d : Coord) → below_layer (b.resolution - 1) d ≡ false → target.resolution - 1 ≤ d.y
-    high d f = subst (λ r. r - 1 ≤ d.y) e (grind (arith, nat_tests))
+    high : (d : Coord) → below_layer (b.resolution - 1) d ≡ false → b.resolution - 1 ≤ d.y
+    high d f = grind (arith, nat_tests)
 
     by : (d : Coord) (t : Bool) → below_layer (b.resolution - 1) d ≡ t → is_full c d ≡ is_full target d
     by d true f = q d ∙ ap (λ t. cond t (is_full target d) (is_full b d)) f
-    by d false f = q d ∙ (ap (λ t. cond t (is_full target d) (is_full b d)) f ∙ (void d ∙ sym (void_at_top target h d (high d f))))
+    by d false f =
+        let top = high d f in
+        q d ∙ (ap (λ t. cond t (is_full target d) (is_full b d)) f ∙ (void d (omega (arith, top, l)) ∙ sym (void_at_top target h d (omega (arith, top, e)))))
 
 -- the empty model is void
 pub empty_is_void : (r : ℕ) (c : Coord) → is_full (empty r) c ≡ false

@@ -1,5 +1,6 @@
 pub mod Bounds
 pub mod Legality
+pub mod Lowest
 pub mod Paints
 pub mod Sweeps
 pub mod Ways

@@ -58,6 +58,10 @@ outside r q c i o = by (voxel c.x c.y c.z q) refl
 none : (a b : Bool) → a ≡ false → (a && b) ≡ false
 none a b e = rw e refl
 
+-- no voxel is full out of space
+pub void_out : (r : ℕ) (n : Matrix) (c : Coord) → n.resolution ≡ r → in_space r (point c) ≡ false → is_full n c ≡ false
+void_out r n c e o = none (in_space n.resolution (point c)) _ (ap (λ k. in_space k (point c)) e ∙ o)
+
 -- the voxels of a matrix of which one was changed
 full_with : (m : Matrix) (c : Coord) (b : Bool) (q : Coord) → IsInSpace m.resolution c → is_full (with_voxel m c b) q ≡ cond (voxel c.x c.y c.z q) b (is_full m q)
 full_with m c b q i = by (in_space m.resolution (point q)) refl
@@ -116,6 +120,17 @@ below_layer-more y c = by c.y
     by : (v : ℕ) → nat_lt v (y + 1) ≡ (v == y || nat_lt v y)
     by v = grind (arith, nat_tests)
 
+-- below a layer the voxels are those of the goal already
+pub same_below : (m goal : Matrix) (low : ℕ) → ((c : Coord) → c.y < low → is_full m c ≡ is_full goal c) → IsPainted m m goal (below_layer low)
+same_below m goal low h = λ c. by c (nat_lt c.y low) refl
+  where
+    less : (v y : ℕ) → nat_lt v y ≡ true → v < y
+    less v y e = grind (arith, nat_tests)
+
+    by : (c : Coord) (t : Bool) → nat_lt c.y low ≡ t → is_full m c ≡ cond t (is_full goal c) (is_full m c)
+    by c true e = h c (less c.y low e)
+    by c false e = refl
+
 -- ---- whole rows and layers
 
 outside_z : (a b c d : Bool) → c ≡ false → (a && b && c && d) ≡ false
@@ -129,10 +144,10 @@ outside_x a b c d e = rw e refl
 past : (r v : ℕ) → nat_lt v r ≡ false → in_range r (pos v) ≡ false
 past r v e = grind (arith, nat_tests)
 
-void_past_z : (m : Matrix) (c : Coord) → nat_lt c.z m.resolution ≡ false → is_full m c ≡ false
+pub void_past_z : (m : Matrix) (c : Coord) → nat_lt c.z m.resolution ≡ false → is_full m c ≡ false
 void_past_z m c e = outside_z (in_range m.resolution (pos c.x)) (in_range m.resolution (pos c.y)) (in_range m.resolution (pos c.z)) _ (past m.resolution c.z e)
 
-void_past_x : (m : Matrix) (c : Coord) → nat_lt c.x m.resolution ≡ false → is_full m c ≡ false
+pub void_past_x : (m : Matrix) (c : Coord) → nat_lt c.x m.resolution ≡ false → is_full m c ≡ false
 void_past_x m c e = outside_x (in_range m.resolution (pos c.x)) (in_range m.resolution (pos c.y)) (in_range m.resolution (pos c.z)) _ (past m.resolution c.x e)
 
 all_false : (t a b c : Bool) → a ≡ false → b ≡ false → c ≡ false → a ≡ cond t b c
@@ -161,6 +176,10 @@ module _ (a m goal : Matrix) (r : ℕ) (ra : a.resolution ≡ r) (rm : m.resolut
 
 -- ---- tapes
 
+-- what is so already is painted
+pub paints_yet : (a : Progress) (goal : Matrix) (done : Coord → Bool) (at : Coord) (most : ℕ) → CanSweep a goal → IsPainted a.matrix a.matrix goal done → Paints a a goal done at at most
+paints_yet a goal done at most k h = record { source = refl; resolution = refl; painted = h; ready = k; bytes_are = omega arith; steps_are = omega arith }
+
 -- nothing is painted yet
 pub paints_none : (a : Progress) (goal : Matrix) (none : Coord → Bool) (at : Coord) → CanSweep a goal → ((c : Coord) → none c ≡ false) → Paints a a goal none at at 0
 paints_none a goal none at k e = record { source = refl; resolution = refl; painted = λ c. rw (e c) refl; ready = k; bytes_are = omega arith; steps_are = omega arith }
@@ -186,6 +205,10 @@ paints_to a b goal done p q s k n most h l m = record {
   bytes_are = let x = h.bytes_are in let w = moves_on (spot b.bots) q s in omega arith;
   steps_are = let x = h.steps_are in let w = moves_on (spot b.bots) q s in omega arith;
 }
+
+-- a greater bound holds too
+pub paints_few : (a b : Progress) (goal : Matrix) (done : Coord → Bool) (p q : Coord) (k most : ℕ) → Paints a b goal done p q k → k ≤ most → Paints a b goal done p q most
+paints_few a b goal done p q k most h l = record { source = h.source; resolution = h.resolution; painted = h.painted; ready = h.ready; bytes_are = let x = h.bytes_are in omega arith; steps_are = let x = h.steps_are in omega arith }
 
 -- where the voxels that are told by another test are the same
 pub paints_as : (a b : Progress) (goal : Matrix) (done all : Coord → Bool) (p q : Coord) (k : ℕ) → Paints a b goal done p q k → IsPainted b.matrix a.matrix goal all → Paints a b goal all p q k

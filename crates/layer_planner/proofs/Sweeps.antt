@@ -1,5 +1,5 @@
 -- What painting a voxel and sweeping over layers leave.
-use Rattle.std.proofs.Common.{◌≡◌, ℕ, ◌+◌, ◌-◌, ◌*◌, ◌<◌, ◌≤◌, refl, sym, ◌∙◌, ap, subst, arith, Bool, true, false, cond, length}
+use Rattle.std.proofs.Common.{◌≡◌, ℕ, ◌+◌, ◌-◌, ◌*◌, ◌<◌, ◌≤◌, refl, sym, ◌∙◌, ap, subst, arith, Bool, true, false, cond, length, mul-le-mul}
 use Rattle.std.specs.Prelude.{ℤ, pos, negsuc, ◌+ℤ◌, unsigned_abs}
 use Rattle.std.proofs.lemmas.Int.{ints}
 use Rattle.vox_geom.specs.declared.coordinate.Coord.{Coord}
@@ -64,6 +64,9 @@ wrote a b c goal k v cost x y z ready hx hz m w s e =
 
 pub one_layer_less : (r y n : ℕ) → 0 < y → y < r → (r - 1 - y) * n + n ≤ (r - 1 - (y - 1)) * n
 one_layer_less r y n h l = let e : r - 1 - (y - 1) ≡ r - 1 - y + 1 = omega arith in rw e (omega arith)
+
+pub fewer_layers : (r y n : ℕ) → (r - 1 - y) * n ≤ (r - 1) * n
+fewer_layers r y n = mul-le-mul (let l : r - 1 - y ≤ r - 1 = omega arith in l) (let s : n ≤ n = omega arith in s)
 
 -- both sweeps together
 pub spent : (built cleared shifted start ra rb rs rt : ℕ) → built ≤ shifted + (rb - 1) * layer_bytes rb → shifted ≤ cleared + 2 → cleared ≤ start + (ra - 1) * layer_bytes ra → start ≤ rs + 1 → rb ≡ rt → ra ≡ rt → rs ≡ rt → built ≤ rt + 3 + 2 * ((rt - 1) * layer_bytes rt)

@@ -1,10 +1,13 @@
-//! A planner with one bot, which voids the source from the top down and fills the target from the floor up, from one layer
-//! above and under High. It goes to the voxels that change, and to no other.
+//! A planner with one bot, which voids the source from the top down to the lowest layer in which it differs from the target,
+//! and fills the target from there up, from one layer above and under High. It goes to the voxels that change, and to no
+//! other.
 #![tactic(auto)]
 
+mod difference;
 mod paint;
 mod plan;
 
+pub use difference::lowest_difference;
 pub use plan::plan_layers;
 
 #[cfg(test)]

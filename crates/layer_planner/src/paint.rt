@@ -1,6 +1,7 @@
 //! Voxels, rows and layers that are made those of a goal, from one layer above.
 ghost use Rattle.std.specs.Prelude.{◌≡◌, ◌+◌, ◌-◌, ◌*◌, ◌<◌, ◌≤◌, OnOk};
-ghost use Rattle.vox_geom.specs.Space.{IsInSpace};
+ghost use Rattle.vox_geom.specs.declared.coordinate.Coord.{Coord as Coordinate};
+ghost use Rattle.nano_spec.specs.Matrix.{is_full as is_full_of};
 ghost use Rattle.plan_tape.specs.Progress.{spot};
 ghost use Rattle.layer_planner.specs.Painting.{CanPaint, CanSweep, IsVoidFrom, Paints, below_layer, coord, down as down_of, from_layer, layer, layer_bytes, row, row_bytes, steps_to, voxel};
 ghost use Rattle.layer_planner.specs.Phases.{end, top};
@@ -69,30 +70,33 @@ fn paint_layer(tape: &mut Tape, goal: &Planes, y: u16) -> Result<(), Memory>
     Ok(())
 }
 
-/// Voids all layers, from the top down.
-pub fn clear(tape: &mut Tape, nothing: &Planes) -> Result<(), Memory>
+/// Voids all layers from the top down to one.
+pub fn clear(tape: &mut Tape, nothing: &Planes, low: u16) -> Result<(), Memory>
     requires ready { CanSweep tape.old nothing.now }
     requires top { IsVoidFrom tape.old.matrix (tape.old.matrix.resolution - 1) }
     requires nothing { IsVoidFrom nothing.now 0 }
+    requires low { low < tape.old.matrix.resolution }
     requires limit { steps_to tape.old (top tape.old.matrix) + (tape.old.matrix.resolution - 1) * layer_bytes tape.old.matrix.resolution < 1073741824 }
-    ensures { OnOk result (Paints tape.old tape.new nothing.now (from_layer 0) (top tape.old.matrix) (coord 0 0 0) ((tape.old.matrix.resolution - 1) * layer_bytes tape.old.matrix.resolution)) }
+    ensures { OnOk result (Paints tape.old tape.new nothing.now (from_layer low) (top tape.old.matrix) (coord 0 low 0) ((tape.old.matrix.resolution - 1) * layer_bytes tape.old.matrix.resolution)) }
 {
     let mut y = nothing.resolution() - 1;
-    while y > 0 {
+    while y > low {
         y -= 1;
         paint_layer(tape, nothing, y)?;
     }
     Ok(())
 }
 
-/// Makes all layers those of the goal, from the floor up.
-pub fn build(tape: &mut Tape, goal: &Planes) -> Result<(), Memory>
+/// Makes all layers those of the goal, from one up. Those below it are so already.
+pub fn build(tape: &mut Tape, goal: &Planes, low: u16) -> Result<(), Memory>
     requires ready { CanSweep tape.old goal.now }
-    requires void { IsVoidFrom tape.old.matrix 0 }
-    requires limit { steps_to tape.old (coord 0 1 0) + (tape.old.matrix.resolution - 1) * layer_bytes tape.old.matrix.resolution < 1073741824 }
-    ensures { OnOk result (Paints tape.old tape.new goal.now (below_layer (tape.old.matrix.resolution - 1)) (coord 0 1 0) (end tape.old.matrix) ((tape.old.matrix.resolution - 1) * layer_bytes tape.old.matrix.resolution)) }
+    requires low { low < tape.old.matrix.resolution }
+    requires below { (c : Coordinate) → c.y < low → is_full_of tape.old.matrix c ≡ is_full_of goal.now c }
+    requires void { IsVoidFrom tape.old.matrix low }
+    requires limit { steps_to tape.old (coord 0 (low + 1) 0) + (tape.old.matrix.resolution - 1) * layer_bytes tape.old.matrix.resolution < 1073741824 }
+    ensures { OnOk result (Paints tape.old tape.new goal.now (below_layer (tape.old.matrix.resolution - 1)) (coord 0 (low + 1) 0) (end tape.old.matrix) ((tape.old.matrix.resolution - 1) * layer_bytes tape.old.matrix.resolution)) }
 {
-    for y in 0..goal.resolution() - 1 {
+    for y in low..goal.resolution() - 1 {
         paint_layer(tape, goal, y)?;
     }
     Ok(())

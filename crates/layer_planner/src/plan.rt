@@ -1,44 +1,20 @@
 //! The plan.
-ghost use Rattle.std.specs.Prelude.{◌≡◌, ◌≢◌, ◌+◌, ◌*◌, ◌<◌, ◌≤◌, [], ◌∷◌, IfOk, OnOk, IsFalse, IsTrue, length};
+ghost use Rattle.std.specs.Prelude.{◌≡◌, ◌+◌, ◌*◌, ◌<◌, ◌≤◌, [], ◌∷◌, IfOk, OnOk, length};
 ghost use Rattle.nano_spec.specs.Legal.{IsLegal};
 ghost use Rattle.nano_spec.specs.Profile.{full_profile};
 ghost use Rattle.nano_spec.specs.Spelling.{spellings};
 ghost use Rattle.plan_tape.specs.Progress.{IsAccepted};
+ghost use Rattle.layer_planner.specs.Lowest.{IsLowest};
 ghost use Rattle.layer_planner.specs.Painting.{IsVoidFrom};
 ghost use Rattle.layer_planner.specs.Phases.{IsOpened, IsRebuilt};
 
+use crate::difference::lowest_difference;
 use crate::paint::{build, clear};
 use nano_spec::Command;
 use plan_tape::{Plan, Tape};
 use std::alloc::Global;
-use std::marker::Brand;
-use std::sync::ledger::{Blank, Ledger};
-use vox_geom::{Coord, Memory, Steps};
+use vox_geom::{Coord, Memory};
 use vox_planes::Planes;
-
-/// Whether both models are the same, counted in a ledger of its own.
-fn are_same_in<L: Ledger>(source: &Planes, target: &Planes, blank: Blank) -> bool
-    requires same { source.now.resolution ≡ target.now.resolution }
-    requires name { blank.name ≡ L.name }
-    requires parts { blank.parts ≡ L.parts }
-    requires some { 0 < L.parts }
-    ensures same { IsTrue result → source.now ≡ target.now }
-    ensures differ { IsFalse result → source.now ≢ target.now }
-{
-    let _ = source.resolution();
-    let _ = target.resolution();
-    let mut steps: Steps<L> = Steps::new(blank);
-    source.equal(target, &mut steps).is_none()
-}
-
-/// Whether both models are the same.
-fn are_same(source: &Planes, target: &Planes) -> bool
-    requires { source.now.resolution ≡ target.now.resolution }
-    ensures same { IsTrue result → source.now ≡ target.now }
-    ensures differ { IsFalse result → source.now ≢ target.now }
-{
-    are_same_in::<Brand>(source, target, Blank::new(1))
-}
 
 /// The tape with the bot at the top above the origin, under High.
 fn opened(alloc: Global, source: Planes) -> Result<Tape, Memory>
@@ -57,20 +33,21 @@ fn opened(alloc: Global, source: Planes) -> Result<Tape, Memory>
     Ok(tape)
 }
 
-/// Voids all of the source and builds the target.
-fn rebuild(tape: &mut Tape, nothing: &Planes, target: &Planes) -> Result<(), Memory>
+/// Voids the source down to the lowest layer in which it differs from the target, and builds the target from there.
+fn rebuild(tape: &mut Tape, nothing: &Planes, target: &Planes, low: u16) -> Result<(), Memory>
     requires opened { IsOpened tape.old }
     requires source { IsLegal tape.old.source }
     requires target { IsLegal target.now }
     requires same { target.now.resolution ≡ tape.old.source.resolution }
     requires size { nothing.now.resolution ≡ tape.old.source.resolution }
     requires nothing { IsVoidFrom nothing.now 0 }
+    requires lowest { IsLowest tape.old.source target.now low }
     ensures source { OnOk result (tape.new.source ≡ tape.old.source) }
     ensures rebuilt { OnOk result (IsRebuilt tape.new target.now) }
 {
     let _ = target.resolution();
-    clear(tape, nothing)?;
-    build(tape, target)?;
+    clear(tape, nothing, low)?;
+    build(tape, target, low)?;
     Ok(())
 }
 
@@ -101,7 +78,8 @@ fn only_halt(alloc: Global, source: Planes) -> Result<Plan, Memory>
 }
 
 /// A plan that makes the target of the source, by one bot. Both models are legal. Its commands are spelled in at most
-/// 8 * r * r * r + 200 bytes at resolution r; where both models are the same, they are a Halt alone.
+/// 8 * r * r * r + 200 bytes at resolution r; where both models are the same, they are a Halt alone. Layers below the lowest
+/// one in which the models differ are left alone.
 pub fn plan_layers(alloc: Global, source: &Planes, target: &Planes) -> Result<Plan, Memory>
     requires source { IsLegal source.now }
     requires target { IsLegal target.now }
@@ -110,11 +88,11 @@ pub fn plan_layers(alloc: Global, source: &Planes, target: &Planes) -> Result<Pl
     ensures bytes { IfOk result (λ plan. length (spellings plan.commands) ≤ 8 * source.now.resolution * source.now.resolution * source.now.resolution + 200) }
     ensures halt_alone { source.now ≡ target.now → IfOk result (λ plan. plan.commands ≡ Command.Halt ∷ []) }
 {
-    if are_same(source, target) {
+    let Some(low) = lowest_difference(source, target) else {
         return only_halt(alloc, source.copy(alloc)?);
-    }
+    };
     let nothing = Planes::empty(alloc, target.resolution())?;
     let mut tape = opened(alloc, source.copy(alloc)?)?;
-    rebuild(&mut tape, &nothing, target)?;
+    rebuild(&mut tape, &nothing, target, low)?;
     closed(tape, target)
 }

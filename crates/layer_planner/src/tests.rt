@@ -10,6 +10,11 @@ const EMPTY: [u8; 5] = [3, 0, 0, 0, 0];
 
 const POST: [u8; 5] = [3, 0, 4, 0, 0];
 
+/// Models of resolution 5 with the voxels (1,0,1) and (1,0,2), and on them (1,1,1), or (1,1,2).
+const LEFT: [u8; 17] = [5, 0, 0, 0, 0x8C, 0, 0, 0, 0, 0, 0, 0, 0, 0, 0, 0, 0];
+
+const RIGHT: [u8; 17] = [5, 0, 0, 0, 0x0C, 1, 0, 0, 0, 0, 0, 0, 0, 0, 0, 0, 0];
+
 /// The plan between the models of two files, if they are legal and of one resolution.
 fn planned(alloc: Global, source: &[u8], target: &[u8]) -> Result<Plan, ModelFault> {
     let source = read_model(alloc, source)?;
@@ -25,10 +30,11 @@ fn planned(alloc: Global, source: &[u8], target: &[u8]) -> Result<Plan, ModelFau
 
 #[test]
 fn plans_pay_by_their_steps(rt: HostRuntime) -> Result<(), Fail> {
-    let cases: [(&[u8], &[u8], i64, u32); 4] = [
+    let cases: [(&[u8], &[u8], i64, u32); 5] = [
         (&POST, &POST, 101, 1),
         (&EMPTY, &POST, 7700, 11),
         (&POST, &EMPTY, 7676, 11),
+        (&LEFT, &RIGHT, 42288, 13),
         (&[1, 0], &[1, 0], 23, 1),
     ];
     for (source, target, energy, steps) in cases {
@@ -41,5 +47,23 @@ fn plans_pay_by_their_steps(rt: HostRuntime) -> Result<(), Fail> {
             Err(fault) => assert_eq!(rt; fault.number(), 0),
         }
     }
+    Ok(())
+}
+
+/// The lowest layer in which the models of two files differ, if they are of one resolution.
+fn lowest(alloc: Global, source: &[u8], target: &[u8]) -> Result<Option<u16>, ModelFault> {
+    let source = read_model(alloc, source)?;
+    let target = read_model(alloc, target)?;
+    if source.resolution() != target.resolution() {
+        return Err(ModelFault::NoByte);
+    }
+    Ok(lowest_difference(&source, &target))
+}
+
+#[test]
+fn the_lowest_difference_is_found(rt: HostRuntime) -> Result<(), Fail> {
+    assert_eq!(rt; lowest(rt.alloc(), &LEFT, &LEFT), Ok(None));
+    assert_eq!(rt; lowest(rt.alloc(), &LEFT, &RIGHT), Ok(Some(1)));
+    assert_eq!(rt; lowest(rt.alloc(), &EMPTY, &POST), Ok(Some(0)));
     Ok(())
 }

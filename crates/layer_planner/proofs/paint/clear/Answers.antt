@@ -1,8 +1,8 @@
 use Rattle.std.proofs.Common.{◌≡◌, ◌-◌, ◌+◌, ◌*◌, subst, arith}
 use Rattle.layer_planner.specs.Painting.{Paints, coord, from_layer, layer, layer_bytes, row_bytes}
 use Rattle.layer_planner.specs.Phases.{top}
-use Rattle.layer_planner.proofs.Paints.{from_layer-more, paints_more, paints_to}
-use Rattle.layer_planner.proofs.Sweeps.{one_layer_less}
+use Rattle.layer_planner.proofs.Paints.{from_layer-more, paints_few, paints_more, paints_to}
+use Rattle.layer_planner.proofs.Sweeps.{fewer_layers, one_layer_less}
 use Rattle.layer_planner.proofs.Ways.{next_layer}
 use Rattle.layer_planner.proofs.paint.clear.Goals as goal
 
@@ -24,4 +24,15 @@ loop-y-preserved c =
           (paints_more a b c.paint_layer.new.tape c.args.nothing.now (from_layer y) (layer (y - 1)) (from_layer (y - 1)) (top a.matrix) (coord 0 y 0) (coord r y 0) ((r - 1 - y) * layer_bytes r) (r * row_bytes r) ((r - 1 - y) * layer_bytes r + r * row_bytes r) inv.paints painted (λ d. from_layer-more y d (omega arith)) (omega arith))
           (next_layer r y (y - 1) (omega arith) (omega arith) (omega arith)) (let less = one_layer_less r y (layer_bytes r) (omega arith) inv.within in omega arith);
       within = omega arith;
+      low = omega arith;
     }
+
+pub returns : goal.returns
+returns c =
+    let a = c.args.tape.now in
+    let y = c.loop-y.y in
+    let inv = c.loop-y.invariant in
+    let r = a.matrix.resolution in
+    let down : y ≡ c.args.low = let l = inv.low in omega arith in
+    subst (λ n. Paints a c.loop-y.tape c.args.nothing.now (from_layer n) (top a.matrix) (coord 0 n 0) ((r - 1) * layer_bytes r)) down
+    (paints_few a c.loop-y.tape c.args.nothing.now (from_layer y) (top a.matrix) (coord 0 y 0) _ _ inv.paints (fewer_layers r y (layer_bytes r)))

@@ -1,4 +1,4 @@
-use Rattle.std.proofs.Common.{◌-◌, ◌*◌, ◌<◌}
+use Rattle.std.proofs.Common.{◌-◌, ◌*◌, ◌<◌, ◌≤◌}
 use Rattle.layer_planner.specs.Painting.{Paints, coord, from_layer, layer_bytes}
 use Rattle.layer_planner.specs.Phases.{top}
 use Rattle.layer_planner.proofs.paint.clear.Given as goal
@@ -8,6 +8,7 @@ abbrev pub invariant-loop-y : goal.invariant-loop-y
 invariant-loop-y l = record {
   paints : Paints l.initial.tape l.tape l.nothing (from_layer l.y) (top l.initial.tape.matrix) (coord 0 l.y 0) ((l.initial.tape.matrix.resolution - 1 - l.y) * layer_bytes l.initial.tape.matrix.resolution);
   within : l.y < l.initial.tape.matrix.resolution;
+  low : l.low ≤ l.y;
 }
 
 abbrev pub decreases-loop-y : goal.decreases-loop-y

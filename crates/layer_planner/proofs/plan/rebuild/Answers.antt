@@ -1,11 +1,12 @@
 use Rattle.std.proofs.Common.{◌≡◌, ◌+◌, ◌*◌, ◌-◌, ◌≤◌, sym, ◌∙◌, ap, subst, arith}
 use Rattle.vox_geom.specs.declared.coordinate.Coord.{Coord}
-use Rattle.nano_spec.specs.Matrix.{Matrix}
+use Rattle.nano_spec.specs.Matrix.{Matrix, is_full}
 use Rattle.plan_tape.specs.Leg.{moves_to}
 use Rattle.plan_tape.specs.Progress.{spot}
-use Rattle.layer_planner.specs.Painting.{IsPainted, IsVoidFrom, bytes_to, coord, from_layer, layer_bytes, steps_to}
+use Rattle.layer_planner.specs.Painting.{IsVoidFrom, bytes_to, coord, layer_bytes, steps_to}
 use Rattle.layer_planner.specs.Phases.{end, top}
-use Rattle.layer_planner.proofs.Legality.{rebuilt_is, void_at_top}
+use Rattle.layer_planner.proofs.Bounds.{total_fits}
+use Rattle.layer_planner.proofs.Legality.{left_alone, rebuilt_is, void_at_top, void_from}
 use Rattle.layer_planner.proofs.Sweeps.{spent}
 use Rattle.layer_planner.proofs.Ways.{moves_on, no_moves}
 use Rattle.layer_planner.proofs.plan.rebuild.Goals as goal
@@ -44,10 +45,40 @@ returns-clause-rebuilt c =
     let t = c.args.target.now.resolution in
     let to : end c.args.target.now ≡ end b.matrix = ap (λ n. coord 0 n 0) (sym rt) in
     let start : moves_to (spot a.bots) (top a.matrix) ≡ 0 = ap (λ (s : Coord). moves_to s (top a.matrix)) (o.there ∙ ap (λ n. coord 0 (n - 1) 0) (sym er)) ∙ no_moves (top a.matrix) in
-    let on = moves_on (spot b.bots) (coord 0 0 0) (coord 0 1 0) in
+    let low = c.args.low in
+    let on = moves_on (spot b.bots) (coord 0 low 0) (coord 0 (low + 1) 0) in
     record {
-      matrix = rebuilt_is a.source b.matrix d.matrix c.args.nothing.now c.args.target.now c.requires.target rt c.requires.nothing (subst (λ (m : Matrix). IsPainted b.matrix m c.args.nothing.now (from_layer 0)) o.matrix p.painted) q.painted;
+      matrix = rebuilt_is b.matrix d.matrix c.args.target.now low c.requires.target rt (let l = c.requires.lowest.within in omega (arith, l, er, p.resolution)) (void_from a.matrix b.matrix c.args.nothing.now low c.requires.nothing p.painted) q.painted;
       ready = q.ready;
-      bytes_are = subst (λ n. n ≤ t + 3 + 2 * ((t - 1) * layer_bytes t)) (sym (ap (bytes_to d) to)) (spent (bytes_to d (end b.matrix)) (bytes_to b (coord 0 0 0)) (bytes_to b (coord 0 1 0)) (bytes_to a (top a.matrix)) a.matrix.resolution b.matrix.resolution a.source.resolution c.args.target.now.resolution q.bytes_are (omega arith) p.bytes_are (let s = o.bytes_are in omega arith) rt ra (sym c.requires.same));
-      steps_are = subst (λ n. n ≤ t + 3 + 2 * ((t - 1) * layer_bytes t)) (sym (ap (steps_to d) to)) (spent (steps_to d (end b.matrix)) (steps_to b (coord 0 0 0)) (steps_to b (coord 0 1 0)) (steps_to a (top a.matrix)) a.matrix.resolution b.matrix.resolution a.source.resolution c.args.target.now.resolution q.steps_are (omega arith) p.steps_are (let s = o.steps_are in omega arith) rt ra (sym c.requires.same));
+      bytes_are = subst (λ n. n ≤ t + 3 + 2 * ((t - 1) * layer_bytes t)) (sym (ap (bytes_to d) to)) (spent (bytes_to d (end b.matrix)) (bytes_to b (coord 0 low 0)) (bytes_to b (coord 0 (low + 1) 0)) (bytes_to a (top a.matrix)) a.matrix.resolution b.matrix.resolution a.source.resolution c.args.target.now.resolution q.bytes_are (omega arith) p.bytes_are (let s = o.bytes_are in omega arith) rt ra (sym c.requires.same));
+      steps_are = subst (λ n. n ≤ t + 3 + 2 * ((t - 1) * layer_bytes t)) (sym (ap (steps_to d) to)) (spent (steps_to d (end b.matrix)) (steps_to b (coord 0 low 0)) (steps_to b (coord 0 (low + 1) 0)) (steps_to a (top a.matrix)) a.matrix.resolution b.matrix.resolution a.source.resolution c.args.target.now.resolution q.steps_are (omega arith) p.steps_are (let s = o.steps_are in omega arith) rt ra (sym c.requires.same));
     }
+
+pub clear-requires-clause-low : goal.clear-requires-clause-low
+clear-requires-clause-low c = let e = ap (λ (m : Matrix). m.resolution) c.requires.opened.matrix in let l = c.requires.lowest.within in omega (arith, e, l)
+
+pub build-requires-clause-low : goal.build-requires-clause-low
+build-requires-clause-low c = let e = ap (λ (m : Matrix). m.resolution) c.requires.opened.matrix in let l = c.requires.lowest.within in let s = c.in_ok-clear.ensures.resolution in omega (arith, e, l, s)
+
+pub build-requires-clause-void : goal.build-requires-clause-void
+build-requires-clause-void c = void_from c.args.tape.now.matrix c.clear.new.tape.matrix c.args.nothing.now c.args.low c.requires.nothing c.in_ok-clear.ensures.painted
+
+pub build-requires-clause-below : goal.build-requires-clause-below
+build-requires-clause-below c = λ d l. left_alone c.args.tape.now.matrix c.clear.new.tape.matrix c.args.nothing.now c.args.low c.in_ok-clear.ensures.painted d l ∙ (ap (λ (m : Matrix). is_full m d) c.requires.opened.matrix ∙ c.requires.lowest.below d l)
+
+pub build-requires-clause-limit : goal.build-requires-clause-limit
+build-requires-clause-limit c =
+    let a = c.args.tape.now in
+    let b = c.clear.new.tape in
+    let o = c.requires.opened in
+    let p = c.in_ok-clear.ensures in
+    let er = ap (λ (m : Matrix). m.resolution) o.matrix in
+    let ra : a.matrix.resolution ≡ c.args.target.now.resolution = er ∙ sym c.requires.same in
+    let rb : b.matrix.resolution ≡ c.args.target.now.resolution = p.resolution ∙ ra in
+    let low = c.args.low in
+    let start : moves_to (spot a.bots) (top a.matrix) ≡ 0 = ap (λ (s : Coord). moves_to s (top a.matrix)) (o.there ∙ ap (λ n. coord 0 (n - 1) 0) (sym er)) ∙ no_moves (top a.matrix) in
+    let on = moves_on (spot b.bots) (coord 0 low 0) (coord 0 (low + 1) 0) in
+    let w = c.resolution.ensures.whole in
+    let shifted = steps_to b (coord 0 (low + 1) 0) in
+    let most = spent (shifted + (b.matrix.resolution - 1) * layer_bytes b.matrix.resolution) (steps_to b (coord 0 low 0)) shifted (steps_to a (top a.matrix)) a.matrix.resolution b.matrix.resolution a.source.resolution c.args.target.now.resolution (omega arith) (omega arith) p.steps_are (let s = o.steps_are in omega arith) rb ra (sym c.requires.same) in
+    omega (arith, most, total_fits c.args.target.now.resolution w.some w.most)

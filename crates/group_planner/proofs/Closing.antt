@@ -1,0 +1,61 @@
+-- The ways of the only bot, and whole plans.
+use Rattle.std.proofs.Common.{◌≡◌, ℕ, ◌+◌, ◌-◌, ◌*◌, ◌<◌, ◌≤◌, ◌∙◌, ap, arith, List, [], ◌∷◌, ◌++◌, length, length-append, mul-le-mul}
+use Rattle.vox_geom.specs.declared.coordinate.Coord.{Coord}
+use Rattle.nano_spec.specs.declared.commands.Command.{Command}
+use Rattle.nano_spec.specs.Matrix.{Matrix}
+use Rattle.plan_tape.specs.Leg.{Moves, moves, moves_to}
+use Rattle.plan_tape.specs.Progress.{Progress, spot}
+use Rattle.layer_planner.specs.Painting.{coord}
+use Rattle.group_planner.specs.Rows.{is_row, rows, rows_of_layer, runs, runs_of_layer, runs_of_row}
+use Rattle.group_planner.proofs.Counts.{count_below-most, sum_below-most}
+
+-- ---- the only bot
+
+pub push_length : (old new : List Command) (k : Command) → new ≡ old ++ k ∷ [] → length new ≡ length old + 1
+push_length old new k e = ap length e ∙ length-append old (k ∷ [])
+
+pub legs_length : (p q : Progress) (to : Coord) → Moves p q to → length q.commands ≡ length p.commands + moves_to (spot p.bots) to
+legs_length p q to m =
+    let l = m.legs in
+    let added = ap length m.added ∙ length-append p.commands m.commands in
+    let joined = ap length l.joined ∙ (length-append (l.x ++ l.y) l.z ∙ ap (λ n. n + length l.z) (length-append l.x l.y)) in
+    let x = l.along_x.least in
+    let y = l.along_y.least in
+    let z = l.along_z.least in
+    omega (arith, added, joined, x, y, z)
+
+pub up_moves : (r : ℕ) → 1 ≤ r → r ≤ 400 → moves_to (coord 0 0 0) (coord 0 (r - 1) 0) ≤ 27
+up_moves r h l = omega arith
+
+pub down_moves : (y r : ℕ) → y < r → r ≤ 400 → moves_to (coord 0 y 0) (coord 0 0 0) ≤ 27
+down_moves y r h l = omega arith
+
+pub gather_moves : (x u v r : ℕ) → x < r → u < r → v < r → r ≤ 400 → moves x 0 + moves u 0 + moves v 1 + 1 ≤ 82
+gather_moves x u v r hx hu hv l = omega arith
+
+-- ---- how many rows and runs there are at most
+
+rows_most : (m : Matrix) → rows m ≤ m.resolution * m.resolution
+rows_most m = sum_below-most (rows_of_layer m) m.resolution m.resolution (λ y. count_below-most (λ x. is_row m x y) m.resolution)
+
+runs_most : (m : Matrix) → runs m ≤ m.resolution * (m.resolution * m.resolution)
+runs_most m = sum_below-most (runs_of_layer m) m.resolution (m.resolution * m.resolution) (λ y. sum_below-most (λ x. runs_of_row m x y) m.resolution m.resolution (λ x. count_below-most _ m.resolution))
+
+square : (r : ℕ) → r ≤ 400 → r * r ≤ 160000
+square r h = mul-le-mul h h
+
+cube : (r : ℕ) → r ≤ 400 → r * (r * r) ≤ 64000000
+cube r h = mul-le-mul h (square r h)
+
+-- a plan has fewer than 2^30 steps
+pub plan_fits : (s t : Matrix) → s.resolution ≤ 400 → t.resolution ≡ s.resolution → 3 * (runs s + runs t) + 135 * (rows s + rows t) + 3 * s.resolution + 400 ≤ 1073741824
+plan_fits s t h e =
+    let a = rows_most s in
+    let b = runs_most s in
+    let c = rows_most t in
+    let d = runs_most t in
+    let sq = square s.resolution h in
+    let cu = cube s.resolution h in
+    let tq = square t.resolution (omega arith) in
+    let tc = cube t.resolution (omega arith) in
+    omega (arith, a, b, c, d, sq, cu, tq, tc, h)

@@ -1,0 +1,187 @@
+-- One bot becomes two, and two become one.
+use Rattle.std.proofs.Common.{◌≡◌, ℕ, ◌+◌, ◌<◌, refl, sym, ◌∙◌, ap, subst, arith, Bool, true, false, ◌&&◌, ◌||◌, List, [], ◌∷◌, length, length-append, lit<, inl, nat_lt}
+use Rattle.std.specs.Prelude.{IsTrue, IsFalse, pos, negsuc, ◌+ℤ◌, Option, Some, None, option_map, unwrap_or, slice_index, find}
+use Rattle.std.specs.List.{AllByRecursion}
+use Rattle.std.proofs.lemmas.Int.{ints}
+use Rattle.std.proofs.lemmas.Bool.Decides.{nat_tests}
+use Rattle.vox_geom.specs.declared.coordinate.Coord.{Coord}
+use Rattle.vox_geom.specs.declared.difference.Diff.{Diff}
+use Rattle.vox_geom.specs.Point.{Point, point, plus, same_number, same_point}
+use Rattle.vox_geom.specs.Space.{IsInSpace, coordinate, in_space}
+use Rattle.nano_spec.specs.declared.commands.Command.TheVariants.{Fission, FusionP, FusionS}
+use Rattle.nano_spec.specs.declared.system.Bot.{Bot}
+use Rattle.nano_spec.specs.declared.system.Harmonics.TheVariants.{High}
+use Rattle.nano_spec.specs.Act.{Act, acts, is_flip}
+use Rattle.nano_spec.specs.Bots.{bots_after, fused, newborn, parent}
+use Rattle.nano_spec.specs.Group.{are_partners, is_pair}
+use Rattle.nano_spec.specs.Profile.{full_profile}
+use Rattle.nano_spec.specs.State.{first_bot, seed_list, seed_numbers}
+use Rattle.nano_spec.specs.Step.{after}
+use Rattle.step_order.specs.Acting.{leaves_voxels}
+use Rattle.step_order.specs.Unbroken.{AreFree, IsFreeWay}
+use Rattle.step_order.proofs.Voxels.{in_space_is}
+use Rattle.plan_tape.specs.Progress.{Progress, spot, state_of}
+use Rattle.layer_planner.specs.Painting.{IsVoidFrom, coord}
+use Rattle.group_planner.specs.Pair.{IsPair, front, rear, second_spot}
+use Rattle.group_planner.specs.Phases.{Joins, Splits, first_at}
+use Rattle.group_planner.specs.Writing.{AreCalm, CalmStep, ahead}
+use Rattle.group_planner.proofs.Pairs.{all_allowed, both_bots, front_within, rear_within, void_way}
+
+same : (n : ℕ) → pos n +ℤ pos 0 ≡ pos n
+same n = omega (arith, ints)
+
+one_more : (n : ℕ) → pos n +ℤ pos 1 ≡ pos (n + 1)
+one_more n = omega (arith, ints)
+
+one_less : (n : ℕ) → pos (n + 1) +ℤ negsuc 0 ≡ pos n
+one_less n = omega (arith, ints)
+
+next_is : (c : Coord) → plus (point c) (ahead (pos 1)) ≡ point (coord c.x c.y (c.z + 1))
+next_is c = λ i. record { x = same c.x i; y = same c.y i; z = one_more c.z i }
+
+last_is : (x y z : ℕ) → plus (point (coord x y (z + 1))) (ahead (negsuc 0)) ≡ point (coord x y z)
+last_is x y z = λ i. record { x = same x i; y = same y i; z = one_less z i }
+
+-- ---- the only bot splits
+
+seeds_enough : 0 < length (seed_list (first_bot full_profile).seeds)
+unfolding seed_numbers
+seeds_enough = lit< tt
+
+bids_rise : nat_lt 1 (slice_index (seed_list (first_bot full_profile).seeds) 0) ≡ true
+unfolding seed_numbers
+bids_rise = refl
+
+abbrev bot_at : Coord → Bot
+bot_at c = record { bid = 1; pos = c; seeds = (first_bot full_profile).seeds }
+
+module _ (p : Progress) (d : Diff) (e : d ≡ ahead (pos 1)) (alone : p.bots ≡ first_at (spot p.bots)) (full : p.profile ≡ full_profile) (room : (spot p.bots).z + 1 < p.matrix.resolution) (within : IsInSpace p.matrix.resolution (spot p.bots)) (free : IsVoidFrom p.matrix (spot p.bots).y) where
+  abbrev beside : Coord
+  beside = coord (spot p.bots).x (spot p.bots).y ((spot p.bots).z + 1)
+
+  leads : plus (point (spot p.bots)) d ≡ point beside
+  leads = ap (plus (point (spot p.bots))) e ∙ next_is (spot p.bots)
+
+  pub split_calm : AreCalm p (Fission d 0 ∷ [])
+  split_calm = record {
+    free = subst (λ (bots : List Bot). AreFree (state_of p) (acts bots (Fission d 0 ∷ []))) (sym alone) (record {
+      each = (record { allowed = all_allowed p.profile (Fission d 0) full refl; may = (subst (λ (q : Point). IsFreeWay p.matrix q q) (sym leads) (record { within = in_space_is p.matrix.resolution beside (record { x = within.x; y = within.y; z = room }); void = void_way p.matrix beside beside free free }), seeds_enough) }, tt);
+      untangled = (tt, tt);
+    });
+    calm = subst (λ (bots : List Bot). AllByRecursion (λ x. IsFalse (is_flip x.command)) (acts bots (Fission d 0 ∷ []))) (sym alone) (refl, tt);
+  }
+
+  two_bots : bots_after (acts (first_at (spot p.bots)) (Fission d 0 ∷ [])) ≡ parent (bot_at (spot p.bots)) 0 ∷ newborn (bot_at (spot p.bots)) (plus (point (spot p.bots)) d) 0 ∷ []
+  two_bots = rw bids_rise refl
+
+  pub split_stays : AllByRecursion (λ x. IsTrue (leaves_voxels x.command)) (acts p.bots (Fission d 0 ∷ []))
+  split_stays = subst (λ (bots : List Bot). AllByRecursion (λ x. IsTrue (leaves_voxels x.command)) (acts bots (Fission d 0 ∷ []))) (sym alone) (refl, tt)
+
+  pub has_split : (q : Progress) → p.harmonics ≡ High → CalmStep p q (Fission d 0 ∷ []) → (after (state_of p) (Fission d 0 ∷ [])).matrix ≡ p.matrix → Splits p q
+  has_split q high s m =
+      let bots : q.bots ≡ parent (bot_at (spot p.bots)) 0 ∷ newborn (bot_at (spot p.bots)) (plus (point (spot p.bots)) d) 0 ∷ [] = s.bots_are ∙ (ap (λ (bs : List Bot). bots_after (acts bs (Fission d 0 ∷ []))) alone ∙ two_bots) in
+      let rear_is : rear q ≡ spot p.bots = ap spot bots in
+      let front_is : front q ≡ beside = ap second_spot bots ∙ ap coordinate leads in
+      let matrix = s.matrix ∙ m in
+      let added = ap length s.added ∙ length-append p.commands (Fission d 0 ∷ []) in
+      record {
+        source = s.source;
+        matrix = matrix;
+        pair = record {
+          two = ap length bots;
+          high = s.harmonics ∙ high;
+          full = s.profile ∙ full;
+          in_row = rw (matrix, rear_is, front_is) (record { x = within.x; y = within.y; z = room; same_x = refl; same_y = refl; order = omega arith });
+          free = rw (matrix, rear_is) free;
+        };
+        rear_is = rear_is;
+        steps_are = s.steps;
+        spends = let steps = s.steps in let few = s.bytes_are in record { commands_are = omega (arith, added, steps); bytes_are = omega (arith, steps, few) };
+      }
+
+-- ---- the pair joins
+
+itself : (a : ℕ) → same_number (pos a) (pos a) ≡ true
+itself a = grind (arith, nat_tests)
+
+same_itself : (c : Coord) → same_point (point c) (point c) ≡ true
+same_itself c = rw (itself c.x, itself c.y, itself c.z) refl
+
+meets : (u v : Bool) → u ≡ true → v ≡ true → (u && v) ≡ true
+meets u v e f = rw (e, f) refl
+
+or_right : (u v : Bool) → v ≡ true → (u || v) ≡ true
+or_right true v e = refl
+or_right false v e = e
+
+-- what fuses stands where the primary stood
+stays_there : (o : Option Act) (b : Bot) (f : Act → Bot) → ((c : Act) → (f c).pos ≡ b.pos) → (unwrap_or (option_map f o) b).pos ≡ b.pos
+stays_there None b f h = refl
+stays_there (Some c) b f h = h c
+
+module _ (p : Progress) (d e : Diff) (ed : d ≡ ahead (pos 1)) (ee : e ≡ ahead (negsuc 0)) (h : IsPair p) (beside : (front p).z ≡ (rear p).z + 1) where
+  front_is_next : front p ≡ coord (rear p).x (rear p).y ((rear p).z + 1)
+  front_is_next = λ i. record { x = h.in_row.same_x i; y = h.in_row.same_y i; z = beside i }
+
+  to_front : plus (point (rear p)) d ≡ point (front p)
+  to_front = ap (plus (point (rear p))) ed ∙ (next_is (rear p) ∙ ap point (sym front_is_next))
+
+  to_rear : plus (point (front p)) e ≡ point (rear p)
+  to_rear = ap (plus (point (front p))) ee ∙ (ap (λ (c : Coord). plus (point c) (ahead (negsuc 0))) front_is_next ∙ last_is (rear p).x (rear p).y (rear p).z)
+
+  abbrev first_act : Bot → Act
+  first_act a = record { bot = a; command = FusionP d }
+
+  abbrev second_act : Bot → Act
+  second_act b = record { bot = b; command = FusionS e }
+
+  pair_up : (a b : Bot) → rear p ≡ a.pos → front p ≡ b.pos → is_pair (first_act a) (second_act b) ≡ true
+  pair_up a b ra rb =
+      let to_b : plus (point a.pos) d ≡ point b.pos = ap (λ (c : Coord). plus (point c) d) (sym ra) ∙ (to_front ∙ ap point rb) in
+      let to_a : plus (point b.pos) e ≡ point a.pos = ap (λ (c : Coord). plus (point c) e) (sym rb) ∙ (to_rear ∙ ap point ra) in
+      meets (same_point (plus (point a.pos) d) (point b.pos)) (same_point (plus (point b.pos) e) (point a.pos)) (ap (λ (q : Point). same_point q (point b.pos)) to_b ∙ same_itself b.pos) (ap (λ (q : Point). same_point q (point a.pos)) to_a ∙ same_itself a.pos)
+
+  pub join_calm : AreCalm p (FusionP d ∷ FusionS e ∷ [])
+  join_calm =
+      let t = both_bots p.bots h.two in
+      let a = t.first in
+      let b = t.second in
+      let r = p.matrix.resolution in
+      let up = pair_up a b t.rear_is t.front_is in
+      let all = acts (a ∷ b ∷ []) (FusionP d ∷ FusionS e ∷ []) in
+      let in_rear : IsTrue (in_space r (plus (point b.pos) e)) = ap (λ (q : Point). in_space r q) (ap (λ (c : Coord). plus (point c) e) (sym t.front_is) ∙ to_rear) ∙ in_space_is r (rear p) (rear_within r (rear p) (front p) h.in_row) in
+      let in_front : IsTrue (in_space r (plus (point a.pos) d)) = ap (λ (q : Point). in_space r q) (ap (λ (c : Coord). plus (point c) d) (sym t.rear_is) ∙ to_front) ∙ in_space_is r (front p) (front_within r (rear p) (front p) h.in_row) in
+      let partners : are_partners (first_act a) (second_act b) ≡ true = ap (λ u. u || is_pair (second_act b) (first_act a)) up in
+      let turned : are_partners (second_act b) (first_act a) ≡ true = or_right (is_pair (second_act b) (first_act a)) (is_pair (first_act a) (second_act b)) up in
+      record {
+        free = subst (λ (bots : List Bot). AreFree (state_of p) (acts bots (FusionP d ∷ FusionS e ∷ []))) (sym t.are) (record {
+          each = (
+            record { allowed = all_allowed p.profile (FusionP d) h.full refl; may = record { within = in_front; other = second_act b; here = (1, lit< tt, refl); partners = partners } },
+            (record { allowed = all_allowed p.profile (FusionS e) h.full refl; may = record { within = in_rear; other = first_act a; here = (0, lit< tt, refl); partners = turned } }, tt),
+          );
+          untangled = ((inl partners, tt), (tt, tt));
+        });
+        calm = subst (λ (bots : List Bot). AllByRecursion (λ x. IsFalse (is_flip x.command)) (acts bots (FusionP d ∷ FusionS e ∷ []))) (sym t.are) (refl, (refl, tt));
+      }
+
+  pub join_stays : AllByRecursion (λ x. IsTrue (leaves_voxels x.command)) (acts p.bots (FusionP d ∷ FusionS e ∷ []))
+  join_stays = let t = both_bots p.bots h.two in subst (λ (bots : List Bot). AllByRecursion (λ x. IsTrue (leaves_voxels x.command)) (acts bots (FusionP d ∷ FusionS e ∷ []))) (sym t.are) (refl, (refl, tt))
+
+  pub has_joined : (q : Progress) → CalmStep p q (FusionP d ∷ FusionS e ∷ []) → (after (state_of p) (FusionP d ∷ FusionS e ∷ [])).matrix ≡ p.matrix → Joins p q (rear p) 1
+  has_joined q s m =
+      let t = both_bots p.bots h.two in
+      let a = t.first in
+      let b = t.second in
+      let all = acts (a ∷ b ∷ []) (FusionP d ∷ FusionS e ∷ []) in
+      let bots : q.bots ≡ bots_after all = s.bots_are ∙ ap (λ (bs : List Bot). bots_after (acts bs (FusionP d ∷ FusionS e ∷ []))) t.are in
+      let added = ap length s.added ∙ length-append p.commands (FusionP d ∷ FusionS e ∷ []) in
+      record {
+        source = s.source;
+        matrix = s.matrix ∙ m;
+        profile = s.profile ∙ h.full;
+        harmonics = s.harmonics ∙ h.high;
+        alone = ap length bots;
+        there = ap spot bots ∙ (stays_there (find (is_pair (first_act a)) all) a (λ (c : Act). fused a c.bot) (λ c. refl) ∙ sym t.rear_is);
+        steps_are = s.steps;
+        spends = let steps = s.steps in let few = s.bytes_are in record { commands_are = omega (arith, added, steps); bytes_are = omega (arith, steps, few) };
+      }

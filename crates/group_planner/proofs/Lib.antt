@@ -1,0 +1,15 @@
+pub mod Calm
+pub mod Closing
+pub mod Counts
+pub mod Found
+pub mod Groups
+pub mod Joined
+pub mod Layers
+pub mod Pairs
+pub mod Rebuilt
+pub mod Room
+pub mod Searched
+pub mod Singles
+pub mod Stamps
+pub mod Worked
+pub mod Written

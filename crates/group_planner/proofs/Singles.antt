@@ -1,0 +1,188 @@
+-- Steps in which one of the pair writes the voxel below it, and the other waits.
+use Rattle.std.proofs.Common.{◌≡◌, ℕ, ◌+◌, ◌-◌, ◌<◌, ◌≤◌, refl, sym, ◌∙◌, ap, subst, arith, Bool, true, false, cond, not, ◌&&◌, ◌||◌, List, [], ◌∷◌, length, lit≤, inr}
+use Rattle.std.specs.Prelude.{IsTrue, IsFalse}
+use Rattle.std.specs.List.{AllByRecursion, list_any}
+use Rattle.vox_geom.specs.declared.coordinate.Coord.{Coord}
+use Rattle.vox_geom.specs.Point.{Point, point, plus}
+use Rattle.vox_geom.specs.Region.{Span, is_within, just}
+use Rattle.vox_geom.specs.Space.{IsInSpace, in_space}
+use Rattle.nano_spec.specs.declared.commands.Command.{Command}
+use Rattle.nano_spec.specs.declared.commands.Command.TheVariants.{Wait}
+use Rattle.nano_spec.specs.declared.system.Bot.{Bot}
+use Rattle.nano_spec.specs.Act.{Act, acts, filled, is_flip, position, voided}
+use Rattle.nano_spec.specs.Matrix.{Matrix, is_full}
+use Rattle.nano_spec.specs.Profile.{full_profile, is_allowed}
+use Rattle.nano_spec.specs.Spelling.{spellings}
+use Rattle.nano_spec.specs.State.{State}
+use Rattle.nano_spec.specs.Step.{after, is_filled, is_voided}
+use Rattle.nano_spec.specs.Volatile.{volatile_regions}
+use Rattle.step_order.specs.Acting.{goal_of, stays_one}
+use Rattle.step_order.specs.Apart.{LieApart}
+use Rattle.step_order.specs.Unbroken.{AreFree, MayAct}
+use Rattle.step_order.proofs.Voxels.{in_space_is}
+use Rattle.plan_tape.specs.Crowd.{AllStep, bots_gone}
+use Rattle.plan_tape.specs.Progress.{Progress, spot, state_of}
+use Rattle.layer_planner.specs.Painting.{coord, down}
+use Rattle.group_planner.specs.Pair.{AreSet, IsPair, Sets, front, in_part, rear, second_spot}
+use Rattle.group_planner.specs.Writing.{AreCalm, CalmStep, one_below}
+use Rattle.group_planner.proofs.Pairs.{all_allowed, apart_z, both_bots, front_within, rear_within, spends, there}
+use Rattle.group_planner.proofs.Written.{below, set_by, still_free}
+
+-- what is so of both commands that write the voxel below
+record Writer (k : Command) (full : Bool) : Type 0 where
+  allowed : IsTrue (is_allowed full_profile k)
+  may : (s : State) (all : List Act) (a : Act) → IsTrue (in_space s.matrix.resolution (plus (position a) down)) → MayAct s all a k
+  stays : IsTrue (stays_one k)
+  goal : (p : Point) → goal_of p k ≡ p
+  calm : IsFalse (is_flip k)
+  volatile : (p : Point) → volatile_regions p k ≡ just p ∷ just (plus p down) ∷ []
+  few_first : length (spellings (k ∷ Wait ∷ [])) ≤ 4
+  few_last : length (spellings (Wait ∷ k ∷ [])) ≤ 4
+  marks : (p c : Point) (old : Bool) → ((list_any (λ s. is_within s c) (filled p k) || false) || (old && not (list_any (λ s. is_within s c) (voided p k) || false))) ≡ cond (is_within (just (plus p down)) c) full old
+
+fills : (t old : Bool) → (((t || false) || false) || (old && not (false || false))) ≡ cond t true old
+fills true old = refl
+fills false true = refl
+fills false false = refl
+
+voids : (t old : Bool) → ((false || false) || (old && not ((t || false) || false))) ≡ cond t false old
+voids true true = refl
+voids true false = refl
+voids false true = refl
+voids false false = refl
+
+writer : (full : Bool) → Writer (one_below full) full
+writer true = record { allowed = refl; may = λ s all a h. h; stays = refl; goal = λ p. refl; calm = refl; volatile = λ p. refl; few_first = lit≤ tt; few_last = lit≤ tt; marks = λ p c old. fills (is_within (just (plus p down)) c) old }
+writer false = record { allowed = refl; may = λ s all a h. h; stays = refl; goal = λ p. refl; calm = refl; volatile = λ p. refl; few_first = lit≤ tt; few_last = lit≤ tt; marks = λ p c old. voids (is_within (just (plus p down)) c) old }
+
+-- the voxel below is in space
+below_within : (r : ℕ) (a : Coord) → IsInSpace r a → 1 ≤ a.y → IsTrue (in_space r (plus (point a) down))
+below_within r a i h = let y = i.y in subst (λ (q : Point). IsTrue (in_space r q)) (sym (below a h)) (in_space_is r (coord a.x (a.y - 1) a.z) (record { x = i.x; y = omega arith; z = i.z }))
+
+-- a bot that waits and one that writes the voxel below it, apart in z
+writes_apart : (k : Command) (full : Bool) (a b : Coord) → Writer k full → 1 ≤ a.y → a.z < b.z → AllByRecursion (λ s. AllByRecursion (λ t. LieApart s t) (just (point b) ∷ [])) (volatile_regions (point a) k)
+writes_apart k full a b w h l =
+    subst (λ (ss : List Span). AllByRecursion (λ s. AllByRecursion (λ t. LieApart s t) (just (point b) ∷ [])) ss) (sym (w.volatile (point a)))
+    ((apart_z a a b b l l l l, tt), ((subst (λ (q : Point). LieApart (just q) (just (point b))) (sym (below a h)) (apart_z (coord a.x (a.y - 1) a.z) (coord a.x (a.y - 1) a.z) b b l l l l), tt), tt))
+
+waits_apart : (k : Command) (full : Bool) (a b : Coord) → Writer k full → 1 ≤ b.y → a.z < b.z → AllByRecursion (λ s. AllByRecursion (λ t. LieApart s t) (volatile_regions (point b) k)) (just (point a) ∷ [])
+waits_apart k full a b w h l = (
+  subst (λ (ts : List Span). AllByRecursion (λ t. LieApart (just (point a)) t) ts) (sym (w.volatile (point b)))
+      (apart_z a a b b l l l l, (subst (λ (q : Point). LieApart (just (point a)) (just q)) (sym (below b h)) (apart_z a a (coord b.x (b.y - 1) b.z) (coord b.x (b.y - 1) b.z) l l l l), tt)),
+  tt,
+)
+
+module _ (p : Progress) (k : Command) (full : Bool) (e : k ≡ one_below full) (h : IsPair p) (above : 1 ≤ (rear p).y) where
+  how : Writer k full
+  how = subst (λ (l : Command). Writer l full) (sym e) (writer full)
+
+  above_too : 1 ≤ (front p).y
+  above_too = subst (λ y. 1 ≤ y) (sym h.in_row.same_y) above
+
+  order : (a b : Coord) → rear p ≡ a → front p ≡ b → a.z < b.z
+  order a b ea eb = subst (λ (c : Coord). c.z < b.z) ea (subst (λ (c : Coord). (rear p).z < c.z) eb h.in_row.order)
+
+  pub rear_calm : AreCalm p (k ∷ Wait ∷ [])
+  rear_calm =
+      let t = both_bots p.bots h.two in
+      let a = t.first in
+      let b = t.second in
+      let w = how in
+      let l = order a.pos b.pos t.rear_is t.front_is in
+      let i : IsInSpace p.matrix.resolution a.pos = subst (IsInSpace p.matrix.resolution) t.rear_is (rear_within p.matrix.resolution (rear p) (front p) h.in_row) in
+      let u : 1 ≤ a.pos.y = subst (λ (c : Coord). 1 ≤ c.y) t.rear_is above in
+      record {
+        free = subst (λ (bots : List Bot). AreFree (state_of p) (acts bots (k ∷ Wait ∷ []))) (sym t.are) (record {
+          each = (record { allowed = all_allowed p.profile k h.full w.allowed; may = w.may (state_of p) (acts (a ∷ b ∷ []) (k ∷ Wait ∷ [])) (record { bot = a; command = k }) (below_within p.matrix.resolution a.pos i u) }, (record { allowed = all_allowed p.profile Wait h.full refl; may = tt }, tt));
+          untangled = ((inr (writes_apart k full a.pos b.pos w u l), tt), (tt, tt));
+        });
+        calm = subst (λ (bots : List Bot). AllByRecursion (λ x. IsFalse (is_flip x.command)) (acts bots (k ∷ Wait ∷ []))) (sym t.are) (w.calm, (refl, tt));
+      }
+
+  pub front_calm : AreCalm p (Wait ∷ k ∷ [])
+  front_calm =
+      let t = both_bots p.bots h.two in
+      let a = t.first in
+      let b = t.second in
+      let w = how in
+      let l = order a.pos b.pos t.rear_is t.front_is in
+      let i : IsInSpace p.matrix.resolution b.pos = subst (IsInSpace p.matrix.resolution) t.front_is (front_within p.matrix.resolution (rear p) (front p) h.in_row) in
+      let u : 1 ≤ b.pos.y = subst (λ (c : Coord). 1 ≤ c.y) t.front_is above_too in
+      record {
+        free = subst (λ (bots : List Bot). AreFree (state_of p) (acts bots (Wait ∷ k ∷ []))) (sym t.are) (record {
+          each = (record { allowed = all_allowed p.profile Wait h.full refl; may = tt }, (record { allowed = all_allowed p.profile k h.full w.allowed; may = w.may (state_of p) (acts (a ∷ b ∷ []) (Wait ∷ k ∷ [])) (record { bot = b; command = k }) (below_within p.matrix.resolution b.pos i u) }, tt));
+          untangled = ((inr (waits_apart k full a.pos b.pos w u l), tt), (tt, tt));
+        });
+        calm = subst (λ (bots : List Bot). AllByRecursion (λ x. IsFalse (is_flip x.command)) (acts bots (Wait ∷ k ∷ []))) (sym t.are) (refl, (w.calm, tt));
+      }
+
+  -- each bot stays one
+  pub rear_stays : AllByRecursion (λ x. IsTrue (stays_one x.command)) (acts p.bots (k ∷ Wait ∷ []))
+  rear_stays = let t = both_bots p.bots h.two in let w = how in subst (λ (bots : List Bot). AllByRecursion (λ x. IsTrue (stays_one x.command)) (acts bots (k ∷ Wait ∷ []))) (sym t.are) (w.stays, (refl, tt))
+
+  pub front_stays : AllByRecursion (λ x. IsTrue (stays_one x.command)) (acts p.bots (Wait ∷ k ∷ []))
+  front_stays = let t = both_bots p.bots h.two in let w = how in subst (λ (bots : List Bot). AllByRecursion (λ x. IsTrue (stays_one x.command)) (acts bots (Wait ∷ k ∷ []))) (sym t.are) (refl, (w.stays, tt))
+
+  -- the voxel below one of the bots, in a matrix whose voxels are told by what the commands fill and void
+  set_below : (n : Matrix) (c : Coord) → (c.x ≡ (rear p).x) → (c.y ≡ (rear p).y) → IsInSpace p.matrix.resolution c → n.resolution ≡ p.matrix.resolution → ((d : Coord) → IsInSpace p.matrix.resolution d → is_full n d ≡ cond (is_within (just (plus (point c) down)) (point d)) full (is_full p.matrix d)) → AreSet n p.matrix (in_part (rear p).x ((rear p).y - 1) c.z (c.z + 1)) full
+  set_below n c ex ey i er f =
+      let u : 1 ≤ c.y = subst (λ y. 1 ≤ y) (sym ey) above in
+      let y = i.y in
+      let here : AreSet n p.matrix (in_part c.x (c.y - 1) c.z (c.z + 1)) full = set_by n p.matrix c.x (c.y - 1) c.z c.z full er i.x (omega arith) i.z (omega arith) (λ d j. f d j ∙ ap (λ (q : Point). cond (is_within (just q) (point d)) full (is_full p.matrix d)) (below c u)) in
+      subst (λ x. AreSet n p.matrix (in_part x ((rear p).y - 1) c.z (c.z + 1)) full) ex (subst (λ v. AreSet n p.matrix (in_part c.x (v - 1) c.z (c.z + 1)) full) ey here)
+
+  -- the pair after either step
+  pub wrote_one : (q : Progress) (l r : Command) (z : ℕ) → AllStep p q (l ∷ r ∷ []) q.matrix p.harmonics (bots_gone p.bots (l ∷ r ∷ [])) → goal_of (point (rear p)) l ≡ point (rear p) → goal_of (point (front p)) r ≡ point (front p) → length (spellings (l ∷ r ∷ [])) ≤ 4 → q.matrix.resolution ≡ p.matrix.resolution → AreSet q.matrix p.matrix (in_part (rear p).x ((rear p).y - 1) z (z + 1)) full → Sets p q (rear p).x ((rear p).y - 1) z (z + 1) full (rear p) (front p) 1 0
+  wrote_one q l r z s el er few res set =
+      let at = there p l r (rear p) (front p) h el er in
+      let rear_is : rear q ≡ rear p = ap spot s.bots_are ∙ at.0 in
+      let front_is : front q ≡ front p = ap second_spot s.bots_are ∙ at.1 in
+      record {
+        source = s.source;
+        resolution = res;
+        set = set;
+        pair = record {
+          two = ap length s.bots_are ∙ at.2;
+          high = s.harmonics ∙ h.high;
+          full = s.profile ∙ h.full;
+          in_row = rw (res, rear_is, front_is) h.in_row;
+          free = rw rear_is (still_free q.matrix p.matrix (rear p).x ((rear p).y - 1) z (z + 1) full (rear p).y set (omega arith) h.free);
+        };
+        rear_is = rear_is;
+        front_is = front_is;
+        steps_are = s.steps;
+        spends = spends p q l r q.matrix _ 0 s (omega (arith, few));
+      }
+
+  calm_bots : (q : Progress) (l r : Command) → CalmStep p q (l ∷ r ∷ []) → (after (state_of p) (l ∷ r ∷ [])).bots ≡ bots_gone p.bots (l ∷ r ∷ []) → AllStep p q (l ∷ r ∷ []) q.matrix p.harmonics (bots_gone p.bots (l ∷ r ∷ []))
+  calm_bots q l r s e = record { source = s.source; profile = s.profile; added = s.added; matrix = refl; harmonics = s.harmonics; bots_are = s.bots_are ∙ e; energy = s.energy; steps = s.steps; bytes_are = s.bytes_are }
+
+  -- after the step all is as these laws say
+  abbrev Voxels : Command → Command → Type 0
+  Voxels l r = (d : Coord) → IsInSpace p.matrix.resolution d → is_full (after (state_of p) (l ∷ r ∷ [])).matrix d ≡ (is_filled (acts p.bots (l ∷ r ∷ [])) d || (is_full p.matrix d && not (is_voided (acts p.bots (l ∷ r ∷ [])) d)))
+
+  pub rear_wrote : (q : Progress) → CalmStep p q (k ∷ Wait ∷ []) → (after (state_of p) (k ∷ Wait ∷ [])).bots ≡ bots_gone p.bots (k ∷ Wait ∷ []) → Voxels k Wait → Sets p q (rear p).x ((rear p).y - 1) (rear p).z ((rear p).z + 1) full (rear p) (front p) 1 0
+  rear_wrote q s e v =
+      let t = both_bots p.bots h.two in
+      let w = how in
+      let same = ap (λ (m : Matrix). m.resolution) s.matrix in
+      wrote_one q k Wait (rear p).z (calm_bots q k Wait s e) (w.goal (point (rear p))) refl w.few_first same
+      (set_below q.matrix (rear p) refl refl (rear_within p.matrix.resolution (rear p) (front p) h.in_row) same (λ d i.
+      ap (λ (m : Matrix). is_full m d) s.matrix
+      ∙ (v d i
+      ∙ (ap (λ (bots : List Bot). is_filled (acts bots (k ∷ Wait ∷ [])) d || (is_full p.matrix d && not (is_voided (acts bots (k ∷ Wait ∷ [])) d))) t.are
+      ∙ (w.marks (point t.first.pos) (point d) (is_full p.matrix d)
+      ∙ ap (λ (c : Coord). cond (is_within (just (plus (point c) down)) (point d)) full (is_full p.matrix d)) (sym t.rear_is))))))
+
+  pub front_wrote : (q : Progress) → CalmStep p q (Wait ∷ k ∷ []) → (after (state_of p) (Wait ∷ k ∷ [])).bots ≡ bots_gone p.bots (Wait ∷ k ∷ []) → Voxels Wait k → Sets p q (rear p).x ((rear p).y - 1) (front p).z ((front p).z + 1) full (rear p) (front p) 1 0
+  front_wrote q s e v =
+      let t = both_bots p.bots h.two in
+      let w = how in
+      let same = ap (λ (m : Matrix). m.resolution) s.matrix in
+      wrote_one q Wait k (front p).z (calm_bots q Wait k s e) refl (w.goal (point (front p))) w.few_last same
+      (set_below q.matrix (front p) h.in_row.same_x h.in_row.same_y (front_within p.matrix.resolution (rear p) (front p) h.in_row) same (λ d i.
+      ap (λ (m : Matrix). is_full m d) s.matrix
+      ∙ (v d i
+      ∙ (ap (λ (bots : List Bot). is_filled (acts bots (Wait ∷ k ∷ [])) d || (is_full p.matrix d && not (is_voided (acts bots (Wait ∷ k ∷ [])) d))) t.are
+      ∙ (w.marks (point t.second.pos) (point d) (is_full p.matrix d)
+      ∙ ap (λ (c : Coord). cond (is_within (just (plus (point c) down)) (point d)) full (is_full p.matrix d)) (sym t.front_is))))))

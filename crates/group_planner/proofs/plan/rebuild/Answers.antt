@@ -1,0 +1,42 @@
+use Rattle.std.proofs.Common.{sym, ◌∙◌, ap, arith}
+use Rattle.nano_spec.specs.Matrix.{Matrix}
+use Rattle.group_planner.specs.Stamping.{steps_below}
+use Rattle.group_planner.proofs.Closing.{plan_fits}
+use Rattle.group_planner.proofs.Layers.{model_sum}
+use Rattle.group_planner.proofs.Rebuilt.{can_clear, rebuilt, top_climb}
+use Rattle.group_planner.proofs.plan.rebuild.Goals as goal
+
+pub clear-requires-clause-ready : goal.clear-requires-clause-ready
+clear-requires-clause-ready c = can_clear c.args.tape.now c.args.source.now c.requires.opened c.requires.source c.requires.legal_source
+
+pub clear-requires-clause-limit : goal.clear-requires-clause-limit
+clear-requires-clause-limit c =
+    let a = c.args.tape.now in
+    let s = c.args.source.now in
+    let same = ap (λ (m : Matrix). m.resolution) (c.requires.opened.matrix ∙ c.requires.source) in
+    let top = top_climb a s c.requires.opened c.requires.source in
+    let sum = ap (steps_below s) same ∙ model_sum s in
+    let fits = plan_fits s c.args.target.now c.resolution.ensures.whole.most c.requires.same in
+    omega (arith, same, top, sum, fits)
+
+pub build-requires-clause-limit : goal.build-requires-clause-limit
+build-requires-clause-limit c =
+    let a = c.args.tape.now in
+    let b = c.clear.new.tape in
+    let s = c.args.source.now in
+    let t = c.args.target.now in
+    let same = ap (λ (m : Matrix). m.resolution) (c.requires.opened.matrix ∙ c.requires.source) in
+    let p = c.in_ok-clear.ensures in
+    let now = p.stamps.resolution in
+    let top = top_climb a s c.requires.opened c.requires.source in
+    let sum = ap (steps_below s) same ∙ model_sum s in
+    let more = ap (steps_below t) (now ∙ (same ∙ sym c.requires.same)) ∙ model_sum t in
+    let fits = plan_fits s t c.resolution.ensures.whole.most c.requires.same in
+    let climb = p.climb in
+    omega (arith, same, now, top, sum, more, fits, climb)
+
+pub returns-clause-rebuilt : goal.returns-clause-rebuilt
+returns-clause-rebuilt c =
+    let p = c.in_ok-clear.ensures in
+    let q = c.in_ok-build.ensures in
+    rebuilt c.args.tape.now c.clear.new.tape c.build.new.tape c.args.source.now c.args.target.now c.args.low c.requires.opened c.requires.source c.requires.legal_target c.requires.same c.requires.lowest p.stamps p.climb q.stamps q.steps

@@ -1,0 +1,81 @@
+use Rattle.std.proofs.Common.{◌≡◌, ℕ, ◌+◌, ◌-◌, true, refl, sym, ◌∙◌, subst, arith}
+use Rattle.layer_planner.specs.Painting.{layer}
+use Rattle.group_planner.specs.Rows.{runs, runs_of_layer}
+use Rattle.group_planner.specs.Stamping.{Stamps, between_layers, layer_steps}
+use Rattle.group_planner.proofs.Counts.{sum_below-more, sum_below-rises}
+use Rattle.group_planner.proofs.Layers.{above_between, between_layers-more, no_layers_yet}
+use Rattle.group_planner.proofs.Stamps.{stamps_as, stamps_more, stamps_none, still_void}
+use Rattle.group_planner.proofs.sweep.build.Goals as goal
+
+pub loop-y-init : goal.loop-y-init
+loop-y-init c = record { stamps = stamps_none c.args.tape.now c.args.target.now true (between_layers c.args.low c.args.low) _ c.requires.pair (no_layers_yet c.args.target.now c.args.low); climb = omega arith }
+
+pub write_layer-requires-clause-ready : goal.write_layer-requires-clause-ready
+write_layer-requires-clause-ready c =
+    let a = c.args.tape.now in
+    let b = c.loop-y.tape in
+    let y = c.loop-y.y in
+    let g = c.loop-y.invariant.stamps in
+    let r = g.resolution in
+    let s = c.requires.same in
+    let e = c.resolution-y-end.ensures.value in
+    let low = c.loop-y.auto.y in
+    record {
+      pair = g.pair;
+      same = s ∙ sym r;
+      within = omega (arith, r, s, e);
+      above = still_void a b c.args.target.now true (between_layers c.args.low y) _ (y + 1) g (λ d l. above_between c.args.low y d (omega arith)) (λ d l. c.requires.free d (omega arith));
+    }
+
+pub write_layer-requires-clause-limit : goal.write_layer-requires-clause-limit
+write_layer-requires-clause-limit c =
+    let m = c.args.target.now in
+    let y = c.loop-y.y in
+    let r = c.args.tape.now.matrix.resolution in
+    let more = sum_below-more (layer_steps m) y in
+    let s = c.requires.same in
+    let e = c.resolution-y-end.ensures.value in
+    let rises = sum_below-rises (layer_steps m) (y + 1) r (omega (arith, s, e)) in
+    let inv = c.loop-y.invariant.climb in
+    let limit = c.requires.limit in
+    omega (arith, more, rises, inv, limit, s, e)
+
+pub loop-y-preserved : goal.loop-y-preserved
+loop-y-preserved c =
+    let m = c.args.target.now in
+    let y = c.loop-y.y in
+    let inv = c.loop-y.invariant in
+    let g = c.in_ok-write_layer.ensures in
+    let runs_more = sum_below-more (runs_of_layer m) y in
+    let steps_more = sum_below-more (layer_steps m) y in
+    let one = g.climb in
+    let before = inv.climb in
+    record {
+      stamps = stamps_more c.args.tape.now c.loop-y.tape c.write_layer.new.tape m true (between_layers c.args.low y) (layer y) (between_layers c.args.low (y + 1)) _ _ _ inv.stamps g.stamps (λ d. between_layers-more c.args.low y d c.loop-y.auto.y) (omega (arith, runs_more));
+      climb = omega (arith, steps_more, one, before);
+    }
+
+pub returns-clause-stamps : goal.returns-clause-stamps
+returns-clause-stamps c =
+    let a = c.args.tape.now in
+    let m = c.args.target.now in
+    let y = c.loop-y.y in
+    let low = c.requires.low in
+    let s = c.requires.same in
+    let e = c.resolution-y-end.ensures.value in
+    let end : y ≡ a.matrix.resolution - 1 = omega (arith, s, e, low) in
+    let rises = sum_below-rises (runs_of_layer m) y m.resolution (omega (arith, s, end)) in
+    subst (λ (n : ℕ). Stamps a c.loop-y.tape m true (between_layers c.args.low n) (runs m)) end (stamps_as a c.loop-y.tape m true (between_layers c.args.low y) (between_layers c.args.low y) _ (runs m) c.loop-y.invariant.stamps (λ d. refl) rises)
+
+pub returns-clause-steps : goal.returns-clause-steps
+returns-clause-steps c =
+    let a = c.args.tape.now in
+    let m = c.args.target.now in
+    let y = c.loop-y.y in
+    let low = c.requires.low in
+    let s = c.requires.same in
+    let e = c.resolution-y-end.ensures.value in
+    let end : y ≡ a.matrix.resolution - 1 = omega (arith, s, e, low) in
+    let rises = sum_below-rises (layer_steps m) y a.matrix.resolution (omega (arith, end)) in
+    let inv = c.loop-y.invariant.climb in
+    omega (arith, rises, inv, end)

@@ -1,0 +1,52 @@
+use Rattle.std.proofs.Common.{◌≡◌, ℕ, ◌+◌, ap, arith}
+use Rattle.layer_planner.specs.Painting.{in_layer, row}
+use Rattle.layer_planner.proofs.Paints.{above_layers, in_layer-more}
+use Rattle.group_planner.specs.Rows.{runs_of_row, sum_below}
+use Rattle.group_planner.specs.Stamping.{row_steps}
+use Rattle.group_planner.proofs.Counts.{sum_below-more, sum_below-rises}
+use Rattle.group_planner.proofs.Layers.{layer_sum, no_lines, stamps_layer}
+use Rattle.group_planner.proofs.Stamps.{stamp_on, stamps_more, stamps_none}
+use Rattle.group_planner.proofs.sweep.write_layer.Goals as goal
+
+pub loop-x-init : goal.loop-x-init
+loop-x-init c = record { stamps = stamps_none c.args.tape.now c.args.model.now c.args.full (in_layer 0 c.args.y) _ c.requires.ready.pair (no_lines c.args.model.now c.args.y); climb = omega arith }
+
+pub write_row-requires-clause-ready : goal.write_row-requires-clause-ready
+write_row-requires-clause-ready c = stamp_on c.args.tape.now c.loop-x.tape c.args.model.now c.args.full (in_layer c.loop-x.x c.args.y) _ c.args.y c.requires.ready c.loop-x.invariant.stamps (above_layers c.loop-x.x c.args.y)
+
+pub write_row-requires-clause-limit : goal.write_row-requires-clause-limit
+write_row-requires-clause-limit c =
+    let m = c.args.model.now in
+    let f : ℕ → ℕ = λ x. row_steps m x c.args.y in
+    let more = sum_below-more f c.loop-x.x in
+    let rises = sum_below-rises f (c.loop-x.x + 1) m.resolution (omega arith) in
+    let all = layer_sum m c.args.y in
+    let inv = c.loop-x.invariant.climb in
+    let limit = c.requires.limit in
+    omega (arith, more, rises, all, inv, limit)
+
+pub loop-x-preserved : goal.loop-x-preserved
+loop-x-preserved c =
+    let m = c.args.model.now in
+    let inv = c.loop-x.invariant in
+    let g = c.in_ok-write_row.ensures in
+    let runs = sum_below-more (λ x. runs_of_row m x c.args.y) c.loop-x.x in
+    let steps = sum_below-more (λ x. row_steps m x c.args.y) c.loop-x.x in
+    let one = g.climb in
+    let before = inv.climb in
+    record {
+      stamps = stamps_more c.args.tape.now c.loop-x.tape c.write_row.new.tape m c.args.full (in_layer c.loop-x.x c.args.y) (row c.loop-x.x c.args.y) (in_layer (c.loop-x.x + 1) c.args.y) _ _ _ inv.stamps g.stamps (in_layer-more c.loop-x.x c.args.y) (omega (arith, runs));
+      climb = omega (arith, steps, one, before);
+    }
+
+pub returns-clause-stamps : goal.returns-clause-stamps
+returns-clause-stamps c = stamps_layer c.args.tape.now c.loop-x.tape c.args.model.now c.args.full c.loop-x.x c.args.y (omega arith) c.loop-x.invariant.stamps (let e : c.loop-x.x ≡ c.args.model.now.resolution = omega arith in ap (sum_below (λ x. runs_of_row c.args.model.now x c.args.y)) e)
+
+pub returns-clause-climb : goal.returns-clause-climb
+returns-clause-climb c =
+    let m = c.args.model.now in
+    let f : ℕ → ℕ = λ x. row_steps m x c.args.y in
+    let all = layer_sum m c.args.y in
+    let rises = sum_below-rises f c.loop-x.x m.resolution (omega arith) in
+    let inv = c.loop-x.invariant.climb in
+    omega (arith, all, rises, inv)

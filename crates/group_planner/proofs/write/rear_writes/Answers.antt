@@ -1,0 +1,16 @@
+use Rattle.std.proofs.Common.{sym, ◌∷◌, []}
+use Rattle.std.proofs.lemmas.Result.{on_ok_weaker}
+use Rattle.nano_spec.specs.declared.commands.Command.TheVariants.{Wait}
+use Rattle.plan_tape.specs.Progress.{state_of}
+use Rattle.group_planner.proofs.Singles.{rear_calm, rear_stays, rear_wrote}
+use Rattle.group_planner.proofs.write.rear_writes.Goals as goal
+
+pub step_calmly-requires-clause-calm : goal.step_calmly-requires-clause-calm
+step_calmly-requires-clause-calm c = rear_calm c.args.tape.now c.one_below.result c.args.full c.one_below.ensures c.requires.pair c.requires.above
+
+pub returns : goal.returns
+returns c =
+    let p = c.args.tape.now in
+    let ks = (c.one_below.result ∷ Wait ∷ []) in
+    let bots = c.bots_act.ensures.gone (state_of p) ks c.know_ready.ensures.ready (sym c.requires.pair.two) (rear_stays p c.one_below.result c.args.full c.one_below.ensures c.requires.pair c.requires.above) in
+    on_ok_weaker c.step_calmly.result (λ s. rear_wrote p c.one_below.result c.args.full c.one_below.ensures c.requires.pair c.requires.above c.step_calmly.new.tape s bots (c.bots_act.ensures.voxels (state_of p) ks)) c.step_calmly.ensures

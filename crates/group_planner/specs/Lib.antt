@@ -1,0 +1,6 @@
+pub mod Pair
+pub mod Phases
+pub mod Rows
+pub mod Runs
+pub mod Stamping
+pub mod Writing

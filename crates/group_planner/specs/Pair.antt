@@ -1,0 +1,74 @@
+-- Two bots in one row along z, and their moves.
+use Rattle.std.specs.Prelude.{◌≡◌, ℕ, ◌+◌, ◌*◌, ◌≤◌, ◌<◌, Bool, cond, ◌&&◌, ◌==◌, nat_le, nat_lt, List, [], ◌∷◌, length}
+use Rattle.vox_geom.specs.declared.coordinate.Coord.{Coord}
+use Rattle.nano_spec.specs.declared.system.Bot.{Bot}
+use Rattle.nano_spec.specs.declared.system.Harmonics.TheVariants.{High}
+use Rattle.nano_spec.specs.Matrix.{Matrix, is_full}
+use Rattle.nano_spec.specs.Profile.{full_profile}
+use Rattle.nano_spec.specs.State.{origin}
+use Rattle.plan_tape.specs.Progress.{Progress, bytes, spot}
+use Rattle.layer_planner.specs.Painting.{IsVoidFrom}
+
+-- where the second bot is
+abbrev pub second_spot : List Bot → Coord
+second_spot [] = origin
+second_spot (bot ∷ bots) = spot bots
+
+-- where the rear bot stands: the first
+abbrev pub rear : Progress → Coord
+rear p = spot p.bots
+
+-- where the front bot stands: the second
+abbrev pub front : Progress → Coord
+front p = second_spot p.bots
+
+-- two coordinates of one row, the second ahead of the first along z
+pub record AreInRow (r : ℕ) (a b : Coord) : Type 0 where
+  pub x : a.x < r
+  pub y : a.y < r
+  pub z : b.z < r
+  pub same_x : b.x ≡ a.x
+  pub same_y : b.y ≡ a.y
+  pub order : a.z < b.z
+
+-- there are two bots, in one row, under High, and all is void from their height on
+pub record IsPair (p : Progress) : Type 0 where
+  pub two : length p.bots ≡ 2
+  pub high : p.harmonics ≡ High
+  pub full : p.profile ≡ full_profile
+  pub in_row : AreInRow p.matrix.resolution (rear p) (front p)
+  pub free : IsVoidFrom p.matrix (rear p).y
+
+-- in the steps of a part of the plan at most two bots act, and so many of them fill or void a region
+pub record Spends (old new : Progress) (groups : ℕ) : Type 0 where
+  pub commands_are : length new.commands + 2 * old.steps ≤ length old.commands + 2 * new.steps
+  pub bytes_are : bytes new + 4 * old.steps ≤ bytes old + 4 * new.steps + 4 * groups
+
+-- the pair has gone to two coordinates in so many steps, and no voxel has changed
+pub record Goes (old new : Progress) (a b : Coord) (steps : ℕ) : Type 0 where
+  pub source : new.source ≡ old.source
+  pub matrix : new.matrix ≡ old.matrix
+  pub pair : IsPair new
+  pub rear_is : rear new ≡ a
+  pub front_is : front new ≡ b
+  pub steps_are : new.steps ≡ old.steps + steps
+  pub spends : Spends old new 0
+
+-- the voxels of a row from a first z on and before an end
+abbrev pub in_part : ℕ → ℕ → ℕ → ℕ → Coord → Bool
+in_part x y first end c = c.x == x && c.y == y && nat_le first c.z && nat_lt c.z end
+
+-- where the test says so, the voxels are full, or else void; the others are as they were
+abbrev pub AreSet : Matrix → Matrix → (Coord → Bool) → Bool → Type 0
+AreSet new old test full = (c : Coord) → is_full new c ≡ cond (test c) full (is_full old c)
+
+-- the pair, wherever it stands afterwards, has made voxels of a row full, or else void
+pub record Sets (old new : Progress) (x y first end : ℕ) (full : Bool) (a b : Coord) (steps groups : ℕ) : Type 0 where
+  pub source : new.source ≡ old.source
+  pub resolution : new.matrix.resolution ≡ old.matrix.resolution
+  pub set : AreSet new.matrix old.matrix (in_part x y first end) full
+  pub pair : IsPair new
+  pub rear_is : rear new ≡ a
+  pub front_is : front new ≡ b
+  pub steps_are : new.steps ≡ old.steps + steps
+  pub spends : Spends old new groups

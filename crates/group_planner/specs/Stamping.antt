@@ -1,0 +1,79 @@
+-- What parts of the plan have written of a model, and what that cost.
+use Rattle.std.specs.Prelude.{◌≡◌, ℕ, ◌+◌, ◌-◌, ◌*◌, ◌≤◌, ◌<◌, Bool, cond, ◌&&◌, nat_le, nat_lt}
+use Rattle.vox_geom.specs.declared.coordinate.Coord.{Coord}
+use Rattle.nano_spec.specs.Matrix.{Matrix, is_full}
+use Rattle.plan_tape.specs.Leg.{gap}
+use Rattle.plan_tape.specs.Progress.{Progress}
+use Rattle.layer_planner.specs.Painting.{IsVoidFrom}
+use Rattle.group_planner.specs.Pair.{AreSet, IsPair, Spends, front, in_part, rear}
+use Rattle.group_planner.specs.Rows.{is_row, one_if, rows_of_layer, runs_of_layer, runs_of_row, sum_below}
+
+-- fifteen times the steps, and how far both bots are from a place of their row
+abbrev pub work_to : Progress → ℕ → ℕ
+work_to p z = 15 * p.steps + (gap (rear p).z z + gap (front p).z z)
+
+-- fifteen times the steps, and how far the bots are from the ends of a run
+abbrev pub work_at : Progress → ℕ → ℕ → ℕ
+work_at p first last = 15 * p.steps + (gap (rear p).z first + gap (front p).z last)
+
+-- the steps, and how far the pair is from a height
+abbrev pub climb_to : Progress → ℕ → ℕ
+climb_to p y = p.steps + gap (rear p).y y
+
+-- 15 * 2^30: a tape has at most 2^30 steps
+abbrev pub most_work : ℕ
+most_work = 16106127360
+
+-- the pair has made voxels of the row below it full, or else void, on its way forth or back along the row
+pub record WritesRun (old new : Progress) (first end : ℕ) (full : Bool) : Type 0 where
+  pub source : new.source ≡ old.source
+  pub resolution : new.matrix.resolution ≡ old.matrix.resolution
+  pub set : AreSet new.matrix old.matrix (in_part (rear old).x ((rear old).y - 1) first end) full
+  pub pair : IsPair new
+  pub same_x : (rear new).x ≡ (rear old).x
+  pub same_y : (rear new).y ≡ (rear old).y
+  pub forth : work_to new end ≤ work_to old first + 45 + 2 * (end - first)
+  pub back : work_to new first ≤ work_to old end + 45 + 2 * (end - first)
+  pub spends : Spends old new 1
+
+-- where the test says so, the voxels that are full in the model are full, or else void; all others are as they were
+abbrev pub AreStamped : Matrix → Matrix → Matrix → Bool → (Coord → Bool) → Type 0
+AreStamped new old model full done = (c : Coord) → is_full new c ≡ cond (done c && is_full model c) full (is_full old c)
+
+-- the pair has made voxels of the model full, or else void, and so many runs at most
+pub record Stamps (old new : Progress) (model : Matrix) (full : Bool) (done : Coord → Bool) (runs : ℕ) : Type 0 where
+  pub source : new.source ≡ old.source
+  pub resolution : new.matrix.resolution ≡ old.matrix.resolution
+  pub stamped : AreStamped new.matrix old.matrix model full done
+  pub pair : IsPair new
+  pub spends : Spends old new runs
+
+-- the layers from a lowest one on and below that of y
+abbrev pub between_layers : ℕ → ℕ → Coord → Bool
+between_layers low y c = nat_le low c.y && nat_lt c.y y
+
+-- the pair can write the layer of y of a model: above it all is void
+pub record CanStamp (p : Progress) (model : Matrix) (y : ℕ) : Type 0 where
+  pub pair : IsPair p
+  pub same : model.resolution ≡ p.matrix.resolution
+  pub within : y + 1 < p.matrix.resolution
+  pub above : IsVoidFrom p.matrix (y + 1)
+
+-- the pair can void a model: its voxels are those of the model, and the top layer is void
+pub record CanClear (p : Progress) (model : Matrix) : Type 0 where
+  pub pair : IsPair p
+  pub same : model.resolution ≡ p.matrix.resolution
+  pub alike : (c : Coord) → is_full p.matrix c ≡ is_full model c
+  pub top : IsVoidFrom p.matrix (p.matrix.resolution - 1)
+
+-- how many steps the runs of a row take at most, with the way to it
+abbrev pub row_steps : Matrix → ℕ → ℕ → ℕ
+row_steps m x y = 135 * one_if (is_row m x y) + 3 * runs_of_row m x y
+
+-- how many those of a layer take
+abbrev pub layer_steps : Matrix → ℕ → ℕ
+layer_steps m y = 135 * rows_of_layer m y + 3 * runs_of_layer m y
+
+-- how many those of the layers below y take
+abbrev pub steps_below : Matrix → ℕ → ℕ
+steps_below m y = sum_below (layer_steps m) y

@@ -1,0 +1,108 @@
+//! One bot becomes two, and two become one.
+ghost use Rattle.std.specs.Prelude.{◌≡◌, ◌+◌, ◌-◌, ◌*◌, ◌<◌, ◌≤◌, cond, IfOk, OnOk, pos, neg_ℤ};
+ghost use Rattle.vox_geom.specs.Space.{IsInSpace};
+ghost use Rattle.nano_spec.specs.declared.system.Harmonics.TheVariants.{High};
+ghost use Rattle.nano_spec.specs.Legal.{IsLegal};
+ghost use Rattle.nano_spec.specs.Profile.{full_profile};
+ghost use Rattle.plan_tape.specs.Leg.{moves};
+ghost use Rattle.plan_tape.specs.Progress.{spot};
+ghost use Rattle.layer_planner.specs.Painting.{IsVoidFrom, coord};
+ghost use Rattle.group_planner.specs.Pair.{IsPair, front as front_of, rear as rear_of};
+ghost use Rattle.group_planner.specs.Phases.{IsOpened, Joins, Splits, first_at};
+ghost use Rattle.group_planner.specs.Writing.{ahead};
+
+use crate::pair::{go_to_row, rear, spread};
+use crate::write::step_calmly;
+use nano_spec::Command;
+use plan_tape::Tape;
+use std::alloc::Global;
+use step_order::bots_act;
+use vox_geom::{Coord, Diff, Memory, Near};
+use vox_planes::Planes;
+
+/// The difference along z to the next voxel.
+fn next() -> Near
+    ensures { result ≡ ahead (pos 1) }
+{
+    let Some(near) = Near::of(Diff {
+        dx: 0,
+        dy: 0,
+        dz: 1,
+    }) else {
+        unreachable!()
+    };
+    near
+}
+
+/// The difference along z to the voxel before.
+fn last() -> Near
+    ensures { result ≡ ahead (neg_ℤ (pos 1)) }
+{
+    let Some(near) = Near::of(Diff {
+        dx: 0,
+        dy: 0,
+        dz: -1,
+    }) else {
+        unreachable!()
+    };
+    near
+}
+
+/// The only bot makes another one, next to it along z.
+fn split(tape: &mut Tape) -> Result<(), Memory>
+    requires alone { tape.old.bots ≡ first_at (spot tape.old.bots) }
+    requires high { tape.old.harmonics ≡ High }
+    requires full { tape.old.profile ≡ full_profile }
+    requires within { IsInSpace tape.old.matrix.resolution (spot tape.old.bots) }
+    requires room { (spot tape.old.bots).z + 1 < tape.old.matrix.resolution }
+    requires free { IsVoidFrom tape.old.matrix (spot tape.old.bots).y }
+    requires limit { tape.old.steps < 1073741824 }
+    ensures { OnOk result (Splits tape.old tape.new) }
+{
+    bots_act();
+    tape.know_ready();
+    step_calmly(tape, &[Command::Fission(next(), 0)])
+}
+
+/// The bots, one next to the other, become one.
+fn join(tape: &mut Tape) -> Result<(), Memory>
+    requires pair { IsPair tape.old }
+    requires beside { (front_of tape.old).z ≡ (rear_of tape.old).z + 1 }
+    requires limit { tape.old.steps < 1073741824 }
+    ensures { OnOk result (Joins tape.old tape.new (rear_of tape.old) 1) }
+{
+    bots_act();
+    tape.know_ready();
+    step_calmly(tape, &[Command::FusionP(next()), Command::FusionS(last())])
+}
+
+/// The tape with two bots at the top above the origin, under High.
+pub fn opened(alloc: Global, source: Planes) -> Result<Tape, Memory>
+    requires legal { IsLegal source }
+    requires room { 2 ≤ source.resolution }
+    ensures source { IfOk result (λ t. t.source ≡ source) }
+    ensures opened { IfOk result IsOpened }
+{
+    let r = source.resolution();
+    let mut tape = Tape::start(alloc, source)?;
+    tape.flip()?;
+    tape.go(Coord {
+        x: 0,
+        y: r - 1,
+        z: 0,
+    })?;
+    split(&mut tape)?;
+    Ok(tape)
+}
+
+/// The bots become one above the origin.
+pub fn gather(tape: &mut Tape) -> Result<(), Memory>
+    requires pair { IsPair tape.old }
+    requires limit { tape.old.steps + 82 ≤ 1073741824 }
+    ensures { OnOk result (Joins tape.old tape.new (coord 0 (rear_of tape.old).y 0) (moves (rear_of tape.old).x 0 + moves (rear_of tape.old).z 0 + moves (front_of tape.old).z 1 + 1)) }
+{
+    let y = rear(tape).y;
+    go_to_row(tape, 0, y)?;
+    spread(tape, 0, 1)?;
+    join(tape)
+}

@@ -1,0 +1,161 @@
+//! The pair: two bots in one row along z, the one at the rear and the other at the front.
+ghost use Rattle.std.specs.Prelude.{◌≡◌, ◌≢◌, ◌⊎◌, ◌+◌, ◌*◌, ◌-◌, ◌<◌, ◌≤◌, OnOk, length, pos};
+ghost use Rattle.vox_geom.specs.declared.TheConstants.{MOST_R};
+ghost use Rattle.plan_tape.specs.Leg.{component_of, moves, put};
+ghost use Rattle.layer_planner.specs.Painting.{IsVoidFrom};
+ghost use Rattle.group_planner.specs.Pair.{Goes, IsPair, front as front_of, rear as rear_of};
+
+use nano_spec::Command;
+use plan_tape::{Axis, Tape, next_stop, towards};
+use vox_geom::{Coord, Memory};
+
+/// Where the rear bot stands.
+pub fn rear(tape: &Tape) -> Coord
+    requires { IsPair tape.now }
+    ensures value { result ≡ rear_of tape.now }
+    ensures most { tape.now.matrix.resolution ≤ MOST_R }
+{
+    let _ = tape.matrix();
+    tape.crew().bots()[0].pos
+}
+
+/// Where the front bot stands.
+pub fn front(tape: &Tape) -> Coord
+    requires { IsPair tape.now }
+    ensures value { result ≡ front_of tape.now }
+    ensures most { tape.now.matrix.resolution ≤ MOST_R }
+{
+    let _ = tape.matrix();
+    tape.crew().bots()[1].pos
+}
+
+/// Both bots make the same move along x or y.
+fn both_move(tape: &mut Tape, axis: Axis, at: u16, next: u16) -> Result<(), Memory>
+    requires pair { IsPair tape.old }
+    requires flat { (axis ≡ Axis.X) ⊎ (axis ≡ Axis.Y) }
+    requires here { component_of axis (rear_of tape.old) ≡ at }
+    requires differ { at ≢ next }
+    requires near { (next ≤ at + 15) × (at ≤ next + 15) }
+    requires within { next < tape.old.matrix.resolution }
+    requires free { IsVoidFrom tape.old.matrix (put axis (rear_of tape.old) next).y }
+    requires limit { tape.old.steps < 1073741824 }
+    ensures { OnOk result (Goes tape.old tape.new (put axis (rear_of tape.old) next) (put axis (front_of tape.old) next) 1) }
+{
+    let _ = rear(tape);
+    tape.move_all(&[
+        Command::SMove(towards(axis, at, next)),
+        Command::SMove(towards(axis, at, next)),
+    ])
+}
+
+/// The front bot moves to a z past the rear one, which waits.
+fn front_moves(tape: &mut Tape, at: u16, next: u16) -> Result<(), Memory>
+    requires pair { IsPair tape.old }
+    requires here { (front_of tape.old).z ≡ at }
+    requires differ { at ≢ next }
+    requires near { (next ≤ at + 15) × (at ≤ next + 15) }
+    requires within { next < tape.old.matrix.resolution }
+    requires past { (rear_of tape.old).z < next }
+    requires limit { tape.old.steps < 1073741824 }
+    ensures { OnOk result (Goes tape.old tape.new (rear_of tape.old) (put Axis.Z (front_of tape.old) next) 1) }
+{
+    let _ = front(tape);
+    tape.move_all(&[Command::Wait, Command::SMove(towards(Axis::Z, at, next))])
+}
+
+/// The rear bot moves to a z before the front one, which waits.
+fn rear_moves(tape: &mut Tape, at: u16, next: u16) -> Result<(), Memory>
+    requires pair { IsPair tape.old }
+    requires here { (rear_of tape.old).z ≡ at }
+    requires differ { at ≢ next }
+    requires near { (next ≤ at + 15) × (at ≤ next + 15) }
+    requires before { next < (front_of tape.old).z }
+    requires limit { tape.old.steps < 1073741824 }
+    ensures { OnOk result (Goes tape.old tape.new (put Axis.Z (rear_of tape.old) next) (front_of tape.old) 1) }
+{
+    let _ = rear(tape);
+    tape.move_all(&[Command::SMove(towards(Axis::Z, at, next)), Command::Wait])
+}
+
+/// Both bots go along x or y.
+fn both_go(tape: &mut Tape, axis: Axis, from: u16, to: u16) -> Result<(), Memory>
+    requires pair { IsPair tape.old }
+    requires flat { (axis ≡ Axis.X) ⊎ (axis ≡ Axis.Y) }
+    requires here { component_of axis (rear_of tape.old) ≡ from }
+    requires within { to < tape.old.matrix.resolution }
+    requires free { IsVoidFrom tape.old.matrix (put axis (rear_of tape.old) to).y }
+    requires limit { tape.old.steps + moves from to ≤ 1073741824 }
+    ensures { OnOk result (Goes tape.old tape.new (put axis (rear_of tape.old) to) (put axis (front_of tape.old) to) (moves from to)) }
+{
+    let mut at = from;
+    while at != to {
+        let next = next_stop(at, to);
+        both_move(tape, axis, at, next)?;
+        at = next;
+    }
+    Ok(())
+}
+
+/// Both bots go to a row, by moves along x, then y.
+pub fn go_to_row(tape: &mut Tape, x: u16, y: u16) -> Result<(), Memory>
+    requires pair { IsPair tape.old }
+    requires x { x < tape.old.matrix.resolution }
+    requires y { y < tape.old.matrix.resolution }
+    requires free { IsVoidFrom tape.old.matrix y }
+    requires limit { tape.old.steps + moves (rear_of tape.old).x x + moves (rear_of tape.old).y y ≤ 1073741824 }
+    ensures { OnOk result (Goes tape.old tape.new (record { x = x; y = y; z = (rear_of tape.old).z }) (record { x = x; y = y; z = (front_of tape.old).z }) (moves (rear_of tape.old).x x + moves (rear_of tape.old).y y)) }
+{
+    let from = rear(tape);
+    both_go(tape, Axis::X, from.x, x)?;
+    both_go(tape, Axis::Y, from.y, y)
+}
+
+/// The front bot goes to a z past the rear one.
+pub fn front_goes(tape: &mut Tape, to: u16) -> Result<(), Memory>
+    requires pair { IsPair tape.old }
+    requires within { to < tape.old.matrix.resolution }
+    requires past { (rear_of tape.old).z < to }
+    requires limit { tape.old.steps + moves (front_of tape.old).z to ≤ 1073741824 }
+    ensures { OnOk result (Goes tape.old tape.new (rear_of tape.old) (put Axis.Z (front_of tape.old) to) (moves (front_of tape.old).z to)) }
+{
+    let mut at = front(tape).z;
+    while at != to {
+        let next = next_stop(at, to);
+        front_moves(tape, at, next)?;
+        at = next;
+    }
+    Ok(())
+}
+
+/// The rear bot goes to a z before the front one.
+pub fn rear_goes(tape: &mut Tape, to: u16) -> Result<(), Memory>
+    requires pair { IsPair tape.old }
+    requires before { to < (front_of tape.old).z }
+    requires limit { tape.old.steps + moves (rear_of tape.old).z to ≤ 1073741824 }
+    ensures { OnOk result (Goes tape.old tape.new (put Axis.Z (rear_of tape.old) to) (front_of tape.old) (moves (rear_of tape.old).z to)) }
+{
+    let mut at = rear(tape).z;
+    while at != to {
+        let next = next_stop(at, to);
+        rear_moves(tape, at, next)?;
+        at = next;
+    }
+    Ok(())
+}
+
+/// The bots go to two places of their row. The one that does not stand in the other's way goes first.
+pub fn spread(tape: &mut Tape, rear_to: u16, front_to: u16) -> Result<(), Memory>
+    requires pair { IsPair tape.old }
+    requires order { rear_to < front_to }
+    requires within { front_to < tape.old.matrix.resolution }
+    requires limit { tape.old.steps + moves (rear_of tape.old).z rear_to + moves (front_of tape.old).z front_to ≤ 1073741824 }
+    ensures { OnOk result (Goes tape.old tape.new (put Axis.Z (rear_of tape.old) rear_to) (put Axis.Z (front_of tape.old) front_to) (moves (rear_of tape.old).z rear_to + moves (front_of tape.old).z front_to)) }
+{
+    if rear(tape).z < front_to {
+        front_goes(tape, front_to)?;
+        rear_goes(tape, rear_to)
+    } else {
+        rear_goes(tape, rear_to)?;
+        front_goes(tape, front_to)
+    }
+}

@@ -1,0 +1,89 @@
+//! The plan.
+ghost use Rattle.std.specs.Prelude.{◌≡◌, ◌+◌, ◌*◌, ◌≤◌, [], ◌∷◌, IfOk, OnOk, length};
+ghost use Rattle.nano_spec.specs.Legal.{IsLegal};
+ghost use Rattle.nano_spec.specs.Profile.{full_profile};
+ghost use Rattle.nano_spec.specs.Spelling.{spellings};
+ghost use Rattle.plan_tape.specs.Progress.{IsAccepted};
+ghost use Rattle.layer_planner.specs.Lowest.{IsLowest};
+ghost use Rattle.group_planner.specs.Phases.{IsOpened, IsRebuilt, most_bytes, most_steps, plan_steps};
+ghost use Rattle.group_planner.specs.Rows.{runs};
+
+use crate::opening::{gather, opened};
+use crate::pair::rear;
+use crate::sweep::{build, clear};
+use layer_planner::lowest_difference;
+use nano_spec::Command;
+use plan_tape::{Plan, Tape};
+use std::alloc::Global;
+use vox_geom::{Coord, Memory};
+use vox_planes::Planes;
+
+/// The plan that changes nothing.
+fn only_halt(alloc: Global, source: Planes) -> Result<Plan, Memory>
+    requires legal { IsLegal source }
+    ensures accepted { IfOk result (λ plan. IsAccepted source source plan.commands full_profile plan.energy plan.steps) }
+    ensures commands { IfOk result (λ plan. plan.commands ≡ Command.Halt ∷ []) }
+    ensures steps { IfOk result (λ plan. plan.steps ≡ 1) }
+{
+    let mut tape = Tape::start(alloc, source)?;
+    tape.halt()?;
+    Ok(tape.finish())
+}
+
+/// Voids the source down to a layer and builds the target from there.
+fn rebuild(tape: &mut Tape, source: &Planes, target: &Planes, low: u16) -> Result<(), Memory>
+    requires opened { IsOpened tape.old }
+    requires source { tape.old.source ≡ source.now }
+    requires legal_source { IsLegal source.now }
+    requires legal_target { IsLegal target.now }
+    requires same { target.now.resolution ≡ source.now.resolution }
+    requires lowest { IsLowest source.now target.now low }
+    ensures source { OnOk result (tape.new.source ≡ source.now) }
+    ensures rebuilt { OnOk result (IsRebuilt tape.new target.now) }
+{
+    let _ = source.resolution();
+    clear(tape, source, low)?;
+    build(tape, target, low)?;
+    Ok(())
+}
+
+/// The plan, once the bots are home.
+fn closed(mut tape: Tape, target: &Planes) -> Result<Plan, Memory>
+    requires rebuilt { IsRebuilt tape target.now }
+    requires source { tape.source.resolution ≡ target.now.resolution }
+    requires legal { IsLegal target.now }
+    ensures accepted { IfOk result (λ plan. IsAccepted tape.source target.now plan.commands full_profile plan.energy plan.steps) }
+    ensures steps { IfOk result (λ plan. plan.steps ≤ plan_steps tape.source target.now + 120) }
+    ensures commands { IfOk result (λ plan. length plan.commands ≤ 2 * plan.steps) }
+    ensures bytes { IfOk result (λ plan. length (spellings plan.commands) ≤ 4 * plan.steps + 4 * (runs tape.source + runs target.now)) }
+{
+    let _ = target.resolution();
+    let _ = tape.matrix();
+    let _ = rear(&tape);
+    gather(&mut tape)?;
+    tape.go(Coord { x: 0, y: 0, z: 0 })?;
+    tape.flip()?;
+    tape.halt()?;
+    Ok(tape.finish())
+}
+
+/// A plan that makes the target of the source, by two bots. Both models are legal. With the runs and rows of both together
+/// it has at most 8 * runs + 160 * rows + 200 * r + 400 steps at resolution r, twice as many commands, and
+/// 36 * runs + 640 * rows + 800 * r + 1600 bytes. Where both models are the same, the commands are a Halt alone.
+pub fn plan_groups(alloc: Global, source: &Planes, target: &Planes) -> Result<Plan, Memory>
+    requires source { IsLegal source.now }
+    requires target { IsLegal target.now }
+    requires same { source.now.resolution ≡ target.now.resolution }
+    ensures accepted { IfOk result (λ plan. IsAccepted source.now target.now plan.commands full_profile plan.energy plan.steps) }
+    ensures steps { IfOk result (λ plan. plan.steps ≤ most_steps source.now target.now) }
+    ensures commands { IfOk result (λ plan. length plan.commands ≤ 2 * most_steps source.now target.now) }
+    ensures bytes { IfOk result (λ plan. length (spellings plan.commands) ≤ most_bytes source.now target.now) }
+    ensures halt_alone { source.now ≡ target.now → IfOk result (λ plan. plan.commands ≡ Command.Halt ∷ []) }
+{
+    let Some(low) = lowest_difference(source, target) else {
+        return only_halt(alloc, source.copy(alloc)?);
+    };
+    let mut tape = opened(alloc, source.copy(alloc)?)?;
+    rebuild(&mut tape, source, target, low)?;
+    closed(tape, target)
+}

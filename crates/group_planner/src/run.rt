@@ -1,0 +1,92 @@
+//! The runs of a row, from one z on.
+ghost use Rattle.std.specs.Prelude.{◌≡◌, ◌<◌, ◌≤◌, find, IfNone, IfSome};
+ghost use Rattle.vox_geom.specs.Space.{IsInSpace};
+ghost use Rattle.vox_planes.specs.Voxel.{is_state};
+ghost use Rattle.vox_planes.specs.Walk.{row};
+ghost use Rattle.group_planner.specs.Runs.{IsCut, IsNext, IsNextRun, IsNoRun, IsRun};
+
+use std::marker::Brand;
+use std::sync::ledger::{Blank, Ledger};
+use vox_geom::{Coord, Steps};
+use vox_planes::Planes;
+
+/// The most voxels that a run has.
+const LONGEST: u16 = 31;
+
+/// A run: its first z, and the one after its last.
+#[derive(Clone, Copy)]
+pub struct Run {
+    pub first: u16,
+    pub end: u16,
+}
+
+/// The first voxel of a row that is full, or else void, counted in a ledger of its own.
+fn next_in<L: Ledger>(
+    planes: &Planes,
+    first: Coord,
+    last: u16,
+    full: bool,
+    blank: Blank,
+) -> Option<Coord>
+    requires within { IsInSpace planes.now.resolution first }
+    requires order { first.z ≤ last }
+    requires end { last < planes.now.resolution }
+    requires name { blank.name ≡ L.name }
+    requires parts { blank.parts ≡ L.parts }
+    requires some { 0 < L.parts }
+    ensures { result ≡ find (is_state planes.now full) (row first last) }
+{
+    let mut steps: Steps<L> = Steps::new(blank);
+    planes.row_next(first, last, full, &mut steps)
+}
+
+/// The first z from one on and before an end at which the row of x and y is full, or else void; where there is none, the end.
+fn next(planes: &Planes, first: Coord, end: u16, full: bool) -> u16
+    requires x { first.x < planes.now.resolution }
+    requires y { first.y < planes.now.resolution }
+    requires order { first.z ≤ end }
+    requires end { end ≤ planes.now.resolution }
+    ensures { IsNext planes.now first.x first.y first.z end full result }
+{
+    if first.z == end {
+        return end;
+    }
+    match next_in::<Brand>(planes, first, end - 1, full, Blank::new(1)) {
+        Some(c) => c.z,
+        None => end,
+    }
+}
+
+/// The first run of the row of x and y from a z on that no run goes across.
+pub fn next_run(planes: &Planes, x: u16, y: u16, z: u16) -> Option<Run>
+    requires x { x < planes.now.resolution }
+    requires y { y < planes.now.resolution }
+    requires z { z ≤ planes.now.resolution }
+    requires cut { IsCut planes.now x y z }
+    ensures found { IfSome result (IsNextRun planes.now x y z) }
+    ensures none { IfNone result (IsNoRun planes.now x y z) }
+{
+    let r = planes.resolution();
+    let first = next(planes, Coord { x, y, z }, r, true);
+    if first == r {
+        return None;
+    }
+    let most = r.min(first + LONGEST);
+    let end = next(planes, Coord { x, y, z: first }, most, false);
+    Some(Run { first, end })
+}
+
+/// The last run of the row of x and y, from one of its runs on.
+pub fn last_run(planes: &Planes, x: u16, y: u16, run: Run) -> Run
+    requires x { x < planes.now.resolution }
+    requires y { y < planes.now.resolution }
+    requires run { IsRun planes.now x y run }
+    ensures run { IsRun planes.now x y result }
+    ensures last { IsNoRun planes.now x y result.end }
+{
+    let mut last = run;
+    while let Some(next) = next_run(planes, x, y, last.end) {
+        last = next;
+    }
+    last
+}

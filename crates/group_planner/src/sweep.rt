@@ -1,0 +1,206 @@
+//! Runs, rows and layers of a model that are filled or voided, from one layer above.
+ghost use Rattle.std.specs.Prelude.{◌≡◌, ◌+◌, ◌*◌, ◌-◌, ◌<◌, ◌≤◌, false, true, OnOk};
+ghost use Rattle.layer_planner.specs.Painting.{IsVoidFrom, from_layer, layer, row};
+ghost use Rattle.plan_tape.specs.Leg.{gap};
+ghost use Rattle.group_planner.specs.Pair.{IsPair, front as front_of, in_part, rear as rear_of};
+ghost use Rattle.group_planner.specs.Rows.{runs as runs_of, runs_of_layer, runs_of_row};
+ghost use Rattle.group_planner.specs.Runs.{IsCut, IsRun, runs_from};
+ghost use Rattle.group_planner.specs.Stamping.{CanClear, CanStamp, Stamps, WritesRun, between_layers, climb_to, layer_steps, most_work, row_steps, steps_below, work_at, work_to};
+
+use crate::pair::{front, go_to_row, rear};
+use crate::run::{Run, last_run, next_run};
+use crate::write::{write_voxel, write_voxels};
+use plan_tape::Tape;
+use vox_geom::Memory;
+use vox_planes::Planes;
+
+/// Makes the voxels of a run in the row below full or void.
+fn write_run(tape: &mut Tape, run: Run, full: bool) -> Result<(), Memory>
+    requires pair { IsPair tape.old }
+    requires above { 1 ≤ (rear_of tape.old).y }
+    requires some { run.first < run.end }
+    requires most { run.end ≤ run.first + 31 }
+    requires within { run.end ≤ tape.old.matrix.resolution }
+    requires limit { work_at tape.old run.first (run.end - 1) + 45 ≤ most_work }
+    ensures { OnOk result (WritesRun tape.old tape.new run.first run.end full) }
+{
+    if run.first + 1 == run.end {
+        write_voxel(tape, run.first, full)
+    } else {
+        write_voxels(tape, run.first, run.end - 1, full)
+    }
+}
+
+/// Makes the runs of the row below full or void, the first one first.
+fn write_runs(tape: &mut Tape, model: &Planes, full: bool, x: u16, y: u16) -> Result<(), Memory>
+    requires ready { CanStamp tape.old model.now y }
+    requires x { (rear_of tape.old).x ≡ x }
+    requires y { (rear_of tape.old).y ≡ y + 1 }
+    requires limit { work_to tape.old 0 + 45 * runs_of_row model.now x y + 2 * tape.old.matrix.resolution ≤ most_work }
+    ensures stamps { OnOk result (Stamps tape.old tape.new model.now full (row x y) (runs_of_row model.now x y)) }
+    ensures height { OnOk result ((rear_of tape.new).y ≡ y + 1) }
+    ensures steps { OnOk result (15 * tape.new.steps ≤ work_to tape.old 0 + 45 * runs_of_row model.now x y + 2 * tape.old.matrix.resolution) }
+{
+    let mut z = 0;
+    while let Some(run) = next_run(model, x, y, z) {
+        write_run(tape, run, full)?;
+        z = run.end;
+    }
+    Ok(())
+}
+
+/// Makes the runs of the row below from a z on full or void, the last one first.
+fn write_runs_back(
+    tape: &mut Tape,
+    model: &Planes,
+    full: bool,
+    x: u16,
+    y: u16,
+    z: u16,
+) -> Result<(), Memory>
+    requires ready { CanStamp tape.old model.now y }
+    requires x { (rear_of tape.old).x ≡ x }
+    requires y { (rear_of tape.old).y ≡ y + 1 }
+    requires within { z ≤ model.now.resolution }
+    requires cut { IsCut model.now x y z }
+    requires limit { work_to tape.old model.now.resolution + 45 * runs_from model.now x y z + 2 * (model.now.resolution - z) ≤ most_work }
+    ensures stamps { OnOk result (Stamps tape.old tape.new model.now full (in_part x y z model.now.resolution) (runs_from model.now x y z)) }
+    ensures line { OnOk result ((rear_of tape.new).x ≡ x) }
+    ensures height { OnOk result ((rear_of tape.new).y ≡ y + 1) }
+    ensures work { OnOk result (work_to tape.new z ≤ work_to tape.old model.now.resolution + 45 * runs_from model.now x y z + 2 * (model.now.resolution - z)) }
+{
+    match next_run(model, x, y, z) {
+        None => Ok(()),
+        Some(run) => {
+            write_runs_back(tape, model, full, x, y, run.end)?;
+            write_run(tape, run, full)
+        }
+    }
+}
+
+/// How far the bots are from the ends of a run.
+fn way_to(tape: &Tape, run: Run) -> u16
+    requires pair { IsPair tape.now }
+    requires some { run.first < run.end }
+    requires within { run.end ≤ tape.now.matrix.resolution }
+    ensures { result ≡ gap (rear_of tape.now).z run.first + gap (front_of tape.now).z (run.end - 1) }
+{
+    rear(tape).z.abs_diff(run.first) + front(tape).z.abs_diff(run.end - 1)
+}
+
+/// Whether the pair is nearer to the last run of the row of x and y than to the first.
+fn is_nearer_to_last(tape: &Tape, model: &Planes, x: u16, y: u16, first: Run) -> bool
+    requires pair { IsPair tape.now }
+    requires same { model.now.resolution ≡ tape.now.matrix.resolution }
+    requires x { x < model.now.resolution }
+    requires y { y < model.now.resolution }
+    requires first { IsRun model.now x y first }
+{
+    way_to(tape, last_run(model, x, y, first)) < way_to(tape, first)
+}
+
+/// Makes the runs of the row below full or void, from the end at which the pair stands.
+fn write_line(
+    tape: &mut Tape,
+    model: &Planes,
+    full: bool,
+    x: u16,
+    y: u16,
+    first: Run,
+) -> Result<(), Memory>
+    requires ready { CanStamp tape.old model.now y }
+    requires x { (rear_of tape.old).x ≡ x }
+    requires y { (rear_of tape.old).y ≡ y + 1 }
+    requires first { IsRun model.now x y first }
+    requires limit { 15 * tape.old.steps + 45 * runs_of_row model.now x y + 4 * tape.old.matrix.resolution ≤ most_work }
+    ensures stamps { OnOk result (Stamps tape.old tape.new model.now full (row x y) (runs_of_row model.now x y)) }
+    ensures height { OnOk result ((rear_of tape.new).y ≡ y + 1) }
+    ensures steps { OnOk result (15 * tape.new.steps ≤ 15 * tape.old.steps + 45 * runs_of_row model.now x y + 4 * tape.old.matrix.resolution) }
+{
+    if is_nearer_to_last(tape, model, x, y, first) {
+        write_runs_back(tape, model, full, x, y, 0)
+    } else {
+        write_runs(tape, model, full, x, y)
+    }
+}
+
+/// Goes to the row of x and y and makes its runs full or void.
+fn go_and_write(
+    tape: &mut Tape,
+    model: &Planes,
+    full: bool,
+    x: u16,
+    y: u16,
+    first: Run,
+) -> Result<(), Memory>
+    requires ready { CanStamp tape.old model.now y }
+    requires x { x < tape.old.matrix.resolution }
+    requires first { IsRun model.now x y first }
+    requires limit { climb_to tape.old (y + 1) + (135 + 3 * runs_of_row model.now x y) ≤ 1073741824 }
+    ensures stamps { OnOk result (Stamps tape.old tape.new model.now full (row x y) (runs_of_row model.now x y)) }
+    ensures climb { OnOk result (climb_to tape.new (y + 1) ≤ climb_to tape.old (y + 1) + (135 + 3 * runs_of_row model.now x y)) }
+{
+    let _ = rear(tape);
+    go_to_row(tape, x, y + 1)?;
+    write_line(tape, model, full, x, y, first)
+}
+
+/// Makes the runs of the row of x and y full or void. Where there are none, the bots stay where they are.
+fn write_row(tape: &mut Tape, model: &Planes, full: bool, x: u16, y: u16) -> Result<(), Memory>
+    requires ready { CanStamp tape.old model.now y }
+    requires x { x < tape.old.matrix.resolution }
+    requires limit { climb_to tape.old (y + 1) + row_steps model.now x y ≤ 1073741824 }
+    ensures stamps { OnOk result (Stamps tape.old tape.new model.now full (row x y) (runs_of_row model.now x y)) }
+    ensures climb { OnOk result (climb_to tape.new (y + 1) ≤ climb_to tape.old (y + 1) + row_steps model.now x y) }
+{
+    match next_run(model, x, y, 0) {
+        None => Ok(()),
+        Some(first) => go_and_write(tape, model, full, x, y, first),
+    }
+}
+
+/// Makes the runs of the layer of y full or void.
+fn write_layer(tape: &mut Tape, model: &Planes, full: bool, y: u16) -> Result<(), Memory>
+    requires ready { CanStamp tape.old model.now y }
+    requires limit { climb_to tape.old (y + 1) + layer_steps model.now y ≤ 1073741824 }
+    ensures stamps { OnOk result (Stamps tape.old tape.new model.now full (layer y) (runs_of_layer model.now y)) }
+    ensures climb { OnOk result (climb_to tape.new (y + 1) ≤ climb_to tape.old (y + 1) + layer_steps model.now y) }
+{
+    for x in 0..model.resolution() {
+        write_row(tape, model, full, x, y)?;
+    }
+    Ok(())
+}
+
+/// Voids all layers of a model from the top down to one.
+pub fn clear(tape: &mut Tape, source: &Planes, low: u16) -> Result<(), Memory>
+    requires ready { CanClear tape.old source.now }
+    requires low { low < tape.old.matrix.resolution }
+    requires limit { climb_to tape.old (tape.old.matrix.resolution - 1) + tape.old.matrix.resolution + steps_below source.now tape.old.matrix.resolution ≤ 1073741824 }
+    ensures stamps { OnOk result (Stamps tape.old tape.new source.now false (from_layer low) (runs_of source.now)) }
+    ensures free { OnOk result (IsVoidFrom tape.new.matrix low) }
+    ensures climb { OnOk result (climb_to tape.new low ≤ climb_to tape.old (tape.old.matrix.resolution - 1) + tape.old.matrix.resolution + steps_below source.now tape.old.matrix.resolution) }
+{
+    let mut y = source.resolution() - 1;
+    while y > low {
+        y -= 1;
+        write_layer(tape, source, false, y)?;
+    }
+    Ok(())
+}
+
+/// Fills all layers of a model from one up.
+pub fn build(tape: &mut Tape, target: &Planes, low: u16) -> Result<(), Memory>
+    requires pair { IsPair tape.old }
+    requires same { target.now.resolution ≡ tape.old.matrix.resolution }
+    requires low { low < tape.old.matrix.resolution }
+    requires free { IsVoidFrom tape.old.matrix low }
+    requires limit { climb_to tape.old (low + 1) + tape.old.matrix.resolution + steps_below target.now tape.old.matrix.resolution ≤ 1073741824 }
+    ensures stamps { OnOk result (Stamps tape.old tape.new target.now true (between_layers low (tape.old.matrix.resolution - 1)) (runs_of target.now)) }
+    ensures steps { OnOk result (tape.new.steps ≤ climb_to tape.old (low + 1) + tape.old.matrix.resolution + steps_below target.now tape.old.matrix.resolution) }
+{
+    for y in low..target.resolution() - 1 {
+        write_layer(tape, target, true, y)?;
+    }
+    Ok(())
+}

@@ -1,0 +1,39 @@
+//! The lowest layer in which two models differ.
+ghost use Rattle.std.specs.Prelude.{◌≡◌, ◌<◌, IfNone, IfSome};
+ghost use Rattle.vox_geom.specs.Least.{LeastOf};
+ghost use Rattle.vox_planes.specs.Difference.{in_layer_differ};
+ghost use Rattle.layer_planner.specs.Lowest.{IsLowest};
+
+use std::marker::Brand;
+use std::sync::ledger::{Blank, Ledger};
+use vox_geom::{Coord, Steps};
+use vox_planes::Planes;
+
+/// The least coordinate of the layer of y at which two models differ, counted in a ledger of its own.
+fn difference_in<L: Ledger>(source: &Planes, target: &Planes, y: u16, blank: Blank) -> Option<Coord>
+    requires same { source.now.resolution ≡ target.now.resolution }
+    requires within { y < source.now.resolution }
+    requires name { blank.name ≡ L.name }
+    requires parts { blank.parts ≡ L.parts }
+    requires some { 0 < L.parts }
+    ensures { LeastOf source.now.resolution (in_layer_differ source.now target.now y) result }
+{
+    let mut steps: Steps<L> = Steps::new(blank);
+    source.layer_difference(target, y, &mut steps)
+}
+
+/// The lowest layer in which two models of one resolution differ: `None` where they are the same. It takes no memory.
+pub fn lowest_difference(source: &Planes, target: &Planes) -> Option<u16>
+    requires same { source.now.resolution ≡ target.now.resolution }
+    ensures found { IfSome result (IsLowest source.now target.now) }
+    ensures none { IfNone result (source.now ≡ target.now) }
+{
+    let _ = target.resolution();
+    for y in 0..source.resolution() {
+        match difference_in::<Brand>(source, target, y, Blank::new(1)) {
+            Some(_) => return Some(y),
+            None => {}
+        }
+    }
+    None
+}

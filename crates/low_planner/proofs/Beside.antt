@@ -1,0 +1,68 @@
+-- Adjacent coordinates: one component differs, by one.
+use Rattle.std.proofs.Common.{◌≡◌, ℕ, ◌+◌, ◌-◌, ◌<◌, ◌≤◌, refl, sym, ◌∙◌, subst, arith, ◌==◌, pos, ◌-ℤ◌, inl, inr, false}
+use Rattle.std.specs.Prelude.{IsTrue, ◌⊎◌, unsigned_abs}
+use Rattle.std.proofs.lemmas.Bool.{cases_lt}
+use Rattle.std.proofs.lemmas.Bool.Decides.{nat_tests}
+use Rattle.std.proofs.lemmas.Int.{ints}
+use Rattle.vox_geom.specs.declared.coordinate.Coord.{Coord}
+use Rattle.vox_geom.specs.Point.{are_adjacent, point}
+use Rattle.vox_geom.specs.Space.{IsInSpace, in_space}
+use Rattle.nano_spec.specs.Matrix.{Matrix, is_full}
+use Rattle.nano_spec.proofs.Coordinates.{in_space-is}
+use Rattle.nano_spec.proofs.Grounding.{left}
+use Rattle.low_planner.specs.Sweep.{IsBeside, coord}
+
+gap : (a b : ℕ) → unsigned_abs (pos a -ℤ pos b) ≡ (a - b) + (b - a)
+gap a b = omega (arith, ints)
+
+is_one : (n : ℕ) → IsTrue (n == 1) → n ≡ 1
+is_one n h = grind (arith, nat_tests)
+
+one_is : (n : ℕ) → n ≡ 1 → IsTrue (n == 1)
+one_is n h = rw h refl
+
+gaps : (a b : Coord) → IsTrue (are_adjacent a b) → ((a.x - b.x) + (b.x - a.x)) + ((a.y - b.y) + (b.y - a.y)) + ((a.z - b.z) + (b.z - a.z)) ≡ 1
+gaps a b h =
+    sym (λ i. gap a.x b.x i + gap a.y b.y i + gap a.z b.z i)
+    ∙ is_one (unsigned_abs (pos a.x -ℤ pos b.x) + unsigned_abs (pos a.y -ℤ pos b.y) + unsigned_abs (pos a.z -ℤ pos b.z)) h
+
+-- coordinates that lie one apart on one axis are adjacent
+pub adjacent_by : (a b : Coord) → ((a.x - b.x) + (b.x - a.x)) + ((a.y - b.y) + (b.y - a.y)) + ((a.z - b.z) + (b.z - a.z)) ≡ 1 → IsTrue (are_adjacent a b)
+adjacent_by a b e =
+    one_is (unsigned_abs (pos a.x -ℤ pos b.x) + unsigned_abs (pos a.y -ℤ pos b.y) + unsigned_abs (pos a.z -ℤ pos b.z))
+    ((λ i. gap a.x b.x i + gap a.y b.y i + gap a.z b.z i) ∙ e)
+
+-- a voxel and the one right above it are adjacent
+pub adjacent_below : (c b : Coord) → b.x ≡ c.x → b.z ≡ c.z → c.y ≡ b.y + 1 → IsTrue (are_adjacent c b)
+adjacent_below c b x z y = adjacent_by c b (omega arith)
+
+-- beside each other in a layer
+pub beside_by : (a b : Coord) → b.y ≡ a.y → ((a.x - b.x) + (b.x - a.x)) + ((a.z - b.z) + (b.z - a.z)) ≡ 1 → IsBeside a b
+beside_by a b y e = record { adjacent = adjacent_by a b (omega arith); level = y }
+
+pub beside-sym : (a b : Coord) → IsBeside a b → IsBeside b a
+beside-sym a b h = let g = gaps a b h.adjacent in let l = h.level in beside_by b a (sym l) (omega arith)
+
+-- how far apart such coordinates are
+pub beside_gap : (a b : Coord) → IsBeside a b → ((a.x - b.x) + (b.x - a.x)) + ((a.z - b.z) + (b.z - a.z)) ≡ 1
+beside_gap a b h = let g = gaps a b h.adjacent in let l = h.level in omega arith
+
+-- a full voxel is in space
+pub full_within : (m : Matrix) (c : Coord) → IsTrue (is_full m c) → IsInSpace m.resolution c
+full_within m c h = in_space-is m.resolution c (left (in_space m.resolution (point c)) _ h)
+
+same : (a b : Coord) → a.x ≡ b.x → a.y ≡ b.y → a.z ≡ b.z → a ≡ b
+same a b x y z = λ i. record { x = x i; y = y i; z = z i }
+
+-- none of the four is full
+pub none_beside : (m : Matrix) (c : Coord) → is_full m (coord c.x c.y (c.z + 1)) ≡ false → (0 < c.z → is_full m (coord c.x c.y (c.z - 1)) ≡ false) → is_full m (coord (c.x + 1) c.y c.z) ≡ false → (0 < c.x → is_full m (coord (c.x - 1) c.y c.z) ≡ false) → (d : Coord) → IsBeside c d → is_full m d ≡ false
+none_beside m c e f g h d b = by (beside_gap c d b) b.level (cases_lt c.x d.x) (cases_lt d.x c.x) (cases_lt c.z d.z)
+  where
+    at : (x y z : ℕ) → d.x ≡ x → d.y ≡ y → d.z ≡ z → is_full m (coord x y z) ≡ false → is_full m d ≡ false
+    at x y z i j k v = subst (λ (q : Coord). is_full m q ≡ false) (sym (same d (coord x y z) i j k)) v
+
+    by : ((c.x - d.x) + (d.x - c.x)) + ((c.z - d.z) + (d.z - c.z)) ≡ 1 → d.y ≡ c.y → ((c.x < d.x) ⊎ (d.x ≤ c.x)) → ((d.x < c.x) ⊎ (c.x ≤ d.x)) → ((c.z < d.z) ⊎ (d.z ≤ c.z)) → is_full m d ≡ false
+    by s l (inl x) y z = at (c.x + 1) c.y c.z (omega arith) l (omega arith) g
+    by s l (inr x) (inl y) z = at (c.x - 1) c.y c.z (omega arith) l (omega arith) (h (omega arith))
+    by s l (inr x) (inr y) (inl z) = at c.x c.y (c.z + 1) (omega arith) l (omega arith) e
+    by s l (inr x) (inr y) (inr z) = at c.x c.y (c.z - 1) (omega arith) l (omega arith) (f (omega arith))

@@ -1,0 +1,10 @@
+pub mod Beside
+pub mod Builds
+pub mod Counts
+pub mod Grounds
+pub mod Paths
+pub mod Rows
+pub mod Sweeps
+pub mod Trails
+pub mod Ways
+pub mod Works

@@ -1,0 +1,178 @@
+-- The steps of a sweep.
+use Rattle.std.proofs.Common.{◌≡◌, ℕ, ◌≤◌, ◌⊎◌, inl, inr, refl, sym, ◌∙◌, ap, subst, arith, List, [], ◌∷◌, ◌++◌, Bool, true, false, cond, length, find, Option, Some, None}
+use Rattle.std.specs.Prelude.{IsTrue, Contains}
+use Rattle.std.proofs.lemmas.List.Elements.{Contains-append_left, Contains-push, Contains-push_cases}
+use native.Mathlib.Decide.{ℕ_discrete}
+use Rattle.vox_geom.specs.declared.coordinate.Coord.{Coord}
+use Rattle.vox_geom.specs.Least.{LeastOf}
+use Rattle.vox_geom.specs.Space.{IsInSpace, coordinates}
+use Rattle.vox_geom.proofs.Firsts.{first_is}
+use Rattle.nano_spec.specs.First.{FirstFailing}
+use Rattle.nano_spec.specs.Matrix.{Matrix, all_of, is_full}
+use Rattle.low_planner.specs.declared.sweep.Sweep.{Sweep}
+use Rattle.low_planner.specs.Supported.{FirstUnsupported, IsSupported, rests}
+use Rattle.low_planner.specs.Sweep.{AreAllSwept, AreSwept, IsBeside, IsSweep, IsTrail, IsVisited, Takes}
+use Rattle.low_planner.proofs.Beside.{beside-sym}
+use Rattle.low_planner.proofs.Paths.{in_part}
+
+pub contrary : {A : Type 0} (b : Bool) → IsTrue b → b ≡ false → A
+contrary b t f = cc
+
+-- what is left was there before
+pub still : (a b : Bool) → (a ≡ false → b ≡ false) → IsTrue b → IsTrue a
+still true b h t = refl
+still false b h t = contrary b t (h refl)
+
+pub same_or_not : (c d : Coord) → (c ≡ d) ⊎ (c ≡ d → ⊥)
+same_or_not c d = by (ℕ_discrete c.x d.x) (ℕ_discrete c.y d.y) (ℕ_discrete c.z d.z)
+  where
+    by : Dec (c.x ≡ d.x) → Dec (c.y ≡ d.y) → Dec (c.z ≡ d.z) → (c ≡ d) ⊎ (c ≡ d → ⊥)
+    by (yes e) (yes f) (yes g) = inl (λ i. record { x = e i; y = f i; z = g i })
+    by (yes e) (yes f) (no n) = inr (λ h. n (ap (λ (q : Coord). q.z) h))
+    by (yes e) (no n) g = inr (λ h. n (ap (λ (q : Coord). q.y) h))
+    by (no n) f g = inr (λ h. n (ap (λ (q : Coord). q.x) h))
+
+pub in_none : {X : Type 0} (xs : List X) (x : X) → xs ≡ [] → Contains xs x → ⊥
+in_none xs x e h = let l : length xs ≡ 0 = ap length e in omega (arith, h.1)
+
+-- ---- a new start
+
+pub moved : (m : Matrix) (s t : Sweep) (c : Coord) → t.remaining ≡ s.remaining → t.trail.items ≡ s.trail.items → t.at ≡ c → IsSweep m s → s.trail.items ≡ [] → AreSwept m s.remaining c → s.at.y ≤ c.y → IsInSpace m.resolution c → IsSweep m t
+moved m s t c er et ea h none swept up within = record {
+  resolution = ap (λ (l : Matrix). l.resolution) er ∙ h.resolution;
+  fewer = λ d f. ap (λ (l : Matrix). is_full l d) er ∙ h.fewer d f;
+  supported = λ d k. h.supported d (was d k);
+  closed = λ a b k n f. subst (λ (xs : List Coord). Contains xs a) (sym et) (h.closed a b (was a k) n (sym (ap (λ (l : Matrix). is_full l b) er) ∙ f));
+  ahead = λ d k. let l = h.ahead d (was d k) in let e = ap (λ (q : Coord). q.y) ea in omega arith;
+  swept = subst (λ (q : Coord). AreSwept m t.remaining q) (sym ea) (subst (λ (l : Matrix). AreSwept m l c) (sym er) swept);
+  place = subst (λ (q : Coord). IsInSpace m.resolution q) (sym ea) within;
+  trail = subst (λ (xs : List Coord). IsTrail t.at xs) (sym (et ∙ none)) tt;
+  on_trail = λ d k. absurd (in_none t.trail.items d (et ∙ none) k);
+}
+  where
+    was : (d : Coord) → IsVisited m t.remaining d → IsVisited m s.remaining d
+    was d k = record { before = k.before; after = sym (ap (λ (l : Matrix). is_full l d) er) ∙ k.after }
+
+-- ---- a voxel more
+
+module _ (m : Matrix) (s t : Sweep) (c : Coord) (h : IsSweep m s) (k : Takes s t c) (at : t.at ≡ s.at) (supported : IsSupported m c) (level : c.y ≡ s.at.y) (trail : IsTrail t.at t.trail.items) where
+  was_full : IsTrue (is_full m c)
+  was_full = still (is_full m c) (is_full s.remaining c) (h.fewer c) k.loses.before
+
+  visited_now : IsVisited m t.remaining c
+  visited_now = record { before = was_full; after = k.loses.after }
+
+  fewer_now : (d : Coord) → is_full s.remaining d ≡ false → is_full t.remaining d ≡ false
+  fewer_now d f = by (same_or_not d c)
+    where
+      by : (d ≡ c) ⊎ (d ≡ c → ⊥) → is_full t.remaining d ≡ false
+      by (inl e) = ap (is_full t.remaining) e ∙ k.loses.after
+      by (inr n) = k.loses.others d n ∙ f
+
+  -- what is visited now is the new voxel, or was visited before
+  visited_cases : (d : Coord) → IsVisited m t.remaining d → (d ≡ c) ⊎ IsVisited m s.remaining d
+  visited_cases d v = by (same_or_not d c)
+    where
+      by : (d ≡ c) ⊎ (d ≡ c → ⊥) → (d ≡ c) ⊎ IsVisited m s.remaining d
+      by (inl e) = inl e
+      by (inr n) = inr (record { before = v.before; after = sym (k.loses.others d n) ∙ v.after })
+
+  up : t.at.y ≡ s.at.y
+  up = ap (λ (q : Coord). q.y) at
+
+  on_it : Contains t.trail.items c
+  on_it = subst (λ (xs : List Coord). Contains xs c) (sym k.trail) (Contains-push s.trail.items c)
+
+  stays_on : (d : Coord) → Contains s.trail.items d → Contains t.trail.items d
+  stays_on d i = subst (λ (xs : List Coord). Contains xs d) (sym k.trail) (Contains-append_left s.trail.items (c ∷ []) d i)
+
+  left_before : (d : Coord) → IsTrue (is_full t.remaining d) → IsTrue (is_full s.remaining d)
+  left_before d f = still (is_full s.remaining d) (is_full t.remaining d) (fewer_now d) f
+
+  pub taken : IsSweep m t
+  taken = record {
+    resolution = k.loses.resolution ∙ h.resolution;
+    fewer = λ d f. fewer_now d (h.fewer d f);
+    supported = λ d v. of d (visited_cases d v);
+    closed = λ a b v n f. near a b n f (visited_cases a v);
+    ahead = λ d v. low d (visited_cases d v);
+    swept = subst (λ (q : Coord). AreSwept m t.remaining q) (sym at) (record { layers = λ d l r. fewer_now d (h.swept.layers d l r); rows = λ d e l r. fewer_now d (h.swept.rows d e l r); cells = λ d e f l r. fewer_now d (h.swept.cells d e f l r) });
+    place = subst (λ (q : Coord). IsInSpace m.resolution q) (sym at) h.place;
+    trail = trail;
+    on_trail = λ d i. member d (Contains-push_cases s.trail.items c d (subst (λ (xs : List Coord). Contains xs d) k.trail i));
+  }
+    where
+      of : (d : Coord) → (d ≡ c) ⊎ IsVisited m s.remaining d → IsSupported m d
+      of d (inl e) = subst (IsSupported m) (sym e) supported
+      of d (inr v) = h.supported d v
+
+      near : (a b : Coord) → IsBeside a b → IsTrue (is_full t.remaining b) → (a ≡ c) ⊎ IsVisited m s.remaining a → Contains t.trail.items a
+      near a b n f (inl e) = subst (λ (q : Coord). Contains t.trail.items q) (sym e) on_it
+      near a b n f (inr v) = stays_on a (h.closed a b v n (left_before b f))
+
+      low : (d : Coord) → (d ≡ c) ⊎ IsVisited m s.remaining d → d.y ≤ t.at.y
+      low d (inl e) = let y = ap (λ (q : Coord). q.y) e in let u = up in omega arith
+      low d (inr v) = let l = h.ahead d v in let u = up in omega arith
+
+      member : (d : Coord) → (Contains s.trail.items d ⊎ (c ≡ d)) → IsVisited m t.remaining d × (d.y ≡ t.at.y)
+      member d (inl i) = let w = h.on_trail d i in (record { before = w.0.before; after = fewer_now d w.0.after }, w.1 ∙ sym up)
+      member d (inr e) = subst (λ (q : Coord). IsVisited m t.remaining q × (q.y ≡ t.at.y)) e (visited_now, level ∙ sym up)
+
+-- ---- a voxel less on the trail
+
+pub popped : (m : Matrix) (s t : Sweep) (last : Coord) → IsSweep m s → t.remaining ≡ s.remaining → t.at ≡ s.at → s.trail.items ≡ t.trail.items ++ last ∷ [] → ((d : Coord) → IsBeside last d → is_full s.remaining d ≡ false) → IsTrail s.at t.trail.items → IsSweep m t
+popped m s t last h er ea ends alone trail = record {
+  resolution = ap (λ (l : Matrix). l.resolution) er ∙ h.resolution;
+  fewer = λ d f. ap (λ (l : Matrix). is_full l d) er ∙ h.fewer d f;
+  supported = λ d k. h.supported d (was d k);
+  closed = λ a b k n f. let g : IsTrue (is_full s.remaining b) = sym (ap (λ (l : Matrix). is_full l b) er) ∙ f in near a b n g (Contains-push_cases t.trail.items last a (subst (λ (xs : List Coord). Contains xs a) ends (h.closed a b (was a k) n g)));
+  ahead = λ d k. let l = h.ahead d (was d k) in let e = ap (λ (q : Coord). q.y) ea in omega arith;
+  swept = subst (λ (q : Coord). AreSwept m t.remaining q) (sym ea) (subst (λ (l : Matrix). AreSwept m l s.at) (sym er) h.swept);
+  place = subst (λ (q : Coord). IsInSpace m.resolution q) (sym ea) h.place;
+  trail = subst (λ (q : Coord). IsTrail q t.trail.items) (sym ea) trail;
+  on_trail = λ d i. let w = h.on_trail d (subst (λ (xs : List Coord). Contains xs d) (sym ends) (Contains-append_left t.trail.items (last ∷ []) d i)) in (record { before = w.0.before; after = ap (λ (l : Matrix). is_full l d) er ∙ w.0.after }, w.1 ∙ sym (ap (λ (q : Coord). q.y) ea));
+}
+  where
+    was : (d : Coord) → IsVisited m t.remaining d → IsVisited m s.remaining d
+    was d k = record { before = k.before; after = sym (ap (λ (l : Matrix). is_full l d) er) ∙ k.after }
+
+    near : (a b : Coord) → IsBeside a b → IsTrue (is_full s.remaining b) → (Contains t.trail.items a ⊎ (last ≡ a)) → Contains t.trail.items a
+    near a b n g (inl i) = i
+    near a b n g (inr e) = contrary (is_full s.remaining b) g (alone b (subst (λ (q : Coord). IsBeside q b) (sym e) n))
+
+-- ---- what was not visited
+
+-- a layer of which all that rests was visited, and none is on the trail, has no voxel of a supported part that was not visited
+pub none_left : (m : Matrix) (s : Sweep) (y : ℕ) → IsSweep m s → ((c : Coord) → c.y ≡ y → IsTrue (rests m c) → is_full s.remaining c ≡ false) → ((c : Coord) → c.y ≡ y → Contains s.trail.items c → ⊥) → (c : Coord) → IsSupported m c → c.y ≡ y → is_full s.remaining c ≡ false
+none_left m s y h rest off = in_part m (λ a. a.y ≡ y → is_full s.remaining a ≡ false) (λ a f r e. rest a e r) more
+  where
+    more : (a b : Coord) → IsTrue (is_full m a) → IsTrue (is_full m b) → IsBeside a b → (b.y ≡ y → is_full s.remaining b ≡ false) → a.y ≡ y → is_full s.remaining a ≡ false
+    more a b f g n later e = by (is_full s.remaining a) refl
+      where
+        at : b.y ≡ y
+        at = n.level ∙ e
+
+        by : (v : Bool) → is_full s.remaining a ≡ v → v ≡ false
+        by false w = refl
+        by true w = absurd (off b at (h.closed b a (record { before = g; after = later at }) (beside-sym a b n) w))
+
+first_failing : {A : Type 0} (P : A → Type 0) (test : A → Bool) → ((a : A) → test a ≡ true → P a → ⊥) → ((a : A) → test a ≡ false → P a) → (xs : List A) → FirstFailing P xs (find test xs)
+first_failing P test bad good [] = tt
+first_failing {A = A} P test bad good (a ∷ xs) = by (test a) refl (find test xs) (first_failing P test bad good xs)
+  where
+    by : (b : Bool) → test a ≡ b → (o : Option A) → FirstFailing P xs o → FirstFailing P (a ∷ xs) (cond b (Some a) o)
+    by true e o h = inl (bad a e, refl)
+    by false e None h = (good a e, h)
+    by false e (Some c) h = inr (good a e, h)
+
+-- the least voxel that was not visited is the least of all unsupported parts
+pub left_is_unsupported : (m : Matrix) (s : Sweep) (o : Option Coord) → IsSweep m s → s.trail.items ≡ [] → AreAllSwept m s.remaining → LeastOf s.remaining.resolution (is_full s.remaining) o → FirstUnsupported m o
+left_is_unsupported m s o h none all least =
+    subst (FirstUnsupported m) (ap (λ r. find (is_full s.remaining) (coordinates r)) (sym h.resolution) ∙ first_is s.remaining.resolution (is_full s.remaining) o least)
+    (first_failing (λ c. IsTrue (is_full m c) → IsSupported m c) (is_full s.remaining) bad good (all_of m))
+  where
+    bad : (c : Coord) → is_full s.remaining c ≡ true → (IsTrue (is_full m c) → IsSupported m c) → ⊥
+    bad c e g = contrary (is_full s.remaining c) e (none_left m s c.y h (λ d l r. all d r) (λ d l i. in_none s.trail.items d none i) c (g (still (is_full m c) (is_full s.remaining c) (h.fewer c) e)) refl)
+
+    good : (c : Coord) → is_full s.remaining c ≡ false → IsTrue (is_full m c) → IsSupported m c
+    good c e f = h.supported c (record { before = f; after = e })

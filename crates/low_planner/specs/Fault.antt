@@ -1,0 +1,16 @@
+-- Why there is no plan, and what a plan has.
+use Rattle.std.specs.Prelude.{ℕ, Some, ⊤}
+use Rattle.nano_spec.specs.Matrix.{Matrix}
+use Rattle.low_planner.specs.declared.fault.LowFault.{LowFault}
+use Rattle.low_planner.specs.declared.fault.LowFault.TheVariants.{Unsupported, Memory}
+use Rattle.low_planner.specs.Supported.{FirstUnsupported}
+
+-- the number by which a refusal is printed
+abbrev pub number_of : LowFault → ℕ
+number_of (Unsupported at) = 1
+number_of Memory = 2
+
+-- the refusal has its cause: at is the least voxel of all parts that are unsupported, or there was no memory
+abbrev pub HasCause : Matrix → LowFault → Type 0
+HasCause m (Unsupported at) = FirstUnsupported m (Some at)
+HasCause m Memory = ⊤

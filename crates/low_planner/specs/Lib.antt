@@ -1,0 +1,5 @@
+pub mod Build
+pub mod Commands
+pub mod Fault
+pub mod Supported
+pub mod Sweep

@@ -1,0 +1,79 @@
+//! The steps of the bot along a sweep.
+ghost use Rattle.std.specs.Prelude.{◌≡◌, ◌+◌, ◌<◌, ◌≤◌, OnOk, None, true};
+ghost use Rattle.vox_geom.specs.Space.{IsInSpace};
+ghost use Rattle.nano_spec.specs.Legal.{IsLegal};
+ghost use Rattle.vox_planes.specs.Voxel.{with_voxel};
+ghost use Rattle.plan_tape.specs.Leg.{AreVoidTo, moves_to};
+ghost use Rattle.plan_tape.specs.Progress.{spot};
+ghost use Rattle.low_planner.specs.Build.{CanFill, CanGo, IsBuilt, IsFinished, IsWorking, Works, above, down as down_of};
+ghost use Rattle.low_planner.specs.Supported.{FirstUnsupported};
+ghost use Rattle.low_planner.specs.Sweep.{IsSweep};
+
+use crate::sweep::{Sweep, Visit};
+use plan_tape::Tape;
+use vox_geom::{Coord, Diff, Memory, Near};
+use vox_planes::Planes;
+
+/// The difference to the voxel below.
+fn down() -> Near
+    ensures { result ≡ down_of }
+{
+    let Some(near) = Near::of(Diff {
+        dx: 0,
+        dy: -1,
+        dz: 0,
+    }) else {
+        unreachable!()
+    };
+    near
+}
+
+/// Goes to a coordinate. The three ways are void.
+pub fn go(tape: &mut Tape, to: Coord) -> Result<(), Memory>
+    requires working { IsWorking tape.old }
+    requires within { IsInSpace tape.old.matrix.resolution to }
+    requires ways { AreVoidTo tape.old.matrix (spot tape.old.bots) to }
+    requires limit { tape.old.steps + moves_to (spot tape.old.bots) to ≤ 1073741824 }
+    ensures works { OnOk result (Works tape.old tape.new to tape.old.matrix (moves_to (spot tape.old.bots) to)) }
+    ensures stays { spot tape.old.bots ≡ to → OnOk result (tape.new.commands ≡ tape.old.commands) }
+{
+    tape.go(to)
+}
+
+/// Goes to the coordinate right above a voxel.
+fn go_above(tape: &mut Tape, c: Coord) -> Result<(), Memory>
+    requires { CanGo tape.old c }
+    ensures { OnOk result (Works tape.old tape.new (above c) tape.old.matrix (moves_to (spot tape.old.bots) (above c))) }
+{
+    let _ = tape.matrix();
+    go(tape, Coord { y: c.y + 1, ..c })
+}
+
+/// Goes to the coordinate right above a voxel, and fills it.
+fn fill(tape: &mut Tape, c: Coord) -> Result<(), Memory>
+    requires { CanFill tape.old c }
+    ensures { OnOk result (Works tape.old tape.new (above c) (with_voxel tape.old.matrix c true) (moves_to (spot tape.old.bots) (above c) + 1)) }
+{
+    let _ = tape.harmonics();
+    go_above(tape, c)?;
+    tape.fill(down())
+}
+
+/// Fills what the sweep visits.
+pub fn build(tape: &mut Tape, sweep: &mut Sweep, target: &Planes) -> Result<(), Memory>
+    requires legal { IsLegal target.now }
+    requires supported { FirstUnsupported target.now None }
+    requires sweep { IsSweep target.now sweep.old }
+    requires built { IsBuilt target.now sweep.old tape.old }
+    ensures { OnOk result (IsFinished target.now tape.new) }
+{
+    let _ = target.resolution();
+    while let Some(visit) = sweep.next(target)? {
+        match visit {
+            Visit::First(c) => fill(tape, c)?,
+            Visit::Onward(c) => fill(tape, c)?,
+            Visit::Back(c) => go_above(tape, c)?,
+        }
+    }
+    Ok(())
+}

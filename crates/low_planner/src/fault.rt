@@ -1,0 +1,35 @@
+//! Why a model is not planned.
+ghost use Rattle.std.specs.Prelude.{◌≡◌};
+ghost use Rattle.low_planner.specs.declared.fault.LowFault.TheVariants.{Memory};
+ghost use Rattle.low_planner.specs.Fault.{number_of};
+
+use vox_geom::{Coord, Memory};
+
+/// Why there is no plan.
+#[derive(Clone, Copy, PartialEq, Eq, Debug)]
+pub enum LowFault {
+    /// The least voxel of all parts that are unsupported.
+    Unsupported { at: Coord },
+    /// There was no memory.
+    Memory,
+}
+
+impl LowFault {
+    /// The number by which the refusal is printed.
+    pub fn number(self) -> u8
+        ensures { result ≡ number_of self }
+    {
+        match self {
+            LowFault::Unsupported { .. } => 1,
+            LowFault::Memory => 2,
+        }
+    }
+}
+
+impl From<Memory> for LowFault {
+    ghost from_gives = { λ _ fault. fault ≡ Memory };
+
+    fn from(_memory: Memory) -> LowFault {
+        LowFault::Memory
+    }
+}

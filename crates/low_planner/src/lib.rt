@@ -1,0 +1,17 @@
+//! A planner with one bot, which builds a model under Low all the time: layer by layer from the floor up, from one layer
+//! above, and each part of a layer along its voxels, from one that has a full voxel right below it.
+#![tactic(auto)]
+
+mod build;
+mod fault;
+mod laws;
+mod plan;
+mod survey;
+mod sweep;
+
+pub use fault::LowFault;
+pub use laws::one_unsupported;
+pub use plan::plan_low;
+
+#[cfg(test)]
+mod tests;

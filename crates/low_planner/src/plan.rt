@@ -1,0 +1,76 @@
+//! The plan.
+ghost use Rattle.std.specs.Prelude.{◌≡◌, ◌+◌, ◌*◌, ◌≤◌, ◌∷◌, [], All, IfErr, IfOk, None};
+ghost use Rattle.nano_spec.specs.Legal.{IsLegal};
+ghost use Rattle.nano_spec.specs.Matrix.{empty};
+ghost use Rattle.nano_spec.specs.Profile.{full_profile, light_profile};
+ghost use Rattle.plan_tape.specs.Progress.{IsAccepted, starting};
+ghost use Rattle.low_planner.specs.Build.{IsFinished};
+ghost use Rattle.low_planner.specs.Commands.{IsEmpty, IsPlain, full_count};
+ghost use Rattle.low_planner.specs.Fault.{HasCause};
+ghost use Rattle.low_planner.specs.Supported.{FirstUnsupported};
+
+use crate::build::{build, go};
+use crate::fault::LowFault;
+use crate::survey::first_unsupported;
+use crate::sweep::Sweep;
+use nano_spec::{Command, Profile, full_accepts_what_light_accepts};
+use plan_tape::{Plan, Tape};
+use std::alloc::Global;
+use vox_geom::{Coord, Memory};
+use vox_planes::Planes;
+
+/// The tape before the first command, over the empty model of this resolution.
+fn started(alloc: Global, target: &Planes) -> Result<Tape, Memory>
+    ensures { IfOk result (λ t. t ≡ starting (empty target.now.resolution) light_profile) }
+{
+    let nothing = Planes::empty(alloc, target.resolution())?;
+    Tape::start_as(alloc, nothing, Profile::light())
+}
+
+/// The tape once all is built.
+fn built(alloc: Global, target: &Planes) -> Result<Tape, Memory>
+    requires legal { IsLegal target.now }
+    requires supported { FirstUnsupported target.now None }
+    ensures { IfOk result (IsFinished target.now) }
+{
+    let mut tape = started(alloc, target)?;
+    let mut sweep = Sweep::begin(alloc, target)?;
+    build(&mut tape, &mut sweep, target)?;
+    Ok(tape)
+}
+
+/// The plan, once the bot is home.
+fn closed(mut tape: Tape, target: &Planes) -> Result<Plan, Memory>
+    requires finished { IsFinished target.now tape }
+    requires legal { IsLegal target.now }
+    ensures accepted { IfOk result (λ plan. IsAccepted (empty target.now.resolution) target.now plan.commands light_profile plan.energy plan.steps) }
+    ensures plain { IfOk result (λ plan. All IsPlain plan.commands) }
+    ensures steps { IfOk result (λ plan. plan.steps ≤ 4 * full_count target.now + target.now.resolution * target.now.resolution * target.now.resolution + 200) }
+    ensures halt_alone { IsEmpty target.now → IfOk result (λ plan. plan.commands ≡ Command.Halt ∷ []) }
+{
+    let _ = target.resolution();
+    go(&mut tape, Coord { x: 0, y: 0, z: 0 })?;
+    tape.halt()?;
+    Ok(tape.finish())
+}
+
+/// A plan that builds the target, by one bot under Low all the time. The target is legal. Its commands have no Flip and no
+/// Fission, and at most 4 * full + r * r * r + 200 steps at resolution r, where full is the number of full voxels; where the
+/// target is empty, they are a Halt alone. There is none exactly where some part is unsupported.
+pub fn plan_low(alloc: Global, target: &Planes) -> Result<Plan, LowFault>
+    requires { IsLegal target.now }
+    ensures unsupported { IfErr result (HasCause target.now) }
+    ensures supported { IfOk result (λ _. FirstUnsupported target.now None) }
+    ensures accepted { IfOk result (λ plan. IsAccepted (empty target.now.resolution) target.now plan.commands light_profile plan.energy plan.steps) }
+    ensures accepted_in_full { IfOk result (λ plan. IsAccepted (empty target.now.resolution) target.now plan.commands full_profile plan.energy plan.steps) }
+    ensures plain { IfOk result (λ plan. All IsPlain plan.commands) }
+    ensures steps { IfOk result (λ plan. plan.steps ≤ 4 * full_count target.now + target.now.resolution * target.now.resolution * target.now.resolution + 200) }
+    ensures halt_alone { IsEmpty target.now → IfOk result (λ plan. plan.commands ≡ Command.Halt ∷ []) }
+{
+    full_accepts_what_light_accepts();
+    if let Some(at) = first_unsupported(alloc, target)? {
+        return Err(LowFault::Unsupported { at });
+    }
+    let plan = closed(built(alloc, target)?, target)?;
+    Ok(plan)
+}

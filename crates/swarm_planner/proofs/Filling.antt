@@ -1,0 +1,232 @@
+-- What a step leaves in which each bot fills the voxel below it, or waits.
+use Rattle.std.proofs.Common.{◌≡◌, ℕ, suc, ◌+◌, ◌-◌, ◌<◌, ◌≤◌, refl, sym, ◌∙◌, ap, subst, arith, Bool, true, false, cond, ◌&&◌, ◌||◌, not, ◌==◌, max, List, [], ◌∷◌, length}
+use Rattle.std.specs.Prelude.{pos, negsuc, ◌+ℤ◌, ◌≤ℤ◌, IsTrue}
+use Rattle.std.specs.List.{AllByRecursion, list_any}
+use Rattle.std.proofs.lemmas.Bool.Decides.{nat_tests}
+use Rattle.std.proofs.lemmas.Int.{ints}
+use Rattle.vox_geom.specs.declared.coordinate.Coord.{Coord}
+use Rattle.vox_geom.specs.Point.{Point, plus, point}
+use Rattle.vox_geom.specs.Region.{is_between, is_within, just}
+use Rattle.vox_geom.specs.Space.{IsInSpace, in_range, in_space}
+use Rattle.nano_spec.specs.declared.commands.Command.{Command}
+use Rattle.nano_spec.specs.declared.commands.Command.TheVariants.{Fill, Wait}
+use Rattle.nano_spec.specs.declared.system.Bot.{Bot}
+use Rattle.nano_spec.specs.declared.system.Profile.{Profile}
+use Rattle.nano_spec.specs.Act.{Act, acts, filled}
+use Rattle.nano_spec.specs.Matrix.{Matrix, is_full}
+use Rattle.nano_spec.specs.Profile.{is_allowed, light_profile}
+use Rattle.nano_spec.specs.State.{State}
+use Rattle.nano_spec.specs.Step.{is_filled}
+use Rattle.nano_spec.specs.Volatile.{volatile_regions}
+use Rattle.step_order.specs.Unbroken.{AreFree, IsFree, MayAct}
+use Rattle.step_order.proofs.Voxels.{full_where, in_space_is}
+use Rattle.plan_tape.specs.declared.axis.Axis.TheVariants.{Z}
+use Rattle.plan_tape.specs.Crowd.{AllStep, FillsOrWaits, with_fills}
+use Rattle.plan_tape.specs.Progress.{Progress, spot, state_of}
+use Rattle.swarm_planner.specs.Building.{Fills, IsRaised, below, down, fill, fills, is_below, is_under, is_wanted}
+use Rattle.swarm_planner.specs.Crew.{AreLed, InRow, IsSwarm, places}
+use Rattle.swarm_planner.proofs.Rows.{led_row}
+use Rattle.swarm_planner.proofs.Fences.{AreFenced, IsFenced, IsInColumns, untangled}
+
+-- ---- one bot
+
+down_x : (n : ℕ) → pos n +ℤ pos 0 ≡ pos n
+down_x n = omega (arith, ints)
+
+down_y : (n : ℕ) → 1 ≤ n → pos n +ℤ negsuc 0 ≡ pos (n - 1)
+down_y n h = omega (arith, ints)
+
+pub below_is : (p : Coord) → 1 ≤ p.y → plus (point p) down ≡ point (below p)
+below_is p h = λ i. record { x = down_x p.x i; y = down_y p.y h i; z = down_x p.z i }
+
+only : (a v : ℕ) → is_between (pos a) (pos a) (pos v) ≡ (v == a)
+only a v = grind (arith, nat_tests)
+
+only_below : (a v : ℕ) → 1 ≤ a → is_between (pos (a - 1)) (pos (a - 1)) (pos v) ≡ (v + 1 == a)
+only_below a v h = grind (arith, nat_tests)
+
+within_below : (p c : Coord) → 1 ≤ p.y → is_within (just (plus (point p) down)) (point c) ≡ is_below p c
+within_below p c h = ap (λ q. is_within (just q) (point c)) (below_is p h) ∙ (λ i. only p.x c.x i && only_below p.y c.y h i && only p.z c.z i)
+
+three : (a b d : Bool) → (a && b && d) ≡ true → (a ≡ true) × (b ≡ true) × (d ≡ true)
+three true true true e = (refl, refl, refl)
+three true true false e = cc
+three true false d e = cc
+three false b d e = cc
+
+same : (a b : ℕ) → (a == b) ≡ true → a ≡ b
+same a b h = grind (arith, nat_tests)
+
+less_one : (a b : ℕ) → (a + 1 == b) ≡ true → a ≡ b - 1
+less_one a b h = let e = same (a + 1) b h in omega arith
+
+pub is_below-is : (p c : Coord) → is_below p c ≡ true → c ≡ below p
+is_below-is p c h =
+    let t = three (c.x == p.x) (c.y + 1 == p.y) (c.z == p.z) h in
+    let x = same c.x p.x t.0 in
+    let y = less_one c.y p.y t.1 in
+    let z = same c.z p.z t.2 in
+    λ i. record { x = x i; y = y i; z = z i }
+
+or_false : (b : Bool) → (b || false) ≡ b
+or_false true = refl
+or_false false = refl
+
+and_with : (a b : Bool) → (a ≡ true → b ≡ false) → (a && b) ≡ false
+and_with true b h = h refl
+and_with false b h = refl
+
+with_true : (a b : Bool) → (a ≡ true → b ≡ true) → (a && b) ≡ a
+with_true true b h = h refl
+with_true false b h = refl
+
+-- what one bot fills
+fills_one : (m goal : Matrix) (p c : Coord) → 1 ≤ p.y → list_any (λ s. is_within s (point c)) (filled (point p) (fill m goal p)) ≡ (is_below p c && (is_full goal c && not (is_full m c)))
+fills_one m goal p c h = by (is_wanted m goal p) refl
+  where
+    at : is_below p c ≡ true → (is_full goal c && not (is_full m c)) ≡ is_wanted m goal p
+    at e = ap (λ (d : Coord). is_full goal d && not (is_full m d)) (is_below-is p c e)
+
+    by : (t : Bool) → is_wanted m goal p ≡ t → list_any (λ s. is_within s (point c)) (filled (point p) (cond t (Fill down) Wait)) ≡ (is_below p c && (is_full goal c && not (is_full m c)))
+    by true e = or_false (is_within (just (plus (point p) down)) (point c)) ∙ (within_below p c h ∙ sym (with_true (is_below p c) (is_full goal c && not (is_full m c)) (λ f. at f ∙ e)))
+    by false e = sym (and_with (is_below p c) (is_full goal c && not (is_full m c)) (λ f. at f ∙ e))
+
+fill_waits : (m goal : Matrix) (p : Coord) → FillsOrWaits (fill m goal p)
+fill_waits m goal p = by (is_wanted m goal p)
+  where
+    by : (t : Bool) → FillsOrWaits (cond t (Fill down) Wait)
+    by true = tt
+    by false = tt
+
+allowed : (profile : Profile) (m goal : Matrix) (p : Coord) → profile ≡ light_profile → IsTrue (is_allowed profile (fill m goal p))
+allowed profile m goal p e = subst (λ (k : Profile). IsTrue (is_allowed k (fill m goal p))) (sym e) (by (is_wanted m goal p))
+  where
+    by : (t : Bool) → IsTrue (is_allowed light_profile (cond t (Fill down) Wait))
+    by true = refl
+    by false = refl
+
+may_fill : (s : State) (all : List Act) (goal : Matrix) (b : Bot) → IsInSpace s.matrix.resolution b.pos → 1 ≤ b.pos.y → MayAct s all (record { bot = b; command = fill s.matrix goal b.pos }) (fill s.matrix goal b.pos)
+may_fill s all goal b i h = by (is_wanted s.matrix goal b.pos)
+  where
+    by : (t : Bool) → MayAct s all (record { bot = b; command = fill s.matrix goal b.pos }) (cond t (Fill down) Wait)
+    by true = subst (λ (q : Point). IsTrue (in_space s.matrix.resolution q)) (sym (below_is b.pos h)) (in_space_is s.matrix.resolution (below b.pos) (let y = i.y in record { x = i.x; y = omega arith; z = i.z }))
+    by false = tt
+
+-- the region of one point in a column
+pub just_in : (low high : ℕ) (q : Point) (n : ℕ) → q.x ≡ pos n → low ≤ n → n ≤ high → IsInColumns low high (just q)
+just_in low high q n e l h =
+    let a : pos low ≤ℤ q.x = rw e (omega (arith, ints)) in
+    let b : q.x ≤ℤ pos high = rw e (omega (arith, ints)) in
+    record { from_low = a; from_high = b; to_low = a; to_high = b }
+
+fenced : (m goal : Matrix) (low high : ℕ) (b : Bot) → low ≤ b.pos.x → b.pos.x ≤ high → IsFenced low high (record { bot = b; command = fill m goal b.pos })
+fenced m goal low high b l h = by (is_wanted m goal b.pos)
+  where
+    by : (t : Bool) → AllByRecursion (IsInColumns low high) (volatile_regions (point b.pos) (cond t (Fill down) Wait))
+    by true = (just_in low high (point b.pos) b.pos.x refl l h, (just_in low high (plus (point b.pos) down) b.pos.x (down_x b.pos.x) l h, tt))
+    by false = (just_in low high (point b.pos) b.pos.x refl l h, tt)
+
+-- ---- all bots
+
+pub fills_length : (m goal : Matrix) (bots : List Bot) → length (fills m goal bots) ≡ length bots
+fills_length m goal [] = refl
+fills_length m goal (b ∷ bots) = ap suc (fills_length m goal bots)
+
+fills_wait : (m goal : Matrix) (bots : List Bot) → AllByRecursion FillsOrWaits (fills m goal bots)
+fills_wait m goal [] = tt
+fills_wait m goal (b ∷ bots) = (fill_waits m goal b.pos, fills_wait m goal bots)
+
+module _ (s : State) (goal : Matrix) (light : s.profile ≡ light_profile) where
+  each_free : (all : List Act) (bots : List Bot) (low : ℕ) → AreLed s.matrix.resolution 1 Z low (places bots) (places bots) → AllByRecursion (IsFree s all) (acts bots (fills s.matrix goal bots))
+  each_free all [] low k = tt
+  each_free all (b ∷ bots) low k = (record { allowed = allowed s.profile s.matrix goal b.pos light; may = may_fill s all goal b k.0.from k.0.high_from }, each_free all bots (max b.pos.x b.pos.x + 1) k.1)
+
+  all_fenced : (bots : List Bot) (low : ℕ) → AreLed s.matrix.resolution 1 Z low (places bots) (places bots) → AreFenced low (acts bots (fills s.matrix goal bots))
+  all_fenced [] low k = AreFenced.none
+  all_fenced (b ∷ bots) low k =
+      let l = k.0.low_from in
+      AreFenced.one (max b.pos.x b.pos.x) (omega arith) (fenced s.matrix goal low (max b.pos.x b.pos.x) b l (omega arith)) (all_fenced bots (max b.pos.x b.pos.x + 1) k.1)
+
+  pub fills_free : (bots : List Bot) (low : ℕ) → AreLed s.matrix.resolution 1 Z low (places bots) (places bots) → AreFree s (acts bots (fills s.matrix goal bots))
+  fills_free bots low k = record { each = each_free (acts bots (fills s.matrix goal bots)) bots low k; untangled = untangled (all_fenced bots low k) }
+
+-- ---- the matrix
+
+either : (a b g : Bool) → ((a && g) || (b && g)) ≡ ((a || b) && g)
+either true b true = refl
+either true true false = refl
+either true false false = refl
+either false b g = refl
+
+all_filled : (m goal : Matrix) (c : Coord) (r low : ℕ) (bots : List Bot) → AreLed r 1 Z low (places bots) (places bots) → is_filled (acts bots (fills m goal bots)) c ≡ (is_under (places bots) c && (is_full goal c && not (is_full m c)))
+all_filled m goal c r low [] k = refl
+all_filled m goal c r low (b ∷ bots) k =
+    let here = fills_one m goal b.pos c k.0.high_from in
+    let more = all_filled m goal c r (max b.pos.x b.pos.x + 1) bots k.1 in
+    (λ i. here i || more i) ∙ either (is_below b.pos c) (is_under (places bots) c) (is_full goal c && not (is_full m c))
+
+together : (under goal full : Bool) → ((under && (goal && not full)) || full) ≡ (full || (under && goal))
+together true true true = refl
+together true true false = refl
+together true false true = refl
+together true false false = refl
+together false goal true = refl
+together false goal false = refl
+
+nothing : (a b u : Bool) → a ≡ false → b ≡ false → false ≡ (a || (u && b))
+nothing a b true e f = sym (λ i. e i || f i)
+nothing a b false e f = sym (λ i. e i || false)
+
+outside : (n : Matrix) (r : ℕ) (c : Coord) → n.resolution ≡ r → in_space r (point c) ≡ false → is_full n c ≡ false
+outside n r c e o = no (in_space n.resolution (point c)) _ (ap (λ k. in_space k (point c)) e ∙ o)
+  where
+    no : (a b : Bool) → a ≡ false → (a && b) ≡ false
+    no a b f = rw f refl
+
+below_number : (r v : ℕ) → in_range r (pos v) ≡ true → v < r
+below_number r v h = grind (arith, nat_tests)
+
+pub space : (r : ℕ) (q : Coord) → in_space r (point q) ≡ true → IsInSpace r q
+space r q h = let p = three (in_range r (pos q.x)) (in_range r (pos q.y)) (in_range r (pos q.z)) h in record { x = below_number r q.x p.0; y = below_number r q.y p.1; z = below_number r q.z p.2 }
+
+pub raised_by : (m goal : Matrix) (bots : List Bot) (low : ℕ) → goal.resolution ≡ m.resolution → AreLed m.resolution 1 Z low (places bots) (places bots) → IsRaised (with_fills m (acts bots (fills m goal bots))) m goal (is_under (places bots))
+raised_by m goal bots low e k = λ c. by c (in_space m.resolution (point c)) refl
+  where
+    by : (c : Coord) (t : Bool) → in_space m.resolution (point c) ≡ t → is_full (with_fills m (acts bots (fills m goal bots))) c ≡ (is_full m c || (is_under (places bots) c && is_full goal c))
+    by c true i =
+        full_where m.resolution (λ d. is_filled (acts bots (fills m goal bots)) d || is_full m d) c (space m.resolution c i)
+        ∙ ((λ j. all_filled m goal c m.resolution low bots k j || is_full m c)
+        ∙ together (is_under (places bots) c) (is_full goal c) (is_full m c))
+    by c false o =
+        outside (with_fills m (acts bots (fills m goal bots))) m.resolution c refl o
+        ∙ nothing (is_full m c) (is_full goal c) (is_under (places bots) c) (outside m m.resolution c refl o) (outside goal m.resolution c e o)
+
+-- ---- the tape
+
+module _ (p : Progress) (swarm : IsSwarm p) (row : InRow p) (up : 1 ≤ (spot p.bots).y) where
+  pub standing : AreLed p.matrix.resolution 1 Z 1 (places p.bots) (places p.bots)
+  standing = subst (λ (cs : List Coord). AreLed p.matrix.resolution 1 Z 1 cs cs) (sym row.places_are) (led_row p.matrix.resolution 1 Z (spot p.bots) (spot p.bots) row.leads row.leads (refl, refl) (omega arith) up up)
+
+  pub bots_within : AllByRecursion (λ b. IsInSpace p.matrix.resolution b.pos × (1 ≤ b.pos.y)) p.bots
+  bots_within = all p.bots 1 standing
+    where
+      all : (bots : List Bot) (low : ℕ) → AreLed p.matrix.resolution 1 Z low (places bots) (places bots) → AllByRecursion (λ b. IsInSpace p.matrix.resolution b.pos × (1 ≤ b.pos.y)) bots
+      all [] low k = tt
+      all (b ∷ bots) low k = ((k.0.from, k.0.high_from), all bots (max b.pos.x b.pos.x + 1) k.1)
+
+  module _ (goal : Matrix) (ks : List Command) (e : ks ≡ fills p.matrix goal p.bots) where
+    pub fills_are_free : AreFree (state_of p) (acts p.bots ks)
+    fills_are_free = subst (λ (k : List Command). AreFree (state_of p) (acts p.bots k)) (sym e) (fills_free (state_of p) goal swarm.light p.bots 1 standing)
+
+    pub only_fills : AllByRecursion FillsOrWaits ks
+    only_fills = subst (λ (k : List Command). AllByRecursion FillsOrWaits k) (sym e) (fills_wait p.matrix goal p.bots)
+
+    pub has_filled : (q : Progress) → goal.resolution ≡ p.matrix.resolution → AllStep p q ks (with_fills p.matrix (acts p.bots ks)) p.harmonics p.bots → Fills p q goal
+    has_filled q same s = record {
+      source = s.source;
+      swarm = record { high = s.harmonics ∙ swarm.high; light = s.profile ∙ swarm.light };
+      bots = s.bots_are;
+      resolution = ap (λ (m : Matrix). m.resolution) s.matrix;
+      raised = subst (λ (m : Matrix). IsRaised m p.matrix goal (is_under (places p.bots))) (sym (s.matrix ∙ ap (λ (k : List Command). with_fills p.matrix (acts p.bots k)) e)) (raised_by p.matrix goal p.bots 1 same standing);
+      steps = s.steps;
+    }

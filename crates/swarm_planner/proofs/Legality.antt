@@ -1,0 +1,159 @@
+-- Where a legal model is void, and when two models are the same.
+use Rattle.std.proofs.Common.{◌≡◌, ℕ, ◌+◌, ◌<◌, ◌≤◌, ◌⊎◌, inl, inr, nat_le, nat_lt, refl, sym, ◌∙◌, ap, subst, arith, List, [], ◌∷◌, Bool, true, false, ◌&&◌, ◌||◌, not}
+use Rattle.std.specs.Prelude.{IsTrue, None, find, pos}
+use Rattle.std.proofs.lemmas.Bool.Decides.{nat_tests}
+use Rattle.vox_geom.specs.declared.coordinate.Coord.{Coord}
+use Rattle.vox_geom.specs.Point.{point}
+use Rattle.vox_geom.specs.Region.{is_between}
+use Rattle.vox_geom.specs.Space.{in_space}
+use Rattle.nano_spec.specs.First.{FirstFailing}
+use Rattle.nano_spec.specs.Grounded.{FirstUngrounded, Grounded}
+use Rattle.nano_spec.specs.Legal.{IsLegal, in_legal_box}
+use Rattle.nano_spec.specs.Matrix.{Matrix, all_of, differ_at, empty, is_full, matrix_where}
+use Rattle.nano_spec.specs.Verdict.{first_difference}
+use Rattle.nano_spec.proofs.Opening.{legal_is}
+use Rattle.step_order.proofs.Lists.{find_none}
+use Rattle.step_order.proofs.Voxels.{as_it_is, full_where, in_coordinates, matrix_same}
+use Rattle.vox_planes.specs.Voxel.{IsWhole}
+use Rattle.plan_tape.specs.Leg.{AreVoidTo}
+use Rattle.swarm_planner.specs.Crew.{IsVoidFrom}
+use Rattle.swarm_planner.proofs.Building.{full_inside}
+use Rattle.swarm_planner.proofs.Filling.{space}
+
+-- ---- legal models
+
+in_box : (full box : Bool) → (full && not box) ≡ false → full ≡ true → box ≡ true
+in_box true true e f = refl
+in_box true false e f = cc
+in_box false box e f = cc
+
+-- a full voxel of a legal model is in the legal box
+legal_box : (m : Matrix) (c : Coord) → IsLegal m → is_full m c ≡ true → in_legal_box m.resolution c ≡ true
+legal_box m c h f =
+    in_box (is_full m c) (in_legal_box m.resolution c)
+    (find_none (λ d. is_full m d && not (in_legal_box m.resolution d)) c (all_of m) (legal_is m h).0 (in_coordinates m.resolution c (full_inside m c f))) f
+
+-- the columns, layers and depths of the legal box
+pub record IsInBox (r : ℕ) (c : Coord) : Type 0 where
+  pub x : 1 ≤ c.x
+  pub x_end : c.x + 1 < r
+  pub y_end : c.y + 1 < r
+  pub z : 1 ≤ c.z
+
+five : (a b c d e : Bool) → (a && b && c && d && e) ≡ true → (a ≡ true) × (b ≡ true) × (c ≡ true) × (d ≡ true)
+five true true true true true h = (refl, refl, refl, refl)
+five true true true true false h = cc
+five true true true false e h = cc
+five true true false d e h = cc
+five true false c d e h = cc
+five false b c d e h = cc
+
+at_least : (a b : ℕ) → nat_le a b ≡ true → a ≤ b
+at_least a b h = grind (arith, nat_tests)
+
+less : (a b : ℕ) → nat_lt a b ≡ true → a < b
+less a b h = grind (arith, nat_tests)
+
+pub full_in_box : (m : Matrix) (c : Coord) → IsLegal m → is_full m c ≡ true → IsInBox m.resolution c
+full_in_box m c h f =
+    let b = five (nat_le 1 c.x) (nat_lt (c.x + 1) m.resolution) (nat_lt (c.y + 1) m.resolution) (nat_le 1 c.z) (nat_lt (c.z + 1) m.resolution) (legal_box m c h f) in
+    record { x = at_least 1 c.x b.0; x_end = less (c.x + 1) m.resolution b.1; y_end = less (c.y + 1) m.resolution b.2; z = at_least 1 c.z b.3 }
+
+never_full : (full : Bool) → (full ≡ true → ⊥) → full ≡ false
+never_full true h = absurd (h refl)
+never_full false h = refl
+
+pub void_at_depth : (m : Matrix) → IsLegal m → (c : Coord) → c.z ≡ 0 → is_full m c ≡ false
+void_at_depth m h c e = never_full (is_full m c) (λ f. let b = full_in_box m c h f in let z = b.z in absurd (omega arith))
+
+third : (a b c : Bool) → IsTrue (a && b && c) → IsTrue c
+third true true c t = t
+third true false c t = cc
+third false b c t = cc
+
+at_zero : (v : ℕ) → IsTrue (is_between (pos 0) (pos 0) (pos v)) → v ≡ 0
+at_zero v t = grind (arith, nat_tests)
+
+-- at z = 0 all ways home are void
+pub ways_home : (m : Matrix) (a b : Coord) → IsLegal m → a.z ≡ 0 → b.z ≡ 0 → AreVoidTo m a b
+ways_home m a b h e f = record {
+  x = λ c t. void_at_depth m h c (at_zero c.z (subst (λ v. IsTrue (is_between (pos v) (pos v) (pos c.z))) e (third (is_between (pos a.x) (pos b.x) (pos c.x)) (is_between (pos a.y) (pos a.y) (pos c.y)) (is_between (pos a.z) (pos a.z) (pos c.z)) t)));
+  y = λ c t. void_at_depth m h c (at_zero c.z (subst (λ v. IsTrue (is_between (pos v) (pos v) (pos c.z))) e (third (is_between (pos b.x) (pos b.x) (pos c.x)) (is_between (pos a.y) (pos b.y) (pos c.y)) (is_between (pos a.z) (pos a.z) (pos c.z)) t)));
+  z = λ c t. void_at_depth m h c (at_zero c.z (subst (λ v. IsTrue (is_between (pos v) (pos 0) (pos c.z))) e (subst (λ v. IsTrue (is_between (pos a.z) (pos v) (pos c.z))) f (third (is_between (pos b.x) (pos b.x) (pos c.x)) (is_between (pos b.y) (pos b.y) (pos c.y)) (is_between (pos a.z) (pos b.z) (pos c.z)) t))));
+}
+
+pub ways_home_in : (m n : Matrix) (a b : Coord) → m ≡ n → IsLegal n → a.z ≡ 0 → b.z ≡ 0 → AreVoidTo m a b
+ways_home_in m n a b e h f g = subst (λ (k : Matrix). AreVoidTo k a b) (sym e) (ways_home n a b h f g)
+
+pub grounded_at : (m n : Matrix) → m ≡ n → IsLegal n → FirstUngrounded m None
+grounded_at m n e h = subst (λ (k : Matrix). FirstUngrounded k None) (sym e) (legal_is n h).1
+
+-- ---- a matrix that is void
+
+pub void_is_grounded : (m : Matrix) → IsVoidFrom m 0 → FirstUngrounded m None
+void_is_grounded m void = all (all_of m)
+  where
+    never : (c : Coord) (t : Bool) → is_full m c ≡ t → t ≡ false → IsTrue (is_full m c) → Grounded m c
+    never c true e f g = cc
+    never c false e f g = cc
+
+    all : (cs : List Coord) → FirstFailing (λ c. IsTrue (is_full m c) → Grounded m c) cs None
+    all [] = tt
+    all (c ∷ cs) = (never c (is_full m c) refl (void c (omega arith)), all cs)
+
+-- ---- the same models
+
+pub alike_is_same : (m n : Matrix) → IsWhole m → IsWhole n → m.resolution ≡ n.resolution → ((c : Coord) → is_full m c ≡ is_full n c) → m ≡ n
+alike_is_same m n v w e h =
+    sym (as_it_is m v.voxels)
+    ∙ (matrix_same m.resolution (is_full m) (is_full n) (λ c i. h c)
+    ∙ (ap (λ r. matrix_where r (is_full n)) e ∙ as_it_is n w.voxels))
+
+unlike : (a b : Bool) → ((a && not b) || (b && not a)) ≡ false → a ≡ b
+unlike true true e = refl
+unlike true false e = cc
+unlike false true e = cc
+unlike false false e = refl
+
+outside : (m n : Matrix) (c : Coord) → m.resolution ≡ n.resolution → in_space m.resolution (point c) ≡ false → is_full m c ≡ is_full n c
+outside m n c e o = none (in_space m.resolution (point c)) _ o ∙ sym (none (in_space n.resolution (point c)) _ (ap (λ r. in_space r (point c)) (sym e) ∙ o))
+  where
+    none : (a b : Bool) → a ≡ false → (a && b) ≡ false
+    none a b f = rw f refl
+
+pub no_difference : (m n : Matrix) → IsWhole m → IsWhole n → m.resolution ≡ n.resolution → first_difference m n ≡ None → m ≡ n
+no_difference m n v w e h = alike_is_same m n v w e (λ c. by c (in_space m.resolution (point c)) refl)
+  where
+    by : (c : Coord) (t : Bool) → in_space m.resolution (point c) ≡ t → is_full m c ≡ is_full n c
+    by c true i = unlike (is_full m c) (is_full n c) (find_none (differ_at m n) c (all_of m) h (in_coordinates m.resolution c (space m.resolution c i)))
+    by c false o = outside m n c e o
+
+like : (a : Bool) → ((a && not a) || (a && not a)) ≡ false
+like true = refl
+like false = refl
+
+pub same_difference : (m n : Matrix) → m ≡ n → first_difference m n ≡ None
+same_difference m n e = subst (λ (k : Matrix). first_difference m k ≡ None) e (none (differ_at m m) (all_of m) (λ c. like (is_full m c)))
+  where
+    none : (test : Coord → Bool) (xs : List Coord) → ((c : Coord) → test c ≡ false) → find test xs ≡ None
+    none test [] h = refl
+    none test (c ∷ xs) h = rw (h c) (none test xs h)
+
+-- the empty model is void
+pub empty_is_void : (r : ℕ) (c : Coord) → is_full (empty r) c ≡ false
+empty_is_void r c = by (in_space r (point c)) refl
+  where
+    by : (s : Bool) → in_space r (point c) ≡ s → is_full (empty r) c ≡ false
+    by true s = full_where r (λ _. false) c (space r c s)
+    by false s = rw s refl
+
+three_or_less : (r : ℕ) → (3 ≤ r) ⊎ (r < 3)
+three_or_less r = grind arith
+
+-- a legal model with a full voxel has a resolution of 3 at least
+pub wide_enough : (m n : Matrix) → IsLegal m → IsWhole m → IsWhole n → n.resolution ≡ m.resolution → IsVoidFrom n 0 → (n ≡ m → ⊥) → 3 ≤ m.resolution
+wide_enough m n h v w e void differ = by (three_or_less m.resolution)
+  where
+    by : (3 ≤ m.resolution) ⊎ (m.resolution < 3) → 3 ≤ m.resolution
+    by (inl k) = k
+    by (inr k) = absurd (differ (alike_is_same n m w v e (λ c. void c (omega arith) ∙ sym (never_full (is_full m c) (λ f. let b = full_in_box m c h f in let x = b.x in let y = b.x_end in absurd (omega arith))))))

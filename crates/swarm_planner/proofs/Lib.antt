@@ -1,0 +1,14 @@
+pub mod Building
+pub mod Covering
+pub mod Fences
+pub mod Filling
+pub mod Fusing
+pub mod Gathering
+pub mod Leading
+pub mod Legality
+pub mod Lines
+pub mod Moves
+pub mod Phases
+pub mod Rows
+pub mod Sending
+pub mod Splitting

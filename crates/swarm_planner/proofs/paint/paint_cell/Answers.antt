@@ -1,0 +1,19 @@
+use Rattle.std.proofs.Common.{◌≡◌, ◌+◌, false}
+use Rattle.std.proofs.lemmas.Result.{on_ok_weaker}
+use Rattle.swarm_planner.specs.Building.{Fills, are_wanted}
+use Rattle.swarm_planner.specs.Strips.{coord, row_of}
+use Rattle.swarm_planner.proofs.Building.{cell_already, cell_built}
+use Rattle.swarm_planner.proofs.paint.paint_cell.Goals as goal
+
+pub returns-then-not-has_work : goal.returns-then-not-has_work
+returns-then-not-has_work c =
+    let p = c.args.tape.now in
+    let none : are_wanted p.matrix c.args.goal.now (row_of p.matrix.resolution (coord c.args.x (c.args.y + 1) c.args.z)) ≡ false = let h = c.has_work.ensures in let t = c.if-not-has_work.true in cc in
+    cell_already p c.args.goal.now c.args.x c.args.y c.args.z c.requires.ready none
+
+pub returns : goal.returns
+returns c =
+    on_ok_weaker c.fill_below.result
+    (λ (f : Fills c.go.new.tape c.fill_below.new.tape c.args.goal.now).
+    cell_built c.args.tape.now c.go.new.tape c.fill_below.new.tape c.args.goal.now c.args.x c.args.y c.args.z c.requires.ready c.in_ok-go.ensures f)
+    c.fill_below.ensures

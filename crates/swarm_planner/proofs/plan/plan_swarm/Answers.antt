@@ -1,0 +1,10 @@
+use Rattle.std.proofs.Common.{◌∙◌, ap}
+use Rattle.nano_spec.specs.Matrix.{Matrix, is_full}
+use Rattle.swarm_planner.proofs.Legality.{empty_is_void}
+use Rattle.swarm_planner.proofs.plan.plan_swarm.Goals as goal
+
+pub only_halt-requires : goal.only_halt-requires
+only_halt-requires c = λ d l. ap (λ (m : Matrix). is_full m d) c.in_ok-nothing.ensures.value ∙ empty_is_void c.resolution.result d
+
+pub planned-requires-clause-void : goal.planned-requires-clause-void
+planned-requires-clause-void c = λ d l. ap (λ (m : Matrix). is_full m d) c.in_ok-nothing.ensures.value ∙ empty_is_void c.resolution.result d

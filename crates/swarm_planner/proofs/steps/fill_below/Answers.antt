@@ -1,0 +1,57 @@
+use Rattle.std.proofs.Common.{◌≡◌, ◌≤◌, refl, sym, ◌∙◌, ap, subst, length, List}
+use Rattle.std.specs.List.{AllByRecursion}
+use Rattle.std.proofs.lemmas.Result.{on_ok_weaker}
+use Rattle.vox_geom.specs.Space.{IsInSpace}
+use Rattle.nano_spec.specs.declared.system.Bot.{Bot}
+use Rattle.nano_spec.specs.Act.{acts}
+use Rattle.nano_spec.specs.Matrix.{Matrix}
+use Rattle.plan_tape.specs.Crowd.{AllStep, with_fills}
+use Rattle.plan_tape.specs.Progress.{Progress, state_of}
+use Rattle.plan_tape.proofs.Crowds.{held_under_high}
+use Rattle.swarm_planner.specs.Building.{fills}
+use Rattle.swarm_planner.proofs.Filling.{bots_within, fills_are_free, fills_length, has_filled, only_fills}
+use Rattle.swarm_planner.proofs.steps.fill_below.Goals as goal
+
+-- the commands by what is read of the tape
+are : (p : Progress) (m goal : Matrix) (bots : List Bot) → m ≡ p.matrix → bots ≡ p.bots → fills m goal bots ≡ fills p.matrix goal p.bots
+are p m goal bots em eb = λ i. fills (em i) goal (eb i)
+
+within : (m n : Matrix) (bots old : List Bot) → m ≡ n → bots ≡ old → AllByRecursion (λ b. IsInSpace n.resolution b.pos × (1 ≤ b.pos.y)) old → AllByRecursion (λ b. IsInSpace m.resolution b.pos × (1 ≤ b.pos.y)) bots
+within m n bots old em eb h = subst (λ (k : Matrix). AllByRecursion (λ b. IsInSpace k.resolution b.pos × (1 ≤ b.pos.y)) bots) (sym em) (subst (λ (bs : List Bot). AllByRecursion (λ b. IsInSpace n.resolution b.pos × (1 ≤ b.pos.y)) bs) (sym eb) h)
+
+pub fills-requires-clause-within : goal.fills-requires-clause-within
+fills-requires-clause-within c =
+    let p = c.args.tape.now in
+    within c.matrix.result.now p.matrix c.bots.result.now p.bots c.matrix.ensures.value (c.bots.ensures.value ∙ c.crew.ensures.value) (bots_within p c.requires.swarm c.requires.row c.requires.up)
+
+pub fill_all-requires-clause-commands : goal.fill_all-requires-clause-commands
+fill_all-requires-clause-commands c =
+    let p = c.args.tape.now in
+    ap length (c.deref.ensures.value ∙ (c.in_ok-commands.ensures ∙ are p c.matrix.result.now c.args.goal.now c.bots.result.now c.matrix.ensures.value (c.bots.ensures.value ∙ c.crew.ensures.value))) ∙ fills_length p.matrix c.args.goal.now p.bots
+
+pub fill_all-requires-clause-fills : goal.fill_all-requires-clause-fills
+fill_all-requires-clause-fills c =
+    let p = c.args.tape.now in
+    only_fills p c.requires.swarm c.requires.row c.requires.up c.args.goal.now c.deref.result.now
+    (c.deref.ensures.value ∙ (c.in_ok-commands.ensures ∙ are p c.matrix.result.now c.args.goal.now c.bots.result.now c.matrix.ensures.value (c.bots.ensures.value ∙ c.crew.ensures.value)))
+
+pub fill_all-requires-clause-free : goal.fill_all-requires-clause-free
+fill_all-requires-clause-free c =
+    let p = c.args.tape.now in
+    fills_are_free p c.requires.swarm c.requires.row c.requires.up c.args.goal.now c.deref.result.now
+    (c.deref.ensures.value ∙ (c.in_ok-commands.ensures ∙ are p c.matrix.result.now c.args.goal.now c.bots.result.now c.matrix.ensures.value (c.bots.ensures.value ∙ c.crew.ensures.value)))
+
+pub fill_all-requires-clause-held : goal.fill_all-requires-clause-held
+fill_all-requires-clause-held c =
+    let p = c.args.tape.now in
+    held_under_high (record (state_of p) { matrix = with_fills p.matrix (acts p.bots c.deref.result.now) }) p.harmonics refl c.requires.swarm.high
+
+pub returns : goal.returns
+returns c =
+    let p = c.args.tape.now in
+    let k = c.deref.result.now in
+    let e = c.deref.ensures.value ∙ (c.in_ok-commands.ensures ∙ are p c.matrix.result.now c.args.goal.now c.bots.result.now c.matrix.ensures.value (c.bots.ensures.value ∙ c.crew.ensures.value)) in
+    on_ok_weaker c.fill_all.result
+    (λ (s : AllStep p c.fill_all.new.self k (with_fills p.matrix (acts p.bots k)) p.harmonics p.bots).
+    has_filled p c.requires.swarm c.requires.row c.requires.up c.args.goal.now c.deref.result.now e c.fill_all.new.self c.requires.same s)
+    c.fill_all.ensures.ok

@@ -1,0 +1,135 @@
+-- What a part of the plan has built: some voxels that are full in the goal are full, and all others are as they were.
+use Rattle.std.specs.Prelude.{◌≡◌, ℕ, ◌+◌, ◌-◌, ◌*◌, ◌≤◌, ◌<◌, ◌==◌, Bool, false, ◌&&◌, ◌||◌, not, cond, nat_lt, zero, suc, min, pos, negsuc, List, [], ◌∷◌}
+use Rattle.vox_geom.specs.declared.coordinate.Coord.{Coord}
+use Rattle.vox_geom.specs.declared.difference.Diff.{Diff}
+use Rattle.nano_spec.specs.declared.commands.Command.{Command}
+use Rattle.nano_spec.specs.declared.commands.Command.TheVariants.{Fill, Wait}
+use Rattle.nano_spec.specs.declared.system.Bot.{Bot}
+use Rattle.nano_spec.specs.Matrix.{Matrix, is_full}
+use Rattle.plan_tape.specs.Leg.{distance}
+use Rattle.plan_tape.specs.Progress.{Progress, spot}
+use Rattle.swarm_planner.specs.Crew.{InRow, IsSwarm, IsVoidFrom, places}
+use Rattle.swarm_planner.specs.Strips.{count, last, width}
+
+-- the difference to the voxel below
+abbrev pub down : Diff
+down = record { dx = pos 0; dy = negsuc 0; dz = pos 0 }
+
+-- ---- one step of fills
+
+-- the voxel below a place
+abbrev pub below : Coord → Coord
+below p = record { x = p.x; y = p.y - 1; z = p.z }
+
+-- whether the coordinate is the one below a place
+abbrev pub is_below : Coord → Coord → Bool
+is_below p c = c.x == p.x && c.y + 1 == p.y && c.z == p.z
+
+-- whether the coordinate is below one of the places
+abbrev pub is_under : List Coord → Coord → Bool
+is_under [] c = false
+is_under (p ∷ ps) c = is_below p c || is_under ps c
+
+-- whether the voxel below a place is full in the goal and not yet in the matrix
+abbrev pub is_wanted : Matrix → Matrix → Coord → Bool
+is_wanted m goal p = is_full goal (below p) && not (is_full m (below p))
+
+-- whether one of the voxels below places is
+abbrev pub are_wanted : Matrix → Matrix → List Coord → Bool
+are_wanted m goal [] = false
+are_wanted m goal (p ∷ ps) = is_wanted m goal p || are_wanted m goal ps
+
+-- the bot fills the voxel below its place where it is wanted, and waits elsewhere
+abbrev pub fill : Matrix → Matrix → Coord → Command
+fill m goal p = cond (is_wanted m goal p) (Fill down) Wait
+
+-- the commands of all bots
+abbrev pub fills : Matrix → Matrix → List Bot → List Command
+fills m goal [] = []
+fills m goal (b ∷ bots) = fill m goal b.pos ∷ fills m goal bots
+
+-- where the test says so voxels that are full in the goal have become full, and all others are as they were
+abbrev pub IsRaised : Matrix → Matrix → Matrix → (Coord → Bool) → Type 0
+IsRaised new old goal done = (c : Coord) → is_full new c ≡ (is_full old c || (done c && is_full goal c))
+
+-- the tape after one step, by which all voxels below the bots are as the goal has them
+pub record Fills (old new : Progress) (goal : Matrix) : Type 0 where
+  pub source : new.source ≡ old.source
+  pub swarm : IsSwarm new
+  pub bots : new.bots ≡ old.bots
+  pub resolution : new.matrix.resolution ≡ old.matrix.resolution
+  pub raised : IsRaised new.matrix old.matrix goal (is_under (places old.bots))
+  pub steps : new.steps ≡ old.steps + 1
+
+-- ---- lines and layers
+
+-- whether x is a column of the row whose first bot is led to this one
+abbrev pub is_column : ℕ → ℕ → ℕ → ℕ → ℕ → Bool
+is_column w l zero a x = false
+is_column w l (suc n) a x = x == min a l || is_column w l n (a + w) x
+
+-- the same in all strips
+abbrev pub in_line : ℕ → ℕ → ℕ → Bool
+in_line r a x = is_column (width r) (last r) (count r) a x
+
+-- whether x is a column of one of the first k lines of the strips
+abbrev pub in_lines : ℕ → ℕ → ℕ → Bool
+in_lines r zero x = false
+in_lines r (suc k) x = in_lines r k x || in_line r (suc k) x
+
+-- the voxel of y and z of a line, in all strips
+abbrev pub cell : ℕ → ℕ → ℕ → ℕ → Coord → Bool
+cell r a y z c = in_line r a c.x && c.y == y && c.z == z
+
+-- the first z voxels of a line of y, in all strips
+abbrev pub cells : ℕ → ℕ → ℕ → ℕ → Coord → Bool
+cells r a y z c = in_line r a c.x && c.y == y && nat_lt c.z z
+
+-- a line of y, in all strips
+abbrev pub line : ℕ → ℕ → ℕ → Coord → Bool
+line r a y c = in_line r a c.x && c.y == y
+
+-- the first k lines of the layer of y
+abbrev pub lines : ℕ → ℕ → ℕ → Coord → Bool
+lines r k y c = in_lines r k c.x && c.y == y
+
+-- the layers below that of y
+abbrev pub layers : ℕ → ℕ → Coord → Bool
+layers r y c = in_lines r (width r) c.x && nat_lt c.y y
+
+-- ---- the tape
+
+-- the swarm stands in a row, and all is void from its height on
+pub record CanBuild (p : Progress) (goal : Matrix) : Type 0 where
+  pub swarm : IsSwarm p
+  pub row : InRow p
+  pub same : goal.resolution ≡ p.matrix.resolution
+  pub here : IsVoidFrom p.matrix (spot p.bots).y
+
+-- moreover it stands no higher than above the layer of y, and all is void from there on
+pub record CanPaint (p : Progress) (goal : Matrix) (y : ℕ) : Type 0 where
+  pub ready : CanBuild p goal
+  pub within : y + 1 < p.matrix.resolution
+  pub above : IsVoidFrom p.matrix (y + 1)
+  pub below : (spot p.bots).y ≤ y + 1
+
+-- the steps of a tape and at most as many as lead its row to a place
+abbrev pub steps_to : Progress → Coord → ℕ
+steps_to p c = p.steps + distance (spot p.bots) c
+
+-- the tape has built the voxels of which the test says so; with the way to a place it has so many steps more at most than it had with the way to another
+pub record Builds (old new : Progress) (goal : Matrix) (done : Coord → Bool) (from to : Coord) (most : ℕ) : Type 0 where
+  pub source : new.source ≡ old.source
+  pub resolution : new.matrix.resolution ≡ old.matrix.resolution
+  pub raised : IsRaised new.matrix old.matrix goal done
+  pub ready : CanBuild new goal
+  pub low : (spot new.bots).y ≤ to.y
+  pub steps_are : steps_to new to ≤ steps_to old from + most
+
+-- how many steps a line takes at most, with the way to the next one
+abbrev pub line_steps : ℕ → ℕ
+line_steps r = 3 * r + 1
+
+-- how many steps a layer takes at most, with the way to the next one
+abbrev pub layer_steps : ℕ → ℕ
+layer_steps r = width r * line_steps r + width r + 1

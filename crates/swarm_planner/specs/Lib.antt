@@ -1,0 +1,5 @@
+pub mod Building
+pub mod Crew
+pub mod Lineup
+pub mod Phases
+pub mod Strips

@@ -1,0 +1,36 @@
+-- The strips of columns, one for each bot, and the row that the bots stand in.
+use Rattle.std.specs.Prelude.{ℕ, zero, suc, ◌+◌, ◌-◌, ◌/◌, max, min, List, [], ◌∷◌}
+use Rattle.vox_geom.specs.declared.coordinate.Coord.{Coord}
+
+-- a coordinate by its components
+abbrev pub coord : ℕ → ℕ → ℕ → Coord
+coord x y z = record { x = x; y = y; z = z }
+
+-- how many columns the widest strip has
+abbrev pub width : ℕ → ℕ
+width r = max 1 ((r + 17) / 20)
+
+-- how many strips the columns from 1 to r - 2 make
+abbrev pub count : ℕ → ℕ
+count r = (r - 3) / width r + 1
+
+-- the last column of the last strip
+abbrev pub last : ℕ → ℕ
+last r = r - 2
+
+-- a place that is held back at the last column
+abbrev pub held : ℕ → Coord → Coord
+held l c = record { x = min c.x l; y = c.y; z = c.z }
+
+-- a place that is one width further along x
+abbrev pub next : ℕ → Coord → Coord
+next w c = record { x = c.x + w; y = c.y; z = c.z }
+
+-- the places of n bots, the first of them led to c, each further one a width further along x, and none past the last column
+abbrev pub row : ℕ → ℕ → ℕ → Coord → List Coord
+row w l zero c = []
+row w l (suc n) c = held l c ∷ row w l n (next w c)
+
+-- the row of all strips
+abbrev pub row_of : ℕ → Coord → List Coord
+row_of r c = row (width r) (last r) (count r) c

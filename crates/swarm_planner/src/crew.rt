@@ -1,0 +1,95 @@
+//! How the crew comes to stand in a row, and how it becomes one bot again.
+ghost use Rattle.std.specs.Prelude.{◌≡◌, ◌+◌, ◌*◌, ◌≤◌, ◌<◌, OnOk, length};
+ghost use Rattle.plan_tape.specs.Leg.{gap};
+ghost use Rattle.plan_tape.specs.Progress.{spot};
+ghost use Rattle.swarm_planner.specs.Crew.{Goes, InRow, IsSwarm, IsVoidFrom, places};
+ghost use Rattle.swarm_planner.specs.Lineup.{Gathers, InLine, IsGathered, IsSpread, Spreads, free_column, last_column, sent};
+ghost use Rattle.swarm_planner.specs.Strips.{count as count_of};
+
+use crate::paint::{first_place, go};
+use crate::steps::{fuse_last, last_place, move_last, split_last};
+use crate::strips::{strip_count, strip_width};
+use plan_tape::{Tape, next_stop};
+use std::alloc::Global;
+use vox_geom::{Coord, Memory};
+
+/// The last bot goes along x, past the others, by the fewest moves.
+fn send_last(alloc: Global, tape: &mut Tape, to: u16) -> Result<(), Memory>
+    requires line { InLine tape.old }
+    requires free { free_column 1 (places tape.old.bots) ≤ to }
+    requires within { to < tape.old.matrix.resolution }
+    requires limit { tape.old.steps + gap (last_column (places tape.old.bots)) to ≤ 1073741824 }
+    ensures goes { OnOk result (Goes tape.old tape.new (sent (places tape.old.bots) to) (gap (last_column (places tape.old.bots)) to)) }
+    ensures line { OnOk result (InLine tape.new) }
+{
+    let mut at = last_place(tape);
+    while at != to {
+        at = next_stop(at, to);
+        move_last(alloc, tape, at)?;
+    }
+    Ok(())
+}
+
+/// The last bot splits, and the new bot goes to the first column of its strip.
+fn spread_one(alloc: Global, tape: &mut Tape, count: u16) -> Result<(), Memory>
+    requires spread { IsSpread tape.old count }
+    requires some { 1 ≤ count }
+    requires more { count < count_of tape.old.matrix.resolution }
+    requires limit { tape.old.steps + 20 ≤ 1073741824 }
+    ensures { OnOk result (Spreads tape.old tape.new (count + 1) 20) }
+{
+    let to = last_place(tape) + strip_width(tape.matrix().resolution());
+    split_last(alloc, tape, (19 - count) as u8)?;
+    send_last(alloc, tape, to)
+}
+
+/// The bots split and spread, until there is one in the first column of each strip.
+pub fn spread(alloc: Global, tape: &mut Tape) -> Result<(), Memory>
+    requires spread { IsSpread tape.old 1 }
+    requires limit { tape.old.steps + 400 ≤ 1073741824 }
+    ensures { OnOk result (Spreads tape.old tape.new (count_of tape.old.matrix.resolution) 400) }
+{
+    for count in 1..strip_count(tape.matrix().resolution()) {
+        spread_one(alloc, tape, count)?;
+    }
+    Ok(())
+}
+
+/// The column past the last bot but one.
+fn free_place(tape: &Tape) -> u16
+    requires line { InLine tape.now }
+    requires two { 2 ≤ length tape.now.bots }
+    ensures { result ≡ free_column 1 (places tape.now.bots) }
+{
+    let bots = tape.crew().bots();
+    bots[bots.len() - 2].pos.x + 1
+}
+
+/// The last bot goes to the one before it, and fuses with it.
+fn gather_one(alloc: Global, tape: &mut Tape) -> Result<(), Memory>
+    requires line { InLine tape.old }
+    requires two { 2 ≤ length tape.old.bots }
+    requires limit { tape.old.steps + gap (last_column (places tape.old.bots)) (free_column 1 (places tape.old.bots)) < 1073741824 }
+    ensures { OnOk result (Gathers tape.old tape.new (gap (last_column (places tape.old.bots)) (free_column 1 (places tape.old.bots)) + 1)) }
+{
+    let to = free_place(tape);
+    send_last(alloc, tape, to)?;
+    fuse_last(alloc, tape)?;
+    Ok(())
+}
+
+/// All bots go to z = 0, and fuse one after another.
+pub fn gather(alloc: Global, tape: &mut Tape) -> Result<(), Memory>
+    requires swarm { IsSwarm tape.old }
+    requires row { InRow tape.old }
+    requires void { IsVoidFrom tape.old.matrix (spot tape.old.bots).y }
+    requires limit { tape.old.steps + (spot tape.old.bots).z + 420 ≤ 1073741824 }
+    ensures { OnOk result (IsGathered tape.old tape.new ((spot tape.old.bots).z + 420)) }
+{
+    let at = first_place(tape);
+    go(alloc, tape, Coord { z: 0, ..at })?;
+    for _merged in 1..strip_count(tape.matrix().resolution()) {
+        gather_one(alloc, tape)?;
+    }
+    Ok(())
+}

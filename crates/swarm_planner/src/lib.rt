@@ -1,0 +1,14 @@
+//! A planner with up to 20 bots under the light profile, which builds a target from nothing. Each bot has a strip of the columns
+//! of x. All go in a row, a layer above the voxels that they fill, to the places where one of them has a voxel to fill.
+#![tactic(auto)]
+
+mod crew;
+mod paint;
+mod plan;
+mod steps;
+mod strips;
+
+pub use plan::plan_swarm;
+
+#[cfg(test)]
+mod tests;

@@ -1,0 +1,143 @@
+//! Voxels, lines and layers that are built from one layer above.
+ghost use Rattle.std.specs.Prelude.{◌≡◌, ◌+◌, ◌-◌, ◌*◌, ◌≤◌, ◌<◌, OnOk};
+ghost use Rattle.plan_tape.specs.Leg.{component_of, distance, gap, put};
+ghost use Rattle.plan_tape.specs.Progress.{spot};
+ghost use Rattle.swarm_planner.specs.Building.{Builds, CanBuild, CanPaint, are_wanted, cell, layer_steps, layers, line, line_steps, lines, steps_to};
+ghost use Rattle.swarm_planner.specs.Crew.{InRow, IsSwarm, IsVoidFrom, MayLead, RowGoes};
+ghost use Rattle.swarm_planner.specs.Strips.{coord, row_of, width};
+
+use crate::steps::{component, fill_below, is_wanted, move_row, with_component};
+use crate::strips::{strip_count, strip_width};
+use plan_tape::{Axis, Tape, next_stop};
+use std::alloc::Global;
+use vox_geom::{Coord, Memory};
+use vox_planes::Planes;
+
+/// Where the first bot is.
+pub fn first_place(tape: &Tape) -> Coord
+    requires { InRow tape.now }
+    ensures { result ≡ spot tape.now.bots }
+{
+    let bot = tape.crew().bots()[0];
+    bot.pos
+}
+
+/// The row goes along an axis, by the fewest moves.
+fn go_along(alloc: Global, tape: &mut Tape, axis: Axis, to: u16) -> Result<(), Memory>
+    requires swarm { IsSwarm tape.old }
+    requires row { InRow tape.old }
+    requires void { IsVoidFrom tape.old.matrix (spot tape.old.bots).y }
+    requires leads { MayLead tape.old.matrix.resolution (put axis (spot tape.old.bots) to) }
+    requires up { (spot tape.old.bots).y ≤ (put axis (spot tape.old.bots) to).y }
+    requires limit { tape.old.steps + gap (component_of axis (spot tape.old.bots)) to ≤ 1073741824 }
+    ensures { OnOk result (RowGoes tape.old tape.new (put axis (spot tape.old.bots) to) (gap (component_of axis (spot tape.old.bots)) to)) }
+{
+    let from = first_place(tape);
+    let mut at = component(axis, from);
+    while at != to {
+        at = next_stop(at, to);
+        move_row(alloc, tape, axis, with_component(axis, from, at))?;
+    }
+    Ok(())
+}
+
+/// The row goes along x, then y, then z, so that the first bot comes there.
+pub fn go(alloc: Global, tape: &mut Tape, to: Coord) -> Result<(), Memory>
+    requires swarm { IsSwarm tape.old }
+    requires row { InRow tape.old }
+    requires void { IsVoidFrom tape.old.matrix (spot tape.old.bots).y }
+    requires leads { MayLead tape.old.matrix.resolution to }
+    requires up { (spot tape.old.bots).y ≤ to.y }
+    requires limit { tape.old.steps + distance (spot tape.old.bots) to ≤ 1073741824 }
+    ensures { OnOk result (RowGoes tape.old tape.new to (distance (spot tape.old.bots) to)) }
+{
+    go_along(alloc, tape, Axis::X, to.x)?;
+    go_along(alloc, tape, Axis::Y, to.y)?;
+    go_along(alloc, tape, Axis::Z, to.z)
+}
+
+/// Whether a bot has a voxel to fill, once the row has gone there.
+fn has_work(tape: &Tape, goal: &Planes, to: Coord) -> bool
+    requires same { goal.now.resolution ≡ tape.now.matrix.resolution }
+    requires leads { MayLead tape.now.matrix.resolution to }
+    requires up { 1 ≤ to.y }
+    ensures { result ≡ are_wanted tape.now.matrix goal.now (row_of tape.now.matrix.resolution to) }
+{
+    let r = goal.resolution();
+    let mut x = to.x;
+    for _strip in 0..strip_count(r) {
+        let place = Coord {
+            x: x.min(r - 2),
+            ..to
+        };
+        if is_wanted(tape.matrix(), goal, place) {
+            return true;
+        }
+        x += strip_width(r);
+    }
+    false
+}
+
+/// Builds in all strips the voxel of y and z that the row meets where its first bot is at x.
+fn paint_cell(
+    alloc: Global,
+    tape: &mut Tape,
+    goal: &Planes,
+    x: u16,
+    y: u16,
+    z: u16,
+) -> Result<(), Memory>
+    requires ready { CanPaint tape.old goal.now y }
+    requires first { 1 ≤ x }
+    requires wide { x ≤ width tape.old.matrix.resolution }
+    requires z { z < tape.old.matrix.resolution }
+    requires limit { steps_to tape.old (coord x (y + 1) z) < 1073741824 }
+    ensures { OnOk result (Builds tape.old tape.new goal.now (cell tape.old.matrix.resolution x y z) (coord x (y + 1) z) (coord x (y + 1) z) 1) }
+{
+    let to = Coord { x, y: y + 1, z };
+    if !has_work(tape, goal, to) {
+        return Ok(());
+    }
+    go(alloc, tape, to)?;
+    fill_below(alloc, tape, goal)
+}
+
+/// Builds in all strips the line of y that the row meets where its first bot is at x.
+fn paint_line(alloc: Global, tape: &mut Tape, goal: &Planes, x: u16, y: u16) -> Result<(), Memory>
+    requires ready { CanPaint tape.old goal.now y }
+    requires first { 1 ≤ x }
+    requires wide { x ≤ width tape.old.matrix.resolution }
+    requires limit { steps_to tape.old (coord x (y + 1) 0) + 2 * tape.old.matrix.resolution < 1073741824 }
+    ensures { OnOk result (Builds tape.old tape.new goal.now (line tape.old.matrix.resolution x y) (coord x (y + 1) 0) (coord x (y + 1) tape.old.matrix.resolution) (2 * tape.old.matrix.resolution)) }
+{
+    for z in 0..goal.resolution() {
+        paint_cell(alloc, tape, goal, x, y, z)?;
+    }
+    Ok(())
+}
+
+/// Builds the layer of y.
+fn paint_layer(alloc: Global, tape: &mut Tape, goal: &Planes, y: u16) -> Result<(), Memory>
+    requires ready { CanPaint tape.old goal.now y }
+    requires limit { steps_to tape.old (coord 1 (y + 1) 0) + width tape.old.matrix.resolution * line_steps tape.old.matrix.resolution < 1073741824 }
+    ensures { OnOk result (Builds tape.old tape.new goal.now (lines tape.old.matrix.resolution (width tape.old.matrix.resolution) y) (coord 1 (y + 1) 0) (coord (width tape.old.matrix.resolution + 1) (y + 1) 0) (width tape.old.matrix.resolution * line_steps tape.old.matrix.resolution)) }
+{
+    for x in 0..strip_width(goal.resolution()) {
+        paint_line(alloc, tape, goal, x + 1, y)?;
+    }
+    Ok(())
+}
+
+/// Builds all layers, from the floor up.
+pub fn build(alloc: Global, tape: &mut Tape, goal: &Planes) -> Result<(), Memory>
+    requires ready { CanBuild tape.old goal.now }
+    requires void { IsVoidFrom tape.old.matrix 0 }
+    requires low { (spot tape.old.bots).y ≤ 1 }
+    requires limit { steps_to tape.old (coord 1 1 0) + (tape.old.matrix.resolution - 1) * layer_steps tape.old.matrix.resolution < 1073741824 }
+    ensures { OnOk result (Builds tape.old tape.new goal.now (layers tape.old.matrix.resolution (tape.old.matrix.resolution - 1)) (coord 1 1 0) (coord 1 tape.old.matrix.resolution 0) ((tape.old.matrix.resolution - 1) * layer_steps tape.old.matrix.resolution)) }
+{
+    for y in 0..goal.resolution() - 1 {
+        paint_layer(alloc, tape, goal, y)?;
+    }
+    Ok(())
+}

@@ -1,0 +1,142 @@
+//! The plan.
+ghost use Rattle.std.specs.Prelude.{◌≡◌, ◌≢◌, ◌+◌, ◌*◌, ◌<◌, ◌≤◌, [], ◌∷◌, IfOk, IsFalse, IsTrue, OnOk};
+ghost use Rattle.nano_spec.specs.Legal.{IsLegal};
+ghost use Rattle.nano_spec.specs.Matrix.{empty};
+ghost use Rattle.nano_spec.specs.Profile.{full_profile, light_profile};
+ghost use Rattle.vox_planes.specs.Voxel.{IsWhole};
+ghost use Rattle.plan_tape.specs.Progress.{IsAccepted};
+ghost use Rattle.plan_tape.specs.Reaches.{HasAtMost};
+ghost use Rattle.swarm_planner.specs.Crew.{IsVoidFrom};
+ghost use Rattle.swarm_planner.specs.Phases.{IsErected, IsOpened};
+ghost use Rattle.swarm_planner.specs.Strips.{width};
+
+use crate::crew::{gather, spread};
+use crate::paint::build;
+use nano_spec::{Command, Profile, full_accepts_what_light_accepts};
+use plan_tape::{Plan, Tape, seeds_bound_the_bots};
+use std::alloc::Global;
+use std::marker::Brand;
+use std::sync::ledger::{Blank, Ledger};
+use vox_geom::{Coord, Memory, Steps};
+use vox_planes::Planes;
+
+/// Whether both models are the same, counted in a ledger of its own.
+fn are_same_in<L: Ledger>(nothing: &Planes, target: &Planes, blank: Blank) -> bool
+    requires same { nothing.now.resolution ≡ target.now.resolution }
+    requires name { blank.name ≡ L.name }
+    requires parts { blank.parts ≡ L.parts }
+    requires some { 0 < L.parts }
+    ensures same { IsTrue result → nothing.now ≡ target.now }
+    ensures differ { IsFalse result → nothing.now ≢ target.now }
+{
+    let _ = nothing.resolution();
+    let _ = target.resolution();
+    let mut steps: Steps<L> = Steps::new(blank);
+    nothing.equal(target, &mut steps).is_none()
+}
+
+/// Whether both models are the same.
+fn are_same(nothing: &Planes, target: &Planes) -> bool
+    requires { nothing.now.resolution ≡ target.now.resolution }
+    ensures same { IsTrue result → nothing.now ≡ target.now }
+    ensures differ { IsFalse result → nothing.now ≢ target.now }
+{
+    are_same_in::<Brand>(nothing, target, Blank::new(1))
+}
+
+/// The tape with the bot in the first column, above the floor, under High.
+fn opened(alloc: Global, nothing: Planes) -> Result<Tape, Memory>
+    requires some { 3 ≤ nothing.resolution }
+    requires void { IsVoidFrom nothing 0 }
+    ensures { IfOk result (λ t. IsOpened t nothing) }
+{
+    let _ = nothing.resolution();
+    let mut tape = Tape::start_as(alloc, nothing, Profile::light())?;
+    tape.flip()?;
+    tape.go(Coord { x: 1, y: 1, z: 0 })?;
+    Ok(tape)
+}
+
+/// Spreads the crew, builds the target, and gathers the crew again.
+fn erect(alloc: Global, tape: &mut Tape, target: &Planes) -> Result<(), Memory>
+    requires opened { IsOpened tape.old tape.old.source }
+    requires target { IsLegal target.now }
+    requires same { target.now.resolution ≡ tape.old.source.resolution }
+    ensures source { OnOk result (tape.new.source ≡ tape.old.source) }
+    ensures erected { OnOk result (IsErected tape.new target.now) }
+{
+    let _ = target.resolution();
+    spread(alloc, tape)?;
+    build(alloc, tape, target)?;
+    gather(alloc, tape)?;
+    Ok(())
+}
+
+/// The plan, once the only bot is left at z = 0.
+fn closed(mut tape: Tape, target: &Planes) -> Result<Plan, Memory>
+    requires erected { IsErected tape target.now }
+    requires target { IsLegal target.now }
+    requires whole { IsWhole tape.source }
+    ensures accepted { IfOk result (λ plan. IsAccepted tape.source target.now plan.commands light_profile plan.energy plan.steps) }
+    ensures few { IfOk result (λ plan. HasAtMost tape.source light_profile plan.commands 20) }
+    ensures steps { IfOk result (λ plan. plan.steps ≤ 4 * width target.now.resolution * target.now.resolution * target.now.resolution + 8 * target.now.resolution + 2000) }
+{
+    seeds_bound_the_bots();
+    let _ = target.resolution();
+    let _ = tape.matrix();
+    tape.go(Coord { x: 0, y: 0, z: 0 })?;
+    tape.flip()?;
+    tape.halt()?;
+    Ok(tape.finish())
+}
+
+/// The plan that changes nothing.
+fn only_halt(alloc: Global, nothing: Planes) -> Result<Plan, Memory>
+    requires { IsVoidFrom nothing 0 }
+    ensures accepted { IfOk result (λ plan. IsAccepted nothing nothing plan.commands light_profile plan.energy plan.steps) }
+    ensures few { IfOk result (λ plan. HasAtMost nothing light_profile plan.commands 20) }
+    ensures commands { IfOk result (λ plan. plan.commands ≡ Command.Halt ∷ []) }
+    ensures steps { IfOk result (λ plan. plan.steps ≡ 1) }
+{
+    seeds_bound_the_bots();
+    let _ = nothing.resolution();
+    let mut tape = Tape::start_as(alloc, nothing, Profile::light())?;
+    tape.halt()?;
+    Ok(tape.finish())
+}
+
+/// The plan of the swarm for a target that is not empty.
+fn planned(alloc: Global, nothing: Planes, target: &Planes) -> Result<Plan, Memory>
+    requires target { IsLegal target.now }
+    requires same { nothing.resolution ≡ target.now.resolution }
+    requires void { IsVoidFrom nothing 0 }
+    requires differ { nothing ≢ target.now }
+    ensures accepted { IfOk result (λ plan. IsAccepted nothing target.now plan.commands light_profile plan.energy plan.steps) }
+    ensures few { IfOk result (λ plan. HasAtMost nothing light_profile plan.commands 20) }
+    ensures steps { IfOk result (λ plan. plan.steps ≤ 4 * width target.now.resolution * target.now.resolution * target.now.resolution + 8 * target.now.resolution + 2000) }
+{
+    let _ = nothing.resolution();
+    let _ = target.resolution();
+    let mut tape = opened(alloc, nothing)?;
+    erect(alloc, &mut tape, target)?;
+    closed(tape, target)
+}
+
+/// A plan that builds a target from nothing by up to 20 bots, under the light profile, and so under the full one. The target is
+/// legal. With the widest strip of s columns the plan takes at most 4 * s * r * r + 8 * r + 2000 steps at resolution r, with at most 20
+/// bots at a time; where the target is empty, its commands are a Halt alone.
+pub fn plan_swarm(alloc: Global, target: &Planes) -> Result<Plan, Memory>
+    requires { IsLegal target.now }
+    ensures light { IfOk result (λ plan. IsAccepted (empty target.now.resolution) target.now plan.commands light_profile plan.energy plan.steps) }
+    ensures full { IfOk result (λ plan. IsAccepted (empty target.now.resolution) target.now plan.commands full_profile plan.energy plan.steps) }
+    ensures steps { IfOk result (λ plan. plan.steps ≤ 4 * width target.now.resolution * target.now.resolution * target.now.resolution + 8 * target.now.resolution + 2000) }
+    ensures few { IfOk result (λ plan. HasAtMost (empty target.now.resolution) light_profile plan.commands 20) }
+    ensures halt_alone { target.now ≡ empty target.now.resolution → IfOk result (λ plan. plan.commands ≡ Command.Halt ∷ []) }
+{
+    full_accepts_what_light_accepts();
+    let nothing = Planes::empty(alloc, target.resolution())?;
+    if are_same(&nothing, target) {
+        return only_halt(alloc, nothing);
+    }
+    planned(alloc, nothing, target)
+}

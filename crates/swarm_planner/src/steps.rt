@@ -1,0 +1,266 @@
+//! Steps of the crew.
+ghost use Rattle.std.specs.List.{AllByRecursion};
+ghost use Rattle.std.specs.Prelude.{◌≡◌, ◌-◌, ◌+◌, ◌++◌, ◌≤◌, ◌<◌, ◌≢◌, [], ◌∷◌, replicate, IfOk, OnErr, OnOk, length, vec_capacity, vec_len};
+ghost use Rattle.plan_tape.specs.Leg.{component_of, gap, put as put_of};
+ghost use Rattle.plan_tape.specs.Progress.{spot};
+ghost use Rattle.vox_geom.specs.Space.{IsInSpace};
+ghost use Rattle.swarm_planner.specs.Building.{Fills, down as down_of, fills as fills_of, is_wanted as is_wanted_of};
+ghost use Rattle.swarm_planner.specs.Crew.{AreAlong, AreNear, Goes, InRow, IsNearOn, IsSwarm, IsVoidFrom, MayLead, RowGoes, lead as lead_of, places, row_led};
+ghost use Rattle.swarm_planner.specs.Lineup.{InLine, Regroups, free_column, fused, last_column, left as left_of, lined_up, right as right_of, sent, split};
+
+use crate::strips::strip_width;
+use nano_spec::{Bot, Command};
+use plan_tape::{Axis, Tape, is_full, towards};
+use std::alloc::Global;
+use vox_geom::{Coord, Diff, Memory, Near};
+use vox_planes::Planes;
+
+/// Adds a command.
+fn put(commands: &mut Vec<Command>, command: Command) -> Result<(), Memory>
+    ensures { OnOk result (commands.new.items ≡ commands.old.items ++ command ∷ []) }
+{
+    commands.reserve(1)?;
+    commands.push_reserved(command);
+    Ok(())
+}
+
+/// The component of a coordinate on an axis.
+pub fn component(axis: Axis, c: Coord) -> u16
+    ensures { result ≡ component_of axis c }
+{
+    match axis {
+        Axis::X => c.x,
+        Axis::Y => c.y,
+        Axis::Z => c.z,
+    }
+}
+
+/// The coordinate with another component on an axis.
+pub fn with_component(axis: Axis, c: Coord, v: u16) -> Coord
+    ensures { result ≡ put_of axis c v }
+{
+    match axis {
+        Axis::X => Coord { x: v, ..c },
+        Axis::Y => Coord { y: v, ..c },
+        Axis::Z => Coord { z: v, ..c },
+    }
+}
+
+/// The command that leads a bot along an axis from one place to another.
+fn lead(axis: Axis, from: Coord, to: Coord) -> Command
+    requires { IsNearOn axis from to }
+    ensures { result ≡ lead_of axis from to }
+{
+    let at = component(axis, from);
+    let next = component(axis, to);
+    if at == next {
+        Command::Wait
+    } else {
+        Command::SMove(towards(axis, at, next))
+    }
+}
+
+/// The commands that lead bots along an axis to a row of places, the first of them there, each a width further along x, and
+/// none past the last column.
+fn leads(
+    alloc: Global,
+    bots: &[Bot],
+    axis: Axis,
+    to: Coord,
+    width: u16,
+    last: u16,
+) -> Result<Vec<Command>, Memory>
+    requires near { AreNear axis width last bots.now to }
+    requires few { length bots.now ≤ 40 }
+    requires first { to.x ≤ 400 }
+    requires narrow { width ≤ 20 }
+    ensures { IfOk result (λ commands. commands.items ≡ row_led axis width last bots.now to) }
+{
+    let mut commands = Vec::new(alloc);
+    let mut x = to.x;
+    for bot in bots {
+        let place = Coord {
+            x: x.min(last),
+            ..to
+        };
+        put(&mut commands, lead(axis, bot.pos, place))?;
+        x += width;
+    }
+    Ok(commands)
+}
+
+/// All bots of the row go along an axis.
+pub fn move_row(alloc: Global, tape: &mut Tape, axis: Axis, to: Coord) -> Result<(), Memory>
+    requires swarm { IsSwarm tape.old }
+    requires row { InRow tape.old }
+    requires void { IsVoidFrom tape.old.matrix (spot tape.old.bots).y }
+    requires leads { MayLead tape.old.matrix.resolution to }
+    requires line { AreAlong axis (spot tape.old.bots) to }
+    requires near { gap (component_of axis (spot tape.old.bots)) (component_of axis to) ≤ 15 }
+    requires up { (spot tape.old.bots).y ≤ to.y }
+    requires limit { tape.old.steps < 1073741824 }
+    ensures { OnOk result (RowGoes tape.old tape.new to 1) }
+{
+    let r = tape.matrix().resolution();
+    let commands = leads(alloc, tape.crew().bots(), axis, to, strip_width(r), r - 2)?;
+    tape.move_all(&commands)
+}
+
+/// So many Waits.
+fn waits(alloc: Global, count: usize) -> Result<Vec<Command>, Memory>
+    ensures { IfOk result (λ commands. commands.items ≡ replicate count Command.Wait) }
+{
+    let mut commands = Vec::new(alloc);
+    for _done in 0..count {
+        put(&mut commands, Command::Wait)?;
+    }
+    Ok(commands)
+}
+
+/// Where the last bot is.
+pub fn last_place(tape: &Tape) -> u16
+    requires { InLine tape.now }
+    ensures value { result ≡ last_column (places tape.now.bots) }
+    ensures within { result < tape.now.matrix.resolution }
+{
+    let bots = tape.crew().bots();
+    bots[bots.len() - 1].pos.x
+}
+
+/// The last bot goes along x, past the others, and they wait.
+pub fn move_last(alloc: Global, tape: &mut Tape, to: u16) -> Result<(), Memory>
+    requires line { InLine tape.old }
+    requires free { free_column 1 (places tape.old.bots) ≤ to }
+    requires within { to < tape.old.matrix.resolution }
+    requires differ { last_column (places tape.old.bots) ≢ to }
+    requires near { gap (last_column (places tape.old.bots)) to ≤ 15 }
+    requires limit { tape.old.steps < 1073741824 }
+    ensures { OnOk result (Goes tape.old tape.new (sent (places tape.old.bots) to) 1) }
+{
+    let at = last_place(tape);
+    let mut commands = waits(alloc, tape.crew().bots().len() - 1)?;
+    put(&mut commands, Command::SMove(towards(Axis::X, at, to)))?;
+    tape.move_all(&commands)
+}
+
+/// The difference to the voxel below.
+fn down() -> Near
+    ensures { result ≡ down_of }
+{
+    let Some(near) = Near::of(Diff {
+        dx: 0,
+        dy: -1,
+        dz: 0,
+    }) else {
+        unreachable!()
+    };
+    near
+}
+
+/// The difference to the next column.
+fn right() -> Near
+    ensures { result ≡ right_of }
+{
+    let Some(near) = Near::of(Diff {
+        dx: 1,
+        dy: 0,
+        dz: 0,
+    }) else {
+        unreachable!()
+    };
+    near
+}
+
+/// The difference to the column before.
+fn left() -> Near
+    ensures { result ≡ left_of }
+{
+    let Some(near) = Near::of(Diff {
+        dx: -1,
+        dy: 0,
+        dz: 0,
+    }) else {
+        unreachable!()
+    };
+    near
+}
+
+/// Whether the voxel below a place is full in the goal and not yet here.
+pub fn is_wanted(planes: &Planes, goal: &Planes, place: Coord) -> bool
+    requires same { goal.now.resolution ≡ planes.now.resolution }
+    requires within { IsInSpace planes.now.resolution place }
+    requires up { 1 ≤ place.y }
+    ensures { result ≡ is_wanted_of planes.now goal.now place }
+{
+    let below = Coord {
+        y: place.y - 1,
+        ..place
+    };
+    is_full(goal, below) && !is_full(planes, below)
+}
+
+/// The commands by which each bot fills the voxel below it, where it is wanted, and waits elsewhere.
+fn fills(
+    alloc: Global,
+    bots: &[Bot],
+    planes: &Planes,
+    goal: &Planes,
+) -> Result<Vec<Command>, Memory>
+    requires same { goal.now.resolution ≡ planes.now.resolution }
+    requires within { AllByRecursion (λ b. IsInSpace planes.now.resolution b.pos × (1 ≤ b.pos.y)) bots.now }
+    ensures { IfOk result (λ commands. commands.items ≡ fills_of planes.now goal.now bots.now) }
+{
+    let mut commands = Vec::new(alloc);
+    for bot in bots {
+        let command = if is_wanted(planes, goal, bot.pos) {
+            Command::Fill(down())
+        } else {
+            Command::Wait
+        };
+        put(&mut commands, command)?;
+    }
+    Ok(commands)
+}
+
+/// Each bot fills the voxel below it, where it is wanted.
+pub fn fill_below(alloc: Global, tape: &mut Tape, goal: &Planes) -> Result<(), Memory>
+    requires swarm { IsSwarm tape.old }
+    requires row { InRow tape.old }
+    requires same { goal.now.resolution ≡ tape.old.matrix.resolution }
+    requires up { 1 ≤ (spot tape.old.bots).y }
+    requires limit { tape.old.steps < 1073741824 }
+    ensures { OnOk result (Fills tape.old tape.new goal.now) }
+{
+    let commands = fills(alloc, tape.crew().bots(), tape.matrix(), goal)?;
+    tape.fill_all(&commands)
+}
+
+/// The last bot splits: the new bot is in the next column, and takes all seeds that are left.
+pub fn split_last(alloc: Global, tape: &mut Tape, seeds: u8) -> Result<(), Memory>
+    requires line { InLine tape.old }
+    requires bots { tape.old.bots ≡ lined_up 1 (places tape.old.bots) }
+    requires seeds { seeds + 1 + length tape.old.bots ≡ 20 }
+    requires within { last_column (places tape.old.bots) + 1 < tape.old.matrix.resolution }
+    requires limit { tape.old.steps < 1073741824 }
+    ensures regroups { OnOk result (Regroups tape.old tape.new) }
+    ensures bots { OnOk result (tape.new.bots ≡ lined_up 1 (split (places tape.old.bots))) }
+{
+    let mut commands = waits(alloc, tape.crew().bots().len() - 1)?;
+    put(&mut commands, Command::Fission(right(), seeds))?;
+    tape.split_all(&commands)
+}
+
+/// The last bot fuses into the one before it.
+pub fn fuse_last(alloc: Global, tape: &mut Tape) -> Result<(), Memory>
+    requires line { InLine tape.old }
+    requires two { 2 ≤ length tape.old.bots }
+    requires beside { last_column (places tape.old.bots) ≡ free_column 1 (places tape.old.bots) }
+    requires limit { tape.old.steps < 1073741824 }
+    ensures regroups { OnOk result (Regroups tape.old tape.new) }
+    ensures places { OnOk result (places tape.new.bots ≡ fused (places tape.old.bots)) }
+{
+    let mut commands = waits(alloc, tape.crew().bots().len() - 2)?;
+    put(&mut commands, Command::FusionP(right()))?;
+    put(&mut commands, Command::FusionS(left()))?;
+    tape.fuse_all(&commands)
+}

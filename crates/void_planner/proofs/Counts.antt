@@ -1,0 +1,160 @@
+-- There are no more bots than the commands have made, and the first one.
+use Rattle.std.proofs.Common.{◌≡◌, ℕ, ◌+◌, ◌≤◌, refl, ◌∙◌, ap, arith, List, [], ◌∷◌, ◌++◌, Bool, true, false, cond, length, Option, Some, None, length-append}
+use Rattle.std.specs.Prelude.{count_by, flat_map, nat_lt, MatchOption}
+use Rattle.std.specs.Bool.{MatchBool}
+use Rattle.std.proofs.lemmas.List.Sums.{sum_by-append, sum_by-cons}
+use Rattle.vox_geom.specs.declared.coordinate.Coord.{Coord}
+use Rattle.nano_spec.specs.declared.commands.Command.{Command}
+use Rattle.nano_spec.specs.declared.commands.Command.TheVariants.{Halt, Wait, Flip, SMove, LMove, FusionP, FusionS, Fission, Fill, Void, GFill, GVoid}
+use Rattle.nano_spec.specs.declared.outcomes.Broken.{Broken}
+use Rattle.nano_spec.specs.declared.system.Bot.{Bot}
+use Rattle.nano_spec.specs.declared.system.Profile.{Profile}
+use Rattle.nano_spec.specs.Act.{Act, acts}
+use Rattle.nano_spec.specs.Bots.{in_rising_order, successors, with_bot}
+use Rattle.nano_spec.specs.Grounded.{FirstUngrounded}
+use Rattle.nano_spec.specs.Matrix.{Matrix}
+use Rattle.nano_spec.specs.Next.{Breaks, Goes, Next, Outcome, Settles, settled}
+use Rattle.nano_spec.specs.Rules.{broken}
+use Rattle.nano_spec.specs.State.{State, is_high}
+use Rattle.nano_spec.specs.Step.{after}
+use Rattle.plan_tape.specs.Leg.{IsLeg, Moves}
+use Rattle.plan_tape.specs.declared.axis.Axis.{Axis}
+use Rattle.plan_tape.specs.declared.axis.Axis.TheVariants.{X, Y, Z}
+use Rattle.plan_tape.specs.Progress.{Progress, spot}
+use Rattle.plan_tape.specs.Reaches.{Reaches, starts, steps_on}
+use Rattle.void_planner.specs.Few.{HasAtMost, fissions, is_fission}
+
+-- ---- one step
+
+with_length : (b : Bot) (xs : List Bot) → length (with_bot b xs) ≡ length xs + 1
+with_length b [] = refl
+with_length b (x ∷ xs) = by (nat_lt b.bid x.bid) (with_length b xs)
+  where
+    by : (t : Bool) → length (with_bot b xs) ≡ length xs + 1 → length (cond t (b ∷ x ∷ xs) (x ∷ with_bot b xs)) ≡ length (x ∷ xs) + 1
+    by true h = omega arith
+    by false h = omega arith
+
+order_length : (xs : List Bot) → length (in_rising_order xs) ≡ length xs
+order_length [] = refl
+order_length (x ∷ xs) = let h = order_length xs in let k = with_length x (in_rising_order xs) in omega arith
+
+-- a bot becomes one at most, or two by a Fission
+few_successors : (all : List Act) (a : Act) (k : Command) → length (successors all a k) ≤ 1 + cond {A = ℕ} (is_fission k) 1 0
+few_successors all a (Fission d m) = omega arith
+few_successors all a Halt = omega arith
+few_successors all a (FusionS d) = omega arith
+few_successors all a Wait = omega arith
+few_successors all a Flip = omega arith
+few_successors all a (SMove d) = omega arith
+few_successors all a (LMove d e) = omega arith
+few_successors all a (FusionP d) = omega arith
+few_successors all a (Fill d) = omega arith
+few_successors all a (Void d) = omega arith
+few_successors all a (GFill d f) = omega arith
+few_successors all a (GVoid d f) = omega arith
+
+few_in_all : (all : List Act) (bots : List Bot) (commands : List Command) → length (flat_map (λ a. successors all a a.command) (acts bots commands)) ≤ length bots + count_by is_fission commands
+few_in_all all [] commands = omega arith
+few_in_all all (b ∷ bots) [] = omega arith
+few_in_all all (b ∷ bots) (k ∷ commands) =
+    let a : Act = record { bot = b; command = k } in
+    let h = few_in_all all bots commands in
+    let n = few_successors all a k in
+    let l = length-append (successors all a k) (flat_map (λ x. successors all x x.command) (acts bots commands)) in
+    let s = sum_by-cons (λ x. cond {A = ℕ} (is_fission x) 1 0) k commands in
+    omega (arith, h, n, l, s)
+
+few_after : (s : State) (commands : List Command) → length (after s commands).bots ≤ length s.bots + count_by is_fission commands
+few_after s commands = let h = few_in_all (acts s.bots commands) s.bots commands in let o = order_length (flat_map (λ a. successors (acts s.bots commands) a a.command) (acts s.bots commands)) in omega arith
+
+-- ---- the state of an accepted step
+
+same_state : (s t : State) → Goes s ≡ Goes t → s ≡ t
+same_state s t e = ap (λ (o : Outcome). state_in s o) e
+  where
+    state_in : State → Outcome → State
+    state_in u (Goes v) = v
+    state_in u (Breaks b) = u
+
+settled_is : (t s : State) (step : ℕ) → Settles s step (Goes t) → t ≡ s
+settled_is t s step = by (is_high s.harmonics)
+  where
+    at_last : (at : Option Coord) → Goes t ≡ settled s step at → t ≡ s
+    at_last None e = same_state t s e
+    at_last (Some c) e = cc
+
+    by : (b : Bool) → MatchBool b (Goes t ≡ Goes s) ((at : Option Coord) × FirstUngrounded s.matrix at × (Goes t ≡ settled s step at)) → t ≡ s
+    by true h = same_state t s h
+    by false h = at_last h.0 h.2
+
+goes_after : (s t : State) (commands : List Command) (step : ℕ) → Next s commands step (Goes t) → t ≡ after s commands
+goes_after s t commands step = by (broken s commands step)
+  where
+    by : (o : Option Broken) → MatchOption o (Settles (after s commands) step (Goes t)) (λ b. Goes t ≡ Breaks b) → t ≡ after s commands
+    by None h = settled_is t (after s commands) step h
+    by (Some b) h = cc
+
+-- ---- all steps
+
+-- there are no more bots than those that were made, and the first one
+few_reached : (source : Matrix) (profile : Profile) (commands : List Command) (s : State) (steps : ℕ) → Reaches source profile commands s steps → length s.bots ≤ 1 + count_by is_fission commands
+few_reached source profile commands s steps (starts e f g) = let l : length s.bots ≡ 1 = ap (λ (t : State). length t.bots) f in omega arith
+few_reached source profile commands s steps (steps_on t before step done r some l next e f) =
+    let h = few_reached source profile before t done r in
+    let k = few_after t step in
+    let m : length s.bots ≡ length (after t step).bots = ap (λ (u : State). length u.bots) (goes_after t s step (done + 1) next) in
+    let c : count_by is_fission commands ≡ count_by is_fission before + count_by is_fission step = ap (count_by is_fission) e ∙ sum_by-append (λ x. cond {A = ℕ} (is_fission x) 1 0) before step in
+    omega arith
+
+-- where few commands make bots there are few bots at all times
+pub few_at_most : (source : Matrix) (profile : Profile) (commands : List Command) (n : ℕ) → 1 + count_by is_fission commands ≤ n → HasAtMost source profile commands n
+few_at_most source profile commands n le = λ before rest s steps e r.
+    let h = few_reached source profile before s steps r in
+    let c : count_by is_fission commands ≡ count_by is_fission before + count_by is_fission rest = ap (count_by is_fission) e ∙ sum_by-append (λ x. cond {A = ℕ} (is_fission x) 1 0) before rest in
+    omega arith
+
+-- ---- tapes
+
+pub fissions_more : (p q : Progress) (k : List Command) (n : ℕ) → q.commands ≡ p.commands ++ k → count_by is_fission k ≡ n → fissions q ≡ fissions p + n
+unfolding fissions
+fissions_more p q k n e f = ap (count_by is_fission) e ∙ (sum_by-append (λ x. cond {A = ℕ} (is_fission x) 1 0) p.commands k ∙ ap (λ m. count_by is_fission p.commands + m) f)
+
+pub no_fission_in_leg : (axis : Axis) (a b : ℕ) (commands : List Command) → IsLeg axis a b commands → count_by is_fission commands ≡ 0
+no_fission_in_leg axis a b [] h = refl
+no_fission_in_leg axis a b (k ∷ more) h =
+    let s = sum_by-cons (λ x. cond {A = ℕ} (is_fission x) 1 0) k more in
+    let e : cond {A = ℕ} (is_fission k) 1 0 ≡ 0 = ap (λ x. cond {A = ℕ} (is_fission x) 1 0) h.1 in
+    let r = no_fission_in_leg axis h.0 b more h.3 in
+    omega (arith, s, e, r)
+
+pub fissions_is : (p : Progress) (k : List Command) → k ≡ p.commands → count_by is_fission k ≡ fissions p
+unfolding fissions
+fissions_is p k e = ap (count_by is_fission) e
+
+pub fissions_none : (p : Progress) → p.commands ≡ [] → fissions p ≡ 0
+unfolding fissions
+fissions_none p e = ap (count_by is_fission) e
+
+-- moves make no bot
+pub moves_make_none : (p q : Progress) (to : Coord) → Moves p q to → fissions q ≡ fissions p
+moves_make_none p q to h =
+    let l = h.legs in
+    let x = no_fission_in_leg X (spot p.bots).x to.x l.x l.along_x.leg in
+    let y = no_fission_in_leg Y (spot p.bots).y to.y l.y l.along_y.leg in
+    let z = no_fission_in_leg Z (spot p.bots).z to.z l.z l.along_z.leg in
+    let f = λ (c : Command). cond {A = ℕ} (is_fission c) 1 0 in
+    let xy : count_by is_fission (l.x ++ l.y) ≡ count_by is_fission l.x + count_by is_fission l.y = sum_by-append f l.x l.y in
+    let xyz : count_by is_fission (l.x ++ l.y ++ l.z) ≡ count_by is_fission (l.x ++ l.y) + count_by is_fission l.z = sum_by-append f (l.x ++ l.y) l.z in
+    let all : count_by is_fission h.commands ≡ count_by is_fission (l.x ++ l.y ++ l.z) = ap (count_by is_fission) l.joined in
+    let none : count_by is_fission h.commands ≡ 0 = omega arith in
+    let more = fissions_more p q h.commands 0 h.added none in
+    omega arith
+
+-- one command of the only bot that is no Fission makes none
+pub write_makes_none : (p q : Progress) (k : Command) → q.commands ≡ p.commands ++ k ∷ [] → is_fission k ≡ false → fissions q ≡ fissions p
+write_makes_none p q k e n =
+    let s = sum_by-cons (λ (c : Command). cond {A = ℕ} (is_fission c) 1 0) k [] in
+    let one : cond {A = ℕ} (is_fission k) 1 0 ≡ 0 = ap (λ t. cond {A = ℕ} t 1 0) n in
+    let none : count_by is_fission (k ∷ []) ≡ 0 = omega (arith, s, one) in
+    let more = fissions_more p q (k ∷ []) 0 e none in
+    omega arith

@@ -1,0 +1,8 @@
+pub mod Corners
+pub mod Counts
+pub mod Fours
+pub mod Legality
+pub mod Openings
+pub mod Regions
+pub mod Splits
+pub mod Sweeps

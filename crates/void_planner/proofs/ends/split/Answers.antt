@@ -1,0 +1,25 @@
+use Rattle.std.proofs.Common.{[], ◌∷◌, ap, refl, sym, length, List}
+use Rattle.std.proofs.lemmas.Result.{on_ok_weaker}
+use Rattle.nano_spec.specs.declared.commands.Command.TheVariants.{Fission}
+use Rattle.nano_spec.specs.declared.system.Bot.{Bot}
+use Rattle.plan_tape.specs.Crowd.{AllStep, bots_split}
+use Rattle.plan_tape.specs.Progress.{spot}
+use Rattle.void_planner.specs.Square.{two}
+use Rattle.void_planner.proofs.Splits.{becomes, split_free, split_makes}
+use Rattle.void_planner.proofs.ends.split.Goals as goal
+
+pub split_all-requires-clause-commands : goal.split_all-requires-clause-commands
+split_all-requires-clause-commands c = sym (ap (λ (bs : List Bot). length bs) c.requires.bots)
+
+pub split_all-requires-clause-free : goal.split_all-requires-clause-free
+split_all-requires-clause-free c =
+    let p = c.args.tape.now in
+    split_free p (spot p.bots) c.near.result c.requires.bots c.requires.full c.requires.stand c.near.ensures
+
+pub returns : goal.returns
+returns c =
+    let p = c.args.tape.now in
+    let k = Fission c.near.result 1 ∷ [] in
+    on_ok_weaker c.split_all.result
+    (λ (s : AllStep p c.split_all.new.self k p.matrix p.harmonics (bots_split p.bots k)). becomes p c.split_all.new.self k (bots_split p.bots k) (two (spot p.bots)) 1 refl (split_makes p (spot p.bots) c.near.result c.requires.bots c.requires.full c.requires.stand c.near.ensures) c.requires.high c.requires.full s)
+    c.split_all.ensures.ok

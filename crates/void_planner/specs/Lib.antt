@@ -1,0 +1,4 @@
+pub mod Few
+pub mod Phases
+pub mod Square
+pub mod Tiles

@@ -1,0 +1,14 @@
+//! A planner with four bots, which void the source from the top down, tile by tile: they stand above the corners of a square
+//! tile and void it together.
+#![tactic(auto)]
+
+mod ends;
+mod four;
+mod plan;
+mod sweep;
+mod tiles;
+
+pub use plan::plan_void;
+
+#[cfg(test)]
+mod tests;

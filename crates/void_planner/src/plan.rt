@@ -1,0 +1,95 @@
+//! The plan.
+ghost use Rattle.std.specs.Prelude.{◌≡◌, ◌≢◌, ◌+◌, ◌<◌, ◌≤◌, ◌↔◌, [], ◌∷◌, IfOk, IsFalse, IsTrue, count_by};
+ghost use Rattle.nano_spec.specs.Legal.{IsLegal};
+ghost use Rattle.nano_spec.specs.Matrix.{Matrix as MatrixValue, all_of, empty, is_full};
+ghost use Rattle.nano_spec.specs.Profile.{full_profile};
+ghost use Rattle.plan_tape.specs.Progress.{IsAccepted};
+ghost use Rattle.void_planner.specs.Few.{HasAtMost};
+ghost use Rattle.void_planner.specs.Phases.{IsVoidModel, most_steps};
+
+use crate::ends::{closed, gather, rise, spread};
+use crate::sweep::void_all;
+use crate::tiles::tiles;
+use nano_spec::Command;
+use plan_tape::{Plan, Tape};
+use std::alloc::Global;
+use std::marker::Brand;
+use std::sync::ledger::{Blank, Ledger};
+use vox_geom::{MOST_R, Memory, Steps};
+use vox_planes::Planes;
+
+/// Whether no voxel is full, counted in a ledger of its own.
+fn is_empty_in<L: Ledger>(planes: &Planes, blank: Blank) -> bool
+    requires name { blank.name ≡ L.name }
+    requires parts { blank.parts ≡ L.parts }
+    requires some { 0 < L.parts }
+    ensures { IsTrue result ↔ (count_by (is_full planes.now) (all_of planes.now) ≡ 0) }
+{
+    let mut steps: Steps<L> = Steps::new(blank);
+    planes.count(&mut steps) == 0
+}
+
+/// Whether no voxel is full.
+fn is_empty(planes: &Planes) -> bool
+    ensures void { IsTrue result → IsVoidModel planes.now }
+    ensures full { IsVoidModel planes.now → IsTrue result }
+{
+    is_empty_in::<Brand>(planes, Blank::new(1))
+}
+
+/// How many steps a plan takes at most but for its last two, at resolution r.
+fn most_but_two(r: u16) -> u32
+    requires { r ≤ MOST_R }
+    ensures value { result + 2 ≡ most_steps r }
+    ensures limit { result + 2 ≤ 1073741824 }
+{
+    let r = u32::from(r);
+    let n = u32::from(tiles(r as u16));
+    8 * r * (n * n) + 8 * r + 198
+}
+
+/// The plan that changes nothing.
+fn only_halt(alloc: Global, source: Planes) -> Result<Plan, Memory>
+    requires legal { IsLegal source }
+    requires void { IsVoidModel source }
+    ensures accepted { IfOk result (λ plan. (target : MatrixValue) → IsVoidModel target → IsAccepted source target plan.commands full_profile plan.energy plan.steps) }
+    ensures commands { IfOk result (λ plan. plan.commands ≡ Command.Halt ∷ []) }
+    ensures steps { IfOk result (λ plan. plan.steps ≡ 1) }
+    ensures few { IfOk result (λ plan. HasAtMost source full_profile plan.commands 4) }
+{
+    let mut tape = Tape::start(alloc, source)?;
+    tape.halt()?;
+    Ok(tape.finish())
+}
+
+/// The plan of four bots, where some voxel is full.
+fn with_four(alloc: Global, source: Planes) -> Result<Plan, Memory>
+    requires legal { IsLegal source }
+    requires some { 2 ≤ source.resolution }
+    ensures accepted { IfOk result (λ plan. (target : MatrixValue) → IsVoidModel target → IsAccepted source target plan.commands full_profile plan.energy plan.steps) }
+    ensures steps { IfOk result (λ plan. plan.steps ≤ most_steps source.resolution) }
+    ensures few { IfOk result (λ plan. HasAtMost source full_profile plan.commands 4) }
+{
+    let most = most_but_two(source.resolution());
+    let mut tape = rise(alloc, source)?;
+    spread(&mut tape)?;
+    void_all(&mut tape)?;
+    gather(&mut tape)?;
+    closed(tape, most)
+}
+
+/// A plan that makes the empty model of the source, which is legal. At resolution r it takes at most 8 * r * t + 8 * r + 200 steps, where t is
+/// the square of (r + 30) / 31 in whole numbers; where no voxel is full, its commands are a Halt alone.
+pub fn plan_void(alloc: Global, source: &Planes) -> Result<Plan, Memory>
+    requires { IsLegal source.now }
+    ensures accepted { IfOk result (λ plan. IsAccepted source.now (empty source.now.resolution) plan.commands full_profile plan.energy plan.steps) }
+    ensures steps { IfOk result (λ plan. plan.steps ≤ most_steps source.now.resolution) }
+    ensures few { IfOk result (λ plan. HasAtMost source.now full_profile plan.commands 4) }
+    ensures halt_alone { source.now ≡ empty source.now.resolution → IfOk result (λ plan. plan.commands ≡ Command.Halt ∷ []) }
+{
+    let _ = source.resolution();
+    if is_empty(source) {
+        return only_halt(alloc, source.copy(alloc)?);
+    }
+    with_four(alloc, source.copy(alloc)?)
+}

@@ -1,0 +1,80 @@
+//! The tiles of a layer.
+ghost use Rattle.std.specs.Prelude.{◌≡◌, ◌+◌, ◌*◌, ◌<◌, ◌≤◌, IsTrue, false};
+ghost use Rattle.vox_geom.specs.declared.coordinate.Coord.{Coord as Coordinate};
+ghost use Rattle.vox_geom.specs.Point.{point};
+ghost use Rattle.vox_geom.specs.Region.{is_within, span};
+ghost use Rattle.vox_geom.specs.Space.{IsInSpace};
+ghost use Rattle.nano_spec.specs.Matrix.{is_full};
+ghost use Rattle.void_planner.specs.Tiles.{IsVoidTile, far_of, place_of, tiles_of, turned as turned_of};
+
+use std::marker::Brand;
+use std::sync::ledger::{Blank, Ledger};
+use vox_geom::{Coord, MOST_R, Region, Steps};
+use vox_planes::Planes;
+
+/// The greatest number of voxels along a tile.
+const SIDE: u16 = 31;
+
+/// How far the corners of a tile are from each other along x and along z.
+pub fn far(r: u16) -> u16
+    requires { 2 ≤ r }
+    ensures { result ≡ far_of r }
+{
+    if r < SIDE { r - 1 } else { SIDE - 1 }
+}
+
+/// How many tiles a layer has along x, and along z.
+pub fn tiles(r: u16) -> u16
+    requires { r ≤ MOST_R }
+    ensures value { result ≡ tiles_of r }
+    ensures most { result ≤ 13 }
+{
+    (r + (SIDE - 1)) / SIDE
+}
+
+/// Where a tile begins along x or z: the last one may overlap the one before it.
+pub fn place(r: u16, k: u16) -> u16
+    requires some { 2 ≤ r }
+    requires few { k ≤ 13 }
+    ensures { result ≡ place_of r k }
+{
+    let last = r - 1 - far(r);
+    if SIDE * k < last { SIDE * k } else { last }
+}
+
+/// The k-th of n, counted forth or back.
+pub fn turned(n: u16, back: bool, k: u16) -> u16
+    requires { k < n }
+    ensures { result ≡ turned_of n back k }
+{
+    if back { n - 1 - k } else { k }
+}
+
+/// Whether the region is void, counted in a ledger of its own.
+fn is_void_in<L: Ledger>(planes: &Planes, region: &Region, blank: Blank) -> bool
+    requires within { IsInSpace planes.now.resolution region.now.high }
+    requires name { blank.name ≡ L.name }
+    requires parts { blank.parts ≡ L.parts }
+    requires some { 0 < L.parts }
+    ensures { IsTrue result → (c : Coordinate) → IsTrue (is_within (span region.now) (point c)) → is_full planes.now c ≡ false }
+{
+    let mut steps: Steps<L> = Steps::new(blank);
+    planes.region_full(region, &mut steps).is_none()
+}
+
+/// Whether the tile with this least corner is void.
+pub fn is_void(planes: &Planes, at: Coord) -> bool
+    requires some { 2 ≤ planes.now.resolution }
+    requires x { at.x + far_of planes.now.resolution < planes.now.resolution }
+    requires y { at.y < planes.now.resolution }
+    requires z { at.z + far_of planes.now.resolution < planes.now.resolution }
+    ensures { IsTrue result → IsVoidTile planes.now (far_of planes.now.resolution) at.x at.y at.z }
+{
+    let far = far(planes.resolution());
+    let end = Coord {
+        x: at.x + far,
+        y: at.y,
+        z: at.z + far,
+    };
+    is_void_in::<Brand>(planes, &Region::of(at, end), Blank::new(1))
+}
