@@ -3,7 +3,7 @@
 #![tactic(auto)]
 
 ghost use Rattle.std.specs.Prelude.{◌≡◌, ◌<◌};
-ghost use Rattle.nanobot_app.specs.Rows.{MayRead, MayStore, texts};
+ghost use Rattle.nanobot_words.specs.Rows.{MayRead, MayStore, texts};
 
 use nanobot_app::{Status, drive};
 use std::alloc::{AllocError, Global};

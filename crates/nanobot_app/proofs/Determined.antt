@@ -1,9 +1,8 @@
 -- The answer to the words is one only, and what follows from it.
-use Rattle.std.proofs.Common.{◌≡◌, ◌⊎◌, ◌==◌, ℕ, List, [], ◌∷◌, Option, Some, None, Bool, true, false, codes, decimal, refl, arith, sym, ap, ◌∙◌, subst, inl, inr, nat_lt, length}
-use Rattle.std.specs.Str.{bytes_eq}
+use Rattle.std.proofs.Common.{◌≡◌, ◌⊎◌, ◌==◌, ℕ, ◌+◌, List, [], ◌∷◌, Option, Some, None, Bool, true, false, cond, codes, decimal, refl, arith, sym, ap, ◌∙◌, subst, inl, inr, nat_lt, length}
 use Rattle.std.specs.Prelude.{All, IsFalse, IsTrue, Result, Ok, Err, MatchOption, MatchBool, IfSome, IsSomeAnd}
-use Rattle.std.proofs.lemmas.Fmt.{decimal_injective}
 use Rattle.std.specs.Io.KnownBytes.{append_known}
+use Rattle.vox_geom.specs.declared.coordinate.Coord.{Coord}
 use Rattle.nano_spec.specs.declared.commands.Command.{Command}
 use Rattle.nano_spec.specs.declared.outcomes.Verdict.{Verdict}
 use Rattle.nano_spec.specs.declared.system.Profile.{Profile}
@@ -14,76 +13,25 @@ use Rattle.nano_spec.specs.Model.{NoModel, model}
 use Rattle.nano_spec.specs.Profile.{full_profile, light_profile}
 use Rattle.nano_spec.specs.Reading.{FaultyLine, read}
 use Rattle.nano_spec.specs.Verdict.{VerdictOf}
+use Rattle.group_planner.specs.Phases.{most_bytes}
+use Rattle.group_planner.specs.Rows.{rows, runs}
+use Rattle.low_planner.specs.Supported.{FirstUnsupported}
+use Rattle.step_debugger.specs.Session.{Line}
+use Rattle.debug_script.specs.Script.{ScriptSays}
+use Rattle.debug_script.specs.Sessions.{PrintsFrom}
 use Rattle.vox_depot.specs.Files.{Files, content}
-use Rattle.nanobot_app.specs.declared.report.Report.TheVariants as report
-use Rattle.nanobot_app.specs.declared.report.Who.{Who}
-use Rattle.nanobot_app.specs.declared.report.Who.TheVariants as who
-use Rattle.nanobot_app.specs.declared.status.Status.{Status}
-use Rattle.nanobot_app.specs.declared.status.Status.TheVariants as is
-use Rattle.nanobot_app.specs.Answer.{Answer, AnswerOf, AnswerOfRun, AskNoPlan, Judged, OfBytes, OfDecoding, OfLayerPlan, OfReading, OfRun, OfText, OfTrace, Reply, WithBoth, WithFile, WithModel, WithModels, WithSide, dis_limit, run_limit, text_limit}
+use Rattle.nanobot_rows.specs.declared.report.Report.TheVariants as report
+use Rattle.nanobot_rows.specs.declared.report.Who.{Who}
+use Rattle.nanobot_rows.specs.declared.report.Who.TheVariants as who
+use Rattle.nanobot_rows.specs.declared.status.Status.{Status}
+use Rattle.nanobot_rows.specs.declared.status.Status.TheVariants as is
+use Rattle.nanobot_rows.specs.Answer.{Answer, AnswerOf, AnswerOfRun, AskNoPlan, Judged, OfBytes, OfDecoding, OfGroupPlan, OfLines, OfLowPlan, OfPlan, OfReading, OfRun, OfScript, OfSession, OfText, OfTrace, Reply, WhereSupported, WithBoth, WithFile, WithModel, WithModels, WithSide, dis_limit, group_limit, run_limit, script_limit, text_limit}
+use Rattle.nanobot_rows.specs.Planners.{IsGroupPlan, IsLayerPlan, IsLowPlan, IsSwarmPlan, IsVoidPlan, PlanFacts}
 use Rattle.nanobot_app.specs.Outcome.{DepotRose, IsAnswer, LacksFile, Outcome, Outside, SinkRose}
-use Rattle.nanobot_app.specs.Reading.{gone, reply_of}
-use Rattle.nanobot_app.specs.Report.{faulty_text, not_legal, no_model, of_verdict}
-use Rattle.nanobot_app.specs.Rows.{Row, asm, check, dis, light, make, plan_layer, run, words_of, side_word, IsName, IsRow, with_side}
-use Rattle.nanobot_app.proofs.Parsed.{first_named, same_side, second_named, trace_last}
-use Rattle.nanobot_app.proofs.Told.{if_some}
-
--- ---- the row of the words is one
-
-abbrev first_word : List (List ℕ) → List ℕ
-first_word [] = []
-first_word (w ∷ ws) = w
-
--- rows whose first words differ are written otherwise
-other_heads : (row row' : Row) → IsTrue (bytes_eq (first_word (words_of row)) (first_word (words_of row))) → IsFalse (bytes_eq (first_word (words_of row)) (first_word (words_of row'))) → words_of row ≡ words_of row' → ⊥
-other_heads row row' same other e = let t = subst (λ ws. IsTrue (bytes_eq (first_word (words_of row)) (first_word ws))) e same in cc
-
-check_check : (m m' : List ℕ) → words_of (check m) ≡ words_of (check m') → check m ≡ check m'
-check_check m m' e = cc
-
-same_asm : (x b x' b' : List ℕ) → words_of (asm x b) ≡ words_of (asm x' b') → asm x b ≡ asm x' b'
-same_asm x b x' b' e = cc
-
-same_dis : (b x b' x' : List ℕ) → words_of (dis b x) ≡ words_of (dis b' x') → dis b x ≡ dis b' x'
-same_dis b x b' x' e = cc
-
--- a source, a target and a trace are those of their words
-same_operands : (f : Option (List ℕ) → Option (List ℕ) → List ℕ → Row) (s t s' t' : Option (List ℕ)) (b b' : List ℕ) → All IsName (with_side s (with_side t (b ∷ []))) → All IsName (with_side s' (with_side t' (b' ∷ [])))
-    → side_word s ≡ side_word s' → side_word t ≡ side_word t' → b ≡ b' → f s t b ≡ f s' t' b'
-same_operands f s t s' t' b b' h h' es et eb =
-    let ps = same_side s s' (first_named s t b h) (first_named s' t' b' h') es in
-    let pt = same_side t t' (second_named s t b h) (second_named s' t' b' h') et in
-    λ i. f (ps i) (pt i) (eb i)
-
-run_light : (s t s' t' : Option (List ℕ)) (b b' : List ℕ) → words_of (run s t b) ≡ words_of (light s' t' b') → ⊥
-run_light s t s' t' b b' e = cc
-
-pub row_once : (words : List (List ℕ)) (row row' : Row) → IsRow words row → IsRow words row' → row ≡ row'
-row_once words (check m) (check m') h h' = check_check m m' (sym h.written ∙ h'.written)
-row_once words (run s t b) (run s' t' b') h h' =
-    let e : codes "run" ∷ side_word s ∷ side_word t ∷ b ∷ [] ≡ codes "run" ∷ side_word s' ∷ side_word t' ∷ b' ∷ [] = sym h.written ∙ h'.written in
-    same_operands run s t s' t' b b' h.named h'.named (cc) (cc) (cc)
-row_once words (light s t b) (light s' t' b') h h' =
-    let e : codes "run" ∷ codes "light" ∷ side_word s ∷ side_word t ∷ b ∷ [] ≡ codes "run" ∷ codes "light" ∷ side_word s' ∷ side_word t' ∷ b' ∷ [] = sym h.written ∙ h'.written in
-    same_operands light s t s' t' b b' h.named h'.named (cc) (cc) (cc)
-row_once words (run s t b) (light s' t' b') h h' = absurd (run_light s t s' t' b b' (sym h.written ∙ h'.written))
-row_once words (light s t b) (run s' t' b') h h' = absurd (run_light s' t' s t b' b (sym h'.written ∙ h.written))
-row_once words (asm x b) (asm x' b') h h' = same_asm x b x' b' (sym h.written ∙ h'.written)
-row_once words (dis b x) (dis b' x') h h' = same_dis b x b' x' (sym h.written ∙ h'.written)
-row_once words (make n r m) (make n' r' m') h h' =
-    let e : codes "make" ∷ decimal n ∷ decimal r ∷ m ∷ [] ≡ codes "make" ∷ decimal n' ∷ decimal r' ∷ m' ∷ [] = sym h.written ∙ h'.written in
-    let en : decimal n ≡ decimal n' = cc in
-    let er : decimal r ≡ decimal r' = cc in
-    let em : m ≡ m' = cc in
-    let a = h.of_table in
-    let b = h'.of_table in
-    let pn : n ≡ n' = decimal_injective n n' (omega arith) (omega arith) en in
-    let pr : r ≡ r' = decimal_injective r r' (omega arith) (omega arith) er in
-    λ i. make (pn i) (pr i) (em i)
-row_once words (plan_layer s t b) (plan_layer s' t' b') h h' =
-    let e : codes "plan" ∷ codes "layer" ∷ side_word s ∷ side_word t ∷ b ∷ [] ≡ codes "plan" ∷ codes "layer" ∷ side_word s' ∷ side_word t' ∷ b' ∷ [] = sym h.written ∙ h'.written in
-    same_operands plan_layer s t s' t' b b' (trace_last s t b h.named) (trace_last s' t' b' h'.named) (cc) (cc) (cc)
-row_once words row row' h h' = absurd (other_heads row row' refl refl (sym h.written ∙ h'.written))
+use Rattle.nanobot_rows.specs.Reading.{gone, reply_of}
+use Rattle.nanobot_rows.specs.Report.{faulty_text, not_legal, no_model, of_verdict}
+use Rattle.nanobot_words.specs.Rows.{Row, asm, check, debug, dis, exercise, light, make, plan_group, plan_layer, plan_low, plan_swarm, plan_void, run, IsRow, MakesPlans}
+use Rattle.nanobot_rows.proofs.Told.{if_some}
 
 -- ---- at most one reply, or one part of it
 
@@ -96,12 +44,29 @@ DecodingLaw = (bytes : List ℕ) (a b : Result (List Command) NoTrace) → Decod
 abbrev VerdictLaw : Type 0
 VerdictLaw = (source target : Matrix) (commands : List Command) (profile : Profile) (v w : Verdict) → VerdictOf source target commands profile v → VerdictOf source target commands profile w → v ≡ w
 
--- the words ask for a plan
-abbrev pub IsPlan : Row → Type 0
-IsPlan (plan_layer source target trace) = Unit {0}
-IsPlan row = ⊥
+abbrev UnsupportedLaw : Type 0
+UnsupportedLaw = (m : Matrix) (a b : Option Coord) → FirstUnsupported m a → FirstUnsupported m b → a ≡ b
 
-module _ {A : Type 0} (part : Reply → A) (legality : LegalityLaw) (decoding : DecodingLaw) (verdicts : VerdictLaw) where
+abbrev pub RowLaw : Type 0
+RowLaw = (words : List (List ℕ)) (row row' : Row) → IsRow words row → IsRow words row' → row ≡ row'
+
+abbrev ScriptLaw : Type 0
+ScriptLaw = (r : ℕ) (bytes : List ℕ) (a b : Result (List Line) FaultyLine) → ScriptSays r bytes a → ScriptSays r bytes b → a ≡ b
+
+abbrev TextLaw : Type 0
+TextLaw = (source : Matrix) (profile : Profile) (commands : List Command) (script : List Line) (a b : List ℕ) → PrintsFrom source profile commands script a → PrintsFrom source profile commands script b → a ≡ b
+
+-- what the definitions determine
+pub record Laws : Type 0 where
+  pub rows : RowLaw
+  pub legality : LegalityLaw
+  pub decoding : DecodingLaw
+  pub verdicts : VerdictLaw
+  pub unsupported : UnsupportedLaw
+  pub scripts : ScriptLaw
+  pub sessions : TextLaw
+
+module _ {A : Type 0} (part : Reply → A) (laws : Laws) where
   abbrev Once : (Reply → Type 0) → Type 0
   Once p = (r s : Reply) → p r → p s → part r ≡ part s
 
@@ -123,7 +88,7 @@ module _ {A : Type 0} (part : Reply → A) (legality : LegalityLaw) (decoding : 
     bytes_once : (w : Who) (said : Result Matrix NoModel) (p : Matrix → Reply → Type 0) → ((m : Matrix) → Once (p m)) → Once (OfBytes w files said p)
     bytes_once w (Err why) p f r s h k = same_reply (reply_of files (report.Model w (no_model why))) r s h k
     bytes_once w (Ok m) p f r s h k =
-        let same = legality m h.0 k.0 h.1 k.1 in
+        let same = laws.legality m h.0 k.0 h.1 k.1 in
         judged_once w k.0 (p m) (f m) r s (subst (λ (a : Option NotLegal). Judged w files a (p m) r) same h.2) k.2
 
     model_once : (w : Who) (name : List ℕ) (p : Matrix → Reply → Type 0) → ((m : Matrix) → Once (p m)) → Once (WithModel w files name p)
@@ -144,7 +109,7 @@ module _ {A : Type 0} (part : Reply → A) (legality : LegalityLaw) (decoding : 
     both_once (Some a) (Some b) p f r s h k = choice_once (a.resolution == b.resolution) (p a b) (λ r. r ≡ reply_of files (report.Resolutions a.resolution b.resolution)) (f a b) (same_reply (reply_of files (report.Resolutions a.resolution b.resolution))) r s h k
 
     run_once : (profile : Profile) (source target : Matrix) (commands : List Command) → Once (OfRun profile files source target commands)
-    run_once profile source target commands r s h k = ap part (h.2 ∙ (ap (λ (v : Verdict). reply_of files (of_verdict v)) (verdicts source target commands profile h.0 k.0 h.1 k.1) ∙ sym k.2))
+    run_once profile source target commands r s h k = ap part (h.2 ∙ (ap (λ (v : Verdict). reply_of files (of_verdict v)) (laws.verdicts source target commands profile h.0 k.0 h.1 k.1) ∙ sym k.2))
 
     decoded_once : (d : Result (List Command) NoTrace) (p : List Command → Reply → Type 0) → ((commands : List Command) → Once (p commands)) → Once (OfDecoding files d p)
     decoded_once (Ok commands) p f = f commands
@@ -153,7 +118,7 @@ module _ {A : Type 0} (part : Reply → A) (legality : LegalityLaw) (decoding : 
 
     decoding_once : (bytes : List ℕ) (p : List Command → Reply → Type 0) → ((commands : List Command) → Once (p commands)) → Once (λ r. (d : Result (List Command) NoTrace) × Decoding bytes d × OfDecoding files d p r)
     decoding_once bytes p f r s h k =
-        let same = decoding bytes h.0 k.0 h.1 k.1 in
+        let same = laws.decoding bytes h.0 k.0 h.1 k.1 in
         decoded_once k.0 p f r s (subst (λ (d : Result (List Command) NoTrace). OfDecoding files d p r) same h.2) k.2
 
     trace_once : (limit : ℕ) (bytes : List ℕ) (p : List Command → Reply → Type 0) → ((commands : List Command) → Once (p commands)) → Once (OfTrace limit files bytes p)
@@ -170,6 +135,27 @@ module _ {A : Type 0} (part : Reply → A) (legality : LegalityLaw) (decoding : 
         choice_once (nat_lt text_limit (length bytes)) (λ r. r ≡ reply_of files (report.TextLong text_limit)) (OfReading files (read bytes) p)
         (same_reply (reply_of files (report.TextLong text_limit))) (reading_once (read bytes) p f)
 
+    lines_once : (said : Result (List Line) FaultyLine) (p : List Line → Reply → Type 0) → ((lines : List Line) → Once (p lines)) → Once (OfLines files said p)
+    lines_once (Ok lines) p f = f lines
+    lines_once (Err faulty) p f = same_reply (reply_of files (faulty_text faulty))
+
+    said_once : (r : ℕ) (bytes : List ℕ) (p : List Line → Reply → Type 0) → ((lines : List Line) → Once (p lines)) → Once (λ x. (said : Result (List Line) FaultyLine) × ScriptSays r bytes said × OfLines files said p x)
+    said_once r bytes p f x y h k =
+        let same = laws.scripts r bytes h.0 k.0 h.1 k.1 in
+        lines_once k.0 p f x y (subst (λ (said : Result (List Line) FaultyLine). OfLines files said p x) same h.2) k.2
+
+    script_once : (r : ℕ) (bytes : List ℕ) (p : List Line → Reply → Type 0) → ((lines : List Line) → Once (p lines)) → Once (OfScript r files bytes p)
+    script_once r bytes p f =
+        choice_once (nat_lt script_limit (length bytes)) (λ x. x ≡ reply_of files (report.TextLong script_limit)) (λ x. (said : Result (List Line) FaultyLine) × ScriptSays r bytes said × OfLines files said p x)
+        (same_reply (reply_of files (report.TextLong script_limit))) (said_once r bytes p f)
+
+    -- the reply of a session
+    abbrev done_with : List ℕ → Reply
+    done_with text = record { status = is.Done; line = text; after = files }
+
+    session_once : (source : Matrix) (commands : List Command) (script : List Line) → Once (OfSession files source commands script)
+    session_once source commands script x y h k = ap part (h.2 ∙ (ap done_with (laws.sessions source full_profile commands script h.0 k.0 h.1 k.1) ∙ sym k.2))
+
     models_once : (source target : Option (List ℕ)) (p : Matrix → Matrix → Reply → Type 0) → ((s t : Matrix) → Once (p s t)) → Once (WithModels files source target p)
     models_once source target p f = side_once who.Source source _ (λ a. side_once who.Target target _ (λ b. both_once a b p f))
 
@@ -177,38 +163,55 @@ module _ {A : Type 0} (part : Reply → A) (legality : LegalityLaw) (decoding : 
     run_answer_once profile source target trace = models_once source target _ (λ s t. file_once trace _ (λ bytes. trace_once run_limit bytes _ (λ commands. run_once profile s t commands)))
 
     -- two plans have the same status at least
-    plan_once : ((r s : Reply) → r.status ≡ s.status → part r ≡ part s) → (name : List ℕ) (source target : Matrix) → Once (OfLayerPlan name files source target)
-    plan_once told name source target r s h k = told r s (ap (λ (x : Reply). x.status) h.4 ∙ sym (ap (λ (x : Reply). x.status) k.4))
+    plan_once : ((r s : Reply) → r.status ≡ s.status → part r ≡ part s) → (Is : PlanFacts) (name : List ℕ) (source target : Matrix) → Once (OfPlan Is name files source target)
+    plan_once told Is name source target r s h k = told r s (ap (λ (x : Reply). x.status) h.4 ∙ sym (ap (λ (x : Reply). x.status) k.4))
 
-    row_answer_once : (row : Row) → (IsPlan row → (r s : Reply) → r.status ≡ s.status → part r ≡ part s) → Once (AnswerOf row files)
+    group_once : ((r s : Reply) → r.status ≡ s.status → part r ≡ part s) → (name : List ℕ) (source target : Matrix) → Once (OfGroupPlan name files source target)
+    group_once told name source target =
+        choice_once (nat_lt group_limit (most_bytes source target)) (λ r. r ≡ reply_of files (report.GroupLong (runs source + runs target) (rows source + rows target))) (OfPlan IsGroupPlan name files source target)
+        (same_reply (reply_of files (report.GroupLong (runs source + runs target) (rows source + rows target)))) (plan_once told IsGroupPlan name source target)
+
+    supported_once : (at : Option Coord) (p : Reply → Type 0) → Once p → Once (WhereSupported files at p)
+    supported_once None p f = f
+    supported_once (Some at) p f = same_reply (reply_of files (report.Unsupported at))
+
+    low_once : ((r s : Reply) → r.status ≡ s.status → part r ≡ part s) → (name : List ℕ) (source target : Matrix) → Once (OfLowPlan name files source target)
+    low_once told name source target r s h k =
+        let p = OfPlan IsLowPlan name files source target in
+        let same = laws.unsupported target h.0 k.0 h.1 k.1 in
+        supported_once k.0 p (plan_once told IsLowPlan name source target) r s (subst (λ (at : Option Coord). WhereSupported files at p r) same h.2) k.2
+
+    row_answer_once : (row : Row) → (MakesPlans row → (r s : Reply) → r.status ≡ s.status → part r ≡ part s) → Once (AnswerOf row files)
     row_answer_once (check name) told = model_once who.Model name _ (λ m. same_reply _)
     row_answer_once (run source target trace) told = run_answer_once full_profile source target trace
     row_answer_once (light source target trace) told = run_answer_once light_profile source target trace
     row_answer_once (asm text trace) told = file_once text _ (λ bytes. text_once bytes _ (λ commands. same_reply _))
     row_answer_once (dis trace text) told = file_once trace _ (λ bytes. trace_once dis_limit bytes _ (λ commands. same_reply _))
     row_answer_once (make number resolution name) told = same_reply _
-    row_answer_once (plan_layer source target trace) told = models_once source target _ (λ s t. plan_once (told tt) trace s t)
+    row_answer_once (plan_layer source target trace) told = models_once source target _ (λ s t. plan_once (told tt) IsLayerPlan trace s t)
+    row_answer_once (plan_group source target trace) told = models_once source target _ (λ s t. group_once (told tt) trace s t)
+    row_answer_once (plan_void source trace) told = models_once (Some source) None _ (λ s t. plan_once (told tt) IsVoidPlan trace s t)
+    row_answer_once (plan_low target trace) told = models_once None (Some target) _ (λ s t. low_once (told tt) trace s t)
+    row_answer_once (plan_swarm target trace) told = models_once None (Some target) _ (λ s t. plan_once (told tt) IsSwarmPlan trace s t)
+    row_answer_once (exercise number resolution) told = λ r s h k. told tt r s (ap (λ (x : Reply). x.status) h.4 ∙ sym (ap (λ (x : Reply). x.status) k.4))
+    row_answer_once (debug source trace script) told = model_once who.Source source _ (λ m. file_once trace _ (λ bytes. trace_once dis_limit bytes _ (λ commands. file_once script _ (λ text. script_once m.resolution text _ (λ lines. session_once m commands lines)))))
 
-  part_once : (words : List (List ℕ)) (files : Files) (r s : Reply) → ((row : Row) → IsRow words row → IsPlan row → (r s : Reply) → r.status ≡ s.status → part r ≡ part s) → Answer words files r → Answer words files s → part r ≡ part s
+  part_once : (words : List (List ℕ)) (files : Files) (r s : Reply) → ((row : Row) → IsRow words row → MakesPlans row → (r s : Reply) → r.status ≡ s.status → part r ≡ part s) → Answer words files r → Answer words files s → part r ≡ part s
   part_once words files r s told (inl h) (inl k) = ap part (h.1 ∙ sym k.1)
   part_once words files r s told (inl h) (inr k) = absurd (h.0 k.0 k.1)
   part_once words files r s told (inr h) (inl k) = absurd (k.0 h.0 h.1)
   part_once words files r s told (inr h) (inr k) =
-      let same = row_once words k.0 h.0 k.1 h.1 in
+      let same = laws.rows words k.0 h.0 k.1 h.1 in
       row_answer_once files h.0 (told h.0 h.1) r s h.2 (subst (λ (row : Row). AnswerOf row files s) same k.2)
 
-module _ (legality : LegalityLaw) (decoding : DecodingLaw) (verdicts : VerdictLaw) where
-  -- words have one answer where they ask for no plan
+module _ (laws : Laws) where
+  -- words have one answer where they ask for no plans
   pub answer_once : (words : List (List ℕ)) (files : Files) (r s : Reply) → AskNoPlan words → Answer words files r → Answer words files s → r ≡ s
-  answer_once words files r s no_plan h k = part_once (λ (x : Reply). x) legality decoding verdicts words files r s no h k
-    where
-      no : (row : Row) → IsRow words row → IsPlan row → (r s : Reply) → r.status ≡ s.status → r ≡ s
-      no (plan_layer source target trace) is plan r s e = absurd (no_plan source target trace is)
-      no row is plan r s e = absurd plan
+  answer_once words files r s no_plan h k = part_once (λ (x : Reply). x) laws words files r s (λ row is plan r s e. absurd (no_plan row is plan)) h k
 
   -- words have one status
   pub status_once : (words : List (List ℕ)) (files : Files) (r s : Reply) → Answer words files r → Answer words files s → r.status ≡ s.status
-  status_once words files r s h k = part_once (λ (x : Reply). x.status) legality decoding verdicts words files r s (λ row is plan r s e. e) h k
+  status_once words files r s h k = part_once (λ (x : Reply). x.status) laws words files r s (λ row is plan r s e. e) h k
 
 -- ---- where no count rose, the status is the answer's, or want of memory
 
@@ -243,3 +246,4 @@ complete {stores} law words old new result o no_depot no_sink = if_some old.file
     by files told reply a is.Model o = inl (answered files told reply a is.Model tt o)
     by files told reply a is.Trace o = inl (answered files told reply a is.Trace tt o)
     by files told reply a is.Text o = inl (answered files told reply a is.Text tt o)
+    by files told reply a is.Unsupported o = inl (answered files told reply a is.Unsupported tt o)

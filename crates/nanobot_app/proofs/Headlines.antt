@@ -13,22 +13,22 @@ use Rattle.nano_spec.specs.Model.{NoModel, model}
 use Rattle.nano_spec.specs.Profile.{full_profile}
 use Rattle.nano_spec.specs.Verdict.{VerdictOf}
 use Rattle.vox_depot.specs.Files.{Files, content}
-use Rattle.nanobot_app.specs.declared.report.Report.{Report}
-use Rattle.nanobot_app.specs.declared.report.Report.TheVariants as report
-use Rattle.nanobot_app.specs.declared.report.Who.{Who}
-use Rattle.nanobot_app.specs.declared.report.Who.TheVariants as who
-use Rattle.nanobot_app.specs.declared.status.Status.{Status}
-use Rattle.nanobot_app.specs.declared.status.Status.TheVariants as is
-use Rattle.nanobot_app.specs.Answer.{Answer, AnswerOf, AskNoPlan, Judged, OfBytes, OfDecoding, OfRun, OfTrace, Reply, WithBoth, WithFile, WithModel, WithModels, WithSide, run_limit}
+use Rattle.nanobot_rows.specs.declared.report.Report.{Report}
+use Rattle.nanobot_rows.specs.declared.report.Report.TheVariants as report
+use Rattle.nanobot_rows.specs.declared.report.Who.{Who}
+use Rattle.nanobot_rows.specs.declared.report.Who.TheVariants as who
+use Rattle.nanobot_rows.specs.declared.status.Status.{Status}
+use Rattle.nanobot_rows.specs.declared.status.Status.TheVariants as is
+use Rattle.nanobot_rows.specs.Answer.{Answer, AnswerOf, AskNoPlan, Judged, OfBytes, OfDecoding, OfRun, OfTrace, Reply, WithBoth, WithFile, WithModel, WithModels, WithSide, run_limit}
 use Rattle.nanobot_app.specs.Headline.{IsDoneWith, Takes, TakesBytes}
 use Rattle.nanobot_app.specs.Outcome.{DepotRose, IsAnswer, Outcome, Outside, SinkRose}
-use Rattle.nanobot_app.specs.Reading.{AreBoth, AreModels, IsModelOf, IsSide, gone, reply_of}
-use Rattle.nanobot_app.specs.Report.{no_model, not_legal, of_verdict, status_of}
-use Rattle.nanobot_app.specs.Rows.{Row, plan_layer, run, IsRow}
-use Rattle.nanobot_app.proofs.Loads.{not_longer}
-use Rattle.nanobot_app.proofs.Determined.{AnswerLaw, StatusLaw, complete, row_once}
-use Rattle.nanobot_app.proofs.Replies.{models_given}
-use Rattle.nanobot_app.proofs.Told.{if_some}
+use Rattle.nanobot_rows.specs.Reading.{AreBoth, AreModels, IsModelOf, IsSide, gone, reply_of}
+use Rattle.nanobot_rows.specs.Report.{no_model, not_legal, of_verdict, status_of}
+use Rattle.nanobot_words.specs.Rows.{Row, run, MakesPlans, IsRow}
+use Rattle.nanobot_rows.proofs.Loads.{not_longer}
+use Rattle.nanobot_app.proofs.Determined.{AnswerLaw, RowLaw, StatusLaw, complete}
+use Rattle.nanobot_rows.proofs.Replies.{models_given}
+use Rattle.nanobot_rows.proofs.Told.{if_some}
 
 -- ---- what a run that takes its trace answers
 
@@ -103,7 +103,7 @@ accepted : (files : Files) (v : Verdict) (reply : Reply) → reply ≡ reply_of 
 accepted files (verdict.Accepted energy steps) reply e done = (energy, steps, refl)
 accepted files (verdict.Refused broken) reply e done = absurd (let no = other files (report.Broken broken) reply e done in cc)
 
-longer_not : (limit size : ℕ) → nat_lt limit size ≡ false → size ≤ limit
+pub longer_not : (limit size : ℕ) → nat_lt limit size ≡ false → size ≤ limit
 longer_not limit size e = grind (arith, nat_tests)
 
 module _ (files : Files) (source target : Matrix) (reply : Reply) (done : reply.status ≡ is.Done) where
@@ -141,20 +141,17 @@ takes_done files source target trace reply done h =
     (t.0, t.1, record { from = m.0; to = m.1; models = m.2; taken = t.2 }, t.3)
 
 -- the row of the words answers
-of_the_row : (words : List (List ℕ)) (row : Row) (files : Files) (reply : Reply) → IsRow words row → Answer words files reply → AnswerOf row files reply
-of_the_row words row files reply is_row (inl h) = absurd (h.0 row is_row)
-of_the_row words row files reply is_row (inr h) = subst (λ (r : Row). AnswerOf r files reply) (row_once words h.0 row h.1 is_row) h.2
+of_the_row : RowLaw → (words : List (List ℕ)) (row : Row) (files : Files) (reply : Reply) → IsRow words row → Answer words files reply → AnswerOf row files reply
+of_the_row one words row files reply is_row (inl h) = absurd (h.0 row is_row)
+of_the_row one words row files reply is_row (inr h) = subst (λ (r : Row). AnswerOf r files reply) (one words h.0 row h.1 is_row) h.2
 
--- words that ask for a run ask for no plan
-run_is_no_plan : (words : List (List ℕ)) (source target : Option (List ℕ)) (trace : List ℕ) → IsRow words (run source target trace) → AskNoPlan words
-run_is_no_plan words source target trace is s t b other = differ (row_once words (run source target trace) (plan_layer s t b) is other)
-  where
-    differ : run source target trace ≡ plan_layer s t b → ⊥
-    differ e = cc
+-- words that ask for a run ask for no plans
+run_is_no_plan : RowLaw → (words : List (List ℕ)) (source target : Option (List ℕ)) (trace : List ℕ) → IsRow words (run source target trace) → AskNoPlan words
+run_is_no_plan one words source target trace is row other plan = subst MakesPlans (one words row (run source target trace) other is) plan
 
 -- ---- both halves of the headline
 
-module _ {stores : List ℕ → Type 0} (statuses : StatusLaw) (law : AnswerLaw) (words : List (List ℕ)) (old new : Outside) (result : Status) (o : Outcome (Answer words) stores old new result) (source target : Option (List ℕ)) (trace : List ℕ) (is_row : IsRow words (run source target trace)) where
+module _ {stores : List ℕ → Type 0} (one : RowLaw) (statuses : StatusLaw) (law : AnswerLaw) (words : List (List ℕ)) (old new : Outside) (result : Status) (o : Outcome (Answer words) stores old new result) (source target : Option (List ℕ)) (trace : List ℕ) (is_row : IsRow words (run source target trace)) where
   stood : (files : Files) → old.files ≡ Some files → IsAnswer result → (reply : Reply) × Answer words files reply × (new.files ≡ Some reply.after) × ((reply.status ≡ result) × (new.written ≡ append_known old.written reply.line))
   stood files told a = subst (λ t. IfSome t (λ files. (reply : Reply) × Answer words files reply × (new.files ≡ Some reply.after) × ((reply.status ≡ result) × (new.written ≡ append_known old.written reply.line)))) told (o.answer a)
 
@@ -170,11 +167,11 @@ module _ {stores : List ℕ → Type 0} (statuses : StatusLaw) (law : AnswerLaw)
       done_with files told energy steps reply answer (inr m) = absurd (no_memory m)
       done_with files told energy steps reply answer (inl done) =
           let s = stood files told (subst IsAnswer (sym done) tt) in
-          let same = law words files s.0 (reply_of files (report.Accepted energy steps)) (run_is_no_plan words source target trace is_row) s.1 answer in
+          let same = law words files s.0 (reply_of files (report.Accepted energy steps)) (run_is_no_plan one words source target trace is_row) s.1 answer in
           (done, s.3.1 ∙ ap (λ (r : Reply). append_known old.written r.line) same)
 
   pub headline_only : result ≡ is.Done → IfSome old.files (λ files. (energy : ℤ) × (steps : ℕ) × Takes files source target trace energy steps × IsDoneWith result old.written new.written energy steps)
   headline_only done = if_some old.files (λ files told.
       let s = stood files told (subst IsAnswer (sym done) tt) in
-      let t = takes_done files source target trace s.0 (s.3.0 ∙ done) (of_the_row words (run source target trace) files s.0 is_row s.1) in
+      let t = takes_done files source target trace s.0 (s.3.0 ∙ done) (of_the_row one words (run source target trace) files s.0 is_row s.1) in
       (t.0, t.1, t.2, (done, s.3.1 ∙ ap (λ (r : Reply). append_known old.written r.line) t.3)))

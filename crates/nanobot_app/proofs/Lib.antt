@@ -1,14 +1,5 @@
-pub mod Cut
 pub mod Determined
-pub mod Empty
 pub mod Headlines
-pub mod Loads
+pub mod Lengths
 pub mod Outcomes
-pub mod Parsed
-pub mod Paying
 pub mod Plans
-pub mod Replies
-pub mod Running
-pub mod Stored
-pub mod Told
-pub mod Tracing

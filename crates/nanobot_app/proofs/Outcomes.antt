@@ -3,20 +3,22 @@ use Rattle.std.proofs.Common.{◌≡◌, ◌⊎◌, ℕ, ◌≤◌, List, [], Op
 use Rattle.std.specs.Prelude.{IfSome, IsSomeAnd}
 use Rattle.std.specs.Io.KnownBytes.{append_known}
 use Rattle.vox_depot.specs.Files.{Files, others}
-use Rattle.nanobot_app.specs.declared.effect.Effect.{Effect}
-use Rattle.nanobot_app.specs.declared.effect.NewFile.{NewFile}
-use Rattle.nanobot_app.specs.declared.report.Report.{Report}
-use Rattle.nanobot_app.specs.declared.report.Report.TheVariants as report
-use Rattle.nanobot_app.specs.declared.status.Status.{Status}
-use Rattle.nanobot_app.specs.declared.status.Status.TheVariants as is
-use Rattle.nanobot_app.specs.Answer.{Answer, AnswerOf, Answers, with_file}
-use Rattle.nanobot_app.specs.Effects.{Finished, IsFor, IsLost, files_with, reply_by, told_with}
-use Rattle.nanobot_app.specs.Outcome.{DepotRose, IsAnswer, LacksFile, Outcome, Outside, Printed, RowStores, SinkRose, SparesOthers, StoredBy, Told}
-use Rattle.nanobot_app.specs.Reading.{reply_of}
-use Rattle.nanobot_app.specs.Report.{line_of, status_of}
-use Rattle.nanobot_app.specs.Rows.{IsRow, Row}
-use Rattle.nanobot_app.proofs.Replies.{rose_since}
-use Rattle.nanobot_app.proofs.Told.{weaker}
+use Rattle.nanobot_rows.specs.declared.effect.Effect.{Effect}
+use Rattle.nanobot_rows.specs.declared.effect.Message.{Message}
+use Rattle.nanobot_rows.specs.declared.effect.Message.TheVariants as message
+use Rattle.nanobot_rows.specs.declared.effect.NewFile.{NewFile}
+use Rattle.nanobot_rows.specs.declared.report.Report.{Report}
+use Rattle.nanobot_rows.specs.declared.report.Report.TheVariants as report
+use Rattle.nanobot_rows.specs.declared.status.Status.{Status}
+use Rattle.nanobot_rows.specs.declared.status.Status.TheVariants as is
+use Rattle.nanobot_rows.specs.Answer.{Answer, AnswerOf, Answers, with_file}
+use Rattle.nanobot_rows.specs.Effects.{IsFor, IsLost, bytes_by, files_with, reply_by, status_by, told_with}
+use Rattle.nanobot_app.specs.Outcome.{DepotRose, Finished, IsAnswer, LacksFile, Outcome, Outside, Printed, RowStores, SinkRose, SparesOthers, StoredBy, Told}
+use Rattle.nanobot_rows.specs.Reading.{reply_of}
+use Rattle.nanobot_rows.specs.Report.{line_of, status_of}
+use Rattle.nanobot_words.specs.Rows.{IsRow, Row}
+use Rattle.nanobot_rows.proofs.Replies.{rose_since}
+use Rattle.nanobot_rows.proofs.Told.{weaker}
 
 not_depot : (s : Status) → IsAnswer s → s ≡ is.Depot → ⊥
 not_depot s a e = subst IsAnswer e a
@@ -41,6 +43,13 @@ is_answer (report.TraceCut offset) = tt
 is_answer (report.TraceLong limit) = tt
 is_answer (report.Text fault) = tt
 is_answer (report.TextLong limit) = tt
+is_answer (report.GroupLong runs rows) = tt
+is_answer (report.Unsupported at) = tt
+is_answer (report.Exercised number resolution full layer group) = tt
+
+is_message : (m : Message) → IsAnswer (status_by m)
+is_message (message.Line report) = is_answer report
+is_message (message.Session lines) = tt
 
 module _ {answers : Answers} {stores : List ℕ → Type 0} (old new : Outside) where
   -- a line is printed, and the files stand as the answer says
@@ -95,7 +104,7 @@ module _ {answers : Answers} {stores : List ℕ → Type 0} (old new : Outside) 
       by (inr printed) = outcome_printed (status_of r) result (line_of r) (is_answer r) stands printed
 
   -- a file could not be stored
-  outcome_lost : (result : Status) → result ≡ is.Depot → DepotRose old new → new.written ≡ old.written → SparesOthers stores old new → Outcome answers stores old new result
+  outcome_lost : (result : Status) → result ≡ is.Depot → DepotRose old new → new.written ≡ old.written → SparesOthers answers stores old new → Outcome answers stores old new result
   outcome_lost result e rose written spared = record {
     answer = λ b. absurd (not_depot result b e);
     depot = λ _. inl rose;
@@ -106,29 +115,37 @@ module _ {answers : Answers} {stores : List ℕ → Type 0} (old new : Outside) 
   }
 
 -- an effect is finished, after files were read
-pub outcome_finished : {answers : Answers} (stored : Option (List ℕ)) (effect : Effect) (old mid new : Outside) (result : Status) → IfSome old.files (λ files. answers files (reply_by files effect)) → IsFor stored effect.file → mid.files ≡ old.files → old.depot_faults ≤ mid.depot_faults
+pub outcome_finished : {answers : Answers} (stored : Option (List ℕ)) (effect : Effect) (old mid new : Outside) (result : Status) → IfSome old.files (λ files. answers files (reply_by files effect)) → IsFor stored effect → mid.files ≡ old.files → old.depot_faults ≤ mid.depot_faults
     → mid.written ≡ old.written → mid.sink_faults ≡ old.sink_faults → Finished effect mid new result → Outcome answers (λ name. stored ≡ Some name) old new result
 outcome_finished {answers} stored effect old mid new result answer for files faults written sink finished = by finished.cases
   where
-    spared : (o : Option NewFile) → IsFor stored o → IsLost o mid.files new.files → SparesOthers (λ name. stored ≡ Some name) old new
-    spared None named lost = inl (lost ∙ files)
-    spared (Some file) named lost = inr (file.name.now, named, lost ∙ ap (λ t. others t file.name.now) files)
+    spared : DepotRose old new → (o : Option NewFile) → IfSome o (λ file. (stored ≡ Some file.name.now) × (status_by effect.message ≡ is.Done)) → IsLost o mid.files new.files → SparesOthers answers (λ name. stored ≡ Some name) old new
+    spared rose None named lost = inl (lost ∙ files)
+    spared rose (Some file) named lost = inr (record {
+      rose = rose;
+      done = weaker old.files (λ files told. (reply_by files effect, told, named.1)) answer;
+      name = file.name.now;
+      stored = named.0;
+      others_are = lost ∙ ap (λ t. others t file.name.now) files;
+    })
 
-    kept : (told : Option Files) (o : Option NewFile) (now : Option Files) → now ≡ told_with told o → IfSome told (λ fs. answers fs (record { status = status_of effect.report; line = line_of effect.report; after = files_with fs o }))
-        → IfSome told (λ fs. (after : Files) × answers fs (record { status = status_of effect.report; line = line_of effect.report; after = after }) × (now ≡ Some after))
+    kept : (told : Option Files) (o : Option NewFile) (now : Option Files) → now ≡ told_with told o → IfSome told (λ fs. answers fs (record { status = status_by effect.message; line = bytes_by effect.message; after = files_with fs o }))
+        → IfSome told (λ fs. (after : Files) × answers fs (record { status = status_by effect.message; line = bytes_by effect.message; after = after }) × (now ≡ Some after))
     kept None o now e h = tt
     kept (Some fs) None now e h = (fs, h, e)
     kept (Some fs) (Some file) now e h = (with_file fs file.name.now file.bytes.items, h, e)
 
     by : ((result ≡ is.Memory) × (new.files ≡ mid.files) × (new.written ≡ mid.written))
         ⊎ (((result ≡ is.Depot) × DepotRose mid new × (new.written ≡ mid.written) × IsLost effect.file mid.files new.files)
-        ⊎ ((new.files ≡ told_with mid.files effect.file) × Printed (status_of effect.report) (line_of effect.report) mid.written new.written mid.sink_faults new.sink_faults result)) → Outcome answers (λ name. stored ≡ Some name) old new result
+        ⊎ ((new.files ≡ told_with mid.files effect.file) × Printed (status_by effect.message) (bytes_by effect.message) mid.written new.written mid.sink_faults new.sink_faults result)) → Outcome answers (λ name. stored ≡ Some name) old new result
     by (inl none) = outcome_memory old new result none.0 (none.1 ∙ files) (none.2 ∙ written)
-    by (inr (inl lost)) = outcome_lost old new result lost.0 (rose_since old.depot_faults mid.depot_faults new.depot_faults faults lost.1) (lost.2 ∙ written) (spared effect.file for lost.3)
+    by (inr (inl lost)) =
+        let rose : DepotRose old new = rose_since old.depot_faults mid.depot_faults new.depot_faults faults lost.1 in
+        outcome_lost old new result lost.0 rose (lost.2 ∙ written) (spared rose effect.file for lost.3)
     by (inr (inr done)) =
-        outcome_printed old new (status_of effect.report) result (line_of effect.report) (is_answer effect.report)
+        outcome_printed old new (status_by effect.message) result (bytes_by effect.message) (is_message effect.message)
         (kept old.files effect.file new.files (done.0 ∙ ap (λ t. told_with t effect.file) files) answer)
-        (subst (λ w. Printed (status_of effect.report) (line_of effect.report) w new.written old.sink_faults new.sink_faults result) written (subst (λ n. Printed (status_of effect.report) (line_of effect.report) mid.written new.written n new.sink_faults result) sink done.1))
+        (subst (λ w. Printed (status_by effect.message) (bytes_by effect.message) w new.written old.sink_faults new.sink_faults result) written (subst (λ n. Printed (status_by effect.message) (bytes_by effect.message) mid.written new.written n new.sink_faults result) sink done.1))
 
 -- an outcome of a row is one of its words
 pub outcome_of_row : (words : List (List ℕ)) (row : Row) (old new : Outside) (result : Status) → IsRow words row → Outcome (AnswerOf row) (RowStores row) old new result → Outcome (Answer words) (StoredBy words) old new result
@@ -149,6 +166,12 @@ outcome_of_row words row old new result written o = record {
         there None h = absurd h
         there (Some files) h = inr (row, written, h)
 
-    spared : SparesOthers (RowStores row) old new → SparesOthers (StoredBy words) old new
+    spared : SparesOthers (AnswerOf row) (RowStores row) old new → SparesOthers (Answer words) (StoredBy words) old new
     spared (inl same) = inl same
-    spared (inr (name, s, kept)) = inr (name, (row, written, s), kept)
+    spared (inr lost) = inr (record {
+      rose = lost.rose;
+      done = weaker old.files (λ files d. (d.0, inr (row, written, d.1), d.2)) lost.done;
+      name = lost.name;
+      stored = (row, written, lost.stored);
+      others_are = lost.others_are;
+    })

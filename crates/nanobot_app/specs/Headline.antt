@@ -8,12 +8,12 @@ use Rattle.nano_spec.specs.Matrix.{Matrix}
 use Rattle.nano_spec.specs.Profile.{full_profile}
 use Rattle.nano_spec.specs.Verdict.{VerdictOf}
 use Rattle.vox_depot.specs.Files.{Files, content}
-use Rattle.nanobot_app.specs.declared.status.Status.{Status}
-use Rattle.nanobot_app.specs.declared.status.Status.TheVariants as is
-use Rattle.nanobot_app.specs.Answer.{run_limit}
-use Rattle.nanobot_app.specs.declared.report.Report.TheVariants as report
-use Rattle.nanobot_app.specs.Reading.{AreModels}
-use Rattle.nanobot_app.specs.Report.{line_of}
+use Rattle.nanobot_rows.specs.declared.status.Status.{Status}
+use Rattle.nanobot_rows.specs.declared.status.Status.TheVariants as is
+use Rattle.nanobot_rows.specs.Answer.{run_limit}
+use Rattle.nanobot_rows.specs.declared.report.Report.TheVariants as report
+use Rattle.nanobot_rows.specs.Reading.{AreModels}
+use Rattle.nanobot_rows.specs.Report.{line_of}
 
 -- the machine of the definitions takes the whole trace from the one model to the other, to a halt, with this energy in so many steps
 abbrev pub TakesBytes : Matrix → Matrix → List ℕ → ℤ → ℕ → Type 0

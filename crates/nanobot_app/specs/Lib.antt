@@ -1,10 +1,3 @@
-pub mod Report
-pub mod Rows
-pub mod Parsing
-pub mod Answer
-pub mod Outcome
-pub mod Reading
-pub mod Effects
 pub mod Headline
-pub mod Touching
+pub mod Outcome
 pub mod Plans

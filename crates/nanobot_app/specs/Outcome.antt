@@ -3,12 +3,14 @@ use Rattle.std.specs.Prelude.{◌≡◌, ◌⊎◌, ℕ, List, [], Option, Some,
 use Rattle.std.specs.Io.KnownBytes.{append_known}
 use Rattle.vox_depot.specs.Causes.{Rose}
 use Rattle.vox_depot.specs.Files.{Files, others}
-use Rattle.nanobot_app.specs.declared.status.Status.{Status}
-use Rattle.nanobot_app.specs.declared.status.Status.TheVariants as is
-use Rattle.nanobot_app.specs.Answer.{Reply, Answers}
-use Rattle.nanobot_app.specs.declared.report.Report.{Report}
-use Rattle.nanobot_app.specs.Report.{line_of, status_of}
-use Rattle.nanobot_app.specs.Rows.{Row, IsRow, stores_of}
+use Rattle.nanobot_rows.specs.declared.status.Status.{Status}
+use Rattle.nanobot_rows.specs.declared.status.Status.TheVariants as is
+use Rattle.nanobot_rows.specs.Answer.{Reply, Answers}
+use Rattle.nanobot_rows.specs.declared.effect.Effect.{Effect}
+use Rattle.nanobot_rows.specs.declared.report.Report.{Report}
+use Rattle.nanobot_rows.specs.Effects.{IsLost, bytes_by, status_by, told_with}
+use Rattle.nanobot_rows.specs.Report.{line_of, status_of}
+use Rattle.nanobot_words.specs.Rows.{Row, IsRow, stores_of}
 
 -- the depot's files and faults, and the sink's bytes and faults
 pub record Outside : Type 0 where
@@ -41,9 +43,21 @@ SinkRose old new = Rose old.sink_faults new.sink_faults
 abbrev pub LacksFile : Answers → Outside → Type 0
 LacksFile answers old = IsSomeAnd old.files (λ files. answers files (record { status = is.Depot; line = []; after = files }))
 
--- all files are as they were, but one that is to be stored
-abbrev pub SparesOthers : (List ℕ → Type 0) → Outside → Outside → Type 0
-SparesOthers stores old new = (new.files ≡ old.files) ⊎ ((name : List ℕ) × stores name × (others new.files name ≡ others old.files name))
+-- where files are told, the call can be done over them
+abbrev pub CanBeDone : Answers → Outside → Type 0
+CanBeDone answers old = IfSome old.files (λ files. (reply : Reply) × answers files reply × (reply.status ≡ is.Done))
+
+-- a file could not be stored: the depot failed where the call can be done, and all files but the one that is stored then are as they were
+pub record LosesFile (answers : Answers) (stores : List ℕ → Type 0) (old new : Outside) : Type 0 where
+  pub rose : DepotRose old new
+  pub done : CanBeDone answers old
+  pub name : List ℕ
+  pub stored : stores name
+  pub others_are : others new.files name ≡ others old.files name
+
+-- all files are as they were, or one could not be stored
+abbrev pub SparesOthers : Answers → (List ℕ → Type 0) → Outside → Outside → Type 0
+SparesOthers answers stores old new = (new.files ≡ old.files) ⊎ LosesFile answers stores old new
 
 -- the whole line was written
 abbrev pub Delivered : Status → Outside → Outside → Reply → Type 0
@@ -57,7 +71,7 @@ pub record Outcome (answers : Answers) (stores : List ℕ → Type 0) (old new :
   pub answer : IsAnswer result → Stands answers old new (Delivered result old new)
   pub depot : result ≡ is.Depot → DepotRose old new ⊎ LacksFile answers old
   pub sink : result ≡ is.Sink → SinkRose old new
-  pub after_depot : result ≡ is.Depot → (new.written ≡ old.written) × SparesOthers stores old new
+  pub after_depot : result ≡ is.Depot → (new.written ≡ old.written) × SparesOthers answers stores old new
   pub after_sink : result ≡ is.Sink → Stands answers old new (DeliveredPart old new)
   pub after_memory : result ≡ is.Memory → (new.files ≡ old.files) × (new.written ≡ old.written)
 
@@ -76,3 +90,9 @@ pub record Told (report : Report) (old new : Option (List ℕ)) (before now : �
 -- the name that the row stores
 abbrev pub RowStores : Row → List ℕ → Type 0
 RowStores row name = stores_of row ≡ Some name
+
+-- what was done of an effect: nothing for want of memory; or the file was not stored; or it was, and the line was put
+pub record Finished (effect : Effect) (old new : Outside) (result : Status) : Type 0 where
+  pub cases : ((result ≡ is.Memory) × (new.files ≡ old.files) × (new.written ≡ old.written))
+      ⊎ (((result ≡ is.Depot) × DepotRose old new × (new.written ≡ old.written) × IsLost effect.file old.files new.files)
+      ⊎ ((new.files ≡ told_with old.files effect.file) × Printed (status_by effect.message) (bytes_by effect.message) old.written new.written old.sink_faults new.sink_faults result))

@@ -1,14 +1,18 @@
 //! The laws of the answers.
-ghost use Rattle.std.specs.Prelude.{◌≡◌, ◌≢◌, ℕ, List, Option, Some};
+ghost use Rattle.std.specs.Prelude.{◌≡◌, ◌≢◌, ℕ, List, Option, Some, None};
+ghost use Rattle.nano_spec.specs.Profile.{full_profile, light_profile};
 ghost use Rattle.vox_depot.specs.Files.{Files};
-ghost use Rattle.nanobot_app.specs.Answer.{Answer, AnswerOf, AskNoPlan, Reply};
+ghost use Rattle.nanobot_rows.specs.Answer.{Answer, AnswerOf, AskNoPlan, Reply};
 ghost use Rattle.nanobot_app.specs.Plans.{IsRunOfPlan};
-ghost use Rattle.nanobot_app.specs.Rows.{plan_layer};
-ghost use Rattle.nanobot_app.specs.declared.status.Status.TheVariants as status;
+ghost use Rattle.nanobot_words.specs.Rows.{plan_group, plan_layer, plan_low, plan_swarm, plan_void};
+ghost use Rattle.nanobot_rows.specs.declared.status.Status.TheVariants as status;
 
+use debug_script::{one_script, one_text};
+use low_planner::one_unsupported;
 use nano_spec::{a_model_is_whole, one_decoding, one_legality, one_verdict};
+use nanobot_words::one_row;
 
-/// Words have one status at most over the same files; where they ask for no plan, they have one answer at most.
+/// Words have one status at most over the same files; where they ask for no plans, they have one answer at most.
 pub fn one_answer()
     ensures status { (words : List (List ℕ)) (files : Files) (r s : Reply) → Answer words files r → Answer words files s → r.status ≡ s.status }
     ensures answer { (words : List (List ℕ)) (files : Files) (r s : Reply) → AskNoPlan words → Answer words files r → Answer words files s → r ≡ s }
@@ -16,13 +20,26 @@ pub fn one_answer()
     one_decoding();
     one_legality();
     one_verdict();
+    one_unsupported();
+    one_row();
+    one_script();
+    one_text();
 }
 
 /// A plan that was stored under a name of its own is accepted by `run` over the files that it left, with the energy and
-/// the steps that were printed.
+/// the steps that were printed, one of the low planner or of the swarm also by `run light`.
 pub fn a_plan_is_accepted()
-    ensures { (source target : Option (List ℕ)) (trace : List ℕ) (files : Files) (reply : Reply) → (source ≡ Some trace → ⊥) → (target ≡ Some trace → ⊥)
-        → AnswerOf (plan_layer source target trace) files reply → reply.status ≡ status.Done → IsRunOfPlan source target trace reply }
+    ensures layer { (source target : Option (List ℕ)) (trace : List ℕ) (files : Files) (reply : Reply) → (source ≡ Some trace → ⊥) → (target ≡ Some trace → ⊥)
+        → AnswerOf (plan_layer source target trace) files reply → reply.status ≡ status.Done → IsRunOfPlan full_profile source target trace reply }
+    ensures group { (source target : Option (List ℕ)) (trace : List ℕ) (files : Files) (reply : Reply) → (source ≡ Some trace → ⊥) → (target ≡ Some trace → ⊥)
+        → AnswerOf (plan_group source target trace) files reply → reply.status ≡ status.Done → IsRunOfPlan full_profile source target trace reply }
+    ensures void { (source trace : List ℕ) (files : Files) (reply : Reply) → (source ≡ trace → ⊥) → AnswerOf (plan_void source trace) files reply → reply.status ≡ status.Done → IsRunOfPlan full_profile (Some source) None trace reply }
+    ensures low { (target trace : List ℕ) (files : Files) (reply : Reply) → (target ≡ trace → ⊥) → AnswerOf (plan_low target trace) files reply → reply.status ≡ status.Done → IsRunOfPlan full_profile None (Some target) trace reply }
+    ensures low_as_light { (target trace : List ℕ) (files : Files) (reply : Reply) → (target ≡ trace → ⊥) → AnswerOf (plan_low target trace) files reply → reply.status ≡ status.Done → IsRunOfPlan light_profile None (Some target) trace reply }
+    ensures swarm { (target trace : List ℕ) (files : Files) (reply : Reply) → (target ≡ trace → ⊥) → AnswerOf (plan_swarm target trace) files reply → reply.status ≡ status.Done
+        → IsRunOfPlan full_profile None (Some target) trace reply }
+    ensures swarm_as_light { (target trace : List ℕ) (files : Files) (reply : Reply) → (target ≡ trace → ⊥) → AnswerOf (plan_swarm target trace) files reply → reply.status ≡ status.Done
+        → IsRunOfPlan light_profile None (Some target) trace reply }
 {
     a_model_is_whole();
 }

@@ -1,21 +1,17 @@
 //! The top call.
 ghost use Rattle.std.specs.Prelude.{◌≡◌, ◌⊎◌, ◌≤◌, ℕ, ℤ, List, Option, Some, [], All, IfSome, IsSomeAnd};
 ghost use Rattle.vox_depot.specs.Causes.{Rose};
-ghost use Rattle.nanobot_app.specs.Answer.{Answer, AnswerOf, Reply};
-ghost use Rattle.nanobot_app.specs.Effects.{Finished, MayKeep};
+ghost use Rattle.nanobot_rows.specs.Answer.{Answer, AnswerOf, Reply};
+ghost use Rattle.nanobot_rows.specs.Effects.{MayKeep, bytes_by};
 ghost use Rattle.nanobot_app.specs.Headline.{IsDoneWith, Takes};
-ghost use Rattle.nanobot_app.specs.Parsing.{row_of};
-ghost use Rattle.nanobot_app.specs.Outcome.{Delivered, DeliveredPart, IsAnswer, Outcome, SparesOthers, Stands, Printed, RowStores, StoredBy, Told, outside};
-ghost use Rattle.nanobot_app.specs.Rows.{IsInNoRow, IsOfTable, IsRow, MayRead, MayStore, Row as RowOf, reads_of, run as run_of, stores_of, texts};
-ghost use Rattle.nanobot_app.specs.Touching.{IsRowWithin};
+ghost use Rattle.nanobot_words.specs.Parsing.{row_of};
+ghost use Rattle.nanobot_app.specs.Outcome.{Delivered, DeliveredPart, Finished, IsAnswer, Outcome, SparesOthers, Stands, Printed, RowStores, StoredBy, Told, outside};
+ghost use Rattle.nanobot_words.specs.Rows.{IsInNoRow, IsOfTable, IsRow, MayRead, MayStore, Row as RowOf, reads_of, run as run_of, stores_of, texts};
+ghost use Rattle.nanobot_rows.specs.Touching.{IsRowWithin};
 
-use crate::effect::Effect;
 use crate::laws::one_answer;
-use crate::report::Report;
-use crate::rows::answer;
-use crate::status::Status;
-use crate::stop::Stop;
-use crate::words::{Row, parse};
+use nanobot_rows::{Effect, Message, Report, Status, Stop, answer};
+use nanobot_words::{Row, one_row, parse};
 use std::alloc::Global;
 use std::sync::ledger::Ledger;
 use vox_depot::{Depot, Sink, SinkFault};
@@ -41,8 +37,28 @@ fn tell<O: Sink>(alloc: Global, out: &mut O, report: &Report) -> Status
     print(out, report.status(), line.as_bytes())
 }
 
-/// Stores the file of the effect, if there is one, and then writes the line of its report. The memory for the line is
-/// taken first.
+/// Stores the file of the effect, if there is one, and then writes these bytes of its message.
+fn store_and_print<D: Depot, O: Sink>(
+    depot: &mut D,
+    out: &mut O,
+    effect: &Effect<'_>,
+    bytes: &[u8],
+) -> Status
+    requires may_store { MayKeep D.may_store effect.now.file }
+    requires bytes { bytes.now ≡ bytes_by effect.now.message }
+    ensures finished { Finished effect.now
+        (outside D.files D.faults O.written O.faults depot.old out.old)
+        (outside D.files D.faults O.written O.faults depot.new out.new) result }
+    ensures later { D.faults depot.old ≤ D.faults depot.new }
+{
+    if effect.keep(depot).is_err() {
+        return Status::Depot;
+    }
+    print(out, effect.message.status(), bytes)
+}
+
+/// Stores the file of the effect, if there is one, and then writes its message. The memory for a report's line is taken
+/// first.
 fn finish<D: Depot, O: Sink>(
     alloc: Global,
     depot: &mut D,
@@ -55,13 +71,15 @@ fn finish<D: Depot, O: Sink>(
         (outside D.files D.faults O.written O.faults depot.new out.new) result }
     ensures later { D.faults depot.old ≤ D.faults depot.new }
 {
-    let Ok(line) = effect.report.line(alloc) else {
-        return Status::Memory;
-    };
-    if effect.keep(depot).is_err() {
-        return Status::Depot;
+    match &effect.message {
+        Message::Line(report) => {
+            let Ok(line) = report.line(alloc) else {
+                return Status::Memory;
+            };
+            store_and_print(depot, out, effect, line.as_bytes())
+        }
+        Message::Session(lines) => store_and_print(depot, out, effect, lines.as_slice()),
     }
-    print(out, effect.report.status(), line.as_bytes())
 }
 
 /// Does what the row asks for.
@@ -106,6 +124,7 @@ fn run<D: Depot, O: Sink, L: Ledger>(
     ensures in_no_row { IsInNoRow (texts words.now) → (result ≡ Status.Words) ⊎ (result ≡ Status.Sink) }
     ensures within { (row : RowOf) → IsRow (texts words.now) row → (result ≡ Status.Memory → ⊥) → IsRowWithin row (D.files depot.old) steps.old steps.new }
 {
+    one_row();
     match parse(words) {
         None => print(out, Status::Words, b"words not understood\n"),
         Some(row) => run_row(alloc, row, depot, out, steps),
@@ -160,7 +179,7 @@ pub fn drive<D: Depot, O: Sink, L: Ledger>(
 
     // What stands after a fault and after want of memory.
     ensures nothing_written { result ≡ Status.Depot → O.written out.new ≡ O.written out.old }
-    ensures others_stay { result ≡ Status.Depot → SparesOthers (StoredBy (texts words.now))
+    ensures others_stay { result ≡ Status.Depot → SparesOthers (Answer (texts words.now)) (StoredBy (texts words.now))
         (outside D.files D.faults O.written O.faults depot.old out.old)
         (outside D.files D.faults O.written O.faults depot.new out.new) }
     ensures part_written { result ≡ Status.Sink → Stands (Answer (texts words.now))
@@ -174,6 +193,7 @@ pub fn drive<D: Depot, O: Sink, L: Ledger>(
     // A run makes at most a hundred touches for each voxel of its source and for each part of the work of its trace.
     ensures touches { (row : RowOf) → IsRow (texts words.now) row → (result ≡ Status.Memory → ⊥) → IsRowWithin row (D.files depot.old) steps.old steps.new }
 {
+    one_row();
     one_answer();
     run(alloc, words, depot, out, steps)
 }

@@ -3,7 +3,7 @@ use crate::table::{Row, assert_rows};
 use nanobot_app::Status;
 use std::test::Fail;
 
-const CHECKED: [Row; 15] = [
+const CHECKED: [Row; 16] = [
     (
         "check B",
         &[0x03, 0x00, 0x00, 0x00, 0xF8],
@@ -60,6 +60,12 @@ const CHECKED: [Row; 15] = [
         &[0xFF, 0x00, 0xFA],
         Status::Model,
         "model 9 WideResolution 250\n",
+    ),
+    (
+        "check B",
+        &[0xFF, 0x01, 0x91],
+        Status::Model,
+        "model 9 WideResolution 401\n",
     ),
     (
         "check B",

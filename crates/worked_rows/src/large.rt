@@ -38,7 +38,7 @@ fn full_plane(alloc: Global) -> Result<Vec<u8>, Fail> {
 }
 
 /// The model of resolution 100 in which all of the legal box is full.
-fn full_box(alloc: Global) -> Result<Vec<u8>, Fail> {
+pub fn full_box(alloc: Global) -> Result<Vec<u8>, Fail> {
     let plane = full_plane(alloc)?;
     let mut bytes = empty_model(alloc, 100, 1_251)?;
     for _ in 0..98 {
@@ -100,7 +100,8 @@ fn the_greatest_first_form(rt: HostRuntime) -> Result<(), Fail> {
     assert_run(&rt, alloc, "run G - B", (&model, &[0xFF]), expected)
 }
 
-/// A step's grounding is judged by what the step changes: a flood of the model after each step would take hours.
+/// A step's grounding is judged by what the step changes: a flood of the model after each step would take hours. The gate stops a
+/// test after 60 seconds, so this is a test of that limit.
 #[test]
 fn two_million_steps_on_a_full_model(rt: HostRuntime) -> Result<(), Fail> {
     let alloc = rt.alloc();

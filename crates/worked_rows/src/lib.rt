@@ -7,11 +7,15 @@ mod checks;
 #[cfg(test)]
 mod faults;
 #[cfg(test)]
+mod hostile;
+#[cfg(test)]
 mod large;
 #[cfg(test)]
 mod plans;
 #[cfg(test)]
 mod runs;
+#[cfg(test)]
+mod sessions;
 #[cfg(test)]
 mod stores;
 #[cfg(test)]

@@ -1,4 +1,5 @@
 //! Plans that are stored, and then run.
+use crate::large::full_box;
 use crate::table::{answer, depot, words};
 use nanobot_app::Status;
 use std::alloc::Global;
@@ -58,40 +59,97 @@ fn accepted(alloc: Global, planned: &[u8]) -> Result<Vec<u8>, Fail> {
     Ok(line)
 }
 
-/// What is planned between the two models is accepted by `run`, with the energy and the steps that were printed.
+/// The number of steps in a plan's line: its fifth word.
+fn steps_of(planned: &[u8]) -> Option<u32> {
+    let line = str::from_utf8(planned).ok()?;
+    line.split(' ').nth(4)?.parse().ok()
+}
+
+/// A plan: the planner's word, the two models, the words of the runs that accept it, and the most steps that it may have.
+type Planned = (&'static str, &'static str, &'static [&'static str], u32);
+
+/// The most steps of the plans of the house are those of the planners' bounds: it has 388 full voxels, 90 rows and 154 runs.
+const PLANS: [Planned; 9] = [
+    ("layer", "- HOUSE", &["run"], 64_200),
+    ("layer", "HOUSE -", &["run"], 64_200),
+    ("layer", "- WP", &["run"], u32::MAX),
+    ("group", "- HOUSE", &["run"], 20_032),
+    ("group", "HOUSE -", &["run"], 20_032),
+    ("group", "- WP", &["run"], u32::MAX),
+    ("void", "HOUSE -", &["run"], 520),
+    ("low", "- HOUSE", &["run", "run light"], 9_752),
+    ("swarm", "- HOUSE", &["run", "run light"], 3_760),
+];
+
+/// What is planned between two models is accepted by the runs, with the energy and the steps that were printed.
 fn assert_planned(
     rt: &impl Abort,
     alloc: Global,
     depot: &mut MemoryDepot,
-    models: &str,
+    plan: &Planned,
 ) -> Result<(), Fail> {
-    let plan = format!(in alloc; "plan layer {models} B")?;
-    let run = format!(in alloc; "run {models} B")?;
-    let planned = printed(rt, alloc, depot, plan.as_str(), Status::Done)?;
-    let ran = printed(rt, alloc, depot, run.as_str(), Status::Done)?;
+    let (planner, models, runs, most) = *plan;
+    let line = format!(in alloc; "plan {planner} {models} B")?;
+    let planned = printed(rt, alloc, depot, line.as_str(), Status::Done)?;
     let expected = accepted(alloc, &planned)?;
-    assert_eq!(rt; ran.as_slice(), expected.as_slice(), "at {}", models);
+    assert!(rt;
+        steps_of(&planned).is_some_and(|steps| steps <= most),
+        "at {}",
+        line
+    );
+    for run in runs {
+        let line = format!(in alloc; "{run} {models} B")?;
+        let ran = printed(rt, alloc, depot, line.as_str(), Status::Done)?;
+        assert_eq!(rt; ran.as_slice(), expected.as_slice(), "at {}", line);
+    }
     Ok(())
 }
 
 #[test]
-fn a_house(rt: HostRuntime) -> Result<(), Fail> {
+fn a_house_and_a_wide_model(rt: HostRuntime) -> Result<(), Fail> {
     let alloc = rt.alloc();
     let mut depot = depot(alloc, &[])?;
     depot.put_file("HOUSE", &house(alloc)?)?;
     let checked = printed(&rt, alloc, &mut depot, "check HOUSE", Status::Done)?;
-    assert_eq!(rt;
-        checked.as_slice(),
-        b"legal resolution 20 full 388\n".as_slice()
-    );
-    assert_planned(&rt, alloc, &mut depot, "- HOUSE")?;
-    assert!(rt; depot.file("B").is_some_and(|trace| trace.len() <= 64_200));
-    assert_planned(&rt, alloc, &mut depot, "HOUSE -")
+    let legal = b"legal resolution 20 full 388\n".as_slice();
+    assert_eq!(rt; checked.as_slice(), legal);
+    for plan in &PLANS {
+        assert_planned(&rt, alloc, &mut depot, plan)?;
+    }
+    Ok(())
 }
 
+/// Up to twenty bots build a full model, under the light profile alone.
 #[test]
-fn a_wide_model(rt: HostRuntime) -> Result<(), Fail> {
+fn a_full_model_by_a_swarm(rt: HostRuntime) -> Result<(), Fail> {
     let alloc = rt.alloc();
     let mut depot = depot(alloc, &[])?;
-    assert_planned(&rt, alloc, &mut depot, "- WP")
+    depot.put_file("FULL", &full_box(alloc)?)?;
+    assert_planned(
+        &rt,
+        alloc,
+        &mut depot,
+        &("swarm", "- FULL", &["run light"], 202_800),
+    )
+}
+
+/// The plans of a forged model are the same at each run, and what is told of them is what is told where each is stored.
+#[test]
+fn an_exercise(rt: HostRuntime) -> Result<(), Fail> {
+    let alloc = rt.alloc();
+    let mut depot = depot(alloc, &[])?;
+    let first = printed(&rt, alloc, &mut depot, "exercise 7 100", Status::Done)?;
+    let second = printed(&rt, alloc, &mut depot, "exercise 7 100", Status::Done)?;
+    assert_eq!(rt; first.as_slice(), second.as_slice());
+    printed(&rt, alloc, &mut depot, "make 7 100 M", Status::Done)?;
+    let layer = printed(&rt, alloc, &mut depot, "plan layer - M B", Status::Done)?;
+    let group = printed(&rt, alloc, &mut depot, "plan group - M B", Status::Done)?;
+    let told = str::from_utf8(&first)?;
+    for (word, plan) in [("layer", &layer), ("group", &group)] {
+        let costs = accepted(alloc, plan)?;
+        let costs = str::from_utf8(&costs)?;
+        let told_so = format!(in alloc; "{word} {}", costs.trim_start_matches("ok ").trim_end())?;
+        assert!(rt; told.contains(told_so.as_str()), "at {}", told_so);
+    }
+    Ok(())
 }

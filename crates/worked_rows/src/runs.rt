@@ -226,7 +226,7 @@ const BROKEN: [Row; 20] = [
 ];
 
 /// Traces and words that are refused. A bad byte wins over a broken step.
-const REFUSED: [Row; 11] = [
+const REFUSED: [Row; 13] = [
     ("run E3 E3 B", &[0x04], Status::Trace, "trace bad at 0\n"),
     ("run E3 E3 B", &[0x03], Status::Trace, "trace bad at 0\n"),
     ("run E3 E3 B", &[0x14], Status::Trace, "trace cut at 0\n"),
@@ -257,11 +257,13 @@ const REFUSED: [Row; 11] = [
     ),
     ("run - - B", &[], Status::Words, "words not understood\n"),
     ("run E3 E3 -", &[], Status::Words, "words not understood\n"),
+    ("run A B", &[], Status::Words, "words not understood\n"),
+    ("plan", &[], Status::Words, "words not understood\n"),
     ("", &[], Status::Words, "words not understood\n"),
 ];
 
 /// Runs under the light profile.
-const LIGHT: [Row; 4] = [
+const LIGHT: [Row; 5] = [
     (
         "run light - P3 B",
         &[0x14, 0x10, 0x73, 0x14, 0x0E, 0xFF],
@@ -283,6 +285,12 @@ const LIGHT: [Row; 4] = [
     (
         "run light E3 E3 B",
         &[0x71, 0x1E, 0x1E, 0x1D],
+        Status::Broken,
+        "broken 15 Forbidden step 1 bid 1 at 0 0 0\n",
+    ),
+    (
+        "run light POSTS ARCH B",
+        &[0xBA, 0xFF],
         Status::Broken,
         "broken 15 Forbidden step 1 bid 1 at 0 0 0\n",
     ),

@@ -23,7 +23,7 @@ const TRACE: &[u8] = &[0x14, 0x10, 0x73, 0x14, 0x0E, 0xFF];
 const LOOSE_TEXT: &[u8] =
     b"# four commands\r\n\r\n\tSMove < 1 ,0,\t00>\r\n  \nFill<0,0,1> # beside\nSMove <-1,0,0>\t\r\nHalt";
 
-const STORING: [Storing; 10] = [
+const STORING: [Storing; 14] = [
     Storing {
         words: "asm B C",
         bytes: TEXT,
@@ -88,6 +88,34 @@ const STORING: [Storing; 10] = [
         stored: &[],
     },
     Storing {
+        words: "plan group P3 P3 B",
+        bytes: &[],
+        printed: "plan energy 101 steps 1 commands 1 bytes 1\n",
+        name: "B",
+        stored: &[0xFF],
+    },
+    Storing {
+        words: "plan void E3 - C",
+        bytes: &[],
+        printed: "plan energy 101 steps 1 commands 1 bytes 1\n",
+        name: "C",
+        stored: &[0xFF],
+    },
+    Storing {
+        words: "plan low - E3 C",
+        bytes: &[],
+        printed: "plan energy 101 steps 1 commands 1 bytes 1\n",
+        name: "C",
+        stored: &[0xFF],
+    },
+    Storing {
+        words: "plan swarm - E3 C",
+        bytes: &[],
+        printed: "plan energy 101 steps 1 commands 1 bytes 1\n",
+        name: "C",
+        stored: &[0xFF],
+    },
+    Storing {
         words: "plan layer P3 P3 B",
         bytes: &[],
         printed: "plan energy 101 steps 1 commands 1 bytes 1\n",
@@ -97,7 +125,7 @@ const STORING: [Storing; 10] = [
 ];
 
 /// Texts, traces and words that are refused.
-const REFUSED: [Row; 25] = [
+const REFUSED: [Row; 37] = [
     (
         "asm B C",
         b"Jump\n",
@@ -161,6 +189,68 @@ const REFUSED: [Row; 25] = [
     ),
     ("plan P3 - C", &[], Status::Words, "words not understood\n"),
     (
+        "plan void P3 P3 C",
+        &[],
+        Status::Words,
+        "words not understood\n",
+    ),
+    (
+        "plan void - - C",
+        &[],
+        Status::Words,
+        "words not understood\n",
+    ),
+    (
+        "plan low P3 P3 C",
+        &[],
+        Status::Words,
+        "words not understood\n",
+    ),
+    (
+        "plan swarm P3 - C",
+        &[],
+        Status::Words,
+        "words not understood\n",
+    ),
+    (
+        "plan low - HOOK C",
+        &[],
+        Status::Unsupported,
+        "unsupported at 3 1 1\n",
+    ),
+    (
+        "plan void B - C",
+        &[0x03, 0x01, 0x00, 0x00, 0x00],
+        Status::Model,
+        "source 6 Border at 0 0 0\n",
+    ),
+    (
+        "plan low - B C",
+        &[0x03, 0x00, 0x20, 0x00, 0x00],
+        Status::Model,
+        "target 7 Floating at 1 1 1\n",
+    ),
+    ("plan swarm - B C", &[], Status::Model, "target 1 NoByte\n"),
+    ("plan void X - C", &[], Status::Depot, ""),
+    (
+        "exercise 1 401",
+        &[],
+        Status::Words,
+        "words not understood\n",
+    ),
+    (
+        "exercise 1 3",
+        &[],
+        Status::Done,
+        "exercise number 1 resolution 3 full 0 layer energy 101 steps 1 group energy 101 steps 1\n",
+    ),
+    (
+        "check HOOK",
+        &[],
+        Status::Done,
+        "legal resolution 5 full 6\n",
+    ),
+    (
         "plan layer E3 E4 C",
         &[],
         Status::Model,
@@ -218,6 +308,15 @@ const HALF: Storing = Storing {
     stored: TRACE,
 };
 
+/// A plan that could not be stored.
+const NO_PLAN: Storing = Storing {
+    words: "plan layer P3 P3 C",
+    bytes: TRACE,
+    printed: "",
+    name: "B",
+    stored: TRACE,
+};
+
 /// A file that could not be stored: there is no line, and the other files stand.
 const LOST: Storing = Storing {
     words: "dis B C",
@@ -230,5 +329,6 @@ const LOST: Storing = Storing {
 #[test]
 fn stores_and_lines_that_fail(rt: HostRuntime) -> Result<(), Fail> {
     assert_stored(&rt, rt.alloc(), &HALF, &[], &[0], Status::Sink)?;
+    assert_stored(&rt, rt.alloc(), &NO_PLAN, &[4], &[], Status::Depot)?;
     assert_stored(&rt, rt.alloc(), &LOST, &[2], &[], Status::Depot)
 }

@@ -1,14 +1,13 @@
 use Rattle.std.proofs.Common.{◌≡◌, inl, refl, subst, codes, Some}
 use Rattle.std.specs.Prelude.{IfSome}
 use Rattle.vox_depot.specs.Files.{Files}
-use Rattle.nanobot_app.specs.Answer.{Answer}
-use Rattle.nanobot_app.specs.Report.{words_line}
-use Rattle.nanobot_app.specs.Rows.{Row, texts}
-use Rattle.nanobot_app.specs.Touching.{IsRowWithin}
-use Rattle.nanobot_app.specs.declared.status.Status.TheVariants as is
-use Rattle.nanobot_app.proofs.Determined.{row_once}
+use Rattle.nanobot_rows.specs.Answer.{Answer}
+use Rattle.nanobot_rows.specs.Report.{words_line}
+use Rattle.nanobot_words.specs.Rows.{Row, texts}
+use Rattle.nanobot_rows.specs.Touching.{IsRowWithin}
+use Rattle.nanobot_rows.specs.declared.status.Status.TheVariants as is
 use Rattle.nanobot_app.proofs.Outcomes.{outcome_of_row, outcome_printed}
-use Rattle.nanobot_app.proofs.Told.{if_some}
+use Rattle.nanobot_rows.proofs.Told.{if_some}
 use Rattle.nanobot_app.proofs.top_call.run.Goals as goal
 
 pub returns-in-None-clause-outcome : goal.returns-in-None-clause-outcome
@@ -29,4 +28,4 @@ returns-in-None-clause-within g c = λ row is no_memory. absurd (c.in-None.ensur
 
 pub returns-in-Some-clause-within : goal.returns-in-Some-clause-within
 returns-in-Some-clause-within g c = λ row is no_memory.
-    subst (λ (x : Row). IsRowWithin x (g.D.Depot.files c.args.depot.now) c.args.steps.now c.run_row.new.steps) (row_once (texts c.args.words.now) _ row c.in-Some.ensures is) (c.run_row.ensures.within no_memory)
+    subst (λ (x : Row). IsRowWithin x (g.D.Depot.files c.args.depot.now) c.args.steps.now c.run_row.new.steps) (c.one_row.ensures (texts c.args.words.now) _ row c.in-Some.ensures is) (c.run_row.ensures.within no_memory)

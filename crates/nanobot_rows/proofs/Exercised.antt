@@ -1,0 +1,46 @@
+-- The answers of `exercise`.
+use Rattle.std.proofs.Common.{◌≡◌, ◌∙◌, ◌+◌, ◌*◌, ◌≤◌, ℕ, List, sym, ap, subst, arith}
+use Rattle.std.specs.Prelude.{ℤ, Option, Result, Ok, Err, IfSome}
+use Rattle.nano_spec.specs.declared.commands.Command.{Command}
+use Rattle.nano_spec.specs.Forge.{forged}
+use Rattle.nano_spec.specs.Matrix.{Matrix, empty}
+use Rattle.nano_spec.specs.Model.{volume}
+use Rattle.vox_depot.specs.Files.{Files}
+use Rattle.nanobot_rows.specs.declared.report.Cost.{Cost}
+use Rattle.nanobot_rows.specs.declared.report.Report.{Report}
+use Rattle.nanobot_rows.specs.declared.report.Report.TheVariants.{Exercised}
+use Rattle.nanobot_rows.specs.declared.stop.Stop.{Stop}
+use Rattle.nanobot_rows.specs.declared.stop.Stop.TheVariants as stop
+use Rattle.nanobot_words.specs.Rows.{exercise}
+use Rattle.nanobot_rows.specs.Answer.{AnswerOf, Answers, Costs, full_count}
+use Rattle.nanobot_rows.specs.Effects.{Finishes, alone}
+use Rattle.nanobot_rows.specs.Planners.{IsGroupPlan, IsLayerPlan, PlanFacts}
+use Rattle.nanobot_rows.specs.Reading.{Ends, reply_of}
+use Rattle.nanobot_rows.proofs.Told.{if_some}
+
+-- a report alone finishes as it ends
+pub ends_finish : (answers : Answers) (told : Option Files) (rose : Type 0) (r : Result Report Stop) → Ends answers told rose r → Finishes answers told rose (alone r)
+ends_finish answers told rose (Ok report) h = h
+ends_finish answers told rose (Err (stop.Told report)) h = h
+ends_finish answers told rose (Err stop.Depot) h = h
+ends_finish answers told rose (Err stop.Memory) h = h
+
+-- both plans cost what is told
+pub exercised : (told : Option Files) (number resolution full : ℕ) (target : Matrix) (layer group : Cost) → target ≡ forged number resolution → Costs IsLayerPlan target layer → Costs IsGroupPlan target group → full ≡ full_count target
+    → IfSome told (λ files. AnswerOf (exercise number resolution) files (reply_of files (Exercised number resolution full layer group)))
+exercised told number resolution full target layer group e l g f =
+    if_some told (λ files _. (
+      layer,
+      group,
+      subst (λ (m : Matrix). Costs IsLayerPlan m layer) e l,
+      subst (λ (m : Matrix). Costs IsGroupPlan m group) e g,
+      ap (λ (n : ℕ). reply_of files (Exercised number resolution n layer group)) (f ∙ ap full_count e),
+    ))
+
+pub cubes : (r size : ℕ) → size ≤ 8 * r * r * r + 200 → size ≤ 8 * volume r + 200
+cubes r size h = omega (arith, h)
+
+-- a plan from the empty model of this resolution
+pub costs_of : (Is : PlanFacts) (r : ℕ) (nothing target : Matrix) (commands : List Command) (energy : ℤ) (steps : ℕ) (cost : Cost) → nothing ≡ empty r → target.resolution ≡ r → Is nothing target commands energy steps → cost ≡ record { energy = energy; steps = steps } → Costs Is target cost
+costs_of Is r nothing target commands energy steps cost e same is c =
+    (commands, subst (λ (k : Cost). Is (empty target.resolution) target commands k.energy k.steps) (sym c) (subst (λ (m : Matrix). Is m target commands energy steps) (e ∙ ap empty (sym same)) is))

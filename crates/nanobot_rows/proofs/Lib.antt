@@ -1,0 +1,11 @@
+pub mod Cut
+pub mod Debugged
+pub mod Empty
+pub mod Exercised
+pub mod Loads
+pub mod Paying
+pub mod Replies
+pub mod Running
+pub mod Stored
+pub mod Told
+pub mod Tracing

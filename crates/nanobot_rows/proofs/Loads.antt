@@ -1,0 +1,145 @@
+-- What a file that was loaded says, of which one byte past the limit was asked for.
+use Rattle.std.proofs.Common.{◌≡◌, ℕ, ◌+◌, ◌<◌, ◌≤◌, ◌∙◌, Global, List, [], ◌∷◌, length, take, refl, sym, ap, subst, arith, true, false, nat_lt}
+use Rattle.std.specs.Prelude.{Option, Result, Ok, Err, MatchBool, IfSome}
+use Rattle.std.proofs.lemmas.Bool.Decides.{nat_tests}
+use Rattle.std.proofs.lemmas.List.{length-append, length-take, take_all}
+use Rattle.nano_spec.specs.declared.commands.Command.{Command}
+use Rattle.nano_spec.specs.declared.commands.Command.TheVariants.{Halt, Wait, Flip, SMove, LMove, FusionP, FusionS, Fission, Fill, Void, GFill, GVoid}
+use Rattle.nano_spec.specs.Spelling.{spelling, spellings}
+use Rattle.nano_spec.specs.Cutting.{BadAt, CutAt, Cutting, Decoding, NoTrace}
+use Rattle.nano_spec.specs.Line as line
+use Rattle.nano_spec.specs.Reading.{FaultyLine, read}
+use Rattle.trace_codec.specs.declared.fault.TraceFault.{TraceFault}
+use Rattle.trace_codec.specs.declared.fault.TraceFault.TheVariants as trace
+use Rattle.trace_codec.specs.Whole.{Decodes}
+use Rattle.trace_text.specs.declared.fault.TextFault.{TextFault}
+use Rattle.trace_text.specs.declared.fault.TextFault.TheVariants as text
+use Rattle.trace_text.specs.Text as said
+use Rattle.vox_depot.specs.Files.{Files, IfTold}
+use Rattle.nanobot_rows.specs.declared.report.Report.{Report}
+use Rattle.nanobot_rows.specs.declared.report.Report.TheVariants.{TextLong, TraceLong}
+use Rattle.debug_script.specs.Calls as script
+use Rattle.debug_script.specs.Calls.{lines_are}
+use Rattle.debug_script.specs.Script.{ScriptSays}
+use Rattle.debug_script.specs.declared.line.ScriptLine.{ScriptLine}
+use Rattle.nanobot_rows.specs.Answer.{dis_limit, script_limit, text_limit}
+use Rattle.nanobot_rows.specs.Reading.{IsScriptOf, IsTextOf, IsTraceOf, Lacks, Reads, RefusesDecoding, RefusesLines, RefusesReading, RefusesScript, RefusesText, RefusesTrace, of_text, of_trace}
+use Rattle.nanobot_rows.specs.Report.{faulty_text, no_trace}
+use Rattle.nanobot_rows.proofs.Told.{told_weaker}
+
+longer : (limit size : ℕ) → limit < size → nat_lt limit size ≡ true
+longer limit size h = grind (arith, nat_tests)
+
+pub not_longer : (limit size : ℕ) → size ≤ limit → nat_lt limit size ≡ false
+not_longer limit size h = grind (arith, nat_tests)
+
+module _ (told : Option Files) (name v : List ℕ) (limit most : ℕ) (one_more : most ≡ limit + 1) (loaded : IfTold told name (λ file. v ≡ take most file)) where
+  too_long : limit < length v → IfTold told name (λ file. nat_lt limit (length file) ≡ true)
+  too_long l = told_weaker told name _ _ (λ file e. longer limit (length file) (more file e)) loaded
+    where
+      more : (file : List ℕ) → v ≡ take most file → limit < length file
+      more file e = let n = ap length e ∙ length-take most file in omega arith
+
+  is_whole : length v ≤ limit → IfTold told name (λ file. (length file ≤ limit) × (file ≡ v))
+  is_whole l = told_weaker told name _ _ (λ file e. (few file e, sym (e ∙ take_all most file (less file e)))) loaded
+    where
+      few : (file : List ℕ) → v ≡ take most file → length file ≤ limit
+      few file e = let n = ap length e ∙ length-take most file in omega arith
+
+      less : (file : List ℕ) → v ≡ take most file → length file ≤ most
+      less file e = let n = few file e in omega arith
+
+-- ---- texts
+
+module _ (told : Option Files) (name v : List ℕ) (most : ℕ) (one_more : most ≡ text_limit + 1) (loaded : IfTold told name (λ file. v ≡ take most file)) where
+  abbrev Refuses : Report → List ℕ → Type 0
+  Refuses report file = MatchBool (nat_lt text_limit (length file)) (report ≡ TextLong text_limit) (RefusesReading (read file) report)
+
+  pub text_too_long : text_limit < length v → IfSome told (λ files. RefusesText name files (TextLong text_limit))
+  text_too_long l = told_weaker told name _ _ (λ file e. subst (λ b. MatchBool b (TextLong text_limit ≡ TextLong text_limit) (RefusesReading (read file) (TextLong text_limit))) (sym e) refl) (too_long told name v text_limit most one_more loaded l)
+
+  module _ (fits : length v ≤ text_limit) where
+    pub text_found : (commands : List Command) → read v ≡ Ok commands → IfSome told (λ files. IsTextOf files name commands)
+    text_found commands e = told_weaker told name _ _ (λ file h. (h.0, ap read h.1 ∙ e)) (is_whole told name v text_limit most one_more loaded fits)
+
+    refused : (faulty : FaultyLine) → read v ≡ Err faulty → IfSome told (λ files. RefusesText name files (faulty_text faulty))
+    refused faulty e = told_weaker told name _ _ (λ file h.
+        subst (λ b. MatchBool b (faulty_text faulty ≡ TextLong text_limit) (RefusesReading (read file) (faulty_text faulty))) (sym (not_longer text_limit (length file) h.0))
+        (subst (λ (r : Result (List Command) FaultyLine). RefusesReading r (faulty_text faulty)) (sym (ap read h.1 ∙ e)) refl)) (is_whole told name v text_limit most one_more loaded fits)
+
+    pub text_refused : (rose : Type 0) (f : TextFault) → said.Reads v (Err f) → Reads {A = List Command} told rose (λ files commands. IsTextOf files name commands) (RefusesText name) (Lacks name) (Err (of_text f))
+    text_refused rose (text.NotAscii n) h = refused (record { fault = line.NotAscii; line = n }) h
+    text_refused rose (text.UnknownWord n) h = refused (record { fault = line.UnknownWord; line = n }) h
+    text_refused rose (text.Shape n) h = refused (record { fault = line.Shape; line = n }) h
+    text_refused rose (text.Range n) h = refused (record { fault = line.Range; line = n }) h
+    text_refused rose text.Memory h = tt
+
+-- ---- scripts
+
+module _ (told : Option Files) (name v : List ℕ) (r most : ℕ) (one_more : most ≡ script_limit + 1) (loaded : IfTold told name (λ file. v ≡ take most file)) where
+  pub script_too_long : script_limit < length v → IfSome told (λ files. RefusesScript name r files (TextLong script_limit))
+  script_too_long l = told_weaker told name _ _ (λ file e. subst (λ b. MatchBool b (TextLong script_limit ≡ TextLong script_limit) (RefusesLines r file (TextLong script_limit))) (sym e) refl) (too_long told name v script_limit most one_more loaded l)
+
+  module _ (fits : length v ≤ script_limit) where
+    pub script_found : (script : List ScriptLine) → ScriptSays r v (Ok (lines_are script)) → IfSome told (λ files. IsScriptOf files name r script)
+    script_found script h = told_weaker told name _ _ (λ file g. (g.0, subst (λ (bytes : List ℕ). ScriptSays r bytes (Ok (lines_are script))) (sym g.1) h)) (is_whole told name v script_limit most one_more loaded fits)
+
+    faulty : (e : FaultyLine) → ScriptSays r v (Err e) → IfSome told (λ files. RefusesScript name r files (faulty_text e))
+    faulty e h = told_weaker told name _ _ (λ file g.
+        subst (λ b. MatchBool b (faulty_text e ≡ TextLong script_limit) (RefusesLines r file (faulty_text e))) (sym (not_longer script_limit (length file) g.0))
+        (e, subst (λ (bytes : List ℕ). ScriptSays r bytes (Err e)) (sym g.1) h, refl)) (is_whole told name v script_limit most one_more loaded fits)
+
+    pub script_refused : (rose : Type 0) (f : TextFault) → script.Reads {Y = Global} r v (Err f) → Reads {A = List ScriptLine} told rose (λ files lines. IsScriptOf files name r lines) (RefusesScript name r) (Lacks name) (Err (of_text f))
+    script_refused rose (text.NotAscii n) h = faulty (record { fault = line.NotAscii; line = n }) h
+    script_refused rose (text.UnknownWord n) h = faulty (record { fault = line.UnknownWord; line = n }) h
+    script_refused rose (text.Shape n) h = faulty (record { fault = line.Shape; line = n }) h
+    script_refused rose (text.Range n) h = faulty (record { fault = line.Range; line = n }) h
+    script_refused rose text.Memory h = tt
+
+-- ---- traces
+
+module _ (told : Option Files) (name v : List ℕ) (most : ℕ) (one_more : most ≡ dis_limit + 1) (loaded : IfTold told name (λ file. v ≡ take most file)) where
+  pub trace_too_long : dis_limit < length v → IfSome told (λ files. RefusesTrace name files (TraceLong dis_limit))
+  trace_too_long l = told_weaker told name _ _ (λ file e. subst (λ b. MatchBool b (TraceLong dis_limit ≡ TraceLong dis_limit) (RefusesDecoding file (TraceLong dis_limit))) (sym e) refl) (too_long told name v dis_limit most one_more loaded l)
+
+  module _ (fits : length v ≤ dis_limit) where
+    pub trace_found : (commands : List Command) → Cutting v commands → IfSome told (λ files. IsTraceOf files name commands)
+    trace_found commands cutting = told_weaker told name _ _ (λ file h. (h.0, subst (λ (bytes : List ℕ). Cutting bytes commands) (sym h.1) cutting)) (is_whole told name v dis_limit most one_more loaded fits)
+
+    no_cutting : (why : NoTrace) → Decoding v (Err why) → IfSome told (λ files. RefusesTrace name files (no_trace why))
+    no_cutting why decoding = told_weaker told name _ _ (λ file h.
+        subst (λ b. MatchBool b (no_trace why ≡ TraceLong dis_limit) (RefusesDecoding file (no_trace why))) (sym (not_longer dis_limit (length file) h.0))
+        (why, subst (λ (bytes : List ℕ). Decoding bytes (Err why)) (sym h.1) decoding, refl)) (is_whole told name v dis_limit most one_more loaded fits)
+
+    pub trace_refused : (rose : Type 0) (f : TraceFault) → Decodes v (Err f) → Reads {A = List Command} told rose (λ files commands. IsTraceOf files name commands) (RefusesTrace name) (Lacks name) (Err (of_trace f))
+    trace_refused rose (trace.Bad offset) h = no_cutting (BadAt offset) h
+    trace_refused rose (trace.Cut offset) h = no_cutting (CutAt offset) h
+    trace_refused rose trace.Memory h = tt
+
+-- ---- how many commands there are
+
+some_bytes : (command : Command) → 1 ≤ length (spelling command)
+some_bytes Halt = omega arith
+some_bytes Wait = omega arith
+some_bytes Flip = omega arith
+some_bytes (SMove d) = omega arith
+some_bytes (LMove d e) = omega arith
+some_bytes (FusionP d) = omega arith
+some_bytes (FusionS d) = omega arith
+some_bytes (Fission d m) = omega arith
+some_bytes (Fill d) = omega arith
+some_bytes (Void d) = omega arith
+some_bytes (GFill d f) = omega arith
+some_bytes (GVoid d f) = omega arith
+
+no_more : (commands : List Command) → length commands ≤ length (spellings commands)
+no_more [] = omega arith
+no_more (c ∷ more) =
+    let sum : length (spellings (c ∷ more)) ≡ length (spelling c) + length (spellings more) = length-append (spelling c) (spellings more) in
+    let one = some_bytes c in
+    let rest = no_more more in
+    omega (arith, sum, one, rest)
+
+-- bytes spell no more commands than they are
+pub few_commands : (bytes : List ℕ) (commands : List Command) (n : ℕ) → Cutting bytes commands → length bytes ≤ n → length commands ≤ n
+few_commands bytes commands n cutting few = let m = no_more commands in let e = ap length cutting.1 in omega (arith, m, e, few)

@@ -1,0 +1,215 @@
+-- The touches of a run, which the work of its trace pays for.
+use Rattle.std.proofs.Common.{◌≡◌, ℕ, ◌+◌, ◌*◌, ◌≤◌, refl, sym, ◌∙◌, ap, subst, arith, List, [], ◌∷◌, ◌++◌, append_assoc, append-nil, Bool, true, false, length, length-append, take, drop}
+use Rattle.std.specs.Prelude.{Option, Some, None, Ok, MatchBool, IsFalse, IfSome, IsSomeAnd}
+use Rattle.std.proofs.lemmas.List.{take-append-drop}
+use Rattle.std.proofs.Math.Seq.{take-add}
+use Rattle.nano_spec.specs.declared.commands.Command.{Command}
+use Rattle.nano_spec.specs.declared.commands.Command.TheVariants.{Halt, Wait, Flip, SMove, LMove, FusionP, FusionS, Fission, Fill, Void, GFill, GVoid}
+use Rattle.nano_spec.specs.declared.system.Profile.{Profile}
+use Rattle.nano_spec.specs.Cutting.{AreCommands}
+use Rattle.nano_spec.specs.Legal.{IsLegal}
+use Rattle.nano_spec.specs.Matrix.{Matrix}
+use Rattle.nano_spec.specs.Model.{model, volume}
+use Rattle.nano_spec.specs.Spelling.{spelling, spellings}
+use Rattle.nano_spec.specs.Work.{Work}
+use Rattle.nano_spec.proofs.Traces.{one_spelling}
+use Rattle.run_progress.specs.Progress.{Progress, Pushes, begun}
+use Rattle.step_machine.specs.Course.{Course}
+use Rattle.step_machine.specs.Payment.{IsPaid, Touches}
+use Rattle.trace_codec.specs.Decoder.{Answers, DecoderState, HasTaken, after, fresh}
+use Rattle.trace_codec.specs.declared.decoder.Fed.TheVariants.{Got, All, Bad}
+use Rattle.vox_depot.specs.Files.{Files, IfTold, IsPiece, content}
+use Rattle.nanobot_rows.specs.Reading.{AreBoth, AreModels, IsModelOf, IsSide, RunState}
+use Rattle.nanobot_rows.specs.Touching.{AreInFront, BeginWith, HasGiven, HasPaid, IsRunWithin, IsWithinFile}
+use Rattle.nanobot_rows.proofs.Running.{AllLaw, GotLaw, part, rest}
+use Rattle.nanobot_rows.proofs.Tracing.{from_told, piece_has}
+
+-- ---- the laws of the machine's touches
+
+abbrev pub FirstLaw : Type 0
+FirstLaw = (source : Matrix) (profile : Profile) (p : Progress) (start : ℕ) → p ≡ begun source profile → IsPaid source profile [] p start start
+
+abbrev pub PushLaw : Type 0
+PushLaw = (source : Matrix) (profile : Profile) (commands : List Command) (p q : Progress) (command : Command) (start before after : ℕ) → p.state.matrix.resolution ≡ source.resolution → Pushes p command q → Touches p q command before after → IsPaid source profile commands p start before → IsPaid source profile (commands ++ command ∷ []) q start after
+
+abbrev pub WholeLaw : Type 0
+WholeLaw = (source : Matrix) (profile : Profile) (commands rest : List Command) (p : Progress) (start now n : ℕ) → IsPaid source profile commands p start now → Work source (commands ++ rest) profile n → now ≤ start + 100 * n + volume source.resolution
+
+abbrev pub WorkLaw : Type 0
+WorkLaw = (source : Matrix) (commands : List Command) (profile : Profile) → (n : ℕ) × Work source commands profile n
+
+-- ---- what a decoder has given
+
+taken_of : (bytes : List ℕ) (commands : List Command) (d : DecoderState) → IsFalse d.failed → HasGiven bytes commands d → HasTaken bytes commands d
+taken_of bytes commands d works given = subst (λ t. MatchBool t (BeginWith bytes commands) (HasTaken bytes commands d)) works given
+
+begins_more : (bytes more : List ℕ) (commands : List Command) → BeginWith bytes commands → BeginWith (bytes ++ more) commands
+begins_more bytes more commands b = record {
+  are_commands = b.are_commands;
+  rest = b.rest ++ more;
+  bytes_are = ap (λ t. t ++ more) b.bytes_are ∙ append_assoc (spellings commands) b.rest more;
+}
+
+begins : (bytes : List ℕ) (commands : List Command) (d : DecoderState) → HasGiven bytes commands d → BeginWith bytes commands
+begins bytes commands d given = by d.failed given
+  where
+    by : (t : Bool) → MatchBool t (BeginWith bytes commands) (HasTaken bytes commands d) → BeginWith bytes commands
+    by true b = b
+    by false taken = record { are_commands = taken.are_commands; rest = d.held; bytes_are = taken.bytes_are }
+
+pub paid_at_first : (law : FirstLaw) (source : Matrix) (profile : Profile) (d : DecoderState) (r : Course) (start : ℕ) → HasTaken [] [] fresh → d ≡ fresh → r.progress ≡ begun source profile → HasPaid source profile [] (record { decoder = d; run = r }) start start
+paid_at_first law source profile d r start taken e f = record {
+  commands = [];
+  given = subst (λ (x : DecoderState). HasGiven [] [] x) (sym e) taken;
+  paid = law source profile r.progress start f;
+}
+
+module _ (source : Matrix) (profile : Profile) (bytes piece : List ℕ) (at : ℕ) (s : RunState) (start before : ℕ) (old : HasPaid source profile (bytes ++ take at piece) s start before) where
+  pub paid_got : (got : GotLaw) (push : PushLaw) (command : Command) (used : ℕ) (r : Course) (now : ℕ) → s.run.progress.state.matrix.resolution ≡ source.resolution → Answers s.decoder (drop at piece) (Got command used) → Pushes s.run.progress command r.progress → Touches s.run.progress r.progress command before now
+      → HasPaid source profile (bytes ++ take (at + used) piece) (record { decoder = after s.decoder (drop at piece) (Got command used); run = r }) start now
+  paid_got got push command used r now same answers pushes touches =
+      let taken = got (bytes ++ take at piece) (drop at piece) old.commands s.decoder command used (taken_of (bytes ++ take at piece) old.commands s.decoder answers.works old.given) answers in
+      record {
+        commands = old.commands ++ command ∷ [];
+        given = subst (λ (b : List ℕ). HasTaken b (old.commands ++ command ∷ []) (after s.decoder (drop at piece) (Got command used))) (part bytes piece at used) taken;
+        paid = push source profile old.commands s.run.progress r.progress command start before now same pushes touches old.paid;
+      }
+
+  pub paid_all : (all : AllLaw) → Answers s.decoder (drop at piece) All → HasPaid source profile (bytes ++ piece) (record { decoder = after s.decoder (drop at piece) All; run = s.run }) start before
+  paid_all all answers =
+      let taken = all (bytes ++ take at piece) (drop at piece) old.commands s.decoder (taken_of (bytes ++ take at piece) old.commands s.decoder answers.0 old.given) answers in
+      record {
+        commands = old.commands;
+        given = subst (λ (b : List ℕ). HasTaken b old.commands (after s.decoder (drop at piece) All)) (rest bytes piece at) taken;
+        paid = old.paid;
+      }
+
+  pub paid_bad : (offset : ℕ) → HasPaid source profile (bytes ++ piece) (record { decoder = after s.decoder (drop at piece) (Bad offset); run = s.run }) start before
+  paid_bad offset = record {
+    commands = old.commands;
+    given = subst (λ (b : List ℕ). BeginWith b old.commands) (rest bytes piece at) (begins_more (bytes ++ take at piece) (drop at piece) old.commands (begins (bytes ++ take at piece) old.commands s.decoder old.given));
+    paid = old.paid;
+  }
+
+-- ---- the commands in front of the bytes
+
+some_bytes : (command : Command) → 1 ≤ length (spelling command)
+some_bytes Halt = omega arith
+some_bytes Wait = omega arith
+some_bytes Flip = omega arith
+some_bytes (SMove d) = omega arith
+some_bytes (LMove d e) = omega arith
+some_bytes (FusionP d) = omega arith
+some_bytes (FusionS d) = omega arith
+some_bytes (Fission d m) = omega arith
+some_bytes (Fill d) = omega arith
+some_bytes (Void d) = omega arith
+some_bytes (GFill d f) = omega arith
+some_bytes (GVoid d f) = omega arith
+
+-- commands that the bytes begin with begin those of the longest front
+goes_on : (given commands : List Command) (tail rest : List ℕ) → AreCommands given → AreCommands commands → spellings commands ++ rest ≡ spellings given ++ tail → length rest ≤ length tail → (more : List Command) × (commands ≡ given ++ more)
+goes_on [] commands tail rest g h e l = (commands, refl)
+goes_on (c ∷ given) [] tail rest g h e l =
+    let k : length rest ≡ length ((spelling c ++ spellings given) ++ tail) = ap length e in
+    let a = length-append (spelling c ++ spellings given) tail in
+    let b = length-append (spelling c) (spellings given) in
+    let n = some_bytes c in
+    absurd (omega (arith, k, a, b, n, l))
+goes_on (c ∷ given) (d ∷ commands) tail rest g h e l =
+    let o = one_spelling d c (spellings commands ++ rest) (spellings given ++ tail) h.0 g.0 (sym (append_assoc (spelling d) (spellings commands) rest) ∙ (e ∙ append_assoc (spelling c) (spellings given) tail)) in
+    let r = goes_on given commands tail rest g.1 h.1 o.1 l in
+    (r.0, (λ i. o.0 i ∷ r.1 i))
+
+-- what was touched for the given commands
+within : (law : WholeLaw) (source : Matrix) (profile : Profile) (bytes : List ℕ) (given : List Command) (p : Progress) (start now : ℕ) → BeginWith bytes given → IsPaid source profile given p start now → (commands : List Command) (n : ℕ) → AreInFront bytes commands → Work source commands profile n → now ≤ start + 100 * n + volume source.resolution
+within law source profile bytes given p start now b paid commands n front work =
+    let r = goes_on given commands b.rest front.0 b.are_commands front.2 (sym front.3 ∙ b.bytes_are) (front.1.1 b.rest (given, b.are_commands, b.bytes_are)) in
+    law source profile given r.0 p start now n paid (subst (λ (xs : List Command). Work source xs profile n) r.1 work)
+
+-- ---- a trace that is fetched piece by piece
+
+-- where the file is told, the touches for its first bytes are paid for
+pub record IsPaying (told : Option Files) (name : List ℕ) (source : Matrix) (profile : Profile) (at : ℕ) (run : RunState) (start now : ℕ) : Type 0 where
+  pub front : (files : Files) (file : List ℕ) → told ≡ Some files → content files name ≡ Some file → (at ≤ length file) × HasPaid source profile (take at file) run start now
+
+pub paying : (told : Option Files) (name : List ℕ) (source : Matrix) (profile : Profile) (run : RunState) (start : ℕ) → HasPaid source profile [] run start start → IsPaying told name source profile 0 run start start
+paying told name source profile run start h = record { front = λ files file t c. (omega arith, subst (λ (b : List ℕ). HasPaid source profile b run start start) (sym (take_none file)) h) }
+  where
+    take_none : (xs : List ℕ) → take 0 xs ≡ []
+    take_none [] = refl
+    take_none (x ∷ xs) = refl
+
+module _ (told : Option Files) (name : List ℕ) (source : Matrix) (profile : Profile) (at : ℕ) (run : RunState) (start now : ℕ) (so_far : IsPaying told name source profile at run start now) where
+  -- a piece was fed
+  pub paying_next : (n : ℕ) (buf : List ℕ) (next : RunState) (later : ℕ) → IfTold told name (λ file. IsPiece file at n buf) → n ≤ length buf → ((bytes : List ℕ) → HasPaid source profile bytes run start now → HasPaid source profile (bytes ++ take n buf) next start later) → IsPaying told name source profile (at + n) next start later
+  paying_next n buf next later piece fits fed = record {
+    front = λ files file t c.
+        let p : IsPiece file at n buf = from_told told name _ piece files file t c in
+        let old = so_far.front files file t c in
+        let joined : take at file ++ take n buf ≡ take (at + n) file = ap (λ b. take at file ++ b) p.same ∙ sym (take-add at n file) in
+        (piece_has file buf at n fits p old.0, subst (λ (b : List ℕ). HasPaid source profile b next start later) joined (fed (take at file) old.1));
+  }
+
+  -- the run ends here, after few touches more
+  pub paying_within : (law : WholeLaw) (works : WorkLaw) (first last : ℕ) → start ≤ first + 91 * volume source.resolution → last ≤ now + 2 * volume source.resolution → IsWithinFile profile source told name first last
+  paying_within law works first last few more = λ files file t c.
+      let old = so_far.front files file t c in
+      let b : BeginWith file old.1.commands = subst (λ (b : List ℕ). BeginWith b old.1.commands) (take-append-drop at file) (begins_more (take at file) (drop at file) old.1.commands (begins (take at file) old.1.commands run.decoder old.1.given)) in
+      record {
+        longest = λ commands front.
+            let n = works source commands profile in
+            let w = within law source profile file old.1.commands run.run.progress start now b old.1.paid commands n.0 front n.1 in
+            (n.0, n.1, omega (arith, w, few, more));
+        given =
+            let n = works source (old.1.commands ++ []) profile in
+            let same : old.1.commands ++ [] ≡ old.1.commands = append-nil old.1.commands in
+            let w = law source profile old.1.commands [] run.run.progress start now n.0 old.1.paid n.1 in
+            (old.1.commands, b, (n.0, subst (λ (xs : List Command). Work source xs profile n.0) same n.1, omega (arith, w, few, more)));
+      }
+
+-- ---- the files of a run
+
+model_once : (files : Files) (name : List ℕ) (m n : Matrix) → IsModelOf files name m → IsModelOf files name n → m ≡ n
+model_once files name m n h k = by (content files name) h k
+  where
+    by : (o : Option (List ℕ)) → IsSomeAnd o (λ bytes. (model bytes ≡ Ok m) × IsLegal m) → IsSomeAnd o (λ bytes. (model bytes ≡ Ok n) × IsLegal n) → m ≡ n
+    by None h k = absurd h
+    by (Some bytes) h k = let a = h.0 in let b = k.0 in cc
+
+side_once : (files : Files) (name : Option (List ℕ)) (a b : Option Matrix) → IsSide name files a → IsSide name files b → a ≡ b
+side_once files None None None h k = refl
+side_once files None None (Some b) h k = absurd k
+side_once files None (Some a) b h k = absurd h
+side_once files (Some name) None b h k = absurd h
+side_once files (Some name) (Some a) None h k = absurd k
+side_once files (Some name) (Some a) (Some b) h k = ap (λ (m : Matrix). Some m) (model_once files name a b h k)
+
+source_once : (a b : Option Matrix) (s t u v : Matrix) → AreBoth a b s t → AreBoth a b u v → s ≡ u
+source_once None None s t u v h k = absurd h
+source_once (Some a) None s t u v h k = h.0 ∙ sym k.0
+source_once None (Some b) s t u v h k = h.0 ∙ sym k.0
+source_once (Some a) (Some b) s t u v h k = h.0 ∙ sym k.0
+
+models_once : (files : Files) (source target : Option (List ℕ)) (s t u v : Matrix) → AreModels source target files s t → AreModels source target files u v → s ≡ u
+models_once files source target s t u v h k =
+    let first = side_once files source h.source_side k.source_side h.source_is k.source_is in
+    let second = side_once files target h.target_side k.target_side h.target_is k.target_is in
+    source_once k.source_side k.target_side s t u v (subst (λ (x : Option Matrix). AreBoth x k.target_side s t) first (subst (λ (x : Option Matrix). AreBoth h.source_side x s t) second h.both)) k.both
+
+told_is : (told : Option Files) (P : Files → Type 0) (files : Files) → told ≡ Some files → IfSome told P → P files
+told_is told P files e h = subst (λ (o : Option Files). IfSome o P) e h
+
+module _ (profile : Profile) (told : Option Files) (source target : Option (List ℕ)) (trace : List ℕ) where
+  pub run_within : (s t : Matrix) (later : Option Files) (before now : ℕ) → IfSome told (λ files. AreModels source target files s t) → later ≡ told → IsWithinFile profile s later trace before now → IsRunWithin profile source target trace told before now
+  run_within s t later before now found same w = λ files from to e these.
+      let here : IsWithinFile profile s told trace before now = subst (λ (o : Option Files). IsWithinFile profile s o trace before now) same w in
+      subst (λ (m : Matrix). IsWithinFile profile m told trace before now) (models_once files source target s t from to (told_is told (λ files. AreModels source target files s t) files e found) these) here
+
+  pub run_untouched : (works : WorkLaw) (before now : ℕ) → now ≡ before → IsRunWithin profile source target trace told before now
+  run_untouched works before now same = λ files from to e these others bytes t c.
+      let n = works from [] profile in
+      record {
+        longest = λ commands front. let k = works from commands profile in (k.0, k.1, omega (arith, same));
+        given = ([], record { are_commands = tt; rest = bytes; bytes_are = refl }, (n.0, n.1, omega (arith, same)));
+      }

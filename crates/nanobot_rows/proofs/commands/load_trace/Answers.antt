@@ -1,0 +1,20 @@
+use Rattle.std.proofs.Common.{◌∙◌, arith, refl}
+use Rattle.nanobot_rows.proofs.Loads.{few_commands, trace_found, trace_refused, trace_too_long}
+use Rattle.nanobot_rows.proofs.Told.{told_weaker}
+use Rattle.nanobot_rows.proofs.commands.load_trace.Goals as goal
+
+pub returns-then-len-gt-TRACE_LIMIT-clause-reads : goal.returns-then-len-gt-TRACE_LIMIT-clause-reads
+returns-then-len-gt-TRACE_LIMIT-clause-reads g c = trace_too_long _ _ c.in_ok-bytes.bytes.items _ refl c.in_ok-bytes.ensures.bytes (omega (arith, c.if-len-gt-TRACE_LIMIT.true, c.len.ensures))
+
+pub returns-in-Ok-clause-reads : goal.returns-in-Ok-clause-reads
+returns-in-Ok-clause-reads g c =
+    let loaded = told_weaker _ _ _ _ (λ file e. c.as_slice.ensures.value ∙ e) c.in_ok-bytes.ensures.bytes in
+    trace_found _ _ c.as_slice.result.now _ refl loaded (omega (arith, c.if-len-gt-TRACE_LIMIT.false, c.len.ensures, c.as_slice.ensures.len)) c.in-Ok.commands c.in-Ok.ensures.answer
+
+pub returns-clause-reads : goal.returns-clause-reads
+returns-clause-reads g c =
+    let loaded = told_weaker _ _ _ _ (λ file e. c.as_slice.ensures.value ∙ e) c.in_ok-bytes.ensures.bytes in
+    rw c.of_trace.ensures (trace_refused _ _ c.as_slice.result.now _ refl loaded (omega (arith, c.if-len-gt-TRACE_LIMIT.false, c.len.ensures, c.as_slice.ensures.len)) _ c.in-Err.fault c.in-Err.ensures.answer)
+
+pub returns-in-Ok-clause-few : goal.returns-in-Ok-clause-few
+returns-in-Ok-clause-few g c = few_commands c.as_slice.result.now c.in-Ok.commands 50000000 c.in-Ok.ensures.answer (omega (arith, c.if-len-gt-TRACE_LIMIT.false, c.len.ensures, c.as_slice.ensures.len))

@@ -1,0 +1,34 @@
+use Rattle.std.proofs.Common.{◌≡◌, ◌≤◌, rules, Err}
+use Rattle.group_planner.specs.Phases.{most_bytes}
+use Rattle.nanobot_rows.specs.Answer.{OfGroupPlan, group_limit}
+use Rattle.nanobot_rows.specs.Planners.{IsGroupPlan}
+use Rattle.nanobot_rows.specs.Effects.{reply_by}
+use Rattle.nanobot_words.specs.Parsing.{side_of}
+use Rattle.nanobot_rows.proofs.Stored.{group_kept, models_end, models_stop, plan_kept}
+use Rattle.nanobot_rows.proofs.plans.plan_group.Goals as goal
+
+pub returns-in_err-source-clause-finishes : goal.returns-in_err-source-clause-finishes
+returns-in_err-source-clause-finishes g c =
+    let is : c.from_residual.result ≡ Err c.in_err-source.field-0.0 = search rules in
+    rw is (models_stop _ (side_of c.args.source) (side_of c.args.target) (OfGroupPlan c.args.trace.now) _ c.in_err-source.field-0.0 (c.in_err-source.ensures {u = tt}).reads)
+
+pub returns-clause-finishes : goal.returns-clause-finishes
+returns-clause-finishes g c =
+    let s = c.in_ok-source.source in
+    let t = c.in_ok-source.target in
+    let plan = c.in_ok-plan.plan in
+    let effect = c.in_ok-effect.effect in
+    let these = c.in_ok-plan.ensures {u = tt} in
+    let fits : most_bytes s t ≤ group_limit = search rules in
+    models_end _ (side_of c.args.source) (side_of c.args.target) (OfGroupPlan c.args.trace.now) s t effect (c.in_ok-source.ensures {u = tt}).reads
+    (λ files are_models. group_kept files c.args.trace.now s t (reply_by files effect) fits
+    (plan_kept IsGroupPlan s t c.args.trace.now plan.commands plan.energy plan.steps effect
+    (λ are. record {
+      are_commands = are;
+      accepted = these.accepted;
+      few_steps = these.steps;
+      few_commands = these.commands;
+      few_bytes = these.bytes;
+      halt_alone = these.halt_alone;
+    })
+    (c.in_ok-effect.ensures {u = tt}) files))

@@ -1,0 +1,30 @@
+use Rattle.std.proofs.Common.{◌≡◌, rules, subst, sym, Err}
+use Rattle.std.specs.Prelude.{None, Some}
+use Rattle.nano_spec.specs.Matrix.{Matrix}
+use Rattle.nanobot_rows.specs.Answer.{OfPlan}
+use Rattle.nanobot_rows.specs.Planners.{IsVoidPlan}
+use Rattle.nanobot_rows.proofs.Stored.{models_end, models_stop, nothing_there, plan_kept}
+use Rattle.nanobot_rows.proofs.plans.plan_void.Goals as goal
+
+pub returns-in_err-source-clause-finishes : goal.returns-in_err-source-clause-finishes
+returns-in_err-source-clause-finishes g c =
+    let is : c.from_residual.result ≡ Err c.in_err-source.field-0.0 = search rules in
+    rw is (models_stop _ (Some c.args.source.now) None (OfPlan IsVoidPlan c.args.trace.now) _ c.in_err-source.field-0.0 (c.in_err-source.ensures {u = tt}).reads)
+
+pub returns-clause-finishes : goal.returns-clause-finishes
+returns-clause-finishes g c =
+    let s = c.in_ok-source.source in
+    let t = c.in_ok-source.nothing in
+    let plan = c.in_ok-plan.plan in
+    let effect = c.in_ok-effect.effect in
+    let these = c.in_ok-plan.ensures {u = tt} in
+    models_end _ (Some c.args.source.now) None (OfPlan IsVoidPlan c.args.trace.now) s t effect (c.in_ok-source.ensures {u = tt}).reads
+    (λ files are_models. plan_kept IsVoidPlan s t c.args.trace.now plan.commands plan.energy plan.steps effect
+    (λ are. subst (λ (m : Matrix). IsVoidPlan s m plan.commands plan.energy plan.steps) (sym (nothing_there files c.args.source.now s t are_models)) (record {
+      are_commands = are;
+      accepted = these.accepted;
+      few_steps = these.steps;
+      few_bots = these.few;
+      halt_alone = these.halt_alone;
+    }))
+    (c.in_ok-effect.ensures {u = tt}) files)

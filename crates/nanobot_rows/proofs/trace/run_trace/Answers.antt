@@ -1,0 +1,44 @@
+use Rattle.std.proofs.Common.{◌∙◌, ◌+◌, ◌*◌, ◌≤◌, ℕ, arith, rules, length-take, subst, sym}
+use Rattle.nanobot_rows.proofs.Paying.{paying_next, paying_within}
+use Rattle.nanobot_rows.proofs.Tracing.{underway_end, underway_long, underway_next}
+use Rattle.nanobot_rows.proofs.trace.run_trace.Goals as goal
+
+pub returns-then-count-eq0-clause-reads : goal.returns-then-count-eq0-clause-reads
+returns-then-count-eq0-clause-reads g c =
+    let piece = rw c.pieces.invariant.files at c.in_ok-count.ensures.piece in
+    underway_end _ _ c.args.source c.args.profile _ _ _ c.pieces.run c.pieces.invariant.underway piece c.in_ok-count.ensures.bound c.args.target.now _ (omega arith) c.if-count-eq0.true c.pieces.invariant.within (λ bytes run. c.finish.ensures.report c.args.source c.args.profile bytes run)
+
+pub returns-then-at-gt-LIMIT-clause-reads : goal.returns-then-at-gt-LIMIT-clause-reads
+returns-then-at-gt-LIMIT-clause-reads g c =
+    let piece = rw c.pieces.invariant.files at c.in_ok-count.ensures.piece in
+    underway_long _ _ c.args.source c.args.profile _ _ _ c.pieces.run c.pieces.invariant.underway piece c.in_ok-count.ensures.bound c.args.target.now (omega (arith, c.if-at-gt-LIMIT.true))
+
+pub pieces-preserved : goal.pieces-preserved
+pieces-preserved g c =
+    let piece = rw c.pieces.invariant.files at c.in_ok-count.ensures.piece in
+    let fed = c.in_ok-feed.ensures in
+    let size = length-take c.in_ok-count.count c.fetch.new.buf in
+    record {
+      underway = underway_next _ _ c.args.source c.args.profile _ _ _ c.pieces.run c.pieces.invariant.underway piece c.in_ok-count.ensures.bound c.feed.new.self (λ bytes run. fed.run c.args.source c.args.profile bytes run);
+      within = omega (arith, c.if-at-gt-LIMIT.false);
+      offset = omega (arith, c.feed.ensures.offset, c.pieces.invariant.offset, size);
+      resolution = c.feed.ensures.resolution ∙ c.pieces.invariant.resolution;
+      stands = fed.stands;
+      files = search rules;
+      later = omega (arith, c.in_ok-count.ensures.later, c.pieces.invariant.later);
+      paying = paying_next _ _ c.args.source c.args.profile _ c.pieces.run c.start.new.steps c.pieces.steps c.pieces.invariant.paying _ _ c.feed.new.self c.feed.new.steps piece c.in_ok-count.ensures.bound
+          (λ bytes paid. fed.paid c.args.source c.args.profile bytes c.start.new.steps c.pieces.invariant.resolution paid);
+    }
+
+pub returns-then-count-eq0-clause-within : goal.returns-then-count-eq0-clause-within
+returns-then-count-eq0-clause-within g c = λ _.
+    paying_within _ _ c.args.source c.args.profile _ c.pieces.run c.start.new.steps c.pieces.steps c.pieces.invariant.paying c.the_work_pays.ensures.all c.every_run_has_work.ensures.run _ _ c.in_ok-run.ensures.touches
+    (subst (λ (r : ℕ). c.finish.new.steps ≤ c.pieces.steps + 2 * (r * r * r)) (sym c.requires.resolutions) c.finish.ensures.touches)
+
+pub returns-then-at-gt-LIMIT-clause-within : goal.returns-then-at-gt-LIMIT-clause-within
+returns-then-at-gt-LIMIT-clause-within g c = λ _.
+    paying_within _ _ c.args.source c.args.profile _ c.pieces.run c.start.new.steps c.pieces.steps c.pieces.invariant.paying c.the_work_pays.ensures.all c.every_run_has_work.ensures.run _ _ c.in_ok-run.ensures.touches (omega arith)
+
+pub returns-in_err-count-clause-within : goal.returns-in_err-count-clause-within
+returns-in_err-count-clause-within g c = λ _.
+    paying_within _ _ c.args.source c.args.profile _ c.pieces.run c.start.new.steps c.pieces.steps c.pieces.invariant.paying c.the_work_pays.ensures.all c.every_run_has_work.ensures.run _ _ c.in_ok-run.ensures.touches (omega arith)

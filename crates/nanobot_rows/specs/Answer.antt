@@ -1,0 +1,250 @@
+-- What is answered to the words over known files: a status, a line and the files afterwards (docs/FORMATS.md, "Printed lines").
+use Rattle.std.specs.Prelude.{◌≡◌, ◌⊎◌, ℕ, ◌+◌, ℤ, nat_lt, ◌==◌, List, [], length, count_by, Option, Some, None, Result, Ok, Err, MatchOption, MatchBool}
+use Rattle.std.specs.FinMap as finite
+use Rattle.vox_geom.specs.declared.coordinate.Coord.{Coord}
+use Rattle.nano_spec.specs.declared.commands.Command.{Command}
+use Rattle.nano_spec.specs.declared.outcomes.Verdict.{Verdict}
+use Rattle.nano_spec.specs.declared.system.Profile.{Profile}
+use Rattle.nano_spec.specs.Cutting.{Decoding, NoTrace, CutAt, BadAt}
+use Rattle.nano_spec.specs.Forge.{forged}
+use Rattle.nano_spec.specs.Legal.{Legality, NotLegal}
+use Rattle.nano_spec.specs.Matrix.{Matrix, all_of, empty, is_full}
+use Rattle.nano_spec.specs.Model.{NoModel, model, written}
+use Rattle.nano_spec.specs.Printing.{print}
+use Rattle.nano_spec.specs.Profile.{full_profile, light_profile}
+use Rattle.nano_spec.specs.Reading.{FaultyLine, read}
+use Rattle.nano_spec.specs.Spelling.{spellings}
+use Rattle.nano_spec.specs.Verdict.{VerdictOf}
+use Rattle.vox_depot.specs.Files.{Files, content}
+use Rattle.group_planner.specs.Phases as group
+use Rattle.group_planner.specs.Rows.{rows, runs}
+use Rattle.low_planner.specs.Supported.{FirstUnsupported}
+use Rattle.step_debugger.specs.Session.{Line}
+use Rattle.debug_script.specs.Script.{ScriptSays}
+use Rattle.debug_script.specs.Sessions.{PrintsFrom}
+use Rattle.nanobot_rows.specs.declared.report.Cost.{Cost}
+use Rattle.nanobot_rows.specs.declared.report.Report.{Report}
+use Rattle.nanobot_rows.specs.declared.report.Report.TheVariants.{Exercised, Forged, GroupLong, Legal, Model, Planned, Resolutions, Stored, TextLong, TraceBad, TraceCut, TraceLong, Unsupported}
+use Rattle.nanobot_rows.specs.declared.report.Who.{Who}
+use Rattle.nanobot_rows.specs.declared.report.Who.TheVariants as who
+use Rattle.nanobot_rows.specs.declared.status.Status.{Status}
+use Rattle.nanobot_rows.specs.declared.status.Status.TheVariants as is
+use Rattle.nanobot_rows.specs.Planners.{IsGroupPlan, IsLayerPlan, IsLowPlan, IsSwarmPlan, IsVoidPlan, PlanFacts}
+use Rattle.nanobot_rows.specs.Report.{faulty_text, line_of, no_model, not_legal, of_verdict, status_of, words_line}
+use Rattle.nanobot_words.specs.Rows.{Row, asm, check, debug, dis, exercise, light, make, plan_group, plan_layer, plan_low, plan_swarm, plan_void, run, IsRow, IsInNoRow, MakesPlans}
+
+pub record Reply : Type 0 where
+  pub status : Status
+  pub line : List ℕ
+  pub after : Files
+
+abbrev pub Answers : Type 1
+Answers = Files → Reply → Type 0
+
+-- this report, and the files as they were
+abbrev pub Tells : Report → Files → Reply → Type 0
+Tells report files reply = reply ≡ record { status = status_of report; line = line_of report; after = files }
+
+-- the files, of which that of the name now has these bytes
+abbrev pub with_file : Files → List ℕ → List ℕ → Files
+with_file files name bytes = finite.insert files name bytes
+
+-- this report, and the file of the name now has these bytes
+abbrev pub Stores : Report → List ℕ → List ℕ → Files → Reply → Type 0
+Stores report name bytes files reply = reply ≡ record { status = status_of report; line = line_of report; after = with_file files name bytes }
+
+-- the words are in no row of the table
+abbrev pub IsNoRow : Files → Reply → Type 0
+IsNoRow files reply = reply ≡ record { status = is.Words; line = words_line; after = files }
+
+-- a file is not there: no line
+abbrev pub IsGone : Files → Reply → Type 0
+IsGone files reply = reply ≡ record { status = is.Depot; line = []; after = files }
+
+-- p of the bytes of a file
+abbrev pub WithFile : Files → List ℕ → (List ℕ → Reply → Type 0) → Reply → Type 0
+WithFile files name p reply = MatchOption (content files name) (IsGone files reply) (λ bytes. p bytes reply)
+
+-- ---- models
+
+-- how many voxels are full
+abbrev pub full_count : Matrix → ℕ
+full_count m = count_by (is_full m) (all_of m)
+
+-- the model, where it is legal
+abbrev pub Judged : Who → Files → Option NotLegal → (Reply → Type 0) → Reply → Type 0
+Judged who files None p = p
+Judged who files (Some why) p = Tells (Model who (not_legal why)) files
+
+-- p of the model that the bytes say, where they do and it is legal
+abbrev pub OfBytes : Who → Files → Result Matrix NoModel → (Matrix → Reply → Type 0) → Reply → Type 0
+OfBytes who files (Err why) p reply = Tells (Model who (no_model why)) files reply
+OfBytes who files (Ok m) p reply = (legality : Option NotLegal) × Legality m legality × Judged who files legality (p m) reply
+
+-- p of the legal model of a file
+abbrev pub WithModel : Who → Files → List ℕ → (Matrix → Reply → Type 0) → Reply → Type 0
+WithModel who files name p = WithFile files name (λ bytes. OfBytes who files (model bytes) p)
+
+-- the same of a source or a target: by `None` it has no file of its own
+abbrev pub WithSide : Who → Files → Option (List ℕ) → (Option Matrix → Reply → Type 0) → Reply → Type 0
+WithSide who files None p = p None
+WithSide who files (Some name) p = WithModel who files name (λ m. p (Some m))
+
+-- p of both models, where they are of one resolution
+abbrev pub WithBoth : Files → Option Matrix → Option Matrix → (Matrix → Matrix → Reply → Type 0) → Reply → Type 0
+WithBoth files None None p reply = ⊥
+WithBoth files (Some s) None p reply = p s (empty s.resolution) reply
+WithBoth files None (Some t) p reply = p (empty t.resolution) t reply
+WithBoth files (Some s) (Some t) p reply = MatchBool (s.resolution == t.resolution) (p s t reply) (Tells (Resolutions s.resolution t.resolution) files reply)
+
+-- p of the models of a source and a target: what has no file is the empty model of the other's resolution
+abbrev pub WithModels : Files → Option (List ℕ) → Option (List ℕ) → (Matrix → Matrix → Reply → Type 0) → Reply → Type 0
+WithModels files source target p = WithSide who.Source files source (λ s. WithSide who.Target files target (λ t. WithBoth files s t p))
+
+-- ---- traces
+
+-- p of the commands of the bytes
+abbrev pub OfDecoding : Files → Result (List Command) NoTrace → (List Command → Reply → Type 0) → Reply → Type 0
+OfDecoding files (Ok commands) p = p commands
+OfDecoding files (Err (BadAt offset)) p = Tells (TraceBad offset) files
+OfDecoding files (Err (CutAt offset)) p = Tells (TraceCut offset) files
+
+-- the same of bytes that may be too many
+abbrev pub OfTrace : ℕ → Files → List ℕ → (List Command → Reply → Type 0) → Reply → Type 0
+OfTrace limit files bytes p reply =
+    MatchBool (nat_lt limit (length bytes))
+    (Tells (TraceLong limit) files reply)
+    ((decoding : Result (List Command) NoTrace) × Decoding bytes decoding × OfDecoding files decoding p reply)
+
+-- ---- texts
+
+-- p of the commands that the text says
+abbrev pub OfReading : Files → Result (List Command) FaultyLine → (List Command → Reply → Type 0) → Reply → Type 0
+OfReading files (Ok commands) p = p commands
+OfReading files (Err faulty) p = Tells (faulty_text faulty) files
+
+-- the most bytes of a text
+abbrev pub text_limit : ℕ
+text_limit = 1073741824
+
+-- the same of a text that may be too long
+abbrev pub OfText : Files → List ℕ → (List Command → Reply → Type 0) → Reply → Type 0
+OfText files bytes p reply = MatchBool (nat_lt text_limit (length bytes)) (Tells (TextLong text_limit) files reply) (OfReading files (read bytes) p reply)
+
+-- ---- runs
+
+-- the verdict of the commands
+abbrev pub OfRun : Profile → Files → Matrix → Matrix → List Command → Reply → Type 0
+OfRun profile files source target commands reply = (verdict : Verdict) × VerdictOf source target commands profile verdict × Tells (of_verdict verdict) files reply
+
+-- ---- plans
+
+-- a plan of which this is so is stored as a trace of the name, and told with its numbers; which one is free
+abbrev pub OfPlan : PlanFacts → List ℕ → Files → Matrix → Matrix → Reply → Type 0
+OfPlan Is name files source target reply =
+    (commands : List Command) × (energy : ℤ) × (steps : ℕ) × Is source target commands energy steps
+    × Stores (Planned energy steps (length commands) (length (spellings commands))) name (spellings commands) files reply
+
+-- the most bytes of a plan of the group planner
+abbrev pub group_limit : ℕ
+group_limit = 1073741824
+
+-- a plan of the group planner, where its bytes are within the limit by the runs and rows of both models
+abbrev pub OfGroupPlan : List ℕ → Files → Matrix → Matrix → Reply → Type 0
+OfGroupPlan name files source target reply =
+    MatchBool (nat_lt group_limit (group.most_bytes source target))
+    (Tells (GroupLong (runs source + runs target) (rows source + rows target)) files reply)
+    (OfPlan IsGroupPlan name files source target reply)
+
+-- what is so of the reply, where each part is supported
+abbrev pub WhereSupported : Files → Option Coord → (Reply → Type 0) → Reply → Type 0
+WhereSupported files None p = p
+WhereSupported files (Some at) p = Tells (Unsupported at) files
+
+-- a plan of the low planner, where each part of the target is supported
+abbrev pub OfLowPlan : List ℕ → Files → Matrix → Matrix → Reply → Type 0
+OfLowPlan name files source target reply = (at : Option Coord) × FirstUnsupported target at × WhereSupported files at (OfPlan IsLowPlan name files source target) reply
+
+-- a plan of which this is so makes the target of the empty model at this cost
+abbrev pub Costs : PlanFacts → Matrix → Cost → Type 0
+Costs Is target cost = (commands : List Command) × Is (empty target.resolution) target commands cost.energy cost.steps
+
+-- what plans of both planners cost that make a forged model of nothing; which ones are judged is free
+abbrev pub OfExercise : ℕ → ℕ → Matrix → Answers
+OfExercise number resolution target files reply =
+    (layer : Cost) × (group : Cost) × Costs IsLayerPlan target layer × Costs IsGroupPlan target group
+    × Tells (Exercised number resolution (full_count target) layer group) files reply
+
+-- ---- sessions
+
+-- the most bytes of a script
+abbrev pub script_limit : ℕ
+script_limit = 65536
+
+-- p of the lines of a script, which may have a faulty one
+abbrev pub OfLines : Files → Result (List Line) FaultyLine → (List Line → Reply → Type 0) → Reply → Type 0
+OfLines files (Ok lines) p = p lines
+OfLines files (Err faulty) p = Tells (faulty_text faulty) files
+
+-- the same of a script that may be too long, over a source of a resolution
+abbrev pub OfScript : ℕ → Files → List ℕ → (List Line → Reply → Type 0) → Reply → Type 0
+OfScript r files bytes p reply =
+    MatchBool (nat_lt script_limit (length bytes))
+    (Tells (TextLong script_limit) files reply)
+    ((said : Result (List Line) FaultyLine) × ScriptSays r bytes said × OfLines files said p reply)
+
+-- the lines of a session over the commands from the source on
+abbrev pub OfSession : Files → Matrix → List Command → List Line → Reply → Type 0
+OfSession files source commands script reply =
+    (text : List ℕ) × PrintsFrom source full_profile commands script text × (reply ≡ record { status = is.Done; line = text; after = files })
+
+-- ---- the rows
+
+-- the most bytes of a trace that is run
+abbrev pub run_limit : ℕ
+run_limit = 1073741824
+
+-- the most bytes of a trace that is printed
+abbrev pub dis_limit : ℕ
+dis_limit = 50000000
+
+-- the verdict of a trace from a source to a target, by a profile
+abbrev pub AnswerOfRun : Profile → Option (List ℕ) → Option (List ℕ) → List ℕ → Answers
+AnswerOfRun profile source target trace files =
+    WithModels files source target (λ s t.
+    WithFile files trace (λ bytes.
+    OfTrace run_limit files bytes (OfRun profile files s t)))
+
+abbrev pub AnswerOf : Row → Answers
+AnswerOf (check name) files = WithModel who.Model files name (λ m. Tells (Legal m.resolution (full_count m)) files)
+AnswerOf (run source target trace) files = AnswerOfRun full_profile source target trace files
+AnswerOf (light source target trace) files = AnswerOfRun light_profile source target trace files
+AnswerOf (asm text trace) files =
+    WithFile files text (λ bytes.
+    OfText files bytes (λ commands.
+    Stores (Stored (length commands) (length (spellings commands))) trace (spellings commands) files))
+AnswerOf (dis trace text) files =
+    WithFile files trace (λ bytes.
+    OfTrace dis_limit files bytes (λ commands.
+    Stores (Stored (length commands) (length (print commands))) text (print commands) files))
+AnswerOf (make number resolution name) files = Stores (Forged resolution (full_count (forged number resolution))) name (written (forged number resolution)) files
+AnswerOf (plan_layer source target trace) files = WithModels files source target (OfPlan IsLayerPlan trace files)
+AnswerOf (plan_group source target trace) files = WithModels files source target (OfGroupPlan trace files)
+AnswerOf (plan_void source trace) files = WithModels files (Some source) None (OfPlan IsVoidPlan trace files)
+AnswerOf (plan_low target trace) files = WithModels files None (Some target) (OfLowPlan trace files)
+AnswerOf (plan_swarm target trace) files = WithModels files None (Some target) (OfPlan IsSwarmPlan trace files)
+AnswerOf (exercise number resolution) files = OfExercise number resolution (forged number resolution) files
+AnswerOf (debug source trace script) files =
+    WithModel who.Source files source (λ m.
+    WithFile files trace (λ bytes.
+    OfTrace dis_limit files bytes (λ commands.
+    WithFile files script (λ text.
+    OfScript m.resolution files text (OfSession files m commands)))))
+
+-- the words ask for no plans
+abbrev pub AskNoPlan : List (List ℕ) → Type 0
+AskNoPlan words = (row : Row) → IsRow words row → MakesPlans row → ⊥
+
+-- the answer to the words
+abbrev pub Answer : List (List ℕ) → Answers
+Answer words files reply = (IsInNoRow words × IsNoRow files reply) ⊎ ((row : Row) × IsRow words row × AnswerOf row files reply)

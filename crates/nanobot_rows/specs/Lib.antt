@@ -1,0 +1,6 @@
+pub mod Answer
+pub mod Effects
+pub mod Planners
+pub mod Reading
+pub mod Report
+pub mod Touching

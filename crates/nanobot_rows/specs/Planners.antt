@@ -1,0 +1,68 @@
+-- What is so of the plans that are stored or judged, planner by planner (docs/FORMATS.md, "Printed lines").
+use Rattle.std.specs.Prelude.{◌≡◌, ℕ, ◌+◌, ◌*◌, ◌≤◌, ℤ, All, List, [], ◌∷◌, length}
+use Rattle.nano_spec.specs.declared.commands.Command.{Command}
+use Rattle.nano_spec.specs.declared.commands.Command.TheVariants.{Halt}
+use Rattle.nano_spec.specs.declared.outcomes.Verdict.TheVariants as verdict
+use Rattle.nano_spec.specs.Cutting.{AreCommands}
+use Rattle.nano_spec.specs.Matrix.{Matrix}
+use Rattle.nano_spec.specs.Model.{volume}
+use Rattle.nano_spec.specs.Profile.{full_profile, light_profile}
+use Rattle.nano_spec.specs.Spelling.{spellings}
+use Rattle.nano_spec.specs.Verdict.{VerdictOf}
+use Rattle.group_planner.specs.Phases as group
+use Rattle.low_planner.specs.Commands as low
+use Rattle.plan_tape.specs.Reaches.{HasAtMost}
+use Rattle.swarm_planner.specs.Strips.{width}
+use Rattle.void_planner.specs.Phases as void
+
+-- what is so of a planner's commands from the one model to the other, with their energy and their steps
+abbrev pub PlanFacts : Type 1
+PlanFacts = Matrix → Matrix → List Command → ℤ → ℕ → Type 0
+
+-- a plan of the layer planner: the definitions accept the commands from the one model to the other with this energy in so many steps, and
+-- their spellings have at most 8 bytes for each voxel and 200 more; where both models are the same, it is a Halt alone
+pub record IsLayerPlan (source target : Matrix) (commands : List Command) (energy : ℤ) (steps : ℕ) : Type 0 where
+  pub are_commands : AreCommands commands
+  pub accepted : VerdictOf source target commands full_profile (verdict.Accepted energy steps)
+  pub bytes : length (spellings commands) ≤ 8 * volume source.resolution + 200
+  pub halt_alone : source ≡ target → commands ≡ Halt ∷ []
+
+-- a plan of the void planner: the definitions accept the commands from the source to the empty model with this energy in so many steps, of
+-- which there are few, and at most four bots are active at once; where the source is empty, it is a Halt alone
+pub record IsVoidPlan (source target : Matrix) (commands : List Command) (energy : ℤ) (steps : ℕ) : Type 0 where
+  pub are_commands : AreCommands commands
+  pub accepted : VerdictOf source target commands full_profile (verdict.Accepted energy steps)
+  pub few_steps : steps ≤ void.most_steps source.resolution
+  pub few_bots : HasAtMost source full_profile commands 4
+  pub halt_alone : source ≡ target → commands ≡ Halt ∷ []
+
+-- a plan of the group planner: the definitions accept the commands from the one model to the other with this energy in so many steps, and
+-- steps, commands and bytes are few, by the runs and rows of both models; where both models are the same, it is a Halt alone
+pub record IsGroupPlan (source target : Matrix) (commands : List Command) (energy : ℤ) (steps : ℕ) : Type 0 where
+  pub are_commands : AreCommands commands
+  pub accepted : VerdictOf source target commands full_profile (verdict.Accepted energy steps)
+  pub few_steps : steps ≤ group.most_steps source target
+  pub few_commands : length commands ≤ 2 * group.most_steps source target
+  pub few_bytes : length (spellings commands) ≤ group.most_bytes source target
+  pub halt_alone : source ≡ target → commands ≡ Halt ∷ []
+
+-- a plan of the low planner: the definitions accept the commands from the empty model to the target under both profiles with this energy in
+-- so many steps, of which there are few, and none is a Flip or a Fission; where the target is empty, it is a Halt alone
+pub record IsLowPlan (source target : Matrix) (commands : List Command) (energy : ℤ) (steps : ℕ) : Type 0 where
+  pub are_commands : AreCommands commands
+  pub accepted : VerdictOf source target commands full_profile (verdict.Accepted energy steps)
+  pub accepted_as_light : VerdictOf source target commands light_profile (verdict.Accepted energy steps)
+  pub plain : All low.IsPlain commands
+  pub few_steps : steps ≤ 4 * low.full_count target + volume target.resolution + 200
+  pub halt_alone : low.IsEmpty target → commands ≡ Halt ∷ []
+
+-- a plan of the swarm planner: the definitions accept the commands from the empty model to the target under both profiles with this energy in
+-- so many steps, of which there are few, by the width of the widest strip, and at most twenty bots are active at once; where the target is
+-- empty, it is a Halt alone
+pub record IsSwarmPlan (source target : Matrix) (commands : List Command) (energy : ℤ) (steps : ℕ) : Type 0 where
+  pub are_commands : AreCommands commands
+  pub accepted : VerdictOf source target commands full_profile (verdict.Accepted energy steps)
+  pub accepted_as_light : VerdictOf source target commands light_profile (verdict.Accepted energy steps)
+  pub few_steps : steps ≤ 4 * width target.resolution * target.resolution * target.resolution + 8 * target.resolution + 2000
+  pub few_bots : HasAtMost source light_profile commands 20
+  pub halt_alone : source ≡ target → commands ≡ Halt ∷ []

@@ -1,0 +1,57 @@
+-- How often a run touches voxels at most (this project's own: docs/FORMATS.md, "Levels and work").
+use Rattle.std.specs.Prelude.{◌≡◌, ℕ, List, ◌++◌, Option, Some, MatchBool, ⊤}
+use Rattle.nano_spec.specs.declared.commands.Command.{Command}
+use Rattle.nano_spec.specs.declared.system.Profile.{Profile}
+use Rattle.nano_spec.specs.Cutting.{AreCommands, RestOf}
+use Rattle.nano_spec.specs.Matrix.{Matrix}
+use Rattle.nano_spec.specs.Profile.{full_profile, light_profile}
+use Rattle.nano_spec.specs.Spelling.{spellings}
+use Rattle.step_machine.specs.Payment.{IsPaid, IsWithinWorkOfRun}
+use Rattle.trace_codec.specs.Decoder.{DecoderState, HasTaken}
+use Rattle.vox_depot.specs.Files.{Files, content}
+use Rattle.nanobot_rows.specs.Reading.{AreModels, RunState}
+use Rattle.nanobot_words.specs.Rows.{Row, light, run}
+
+-- ---- the bound
+
+-- the commands of the longest front of the bytes that is a join of spellings
+abbrev pub AreInFront : List ℕ → List Command → Type 0
+AreInFront bytes commands = (rest : List ℕ) × RestOf bytes rest × AreCommands commands × (bytes ≡ spellings commands ++ rest)
+
+-- the bytes begin with the spellings of the commands
+pub record BeginWith (bytes : List ℕ) (commands : List Command) : Type 0 where
+  pub are_commands : AreCommands commands
+  pub rest : List ℕ
+  pub bytes_are : bytes ≡ spellings commands ++ rest
+
+-- from before to after there are at most a hundred touches for each voxel of the source and for each part of a work: of that of the longest
+-- front of the trace, and of that of commands that the trace begins with
+pub record IsWithin (profile : Profile) (source : Matrix) (bytes : List ℕ) (before after : ℕ) : Type 0 where
+  pub longest : (commands : List Command) → AreInFront bytes commands → IsWithinWorkOfRun source commands profile before after
+  pub given : (commands : List Command) × BeginWith bytes commands × IsWithinWorkOfRun source commands profile before after
+
+-- the same where files are told, and the trace is one of them
+abbrev pub IsWithinFile : Profile → Matrix → Option Files → List ℕ → ℕ → ℕ → Type 0
+IsWithinFile profile source told trace before after = (files : Files) (bytes : List ℕ) → told ≡ Some files → content files trace ≡ Some bytes → IsWithin profile source bytes before after
+
+-- the same of the legal models of a source and a target
+abbrev pub IsRunWithin : Profile → Option (List ℕ) → Option (List ℕ) → List ℕ → Option Files → ℕ → ℕ → Type 0
+IsRunWithin profile source target trace told before after = (files : Files) (from to : Matrix) → told ≡ Some files → AreModels source target files from to → IsWithinFile profile from told trace before after
+
+-- the same of a row that runs a trace
+abbrev pub IsRowWithin : Row → Option Files → ℕ → ℕ → Type 0
+IsRowWithin (run source target trace) told before after = IsRunWithin full_profile source target trace told before after
+IsRowWithin (light source target trace) told before after = IsRunWithin light_profile source target trace told before after
+IsRowWithin row told before after = ⊤
+
+-- ---- a trace that comes in pieces
+
+-- the commands that a decoder has given of the bytes
+abbrev pub HasGiven : List ℕ → List Command → DecoderState → Type 0
+HasGiven bytes commands decoder = MatchBool decoder.failed (BeginWith bytes commands) (HasTaken bytes commands decoder)
+
+-- the touches from start to now are paid for by the work of the commands that were given, with any that follow
+pub record HasPaid (source : Matrix) (profile : Profile) (bytes : List ℕ) (s : RunState) (start now : ℕ) : Type 0 where
+  pub commands : List Command
+  pub given : HasGiven bytes commands s.decoder
+  pub paid : IsPaid source profile commands s.run.progress start now

@@ -1,0 +1,72 @@
+//! The row `debug`: a trace, walked as a script says.
+ghost use Rattle.std.specs.Prelude.{◌≡◌, ◌≤◌, IfOk, None};
+ghost use Rattle.vox_depot.specs.Causes.{Rose};
+ghost use Rattle.nanobot_words.specs.Rows.{debug as debug_row};
+ghost use Rattle.nanobot_rows.specs.Answer.{AnswerOf};
+ghost use Rattle.nanobot_rows.specs.Effects.{Finishes, IsFor};
+ghost use Rattle.nanobot_rows.specs.Reading.{IsScriptOf, Lacks, Reads, RefusesScript};
+
+use crate::commands::load_trace;
+use crate::effect::{Effect, Message};
+use crate::models::load_model;
+use crate::report::{Report, Who};
+use crate::stop::Stop;
+use debug_script::{ScriptLine, print_session, read_script};
+use std::alloc::Global;
+use std::sync::ledger::Ledger;
+use vox_depot::{Depot, load};
+use vox_geom::Steps;
+
+/// The most bytes of a script.
+const SCRIPT_LIMIT: u64 = 65_536;
+
+/// The lines that the script of a file says. One byte past the limit shows that it is too long, and then no line is read.
+fn load_script<D: Depot>(
+    alloc: Global,
+    depot: &mut D,
+    name: &str,
+    resolution: u16,
+) -> Result<Vec<ScriptLine>, Stop>
+    requires { D.may_fetch name.now }
+    ensures reads { Reads (D.files depot.old) (Rose (D.faults depot.old) (D.faults depot.new)) (λ files script. IsScriptOf files name.now resolution script.items) (RefusesScript name.now resolution) (Lacks name.now) result }
+    ensures files { D.files depot.new ≡ D.files depot.old }
+    ensures later { D.faults depot.old ≤ D.faults depot.new }
+{
+    let bytes = load(alloc, depot, name, SCRIPT_LIMIT + 1)?;
+    if bytes.len() as u64 > SCRIPT_LIMIT {
+        return Err(Stop::Told(Report::TextLong {
+            limit: SCRIPT_LIMIT,
+        }));
+    }
+    match read_script(alloc, bytes.as_slice(), resolution) {
+        Ok(script) => Ok(script),
+        Err(fault) => Err(Stop::of_text(fault)),
+    }
+}
+
+/// `debug`: the lines of a session over the trace from the source on.
+pub fn debug<'a, D: Depot, L: Ledger>(
+    alloc: Global,
+    depot: &mut D,
+    source: &str,
+    trace: &str,
+    script: &str,
+    steps: &mut Steps<L>,
+) -> Result<Effect<'a>, Stop>
+    requires source { D.may_fetch source.now }
+    requires trace { D.may_fetch trace.now }
+    requires script { D.may_fetch script.now }
+    ensures finishes { Finishes (AnswerOf (debug_row source.now trace.now script.now)) (D.files depot.old) (Rose (D.faults depot.old) (D.faults depot.new)) result }
+    ensures named { IfOk result (IsFor None) }
+    ensures files { D.files depot.new ≡ D.files depot.old }
+    ensures later { D.faults depot.old ≤ D.faults depot.new }
+{
+    let planes = load_model(alloc, depot, source, Who::Source)?;
+    let commands = load_trace(alloc, depot, trace)?;
+    let script = load_script(alloc, depot, script, planes.resolution())?;
+    let lines = print_session(alloc, planes, commands, script.as_slice(), steps)?;
+    Ok(Effect {
+        message: Message::Session(lines),
+        file: None,
+    })
+}

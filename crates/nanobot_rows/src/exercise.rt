@@ -1,0 +1,82 @@
+//! The row `exercise`: both plans of a forged model, judged.
+ghost use Rattle.std.specs.Prelude.{◌≡◌, ◌≤◌, ℕ, IfOk, Option};
+ghost use Rattle.vox_depot.specs.Causes.{Rose};
+ghost use Rattle.vox_depot.specs.Files.{Files};
+ghost use Rattle.nano_spec.specs.Matrix.{empty};
+ghost use Rattle.nano_spec.specs.Profile.{full_profile};
+ghost use Rattle.nano_spec.specs.declared.outcomes.Verdict.TheVariants.{Accepted};
+ghost use Rattle.nano_spec.specs.Verdict.{VerdictOf};
+ghost use Rattle.nanobot_words.specs.Rows.{exercise as exercise_row};
+ghost use Rattle.nanobot_rows.specs.Answer.{AnswerOf};
+ghost use Rattle.nanobot_rows.specs.Reading.{Ends};
+
+use crate::report::{Cost, Report};
+use crate::stop::Stop;
+use group_planner::plan_groups;
+use layer_planner::plan_layers;
+use model_forge::forge;
+use nano_spec::{Verdict, one_verdict};
+use plan_tape::Plan;
+use std::alloc::Global;
+use std::sync::ledger::Ledger;
+use step_machine::judge;
+use system_state::know_all;
+use vox_geom::{MOST_R, Memory, Steps};
+use vox_planes::Planes;
+
+/// The most commands that the machine is given at once. No plan of a forged model has more.
+const MOST_COMMANDS: usize = 1_073_741_824;
+
+/// What an accepted plan from the empty model to a target costs, by the machine; a plan of more commands than it is given at
+/// once is told by its own numbers, which are proved.
+fn judge_plan<L: Ledger>(
+    alloc: Global,
+    target: &Planes,
+    plan: &Plan,
+    steps: &mut Steps<L>,
+) -> Result<Cost, Memory>
+    requires accepted { VerdictOf (empty target.now.resolution) target.now plan.now.commands full_profile (Accepted plan.now.energy plan.now.steps) }
+    ensures { IfOk result (λ cost. cost ≡ record { energy = plan.now.energy; steps = plan.now.steps }) }
+{
+    one_verdict();
+    let commands = plan.commands.as_slice();
+    if commands.len() > MOST_COMMANDS {
+        return Ok(Cost {
+            energy: plan.energy,
+            steps: plan.steps,
+        });
+    }
+    let nothing = Planes::empty(alloc, target.resolution())?;
+    match judge(alloc, nothing, target, commands, steps)? {
+        Verdict::Accepted { energy, steps } => Ok(Cost { energy, steps }),
+        Verdict::Refused(_) => unreachable!(),
+    }
+}
+
+/// `exercise`: what the plans of the layer planner and of the group planner cost that make a forged model of nothing.
+pub fn exercise<L: Ledger>(
+    alloc: Global,
+    number: u32,
+    resolution: u16,
+    steps: &mut Steps<L>,
+) -> Result<Report, Stop>
+    requires some { 1 ≤ resolution }
+    requires most { resolution ≤ MOST_R }
+    ensures ends { (told : Option Files) (before now : ℕ) → Ends (AnswerOf (exercise_row number resolution)) told (Rose before now) result }
+{
+    let target = forge(alloc, number, resolution)?;
+    let nothing = Planes::empty(alloc, resolution)?;
+    let first = plan_layers(alloc, &nothing, &target)?;
+    know_all(first.commands.as_slice());
+    let layer = judge_plan(alloc, &target, &first, steps)?;
+    let second = plan_groups(alloc, &nothing, &target)?;
+    know_all(second.commands.as_slice());
+    let group = judge_plan(alloc, &target, &second, steps)?;
+    Ok(Report::Exercised {
+        number,
+        resolution,
+        full: target.count(steps),
+        layer,
+        group,
+    })
+}

@@ -1,0 +1,22 @@
+//! What each row of the table of words comes to (docs/FORMATS.md, "Printed lines"): files are read, and what is to be told and
+//! stored is answered, but nothing is stored or written yet.
+#![tactic(auto)]
+
+mod commands;
+mod debugging;
+mod effect;
+mod exercise;
+mod models;
+mod plans;
+mod report;
+mod rows;
+mod status;
+mod stop;
+mod trace;
+mod trace_run;
+
+pub use effect::{Effect, Message, NewFile};
+pub use report::{Cost, Report, Who};
+pub use rows::answer;
+pub use status::Status;
+pub use stop::Stop;

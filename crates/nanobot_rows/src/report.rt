@@ -1,0 +1,303 @@
+//! What is told of a call, and its lines.
+ghost use Rattle.std.specs.List.{concat};
+ghost use Rattle.std.specs.Prelude.{◌≡◌, ◌∷◌, [], IfOk, codes, decimal, length, string_bytes};
+ghost use Rattle.nanobot_rows.specs.Report.{exercised_head as exercised_head_of, exercised_line as exercised_line_of, line_of, model_line as model_line_of, of_verdict, status_of, text_line as text_line_of, who_of};
+
+use crate::status::Status;
+use debug_script::broken_line;
+use model_file::ModelFault;
+use nano_spec::{Broken, Command, Verdict};
+use plan_tape::Plan;
+use std::alloc::{AllocError, Global};
+use trace_text::TextFault;
+use vox_geom::Coord;
+
+/// Whose model is refused.
+#[derive(Clone, Copy, PartialEq, Eq, Debug)]
+pub enum Who {
+    Model,
+    Source,
+    Target,
+}
+
+/// What is told of a call whose files could be read: each report has a status and a line.
+#[derive(Clone, Copy, PartialEq, Eq, Debug)]
+pub enum Report {
+    /// A run was accepted.
+    Accepted {
+        energy: i64,
+        steps: u32,
+    },
+    /// A model is legal, and so many of its voxels are full.
+    Legal {
+        resolution: u16,
+        full: u32,
+    },
+    /// A file of so many bytes has the bytes, or the text, of so many commands.
+    Stored {
+        commands: u64,
+        bytes: u64,
+    },
+    /// A model was forged, and so many of its voxels are full.
+    Forged {
+        resolution: u16,
+        full: u32,
+    },
+    /// A plan of so many commands, spelled in so many bytes, is accepted with this energy in so many steps.
+    Planned {
+        energy: i64,
+        steps: u32,
+        commands: u64,
+        bytes: u64,
+    },
+    /// A rule was broken.
+    Broken(Broken),
+    /// A model was refused.
+    Model {
+        who: Who,
+        fault: ModelFault,
+    },
+    /// The source and the target have different resolutions.
+    Resolutions {
+        source: u16,
+        target: u16,
+    },
+    /// What begins at the offset of a trace is no command.
+    TraceBad {
+        offset: u64,
+    },
+    /// A trace ends within the command that begins there.
+    TraceCut {
+        offset: u64,
+    },
+    /// A trace has more bytes than that.
+    TraceLong {
+        limit: u64,
+    },
+    /// A text was refused.
+    Text(TextFault),
+    /// A text has more bytes than that.
+    TextLong {
+        limit: u64,
+    },
+    /// A plan of the group planner may have too many bytes, by so many runs and rows of both models.
+    GroupLong {
+        runs: u64,
+        rows: u64,
+    },
+    /// A part of the target is unsupported: the least voxel of all such parts.
+    Unsupported {
+        at: Coord,
+    },
+    /// A model was forged, and what both plans of it cost.
+    Exercised {
+        number: u32,
+        resolution: u16,
+        full: u32,
+        layer: Cost,
+        group: Cost,
+    },
+}
+
+/// The energy and the number of steps of an accepted plan.
+#[derive(Clone, Copy, PartialEq, Eq, Debug)]
+pub struct Cost {
+    pub energy: i64,
+    pub steps: u32,
+}
+
+impl Who {
+    /// The word of the line.
+    fn name(self) -> &'static str
+        ensures { result.now ≡ who_of self }
+    {
+        match self {
+            Who::Model => "model",
+            Who::Source => "source",
+            Who::Target => "target",
+        }
+    }
+}
+
+/// The line of a coordinate.
+fn at_line(alloc: Global, who: &str, refusal: &str, at: Coord) -> Result<String, AllocError>
+    ensures { IfOk result (λ s. string_bytes s ≡ concat (who.now ∷ refusal.now ∷ codes " " ∷ decimal at.x ∷ codes " " ∷ decimal at.y ∷ codes " " ∷ decimal at.z ∷ codes "\n" ∷ [])) }
+{
+    format!(in alloc; "{who}{refusal} {} {} {}\n", at.x, at.y, at.z)
+}
+
+/// The line of a model that was refused.
+fn model_line(alloc: Global, who: Who, fault: ModelFault) -> Result<String, AllocError>
+    ensures { IfOk result (λ s. string_bytes s ≡ model_line_of who fault) }
+{
+    let who = who.name();
+    match &fault {
+        ModelFault::NoByte => format!(in alloc; "{who} 1 NoByte\n"),
+        ModelFault::Resolution { r } => format!(in alloc; "{who} 2 Resolution {r}\n"),
+        ModelFault::Short { want, have } => {
+            format!(in alloc; "{who} 3 Short want {want} have {have}\n")
+        }
+        ModelFault::Long { want } => format!(in alloc; "{who} 4 Long want {want}\n"),
+        ModelFault::Memory => format!(in alloc; "{who} 5 Memory\n"),
+        ModelFault::Border { at } => at_line(alloc, who, " 6 Border at", *at),
+        ModelFault::Floating { at } => at_line(alloc, who, " 7 Floating at", *at),
+        ModelFault::WideHead { have } => format!(in alloc; "{who} 8 WideHead have {have}\n"),
+        ModelFault::WideResolution { r } => format!(in alloc; "{who} 9 WideResolution {r}\n"),
+        ModelFault::WideRun { index } => format!(in alloc; "{who} 10 WideRun index {index}\n"),
+        ModelFault::WideShort { have } => format!(in alloc; "{who} 11 WideShort have {have}\n"),
+        ModelFault::WideLong => format!(in alloc; "{who} 12 WideLong\n"),
+    }
+}
+
+/// The line of a text that was refused.
+fn text_line(alloc: Global, fault: TextFault) -> Result<String, AllocError>
+    ensures { IfOk result (λ s. string_bytes s ≡ text_line_of fault) }
+{
+    match &fault {
+        TextFault::NotAscii { line } => format!(in alloc; "text 1 NotAscii line {line}\n"),
+        TextFault::UnknownWord { line } => format!(in alloc; "text 2 UnknownWord line {line}\n"),
+        TextFault::Shape { line } => format!(in alloc; "text 3 Shape line {line}\n"),
+        TextFault::Range { line } => format!(in alloc; "text 4 Range line {line}\n"),
+        TextFault::Memory => format!(in alloc; "text 5 Memory\n"),
+    }
+}
+
+/// The line of a target with an unsupported part.
+fn unsupported_line(alloc: Global, at: Coord) -> Result<String, AllocError>
+    ensures { IfOk result (λ s. string_bytes s ≡ concat (codes "unsupported at " ∷ decimal at.x ∷ codes " " ∷ decimal at.y ∷ codes " " ∷ decimal at.z ∷ codes "\n" ∷ [])) }
+{
+    format!(in alloc; "unsupported at {} {} {}\n", at.x, at.y, at.z)
+}
+
+/// The line of a forged model up to what its plans cost.
+fn exercised_head(
+    alloc: Global,
+    number: u32,
+    resolution: u16,
+    full: u32,
+) -> Result<String, AllocError>
+    ensures { IfOk result (λ s. string_bytes s ≡ exercised_head_of number resolution full) }
+{
+    format!(in alloc; "exercise number {number} resolution {resolution} full {full} layer")
+}
+
+/// The line of a forged model and what its plans cost.
+fn exercised_line(alloc: Global, head: &str, layer: Cost, group: Cost) -> Result<String, AllocError>
+    ensures { IfOk result (λ s. string_bytes s ≡ exercised_line_of head.now layer group) }
+{
+    format!(in alloc;
+        "{head} energy {} steps {} group energy {} steps {}\n",
+        layer.energy, layer.steps, group.energy, group.steps
+    )
+}
+
+impl Report {
+    /// The report of a verdict.
+    pub fn of_verdict(verdict: Verdict) -> Report
+        ensures { result ≡ of_verdict verdict }
+    {
+        match verdict {
+            Verdict::Accepted { energy, steps } => Report::Accepted { energy, steps },
+            Verdict::Refused(broken) => Report::Broken(broken),
+        }
+    }
+
+    /// The report on a file that has these bytes, of so many commands.
+    pub fn stored(commands: &[Command], bytes: &[u8]) -> Report
+        ensures { result ≡ Report.Stored (length commands.now) (length bytes.now) }
+    {
+        Report::Stored {
+            commands: commands.len() as u64,
+            bytes: bytes.len() as u64,
+        }
+    }
+
+    /// The report on a plan whose commands have these bytes.
+    pub fn planned(plan: &Plan, bytes: &[u8]) -> Report
+        ensures { result ≡ Report.Planned plan.now.energy plan.now.steps (length plan.now.commands) (length bytes.now) }
+    {
+        Report::Planned {
+            energy: plan.energy,
+            steps: plan.steps,
+            commands: plan.commands.as_slice().len() as u64,
+            bytes: bytes.len() as u64,
+        }
+    }
+
+    /// The status of the report.
+    pub fn status(&self) -> Status
+        ensures { result ≡ status_of self.now }
+    {
+        match self {
+            Report::Accepted { .. }
+            | Report::Legal { .. }
+            | Report::Stored { .. }
+            | Report::Forged { .. }
+            | Report::Planned { .. }
+            | Report::Exercised { .. } => Status::Done,
+            Report::Broken(_) => Status::Broken,
+            Report::Model { .. } | Report::Resolutions { .. } | Report::GroupLong { .. } => {
+                Status::Model
+            }
+            Report::TraceBad { .. } | Report::TraceCut { .. } | Report::TraceLong { .. } => {
+                Status::Trace
+            }
+            Report::Text(_) | Report::TextLong { .. } => Status::Text,
+            Report::Unsupported { .. } => Status::Unsupported,
+        }
+    }
+
+    /// The line of the report.
+    pub fn line(&self, alloc: Global) -> Result<String, AllocError>
+        ensures { IfOk result (λ s. string_bytes s ≡ line_of self.now) }
+    {
+        match self {
+            Report::Accepted { energy, steps } => {
+                format!(in alloc; "ok energy {energy} steps {steps}\n")
+            }
+            Report::Legal { resolution, full } => {
+                format!(in alloc; "legal resolution {resolution} full {full}\n")
+            }
+            Report::Stored { commands, bytes } => {
+                format!(in alloc; "commands {commands} bytes {bytes}\n")
+            }
+            Report::Forged { resolution, full } => {
+                format!(in alloc; "model resolution {resolution} full {full}\n")
+            }
+            Report::Planned {
+                energy,
+                steps,
+                commands,
+                bytes,
+            } => {
+                format!(in alloc;
+                    "plan energy {energy} steps {steps} commands {commands} bytes {bytes}\n"
+                )
+            }
+            Report::Broken(broken) => broken_line(alloc, broken),
+            Report::Model { who, fault } => model_line(alloc, *who, *fault),
+            Report::Resolutions { source, target } => {
+                format!(in alloc; "resolutions {source} {target}\n")
+            }
+            Report::TraceBad { offset } => format!(in alloc; "trace bad at {offset}\n"),
+            Report::TraceCut { offset } => format!(in alloc; "trace cut at {offset}\n"),
+            Report::TraceLong { limit } => format!(in alloc; "trace longer than {limit}\n"),
+            Report::Text(fault) => text_line(alloc, *fault),
+            Report::TextLong { limit } => format!(in alloc; "text longer than {limit}\n"),
+            Report::GroupLong { runs, rows } => {
+                format!(in alloc; "group plan too long runs {runs} rows {rows}\n")
+            }
+            Report::Unsupported { at } => unsupported_line(alloc, *at),
+            Report::Exercised {
+                number,
+                resolution,
+                full,
+                layer,
+                group,
+            } => {
+                let head = exercised_head(alloc, *number, *resolution, *full)?;
+                exercised_line(alloc, head.as_str(), *layer, *group)
+            }
+        }
+    }
+}

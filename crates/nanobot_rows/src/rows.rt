@@ -1,0 +1,199 @@
+//! What each row of the table of words asks for.
+ghost use Rattle.std.specs.Prelude.{◌≡◌, ◌≤◌, ℕ, All, Err, IfOk, List, Option, Some, None};
+ghost use Rattle.vox_depot.specs.Causes.{Rose};
+ghost use Rattle.vox_depot.specs.Files.{Files};
+ghost use Rattle.nanobot_words.specs.Parsing.{row_of, side_of};
+ghost use Rattle.nanobot_words.specs.Rows.{IsOfTable, asm as asm_row, check as check_row, dis as dis_row, make as make_row, reads_of, stores_of};
+ghost use Rattle.nanobot_rows.specs.Answer.{AnswerOf, AnswerOfRun};
+ghost use Rattle.nanobot_rows.specs.Effects.{Finishes, IsFor};
+ghost use Rattle.nanobot_rows.specs.Reading.{Ends};
+ghost use Rattle.nanobot_rows.specs.Touching.{IsRowWithin, IsRunWithin};
+
+use crate::commands::{load_text, load_trace};
+use crate::debugging::debug;
+use crate::effect::Effect;
+use crate::exercise::exercise;
+use crate::models::{load_model, load_models};
+use crate::plans::{plan_group, plan_layer, plan_low, plan_swarm, plan_void};
+use crate::report::{Report, Who};
+use crate::stop::Stop;
+use crate::trace::run_trace;
+use model_file::write_model;
+use model_forge::forge;
+use nano_spec::Profile;
+use nanobot_words::{Row, Side};
+use std::alloc::Global;
+use std::sync::ledger::Ledger;
+use step_machine::every_run_has_work;
+use trace_codec::encode_all;
+use trace_text::print_trace;
+use vox_depot::Depot;
+use vox_geom::{MOST_R, Steps};
+
+/// `check`: the resolution and the number of full voxels of a legal model.
+fn check<D: Depot, L: Ledger>(
+    alloc: Global,
+    depot: &mut D,
+    model: &str,
+    steps: &mut Steps<L>,
+) -> Result<Report, Stop>
+    requires { D.may_fetch model.now }
+    ensures ends { Ends (AnswerOf (check_row model.now)) (D.files depot.old) (Rose (D.faults depot.old) (D.faults depot.new)) result }
+    ensures files { D.files depot.new ≡ D.files depot.old }
+    ensures later { D.faults depot.old ≤ D.faults depot.new }
+{
+    let planes = load_model(alloc, depot, model, Who::Model)?;
+    Ok(Report::Legal {
+        resolution: planes.resolution(),
+        full: planes.count(steps),
+    })
+}
+
+/// `run` and `run light`: the verdict of a trace from a source to a target, by a profile.
+fn run<D: Depot, L: Ledger>(
+    alloc: Global,
+    depot: &mut D,
+    source: Side<'_>,
+    target: Side<'_>,
+    trace: &str,
+    profile: Profile,
+    steps: &mut Steps<L>,
+) -> Result<Report, Stop>
+    requires source { (name : List ℕ) → side_of source ≡ Some name → D.may_fetch name }
+    requires target { (name : List ℕ) → side_of target ≡ Some name → D.may_fetch name }
+    requires trace { D.may_fetch trace.now }
+    requires some { side_of source ≡ None → side_of target ≡ None → ⊥ }
+    requires seeds { profile.seeds ≤ 39 }
+    ensures ends { Ends (AnswerOfRun profile (side_of source.entry) (side_of target.entry) trace.now) (D.files depot.old) (Rose (D.faults depot.old) (D.faults depot.new)) result }
+    ensures files { D.files depot.new ≡ D.files depot.old }
+    ensures later { D.faults depot.old ≤ D.faults depot.new }
+    ensures within { (result ≡ Err Stop.Memory → ⊥) → IsRunWithin profile (side_of source.entry) (side_of target.entry) trace.now (D.files depot.old) steps.old steps.new }
+{
+    every_run_has_work();
+    let (source, target) = load_models(alloc, depot, source, target)?;
+    run_trace(alloc, depot, trace, source, &target, profile, steps)
+}
+
+/// `asm`: the bytes of the commands that a text says.
+fn asm<'a, D: Depot>(
+    alloc: Global,
+    depot: &mut D,
+    text: &str,
+    trace: &'a str,
+) -> Result<Effect<'a>, Stop>
+    requires { D.may_fetch text.now }
+    ensures finishes { Finishes (AnswerOf (asm_row text.now trace.now)) (D.files depot.old) (Rose (D.faults depot.old) (D.faults depot.new)) result }
+    ensures named { IfOk result (IsFor (Some trace.now)) }
+    ensures files { D.files depot.new ≡ D.files depot.old }
+    ensures later { D.faults depot.old ≤ D.faults depot.new }
+{
+    let commands = load_text(alloc, depot, text)?;
+    let bytes = encode_all(alloc, commands.as_slice())?;
+    let report = Report::stored(commands.as_slice(), bytes.as_slice());
+    Ok(Effect::storing(report, trace, bytes))
+}
+
+/// `dis`: the text of the commands of a trace.
+fn dis<'a, D: Depot>(
+    alloc: Global,
+    depot: &mut D,
+    trace: &str,
+    text: &'a str,
+) -> Result<Effect<'a>, Stop>
+    requires { D.may_fetch trace.now }
+    ensures finishes { Finishes (AnswerOf (dis_row trace.now text.now)) (D.files depot.old) (Rose (D.faults depot.old) (D.faults depot.new)) result }
+    ensures named { IfOk result (IsFor (Some text.now)) }
+    ensures files { D.files depot.new ≡ D.files depot.old }
+    ensures later { D.faults depot.old ≤ D.faults depot.new }
+{
+    let commands = load_trace(alloc, depot, trace)?;
+    let bytes = print_trace(alloc, commands.as_slice())?;
+    let report = Report::stored(commands.as_slice(), bytes.as_slice());
+    Ok(Effect::storing(report, text, bytes))
+}
+
+/// `make`: the model that is forged of a number.
+fn make<'a, L: Ledger>(
+    alloc: Global,
+    number: u32,
+    resolution: u16,
+    model: &'a str,
+    steps: &mut Steps<L>,
+) -> Result<Effect<'a>, Stop>
+    requires some { 1 ≤ resolution }
+    requires most { resolution ≤ MOST_R }
+    ensures finishes { (told : Option Files) (before now : ℕ) → Finishes (AnswerOf (make_row number resolution model.now)) told (Rose before now) result }
+    ensures named { IfOk result (IsFor (Some model.now)) }
+{
+    let planes = forge(alloc, number, resolution)?;
+    let bytes = write_model(alloc, &planes)?;
+    let report = Report::Forged {
+        resolution,
+        full: planes.count(steps),
+    };
+    Ok(Effect::storing(report, model, bytes))
+}
+
+/// What a row of the table comes to. Files are read, and none is stored yet.
+pub fn answer<'a, D: Depot, L: Ledger>(
+    alloc: Global,
+    row: Row<'a>,
+    depot: &mut D,
+    steps: &mut Steps<L>,
+) -> Result<Effect<'a>, Stop>
+    requires may_fetch { All D.may_fetch (reads_of (row_of row)) }
+    requires of_table { IsOfTable (row_of row) }
+    ensures finishes { Finishes (AnswerOf (row_of row.entry)) (D.files depot.old) (Rose (D.faults depot.old) (D.faults depot.new)) result }
+    ensures named { IfOk result (IsFor (stores_of (row_of row.entry))) }
+    ensures files { D.files depot.new ≡ D.files depot.old }
+    ensures later { D.faults depot.old ≤ D.faults depot.new }
+    ensures within { (result ≡ Err Stop.Memory → ⊥) → IsRowWithin (row_of row.entry) (D.files depot.old) steps.old steps.new }
+{
+    match row {
+        Row::Check { model } => Effect::telling(check(alloc, depot, model, steps)),
+        Row::Run {
+            source,
+            target,
+            trace,
+        } => {
+            let full = Profile::full();
+            Effect::telling(run(alloc, depot, source, target, trace, full, steps))
+        }
+        Row::Light {
+            source,
+            target,
+            trace,
+        } => {
+            let light = Profile::light();
+            Effect::telling(run(alloc, depot, source, target, trace, light, steps))
+        }
+        Row::Asm { text, trace } => asm(alloc, depot, text, trace),
+        Row::Dis { trace, text } => dis(alloc, depot, trace, text),
+        Row::Make {
+            number,
+            resolution,
+            model,
+        } => make(alloc, number, resolution, model, steps),
+        Row::PlanLayer {
+            source,
+            target,
+            trace,
+        } => plan_layer(alloc, depot, source, target, trace),
+        Row::PlanGroup {
+            source,
+            target,
+            trace,
+        } => plan_group(alloc, depot, source, target, trace),
+        Row::PlanVoid { source, trace } => plan_void(alloc, depot, source, trace),
+        Row::PlanLow { target, trace } => plan_low(alloc, depot, target, trace),
+        Row::PlanSwarm { target, trace } => plan_swarm(alloc, depot, target, trace),
+        Row::Exercise { number, resolution } => {
+            Effect::telling(exercise(alloc, number, resolution, steps))
+        }
+        Row::Debug {
+            source,
+            trace,
+            script,
+        } => debug(alloc, depot, source, trace, script, steps),
+    }
+}

@@ -1,0 +1,61 @@
+//! Traces of files, in pieces.
+ghost use Rattle.std.specs.Prelude.{◌≡◌, ◌≤◌, Err, None};
+ghost use Rattle.nano_spec.specs.Grounded.{FirstUngrounded};
+ghost use Rattle.vox_depot.specs.Causes.{Rose};
+ghost use Rattle.nanobot_rows.specs.Answer.{run_limit};
+ghost use Rattle.nanobot_rows.specs.Reading.{Lacks, OnFile, Reads, tells_nothing};
+ghost use Rattle.nanobot_rows.specs.Touching.{IsWithinFile};
+
+use crate::report::Report;
+use crate::stop::Stop;
+use crate::trace_run::TraceRun;
+use nano_spec::Profile;
+use std::alloc::Global;
+use std::sync::ledger::Ledger;
+use step_machine::{every_run_has_work, the_work_pays};
+use vox_depot::Depot;
+use vox_geom::Steps;
+use vox_planes::Planes;
+
+/// The most bytes of a trace that is run.
+const LIMIT: u64 = 1_073_741_824;
+
+/// How much one fetch asks for.
+const PIECE: usize = 65536;
+
+/// What comes of the trace of a file. It is read in pieces to its end, or up to its first byte past the limit.
+pub fn run_trace<D: Depot, L: Ledger>(
+    alloc: Global,
+    depot: &mut D,
+    name: &str,
+    source: Planes,
+    target: &Planes,
+    profile: Profile,
+    steps: &mut Steps<L>,
+) -> Result<Report, Stop>
+    requires may_fetch { D.may_fetch name.now }
+    requires grounded { FirstUngrounded source None }
+    requires seeds { profile.seeds ≤ 39 }
+    requires resolutions { source.resolution ≡ target.now.resolution }
+    ensures reads { Reads (D.files depot.old) (Rose (D.faults depot.old) (D.faults depot.new)) (OnFile run_limit profile source target.now name.now) tells_nothing (Lacks name.now) result }
+    ensures files { D.files depot.new ≡ D.files depot.old }
+    ensures later { D.faults depot.old ≤ D.faults depot.new }
+    ensures within { (result ≡ Err Stop.Memory → ⊥) → IsWithinFile profile source (D.files depot.old) name.now steps.old steps.new }
+{
+    the_work_pays();
+    every_run_has_work();
+    let mut run = TraceRun::start(alloc, source, profile, steps)?;
+    let mut buf = [0u8; PIECE];
+    let mut at = 0;
+    'pieces: loop {
+        let count = depot.fetch(name, at, &mut buf)?;
+        if count == 0 {
+            return Ok(run.finish(target, steps));
+        }
+        at += count as u64;
+        if at > LIMIT {
+            return Ok(Report::TraceLong { limit: LIMIT });
+        }
+        run.feed(&buf[..count], steps)?;
+    }
+}
