@@ -81,7 +81,8 @@ module _ (old : Matrix) (undo : Undo) (h : HaveChanged old undo) where
       by c (inr i) = in_filter (differ_at old (matrix_before old undo.filled.items undo.voided.items)) c (all_of old) (in_coordinates old.resolution c (voided_is c i).0) (voided_differs c i)
 
   pub touched_back : (began ended : ℕ) → IsUndoneBy old undo.filled.items undo.voided.items began ended → IsTouchedBack old (matrix_before old undo.filled.items undo.voided.items) began ended
-  touched_back began ended paid = λ first middle last f m l.
-      let t = paid first middle last f (subst (λ (n : Matrix). Levels n middle) common_is m) l in
+  touched_back began ended paid =
+      let l = paid.0 in
+      let t = paid.1 in
       let few = all_differ in
-      omega (arith, t, few)
+      (record { first = l.first; middle = l.middle; last = l.last; first_are = l.first_are; middle_are = subst (λ (n : Matrix). Levels n l.middle) (sym common_is) l.middle_are; last_are = l.last_are }, omega (arith, t, few))

@@ -69,9 +69,21 @@ abbrev pub without_note : Result (StepOk × Undo) StepFault → Result StepOk St
 without_note (Ok made) = Ok made.0
 without_note (Err fault) = Err fault
 
+-- the levels of three matrices, each of which follows from the one before it
+pub record LevelsThrough (old between new : Matrix) : Type 0 where
+  pub first : List (Option ℕ)
+  pub middle : List (Option ℕ)
+  pub last : List (Option ℕ)
+  pub first_are : Levels old first
+  pub middle_are : Levels between middle
+  pub last_are : Levels new last
+
+-- how many voxels change their level by the first of two changes, and how many by the second
+abbrev pub moved : {old between new : Matrix} → LevelsThrough old between new → ℕ
+moved levels = differing levels.first levels.middle + differing levels.middle levels.last
+
 -- a step is taken back by at most a hundred touches for each voxel of its note, for each voxel whose level changes by what is made
 -- void, and for each whose level changes then by what is made full
 abbrev pub IsUndoneBy : Matrix → List Coord → List Coord → ℕ → ℕ → Type 0
 IsUndoneBy m filled voided began ended =
-    (first middle last : List (Option ℕ)) → Levels m first → Levels (without_filled m filled) middle → Levels (matrix_before m filled voided) last
-    → ended ≤ began + 100 * (length filled + length voided + differing first middle + differing middle last)
+    (levels : LevelsThrough m (without_filled m filled) (matrix_before m filled voided)) × (ended ≤ began + 100 * (length filled + length voided + moved levels))

@@ -301,3 +301,7 @@ placed_added old new cells c before after l e a p = record {
 pub when : (b : Bool) (P Q : Type 0) → b ≡ true → MatchBool b P Q → P
 when true P Q e h = h
 when false P Q e h = cc
+
+pub unless : (b : Bool) (P Q : Type 0) → b ≡ false → MatchBool b P Q → Q
+unless false P Q e h = h
+unless true P Q e h = cc

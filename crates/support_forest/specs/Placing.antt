@@ -1,10 +1,12 @@
 -- A voxel that becomes full beside others whose levels stay as they are.
-use Rattle.std.specs.Prelude.{◌≡◌, true, ℕ, ◌+◌, ◌*◌, ◌/◌, ◌<◌, ◌≤◌, ◌⊎◌}
+use Rattle.std.specs.Prelude.{◌≡◌, true, ℕ, ◌+◌, ◌*◌, ◌/◌, ◌<◌, ◌≤◌, ◌⊎◌, List, length}
+use Rattle.std.specs.List.{Contains}
 use Rattle.vox_geom.specs.declared.coordinate.Coord.{Coord}
 use Rattle.support_forest.specs.declared.beside.Beside.{Beside}
 use Rattle.support_forest.specs.declared.place.Around.{Around}
 use Rattle.support_forest.specs.Directions.{Toward}
 use Rattle.support_forest.specs.Grid.{Grid, word_at}
+use Rattle.support_forest.specs.Waiting.{CanAdd}
 use Rattle.support_forest.specs.Words.{height, AreExact, IsSound}
 
 -- what lies around a void voxel, as far as the directions below d lead
@@ -49,3 +51,14 @@ pub record HavePlaced (old new : Grid) (c : Coord) (before after : ℕ) : Type 0
   pub full : 0 < word_at new c
   pub kept : (d : Coord) → (d ≡ c → ⊥) → word_at new d ≡ word_at old d
   pub cost : after ≤ before + 7
+
+-- those of the voxels that change no other level became full, one after another, and the rest may still be added
+pub record ArePlaced (old new : Grid) (cells rest : List Coord) (before after : ℕ) : Type 0 where
+  pub resolution : new.resolution ≡ old.resolution
+  pub left : CanAdd new rest
+  pub listed : (c : Coord) → Contains rest c → Contains cells c
+  pub full : (c : Coord) → 0 < word_at new c → (0 < word_at old c) ⊎ Contains cells c
+  pub kept : (c : Coord) → 0 < word_at old c → word_at new c ≡ word_at old c
+  pub placed : (c : Coord) → Contains cells c → (0 < word_at new c) ⊎ Contains rest c
+  pub few : length rest ≤ length cells
+  pub cost : after + length rest ≤ before + 7 * length cells

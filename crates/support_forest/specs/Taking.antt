@@ -1,8 +1,10 @@
 -- A voxel that becomes void while the levels of the others stay as they are.
-use Rattle.std.specs.Prelude.{◌≡◌, ℕ, ◌+◌, ◌%◌, ◌≤◌}
+use Rattle.std.specs.Prelude.{◌≡◌, ℕ, ◌+◌, ◌*◌, ◌%◌, ◌≤◌, ◌⊎◌, List, length}
+use Rattle.std.specs.List.{Contains}
 use Rattle.vox_geom.specs.declared.coordinate.Coord.{Coord}
 use Rattle.support_forest.specs.declared.beside.Beside.{Beside}
 use Rattle.support_forest.specs.Grid.{Grid, word_at}
+use Rattle.support_forest.specs.Losing.{CanRemove}
 use Rattle.support_forest.specs.Words.{AreExact}
 
 -- the word says no parent in that direction
@@ -25,3 +27,13 @@ pub record HaveTaken (old new : Grid) (c : Coord) (before after : ℕ) : Type 0 
   pub gone : word_at new c ≡ 0
   pub kept : (d : Coord) → (d ≡ c → ⊥) → word_at new d ≡ word_at old d
   pub cost : after ≤ before + 8
+
+-- those of the voxels on which no other hangs became void, one after another, and the rest may still be removed
+pub record AreTaken (old new : Grid) (gone rest : List Coord) (before after : ℕ) : Type 0 where
+  pub resolution : new.resolution ≡ old.resolution
+  pub left : CanRemove new rest
+  pub listed : (c : Coord) → Contains rest c → Contains gone c
+  pub each : (c : Coord) → (word_at new c ≡ word_at old c) ⊎ ((word_at new c ≡ 0) × Contains gone c)
+  pub taken : (c : Coord) → Contains gone c → (word_at new c ≡ 0) ⊎ Contains rest c
+  pub few : length rest ≤ length gone
+  pub cost : after + 2 * length rest ≤ before + 8 * length gone

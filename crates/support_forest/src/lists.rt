@@ -11,6 +11,7 @@ use vox_geom::Coord;
 pub struct Lists {
     pub orphans: Vec<Orphan>,
     pub fresh: Vec<Coord>,
+    pub rest: Vec<Coord>,
     pub seeds: Vec<Candidate>,
     pub found: VecDeque<Candidate>,
 }
@@ -23,6 +24,7 @@ impl Lists {
         Lists {
             orphans: Vec::new(alloc),
             fresh: Vec::new(alloc),
+            rest: Vec::new(alloc),
             seeds: Vec::new(alloc),
             found: VecDeque::new(alloc),
         }
@@ -44,6 +46,15 @@ impl Lists {
         let mut fresh = mem::replace(&mut self.fresh, Vec::new(alloc));
         fresh.clear();
         fresh
+    }
+
+    /// Takes the list of voxels that are left out, emptied.
+    pub fn take_rest(&mut self, alloc: Global) -> Vec<Coord>
+        ensures { result.items ≡ [] }
+    {
+        let mut rest = mem::replace(&mut self.rest, Vec::new(alloc));
+        rest.clear();
+        rest
     }
 
     /// Takes the list of seeds out, emptied.

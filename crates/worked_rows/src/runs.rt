@@ -4,7 +4,7 @@ use nanobot_app::Status;
 use std::test::Fail;
 
 /// Runs that end in their target.
-const ACCEPTED: [Row; 14] = [
+pub const ACCEPTED: [Row; 14] = [
     (
         "run E3 E3 B",
         &[0xFF],
@@ -100,7 +100,7 @@ const ACCEPTED: [Row; 14] = [
 ];
 
 /// Runs that break a rule.
-const BROKEN: [Row; 20] = [
+pub const BROKEN: [Row; 20] = [
     (
         "run E3 E3 B",
         &[],
@@ -226,7 +226,7 @@ const BROKEN: [Row; 20] = [
 ];
 
 /// Traces and words that are refused. A bad byte wins over a broken step.
-const REFUSED: [Row; 13] = [
+pub const REFUSED: [Row; 13] = [
     ("run E3 E3 B", &[0x04], Status::Trace, "trace bad at 0\n"),
     ("run E3 E3 B", &[0x03], Status::Trace, "trace bad at 0\n"),
     ("run E3 E3 B", &[0x14], Status::Trace, "trace cut at 0\n"),
