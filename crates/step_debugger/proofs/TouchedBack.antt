@@ -14,6 +14,7 @@ use Rattle.step_machine.specs.Undoing.{HaveChanged, IsUndoneBy, matrix_before, w
 use Rattle.step_machine.specs.declared.undo.Undo.{Undo}
 use Rattle.step_machine.proofs.Apart.{Apart, apart_append, holds}
 use Rattle.step_machine.proofs.Sizes.{no_more}
+use Rattle.step_machine.proofs.Weighing.{levels_of_all}
 use Rattle.step_machine.proofs.Taking.{among, full_with, not_among, of_among, of_each}
 use Rattle.step_debugger.specs.Touches.{IsTouchedBack, common}
 
@@ -86,3 +87,11 @@ module _ (old : Matrix) (undo : Undo) (h : HaveChanged old undo) where
       let t = paid.1 in
       let few = all_differ in
       (record { first = l.first; middle = l.middle; last = l.last; first_are = l.first_are; middle_are = subst (λ (n : Matrix). Levels n l.middle) (sym common_is) l.middle_are; last_are = l.last_are }, omega (arith, t, few))
+
+-- no touch is within every bound
+pub untouched : (old new : Matrix) (began : ℕ) → IsTouchedBack old new began began
+untouched old new began =
+    let first = levels_of_all old in
+    let middle = levels_of_all (common old new) in
+    let last = levels_of_all new in
+    (record { first = first.0; middle = middle.0; last = last.0; first_are = first.1; middle_are = middle.1; last_are = last.1 }, omega arith)

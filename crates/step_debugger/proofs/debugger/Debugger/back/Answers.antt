@@ -1,6 +1,10 @@
 use Rattle.std.proofs.Common.{sym, ◌∙◌}
 use Rattle.step_debugger.proofs.Returning.{fewer_taken, kept_back, may_go_back, none_begun, session_back, touches_back}
+use Rattle.step_debugger.proofs.TouchedBack.{untouched}
 use Rattle.step_debugger.proofs.debugger.Debugger.back.Goals as goal
+
+pub returns-then-not-is_empty-clause-touches : goal.returns-then-not-is_empty-clause-touches
+returns-then-not-is_empty-clause-touches g c = untouched _ _ _
 
 pub undo-requires-clause-may : goal.undo-requires-clause-may
 undo-requires-clause-may g c =
