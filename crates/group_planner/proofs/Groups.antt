@@ -176,6 +176,6 @@ module _ (p : Progress) (full : Bool) (k l : Command) (first last : ℕ) (h : Is
         };
         rear_is = rear_is;
         front_is = front_is;
-        steps_are = s.steps;
+        steps_are = omega (arith, s.steps);
         spends = spends p q k l _ p.bots 1 s (subst (λ (c : Command). length (spellings (c ∷ l ∷ [])) ≤ 4 + 4 * 1) (sym ek) (subst (λ (c : Command). length (spellings (all_below full (pos last -ℤ pos first) ∷ c ∷ [])) ≤ 4 + 4 * 1) (sym er) (few full (pos last -ℤ pos first) (pos first -ℤ pos last))));
       }

@@ -182,6 +182,6 @@ module _ (p : Progress) (d e : Diff) (ed : d ≡ ahead (pos 1)) (ee : e ≡ ahea
         harmonics = s.harmonics ∙ h.high;
         alone = ap length bots;
         there = ap spot bots ∙ (stays_there (find (is_pair (first_act a)) all) a (λ (c : Act). fused a c.bot) (λ c. refl) ∙ sym t.rear_is);
-        steps_are = s.steps;
+        steps_are = omega (arith, s.steps);
         spends = let steps = s.steps in let few = s.bytes_are in record { commands_are = omega (arith, added, steps); bytes_are = omega (arith, steps, few) };
       }

@@ -97,7 +97,7 @@ moved_pair p q k l a b h s ea eb row free few =
       };
       rear_is = rear_is;
       front_is = front_is;
-      steps_are = s.steps;
+      steps_are = omega (arith, s.steps);
       spends = spends p q k l p.matrix _ 0 s (omega (arith, few));
     }
 
@@ -233,3 +233,30 @@ module _ (p : Progress) (at next : ℕ) (d : Diff) (h : IsPair p) (here : (rear 
 
   pub rear_moved : (q : Progress) → AllStep p q (SMove d ∷ Wait ∷ []) p.matrix p.harmonics (bots_gone p.bots (SMove d ∷ Wait ∷ [])) → Goes p q (put Z (rear p) next) (front p) 1
   rear_moved q s = moved_pair p q (SMove d) Wait (put Z (rear p) next) (front p) h s behind_led refl behind_in_row h.free (lit≤ tt)
+
+-- ---- both along z
+
+module _ (p : Progress) (behind rear_next ahead front_next : ℕ) (d e : Diff) (h : IsPair p) (rear_here : (rear p).z ≡ behind) (front_here : (front p).z ≡ ahead) (within : front_next < p.matrix.resolution) (clear : rear_next < ahead) (past : behind < front_next) (order : rear_next < front_next) (ed : d ≡ along Z (pos rear_next -ℤ pos behind)) (ee : e ≡ along Z (pos front_next -ℤ pos ahead)) where
+  slid_rear : plus (point (rear p)) d ≡ point (put Z (rear p) rear_next)
+  slid_rear = led Z (rear p) behind rear_next d rear_here ed
+
+  slid_front : plus (point (front p)) e ≡ point (put Z (front p) front_next)
+  slid_front = led Z (front p) ahead front_next e front_here ee
+
+  slid_in_row : AreInRow p.matrix.resolution (put Z (rear p) rear_next) (put Z (front p) front_next)
+  slid_in_row = record { x = h.in_row.x; y = h.in_row.y; z = within; same_x = h.in_row.same_x; same_y = h.in_row.same_y; order = order }
+
+  pub slide_ways : CanMoveAll p (SMove d ∷ SMove e ∷ [])
+  slide_ways =
+      let r = p.matrix.resolution in
+      let a = put Z (rear p) rear_next in
+      let b = put Z (front p) front_next in
+      can_move p (SMove d) (SMove e) h refl refl
+      (free_way p.matrix (rear p) a d slid_rear (rear_within r a b slid_in_row) h.free h.free)
+      (free_way p.matrix (front p) b e slid_front (front_within r a b slid_in_row) (front_free p h) (front_free p h))
+      (subst (λ (q : Point). LieApart (between (point (rear p)) q) (between (point (front p)) (plus (point (front p)) e))) (sym slid_rear)
+      (subst (λ (q : Point). LieApart (between (point (rear p)) (point a)) (between (point (front p)) q)) (sym slid_front)
+      (apart_z (rear p) a (front p) b h.in_row.order (omega (arith, rear_here, past)) (omega (arith, front_here, clear)) order)))
+
+  pub slid : (q : Progress) → AllStep p q (SMove d ∷ SMove e ∷ []) p.matrix p.harmonics (bots_gone p.bots (SMove d ∷ SMove e ∷ [])) → Goes p q (put Z (rear p) rear_next) (put Z (front p) front_next) 1
+  slid q s = moved_pair p q (SMove d) (SMove e) (put Z (rear p) rear_next) (put Z (front p) front_next) h s slid_rear slid_front slid_in_row h.free (lit≤ tt)

@@ -150,7 +150,7 @@ module _ (p : Progress) (k : Command) (full : Bool) (e : k ≡ one_below full) (
         };
         rear_is = rear_is;
         front_is = front_is;
-        steps_are = s.steps;
+        steps_are = omega (arith, s.steps);
         spends = spends p q l r q.matrix _ 0 s (omega (arith, few));
       }
 

@@ -1,11 +1,13 @@
 -- Two bots in one row along z, and their moves.
-use Rattle.std.specs.Prelude.{◌≡◌, ℕ, ◌+◌, ◌*◌, ◌≤◌, ◌<◌, Bool, cond, ◌&&◌, ◌==◌, nat_le, nat_lt, List, [], ◌∷◌, length}
+use Rattle.std.specs.Prelude.{◌≡◌, ◌≢◌, ℕ, ◌+◌, ◌-◌, ◌*◌, ◌≤◌, ◌<◌, Bool, cond, ◌&&◌, ◌==◌, nat_le, nat_lt, List, [], ◌∷◌, length}
 use Rattle.vox_geom.specs.declared.coordinate.Coord.{Coord}
 use Rattle.nano_spec.specs.declared.system.Bot.{Bot}
 use Rattle.nano_spec.specs.declared.system.Harmonics.TheVariants.{High}
 use Rattle.nano_spec.specs.Matrix.{Matrix, is_full}
 use Rattle.nano_spec.specs.Profile.{full_profile}
 use Rattle.nano_spec.specs.State.{origin}
+use Rattle.plan_tape.specs.declared.axis.Axis.TheVariants.{Z}
+use Rattle.plan_tape.specs.Leg.{IsOnward, moves, put}
 use Rattle.plan_tape.specs.Progress.{Progress, bytes, spot}
 use Rattle.layer_planner.specs.Painting.{IsVoidFrom}
 
@@ -44,15 +46,36 @@ pub record Spends (old new : Progress) (groups : ℕ) : Type 0 where
   pub commands_are : length new.commands + 2 * old.steps ≤ length old.commands + 2 * new.steps
   pub bytes_are : bytes new + 4 * old.steps ≤ bytes old + 4 * new.steps + 4 * groups
 
--- the pair has gone to two coordinates in so many steps, and no voxel has changed
+-- the pair has gone to two coordinates in at most so many steps, and no voxel has changed
 pub record Goes (old new : Progress) (a b : Coord) (steps : ℕ) : Type 0 where
   pub source : new.source ≡ old.source
   pub matrix : new.matrix ≡ old.matrix
   pub pair : IsPair new
   pub rear_is : rear new ≡ a
   pub front_is : front new ≡ b
-  pub steps_are : new.steps ≡ old.steps + steps
+  pub steps_are : new.steps ≤ old.steps + steps
   pub spends : Spends old new 0
+
+-- both bots may make a move along z in one step: each move is one towards the bot's end, and all of the rear one's way lies before all
+-- of the front one's
+pub record MaySlide (behind rear_next rear_to ahead front_next front_to : ℕ) : Type 0 where
+  pub rear_differs : behind ≢ rear_next
+  pub rear_near : (rear_next ≤ behind + 15) × (behind ≤ rear_next + 15)
+  pub rear_left : moves behind rear_to ≡ moves rear_next rear_to + 1
+  pub front_differs : ahead ≢ front_next
+  pub front_near : (front_next ≤ ahead + 15) × (ahead ≤ front_next + 15)
+  pub front_left : moves ahead front_to ≡ moves front_next front_to + 1
+  pub front_onward : IsOnward ahead front_next front_to
+  pub clear : rear_next < ahead
+  pub past : behind < front_next
+  pub order : rear_next < front_next
+
+-- the pair has gone on towards two places of its row, by the moves that are not left
+pub record Slides (old new : Progress) (rear_to front_to : ℕ) : Type 0 where
+  pub behind : ℕ
+  pub ahead : ℕ
+  pub left : moves behind rear_to + moves ahead front_to ≤ moves (rear old).z rear_to + moves (front old).z front_to
+  pub goes : Goes old new (put Z (rear old) behind) (put Z (front old) ahead) (moves (rear old).z rear_to + moves (front old).z front_to - (moves behind rear_to + moves ahead front_to))
 
 -- the voxels of a row from a first z on and before an end
 abbrev pub in_part : ℕ → ℕ → ℕ → ℕ → Coord → Bool
@@ -62,7 +85,7 @@ in_part x y first end c = c.x == x && c.y == y && nat_le first c.z && nat_lt c.z
 abbrev pub AreSet : Matrix → Matrix → (Coord → Bool) → Bool → Type 0
 AreSet new old test full = (c : Coord) → is_full new c ≡ cond (test c) full (is_full old c)
 
--- the pair, wherever it stands afterwards, has made voxels of a row full, or else void
+-- the pair, wherever it stands afterwards, has made voxels of a row full, or else void, in at most so many steps
 pub record Sets (old new : Progress) (x y first end : ℕ) (full : Bool) (a b : Coord) (steps groups : ℕ) : Type 0 where
   pub source : new.source ≡ old.source
   pub resolution : new.matrix.resolution ≡ old.matrix.resolution
@@ -70,5 +93,5 @@ pub record Sets (old new : Progress) (x y first end : ℕ) (full : Bool) (a b : 
   pub pair : IsPair new
   pub rear_is : rear new ≡ a
   pub front_is : front new ≡ b
-  pub steps_are : new.steps ≡ old.steps + steps
+  pub steps_are : new.steps ≤ old.steps + steps
   pub spends : Spends old new groups

@@ -24,7 +24,7 @@ pub record Splits (old new : Progress) : Type 0 where
   pub steps_are : new.steps ≡ old.steps + 1
   pub spends : Spends old new 0
 
--- the pair has become one bot, at a coordinate
+-- the pair has become one bot, at a coordinate, in at most so many steps
 pub record Joins (old new : Progress) (c : Coord) (steps : ℕ) : Type 0 where
   pub source : new.source ≡ old.source
   pub matrix : new.matrix ≡ old.matrix
@@ -32,7 +32,7 @@ pub record Joins (old new : Progress) (c : Coord) (steps : ℕ) : Type 0 where
   pub harmonics : new.harmonics ≡ High
   pub alone : length new.bots ≡ 1
   pub there : spot new.bots ≡ c
-  pub steps_are : new.steps ≡ old.steps + steps
+  pub steps_are : new.steps ≤ old.steps + steps
   pub spends : Spends old new 0
 
 -- the pair stands at the top above the origin, under High, and nothing is changed

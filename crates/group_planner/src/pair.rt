@@ -1,9 +1,9 @@
 //! The pair: two bots in one row along z, the one at the rear and the other at the front.
-ghost use Rattle.std.specs.Prelude.{◌≡◌, ◌≢◌, ◌⊎◌, ◌+◌, ◌*◌, ◌-◌, ◌<◌, ◌≤◌, OnOk, length, pos};
+ghost use Rattle.std.specs.Prelude.{◌≡◌, ◌≢◌, ◌⊎◌, ◌+◌, ◌*◌, ◌-◌, ◌<◌, ◌≤◌, IfSome, OnOk, length, pos};
 ghost use Rattle.vox_geom.specs.declared.TheConstants.{MOST_R};
 ghost use Rattle.plan_tape.specs.Leg.{component_of, moves, put};
 ghost use Rattle.layer_planner.specs.Painting.{IsVoidFrom};
-ghost use Rattle.group_planner.specs.Pair.{Goes, IsPair, front as front_of, rear as rear_of};
+ghost use Rattle.group_planner.specs.Pair.{Goes, IsPair, MaySlide, Slides, front as front_of, rear as rear_of};
 
 use nano_spec::Command;
 use plan_tape::{Axis, Tape, next_stop, towards};
@@ -143,7 +143,78 @@ pub fn rear_goes(tape: &mut Tape, to: u16) -> Result<(), Memory>
     Ok(())
 }
 
-/// The bots go to two places of their row. The one that does not stand in the other's way goes first.
+/// Both bots make a move along z, the rear one on its side of the front one's way.
+fn both_slide(
+    tape: &mut Tape,
+    behind: u16,
+    rear_next: u16,
+    ahead: u16,
+    front_next: u16,
+) -> Result<(), Memory>
+    requires pair { IsPair tape.old }
+    requires rear_here { (rear_of tape.old).z ≡ behind }
+    requires rear_differs { behind ≢ rear_next }
+    requires rear_near { (rear_next ≤ behind + 15) × (behind ≤ rear_next + 15) }
+    requires front_here { (front_of tape.old).z ≡ ahead }
+    requires front_differs { ahead ≢ front_next }
+    requires front_near { (front_next ≤ ahead + 15) × (ahead ≤ front_next + 15) }
+    requires within { front_next < tape.old.matrix.resolution }
+    requires clear { rear_next < ahead }
+    requires past { behind < front_next }
+    requires order { rear_next < front_next }
+    requires limit { tape.old.steps < 1073741824 }
+    ensures { OnOk result (Goes tape.old tape.new (put Axis.Z (rear_of tape.old) rear_next) (put Axis.Z (front_of tape.old) front_next) 1) }
+{
+    let _ = (rear(tape), front(tape));
+    tape.move_all(&[
+        Command::SMove(towards(Axis::Z, behind, rear_next)),
+        Command::SMove(towards(Axis::Z, ahead, front_next)),
+    ])
+}
+
+/// Where both bots come to by their next moves along z, if they may make them in one step.
+fn next_slide(behind: u16, rear_to: u16, ahead: u16, front_to: u16) -> Option<(u16, u16)>
+    ensures { IfSome result (λ next. MaySlide behind next.0 rear_to ahead next.1 front_to) }
+{
+    if behind == rear_to {
+        return None;
+    }
+    if ahead == front_to {
+        return None;
+    }
+    let rear_next = next_stop(behind, rear_to);
+    let front_next = next_stop(ahead, front_to);
+    if rear_next >= ahead {
+        return None;
+    }
+    if behind >= front_next {
+        return None;
+    }
+    if rear_next >= front_next {
+        return None;
+    }
+    Some((rear_next, front_next))
+}
+
+/// Both bots go along z together, as far as neither comes into the other's way.
+fn slide(tape: &mut Tape, rear_to: u16, front_to: u16) -> Result<(), Memory>
+    requires pair { IsPair tape.old }
+    requires within { front_to < tape.old.matrix.resolution }
+    requires limit { tape.old.steps + moves (rear_of tape.old).z rear_to + moves (front_of tape.old).z front_to ≤ 1073741824 }
+    ensures { OnOk result (Slides tape.old tape.new rear_to front_to) }
+{
+    let mut behind = rear(tape).z;
+    let mut ahead = front(tape).z;
+    while let Some((rear_next, front_next)) = next_slide(behind, rear_to, ahead, front_to) {
+        both_slide(tape, behind, rear_next, ahead, front_next)?;
+        behind = rear_next;
+        ahead = front_next;
+    }
+    Ok(())
+}
+
+/// The bots go to two places of their row, together where they can. Then the one that does not stand in the other's way
+/// goes first.
 pub fn spread(tape: &mut Tape, rear_to: u16, front_to: u16) -> Result<(), Memory>
     requires pair { IsPair tape.old }
     requires order { rear_to < front_to }
@@ -151,6 +222,7 @@ pub fn spread(tape: &mut Tape, rear_to: u16, front_to: u16) -> Result<(), Memory
     requires limit { tape.old.steps + moves (rear_of tape.old).z rear_to + moves (front_of tape.old).z front_to ≤ 1073741824 }
     ensures { OnOk result (Goes tape.old tape.new (put Axis.Z (rear_of tape.old) rear_to) (put Axis.Z (front_of tape.old) front_to) (moves (rear_of tape.old).z rear_to + moves (front_of tape.old).z front_to)) }
 {
+    slide(tape, rear_to, front_to)?;
     if rear(tape).z < front_to {
         front_goes(tape, front_to)?;
         rear_goes(tape, rear_to)
