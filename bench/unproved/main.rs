@@ -1,0 +1,65 @@
+//! `run S T B` over files, by the code without its clauses. It tells the verdict and how long each part took.
+#![allow(dead_code, unused_variables, unused_imports, unused_mut)]
+mod brick_arena;
+mod bot_crew;
+mod energy_sum;
+mod model_file;
+mod nano_spec;
+mod run_progress;
+mod shim;
+mod step_groups;
+mod step_machine;
+mod step_order;
+mod support_forest;
+mod system_state;
+mod trace_codec;
+mod vox_geom;
+mod vox_planes;
+
+use model_file::{legal, read_model};
+use nano_spec::Profile;
+use shim::{Blank, Brand, Global};
+use std::time::Instant;
+use step_machine::Runner;
+use trace_codec::{Decoder, Fed};
+use vox_geom::Steps;
+use vox_planes::Planes;
+
+/// How many bytes of a trace are decoded at a time.
+const PIECE: usize = 65_536;
+
+/// The model of a file, `None` for `-`.
+fn load(name: &str) -> Option<Planes> {
+    if name == "-" {
+        return None;
+    }
+    let bytes = std::fs::read(name).expect("a file");
+    let planes = read_model(Global, &bytes).ok().expect("a model");
+    legal(Global, &planes).ok().expect("a legal model");
+    Some(planes)
+}
+
+fn main() {
+    let words: Vec<String> = std::env::args().skip(1).collect();
+    let begun = Instant::now();
+    let (source, target) = (load(&words[1]), load(&words[2]));
+    let r = source.as_ref().or(target.as_ref()).expect("a model").resolution();
+    let empty = || Planes::empty(Global, r).ok().expect("memory");
+    let (source, target) = (source.unwrap_or_else(empty), target.unwrap_or_else(empty));
+    let trace = std::fs::read(&words[3]).expect("a file");
+    let loaded = begun.elapsed();
+    let mut steps: Steps<Brand> = Steps::new(Blank::new(1));
+    let mut runner = Runner::start(Global, source, Profile::full(), &mut steps).ok().expect("memory");
+    let started = begun.elapsed();
+    let mut decoder = Decoder::new();
+    for piece in trace.chunks(PIECE) {
+        let mut at = 0;
+        while let Fed::Got { command, used } = decoder.feed(&piece[at..]) {
+            runner.push(command, &mut steps).ok().expect("memory");
+            at += used;
+        }
+    }
+    let ran = begun.elapsed();
+    println!("{:?}", runner.finish(&target, &mut steps));
+    println!("loaded in {loaded:?}, forest in {:?}, run in {:?}", started - loaded, ran - started);
+}

@@ -1,0 +1,28 @@
+#!/usr/bin/env bash
+# Builds the code of a run without its clauses, as plain Rust by cargo, and runs it: run.sh S T B, with - for the empty model.
+# Nothing that it says is proved. It is for measuring a form of the code before it is proved: a build takes half a minute where
+# a proof takes many. Kept from call to call in FOLDER (/tmp/unproved). Its times are near those of the proved program, not
+# the same: that one has no tests of indices.
+set -eu
+top=$(cd "$(dirname "$0")/../.." && pwd)
+here=$top/bench/unproved
+folder=${FOLDER:-/tmp/unproved}
+mkdir -p "$folder/src"
+python3 "$here/strip.py" "$top" "$folder"
+cp "$here/main.rs" "$here/shim.rs" "$folder/src/"
+cp "$here/touches.rs" "$folder/src/vox_geom/touches.rs"
+cp "$here/chunk.rs" "$folder/src/brick_arena/chunk.rs"
+cat > "$folder/Cargo.toml" <<'TOML'
+[package]
+name = "unproved"
+version = "0.1.0"
+edition = "2021"
+
+[profile.release]
+codegen-units = 1
+debug = 1
+lto = true
+panic = "abort"
+TOML
+(cd "$folder" && cargo build --release --offline --quiet)
+exec "$folder/target/release/unproved" run "$@"
