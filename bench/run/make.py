@@ -57,6 +57,20 @@ def forty_bots(steps):
     return line_of_bots(40) + fro + join + HALT
 
 
+def forty_fill(pairs):
+    """Forty bots in a line each fill and void the voxel beside them, and join again."""
+    join = b"".join(WAIT * (k - 2) + b"\x77\x66" for k in range(40, 1, -1))
+    return line_of_bots(40) + (b"\xb3" * 40 + b"\xb2" * 40) * pairs + join + HALT
+
+
+def bridge_model(r):
+    """Two posts and a beam from the top of the one to that of the other."""
+    posts = [(x, y, 1) for x in (1, r - 2) for y in range(r - 2)]
+    beam = [(x, r - 2, 1) for x in range(1, r - 1)]
+    bits = sum(1 << ((x * r + y) * r + z) for x, y, z in posts + beam)
+    return bytes([r]) + bits.to_bytes((r ** 3 + 7) // 8, "little")
+
+
 def planes(pairs):
     """Four bots at the corners of a plane of 31 by 31 fill it and void it in turn, and the trace ends there."""
     out = [line_of_bots(4), move(Y, 1) * 4]
@@ -75,7 +89,11 @@ def main():
         "f200.mdl": full_model(200),
         "fill200.nbt": fill_all(200, FLIP),
         "fill100.nbt": fill_all(100, b""),
+        "f248.mdl": full_model(248),
         "forty.nbt": forty_bots(500_000),
+        "fills.nbt": forty_fill(100_000),
+        "bridge.mdl": bridge_model(62),
+        "bridge.nbt": b"\xba\xbb" * 5_000 + HALT,
         "planes.nbt": planes(1_000),
         "pairs.nbt": b"\x73\x72" * 1_000_000 + HALT,
     }
