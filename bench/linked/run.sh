@@ -1,0 +1,22 @@
+#!/usr/bin/env bash
+# How long it takes to judge the house, and a forged model of resolution 20 with its plan of one bot, ten thousand times: through
+# the static library, from C, and by starting the program as often. Builds both where they are missing.
+set -eu
+top=$(cd "$(dirname "$0")/../.." && pwd)
+# shellcheck source=scripts/linked_lib disable=SC2154
+. "$top/scripts/linked_lib"
+folder=$(mktemp -d)
+trap 'rm -rf "$folder"' EXIT
+cd "$folder"
+count=${1:-10000}
+cc -std=c11 -D_POSIX_C_SOURCE=200809L -O2 -I"$top/include" -o often "$top/bench/linked/often.c" "$library" "$helper"
+"$top/nanobot" make 7 20 forged.mdl > /dev/null
+"$top/nanobot" plan layer - forged.mdl forged.nbt > /dev/null
+program=$top/crates/nanobot/out/nanobot
+TIMEFORMAT="    the program: $count starts in %R s"
+for words in "- $top/examples/house.mdl $top/examples/house.nbt" '- forged.mdl forged.nbt'; do
+    # shellcheck disable=SC2086
+    ./often "$count" $words
+    # shellcheck disable=SC2086
+    time for ((i = 0; i < count; i++)); do "$program" run $words > /dev/null; done
+done

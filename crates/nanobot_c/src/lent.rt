@@ -1,0 +1,78 @@
+//! The caller's bytes as files.
+ghost use Rattle.std.specs.Prelude.{◌≡◌, ◌-◌, min, length, option_map};
+ghost use Rattle.vox_depot.specs.Files.{IsPiece, content};
+ghost use Rattle.nanobot_words.specs.Parsing.{side_of};
+ghost use Rattle.nanobot_c.specs.Lent.{files_of, side_named};
+
+use nanobot_words::Side;
+use vox_depot::{Depot, FetchFault, StoreFault};
+
+/// Bytes that a caller lends for a call: they are the files `s`, `t` and `b`, which are only read.
+#[derive(Clone, Copy)]
+pub struct Lent<'a> {
+    pub source: &'a [u8],
+    pub target: &'a [u8],
+    pub trace: &'a [u8],
+}
+
+/// The side of the file of this name, or of the empty model where the file has no bytes.
+pub fn side(name: &'static str, bytes: &[u8]) -> Side<'static>
+    ensures { side_of result ≡ side_named name.now bytes.now }
+{
+    if bytes.is_empty() {
+        return Side::Empty;
+    }
+    Side::Named(name)
+}
+
+/// Copies from a place of the bytes on into the front of the buffer, as many as there are and it takes.
+fn copy_piece(bytes: &[u8], from: u64, buf: &mut [u8]) -> usize
+    ensures count { result ≡ min (length buf.new) (length bytes.now - from) }
+    ensures piece { IsPiece bytes.now from result buf.new }
+{
+    if from >= bytes.len() as u64 {
+        return 0;
+    }
+    let rest = &bytes[from as usize..];
+    let count = rest.len().min(buf.len());
+    buf[..count].copy_from_slice(&rest[..count]);
+    count
+}
+
+impl<'a> Lent<'a> {
+    /// The file of this name.
+    fn file(&self, name: &str) -> Option<&'a [u8]>
+        ensures { option_map (λ x. x.now) result ≡ content (files_of self.now) name.now }
+    {
+        match name {
+            "s" => Some(self.source),
+            "t" => Some(self.target),
+            "b" => Some(self.trace),
+            _ => None,
+        }
+    }
+}
+
+impl<'a> Depot for Lent<'a> {
+    ghost use Rattle.std.specs.Prelude.{Some, ⊤};
+    ghost use Rattle.nanobot_c.specs.Lent.{files_of};
+
+    ghost files = { λ d. Some (files_of d) };
+
+    ghost faults = { λ _. 0 };
+
+    ghost may_fetch = { λ _. ⊤ };
+
+    ghost may_store = { λ _. ⊥ };
+
+    fn fetch(&mut self, name: &str, from: u64, buf: &mut [u8]) -> Result<usize, FetchFault> {
+        match self.file(name) {
+            Some(bytes) => Ok(copy_piece(bytes, from, buf)),
+            None => Err(FetchFault::Missing),
+        }
+    }
+
+    fn store(&mut self, _name: &str, _bytes: &[u8]) -> Result<(), StoreFault> {
+        unreachable!()
+    }
+}

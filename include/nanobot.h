@@ -1,0 +1,124 @@
+/* nanobot as a static library: judges traces, checks models and plans, on bytes in memory.
+ *
+ * Each call answers what the program `nanobot` answers over files of the same bytes (docs/FORMATS.md, "Printed lines"), and
+ * is proved to: the contracts stand in crates/nanobot_c/src. A caller that is not Rattle is checked by nothing. Nobody sees
+ * that it passes what is said here, so a wrong pointer or length is as undefined as it is in C:
+ *
+ * - Each pointer points to so many readable bytes, or to so many writable ones of a buffer, for the whole call. It is never
+ *   null, not even where the length is 0. Nothing else writes to the bytes or the buffer during the call, and the buffer
+ *   overlaps nothing else that is passed.
+ * - `size`, `energy` and `steps` point to one number each.
+ * - `malloc`, `realloc` and `free` of the program come from one allocator and align as the C library's do. No call is made
+ *   from a signal handler, or from the forked child of a process with threads.
+ * - There is stack for the call, as for a call of any library. No clause says how much.
+ *
+ * Calls keep nothing between them, so threads may call at the same time. A call takes memory and frees it before it
+ * returns. It returns for all bytes, junk too; time and memory are promised by no clause.
+ *
+ * A source or a target of length 0 is the empty model of the other's resolution, where the program has `-`; this is so of
+ * nanobot_judge, nanobot_cost, nanobot_plan_layer and nanobot_plan_group. To the other calls it is a file of no bytes.
+ *
+ * What is given is written to the front of the caller's buffer of `room` bytes, with no byte 0 behind it, and `*size` is
+ * how many bytes it is. Where they are more than `room` the status is NANOBOT_TOO_SMALL, `*size` is the room that is
+ * wanted, and the buffer is as it was. Behind what is given the buffer is as it was, too.
+ *
+ * To build and link: scripts/try_linked shows it; in short, `rt lib` in crates/nanobot_c makes out/libnanobot_c.a, which is
+ * linked with the kit's c/liblibc_c.a.
+ */
+#ifndef NANOBOT_H
+#define NANOBOT_H
+
+#include <stdbool.h>
+#include <stddef.h>
+#include <stdint.h>
+
+#ifdef __cplusplus
+extern "C" {
+#endif
+
+/* The statuses: those of the program, and 10. */
+enum {
+    NANOBOT_DONE = 0,        /* the trace is accepted, the model is legal, the plan is made */
+    NANOBOT_BROKEN = 1,      /* a rule is broken */
+    NANOBOT_WORDS = 2,       /* neither a source nor a target has bytes */
+    NANOBOT_MODEL = 3,       /* a model is refused, two resolutions differ, or a group plan may be too long */
+    NANOBOT_TRACE = 4,       /* the trace is refused: a bad or cut command, or more than 1073741824 bytes */
+    NANOBOT_DEPOT = 5,       /* a file could not be read: never seen here, where there are no files */
+    NANOBOT_MEMORY = 7,      /* there was no memory: nothing is given, and *size, *energy and *steps are 0 */
+    NANOBOT_UNSUPPORTED = 9, /* a part of the target of a low plan is unsupported */
+    NANOBOT_TOO_SMALL = 10   /* the buffer is too small: *size is the room that is wanted */
+};
+
+/* Judges the trace from the source to the target, by the light profile or the full one, and gives the line that
+ * `nanobot run S T B`, or `nanobot run light S T B`, prints, with its line feed. No line is longer than 200 bytes.
+ *
+ *     char line[200];
+ *     size_t size;
+ *     uint32_t status = nanobot_judge(none, 0, model, model_size, trace, trace_size, false, line, sizeof line, &size);
+ *     if (status != NANOBOT_MEMORY) fwrite(line, 1, size, stdout);     // ok energy 187750212 steps 784
+ */
+uint32_t nanobot_judge(const uint8_t *source, size_t source_size, const uint8_t *target, size_t target_size,
+                       const uint8_t *trace, size_t trace_size, bool light,
+                       uint8_t *line, size_t room, size_t *size);
+
+/* Judges as nanobot_judge does, and tells the energy and the number of steps of an accepted run; of any other both are 0.
+ *
+ *     int64_t energy;
+ *     uint32_t steps;
+ *     if (nanobot_cost(none, 0, model, model_size, trace, trace_size, false, &energy, &steps) == NANOBOT_DONE)
+ *         printf("%lld\n", (long long)energy);                         // 187750212
+ */
+uint32_t nanobot_cost(const uint8_t *source, size_t source_size, const uint8_t *target, size_t target_size,
+                      const uint8_t *trace, size_t trace_size, bool light,
+                      int64_t *energy, uint32_t *steps);
+
+/* Judges the model, and gives the line that `nanobot check M` prints.
+ *
+ *     nanobot_check(model, model_size, line, sizeof line, &size);      // legal resolution 20 full 388
+ */
+uint32_t nanobot_check(const uint8_t *model, size_t model_size, uint8_t *line, size_t room, size_t *size);
+
+/* The planners. Each gives the trace that the row of the program stores: nanobot_judge accepts it from the source to the
+ * target, and of nanobot_plan_low and nanobot_plan_swarm by the light profile too. Where the status is another than 0 it
+ * gives the line that the program prints. It plans anew at each call, so give it room at once where that can be told:
+ * nanobot_plan_layer makes at most 8*r*r*r + 200 bytes at resolution r; for the others see docs/FORMATS.md.
+ *
+ * nanobot_plan_layer, one bot:
+ *
+ *     uint8_t plan[8 * 20 * 20 * 20 + 200];
+ *     nanobot_plan_layer(none, 0, model, model_size, plan, sizeof plan, &size);      // size is 1377
+ */
+uint32_t nanobot_plan_layer(const uint8_t *source, size_t source_size, const uint8_t *target, size_t target_size,
+                            uint8_t *plan, size_t room, size_t *size);
+
+/* Two bots, which fill and void runs together.
+ *
+ *     nanobot_plan_group(model, model_size, none, 0, plan, sizeof plan, &size);      // takes the model down
+ */
+uint32_t nanobot_plan_group(const uint8_t *source, size_t source_size, const uint8_t *target, size_t target_size,
+                            uint8_t *plan, size_t room, size_t *size);
+
+/* Four bots, which take the source down.
+ *
+ *     nanobot_plan_void(model, model_size, plan, sizeof plan, &size);
+ */
+uint32_t nanobot_plan_void(const uint8_t *source, size_t source_size, uint8_t *plan, size_t room, size_t *size);
+
+/* One bot, which builds the target under Low all the time, where each part of it is supported.
+ *
+ *     if (nanobot_plan_low(model, model_size, plan, sizeof plan, &size) == NANOBOT_UNSUPPORTED)
+ *         fwrite(plan, 1, size, stdout);                               // unsupported at 3 1 1
+ */
+uint32_t nanobot_plan_low(const uint8_t *target, size_t target_size, uint8_t *plan, size_t room, size_t *size);
+
+/* Up to twenty bots, which build the target.
+ *
+ *     nanobot_plan_swarm(model, model_size, plan, sizeof plan, &size);
+ */
+uint32_t nanobot_plan_swarm(const uint8_t *target, size_t target_size, uint8_t *plan, size_t room, size_t *size);
+
+#ifdef __cplusplus
+}
+#endif
+
+#endif
