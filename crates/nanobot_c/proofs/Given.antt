@@ -1,6 +1,6 @@
 -- What is given of an answer of a row.
-use Rattle.std.proofs.Common.{◌≡◌, ◌⊎◌, ℕ, ◌≤◌, ◌<◌, List, [], Option, Some, None, refl, sym, ap, subst, inl, inr, arith, length, true, false, Bool}
-use Rattle.std.specs.Prelude.{IfSome, IsSomeAnd}
+use Rattle.std.proofs.Common.{◌≡◌, ◌⊎◌, ℕ, List, [], Option, Some, None, refl, sym, ap, subst, inl, inr, arith, length, true, false, Bool}
+use Rattle.std.specs.Prelude.{IfSome}
 use Rattle.std.proofs.lemmas.Bool.{cases_lt}
 use Rattle.vox_depot.specs.Causes.{Rose}
 use Rattle.vox_depot.specs.Files.{Files, content}
@@ -15,7 +15,7 @@ use Rattle.nanobot_rows.specs.Reading.{gone, reply_of}
 use Rattle.nanobot_rows.specs.Report.{code_of, line_of, status_of}
 use Rattle.nanobot_words.specs.Rows.{Row, plan_group, plan_layer, stores_of}
 use Rattle.nanobot_c.specs.Calls.{GaveLineOf, GavePlanOf, Gives, bytes_in, stored_in}
-use Rattle.nanobot_c.specs.Given.{Gave, GaveNothing, IsDone, IsMemory, MayGive, file_or_line}
+use Rattle.nanobot_c.specs.Given.{Gave, IsDone, IsMemory, MayGive, file_or_line}
 use Rattle.nanobot_c.specs.Lent.{plan_name, run_row}
 use Rattle.nanobot_c.proofs.Named.{own_content}
 use Rattle.nanobot_c.proofs.Statuses.{message_is_none, report_is_none}

@@ -1,22 +1,19 @@
 -- A run is told as done exactly where the machine of the definitions takes the whole trace.
-use Rattle.std.proofs.Common.{◌≡◌, ◌⊎◌, ℕ, zero, suc, ◌<◌, List, [], ◌∷◌, Option, Some, None, refl, sym, ap, ◌∙◌, subst, inl, inr, arith, length, Bool, false, All, codes}
-use Rattle.std.specs.Prelude.{ℤ, IfSome}
-use Rattle.std.specs.Io.KnownBytes.{append_known}
+use Rattle.std.proofs.Common.{◌≡◌, ℕ, zero, suc, List, [], ◌∷◌, Option, Some, None, refl, sym, ap, ◌∙◌, subst, inr, arith, Bool, false, All}
+use Rattle.std.specs.Prelude.{ℤ}
 use Rattle.vox_depot.specs.Files.{Files}
 use Rattle.nanobot_rows.specs.declared.report.Report.TheVariants as report
 use Rattle.nanobot_rows.specs.declared.status.Status.{Status}
 use Rattle.nanobot_rows.specs.declared.status.Status.TheVariants as is
 use Rattle.nanobot_rows.specs.Answer.{Answer, AnswerOf, Reply}
-use Rattle.nanobot_rows.specs.Reading.{AreBoth, IsSide, reply_of}
+use Rattle.nanobot_rows.specs.Reading.{reply_of}
 use Rattle.nanobot_rows.specs.Report.{code_of, line_of}
 use Rattle.nanobot_words.specs.Rows.{IsName, IsRow, MakesPlans, Row, run, with_side, words_of}
-use Rattle.nano_spec.specs.Matrix.{Matrix}
-use Rattle.nanobot_app.specs.Headline.{IsDoneWith, Takes}
 use Rattle.nanobot_app.specs.Outcome.{Outcome, Outside}
 use Rattle.nanobot_app.proofs.Determined.{AnswerLaw, RowLaw, StatusLaw}
 use Rattle.nanobot_app.proofs.Headlines as app
 use Rattle.nanobot_app.proofs.Headlines.{answers_taken}
-use Rattle.nanobot_c.specs.Calls.{GaveDone, GaveLineOf, HasModel, HasNoModel, PrintAlike, TakesAll, ToldCostOf}
+use Rattle.nanobot_c.specs.Calls.{GaveDone, GaveLineOf, HasModel, PrintAlike, TakesAll, ToldCostOf}
 use Rattle.nanobot_c.specs.Given.{Gave, IsDone, IsMemory}
 use Rattle.nanobot_c.specs.Lent.{lent, run_row, source_name, source_side, target_name, target_side, trace_name}
 use Rattle.nanobot_c.proofs.Given.{gave_done}

@@ -1,5 +1,5 @@
 -- Statuses by their numbers.
-use Rattle.std.proofs.Common.{◌≡◌, ℕ, refl, subst, arith}
+use Rattle.std.proofs.Common.{◌≡◌, refl, subst, arith}
 use Rattle.nanobot_rows.specs.declared.effect.Message.{Message}
 use Rattle.nanobot_rows.specs.declared.effect.Message.TheVariants as message
 use Rattle.nanobot_rows.specs.declared.report.Report.{Report}
