@@ -11,7 +11,7 @@ ghost use Rattle.nanobot_c.specs.Calls.{Gives, bytes_in};
 ghost use Rattle.nanobot_c.specs.Given.{Gave, GaveNoRow, IsMemory, MayGive, file_or_line};
 ghost use Rattle.nanobot_c.specs.Lent.{files_of};
 
-use crate::lent::Lent;
+use crate::lent::{Lent, LentFiles};
 use nanobot_rows::{Effect, Message, Report, Status, Stop, answer};
 use nanobot_words::Row;
 use std::alloc::Global;
@@ -80,7 +80,8 @@ fn give_effect(alloc: Global, effect: &Effect<'_>, out: &mut [u8], size: &mut us
     }
 }
 
-/// What the row comes to over the lent bytes, with a counter of this ledger.
+/// What the row comes to over the lent bytes, with a counter of this ledger. No fault is counted, since none is stored, but
+/// no contract below says so: one would be told as want of memory.
 fn counted<L: Ledger>(
     alloc: Global,
     row: Row<'static>,
@@ -94,9 +95,13 @@ fn counted<L: Ledger>(
     ensures finishes { Finishes (AnswerOf (row_of row.entry)) (Some (files_of lent.entry)) (Rose 0 0) result }
     ensures named { IfOk result (IsFor (stores_of (row_of row.entry))) }
 {
-    let mut depot = lent;
+    let mut files = LentFiles { lent, faults: 0 };
     let mut steps = Steps::<L>::new(blank);
-    answer(alloc, row, &mut depot, &mut steps)
+    let effect = answer(alloc, row, &mut files, &mut steps);
+    if files.faults > 0 {
+        return Err(Stop::Memory);
+    }
+    effect
 }
 
 /// What the row comes to over the lent bytes.

@@ -53,26 +53,34 @@ impl<'a> Lent<'a> {
     }
 }
 
-impl<'a> Depot for Lent<'a> {
+/// The files of lent bytes. None can be stored: that is a fault, and is counted.
+#[derive(Drop)]
+pub struct LentFiles<'a> {
+    pub lent: Lent<'a>,
+    pub faults: u64,
+}
+
+impl<'a> Depot for LentFiles<'a> {
     ghost use Rattle.std.specs.Prelude.{Some, ⊤};
     ghost use Rattle.nanobot_c.specs.Lent.{files_of};
 
-    ghost files = { λ d. Some (files_of d) };
+    ghost files = { λ d. Some (files_of d.lent) };
 
-    ghost faults = { λ _. 0 };
+    ghost faults = { λ d. d.faults };
 
     ghost may_fetch = { λ _. ⊤ };
 
-    ghost may_store = { λ _. ⊥ };
+    ghost may_store = { λ _. ⊤ };
 
     fn fetch(&mut self, name: &str, from: u64, buf: &mut [u8]) -> Result<usize, FetchFault> {
-        match self.file(name) {
+        match self.lent.file(name) {
             Some(bytes) => Ok(copy_piece(bytes, from, buf)),
             None => Err(FetchFault::Missing),
         }
     }
 
     fn store(&mut self, _name: &str, _bytes: &[u8]) -> Result<(), StoreFault> {
-        unreachable!()
+        self.faults = self.faults.saturating_add(1);
+        Err(StoreFault)
     }
 }
