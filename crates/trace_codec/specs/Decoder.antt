@@ -20,6 +20,10 @@ pub record DecoderState : Type 0 where
 abbrev pub fresh : DecoderState
 fresh = record { held = []; offset = 0; failed = false }
 
+-- nothing is held, and no command was refused
+abbrev pub IsBetween : DecoderState → Type 0
+IsBetween decoder = (decoder.held ≡ []) × (decoder.failed ≡ false)
+
 -- the held bytes and the first used ones of the piece spell the command
 pub record Completes (decoder : DecoderState) (piece : List ℕ) (command : Command) (used : ℕ) : Type 0 where
   pub works : IsFalse decoder.failed

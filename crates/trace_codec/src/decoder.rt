@@ -1,11 +1,11 @@
 //! A trace that comes in pieces.
-ghost use Rattle.std.specs.Prelude.{◌≡◌, ◌+◌, ◌-◌, ◌<◌, ◌≤◌, ◌^◌, [], ◌++◌, length, min, take};
+ghost use Rattle.std.specs.Prelude.{◌≡◌, ◌↔◌, ℕ, ◌+◌, ◌-◌, ◌<◌, ◌≤◌, ◌^◌, true, IsFalse, List, [], ◌∷◌, ◌++◌, length, min, take as front_of};
 ghost use Rattle.trace_codec.specs.declared.decoder.Fed.{Fed};
-ghost use Rattle.trace_codec.specs.Decoder.{Answers, Ends, after, fresh, taken};
+ghost use Rattle.trace_codec.specs.Decoder.{Answers, Ends, IsBetween, after, fresh, taken};
 ghost use Rattle.trace_codec.specs.One.{Says};
 
 use crate::fault::TraceFault;
-use crate::one::{One, decode_one};
+use crate::one::{One, decode_from, decode_one};
 use arrayvec::ArrayVec;
 use nano_spec::Command;
 use std::marker::Model;
@@ -69,7 +69,43 @@ impl Decoder {
                 offset: self.offset,
             };
         }
-        match self.front(piece) {
+        self.take(self.front(piece), piece)
+    }
+
+    /// Whether the next byte of the trace begins a command: nothing is held, and no command was refused.
+    #[inline(always)]
+    pub fn is_between(&self) -> bool
+        ensures { result ≡ true ↔ IsBetween self.now }
+    {
+        !self.failed && self.held.is_empty()
+    }
+
+    /// The answer of [`Decoder::feed`] to a piece that begins with this byte, where a command begins. Where the caller has the byte
+    /// as a constant, all that is looked up by it is one, too.
+    #[inline(always)]
+    pub fn feed_from(&mut self, head: u8, piece: &[u8]) -> Fed
+        requires between { IsBetween self.old }
+        requires head { (rest : List ℕ) × (piece.now ≡ head ∷ rest) }
+        requires few { self.old.offset + length self.old.held + length piece.now < 2 ^ 63 }
+        ensures answer { Answers self.old piece.now result }
+        ensures after { self.new ≡ after self.old piece.now result }
+        ensures taken { self.new.offset + length self.new.held ≡ self.old.offset + length self.old.held + taken piece.now result }
+    {
+        self.take(decode_from(head, &piece[1..]), piece)
+    }
+
+    /// Takes what the held bytes and the piece begin with.
+    #[inline(always)]
+    fn take(&mut self, front: One, piece: &[u8]) -> Fed
+        requires works { IsFalse self.old.failed }
+        requires says { Says (self.old.held ++ piece.now) front }
+        requires few { self.old.offset + length self.old.held + length piece.now < 2 ^ 63 }
+        ensures answer { Answers self.old piece.now result }
+        ensures after { self.new ≡ after self.old piece.now result }
+        ensures held { length self.new.held ≤ 3 }
+        ensures taken { self.new.offset + length self.new.held ≡ self.old.offset + length self.old.held + taken piece.now result }
+    {
+        match front {
             One::Got { command, len } => {
                 let used = usize::from(len) - self.held.len();
                 self.held.clear();
@@ -136,7 +172,7 @@ impl Decoder {
 fn join(joined: &mut ArrayVec<u8, 4>, held: &[u8], piece: &[u8])
     requires empty { joined.old.items ≡ [] }
     requires short { length held.now < 4 }
-    ensures { joined.new.items ≡ held.now ++ take (min (length piece.now) (4 - length held.now)) piece.now }
+    ensures { joined.new.items ≡ held.now ++ front_of (min (length piece.now) (4 - length held.now)) piece.now }
 {
     let taken = piece.len().min(4 - held.len());
     joined.try_extend_from_slice(held).unwrap();

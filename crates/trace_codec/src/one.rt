@@ -37,7 +37,7 @@ pub fn decode_one(bytes: &[u8]) -> One
 
 /// What a byte and the bytes after it begin with.
 #[inline(always)]
-fn decode_from(head: u8, rest: &[u8]) -> One
+pub(crate) fn decode_from(head: u8, rest: &[u8]) -> One
     ensures { Says (head ∷ rest.now) result }
 {
     if head % 8 == 0b100 {
