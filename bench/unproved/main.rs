@@ -39,6 +39,60 @@ fn load(name: &str) -> Option<Planes> {
     Some(planes)
 }
 
+/// The run of `nanobot_rows`, whose crate is not built here.
+struct TraceRun {
+    decoder: Decoder,
+    runner: Runner,
+}
+
+impl TraceRun {
+    fn feed(&mut self, piece: &[u8], steps: &mut Steps<Brand>) {
+        let mut at = 0;
+        while at < piece.len() {
+            at += self.next(&piece[at..], steps);
+        }
+    }
+
+    #[inline(always)]
+    fn next(&mut self, piece: &[u8], steps: &mut Steps<Brand>) -> usize {
+        if !self.decoder.is_between() {
+            return self.next_of(piece, steps);
+        }
+        match piece {
+            [0b0001_0100, ..] => self.next_from(0b0001_0100, piece, steps),
+            [0b0010_0100, ..] => self.next_from(0b0010_0100, piece, steps),
+            [0b0011_0100, ..] => self.next_from(0b0011_0100, piece, steps),
+            [head, ..] if head % 8 == 0b011 => self.next_from(head / 8 * 8 + 0b011, piece, steps),
+            [head, ..] if head % 8 == 0b010 => self.next_from(head / 8 * 8 + 0b010, piece, steps),
+            _ => self.next_of(piece, steps),
+        }
+    }
+
+    #[inline(always)]
+    fn next_from(&mut self, head: u8, piece: &[u8], steps: &mut Steps<Brand>) -> usize {
+        let fed = self.decoder.feed_from(head, piece);
+        take(&mut self.runner, fed, piece.len(), steps)
+    }
+
+    #[inline(never)]
+    fn next_of(&mut self, piece: &[u8], steps: &mut Steps<Brand>) -> usize {
+        let fed = self.decoder.feed(piece);
+        take(&mut self.runner, fed, piece.len(), steps)
+    }
+}
+
+/// The runner gets the command, if one came. How many bytes of the piece are taken.
+#[inline(always)]
+fn take(runner: &mut Runner, fed: Fed, count: usize, steps: &mut Steps<Brand>) -> usize {
+    match fed {
+        Fed::Got { command, used } => {
+            runner.push(command, steps).ok().expect("memory");
+            used
+        }
+        Fed::All | Fed::Bad { .. } => count,
+    }
+}
+
 fn main() {
     let words: Vec<String> = std::env::args().skip(1).collect();
     let begun = Instant::now();
@@ -49,17 +103,13 @@ fn main() {
     let trace = std::fs::read(&words[3]).expect("a file");
     let loaded = begun.elapsed();
     let mut steps: Steps<Brand> = Steps::new(Blank::new(1));
-    let mut runner = Runner::start(Global, source, Profile::full(), &mut steps).ok().expect("memory");
+    let runner = Runner::start(Global, source, Profile::full(), &mut steps).ok().expect("memory");
     let started = begun.elapsed();
-    let mut decoder = Decoder::new();
+    let mut run = TraceRun { decoder: Decoder::new(), runner };
     for piece in trace.chunks(PIECE) {
-        let mut at = 0;
-        while let Fed::Got { command, used } = decoder.feed(&piece[at..]) {
-            runner.push(command, &mut steps).ok().expect("memory");
-            at += used;
-        }
+        run.feed(piece, &mut steps);
     }
     let ran = begun.elapsed();
-    println!("{:?}", runner.finish(&target, &mut steps));
+    println!("{:?}", run.runner.finish(&target, &mut steps));
     println!("loaded in {loaded:?}, forest in {:?}, run in {:?}", started - loaded, ran - started);
 }

@@ -63,6 +63,7 @@ fn broken_if(step: u32, bot: Bot, rule: Rule, is_broken: bool) -> Option<Broken>
 }
 
 /// Where a difference leads to: `None` exactly where it leads out of the matrix.
+#[inline(always)]
 pub(crate) fn reached(planes: &Planes, from: Coord, d: Diff) -> Option<Coord>
     requires { IsInSpace planes.now.resolution from }
     ensures some { IfSome result (λ to. IsTrue (in_space planes.now.resolution (plus (point from) d))) }
@@ -102,6 +103,7 @@ pub(crate) fn breaks(step: u32, bot: Bot, rule: Rule, at: Coord) -> Broken
 }
 
 /// Where a bot with `SMove` gets to, or the first rule that it breaks.
+#[inline(always)]
 pub(crate) fn end_of_move<L: Ledger>(
     planes: &Planes,
     step: u32,
@@ -228,6 +230,7 @@ fn judge_still(step: u32, bot: Bot) -> Option<Broken>
 }
 
 /// Which voxel a bot with `Fill` or `Void` names, or the first rule that it breaks.
+#[inline(always)]
 pub(crate) fn named_by(planes: &Planes, step: u32, bot: Bot, d: Diff) -> Result<Coord, Broken>
     requires { IsInSpace planes.now.resolution bot.pos }
     ensures fill { (s : State) (all : List Act) → fault_of result ≡ first_fault (record s { matrix = planes.now }) all step (act bot (Fill d)) later_rules }

@@ -48,6 +48,7 @@ pub fn judge_single<L: Ledger>(
 }
 
 /// Where the only bot gets to by a straight move, or the first rule that the step breaks. The way is read once.
+#[inline(always)]
 pub fn judge_move<L: Ledger>(
     planes: &Planes,
     profile: Profile,
@@ -70,6 +71,7 @@ pub fn judge_move<L: Ledger>(
 }
 
 /// Which voxel the only bot fills, or else voids, or the first rule that the step breaks. No voxel is read.
+#[inline(always)]
 pub fn judge_edit(
     planes: &Planes,
     profile: Profile,
@@ -91,6 +93,7 @@ pub fn judge_edit(
 }
 
 /// The command that fills, or else voids.
+#[inline(always)]
 fn edit(d: Near, full: bool) -> Command
     ensures { result ≡ edit_of full d }
 {

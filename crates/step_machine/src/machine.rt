@@ -79,6 +79,7 @@ impl Model for Machine {
 }
 
 /// What every step keeps: it changes the energy by little, and it leads from a well-formed state to such a state.
+#[inline(always)]
 fn know_step(system: &System, commands: &[Command])
     ensures commands { AreCommands commands.now }
     ensures rises { (after system.now commands.now).energy <ℤ (system.now.energy +ℤ pos 3000000000) }
@@ -92,6 +93,7 @@ fn know_step(system: &System, commands: &[Command])
 }
 
 /// What a step answers that leads to the system's state.
+#[inline(always)]
 fn made(system: &System) -> StepOk
     ensures energy { result.energy ≡ system.now.energy }
     ensures halted { result.halted ≡ true ↔ system.now.bots ≡ [] }

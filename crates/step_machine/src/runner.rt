@@ -50,6 +50,7 @@ impl Model for Runner {
 
 /// One command more for the next step, which is made where each bot has one then: `None` where some bot still has none. The
 /// command of an only bot is kept only where its step is not made.
+#[inline(always)]
 fn take<L: Ledger>(
     machine: &mut Machine,
     pending: &mut Pending,
@@ -118,6 +119,7 @@ impl Runner {
 
     /// What one more command changes. Memory spends the runner, and comes only where the command makes a step in which
     /// some command fills or voids. No touch where it makes no step.
+    #[inline(always)]
     pub fn push<L: Ledger>(&mut self, command: Command, steps: &mut Steps<L>) -> Result<(), Memory>
         requires stands { self.old.spent ≡ false }
         requires steps { self.old.progress.steps < 1073741824 }

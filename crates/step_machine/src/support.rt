@@ -73,6 +73,7 @@ pub(crate) fn forest_of<L: Ledger>(
 }
 
 /// Cells that become void. Memory may be refused only where there are some.
+#[inline(always)]
 fn remove<L: Ledger>(
     forest: &mut Forest,
     cells: &[Coord],
@@ -96,6 +97,7 @@ fn remove<L: Ledger>(
 }
 
 /// Cells that become full. Memory may be refused only where there are some.
+#[inline(always)]
 fn add<L: Ledger>(forest: &mut Forest, cells: &[Coord], steps: &mut Steps<L>) -> Result<(), Memory>
     requires cells { MayAdd forest.old.matrix cells.now }
     requires stands { forest.old.spent ≡ false }
@@ -142,6 +144,7 @@ fn list_edits<L: Ledger>(
 
 /// The forest after the groups of a step: it loses what they void, and then gains what they fill. Memory may be refused only
 /// where some command fills or voids.
+#[inline(always)]
 fn refit_cells<L: Ledger>(
     system: &System,
     commands: &[Command],
@@ -218,6 +221,7 @@ fn parted(cell: &[Coord], full: bool, was: bool) -> (&[Coord], &[Coord])
 }
 
 /// The forest after the only bot filled the voxel at the coordinate, or else voided it, and whether that was full.
+#[inline(always)]
 fn refit_one<L: Ledger>(
     system: &System,
     commands: &[Command],
@@ -317,6 +321,7 @@ pub(crate) fn settle<L: Ledger>(
 
 /// The same for a step of the only bot that fills the voxel at the coordinate, or else voids it. The answer is whether that
 /// was full.
+#[inline(always)]
 pub(crate) fn settle_one<L: Ledger>(
     system: &System,
     commands: &[Command],

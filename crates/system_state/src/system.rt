@@ -318,6 +318,7 @@ impl System {
     }
 
     /// The upkeep of a step is paid.
+    #[inline(always)]
     fn pay_upkeep(&mut self)
         requires { IsPayable self.old.energy }
         ensures value { self.new ≡ record self.old { energy = self.old.energy +ℤ upkeep_of self.old } }

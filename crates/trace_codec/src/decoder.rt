@@ -5,7 +5,7 @@ ghost use Rattle.trace_codec.specs.Decoder.{Answers, Ends, IsBetween, after, fre
 ghost use Rattle.trace_codec.specs.One.{Says};
 
 use crate::fault::TraceFault;
-use crate::one::{One, decode_from, decode_one};
+use crate::one::{One, decode_by, decode_one};
 use arrayvec::ArrayVec;
 use nano_spec::Command;
 use std::marker::Model;
@@ -91,7 +91,16 @@ impl Decoder {
         ensures after { self.new ≡ after self.old piece.now result }
         ensures taken { self.new.offset + length self.new.held ≡ self.old.offset + length self.old.held + taken piece.now result }
     {
-        self.take(decode_from(head, &piece[1..]), piece)
+        match decode_by(head, piece) {
+            One::Got { command, len } => {
+                self.offset += u64::from(len);
+                Fed::Got {
+                    command,
+                    used: usize::from(len),
+                }
+            }
+            front => self.take(front, piece),
+        }
     }
 
     /// Takes what the held bytes and the piece begin with.

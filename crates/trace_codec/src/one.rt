@@ -1,5 +1,5 @@
 //! One command from the front of bytes.
-ghost use Rattle.std.specs.Prelude.{◌≡◌, ◌≢◌, ◌+◌, ◌*◌, ◌%◌, ◌<◌, ◌≤◌, ◌∷◌, ◌↔◌, All, IsTrue};
+ghost use Rattle.std.specs.Prelude.{◌≡◌, ◌≢◌, ◌+◌, ◌*◌, ◌%◌, ◌<◌, ◌≤◌, ◌∷◌, ◌↔◌, ℕ, List, All, IsTrue};
 ghost use Rattle.vox_geom.specs.Difference.{IsNear};
 ghost use Rattle.nano_spec.specs.Spelling.{near_code};
 ghost use Rattle.trace_codec.specs.FarFront.{SaysFar};
@@ -35,9 +35,18 @@ pub fn decode_one(bytes: &[u8]) -> One
     }
 }
 
+/// What bytes begin with whose first one the caller has.
+#[inline(always)]
+pub(crate) fn decode_by(head: u8, bytes: &[u8]) -> One
+    requires { (rest : List ℕ) × (bytes.now ≡ head ∷ rest) }
+    ensures { Says bytes.now result }
+{
+    decode_from(head, &bytes[1..])
+}
+
 /// What a byte and the bytes after it begin with.
 #[inline(always)]
-pub(crate) fn decode_from(head: u8, rest: &[u8]) -> One
+fn decode_from(head: u8, rest: &[u8]) -> One
     ensures { Says (head ∷ rest.now) result }
 {
     if head % 8 == 0b100 {

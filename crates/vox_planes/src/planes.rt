@@ -38,6 +38,7 @@ impl Model for Planes {
 }
 
 /// How many words a layer takes.
+#[inline(always)]
 fn layer_words(r: u16) -> usize
     requires { r ≤ MOST_R }
     ensures { result ≡ layer_words_of r }
@@ -47,6 +48,7 @@ fn layer_words(r: u16) -> usize
 }
 
 /// The index of a coordinate's bit through all words.
+#[inline(always)]
 fn bit_index(c: Coord, r: u16) -> usize
     requires resolution { r ≤ MOST_R }
     requires within { IsInSpace r c }
@@ -59,6 +61,7 @@ fn bit_index(c: Coord, r: u16) -> usize
 
 /// Whether the bit of this index is 1.
 #[tactic(auto, unfolding(crate::specs::Layers::is_set))]
+#[inline(always)]
 fn is_set(words: &[u64], i: usize) -> bool
     requires { i / 64 < length words.now }
     ensures { result ≡ is_set_of words.now i }
@@ -68,6 +71,7 @@ fn is_set(words: &[u64], i: usize) -> bool
 
 /// Makes the bit of this index 1 or 0.
 #[tactic(auto, unfolding(crate::specs::Layers::is_set))]
+#[inline(always)]
 fn set_bit(words: &mut [u64], i: usize, value: bool)
     requires { i / 64 < length words.old }
     ensures here { is_set_of words.new i ≡ value }
@@ -120,6 +124,7 @@ impl Planes {
     }
 
     /// Whether the voxel at the coordinate is full: one touch.
+    #[inline(always)]
     pub fn full_at<L: Ledger>(&self, c: Coord, steps: &mut Steps<L>) -> bool
         requires { IsInSpace self.now.resolution c }
         ensures value { result ≡ is_full self.now c }
@@ -130,6 +135,7 @@ impl Planes {
     }
 
     /// Makes the voxel at the coordinate full or void. All other voxels stay.
+    #[inline(always)]
     pub fn set(&mut self, c: Coord, full: bool)
         requires { IsInSpace self.old.resolution c }
         ensures value { self.new ≡ with_voxel self.old c full }

@@ -15,6 +15,7 @@ use vox_geom::{Long, Near, Steps};
 
 impl Machine {
     /// Whether each full voxel is held up, where it has to be.
+    #[inline(always)]
     fn is_held(&self) -> bool
         requires { self.now.spent ≡ false }
         ensures { result ≡ true → self.now.state.harmonics ≡ Low → FirstUngrounded self.now.state.matrix None }
@@ -26,6 +27,7 @@ impl Machine {
     }
 
     /// The step of the only bot by a straight move.
+    #[inline(always)]
     fn move_alone<L: Ledger>(&mut self, d: Long, steps: &mut Steps<L>) -> Result<StepOk, StepFault>
         requires stands { self.old.spent ≡ false }
         requires one { length self.old.state.bots ≡ 1 }
@@ -45,6 +47,7 @@ impl Machine {
     }
 
     /// The step of the only bot in which it fills a voxel, or else voids it.
+    #[inline(always)]
     fn edit_alone<L: Ledger>(
         &mut self,
         d: Near,
@@ -77,6 +80,7 @@ impl Machine {
 
     /// The step of the only bot by a command that is frequent. `None`, and nothing is changed, where the step is to be made
     /// as every other.
+    #[inline(always)]
     pub(crate) fn step_alone<L: Ledger>(
         &mut self,
         command: &Command,
@@ -102,6 +106,7 @@ impl Machine {
 }
 
 /// The command that fills, or else voids.
+#[inline(always)]
 fn edit(d: Near, full: bool) -> Command
     ensures { result ≡ edit_of full d }
 {

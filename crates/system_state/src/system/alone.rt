@@ -23,6 +23,7 @@ use vox_geom::{Coord, Long, Near, Steps};
 
 impl System {
     /// The only bot.
+    #[inline(always)]
     fn only_bot(&self) -> Bot
         requires { length self.now.bots ≡ 1 }
         ensures only { self.now.bots ≡ result ∷ [] }
@@ -33,6 +34,7 @@ impl System {
     }
 
     /// The upkeep of a step and a cost are paid.
+    #[inline(always)]
     fn pay(&mut self, cost: i64)
         requires payable { IsPayable self.old.energy }
         requires small { IsWithin 2000000000 cost }
@@ -44,6 +46,7 @@ impl System {
 
     /// The step of the only bot by a straight move: the rule that it breaks, or `None`, and then all effects and costs. The
     /// rule of grounding is not judged.
+    #[inline(always)]
     pub fn move_alone<L: Ledger>(
         &mut self,
         d: Long,
@@ -70,6 +73,7 @@ impl System {
     }
 
     /// Which voxel the only bot fills, or else voids, or the first rule that the step breaks at its start.
+    #[inline(always)]
     pub fn judge_edit(&self, d: Near, full: bool, step: u32) -> Result<Coord, Broken>
         requires one { length self.now.bots ≡ 1 }
         ensures value { fault_of result ≡ broken_of self.now (edit_of full d ∷ []) step }
@@ -81,6 +85,7 @@ impl System {
     }
 
     /// All effects and costs of a step in which the only bot fills the voxel at the coordinate, or else voids it.
+    #[inline(always)]
     pub fn edit_alone(&mut self, at: Coord, full: bool, was_full: bool)
         requires one { length self.old.bots ≡ 1 }
         requires payable { IsPayable self.old.energy }

@@ -15,6 +15,7 @@ use vox_geom::Coord;
 
 impl System {
     /// Makes the voxel at the coordinate full or void.
+    #[inline(always)]
     pub fn set_voxel(&mut self, c: Coord, full: bool)
         requires { IsInSpace self.old.matrix.resolution c }
         ensures value { self.new ≡ record self.old { matrix = with_voxel self.old.matrix c full } }
@@ -55,6 +56,7 @@ impl System {
     }
 
     /// The bot goes to a coordinate at which no other stands.
+    #[inline(always)]
     pub fn move_to(&mut self, bid: u8, c: Coord)
         requires active { IsActive self.old.bots bid }
         requires free { IfSome (bot_at self.old.bots c) (λ b. b.bid ≡ bid) }
