@@ -21,7 +21,7 @@ use Rattle.trace_codec.specs.declared.decoder.Fed.TheVariants.{Got, All, Bad}
 use Rattle.vox_depot.specs.Files.{Files, IfTold, IsPiece, content}
 use Rattle.nanobot_rows.specs.Reading.{AreBoth, AreModels, IsModelOf, IsSide, RunState}
 use Rattle.nanobot_rows.specs.Touching.{AreInFront, BeginWith, HasGiven, HasPaid, IsRunWithin, IsWithinFile}
-use Rattle.nanobot_rows.proofs.Running.{AllLaw, GotLaw, part, rest}
+use Rattle.nanobot_rows.proofs.Running.{AllLaw, GotLaw}
 use Rattle.nanobot_rows.proofs.Tracing.{from_told, piece_has}
 
 -- ---- the laws of the machine's touches
@@ -64,30 +64,26 @@ paid_at_first law source profile d r start taken e f = record {
   paid = law source profile r.progress start f;
 }
 
-module _ (source : Matrix) (profile : Profile) (bytes piece : List ℕ) (at : ℕ) (s : RunState) (start before : ℕ) (old : HasPaid source profile (bytes ++ take at piece) s start before) where
-  pub paid_got : (got : GotLaw) (push : PushLaw) (command : Command) (used : ℕ) (r : Course) (now : ℕ) → s.run.progress.state.matrix.resolution ≡ source.resolution → Answers s.decoder (drop at piece) (Got command used) → Pushes s.run.progress command r.progress → Touches s.run.progress r.progress command before now
-      → HasPaid source profile (bytes ++ take (at + used) piece) (record { decoder = after s.decoder (drop at piece) (Got command used); run = r }) start now
-  paid_got got push command used r now same answers pushes touches =
-      let taken = got (bytes ++ take at piece) (drop at piece) old.commands s.decoder command used (taken_of (bytes ++ take at piece) old.commands s.decoder answers.works old.given) answers in
-      record {
-        commands = old.commands ++ command ∷ [];
-        given = subst (λ (b : List ℕ). HasTaken b (old.commands ++ command ∷ []) (after s.decoder (drop at piece) (Got command used))) (part bytes piece at used) taken;
-        paid = push source profile old.commands s.run.progress r.progress command start before now same pushes touches old.paid;
-      }
+module _ (source : Matrix) (profile : Profile) (bytes piece : List ℕ) (s : RunState) (start before : ℕ) (old : HasPaid source profile bytes s start before) where
+  pub paid_got : (got : GotLaw) (push : PushLaw) (command : Command) (used : ℕ) (r : Course) (now : ℕ) → s.run.progress.state.matrix.resolution ≡ source.resolution → Answers s.decoder piece (Got command used) → Pushes s.run.progress command r.progress → Touches s.run.progress r.progress command before now
+      → HasPaid source profile (bytes ++ take used piece) (record { decoder = after s.decoder piece (Got command used); run = r }) start now
+  paid_got got push command used r now same answers pushes touches = record {
+    commands = old.commands ++ command ∷ [];
+    given = got bytes piece old.commands s.decoder command used (taken_of bytes old.commands s.decoder answers.works old.given) answers;
+    paid = push source profile old.commands s.run.progress r.progress command start before now same pushes touches old.paid;
+  }
 
-  pub paid_all : (all : AllLaw) → Answers s.decoder (drop at piece) All → HasPaid source profile (bytes ++ piece) (record { decoder = after s.decoder (drop at piece) All; run = s.run }) start before
-  paid_all all answers =
-      let taken = all (bytes ++ take at piece) (drop at piece) old.commands s.decoder (taken_of (bytes ++ take at piece) old.commands s.decoder answers.0 old.given) answers in
-      record {
-        commands = old.commands;
-        given = subst (λ (b : List ℕ). HasTaken b old.commands (after s.decoder (drop at piece) All)) (rest bytes piece at) taken;
-        paid = old.paid;
-      }
+  pub paid_all : (all : AllLaw) → Answers s.decoder piece All → HasPaid source profile (bytes ++ piece) (record { decoder = after s.decoder piece All; run = s.run }) start before
+  paid_all all answers = record {
+    commands = old.commands;
+    given = all bytes piece old.commands s.decoder (taken_of bytes old.commands s.decoder answers.0 old.given) answers;
+    paid = old.paid;
+  }
 
-  pub paid_bad : (offset : ℕ) → HasPaid source profile (bytes ++ piece) (record { decoder = after s.decoder (drop at piece) (Bad offset); run = s.run }) start before
+  pub paid_bad : (offset : ℕ) → HasPaid source profile (bytes ++ piece) (record { decoder = after s.decoder piece (Bad offset); run = s.run }) start before
   paid_bad offset = record {
     commands = old.commands;
-    given = subst (λ (b : List ℕ). BeginWith b old.commands) (rest bytes piece at) (begins_more (bytes ++ take at piece) (drop at piece) old.commands (begins (bytes ++ take at piece) old.commands s.decoder old.given));
+    given = begins_more bytes piece old.commands (begins bytes old.commands s.decoder old.given);
     paid = old.paid;
   }
 

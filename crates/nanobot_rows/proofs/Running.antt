@@ -23,12 +23,6 @@ use Rattle.nanobot_rows.specs.Report.{of_verdict}
 
 -- ---- pieces
 
-pub part : (bytes piece : List ℕ) (at used : ℕ) → (bytes ++ take at piece) ++ take used (drop at piece) ≡ bytes ++ take (at + used) piece
-part bytes piece at used = append_assoc bytes (take at piece) (take used (drop at piece)) ∙ ap (λ t. bytes ++ t) (sym (take-add at used piece))
-
-pub rest : (bytes piece : List ℕ) (at : ℕ) → (bytes ++ take at piece) ++ drop at piece ≡ bytes ++ piece
-rest bytes piece at = append_assoc bytes (take at piece) (drop at piece) ∙ ap (λ t. bytes ++ t) (take-append-drop at piece)
-
 stands_of : (source : Matrix) (profile : Profile) (bytes : List ℕ) (s : RunState) → IsFalse s.decoder.failed → HasRun source profile bytes s → Stands source profile bytes s
 stands_of source profile bytes s works run = subst (λ t. MatchBool t (AreBad bytes s.decoder.offset) (Stands source profile bytes s)) works run
 
@@ -47,39 +41,36 @@ abbrev pub AllLaw : Type 0
 AllLaw = (bytes piece : List ℕ) (commands : List Command) (decoder : DecoderState) →
     HasTaken bytes commands decoder → Answers decoder piece All → HasTaken (bytes ++ piece) commands (after decoder piece All)
 
-abbrev BadLaw : Type 0
+abbrev pub BadLaw : Type 0
 BadLaw = (bytes piece more : List ℕ) (commands : List Command) (decoder : DecoderState) (offset : ℕ) →
     HasTaken bytes commands decoder → Answers decoder piece (Bad offset) → Decoding ((bytes ++ piece) ++ more) (Err (BadAt offset))
 
-module _ (source : Matrix) (profile : Profile) (bytes piece : List ℕ) (at : ℕ) (s : RunState) (run : HasRun source profile (bytes ++ take at piece) s) where
-  pub got_step : (law : GotLaw) (command : Command) (used : ℕ) (r : Course) → Answers s.decoder (drop at piece) (Got command used) → Pushes s.run.progress command r.progress
-      → HasRun source profile (bytes ++ take (at + used) piece) (record { decoder = after s.decoder (drop at piece) (Got command used); run = r })
+module _ (source : Matrix) (profile : Profile) (bytes piece : List ℕ) (s : RunState) (run : HasRun source profile bytes s) where
+  pub got_step : (law : GotLaw) (command : Command) (used : ℕ) (r : Course) → Answers s.decoder piece (Got command used) → Pushes s.run.progress command r.progress
+      → HasRun source profile (bytes ++ take used piece) (record { decoder = after s.decoder piece (Got command used); run = r })
   got_step law command used r answers pushes =
-      let st = stands_of source profile (bytes ++ take at piece) s answers.works run in
-      let taken = law (bytes ++ take at piece) (drop at piece) st.commands s.decoder command used st.taken answers in
+      let st = stands_of source profile bytes s answers.works run in
       record {
         commands = st.commands ++ command ∷ [];
-        taken = subst (λ (b : List ℕ). HasTaken b (st.commands ++ command ∷ []) (after s.decoder (drop at piece) (Got command used))) (part bytes piece at used) taken;
+        taken = law bytes piece st.commands s.decoder command used st.taken answers;
         progress_is = later st.commands s.run.progress command st.progress_is pushes refl;
       }
 
-  pub all_step : (law : AllLaw) → Answers s.decoder (drop at piece) All → HasRun source profile (bytes ++ piece) (record { decoder = after s.decoder (drop at piece) All; run = s.run })
+  pub all_step : (law : AllLaw) → Answers s.decoder piece All → HasRun source profile (bytes ++ piece) (record { decoder = after s.decoder piece All; run = s.run })
   all_step law answers =
-      let st = stands_of source profile (bytes ++ take at piece) s answers.0 run in
+      let st = stands_of source profile bytes s answers.0 run in
       record {
         commands = st.commands;
-        taken = subst (λ (b : List ℕ). HasTaken b st.commands (after s.decoder (drop at piece) All)) (rest bytes piece at) (law (bytes ++ take at piece) (drop at piece) st.commands s.decoder st.taken answers);
+        taken = law bytes piece st.commands s.decoder st.taken answers;
         progress_is = st.progress_is;
       }
 
-  pub bad_step : (law : BadLaw) (offset : ℕ) → Answers s.decoder (drop at piece) (Bad offset) → HasRun source profile (bytes ++ piece) (record { decoder = after s.decoder (drop at piece) (Bad offset); run = s.run })
+  pub bad_step : (law : BadLaw) (offset : ℕ) → Answers s.decoder piece (Bad offset) → HasRun source profile (bytes ++ piece) (record { decoder = after s.decoder piece (Bad offset); run = s.run })
   bad_step law offset answers = by s.decoder.failed refl run
     where
-      by : (t : Bool) → s.decoder.failed ≡ t → MatchBool t (AreBad (bytes ++ take at piece) s.decoder.offset) (Stands source profile (bytes ++ take at piece) s) → AreBad (bytes ++ piece) s.decoder.offset
-      by true f bad = λ more. subst (λ (b : List ℕ). Decoding b (Err (BadAt s.decoder.offset))) (sym (append_assoc (bytes ++ take at piece) (drop at piece) more) ∙ ap (λ (b : List ℕ). b ++ more) (rest bytes piece at)) (bad (drop at piece ++ more))
-      by false f st = λ more.
-          subst (λ (n : ℕ). Decoding ((bytes ++ piece) ++ more) (Err (BadAt n))) answers.0
-          (subst (λ (b : List ℕ). Decoding (b ++ more) (Err (BadAt offset))) (rest bytes piece at) (law (bytes ++ take at piece) (drop at piece) more st.commands s.decoder offset st.taken answers))
+      by : (t : Bool) → s.decoder.failed ≡ t → MatchBool t (AreBad bytes s.decoder.offset) (Stands source profile bytes s) → AreBad (bytes ++ piece) s.decoder.offset
+      by true f bad = λ more. subst (λ (b : List ℕ). Decoding b (Err (BadAt s.decoder.offset))) (sym (append_assoc bytes piece more)) (bad (piece ++ more))
+      by false f st = λ more. subst (λ (n : ℕ). Decoding ((bytes ++ piece) ++ more) (Err (BadAt n))) answers.0 (law bytes piece more st.commands s.decoder offset st.taken answers)
 
 -- a command that was got has a spelling of one byte at least
 pub longer : (d : DecoderState) (piece : List ℕ) (command : Command) (used : ℕ) → Answers d piece (Got command used) → 1 ≤ length (spelling command)

@@ -3,4 +3,5 @@ pub mod Effects
 pub mod Planners
 pub mod Reading
 pub mod Report
+pub mod Taking
 pub mod Touching

@@ -1,10 +1,12 @@
 //! A run whose trace comes in pieces.
-ghost use Rattle.std.specs.Prelude.{◌≡◌, ◌+◌, ◌*◌, ◌<◌, ◌≤◌, ℕ, List, [], ◌++◌, false, length, None, IfOk, OnOk};
+ghost use Rattle.std.specs.Prelude.{◌≡◌, ◌+◌, ◌*◌, ◌<◌, ◌≤◌, ℕ, List, [], ◌∷◌, false, length, take, None, IfOk, OnOk};
 ghost use Rattle.nano_spec.specs.declared.system.Profile.{Profile as ProfileOf};
 ghost use Rattle.nano_spec.specs.Grounded.{FirstUngrounded};
 ghost use Rattle.nano_spec.specs.Matrix.{Matrix};
 ghost use Rattle.nano_spec.specs.Model.{volume};
+ghost use Rattle.trace_codec.specs.Decoder.{Answers, DecoderState, IsBetween, after};
 ghost use Rattle.nanobot_rows.specs.Reading.{HasRun, OnBytes};
+ghost use Rattle.nanobot_rows.specs.Taking.{Gets, Takes};
 ghost use Rattle.nanobot_rows.specs.Touching.{HasPaid};
 
 use crate::report::Report;
@@ -67,26 +69,79 @@ impl TraceRun {
     pub fn feed<L: Ledger>(&mut self, piece: &[u8], steps: &mut Steps<L>) -> Result<(), Memory>
         requires offset { self.old.decoder.offset + length self.old.decoder.held + length piece.now ≤ 1073741824 }
         requires stands { self.old.run.spent ≡ false }
-        ensures run { (source : Matrix) (profile : ProfileOf) (bytes : List ℕ) → HasRun source profile bytes self.old → OnOk result (HasRun source profile (bytes ++ piece.now) self.new) }
-        ensures offset { self.new.decoder.offset + length self.new.decoder.held ≤ self.old.decoder.offset + length self.old.decoder.held + length piece.now }
-        ensures resolution { self.new.run.progress.state.matrix.resolution ≡ self.old.run.progress.state.matrix.resolution }
-        ensures stands { OnOk result (self.new.run.spent ≡ false) }
-        ensures paid { (source : Matrix) (profile : ProfileOf) (bytes : List ℕ) (start : ℕ) → self.old.run.progress.state.matrix.resolution ≡ source.resolution → HasPaid source profile bytes self.old start steps.old → OnOk result (HasPaid source profile (bytes ++ piece.now) self.new start steps.new) }
+        ensures takes { OnOk result (Takes self.old piece.now self.new steps.old steps.new) }
+    {
+        let mut at = 0;
+        while at < piece.len() {
+            at += self.next(&piece[at..], steps)?;
+        }
+        Ok(())
+    }
+
+    /// Takes the next bytes up to the end of a command, or all of them where none ends there. How many were taken.
+    ///
+    /// The frequent commands of a bot have ways of their own, since the byte that they begin with is a constant there.
+    #[inline(always)]
+    fn next<L: Ledger>(&mut self, piece: &[u8], steps: &mut Steps<L>) -> Result<usize, Memory>
+        requires some { 1 ≤ length piece.now }
+        requires offset { self.old.decoder.offset + length self.old.decoder.held + length piece.now ≤ 1073741824 }
+        requires stands { self.old.run.spent ≡ false }
+        ensures some { IfOk result (λ n. 1 ≤ n) }
+        ensures within { IfOk result (λ n. n ≤ length piece.now) }
+        ensures takes { IfOk result (λ n. Takes self.old (take n piece.now) self.new steps.old steps.new) }
+    {
+        if !self.decoder.is_between() {
+            return self.take(piece, steps);
+        }
+        let head = piece[0];
+        match head {
+            0b0001_0100 => self.take_from(0b0001_0100, piece, steps),
+            0b0010_0100 => self.take_from(0b0010_0100, piece, steps),
+            0b0011_0100 => self.take_from(0b0011_0100, piece, steps),
+            _ => match head % 8 {
+                0b011 => self.take_from(head / 8 * 8 + 0b011, piece, steps),
+                0b010 => self.take_from(head / 8 * 8 + 0b010, piece, steps),
+                _ => self.take(piece, steps),
+            },
+        }
+    }
+
+    /// The same where a command begins, with this byte.
+    #[inline(always)]
+    fn take_from<L: Ledger>(
+        &mut self,
+        head: u8,
+        piece: &[u8],
+        steps: &mut Steps<L>,
+    ) -> Result<usize, Memory>
+        requires between { IsBetween self.old.decoder }
+        requires head { (rest : List ℕ) × (piece.now ≡ head ∷ rest) }
+        requires offset { self.old.decoder.offset + length self.old.decoder.held + length piece.now ≤ 1073741824 }
+        requires stands { self.old.run.spent ≡ false }
+        ensures some { IfOk result (λ n. 1 ≤ n) }
+        ensures within { IfOk result (λ n. n ≤ length piece.now) }
+        ensures takes { IfOk result (λ n. Takes self.old (take n piece.now) self.new steps.old steps.new) }
     {
         pieces_decode();
         the_work_pays();
-        let mut at = 0;
-        while at < piece.len() {
-            match self.decoder.feed(&piece[at..]) {
-                Fed::Got { command, used } => {
-                    self.runner.push(command, steps)?;
-                    at += used;
-                }
-                Fed::All => return Ok(()),
-                Fed::Bad { offset: _ } => return Ok(()),
-            }
-        }
-        Ok(())
+        let fed = self.decoder.feed_from(head, piece);
+        push(&mut self.runner, fed, piece.len(), steps)
+    }
+
+    /// The same wherever the piece begins.
+    #[inline(never)]
+    fn take<L: Ledger>(&mut self, piece: &[u8], steps: &mut Steps<L>) -> Result<usize, Memory>
+        requires some { 1 ≤ length piece.now }
+        requires offset { self.old.decoder.offset + length self.old.decoder.held + length piece.now ≤ 1073741824 }
+        requires stands { self.old.run.spent ≡ false }
+        ensures some { IfOk result (λ n. 1 ≤ n) }
+        ensures within { IfOk result (λ n. n ≤ length piece.now) }
+        ensures takes { IfOk result (λ n. Takes self.old (take n piece.now) self.new steps.old steps.new) }
+    {
+        pieces_decode();
+        the_work_pays();
+        let fed = self.decoder.feed(piece);
+        push(&mut self.runner, fed, piece.len(), steps)
     }
 
     /// The report on the trace, where no more bytes come. At most two touches for each voxel.
@@ -104,5 +159,28 @@ impl TraceRun {
             Err(TraceFault::Memory) => unreachable!(),
             Ok(()) => Report::of_verdict(self.runner.finish(target, steps)),
         }
+    }
+}
+
+/// The runner gets the command that was cut from the front of so many bytes, where there is one. How many of them are taken then.
+#[inline(always)]
+fn push<L: Ledger>(
+    runner: &mut Runner,
+    fed: Fed,
+    count: usize,
+    steps: &mut Steps<L>,
+) -> Result<usize, Memory>
+    requires stands { runner.old.spent ≡ false }
+    requires steps { runner.old.progress.steps < 1073741824 }
+    ensures gets { IfOk result (λ n. Gets runner.old fed count n runner.new steps.old steps.new) }
+    ensures counted { (decoder : DecoderState) (piece : List ℕ) → Answers decoder piece fed → runner.old.progress.steps ≤ decoder.offset → runner.new.progress.steps ≤ (after decoder piece fed).offset }
+{
+    match fed {
+        Fed::Got { command, used } => {
+            runner.push(command, steps)?;
+            Ok(used)
+        }
+        Fed::All => Ok(count),
+        Fed::Bad { offset: _ } => Ok(count),
     }
 }

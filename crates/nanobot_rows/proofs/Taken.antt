@@ -1,0 +1,97 @@
+-- A run takes the next bytes of its trace: step by step, and many steps one after another.
+use Rattle.std.proofs.Common.{◌≡◌, ℕ, ◌+◌, ◌≤◌, ◌∙◌, refl, sym, ap, subst, arith, List, [], ◌++◌, append_assoc, append-nil, false, length, length-append, take, drop}
+use Rattle.std.proofs.Math.Seq.{take-add}
+use Rattle.std.proofs.lemmas.List.{length-take, take_all}
+use Rattle.nano_spec.specs.declared.commands.Command.{Command}
+use Rattle.nano_spec.specs.declared.system.Profile.{Profile}
+use Rattle.nano_spec.specs.Matrix.{Matrix}
+use Rattle.step_machine.specs.Course.{Course}
+use Rattle.trace_codec.specs.Decoder.{Answers, DecoderState, after}
+use Rattle.trace_codec.specs.declared.decoder.Fed.{Fed}
+use Rattle.trace_codec.specs.declared.decoder.Fed.TheVariants.{Got, All, Bad}
+use Rattle.nanobot_rows.specs.Reading.{HasRun, RunState}
+use Rattle.nanobot_rows.specs.Taking.{Gains, Gets, Takes}
+use Rattle.nanobot_rows.specs.Touching.{HasPaid}
+use Rattle.nanobot_rows.proofs.Paying.{PushLaw, paid_all, paid_bad, paid_got}
+use Rattle.nanobot_rows.proofs.Running.{AllLaw, BadLaw, GotLaw, all_step, bad_step, got_step, longer}
+
+-- ---- one answer of the decoder
+
+module _ (got : GotLaw) (all : AllLaw) (bad : BadLaw) (push : PushLaw) (d : DecoderState) (r : Course) (piece : List ℕ) (stands : r.spent ≡ false) where
+  abbrev old : RunState
+  old = record { decoder = d; run = r }
+
+  takes_got : (command : Command) (used : ℕ) (new : Course) (began ended : ℕ) → Answers d piece (Got command used) → Gains r command new began ended
+      → Takes old (take used piece) (record { decoder = after d piece (Got command used); run = new }) began ended
+  takes_got command used new began ended answers g = record {
+    run = λ source profile before run. got_step source profile before piece old run got command used new answers g.progress;
+    offset = (let e = ap length answers.spelling_is in let l = length-append d.held (take used piece) in omega (arith, e, l));
+    resolution = g.resolution;
+    stands = g.stands;
+    paid = λ source profile before start same paid. paid_got source profile before piece old start began paid got push command used new ended same answers g.progress g.touches;
+  }
+
+  takes_all : (began : ℕ) → Answers d piece All → Takes old piece (record { decoder = after d piece All; run = r }) began began
+  takes_all began answers = record {
+    run = λ source profile before run. all_step source profile before piece old run all answers;
+    offset = (let l = length-append d.held piece in omega (arith, l));
+    resolution = refl;
+    stands = stands;
+    paid = λ source profile before start same paid. paid_all source profile before piece old start began paid all answers;
+  }
+
+  takes_bad : (offset began : ℕ) → Answers d piece (Bad offset) → Takes old piece (record { decoder = after d piece (Bad offset); run = r }) began began
+  takes_bad offset began answers = record {
+    run = λ source profile before run. bad_step source profile before piece old run bad offset answers;
+    offset = omega arith;
+    resolution = refl;
+    stands = stands;
+    paid = λ source profile before start same paid. paid_bad source profile before piece old start began paid offset;
+  }
+
+  -- where n bytes are all, or none of a command's
+  whole : (n : ℕ) → n ≡ length piece → take n piece ≡ piece
+  whole n e = take_all n piece (omega (arith, e))
+
+  pub takes : (fed : Fed) (n : ℕ) (new : Course) (began ended : ℕ) → Answers d piece fed → Gets r fed (length piece) n new began ended
+      → Takes old (take n piece) (record { decoder = after d piece fed; run = new }) began ended
+  takes (Got command used) n new began ended answers (e, g) =
+      subst (λ (k : ℕ). Takes old (take k piece) (record { decoder = after d piece (Got command used); run = new }) began ended) (sym e) (takes_got command used new began ended answers g)
+  takes All n new began ended answers (e, (same, still)) =
+      subst (λ (b : List ℕ). Takes old b (record { decoder = after d piece All; run = new }) began ended) (sym (whole n e))
+      (subst (λ (x : Course). Takes old piece (record { decoder = after d piece All; run = x }) began ended) (sym same)
+      (subst (λ (t : ℕ). Takes old piece (record { decoder = after d piece All; run = r }) began t) (sym still) (takes_all began answers)))
+  takes (Bad offset) n new began ended answers (e, (same, still)) =
+      subst (λ (b : List ℕ). Takes old b (record { decoder = after d piece (Bad offset); run = new }) began ended) (sym (whole n e))
+      (subst (λ (x : Course). Takes old piece (record { decoder = after d piece (Bad offset); run = x }) began ended) (sym same)
+      (subst (λ (t : ℕ). Takes old piece (record { decoder = after d piece (Bad offset); run = r }) began t) (sym still) (takes_bad offset began answers)))
+
+-- how many bytes are taken
+pub some_taken : (d : DecoderState) (r new : Course) (piece : List ℕ) (fed : Fed) (n began ended : ℕ) → 1 ≤ length piece → Answers d piece fed → Gets r fed (length piece) n new began ended → (1 ≤ n) × (n ≤ length piece)
+some_taken d r new piece (Got command used) n began ended some answers (e, g) = (omega (arith, e, answers.some), omega (arith, e, answers.within))
+some_taken d r new piece All n began ended some answers (e, g) = (omega (arith, e), omega (arith, e))
+some_taken d r new piece (Bad offset) n began ended some answers (e, g) = (omega (arith, e), omega (arith, e))
+
+-- ---- one after another
+
+pub takes_nothing : (s : RunState) (began : ℕ) → s.run.spent ≡ false → Takes s [] s began began
+takes_nothing s began stands = record {
+  run = λ source profile before run. subst (λ (b : List ℕ). HasRun source profile b s) (sym (append-nil before)) run;
+  offset = omega arith;
+  resolution = refl;
+  stands = stands;
+  paid = λ source profile before start same paid. subst (λ (b : List ℕ). HasPaid source profile b s start began) (sym (append-nil before)) paid;
+}
+
+takes_more : (s t u : RunState) (xs ys : List ℕ) (i j k : ℕ) → Takes s xs t i j → Takes t ys u j k → Takes s (xs ++ ys) u i k
+takes_more s t u xs ys i j k a b = record {
+  run = λ source profile before run. subst (λ (bytes : List ℕ). HasRun source profile bytes u) (append_assoc before xs ys) (b.run source profile (before ++ xs) (a.run source profile before run));
+  offset = (let l = length-append xs ys in omega (arith, l, a.offset, b.offset));
+  resolution = b.resolution ∙ a.resolution;
+  stands = b.stands;
+  paid = λ source profile before start same paid.
+      subst (λ (bytes : List ℕ). HasPaid source profile bytes u start k) (append_assoc before xs ys) (b.paid source profile (before ++ xs) start (a.resolution ∙ same) (a.paid source profile before start same paid));
+}
+
+pub takes_next : (s t u : RunState) (piece : List ℕ) (at n i j k : ℕ) → Takes s (take at piece) t i j → Takes t (take n (drop at piece)) u j k → Takes s (take (at + n) piece) u i k
+takes_next s t u piece at n i j k a b = subst (λ (bytes : List ℕ). Takes s bytes u i k) (sym (take-add at n piece)) (takes_more s t u (take at piece) (take n (drop at piece)) i j k a b)

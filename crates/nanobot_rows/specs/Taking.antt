@@ -1,0 +1,35 @@
+-- What a run makes of the next bytes of its trace.
+use Rattle.std.specs.Prelude.{◌≡◌, ℕ, ◌+◌, ◌≤◌, List, ◌++◌, length, false}
+use Rattle.nano_spec.specs.declared.commands.Command.{Command}
+use Rattle.nano_spec.specs.declared.system.Profile.{Profile}
+use Rattle.nano_spec.specs.Matrix.{Matrix}
+use Rattle.run_progress.specs.Progress.{Pushes}
+use Rattle.step_machine.specs.Course.{Course}
+use Rattle.step_machine.specs.Payment.{Touches}
+use Rattle.trace_codec.specs.declared.decoder.Fed.{Fed}
+use Rattle.trace_codec.specs.declared.decoder.Fed.TheVariants.{Got, All, Bad}
+use Rattle.nanobot_rows.specs.Reading.{HasRun, RunState}
+use Rattle.nanobot_rows.specs.Touching.{HasPaid}
+
+-- a run takes the bytes, with voxels touched so often until it began and until it ended: whatever it was a run of, it is then one of these
+-- bytes more, and the work of their commands pays for the touches
+pub record Takes (old : RunState) (bytes : List ℕ) (new : RunState) (began ended : ℕ) : Type 0 where
+  pub run : (source : Matrix) (profile : Profile) (before : List ℕ) → HasRun source profile before old → HasRun source profile (before ++ bytes) new
+  pub offset : new.decoder.offset + length new.decoder.held ≤ old.decoder.offset + length old.decoder.held + length bytes
+  pub resolution : new.run.progress.state.matrix.resolution ≡ old.run.progress.state.matrix.resolution
+  pub stands : new.run.spent ≡ false
+  pub paid : (source : Matrix) (profile : Profile) (before : List ℕ) (start : ℕ) → old.run.progress.state.matrix.resolution ≡ source.resolution
+      → HasPaid source profile before old start began → HasPaid source profile (before ++ bytes) new start ended
+
+-- a runner gets a command
+pub record Gains (old : Course) (command : Command) (new : Course) (began ended : ℕ) : Type 0 where
+  pub progress : Pushes old.progress command new.progress
+  pub stands : new.spent ≡ false
+  pub resolution : new.progress.state.matrix.resolution ≡ old.progress.state.matrix.resolution
+  pub touches : Touches old.progress new.progress command began ended
+
+-- a runner gets what was cut from the front of so many bytes, of which then n are taken
+abbrev pub Gets : Course → Fed → ℕ → ℕ → Course → ℕ → ℕ → Type 0
+Gets old (Got command used) count n new began ended = (n ≡ used) × Gains old command new began ended
+Gets old All count n new began ended = (n ≡ count) × (new ≡ old) × (ended ≡ began)
+Gets old (Bad _) count n new began ended = (n ≡ count) × (new ≡ old) × (ended ≡ began)
