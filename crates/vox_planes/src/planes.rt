@@ -6,6 +6,7 @@ ghost use Rattle.nano_spec.specs.Matrix.{empty as empty_of, is_full};
 ghost use Rattle.vox_planes.specs.Layers.{bit_index as bit_index_of, is_set as is_set_of, layer_words as layer_words_of};
 ghost use Rattle.vox_planes.specs.Voxel.{IsWhole, with_voxel};
 
+mod lines;
 mod places;
 mod regions;
 mod whole;
@@ -38,6 +39,7 @@ impl Model for Planes {
 }
 
 /// How many words a layer takes.
+#[inline(always)]
 fn layer_words(r: u16) -> usize
     requires { r ≤ MOST_R }
     ensures { result ≡ layer_words_of r }
@@ -47,6 +49,7 @@ fn layer_words(r: u16) -> usize
 }
 
 /// The index of a coordinate's bit through all words.
+#[inline(always)]
 fn bit_index(c: Coord, r: u16) -> usize
     requires resolution { r ≤ MOST_R }
     requires within { IsInSpace r c }
@@ -58,6 +61,7 @@ fn bit_index(c: Coord, r: u16) -> usize
 }
 
 /// Whether the bit of this index is 1.
+#[inline(always)]
 #[tactic(auto, unfolding(crate::specs::Layers::is_set))]
 fn is_set(words: &[u64], i: usize) -> bool
     requires { i / 64 < length words.now }
