@@ -8,3 +8,4 @@ pub mod Walks
 pub mod Placed
 pub mod Chunks
 pub mod Taken
+pub mod Lines

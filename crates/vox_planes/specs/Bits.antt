@@ -1,5 +1,5 @@
 -- The next bit of a value among the bits of words.
-use Rattle.std.specs.Prelude.{◌≡◌, ℕ, ◌<◌, ◌≤◌, Bool, cond, not, List}
+use Rattle.std.specs.Prelude.{◌≡◌, ℕ, ◌+◌, ◌*◌, ◌<◌, ◌≤◌, Bool, true, false, cond, not, List}
 use Rattle.nano_spec.specs.Model.{bit}
 use Rattle.vox_planes.specs.Layers.{is_set}
 
@@ -20,3 +20,12 @@ pub record IsNext (ws : List ℕ) (from at : ℕ) (value : Bool) : Type 0 where
   pub first : from ≤ at
   pub before : IsFree ws from at value
   pub here : is_set ws at ≡ value
+
+-- none of so many bits is 1, the first of them at an index and each so far behind the one before
+pub record AreFree (ws : List ℕ) (from apart count : ℕ) : Type 0 where
+  pub free : (n : ℕ) → n < count → is_set ws (from + n * apart) ≡ false
+
+-- of such bits the one with this number is 1, and none before it is
+pub record IsFirst (ws : List ℕ) (from apart n : ℕ) : Type 0 where
+  pub before : AreFree ws from apart n
+  pub here : is_set ws (from + n * apart) ≡ true

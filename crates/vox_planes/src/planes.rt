@@ -6,6 +6,7 @@ ghost use Rattle.nano_spec.specs.Matrix.{empty as empty_of, is_full};
 ghost use Rattle.vox_planes.specs.Layers.{bit_index as bit_index_of, is_set as is_set_of, layer_words as layer_words_of};
 ghost use Rattle.vox_planes.specs.Voxel.{IsWhole, with_voxel};
 
+mod lines;
 mod places;
 mod regions;
 mod whole;
@@ -60,6 +61,7 @@ fn bit_index(c: Coord, r: u16) -> usize
 }
 
 /// Whether the bit of this index is 1.
+#[inline(always)]
 #[tactic(auto, unfolding(crate::specs::Layers::is_set))]
 #[inline(always)]
 fn is_set(words: &[u64], i: usize) -> bool

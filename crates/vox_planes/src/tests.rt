@@ -64,6 +64,12 @@ fn small<L: Ledger>(rt: &impl Abort, blank: Blank, alloc: Global) -> Result<(), 
     assert_eq!(rt; planes.region_full(&right, &mut steps), Some(at(1, 0, 2)));
     let left = Region::of(at(0, 0, 0), at(0, 2, 2));
     assert_eq!(rt; planes.region_full(&left, &mut steps), None);
+    let along_x = Region::of(at(2, 0, 2), at(0, 0, 2));
+    assert_eq!(rt; planes.region_full(&along_x, &mut steps), Some(at(1, 0, 2)));
+    let along_y = Region::of(at(2, 0, 0), at(2, 2, 0));
+    assert_eq!(rt; planes.region_full(&along_y, &mut steps), Some(at(2, 1, 0)));
+    let beside = Region::of(at(2, 0, 1), at(2, 2, 1));
+    assert_eq!(rt; planes.region_full(&beside, &mut steps), None);
 
     let mut list = ChangeList::with_room(alloc, 27)?;
     let all = Region::of(at(0, 0, 0), at(2, 2, 2));

@@ -58,9 +58,8 @@ impl Planes {
         None
     }
 
-    /// The least full coordinate of the region: `None` exactly where the region is void. At most as many touches as the
-    /// region has coordinates.
-    pub fn region_full<L: Ledger>(&self, b: &Region, steps: &mut Steps<L>) -> Option<Coord>
+    /// The least full coordinate of the region, wall by wall.
+    fn walls_full<L: Ledger>(&self, b: &Region, steps: &mut Steps<L>) -> Option<Coord>
         requires { IsInSpace self.now.resolution b.now.high }
         ensures value { result ≡ find (λ c. is_full self.now c && is_within (span b.now) (point c)) (all_of self.now) }
         ensures touches { steps.new ≤ steps.old + size (span b.now) }
@@ -74,6 +73,30 @@ impl Planes {
             }
         }
         None
+    }
+
+    /// The least full coordinate of the region: `None` exactly where the region is void. At most as many touches as the
+    /// region has coordinates.
+    pub fn region_full<L: Ledger>(&self, b: &Region, steps: &mut Steps<L>) -> Option<Coord>
+        requires { IsInSpace self.now.resolution b.now.high }
+        ensures value { result ≡ find (λ c. is_full self.now c && is_within (span b.now) (point c)) (all_of self.now) }
+        ensures touches { steps.new ≤ steps.old + size (span b.now) }
+    {
+        let low = b.low();
+        let high = b.high();
+        if low.z == high.z {
+            if low.y == high.y {
+                return self.line_along_x(b, steps);
+            }
+            if low.x == high.x {
+                return self.line_along_y(b, steps);
+            }
+        } else if low.x == high.x {
+            if low.y == high.y {
+                return self.row_next(low, high.z, true, steps);
+            }
+        }
+        self.walls_full(b, steps)
     }
 
     /// Appends the coordinates of a row that are full, or else those that are void.

@@ -3,7 +3,7 @@ use Rattle.vox_geom.specs.Region.{size, span}
 use Rattle.vox_geom.specs.Space.{place}
 use Rattle.nano_spec.specs.Matrix.{all_of, is_full}
 use Rattle.vox_planes.specs.Walk.{coordinates_from, passes_in, row_start, wall_size}
-use Rattle.vox_planes.proofs.planes.Planes.region_full.Given as goal
+use Rattle.vox_planes.proofs.planes.Planes.walls_full.Given as goal
 
 abbrev pub invariant-loop-x : goal.invariant-loop-x
 invariant-loop-x g l = record {

@@ -1,0 +1,34 @@
+use Rattle.std.proofs.Common.{◌≡◌, ℕ, ◌+◌, ◌-◌, ◌*◌, ◌/◌, ◌<◌, Some, sym, ◌∙◌, ap, subst, arith, length}
+use Rattle.vox_geom.specs.declared.coordinate.Coord.{Coord}
+use Rattle.vox_geom.specs.Space.{IsInSpace}
+use Rattle.nano_spec.specs.Matrix.{Matrix}
+use Rattle.vox_planes.specs.Layers.{bit_index, layer_words}
+use Rattle.vox_planes.proofs.Lines.{all_as, first_as, found_y, none_y, size_y, within_y}
+use Rattle.vox_planes.proofs.planes.Planes.line_along_y.Goals as goal
+
+pub next_apart-requires-clause-within : goal.next_apart-requires-clause-within
+next_apart-requires-clause-within g c = λ n l.
+    let space = subst (λ (n : ℕ). IsInSpace n c.args.b.now.high) (sym (ap (λ (m : Matrix). m.resolution) c.self.view_is)) c.requires.within in
+    let start = c.bit_index-first.ensures.value ∙ ap (bit_index c.self.inside.resolution) c.low-low.ensures.value in
+    let low = ap (λ (d : Coord). d.y) c.low-low.ensures.value in
+    let high = ap (λ (d : Coord). d.y) c.high-high.ensures.value in
+    within_y c.self.inside.resolution c.self.inside.words.items c.args.self.now c.args.b.now c.self.view_is c.low-low.ensures.ordered space c.requires.x c.requires.z c.deref.result.now c.bit_index-first.result _ c.deref.ensures.value start (ap (λ n. n * 64) c.layer_words-apart.ensures) c.self.invariant.whole n (omega (arith, low, high, c.low-low.ensures.ordered.y))
+
+pub returns-in_default-clause-value : goal.returns-in_default-clause-value
+returns-in_default-clause-value g c =
+    let space = subst (λ (n : ℕ). IsInSpace n c.args.b.now.high) (sym (ap (λ (m : Matrix). m.resolution) c.self.view_is)) c.requires.within in
+    let start = c.bit_index-first.ensures.value ∙ ap (bit_index c.self.inside.resolution) c.low-low.ensures.value in
+    let low = ap (λ (d : Coord). d.y) c.low-low.ensures.value in
+    let high = ap (λ (d : Coord). d.y) c.high-high.ensures.value in
+    none_y c.self.inside.resolution c.self.inside.words.items c.args.self.now c.args.b.now c.self.view_is c.low-low.ensures.ordered space c.requires.x c.requires.z
+    (all_as c.deref.result.now c.self.inside.words.items c.bit_index-first.result _ _ (layer_words c.self.inside.resolution * 64) _ _ c.deref.ensures.value start (ap (λ n. n * 64) c.layer_words-apart.ensures) (omega (arith, low, high, c.low-low.ensures.ordered.y)) c.in_default.ensures.none)
+
+pub returns-clause-value : goal.returns-clause-value
+returns-clause-value g c =
+    let space = subst (λ (n : ℕ). IsInSpace n c.args.b.now.high) (sym (ap (λ (m : Matrix). m.resolution) c.self.view_is)) c.requires.within in
+    let start = c.bit_index-first.ensures.value ∙ ap (bit_index c.self.inside.resolution) c.low-low.ensures.value in
+    let low = ap (λ (d : Coord). d.y) c.low-low.ensures.value in
+    let high = ap (λ (d : Coord). d.y) c.high-high.ensures.value in
+    ap (λ (d : Coord). Some (record { x = d.x; y = d.y + c.in-Some.n; z = d.z })) c.low-low.ensures.value
+    ∙ found_y c.self.inside.resolution c.self.inside.words.items c.args.self.now c.args.b.now c.self.view_is c.low-low.ensures.ordered space c.requires.x c.requires.z c.in-Some.n (omega (arith, low, high, c.low-low.ensures.ordered.y, c.in-Some.ensures.below))
+    (first_as c.deref.result.now c.self.inside.words.items c.bit_index-first.result _ _ (layer_words c.self.inside.resolution * 64) c.in-Some.n c.deref.ensures.value start (ap (λ n. n * 64) c.layer_words-apart.ensures) c.in-Some.ensures.found)
