@@ -1,10 +1,9 @@
 -- A run takes the next bytes of its trace: step by step, and many steps one after another.
-use Rattle.std.proofs.Common.{◌≡◌, ℕ, ◌+◌, ◌≤◌, ◌∙◌, refl, sym, ap, subst, arith, List, [], ◌++◌, append_assoc, append-nil, false, length, length-append, take, drop}
+use Rattle.std.proofs.Common.{◌≡◌, ℕ, ◌+◌, ◌*◌, ◌/◌, ◌%◌, ◌≤◌, ◌∙◌, refl, sym, ap, subst, arith, List, [], ◌∷◌, ◌++◌, slice_index_or, append_assoc, append-nil, false, length, length-append, take, drop}
+use Rattle.std.specs.Prelude.{Result, Ok, Err, IfOk}
 use Rattle.std.proofs.Math.Seq.{take-add}
-use Rattle.std.proofs.lemmas.List.{length-take, take_all}
+use Rattle.std.proofs.lemmas.List.{take_all}
 use Rattle.nano_spec.specs.declared.commands.Command.{Command}
-use Rattle.nano_spec.specs.declared.system.Profile.{Profile}
-use Rattle.nano_spec.specs.Matrix.{Matrix}
 use Rattle.step_machine.specs.Course.{Course}
 use Rattle.trace_codec.specs.Decoder.{Answers, DecoderState, after}
 use Rattle.trace_codec.specs.declared.decoder.Fed.{Fed}
@@ -13,7 +12,7 @@ use Rattle.nanobot_rows.specs.Reading.{HasRun, RunState}
 use Rattle.nanobot_rows.specs.Taking.{Gains, Gets, Takes}
 use Rattle.nanobot_rows.specs.Touching.{HasPaid}
 use Rattle.nanobot_rows.proofs.Paying.{PushLaw, paid_all, paid_bad, paid_got}
-use Rattle.nanobot_rows.proofs.Running.{AllLaw, BadLaw, GotLaw, all_step, bad_step, got_step, longer}
+use Rattle.nanobot_rows.proofs.Running.{AllLaw, BadLaw, GotLaw, all_step, bad_step, got_step}
 
 -- ---- one answer of the decoder
 
@@ -57,20 +56,32 @@ module _ (got : GotLaw) (all : AllLaw) (bad : BadLaw) (push : PushLaw) (d : Deco
       → Takes old (take n piece) (record { decoder = after d piece fed; run = new }) began ended
   takes (Got command used) n new began ended answers (e, g) =
       subst (λ (k : ℕ). Takes old (take k piece) (record { decoder = after d piece (Got command used); run = new }) began ended) (sym e) (takes_got command used new began ended answers g)
-  takes All n new began ended answers (e, (same, still)) =
+  takes All n new began ended answers (e, same, still) =
       subst (λ (b : List ℕ). Takes old b (record { decoder = after d piece All; run = new }) began ended) (sym (whole n e))
       (subst (λ (x : Course). Takes old piece (record { decoder = after d piece All; run = x }) began ended) (sym same)
       (subst (λ (t : ℕ). Takes old piece (record { decoder = after d piece All; run = r }) began t) (sym still) (takes_all began answers)))
-  takes (Bad offset) n new began ended answers (e, (same, still)) =
+  takes (Bad offset) n new began ended answers (e, same, still) =
       subst (λ (b : List ℕ). Takes old b (record { decoder = after d piece (Bad offset); run = new }) began ended) (sym (whole n e))
       (subst (λ (x : Course). Takes old piece (record { decoder = after d piece (Bad offset); run = x }) began ended) (sym same)
       (subst (λ (t : ℕ). Takes old piece (record { decoder = after d piece (Bad offset); run = r }) began t) (sym still) (takes_bad offset began answers)))
 
+-- the same of a call that may be refused memory, over a run that has these parts
+pub takes_if_ok : (got : GotLaw) (all : AllLaw) (bad : BadLaw) (push : PushLaw) {E : Type 0} (answer : Result ℕ E) (old : RunState) (d next : DecoderState) (r new : Course) (piece : List ℕ) (fed : Fed) (began ended : ℕ)
+    → record { decoder = d; run = r } ≡ old → old.run.spent ≡ false → next ≡ after d piece fed → Answers d piece fed → IfOk answer (λ n. Gets r fed (length piece) n new began ended)
+    → IfOk answer (λ n. Takes old (take n piece) (record { decoder = next; run = new }) began ended)
+takes_if_ok got all bad push answer old d next r new piece fed began ended view stands is_next answers gets =
+    subst (λ (x : DecoderState). IfOk answer (λ n. Takes old (take n piece) (record { decoder = x; run = new }) began ended)) (sym is_next)
+    (subst (λ (s : RunState). IfOk answer (λ n. Takes s (take n piece) (record { decoder = after d piece fed; run = new }) began ended)) view
+    (elim answer as (λ a. IfOk a (λ n. Gets r fed (length piece) n new began ended) → IfOk a (λ n. Takes (record { decoder = d; run = r }) (take n piece) (record { decoder = after d piece fed; run = new }) began ended)) [
+      | Ok n ↦ λ g. takes got all bad push d r piece (ap (λ (s : RunState). s.run.spent) view ∙ stands) fed n new began ended answers g
+      | Err e ↦ λ g. tt
+    ] gets))
+
 -- how many bytes are taken
 pub some_taken : (d : DecoderState) (r new : Course) (piece : List ℕ) (fed : Fed) (n began ended : ℕ) → 1 ≤ length piece → Answers d piece fed → Gets r fed (length piece) n new began ended → (1 ≤ n) × (n ≤ length piece)
 some_taken d r new piece (Got command used) n began ended some answers (e, g) = (omega (arith, e, answers.some), omega (arith, e, answers.within))
-some_taken d r new piece All n began ended some answers (e, g) = (omega (arith, e), omega (arith, e))
-some_taken d r new piece (Bad offset) n began ended some answers (e, g) = (omega (arith, e), omega (arith, e))
+some_taken d r new piece All n began ended some answers (e, same, still) = (omega (arith, e), omega (arith, e))
+some_taken d r new piece (Bad offset) n began ended some answers (e, same, still) = (omega (arith, e), omega (arith, e))
 
 -- ---- one after another
 
@@ -95,3 +106,10 @@ takes_more s t u xs ys i j k a b = record {
 
 pub takes_next : (s t u : RunState) (piece : List ℕ) (at n i j k : ℕ) → Takes s (take at piece) t i j → Takes t (take n (drop at piece)) u j k → Takes s (take (at + n) piece) u i k
 takes_next s t u piece at n i j k a b = subst (λ (bytes : List ℕ). Takes s bytes u i k) (sym (take-add at n piece)) (takes_more s t u (take at piece) (take n (drop at piece)) i j k a b)
+
+-- ---- heads
+
+-- the first of some bytes, put together again from its low three bits and the others
+pub known_head : (piece : List ℕ) (low : ℕ) → 1 ≤ length piece → slice_index_or piece 0 0 % 8 ≡ low → (rest : List ℕ) × (piece ≡ (slice_index_or piece 0 0 / 8 * 8 + low) ∷ rest)
+known_head [] low some e = absurd (omega arith)
+known_head (head ∷ rest) low some e = (rest, (let same : head ≡ head / 8 * 8 + low = omega (arith, e) in ap (λ (n : ℕ). n ∷ rest) same))

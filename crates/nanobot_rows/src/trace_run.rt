@@ -69,7 +69,7 @@ impl TraceRun {
     pub fn feed<L: Ledger>(&mut self, piece: &[u8], steps: &mut Steps<L>) -> Result<(), Memory>
         requires offset { self.old.decoder.offset + length self.old.decoder.held + length piece.now ≤ 1073741824 }
         requires stands { self.old.run.spent ≡ false }
-        ensures takes { OnOk result (Takes self.old piece.now self.new steps.old steps.new) }
+        ensures { OnOk result (Takes self.old piece.now self.new steps.old steps.new) }
     {
         let mut at = 0;
         while at < piece.len() {

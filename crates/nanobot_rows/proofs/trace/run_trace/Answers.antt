@@ -21,8 +21,8 @@ pieces-preserved g c =
     record {
       underway = underway_next _ _ c.args.source c.args.profile _ _ _ c.pieces.run c.pieces.invariant.underway piece c.in_ok-count.ensures.bound c.feed.new.self (λ bytes run. fed.run c.args.source c.args.profile bytes run);
       within = omega (arith, c.if-at-gt-LIMIT.false);
-      offset = omega (arith, c.feed.ensures.offset, c.pieces.invariant.offset, size);
-      resolution = c.feed.ensures.resolution ∙ c.pieces.invariant.resolution;
+      offset = omega (arith, fed.offset, c.pieces.invariant.offset, size);
+      resolution = fed.resolution ∙ c.pieces.invariant.resolution;
       stands = fed.stands;
       files = search rules;
       later = omega (arith, c.in_ok-count.ensures.later, c.pieces.invariant.later);
