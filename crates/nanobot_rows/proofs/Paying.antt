@@ -1,7 +1,8 @@
 -- The touches of a run, which the work of its trace pays for.
 use Rattle.std.proofs.Common.{◌≡◌, ℕ, ◌+◌, ◌*◌, ◌≤◌, refl, sym, ◌∙◌, ap, subst, arith, List, [], ◌∷◌, ◌++◌, append_assoc, append-nil, Bool, true, false, length, length-append, take, drop}
 use Rattle.std.specs.Prelude.{Option, Some, None, Ok, MatchBool, IsFalse, IfSome, IsSomeAnd}
-
+use Rattle.std.proofs.lemmas.List.{take-append-drop}
+use Rattle.std.proofs.Math.Seq.{take-add}
 use Rattle.nano_spec.specs.declared.commands.Command.{Command}
 use Rattle.nano_spec.specs.declared.commands.Command.TheVariants.{Halt, Wait, Flip, SMove, LMove, FusionP, FusionS, Fission, Fill, Void, GFill, GVoid}
 use Rattle.nano_spec.specs.declared.system.Profile.{Profile}
