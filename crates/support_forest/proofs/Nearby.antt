@@ -1,11 +1,13 @@
 -- The words beside a voxel.
-use Rattle.std.proofs.Common.{◌≡◌, ℕ, ◌+◌, inl, inr, refl, sym, ◌∙◌, ap, subst, arith, List, Option}
+use Rattle.std.proofs.Common.{◌≡◌, ℕ, ◌+◌, ◌-◌, ◌/◌, ◌%◌, ◌<◌, inl, inr, refl, sym, ◌∙◌, ap, subst, arith, List, Option, None, Some}
+use Rattle.std.specs.Prelude.{IfSome}
 use Rattle.vox_geom.specs.declared.coordinate.Coord.{Coord}
+use Rattle.vox_geom.specs.Space.{IsInSpace}
 use Rattle.support_forest.specs.declared.beside.Beside.{Beside}
 use Rattle.support_forest.specs.Directions.{Toward, AreBeside}
-use Rattle.support_forest.specs.Grid.{Grid, brick, brick_number, slot_at, slot_of}
-use Rattle.support_forest.specs.Placing.{AreBesideWords}
-use Rattle.support_forest.proofs.Store.{same_brick}
+use Rattle.support_forest.specs.Grid.{Grid, StandsAt, brick, brick_number, side, slot_at, slot_of, word_index}
+use Rattle.support_forest.specs.Placing.{AreBesideWords, IsIndexToward}
+use Rattle.support_forest.proofs.Store.{brick_inside, same_brick}
 
 -- what holds of each of the six words holds of a neighbour's
 pub each_beside : (w : Coord → ℕ) (c q : Coord) (b : Beside) (P : ℕ → Type 0) → AreBesideWords w c b → P b.left → P b.right → P b.under → P b.over → P b.near → P b.far → AreBeside c q → P (w q)
@@ -33,6 +35,75 @@ toward_down c q (inr (inr (inr (inr (inr h))))) = absurd (omega arith)
 -- voxels of one brick have its slot
 pub same_slot : (g : Grid) (c d : Coord) (own : Option ℕ) → brick d ≡ brick c → own ≡ slot_of g c → own ≡ slot_of g d
 same_slot g c d own e h = subst (λ (n : ℕ). own ≡ slot_at g.table n) (sym (same_brick g.resolution d c e)) h
+
+-- ---- the index of a neighbour's word in the same brick
+
+pub index_left : (c : Coord) (d index i : ℕ) → d ≡ 1 → index ≡ word_index c → 0 < c.x % 8 → i + 64 ≡ index → IsIndexToward c d i
+unfolding Toward word_index
+index_left c d index i n e h k = record {
+  there = record { x = c.x - 1; y = c.y; z = c.z };
+  toward = inl (n, omega arith, refl, refl);
+  same_brick = let e : (c.x - 1) / 8 ≡ c.x / 8 = omega arith in λ j. record { x = e j; y = c.y / 8; z = c.z / 8 };
+  at_index = omega arith;
+}
+
+pub index_right : (c : Coord) (d index i : ℕ) → d ≡ 2 → index ≡ word_index c → c.x % 8 < 7 → i ≡ index + 64 → IsIndexToward c d i
+unfolding Toward word_index
+index_right c d index i n e h k = record {
+  there = record { x = c.x + 1; y = c.y; z = c.z };
+  toward = inr (inl (n, omega arith, refl, refl));
+  same_brick = let e : (c.x + 1) / 8 ≡ c.x / 8 = omega arith in λ j. record { x = e j; y = c.y / 8; z = c.z / 8 };
+  at_index = omega arith;
+}
+
+pub index_under : (c : Coord) (d index i : ℕ) → d ≡ 3 → index ≡ word_index c → 0 < c.y % 8 → i + 8 ≡ index → IsIndexToward c d i
+unfolding Toward word_index
+index_under c d index i n e h k = record {
+  there = record { x = c.x; y = c.y - 1; z = c.z };
+  toward = inr (inr (inl (n, refl, omega arith, refl)));
+  same_brick = let e : (c.y - 1) / 8 ≡ c.y / 8 = omega arith in λ j. record { x = c.x / 8; y = e j; z = c.z / 8 };
+  at_index = omega arith;
+}
+
+pub index_over : (c : Coord) (d index i : ℕ) → d ≡ 4 → index ≡ word_index c → c.y % 8 < 7 → i ≡ index + 8 → IsIndexToward c d i
+unfolding Toward word_index
+index_over c d index i n e h k = record {
+  there = record { x = c.x; y = c.y + 1; z = c.z };
+  toward = inr (inr (inr (inl (n, refl, omega arith, refl))));
+  same_brick = let e : (c.y + 1) / 8 ≡ c.y / 8 = omega arith in λ j. record { x = c.x / 8; y = e j; z = c.z / 8 };
+  at_index = omega arith;
+}
+
+pub index_near : (c : Coord) (d index i : ℕ) → d ≡ 5 → index ≡ word_index c → 0 < c.z % 8 → i + 1 ≡ index → IsIndexToward c d i
+unfolding Toward word_index
+index_near c d index i n e h k = record {
+  there = record { x = c.x; y = c.y; z = c.z - 1 };
+  toward = inr (inr (inr (inr (inl (n, refl, refl, omega arith)))));
+  same_brick = let e : (c.z - 1) / 8 ≡ c.z / 8 = omega arith in λ j. record { x = c.x / 8; y = c.y / 8; z = e j };
+  at_index = omega arith;
+}
+
+pub index_far : (c : Coord) (d index i : ℕ) → d ≡ 6 → index ≡ word_index c → c.z % 8 < 7 → i ≡ index + 1 → IsIndexToward c d i
+unfolding Toward word_index
+index_far c d index i n e h k = record {
+  there = record { x = c.x; y = c.y; z = c.z + 1 };
+  toward = inr (inr (inr (inr (inr (n, refl, refl, omega arith)))));
+  same_brick = let e : (c.z + 1) / 8 ≡ c.z / 8 = omega arith in λ j. record { x = c.x / 8; y = c.y / 8; z = e j };
+  at_index = omega arith;
+}
+
+-- what follows of the number in an option
+pub some_so : (o : Option ℕ) (P Q : ℕ → Type 0) → ((i : ℕ) → P i → Q i) → IfSome o P → IfSome o Q
+some_so None P Q k h = h
+some_so (Some i) P Q k h = k i h
+
+-- a neighbour in the same brick stands in the same slot
+pub stands_beside : (g : Grid) (c : Coord) (d slot index : ℕ) → IsInSpace g.resolution c → slot_of g c ≡ Some slot → (t : IsIndexToward c d index) → StandsAt g slot index t.there
+stands_beside g c d slot index i e t = record {
+  within = subst (λ (b : Coord). IsInSpace (side g.resolution) b) (sym t.same_brick) (brick_inside g.resolution c i);
+  in_slot = sym (same_slot g c t.there (Some slot) t.same_brick (sym e));
+  at_index = t.at_index;
+}
 
 -- where the table stays a brick keeps its slot
 pub slot_stays : (g h : Grid) (c : Coord) (own : Option ℕ) → h.table ≡ g.table → h.resolution ≡ g.resolution → own ≡ slot_of g c → own ≡ slot_of h c

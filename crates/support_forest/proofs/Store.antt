@@ -67,11 +67,11 @@ digits a b c d e f h = (omega arith, omega arith, omega arith)
 same_digits : (a b : ℕ) → a / 8 ≡ b / 8 → a % 8 ≡ b % 8 → a ≡ b
 same_digits a b h k = omega arith
 
--- two voxels of one brick with one index are one voxel
-pub same_voxel : (r : ℕ) (c d : Coord) → IsInSpace r c → IsInSpace r d → brick_number r c ≡ brick_number r d → word_index c ≡ word_index d → c ≡ d
+-- two voxels of one brick with one index are one voxel, also beyond space
+pub same_voxel : (r : ℕ) (c d : Coord) → IsInSpace (side r) (brick c) → IsInSpace (side r) (brick d) → brick_number r c ≡ brick_number r d → word_index c ≡ word_index d → c ≡ d
 unfolding brick_number word_index
 same_voxel r c d h k n i =
-    let b : brick c ≡ brick d = sym (coordinate_at-place (side r) (brick c) (brick_inside r c h)) ∙ (ap (coordinate_at (side r)) n ∙ coordinate_at-place (side r) (brick d) (brick_inside r d k)) in
+    let b : brick c ≡ brick d = sym (coordinate_at-place (side r) (brick c) h) ∙ (ap (coordinate_at (side r)) n ∙ coordinate_at-place (side r) (brick d) k) in
     let m = digits c.x c.y c.z d.x d.y d.z i in
     let x : c.x ≡ d.x = same_digits c.x d.x (ap (λ (p : Coord). p.x) b) m.0 in
     let y : c.y ≡ d.y = same_digits c.y d.y (ap (λ (p : Coord). p.y) b) m.1 in

@@ -5,7 +5,7 @@ use Rattle.vox_geom.specs.declared.coordinate.Coord.{Coord}
 use Rattle.support_forest.specs.declared.beside.Beside.{Beside}
 use Rattle.support_forest.specs.declared.place.Around.{Around}
 use Rattle.support_forest.specs.Directions.{Toward}
-use Rattle.support_forest.specs.Grid.{Grid, word_at}
+use Rattle.support_forest.specs.Grid.{Grid, brick, word_at, word_index}
 use Rattle.support_forest.specs.Waiting.{CanAdd}
 use Rattle.support_forest.specs.Words.{height, AreExact, IsSound}
 
@@ -21,6 +21,13 @@ pub record IsAround (w : Coord → ℕ) (c : Coord) (a : Around) (d : ℕ) : Typ
 pub record IsWordToward (w : Coord → ℕ) (c : Coord) (d word : ℕ) : Type 0 where
   pub each : (q : Coord) → Toward d c q → w q ≡ word
   pub some : 0 < word → (q : Coord) × Toward d c q
+
+-- the neighbour in the direction lies in the same brick, and its word is at that index
+pub record IsIndexToward (c : Coord) (d index : ℕ) : Type 0 where
+  pub there : Coord
+  pub toward : Toward d c there
+  pub same_brick : brick there ≡ brick c
+  pub at_index : word_index there ≡ index
 
 -- the words are those of the voxel's neighbours
 pub record AreBesideWords (w : Coord → ℕ) (c : Coord) (b : Beside) : Type 0 where

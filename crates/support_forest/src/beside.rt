@@ -1,11 +1,12 @@
 //! The words beside a voxel.
-ghost use Rattle.std.specs.Prelude.{◌≡◌, ℕ, ◌+◌, ◌<◌, ◌≤◌};
+ghost use Rattle.std.specs.Prelude.{◌≡◌, ℕ, ◌+◌, ◌%◌, ◌<◌, ◌≤◌, IfSome, Some};
+ghost use Rattle.brick_arena.specs.Slots.{IsLive};
 ghost use Rattle.vox_geom.specs.Space.{IsInSpace};
 ghost use Rattle.vox_geom.specs.declared.coordinate.Coord.{Coord};
-ghost use Rattle.support_forest.specs.Grid.{slot_of, word_at};
-ghost use Rattle.support_forest.specs.Placing.{AreBesideWords, IsWordToward};
+ghost use Rattle.support_forest.specs.Grid.{slot_of, word_at, word_index as word_index_of};
+ghost use Rattle.support_forest.specs.Placing.{AreBesideWords, IsIndexToward, IsWordToward};
 
-use crate::cells::Cells;
+use crate::cells::{BRICK_SIDE, Cells, word_index};
 use crate::directions::neighbor;
 use std::sync::ledger::Ledger;
 use vox_geom::{Coord, Steps};
@@ -21,29 +22,151 @@ pub struct Beside {
     pub far: u32,
 }
 
-/// The word of the neighbour in a direction, 0 where there is none. A neighbour in the same brick has the slot `own`.
+/// The index that is a step lower, where `at` is not the first of its brick.
 #[inline(always)]
-fn word_toward<L: Ledger>(
-    cells: &Cells,
-    c: Coord,
-    own: Option<u32>,
-    d: u8,
-    steps: &mut Steps<L>,
-) -> u32
+fn lower(at: u16, index: u16, step: u16) -> Option<u16>
+    requires { 0 < at % 8 → step ≤ index }
+    ensures { IfSome result (λ i. (0 < at % 8) × (i + step ≡ index)) }
+{
+    if at % BRICK_SIDE == 0 {
+        return None;
+    }
+    Some(index - step)
+}
+
+/// The index that is a step higher, where `at` is not the last of its brick.
+#[inline(always)]
+fn upper(at: u16, index: u16, step: u16) -> Option<u16>
+    requires { at % 8 < 7 → index + step < 512 }
+    ensures { IfSome result (λ i. (at % 8 < 7) × (i ≡ index + step)) }
+{
+    if at % BRICK_SIDE == BRICK_SIDE - 1 {
+        return None;
+    }
+    Some(index + step)
+}
+
+/// The index of the word of the neighbour in a direction, where it lies in the same brick.
+#[tactic(auto, unfolding(crate::specs::Grid::word_index))]
+#[inline(always)]
+fn index_toward(c: Coord, index: u16, d: u8) -> Option<u16>
+    requires direction { (0 < d) × (d ≤ 6) }
+    requires index { index ≡ word_index_of c }
+    ensures { IfSome result (IsIndexToward c d) }
+{
+    match d {
+        1 => lower(c.x, index, 64),
+        2 => upper(c.x, index, 64),
+        3 => lower(c.y, index, 8),
+        4 => upper(c.y, index, 8),
+        5 => lower(c.z, index, 1),
+        _ => upper(c.z, index, 1),
+    }
+}
+
+/// The word of the neighbour in a direction, 0 where there is none.
+#[inline(always)]
+fn word_beyond<L: Ledger>(cells: &Cells, c: Coord, d: u8, steps: &mut Steps<L>) -> u32
     requires direction { (0 < d) × (d ≤ 6) }
     requires within { IsInSpace cells.now.resolution c }
-    requires own { own ≡ slot_of cells.now c }
     requires space { (q : Coord) → 0 < word_at cells.now q → IsInSpace cells.now.resolution q }
     ensures word { IsWordToward (word_at cells.now) c d result }
     ensures touch { steps.new ≤ steps.old + 1 }
 {
     match neighbor(c, d, cells.resolution()) {
-        Some(q) => cells.word_near(q, c, own, steps),
+        Some(q) => cells.word(q, steps),
         None => 0,
     }
 }
 
-/// The words of a voxel's neighbours. All six are read before any is looked at: one call for each is quicker than a loop.
+/// The word of the neighbour in a direction, 0 where there is none. In the same brick no slot is looked up, and no bound of
+/// space: a word beyond it is 0.
+#[inline(always)]
+fn word_toward<L: Ledger>(
+    cells: &Cells,
+    c: Coord,
+    slot: u32,
+    index: u16,
+    d: u8,
+    steps: &mut Steps<L>,
+) -> u32
+    requires direction { (0 < d) × (d ≤ 6) }
+    requires within { IsInSpace cells.now.resolution c }
+    requires live { IsLive cells.now.bricks slot }
+    requires slot { slot_of cells.now c ≡ Some slot }
+    requires index { index ≡ word_index_of c }
+    requires space { (q : Coord) → 0 < word_at cells.now q → IsInSpace cells.now.resolution q }
+    ensures word { IsWordToward (word_at cells.now) c d result }
+    ensures touch { steps.new ≤ steps.old + 1 }
+{
+    match index_toward(c, index, d) {
+        Some(i) => cells.word_of(slot, i, steps),
+        None => word_beyond(cells, c, d, steps),
+    }
+}
+
+/// The words of the neighbours of a voxel whose brick has no slot.
+#[inline(never)]
+fn words_beyond<L: Ledger>(cells: &Cells, c: Coord, steps: &mut Steps<L>) -> Beside
+    requires within { IsInSpace cells.now.resolution c }
+    requires space { (q : Coord) → 0 < word_at cells.now q → IsInSpace cells.now.resolution q }
+    ensures words { AreBesideWords (word_at cells.now) c result }
+    ensures touches { steps.new ≤ steps.old + 6 }
+{
+    Beside {
+        left: word_beyond(cells, c, 1, steps),
+        right: word_beyond(cells, c, 2, steps),
+        under: word_beyond(cells, c, 3, steps),
+        over: word_beyond(cells, c, 4, steps),
+        near: word_beyond(cells, c, 5, steps),
+        far: word_beyond(cells, c, 6, steps),
+    }
+}
+
+/// The words of the neighbours of a voxel whose brick has this slot. All six are read before any is looked at: one call for
+/// each is quicker than a loop.
+#[inline(always)]
+pub fn words_in<L: Ledger>(cells: &Cells, c: Coord, slot: u32, steps: &mut Steps<L>) -> Beside
+    requires within { IsInSpace cells.now.resolution c }
+    requires live { IsLive cells.now.bricks slot }
+    requires slot { slot_of cells.now c ≡ Some slot }
+    requires space { (q : Coord) → 0 < word_at cells.now q → IsInSpace cells.now.resolution q }
+    ensures words { AreBesideWords (word_at cells.now) c result }
+    ensures touches { steps.new ≤ steps.old + 6 }
+{
+    let index = word_index(c);
+    Beside {
+        left: word_toward(cells, c, slot, index, 1, steps),
+        right: word_toward(cells, c, slot, index, 2, steps),
+        under: word_toward(cells, c, slot, index, 3, steps),
+        over: word_toward(cells, c, slot, index, 4, steps),
+        near: word_toward(cells, c, slot, index, 5, steps),
+        far: word_toward(cells, c, slot, index, 6, steps),
+    }
+}
+
+/// The words of a voxel's neighbours, with the slot of its brick in hand.
+#[inline(always)]
+pub fn words_around<L: Ledger>(
+    cells: &Cells,
+    c: Coord,
+    own: Option<u32>,
+    steps: &mut Steps<L>,
+) -> Beside
+    requires within { IsInSpace cells.now.resolution c }
+    requires live { IfSome own (IsLive cells.now.bricks) }
+    requires own { own ≡ slot_of cells.now c }
+    requires space { (q : Coord) → 0 < word_at cells.now q → IsInSpace cells.now.resolution q }
+    ensures words { AreBesideWords (word_at cells.now) c result }
+    ensures touches { steps.new ≤ steps.old + 6 }
+{
+    match own {
+        Some(slot) => words_in(cells, c, slot, steps),
+        None => words_beyond(cells, c, steps),
+    }
+}
+
+/// The words of a voxel's neighbours.
 #[inline(always)]
 pub fn words_beside<L: Ledger>(cells: &Cells, c: Coord, steps: &mut Steps<L>) -> Beside
     requires within { IsInSpace cells.now.resolution c }
@@ -52,13 +175,5 @@ pub fn words_beside<L: Ledger>(cells: &Cells, c: Coord, steps: &mut Steps<L>) ->
     ensures few { cells.now.resolution ≤ 400 }
     ensures touches { steps.new ≤ steps.old + 6 }
 {
-    let own = cells.slot(c);
-    Beside {
-        left: word_toward(cells, c, own, 1, steps),
-        right: word_toward(cells, c, own, 2, steps),
-        under: word_toward(cells, c, own, 3, steps),
-        over: word_toward(cells, c, own, 4, steps),
-        near: word_toward(cells, c, own, 5, steps),
-        far: word_toward(cells, c, own, 6, steps),
-    }
+    words_around(cells, c, cells.slot(c), steps)
 }

@@ -6,7 +6,7 @@ ghost use Rattle.support_forest.specs.Grid.{word_at};
 ghost use Rattle.support_forest.specs.Placing.{AreBesideWords, HavePlaced, IsAround, IsWordToward, LeavesRoom, MayStand};
 ghost use Rattle.support_forest.specs.Words.{AreExact};
 
-use crate::beside::{Beside, words_beside};
+use crate::beside::{Beside, words_around};
 use crate::cells::Cells;
 use std::alloc::AllocError;
 use std::sync::ledger::Ledger;
@@ -107,9 +107,10 @@ pub fn place<L: Ledger>(
     requires void { word_at cells.old c ≡ 0 }
     ensures { IfOk result (λ done. MatchBool done (HavePlaced cells.old cells.new c steps.old steps.new) (cells.new ≡ cells.old × steps.new ≤ steps.old + 6)) }
 {
-    let beside = words_beside(cells, c, steps);
+    let own = cells.slot(c);
+    let beside = words_around(cells, c, own, steps);
     if may_stand(beside) {
-        cells.fill(c, 8 * (beside.under / 8) + 11, steps)?;
+        cells.fill_in(own, c, 8 * (beside.under / 8) + 11, steps)?;
         return Ok(true);
     }
     let around = look_around(c, beside);

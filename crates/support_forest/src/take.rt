@@ -5,7 +5,7 @@ ghost use Rattle.support_forest.specs.Grid.{word_at};
 ghost use Rattle.support_forest.specs.Taking.{HangsNot, HaveTaken, NoneHangs};
 ghost use Rattle.support_forest.specs.Words.{AreExact};
 
-use crate::beside::{Beside, words_beside};
+use crate::beside::{Beside, words_in};
 use crate::cells::Cells;
 use std::sync::ledger::Ledger;
 use vox_geom::{Coord, Steps};
@@ -37,10 +37,13 @@ pub fn take<L: Ledger>(cells: &mut Cells, c: Coord, steps: &mut Steps<L>) -> boo
     requires full { 0 < word_at cells.old c }
     ensures { MatchBool result (HaveTaken cells.old cells.new c steps.old steps.new) (cells.new ≡ cells.old × steps.new ≤ steps.old + 6) }
 {
-    if is_parent(words_beside(cells, c, steps)) {
+    let Some(slot) = cells.slot(c) else {
+        return false;
+    };
+    if is_parent(words_in(cells, c, slot, steps)) {
         return false;
     }
-    let word = cells.word(c, steps);
-    cells.set_word(c, word, 0, steps);
+    let word = cells.word_in(Some(slot), c, steps);
+    cells.write(slot, c, word, 0, steps);
     true
 }

@@ -1,21 +1,22 @@
-use Rattle.std.proofs.Common.{ℕ, ◌∙◌, ap, arith, inl, inr, subst, sym}
-use Rattle.std.proofs.lemmas.Bool.{cases_lt}
-use Rattle.vox_geom.specs.Space.{IsInSpace}
+use Rattle.std.proofs.Common.{◌∙◌, ap, arith}
 use Rattle.support_forest.specs.Grid.{word_at}
+use Rattle.support_forest.proofs.Nearby.{stands_beside}
 use Rattle.support_forest.proofs.Sides.{one_toward}
+use Rattle.support_forest.proofs.Store.{index_below}
 use Rattle.support_forest.proofs.beside.word_toward.Goals as goal
 
 pub returns-in-Some-clause-word : goal.returns-in-Some-clause-word
-returns-in-Some-clause-word g c = record {
-  each = λ q t. ap (word_at c.args.cells.now) (one_toward c.args.d c.args.c q c.in-Some.q t c.in-Some.ensures.0) ∙ sym c.word_near.ensures.value;
-  some = λ f. (c.in-Some.q, c.in-Some.ensures.0);
-}
+returns-in-Some-clause-word g c =
+    let t = c.in-Some.ensures in
+    let s = c.word_of.ensures.value t.there (stands_beside c.args.cells.now c.args.c c.args.d c.args.slot c.in-Some.i c.requires.within c.requires.slot t) in
+    record {
+      each = λ q k. ap (word_at c.args.cells.now) (one_toward c.args.d c.args.c q t.there k t.toward) ∙ s;
+      some = λ f. (t.there, t.toward);
+    }
 
-pub returns-in-None-clause-word : goal.returns-in-None-clause-word
-returns-in-None-clause-word g c = record {
-  each = λ q t. elim (cases_lt 0 (word_at c.args.cells.now q)) [
-    | inl f ↦ absurd (c.in-None.ensures q t (subst (λ (r : ℕ). IsInSpace r q) (sym c.resolution.ensures.value) (c.requires.space q f)))
-    | inr f ↦ omega arith
-  ];
-  some = λ f. absurd (omega arith);
-}
+pub word_of-requires-clause-index : goal.word_of-requires-clause-index
+word_of-requires-clause-index g c =
+    let t = c.in-Some.ensures in
+    let below = index_below t.there in
+    let same = t.at_index in
+    omega arith

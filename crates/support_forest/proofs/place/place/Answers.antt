@@ -7,36 +7,36 @@ use Rattle.support_forest.proofs.place.place.Goals as goal
 
 pub overflow_add-beside : goal.overflow_add-beside
 overflow_add-beside g c =
-    let cube = cube_small c.args.cells.now.resolution c.words_beside-beside.ensures.few in
-    let low = under_small c.args.cells.now.resolution (word_at c.args.cells.now) c.args.c c.words_beside-beside.result c.requires.exact cube c.words_beside-beside.ensures.words (c.if-may_stand.ensures refl) in
+    let cube = cube_small c.args.cells.now.resolution c.slot-own.ensures.store.few in
+    let low = under_small c.args.cells.now.resolution (word_at c.args.cells.now) c.args.c c.words_around-beside.result c.requires.exact cube c.words_around-beside.ensures.words (c.if-may_stand.ensures refl) in
     omega arith
 
 pub returns-then-may_stand : goal.returns-then-may_stand
 returns-then-may_stand g c =
-    placed_over c.args.cells.now c.fill.new.self c.args.c c.words_beside-beside.result c.args.steps.now c.words_beside-beside.new.steps c.fill.new.steps
-    c.requires.exact c.requires.within c.requires.void c.words_beside-beside.ensures.words (c.if-may_stand.ensures refl) c.in_ok-fill.ensures.written c.fill.ensures.resolution c.words_beside-beside.ensures.touches c.in_ok-fill.ensures.touch
+    placed_over c.args.cells.now c.fill_in.new.self c.args.c c.words_around-beside.result c.args.steps.now c.words_around-beside.new.steps c.fill_in.new.steps
+    c.requires.exact c.requires.within c.requires.void c.words_around-beside.ensures.words (c.if-may_stand.ensures refl) c.in_ok-fill_in.ensures.written c.fill_in.ensures.resolution c.words_around-beside.ensures.touches c.in_ok-fill_in.ensures.touch
 
 pub returns-then-around-eq0 : goal.returns-then-around-eq0
 returns-then-around-eq0 g c =
-    placed_alone c.args.cells.now c.fill-then-around-eq0.new.self c.args.c c.look_around-around.result c.args.steps.now c.words_beside-beside.new.steps c.fill-then-around-eq0.new.steps
-    c.requires.exact c.requires.within c.requires.void (c.look_around-around.ensures _ c.words_beside-beside.ensures.words) c.if-around-eq0.true c.in_ok-fill-2.ensures.written c.fill-then-around-eq0.ensures.resolution c.words_beside-beside.ensures.touches c.in_ok-fill-2.ensures.touch
+    placed_alone c.args.cells.now c.fill.new.self c.args.c c.look_around-around.result c.args.steps.now c.words_around-beside.new.steps c.fill.new.steps
+    c.requires.exact c.requires.within c.requires.void (c.look_around-around.ensures _ c.words_around-beside.ensures.words) c.if-around-eq0.true c.in_ok-fill.ensures.written c.fill.ensures.resolution c.words_around-beside.ensures.touches c.in_ok-fill.ensures.touch
 
 pub overflow_add-around : goal.overflow_add-around
 overflow_add-around g c =
-    let cube = cube_small c.args.cells.now.resolution c.words_beside-beside.ensures.few in
-    let low = word_small c.args.cells.now.resolution (word_at c.args.cells.now) c.args.c c.look_around-around.result c.requires.exact cube (c.look_around-around.ensures _ c.words_beside-beside.ensures.words) in
+    let cube = cube_small c.args.cells.now.resolution c.slot-own.ensures.store.few in
+    let low = word_small c.args.cells.now.resolution (word_at c.args.cells.now) c.args.c c.look_around-around.result c.requires.exact cube (c.look_around-around.ensures _ c.words_around-beside.ensures.words) in
     omega arith
 
 pub overflow_mul-around : goal.overflow_mul-around
 overflow_mul-around g c =
-    let cube = cube_small c.args.cells.now.resolution c.words_beside-beside.ensures.few in
-    let low = word_small c.args.cells.now.resolution (word_at c.args.cells.now) c.args.c c.look_around-around.result c.requires.exact cube (c.look_around-around.ensures _ c.words_beside-beside.ensures.words) in
+    let cube = cube_small c.args.cells.now.resolution c.slot-own.ensures.store.few in
+    let low = word_small c.args.cells.now.resolution (word_at c.args.cells.now) c.args.c c.look_around-around.result c.requires.exact cube (c.look_around-around.ensures _ c.words_around-beside.ensures.words) in
     omega arith
 
 pub overflow_add-around-2 : goal.overflow_add-around-2
 overflow_add-around-2 g c =
-    let cube = cube_small c.args.cells.now.resolution c.words_beside-beside.ensures.few in
-    let around = c.look_around-around.ensures (word_at c.args.cells.now) c.words_beside-beside.ensures.words in
+    let cube = cube_small c.args.cells.now.resolution c.slot-own.ensures.store.few in
+    let around = c.look_around-around.ensures (word_at c.args.cells.now) c.words_around-beside.ensures.words in
     let low = word_small c.args.cells.now.resolution (word_at c.args.cells.now) c.args.c c.look_around-around.result c.requires.exact cube around in
     let few = toward_small (word_at c.args.cells.now) c.args.c c.look_around-around.result around c.if-around-eq0.false in
     let same = c.from.ensures in
@@ -44,5 +44,5 @@ overflow_add-around-2 g c =
 
 pub returns : goal.returns
 returns g c =
-    placed_below c.args.cells.now c.fill-2.new.self c.args.c c.look_around-around.result c.args.steps.now c.words_beside-beside.new.steps c.fill-2.new.steps
-    c.requires.exact (cube_small c.args.cells.now.resolution c.words_beside-beside.ensures.few) c.requires.within c.requires.void (c.look_around-around.ensures _ c.words_beside-beside.ensures.words) c.if-around-eq0.false c.if-around.false (let calm = c.if-around-2.false in omega arith) (subst (λ (t : ℕ). IsWritten (word_at c.args.cells.now) (word_at c.fill-2.new.self) c.args.c (8 * c.look_around-around.result.height + t)) c.from.ensures c.in_ok-fill-3.ensures.written) c.fill-2.ensures.resolution c.words_beside-beside.ensures.touches c.in_ok-fill-3.ensures.touch
+    placed_below c.args.cells.now c.fill-2.new.self c.args.c c.look_around-around.result c.args.steps.now c.words_around-beside.new.steps c.fill-2.new.steps
+    c.requires.exact (cube_small c.args.cells.now.resolution c.slot-own.ensures.store.few) c.requires.within c.requires.void (c.look_around-around.ensures _ c.words_around-beside.ensures.words) c.if-around-eq0.false c.if-around.false (let calm = c.if-around-2.false in omega arith) (subst (λ (t : ℕ). IsWritten (word_at c.args.cells.now) (word_at c.fill-2.new.self) c.args.c (8 * c.look_around-around.result.height + t)) c.from.ensures c.in_ok-fill-2.ensures.written) c.fill-2.ensures.resolution c.words_around-beside.ensures.touches c.in_ok-fill-2.ensures.touch
