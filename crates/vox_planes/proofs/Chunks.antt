@@ -97,7 +97,7 @@ mixed_other w bits s count j h l o =
     none (inl m) = bit_at_mask_below s (s + count) j m
     none (inr m) = bit_at_mask_above s (s + count) j m
 
-outside : (index count j : ℕ) → IsFalse (is_from index count j) → (j < index) ⊎ (index + count ≤ j)
+pub outside : (index count j : ℕ) → IsFalse (is_from index count j) → (j < index) ⊎ (index + count ≤ j)
 outside index count j h = by (cases_lt j index) (cases_lt j (index + count))
   where
     inside : index ≤ j → j < index + count → is_from index count j ≡ true

@@ -9,3 +9,5 @@ pub mod Placed
 pub mod Chunks
 pub mod Taken
 pub mod Lines
+pub mod Painting
+pub mod Filled

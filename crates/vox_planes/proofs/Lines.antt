@@ -1,5 +1,5 @@
 -- Lines along an axis: their bits, and the search for the first full coordinate of a region that is a line.
-use Rattle.std.proofs.Common.{◌≡◌, ℕ, zero, suc, ◌+◌, ◌-◌, ◌*◌, ◌/◌, ◌<◌, ◌≤◌, refl, sym, ◌∙◌, ap, subst, arith, Bool, true, false, cond, List, length, find, Option, Some, None, inl, inr}
+use Rattle.std.proofs.Common.{◌≡◌, ℕ, zero, suc, ◌+◌, ◌-◌, ◌*◌, ◌/◌, ◌<◌, ◌≤◌, refl, sym, ◌∙◌, ap, subst, arith, Bool, true, false, cond, List, ◌++◌, append-nil, length, filter, find, Option, Some, None, inl, inr}
 use Rattle.std.specs.Prelude.{◌⊎◌}
 use Rattle.std.specs.Option.{option_or}
 use Rattle.std.proofs.Math.Nat.{mul-le-mul}
@@ -13,7 +13,7 @@ use Rattle.vox_planes.specs.Layers.{bit_index, is_set, layer_words, layered}
 use Rattle.vox_planes.specs.Walk.{coordinates_from, passes_in, row, row_start, wall_size}
 use Rattle.vox_planes.proofs.Bits.{in_layer}
 use Rattle.vox_planes.proofs.Voxels.{is_full-layered}
-use Rattle.vox_planes.proofs.Walks.{find-end, find-next_wall, find-start, find-step, row-end, row-more, size-walls}
+use Rattle.vox_planes.proofs.Walks.{filter-end, filter-next_wall, filter-start, filter-step, find-end, find-next_wall, find-start, find-step, row-end, row-more, size-walls}
 
 -- ---- bits that lie equally far apart
 
@@ -134,6 +134,18 @@ module _ (r : ℕ) (k : Corners) (test : Coord → Bool) (o : IsOrdered k) (s : 
       ∙ (sym (find-step r k test o s k.low.x k.low.y (omega arith) (omega (arith, o.x)) (omega arith) (omega (arith, o.y)))
       ∙ (ap (λ f. option_or (find test (row k.low k.high.z)) f) ended
       ∙ or_none (find test (row k.low k.high.z)))))
+
+  -- and the list of what passes
+  pub row_listed : k.low.x ≡ k.high.x → k.low.y ≡ k.high.y → filter test (row k.low k.high.z) ≡ filter (passes_in k test) (coordinates r)
+  row_listed x y =
+      let ended =
+      ap (λ v. filter (passes_in k test) (coordinates_from r (place r (row_start k k.low.x (v + 1))))) y
+      ∙ (filter-next_wall r k test o s k.low.x
+      ∙ (ap (λ v. filter (passes_in k test) (coordinates_from r (place r (row_start k (v + 1) k.low.y)))) x ∙ filter-end r k test o s)) in
+      sym (filter-start r k test o s
+      ∙ (sym (filter-step r k test o s k.low.x k.low.y (omega arith) (omega (arith, o.x)) (omega arith) (omega (arith, o.y)))
+      ∙ (ap (λ f. filter test (row k.low k.high.z) ++ f) ended
+      ∙ append-nil (filter test (row k.low k.high.z)))))
 
 -- ---- lines by their bits
 

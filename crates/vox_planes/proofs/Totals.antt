@@ -1,5 +1,5 @@
 -- Sums over numbers, and the count of the bits of words.
-use Rattle.std.proofs.Common.{◌≡◌, ℕ, zero, suc, ◌+◌, ◌-◌, ◌*◌, ◌/◌, ◌%◌, ◌^◌, ◌<◌, ◌≤◌, refl, sym, ◌∙◌, ap, arith, Bool, cond, ◌==◌, List, length, map, get_or}
+use Rattle.std.proofs.Common.{◌≡◌, ℕ, zero, suc, ◌+◌, ◌-◌, ◌*◌, ◌/◌, ◌%◌, ◌^◌, ◌<◌, ◌≤◌, refl, sym, ◌∙◌, ap, arith, Bool, true, false, cond, not, ◌==◌, List, length, map, get_or}
 use Rattle.std.specs.Prelude.{count_by, count_ones}
 use Rattle.std.specs.Int.{bit_at}
 use lib.Count.{ones, ones_in}
@@ -21,7 +21,7 @@ pub total : ℕ → (ℕ → ℕ) → ℕ
 total zero f = 0
 total (suc n) f = total n f + f n
 
-total-same : (n : ℕ) (f g : ℕ → ℕ) → ((k : ℕ) → k < n → f k ≡ g k) → total n f ≡ total n g
+pub total-same : (n : ℕ) (f g : ℕ → ℕ) → ((k : ℕ) → k < n → f k ≡ g k) → total n f ≡ total n g
 unfolding total
 total-same zero f g h = refl
 total-same (suc n) f g h = λ i. total-same n f g (λ k l. h k (omega arith)) i + h n (omega arith) i
@@ -36,7 +36,7 @@ unfolding total
 total-add m zero f = let e : m + 0 ≡ m = omega arith in ap (λ v. total v f) e ∙ omega arith
 total-add m (suc n) f = let e : m + suc n ≡ suc (m + n) = omega arith in ap (λ v. total v f) e ∙ (ap (λ v. v + f (m + n)) (total-add m n f) ∙ omega arith)
 
-total-front : (n : ℕ) (f : ℕ → ℕ) → total (suc n) f ≡ f 0 + total n (λ k. f (1 + k))
+pub total-front : (n : ℕ) (f : ℕ → ℕ) → total (suc n) f ≡ f 0 + total n (λ k. f (1 + k))
 unfolding total
 total-front n f = let e : suc n ≡ 1 + n = omega arith in ap (λ v. total v f) e ∙ (total-add 1 n f ∙ omega arith)
 
@@ -48,7 +48,7 @@ total-mul (suc n) m f =
     let e : suc n * m ≡ n * m + m = omega arith in
     ap (λ v. total v f) e ∙ (total-add (n * m) m f ∙ ap (λ v. v + total m (λ b. f (n * m + b))) (total-mul n m f))
 
-total-plus : (n : ℕ) (f g : ℕ → ℕ) → total n (λ k. f k + g k) ≡ total n f + total n g
+pub total-plus : (n : ℕ) (f g : ℕ → ℕ) → total n (λ k. f k + g k) ≡ total n f + total n g
 unfolding total
 total-plus zero f g = refl
 total-plus (suc n) f g = omega (arith, total-plus n f g)
@@ -65,7 +65,7 @@ total-front_only m n f l none =
     let z : total (n - m) (λ k. f (m + k)) ≡ 0 = total-zero (n - m) (λ k. f (m + k)) (λ k j. none (m + k) (omega arith) (omega arith)) in
     ap (λ v. total v f) e ∙ (total-add m (n - m) f ∙ omega arith)
 
-counted : {A : Type 0} (test : A → Bool) (at : ℕ → A) (n a : ℕ) → count_by test (map at (numbers_from a n)) ≡ total n (λ k. cond (test (at (a + k))) 1 0)
+pub counted : {A : Type 0} (test : A → Bool) (at : ℕ → A) (n a : ℕ) → count_by test (map at (numbers_from a n)) ≡ total n (λ k. cond (test (at (a + k))) 1 0)
 unfolding total
 counted test at zero a = refl
 counted test at (suc n) a =
@@ -75,6 +75,30 @@ counted test at (suc n) a =
     ∙ (ap (λ v. cond (test (at (a + 0))) 1 0 + v) (total-same n (λ k. cond (test (at (a + 1 + k))) 1 0) (λ k. cond (test (at (a + (1 + k)))) 1 0) (λ k l. ap (λ v. cond (test (at v)) 1 0) (omega arith)))
     ∙ sym (total-front n (λ k. cond (test (at (a + k))) 1 0))))
 
+-- 1 for a test that passes
+abbrev pub one_if : Bool → ℕ
+one_if b = cond b 1 0
+
+pub counted_from : (test : ℕ → Bool) (n a : ℕ) → count_by test (numbers_from a n) ≡ total n (λ k. one_if (test (a + k)))
+unfolding total
+counted_from test zero a = refl
+counted_from test (suc n) a =
+    let e : a ≡ a + 0 = omega arith in
+    sum_by-cons (λ c. cond (test c) 1 0) a (numbers_from (a + 1) n)
+    ∙ ((λ i. one_if (test (e i)) + counted_from test n (a + 1) i)
+    ∙ (ap (λ v. one_if (test (a + 0)) + v) (total-same n (λ k. one_if (test (a + 1 + k))) (λ k. one_if (test (a + (1 + k)))) (λ k l. ap (λ v. one_if (test v)) (omega arith)))
+    ∙ sym (total-front n (λ k. one_if (test (a + k))))))
+
+-- those that pass and those that do not are all
+pub both_ways : (n : ℕ) (f : ℕ → Bool) → total n (λ k. one_if (f k)) + total n (λ k. one_if (not (f k))) ≡ n
+unfolding total
+both_ways zero f = refl
+both_ways (suc n) f = omega (arith, both_ways n f, either (f n))
+  where
+    either : (b : Bool) → one_if b + one_if (not b) ≡ 1
+    either true = refl
+    either false = refl
+
 -- ---- the bits of a word
 
 small_ones : (v : ℕ) → v < 2 → count_ones v ≡ v
@@ -83,7 +107,7 @@ small_ones zero l = refl
 small_ones (suc zero) l = refl
 small_ones (suc (suc v)) l = absurd (omega arith)
 
-ones-total : (k w : ℕ) → w < 2 ^ k → count_ones w ≡ total k (λ i. bit_at w i)
+pub ones-total : (k w : ℕ) → w < 2 ^ k → count_ones w ≡ total k (λ i. bit_at w i)
 unfolding total ones ones_in
 ones-total zero w l = let e : w ≡ 0 = omega arith in ap count_ones e
 ones-total (suc k) w l =
@@ -96,7 +120,7 @@ ones-total (suc k) w l =
     let rest : total k (λ i. bit_at b i) ≡ total k (λ i. bit_at w i) = total-same k (λ i. bit_at b i) (λ i. bit_at w i) (λ i j. sym (bit_at_cat_low a k b i j) ∙ ap (λ v. bit_at v i) split) in
     ap count_ones (sym split) ∙ (ones_cat k a b low ∙ omega (arith, small_ones a high, ones-total k b low))
 
-as_number : (n k : ℕ) → cond (bit n k) 1 0 ≡ bit_at n k
+pub as_number : (n k : ℕ) → cond (bit n k) 1 0 ≡ bit_at n k
 as_number n k = by (bit_at n k) (bit_at-lt n k)
   where
     by : (v : ℕ) → v < 2 → cond (v == 1) 1 0 ≡ v
@@ -126,10 +150,6 @@ bits_more ws j w e l =
 pub bits_none : (ws : List ℕ) → bits_below ws 0 ≡ 0
 unfolding bits_below total
 bits_none ws = refl
-
--- 1 for a test that passes
-abbrev pub one_if : Bool → ℕ
-one_if b = cond b 1 0
 
 -- as many bits of all words are 1 as the matrix has full voxels: the bits by y, x and z, the voxels by x, y and z
 pub bits_all : (r : ℕ) (ws : List ℕ) → IsLayered r ws → bits_below ws (64 * length ws) ≡ count_by (is_full (layered r ws)) (coordinates r)

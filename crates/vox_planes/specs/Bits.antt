@@ -1,5 +1,6 @@
 -- The next bit of a value among the bits of words.
-use Rattle.std.specs.Prelude.{◌≡◌, ℕ, ◌+◌, ◌*◌, ◌<◌, ◌≤◌, Bool, true, false, cond, not, List}
+use Rattle.std.specs.Prelude.{◌≡◌, ℕ, ◌+◌, ◌*◌, ◌<◌, ◌≤◌, Bool, true, false, cond, not, List, count_by}
+use Rattle.vox_geom.specs.Space.{numbers_from}
 use Rattle.nano_spec.specs.Model.{bit}
 use Rattle.vox_planes.specs.Layers.{is_set}
 
@@ -29,3 +30,7 @@ pub record AreFree (ws : List ℕ) (from apart count : ℕ) : Type 0 where
 pub record IsFirst (ws : List ℕ) (from apart n : ℕ) : Type 0 where
   pub before : AreFree ws from apart n
   pub here : is_set ws (from + n * apart) ≡ true
+
+-- how many of so many bits from an index on have the other value
+abbrev pub others_of : List ℕ → ℕ → ℕ → Bool → ℕ
+others_of ws index count value = count_by (λ j. state_of (not value) (is_set ws j)) (numbers_from index count)

@@ -32,3 +32,7 @@ row_size k = k.high.z + 1 - k.low.z
 -- how many coordinates of the region have one x
 abbrev pub wall_size : Corners → ℕ
 wall_size k = (k.high.y + 1 - k.low.y) * row_size k
+
+-- how many coordinates of the region have one y
+abbrev pub layer_size : Corners → ℕ
+layer_size k = (k.high.x + 1 - k.low.x) * row_size k

@@ -7,6 +7,7 @@ ghost use Rattle.vox_planes.specs.Layers.{bit_index as bit_index_of, is_set as i
 ghost use Rattle.vox_planes.specs.Voxel.{IsWhole, with_voxel};
 
 mod lines;
+mod painting;
 mod places;
 mod regions;
 mod whole;

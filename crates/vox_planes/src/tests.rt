@@ -146,6 +146,12 @@ fn wide<L: Ledger>(rt: &impl Abort, blank: Blank, alloc: Global) -> Result<(), M
     assert_eq!(rt; planes.equal(&other, &mut steps), Some(at(6, 0, 1)));
     other.set(at(5, 3, 69), false);
     assert_eq!(rt; planes.equal(&other, &mut steps), Some(at(5, 3, 69)));
+
+    assert_eq!(rt; planes.set_region(&rows, true, &mut steps), 135);
+    assert_eq!(rt; planes.count(&mut steps), 140);
+    assert_eq!(rt; planes.set_region(&rows, false, &mut steps), 138);
+    assert!(rt; planes.full_at(at(5, 3, 0), &mut steps));
+    assert_eq!(rt; planes.count(&mut steps), 2);
     Ok(())
 }
 

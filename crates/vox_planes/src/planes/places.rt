@@ -102,7 +102,8 @@ impl Planes {
 }
 
 /// How many of so many bits from an index on lie in a row that has only some left, and in one word.
-fn part(row: u32, index: usize, most: u32) -> u32
+#[inline(always)]
+pub(super) fn part(row: u32, index: usize, most: u32) -> u32
     requires row { 1 ≤ row }
     requires some { 1 ≤ most }
     ensures some { 1 ≤ result }
@@ -124,7 +125,8 @@ fn mask(first: u32, count: u32) -> u64
 }
 
 /// So many bits from an index on, which stand in one word.
-fn bits_at(words: &[u64], index: usize, count: u32) -> u64
+#[inline(always)]
+pub(super) fn bits_at(words: &[u64], index: usize, count: u32) -> u64
     requires within { index < 64 * length words.now }
     requires some { 1 ≤ count }
     requires word { index % 64 + count ≤ 64 }
@@ -135,7 +137,8 @@ fn bits_at(words: &[u64], index: usize, count: u32) -> u64
 }
 
 /// Makes so many bits from an index on, which stand in one word, the lowest bits of another.
-fn put_bits(words: &mut [u64], index: usize, count: u32, bits: u64)
+#[inline(always)]
+pub(super) fn put_bits(words: &mut [u64], index: usize, count: u32, bits: u64)
     requires within { index < 64 * length words.old }
     requires some { 1 ≤ count }
     requires word { index % 64 + count ≤ 64 }

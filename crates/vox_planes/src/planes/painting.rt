@@ -1,0 +1,130 @@
+//! Regions made full or void, row by row, by whole words.
+ghost use Rattle.std.specs.Prelude.{◌≡◌, ℕ, ◌+◌, ◌-◌, ◌*◌, ◌%◌, ◌^◌, ◌<◌, ◌≤◌, IsFalse, length};
+ghost use Rattle.vox_geom.specs.Region.{size, span};
+ghost use Rattle.vox_geom.specs.Space.{IsInSpace};
+ghost use Rattle.vox_planes.specs.Bits.{others_of};
+ghost use Rattle.vox_planes.specs.Layers.{is_set as is_set_of};
+ghost use Rattle.vox_planes.specs.Painting.{IsPainted, is_in_layer, is_in_row, other_count, with_region};
+ghost use Rattle.vox_planes.specs.Places.{is_from};
+ghost use Rattle.vox_planes.specs.Voxel.{IsWhole};
+ghost use Rattle.vox_planes.specs.Walk.{layer_size};
+
+use super::places::{bits_at, part, put_bits};
+use super::{Planes, bit_index};
+use std::sync::ledger::Ledger;
+use vox_geom::{Coord, Region, Steps};
+
+impl Planes {
+    /// Makes a row full or void, from a coordinate on to the last component z. How many voxels changed.
+    fn set_row<L: Ledger>(
+        &mut self,
+        first: Coord,
+        last: u16,
+        full: bool,
+        steps: &mut Steps<L>,
+    ) -> u32
+        requires within { IsInSpace self.old.resolution first }
+        requires order { first.z ≤ last }
+        requires end { last < self.old.resolution }
+        ensures painted { IsPainted self.old self.new (is_in_row first last) full result }
+        ensures most { result ≤ last + 1 - first.z }
+        ensures resolution { self.new.resolution ≡ self.old.resolution }
+        ensures whole { IsWhole self.new }
+        ensures touches { steps.new ≤ steps.old + (last + 1 - first.z) }
+    {
+        let index = bit_index(first, self.resolution);
+        let count = u32::from(last - first.z) + 1;
+        set_bits(&mut self.words, index, count, full, steps)
+    }
+
+    /// Makes the coordinates of the region with this y full or void. How many voxels changed.
+    fn set_layer<L: Ledger>(&mut self, b: &Region, y: u16, full: bool, steps: &mut Steps<L>) -> u32
+        requires within { IsInSpace self.old.resolution b.now.high }
+        requires low { b.now.low.y ≤ y }
+        requires high { y ≤ b.now.high.y }
+        ensures painted { IsPainted self.old self.new (is_in_layer b.now y (b.now.high.x + 1)) full result }
+        ensures most { result ≤ layer_size b.now }
+        ensures resolution { self.new.resolution ≡ self.old.resolution }
+        ensures whole { IsWhole self.new }
+        ensures touches { steps.new ≤ steps.old + layer_size b.now }
+    {
+        let _ = self.resolution();
+        let low = b.low();
+        let high = b.high();
+        let mut changed = 0;
+        for x in low.x..high.x + 1 {
+            changed += self.set_row(Coord { x, y, z: low.z }, high.z, full, steps);
+        }
+        changed
+    }
+
+    /// Makes the region full or void. How many voxels changed. At most as many touches as the region has coordinates.
+    pub fn set_region<L: Ledger>(&mut self, b: &Region, full: bool, steps: &mut Steps<L>) -> u32
+        requires { IsInSpace self.old.resolution b.now.high }
+        ensures value { self.new ≡ with_region self.old b.now full }
+        ensures count { result ≡ other_count self.old b.now full }
+        ensures most { result ≤ size (span b.now) }
+        ensures resolution { self.new.resolution ≡ self.old.resolution }
+        ensures whole { IsWhole self.new }
+        ensures touches { steps.new ≤ steps.old + size (span b.now) }
+    {
+        let _ = self.resolution();
+        let _ = b.size();
+        let low = b.low();
+        let high = b.high();
+        let mut changed = 0;
+        for y in low.y..high.y + 1 {
+            changed += self.set_layer(b, y, full, steps);
+        }
+        changed
+    }
+}
+
+/// Makes so many bits from an index on, which stand in one word, 1 or 0. How many changed.
+#[inline(always)]
+fn set_some(words: &mut [u64], index: usize, count: u32, full: bool) -> u32
+    requires within { index < 64 * length words.old }
+    requires some { 1 ≤ count }
+    requires word { index % 64 + count ≤ 64 }
+    ensures here { (k : ℕ) → k < count → is_set_of words.new (index + k) ≡ full }
+    ensures others { (j : ℕ) → IsFalse (is_from index count j) → is_set_of words.new j ≡ is_set_of words.old j }
+    ensures count { result ≡ others_of words.old index count full }
+    ensures most { result ≤ count }
+{
+    let ones = bits_at(words, index, count).count_ones();
+    if full {
+        put_bits(words, index, count, u64::MAX);
+        count - ones
+    } else {
+        put_bits(words, index, count, 0);
+        ones
+    }
+}
+
+/// Makes so many bits from an index on 1 or 0. How many changed.
+fn set_bits<L: Ledger>(
+    words: &mut [u64],
+    index: usize,
+    count: u32,
+    full: bool,
+    steps: &mut Steps<L>,
+) -> u32
+    requires within { index + count ≤ 64 * length words.old }
+    requires small { index + count < 2 ^ 32 }
+    ensures here { (k : ℕ) → k < count → is_set_of words.new (index + k) ≡ full }
+    ensures others { (j : ℕ) → IsFalse (is_from index count j) → is_set_of words.new j ≡ is_set_of words.old j }
+    ensures count { result ≡ others_of words.old index count full }
+    ensures most { result ≤ count }
+    ensures touches { steps.new ≤ steps.old + count }
+{
+    let mut changed = 0;
+    let mut done = 0;
+    while done < count {
+        steps.tick();
+        let at = index + done as usize;
+        let some = part(count - done, at, count - done);
+        changed += set_some(words, at, some, full);
+        done += some;
+    }
+    changed
+}
