@@ -77,6 +77,7 @@ impl Planes {
 
     /// The least full coordinate of the region: `None` exactly where the region is void. At most as many touches as the
     /// region has coordinates.
+    #[inline(always)]
     pub fn region_full<L: Ledger>(&self, b: &Region, steps: &mut Steps<L>) -> Option<Coord>
         requires { IsInSpace self.now.resolution b.now.high }
         ensures value { result ≡ find (λ c. is_full self.now c && is_within (span b.now) (point c)) (all_of self.now) }
