@@ -1,11 +1,12 @@
-//! `run S T B`, `group S T B` and `layer S T B` over files, by the code without its clauses: the verdict, or the plan's size, and
-//! how long each part took.
+//! `run S T B` over files, or `PLANNER S T B`, by the code without its clauses: the verdict, or the plan's size, and how long each
+//! part took.
 #![allow(dead_code, unused_variables, unused_imports, unused_mut)]
 mod brick_arena;
 mod bot_crew;
 mod energy_sum;
 mod group_planner;
 mod layer_planner;
+mod low_planner;
 mod model_file;
 mod nano_spec;
 mod plan_tape;
@@ -15,19 +16,24 @@ mod step_groups;
 mod step_machine;
 mod step_order;
 mod support_forest;
+mod swarm_planner;
 mod system_state;
 mod trace_codec;
+mod void_planner;
 mod vox_geom;
 mod vox_planes;
 
 use group_planner::{plan_groups, rows, runs};
 use layer_planner::plan_layers;
+use low_planner::plan_low;
 use model_file::{legal, read_model};
 use nano_spec::Profile;
 use shim::{Blank, Brand, Global};
 use std::time::Instant;
 use step_machine::Runner;
+use swarm_planner::plan_swarm;
 use trace_codec::{Decoder, Fed, encode_all};
+use void_planner::plan_void;
 use vox_geom::Steps;
 use vox_planes::Planes;
 
@@ -75,15 +81,21 @@ fn run(words: &[String]) {
     println!("loaded in {loaded:?}, forest in {:?}, run in {:?}", started - loaded, ran - started);
 }
 
-/// `group S T B`, or the same by the layer planner.
+/// `PLANNER S T B`: `group` or `layer`; `void` for the source alone; `low` or `swarm` for the target alone.
 fn plan(words: &[String]) {
     let begun = Instant::now();
     let (source, target) = load_both(words);
     let loaded = begun.elapsed();
     let size = (rows(&source) + rows(&target), runs(&source) + runs(&target));
     let counted = begun.elapsed();
-    let made = if words[0] == "group" { plan_groups(Global, &source, &target) } else { plan_layers(Global, &source, &target) };
-    let plan = made.ok().expect("memory");
+    let made = match words[0].as_str() {
+        "group" => plan_groups(Global, &source, &target).ok(),
+        "layer" => plan_layers(Global, &source, &target).ok(),
+        "void" => plan_void(Global, &source).ok(),
+        "low" => plan_low(Global, &target).ok(),
+        _ => plan_swarm(Global, &target).ok(),
+    };
+    let plan = made.expect("a plan");
     let planned = begun.elapsed();
     let bytes = encode_all(Global, plan.commands.as_slice()).ok().expect("memory");
     let encoded = begun.elapsed();

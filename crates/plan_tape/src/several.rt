@@ -14,12 +14,7 @@ use system_state::{System, Turns, know_all};
 use vox_geom::Steps;
 
 /// The groups take their turns, counted in a ledger of its own. Nothing is judged.
-fn advance_in<L: Ledger>(
-    system: &mut System,
-    turns: &mut Turns,
-    commands: &[Command],
-    blank: Blank,
-)
+fn advance_in<L: Ledger>(system: &mut System, turns: &mut Turns, commands: &[Command], blank: Blank)
     requires commands { length commands.now ≡ length system.old.bots }
     requires judged { (step : ℕ) × (broken_of system.old commands.now step ≡ None) }
     requires payable { IsPayable system.old.energy }
