@@ -1,27 +1,39 @@
-//! `run S T B` over files, by the code without its clauses. It tells the verdict and how long each part took.
+//! `run S T B` over files, or `PLANNER S T B`, by the code without its clauses: the verdict, or the plan's size, and how long each
+//! part took.
 #![allow(dead_code, unused_variables, unused_imports, unused_mut)]
 mod brick_arena;
 mod bot_crew;
 mod energy_sum;
+mod group_planner;
+mod layer_planner;
+mod low_planner;
 mod model_file;
 mod nano_spec;
+mod plan_tape;
 mod run_progress;
 mod shim;
 mod step_groups;
 mod step_machine;
 mod step_order;
 mod support_forest;
+mod swarm_planner;
 mod system_state;
 mod trace_codec;
+mod void_planner;
 mod vox_geom;
 mod vox_planes;
 
+use group_planner::{plan_groups, rows, runs};
+use layer_planner::plan_layers;
+use low_planner::plan_low;
 use model_file::{legal, read_model};
 use nano_spec::Profile;
 use shim::{Blank, Brand, Global};
 use std::time::Instant;
 use step_machine::Runner;
-use trace_codec::{Decoder, Fed};
+use swarm_planner::plan_swarm;
+use trace_codec::{Decoder, Fed, encode_all};
+use void_planner::plan_void;
 use vox_geom::Steps;
 use vox_planes::Planes;
 
@@ -93,13 +105,18 @@ fn take(runner: &mut Runner, fed: Fed, count: usize, steps: &mut Steps<Brand>) -
     }
 }
 
-fn main() {
-    let words: Vec<String> = std::env::args().skip(1).collect();
-    let begun = Instant::now();
+/// The two models; `-` is the empty one.
+fn load_both(words: &[String]) -> (Planes, Planes) {
     let (source, target) = (load(&words[1]), load(&words[2]));
     let r = source.as_ref().or(target.as_ref()).expect("a model").resolution();
     let empty = || Planes::empty(Global, r).ok().expect("memory");
-    let (source, target) = (source.unwrap_or_else(empty), target.unwrap_or_else(empty));
+    (source.unwrap_or_else(empty), target.unwrap_or_else(empty))
+}
+
+/// `run S T B`.
+fn run(words: &[String]) {
+    let begun = Instant::now();
+    let (source, target) = load_both(words);
     let trace = std::fs::read(&words[3]).expect("a file");
     let loaded = begun.elapsed();
     let mut steps: Steps<Brand> = Steps::new(Blank::new(1));
@@ -112,4 +129,42 @@ fn main() {
     let ran = begun.elapsed();
     println!("{:?}", run.runner.finish(&target, &mut steps));
     println!("loaded in {loaded:?}, forest in {:?}, run in {:?}", started - loaded, ran - started);
+}
+
+/// `PLANNER S T B`: `group` or `layer`; `void` for the source alone; `low` or `swarm` for the target alone.
+fn plan(words: &[String]) {
+    let begun = Instant::now();
+    let (source, target) = load_both(words);
+    let loaded = begun.elapsed();
+    let size = (rows(&source) + rows(&target), runs(&source) + runs(&target));
+    let counted = begun.elapsed();
+    let made = match words[0].as_str() {
+        "group" => plan_groups(Global, &source, &target).ok(),
+        "layer" => plan_layers(Global, &source, &target).ok(),
+        "void" => plan_void(Global, &source).ok(),
+        "low" => plan_low(Global, &target).ok(),
+        _ => plan_swarm(Global, &target).ok(),
+    };
+    let plan = made.expect("a plan");
+    let planned = begun.elapsed();
+    let bytes = encode_all(Global, plan.commands.as_slice()).ok().expect("memory");
+    let encoded = begun.elapsed();
+    std::fs::write(&words[3], bytes.as_slice()).expect("a file");
+    println!("rows and runs {size:?}, energy {}, steps {}, bytes {}", plan.energy, plan.steps, bytes.len());
+    println!(
+        "loaded in {loaded:?}, counted in {:?}, planned in {:?}, encoded in {:?}, all in {:?}",
+        counted - loaded,
+        planned - counted,
+        encoded - planned,
+        begun.elapsed()
+    );
+}
+
+fn main() {
+    let words: Vec<String> = std::env::args().skip(1).collect();
+    if words[0] == "run" {
+        run(&words);
+    } else {
+        plan(&words);
+    }
 }

@@ -1,5 +1,6 @@
 #!/usr/bin/env bash
-# Builds the code of a run without its clauses, as plain Rust by cargo, and runs it: run.sh S T B, with - for the empty model.
+# Builds the code of a run and of the planners without its clauses, as plain Rust by cargo, and runs it, with - for the empty
+# model: run.sh S T B runs a trace; run.sh PLANNER S T B plans one and stores it (group, layer, void, low, swarm).
 # Nothing that it says is proved. It is for measuring a form of the code before it is proved: a build takes half a minute where
 # a proof takes many. Kept from call to call in FOLDER (/tmp/unproved). Its times are near those of the proved program, not
 # the same: that one has no tests of indices.
@@ -25,4 +26,8 @@ lto = true
 panic = "abort"
 TOML
 (cd "$folder" && cargo build --release --offline --quiet)
-exec "$folder/target/release/unproved" run "$@"
+case ${1-} in
+run | group | layer | void | low | swarm) ;;
+*) set -- run "$@" ;;
+esac
+exec "$folder/target/release/unproved" "$@"

@@ -1,5 +1,5 @@
 //! A step of all bots.
-ghost use Rattle.std.specs.Prelude.{◌≡◌, ◌≤◌, ◌<◌, ◌<ℤ◌, ◌+ℤ◌, pos, length, All, None};
+ghost use Rattle.std.specs.Prelude.{◌≡◌, ℕ, ◌<◌, ◌<ℤ◌, ◌+ℤ◌, pos, length, All, None};
 ghost use Rattle.vox_geom.specs.Space.{IsInSpace};
 ghost use Rattle.nano_spec.specs.Rules.{broken as broken_of};
 ghost use Rattle.nano_spec.specs.Step.{after};
@@ -13,17 +13,10 @@ use std::sync::ledger::{Blank, Ledger};
 use system_state::{System, Turns, know_all};
 use vox_geom::Steps;
 
-/// The groups take their turns, counted in a ledger of its own.
-fn advance_in<L: Ledger>(
-    system: &mut System,
-    turns: &mut Turns,
-    commands: &[Command],
-    step: u32,
-    blank: Blank,
-)
-    requires some { 1 ≤ length system.old.bots }
-    requires few { length commands.now ≤ length system.old.bots }
-    requires unbroken { broken_of system.old commands.now step ≡ None }
+/// The groups take their turns, counted in a ledger of its own. Nothing is judged.
+fn advance_in<L: Ledger>(system: &mut System, turns: &mut Turns, commands: &[Command], blank: Blank)
+    requires commands { length commands.now ≡ length system.old.bots }
+    requires judged { (step : ℕ) × (broken_of system.old commands.now step ≡ None) }
     requires payable { IsPayable system.old.energy }
     requires name { blank.name ≡ L.name }
     requires parts { blank.parts ≡ L.parts }
@@ -31,15 +24,14 @@ fn advance_in<L: Ledger>(
     ensures { system.new ≡ after system.old commands.now }
 {
     let mut steps: Steps<L> = Steps::new(blank);
-    let _ = system.judge(commands, step, turns, &mut steps);
+    system.list_turns(commands, turns);
     system.advance(commands, turns, &mut steps);
 }
 
 /// The state after the commands of a step that breaks no rule, where nobody counts the touches.
-pub fn advance(system: &mut System, turns: &mut Turns, commands: &[Command], step: u32)
-    requires some { 1 ≤ length system.old.bots }
-    requires few { length commands.now ≤ length system.old.bots }
-    requires unbroken { broken_of system.old commands.now step ≡ None }
+pub fn advance(system: &mut System, turns: &mut Turns, commands: &[Command])
+    requires commands { length commands.now ≡ length system.old.bots }
+    requires judged { (step : ℕ) × (broken_of system.old commands.now step ≡ None) }
     requires payable { IsPayable system.old.energy }
     ensures value { system.new ≡ after system.old commands.now }
     ensures whole { IsWhole system.new.matrix }
@@ -50,6 +42,6 @@ pub fn advance(system: &mut System, turns: &mut Turns, commands: &[Command], ste
     a_step_changes_the_energy_by_little();
     know_all(commands);
     let _ = (system.matrix().resolution(), system.crew().count());
-    advance_in::<Brand>(system, turns, commands, step, Blank::new(1));
+    advance_in::<Brand>(system, turns, commands, Blank::new(1));
     let _ = (system.matrix().resolution(), system.crew().count());
 }

@@ -222,10 +222,9 @@ impl Tape {
         ensures bytes { OnOk result (bytes self.new ≡ bytes self.old + length (spellings commands.now)) }
         ensures err { OnErr result (self.new ≡ self.old) }
     {
-        let step = self.steps + 1;
         write_all(&mut self.commands, commands)?;
-        advance(&mut self.system, &mut self.turns, commands, step);
-        self.steps = step;
+        advance(&mut self.system, &mut self.turns, commands);
+        self.steps += 1;
         Ok(())
     }
 

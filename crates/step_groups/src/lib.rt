@@ -16,6 +16,8 @@ mod volatile;
 pub use apart::all_act_alone;
 pub use groups::{Group, Groups, judge_groups};
 pub use leading::leaders;
+pub use members::{acts_alone, has_mate};
+pub use partners::are_together;
 pub use single::{judge_edit, judge_move, judge_single};
 
 #[cfg(test)]

@@ -23,7 +23,7 @@ use vox_geom::Region;
 use vox_planes::Planes;
 
 /// Whether the command needs no other bot, so that its bot is a group of its own.
-pub(crate) fn acts_alone(command: &Command) -> bool
+pub fn acts_alone(command: &Command) -> bool
     ensures { result ≡ is_alone command.now }
 {
     match command {
@@ -43,7 +43,7 @@ pub(crate) fn acts_alone(command: &Command) -> bool
 }
 
 /// Whether one of these bots is of the bot's group.
-pub(crate) fn has_mate(bots: &[Bot], commands: &[Command], bot: &Bot, command: &Command) -> bool
+pub fn has_mate(bots: &[Bot], commands: &[Command], bot: &Bot, command: &Command) -> bool
     requires { length commands.now ≡ length bots.now }
     ensures { result ≡ list_any (are_together_of (act bot.now command.now)) (acts bots.now commands.now) }
 {

@@ -46,7 +46,7 @@ leader_of r all (a ∷ more) (x ∷ groups) (suc i) g h l e =
     let w = leader_of r all more groups i g h.1 (omega arith) e in
     (w.0, inr w.1, w.2, ap (λ n. take n (a ∷ more)) (let e : suc i + 1 ≡ suc (i + 1) = omega arith in e) ∙ ap (λ (xs : List Act). a ∷ xs) w.3)
 
-turn_more : (all leaders : List Act) (turns : List Turn) (a : Act) (t : Turn) → AreTurns all leaders turns → IsTurn all a t → AreTurns all (leaders ++ a ∷ []) (turns ++ t ∷ [])
+pub turn_more : (all leaders : List Act) (turns : List Turn) (a : Act) (t : Turn) → AreTurns all leaders turns → IsTurn all a t → AreTurns all (leaders ++ a ∷ []) (turns ++ t ∷ [])
 turn_more all [] [] a t h k = (k, tt)
 turn_more all [] (x ∷ turns) a t h k = absurd h
 turn_more all (b ∷ leaders) [] a t h k = absurd h

@@ -8,6 +8,7 @@ pub mod Meeting
 pub mod TurnTaken
 pub mod Upkeep
 pub mod Gathered
+pub mod Listed
 pub mod Arranged
 pub mod Advancing
 pub mod Parts

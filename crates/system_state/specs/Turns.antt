@@ -1,9 +1,9 @@
 -- The turns of the groups of a step (docs/FORMATS.md, "Groups").
-use Rattle.std.specs.Prelude.{◌≡◌, ℕ, List, [], ◌∷◌, ◌++◌, map, slice_get, slice_index_or, IsPermutation, Some}
+use Rattle.std.specs.Prelude.{◌≡◌, ℕ, List, [], ◌∷◌, ◌++◌, filter, map, slice_get, slice_index_or, IsPermutation, Some}
 use Rattle.nano_spec.specs.declared.commands.Command.{Command}
 use Rattle.nano_spec.specs.declared.system.Bot.{Bot}
 use Rattle.nano_spec.specs.Act.{Act, acts}
-use Rattle.nano_spec.specs.Group.{leaders, members}
+use Rattle.nano_spec.specs.Group.{are_together, leaders, members}
 use Rattle.nano_spec.specs.Serial.{acts_of, leader_bids}
 use Rattle.nano_spec.specs.State.{State}
 use Rattle.step_order.specs.SomeGroups.{after_some}
@@ -12,6 +12,10 @@ use Rattle.system_state.specs.declared.turns.Turn.{Turn}
 -- the bid of an act's bot
 abbrev pub bid_of : Act → ℕ
 bid_of a = a.bot.bid
+
+-- the bid of the first of some acts that is of this act's group, or 0 where none is
+abbrev pub first_mate : Act → List Act → ℕ
+first_mate a more = slice_index_or (map bid_of (filter (are_together a) more)) 0 0
 
 -- the turn of the group that the act's bot leads: its place among the acts, and the bid of the second member, or 0 where it is alone
 pub record IsTurn (all : List Act) (a : Act) (t : Turn) : Type 0 where

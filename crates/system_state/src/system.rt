@@ -25,7 +25,7 @@ mod parts;
 
 use crate::known::know_all;
 use crate::moves::move_bots;
-use crate::turns::{Turn, Turns, gather, gather_lone, turn_of};
+use crate::turns::{Turn, Turns, gather, gather_lone, list_turns, turn_of};
 use crate::voxels::pay_turn;
 use bot_crew::{Crew, crew_is_ready, group_is_replaced};
 use energy_sum::upkeep;
@@ -218,6 +218,14 @@ impl System {
         } else {
             self.judge_several(commands, step, turns, steps)
         }
+    }
+
+    /// The turns of the groups of a step, from the commands alone: for a caller that knows that no rule is broken, and judges none.
+    pub fn list_turns(&self, commands: &[Command], turns: &mut Turns)
+        requires { length commands.now ≡ length self.now.bots }
+        ensures { AreTurns (acts self.now.bots commands.now) (leaders (acts self.now.bots commands.now)) turns.new }
+    {
+        list_turns(&mut turns.turns, self.crew.bots(), commands);
     }
 
     /// The trace ends within the step, before the command of the bot at a place.

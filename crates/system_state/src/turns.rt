@@ -1,18 +1,20 @@
 //! The turns of the groups of a step.
-ghost use Rattle.std.specs.Prelude.{◌≡◌, ◌<◌, ◌≤◌, ℕ, [], ◌∷◌, List, All, AllPairs, IsPermutation, length, map, slice_index_or};
+ghost use Rattle.std.specs.Prelude.{◌≡◌, ◌+◌, ◌<◌, ◌≤◌, ℕ, [], ◌∷◌, List, All, AllPairs, IsPermutation, filter, length, map, slice_index_or, take};
+ghost use Rattle.arrayvec.specs.ArrayVec.{array_vec_len};
 ghost use Rattle.std.specs.List.{Contains};
 ghost use Rattle.nano_spec.specs.declared.commands.Command.{Command};
 ghost use Rattle.nano_spec.specs.declared.system.Bot.{Bot as ActiveBot};
 ghost use Rattle.nano_spec.specs.Act.{acts};
-ghost use Rattle.nano_spec.specs.Group.{leaders, members};
+ghost use Rattle.nano_spec.specs.Group.{is_leader, leaders, members};
 ghost use Rattle.step_groups.specs.Groups.{AreGroups};
-ghost use Rattle.system_state.specs.Turns.{AreAllTurns, AreTurns, leader_of};
+ghost use Rattle.system_state.specs.Effects.{act};
+ghost use Rattle.system_state.specs.Turns.{AreAllTurns, AreTurns, first_mate as first_mate_of, leader_of};
 
 use arrayvec::ArrayVec;
 use bot_crew::MOST_BOTS;
-use nano_spec::Bot;
+use nano_spec::{Bot, Command};
 use std::marker::Model;
-use step_groups::{Group, Groups};
+use step_groups::{Group, Groups, acts_alone, are_together, has_mate};
 
 /// The turn of one group of a step: the bid of its leader, the leader's place among the bots at the step's start, and the
 /// bid of its second member, 0 where the leader is alone.
@@ -151,5 +153,61 @@ pub(crate) fn gather_lone(turns: &mut ArrayVec<Turn, MOST_BOTS>, bots: &[Bot])
             place: i as u8,
             partner: 0,
         });
+    }
+}
+
+/// The bid of the first of these bots that is of the bot's group, 0 where there is none.
+fn first_mate(bots: &[Bot], commands: &[Command], bot: &Bot, command: &Command) -> u8
+    requires { length commands.now ≡ length bots.now }
+    ensures { result ≡ first_mate_of (act bot.now command.now) (acts bots.now commands.now) }
+{
+    for i in 0..bots.len() {
+        if are_together(bot, command, &bots[i], &commands[i]) {
+            return bots[i].bid;
+        }
+    }
+    0
+}
+
+/// Adds the turn of the bot at a place, if the bot leads a group.
+fn push_turn(turns: &mut ArrayVec<Turn, MOST_BOTS>, bots: &[Bot], commands: &[Command], i: usize)
+    requires lengths { length commands.now ≡ length bots.now }
+    requires i { i < length bots.now }
+    requires most { length bots.now ≤ 40 }
+    requires room { array_vec_len turns.old ≤ i }
+    requires rising { AllPairs (λ a b. a.bid < b.bid) bots.now }
+    ensures turns { AreTurns (acts bots.now commands.now) (filter (is_leader (acts bots.now commands.now)) (acts (take i bots.now) (take i commands.now))) turns.old.items → AreTurns (acts bots.now commands.now) (filter (is_leader (acts bots.now commands.now)) (acts (take (i + 1) bots.now) (take (i + 1) commands.now))) turns.new.items }
+    ensures len { array_vec_len turns.new ≤ i + 1 }
+{
+    let bot = &bots[i];
+    let command = &commands[i];
+    if acts_alone(command) {
+        turns.push(Turn {
+            leader: bot.bid,
+            place: i as u8,
+            partner: 0,
+        });
+        return;
+    }
+    if has_mate(&bots[..i], &commands[..i], bot, command) {
+        return;
+    }
+    turns.push(Turn {
+        leader: bot.bid,
+        place: i as u8,
+        partner: first_mate(&bots[i + 1..], &commands[i + 1..], bot, command),
+    });
+}
+
+/// The turns of the groups of a step of these bots, from their commands alone.
+pub(crate) fn list_turns(turns: &mut ArrayVec<Turn, MOST_BOTS>, bots: &[Bot], commands: &[Command])
+    requires lengths { length commands.now ≡ length bots.now }
+    requires most { length bots.now ≤ 40 }
+    requires rising { AllPairs (λ a b. a.bid < b.bid) bots.now }
+    ensures { AreTurns (acts bots.now commands.now) (leaders (acts bots.now commands.now)) turns.new.items }
+{
+    turns.clear();
+    for i in 0..bots.len() {
+        push_turn(turns, bots, commands, i);
     }
 }

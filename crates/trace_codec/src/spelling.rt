@@ -1,5 +1,5 @@
 //! A command's one spelling.
-ghost use Rattle.std.specs.Prelude.{◌≡◌, ◌+◌, ◌*◌, ◌<◌, ◌≤◌, [], ◌∷◌, unsigned_abs};
+ghost use Rattle.std.specs.Prelude.{◌≡◌, ◌+◌, ◌*◌, ◌<◌, ◌≤◌, [], ◌∷◌, length, unsigned_abs};
 ghost use Rattle.vox_geom.specs.Difference.{IsFar, IsLong, IsNear, IsShort, mlen};
 ghost use Rattle.nano_spec.specs.Command.{IsCommand};
 ghost use Rattle.nano_spec.specs.Spelling.{axis as axis_of, component as component_of, far_bytes, near_code as near_code_of, raised as raised_by, spelling};
@@ -32,6 +32,18 @@ pub fn encode_one(command: Command) -> ArrayVec<u8, 4>
         Command::Void(near) => one_byte(near_head(near, 0b010)),
         Command::GFill(near, far) => group_bytes(near_head(near, 0b001), far),
         Command::GVoid(near, far) => group_bytes(near_head(near, 0b000), far),
+    }
+}
+
+/// How many bytes the command's spelling has.
+pub(crate) fn spelled_len(command: &Command) -> usize
+    ensures { result ≡ length (spelling command.now) }
+{
+    match command {
+        Command::Halt | Command::Wait | Command::Flip => 1,
+        Command::SMove(_) | Command::LMove(_, _) | Command::Fission(_, _) => 2,
+        Command::FusionP(_) | Command::FusionS(_) | Command::Fill(_) | Command::Void(_) => 1,
+        Command::GFill(_, _) | Command::GVoid(_, _) => 4,
     }
 }
 

@@ -7,7 +7,7 @@ ghost use Rattle.trace_codec.specs.Whole.{Decodes, IsAnswer};
 
 use crate::fault::TraceFault;
 use crate::one::{One, decode_one};
-use crate::spelling::encode_one;
+use crate::spelling::{encode_one, spelled_len};
 use nano_spec::{Command, CommandList};
 use std::alloc::Global;
 use vox_geom::Memory;
@@ -61,7 +61,7 @@ pub fn encode_all(alloc: Global, commands: &[Command]) -> Result<Vec<u8>, Memory
 fn encoded_len(commands: &[Command]) -> usize {
     let mut len = 0usize;
     for command in commands {
-        len = len.saturating_add(encode_one(*command).len());
+        len = len.saturating_add(spelled_len(command));
     }
     len
 }
