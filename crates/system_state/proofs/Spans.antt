@@ -15,7 +15,8 @@ use Rattle.energy_sum.specs.Costs.{full_count, is_met, met, void_count}
 use Rattle.energy_sum.proofs.Prices.{fulls-one, voids-and-fulls, voids-one}
 use Rattle.step_order.proofs.Voxels.{as_it_is, matrix_same}
 use Rattle.system_state.specs.Effects.{act}
-use Rattle.system_state.specs.Painting.{full_in, met_count, other_count, size_in, void_in, with_region, with_span}
+use Rattle.system_state.specs.Painting.{full_in, met_count, size_in, void_in, with_span}
+use Rattle.vox_planes.specs.Painting.{other_count, with_region}
 
 -- ---- a region by its corners and by two points
 

@@ -3,12 +3,11 @@ use Rattle.std.specs.Prelude.{ℕ, Bool, cond, not, ◌&&◌, List, count_by}
 use Rattle.std.specs.List.{list_any}
 use Rattle.vox_geom.specs.declared.coordinate.Coord.{Coord}
 use Rattle.vox_geom.specs.Point.{point, same_point}
-use Rattle.vox_geom.specs.Region.{Corners, Span, is_within, span}
+use Rattle.vox_geom.specs.Region.{Span, is_within}
 use Rattle.nano_spec.specs.declared.commands.Command.{Command}
 use Rattle.nano_spec.specs.declared.system.Bot.{Bot}
 use Rattle.nano_spec.specs.Matrix.{Matrix, all_of, is_full, matrix_where}
 use Rattle.energy_sum.specs.Costs.{is_met, met}
-use Rattle.vox_planes.specs.Voxel.{is_state}
 
 -- whether the coordinate is one of the cells
 abbrev pub is_among : List Coord → Coord → Bool
@@ -17,14 +16,6 @@ is_among cells d = list_any (λ c. same_point (point d) (point c)) cells
 -- the matrix in which the cells are full or void, and all other voxels as they were
 abbrev pub with_cells : Matrix → List Coord → Bool → Matrix
 with_cells m cells full = matrix_where m.resolution (λ d. cond (is_among cells d) full (is_full m d))
-
--- the same with the cells of a region
-abbrev pub with_region : Matrix → Corners → Bool → Matrix
-with_region m k full = matrix_where m.resolution (λ d. cond (is_within (span k) (point d)) full (is_full m d))
-
--- how many voxels of the region are not yet so
-abbrev pub other_count : Matrix → Corners → Bool → ℕ
-other_count m k full = count_by (λ c. is_state m (not full) c && is_within (span k) (point c)) (all_of m)
 
 -- the matrix in which the region between two points is full or void
 abbrev pub with_span : Matrix → Span → Bool → Matrix

@@ -1,6 +1,6 @@
 //! The state of the system (docs/FORMATS.md, "State"): matrix, harmonics, bots, energy and profile, the judgement of the
-//! commands of a step, and the effects of its groups, one group after another. Only [`System::opening`] and
-//! [`System::at`] take memory.
+//! commands of a step, and the effects of its groups, one group after another. No call takes memory;
+//! [`System::opening`] and [`System::at`] are given an allocator all the same.
 #![tactic(auto)]
 
 mod known;

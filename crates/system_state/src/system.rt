@@ -36,10 +36,7 @@ use std::sync::ledger::Ledger;
 use step_groups::{all_act_alone, judge_single};
 use step_order::groups_take_turns;
 use vox_geom::{MOST_R, Memory, Steps};
-use vox_planes::{ChangeList, Planes};
-
-/// The most voxels that one group changes: a region of 31 by 31 by 31.
-const MOST_OF_GROUP: u32 = 29_791;
+use vox_planes::Planes;
 
 /// The other harmonics after a Flip.
 fn harmonics_by(harmonics: Harmonics, command: &Command) -> Harmonics
@@ -93,11 +90,10 @@ pub struct System {
     harmonics: Harmonics,
     energy: i64,
     profile: Profile,
-    changed: ChangeList,
 }
 
 impl Model for System {
-    ghost use Rattle.std.specs.Prelude.{◌≤◌, length, ◌+◌, All};
+    ghost use Rattle.std.specs.Prelude.{All};
     ghost use Rattle.vox_geom.specs.Space.{IsInSpace};
     ghost use Rattle.nano_spec.specs.State.{State};
 
@@ -105,16 +101,15 @@ impl Model for System {
 
     ghost view = { λ s. record { matrix = s.matrix; harmonics = s.harmonics; bots = s.crew; energy = s.energy; profile = s.profile } };
 
-    ghost invariant = { λ s. All (λ b. IsInSpace s.matrix.resolution b.pos) s.crew × (29791 ≤ s.changed.spare + length s.changed.items) };
+    ghost invariant = { λ s. All (λ b. IsInSpace s.matrix.resolution b.pos) s.crew };
 }
 
 impl System {
-    /// The state before the first step, with room for the changes of a step.
-    pub fn opening(alloc: Global, source: Planes, profile: Profile) -> Result<System, Memory>
+    /// The state before the first step.
+    pub fn opening(_alloc: Global, source: Planes, profile: Profile) -> Result<System, Memory>
         requires { profile.seeds ≤ 39 }
         ensures { IfOk result (λ s. s ≡ opening_of source profile) }
     {
-        let changed = ChangeList::with_room(alloc, MOST_OF_GROUP)?;
         let _ = source.resolution();
         Ok(System {
             matrix: source,
@@ -122,13 +117,12 @@ impl System {
             harmonics: Harmonics::Low,
             energy: 0,
             profile,
-            changed,
         })
     }
 
-    /// The state that has these parts, with room for the changes of a step.
+    /// The state that has these parts.
     pub fn at(
-        alloc: Global,
+        _alloc: Global,
         matrix: Planes,
         crew: Crew,
         harmonics: Harmonics,
@@ -138,14 +132,12 @@ impl System {
         requires { All (λ b. IsInSpace matrix.resolution b.pos) crew }
         ensures { IfOk result (λ s. s ≡ record { matrix = matrix; harmonics = harmonics; bots = crew; energy = energy; profile = profile }) }
     {
-        let changed = ChangeList::with_room(alloc, MOST_OF_GROUP)?;
         Ok(System {
             matrix,
             crew,
             harmonics,
             energy,
             profile,
-            changed,
         })
     }
 
@@ -349,7 +341,7 @@ impl System {
         let Some(bot) = self.crew.bot(turn.leader) else {
             return;
         };
-        let cost = pay_turn(&mut self.matrix, &mut self.changed, bot, command, steps);
+        let cost = pay_turn(&mut self.matrix, bot, command, steps);
         move_bots(&mut self.crew, resolution, bot, turn.partner, command);
         self.harmonics = harmonics_by(self.harmonics, command);
         self.energy = paid(self.energy, cost);

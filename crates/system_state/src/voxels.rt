@@ -1,18 +1,17 @@
 //! What the turn of a group does to the voxels, and what it costs.
-ghost use Rattle.std.specs.Prelude.{◌≡◌, ◌+◌, ◌-◌, ◌≤◌, ◌∷◌, [], ◌&&◌, cond, not, filter, length, All, IsTrue};
-ghost use Rattle.vox_geom.specs.Region.{is_within, size, span};
+ghost use Rattle.std.specs.Prelude.{◌≡◌, ◌+◌, ◌-◌, ◌≤◌, ◌∷◌, [], cond, All, IsTrue};
 ghost use Rattle.vox_geom.specs.Point.{Point, point};
 ghost use Rattle.vox_geom.specs.Space.{IsInSpace};
 ghost use Rattle.nano_spec.specs.Act.{stays_in_space};
 ghost use Rattle.nano_spec.specs.Energy.{group_cost};
-ghost use Rattle.nano_spec.specs.Matrix.{Matrix, all_of};
+ghost use Rattle.nano_spec.specs.Matrix.{Matrix};
 ghost use Rattle.nano_spec.specs.Step.{matrix_after};
 ghost use Rattle.energy_sum.specs.Costs.{full_count, void_count};
 ghost use Rattle.system_state.specs.Bounds.{IsWithin};
 ghost use Rattle.system_state.specs.Effects.{act};
 ghost use Rattle.system_state.specs.Work.{region_of};
-ghost use Rattle.system_state.specs.Painting.{full_in, met_count, other_count, size_in, void_in, with_cells, with_region, with_span};
-ghost use Rattle.vox_planes.specs.Voxel.{IsWhole, is_state};
+ghost use Rattle.system_state.specs.Painting.{full_in, met_count, size_in, void_in, with_cells, with_span};
+ghost use Rattle.vox_planes.specs.Voxel.{IsWhole};
 
 use crate::known::know;
 use crate::work::{Work, work_of};
@@ -20,7 +19,7 @@ use energy_sum::{a_group_costs_little, command_cost};
 use nano_spec::{Bot, Command};
 use std::sync::ledger::Ledger;
 use vox_geom::{Coord, Region, Steps};
-use vox_planes::{ChangeList, Planes};
+use vox_planes::Planes;
 
 /// Makes the cells full or void.
 pub(crate) fn set_cells(matrix: &mut Planes, cells: &[Coord], full: bool)
@@ -34,76 +33,6 @@ pub(crate) fn set_cells(matrix: &mut Planes, cells: &[Coord], full: bool)
     }
 }
 
-/// Lists the voxel if it is not yet full, or else not yet void.
-fn list_other<L: Ledger>(
-    matrix: &Planes,
-    changed: &mut ChangeList,
-    c: Coord,
-    full: bool,
-    steps: &mut Steps<L>,
-)
-    requires within { IsInSpace matrix.now.resolution c }
-    requires room { 1 ≤ changed.old.spare + length changed.old.items }
-    ensures items { changed.new.items ≡ cond (is_state matrix.now (not full) c) (c ∷ []) [] }
-    ensures room { changed.old.spare + length changed.old.items ≤ changed.new.spare + length changed.new.items }
-    ensures touch { steps.new ≤ steps.old + 1 }
-{
-    changed.clear();
-    if matrix.full_at(c, steps) != full {
-        changed.push(c);
-    }
-}
-
-/// Lists the voxels of the region that are not yet full, or else not yet void.
-fn list_others<L: Ledger>(
-    matrix: &Planes,
-    changed: &mut ChangeList,
-    region: &Region,
-    full: bool,
-    steps: &mut Steps<L>,
-)
-    requires within { IsInSpace matrix.now.resolution region.now.high }
-    requires room { size (span region.now) ≤ changed.old.spare + length changed.old.items }
-    ensures items { changed.new.items ≡ filter (λ c. is_state matrix.now (not full) c && is_within (span region.now) (point c)) (all_of matrix.now) }
-    ensures room { changed.old.spare + length changed.old.items ≤ changed.new.spare + length changed.new.items }
-    ensures touches { steps.new ≤ steps.old + size (span region.now) }
-{
-    let c = region.low();
-    if c == region.high() {
-        list_other(matrix, changed, c, full, steps);
-        return;
-    }
-    changed.clear();
-    if full {
-        matrix.list_void(region, changed, steps);
-    } else {
-        matrix.list_full(region, changed, steps);
-    }
-}
-
-/// Makes the region full or void, and tells how many voxels change.
-fn paint<L: Ledger>(
-    matrix: &mut Planes,
-    changed: &mut ChangeList,
-    region: &Region,
-    full: bool,
-    steps: &mut Steps<L>,
-) -> u32
-    requires within { IsInSpace matrix.old.resolution region.now.high }
-    requires room { size (span region.now) ≤ changed.old.spare + length changed.old.items }
-    ensures matrix { matrix.new ≡ with_region matrix.old region.now full }
-    ensures count { result ≡ other_count matrix.old region.now full }
-    ensures most { result ≤ size (span region.now) }
-    ensures room { changed.old.spare + length changed.old.items ≤ changed.new.spare + length changed.new.items }
-    ensures touches { steps.new ≤ steps.old + size (span region.now) }
-{
-    let _ = matrix.resolution();
-    let _ = region.size();
-    list_others(matrix, changed, region, full, steps);
-    set_cells(matrix, changed.as_slice(), full);
-    changed.as_slice().len() as u32
-}
-
 /// How many void and how many full voxels a command meets.
 #[derive(Clone, Copy)]
 pub(crate) struct Met {
@@ -112,24 +41,17 @@ pub(crate) struct Met {
 }
 
 /// Makes the region full or void, and tells what it met.
-fn change_region<L: Ledger>(
-    matrix: &mut Planes,
-    changed: &mut ChangeList,
-    work: Work,
-    steps: &mut Steps<L>,
-) -> Met
+fn change_region<L: Ledger>(matrix: &mut Planes, work: Work, steps: &mut Steps<L>) -> Met
     requires near { IsInSpace matrix.old.resolution work.near }
     requires far { IsInSpace matrix.old.resolution work.far }
-    requires room { size (region_of work) ≤ changed.old.spare + length changed.old.items }
     ensures matrix { matrix.new ≡ with_span matrix.old (region_of work) work.full }
     ensures void { result.void ≡ void_in matrix.old (region_of work) }
     ensures full { result.full ≡ full_in matrix.old (region_of work) }
-    ensures room { changed.old.spare + length changed.old.items ≤ changed.new.spare + length changed.new.items }
     ensures touches { steps.new ≤ steps.old + size_in matrix.old (region_of work) }
 {
     let _ = matrix.resolution();
     let region = Region::of(work.near, work.far);
-    let others = paint(matrix, changed, &region, work.full, steps);
+    let others = matrix.set_region(&region, work.full, steps);
     met_by(region.size(), others, work.full)
 }
 
@@ -176,22 +98,19 @@ fn turn_cost(command: &Command, met: Met) -> i64
 /// Changes the voxels in the turn of the bot's group, and tells what its command met.
 fn change_voxels<L: Ledger>(
     matrix: &mut Planes,
-    changed: &mut ChangeList,
     bot: Bot,
     command: &Command,
     steps: &mut Steps<L>,
 ) -> Met
     requires within { IsInSpace matrix.old.resolution bot.pos }
     requires stays { IsTrue (stays_in_space matrix.old.resolution (act bot command.now)) }
-    requires room { 29791 ≤ changed.old.spare + length changed.old.items }
     ensures matrix { matrix.new ≡ matrix_after matrix.old (act bot command.now ∷ []) }
     ensures void { result.void ≡ void_count matrix.old (point bot.pos) command.now }
     ensures full { result.full ≡ full_count matrix.old (point bot.pos) command.now }
-    ensures room { changed.old.spare + length changed.old.items ≤ changed.new.spare + length changed.new.items }
     ensures touches { steps.new ≤ steps.old + met_count matrix.old bot command.now }
 {
     match work_of(matrix.resolution(), bot, command) {
-        Some(work) => change_region(matrix, changed, work, steps),
+        Some(work) => change_region(matrix, work, steps),
         None => Met { void: 0, full: 0 },
     }
 }
@@ -199,22 +118,19 @@ fn change_voxels<L: Ledger>(
 /// Changes the voxels in the turn of the bot's group, and tells what the turn costs.
 pub(crate) fn pay_turn<L: Ledger>(
     matrix: &mut Planes,
-    changed: &mut ChangeList,
     bot: Bot,
     command: &Command,
     steps: &mut Steps<L>,
 ) -> i64
     requires within { IsInSpace matrix.old.resolution bot.pos }
     requires stays { IsTrue (stays_in_space matrix.old.resolution (act bot command.now)) }
-    requires room { 29791 ≤ changed.old.spare + length changed.old.items }
     ensures matrix { matrix.new ≡ matrix_after matrix.old (act bot command.now ∷ []) }
     ensures cost { result ≡ group_cost matrix.old (point bot.pos) command.now }
     ensures small { IsWithin 357492 result }
-    ensures room { changed.old.spare + length changed.old.items ≤ changed.new.spare + length changed.new.items }
     ensures touches { steps.new ≤ steps.old + met_count matrix.old bot command.now }
 {
     a_group_costs_little();
     know(command);
-    let met = change_voxels(matrix, changed, bot, command, steps);
+    let met = change_voxels(matrix, bot, command, steps);
     turn_cost(command, met)
 }

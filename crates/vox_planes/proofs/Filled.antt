@@ -1,13 +1,13 @@
 -- Bits that are made 1 or 0, and how many of them changed.
-use Rattle.std.proofs.Common.{◌≡◌, ℕ, zero, suc, ◌+◌, ◌-◌, ◌^◌, ◌<◌, ◌≤◌, refl, sym, ◌∙◌, ap, subst, arith, Bool, true, false, cond, not, ◌==◌, List, inl, inr}
-use Rattle.std.specs.Prelude.{IsFalse, ◌⊎◌, count_by, count_ones}
+use Rattle.std.proofs.Common.{◌≡◌, ℕ, ◌+◌, ◌-◌, ◌^◌, ◌<◌, ◌≤◌, refl, sym, ◌∙◌, ap, subst, arith, Bool, true, false, not, ◌==◌, List, inl, inr}
+use Rattle.std.specs.Prelude.{IsFalse, ◌⊎◌, count_ones}
 use Rattle.std.proofs.lemmas.Bool.{cases_lt}
 use Rattle.std.proofs.lemmas.Nat.Bits.{bit_at-zero}
 use Rattle.nano_spec.specs.Model.{bit}
 use Rattle.vox_planes.specs.Bits.{others_of, state_of}
 use Rattle.vox_planes.specs.Layers.{is_set}
 use Rattle.vox_planes.specs.Places.{is_from}
-use Rattle.vox_planes.proofs.Chunks.{ArePutBits, outside}
+use Rattle.vox_planes.proofs.Chunks.{outside}
 use Rattle.vox_planes.proofs.Placed.{after_these, before_these, full_bit}
 use Rattle.vox_planes.proofs.Totals.{as_number, both_ways, counted_from, one_if, ones-total, total, total-add, total-same}
 

@@ -10,7 +10,7 @@ use Rattle.vox_geom.specs.Space.{IsInSpace, coordinates, place}
 use Rattle.nano_spec.specs.Matrix.{Matrix, all_of, is_full}
 use Rattle.vox_planes.specs.Bits.{AreFree, IsFirst}
 use Rattle.vox_planes.specs.Layers.{bit_index, is_set, layer_words, layered}
-use Rattle.vox_planes.specs.Walk.{coordinates_from, passes_in, row, row_start, wall_size}
+use Rattle.vox_planes.specs.Walk.{coordinates_from, passes_in, row, row_start}
 use Rattle.vox_planes.proofs.Bits.{in_layer}
 use Rattle.vox_planes.proofs.Voxels.{is_full-layered}
 use Rattle.vox_planes.proofs.Walks.{filter-end, filter-next_wall, filter-start, filter-step, find-end, find-next_wall, find-start, find-step, row-end, row-more, size-walls}

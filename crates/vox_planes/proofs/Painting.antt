@@ -1,5 +1,5 @@
 -- Areas of a matrix that are made full or void, part by part.
-use Rattle.std.proofs.Common.{◌≡◌, ℕ, ◌+◌, ◌-◌, ◌*◌, ◌^◌, ◌<◌, ◌≤◌, refl, sym, ◌∙◌, ap, subst, arith, Bool, true, false, cond, not, ◌&&◌, ◌||◌, ◌==◌, List, length, map, filter, pos, get_or}
+use Rattle.std.proofs.Common.{◌≡◌, ℕ, ◌+◌, ◌-◌, ◌*◌, ◌^◌, ◌<◌, ◌≤◌, refl, sym, ◌∙◌, ap, subst, arith, Bool, true, false, cond, not, ◌&&◌, ◌||◌, ◌==◌, List, length, pos, get_or}
 use Rattle.std.specs.Prelude.{count_by}
 use Rattle.std.proofs.lemmas.Bool.Decides.{nat_tests}
 use Rattle.std.proofs.lemmas.List.{ext_get_or}
@@ -8,24 +8,23 @@ use Rattle.std.proofs.lemmas.Nat.Bits.{bit_at_ones, bit_at-zero}
 use Rattle.vox_geom.specs.declared.coordinate.Coord.{Coord}
 use Rattle.vox_geom.specs.Point.{point}
 use Rattle.vox_geom.specs.Region.{Corners, IsOrdered, is_between, is_within, size, span}
-use Rattle.vox_geom.specs.Space.{IsInSpace, coordinate_at, coordinates, numbers_from, place}
+use Rattle.vox_geom.specs.Space.{IsInSpace, coordinate_at, coordinates, place}
 use Rattle.vox_geom.proofs.Firsts.{at_in_space, place_below}
 use Rattle.vox_geom.proofs.Places.{coordinate_at-place, place-coordinate_at}
-use Rattle.nano_spec.specs.Matrix.{Matrix, all_of, is_full, matrix_where}
-use Rattle.nano_spec.specs.Model.{bit, volume}
-use Rattle.vox_planes.specs.Bits.{others_of, state_of}
+use Rattle.nano_spec.specs.Matrix.{Matrix, is_full, matrix_where}
+use Rattle.nano_spec.specs.Model.{bit}
+use Rattle.vox_planes.specs.Bits.{state_of}
 use Rattle.vox_planes.specs.Layers.{IsLayered, bit_index, is_set, layered}
-use Rattle.vox_planes.specs.Painting.{IsPainted, is_in_box, is_in_layer, is_in_layers, is_in_row, is_up_to, other_count, with_region}
-use Rattle.vox_planes.specs.Places.{is_from}
+use Rattle.vox_planes.specs.Painting.{IsPainted, is_in_layer, is_in_layers, is_in_row, is_up_to}
 use Rattle.vox_planes.specs.Voxel.{IsWhole, is_state}
-use Rattle.vox_planes.specs.Walk.{at, layer_size, passes_in, row, row_size, row_start}
+use Rattle.vox_planes.specs.Walk.{at, layer_size, passes_in, row, row_start}
 use Rattle.vox_planes.proofs.Bits.{one_bit}
 use Rattle.vox_planes.proofs.Chunks.{ArePutBits}
 use Rattle.vox_planes.proofs.Filled.{AreFilled, others_total}
 use Rattle.vox_planes.proofs.Placed.{none_of_these, put_layered}
 use Rattle.vox_planes.proofs.Lines.{row_listed}
 use Rattle.vox_planes.proofs.Totals.{counted, one_if, total, total-plus, total-same}
-use Rattle.vox_planes.proofs.Voxels.{get_or-where, in_space-of, is_full-layered, is_full-where, layered_whole, length-where, same_where}
+use Rattle.vox_planes.proofs.Voxels.{get_or-where, in_space-of, is_full-layered, is_full-where, length-where, same_where}
 use Rattle.vox_planes.proofs.Walks.{size-walls}
 
 -- ---- sums over the coordinates of a matrix

@@ -1,4 +1,4 @@
-use Rattle.std.proofs.Common.{rules, ◌≡◌, ◌+◌, ◌∙◌, sym, ap, subst, arith, List, w64, to_z, of_z}
+use Rattle.std.proofs.Common.{rules, ◌≡◌, ◌+◌, ◌∙◌, sym, ap, subst, List, w64, to_z, of_z}
 use Rattle.std.specs.Prelude.{All, IfSome, Option, ◌+ℤ◌, ℤ}
 use Rattle.nano_spec.specs.declared.system.Bot.{Bot}
 use Rattle.nano_spec.specs.Energy.{group_cost}
@@ -17,12 +17,8 @@ invariant_of-self g c =
     let may : MayTake c.self.inside.matrix.resolution c.self.inside.crew c.in-Some.bot c.args.turn.partner c.args.command.now =
     subst (λ (o : Option Bot). IfSome o (λ bot. MayTake c.self.inside.matrix.resolution c.self.inside.crew bot c.args.turn.partner c.args.command.now)) (sym c.in-Some.ensures)
     (subst (λ (t : State). IfSome (bot_of t.bots c.args.turn.leader) (λ bot. MayTake t.matrix.resolution t.bots bot c.args.turn.partner c.args.command.now)) (sym c.self.view_is) c.requires.may) in
-    let room = c.pay_turn-cost.ensures.room in
-    let had = c.self.invariant.1 in (
-      subst (λ (bots : List Bot). All (λ b. IsInSpace c.pay_turn-cost.new.matrix.resolution b.pos) bots) (sym c.move_bots.ensures)
-          (subst (λ r. All (λ b. IsInSpace r b.pos) (bots_after c.self.inside.crew c.in-Some.bot c.args.turn.partner c.args.command.now)) (sym (ap (λ m. m.resolution) c.pay_turn-cost.ensures.matrix)) (turn_within c.self.inside.matrix.resolution c.self.inside.crew c.in-Some.bot c.args.turn.partner c.args.command.now c.self.invariant.0 may)),
-      omega arith,
-    )
+    subst (λ (bots : List Bot). All (λ b. IsInSpace c.pay_turn-cost.new.matrix.resolution b.pos) bots) (sym c.move_bots.ensures)
+    (subst (λ r. All (λ b. IsInSpace r b.pos) (bots_after c.self.inside.crew c.in-Some.bot c.args.turn.partner c.args.command.now)) (sym (ap (λ m. m.resolution) c.pay_turn-cost.ensures.matrix)) (turn_within c.self.inside.matrix.resolution c.self.inside.crew c.in-Some.bot c.args.turn.partner c.args.command.now c.self.invariant may))
 
 pub returns-clause-value : goal.returns-clause-value
 returns-clause-value g c =

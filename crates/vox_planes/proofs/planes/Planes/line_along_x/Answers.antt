@@ -1,9 +1,9 @@
-use Rattle.std.proofs.Common.{◌≡◌, ℕ, ◌+◌, ◌-◌, ◌*◌, ◌/◌, ◌<◌, Some, sym, ◌∙◌, ap, subst, arith, length}
+use Rattle.std.proofs.Common.{ℕ, ◌+◌, Some, sym, ◌∙◌, ap, subst, arith}
 use Rattle.vox_geom.specs.declared.coordinate.Coord.{Coord}
 use Rattle.vox_geom.specs.Space.{IsInSpace}
 use Rattle.nano_spec.specs.Matrix.{Matrix}
 use Rattle.vox_planes.specs.Layers.{bit_index}
-use Rattle.vox_planes.proofs.Lines.{all_as, first_as, found_x, none_x, size_x, within_x}
+use Rattle.vox_planes.proofs.Lines.{all_as, first_as, found_x, none_x, within_x}
 use Rattle.vox_planes.proofs.planes.Planes.line_along_x.Goals as goal
 
 pub next_apart-requires-clause-within : goal.next_apart-requires-clause-within

@@ -1,4 +1,4 @@
-use Rattle.std.proofs.Common.{◌≡◌, ◌∙◌, ap, arith, find}
+use Rattle.std.proofs.Common.{◌∙◌, ap, arith, find}
 use Rattle.vox_geom.specs.declared.coordinate.Coord.{Coord}
 use Rattle.nano_spec.specs.Matrix.{is_full}
 use Rattle.vox_planes.specs.Walk.{row}

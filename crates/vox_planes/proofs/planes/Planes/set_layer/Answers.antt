@@ -1,7 +1,7 @@
-use Rattle.std.proofs.Common.{◌≡◌, ◌+◌, ◌-◌, ◌*◌, ◌≤◌, refl, ◌∙◌, ap, arith}
+use Rattle.std.proofs.Common.{refl, ◌∙◌, ap, arith}
 use Rattle.vox_geom.specs.declared.coordinate.Coord.{Coord}
 use Rattle.vox_planes.specs.Painting.{is_in_layer}
-use Rattle.vox_planes.specs.Walk.{layer_size, row_size}
+use Rattle.vox_planes.specs.Walk.{row_size}
 use Rattle.vox_planes.proofs.Painting.{layer_none, painted_none, row_joined}
 use Rattle.vox_planes.proofs.Walks.{left-more}
 use Rattle.vox_planes.proofs.planes.Planes.set_layer.Goals as goal

@@ -1,4 +1,4 @@
-use Rattle.std.proofs.Common.{◌≡◌, ℕ, ◌+◌, ◌-◌, ◌<◌, ◌≤◌, sym, ◌∙◌, ap, subst, arith, length}
+use Rattle.std.proofs.Common.{◌≡◌, ℕ, ◌+◌, ◌-◌, sym, ◌∙◌, ap, subst, arith, length}
 use Rattle.std.proofs.lemmas.List.{with_items_is}
 use Rattle.vox_geom.specs.Space.{IsInSpace}
 use Rattle.nano_spec.specs.Matrix.{Matrix}

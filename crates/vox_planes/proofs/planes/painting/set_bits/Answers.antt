@@ -1,4 +1,4 @@
-use Rattle.std.proofs.Common.{◌+◌, ◌≤◌, arith}
+use Rattle.std.proofs.Common.{arith}
 use Rattle.vox_planes.proofs.Filled.{filled_more}
 use Rattle.vox_planes.proofs.planes.painting.set_bits.Goals as goal
 

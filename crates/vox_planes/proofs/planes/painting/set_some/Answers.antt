@@ -1,5 +1,4 @@
-use Rattle.std.proofs.Common.{◌≤◌, ◌∙◌, sym, ap, arith, not}
-use Rattle.std.specs.Prelude.{count_ones}
+use Rattle.std.proofs.Common.{◌∙◌, sym, ap, arith}
 use Rattle.std.proofs.lemmas.Nat.{ones-le}
 use Rattle.vox_planes.specs.Bits.{others_of}
 use Rattle.vox_planes.proofs.Filled.{all_full, all_void, ones_other, zeros_other}
