@@ -8,7 +8,6 @@ use Rattle.std.proofs.Math.Seq.{get_or-append_seam}
 use Rattle.std.proofs.lemmas.List.Elements.{Contains-append_left, Contains-push, Contains-push_cases}
 use Rattle.vox_geom.specs.declared.coordinate.Coord.{Coord}
 use Rattle.vox_geom.specs.Space.{IsInSpace, coordinates}
-use Rattle.support_forest.specs.Directions.{AreBeside}
 use Rattle.support_forest.specs.Grid.{Grid, word_at}
 use Rattle.support_forest.specs.Losing.{CanRemove, HaveRemoved}
 use Rattle.support_forest.specs.Placing.{ArePlaced, HavePlaced}

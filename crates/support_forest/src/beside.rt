@@ -1,6 +1,5 @@
 //! The words beside a voxel.
 ghost use Rattle.std.specs.Prelude.{◌≡◌, ℕ, ◌+◌, ◌%◌, ◌<◌, ◌≤◌, IfSome, Some};
-ghost use Rattle.brick_arena.specs.Slots.{IsLive};
 ghost use Rattle.vox_geom.specs.Space.{IsInSpace};
 ghost use Rattle.vox_geom.specs.declared.coordinate.Coord.{Coord};
 ghost use Rattle.support_forest.specs.Grid.{slot_of, word_at, word_index as word_index_of};
@@ -79,30 +78,32 @@ fn word_beyond<L: Ledger>(cells: &Cells, c: Coord, d: u8, steps: &mut Steps<L>) 
     }
 }
 
-/// The word of the neighbour in a direction, 0 where there is none. In the same brick no slot is looked up, and no bound of
-/// space: a word beyond it is 0.
+/// The word of the neighbour in a direction, 0 where there is none. `own` is the slot of the voxel's brick, and `index` that of
+/// its word. In the same brick no slot is looked up, and no bound of space: a word beyond it is 0.
 #[inline(always)]
-fn word_toward<L: Ledger>(
+pub fn word_toward<L: Ledger>(
     cells: &Cells,
     c: Coord,
-    slot: u32,
+    own: Option<u32>,
     index: u16,
     d: u8,
     steps: &mut Steps<L>,
 ) -> u32
     requires direction { (0 < d) × (d ≤ 6) }
     requires within { IsInSpace cells.now.resolution c }
-    requires live { IsLive cells.now.bricks slot }
-    requires slot { slot_of cells.now c ≡ Some slot }
+    requires own { own ≡ slot_of cells.now c }
     requires index { index ≡ word_index_of c }
     requires space { (q : Coord) → 0 < word_at cells.now q → IsInSpace cells.now.resolution q }
     ensures word { IsWordToward (word_at cells.now) c d result }
     ensures touch { steps.new ≤ steps.old + 1 }
 {
-    match index_toward(c, index, d) {
-        Some(i) => cells.word_of(slot, i, steps),
-        None => word_beyond(cells, c, d, steps),
+    let _ = cells.resolution();
+    if let Some(slot) = own {
+        if let Some(i) = index_toward(c, index, d) {
+            return cells.word_of(slot, i, steps);
+        }
     }
+    word_beyond(cells, c, d, steps)
 }
 
 /// The words of the neighbours of a voxel whose brick has no slot.
@@ -128,7 +129,6 @@ fn words_beyond<L: Ledger>(cells: &Cells, c: Coord, steps: &mut Steps<L>) -> Bes
 #[inline(always)]
 pub fn words_in<L: Ledger>(cells: &Cells, c: Coord, slot: u32, steps: &mut Steps<L>) -> Beside
     requires within { IsInSpace cells.now.resolution c }
-    requires live { IsLive cells.now.bricks slot }
     requires slot { slot_of cells.now c ≡ Some slot }
     requires space { (q : Coord) → 0 < word_at cells.now q → IsInSpace cells.now.resolution q }
     ensures words { AreBesideWords (word_at cells.now) c result }
@@ -136,12 +136,12 @@ pub fn words_in<L: Ledger>(cells: &Cells, c: Coord, slot: u32, steps: &mut Steps
 {
     let index = word_index(c);
     Beside {
-        left: word_toward(cells, c, slot, index, 1, steps),
-        right: word_toward(cells, c, slot, index, 2, steps),
-        under: word_toward(cells, c, slot, index, 3, steps),
-        over: word_toward(cells, c, slot, index, 4, steps),
-        near: word_toward(cells, c, slot, index, 5, steps),
-        far: word_toward(cells, c, slot, index, 6, steps),
+        left: word_toward(cells, c, Some(slot), index, 1, steps),
+        right: word_toward(cells, c, Some(slot), index, 2, steps),
+        under: word_toward(cells, c, Some(slot), index, 3, steps),
+        over: word_toward(cells, c, Some(slot), index, 4, steps),
+        near: word_toward(cells, c, Some(slot), index, 5, steps),
+        far: word_toward(cells, c, Some(slot), index, 6, steps),
     }
 }
 
@@ -154,7 +154,6 @@ pub fn words_around<L: Ledger>(
     steps: &mut Steps<L>,
 ) -> Beside
     requires within { IsInSpace cells.now.resolution c }
-    requires live { IfSome own (IsLive cells.now.bricks) }
     requires own { own ≡ slot_of cells.now c }
     requires space { (q : Coord) → 0 < word_at cells.now q → IsInSpace cells.now.resolution q }
     ensures words { AreBesideWords (word_at cells.now) c result }

@@ -1,4 +1,4 @@
-use Rattle.std.proofs.Common.{ℕ, ◌≡◌, arith}
+use Rattle.std.proofs.Common.{◌≡◌, arith}
 use Rattle.support_forest.proofs.Nearby.{some_so, index_left, index_right, index_under, index_over, index_near, index_far}
 use Rattle.support_forest.proofs.beside.index_toward.Goals as goal
 

@@ -1,8 +1,8 @@
-use Rattle.std.proofs.Common.{◌≡◌, ℕ, ◌+◌, ◌-◌, ◌<◌, ◌≤◌, get_or, arith, sym, subst}
+use Rattle.std.proofs.Common.{◌≡◌, ◌+◌, ◌-◌, ◌≤◌, get_or, arith}
 use Rattle.std.proofs.lemmas.List.{get_or_default}
 use Rattle.vox_geom.specs.declared.coordinate.Coord.{Coord}
 use Rattle.support_forest.specs.Taking.{HaveTaken}
-use Rattle.support_forest.proofs.Each.{IsTaking, before_last, taking_listed, taking_taken}
+use Rattle.support_forest.proofs.Each.{before_last, taking_listed, taking_taken}
 use Rattle.support_forest.proofs.Placing.{unless, when}
 use Rattle.support_forest.proofs.remove.take_each.Goals as goal
 
