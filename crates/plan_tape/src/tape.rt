@@ -123,7 +123,7 @@ impl Tape {
         ensures { IfOk result (λ t. t ≡ starting source profile) }
     {
         let matrix = source.copy(alloc)?;
-        let system = System::opening(alloc, matrix, profile)?;
+        let system = System::opening(matrix, profile);
         Ok(Tape {
             source,
             commands: Vec::new(alloc),

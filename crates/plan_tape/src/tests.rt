@@ -72,7 +72,7 @@ fn of_two<L: Ledger>(rt: &impl Abort, alloc: Global, blank: Blank) -> Result<Pla
     let source = Planes::empty(alloc, 3)?;
     assert!(rt; is_void(&source, &mut steps));
     let mut turns = Turns::new();
-    let mut system = System::opening(alloc, source.copy(alloc)?, Profile::full())?;
+    let mut system = System::opening(source.copy(alloc)?, Profile::full());
     let mut tape = Tape::start(alloc, source)?;
     let split = [Command::Fission(near(rt, 1), 0)];
     step(rt, &mut tape, &mut system, &mut turns, &split, &mut steps)?;

@@ -1,6 +1,6 @@
 -- The step of the only bot, of which one rule is judged after another.
-use Rattle.std.proofs.Common.{◌≡◌, ℕ, zero, suc, ◌+◌, ◌*◌, ◌<◌, ◌≤◌, refl, ap, sym, ◌∙◌, subst, arith, List, [], ◌∷◌, not, map, Bool, true, false, Option, rules}
-use Rattle.std.specs.Prelude.{ℤ, AllPairs, sum_by}
+use Rattle.std.proofs.Common.{◌≡◌, ℕ, ◌+◌, ◌*◌, ◌<◌, ◌≤◌, refl, ap, sym, ◌∙◌, arith, List, [], ◌∷◌, not, map, Bool, true, false, Option, rules}
+use Rattle.std.specs.Prelude.{ℤ, AllPairs}
 use Rattle.std.proofs.lemmas.List.Sums.{sum_by-cons}
 use Rattle.vox_geom.specs.declared.difference.Diff.{Diff}
 use Rattle.nano_spec.specs.declared.commands.Command.{Command}

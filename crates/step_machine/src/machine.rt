@@ -123,7 +123,7 @@ impl Machine {
         let _ = source.resolution();
         let forest = forest_of(alloc, &source, steps)?;
         let changed = ChangeList::with_room(alloc, MOST_CHANGED)?;
-        let system = System::opening(alloc, source, profile)?;
+        let system = System::opening(source, profile);
         Ok(Machine {
             alloc,
             system,
@@ -152,7 +152,7 @@ impl Machine {
     {
         let forest = forest_of(alloc, &matrix, steps)?;
         let changed = ChangeList::with_room(alloc, MOST_CHANGED)?;
-        let system = System::at(alloc, matrix, crew, harmonics, energy, profile)?;
+        let system = System::at(matrix, crew, harmonics, energy, profile);
         Ok(Machine {
             alloc,
             system,

@@ -1,6 +1,6 @@
 -- The turn of one group more, after those of some others.
-use Rattle.std.proofs.Common.{◌≡◌, ℕ, ◌<◌, ◌==◌, refl, sym, ◌∙◌, ap, subst, arith, inl, inr, List, [], ◌∷◌, ◌++◌, map, length, get_or, eq-eqb}
-use Rattle.std.specs.Prelude.{Some, None, Option, IfSome, IsPermutation, All, AllPairs, filter, flat_map, slice_get}
+use Rattle.std.proofs.Common.{◌≡◌, ℕ, ◌<◌, ◌==◌, refl, sym, ◌∙◌, ap, subst, inl, inr, List, [], ◌∷◌, ◌++◌, map, length, get_or, eq-eqb}
+use Rattle.std.specs.Prelude.{Some, None, IsPermutation, All, AllPairs, filter, flat_map}
 use Rattle.std.specs.List.{Contains}
 use Rattle.std.proofs.lemmas.List.{map-append}
 use Rattle.std.proofs.lemmas.Bool.Decides.{Decides-eqb}
@@ -19,7 +19,7 @@ use Rattle.step_order.specs.SomeGroups.{after_some}
 use Rattle.step_order.proofs.Facts.{IsGood, good_is, rising_is}
 use Rattle.step_order.proofs.Groups.{differ_acts, filter_only}
 use Rattle.step_order.proofs.Order.{listed}
-use Rattle.step_order.proofs.Lists.{In, filter_in, in_left, in_right, in_place, in_map, place_in}
+use Rattle.step_order.proofs.Lists.{In, filter_in, in_left, in_right, in_place, place_in}
 use Rattle.system_state.specs.declared.turns.Turn.{Turn}
 use Rattle.system_state.specs.Effects.{MayTake, bots_after}
 use Rattle.system_state.specs.Turns.{AreTurns, FollowsOn, IsTurn, bid_of, bots_after_some, leader_of}

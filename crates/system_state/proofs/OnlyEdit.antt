@@ -1,5 +1,5 @@
 -- The step of the only bot by filling or voiding a voxel.
-use Rattle.std.proofs.Common.{◌≡◌, ℕ, sym, ap, subst, List, [], ◌∷◌, Bool, true, false, cond}
+use Rattle.std.proofs.Common.{◌≡◌, sym, ap, subst, [], ◌∷◌, Bool, true, false, cond}
 use Rattle.std.specs.Prelude.{pos, negsuc, ◌+ℤ◌}
 use Rattle.vox_geom.specs.declared.coordinate.Coord.{Coord}
 use Rattle.vox_geom.specs.declared.difference.Diff.{Diff}

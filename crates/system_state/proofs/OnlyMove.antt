@@ -1,5 +1,5 @@
 -- The step of the only bot by a straight move.
-use Rattle.std.proofs.Common.{◌≡◌, ℕ, ◌+◌, ◌*◌, ◌==◌, refl, sym, subst, arith, List, [], ◌∷◌, Bool, true, false, cond}
+use Rattle.std.proofs.Common.{◌≡◌, ℕ, ◌*◌, ◌==◌, refl, sym, subst, arith, List, [], ◌∷◌, Bool, true, false, cond}
 use Rattle.std.specs.Prelude.{pos, ◌+ℤ◌, IfSome, Some, None}
 use Rattle.std.proofs.lemmas.Bool.Decides.{nat_tests}
 use Rattle.vox_geom.specs.declared.coordinate.Coord.{Coord}

@@ -1,6 +1,5 @@
 //! The state of the system (docs/FORMATS.md, "State"): matrix, harmonics, bots, energy and profile, the judgement of the
-//! commands of a step, and the effects of its groups, one group after another. No call takes memory;
-//! [`System::opening`] and [`System::at`] are given an allocator all the same.
+//! commands of a step, and the effects of its groups, one group after another. No call takes memory.
 #![tactic(auto)]
 
 mod known;

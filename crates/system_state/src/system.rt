@@ -1,5 +1,5 @@
 //! The state of the system.
-ghost use Rattle.std.specs.Prelude.{◌≡◌, ℕ, ◌+◌, ◌*◌, ◌≤◌, ◌<◌, pos, ◌+ℤ◌, ◌≤ℤ◌, [], ◌∷◌, ◌++◌, List, length, map, All, IfOk, IfNone, IfSome, IsPermutation, IsTrue, None, Some};
+ghost use Rattle.std.specs.Prelude.{◌≡◌, ℕ, ◌+◌, ◌*◌, ◌≤◌, ◌<◌, pos, ◌+ℤ◌, ◌≤ℤ◌, [], ◌∷◌, ◌++◌, List, length, map, All, IfNone, IfSome, IsPermutation, IsTrue, None, Some};
 ghost use Rattle.std.specs.List.{list_all};
 ghost use Rattle.vox_geom.specs.Space.{IsInSpace};
 ghost use Rattle.nano_spec.specs.declared.commands.Command.{Command as Trace};
@@ -30,12 +30,11 @@ use crate::voxels::pay_turn;
 use bot_crew::{Crew, crew_is_ready, group_is_replaced};
 use energy_sum::upkeep;
 use nano_spec::{Broken, Command, Harmonics, Profile, Rule};
-use std::alloc::Global;
 use std::marker::Model;
 use std::sync::ledger::Ledger;
 use step_groups::{all_act_alone, judge_single};
 use step_order::groups_take_turns;
-use vox_geom::{MOST_R, Memory, Steps};
+use vox_geom::{MOST_R, Steps};
 use vox_planes::Planes;
 
 /// The other harmonics after a Flip.
@@ -106,39 +105,38 @@ impl Model for System {
 
 impl System {
     /// The state before the first step.
-    pub fn opening(_alloc: Global, source: Planes, profile: Profile) -> Result<System, Memory>
+    pub fn opening(source: Planes, profile: Profile) -> System
         requires { profile.seeds ≤ 39 }
-        ensures { IfOk result (λ s. s ≡ opening_of source profile) }
+        ensures { result ≡ opening_of source profile }
     {
         let _ = source.resolution();
-        Ok(System {
+        System {
             matrix: source,
             crew: Crew::opening(profile),
             harmonics: Harmonics::Low,
             energy: 0,
             profile,
-        })
+        }
     }
 
     /// The state that has these parts.
     pub fn at(
-        _alloc: Global,
         matrix: Planes,
         crew: Crew,
         harmonics: Harmonics,
         energy: i64,
         profile: Profile,
-    ) -> Result<System, Memory>
+    ) -> System
         requires { All (λ b. IsInSpace matrix.resolution b.pos) crew }
-        ensures { IfOk result (λ s. s ≡ record { matrix = matrix; harmonics = harmonics; bots = crew; energy = energy; profile = profile }) }
+        ensures { result ≡ record { matrix = matrix; harmonics = harmonics; bots = crew; energy = energy; profile = profile } }
     {
-        Ok(System {
+        System {
             matrix,
             crew,
             harmonics,
             energy,
             profile,
-        })
+        }
     }
 
     /// The matrix.

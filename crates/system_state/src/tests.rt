@@ -51,7 +51,7 @@ fn of_one<L: Ledger>(rt: &impl Abort, blank: Blank, alloc: Global) -> Result<(),
 {
     let mut steps: Steps<L> = Steps::new(blank);
     let mut turns = Turns::new();
-    let mut system = System::opening(alloc, Planes::empty(alloc, 3)?, Profile::full())?;
+    let mut system = System::opening(Planes::empty(alloc, 3)?, Profile::full());
     let out = Command::SMove(long(rt, -1));
     let none: [Command; 0] = [];
     assert_eq!(rt;
@@ -94,7 +94,7 @@ fn of_two<L: Ledger>(rt: &impl Abort, blank: Blank, alloc: Global) -> Result<(),
 {
     let mut steps: Steps<L> = Steps::new(blank);
     let mut turns = Turns::new();
-    let mut system = System::opening(alloc, Planes::empty(alloc, 3)?, Profile::full())?;
+    let mut system = System::opening(Planes::empty(alloc, 3)?, Profile::full());
     let split = Command::Fission(near(rt, 1), 0);
     assert_eq!(rt;
         step(rt, &mut system, &mut turns, &[split], &mut steps),

@@ -1,5 +1,4 @@
-use Rattle.std.proofs.Common.{ap, ◌∙◌, sym, subst, ◌≡◌, ◌+◌, ◌≤◌}
-use Rattle.nano_spec.specs.declared.commands.Command.{Command}
+use Rattle.std.proofs.Common.{ap, ◌∙◌, sym, subst, ◌+◌, ◌≤◌}
 use Rattle.nano_spec.specs.declared.commands.Command.TheVariants.{SMove}
 use Rattle.step_groups.specs.Judging.{act, fault_of, first_fault, later_rules, touches_of}
 use Rattle.step_groups.proofs.OnlyOne.{allowed, read_once}

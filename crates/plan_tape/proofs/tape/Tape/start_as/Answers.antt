@@ -8,5 +8,5 @@ use Rattle.plan_tape.proofs.tape.Tape.start_as.Goals as goal
 
 pub invariant_of-result : goal.invariant_of-result
 invariant_of-result c =
-    rw c.new.ensures.items (subst (λ (s : State). IsReached (progress_of c.args.source [] s 0)) (sym (c.in_ok-system.ensures ∙ ap (λ (m : Matrix). opening m c.args.profile) c.in_ok-matrix.ensures.value))
+    rw c.new.ensures.items (subst (λ (s : State). IsReached (progress_of c.args.source [] s 0)) (sym (c.opening-system.ensures ∙ ap (λ (m : Matrix). opening m c.args.profile) c.in_ok-matrix.ensures.value))
     (started c.args.source c.args.profile (subst IsWhole c.in_ok-matrix.ensures.value c.in_ok-matrix.ensures.whole) c.requires.grounded))

@@ -5,7 +5,7 @@ use Rattle.step_machine.proofs.machine.Machine.start.Goals as goal
 
 pub returns-clause-well_formed : goal.returns-clause-well_formed
 returns-clause-well_formed g c = λ void.
-    subst (λ (s : State). IsWellFormed s) (sym c.in_ok-system.ensures)
+    subst (λ (s : State). IsWellFormed s) (sym c.opening-system.ensures)
     (c.ready_and_well_formed.ensures.well_formed (opening c.args.source c.args.profile)
     (c.opening_is_ready.ensures c.args.source c.args.profile c.resolution.ensures.whole.some c.resolution.ensures.whole.voxels)
     (λ _. c.requires.grounded)

@@ -1,4 +1,4 @@
-use Rattle.std.proofs.Common.{◌≡◌, ◌<◌, sym, ◌∙◌, ap, subst, List, length, map, get_or}
+use Rattle.std.proofs.Common.{◌<◌, sym, ◌∙◌, ap, subst, List, length, map, get_or}
 use Rattle.std.specs.Prelude.{All}
 use Rattle.std.specs.List.{Contains}
 use Rattle.vox_geom.specs.Space.{IsInSpace}
