@@ -97,6 +97,7 @@ fn may_stand(beside: Beside) -> bool
 }
 
 /// Makes a void voxel full, where no other level changes by it, and tells whether it did: otherwise all stays.
+#[inline(always)]
 pub fn place<L: Ledger>(
     cells: &mut Cells,
     c: Coord,

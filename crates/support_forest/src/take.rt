@@ -32,6 +32,7 @@ fn is_parent(beside: Beside) -> bool
 }
 
 /// Makes a full voxel void, where it is no other's parent, and tells whether it did: otherwise all stays.
+#[inline(always)]
 pub fn take<L: Ledger>(cells: &mut Cells, c: Coord, steps: &mut Steps<L>) -> bool
     requires exact { AreExact cells.old.resolution (word_at cells.old) }
     requires full { 0 < word_at cells.old c }
