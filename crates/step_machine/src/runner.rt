@@ -1,11 +1,12 @@
 //! Runs: a machine that takes the commands of a trace one by one.
 ghost use Rattle.std.specs.Prelude.{◌≡◌, ℕ, ◌+◌, ◌*◌, ◌<◌, ◌≤◌, false, true, [], ◌∷◌, ◌++◌, length, count_by, IfOk, IfErr, IfNone, IfSome, None, Some, Err};
 ghost use Rattle.nano_spec.specs.Grounded.{FirstUngrounded};
+ghost use Rattle.nano_spec.specs.Matrix.{Matrix};
 ghost use Rattle.nano_spec.specs.Model.{volume};
 ghost use Rattle.nano_spec.specs.Profile.{full_profile};
 ghost use Rattle.nano_spec.specs.Verdict.{VerdictOf};
 ghost use Rattle.run_progress.specs.Progress.{Finishes, Pushes, begun};
-ghost use Rattle.step_machine.specs.Course.{LacksCommands, MakesEdits, MakesNoStep, searched_by};
+ghost use Rattle.step_machine.specs.Course.{LacksCommands, MakesEdits, MakesNoStep, course_of, searched_by};
 ghost use Rattle.step_machine.specs.Edits.{is_edit};
 ghost use Rattle.step_machine.specs.Payment.{IsWithinWork, IsWithinWorkOfRun};
 ghost use Rattle.step_machine.specs.Stepped.{Stepped};
@@ -167,10 +168,7 @@ impl Runner {
     {
         let steps_done = self.machine.steps_done();
         match &self.mark {
-            Mark::Running => {
-                let bot = self.machine.crew().bots()[self.pending.as_slice().len()];
-                refused(steps_done + 1, bot.bid, Rule::TraceEnds, bot.pos)
-            }
+            Mark::Running => trace_ends(&self.machine, &self.pending),
             Mark::Refused(broken) => Verdict::Refused(*broken),
             Mark::Halted => match self.machine.matrix().equal(target, steps) {
                 None => Verdict::Accepted {
@@ -182,6 +180,16 @@ impl Runner {
             Mark::Followed => refused(steps_done, 0, Rule::AfterHalt, Coord { x: 0, y: 0, z: 0 }),
         }
     }
+}
+
+/// The verdict of a trace that ends within a step, before the command of some bot.
+fn trace_ends(machine: &Machine, pending: &Pending) -> Verdict
+    requires lacks { length pending.now < length machine.now.state.bots }
+    requires steps { machine.now.steps ≤ 1073741824 }
+    ensures { (target : Matrix) → Finishes target (course_of machine.now pending.now Mark.Running).progress result }
+{
+    let bot = machine.crew().bots()[pending.as_slice().len()];
+    refused(machine.steps_done() + 1, bot.bid, Rule::TraceEnds, bot.pos)
 }
 
 /// The verdict of a rule that is broken.
