@@ -1,5 +1,5 @@
 -- The ways above the floor, how long they are, and that High asks for no grounding.
-use Rattle.std.proofs.Common.{◌≡◌, ◌⊎◌, inr, ℕ, ◌*◌, ◌≤◌, sym, ◌∙◌, refl, arith, mul-le-mul, Bool, true, false, ◌&&◌}
+use Rattle.std.proofs.Common.{◌≡◌, ◌⊎◌, inr, ℕ, ◌*◌, ◌≤◌, sym, ◌∙◌, arith, mul-le-mul, false, ◌&&◌}
 use Rattle.std.specs.Prelude.{pos, IsTrue}
 use Rattle.std.proofs.lemmas.Bool.Decides.{nat_tests}
 use Rattle.vox_geom.specs.declared.coordinate.Coord.{Coord}
@@ -8,13 +8,9 @@ use Rattle.vox_geom.specs.Space.{IsInSpace}
 use Rattle.nano_spec.specs.declared.system.Harmonics.{Harmonics}
 use Rattle.nano_spec.specs.declared.system.Harmonics.TheVariants.{Low, High}
 use Rattle.nano_spec.specs.Matrix.{Matrix, is_full}
+use Rattle.step_order.proofs.Lists.{first, second}
 use Rattle.plan_tape.specs.Leg.{AreVoidTo, moves_to}
 use Rattle.plan_tape.specs.Progress.{IsHeld}
-
-three : (a b c : Bool) → IsTrue (a && b && c) → IsTrue a × IsTrue b
-three true true c t = (refl, refl)
-three true false c t = cc
-three false b c t = cc
 
 same : (a v : ℕ) → IsTrue (is_between (pos a) (pos a) (pos v)) → v ≡ a
 same a v t = grind (arith, nat_tests)
@@ -25,12 +21,15 @@ at_least a v t = grind (arith, nat_tests)
 one_of : (a b v : ℕ) → IsTrue (is_between (pos a) (pos b) (pos v)) → (a ≤ v) ⊎ (b ≤ v)
 one_of a b v t = grind (arith, nat_tests)
 
+sides : (a b v c d w e f u : ℕ) → IsTrue (is_between (pos a) (pos b) (pos v) && is_between (pos c) (pos d) (pos w) && is_between (pos e) (pos f) (pos u)) → IsTrue (is_between (pos a) (pos b) (pos v)) × IsTrue (is_between (pos c) (pos d) (pos w))
+sides a b v c d w e f u t = let p = first _ _ t in (first _ _ p, second _ _ p)
+
 -- the ways are void where all is void from the height of the start on, and at the end's x from the lower height on
 pub ways_are_void : (m : Matrix) (a b : Coord) → ((c : Coord) → a.y ≤ c.y → is_full m c ≡ false) → ((c : Coord) → c.x ≡ b.x → (a.y ≤ c.y) ⊎ (b.y ≤ c.y) → is_full m c ≡ false) → AreVoidTo m a b
 ways_are_void m a b above there = record {
-  x = λ c t. above c (at_least a.y c.y (three (is_between (pos a.x) (pos b.x) (pos c.x)) (is_between (pos a.y) (pos a.y) (pos c.y)) (is_between (pos a.z) (pos a.z) (pos c.z)) t).1);
-  y = λ c t. let p = three (is_between (pos b.x) (pos b.x) (pos c.x)) (is_between (pos a.y) (pos b.y) (pos c.y)) (is_between (pos a.z) (pos a.z) (pos c.z)) t in there c (same b.x c.x p.0) (one_of a.y b.y c.y p.1);
-  z = λ c t. let p = three (is_between (pos b.x) (pos b.x) (pos c.x)) (is_between (pos b.y) (pos b.y) (pos c.y)) (is_between (pos a.z) (pos b.z) (pos c.z)) t in there c (same b.x c.x p.0) (inr (at_least b.y c.y p.1));
+  x = λ c t. above c (at_least a.y c.y (sides a.x b.x c.x a.y a.y c.y a.z a.z c.z t).1);
+  y = λ c t. let s = sides b.x b.x c.x a.y b.y c.y a.z a.z c.z t in there c (same b.x c.x s.0) (one_of a.y b.y c.y s.1);
+  z = λ c t. let s = sides b.x b.x c.x b.y b.y c.y a.z b.z c.z t in there c (same b.x c.x s.0) (inr (at_least b.y c.y s.1));
 }
 
 pub moves_are_few : (r : ℕ) (a b : Coord) → r ≤ 400 → IsInSpace r a → IsInSpace r b → moves_to a b ≤ 81

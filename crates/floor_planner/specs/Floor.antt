@@ -4,7 +4,7 @@ use Rattle.vox_geom.specs.declared.coordinate.Coord.{Coord}
 use Rattle.vox_geom.specs.declared.difference.Diff.{Diff}
 use Rattle.vox_geom.specs.Space.{IsInSpace}
 use Rattle.nano_spec.specs.declared.system.Harmonics.TheVariants.{High}
-use Rattle.nano_spec.specs.Matrix.{Matrix, empty, is_full}
+use Rattle.nano_spec.specs.Matrix.{Matrix, empty, is_full, matrix_where}
 use Rattle.nano_spec.specs.Profile.{full_profile}
 use Rattle.plan_tape.specs.Progress.{Progress, spot}
 
@@ -24,13 +24,16 @@ coord x y z = record { x = x; y = y; z = z }
 abbrev pub is_passed : ℕ → ℕ → Coord → Bool
 is_passed x z c = nat_lt c.x x || (c.x == x && nat_lt c.z z)
 
--- the sweep has come to x and z: those voxels of the target that it has passed are full, and no others
+-- the matrix of those voxels of the target that are passed
+abbrev pub swept : Matrix → ℕ → ℕ → Matrix
+swept target x z = matrix_where target.resolution (λ c. is_full target c && is_passed x z c)
+
+-- the tape when the sweep has come to x and z
 pub record IsSweptTo (t : Progress) (target : Matrix) (x z : ℕ) : Type 0 where
   pub source : t.source ≡ empty target.resolution
+  pub matrix : t.matrix ≡ swept target x z
   pub profile : t.profile ≡ full_profile
   pub high : t.harmonics ≡ High
-  pub resolution : t.matrix.resolution ≡ target.resolution
-  pub filled : (c : Coord) → is_full t.matrix c ≡ (is_full target c && is_passed x z c)
   pub alone : length t.bots ≡ 1
   pub placed : IsInSpace target.resolution (spot t.bots)
   pub above : (c : Coord) → (spot t.bots).y ≤ c.y → is_full t.matrix c ≡ false

@@ -1,5 +1,5 @@
 //! Whether a model lies on the floor.
-ghost use Rattle.std.specs.Prelude.{◌≡◌, ◌<◌, ◌&&◌, IsTrue, None, find};
+ghost use Rattle.std.specs.Prelude.{◌≡◌, ◌↔◌, ◌<◌, ◌&&◌, IsTrue, None, find};
 ghost use Rattle.vox_geom.specs.Point.{point};
 ghost use Rattle.vox_geom.specs.Region.{is_within, span};
 ghost use Rattle.vox_geom.specs.Space.{IsInSpace};
@@ -17,7 +17,7 @@ fn is_void_in<L: Ledger>(model: &Planes, region: &Region, blank: Blank) -> bool
     requires name { blank.name ≡ L.name }
     requires parts { blank.parts ≡ L.parts }
     requires some { 0 < L.parts }
-    ensures { IsTrue result → find (λ c. is_full model.now c && is_within (span region.now) (point c)) (all_of model.now) ≡ None }
+    ensures { IsTrue result ↔ (find (λ c. is_full model.now c && is_within (span region.now) (point c)) (all_of model.now) ≡ None) }
 {
     let mut steps: Steps<L> = Steps::new(blank);
     model.region_full(region, &mut steps).is_none()
@@ -25,7 +25,8 @@ fn is_void_in<L: Ledger>(model: &Planes, region: &Region, blank: Blank) -> bool
 
 /// Whether each full voxel lies on the floor.
 pub fn is_flat(model: &Planes) -> bool
-    ensures { IsTrue result → IsFlat model.now }
+    ensures flat { IsTrue result → IsFlat model.now }
+    ensures told { IsFlat model.now → IsTrue result }
 {
     let most = model.resolution() - 1;
     if most == 0 {

@@ -30,7 +30,6 @@ fn closed(mut tape: Tape, target: &Planes) -> Result<Plan, Memory>
     ensures accepted { IfOk result (λ plan. IsAccepted (empty target.now.resolution) target.now plan.commands full_profile plan.energy plan.steps) }
 {
     let _ = target.resolution();
-    let _ = tape.matrix();
     tape.go(Coord { x: 0, y: 0, z: 0 })?;
     tape.flip()?;
     tape.halt()?;
