@@ -1,0 +1,25 @@
+//! A program that has a list of commands judged, and prints the verdict: the smallest one around the proved machine.
+#![tactic(auto)]
+
+mod listed;
+
+use nano_spec::Verdict;
+use std::io;
+use vox_geom::Memory;
+
+fn main(rt: HostRuntime) -> io::Result<()> {
+    match listed::judge_list(rt.alloc()) {
+        Ok(Verdict::Accepted { energy, steps }) => {
+            println!(rt; "ok energy {energy} steps {steps}")?;
+        }
+        Ok(Verdict::Refused(broken)) => {
+            let rule = broken.rule.name();
+            println!(rt;
+                "broken step {} bot {} rule {rule}",
+                broken.step, broken.bid
+            )?;
+        }
+        Err(Memory) => println!(rt; "out of memory")?,
+    }
+    Ok(())
+}
