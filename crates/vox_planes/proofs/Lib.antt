@@ -11,3 +11,4 @@ pub mod Taken
 pub mod Lines
 pub mod Painting
 pub mod Filled
+pub mod Heaps

@@ -1,6 +1,7 @@
 pub mod Bits
 pub mod Changes
 pub mod Difference
+pub mod Heap
 pub mod Layers
 pub mod Painting
 pub mod Places

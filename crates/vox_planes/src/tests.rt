@@ -183,6 +183,28 @@ fn placed<L: Ledger>(rt: &impl Abort, blank: Blank, alloc: Global) -> Result<(),
     Ok(())
 }
 
+/// Voxels that stand on one another, one that floats, and one that is held from beside alone.
+fn heaps(rt: &impl Abort, alloc: Global) -> Result<(), Memory> {
+    let mut planes = Planes::empty(alloc, 70)?;
+    assert!(rt; planes.is_heap());
+    planes.set(at(0, 69, 5), true);
+    assert!(rt; !planes.is_heap());
+    planes.set(at(1, 0, 5), true);
+    assert!(rt; !planes.is_heap());
+
+    planes.set(at(0, 69, 5), false);
+    planes.set(at(69, 0, 69), true);
+    planes.set(at(69, 1, 69), true);
+    assert!(rt; planes.is_heap());
+    planes.set(at(1, 2, 5), true);
+    assert!(rt; !planes.is_heap());
+    planes.set(at(1, 1, 5), true);
+    assert!(rt; planes.is_heap());
+    planes.set(at(1, 1, 6), true);
+    assert!(rt; !planes.is_heap());
+    Ok(())
+}
+
 /// A list of its own: it is filled, read and cleared.
 #[test]
 fn a_list_keeps_its_room(rt: HostRuntime) -> Result<(), Fail> {
@@ -213,5 +235,11 @@ fn seventy_to_a_row(rt: HostRuntime) -> Result<(), Fail> {
 #[test]
 fn by_places(rt: HostRuntime) -> Result<(), Fail> {
     placed::<Brand>(&rt, Blank::new(1), rt.alloc())?;
+    Ok(())
+}
+
+#[test]
+fn stacked(rt: HostRuntime) -> Result<(), Fail> {
+    heaps(&rt, rt.alloc())?;
     Ok(())
 }

@@ -1,5 +1,5 @@
 //! Counts and comparisons of whole planes.
-ghost use Rattle.std.specs.Prelude.{◌≡◌, ◌+◌, ◌*◌, ◌<◌, ◌≤◌, ◌||◌, ℕ, Bool, count_by};
+ghost use Rattle.std.specs.Prelude.{◌≡◌, ◌+◌, ◌*◌, ◌<◌, ◌≤◌, ◌||◌, ℕ, Bool, true, false, count_by};
 ghost use Rattle.vox_geom.specs.declared.coordinate.Coord.{Coord as Coordinate};
 ghost use Rattle.vox_geom.specs.Least.{LeastOf};
 ghost use Rattle.vox_geom.specs.Space.{is_before as is_before_of};
@@ -7,6 +7,7 @@ ghost use Rattle.nano_spec.specs.Matrix.{all_of, is_full};
 ghost use Rattle.nano_spec.specs.Model.{volume};
 ghost use Rattle.nano_spec.specs.Verdict.{first_difference};
 ghost use Rattle.vox_planes.specs.Difference.{earlier as earlier_of, in_layer_differ};
+ghost use Rattle.vox_planes.specs.Heap.{IsHeap};
 ghost use Rattle.vox_planes.specs.Layers.{layer_words as layer_words_of};
 
 use super::{Planes, WORD_BITS, layer_words};
@@ -69,6 +70,20 @@ impl Planes {
             least = earlier(least, self.layer_difference(other, y, steps));
         }
         least
+    }
+
+    /// Whether each full voxel is on the floor or stands on a full one. No touches are counted.
+    pub fn is_heap(&self) -> bool
+        ensures heap { result ≡ true → IsHeap self.now }
+        ensures other { result ≡ false → IsHeap self.now → ⊥ }
+    {
+        let layer = layer_words(self.resolution);
+        for i in layer..self.words.len() {
+            if self.words[i] & !self.words[i - layer] != 0 {
+                return false;
+            }
+        }
+        true
     }
 }
 
