@@ -7,3 +7,4 @@ pub mod WideForms
 pub mod Rewritten
 pub mod Stretches
 pub mod Octets
+pub mod Heaps

@@ -35,13 +35,13 @@ still : (a b : Bool) → (a ≡ false → b ≡ false) → IsTrue b → IsTrue a
 still true b h t = refl
 still false b h t = contrary b t (h refl)
 
-on_floor : (m : Matrix) (c : Coord) → IsTrue (is_full m c) → c.y ≡ 0 → Grounded m c
+pub on_floor : (m : Matrix) (c : Coord) → IsTrue (is_full m c) → c.y ≡ 0 → Grounded m c
 on_floor m c f e = (c ∷ [], rw (self_same c, f) (floor c.y e))
   where
     floor : (y : ℕ) → y ≡ 0 → (y == 0) ≡ true
     floor y g = grind (arith, nat_tests)
 
-one_more : (m : Matrix) (a b : Coord) → IsTrue (is_full m a) → IsTrue (are_adjacent a b) → Grounded m b → Grounded m a
+pub one_more : (m : Matrix) (a b : Coord) → IsTrue (is_full m a) → IsTrue (are_adjacent a b) → Grounded m b → Grounded m a
 one_more m a b f n ([], h) = cc
 one_more m a b f n (d ∷ path, h) =
     let same : b ≡ d = same_coordinate b d (left (same_point (point b) (point d)) (is_path m (d ∷ path)) h) in

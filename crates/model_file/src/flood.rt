@@ -154,10 +154,13 @@ impl Flood {
     }
 }
 
-/// The least full voxel that is not grounded: `None` where each is grounded.
+/// The least full voxel that is not grounded: `None` where each is grounded. A heap is not searched.
 pub fn first_ungrounded(alloc: Global, planes: &Planes) -> Result<Option<Coord>, Memory>
     ensures { IfOk result (λ at. FirstUngrounded planes.now at) }
 {
+    if planes.is_heap() {
+        return Ok(None);
+    }
     let mut flood = Flood {
         remaining: planes.copy(alloc)?,
         found: Vec::new(alloc),

@@ -131,3 +131,38 @@ fn the_least_floating_voxel(rt: HostRuntime) -> Result<(), Fail> {
     }
     Ok(())
 }
+
+/// The least voxel that floats among a stack, the floor beside its top, and one more voxel.
+fn floating_beside_a_stack(alloc: Global, one: Coord) -> Result<Option<Coord>, Memory> {
+    let mut planes = Planes::empty(alloc, 5)?;
+    for (x, y, z) in [
+        (1, 0, 1),
+        (1, 1, 1),
+        (1, 2, 1),
+        (2, 0, 1),
+        (one.x, one.y, one.z),
+    ] {
+        if planes.resolution() == 5 && x < 5 && y < 5 && z < 5 {
+            planes.set(Coord { x, y, z }, true);
+        }
+    }
+    first_ungrounded(alloc, &planes)
+}
+
+#[test]
+fn heaps_and_others(rt: HostRuntime) -> Result<(), Fail> {
+    let cases = [
+        (Coord { x: 1, y: 3, z: 1 }, None),
+        (Coord { x: 2, y: 2, z: 1 }, None),
+        (Coord { x: 3, y: 1, z: 1 }, Some(Coord { x: 3, y: 1, z: 1 })),
+        (Coord { x: 1, y: 4, z: 1 }, Some(Coord { x: 1, y: 4, z: 1 })),
+        (Coord { x: 0, y: 4, z: 1 }, Some(Coord { x: 0, y: 4, z: 1 })),
+    ];
+    for (one, want) in cases {
+        match floating_beside_a_stack(rt.alloc(), one) {
+            Ok(at) => assert_eq!(rt; at, want),
+            Err(Memory) => assert!(rt; false),
+        }
+    }
+    Ok(())
+}

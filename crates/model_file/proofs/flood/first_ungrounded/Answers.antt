@@ -7,6 +7,7 @@ use Rattle.nano_spec.specs.Grounded.{FirstUngrounded}
 use Rattle.nano_spec.specs.Matrix.{is_full}
 use Rattle.model_file.specs.declared.flood.Flood.{Flood}
 use Rattle.model_file.specs.Flood.{IsStart}
+use Rattle.model_file.proofs.Heaps.{heap_is_grounded}
 use Rattle.model_file.proofs.Spreads.{flood_begun, found_starts, left_is_ungrounded}
 use Rattle.model_file.proofs.flood.first_ungrounded.Goals as goal
 
@@ -27,3 +28,6 @@ returns c =
     let least = subst (λ (r : ℕ). LeastOf r (is_full left) c.least_full.result) done.resolution c.least_full.ensures in
     subst (λ (o : Option Coord). FirstUngrounded m o) (first_is m.resolution (is_full left) c.least_full.result least)
     (left_is_ungrounded m c.spread.new.self (is_full left) done c.in_ok-spread.ensures.all (λ d t. t) (λ d t. t))
+
+pub returns-then-is_heap : goal.returns-then-is_heap
+returns-then-is_heap c = heap_is_grounded c.args.planes.now (c.is_heap.ensures.heap c.if-is_heap.true)
