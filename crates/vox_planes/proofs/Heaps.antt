@@ -42,27 +42,44 @@ lost_bit : (w u : ℕ) → w < 2 ^ 64 → u < 2 ^ 64 → 0 < bit_and w (bit_not 
 lost_bit w u fits small some =
     let k : ℕ = trailing_zeros w64 (bit_and w (bit_not w64 u)) in
     let z = bit_at-trailing_zeros w64 (bit_and w (bit_not w64 u)) some (and_lt 64 w (bit_not w64 u) fits (omega arith)) in
-    let one : min (bit_at w k) (1 - bit_at u k) ≡ 1 = ap (min (bit_at w k)) (sym (bit_at_not w64 u k small z.0)) ∙ (sym (bit_at_and w (bit_not w64 u) k) ∙ z.1) in
-    let values = lost_value (bit_at w k) (bit_at u k) (bit_at-lt w k) one in
+    let other : 1 - bit_at u k ≡ bit_at (bit_not w64 u) k = sym (bit_at_not w64 u k small z.0) in
+    let both : min (bit_at w k) (1 - bit_at u k) ≡ 1 = ap (min (bit_at w k)) other ∙ (sym (bit_at_and w (bit_not w64 u) k) ∙ z.1) in
+    let values = lost_value (bit_at w k) (bit_at u k) (bit_at-lt w k) both in
     (k, z.0, ap (λ d. d == 1) values.0, ap (λ d. d == 1) values.1)
+
+word_bit : (ws : List ℕ) (i k : ℕ) → k < 64 → is_set ws (i * 64 + k) ≡ bit (get_or ws i 0) k
+unfolding is_set
+word_bit ws i k l =
+    let d : (i * 64 + k) / 64 ≡ i = omega arith in
+    let m : (i * 64 + k) % 64 ≡ k = omega arith in
+    λ t. bit (get_or ws (d t) 0) (m t)
+
+-- a word above the lowest layer, and the word under it
+pub record AreStacked (ws : List ℕ) (layer i w u : ℕ) : Type 0 where
+  pub above : layer ≤ i
+  pub upper : w ≡ get_or ws i 0
+  pub lower : u ≡ get_or ws (i - layer) 0
+  pub fits : w < 2 ^ 64
+  pub lower_fits : u < 2 ^ 64
 
 module _ (ws : List ℕ) (layer : ℕ) where
   pub held_none : AreHeld ws layer layer
   held_none = record { held = λ j from to. absurd (omega arith) }
 
-  pub held_more : (i w u : ℕ) → layer ≤ i → w ≡ get_or ws i 0 → u ≡ get_or ws (i - layer) 0 → u < 2 ^ 64 → bit_and w (bit_not w64 u) ≡ 0 → AreHeld ws layer i → AreHeld ws layer (i + 1)
-  unfolding is_set
-  held_more i w u from ew eu fits none a = record { held = λ j low high h. by j low high h (cases_lt j (i * 64)) }
+  pub held_more : (i w u : ℕ) → AreStacked ws layer i w u → bit_and w (bit_not w64 u) ≡ 0 → AreHeld ws layer i → AreHeld ws layer (i + 1)
+  held_more i w u s none a = record { held = λ j low high h. by j low high h (cases_lt j (i * 64)) }
     where
-      by : (j : ℕ) → layer * 64 ≤ j → j < (i + 1) * 64 → bit (get_or ws (j / 64) 0) (j % 64) ≡ true → ((j < i * 64) ⊎ (i * 64 ≤ j)) → bit (get_or ws ((j - layer * 64) / 64) 0) ((j - layer * 64) % 64) ≡ true
+      by : (j : ℕ) → layer * 64 ≤ j → j < (i + 1) * 64 → is_set ws j ≡ true → ((j < i * 64) ⊎ (i * 64 ≤ j)) → is_set ws (j - layer * 64) ≡ true
       by j low high h (inl l) = a.held j low l h
       by j low high h (inr l) =
-          let here : j / 64 ≡ i = omega arith in
-          let there : (j - layer * 64) / 64 ≡ i - layer = omega arith in
-          let same : (j - layer * 64) % 64 ≡ j % 64 = omega arith in
-          (λ t. bit (get_or ws (there t) 0) (same t))
-          ∙ (ap (λ n. bit n (j % 64)) (sym eu)
-          ∙ kept_bit w u (j % 64) fits (omega arith) none (ap (λ n. bit n (j % 64)) ew ∙ ((λ t. bit (get_or ws (sym here t) 0) (j % 64)) ∙ h)))
+          let k : ℕ = j - i * 64 in
+          let few : j - i * 64 < 64 = omega arith in
+          let above : layer ≤ i = s.above in
+          let here : i * 64 + (j - i * 64) ≡ j = omega arith in
+          let there : j - layer * 64 ≡ (i - layer) * 64 + (j - i * 64) = omega arith in
+          let one : bit w k ≡ true = ap (λ v. bit v k) s.upper ∙ (sym (word_bit ws i k few) ∙ (ap (is_set ws) here ∙ h)) in
+          ap (is_set ws) there
+          ∙ (word_bit ws (i - layer) k few ∙ (ap (λ v. bit v k) (sym s.lower) ∙ kept_bit w u k s.lower_fits few none one))
 
 -- ---- all words
 
@@ -93,46 +110,6 @@ is_heap-held r ws layer end size all a = λ c h. by c h (cases_lt 0 c.y)
         let place : bit_index r c - layer * 64 ≡ bit_index r (under c) = omega (arith, bit_under r c l) in
         inr (is_full-layered r ws (under c) below ∙ (ap (is_set ws) (sym place) ∙ a.held (bit_index r c) (omega arith) (omega arith) here))
 
--- in a heap each bit above the floor that is 1 has a bit under it that is 1
-held_in_heap : (r : ℕ) (ws : List ℕ) (y at : ℕ) → IsLayered r ws → IsHeap (layered r ws) → 0 < y → y < r → at < layer_words r * 64 → is_set ws (y * layer_words r * 64 + at) ≡ true → is_set ws (y * layer_words r * 64 + at - layer_words r * 64) ≡ true
-held_in_heap r ws y at h heap low high end one = by (heap c (is_full-layered r ws c within ∙ (ap (is_set ws) place ∙ one)))
-  where
-    used : at < r * r
-    used = by (cases_lt at (r * r))
-      where
-        by : ((at < r * r) ⊎ (r * r ≤ at)) → at < r * r
-        by (inl l) = l
-        by (inr l) = let none = h.unused y at high l end in cc
-
-    c : Coord
-    c = record { x = at / r; y = y; z = at % r }
-
-    some : 0 < r
-    some = omega (arith, h.some)
-
-    within : IsInSpace r (record { x = at / r; y = y; z = at % r })
-    within = record { x = (div-lt_iff_lt-mul some).1 used; y = high; z = mod-lt at some }
-
-    below : IsInSpace r (record { x = at / r; y = y - 1; z = at % r })
-    below = record { x = (div-lt_iff_lt-mul some).1 used; y = omega arith; z = mod-lt at some }
-
-    place : bit_index r (record { x = at / r; y = y; z = at % r }) ≡ y * layer_words r * 64 + at
-    place = ap (λ v. y * layer_words r * 64 + v) (div-add-mod' at r)
-
-    by : ((y ≡ 0) ⊎ IsTrue (is_full (layered r ws) (under (record { x = at / r; y = y; z = at % r })))) → is_set ws (y * layer_words r * 64 + at - layer_words r * 64) ≡ true
-    by (inl floor) = absurd (omega arith)
-    by (inr f) =
-        ap (λ j. is_set ws (j - layer_words r * 64)) (sym place)
-        ∙ (ap (is_set ws) (bit_under r (record { x = at / r; y = y; z = at % r }) low)
-        ∙ (sym (is_full-layered r ws (record { x = at / r; y = y - 1; z = at % r }) below) ∙ f))
-
-word_bit : (ws : List ℕ) (i k : ℕ) → k < 64 → is_set ws (i * 64 + k) ≡ bit (get_or ws i 0) k
-unfolding is_set
-word_bit ws i k l =
-    let d : (i * 64 + k) / 64 ≡ i = omega arith in
-    let m : (i * 64 + k) % 64 ≡ k = omega arith in
-    λ t. bit (get_or ws (d t) 0) (m t)
-
 has_some : (a b i : ℕ) → i < a * b → 0 < b
 has_some a zero i l = absurd (omega arith)
 has_some a (suc b) i l = omega arith
@@ -141,19 +118,56 @@ not_first : (q n m i : ℕ) → q * n + m ≡ i → m < n → n ≤ i → 0 < q
 not_first zero n m i e l h = absurd (omega arith)
 not_first (suc q) n m i e l h = omega arith
 
--- a matrix is no heap where a word has a bit that the word a layer before has not
-pub no_heap : (r : ℕ) (ws : List ℕ) (layer i w u : ℕ) → IsLayered r ws → layer ≡ layer_words r → layer ≤ i → i < r * layer_words r → w ≡ get_or ws i 0 → u ≡ get_or ws (i - layer) 0 → w < 2 ^ 64 → u < 2 ^ 64 → 0 < bit_and w (bit_not w64 u) → IsHeap (layered r ws) → ⊥
-no_heap r ws layer i w u h size low high ew eu fits small some heap =
-    let lost = lost_bit w u fits small some in
-    let k : ℕ = lost.0 in
-    let l : k < 64 = lost.1 in
-    let n : ℕ = layer_words r in
-    let back : i / n * n + i % n ≡ i = div-add-mod' i n in
-    let positive : 0 < n = has_some r n i high in
-    let end : i % n < n = mod-lt i positive in
-    let here : i / n * n * 64 + (i % n * 64 + k) ≡ i * 64 + k = omega arith in
-    let there : i / n * n * 64 + (i % n * 64 + k) - n * 64 ≡ (i - layer) * 64 + k = omega arith in
-    let one : is_set ws (i / n * n * 64 + (i % n * 64 + k)) ≡ true = ap (is_set ws) here ∙ (word_bit ws i k l ∙ (ap (λ v. bit v k) (sym ew) ∙ lost.2)) in
-    let held = held_in_heap r ws (i / n) (i % n * 64 + k) h heap (not_first (i / n) n (i % n) i back end (omega arith)) ((div-lt_iff_lt-mul positive).1 high) (omega arith) one in
-    let none : is_set ws (i / n * n * 64 + (i % n * 64 + k) - n * 64) ≡ false = ap (is_set ws) there ∙ (word_bit ws (i - layer) k l ∙ (ap (λ v. bit v k) (sym eu) ∙ lost.3)) in
-    cc
+-- the voxel of a layer whose bit has so many before it in the layer
+abbrev voxel : ℕ → ℕ → ℕ → Coord
+voxel r y at = record { x = at / r; y = y; z = at % r }
+
+module _ (r : ℕ) (ws : List ℕ) (h : IsLayered r ws) (heap : IsHeap (layered r ws)) where
+  -- a bit above the floor that is 1 has a bit under it that is 1
+  held_in_heap : (y at j : ℕ) → 0 < y → y < r → at < layer_words r * 64 → y * layer_words r * 64 + at ≡ j → is_set ws j ≡ true →
+      is_set ws (j - layer_words r * 64) ≡ true
+  held_in_heap y at j low high end is_j one = by (heap (voxel r y at) (is_full-layered r ws (voxel r y at) within ∙ (ap (is_set ws) place ∙ one)))
+    where
+      used : at < r * r
+      used = by (cases_lt at (r * r))
+        where
+          by : ((at < r * r) ⊎ (r * r ≤ at)) → at < r * r
+          by (inl l) = l
+          by (inr l) = let none = h.unused y at high l end in let e = ap (is_set ws) is_j in cc
+
+      some : 0 < r
+      some = omega (arith, h.some)
+
+      within : IsInSpace r (voxel r y at)
+      within = record { x = (div-lt_iff_lt-mul some).1 used; y = high; z = mod-lt at some }
+
+      below : IsInSpace r (under (voxel r y at))
+      below = record { x = (div-lt_iff_lt-mul some).1 used; y = omega arith; z = mod-lt at some }
+
+      place : bit_index r (voxel r y at) ≡ j
+      place = ap (λ v. y * layer_words r * 64 + v) (div-add-mod' at r) ∙ is_j
+
+      by : ((y ≡ 0) ⊎ IsTrue (is_full (layered r ws) (under (voxel r y at)))) → is_set ws (j - layer_words r * 64) ≡ true
+      by (inl floor) = absurd (omega arith)
+      by (inr f) =
+          ap (λ v. is_set ws (v - layer_words r * 64)) (sym place)
+          ∙ (ap (is_set ws) (bit_under r (voxel r y at) low) ∙ (sym (is_full-layered r ws (under (voxel r y at)) below) ∙ f))
+
+  -- no word has a bit that the word under it has not
+  pub none_lost : (layer i w u : ℕ) → layer ≡ layer_words r → i < r * layer_words r → AreStacked ws layer i w u → 0 < bit_and w (bit_not w64 u) → ⊥
+  none_lost layer i w u size high s some =
+      let lost = lost_bit w u s.fits s.lower_fits some in
+      let k : ℕ = lost.0 in
+      let l : k < 64 = lost.1 in
+      let n : ℕ = layer_words r in
+      let above : layer ≤ i = s.above in
+      let back : i / n * n + i % n ≡ i = div-add-mod' i n in
+      let positive : 0 < n = has_some r n i high in
+      let end : i % n < n = mod-lt i positive in
+      let low : 0 < i / n = not_first (i / n) n (i % n) i back end (omega arith) in
+      let place : i / n * n * 64 + (i % n * 64 + k) ≡ i * 64 + k = omega arith in
+      let there : i * 64 + k - n * 64 ≡ (i - layer) * 64 + k = omega arith in
+      let one : is_set ws (i * 64 + k) ≡ true = word_bit ws i k l ∙ (ap (λ v. bit v k) (sym s.upper) ∙ lost.2) in
+      let held = held_in_heap (i / n) (i % n * 64 + k) (i * 64 + k) low ((div-lt_iff_lt-mul positive).1 high) (omega arith) place one in
+      let none : is_set ws (i * 64 + k - n * 64) ≡ false = ap (is_set ws) there ∙ (word_bit ws (i - layer) k l ∙ (ap (λ v. bit v k) (sym s.lower) ∙ lost.3)) in
+      cc
