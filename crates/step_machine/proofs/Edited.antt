@@ -1,5 +1,6 @@
 -- The step of the only bot by filling or voiding a voxel: which cells change.
 use Rattle.std.proofs.Common.{◌≡◌, ℕ, ◌+◌, ◌≤◌, refl, sym, ◌∙◌, ap, arith, List, [], ◌∷◌, Bool, true, false, ◌&&◌, ◌||◌, not, cond, length, append-nil, filter}
+use Rattle.std.specs.Bool.{beq}
 use Rattle.std.specs.Prelude.{None, IsTrue, count_by}
 use Rattle.std.proofs.lemmas.List.Sums.{length-filter, sum_by-cons}
 use Rattle.vox_geom.specs.declared.coordinate.Coord.{Coord}
@@ -109,3 +110,24 @@ module _ (s : State) (d : Diff) (at : Coord) (full : Bool) (commands : List Comm
       let y = sum_by-cons (edit_count s.matrix false) (act o.0 (edit_of full d)) [] in
       let n = one_counted s.matrix o.0 d at (named o.0 o.1) stays full in
       omega (arith, v, t, f, x, y, n)
+
+-- ---- what a voxel is removed from that is filled, or else voided, and what it is added to: it changes where it was otherwise
+
+abbrev pub ArePart : Bool → Bool → List Coord → List Coord → List Coord → Type 0
+ArePart full was cell removed added = (removed ≡ cond (not full && was) cell []) × (added ≡ cond (full && not was) cell [])
+
+pub part_same : (full was : Bool) (cell : List Coord) → beq was full ≡ true → ArePart full was cell [] []
+part_same true true cell e = (refl, refl)
+part_same true false cell e = cc
+part_same false true cell e = cc
+part_same false false cell e = (refl, refl)
+
+pub part_full : (full was : Bool) (cell : List Coord) → beq was full ≡ false → full ≡ true → ArePart full was cell [] cell
+part_full true true cell e f = cc
+part_full true false cell e f = (refl, refl)
+part_full false was cell e f = cc
+
+pub part_void : (full was : Bool) (cell : List Coord) → beq was full ≡ false → full ≡ false → ArePart full was cell cell []
+part_void true was cell e f = cc
+part_void false true cell e f = (refl, refl)
+part_void false false cell e f = cc

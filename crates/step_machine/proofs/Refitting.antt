@@ -14,14 +14,18 @@ use Rattle.nano_spec.specs.Matrix.{Matrix}
 use Rattle.nano_spec.specs.Rules.{broken}
 use Rattle.nano_spec.specs.State.{IsReady, State}
 use Rattle.nano_spec.specs.Step.{after}
-use Rattle.nano_spec.specs.Work.{without_voided}
-use Rattle.support_forest.specs.Standing.{AreAdded, AreRemoved, MayAdd, MayRemove}
+use Rattle.nano_spec.specs.Model.{volume}
+use Rattle.nano_spec.specs.Work.{Levels, volatile_total, without_voided}
+use Rattle.support_forest.specs.Standing.{AreAdded, AreRemoved, IsCheap, MayAdd, MayRemove, Standing}
 use Rattle.step_order.proofs.Facts.{IsGood, good_is}
 use Rattle.step_order.proofs.Lists.{In, any_in}
 use Rattle.system_state.specs.Effects.{act}
 use Rattle.step_machine.specs.Edits.{edits_of, edits_total, is_edit, is_edited}
+use Rattle.step_machine.proofs.Apart.{held}
 use Rattle.step_machine.proofs.Changed.{between_is, cell_of, may_add, may_remove, new_is}
+use Rattle.step_machine.specs.Settling.{IsRefitted}
 use Rattle.step_machine.proofs.Sizes.{acts_few, changes_most, commands_are}
+use Rattle.step_machine.proofs.Working.{refit_touches}
 
 pub front_of : (xs ys slice front : List Coord) (n : ℕ) → slice ≡ xs ++ ys → n ≡ length xs → front ≡ take n slice → front ≡ xs
 front_of xs ys slice front n e f g = g ∙ ((λ i. take (f i) (e i)) ∙ take-append_seam xs ys)
@@ -77,6 +81,20 @@ module _ (s : State) (commands : List Command) (step : ℕ) (ready : IsReady s) 
     pub refitted : (new : Matrix) → AreAdded between new back → new ≡ (after s commands).matrix
     refitted new won = new_is s (acts s.bots commands) good between lost_is new (subst (λ (cells : List Coord). AreAdded between new cells) g won)
 
+  -- the forest is that of the step's state, and the touches are paid for, where it lost what is voided and gained what is filled
+  pub is_refitted : (old between : Matrix) (forest : Standing) (front back : List Coord) (before listed middle after : ℕ) → old ≡ s.matrix → front ≡ edits_of s commands true → back ≡ edits_of s commands false
+      → listed ≤ before + volatile_total s.matrix (acts s.bots commands) → AreRemoved old between front → IsCheap old between front 100 listed middle
+      → AreAdded between forest.matrix back → IsCheap between forest.matrix back 100 middle after → forest.spent ≡ false → IsRefitted s commands forest before after
+  is_refitted old between forest front back before listed middle after e f g l lost lose won win stands =
+      let new = refitted old between front back e f g lost forest.matrix won in
+      record {
+        matrix = new;
+        stands = stands;
+        touches = λ n w.
+            refit_touches s commands step ready keeps between forest.matrix front back before listed middle after n (between_them old between front back e f g lost) new f g l
+            (λ first last a b. lose first last (subst (λ (m : Matrix). Levels m first) (sym e) a) b) win w;
+      }
+
   -- a voxel changes only where some command is an edit
   pub edits_some : (full : Bool) (cells : List Coord) → cells ≡ edits_of s commands full → 1 ≤ length cells → 1 ≤ count_by is_edit commands
   edits_some full [] e h = absurd (omega arith)
@@ -84,6 +102,17 @@ module _ (s : State) (commands : List Command) (step : ℕ) (ready : IsReady s) 
       let i : In c (edits_of s commands full) = subst (λ (xs : List Coord). In c xs) e (inl refl) in
       let w = any_in (λ a. is_edited full a c) (acts s.bots commands) (cell_of s (acts s.bots commands) good full c i).2 in
       counted s.bots commands w.0 w.1 (edit_by full w.0.bot w.0.command c w.2)
+
+-- ---- nothing was lost, or gained
+
+pub lost_none : (m : Matrix) → length m.voxels ≡ volume m.resolution → AreRemoved m m []
+lost_none m whole = record { resolution = refl; whole = whole; full = λ c h. h; kept = λ c h. inl h; gone = λ c i. absurd (held c [] i) }
+
+pub won_none : (m : Matrix) → length m.voxels ≡ volume m.resolution → AreAdded m m []
+won_none m whole = record { resolution = refl; whole = whole; full = λ c h. inl h; kept = λ c h. h; added = λ c i. absurd (held c [] i) }
+
+pub cheap_none : (m n : Matrix) (now : ℕ) → IsCheap m n [] 100 now now
+cheap_none m n now = λ first last f l. omega arith
 
 pub ok_both : {T E : Type 0} (r : Result T E) (P Q R : T → Type 0) → ((t : T) → P t → Q t → R t) → IfOk r P → IfOk r Q → IfOk r R
 ok_both (Ok t) P Q R f p q = f t p q

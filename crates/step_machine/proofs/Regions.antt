@@ -4,7 +4,7 @@ use Rattle.std.specs.Bool.{beq}
 use Rattle.std.specs.Prelude.{max}
 use Rattle.std.specs.List.{list_any}
 use Rattle.vox_geom.specs.declared.coordinate.Coord.{Coord}
-use Rattle.vox_geom.specs.Point.{point}
+use Rattle.vox_geom.specs.Point.{Point, point}
 use Rattle.vox_geom.specs.Region.{Corners, Span, corners, is_within}
 use Rattle.vox_geom.specs.Space.{IsInSpace}
 use Rattle.nano_spec.specs.declared.commands.Command.{Command}
@@ -15,7 +15,7 @@ use Rattle.step_order.proofs.Lists.{not_both}
 use Rattle.system_state.specs.declared.work.Work.{Work}
 use Rattle.system_state.specs.Effects.{act}
 use Rattle.system_state.specs.Work.{IsIdle, IsWork, region_of}
-use Rattle.step_machine.specs.Edits.{is_edited}
+use Rattle.step_machine.specs.Edits.{is_change, is_edited}
 
 or_false : (b : Bool) → b ≡ (b || false)
 or_false true = refl
@@ -46,6 +46,41 @@ edits_nothing r b k w full h e c = by w.full full h.filled h.voided e
     by true false p q e = cc
     by false true p q e = cc
     by false false p q e = none (filled (point b.pos) k) c p
+
+-- what changes so edits something so
+changes_some : (p : Point) (k : Command) (full : Bool) → is_change full k ≡ true → cond full (voided p k) (filled p k) ≡ [] → ⊥
+changes_some p (Fill d) true h e = cc
+changes_some p (Fill d) false h e = cc
+changes_some p (Void d) true h e = cc
+changes_some p (Void d) false h e = cc
+changes_some p (GFill d f) true h e = cc
+changes_some p (GFill d f) false h e = cc
+changes_some p (GVoid d f) true h e = cc
+changes_some p (GVoid d f) false h e = cc
+changes_some p k full h e = cc
+
+-- what changes so is not so already
+pub change_is_other : (r : ℕ) (b : Bot) (k : Command) (w : Work) (full : Bool) → IsWork r b k w → is_change full k ≡ true → beq w.full full ≡ false
+change_is_other r b k w full h e = by w.full full h.filled h.voided e
+  where
+    by : (f full : Bool) → filled (point b.pos) k ≡ cond f (region_of w ∷ []) [] → voided (point b.pos) k ≡ cond f [] (region_of w ∷ []) → is_change full k ≡ true → beq f full ≡ false
+    by true true p q e = absurd (changes_some (point b.pos) k true e q)
+    by true false p q e = refl
+    by false true p q e = refl
+    by false false p q e = absurd (changes_some (point b.pos) k false e p)
+
+-- a command that does not change so edits nothing so
+pub not_change : (b : Bot) (k : Command) (full : Bool) → is_change full k ≡ false → (c : Coord) → false ≡ is_edited full (act b k) c
+not_change b (Fill d) true h c = refl
+not_change b (Fill d) false h c = cc
+not_change b (Void d) true h c = cc
+not_change b (Void d) false h c = refl
+not_change b (GFill d f) true h c = refl
+not_change b (GFill d f) false h c = cc
+not_change b (GVoid d f) true h c = cc
+not_change b (GVoid d f) false h c = refl
+not_change b k true h c = refl
+not_change b k false h c = refl
 
 pub idle_edits_nothing : (b : Bot) (k : Command) (full : Bool) → IsIdle b k → (c : Coord) → false ≡ is_edited full (act b k) c
 idle_edits_nothing b k true h c = none (voided (point b.pos) k) c h.voided

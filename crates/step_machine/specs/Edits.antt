@@ -1,5 +1,5 @@
 -- What the groups of a step change in the matrix (docs/FORMATS.md, "Commands").
-use Rattle.std.specs.Prelude.{ℕ, Bool, true, false, cond, ◌&&◌, List, count_by, filter, flat_map, sum_by}
+use Rattle.std.specs.Prelude.{ℕ, Bool, true, false, cond, not, ◌&&◌, List, count_by, filter, flat_map, sum_by}
 use Rattle.std.specs.List.{list_any}
 use Rattle.vox_geom.specs.declared.coordinate.Coord.{Coord}
 use Rattle.vox_geom.specs.Point.{point}
@@ -19,6 +19,14 @@ is_edit (Void d) = true
 is_edit (GFill d f) = true
 is_edit (GVoid d f) = true
 is_edit _ = false
+
+-- whether the command voids something, or else whether it fills something
+abbrev pub is_change : Bool → Command → Bool
+is_change full (Void d) = full
+is_change full (GVoid d f) = full
+is_change full (Fill d) = not full
+is_change full (GFill d f) = not full
+is_change full _ = false
 
 -- what an act voids, or else what it fills
 abbrev pub edited : Bool → Act → List Span

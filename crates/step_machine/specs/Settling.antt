@@ -18,6 +18,12 @@ abbrev pub IsPaidBy : State → List Command → ℕ → ℕ → Type 0
 IsPaidBy s commands began ended =
     (n : ℕ) → WorkOfActs s.matrix (acts s.bots commands) n → ended + 99 * volatile_total s.matrix (acts s.bots commands) ≤ began + 100 * n
 
+-- the forest is that of the state to which the step goes
+pub record IsRefitted (s : State) (commands : List Command) (forest : Standing) (began ended : ℕ) : Type 0 where
+  pub matrix : forest.matrix ≡ (after s commands).matrix
+  pub stands : forest.spent ≡ false
+  pub touches : IsPaidBy s commands began ended
+
 -- the step goes to its state, and the forest is that of this state
 pub record IsSettled (s : State) (commands : List Command) (step : ℕ) (forest : Standing) (began ended : ℕ) : Type 0 where
   pub goes : Next s commands step (Goes (after s commands))

@@ -1,5 +1,6 @@
 //! Which voxels the groups of a step change.
 ghost use Rattle.std.specs.Prelude.{◌≡◌, ℕ, ◌+◌, ◌≤◌, ◌&&◌, ◌++◌, filter, length, IsTrue, None};
+ghost use Rattle.std.specs.List.{list_any};
 ghost use Rattle.vox_geom.specs.Point.{point};
 ghost use Rattle.vox_geom.specs.Region.{is_within, size, span};
 ghost use Rattle.vox_geom.specs.Space.{IsInSpace};
@@ -8,7 +9,7 @@ ghost use Rattle.nano_spec.specs.Group.{leaders};
 ghost use Rattle.nano_spec.specs.Matrix.{all_of};
 ghost use Rattle.nano_spec.specs.Rules.{broken as broken_of};
 ghost use Rattle.vox_planes.specs.Voxel.{is_state};
-ghost use Rattle.step_machine.specs.Edits.{cells_of, cells_of_all, edit_count, edits_total};
+ghost use Rattle.step_machine.specs.Edits.{cells_of, cells_of_all, edit_count, edits_total, is_change};
 ghost use Rattle.system_state.specs.Effects.{act};
 ghost use Rattle.system_state.specs.Turns.{AreTurns};
 
@@ -56,14 +57,34 @@ fn list_change<L: Ledger>(
     ensures left { list.old.spare ≤ list.new.spare + edit_count matrix.now full (act bot.now command.now) }
     ensures touches { steps.new ≤ steps.old + edit_count matrix.now full (act bot.now command.now) }
 {
+    if !is_change(command, full) {
+        return;
+    }
     let Some(work) = work_of(matrix.resolution(), *bot, command) else {
         return;
     };
-    if work.full == full {
-        return;
-    }
     let region = Region::of(work.near, work.far);
     list_region(matrix, region, full, list, steps);
+}
+
+/// Whether the command voids something, or else whether it fills something.
+fn is_change(command: &Command, full: bool) -> bool
+    ensures { result ≡ is_change full command.now }
+{
+    match command {
+        Command::Void(_) | Command::GVoid(_, _) => full,
+        Command::Fill(_) | Command::GFill(_, _) => !full,
+        Command::Halt | Command::Wait | Command::Flip => false,
+        Command::SMove(_) | Command::LMove(_, _) | Command::Fission(_, _) => false,
+        Command::FusionP(_) | Command::FusionS(_) => false,
+    }
+}
+
+/// Whether some of the commands voids something, or else whether some fills something.
+fn some_change(commands: &[Command], full: bool) -> bool
+    ensures { result ≡ list_any (is_change full) commands.now }
+{
+    commands.iter().any(|command| is_change(command, full))
 }
 
 /// Appends the voxels that the groups of a step change by voiding, or else those that they change by filling.
@@ -83,6 +104,9 @@ pub(crate) fn list_changes<L: Ledger>(
     ensures left { list.old.spare ≤ list.new.spare + edits_total system.now.matrix full (leaders (acts system.now.bots commands.now)) }
     ensures touches { steps.new ≤ steps.old + edits_total system.now.matrix full (leaders (acts system.now.bots commands.now)) }
 {
+    if !some_change(commands, full) {
+        return;
+    }
     let matrix = system.matrix();
     let bots = system.crew().bots();
     for turn in turns.list() {

@@ -11,12 +11,12 @@ ghost use Rattle.nano_spec.specs.Matrix.{all_of, is_full};
 ghost use Rattle.nano_spec.specs.Model.{volume};
 ghost use Rattle.nano_spec.specs.Rules.{broken as broken_of};
 ghost use Rattle.nano_spec.specs.State.{is_high};
-ghost use Rattle.nano_spec.specs.Step.{after, flipped};
-ghost use Rattle.nano_spec.specs.Work.{WorkOfActs, volatile_total};
+ghost use Rattle.nano_spec.specs.Step.{flipped};
+ghost use Rattle.nano_spec.specs.Work.{volatile_total};
 ghost use Rattle.step_groups.specs.Judging.{edit_of};
 ghost use Rattle.support_forest.specs.Standing.{AreAdded, AreRemoved, IsCheap, MayAdd, MayRemove};
 ghost use Rattle.step_machine.specs.Edits.{edits_of, is_edit};
-ghost use Rattle.step_machine.specs.Settling.{IsSettled, IsUnsettled};
+ghost use Rattle.step_machine.specs.Settling.{IsRefitted, IsSettled, IsUnsettled};
 ghost use Rattle.step_machine.specs.Undoing.{IsUndoneBy, matrix_before, without_filled};
 ghost use Rattle.system_state.specs.Turns.{AreTurns};
 ghost use Rattle.step_machine.specs.declared.TheConstants.{MOST_CHANGED};
@@ -158,10 +158,8 @@ fn refit_cells<L: Ledger>(
     requires added { added.now ≡ edits_of system.now commands.now false }
     requires stands { forest.old.spent ≡ false }
     requires tied { forest.old.matrix ≡ system.now.matrix }
-    ensures value { IfOk result (λ _. forest.new.matrix ≡ (after system.now commands.now).matrix) }
-    ensures stands { IfOk result (λ _. forest.new.spent ≡ false) }
+    ensures refitted { IfOk result (λ _. (before : ℕ) → steps.old ≤ before + volatile_total system.now.matrix (acts system.now.bots commands.now) → IsRefitted system.now commands.now forest.new before steps.new) }
     ensures edits { IfErr result (λ _. 1 ≤ count_by is_edit commands.now) }
-    ensures touches { IfOk result (λ _. (before n : ℕ) → steps.old ≤ before + volatile_total system.now.matrix (acts system.now.bots commands.now) → WorkOfActs system.now.matrix (acts system.now.bots commands.now) n → steps.new + 99 * volatile_total system.now.matrix (acts system.now.bots commands.now) ≤ before + 100 * n) }
 {
     let _ = system.crew();
     match remove(forest, removed, steps) {
@@ -189,34 +187,17 @@ fn refit<L: Ledger>(
     requires room { MOST_CHANGED ≤ list.old.spare + length list.old.items }
     requires stands { forest.old.spent ≡ false }
     requires tied { forest.old.matrix ≡ system.now.matrix }
-    ensures value { IfOk result (λ _. forest.new.matrix ≡ (after system.now commands.now).matrix) }
-    ensures stands { IfOk result (λ _. forest.new.spent ≡ false) }
+    ensures refitted { IfOk result (λ _. IsRefitted system.now commands.now forest.new steps.old steps.new) }
     ensures items { list.new.items ≡ edits_of system.now commands.now true ++ edits_of system.now commands.now false }
     ensures voided { IfOk result (λ voided. voided ≡ length (edits_of system.now commands.now true)) }
     ensures edits { IfErr result (λ _. 1 ≤ count_by is_edit commands.now) }
     ensures room { MOST_CHANGED ≤ list.new.spare + length list.new.items }
-    ensures touches { IfOk result (λ _. (n : ℕ) → WorkOfActs system.now.matrix (acts system.now.bots commands.now) n → steps.new + 99 * volatile_total system.now.matrix (acts system.now.bots commands.now) ≤ steps.old + 100 * n) }
 {
     let voided = list_edits(system, commands, turns, list, steps);
     let (removed, added) = list.as_slice().split_at(voided);
     match refit_cells(system, commands, removed, added, forest, steps) {
         Ok(()) => Ok(voided),
         Err(Memory) => Err(Memory),
-    }
-}
-
-/// What a cell is removed from that is filled, or else voided, and what it is added to: it changes where it was otherwise.
-fn parted(cell: &[Coord], full: bool, was: bool) -> (&[Coord], &[Coord])
-    ensures removed { result.0.now ≡ cond (not full && was) cell.now [] }
-    ensures added { result.1.now ≡ cond (full && not was) cell.now [] }
-{
-    let none = &cell[..0];
-    if full {
-        if was { (none, none) } else { (none, cell) }
-    } else if was {
-        (cell, none)
-    } else {
-        (none, none)
     }
 }
 
@@ -238,16 +219,22 @@ fn refit_one<L: Ledger>(
     requires within { IsInSpace system.now.matrix.resolution at }
     requires stands { forest.old.spent ≡ false }
     requires tied { forest.old.matrix ≡ system.now.matrix }
-    ensures value { IfOk result (λ _. forest.new.matrix ≡ (after system.now commands.now).matrix) }
-    ensures stands { IfOk result (λ _. forest.new.spent ≡ false) }
+    ensures refitted { IfOk result (λ _. IsRefitted system.now commands.now forest.new steps.old steps.new) }
     ensures was { IfOk result (λ was. was ≡ is_full system.now.matrix at) }
-    ensures touches { IfOk result (λ _. (n : ℕ) → WorkOfActs system.now.matrix (acts system.now.bots commands.now) n → steps.new + 99 * volatile_total system.now.matrix (acts system.now.bots commands.now) ≤ steps.old + 100 * n) }
 {
     let _ = system.crew();
     let was = system.matrix().full_at(at, steps);
+    if was == full {
+        return Ok(was);
+    }
     let cell = [at];
-    let (removed, added) = parted(&cell, full, was);
-    match refit_cells(system, commands, removed, added, forest, steps) {
+    if full {
+        return match add(forest, &cell, steps) {
+            Ok(()) => Ok(was),
+            Err(Memory) => Err(Memory),
+        };
+    }
+    match remove(forest, &cell, steps) {
         Ok(()) => Ok(was),
         Err(Memory) => Err(Memory),
     }

@@ -46,8 +46,9 @@ impl Machine {
         Ok(made(&self.system))
     }
 
-    /// The step of the only bot in which it fills a voxel, or else voids it.
-    #[inline(always)]
+    /// The step of the only bot in which it fills a voxel, or else voids it: a call of its own, so that the rest of
+    /// [`Machine::step_alone`] is small enough to be written out for its callers.
+    #[inline(never)]
     fn edit_alone<L: Ledger>(
         &mut self,
         d: Near,

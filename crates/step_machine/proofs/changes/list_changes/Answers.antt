@@ -1,8 +1,9 @@
-use Rattle.std.proofs.Common.{sym, ◌∙◌, ap, subst, arith, length}
+use Rattle.std.proofs.Common.{sym, ◌∙◌, ◌++◌, ap, subst, arith, length, append-nil}
 use Rattle.std.specs.Prelude.{IsTrue}
 use Rattle.nano_spec.specs.Act.{acts, stays_in_space}
 use Rattle.nano_spec.specs.Group.{leaders}
 use Rattle.step_machine.proofs.Acting.{leader_stays}
+use Rattle.step_machine.proofs.Cells.{none_change}
 use Rattle.step_machine.proofs.Turning.{among_bots, among_commands, as_many, listing_all, listing_more, room_for, turned, turned_leads, turned_rest}
 use Rattle.step_machine.proofs.changes.list_changes.Goals as goal
 
@@ -38,3 +39,8 @@ returns-clause-items g c =
     let n = as_many (acts c.args.system.now.bots c.args.commands.now) (leaders (acts c.args.system.now.bots c.args.commands.now)) c.args.turns.now c.requires.turns in
     let e = ap length c.list-turn-items.ensures in
     listing_all c.args.system.now.matrix c.args.full (leaders (acts c.args.system.now.bots c.args.commands.now)) c.loop-turn.turn-index c.args.list.now c.loop-turn.list c.args.steps.now c.loop-turn.steps c.loop-turn.invariant (omega (arith, n, e, c.loop-turn-test.false))
+
+pub returns-then-not-some_change-clause-items : goal.returns-then-not-some_change-clause-items
+returns-then-not-some_change-clause-items g c =
+    let none = none_change c.args.system.now.matrix c.args.full c.args.system.now.bots c.args.commands.now (sym c.some_change.ensures ∙ c.if-not-some_change.true) in
+    sym (append-nil c.args.list.now.items) ∙ ap (λ cs. c.args.list.now.items ++ cs) (sym none)

@@ -1,8 +1,5 @@
-use Rattle.std.proofs.Common.{sym, subst, true, false}
-use Rattle.nano_spec.specs.Matrix.{Matrix}
-use Rattle.nano_spec.specs.Work.{Levels}
-use Rattle.step_machine.proofs.Refitting.{between_them, edits_some, may_gain, may_lose, refitted}
-use Rattle.step_machine.proofs.Working.{refit_touches}
+use Rattle.std.proofs.Common.{true, false}
+use Rattle.step_machine.proofs.Refitting.{edits_some, is_refitted, may_gain, may_lose}
 use Rattle.step_machine.proofs.support.refit_cells.Goals as goal
 
 pub remove-requires-clause-cells : goal.remove-requires-clause-cells
@@ -17,19 +14,11 @@ pub returns-in-Err-clause-edits : goal.returns-in-Err-clause-edits
 returns-in-Err-clause-edits g c =
     edits_some c.args.system.now c.args.commands.now c.requires.judged.0 c.crew.ensures.ready c.requires.judged.1 true c.args.removed.now c.requires.removed c.in-Err.ensures.some
 
-pub returns-in-Ok-add-clause-value : goal.returns-in-Ok-add-clause-value
-returns-in-Ok-add-clause-value g c =
-    refitted c.args.system.now c.args.commands.now c.requires.judged.0 c.crew.ensures.ready c.requires.judged.1 c.args.forest.now.matrix c.remove.new.forest.matrix c.args.removed.now c.args.added.now c.requires.tied c.requires.removed c.requires.added c.in-Ok.ensures.value c.add.new.forest.matrix c.in-Ok-add.ensures.value
-
 pub returns-in-Err-add-clause-edits : goal.returns-in-Err-add-clause-edits
 returns-in-Err-add-clause-edits g c =
     edits_some c.args.system.now c.args.commands.now c.requires.judged.0 c.crew.ensures.ready c.requires.judged.1 false c.args.added.now c.requires.added c.in-Err-add.ensures.some
 
-pub returns-in-Ok-add-clause-touches : goal.returns-in-Ok-add-clause-touches
-returns-in-Ok-add-clause-touches g c = λ before n listed w.
-    let between = between_them c.args.system.now c.args.commands.now c.requires.judged.0 c.crew.ensures.ready c.requires.judged.1 c.args.forest.now.matrix c.remove.new.forest.matrix c.args.removed.now c.args.added.now c.requires.tied c.requires.removed c.requires.added c.in-Ok.ensures.value in
-    refit_touches c.args.system.now c.args.commands.now c.requires.judged.0 c.crew.ensures.ready c.requires.judged.1 c.remove.new.forest.matrix c.add.new.forest.matrix c.args.removed.now c.args.added.now before c.args.steps.now c.remove.new.steps c.add.new.steps n between
-    (refitted c.args.system.now c.args.commands.now c.requires.judged.0 c.crew.ensures.ready c.requires.judged.1 c.args.forest.now.matrix c.remove.new.forest.matrix c.args.removed.now c.args.added.now c.requires.tied c.requires.removed c.requires.added c.in-Ok.ensures.value c.add.new.forest.matrix c.in-Ok-add.ensures.value)
-    c.requires.removed c.requires.added listed
-    (λ first last f l. c.in-Ok.ensures.touches first last (subst (λ (m : Matrix). Levels m first) (sym c.requires.tied) f) l)
-    c.in-Ok-add.ensures.touches w
+pub returns-in-Ok-add-clause-refitted : goal.returns-in-Ok-add-clause-refitted
+returns-in-Ok-add-clause-refitted g c = λ before listed.
+    is_refitted c.args.system.now c.args.commands.now c.requires.judged.0 c.crew.ensures.ready c.requires.judged.1 c.args.forest.now.matrix c.remove.new.forest.matrix c.add.new.forest c.args.removed.now c.args.added.now before c.args.steps.now c.remove.new.steps c.add.new.steps
+    c.requires.tied c.requires.removed c.requires.added listed c.in-Ok.ensures.value c.in-Ok.ensures.touches c.in-Ok-add.ensures.value c.in-Ok-add.ensures.touches c.in-Ok-add.ensures.stands
