@@ -20,14 +20,14 @@ use Rattle.support_forest.proofs.Settling.{same_or_not}
 
 -- ---- lists
 
-no_member : (xs : List Coord) (c : Coord) → xs ≡ [] → Contains xs c → ⊥
+pub no_member : (xs : List Coord) (c : Coord) → xs ≡ [] → Contains xs c → ⊥
 no_member xs c e h = let l : h.0 < length xs = h.1 in let z : length xs ≡ 0 = ap length e in omega arith
 
-none_differ : (xs : List Coord) → xs ≡ [] → AllPairs ◌≢◌ xs
+pub none_differ : (xs : List Coord) → xs ≡ [] → AllPairs ◌≢◌ xs
 none_differ xs e i j d l k = let z : length xs ≡ 0 = ap length e in absurd (omega arith)
 
 -- what differs from all that is listed may be listed too
-differ_more : (xs : List Coord) (c : Coord) → AllPairs ◌≢◌ xs → ((d : Coord) → Contains xs d → d ≡ c → ⊥) → AllPairs ◌≢◌ (xs ++ c ∷ [])
+pub differ_more : (xs : List Coord) (c : Coord) → AllPairs ◌≢◌ xs → ((d : Coord) → Contains xs d → d ≡ c → ⊥) → AllPairs ◌≢◌ (xs ++ c ∷ [])
 differ_more xs c h n i j d l k e =
     let whole : length (xs ++ c ∷ []) ≡ length xs + 1 = length-append xs (c ∷ []) in
     let before : slice_index_or (xs ++ c ∷ []) i d ≡ slice_index_or xs i d = get_or_append_left xs (c ∷ []) d i (omega arith) in

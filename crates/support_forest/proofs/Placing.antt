@@ -99,13 +99,13 @@ not_beside d a b e h = apart (ap (λ (c : Coord). c.x) e) (ap (λ (c : Coord). c
     apart x y z (inr (inr (inr (inr (inr k))))) = omega arith
 
 -- what the neighbours allow the voxel's word to be
-record Fits (r : ℕ) (w : Coord → ℕ) (c : Coord) (word : ℕ) : Type 0 where
-  some : 0 < word
-  form : word < 8 → word ≤ 1
-  floor : c.y ≡ 0 → word ≡ 8
-  parent : 8 ≤ word → ((word ≡ 8) × (c.y ≡ 0)) ⊎ ((q : Coord) × Toward (word % 8) c q × (8 ≤ w q) × (height w q + 1 ≡ word / 8))
-  above : (b : Coord) → 8 ≤ w b → AreBeside c b → (8 ≤ word) × (word / 8 ≤ height w b + 1)
-  below : (a : Coord) → 0 < w a → 8 ≤ word → AreBeside a c → (8 ≤ w a) × (height w a ≤ word / 8 + 1)
+pub record Fits (r : ℕ) (w : Coord → ℕ) (c : Coord) (word : ℕ) : Type 0 where
+  pub some : 0 < word
+  pub form : word < 8 → word ≤ 1
+  pub floor : c.y ≡ 0 → word ≡ 8
+  pub parent : 8 ≤ word → ((word ≡ 8) × (c.y ≡ 0)) ⊎ ((q : Coord) × Toward (word % 8) c q × (8 ≤ w q) × (height w q + 1 ≡ word / 8))
+  pub above : (b : Coord) → 8 ≤ w b → AreBeside c b → (8 ≤ word) × (word / 8 ≤ height w b + 1)
+  pub below : (a : Coord) → 0 < w a → 8 ≤ word → AreBeside a c → (8 ≤ w a) × (height w a ≤ word / 8 + 1)
 
 exact_with : (r : ℕ) (w v : Coord → ℕ) (c : Coord) (word : ℕ) → AreExact r w → IsInSpace r c → w c ≡ 0 → Fits r w c word → IsWritten w v c word → AreExact r v
 exact_with r w v c word e s z f k = record {
@@ -254,7 +254,7 @@ around_none w c a h t = record {
 
 -- ---- the voxel is full
 
-placed_with : (old new : Grid) (c : Coord) (word before mid after : ℕ) → AreExact old.resolution (word_at old) → IsInSpace old.resolution c → word_at old c ≡ 0 → Fits old.resolution (word_at old) c word → IsWritten (word_at old) (word_at new) c word → new.resolution ≡ old.resolution → mid ≤ before + 6 → after ≡ mid + 1 → HavePlaced old new c before after
+pub placed_with : (old new : Grid) (c : Coord) (word before mid after : ℕ) → AreExact old.resolution (word_at old) → IsInSpace old.resolution c → word_at old c ≡ 0 → Fits old.resolution (word_at old) c word → IsWritten (word_at old) (word_at new) c word → new.resolution ≡ old.resolution → mid ≤ before + 6 → after ≡ mid + 1 → HavePlaced old new c before after
 placed_with old new c word before mid after e s z f k r m t = record {
   resolution = r;
   exact = subst (λ (n : ℕ). AreExact n (word_at new)) (sym r) (exact_with old.resolution (word_at old) (word_at new) c word e s z f k);

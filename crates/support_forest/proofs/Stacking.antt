@@ -1,0 +1,360 @@
+-- Voxels of a heap, and the full voxels of a matrix that are stacked or listed one after another.
+use Rattle.std.proofs.Common.{◌≡◌, ℕ, zero, suc, ◌+◌, ◌-◌, ◌*◌, ◌/◌, ◌%◌, ◌^◌, ◌<◌, ◌≤◌, ◌⊎◌, inl, inr, refl, sym, ◌∙◌, ap, subst, arith, Bool, true, false, List, [], ◌∷◌, ◌++◌, length, length-append, Option, Some, ext_get_or}
+use Rattle.std.specs.Prelude.{◌==◌, IsTrue, IsFalse, nat_lt}
+use Rattle.std.specs.List.{Contains}
+use Rattle.std.proofs.Math.Nat.{div-add-mod, div-div-eq-div-mul}
+use Rattle.std.proofs.lemmas.Bool.{cases_lt, false≢true}
+use Rattle.std.proofs.lemmas.Bool.Decides.{nat_tests}
+use Rattle.std.proofs.lemmas.List.Elements.{Contains-append_left, Contains-push, Contains-push_cases}
+use Rattle.std.proofs.lemmas.Nat.{pow-add}
+use Rattle.vox_geom.specs.declared.coordinate.Coord.{Coord}
+use Rattle.vox_geom.specs.Space.{IsInSpace, place, coordinate_at}
+use Rattle.vox_geom.proofs.Firsts.{at_in_space}
+use Rattle.vox_geom.proofs.Places.{coordinate_at-place, place-coordinate_at}
+use Rattle.nano_spec.specs.Matrix.{Matrix, matrix_where}
+use Rattle.nano_spec.specs.Model.{volume}
+use Rattle.vox_planes.specs.Places.{voxel_at}
+use Rattle.vox_planes.specs.Voxel.{IsWhole}
+use Rattle.vox_planes.proofs.Voxels.{get_or-where, length-where}
+use Rattle.support_forest.specs.Directions.{Toward}
+use Rattle.support_forest.specs.Grid.{Grid, brick, brick_number, slot_at, slot_of, word_at}
+use Rattle.support_forest.specs.Heap.{AreBits, AreSlots, CanStack, HaveStacked, IsHeap, IsHeaped, IsSeen, under}
+use Rattle.support_forest.specs.Standing.{matrix_of}
+use Rattle.support_forest.specs.Waiting.{CanAdd, HaveAdded}
+use Rattle.support_forest.specs.Words.{height, AreExact, IsWritten}
+use Rattle.support_forest.proofs.Counts.{changed_most}
+use Rattle.support_forest.proofs.Each.{differ_more, no_member, none_differ}
+use Rattle.support_forest.proofs.Nearby.{same_slot}
+use Rattle.support_forest.proofs.Placing.{Fits, placed_with}
+use Rattle.support_forest.proofs.Settling.{same_or_not}
+
+-- ---- one voxel more in a heap
+
+-- neighbours lie at most one level apart
+near_level : (d : ℕ) (a b : Coord) → Toward d a b → (a.y ≤ b.y + 1) × (b.y ≤ a.y + 1)
+unfolding Toward
+near_level d a b (inl h) = (omega arith, omega arith)
+near_level d a b (inr (inl h)) = (omega arith, omega arith)
+near_level d a b (inr (inr (inl h))) = (omega arith, omega arith)
+near_level d a b (inr (inr (inr (inl h)))) = (omega arith, omega arith)
+near_level d a b (inr (inr (inr (inr (inl h))))) = (omega arith, omega arith)
+near_level d a b (inr (inr (inr (inr (inr h))))) = (omega arith, omega arith)
+
+-- the neighbours in a heap allow the word that has the level of y
+fits_level : (r : ℕ) (w : Coord → ℕ) (c : Coord) (word : ℕ) → IsHeap w → word / 8 ≡ c.y + 1 → (c.y ≡ 0 → word ≡ 8) →
+    ((word ≡ 8) × (c.y ≡ 0)) ⊎ ((q : Coord) × Toward (word % 8) c q × (8 ≤ w q) × (height w q + 1 ≡ word / 8)) → Fits r w c word
+fits_level r w c word h level floor parent = record {
+  some = omega arith;
+  form = λ k. omega arith;
+  floor = floor;
+  parent = λ k. parent;
+  above = λ b k n.
+      let l : height w b ≡ b.y + 1 = h b (omega arith) in
+      let y = near_level n.direction c b n.toward in
+      (omega arith, omega (arith, y.0));
+  below = λ a k m n.
+      let l : height w a ≡ a.y + 1 = h a k in
+      let y = near_level n.direction a c n.toward in
+      (omega arith, omega (arith, y.0));
+}
+
+heap_with : (w v : Coord → ℕ) (c : Coord) (word : ℕ) → IsHeap w → word / 8 ≡ c.y + 1 → IsWritten w v c word → IsHeap v
+heap_with w v c word h level k d g = elim (same_or_not d c) [
+  | inl m ↦ let n : v d ≡ word = ap v m ∙ k.here in let y : d.y ≡ c.y = ap (λ (x : Coord). x.y) m in omega arith
+  | inr m ↦ let n = k.kept d m in let l : height w d ≡ d.y + 1 = h d (omega arith) in omega arith
+]
+
+stacked_with : (old new : Grid) (c : Coord) (word before mid after : ℕ) → CanStack old c → Fits old.resolution (word_at old) c word → word / 8 ≡ c.y + 1 → IsWritten (word_at old) (word_at new) c word →
+    new.resolution ≡ old.resolution → new.table ≡ old.table → mid ≤ before + 6 → after ≡ mid + 1 → HaveStacked old new c before after
+stacked_with old new c word before mid after s f level k r t m a = record {
+  placed = placed_with old new c word before mid after s.exact s.within s.void f k r m a;
+  heap = heap_with (word_at old) (word_at new) c word s.heap level k;
+  slots = t;
+}
+
+pub stacked_on_floor : (old new : Grid) (c : Coord) (before after : ℕ) → CanStack old c → c.y ≡ 0 → IsWritten (word_at old) (word_at new) c 8 →
+    new.resolution ≡ old.resolution → new.table ≡ old.table → after ≡ before + 1 → HaveStacked old new c before after
+stacked_on_floor old new c before after s y k r t a =
+    stacked_with old new c 8 before before after s (fits_level old.resolution (word_at old) c 8 s.heap (omega arith) (λ _. refl) (inl (refl, y))) (omega arith) k r t (omega arith) a
+
+toward_under : (c : Coord) → (c.y ≡ 0 → ⊥) → Toward 3 c (under c)
+unfolding Toward
+toward_under c n = let p : 0 < c.y = elim (cases_lt 0 c.y) [ inl l ↦ l | inr l ↦ absurd (n (omega arith)) ] in inr (inr (inl (refl, refl, omega arith, refl)))
+
+pub stacked_on_another : (old new : Grid) (c : Coord) (before mid after : ℕ) → CanStack old c → (c.y ≡ 0 → ⊥) → (word_at old (under c) ≡ 0 → ⊥) → IsWritten (word_at old) (word_at new) c (8 * c.y + 11) →
+    new.resolution ≡ old.resolution → new.table ≡ old.table → mid ≤ before + 1 → after ≡ mid + 1 → HaveStacked old new c before after
+stacked_on_another old new c before mid after s n f k r t m a =
+    let full : 0 < word_at old (under c) = elim (cases_lt 0 (word_at old (under c))) [ inl l ↦ l | inr l ↦ absurd (f (omega arith)) ] in
+    let level : height (word_at old) (under c) ≡ c.y - 1 + 1 = s.heap (under c) full in
+    let above : 0 < c.y = elim (cases_lt 0 c.y) [ inl l ↦ l | inr l ↦ absurd (n (omega arith)) ] in
+    let digit : 3 ≡ (8 * c.y + 11) % 8 = omega arith in
+    stacked_with old new c (8 * c.y + 11) before mid after s
+    (fits_level old.resolution (word_at old) c (8 * c.y + 11) s.heap (omega arith) (λ y. absurd (n y)) (inr (under c, subst (λ (j : ℕ). Toward j c (under c)) digit (toward_under c n), omega arith, omega arith)))
+    (omega arith) k r t (omega arith) a
+
+-- ---- slots in hand
+
+slot_kept : (old new : Grid) (c : Coord) → new.table ≡ old.table → new.resolution ≡ old.resolution → slot_of new c ≡ slot_of old c
+slot_kept old new c t r = λ i. slot_at (t i) (brick_number (r i) c)
+
+pub slots_kept : (old new : Grid) (c : Coord) (own : ℕ) (below : Option ℕ) → new.table ≡ old.table → new.resolution ≡ old.resolution → AreSlots old c own below → AreSlots new c own below
+slots_kept old new c own below t r s = record { here = slot_kept old new c t r ∙ s.here; there = λ y. s.there y ∙ sym (slot_kept old new (under c) t r) }
+
+pub slots_along : (g : Grid) (c : Coord) (z own : ℕ) (below : Option ℕ) → z / 8 ≡ c.z / 8 → AreSlots g c own below → AreSlots g (record { x = c.x; y = c.y; z = z }) own below
+slots_along g c z own below e s =
+    let d : Coord = record { x = c.x; y = c.y; z = z } in
+    let here : brick d ≡ brick c = λ i. record { x = c.x / 8; y = c.y / 8; z = e i } in
+    let there : brick (under d) ≡ brick (under c) = λ i. record { x = c.x / 8; y = (c.y - 1) / 8; z = e i } in
+    record {
+      here = sym (same_slot g c d (Some own) here (sym s.here));
+      there = λ y. same_slot g (under c) (under d) below there (s.there y);
+    }
+
+-- ---- bits
+
+even_bit : (n : ℕ) → n % 2 ≡ 0 → (n % 2 == 1) ≡ false
+even_bit n h = grind (arith, nat_tests)
+
+odd_bit : (n : ℕ) → (n % 2 ≡ 0 → ⊥) → (n % 2 == 1) ≡ true
+odd_bit n h = let e : n % 2 ≡ 1 = elim (cases_lt 0 (n % 2)) [ inl l ↦ omega arith | inr l ↦ absurd (h (omega arith)) ] in grind (arith, nat_tests)
+
+pub void_bit : (m : Matrix) (from count bits k : ℕ) → AreBits m from count bits → k < count → bits / 2 ^ k % 2 ≡ 0 → IsFalse (voxel_at m (from + k))
+void_bit m from count bits k b l h = sym (b k l) ∙ even_bit (bits / 2 ^ k) h
+
+pub full_bit : (m : Matrix) (from count bits k : ℕ) → AreBits m from count bits → k < count → (bits / 2 ^ k % 2 ≡ 0 → ⊥) → IsTrue (voxel_at m (from + k))
+full_bit m from count bits k b l h = sym (b k l) ∙ odd_bit (bits / 2 ^ k) h
+
+zero_bit : (n k : ℕ) → n % 256 ≡ 0 → k < 8 → n / 2 ^ k % 2 ≡ 0
+zero_bit n zero z l = omega arith
+zero_bit n (suc zero) z l = omega arith
+zero_bit n (suc (suc zero)) z l = omega arith
+zero_bit n (suc (suc (suc zero))) z l = omega arith
+zero_bit n (suc (suc (suc (suc zero)))) z l = omega arith
+zero_bit n (suc (suc (suc (suc (suc zero))))) z l = omega arith
+zero_bit n (suc (suc (suc (suc (suc (suc zero)))))) z l = omega arith
+zero_bit n (suc (suc (suc (suc (suc (suc (suc zero))))))) z l = omega arith
+zero_bit n (suc (suc (suc (suc (suc (suc (suc (suc k)))))))) z l = absurd (omega arith)
+
+pub bits_from : (m : Matrix) (from count bits k part place : ℕ) → AreBits m from count bits → k + part ≤ count → place ≡ from + k → AreBits m place part (bits / 2 ^ k)
+bits_from m from count bits k part place b l e j h =
+    let on : from + (k + j) ≡ place + j = omega arith in
+    ap (λ v. v % 2 == 1) (div-div-eq-div-mul bits (2 ^ k) (2 ^ j) ∙ ap (λ v. bits / v) (sym (pow-add 2 k j)))
+    ∙ (b (k + j) (omega arith) ∙ ap (voxel_at m) on)
+
+-- ---- the voxels before a place
+
+same_place : (r : ℕ) (c d : Coord) → IsInSpace r c → IsInSpace r d → place r c ≡ place r d → c ≡ d
+same_place r c d i j e = sym (coordinate_at-place r c i) ∙ (ap (coordinate_at r) e ∙ coordinate_at-place r d j)
+
+contrary : (b : Bool) → IsFalse b → IsTrue b → ⊥
+contrary b h k = false≢true (sym h ∙ k)
+
+later_seen : (m : Matrix) (p q : ℕ) (c : Coord) → p ≤ q → IsSeen m p c → IsSeen m q c
+later_seen m p q c l s = record { within = s.within; full = s.full; before = omega (arith, s.before) }
+
+pub heaped_none : (m : Matrix) (g : Grid) (rest : List Coord) → g.resolution ≡ m.resolution → AreExact g.resolution (word_at g) → ((c : Coord) → word_at g c ≡ 0) → rest ≡ [] → IsHeaped m g 0 rest
+heaped_none m g rest r x z e = record {
+  resolution = r;
+  exact = x;
+  heap = λ c k. let o = z c in absurd (omega arith);
+  seen = λ c k. let o = z c in absurd (omega arith);
+  done = λ c s. let l : place m.resolution c < 0 = s.before in absurd (omega arith);
+  listed = λ c k. absurd (no_member rest c e k);
+  differ = none_differ rest e;
+  few = let n : length rest ≡ 0 = ap length e in omega arith;
+}
+
+pub heaped_same : (m : Matrix) (old new : Grid) (p : ℕ) (rest : List Coord) → new.resolution ≡ old.resolution → ((c : Coord) → word_at new c ≡ word_at old c) → IsHeaped m old p rest → IsHeaped m new p rest
+heaped_same m old new p rest r e h =
+    let s : word_at old ≡ word_at new = sym (λ i c. e c i) in
+    record {
+      resolution = r ∙ h.resolution;
+      exact = subst (λ (n : ℕ). AreExact n (word_at new)) (sym r) (subst (λ (w : Coord → ℕ). AreExact old.resolution w) s h.exact);
+      heap = subst (λ (w : Coord → ℕ). IsHeap w) s h.heap;
+      seen = λ c k. h.seen c (let o = e c in omega arith);
+      done = λ c k. elim (h.done c k) [ inl f ↦ let o = e c in inl (omega arith) | inr f ↦ inr f ];
+      listed = λ c k. let o = h.listed c k in (o.0, e c ∙ o.1);
+      differ = h.differ;
+      few = h.few;
+    }
+
+pub heaped_at : (m : Matrix) (g : Grid) (p q : ℕ) (rest : List Coord) → p ≡ q → IsHeaped m g p rest → IsHeaped m g q rest
+heaped_at m g p q rest e h = subst (λ (n : ℕ). IsHeaped m g n rest) e h
+
+-- voids change nothing
+pub heaped_void : (m : Matrix) (g : Grid) (p q : ℕ) (rest : List Coord) → p ≤ q → ((j : ℕ) → p ≤ j → j < q → IsFalse (voxel_at m j)) → IsHeaped m g p rest → IsHeaped m g q rest
+heaped_void m g p q rest l void h = record {
+  resolution = h.resolution;
+  exact = h.exact;
+  heap = h.heap;
+  seen = λ c k. later_seen m p q c l (h.seen c k);
+  done = λ c s. elim (cases_lt (place m.resolution c) p) [
+    | inl b ↦ h.done c (record { within = s.within; full = s.full; before = b })
+    | inr b ↦ absurd (contrary (voxel_at m (place m.resolution c)) (void (place m.resolution c) b s.before) s.full)
+  ];
+  listed = λ c k. let o = h.listed c k in (later_seen m p q c l o.0, o.1);
+  differ = h.differ;
+  few = omega (arith, h.few);
+}
+
+pub heaped_blank : (m : Matrix) (g : Grid) (p count bits : ℕ) (rest : List Coord) → AreBits m p count bits → count ≤ 8 → bits % 256 ≡ 0 → IsHeaped m g p rest → IsHeaped m g (p + count) rest
+heaped_blank m g p count bits rest b few z h = heaped_void m g p (p + count) rest (omega arith) void h
+  where
+    void : (j : ℕ) → p ≤ j → j < p + count → IsFalse (voxel_at m j)
+    void j l k =
+        let on : p + (j - p) ≡ j = omega arith in
+        sym (ap (voxel_at m) on) ∙ void_bit m p count bits (j - p) b (omega arith) (zero_bit bits (j - p) z (omega arith))
+
+pub heaped_bit : (m : Matrix) (g : Grid) (p k count bits : ℕ) (rest : List Coord) → AreBits m p count bits → k < count → bits / 2 ^ k % 2 ≡ 0 → IsHeaped m g (p + k) rest → IsHeaped m g (p + (k + 1)) rest
+heaped_bit m g p k count bits rest b l z h = heaped_void m g (p + k) (p + (k + 1)) rest (omega arith) (λ j i n. let on : p + k ≡ j = omega arith in sym (ap (voxel_at m) on) ∙ void_bit m p count bits k b l z) h
+
+module _ (m : Matrix) (old : Grid) (p : ℕ) (rest : List Coord) (c : Coord) (h : IsHeaped m old p rest) (within : IsInSpace m.resolution c) (here : place m.resolution c ≡ p) where
+  can_stack : CanStack old c
+  can_stack = record {
+    exact = h.exact;
+    heap = h.heap;
+    within = subst (λ (r : ℕ). IsInSpace r c) (sym h.resolution) within;
+    void = elim (cases_lt 0 (word_at old c)) [ inl f ↦ let b = (h.seen c f).before in absurd (omega (arith, b)) | inr f ↦ omega arith ];
+  }
+
+  not_here : (d : Coord) → IsSeen m p d → d ≡ c → ⊥
+  not_here d s e = let b = s.before in let k : place m.resolution d ≡ place m.resolution c = ap (place m.resolution) e in omega (arith, b)
+
+  earlier : (d : Coord) → (d ≡ c → ⊥) → IsSeen m (p + 1) d → IsSeen m p d
+  earlier d n s = elim (cases_lt (place m.resolution d) p) [
+    | inl b ↦ record { within = s.within; full = s.full; before = b }
+    | inr b ↦ let k = s.before in absurd (n (same_place m.resolution d c s.within within (omega (arith, k))))
+  ]
+
+  module _ (full : IsTrue (voxel_at m p)) where
+    seen_here : IsSeen m (p + 1) c
+    seen_here = record { within = within; full = subst (λ (n : ℕ). IsTrue (voxel_at m n)) (sym here) full; before = omega arith }
+
+    heaped_stacked : (new : Grid) (before after : ℕ) → HaveStacked old new c before after → IsHeaped m new (p + 1) rest
+    heaped_stacked new before after s = record {
+      resolution = s.placed.resolution ∙ h.resolution;
+      exact = s.placed.exact;
+      heap = s.heap;
+      seen = λ d k. elim (same_or_not d c) [
+        | inl e ↦ subst (λ (x : Coord). IsSeen m (p + 1) x) (sym e) seen_here
+        | inr n ↦ let o = s.placed.kept d n in later_seen m p (p + 1) d (omega arith) (h.seen d (omega arith))
+      ];
+      done = λ d k. elim (same_or_not d c) [
+        | inl e ↦ inl (subst (λ (x : Coord). 0 < word_at new x) (sym e) s.placed.full)
+        | inr n ↦ let o = s.placed.kept d n in elim (h.done d (earlier d n k)) [ inl f ↦ inl (omega arith) | inr f ↦ inr f ]
+      ];
+      listed = λ d k. let o = h.listed d k in (later_seen m p (p + 1) d (omega arith) o.0, s.placed.kept d (not_here d o.0) ∙ o.1);
+      differ = h.differ;
+      few = omega (arith, h.few);
+    }
+
+    heaped_more : IsHeaped m old (p + 1) (rest ++ c ∷ [])
+    heaped_more = record {
+      resolution = h.resolution;
+      exact = h.exact;
+      heap = h.heap;
+      seen = λ d k. later_seen m p (p + 1) d (omega arith) (h.seen d k);
+      done = λ d k. elim (same_or_not d c) [
+        | inl e ↦ inr (subst (λ (x : Coord). Contains (rest ++ c ∷ []) x) (sym e) (Contains-push rest c))
+        | inr n ↦ elim (h.done d (earlier d n k)) [ inl f ↦ inl f | inr f ↦ inr (Contains-append_left rest (c ∷ []) d f) ]
+      ];
+      listed = λ d k. elim (Contains-push_cases rest c d k) [
+        | inl o ↦ let q = h.listed d o in (later_seen m p (p + 1) d (omega arith) q.0, q.1)
+        | inr o ↦ subst (λ (x : Coord). IsSeen m (p + 1) x × (word_at old x ≡ 0)) o (seen_here, (can_stack).void)
+      ];
+      differ = differ_more rest c h.differ (λ d k e. not_here d (h.listed d k).0 e);
+      few = let n : length (rest ++ c ∷ []) ≡ length rest + 1 = length-append rest (c ∷ []) in omega (arith, h.few);
+    }
+
+    heaped_listed : (new : Grid) (more : List Coord) → new ≡ old → more ≡ rest ++ c ∷ [] → IsHeaped m new (p + 1) more
+    heaped_listed new more e f = subst (λ (g : Grid). IsHeaped m g (p + 1) more) (sym e) (subst (λ (xs : List Coord). IsHeaped m old (p + 1) xs) (sym f) heaped_more)
+
+-- the voxel so many places on in a row
+abbrev along : Coord → ℕ → Coord
+along c k = record { x = c.x; y = c.y; z = c.z + k }
+
+module _ (m : Matrix) (old : Grid) (first : Coord) (k : ℕ) (rest : List Coord) (h : IsHeaped m old (place m.resolution first + k) rest) (within : IsInSpace m.resolution first) (row : first.z + k < m.resolution) where
+  within_row : IsInSpace m.resolution (along first k)
+  within_row = record { x = within.x; y = within.y; z = row }
+
+  pub can_stack_along : CanStack old (along first k)
+  can_stack_along = can_stack m old (place m.resolution first + k) rest (along first k) h within_row (omega arith)
+
+  module _ (full : IsTrue (voxel_at m (place m.resolution first + k))) (new : Grid) where
+    pub stacked_along : (before after : ℕ) → HaveStacked old new (along first k) before after → IsHeaped m new (place m.resolution first + (k + 1)) rest
+    stacked_along before after s =
+        heaped_at m new (place m.resolution first + k + 1) (place m.resolution first + (k + 1)) rest (omega arith)
+        (heaped_stacked m old (place m.resolution first + k) rest (along first k) h within_row (omega arith) full new before after s)
+
+    pub listed_along : (more : List Coord) → new ≡ old → more ≡ rest ++ along first k ∷ [] → IsHeaped m new (place m.resolution first + (k + 1)) more
+    listed_along more e f =
+        heaped_at m new (place m.resolution first + k + 1) (place m.resolution first + (k + 1)) more (omega arith)
+        (heaped_listed m old (place m.resolution first + k) rest (along first k) h within_row (omega arith) full new more e f)
+
+-- ---- the whole matrix
+
+pub can_add_rest : (m : Matrix) (g : Grid) (p : ℕ) (rest : List Coord) → IsHeaped m g p rest → CanAdd g rest
+can_add_rest m g p rest h = record {
+  differ = h.differ;
+  exact = h.exact;
+  space = λ c k. subst (λ (r : ℕ). IsInSpace r c) (sym h.resolution) (h.listed c k).0.within;
+  void = λ c k. (h.listed c k).1;
+}
+
+-- the place where a row begins, by its number
+pub row_place : (row side r : ℕ) → side ≡ r → row * r ≡ (row / side * r + row % side) * r
+row_place row side r e =
+    let whole : row ≡ row / r * r + row % r = omega (arith, div-add-mod row r) in
+    ap (λ v. v * r) whole ∙ sym (ap (λ n. (row / n * r + row % n) * r) e)
+
+same_bool : (a b : Bool) → (IsTrue a → IsTrue b) → (IsTrue b → IsTrue a) → a ≡ b
+same_bool true b f g = sym (f refl)
+same_bool false true f g = g refl
+same_bool false false f g = refl
+
+positive : (n : ℕ) → IsTrue (nat_lt 0 n) → 0 < n
+positive n h = grind (arith, nat_tests)
+
+is_positive : (n : ℕ) → 0 < n → IsTrue (nat_lt 0 n)
+is_positive n h = grind (arith, nat_tests)
+
+module _ (m : Matrix) (mid new : Grid) (rest : List Coord) (before after : ℕ) (whole : IsWhole m) (h : IsHeaped m mid (volume m.resolution) rest) (a : HaveAdded mid new rest 20 before after) where
+  r : ℕ
+  r = m.resolution
+
+  voxel : (k : ℕ) → k < m.resolution * m.resolution * m.resolution → nat_lt 0 (word_at new (coordinate_at m.resolution k)) ≡ voxel_at m k
+  voxel k l = same_bool (nat_lt 0 (word_at new c)) (voxel_at m k) (λ t. by (a.full c (positive (word_at new c) t))) (λ t. is_positive (word_at new c) (back (h.done c (seen t))))
+    where
+      c : Coord
+      c = coordinate_at m.resolution k
+
+      at : place m.resolution (coordinate_at m.resolution k) ≡ k
+      at = place-coordinate_at m.resolution k
+
+      of_seen : IsSeen m (volume m.resolution) (coordinate_at m.resolution k) → IsTrue (voxel_at m k)
+      of_seen s = subst (λ (n : ℕ). IsTrue (voxel_at m n)) at s.full
+
+      by : (0 < word_at mid (coordinate_at m.resolution k)) ⊎ Contains rest (coordinate_at m.resolution k) → IsTrue (voxel_at m k)
+      by (inl f) = of_seen (h.seen (coordinate_at m.resolution k) f)
+      by (inr f) = of_seen (h.listed (coordinate_at m.resolution k) f).0
+
+      seen : IsTrue (voxel_at m k) → IsSeen m (volume m.resolution) (coordinate_at m.resolution k)
+      seen t = record { within = at_in_space m.resolution k l; full = subst (λ (n : ℕ). IsTrue (voxel_at m n)) (sym at) t; before = omega (arith, at) }
+
+      back : (0 < word_at mid (coordinate_at m.resolution k)) ⊎ Contains rest (coordinate_at m.resolution k) → 0 < word_at new (coordinate_at m.resolution k)
+      back (inl f) = a.kept (coordinate_at m.resolution k) f
+      back (inr f) = a.added (coordinate_at m.resolution k) f
+
+  pub matrix_is : matrix_of new ≡ m
+  unfolding matrix_of
+  matrix_is =
+      let test : Coord → Bool = λ c. nat_lt 0 (word_at new c) in
+      let same : (matrix_where m.resolution test).voxels ≡ m.voxels = ext_get_or false (matrix_where m.resolution test).voxels m.voxels (length-where m.resolution test ∙ sym whole.voxels)
+      (λ k l. let i : k < m.resolution * m.resolution * m.resolution = subst (λ (n : ℕ). k < n) (length-where m.resolution test) l in get_or-where m.resolution test k i ∙ voxel k i) in
+      ap (λ (n : ℕ). matrix_where n test) (a.resolution ∙ h.resolution) ∙ (λ i. record { resolution = m.resolution; voxels = same i })
+
+  pub touches_are : (start : ℕ) → before ≤ start + 8 * volume m.resolution → after ≤ start + 91 * volume m.resolution
+  touches_are start b =
+      let few = changed_most mid.resolution (word_at mid) (word_at new) in
+      let side : mid.resolution * mid.resolution * mid.resolution ≡ volume m.resolution = ap volume h.resolution in
+      omega (arith, b, few, side, h.few, a.cost)

@@ -1,0 +1,58 @@
+-- Voxels of a whole matrix that have the level of their y: they stand on the floor or on one another.
+use Rattle.std.specs.Prelude.{◌≡◌, ◌≢◌, ℕ, ◌+◌, ◌-◌, ◌<◌, ◌≤◌, ◌⊎◌, Option, Some, List, length, IsTrue}
+use Rattle.std.specs.List.{AllPairs, Contains}
+use Rattle.vox_geom.specs.declared.coordinate.Coord.{Coord}
+use Rattle.vox_geom.specs.Space.{IsInSpace, place}
+use Rattle.nano_spec.specs.Matrix.{Matrix}
+use Rattle.nano_spec.specs.Model.{bit}
+use Rattle.vox_planes.specs.Places.{voxel_at}
+use Rattle.support_forest.specs.Grid.{Grid, slot_of, word_at}
+use Rattle.support_forest.specs.Placing.{HavePlaced}
+use Rattle.support_forest.specs.Words.{height, AreExact}
+
+-- each full voxel has the level of its y
+abbrev pub IsHeap : (Coord → ℕ) → Type 0
+IsHeap w = (c : Coord) → 0 < w c → height w c ≡ c.y + 1
+
+-- the coordinate under another, which is not on the floor
+abbrev pub under : Coord → Coord
+under c = record { x = c.x; y = c.y - 1; z = c.z }
+
+-- the words are those of a heap, and the voxel is void
+pub record CanStack (g : Grid) (c : Coord) : Type 0 where
+  pub exact : AreExact g.resolution (word_at g)
+  pub heap : IsHeap (word_at g)
+  pub within : IsInSpace g.resolution c
+  pub void : word_at g c ≡ 0
+
+-- the slot of a voxel's brick, and that of the brick of the voxel under it
+pub record AreSlots (g : Grid) (c : Coord) (own : ℕ) (below : Option ℕ) : Type 0 where
+  pub here : slot_of g c ≡ Some own
+  pub there : 0 < c.y → below ≡ slot_of g (under c)
+
+-- the voxel became full and is one of the heap
+pub record HaveStacked (old new : Grid) (c : Coord) (before after : ℕ) : Type 0 where
+  pub placed : HavePlaced old new c before after
+  pub heap : IsHeap (word_at new)
+  pub slots : new.table ≡ old.table
+
+-- the voxel is full, and comes before a place
+pub record IsSeen (m : Matrix) (p : ℕ) (c : Coord) : Type 0 where
+  pub within : IsInSpace m.resolution c
+  pub full : IsTrue (voxel_at m (place m.resolution c))
+  pub before : place m.resolution c < p
+
+-- the full voxels before a place are in the heap or listed
+pub record IsHeaped (m : Matrix) (g : Grid) (p : ℕ) (rest : List Coord) : Type 0 where
+  pub resolution : g.resolution ≡ m.resolution
+  pub exact : AreExact g.resolution (word_at g)
+  pub heap : IsHeap (word_at g)
+  pub seen : (c : Coord) → 0 < word_at g c → IsSeen m p c
+  pub done : (c : Coord) → IsSeen m p c → (0 < word_at g c) ⊎ Contains rest c
+  pub listed : (c : Coord) → Contains rest c → IsSeen m p c × (word_at g c ≡ 0)
+  pub differ : AllPairs ◌≢◌ rest
+  pub few : length rest ≤ p
+
+-- the lowest bits of a number are the voxels from a place on
+abbrev pub AreBits : Matrix → ℕ → ℕ → ℕ → Type 0
+AreBits m from count bits = (k : ℕ) → k < count → bit bits k ≡ voxel_at m (from + k)

@@ -1,0 +1,206 @@
+//! The full voxels of a whole matrix that have the level of their y: they stand on the floor or on one another.
+ghost use Rattle.std.specs.Prelude.{◌≡◌, ◌+◌, ◌*◌, ◌%◌, ◌<◌, ◌≤◌, ℕ, IfOk, MatchBool};
+ghost use Rattle.nano_spec.specs.Model.{volume};
+ghost use Rattle.vox_geom.specs.Space.{IsInSpace, place as place_of};
+ghost use Rattle.vox_geom.specs.declared.coordinate.Coord.{Coord as Coordinate};
+ghost use Rattle.support_forest.specs.Grid.{slot_of, word_at};
+ghost use Rattle.support_forest.specs.Heap.{AreBits, AreSlots, CanStack, HaveStacked, IsHeaped, under as under_of};
+ghost use Rattle.support_forest.specs.Standing.{matrix_of};
+ghost use Rattle.support_forest.specs.Words.{AreExact};
+
+use crate::add::add_cells;
+use crate::cells::{BRICK_SIDE, Cells};
+use crate::lists::Lists;
+use std::alloc::{AllocError, Global};
+use std::sync::ledger::Ledger;
+use vox_geom::{Coord, Steps, place};
+use vox_planes::Planes;
+
+/// How many voxels are read at a time.
+const WORD_PLACES: u16 = 64;
+
+/// Makes a void voxel full that stands on the floor or on a full one, and tells whether it does: otherwise all stays. `own` is
+/// the slot of its brick, and `below` that of the brick of the voxel under it.
+#[inline(always)]
+fn stack<L: Ledger>(
+    cells: &mut Cells,
+    c: Coord,
+    own: u32,
+    below: Option<u32>,
+    steps: &mut Steps<L>,
+) -> bool
+    requires can { CanStack cells.old c }
+    requires slots { AreSlots cells.old c own below }
+    ensures { MatchBool result (HaveStacked cells.old cells.new c steps.old steps.new) (cells.new ≡ cells.old × steps.new ≤ steps.old + 7) }
+{
+    let _ = cells.resolution();
+    if c.y == 0 {
+        cells.write(own, c, 0, 8, steps);
+        return true;
+    }
+    let under = Coord { y: c.y - 1, ..c };
+    if cells.word_in(below, under, steps) == 0 {
+        return false;
+    }
+    cells.write(own, c, 0, 8 * u32::from(c.y) + 11, steps);
+    true
+}
+
+/// The slot of the brick of the voxel under one.
+fn slot_under(cells: &Cells, c: Coord) -> Option<u32>
+    requires { IsInSpace cells.now.resolution c }
+    ensures { 0 < c.y → result ≡ slot_of cells.now (under_of c) }
+{
+    if c.y == 0 {
+        return None;
+    }
+    cells.slot(Coord { y: c.y - 1, ..c })
+}
+
+/// Stacks the full ones of some voxels of a row in one brick, whose bits are the lowest of a word, or lists them.
+fn stack_part<L: Ledger>(
+    cells: &mut Cells,
+    planes: &Planes,
+    first: Coord,
+    count: u16,
+    bits: u64,
+    rest: &mut Vec<Coord>,
+    steps: &mut Steps<L>,
+) -> Result<(), AllocError>
+    requires brick { first.z % 8 + count ≤ 8 }
+    requires within { IsInSpace planes.now.resolution first }
+    requires row { first.z + count ≤ planes.now.resolution }
+    requires bits { AreBits planes.now (place_of planes.now.resolution first) count bits }
+    requires heaped { IsHeaped planes.now cells.old (place_of planes.now.resolution first) rest.old.items }
+    ensures heaped { IfOk result (λ _. IsHeaped planes.now cells.new (place_of planes.now.resolution first + count) rest.new.items) }
+    ensures touches { IfOk result (λ _. steps.new ≤ steps.old + 7 * count) }
+{
+    let _ = planes.resolution();
+    if bits % 256 == 0 {
+        return Ok(());
+    }
+    let own = cells.take_slot(first)?;
+    let below = slot_under(cells, first);
+    for k in 0..count {
+        if (bits >> k) % 2 == 0 {
+            continue;
+        }
+        let at = Coord {
+            z: first.z + k,
+            ..first
+        };
+        if stack(cells, at, own, below, steps) {
+            continue;
+        }
+        rest.push(at)?;
+    }
+    Ok(())
+}
+
+/// Stacks the full ones of up to 64 voxels of a row, or lists them.
+fn stack_some<L: Ledger>(
+    cells: &mut Cells,
+    planes: &Planes,
+    first: Coord,
+    count: u16,
+    rest: &mut Vec<Coord>,
+    steps: &mut Steps<L>,
+) -> Result<(), AllocError>
+    requires few { count ≤ 64 }
+    requires within { IsInSpace planes.now.resolution first }
+    requires row { first.z + count ≤ planes.now.resolution }
+    requires heaped { IsHeaped planes.now cells.old (place_of planes.now.resolution first) rest.old.items }
+    ensures heaped { IfOk result (λ _. IsHeaped planes.now cells.new (place_of planes.now.resolution first + count) rest.new.items) }
+    ensures touches { IfOk result (λ _. steps.new ≤ steps.old + 8 * count) }
+{
+    let from = place(first, planes.resolution());
+    let bits = planes.places(from, u32::from(count), steps);
+    let mut k = 0;
+    while k < count {
+        let z = first.z + k;
+        let part = (BRICK_SIDE - z % BRICK_SIDE).min(count - k);
+        stack_part(
+            cells,
+            planes,
+            Coord { z, ..first },
+            part,
+            bits >> k,
+            rest,
+            steps,
+        )?;
+        k += part;
+    }
+    Ok(())
+}
+
+/// Stacks the full voxels of a row, or lists them.
+fn stack_row<L: Ledger>(
+    cells: &mut Cells,
+    planes: &Planes,
+    x: u16,
+    y: u16,
+    rest: &mut Vec<Coord>,
+    steps: &mut Steps<L>,
+) -> Result<(), AllocError>
+    requires x { x < planes.now.resolution }
+    requires y { y < planes.now.resolution }
+    requires heaped { IsHeaped planes.now cells.old ((x * planes.now.resolution + y) * planes.now.resolution) rest.old.items }
+    ensures heaped { IfOk result (λ _. IsHeaped planes.now cells.new ((x * planes.now.resolution + y + 1) * planes.now.resolution) rest.new.items) }
+    ensures touches { IfOk result (λ _. steps.new ≤ steps.old + 8 * planes.now.resolution) }
+{
+    let r = planes.resolution();
+    let mut z = 0;
+    while z < r {
+        let count = (r - z).min(WORD_PLACES);
+        stack_some(cells, planes, Coord { x, y, z }, count, rest, steps)?;
+        z += count;
+    }
+    Ok(())
+}
+
+/// Stacks the full voxels of a matrix, or lists them: in the order of places, in which a voxel comes after the one under it.
+fn stack_all<L: Ledger>(
+    cells: &mut Cells,
+    planes: &Planes,
+    rest: &mut Vec<Coord>,
+    steps: &mut Steps<L>,
+) -> Result<(), AllocError>
+    requires { IsHeaped planes.now cells.old 0 rest.old.items }
+    ensures heaped { IfOk result (λ _. IsHeaped planes.now cells.new (volume planes.now.resolution) rest.new.items) }
+    ensures touches { IfOk result (λ _. steps.new ≤ steps.old + 8 * volume planes.now.resolution) }
+{
+    let r = u32::from(planes.resolution());
+    for row in 0..r * r {
+        stack_row(
+            cells,
+            planes,
+            (row / r) as u16,
+            (row % r) as u16,
+            rest,
+            steps,
+        )?;
+    }
+    Ok(())
+}
+
+/// Makes the full voxels of a matrix full, where all words are 0. Those of the heap take no search.
+pub fn fill_cells<L: Ledger>(
+    alloc: Global,
+    cells: &mut Cells,
+    planes: &Planes,
+    lists: &mut Lists,
+    steps: &mut Steps<L>,
+) -> Result<(), AllocError>
+    requires resolution { cells.old.resolution ≡ planes.now.resolution }
+    requires void { (c : Coordinate) → word_at cells.old c ≡ 0 }
+    ensures exact { IfOk result (λ _. AreExact cells.new.resolution (word_at cells.new)) }
+    ensures matrix { IfOk result (λ _. matrix_of cells.new ≡ planes.now) }
+    ensures touches { IfOk result (λ _. steps.new ≤ steps.old + 91 * volume planes.now.resolution) }
+{
+    let _ = planes.resolution();
+    let mut rest = lists.take_rest(alloc);
+    stack_all(cells, planes, &mut rest, steps)?;
+    add_cells(alloc, cells, rest.as_slice(), lists, steps)?;
+    lists.rest = rest;
+    Ok(())
+}
