@@ -1,8 +1,7 @@
 -- In a heap each full voxel is grounded, by the voxels under it.
-use Rattle.std.proofs.Common.{◌≡◌, ℕ, zero, suc, ◌+◌, ◌-◌, refl, arith, Bool, true, List, [], ◌∷◌, inl, inr}
+use Rattle.std.proofs.Common.{◌≡◌, ℕ, zero, suc, refl, arith, List, [], ◌∷◌, inl, inr}
 use Rattle.std.specs.Prelude.{IsTrue, ◌⊎◌, None}
 use Rattle.vox_geom.specs.declared.coordinate.Coord.{Coord}
-use Rattle.vox_geom.specs.Point.{are_adjacent}
 use Rattle.nano_spec.specs.First.{FirstFailing}
 use Rattle.nano_spec.specs.Grounded.{FirstUngrounded, Grounded}
 use Rattle.nano_spec.specs.Matrix.{Matrix, all_of, is_full}
