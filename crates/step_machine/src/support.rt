@@ -201,6 +201,27 @@ fn refit<L: Ledger>(
     }
 }
 
+/// One cell becomes full, or else void.
+#[inline(always)]
+fn change_cell<L: Ledger>(
+    forest: &mut Forest,
+    cell: Coord,
+    full: bool,
+    steps: &mut Steps<L>,
+) -> Result<(), Memory>
+    requires stands { forest.old.spent ≡ false }
+    requires cell { MatchBool full (MayAdd forest.old.matrix (cell ∷ [])) (MayRemove forest.old.matrix (cell ∷ [])) }
+    ensures value { IfOk result (λ _. MatchBool full (AreAdded forest.old.matrix forest.new.matrix (cell ∷ [])) (AreRemoved forest.old.matrix forest.new.matrix (cell ∷ []))) }
+    ensures stands { IfOk result (λ _. forest.new.spent ≡ false) }
+    ensures touches { IfOk result (λ _. IsCheap forest.old.matrix forest.new.matrix (cell ∷ []) 100 steps.old steps.new) }
+{
+    let cells = [cell];
+    if full {
+        return add(forest, &cells, steps);
+    }
+    remove(forest, &cells, steps)
+}
+
 /// The forest after the only bot filled the voxel at the coordinate, or else voided it, and whether that was full.
 #[inline(always)]
 fn refit_one<L: Ledger>(
@@ -227,14 +248,7 @@ fn refit_one<L: Ledger>(
     if was == full {
         return Ok(was);
     }
-    let cell = [at];
-    if full {
-        return match add(forest, &cell, steps) {
-            Ok(()) => Ok(was),
-            Err(Memory) => Err(Memory),
-        };
-    }
-    match remove(forest, &cell, steps) {
+    match change_cell(forest, at, full, steps) {
         Ok(()) => Ok(was),
         Err(Memory) => Err(Memory),
     }
