@@ -1,7 +1,7 @@
 -- The step of the only bot by filling or voiding a voxel: which cells change.
-use Rattle.std.proofs.Common.{◌≡◌, ℕ, ◌+◌, ◌≤◌, refl, sym, ◌∙◌, ap, arith, List, [], ◌∷◌, Bool, true, false, ◌&&◌, ◌||◌, not, cond, length, append-nil, filter}
+use Rattle.std.proofs.Common.{◌≡◌, ℕ, ◌+◌, ◌≤◌, refl, sym, ◌∙◌, ap, subst, arith, List, [], ◌∷◌, Bool, true, false, ◌&&◌, ◌||◌, not, cond, length, append-nil, filter}
 use Rattle.std.specs.Bool.{beq}
-use Rattle.std.specs.Prelude.{None, IsTrue, count_by}
+use Rattle.std.specs.Prelude.{None, IsTrue, MatchBool, count_by}
 use Rattle.std.proofs.lemmas.List.Sums.{length-filter, sum_by-cons}
 use Rattle.vox_geom.specs.declared.coordinate.Coord.{Coord}
 use Rattle.vox_geom.specs.declared.difference.Diff.{Diff}
@@ -13,6 +13,7 @@ use Rattle.nano_spec.specs.declared.system.Bot.{Bot}
 use Rattle.nano_spec.specs.Act.{acts}
 use Rattle.nano_spec.specs.Group.{leaders}
 use Rattle.nano_spec.specs.Matrix.{Matrix, all_of, is_full}
+use Rattle.nano_spec.specs.Model.{volume}
 use Rattle.nano_spec.specs.Rules.{broken}
 use Rattle.nano_spec.specs.State.{IsReady, State}
 use Rattle.nano_spec.specs.Step.{after, harmonics_after}
@@ -24,6 +25,9 @@ use Rattle.system_state.specs.Effects.{act}
 use Rattle.system_state.proofs.OnlyBot.{within_just}
 use Rattle.system_state.proofs.Single.{only_one}
 use Rattle.step_machine.specs.Edits.{cells_of, cells_of_all, edit_count, edits_of, edits_total}
+use Rattle.support_forest.specs.Standing.{AreAdded, AreRemoved, IsCheap, MayAdd, MayRemove, Standing}
+use Rattle.step_machine.specs.Settling.{IsRefitted}
+use Rattle.step_machine.proofs.Refitting.{cheap_none, is_refitted, lost_none, may_gain, may_lose, won_none}
 use Rattle.step_machine.proofs.Still.{only_bot}
 use Rattle.step_machine.proofs.Working.{edits_are_volatile}
 
@@ -78,6 +82,27 @@ module _ (m : Matrix) (b : Bot) (d : Diff) (at : Coord) (named : point at ≡ pl
   one_counted true = let e = counted_there in omega (arith, e)
   one_counted false = let e = counted_there in omega (arith, e)
 
+-- what a voxel is removed from that is filled, or else voided, and what it is added to: it changes where it was otherwise
+
+abbrev ArePart : Bool → Bool → List Coord → List Coord → List Coord → Type 0
+ArePart full was cell removed added = (removed ≡ cond (not full && was) cell []) × (added ≡ cond (full && not was) cell [])
+
+part_same : (full was : Bool) (cell : List Coord) → beq was full ≡ true → ArePart full was cell [] []
+part_same true true cell e = (refl, refl)
+part_same true false cell e = cc
+part_same false true cell e = cc
+part_same false false cell e = (refl, refl)
+
+part_full : (full was : Bool) (cell : List Coord) → beq was full ≡ false → full ≡ true → ArePart full was cell [] cell
+part_full true true cell e f = cc
+part_full true false cell e f = (refl, refl)
+part_full false was cell e f = cc
+
+part_void : (full was : Bool) (cell : List Coord) → beq was full ≡ false → full ≡ false → ArePart full was cell cell []
+part_void true was cell e f = cc
+part_void false true cell e f = (refl, refl)
+part_void false false cell e f = cc
+
 module _ (s : State) (d : Diff) (at : Coord) (full : Bool) (commands : List Command) (one : length s.bots ≡ 1) (command : commands ≡ edit_of full d ∷ []) (named : (b : Bot) → s.bots ≡ b ∷ [] → point at ≡ plus (point b.pos) d) (stays : IsInSpace s.matrix.resolution at) where
   pub removed_are : (was : Bool) (cell now : List Coord) → was ≡ is_full s.matrix at → cell ≡ at ∷ [] → now ≡ cond (not full && was) cell [] → now ≡ edits_of s commands true
   removed_are was cell now e f g =
@@ -111,23 +136,48 @@ module _ (s : State) (d : Diff) (at : Coord) (full : Bool) (commands : List Comm
       let n = one_counted s.matrix o.0 d at (named o.0 o.1) stays full in
       omega (arith, v, t, f, x, y, n)
 
--- ---- what a voxel is removed from that is filled, or else voided, and what it is added to: it changes where it was otherwise
+  module _ (step : ℕ) (ready : IsReady s) (keeps : broken s commands step ≡ None) (old : Matrix) (was : Bool) (tied : old ≡ s.matrix) (whole : length old.voxels ≡ volume old.resolution) (found : was ≡ is_full s.matrix at) where
+    lost_as : (now : List Coord) → now ≡ cond (not full && was) (at ∷ []) [] → now ≡ edits_of s commands true
+    lost_as now e = removed_are was (at ∷ []) now found refl e
 
-abbrev pub ArePart : Bool → Bool → List Coord → List Coord → List Coord → Type 0
-ArePart full was cell removed added = (removed ≡ cond (not full && was) cell []) × (added ≡ cond (full && not was) cell [])
+    won_as : (now : List Coord) → now ≡ cond (full && not was) (at ∷ []) [] → now ≡ edits_of s commands false
+    won_as now e = added_are was (at ∷ []) now found refl e
 
-pub part_same : (full was : Bool) (cell : List Coord) → beq was full ≡ true → ArePart full was cell [] []
-part_same true true cell e = (refl, refl)
-part_same true false cell e = cc
-part_same false true cell e = cc
-part_same false false cell e = (refl, refl)
+    paid_for : (before listed : ℕ) → listed ≡ before + 1 → listed ≤ before + volatile_total s.matrix (acts s.bots commands)
+    paid_for before listed l = let v = one_volatile step ready keeps in omega (arith, v, l)
 
-pub part_full : (full was : Bool) (cell : List Coord) → beq was full ≡ false → full ≡ true → ArePart full was cell [] cell
-part_full true true cell e f = cc
-part_full true false cell e f = (refl, refl)
-part_full false was cell e f = cc
+    -- the voxel may become full, or else void, where it is otherwise
+    pub may_change : beq was full ≡ false → MatchBool full (MayAdd old (at ∷ [])) (MayRemove old (at ∷ []))
+    may_change other = by full refl
+      where
+        by : (f : Bool) → full ≡ f → MatchBool f (MayAdd old (at ∷ [])) (MayRemove old (at ∷ []))
+        by true e =
+            let part = part_full full was (at ∷ []) other e in
+            may_gain s commands step ready keeps old old [] (at ∷ []) tied (lost_as [] part.0) (won_as (at ∷ []) part.1) (lost_none old whole)
+        by false e =
+            let part = part_void full was (at ∷ []) other e in
+            may_lose s commands step ready keeps old (at ∷ []) tied (lost_as (at ∷ []) part.0)
 
-pub part_void : (full was : Bool) (cell : List Coord) → beq was full ≡ false → full ≡ false → ArePart full was cell cell []
-part_void true was cell e f = cc
-part_void false true cell e f = (refl, refl)
-part_void false false cell e f = cc
+    module _ (forest : Standing) (before listed after : ℕ) (stands : forest.spent ≡ false) (once : listed ≡ before + 1) where
+      -- and then the forest is that of the step's state
+      pub changed_refitted : beq was full ≡ false → MatchBool full (AreAdded old forest.matrix (at ∷ [])) (AreRemoved old forest.matrix (at ∷ [])) → IsCheap old forest.matrix (at ∷ []) 100 listed after → IsRefitted s commands forest before after
+      changed_refitted other changed cheap = by full refl changed
+        where
+          by : (f : Bool) → full ≡ f → MatchBool f (AreAdded old forest.matrix (at ∷ [])) (AreRemoved old forest.matrix (at ∷ [])) → IsRefitted s commands forest before after
+          by true e won =
+              let part = part_full full was (at ∷ []) other e in
+              is_refitted s commands step ready keeps old old forest [] (at ∷ []) before listed listed after tied (lost_as [] part.0) (won_as (at ∷ []) part.1) (paid_for before listed once)
+              (lost_none old whole) (cheap_none old old listed) won cheap stands
+          by false e lost =
+              let part = part_void full was (at ∷ []) other e in
+              is_refitted s commands step ready keeps old forest.matrix forest (at ∷ []) [] before listed after after tied (lost_as (at ∷ []) part.0) (won_as [] part.1) (paid_for before listed once)
+              lost cheap (won_none forest.matrix lost.whole) (cheap_none forest.matrix forest.matrix after) stands
+
+      -- and it is so already where the voxel is as it is to be
+      pub kept_refitted : beq was full ≡ true → forest.matrix ≡ old → after ≡ listed → IsRefitted s commands forest before after
+      kept_refitted same kept end =
+          let part = part_same full was (at ∷ []) same in
+          let m = forest.matrix in
+          let whole_too = subst (λ (n : Matrix). length n.voxels ≡ volume n.resolution) (sym kept) whole in
+          is_refitted s commands step ready keeps m m forest [] [] before listed listed after (kept ∙ tied) (lost_as [] part.0) (won_as [] part.1) (paid_for before listed once)
+          (lost_none m whole_too) (cheap_none m m listed) (won_none m whole_too) (λ first last f l. let c = cheap_none m m listed first last f l in omega (arith, c, end)) stands

@@ -1,14 +1,20 @@
 -- What comes of a step that breaks no rule at its start, before its groups act.
-use Rattle.std.specs.Prelude.{◌≡◌, ℕ, ◌+◌, ◌*◌, ◌≤◌, List, false}
+use Rattle.std.specs.Prelude.{◌≡◌, ℕ, ◌+◌, ◌*◌, ◌≤◌, Bool, List, [], ◌∷◌, false, length}
+use Rattle.vox_geom.specs.declared.coordinate.Coord.{Coord}
+use Rattle.vox_geom.specs.declared.difference.Diff.{Diff}
+use Rattle.vox_geom.specs.Point.{point, plus}
+use Rattle.vox_geom.specs.Space.{IsInSpace}
 use Rattle.nano_spec.specs.declared.commands.Command.{Command}
 use Rattle.nano_spec.specs.declared.outcomes.Broken.{Broken}
 use Rattle.nano_spec.specs.declared.outcomes.Rule.TheVariants.{Ungrounded}
+use Rattle.nano_spec.specs.declared.system.Bot.{Bot}
 use Rattle.nano_spec.specs.Act.{acts}
 use Rattle.nano_spec.specs.Model.{volume}
 use Rattle.nano_spec.specs.Next.{Breaks, Goes, Next}
 use Rattle.nano_spec.specs.State.{State}
 use Rattle.nano_spec.specs.Step.{after}
 use Rattle.nano_spec.specs.Work.{WorkOfActs, volatile_total}
+use Rattle.step_groups.specs.Judging.{edit_of}
 use Rattle.support_forest.specs.Standing.{Standing}
 use Rattle.step_machine.specs.declared.machine.StepFault.{StepFault}
 use Rattle.step_machine.specs.declared.machine.StepFault.TheVariants as fault
@@ -17,6 +23,13 @@ use Rattle.step_machine.specs.declared.machine.StepFault.TheVariants as fault
 abbrev pub IsPaidBy : State → List Command → ℕ → ℕ → Type 0
 IsPaidBy s commands began ended =
     (n : ℕ) → WorkOfActs s.matrix (acts s.bots commands) n → ended + 99 * volatile_total s.matrix (acts s.bots commands) ≤ began + 100 * n
+
+-- the step is one of the only bot, which fills the voxel at the coordinate, or else voids it
+pub record IsOneEdit (s : State) (commands : List Command) (d : Diff) (at : Coord) (full : Bool) : Type 0 where
+  pub one : length s.bots ≡ 1
+  pub command : commands ≡ edit_of full d ∷ []
+  pub named : (b : Bot) → s.bots ≡ b ∷ [] → point at ≡ plus (point b.pos) d
+  pub within : IsInSpace s.matrix.resolution at
 
 -- the forest is that of the state to which the step goes
 pub record IsRefitted (s : State) (commands : List Command) (forest : Standing) (began ended : ℕ) : Type 0 where

@@ -1,8 +1,5 @@
 //! How the full voxels are held up.
-ghost use Rattle.std.specs.Prelude.{◌≡◌, ◌≢◌, ℕ, ◌+◌, ◌*◌, ◌≤◌, ◌%◌, ◌==◌, ◌&&◌, not, [], ◌∷◌, ◌++◌, true, false, filter, length, count_by, cond, IfOk, IfErr, IfSome, IfNone, IsTrue, MatchBool, None, Err};
-ghost use Rattle.vox_geom.specs.Point.{point, plus};
-ghost use Rattle.vox_geom.specs.Space.{IsInSpace};
-ghost use Rattle.nano_spec.specs.declared.system.Bot.{Bot};
+ghost use Rattle.std.specs.Prelude.{◌≡◌, ℕ, ◌+◌, ◌*◌, ◌≤◌, ◌%◌, ◌==◌, [], ◌∷◌, ◌++◌, true, false, filter, length, count_by, cond, IfOk, IfErr, IfSome, IfNone, IsTrue, MatchBool, None, Err};
 ghost use Rattle.nano_spec.specs.Act.{acts, is_flip};
 ghost use Rattle.nano_spec.specs.Cutting.{AreCommands};
 ghost use Rattle.nano_spec.specs.Grounded.{FirstUngrounded};
@@ -13,10 +10,9 @@ ghost use Rattle.nano_spec.specs.Rules.{broken as broken_of};
 ghost use Rattle.nano_spec.specs.State.{is_high};
 ghost use Rattle.nano_spec.specs.Step.{flipped};
 ghost use Rattle.nano_spec.specs.Work.{volatile_total};
-ghost use Rattle.step_groups.specs.Judging.{edit_of};
 ghost use Rattle.support_forest.specs.Standing.{AreAdded, AreRemoved, IsCheap, MayAdd, MayRemove};
 ghost use Rattle.step_machine.specs.Edits.{edits_of, is_edit};
-ghost use Rattle.step_machine.specs.Settling.{IsRefitted, IsSettled, IsUnsettled};
+ghost use Rattle.step_machine.specs.Settling.{IsOneEdit, IsRefitted, IsSettled, IsUnsettled};
 ghost use Rattle.step_machine.specs.Undoing.{IsUndoneBy, matrix_before, without_filled};
 ghost use Rattle.system_state.specs.Turns.{AreTurns};
 ghost use Rattle.step_machine.specs.declared.TheConstants.{MOST_CHANGED};
@@ -201,6 +197,27 @@ fn refit<L: Ledger>(
     }
 }
 
+/// One cell becomes full, or else void.
+#[inline(always)]
+fn change_cell<L: Ledger>(
+    forest: &mut Forest,
+    cell: Coord,
+    full: bool,
+    steps: &mut Steps<L>,
+) -> Result<(), Memory>
+    requires stands { forest.old.spent ≡ false }
+    requires cell { MatchBool full (MayAdd forest.old.matrix (cell ∷ [])) (MayRemove forest.old.matrix (cell ∷ [])) }
+    ensures value { IfOk result (λ _. MatchBool full (AreAdded forest.old.matrix forest.new.matrix (cell ∷ [])) (AreRemoved forest.old.matrix forest.new.matrix (cell ∷ []))) }
+    ensures stands { IfOk result (λ _. forest.new.spent ≡ false) }
+    ensures touches { IfOk result (λ _. IsCheap forest.old.matrix forest.new.matrix (cell ∷ []) 100 steps.old steps.new) }
+{
+    let cells = [cell];
+    if full {
+        return add(forest, &cells, steps);
+    }
+    remove(forest, &cells, steps)
+}
+
 /// The forest after the only bot filled the voxel at the coordinate, or else voided it, and whether that was full.
 #[inline(always)]
 fn refit_one<L: Ledger>(
@@ -213,10 +230,7 @@ fn refit_one<L: Ledger>(
     steps: &mut Steps<L>,
 ) -> Result<bool, Memory>
     requires judged { (step : ℕ) × (broken_of system.now commands.now step ≡ None) }
-    requires one { length system.now.bots ≡ 1 }
-    requires command { commands.now ≡ edit_of full d ∷ [] }
-    requires named { (b : Bot) → system.now.bots ≡ b ∷ [] → point at ≡ plus (point b.pos) d }
-    requires within { IsInSpace system.now.matrix.resolution at }
+    requires edit { IsOneEdit system.now commands.now d at full }
     requires stands { forest.old.spent ≡ false }
     requires tied { forest.old.matrix ≡ system.now.matrix }
     ensures refitted { IfOk result (λ _. IsRefitted system.now commands.now forest.new steps.old steps.new) }
@@ -227,14 +241,7 @@ fn refit_one<L: Ledger>(
     if was == full {
         return Ok(was);
     }
-    let cell = [at];
-    if full {
-        return match add(forest, &cell, steps) {
-            Ok(()) => Ok(was),
-            Err(Memory) => Err(Memory),
-        };
-    }
-    match remove(forest, &cell, steps) {
+    match change_cell(forest, at, full, steps) {
         Ok(()) => Ok(was),
         Err(Memory) => Err(Memory),
     }
@@ -320,10 +327,7 @@ pub(crate) fn settle_one<L: Ledger>(
     steps: &mut Steps<L>,
 ) -> Result<bool, StepFault>
     requires judged { broken_of system.now commands.now step ≡ None }
-    requires one { length system.now.bots ≡ 1 }
-    requires command { commands.now ≡ edit_of full d ∷ [] }
-    requires named { (b : Bot) → system.now.bots ≡ b ∷ [] → point at ≡ plus (point b.pos) d }
-    requires within { IsInSpace system.now.matrix.resolution at }
+    requires edit { IsOneEdit system.now commands.now d at full }
     requires stands { forest.old.spent ≡ false }
     requires tied { forest.old.matrix ≡ system.now.matrix }
     ensures settled { IfOk result (λ _. IsSettled system.now commands.now step forest.new steps.old steps.new) }

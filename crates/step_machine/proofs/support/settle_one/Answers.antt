@@ -7,7 +7,7 @@ use Rattle.step_machine.proofs.support.settle_one.Goals as goal
 
 pub returns-in-None-clause-settled : goal.returns-in-None-clause-settled
 returns-in-None-clause-settled g c =
-    let h = c.harmonics.ensures ∙ harmonics_stay c.args.system.now c.args.d c.args.at c.args.full c.args.commands.now c.requires.one c.requires.command c.requires.named c.requires.within in
+    let h = c.harmonics.ensures ∙ harmonics_stay c.args.system.now c.args.d c.args.at c.args.full c.args.commands.now c.requires.edit.one c.requires.edit.command c.requires.edit.named c.requires.edit.within in
     record {
       goes = goes c.args.system.now _ c.args.commands.now c.args.step c.harmonics.result c.refit_one.new.forest.matrix c.ungrounded.result c.requires.judged (record { harmonics_is = h; matrix_is = c.in-Ok.ensures.refitted.matrix; found = c.ungrounded.ensures.value }) c.in-None.is refl;
       tied = c.in-Ok.ensures.refitted.matrix;
@@ -17,7 +17,7 @@ returns-in-None-clause-settled g c =
 
 pub returns-in-Some-clause-unsettled : goal.returns-in-Some-clause-unsettled
 returns-in-Some-clause-unsettled g c =
-    let h = c.harmonics.ensures ∙ harmonics_stay c.args.system.now c.args.d c.args.at c.args.full c.args.commands.now c.requires.one c.requires.command c.requires.named c.requires.within in
+    let h = c.harmonics.ensures ∙ harmonics_stay c.args.system.now c.args.d c.args.at c.args.full c.args.commands.now c.requires.edit.one c.requires.edit.command c.requires.edit.named c.requires.edit.within in
     record {
       breaks = breaks c.args.system.now c.args.commands.now c.args.step c.harmonics.result c.refit_one.new.forest.matrix c.ungrounded.result c.in-Some.at c.requires.judged (record { harmonics_is = h; matrix_is = c.in-Ok.ensures.refitted.matrix; found = c.ungrounded.ensures.value }) c.in-Some.is;
       rule = refl;
