@@ -1,10 +1,10 @@
 //! How the full voxels are held up.
-ghost use Rattle.std.specs.Prelude.{◌≡◌, ℕ, ◌+◌, ◌*◌, ◌≤◌, ◌%◌, ◌==◌, [], ◌∷◌, ◌++◌, true, false, filter, length, count_by, cond, IfOk, IfErr, IfSome, IfNone, IsTrue, MatchBool, None, Err};
+ghost use Rattle.std.specs.Prelude.{◌≡◌, ℕ, ◌+◌, ◌*◌, ◌≤◌, ◌%◌, ◌==◌, [], ◌∷◌, ◌++◌, true, false, length, count_by, cond, IfOk, IfErr, IfSome, IfNone, IsTrue, MatchBool, None, Err};
 ghost use Rattle.nano_spec.specs.Act.{acts, is_flip};
 ghost use Rattle.nano_spec.specs.Cutting.{AreCommands};
 ghost use Rattle.nano_spec.specs.Grounded.{FirstUngrounded};
 ghost use Rattle.nano_spec.specs.Group.{leaders};
-ghost use Rattle.nano_spec.specs.Matrix.{all_of, is_full};
+ghost use Rattle.nano_spec.specs.Matrix.{is_full};
 ghost use Rattle.nano_spec.specs.Model.{volume};
 ghost use Rattle.nano_spec.specs.Rules.{broken as broken_of};
 ghost use Rattle.nano_spec.specs.State.{is_high};
@@ -25,30 +25,8 @@ use std::alloc::Global;
 use std::sync::ledger::Ledger;
 use support_forest::Forest;
 use system_state::{System, Turns};
-use vox_geom::{Coord, Memory, Near, Region, Steps};
+use vox_geom::{Coord, Memory, Near, Steps};
 use vox_planes::{ChangeList, Planes};
-
-/// Lists all full voxels of a matrix.
-fn full_voxels<L: Ledger>(
-    alloc: Global,
-    matrix: &Planes,
-    steps: &mut Steps<L>,
-) -> Result<ChangeList, Memory>
-    ensures items { IfOk result (λ l. l.items ≡ filter (is_full matrix.now) (all_of matrix.now)) }
-    ensures touches { IfOk result (λ _. steps.new ≤ steps.old + volume matrix.now.resolution) }
-{
-    let r = matrix.resolution();
-    let side = u32::from(r);
-    let last = Coord {
-        x: r - 1,
-        y: r - 1,
-        z: r - 1,
-    };
-    let mut full = ChangeList::with_room(alloc, side * side * side)?;
-    let whole = Region::of(Coord { x: 0, y: 0, z: 0 }, last);
-    matrix.list_full(&whole, &mut full, steps);
-    Ok(full)
-}
 
 /// The forest of a matrix.
 pub(crate) fn forest_of<L: Ledger>(
@@ -60,12 +38,7 @@ pub(crate) fn forest_of<L: Ledger>(
     ensures stands { IfOk result (λ f. f.spent ≡ false) }
     ensures touches { IfOk result (λ _. steps.new ≤ steps.old + 91 * volume matrix.now.resolution) }
 {
-    let full = full_voxels(alloc, matrix, steps)?;
-    let mut forest = Forest::empty(alloc, matrix.resolution())?;
-    match forest.add(full.as_slice(), steps) {
-        Ok(()) => Ok(forest),
-        Err(_) => Err(Memory),
-    }
+    Forest::of(alloc, matrix, steps)
 }
 
 /// Cells that become void. Memory may be refused only where there are some.

@@ -1,5 +1,5 @@
 -- Voxels of a heap, and the full voxels of a matrix that are stacked or listed one after another.
-use Rattle.std.proofs.Common.{◌≡◌, ℕ, zero, suc, ◌+◌, ◌-◌, ◌*◌, ◌/◌, ◌%◌, ◌^◌, ◌<◌, ◌≤◌, ◌⊎◌, inl, inr, refl, sym, ◌∙◌, ap, subst, arith, Bool, true, false, List, [], ◌∷◌, ◌++◌, length, length-append, Option, Some, ext_get_or}
+use Rattle.std.proofs.Common.{◌≡◌, ℕ, zero, suc, ◌+◌, ◌-◌, ◌*◌, ◌/◌, ◌%◌, ◌^◌, ◌<◌, ◌≤◌, ◌⊎◌, inl, inr, refl, sym, ◌∙◌, ap, subst, arith, Bool, true, false, List, [], ◌∷◌, ◌++◌, length, length-append, get_or, Option, Some, ext_get_or}
 use Rattle.std.specs.Prelude.{◌==◌, IsTrue, IsFalse, nat_lt}
 use Rattle.std.specs.List.{Contains}
 use Rattle.std.proofs.Math.Nat.{div-add-mod, div-div-eq-div-mul}
@@ -64,7 +64,8 @@ heap_with w v c word h level k d g = elim (same_or_not d c) [
   | inr m ↦ let n = k.kept d m in let l : height w d ≡ d.y + 1 = h d (omega arith) in omega arith
 ]
 
-stacked_with : (old new : Grid) (c : Coord) (word before mid after : ℕ) → CanStack old c → Fits old.resolution (word_at old) c word → word / 8 ≡ c.y + 1 → IsWritten (word_at old) (word_at new) c word →
+stacked_with : (old new : Grid) (c : Coord) (word before mid after : ℕ) → CanStack old c → Fits old.resolution (word_at old) c word → word / 8 ≡ c.y + 1 →
+    IsWritten (word_at old) (word_at new) c word →
     new.resolution ≡ old.resolution → new.table ≡ old.table → mid ≤ before + 6 → after ≡ mid + 1 → HaveStacked old new c before after
 stacked_with old new c word before mid after s f level k r t m a = record {
   placed = placed_with old new c word before mid after s.exact s.within s.void f k r m a;
@@ -75,13 +76,15 @@ stacked_with old new c word before mid after s f level k r t m a = record {
 pub stacked_on_floor : (old new : Grid) (c : Coord) (before after : ℕ) → CanStack old c → c.y ≡ 0 → IsWritten (word_at old) (word_at new) c 8 →
     new.resolution ≡ old.resolution → new.table ≡ old.table → after ≡ before + 1 → HaveStacked old new c before after
 stacked_on_floor old new c before after s y k r t a =
-    stacked_with old new c 8 before before after s (fits_level old.resolution (word_at old) c 8 s.heap (omega arith) (λ _. refl) (inl (refl, y))) (omega arith) k r t (omega arith) a
+    stacked_with old new c 8 before before after s (fits_level old.resolution (word_at old) c 8 s.heap (omega arith) (λ _. refl) (inl (refl, y)))
+    (omega arith) k r t (omega arith) a
 
 toward_under : (c : Coord) → (c.y ≡ 0 → ⊥) → Toward 3 c (under c)
 unfolding Toward
 toward_under c n = let p : 0 < c.y = elim (cases_lt 0 c.y) [ inl l ↦ l | inr l ↦ absurd (n (omega arith)) ] in inr (inr (inl (refl, refl, omega arith, refl)))
 
-pub stacked_on_another : (old new : Grid) (c : Coord) (before mid after : ℕ) → CanStack old c → (c.y ≡ 0 → ⊥) → (word_at old (under c) ≡ 0 → ⊥) → IsWritten (word_at old) (word_at new) c (8 * c.y + 11) →
+pub stacked_on_another : (old new : Grid) (c : Coord) (before mid after : ℕ) → CanStack old c → (c.y ≡ 0 → ⊥) → (word_at old (under c) ≡ 0 → ⊥) →
+    IsWritten (word_at old) (word_at new) c (8 * c.y + 11) →
     new.resolution ≡ old.resolution → new.table ≡ old.table → mid ≤ before + 1 → after ≡ mid + 1 → HaveStacked old new c before after
 stacked_on_another old new c before mid after s n f k r t m a =
     let full : 0 < word_at old (under c) = elim (cases_lt 0 (word_at old (under c))) [ inl l ↦ l | inr l ↦ absurd (f (omega arith)) ] in
@@ -89,7 +92,8 @@ stacked_on_another old new c before mid after s n f k r t m a =
     let above : 0 < c.y = elim (cases_lt 0 c.y) [ inl l ↦ l | inr l ↦ absurd (n (omega arith)) ] in
     let digit : 3 ≡ (8 * c.y + 11) % 8 = omega arith in
     stacked_with old new c (8 * c.y + 11) before mid after s
-    (fits_level old.resolution (word_at old) c (8 * c.y + 11) s.heap (omega arith) (λ y. absurd (n y)) (inr (under c, subst (λ (j : ℕ). Toward j c (under c)) digit (toward_under c n), omega arith, omega arith)))
+    (fits_level old.resolution (word_at old) c (8 * c.y + 11) s.heap (omega arith) (λ y. absurd (n y))
+    (inr (under c, subst (λ (j : ℕ). Toward j c (under c)) digit (toward_under c n), omega arith, omega arith)))
     (omega arith) k r t (omega arith) a
 
 -- ---- slots in hand
@@ -97,10 +101,12 @@ stacked_on_another old new c before mid after s n f k r t m a =
 slot_kept : (old new : Grid) (c : Coord) → new.table ≡ old.table → new.resolution ≡ old.resolution → slot_of new c ≡ slot_of old c
 slot_kept old new c t r = λ i. slot_at (t i) (brick_number (r i) c)
 
-pub slots_kept : (old new : Grid) (c : Coord) (own : ℕ) (below : Option ℕ) → new.table ≡ old.table → new.resolution ≡ old.resolution → AreSlots old c own below → AreSlots new c own below
+pub slots_kept : (old new : Grid) (c : Coord) (own : ℕ) (below : Option ℕ) → new.table ≡ old.table → new.resolution ≡ old.resolution →
+    AreSlots old c own below → AreSlots new c own below
 slots_kept old new c own below t r s = record { here = slot_kept old new c t r ∙ s.here; there = λ y. s.there y ∙ sym (slot_kept old new (under c) t r) }
 
-pub slots_along : (g : Grid) (c : Coord) (z own : ℕ) (below : Option ℕ) → z / 8 ≡ c.z / 8 → AreSlots g c own below → AreSlots g (record { x = c.x; y = c.y; z = z }) own below
+pub slots_along : (g : Grid) (c : Coord) (z own : ℕ) (below : Option ℕ) → z / 8 ≡ c.z / 8 → AreSlots g c own below →
+    AreSlots g (record { x = c.x; y = c.y; z = z }) own below
 slots_along g c z own below e s =
     let d : Coord = record { x = c.x; y = c.y; z = z } in
     let here : brick d ≡ brick c = λ i. record { x = c.x / 8; y = c.y / 8; z = e i } in
@@ -135,7 +141,8 @@ zero_bit n (suc (suc (suc (suc (suc (suc zero)))))) z l = omega arith
 zero_bit n (suc (suc (suc (suc (suc (suc (suc zero))))))) z l = omega arith
 zero_bit n (suc (suc (suc (suc (suc (suc (suc (suc k)))))))) z l = absurd (omega arith)
 
-pub bits_from : (m : Matrix) (from count bits k part place : ℕ) → AreBits m from count bits → k + part ≤ count → place ≡ from + k → AreBits m place part (bits / 2 ^ k)
+pub bits_from : (m : Matrix) (from count bits k part place : ℕ) → AreBits m from count bits → k + part ≤ count → place ≡ from + k →
+    AreBits m place part (bits / 2 ^ k)
 bits_from m from count bits k part place b l e j h =
     let on : from + (k + j) ≡ place + j = omega arith in
     ap (λ v. v % 2 == 1) (div-div-eq-div-mul bits (2 ^ k) (2 ^ j) ∙ ap (λ v. bits / v) (sym (pow-add 2 k j)))
@@ -152,7 +159,8 @@ contrary b h k = false≢true (sym h ∙ k)
 later_seen : (m : Matrix) (p q : ℕ) (c : Coord) → p ≤ q → IsSeen m p c → IsSeen m q c
 later_seen m p q c l s = record { within = s.within; full = s.full; before = omega (arith, s.before) }
 
-pub heaped_none : (m : Matrix) (g : Grid) (rest : List Coord) → g.resolution ≡ m.resolution → AreExact g.resolution (word_at g) → ((c : Coord) → word_at g c ≡ 0) → rest ≡ [] → IsHeaped m g 0 rest
+pub heaped_none : (m : Matrix) (g : Grid) (rest : List Coord) → g.resolution ≡ m.resolution → AreExact g.resolution (word_at g) →
+    ((c : Coord) → word_at g c ≡ 0) → rest ≡ [] → IsHeaped m g 0 rest
 heaped_none m g rest r x z e = record {
   resolution = r;
   exact = x;
@@ -164,7 +172,8 @@ heaped_none m g rest r x z e = record {
   few = let n : length rest ≡ 0 = ap length e in omega arith;
 }
 
-pub heaped_same : (m : Matrix) (old new : Grid) (p : ℕ) (rest : List Coord) → new.resolution ≡ old.resolution → ((c : Coord) → word_at new c ≡ word_at old c) → IsHeaped m old p rest → IsHeaped m new p rest
+pub heaped_same : (m : Matrix) (old new : Grid) (p : ℕ) (rest : List Coord) → new.resolution ≡ old.resolution →
+    ((c : Coord) → word_at new c ≡ word_at old c) → IsHeaped m old p rest → IsHeaped m new p rest
 heaped_same m old new p rest r e h =
     let s : word_at old ≡ word_at new = sym (λ i c. e c i) in
     record {
@@ -182,7 +191,8 @@ pub heaped_at : (m : Matrix) (g : Grid) (p q : ℕ) (rest : List Coord) → p �
 heaped_at m g p q rest e h = subst (λ (n : ℕ). IsHeaped m g n rest) e h
 
 -- voids change nothing
-pub heaped_void : (m : Matrix) (g : Grid) (p q : ℕ) (rest : List Coord) → p ≤ q → ((j : ℕ) → p ≤ j → j < q → IsFalse (voxel_at m j)) → IsHeaped m g p rest → IsHeaped m g q rest
+pub heaped_void : (m : Matrix) (g : Grid) (p q : ℕ) (rest : List Coord) → p ≤ q → ((j : ℕ) → p ≤ j → j < q → IsFalse (voxel_at m j)) → IsHeaped m g p rest →
+    IsHeaped m g q rest
 heaped_void m g p q rest l void h = record {
   resolution = h.resolution;
   exact = h.exact;
@@ -197,7 +207,8 @@ heaped_void m g p q rest l void h = record {
   few = omega (arith, h.few);
 }
 
-pub heaped_blank : (m : Matrix) (g : Grid) (p count bits : ℕ) (rest : List Coord) → AreBits m p count bits → count ≤ 8 → bits % 256 ≡ 0 → IsHeaped m g p rest → IsHeaped m g (p + count) rest
+pub heaped_blank : (m : Matrix) (g : Grid) (p count bits : ℕ) (rest : List Coord) → AreBits m p count bits → count ≤ 8 → bits % 256 ≡ 0 →
+    IsHeaped m g p rest → IsHeaped m g (p + count) rest
 heaped_blank m g p count bits rest b few z h = heaped_void m g p (p + count) rest (omega arith) void h
   where
     void : (j : ℕ) → p ≤ j → j < p + count → IsFalse (voxel_at m j)
@@ -205,10 +216,13 @@ heaped_blank m g p count bits rest b few z h = heaped_void m g p (p + count) res
         let on : p + (j - p) ≡ j = omega arith in
         sym (ap (voxel_at m) on) ∙ void_bit m p count bits (j - p) b (omega arith) (zero_bit bits (j - p) z (omega arith))
 
-pub heaped_bit : (m : Matrix) (g : Grid) (p k count bits : ℕ) (rest : List Coord) → AreBits m p count bits → k < count → bits / 2 ^ k % 2 ≡ 0 → IsHeaped m g (p + k) rest → IsHeaped m g (p + (k + 1)) rest
-heaped_bit m g p k count bits rest b l z h = heaped_void m g (p + k) (p + (k + 1)) rest (omega arith) (λ j i n. let on : p + k ≡ j = omega arith in sym (ap (voxel_at m) on) ∙ void_bit m p count bits k b l z) h
+pub heaped_bit : (m : Matrix) (g : Grid) (p k count bits : ℕ) (rest : List Coord) → AreBits m p count bits → k < count → bits / 2 ^ k % 2 ≡ 0 →
+    IsHeaped m g (p + k) rest → IsHeaped m g (p + (k + 1)) rest
+heaped_bit m g p k count bits rest b l z h = heaped_void m g (p + k) (p + (k + 1)) rest (omega arith)
+    (λ j i n. let on : p + k ≡ j = omega arith in sym (ap (voxel_at m) on) ∙ void_bit m p count bits k b l z) h
 
-module _ (m : Matrix) (old : Grid) (p : ℕ) (rest : List Coord) (c : Coord) (h : IsHeaped m old p rest) (within : IsInSpace m.resolution c) (here : place m.resolution c ≡ p) where
+module _ (m : Matrix) (old : Grid) (p : ℕ) (rest : List Coord) (c : Coord) (h : IsHeaped m old p rest) (within : IsInSpace m.resolution c)
+    (here : place m.resolution c ≡ p) where
   can_stack : CanStack old c
   can_stack = record {
     exact = h.exact;
@@ -267,13 +281,15 @@ module _ (m : Matrix) (old : Grid) (p : ℕ) (rest : List Coord) (c : Coord) (h 
     }
 
     heaped_listed : (new : Grid) (more : List Coord) → new ≡ old → more ≡ rest ++ c ∷ [] → IsHeaped m new (p + 1) more
-    heaped_listed new more e f = subst (λ (g : Grid). IsHeaped m g (p + 1) more) (sym e) (subst (λ (xs : List Coord). IsHeaped m old (p + 1) xs) (sym f) heaped_more)
+    heaped_listed new more e f = subst (λ (g : Grid). IsHeaped m g (p + 1) more) (sym e)
+        (subst (λ (xs : List Coord). IsHeaped m old (p + 1) xs) (sym f) heaped_more)
 
 -- the voxel so many places on in a row
 abbrev along : Coord → ℕ → Coord
 along c k = record { x = c.x; y = c.y; z = c.z + k }
 
-module _ (m : Matrix) (old : Grid) (first : Coord) (k : ℕ) (rest : List Coord) (h : IsHeaped m old (place m.resolution first + k) rest) (within : IsInSpace m.resolution first) (row : first.z + k < m.resolution) where
+module _ (m : Matrix) (old : Grid) (first : Coord) (k : ℕ) (rest : List Coord) (h : IsHeaped m old (place m.resolution first + k) rest)
+    (within : IsInSpace m.resolution first) (row : first.z + k < m.resolution) where
   within_row : IsInSpace m.resolution (along first k)
   within_row = record { x = within.x; y = within.y; z = row }
 
@@ -318,12 +334,11 @@ positive n h = grind (arith, nat_tests)
 is_positive : (n : ℕ) → 0 < n → IsTrue (nat_lt 0 n)
 is_positive n h = grind (arith, nat_tests)
 
-module _ (m : Matrix) (mid new : Grid) (rest : List Coord) (before after : ℕ) (whole : IsWhole m) (h : IsHeaped m mid (volume m.resolution) rest) (a : HaveAdded mid new rest 20 before after) where
-  r : ℕ
-  r = m.resolution
-
+module _ (m : Matrix) (mid new : Grid) (rest : List Coord) (before after : ℕ) (whole : IsWhole m) (h : IsHeaped m mid (volume m.resolution) rest)
+    (a : HaveAdded mid new rest 20 before after) where
   voxel : (k : ℕ) → k < m.resolution * m.resolution * m.resolution → nat_lt 0 (word_at new (coordinate_at m.resolution k)) ≡ voxel_at m k
-  voxel k l = same_bool (nat_lt 0 (word_at new c)) (voxel_at m k) (λ t. by (a.full c (positive (word_at new c) t))) (λ t. is_positive (word_at new c) (back (h.done c (seen t))))
+  voxel k l = same_bool (nat_lt 0 (word_at new c)) (voxel_at m k) (λ t. by (a.full c (positive (word_at new c) t)))
+      (λ t. is_positive (word_at new c) (back (h.done c (seen t))))
     where
       c : Coord
       c = coordinate_at m.resolution k
@@ -349,8 +364,12 @@ module _ (m : Matrix) (mid new : Grid) (rest : List Coord) (before after : ℕ) 
   unfolding matrix_of
   matrix_is =
       let test : Coord → Bool = λ c. nat_lt 0 (word_at new c) in
-      let same : (matrix_where m.resolution test).voxels ≡ m.voxels = ext_get_or false (matrix_where m.resolution test).voxels m.voxels (length-where m.resolution test ∙ sym whole.voxels)
-      (λ k l. let i : k < m.resolution * m.resolution * m.resolution = subst (λ (n : ℕ). k < n) (length-where m.resolution test) l in get_or-where m.resolution test k i ∙ voxel k i) in
+      let made : Matrix = matrix_where m.resolution test in
+      let long : length made.voxels ≡ m.resolution * m.resolution * m.resolution = length-where m.resolution test in
+      let each : (k : ℕ) → k < m.resolution * m.resolution * m.resolution → get_or made.voxels k false ≡ get_or m.voxels k false =
+      λ k l. get_or-where m.resolution test k l ∙ voxel k l in
+      let same : made.voxels ≡ m.voxels =
+      ext_get_or false made.voxels m.voxels (long ∙ sym whole.voxels) (λ k l. each k (subst (λ (n : ℕ). k < n) long l)) in
       ap (λ (n : ℕ). matrix_where n test) (a.resolution ∙ h.resolution) ∙ (λ i. record { resolution = m.resolution; voxels = same i })
 
   pub touches_are : (start : ℕ) → before ≤ start + 8 * volume m.resolution → after ≤ start + 91 * volume m.resolution

@@ -5,7 +5,8 @@ use Rattle.support_forest.proofs.Stacking.{stacked_on_another, stacked_on_floor}
 use Rattle.support_forest.proofs.heap.stack.Goals as goal
 
 pub returns-then-c-eq0 : goal.returns-then-c-eq0
-returns-then-c-eq0 g c = stacked_on_floor _ _ _ _ _ c.requires.can c.if-c-eq0.true c.write.ensures.written c.write.ensures.resolution c.write.ensures.slots c.write.ensures.touch
+returns-then-c-eq0 g c = stacked_on_floor _ _ _ _ _ c.requires.can c.if-c-eq0.true c.write.ensures.written c.write.ensures.resolution c.write.ensures.slots
+    c.write.ensures.touch
 
 pub returns : goal.returns
 returns g c =

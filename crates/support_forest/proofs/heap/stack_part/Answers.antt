@@ -8,7 +8,8 @@ use Rattle.support_forest.proofs.Stacking.{can_stack_along, full_bit, heaped_at,
 use Rattle.support_forest.proofs.heap.stack_part.Goals as goal
 
 pub returns-then-bits-eq0-clause-heaped : goal.returns-then-bits-eq0-clause-heaped
-returns-then-bits-eq0-clause-heaped g c = heaped_blank _ _ _ _ _ _ c.requires.bits (let few = c.requires.brick in omega arith) c.if-bits-eq0.true c.requires.heaped
+returns-then-bits-eq0-clause-heaped g c = heaped_blank _ _ _ _ _ _ c.requires.bits (let few = c.requires.brick in omega arith) c.if-bits-eq0.true
+    c.requires.heaped
 
 pub loop-k-init : goal.loop-k-init
 loop-k-init g c = record {
@@ -35,9 +36,11 @@ loop-k-preserved-then-stack g c =
     let m = c.args.planes.now in
     let at : Coord = record { x = c.args.first.x; y = c.args.first.y; z = c.args.first.z + c.loop-k.k } in
     let full = full_bit m (place m.resolution c.args.first) c.args.count c.args.bits c.loop-k.k c.requires.bits c.loop-k-test.true c.if-bits-k-eq0.false in
-    let s = when c.stack.result (HaveStacked c.loop-k.cells c.stack.new.cells at c.loop-k.steps c.stack.new.steps) ((c.stack.new.cells ≡ c.loop-k.cells) × (c.stack.new.steps ≤ c.loop-k.steps + 7)) c.if-stack.true c.stack.ensures in
+    let s = when c.stack.result (HaveStacked c.loop-k.cells c.stack.new.cells at c.loop-k.steps c.stack.new.steps)
+    ((c.stack.new.cells ≡ c.loop-k.cells) × (c.stack.new.steps ≤ c.loop-k.steps + 7)) c.if-stack.true c.stack.ensures in
     record {
-      heaped = stacked_along m c.loop-k.cells c.args.first c.loop-k.k c.loop-k.rest.items c.loop-k.invariant.heaped c.requires.within (omega (arith, c.requires.row, c.loop-k-test.true)) full c.stack.new.cells c.loop-k.steps c.stack.new.steps s;
+      heaped = stacked_along m c.loop-k.cells c.args.first c.loop-k.k c.loop-k.rest.items c.loop-k.invariant.heaped c.requires.within
+          (omega (arith, c.requires.row, c.loop-k-test.true)) full c.stack.new.cells c.loop-k.steps c.stack.new.steps s;
       slots = slots_kept c.loop-k.cells c.stack.new.cells c.args.first _ _ s.slots s.placed.resolution c.loop-k.invariant.slots;
       touches = omega (arith, c.loop-k.invariant.touches, s.placed.cost);
     }
@@ -47,10 +50,13 @@ loop-k-preserved g c =
     let m = c.args.planes.now in
     let at : Coord = record { x = c.args.first.x; y = c.args.first.y; z = c.args.first.z + c.loop-k.k } in
     let full = full_bit m (place m.resolution c.args.first) c.args.count c.args.bits c.loop-k.k c.requires.bits c.loop-k-test.true c.if-bits-k-eq0.false in
-    let s = unless c.stack.result (HaveStacked c.loop-k.cells c.stack.new.cells at c.loop-k.steps c.stack.new.steps) ((c.stack.new.cells ≡ c.loop-k.cells) × (c.stack.new.steps ≤ c.loop-k.steps + 7)) c.if-stack.false c.stack.ensures in
+    let s = unless c.stack.result (HaveStacked c.loop-k.cells c.stack.new.cells at c.loop-k.steps c.stack.new.steps)
+    ((c.stack.new.cells ≡ c.loop-k.cells) × (c.stack.new.steps ≤ c.loop-k.steps + 7)) c.if-stack.false c.stack.ensures in
     record {
-      heaped = listed_along m c.loop-k.cells c.args.first c.loop-k.k c.loop-k.rest.items c.loop-k.invariant.heaped c.requires.within (omega (arith, c.requires.row, c.loop-k-test.true)) full c.stack.new.cells c.push.new.self.items s.0 c.in_ok-push.ensures.items;
-      slots = slots_kept c.loop-k.cells c.stack.new.cells c.args.first _ _ (ap (λ (q : Grid). q.table) s.0) (ap (λ (q : Grid). q.resolution) s.0) c.loop-k.invariant.slots;
+      heaped = listed_along m c.loop-k.cells c.args.first c.loop-k.k c.loop-k.rest.items c.loop-k.invariant.heaped c.requires.within
+          (omega (arith, c.requires.row, c.loop-k-test.true)) full c.stack.new.cells c.push.new.self.items s.0 c.in_ok-push.ensures.items;
+      slots = slots_kept c.loop-k.cells c.stack.new.cells c.args.first _ _ (ap (λ (q : Grid). q.table) s.0) (ap (λ (q : Grid). q.resolution) s.0)
+          c.loop-k.invariant.slots;
       touches = omega (arith, c.loop-k.invariant.touches, s.1);
     }
 
