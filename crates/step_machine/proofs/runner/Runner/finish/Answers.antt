@@ -1,6 +1,6 @@
 use Rattle.std.proofs.Common.{subst, sym}
 use Rattle.run_progress.specs.Progress.{Finishes}
-use Rattle.step_machine.specs.Course.{Course, course_of, mark_by}
+use Rattle.step_machine.specs.Course.{Course, course_of}
 use Rattle.step_machine.specs.declared.runner.Mark.{Mark}
 use Rattle.step_machine.proofs.runner.Runner.finish.Goals as goal
 
