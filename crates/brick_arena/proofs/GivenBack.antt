@@ -1,20 +1,20 @@
 -- What giving a slot back does.
 use Rattle.std.proofs.Common.{◌≡◌, ℕ, ◌+◌, ◌*◌, ◌<◌, ◌≤◌, false, List, ◌∷◌, sym, ap, ◌∙◌, subst, arith, is_some, inl, inr}
 use Rattle.std.specs.FinMap.{remove, len}
-use Rattle.brick_arena.specs.Arena.{is_among, AreDistinct, chain, live_slots, view_of, IsArena}
-use Rattle.brick_arena.specs.Chunks.{word_at, IsStored}
+use Rattle.brick_arena.specs.Arena.{is_listed, AreDistinct, chain, live_slots, view_of, IsArena}
+use Rattle.brick_arena.specs.Chunks.{chunk_word, IsStored}
 use Rattle.brick_arena.specs.Slots.{Slots}
 use Rattle.brick_arena.proofs.Chains.{among-first, among-beside, among-cases, chain-adds}
 use Rattle.brick_arena.proofs.LiveSlots.{get_vacant, get_live, removed, len_removed, same_slot}
 use Rattle.brick_arena.proofs.Written.{words_stay, links, past_stay}
 
 module _ (cs ds : List (List ℕ)) (free vacant reached s p : ℕ) (old : IsArena cs free vacant reached) (stored : IsStored cs ds p free) (first : p ≡ s * 512 + 0)
-    (lt : s < reached) (live : is_among s (chain (word_at cs) free vacant) ≡ false) where
+    (lt : s < reached) (live : is_listed s (chain (chunk_word cs) free vacant) ≡ false) where
   abbrev m : ℕ → ℕ
-  m = word_at cs
+  m = chunk_word cs
 
   abbrev m' : ℕ → ℕ
-  m' = word_at ds
+  m' = chunk_word ds
 
   abbrev fs : List ℕ
   fs = chain m free vacant
@@ -45,7 +45,7 @@ module _ (cs ds : List (List ℕ)) (free vacant reached s p : ℕ) (old : IsAren
     chunks = stored.chunks;
     room = subst (λ n. reached ≤ 64 * n) (sym stored.same_length) old.room;
     limit = old.limit;
-    below = λ t held. elim (among-cases t s fs (ap (λ l. is_among t l) (sym longer) ∙ held)) [ inl e ↦ subst (λ k. k < reached) (sym e) lt | inr h ↦ old.below t h ];
+    below = λ t held. elim (among-cases t s fs (ap (λ l. is_listed t l) (sym longer) ∙ held)) [ inl e ↦ subst (λ k. k < reached) (sym e) lt | inr h ↦ old.below t h ];
     distinct = subst AreDistinct (sym longer) (live, old.distinct);
     blank = λ q past. past_stay cs ds free vacant reached s 0 free p old stored first small lt live q past ∙ old.blank q past;
     count = omega (arith, old.count, one_less);

@@ -19,7 +19,7 @@ use denote.Plain.{uint_in}
 use Rattle.std.specs.Prelude.{Option, Some, None}
 use Rattle.std.proofs.lemmas.List.{get_or-append_right, get_or_append_left, get_or-replicate, get_or-take, get_or-drop}
 use Rattle.brick_arena.specs.Chunks.{SetsRange}
-use Rattle.brick_arena.specs.Ownership.{places}
+use Rattle.brick_arena.specs.Ownership.{word_places}
 use Rattle.brick_arena.proofs.Places.{cut, glue, to_room}
 
 -- the machine value of n zeros
@@ -37,14 +37,14 @@ blanked n cs i = take i cs ++ (replicate n (Some 0) ++ drop n (drop i cs))
 module _ {M : Type 1} {𝓤 : Ura M} (𝓛 : Logic 𝓤) (b : ℕ) where
   open 𝓛 use {H}
 
-  of_zeros : (n o : ℕ) → ent 𝓤 (elems 𝓤 H full_share (ty_int w32) b o (zeros n)) (sem 𝓛 (places b o (replicate n (Some 0))))
+  of_zeros : (n o : ℕ) → ent 𝓤 (elems 𝓤 H full_share (ty_int w32) b o (zeros n)) (sem 𝓛 (word_places b o (replicate n (Some 0))))
   of_zeros zero o = id⊢ 𝓤 (emp 𝓤)
   of_zeros (suc n) o = mono∗ 𝓤 (uint_in 𝓛 full_share w32 0 b o) (of_zeros n (o + 4))
 
   module _ (n o : ℕ) (cs : List (Option ℕ)) (i : ℕ) where
     -- the places but for the n from the i-th on
     abbrev pub Around : Fml
-    Around = fsep (places b o (take i cs)) (places b (n * 4 + (i * 4 + o)) (drop n (drop i cs)))
+    Around = fsep (word_places b o (take i cs)) (word_places b (n * 4 + (i * 4 + o)) (drop n (drop i cs)))
 
     before : i ≤ length cs → i * 4 + o ≡ length (take i cs) * 4 + o
     before le = let long : i ≡ length (take i cs) = omega (arith, length-take i cs) in ap (λ k. k * 4 + o) long
@@ -55,24 +55,24 @@ module _ {M : Type 1} {𝓤 : Ura M} (𝓛 : Logic 𝓤) (b : ℕ) where
     abbrev rest : List (Option ℕ)
     rest = drop n (drop i cs)
 
-    pub line_out : i + n ≤ length cs → ent 𝓤 (sem 𝓛 (places b o cs)) (sep 𝓤 (H.room (ty_array (ty_int w32) n) b (i * 4 + o)) (sem 𝓛 Around))
+    pub line_out : i + n ≤ length cs → ent 𝓤 (sem 𝓛 (word_places b o cs)) (sep 𝓤 (H.room (ty_array (ty_int w32) n) b (i * 4 + o)) (sem 𝓛 Around))
     line_out lt =
         let long : length mid ≡ n = omega (arith, length-take n (drop i cs), length-drop i cs) in
-        qed 𝓛 (‵ (places b o cs) ∷ []) ∵
-        rewrite ! 0 (λ (l : List (Option ℕ)). ‵ (places b o l)) (sym (take-append-drop i cs) ∙ ap (λ l. take i cs ++ l) (sym (take-append-drop n (drop i cs)))) refl $
-        use1 𝓛 (‵ (places b o (take i cs)) ⊛ ‵ (places b (i * 4 + o) (mid ++ rest))) (cut 𝓛 b (take i cs) (mid ++ rest) o (i * 4 + o) (before (omega arith))) $ split ! $ move ! (1 ∷ []) $
-        use1 𝓛 (‵ (places b (i * 4 + o) mid) ⊛ ‵ (places b (n * 4 + (i * 4 + o)) rest)) (cut 𝓛 b mid rest (i * 4 + o) (n * 4 + (i * 4 + o)) (ap (λ k. k * 4 + (i * 4 + o)) (sym long))) $ split ! $
-        use1 𝓛 (‵ (froom (ty_array (ty_int w32) n) b (i * 4 + o))) (subst (λ (k : ℕ). ent 𝓤 (sem 𝓛 (places b (i * 4 + o) mid)) (H.room (ty_array (ty_int w32) k) b (i * 4 + o))) long (to_room 𝓛 b mid (i * 4 + o))) $
+        qed 𝓛 (‵ (word_places b o cs) ∷ []) ∵
+        rewrite ! 0 (λ (l : List (Option ℕ)). ‵ (word_places b o l)) (sym (take-append-drop i cs) ∙ ap (λ l. take i cs ++ l) (sym (take-append-drop n (drop i cs)))) refl $
+        use1 𝓛 (‵ (word_places b o (take i cs)) ⊛ ‵ (word_places b (i * 4 + o) (mid ++ rest))) (cut 𝓛 b (take i cs) (mid ++ rest) o (i * 4 + o) (before (omega arith))) $ split ! $ move ! (1 ∷ []) $
+        use1 𝓛 (‵ (word_places b (i * 4 + o) mid) ⊛ ‵ (word_places b (n * 4 + (i * 4 + o)) rest)) (cut 𝓛 b mid rest (i * 4 + o) (n * 4 + (i * 4 + o)) (ap (λ k. k * 4 + (i * 4 + o)) (sym long))) $ split ! $
+        use1 𝓛 (‵ (froom (ty_array (ty_int w32) n) b (i * 4 + o))) (subst (λ (k : ℕ). ent 𝓤 (sem 𝓛 (word_places b (i * 4 + o) mid)) (H.room (ty_array (ty_int w32) k) b (i * 4 + o))) long (to_room 𝓛 b mid (i * 4 + o))) $
         move ! (2 ∷ 1 ∷ []) $ fjoin ! $ move ! (1 ∷ []) $ done !
 
-    pub line_in : i + n ≤ length cs → ent 𝓤 (sep 𝓤 (H.at full_share (ty_array (ty_int w32) n) b (i * 4 + o) (vstruct (of_list (zeros n)))) (sem 𝓛 Around)) (sem 𝓛 (places b o (blanked n cs i)))
+    pub line_in : i + n ≤ length cs → ent 𝓤 (sep 𝓤 (H.at full_share (ty_array (ty_int w32) n) b (i * 4 + o) (vstruct (of_list (zeros n)))) (sem 𝓛 Around)) (sem 𝓛 (word_places b o (blanked n cs i)))
     line_in lt =
         let zs : List (Option ℕ) = replicate n (Some 0) in
         qed 𝓛 (‵ (fat full_share (ty_array (ty_int w32) n) b (i * 4 + o) (vstruct (of_list (zeros n)))) ∷ ‵ Around ∷ []) ∵
-        use1 𝓛 (‵ (places b (i * 4 + o) zs)) (via 𝓤 (elems 𝓤 H full_share (ty_int w32) b (i * 4 + o) (zeros n)) (𝓛.laws.at_elems full_share (ty_int w32) n b (i * 4 + o) (zeros n)) (of_zeros n (i * 4 + o))) $
+        use1 𝓛 (‵ (word_places b (i * 4 + o) zs)) (via 𝓤 (elems 𝓤 H full_share (ty_int w32) b (i * 4 + o) (zeros n)) (𝓛.laws.at_elems full_share (ty_int w32) n b (i * 4 + o) (zeros n)) (of_zeros n (i * 4 + o))) $
         move ! (1 ∷ []) $ fsplit ! $ move ! (2 ∷ 1 ∷ []) $
-        use2 𝓛 (‵ (places b (i * 4 + o) (zs ++ rest))) (glue 𝓛 b zs rest (i * 4 + o) (n * 4 + (i * 4 + o)) (ap (λ k. k * 4 + (i * 4 + o)) (sym (length-replicate n (Some 0))))) $
-        move ! (1 ∷ []) $ use2 𝓛 (‵ (places b o (blanked n cs i))) (glue 𝓛 b (take i cs) (zs ++ rest) o (i * 4 + o) (before (omega arith))) $ done !
+        use2 𝓛 (‵ (word_places b (i * 4 + o) (zs ++ rest))) (glue 𝓛 b zs rest (i * 4 + o) (n * 4 + (i * 4 + o)) (ap (λ k. k * 4 + (i * 4 + o)) (sym (length-replicate n (Some 0))))) $
+        move ! (1 ∷ []) $ use2 𝓛 (‵ (word_places b o (blanked n cs i))) (glue 𝓛 b (take i cs) (zs ++ rest) o (i * 4 + o) (before (omega arith))) $ done !
 
 pub length-blanked : (n : ℕ) (cs : List (Option ℕ)) (i : ℕ) → i + n ≤ length cs → length (blanked n cs i) ≡ length cs
 length-blanked n cs i lt =

@@ -4,7 +4,7 @@ use Rattle.std.proofs.lemmas.Bool.{cases_lt, cases_eq, cases_Bool, eq-eqb, ne_eq
 use Rattle.std.specs.Ordering.{nat_cmp}
 use Rattle.std.specs.Cmp.{nat_cmp_total, unsigned_tied}
 use Rattle.std.specs.FinMap.{get, insert, remove, len, get-empty, get-insert, get-remove, len-insert, len-remove, empty_of_len, same_map, nat_cmp-IsAntisymmetric}
-use Rattle.brick_arena.specs.Arena.{is_among, slot_words, live_slots}
+use Rattle.brick_arena.specs.Arena.{is_listed, slot_words, live_slots}
 use Rattle.brick_arena.specs.Slots.{Slots, IsLive}
 
 module _ (v : Slots) (s : ℕ) where
@@ -59,43 +59,43 @@ module _ (m : ℕ → ℕ) (fs : List ℕ) where
   pub get_past : (n q : ℕ) → n ≤ q → get (live_slots m fs n) q ≡ None
   unfolding live_slots
   get_past zero q le = get-empty nat_cmp q
-  get_past (suc n) q le = step (live_slots m fs n) n (slot_words m n) (is_among n fs) q (λ e. absurd (omega (arith, e, le))) ∙ get_past n q (omega (arith, le))
+  get_past (suc n) q le = step (live_slots m fs n) n (slot_words m n) (is_listed n fs) q (λ e. absurd (omega (arith, e, le))) ∙ get_past n q (omega (arith, le))
 
-  pub get_vacant : (n q : ℕ) → is_among q fs ≡ true → get (live_slots m fs n) q ≡ None
+  pub get_vacant : (n q : ℕ) → is_listed q fs ≡ true → get (live_slots m fs n) q ≡ None
   unfolding live_slots
   get_vacant zero q held = get-empty nat_cmp q
   get_vacant (suc n) q held =
       let v = live_slots m fs n in
       elim (cases_eq q n) [
-        | inl e ↦ ap (λ b. get (cond b v (insert v n (slot_words m n))) q) (ap (λ k. is_among k fs) (sym e) ∙ held) ∙ get_vacant n q held
-        | inr ne ↦ step v n (slot_words m n) (is_among n fs) q ne ∙ get_vacant n q held
+        | inl e ↦ ap (λ b. get (cond b v (insert v n (slot_words m n))) q) (ap (λ k. is_listed k fs) (sym e) ∙ held) ∙ get_vacant n q held
+        | inr ne ↦ step v n (slot_words m n) (is_listed n fs) q ne ∙ get_vacant n q held
       ]
 
-  pub get_live : (n q : ℕ) → q < n → is_among q fs ≡ false → get (live_slots m fs n) q ≡ Some (slot_words m q)
+  pub get_live : (n q : ℕ) → q < n → is_listed q fs ≡ false → get (live_slots m fs n) q ≡ Some (slot_words m q)
   unfolding live_slots
   get_live zero q lt unheld = absurd (omega (arith, lt))
   get_live (suc n) q lt unheld =
       let v = live_slots m fs n in
       elim (cases_eq q n) [
-        | inl e ↦ ap (λ b. get (cond b v (insert v n (slot_words m n))) q) (ap (λ k. is_among k fs) (sym e) ∙ unheld) ∙ get-insert_here v n (slot_words m n) q e ∙ ap (λ k. Some (slot_words m k)) (sym e)
-        | inr ne ↦ step v n (slot_words m n) (is_among n fs) q ne ∙ get_live n q (omega (arith, lt, ne)) unheld
+        | inl e ↦ ap (λ b. get (cond b v (insert v n (slot_words m n))) q) (ap (λ k. is_listed k fs) (sym e) ∙ unheld) ∙ get-insert_here v n (slot_words m n) q e ∙ ap (λ k. Some (slot_words m k)) (sym e)
+        | inr ne ↦ step v n (slot_words m n) (is_listed n fs) q ne ∙ get_live n q (omega (arith, lt, ne)) unheld
       ]
 
-  pub live_inside : (n q : ℕ) → IsLive (live_slots m fs n) q → (q < n) × (is_among q fs ≡ false)
+  pub live_inside : (n q : ℕ) → IsLive (live_slots m fs n) q → (q < n) × (is_listed q fs ≡ false)
   live_inside n q live = elim (cases_lt q n) [
     | inr past ↦ let z : false ≡ true = sym (ap is_some (get_past n q past)) ∙ live in cc
-    | inl lt ↦ elim (cases_Bool (is_among q fs)) [
+    | inl lt ↦ elim (cases_Bool (is_listed q fs)) [
       | inl held ↦ let z : false ≡ true = sym (ap is_some (get_vacant n q held)) ∙ live in cc
       | inr unheld ↦ (lt, unheld)
     ]
   ]
 
 -- at a number where nothing changes
-pub same_slot : (m m' : ℕ → ℕ) (fs fs' : List ℕ) (n n' q : ℕ) → (q < n' → q < n) → (q < n → q < n') → is_among q fs' ≡ is_among q fs → (q < n → slot_words m' q ≡ slot_words m q)
+pub same_slot : (m m' : ℕ → ℕ) (fs fs' : List ℕ) (n n' q : ℕ) → (q < n' → q < n) → (q < n → q < n') → is_listed q fs' ≡ is_listed q fs → (q < n → slot_words m' q ≡ slot_words m q)
     → get (live_slots m' fs' n') q ≡ get (live_slots m fs n) q
 same_slot m m' fs fs' n n' q in_old in_new among words = elim (cases_lt q n) [
   | inr past ↦ get_past m' fs' n' q (elim (cases_lt q n') [ inl lt ↦ absurd (let lt' = in_old lt in omega (arith, lt', past)) | inr ge ↦ ge ]) ∙ sym (get_past m fs n q past)
-  | inl lt ↦ elim (cases_Bool (is_among q fs)) [
+  | inl lt ↦ elim (cases_Bool (is_listed q fs)) [
     | inl held ↦ get_vacant m' fs' n' q (among ∙ held) ∙ sym (get_vacant m fs n q held)
     | inr unheld ↦ get_live m' fs' n' q (in_new lt) (among ∙ unheld) ∙ ap Some (words lt) ∙ sym (get_live m fs n q lt unheld)
   ]

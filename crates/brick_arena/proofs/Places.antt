@@ -17,7 +17,7 @@ use types.Kit.{‵, ◌⊛◌, ◌$◌, ◌∵◌, !, qed, by, move, keep, drop 
 use denote.Plain.{uint_out}
 use denote.Steps.{nothing}
 use Rattle.std.specs.Prelude.{Option, Some, None}
-use Rattle.brick_arena.specs.Ownership.{chunk_type, no_words, place, places, place_lent, places_lent}
+use Rattle.brick_arena.specs.Ownership.{chunk_type, no_words, word_place, word_places, place_lent, places_lent}
 
 pub no-words-count : length no_words ≡ 32768
 unfolding no_words
@@ -31,57 +31,57 @@ some_within (c ∷ cs) (suc i) w e = omega (arith, some_within cs i w e)
 module _ {M : Type 1} {𝓤 : Ura M} (𝓛 : Logic 𝓤) (b : ℕ) where
   open 𝓛 use {H}
 
-  pub cut : (xs ys : List (Option ℕ)) (o at : ℕ) → at ≡ length xs * 4 + o → ent 𝓤 (sem 𝓛 (places b o (xs ++ ys))) (sep 𝓤 (sem 𝓛 (places b o xs)) (sem 𝓛 (places b at ys)))
-  cut [] ys o at e = qed 𝓛 (‵ (places b o ys) ∷ []) ∵ rewrite ! 0 (λ (k : ℕ). ‵ (places b k ys)) {x = at} (omega (arith, zero-mul 4)) refl $ nothing ! $ done !
-  cut (x ∷ xs) ys o at e = let more : at ≡ suc (length xs) * 4 + o = e in qed 𝓛 (‵ (places b o (x ∷ xs ++ ys)) ∷ []) ∵ fsplit ! $ move ! (1 ∷ []) $
-      use1 𝓛 (‵ (places b (o + 4) xs) ⊛ ‵ (places b at ys)) (cut xs ys (o + 4) at (omega (arith, suc-mul (length xs) 4))) $ split ! $ move ! (2 ∷ 0 ∷ []) $ fjoin ! $ done !
+  pub cut : (xs ys : List (Option ℕ)) (o at : ℕ) → at ≡ length xs * 4 + o → ent 𝓤 (sem 𝓛 (word_places b o (xs ++ ys))) (sep 𝓤 (sem 𝓛 (word_places b o xs)) (sem 𝓛 (word_places b at ys)))
+  cut [] ys o at e = qed 𝓛 (‵ (word_places b o ys) ∷ []) ∵ rewrite ! 0 (λ (k : ℕ). ‵ (word_places b k ys)) {x = at} (omega (arith, zero-mul 4)) refl $ nothing ! $ done !
+  cut (x ∷ xs) ys o at e = let more : at ≡ suc (length xs) * 4 + o = e in qed 𝓛 (‵ (word_places b o (x ∷ xs ++ ys)) ∷ []) ∵ fsplit ! $ move ! (1 ∷ []) $
+      use1 𝓛 (‵ (word_places b (o + 4) xs) ⊛ ‵ (word_places b at ys)) (cut xs ys (o + 4) at (omega (arith, suc-mul (length xs) 4))) $ split ! $ move ! (2 ∷ 0 ∷ []) $ fjoin ! $ done !
 
-  pub glue : (xs ys : List (Option ℕ)) (o at : ℕ) → at ≡ length xs * 4 + o → ent 𝓤 (sep 𝓤 (sem 𝓛 (places b o xs)) (sem 𝓛 (places b at ys))) (sem 𝓛 (places b o (xs ++ ys)))
-  glue [] ys o at e = qed 𝓛 (‵ ftrue ∷ ‵ (places b at ys) ∷ []) ∵ skip ! $ rewrite ! 0 (λ (k : ℕ). ‵ (places b k ys)) {x = o} (omega (arith, zero-mul 4)) refl $ done !
-  glue (x ∷ xs) ys o at e = let more : at ≡ suc (length xs) * 4 + o = e in qed 𝓛 (‵ (places b o (x ∷ xs)) ∷ ‵ (places b at ys) ∷ []) ∵ fsplit ! $ move ! (1 ∷ 2 ∷ []) $
-      use2 𝓛 (‵ (places b (o + 4) (xs ++ ys))) (glue xs ys (o + 4) at (omega (arith, suc-mul (length xs) 4))) $ move ! (1 ∷ 0 ∷ []) $ fjoin ! $ done !
+  pub glue : (xs ys : List (Option ℕ)) (o at : ℕ) → at ≡ length xs * 4 + o → ent 𝓤 (sep 𝓤 (sem 𝓛 (word_places b o xs)) (sem 𝓛 (word_places b at ys))) (sem 𝓛 (word_places b o (xs ++ ys)))
+  glue [] ys o at e = qed 𝓛 (‵ ftrue ∷ ‵ (word_places b at ys) ∷ []) ∵ skip ! $ rewrite ! 0 (λ (k : ℕ). ‵ (word_places b k ys)) {x = o} (omega (arith, zero-mul 4)) refl $ done !
+  glue (x ∷ xs) ys o at e = let more : at ≡ suc (length xs) * 4 + o = e in qed 𝓛 (‵ (word_places b o (x ∷ xs)) ∷ ‵ (word_places b at ys) ∷ []) ∵ fsplit ! $ move ! (1 ∷ 2 ∷ []) $
+      use2 𝓛 (‵ (word_places b (o + 4) (xs ++ ys))) (glue xs ys (o + 4) at (omega (arith, suc-mul (length xs) 4))) $ move ! (1 ∷ 0 ∷ []) $ fjoin ! $ done !
 
   -- a place is room, whether or not it holds a word
-  pub emptied : (o : ℕ) (c : Option ℕ) → ent 𝓤 (sem 𝓛 (place b o c)) (H.room (ty_int w32) b o)
+  pub emptied : (o : ℕ) (c : Option ℕ) → ent 𝓤 (sem 𝓛 (word_place b o c)) (H.room (ty_int w32) b o)
   emptied o None = id⊢ 𝓤 _
   emptied o (Some w) = via 𝓤 (H.at full_share (ty_int w32) b o (vint w32 w)) (uint_out 𝓛 full_share w32 w b o) (𝓛.laws.at_room (ty_int w32) b o (vint w32 w))
 
   module _ (o : ℕ) (cs : List (Option ℕ)) (i : ℕ) where
     -- the places but for the i-th
     abbrev pub Besides : Fml
-    Besides = fsep (places b o (take i cs)) (places b (i * 4 + o + 4) (drop (suc i) cs))
+    Besides = fsep (word_places b o (take i cs)) (word_places b (i * 4 + o + 4) (drop (suc i) cs))
 
     before : i ≤ length cs → i * 4 + o ≡ length (take i cs) * 4 + o
     before le = let long : i ≡ length (take i cs) = omega (arith, length-take i cs) in ap (λ k. k * 4 + o) long
 
-    pub place_out : i < length cs → ent 𝓤 (sem 𝓛 (places b o cs)) (sep 𝓤 (sem 𝓛 (place b (i * 4 + o) (get_or cs i None))) (sem 𝓛 Besides))
-    place_out lt = qed 𝓛 (‵ (places b o cs) ∷ []) ∵
-        rewrite ! 0 (λ (l : List (Option ℕ)). ‵ (places b o l)) (sym (take-append-drop i cs) ∙ ap (λ l. take i cs ++ l) (drop-cons cs i None lt)) refl $
-        use1 𝓛 (‵ (places b o (take i cs)) ⊛ ‵ (places b (i * 4 + o) (get_or cs i None ∷ drop (suc i) cs))) (cut (take i cs) (get_or cs i None ∷ drop (suc i) cs) o (i * 4 + o) (before (omega arith))) $
+    pub place_out : i < length cs → ent 𝓤 (sem 𝓛 (word_places b o cs)) (sep 𝓤 (sem 𝓛 (word_place b (i * 4 + o) (get_or cs i None))) (sem 𝓛 Besides))
+    place_out lt = qed 𝓛 (‵ (word_places b o cs) ∷ []) ∵
+        rewrite ! 0 (λ (l : List (Option ℕ)). ‵ (word_places b o l)) (sym (take-append-drop i cs) ∙ ap (λ l. take i cs ++ l) (drop-cons cs i None lt)) refl $
+        use1 𝓛 (‵ (word_places b o (take i cs)) ⊛ ‵ (word_places b (i * 4 + o) (get_or cs i None ∷ drop (suc i) cs))) (cut (take i cs) (get_or cs i None ∷ drop (suc i) cs) o (i * 4 + o) (before (omega arith))) $
         split ! $ move ! (1 ∷ []) $ fsplit ! $ move ! (2 ∷ 1 ∷ []) $ fjoin ! $ move ! (1 ∷ []) $ done !
 
-    pub place_in : i < length cs → (c : Option ℕ) → ent 𝓤 (sep 𝓤 (sem 𝓛 (place b (i * 4 + o) c)) (sem 𝓛 Besides)) (sem 𝓛 (places b o (set cs i c)))
-    place_in lt c = qed 𝓛 (‵ (place b (i * 4 + o) c) ∷ ‵ Besides ∷ []) ∵ move ! (1 ∷ []) $ fsplit ! $ move ! (2 ∷ 1 ∷ []) $ fjoin ! $ move ! (1 ∷ 0 ∷ []) $
-        use2 𝓛 (‵ (places b o (take i cs ++ c ∷ drop (suc i) cs))) (glue (take i cs) (c ∷ drop (suc i) cs) o (i * 4 + o) (before (omega arith))) $
-        rewrite ! 0 (λ (l : List (Option ℕ)). ‵ (places b o l)) (sym (set_split cs i c lt)) refl $ done !
+    pub place_in : i < length cs → (c : Option ℕ) → ent 𝓤 (sep 𝓤 (sem 𝓛 (word_place b (i * 4 + o) c)) (sem 𝓛 Besides)) (sem 𝓛 (word_places b o (set cs i c)))
+    place_in lt c = qed 𝓛 (‵ (word_place b (i * 4 + o) c) ∷ ‵ Besides ∷ []) ∵ move ! (1 ∷ []) $ fsplit ! $ move ! (2 ∷ 1 ∷ []) $ fjoin ! $ move ! (1 ∷ 0 ∷ []) $
+        use2 𝓛 (‵ (word_places b o (take i cs ++ c ∷ drop (suc i) cs))) (glue (take i cs) (c ∷ drop (suc i) cs) o (i * 4 + o) (before (omega arith))) $
+        rewrite ! 0 (λ (l : List (Option ℕ)). ‵ (word_places b o l)) (sym (set_split cs i c lt)) refl $ done !
 
-  pub of_room : (n o : ℕ) → ent 𝓤 (H.room (ty_array (ty_int w32) n) b o) (sem 𝓛 (places b o (replicate n None)))
+  pub of_room : (n o : ℕ) → ent 𝓤 (H.room (ty_array (ty_int w32) n) b o) (sem 𝓛 (word_places b o (replicate n None)))
   of_room zero o = qed 𝓛 (‵ (froom (ty_array (ty_int w32) 0) b o) ∷ []) ∵ keep ! [] $ done !
   of_room (suc n) o = qed 𝓛 (‵ (froom (ty_array (ty_int w32) (suc n)) b o) ∷ []) ∵
       use1 𝓛 (‵ (froom (ty_int w32) b o) ⊛ ‵ (froom (ty_array (ty_int w32) n) b (o + 4))) (𝓛.laws.room_uncons (ty_int w32) n b o) $ split ! $ frame ! $ by ! (of_room n (o + 4))
 
-  pub to_room : (cs : List (Option ℕ)) (o : ℕ) → ent 𝓤 (sem 𝓛 (places b o cs)) (H.room (ty_array (ty_int w32) (length cs)) b o)
+  pub to_room : (cs : List (Option ℕ)) (o : ℕ) → ent 𝓤 (sem 𝓛 (word_places b o cs)) (H.room (ty_array (ty_int w32) (length cs)) b o)
   to_room [] o = 𝓛.laws.room_nil (ty_int w32) b o
-  to_room (c ∷ cs) o = qed 𝓛 (‵ (place b o c) ∷ ‵ (places b (o + 4) cs) ∷ []) ∵
+  to_room (c ∷ cs) o = qed 𝓛 (‵ (word_place b o c) ∷ ‵ (word_places b (o + 4) cs) ∷ []) ∵
       use1 𝓛 (‵ (froom (ty_int w32) b o)) (emptied o c) $ move ! (1 ∷ []) $
       use1 𝓛 (‵ (froom (ty_array (ty_int w32) (length cs)) b (o + 4))) (to_room cs (o + 4)) $ move ! (1 ∷ []) $ by ! (𝓛.laws.room_cons (ty_int w32) (length cs) b o)
 
-  pub of_chunk : (o : ℕ) → ent 𝓤 (H.room chunk_type b o) (sem 𝓛 (places b o no_words))
+  pub of_chunk : (o : ℕ) → ent 𝓤 (H.room chunk_type b o) (sem 𝓛 (word_places b o no_words))
   unfolding no_words
   of_chunk o = of_room 32768 o
 
-  pub to_chunk : (cs : List (Option ℕ)) (o : ℕ) → length cs ≡ 32768 → ent 𝓤 (sem 𝓛 (places b o cs)) (H.room chunk_type b o)
-  to_chunk cs o e = subst (λ (n : ℕ). ent 𝓤 (sem 𝓛 (places b o cs)) (H.room (ty_array (ty_int w32) n) b o)) e (to_room cs o)
+  pub to_chunk : (cs : List (Option ℕ)) (o : ℕ) → length cs ≡ 32768 → ent 𝓤 (sem 𝓛 (word_places b o cs)) (H.room chunk_type b o)
+  to_chunk cs o e = subst (λ (n : ℕ). ent 𝓤 (sem 𝓛 (word_places b o cs)) (H.room (ty_array (ty_int w32) n) b o)) e (to_room cs o)
 
   module _ (κ : Lft) where
     from_on : (cs : List (Option ℕ)) (i o at : ℕ) → i ≤ length cs → at ≡ i * 4 + o → ent 𝓤 (sem 𝓛 (places_lent b o cs κ)) (sem 𝓛 (places_lent b at (drop i cs) κ))

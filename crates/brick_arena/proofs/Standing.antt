@@ -3,13 +3,13 @@ use Rattle.std.proofs.Common.{◌≡◌, ℕ, ◌+◌, ◌*◌, ◌/◌, ◌%◌
 use Rattle.std.proofs.lemmas.Bool.{cases_lt, cases_Bool}
 use Rattle.std.proofs.lemmas.List.{get_or_past}
 use Rattle.std.specs.FinMap.{get}
-use Rattle.brick_arena.specs.Arena.{is_among, chain, slot_words, view_of, IsArena}
-use Rattle.brick_arena.specs.Chunks.{AreChunks, word_at}
+use Rattle.brick_arena.specs.Arena.{is_listed, chain, slot_words, view_of, IsArena}
+use Rattle.brick_arena.specs.Chunks.{AreChunks, chunk_word}
 use Rattle.brick_arena.specs.Slots.{Slots, IsLive, words_of, AreSlots}
 use Rattle.brick_arena.proofs.LiveSlots.{get_past, get_vacant, get_live, live_inside}
 use Rattle.brick_arena.proofs.Rows.{length-row, get-row}
 
-word_fits : (cs : List (List ℕ)) (p : ℕ) → AreChunks cs → word_at cs p < 2 ^ 32
+word_fits : (cs : List (List ℕ)) (p : ℕ) → AreChunks cs → chunk_word cs p < 2 ^ 32
 word_fits cs p chunks = elim (cases_lt (p / 32768) (length cs)) [
   | inl lt ↦ (chunks (p / 32768) lt).fit (p % 32768)
   | inr past ↦ let e = ap (λ c. get_or c (p % 32768) 0) (get_or_past cs (p / 32768) [] past) in omega (arith, e)
@@ -17,7 +17,7 @@ word_fits cs p chunks = elim (cases_lt (p / 32768) (length cs)) [
 
 module _ (cs : List (List ℕ)) (free vacant reached : ℕ) (arena : IsArena cs free vacant reached) where
   abbrev m : ℕ → ℕ
-  m = word_at cs
+  m = chunk_word cs
 
   abbrev fs : List ℕ
   fs = chain m free vacant
@@ -25,7 +25,7 @@ module _ (cs : List (List ℕ)) (free vacant reached : ℕ) (arena : IsArena cs 
   abbrev v : Slots
   v = view_of cs free vacant reached
 
-  pub words-live : (s : ℕ) → s < reached → is_among s fs ≡ false → words_of v s ≡ slot_words m s
+  pub words-live : (s : ℕ) → s < reached → is_listed s fs ≡ false → words_of v s ≡ slot_words m s
   words-live s lt unheld = ap (λ o. unwrap_or o []) (get_live m fs reached s lt unheld)
 
   slot_fits : (s i : ℕ) → get_or (slot_words m s) i 0 < 2 ^ 32
@@ -43,7 +43,7 @@ module _ (cs : List (List ℕ)) (free vacant reached : ℕ) (arena : IsArena cs 
     lengths = λ s live. let inside = live_inside m fs reached s live in ap length (words-live s inside.0 inside.1) ∙ length-row m (512 * s) 512;
     words = λ s i. elim (cases_lt s reached) [
       | inr past ↦ no_words s i (get_past m fs reached s past)
-      | inl lt ↦ elim (cases_Bool (is_among s fs)) [
+      | inl lt ↦ elim (cases_Bool (is_listed s fs)) [
         | inl held ↦ no_words s i (get_vacant m fs reached s held)
         | inr unheld ↦ let e = ap (λ ws. get_or ws i 0) (words-live s lt unheld) in let fits = slot_fits s i in omega (arith, e, fits)
       ]
@@ -51,7 +51,7 @@ module _ (cs : List (List ℕ)) (free vacant reached : ℕ) (arena : IsArena cs 
   }
 
   -- a live slot was reached, and is not in the chain; the chunks have all its words
-  pub live_at : (slots : Slots) → v ≡ slots → (s : ℕ) → IsLive slots s → (s < reached) × (is_among s fs ≡ false) × (512 * s + 511 < 32768 * length cs)
+  pub live_at : (slots : Slots) → v ≡ slots → (s : ℕ) → IsLive slots s → (s < reached) × (is_listed s fs ≡ false) × (512 * s + 511 < 32768 * length cs)
   live_at slots is s live =
       let inside = live_inside m fs reached s (subst (λ w. IsLive w s) (sym is) live) in
       (inside.0, inside.1, omega (arith, inside.0, arena.room))

@@ -1,8 +1,8 @@
 -- What taking a slot that was never reached does.
 use Rattle.std.proofs.Common.{◌≡◌, ℕ, ◌+◌, ◌*◌, ◌<◌, ◌≤◌, false, List, refl, sym, ap, ◌∙◌, subst, arith, Some, None, replicate}
 use Rattle.std.specs.FinMap.{get, insert, len}
-use Rattle.brick_arena.specs.Arena.{is_among, AreDistinct, chain, slot_words, live_slots, view_of, IsArena}
-use Rattle.brick_arena.specs.Chunks.{word_at, HasRoom}
+use Rattle.brick_arena.specs.Arena.{is_listed, AreDistinct, chain, slot_words, live_slots, view_of, IsArena}
+use Rattle.brick_arena.specs.Chunks.{chunk_word, HasRoom}
 use Rattle.brick_arena.specs.Slots.{Slots}
 use Rattle.brick_arena.proofs.Chains.{not_true, chain-same}
 use Rattle.brick_arena.proofs.LiveSlots.{get_past, get_live, inserted, len_added, same_slot}
@@ -10,7 +10,7 @@ use Rattle.brick_arena.proofs.Rows.{row-same, row-const}
 
 module _ (cs : List (List ℕ)) (free vacant reached : ℕ) (old : IsArena cs free vacant reached) where
   abbrev m : ℕ → ℕ
-  m = word_at cs
+  m = chunk_word cs
 
   abbrev fs : List ℕ
   fs = chain m free vacant
@@ -23,7 +23,7 @@ module _ (cs : List (List ℕ)) (free vacant reached : ℕ) (old : IsArena cs fr
 
   module _ (ds : List (List ℕ)) (room : HasRoom cs ds reached) (fits : reached + 1 ≤ 1048576) where
     abbrev m' : ℕ → ℕ
-    m' = word_at ds
+    m' = chunk_word ds
 
     words_stay : (t : ℕ) → slot_words m' t ≡ slot_words m t
     words_stay t = row-same m m' (512 * t) 512 (λ k lt. room.same (512 * t + k))
@@ -34,8 +34,8 @@ module _ (cs : List (List ℕ)) (free vacant reached : ℕ) (old : IsArena cs fr
     links : chain m' free vacant ≡ fs
     links = chain-same m m' free vacant (λ t in_chain. room.same (512 * t))
 
-    beyond : is_among reached fs ≡ false
-    beyond = not_true (is_among reached fs) (λ e. let bad : reached < reached = old.below reached e in absurd (omega (arith, bad)))
+    beyond : is_listed reached fs ≡ false
+    beyond = not_true (is_listed reached fs) (λ e. let bad : reached < reached = old.below reached e in absurd (omega (arith, bad)))
 
     pub view_new : view_of ds free vacant (reached + 1) ≡ insert v reached (replicate 512 0)
     view_new =
@@ -52,7 +52,7 @@ module _ (cs : List (List ℕ)) (free vacant reached : ℕ) (old : IsArena cs fr
       chunks = room.chunks;
       room = let lt = room.room in omega (arith, lt);
       limit = fits;
-      below = λ t in_chain. let lt : t < reached = old.below t (ap (λ l. is_among t l) (sym links) ∙ in_chain) in omega (arith, lt);
+      below = λ t in_chain. let lt : t < reached = old.below t (ap (λ l. is_listed t l) (sym links) ∙ in_chain) in omega (arith, lt);
       distinct = subst AreDistinct (sym links) old.distinct;
       blank = λ q past. room.same q ∙ old.blank q (omega (arith, past));
       count = omega (arith, old.count, one_more);

@@ -1,8 +1,8 @@
 -- What taking the first of the vacant slots does.
 use Rattle.std.proofs.Common.{◌≡◌, ℕ, ◌+◌, ◌-◌, ◌*◌, ◌/◌, ◌%◌, ◌<◌, ◌≤◌, true, false, List, ◌∷◌, sym, ap, ◌∙◌, subst, arith, Some, None, replicate}
 use Rattle.std.specs.FinMap.{get, insert, len}
-use Rattle.brick_arena.specs.Arena.{is_among, AreDistinct, chain, slot_words, live_slots, view_of, IsArena}
-use Rattle.brick_arena.specs.Chunks.{word_at, IsCleared}
+use Rattle.brick_arena.specs.Arena.{is_listed, AreDistinct, chain, slot_words, live_slots, view_of, IsArena}
+use Rattle.brick_arena.specs.Chunks.{chunk_word, IsCleared}
 use Rattle.brick_arena.specs.Slots.{Slots}
 use Rattle.brick_arena.proofs.Chains.{among-first, among-rest, among-beside, apart, chain-same, chain-opens}
 use Rattle.brick_arena.proofs.LiveSlots.{get_vacant, get_live, inserted, len_added, same_slot}
@@ -10,7 +10,7 @@ use Rattle.brick_arena.proofs.Rows.{row-same, row-const}
 
 module _ (cs : List (List ℕ)) (free vacant reached : ℕ) (old : IsArena cs free vacant reached) (some : 0 < vacant) where
   abbrev m : ℕ → ℕ
-  m = word_at cs
+  m = chunk_word cs
 
   abbrev fs : List ℕ
   fs = chain m free vacant
@@ -24,10 +24,10 @@ module _ (cs : List (List ℕ)) (free vacant reached : ℕ) (old : IsArena cs fr
   opens : fs ≡ free ∷ ts
   opens = chain-opens m free vacant some
 
-  held : is_among free fs ≡ true
-  held = ap (λ l. is_among free l) opens ∙ among-first free ts
+  held : is_listed free fs ≡ true
+  held = ap (λ l. is_listed free l) opens ∙ among-first free ts
 
-  split : (is_among free ts ≡ false) × AreDistinct ts
+  split : (is_listed free ts ≡ false) × AreDistinct ts
   split = subst AreDistinct opens old.distinct
 
   pub vacant_inside : free < reached
@@ -36,9 +36,9 @@ module _ (cs : List (List ℕ)) (free vacant reached : ℕ) (old : IsArena cs fr
   pub vacant_fresh : get v free ≡ None
   vacant_fresh = get_vacant m fs reached free held
 
-  module _ (ds : List (List ℕ)) (next p : ℕ) (at : p ≡ free * 512 + 0) (link : next ≡ word_at cs p) (cleared : IsCleared cs ds free) where
+  module _ (ds : List (List ℕ)) (next p : ℕ) (at : p ≡ free * 512 + 0) (link : next ≡ chunk_word cs p) (cleared : IsCleared cs ds free) where
     abbrev m' : ℕ → ℕ
-    m' = word_at ds
+    m' = chunk_word ds
 
     first_stays : (t : ℕ) → (t ≡ free → ⊥) → m' (512 * t) ≡ m (512 * t)
     first_stays t ne = let e : 512 * t ≡ 512 * t + 0 = omega arith in ap m' e ∙ cleared.others t 0 ne (omega arith) ∙ ap m (sym e)
@@ -59,7 +59,7 @@ module _ (cs : List (List ℕ)) (free vacant reached : ℕ) (old : IsArena cs fr
         ap (λ l. live_slots m' l reached) shorter
         ∙ inserted v free (live_slots m' ts reached) (replicate 512 0)
         (get_live m' ts reached free vacant_inside split.0 ∙ ap Some zeros)
-        (λ q ne. same_slot m m' fs ts reached reached q (λ l. l) (λ l. l) (sym (ap (λ l. is_among q l) opens ∙ among-beside q free ts ne)) (λ _. words_stay q ne))
+        (λ q ne. same_slot m m' fs ts reached reached q (λ l. l) (λ l. l) (sym (ap (λ l. is_listed q l) opens ∙ among-beside q free ts ne)) (λ _. words_stay q ne))
 
     one_more : len (view_of ds next (vacant - 1) reached) ≡ len v + 1
     one_more = ap len view_taken ∙ len_added v free (replicate 512 0) vacant_fresh
@@ -74,7 +74,7 @@ module _ (cs : List (List ℕ)) (free vacant reached : ℕ) (old : IsArena cs fr
       chunks = cleared.chunks;
       room = subst (λ n. reached ≤ 64 * n) (sym cleared.same_length) old.room;
       limit = old.limit;
-      below = λ t in_chain. old.below t (ap (λ l. is_among t l) opens ∙ among-rest t free ts (ap (λ l. is_among t l) (sym shorter) ∙ in_chain));
+      below = λ t in_chain. old.below t (ap (λ l. is_listed t l) opens ∙ among-rest t free ts (ap (λ l. is_listed t l) (sym shorter) ∙ in_chain));
       distinct = subst AreDistinct (sym shorter) split.1;
       blank = λ q past. past_stay q past ∙ old.blank q past;
       count = omega (arith, old.count, one_more, some);

@@ -1,8 +1,8 @@
 -- What a write of one word of a live slot does.
 use Rattle.std.proofs.Common.{◌≡◌, ℕ, ◌+◌, ◌*◌, ◌<◌, ◌≤◌, true, false, List, refl, sym, ap, ◌∙◌, subst, arith, Some, is_some, set}
 use Rattle.std.specs.FinMap.{insert, len}
-use Rattle.brick_arena.specs.Arena.{is_among, AreDistinct, chain, slot_words, live_slots, view_of, IsArena}
-use Rattle.brick_arena.specs.Chunks.{word_at, IsStored}
+use Rattle.brick_arena.specs.Arena.{is_listed, AreDistinct, chain, slot_words, live_slots, view_of, IsArena}
+use Rattle.brick_arena.specs.Chunks.{chunk_word, IsStored}
 use Rattle.brick_arena.specs.Slots.{Slots, words_of}
 use Rattle.brick_arena.proofs.Chains.{chain-stays}
 use Rattle.brick_arena.proofs.LiveSlots.{get_live, inserted, len_replaced, same_slot}
@@ -10,12 +10,12 @@ use Rattle.brick_arena.proofs.Rows.{row-same, row-set}
 use Rattle.brick_arena.proofs.Standing.{words-live}
 
 module _ (cs ds : List (List ℕ)) (free vacant reached s i w p : ℕ) (old : IsArena cs free vacant reached) (stored : IsStored cs ds p w) (at : p ≡ s * 512 + i) (li : i < 512)
-    (lt : s < reached) (live : is_among s (chain (word_at cs) free vacant) ≡ false) where
+    (lt : s < reached) (live : is_listed s (chain (chunk_word cs) free vacant) ≡ false) where
   abbrev m : ℕ → ℕ
-  m = word_at cs
+  m = chunk_word cs
 
   abbrev m' : ℕ → ℕ
-  m' = word_at ds
+  m' = chunk_word ds
 
   abbrev fs : List ℕ
   fs = chain m free vacant
@@ -57,7 +57,7 @@ module _ (cs ds : List (List ℕ)) (free vacant reached s i w p : ℕ) (old : Is
     chunks = stored.chunks;
     room = subst (λ n. reached ≤ 64 * n) (sym stored.same_length) old.room;
     limit = old.limit;
-    below = subst (λ l. (t : ℕ) → is_among t l ≡ true → t < reached) (sym links) old.below;
+    below = subst (λ l. (t : ℕ) → is_listed t l ≡ true → t < reached) (sym links) old.below;
     distinct = subst AreDistinct (sym links) old.distinct;
     blank = λ q past. past_stay q past ∙ old.blank q past;
     count = omega (arith, old.count, same_count);

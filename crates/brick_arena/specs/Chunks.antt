@@ -23,25 +23,25 @@ abbrev pub AreChunks : List (List ℕ) → Type 0
 AreChunks chunks = (k : ℕ) → k < length chunks → IsChunk (slice_index_or chunks k [])
 
 -- the word at a place, and 0 past the last chunk
-abbrev pub word_at : List (List ℕ) → ℕ → ℕ
-word_at chunks place = slice_index (slice_index_or chunks (place / CHUNK_WORDS) []) (place % CHUNK_WORDS)
+abbrev pub chunk_word : List (List ℕ) → ℕ → ℕ
+chunk_word chunks place = slice_index (slice_index_or chunks (place / CHUNK_WORDS) []) (place % CHUNK_WORDS)
 
 -- the word at the place is the new one, and all others stay
 pub record IsStored (old new : List (List ℕ)) (place word : ℕ) : Type 0 where
   pub same_length : length new ≡ length old
   pub chunks : AreChunks new
-  pub here : word_at new place ≡ word
-  pub others : (other : ℕ) → (other ≡ place → ⊥) → word_at new other ≡ word_at old other
+  pub here : chunk_word new place ≡ word
+  pub others : (other : ℕ) → (other ≡ place → ⊥) → chunk_word new other ≡ chunk_word old other
 
 -- the words of the slot are 0, and those of all others stay
 pub record IsCleared (old new : List (List ℕ)) (slot : ℕ) : Type 0 where
   pub same_length : length new ≡ length old
   pub chunks : AreChunks new
-  pub zeros : (k : ℕ) → k < SLOT_WORDS → word_at new (SLOT_WORDS * slot + k) ≡ 0
-  pub others : (other k : ℕ) → (other ≡ slot → ⊥) → k < SLOT_WORDS → word_at new (SLOT_WORDS * other + k) ≡ word_at old (SLOT_WORDS * other + k)
+  pub zeros : (k : ℕ) → k < SLOT_WORDS → chunk_word new (SLOT_WORDS * slot + k) ≡ 0
+  pub others : (other k : ℕ) → (other ≡ slot → ⊥) → k < SLOT_WORDS → chunk_word new (SLOT_WORDS * other + k) ≡ chunk_word old (SLOT_WORDS * other + k)
 
 -- there is a chunk for the slot, and each word stays: those of a new chunk are 0, as past the last one
 pub record HasRoom (old new : List (List ℕ)) (slot : ℕ) : Type 0 where
   pub chunks : AreChunks new
   pub room : slot < CHUNK_SLOTS * length new
-  pub same : (place : ℕ) → word_at new place ≡ word_at old place
+  pub same : (place : ℕ) → chunk_word new place ≡ chunk_word old place

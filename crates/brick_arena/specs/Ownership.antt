@@ -17,17 +17,17 @@ unfoldable pub no_words : List (Option ℕ)
 no_words = replicate 32768 None
 
 -- one place, o bytes into the block b
-abbrev pub place : ℕ → ℕ → Option ℕ → Fml
-place b o (Some w) = part_at u32 full_share w b o
-place b o None = froom (ty_int w32) b o
+abbrev pub word_place : ℕ → ℕ → Option ℕ → Fml
+word_place b o (Some w) = part_at u32 full_share w b o
+word_place b o None = froom (ty_int w32) b o
 
 -- places side by side
-abbrev pub places : ℕ → ℕ → List (Option ℕ) → Fml
-places b o [] = ftrue
-places b o (c ∷ cs) = fsep (place b o c) (places b (o + 4) cs)
+abbrev pub word_places : ℕ → ℕ → List (Option ℕ) → Fml
+word_places b o [] = ftrue
+word_places b o (c ∷ cs) = fsep (word_place b o c) (word_places b (o + 4) cs)
 
 abbrev pub words_own : Ptr → List (Option ℕ) → Fml
-words_own (block_ptr b o) cs = places b o cs
+words_own (block_ptr b o) cs = word_places b o cs
 words_own null_ptr cs = ffalse
 
 abbrev pub place_lent : ℕ → ℕ → Option ℕ → Lft → Fml

@@ -1,6 +1,6 @@
 //! Words over a list of chunks, by place: the words of slot 0, those of slot 1, and so on.
 ghost use Rattle.std.specs.Prelude.{◌≡◌, ◌+◌, ◌*◌, ◌<◌, ◌≤◌, length, OnOk, OnErr};
-ghost use Rattle.brick_arena.specs.Chunks.{word_at, AreChunks, IsStored, IsCleared, HasRoom};
+ghost use Rattle.brick_arena.specs.Chunks.{chunk_word, AreChunks, IsStored, IsCleared, HasRoom};
 
 use super::SLOT_WORDS;
 use super::chunk::{CHUNK_SLOTS, CHUNK_WORDS, Chunk, LINE_WORDS};
@@ -17,7 +17,7 @@ pub(crate) fn place(slot: u32, index: u16) -> usize
 pub(crate) fn load(chunks: &Vec<Chunk>, place: usize) -> u32
     requires inside { place < CHUNK_WORDS * length chunks.now.items }
     requires chunks { AreChunks chunks.now.items }
-    ensures { result ≡ word_at chunks.now.items place }
+    ensures { result ≡ chunk_word chunks.now.items place }
 {
     chunks[place / CHUNK_WORDS].word(place % CHUNK_WORDS)
 }

@@ -12,10 +12,10 @@ use Rattle.trace_text.specs.declared.fault.TextFault.TheVariants as refusal
 use Rattle.step_debugger.specs.Session as session
 use Rattle.debug_script.specs.declared.line.ScriptLine.{ScriptLine}
 use Rattle.debug_script.specs.declared.line.ScriptLine.TheVariants as code
-use Rattle.debug_script.specs.declared.word.Word.{Word}
-use Rattle.debug_script.specs.declared.word.Word.TheVariants as word
-use Rattle.debug_script.specs.Calls.{IsReadBy, all_words, letters}
-use Rattle.debug_script.specs.Script.{Back, Bots, Form, Group, HasFewDigits, IsForm, PartsSay, Step, Voxel, has_unknown_word, parts, parts_of, said}
+use Rattle.debug_script.specs.declared.word.ScriptWord.{ScriptWord}
+use Rattle.debug_script.specs.declared.word.ScriptWord.TheVariants as word
+use Rattle.debug_script.specs.Calls.{IsReadBy, all_words, script_letters}
+use Rattle.debug_script.specs.Script.{Back, Bots, Form, Group, HasFewDigits, IsForm, PartsSay, Step, Voxel, has_unknown_word, line_parts, parts_of, form_said}
 
 -- ---- a line has a part
 
@@ -32,41 +32,41 @@ some (x ∷ xs) = two (x == 32) (slice_split (λ b. b == 32) xs) (some xs)
     two false [] h = absurd h
     two false (y ∷ ys) h = tt
 
-pub parts_some : (xs : List ℕ) → parts xs ≡ [] → ⊥
+pub parts_some : (xs : List ℕ) → line_parts xs ≡ [] → ⊥
 parts_some xs e = subst IsSome e (some xs)
 
 -- a line with a space has more than one part
-pub more_parts : (line part rest : List ℕ) (n : ℕ) → parts line ≡ part ∷ parts rest → parts line ≡ decimal n ∷ [] → ⊥
-more_parts line part rest n e f = parts_some rest (by (parts rest) (sym e ∙ f))
+pub more_parts : (line part rest : List ℕ) (n : ℕ) → line_parts line ≡ part ∷ line_parts rest → line_parts line ≡ decimal n ∷ [] → ⊥
+more_parts line part rest n e f = parts_some rest (by (line_parts rest) (sym e ∙ f))
   where
     by : (ps : List (List ℕ)) → part ∷ ps ≡ decimal n ∷ [] → ps ≡ []
     by ps g = cc
 
 -- ---- the words
 
-word_is : (w : Word) (bytes : List ℕ) → bytes_eq (letters w) bytes ≡ true → bytes ≡ letters w
-word_is w bytes e = sym ((bytes_eq-Decides (letters w) bytes).0 e)
+word_is : (w : ScriptWord) (bytes : List ℕ) → bytes_eq (script_letters w) bytes ≡ true → bytes ≡ script_letters w
+word_is w bytes e = sym ((bytes_eq-Decides (script_letters w) bytes).0 e)
 
 module _ (bytes : List ℕ) where
-  abbrev is_it : Word → Bool
-  is_it w = bytes_eq (letters w) bytes
+  abbrev is_it : ScriptWord → Bool
+  is_it w = bytes_eq (script_letters w) bytes
 
-  found_on : (v w : Word) (rest : Option Word) → (rest ≡ Some w → is_it w ≡ true) → (b : Bool) → is_it v ≡ b → cond b (Some v) rest ≡ Some w → is_it w ≡ true
+  found_on : (v w : ScriptWord) (rest : Option ScriptWord) → (rest ≡ Some w → is_it w ≡ true) → (b : Bool) → is_it v ≡ b → cond b (Some v) rest ≡ Some w → is_it w ≡ true
   found_on v w rest later true f e = let same : v ≡ w = cc in subst (λ x. is_it x ≡ true) same f
   found_on v w rest later false f e = later e
 
-  found : (ws : List Word) (w : Word) → find is_it ws ≡ Some w → is_it w ≡ true
+  found : (ws : List ScriptWord) (w : ScriptWord) → find is_it ws ≡ Some w → is_it w ≡ true
   found [] w e = absurd (let none : None ≡ Some w = e in cc)
   found (v ∷ ws) w e = found_on v w (find is_it ws) (found ws w) (is_it v) refl e
 
-  pub word_found : (w : Word) → Some w ≡ find is_it all_words → bytes ≡ letters w
+  pub word_found : (w : ScriptWord) → Some w ≡ find is_it all_words → bytes ≡ script_letters w
   word_found w e = word_is w bytes (found all_words w (sym e))
 
-  missed_on : (v : Word) (rest : Option Word) (others : Bool) → (rest ≡ None → others ≡ false) → (b : Bool) → cond b (Some v) rest ≡ None → (b || others) ≡ false
+  missed_on : (v : ScriptWord) (rest : Option ScriptWord) (others : Bool) → (rest ≡ None → others ≡ false) → (b : Bool) → cond b (Some v) rest ≡ None → (b || others) ≡ false
   missed_on v rest others later true e = absurd (let none : Some v ≡ None = e in cc)
   missed_on v rest others later false e = later e
 
-  missed : (ws : List Word) → find is_it ws ≡ None → list_any is_it ws ≡ false
+  missed : (ws : List ScriptWord) → find is_it ws ≡ None → list_any is_it ws ≡ false
   missed [] e = refl
   missed (v ∷ ws) e = missed_on v (find is_it ws) (list_any is_it ws) (missed ws) (is_it v) e
 

@@ -7,59 +7,59 @@ use Rattle.nano_spec.specs.Line.{Fault}
 use Rattle.nano_spec.specs.Reading.{FaultyLine, lines}
 use Rattle.trace_text.specs.Text.{fault_at}
 use Rattle.trace_text.specs.declared.fault.TextFault.{TextFault}
-use Rattle.step_debugger.specs.Session.{Line}
-use Rattle.debug_script.specs.Calls.{IsReadBy, Reads, line_is, lines_are}
-use Rattle.debug_script.specs.Script.{LineSays, LinesSay, ScriptSays, with_first}
+use Rattle.step_debugger.specs.Session.{DebugLine}
+use Rattle.debug_script.specs.Calls.{IsReadBy, ReadsScript, script_line_is, lines_are}
+use Rattle.debug_script.specs.Script.{LineSays, LinesSay, ScriptSays, with_first_line}
 use Rattle.debug_script.specs.declared.line.ScriptLine.{ScriptLine}
 
 -- lines before what is read after them
-abbrev with_all : List Line → Result (List Line) FaultyLine → Result (List Line) FaultyLine
+abbrev with_all : List DebugLine → Result (List DebugLine) FaultyLine → Result (List DebugLine) FaultyLine
 with_all [] answer = answer
-with_all (x ∷ xs) answer = with_first x (with_all xs answer)
+with_all (x ∷ xs) answer = with_first_line x (with_all xs answer)
 
-all_ok : (xs : List Line) → with_all xs (Ok []) ≡ Ok xs
+all_ok : (xs : List DebugLine) → with_all xs (Ok []) ≡ Ok xs
 all_ok [] = refl
-all_ok (x ∷ xs) = ap (with_first x) (all_ok xs)
+all_ok (x ∷ xs) = ap (with_first_line x) (all_ok xs)
 
-all_err : (xs : List Line) (e : FaultyLine) → with_all xs (Err e) ≡ Err e
+all_err : (xs : List DebugLine) (e : FaultyLine) → with_all xs (Err e) ≡ Err e
 all_err [] e = refl
-all_err (x ∷ xs) e = ap (with_first x) (all_err xs e)
+all_err (x ∷ xs) e = ap (with_first_line x) (all_err xs e)
 
-one_more : (xs : List Line) (x : Line) (answer : Result (List Line) FaultyLine) → with_all xs (with_first x answer) ≡ with_all (xs ++ x ∷ []) answer
+one_more : (xs : List DebugLine) (x : DebugLine) (answer : Result (List DebugLine) FaultyLine) → with_all xs (with_first_line x answer) ≡ with_all (xs ++ x ∷ []) answer
 one_more [] x answer = refl
-one_more (y ∷ xs) x answer = ap (with_first y) (one_more xs x answer)
+one_more (y ∷ xs) x answer = ap (with_first_line y) (one_more xs x answer)
 
 -- the lines were read, and whatever the lines that are left come to, all lines come to these and that
 pub record IsReading (r : ℕ) (bytes : List ℕ) (script : List ScriptLine) (left : List ℕ) (number : ℕ) : Type 0 where
-  pub goes_on : (answer : Result (List Line) FaultyLine) → LinesSay r (number + 1) (lines left) answer → ScriptSays r bytes (with_all (lines_are script) answer)
+  pub goes_on : (answer : Result (List DebugLine) FaultyLine) → LinesSay r (number + 1) (lines left) answer → ScriptSays r bytes (with_all (lines_are script) answer)
   pub few : number + length left ≤ 65536
 
 pub nothing_read : (r : ℕ) (bytes : List ℕ) → length bytes ≤ 65536 → IsReading r bytes [] bytes 0
 nothing_read r bytes h = record { goes_on = λ answer says. says; few = omega (arith, h) }
 
 module _ (r : ℕ) (bytes : List ℕ) (script : List ScriptLine) (left : List ℕ) (number : ℕ) (so_far : IsReading r bytes script left number) (first more : List ℕ) (cut : lines left ≡ first ∷ lines more) where
-  pub line_read : (said : ScriptLine) (now : List ScriptLine) → length more < length left → now ≡ script ++ said ∷ [] → LineSays r first (Ok (line_is said)) → IsReading r bytes now more (number + 1)
+  pub line_read : (said : ScriptLine) (now : List ScriptLine) → length more < length left → now ≡ script ++ said ∷ [] → LineSays r first (Ok (script_line_is said)) → IsReading r bytes now more (number + 1)
   line_read said now shorter e says = record {
     goes_on = λ answer rest.
-        let all = so_far.goes_on (with_first (line_is said) answer) (subst (λ (ls : List (List ℕ)). LinesSay r (number + 1) ls (with_first (line_is said) answer)) (sym cut) (Ok (line_is said), says, (answer, rest, refl))) in
-        let same : lines_are now ≡ lines_are script ++ line_is said ∷ [] = ap lines_are e ∙ map-append line_is script (said ∷ []) in
-        subst (ScriptSays r bytes) (one_more (lines_are script) (line_is said) answer ∙ ap (λ (xs : List Line). with_all xs answer) (sym same)) all;
+        let all = so_far.goes_on (with_first_line (script_line_is said) answer) (subst (λ (ls : List (List ℕ)). LinesSay r (number + 1) ls (with_first_line (script_line_is said) answer)) (sym cut) (Ok (script_line_is said), says, (answer, rest, refl))) in
+        let same : lines_are now ≡ lines_are script ++ script_line_is said ∷ [] = ap lines_are e ∙ map-append script_line_is script (said ∷ []) in
+        subst (ScriptSays r bytes) (one_more (lines_are script) (script_line_is said) answer ∙ ap (λ (xs : List DebugLine). with_all xs answer) (sym same)) all;
     few = let n = so_far.few in omega (arith, n, shorter);
   }
 
   faulty_at : (fault : Fault) → LineSays r first (Err fault) → ScriptSays r bytes (Err (record { fault = fault; line = number + 1 }))
   faulty_at fault says = subst (ScriptSays r bytes) (all_err (lines_are script) (record { fault = fault; line = number + 1 })) (so_far.goes_on (Err (record { fault = fault; line = number + 1 })) (subst (λ (ls : List (List ℕ)). LinesSay r (number + 1) ls (Err (record { fault = fault; line = number + 1 }))) (sym cut) (Err fault, says, refl)))
 
-  reads_at : (Y : Type 0) (fault : Fault) → ScriptSays r bytes (Err (record { fault = fault; line = number + 1 })) → Reads {Y = Y} r bytes (Err (fault_at fault (number + 1)))
+  reads_at : (Y : Type 0) (fault : Fault) → ScriptSays r bytes (Err (record { fault = fault; line = number + 1 })) → ReadsScript {Y = Y} r bytes (Err (fault_at fault (number + 1)))
   reads_at Y line.NotAscii h = h
   reads_at Y line.UnknownWord h = h
   reads_at Y line.Shape h = h
   reads_at Y line.Range h = h
 
-  pub line_refused : (Y : Type 0) (refusal : TextFault) → IsReadBy (LineSays r first) (number + 1) (Err refusal) → Reads {Y = Y} r bytes (Err refusal)
-  line_refused Y refusal says = subst (λ (x : TextFault). Reads {Y = Y} r bytes (Err x)) (sym says.2) (reads_at Y says.0 (faulty_at says.0 says.1))
+  pub line_refused : (Y : Type 0) (refusal : TextFault) → IsReadBy (LineSays r first) (number + 1) (Err refusal) → ReadsScript {Y = Y} r bytes (Err refusal)
+  line_refused Y refusal says = subst (λ (x : TextFault). ReadsScript {Y = Y} r bytes (Err x)) (sym says.2) (reads_at Y says.0 (faulty_at says.0 says.1))
 
-pub all_read : {Y : Type 0} (r : ℕ) (bytes : List ℕ) (script : Vec ScriptLine Y) (left : List ℕ) (number : ℕ) → IsReading r bytes script.items left number → length left ≡ 0 → Reads {Y = Y} r bytes (Ok script)
+pub all_read : {Y : Type 0} (r : ℕ) (bytes : List ℕ) (script : Vec ScriptLine Y) (left : List ℕ) (number : ℕ) → IsReading r bytes script.items left number → length left ≡ 0 → ReadsScript {Y = Y} r bytes (Ok script)
 all_read r bytes script left number so_far none =
     subst (ScriptSays r bytes) (all_ok (lines_are script.items)) (so_far.goes_on (Ok []) (subst (λ (xs : List ℕ). LinesSay r (number + 1) (lines xs) (Ok [])) (sym (empty left none)) refl))
   where

@@ -6,9 +6,9 @@ use Rattle.std.proofs.lemmas.Fmt.{decimal_injective}
 use Rattle.nano_spec.specs.declared.commands.Command.{Command}
 use Rattle.nano_spec.specs.Line.{Fault, NotAscii, UnknownWord, Shape, Range, has_high_byte}
 use Rattle.nano_spec.specs.Reading.{FaultyLine}
-use Rattle.step_debugger.specs.Session.{Answers, Line, Report, Session}
-use Rattle.debug_script.specs.Printing.{printed}
-use Rattle.debug_script.specs.Script.{Bots, Back, Follows, Form, Group, HasFewDigits, IsForm, LineSays, LinesSay, PartsSay, Step, Voxel, has_unknown_word, parts, parts_of, said, with_first}
+use Rattle.step_debugger.specs.Session.{AnswersLine, DebugLine, DebugReport, Session}
+use Rattle.debug_script.specs.Printing.{printed_report}
+use Rattle.debug_script.specs.Script.{Bots, Back, FollowsLine, Form, Group, HasFewDigits, IsForm, LineSays, LinesSay, PartsSay, Step, Voxel, has_unknown_word, line_parts, parts_of, form_said, with_first_line}
 use Rattle.debug_script.specs.Sessions.{Prints}
 
 -- ---- a line is of one form
@@ -50,16 +50,16 @@ no_both b t f = let e : true ≡ false = sym t ∙ f in cc
 
 -- ---- a line says one thing
 
-one_part_says : (r : ℕ) (line : List (List ℕ)) (a b : Result Line Fault) → PartsSay r line a → PartsSay r line b → a ≡ b
+one_part_says : (r : ℕ) (line : List (List ℕ)) (a b : Result DebugLine Fault) → PartsSay r line a → PartsSay r line b → a ≡ b
 one_part_says r line (Ok x) (Ok y) h k =
     let same = one_form line h.0 k.0 h.1 k.1 in
-    let e : Some x ≡ Some y = sym h.2 ∙ (ap (said r) same ∙ k.2) in
+    let e : Some x ≡ Some y = sym h.2 ∙ (ap (form_said r) same ∙ k.2) in
     ap Ok (inside x y e)
   where
-    inside : (x y : Line) → Some x ≡ Some y → x ≡ y
+    inside : (x y : DebugLine) → Some x ≡ Some y → x ≡ y
     inside x y e = cc
-one_part_says r line (Ok x) (Err Range) h k = absurd (let e : Some x ≡ None = sym h.2 ∙ (ap (said r) (one_form line h.0 k.0 h.1 k.1) ∙ k.2) in cc)
-one_part_says r line (Err Range) (Ok y) h k = absurd (let e : None ≡ Some y = sym h.2 ∙ (ap (said r) (one_form line h.0 k.0 h.1 k.1) ∙ k.2) in cc)
+one_part_says r line (Ok x) (Err Range) h k = absurd (let e : Some x ≡ None = sym h.2 ∙ (ap (form_said r) (one_form line h.0 k.0 h.1 k.1) ∙ k.2) in cc)
+one_part_says r line (Err Range) (Ok y) h k = absurd (let e : None ≡ Some y = sym h.2 ∙ (ap (form_said r) (one_form line h.0 k.0 h.1 k.1) ∙ k.2) in cc)
 one_part_says r line (Ok x) (Err Shape) h k = absurd (k.1 h.0 h.1)
 one_part_says r line (Err Shape) (Ok y) h k = absurd (h.1 k.0 k.1)
 one_part_says r line (Err Range) (Err Shape) h k = absurd (k.1 h.0 h.1)
@@ -76,33 +76,33 @@ one_part_says r line (Err Range) (Err Range) h k = refl
 one_part_says r line (Err NotAscii) b h k = absurd h
 one_part_says r line a (Err NotAscii) h k = absurd k
 
-one_line_says : (r : ℕ) (line : List ℕ) (a b : Result Line Fault) → LineSays r line a → LineSays r line b → a ≡ b
+one_line_says : (r : ℕ) (line : List ℕ) (a b : Result DebugLine Fault) → LineSays r line a → LineSays r line b → a ≡ b
 one_line_says r line a b h k = by (has_high_byte line) h k
   where
-    by : (t : Bool) → MatchBool t (a ≡ Err NotAscii) (PartsSay r (parts line) a) → MatchBool t (b ≡ Err NotAscii) (PartsSay r (parts line) b) → a ≡ b
+    by : (t : Bool) → MatchBool t (a ≡ Err NotAscii) (PartsSay r (line_parts line) a) → MatchBool t (b ≡ Err NotAscii) (PartsSay r (line_parts line) b) → a ≡ b
     by true h k = h ∙ sym k
-    by false h k = one_part_says r (parts line) a b h k
+    by false h k = one_part_says r (line_parts line) a b h k
 
 -- ---- a script says one thing
 
-one_rest : (P : Result (List Line) FaultyLine → Type 0) → ((a b : Result (List Line) FaultyLine) → P a → P b → a ≡ b) → (n : ℕ) (a b : Result (List Line) FaultyLine) (what : Result Line Fault) → Follows P n what a → Follows P n what b → a ≡ b
-one_rest P once n a b (Ok what) h k = h.2 ∙ (ap (with_first what) (once h.0 k.0 h.1 k.1) ∙ sym k.2)
+one_rest : (P : Result (List DebugLine) FaultyLine → Type 0) → ((a b : Result (List DebugLine) FaultyLine) → P a → P b → a ≡ b) → (n : ℕ) (a b : Result (List DebugLine) FaultyLine) (what : Result DebugLine Fault) → FollowsLine P n what a → FollowsLine P n what b → a ≡ b
+one_rest P once n a b (Ok what) h k = h.2 ∙ (ap (with_first_line what) (once h.0 k.0 h.1 k.1) ∙ sym k.2)
 one_rest P once n a b (Err fault) h k = h ∙ sym k
 
-pub one_reading : (r n : ℕ) (lines : List (List ℕ)) (a b : Result (List Line) FaultyLine) → LinesSay r n lines a → LinesSay r n lines b → a ≡ b
+pub one_reading : (r n : ℕ) (lines : List (List ℕ)) (a b : Result (List DebugLine) FaultyLine) → LinesSay r n lines a → LinesSay r n lines b → a ≡ b
 one_reading r n [] a b h k = h ∙ sym k
 one_reading r n (line ∷ more) a b h k =
     let same = one_line_says r line h.0 k.0 h.1 k.1 in
-    one_rest (LinesSay r (n + 1) more) (one_reading r (n + 1) more) n a b k.0 (subst (λ (what : Result Line Fault). Follows (LinesSay r (n + 1) more) n what a) same h.2) k.2
+    one_rest (LinesSay r (n + 1) more) (one_reading r (n + 1) more) n a b k.0 (subst (λ (what : Result DebugLine Fault). FollowsLine (LinesSay r (n + 1) more) n what a) same h.2) k.2
 
 -- ---- a script prints one text
 
 abbrev AnswerLaw : Type 0
-AnswerLaw = (commands : List Command) (line : Line) (s t u : Session) (r q : Report) → Answers commands line s t r → Answers commands line s u q → (t ≡ u) × (r ≡ q)
+AnswerLaw = (commands : List Command) (line : DebugLine) (s t u : Session) (r q : DebugReport) → AnswersLine commands line s t r → AnswersLine commands line s u q → (t ≡ u) × (r ≡ q)
 
-pub one_printing : AnswerLaw → (commands : List Command) (script : List Line) (s : Session) (a b : List ℕ) → Prints commands script s a → Prints commands script s b → a ≡ b
+pub one_printing : AnswerLaw → (commands : List Command) (script : List DebugLine) (s : Session) (a b : List ℕ) → Prints commands script s a → Prints commands script s b → a ≡ b
 one_printing law commands [] s a b h k = h ∙ sym k
 one_printing law commands (line ∷ more) s a b h k =
     let same = law commands line s h.0 k.0 h.1 k.1 h.3 k.3 in
     let rest = one_printing law commands more k.0 h.2 k.2 (subst (λ (t : Session). Prints commands more t h.2) same.0 h.4) k.4 in
-    h.5 ∙ ((λ i. printed (same.1 i) ++ rest i) ∙ sym k.5)
+    h.5 ∙ ((λ i. printed_report (same.1 i) ++ rest i) ∙ sym k.5)

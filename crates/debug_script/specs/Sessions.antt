@@ -4,27 +4,27 @@ use Rattle.nano_spec.specs.declared.commands.Command.{Command}
 use Rattle.nano_spec.specs.declared.system.Profile.{Profile}
 use Rattle.nano_spec.specs.Matrix.{Matrix}
 use Rattle.step_debugger.specs.Debugging.{Debugging}
-use Rattle.step_debugger.specs.Session.{Answers, Line, Report, Session, opened}
-use Rattle.debug_script.specs.Printing.{printed}
+use Rattle.step_debugger.specs.Session.{AnswersLine, DebugLine, DebugReport, Session, opened}
+use Rattle.debug_script.specs.Printing.{printed_report}
 
 -- the lines, one after another, answered from a session on, print this
-abbrev pub Prints : List Command → List Line → Session → List ℕ → Type 0
+abbrev pub Prints : List Command → List DebugLine → Session → List ℕ → Type 0
 Prints commands [] s text = text ≡ []
 Prints commands (line ∷ more) s text =
-    (t : Session) × (report : Report) × (rest : List ℕ) × Answers commands line s t report × Prints commands more t rest × (text ≡ printed report ++ rest)
+    (t : Session) × (report : DebugReport) × (rest : List ℕ) × AnswersLine commands line s t report × Prints commands more t rest × (text ≡ printed_report report ++ rest)
 
 -- the lines over the commands of a trace print this, from the opening of the source on
-abbrev pub PrintsFrom : Matrix → Profile → List Command → List Line → List ℕ → Type 0
+abbrev pub PrintsFrom : Matrix → Profile → List Command → List DebugLine → List ℕ → Type 0
 PrintsFrom source profile commands script text = Prints commands script (opened source profile) text
 
 -- a line was answered: what it prints was put at the end of the text, and memory was not refused
-pub record IsTold (line : Line) (old new : Debugging) (before after : List ℕ) : Type 0 where
-  pub report : Report
-  pub answers : Answers old.commands line old.session new.session report
-  pub text : after ≡ before ++ printed report
+pub record IsTold (line : DebugLine) (old new : Debugging) (before after : List ℕ) : Type 0 where
+  pub report : DebugReport
+  pub answers : AnswersLine old.commands line old.session new.session report
+  pub text : after ≡ before ++ printed_report report
   pub commands : new.commands ≡ old.commands
   pub stands : new.spent ≡ false
 
 -- the lines of the report, if there is one, were put at the end of the text
-abbrev pub IsPut : Option Report → List ℕ → List ℕ → Type 0
-IsPut told before after = IsSomeAnd told (λ report. after ≡ before ++ printed report)
+abbrev pub IsPut : Option DebugReport → List ℕ → List ℕ → Type 0
+IsPut told before after = IsSomeAnd told (λ report. after ≡ before ++ printed_report report)

@@ -1,10 +1,10 @@
 //! What a line of a script says.
 ghost use Rattle.std.specs.List.{position_or_len};
 ghost use Rattle.std.specs.Prelude.{◌≡◌, ◌==◌, ◌∷◌, ◌<◌, ◌≤◌, ℕ, List, [], MatchOption, codes, decimal, length};
-ghost use Rattle.debug_script.specs.Calls.{IsReadBy, letters};
-ghost use Rattle.debug_script.specs.Script.{HasFewDigits, LineSays, PartsSay, parts};
+ghost use Rattle.debug_script.specs.Calls.{IsReadBy, script_letters};
+ghost use Rattle.debug_script.specs.Script.{HasFewDigits, LineSays, PartsSay, line_parts};
 
-use crate::word::Word;
+use crate::word::ScriptWord;
 use itoa::Buffer;
 use trace_text::TextFault;
 use vox_geom::Coord;
@@ -43,7 +43,7 @@ pub(crate) fn find(byte: u8, bytes: &[u8]) -> usize
 /// The first part of a line, and what follows its space, where it has one.
 #[tactic(auto, using(crate::proofs::Parts::one_part, crate::proofs::Parts::first_part))]
 fn cut_part(line: &[u8]) -> (&[u8], Option<&[u8]>)
-    ensures { MatchOption result.1 (parts line.now ≡ result.0.now ∷ []) (λ rest. parts line.now ≡ result.0.now ∷ parts rest.now) }
+    ensures { MatchOption result.1 (line_parts line.now ≡ result.0.now ∷ []) (λ rest. line_parts line.now ≡ result.0.now ∷ line_parts rest.now) }
 {
     let end = find(b' ', line);
     if end == line.len() {
@@ -73,21 +73,21 @@ fn number(part: &[u8]) -> Option<u32>
 }
 
 /// The line of a word that stands alone.
-fn read_word(word: Word, number: u32) -> Result<ScriptLine, TextFault>
-    ensures { (r : ℕ) → IsReadBy (PartsSay r (letters word ∷ [])) number result }
+fn read_word(word: ScriptWord, number: u32) -> Result<ScriptLine, TextFault>
+    ensures { (r : ℕ) → IsReadBy (PartsSay r (script_letters word ∷ [])) number result }
 {
     match word {
-        Word::Step => Ok(ScriptLine::Step),
-        Word::Back => Ok(ScriptLine::Back),
-        Word::Bots => Ok(ScriptLine::Bots),
-        Word::Group => Err(TextFault::Shape { line: number }),
-        Word::Voxel => Err(TextFault::Shape { line: number }),
+        ScriptWord::Step => Ok(ScriptLine::Step),
+        ScriptWord::Back => Ok(ScriptLine::Back),
+        ScriptWord::Bots => Ok(ScriptLine::Bots),
+        ScriptWord::Group => Err(TextFault::Shape { line: number }),
+        ScriptWord::Voxel => Err(TextFault::Shape { line: number }),
     }
 }
 
 /// The one number behind a word.
 fn one_number(rest: &[u8]) -> Option<u32>
-    ensures { MatchOption result ((n : ℕ) → HasFewDigits n → parts rest.now ≡ decimal n ∷ [] → ⊥) (λ n. HasFewDigits n × (parts rest.now ≡ decimal n ∷ [])) }
+    ensures { MatchOption result ((n : ℕ) → HasFewDigits n → line_parts rest.now ≡ decimal n ∷ [] → ⊥) (λ n. HasFewDigits n × (line_parts rest.now ≡ decimal n ∷ [])) }
 {
     let (part, more) = cut_part(rest);
     match more {
@@ -98,8 +98,8 @@ fn one_number(rest: &[u8]) -> Option<u32>
 
 /// The number behind a word, and what follows its space.
 fn first_number(rest: &[u8]) -> Option<(u32, &[u8])>
-    ensures { MatchOption result ((n : ℕ) (next : List ℕ) (more : List (List ℕ)) → HasFewDigits n → parts rest.now ≡ decimal n ∷ next ∷ more → ⊥)
-        (λ first. HasFewDigits first.0 × (parts rest.now ≡ decimal first.0 ∷ parts first.1.now)) }
+    ensures { MatchOption result ((n : ℕ) (next : List ℕ) (more : List (List ℕ)) → HasFewDigits n → line_parts rest.now ≡ decimal n ∷ next ∷ more → ⊥)
+        (λ first. HasFewDigits first.0 × (line_parts rest.now ≡ decimal first.0 ∷ line_parts first.1.now)) }
 {
     let (part, more) = cut_part(rest);
     let more = more?;
@@ -109,7 +109,7 @@ fn first_number(rest: &[u8]) -> Option<(u32, &[u8])>
 
 /// The line of the word `group` and what follows it.
 fn read_group(rest: &[u8], number: u32) -> Result<ScriptLine, TextFault>
-    ensures { (r : ℕ) → IsReadBy (PartsSay r (codes "group" ∷ parts rest.now)) number result }
+    ensures { (r : ℕ) → IsReadBy (PartsSay r (codes "group" ∷ line_parts rest.now)) number result }
 {
     let Some(leader) = one_number(rest) else {
         return Err(TextFault::Shape { line: number });
@@ -127,8 +127,8 @@ fn read_group(rest: &[u8], number: u32) -> Result<ScriptLine, TextFault>
 
 /// Three numbers behind a word.
 fn three_numbers(rest: &[u8]) -> Option<(u32, u32, u32)>
-    ensures { MatchOption result ((x y z : ℕ) → HasFewDigits x → HasFewDigits y → HasFewDigits z → parts rest.now ≡ decimal x ∷ decimal y ∷ decimal z ∷ [] → ⊥)
-        (λ n. HasFewDigits n.0 × HasFewDigits n.1 × HasFewDigits n.2 × (parts rest.now ≡ decimal n.0 ∷ decimal n.1 ∷ decimal n.2 ∷ [])) }
+    ensures { MatchOption result ((x y z : ℕ) → HasFewDigits x → HasFewDigits y → HasFewDigits z → line_parts rest.now ≡ decimal x ∷ decimal y ∷ decimal z ∷ [] → ⊥)
+        (λ n. HasFewDigits n.0 × HasFewDigits n.1 × HasFewDigits n.2 × (line_parts rest.now ≡ decimal n.0 ∷ decimal n.1 ∷ decimal n.2 ∷ [])) }
 {
     let (x, rest) = first_number(rest)?;
     let (y, rest) = first_number(rest)?;
@@ -138,7 +138,7 @@ fn three_numbers(rest: &[u8]) -> Option<(u32, u32, u32)>
 
 /// The line of the word `voxel` and what follows it.
 fn read_voxel(rest: &[u8], number: u32, resolution: u16) -> Result<ScriptLine, TextFault>
-    ensures { IsReadBy (PartsSay resolution (codes "voxel" ∷ parts rest.now)) number result }
+    ensures { IsReadBy (PartsSay resolution (codes "voxel" ∷ line_parts rest.now)) number result }
 {
     let Some((x, y, z)) = three_numbers(rest) else {
         return Err(TextFault::Shape { line: number });
@@ -163,28 +163,28 @@ fn read_voxel(rest: &[u8], number: u32, resolution: u16) -> Result<ScriptLine, T
 
 /// The line of a word and what follows its space.
 fn read_numbers(
-    word: Word,
+    word: ScriptWord,
     rest: &[u8],
     number: u32,
     resolution: u16,
 ) -> Result<ScriptLine, TextFault>
-    ensures { IsReadBy (PartsSay resolution (letters word ∷ parts rest.now)) number result }
+    ensures { IsReadBy (PartsSay resolution (script_letters word ∷ line_parts rest.now)) number result }
 {
     match word {
-        Word::Group => read_group(rest, number),
-        Word::Voxel => read_voxel(rest, number, resolution),
-        Word::Step => Err(TextFault::Shape { line: number }),
-        Word::Back => Err(TextFault::Shape { line: number }),
-        Word::Bots => Err(TextFault::Shape { line: number }),
+        ScriptWord::Group => read_group(rest, number),
+        ScriptWord::Voxel => read_voxel(rest, number, resolution),
+        ScriptWord::Step => Err(TextFault::Shape { line: number }),
+        ScriptWord::Back => Err(TextFault::Shape { line: number }),
+        ScriptWord::Bots => Err(TextFault::Shape { line: number }),
     }
 }
 
 /// What the parts of a line of this number say.
 fn read_parts(line: &[u8], number: u32, resolution: u16) -> Result<ScriptLine, TextFault>
-    ensures { IsReadBy (PartsSay resolution (parts line.now)) number result }
+    ensures { IsReadBy (PartsSay resolution (line_parts line.now)) number result }
 {
     let (first, rest) = cut_part(line);
-    let Some(word) = Word::of(first) else {
+    let Some(word) = ScriptWord::of(first) else {
         return Err(TextFault::UnknownWord { line: number });
     };
     match rest {

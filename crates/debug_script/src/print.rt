@@ -9,8 +9,8 @@ ghost use Rattle.step_debugger.specs.Calls.{fault_report};
 ghost use Rattle.step_debugger.specs.Session.{Back, Begun, Bots, Group, IsFull, IsVoid, Made, Step, Voxel, is_returned};
 ghost use Rattle.vox_geom.specs.Point.{point};
 ghost use Rattle.vox_geom.specs.Space.{in_space};
-ghost use Rattle.debug_script.specs.Calls.{line_is, lines_are};
-ghost use Rattle.debug_script.specs.Printing.{bot_line as bot_line_of, printed};
+ghost use Rattle.debug_script.specs.Calls.{script_line_is, lines_are};
+ghost use Rattle.debug_script.specs.Printing.{bot_line as bot_line_of, printed_report};
 ghost use Rattle.debug_script.specs.Sessions.{IsPut, IsTold, PrintsFrom};
 
 use crate::line::ScriptLine;
@@ -72,7 +72,7 @@ fn put_made(
     made: StepOk,
 ) -> Result<(), Memory>
     requires { debugger.now.spent ≡ false }
-    ensures { OnOk result (text.new.items ≡ text.old.items ++ printed (Made debugger.now.session.point.steps made.energy made.halted)) }
+    ensures { OnOk result (text.new.items ≡ text.old.items ++ printed_report (Made debugger.now.session.point.steps made.energy made.halted)) }
 {
     let steps = debugger.machine().steps_done();
     let line = made_line(alloc, steps, made.energy, made.halted)?;
@@ -103,7 +103,7 @@ fn put_begun(
     leader: u8,
 ) -> Result<(), Memory>
     requires { debugger.now.spent ≡ false }
-    ensures { OnOk result (text.new.items ≡ text.old.items ++ printed (Begun leader (debugger.now.session.point.steps + 1))) }
+    ensures { OnOk result (text.new.items ≡ text.old.items ++ printed_report (Begun leader (debugger.now.session.point.steps + 1))) }
 {
     let step = debugger.machine().steps_done() + 1;
     let line = begun_line(alloc, leader, step)?;
@@ -131,7 +131,7 @@ fn tell_group<L: Ledger>(
 /// Puts the line of an earlier point that stands again at the end of the text.
 fn put_returned(alloc: Global, text: &mut Vec<u8>, debugger: &Debugger) -> Result<(), Memory>
     requires { debugger.now.spent ≡ false }
-    ensures { OnOk result (text.new.items ≡ text.old.items ++ printed (is_returned debugger.now.session.point)) }
+    ensures { OnOk result (text.new.items ≡ text.old.items ++ printed_report (is_returned debugger.now.session.point)) }
 {
     let machine = debugger.machine();
     let line = returned_line(alloc, machine.steps_done(), machine.energy())?;
@@ -197,7 +197,7 @@ fn voxel_line(
     full: bool,
     level: Option<u32>,
 ) -> Result<String, AllocError>
-    ensures { IfOk result (λ s. string_bytes s ≡ printed (cond full (IsFull at level) (IsVoid at))) }
+    ensures { IfOk result (λ s. string_bytes s ≡ printed_report (cond full (IsFull at level) (IsVoid at))) }
 {
     if full {
         full_line(alloc, at, level)
@@ -233,7 +233,7 @@ fn tell<L: Ledger>(
     steps: &mut Steps<L>,
 ) -> Result<(), Memory>
     requires { debugger.old.spent ≡ false }
-    ensures { OnOk result (IsTold (line_is line) debugger.old debugger.new text.old.items text.new.items) }
+    ensures { OnOk result (IsTold (script_line_is line) debugger.old debugger.new text.old.items text.new.items) }
 {
     match line {
         ScriptLine::Step => tell_step(alloc, debugger, text, steps),

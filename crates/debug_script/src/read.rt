@@ -1,7 +1,7 @@
 //! What a script says.
 ghost use Rattle.std.specs.Prelude.{◌≡◌, ◌<◌, ◌≤◌, ◌∷◌, length};
 ghost use Rattle.nano_spec.specs.Reading.{lines};
-ghost use Rattle.debug_script.specs.Calls.{Reads};
+ghost use Rattle.debug_script.specs.Calls.{ReadsScript};
 
 use crate::line::{ScriptLine, find, read_line};
 use std::alloc::Global;
@@ -15,7 +15,7 @@ pub fn read_script(
     resolution: u16,
 ) -> Result<Vec<ScriptLine>, TextFault>
     requires { length bytes.now ≤ 65536 }
-    ensures { Reads resolution bytes.now result }
+    ensures { ReadsScript resolution bytes.now result }
 {
     let mut script = Vec::new(alloc);
     let mut left = bytes;

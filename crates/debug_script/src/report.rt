@@ -1,7 +1,7 @@
 //! The lines of a session's reports.
 ghost use Rattle.std.specs.List.{concat};
 ghost use Rattle.std.specs.Prelude.{◌≡◌, ◌∷◌, [], IfOk, codes, decimal, string_bytes};
-ghost use Rattle.debug_script.specs.Printing.{bot_line as bot_line_of, broken_line as broken_line_of, place as place_of, printed};
+ghost use Rattle.debug_script.specs.Printing.{bot_line as bot_line_of, broken_line as broken_line_of, printed_place as place_of, printed_report};
 ghost use Rattle.step_debugger.specs.Session.{Begun, IsFull, IsVoid, Made, NoLeader, Returned};
 
 use bot_crew::seeds_of;
@@ -68,7 +68,7 @@ pub(crate) fn made_line(
     energy: i64,
     halted: bool,
 ) -> Result<String, AllocError>
-    ensures { IfOk result (λ s. string_bytes s ≡ printed (Made steps energy halted)) }
+    ensures { IfOk result (λ s. string_bytes s ≡ printed_report (Made steps energy halted)) }
 {
     if halted {
         format!(in alloc; "step {steps} energy {energy} halted\n")
@@ -79,28 +79,28 @@ pub(crate) fn made_line(
 
 /// The line of a group that was begun.
 pub(crate) fn begun_line(alloc: Global, leader: u8, step: u32) -> Result<String, AllocError>
-    ensures { IfOk result (λ s. string_bytes s ≡ printed (Begun leader step)) }
+    ensures { IfOk result (λ s. string_bytes s ≡ printed_report (Begun leader step)) }
 {
     format!(in alloc; "group {leader} of step {step}\n")
 }
 
 /// The line of a number that is no leader whose group can be begun.
 pub(crate) fn no_leader_line(alloc: Global, leader: u8) -> Result<String, AllocError>
-    ensures { IfOk result (λ s. string_bytes s ≡ printed (NoLeader leader)) }
+    ensures { IfOk result (λ s. string_bytes s ≡ printed_report (NoLeader leader)) }
 {
     format!(in alloc; "no leader {leader}\n")
 }
 
 /// The line of an earlier point that stands again.
 pub(crate) fn returned_line(alloc: Global, steps: u32, energy: i64) -> Result<String, AllocError>
-    ensures { IfOk result (λ s. string_bytes s ≡ printed (Returned steps energy)) }
+    ensures { IfOk result (λ s. string_bytes s ≡ printed_report (Returned steps energy)) }
 {
     format!(in alloc; "back to step {steps} energy {energy}\n")
 }
 
 /// The line of a void voxel.
 pub(crate) fn void_line(alloc: Global, at: Coord) -> Result<String, AllocError>
-    ensures { IfOk result (λ s. string_bytes s ≡ printed (IsVoid at)) }
+    ensures { IfOk result (λ s. string_bytes s ≡ printed_report (IsVoid at)) }
 {
     let place = place(alloc, at)?;
     format!(in alloc; "voxel {place} void\n")
@@ -108,7 +108,7 @@ pub(crate) fn void_line(alloc: Global, at: Coord) -> Result<String, AllocError>
 
 /// The line of a full voxel and its level, if it has one.
 pub(crate) fn full_line(alloc: Global, at: Coord, level: Option<u32>) -> Result<String, AllocError>
-    ensures { IfOk result (λ s. string_bytes s ≡ printed (IsFull at level)) }
+    ensures { IfOk result (λ s. string_bytes s ≡ printed_report (IsFull at level)) }
 {
     let place = place(alloc, at)?;
     match level {

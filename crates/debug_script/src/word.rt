@@ -1,11 +1,11 @@
 //! The words of a script's lines.
 ghost use Rattle.std.specs.Prelude.{◌≡◌, find};
 ghost use Rattle.std.specs.Str.{bytes_eq};
-ghost use Rattle.debug_script.specs.Calls.{all_words, letters};
+ghost use Rattle.debug_script.specs.Calls.{all_words, script_letters};
 
 /// A line's word.
 #[derive(Clone, Copy)]
-pub(crate) enum Word {
+pub(crate) enum ScriptWord {
     Step,
     Group,
     Back,
@@ -13,17 +13,17 @@ pub(crate) enum Word {
     Voxel,
 }
 
-impl Word {
+impl ScriptWord {
     /// The word with these letters.
-    pub(crate) fn of(part: &[u8]) -> Option<Word>
-        ensures { result ≡ find (λ w. bytes_eq (letters w) part.now) all_words }
+    pub(crate) fn of(part: &[u8]) -> Option<ScriptWord>
+        ensures { result ≡ find (λ w. bytes_eq (script_letters w) part.now) all_words }
     {
         match part {
-            b"step" => Some(Word::Step),
-            b"group" => Some(Word::Group),
-            b"back" => Some(Word::Back),
-            b"bots" => Some(Word::Bots),
-            b"voxel" => Some(Word::Voxel),
+            b"step" => Some(ScriptWord::Step),
+            b"group" => Some(ScriptWord::Group),
+            b"back" => Some(ScriptWord::Back),
+            b"bots" => Some(ScriptWord::Bots),
+            b"voxel" => Some(ScriptWord::Voxel),
             _ => None,
         }
     }

@@ -10,7 +10,7 @@ use Rattle.nano_spec.specs.declared.commands.Command.{Command}
 use Rattle.nano_spec.specs.declared.commands.Command.TheVariants.{Halt, Wait, Flip, SMove, LMove, FusionP, FusionS, Fission, Fill, Void, GFill, GVoid}
 use Rattle.nano_spec.specs.Energy.{filling, group_cost, total, voiding}
 use Rattle.nano_spec.specs.Matrix.{Matrix, is_full, all_of}
-use Rattle.energy_sum.specs.Costs.{cost_of, filling_cost, full_count, is_met, is_secondary, void_count, voiding_cost}
+use Rattle.energy_sum.specs.Costs.{cost_of, filling_cost, met_full_count, is_met, is_secondary, void_count, voiding_cost}
 
 pub count-cons : {A : Type 0} (p : A → Bool) (x : A) (xs : List A) → count_by p (x ∷ xs) ≡ cond (p x) 1 0 + count_by p xs
 count-cons p x xs = sum_by-cons (λ y. cond (p y) 1 0) x xs
@@ -94,7 +94,7 @@ pub voiding-met : (m : Matrix) (s : Span) (v f : ℕ) → v ≡ count_by (λ c. 
 voiding-met m s v f h k = (λ i. voiding_cost ((h ∙ voids-one m s) i) ((k ∙ fulls-one m s) i)) ∙ sym (voiding-is m s)
 
 -- the cost of any command but a secondary's is that of its group
-pub cost_is_of_group : (command : Command) (v f : ℕ) (m : Matrix) (p : Point) → IsFalse (is_secondary command) → v ≡ void_count m p command → f ≡ full_count m p command → cost_of command v f ≡ group_cost m p command
+pub cost_is_of_group : (command : Command) (v f : ℕ) (m : Matrix) (p : Point) → IsFalse (is_secondary command) → v ≡ void_count m p command → f ≡ met_full_count m p command → cost_of command v f ≡ group_cost m p command
 cost_is_of_group Halt v f m p n h k = refl
 cost_is_of_group Wait v f m p n h k = refl
 cost_is_of_group Flip v f m p n h k = refl

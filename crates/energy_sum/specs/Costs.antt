@@ -46,8 +46,8 @@ abbrev pub void_count : Matrix → Point → Command → ℕ
 void_count m p command = count_by (λ c. is_met (met p command) c && not (is_full m c)) (all_of m)
 
 -- how many full voxels the command meets
-abbrev pub full_count : Matrix → Point → Command → ℕ
-full_count m p command = count_by (λ c. is_met (met p command) c && is_full m c) (all_of m)
+abbrev pub met_full_count : Matrix → Point → Command → ℕ
+met_full_count m p command = count_by (λ c. is_met (met p command) c && is_full m c) (all_of m)
 
 -- whether the command is that of a fusion's secondary
 abbrev pub is_secondary : Command → Bool

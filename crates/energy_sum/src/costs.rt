@@ -3,7 +3,7 @@ ghost use Rattle.std.specs.Prelude.{◌≡◌, ◌≤◌, ◌*◌, IsFalse};
 ghost use Rattle.vox_geom.specs.Point.{Point};
 ghost use Rattle.nano_spec.specs.Energy.{group_cost, upkeep_of};
 ghost use Rattle.nano_spec.specs.Matrix.{Matrix};
-ghost use Rattle.energy_sum.specs.Costs.{cost_of, filling_cost, full_count, is_secondary, voiding_cost, void_count};
+ghost use Rattle.energy_sum.specs.Costs.{cost_of, filling_cost, met_full_count, is_secondary, voiding_cost, void_count};
 
 use nano_spec::{Command, Harmonics};
 use vox_geom::MOST_R;
@@ -66,7 +66,7 @@ fn row_cost(command: Command, was_void: u32, was_full: u32) -> i64
 #[tactic(auto, using(crate::proofs::Prices::cost_is_of_group))]
 pub fn command_cost(command: Command, was_void: u32, was_full: u32) -> i64
     ensures value { result ≡ cost_of command was_void was_full }
-    ensures group { (m : Matrix) (p : Point) → IsFalse (is_secondary command) → was_void ≡ void_count m p command → was_full ≡ full_count m p command → result ≡ group_cost m p command }
+    ensures group { (m : Matrix) (p : Point) → IsFalse (is_secondary command) → was_void ≡ void_count m p command → was_full ≡ met_full_count m p command → result ≡ group_cost m p command }
 {
     row_cost(command, was_void, was_full)
 }

@@ -1,3 +1,3 @@
 pub mod Models
 pub mod Sweeping
-pub mod Ways
+pub mod ClearWays

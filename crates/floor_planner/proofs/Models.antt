@@ -3,7 +3,7 @@ use Rattle.std.proofs.Common.{◌≡◌, ℕ, ◌+◌, ◌<◌, ◌≤◌, refl,
 use Rattle.std.specs.Prelude.{IsTrue, find, pos}
 use Rattle.std.proofs.lemmas.Bool.Decides.{nat_tests}
 use Rattle.vox_geom.specs.declared.coordinate.Coord.{Coord}
-use Rattle.vox_geom.specs.Point.{Point, point}
+use Rattle.vox_geom.specs.Point.{Point, point, coord}
 use Rattle.vox_geom.specs.Region.{Span, between, is_between, is_within}
 use Rattle.vox_geom.specs.Space.{IsInSpace}
 use Rattle.nano_spec.specs.First.{FirstFailing}
@@ -14,7 +14,7 @@ use Rattle.nano_spec.proofs.Coordinates.{in_space-is}
 use Rattle.nano_spec.proofs.Opening.{legal_is}
 use Rattle.step_order.proofs.Lists.{both, find_none, first, is_false, none_find, not_both, second}
 use Rattle.step_order.proofs.Voxels.{full_where, in_coordinates}
-use Rattle.floor_planner.specs.Floor.{IsFlat, coord}
+use Rattle.floor_planner.specs.Floor.{IsFlat}
 
 pub full_in_space : (m : Matrix) (c : Coord) → is_full m c ≡ true → IsInSpace m.resolution c
 full_in_space m c f = in_space-is m.resolution c (first _ _ f)

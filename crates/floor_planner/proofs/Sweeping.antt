@@ -4,7 +4,7 @@ use Rattle.std.specs.Prelude.{ℤ, pos, ◌+ℤ◌, unsigned_abs}
 use Rattle.std.proofs.lemmas.Bool.Decides.{nat_tests}
 use Rattle.std.proofs.lemmas.Int.{ints}
 use Rattle.vox_geom.specs.declared.coordinate.Coord.{Coord}
-use Rattle.vox_geom.specs.Point.{plus, point, same_number, same_point}
+use Rattle.vox_geom.specs.Point.{plus, point, same_number, same_point, coord, down}
 use Rattle.vox_geom.specs.Space.{IsInSpace, coordinate}
 use Rattle.nano_spec.specs.declared.commands.Command.{Command}
 use Rattle.nano_spec.specs.Legal.{IsLegal}
@@ -16,10 +16,10 @@ use Rattle.step_order.proofs.Voxels.{as_it_is, full_where, matrix_same}
 use Rattle.vox_planes.specs.Voxel.{IsWhole, with_voxel}
 use Rattle.vox_planes.proofs.Voxels.{same_point-is}
 use Rattle.plan_tape.specs.Leg.{AreVoidTo, Moves, moves_to}
-use Rattle.plan_tape.specs.Progress.{Progress, Writes, beside, spot, starting}
-use Rattle.floor_planner.specs.Floor.{IsFlat, IsSweptTo, coord, down, is_passed, swept}
+use Rattle.plan_tape.specs.Progress.{TapeState, Writes, beside, spot, starting}
+use Rattle.floor_planner.specs.Floor.{IsFlat, IsSweptTo, is_passed, swept}
 use Rattle.floor_planner.proofs.Models.{border_is_void, empty_is_void, full_in_space, full_passes, layer_above}
-use Rattle.floor_planner.proofs.Ways.{area, moves_are_few, ways_are_void}
+use Rattle.floor_planner.proofs.ClearWays.{area, moves_are_few, ways_are_void}
 
 -- ---- which coordinates are passed
 
@@ -77,14 +77,14 @@ clear m target x z flat e c h = is_false (is_full m c) (λ f. let low = flat c (
 -- ---- the sweep goes on
 
 -- where nothing is written
-goes_on : (t : Progress) (target : Matrix) (x z a b : ℕ) → IsSweptTo t target x z → ((c : Coord) → is_full target c ≡ true → is_passed x z c ≡ is_passed a b c) → x * target.resolution + z ≤ a * target.resolution + b → IsSweptTo t target a b
+goes_on : (t : TapeState) (target : Matrix) (x z a b : ℕ) → IsSweptTo t target x z → ((c : Coord) → is_full target c ≡ true → is_passed x z c ≡ is_passed a b c) → x * target.resolution + z ≤ a * target.resolution + b → IsSweptTo t target a b
 goes_on t target x z a b s same more = record { source = s.source; matrix = s.matrix ∙ same_swept target x z a b same; profile = s.profile; high = s.high; alone = s.alone; placed = s.placed; above = s.above; few = let few = s.few in omega arith }
 
-pub row_ends : (t : Progress) (target : Matrix) (x : ℕ) → IsSweptTo t target x target.resolution → IsSweptTo t target (x + 1) 0
+pub row_ends : (t : TapeState) (target : Matrix) (x : ℕ) → IsSweptTo t target x target.resolution → IsSweptTo t target (x + 1) 0
 row_ends t target x s = goes_on t target x target.resolution (x + 1) 0 s (λ c f. let i = full_in_space target c f in after_row x target.resolution c.x c.z i.z) (omega arith)
 
 -- past a voxel that the target has not
-pub skipped : (t : Progress) (target : Matrix) (x z : ℕ) → IsFlat target → IsSweptTo t target x z → is_full target (coord x 0 z) ≡ false → IsSweptTo t target x (z + 1)
+pub skipped : (t : TapeState) (target : Matrix) (x z : ℕ) → IsFlat target → IsSweptTo t target x z → is_full target (coord x 0 z) ≡ false → IsSweptTo t target x (z + 1)
 skipped t target x z flat s void = goes_on t target x z x (z + 1) s (λ c f. ap (λ q. cond q true (is_passed x z c)) (sym (apart target c (coord x 0 z) f void)) ∙ after_one x z c.x c.y c.z (flat c f)) (omega arith)
 
 -- ---- a voxel is filled from above
@@ -96,11 +96,11 @@ place_above r target x z legal e wanted =
     subst (λ n. IsInSpace n (coord x 1 z)) (sym e) (record { x = i.x; y = layer_above target (coord x 0 z) legal wanted; z = i.z })
 
 -- no way takes the tape past its limit
-pub room_left : (t : Progress) (target : Matrix) (x z : ℕ) (to : Coord) → IsSweptTo t target x z → x ≤ target.resolution → z ≤ target.resolution → target.resolution ≤ 400 → IsInSpace target.resolution to → t.steps + moves_to (spot t.bots) to + 2 < 1073741824
+pub room_left : (t : TapeState) (target : Matrix) (x z : ℕ) (to : Coord) → IsSweptTo t target x z → x ≤ target.resolution → z ≤ target.resolution → target.resolution ≤ 400 → IsInSpace target.resolution to → t.steps + moves_to (spot t.bots) to + 2 < 1073741824
 room_left t target x z to s h k most i = let few = s.few in omega (arith, area x target.resolution h most, moves_are_few target.resolution (spot t.bots) to most s.placed i)
 
 -- the ways to above a voxel of the floor
-pub ways_above : (t : Progress) (target : Matrix) (x z : ℕ) → IsFlat target → IsSweptTo t target x z → AreVoidTo t.matrix (spot t.bots) (coord x 1 z)
+pub ways_above : (t : TapeState) (target : Matrix) (x z : ℕ) → IsFlat target → IsSweptTo t target x z → AreVoidTo t.matrix (spot t.bots) (coord x 1 z)
 ways_above t target x z flat s = ways_are_void t.matrix (spot t.bots) (coord x 1 z) s.above (λ c e h. by c h)
   where
     by : (c : Coord) → ((spot t.bots).y ≤ c.y) ⊎ (1 ≤ c.y) → is_full t.matrix c ≡ false
@@ -110,10 +110,10 @@ ways_above t target x z flat s = ways_are_void t.matrix (spot t.bots) (coord x 1
 stays : (n : ℕ) → unsigned_abs (pos n +ℤ pos 0) ≡ n
 stays n = omega (arith, ints)
 
-below : (p : Progress) (x z : ℕ) → spot p.bots ≡ coord x 1 z → beside p down ≡ coord x 0 z
+below : (p : TapeState) (x z : ℕ) → spot p.bots ≡ coord x 1 z → beside p down ≡ coord x 0 z
 below p x z e = ap (λ (c : Coord). coordinate (plus (point c) down)) e ∙ (λ i. record { x = stays x i; y = 0; z = stays z i })
 
-pub filled_one : (s t u : Progress) (target : Matrix) (k : Command) (cost : ℤ) (x z : ℕ) → IsLegal target → IsFlat target → target.resolution ≤ 400 → IsSweptTo s target x z → is_full target (coord x 0 z) ≡ true → Moves s t (coord x 1 z) → Writes t u k (with_voxel t.matrix (beside t down) true) t.harmonics t.bots cost → IsSweptTo u target x (z + 1)
+pub filled_one : (s t u : TapeState) (target : Matrix) (k : Command) (cost : ℤ) (x z : ℕ) → IsLegal target → IsFlat target → target.resolution ≤ 400 → IsSweptTo s target x z → is_full target (coord x 0 z) ≡ true → Moves s t (coord x 1 z) → Writes t u k (with_voxel t.matrix (beside t down) true) t.harmonics t.bots cost → IsSweptTo u target x (z + 1)
 filled_one s t u target k cost x z legal flat most w wanted m f =
     let at : spot u.bots ≡ coord x 1 z = ap spot f.bots_are ∙ m.there in
     let matrix : u.matrix ≡ swept target x (z + 1) = f.matrix ∙ ((λ i. with_voxel ((m.matrix ∙ w.matrix) i) (below t x z m.there i) true) ∙ one_swept target x z flat wanted) in
@@ -131,23 +131,23 @@ filled_one s t u target k cost x z legal flat most w wanted m f =
 
 -- ---- the beginning and the end
 
-pub begins : (t u : Progress) (nothing target : Matrix) (k : Command) (cost : ℤ) → nothing ≡ empty target.resolution → 1 ≤ target.resolution → t ≡ starting nothing full_profile → Writes t u k t.matrix (flipped t.harmonics) t.bots cost → IsSweptTo u target 0 0
+pub begins : (t u : TapeState) (nothing target : Matrix) (k : Command) (cost : ℤ) → nothing ≡ empty target.resolution → 1 ≤ target.resolution → t ≡ starting nothing full_profile → Writes t u k t.matrix (flipped t.harmonics) t.bots cost → IsSweptTo u target 0 0
 begins t u nothing target k cost n some e w =
-    let matrix : u.matrix ≡ empty target.resolution = w.matrix ∙ (ap (λ (p : Progress). p.matrix) e ∙ n) in
-    let at : spot u.bots ≡ coord 0 0 0 = ap spot (w.bots_are ∙ ap (λ (p : Progress). p.bots) e) in
+    let matrix : u.matrix ≡ empty target.resolution = w.matrix ∙ (ap (λ (p : TapeState). p.matrix) e ∙ n) in
+    let at : spot u.bots ≡ coord 0 0 0 = ap spot (w.bots_are ∙ ap (λ (p : TapeState). p.bots) e) in
     record {
-      source = w.source ∙ (ap (λ (p : Progress). p.source) e ∙ n);
+      source = w.source ∙ (ap (λ (p : TapeState). p.source) e ∙ n);
       matrix = matrix ∙ none_swept target;
-      profile = w.profile ∙ ap (λ (p : Progress). p.profile) e;
-      high = w.harmonics ∙ ap (λ (p : Progress). flipped p.harmonics) e;
-      alone = ap length (w.bots_are ∙ ap (λ (p : Progress). p.bots) e);
+      profile = w.profile ∙ ap (λ (p : TapeState). p.profile) e;
+      high = w.harmonics ∙ ap (λ (p : TapeState). flipped p.harmonics) e;
+      alone = ap length (w.bots_are ∙ ap (λ (p : TapeState). p.bots) e);
       placed = subst (IsInSpace target.resolution) (sym at) (record { x = some; y = some; z = some });
       above = λ c h. ap (λ (m : Matrix). is_full m c) matrix ∙ empty_is_void target.resolution c;
-      few = let one = w.steps in let none = ap (λ (p : Progress). p.steps) e in omega arith;
+      few = let one = w.steps in let none = ap (λ (p : TapeState). p.steps) e in omega arith;
     }
 
-pub matrix_is : (t : Progress) (target : Matrix) → IsSweptTo t target target.resolution 0 → IsWhole target → t.matrix ≡ target
+pub matrix_is : (t : TapeState) (target : Matrix) → IsSweptTo t target target.resolution 0 → IsWhole target → t.matrix ≡ target
 matrix_is t target s w = s.matrix ∙ all_swept target w
 
-pub ways_home : (t : Progress) (target : Matrix) → IsLegal target → IsWhole target → IsSweptTo t target target.resolution 0 → AreVoidTo t.matrix (spot t.bots) (coord 0 0 0)
+pub ways_home : (t : TapeState) (target : Matrix) → IsLegal target → IsWhole target → IsSweptTo t target target.resolution 0 → AreVoidTo t.matrix (spot t.bots) (coord 0 0 0)
 ways_home t target legal w s = ways_are_void t.matrix (spot t.bots) (coord 0 0 0) s.above (λ c e h. ap (λ (m : Matrix). is_full m c) (matrix_is t target s w) ∙ border_is_void target c legal e)

@@ -6,19 +6,11 @@ use Rattle.vox_geom.specs.Space.{IsInSpace}
 use Rattle.nano_spec.specs.declared.system.Harmonics.TheVariants.{High}
 use Rattle.nano_spec.specs.Matrix.{Matrix, empty, is_full, matrix_where}
 use Rattle.nano_spec.specs.Profile.{full_profile}
-use Rattle.plan_tape.specs.Progress.{Progress, spot}
+use Rattle.plan_tape.specs.Progress.{TapeState, spot}
 
 -- each full voxel lies on the floor
 abbrev pub IsFlat : Matrix → Type 0
 IsFlat m = (c : Coord) → IsTrue (is_full m c) → c.y ≡ 0
-
--- the difference to the voxel below
-abbrev pub down : Diff
-down = record { dx = pos 0; dy = negsuc 0; dz = pos 0 }
-
--- a coordinate by its components
-abbrev pub coord : ℕ → ℕ → ℕ → Coord
-coord x y z = record { x = x; y = y; z = z }
 
 -- whether a sweep by rows that has come to x and z has passed a coordinate
 abbrev pub is_passed : ℕ → ℕ → Coord → Bool
@@ -29,7 +21,7 @@ abbrev pub swept : Matrix → ℕ → ℕ → Matrix
 swept target x z = matrix_where target.resolution (λ c. is_full target c && is_passed x z c)
 
 -- the tape when the sweep has come to x and z
-pub record IsSweptTo (t : Progress) (target : Matrix) (x z : ℕ) : Type 0 where
+pub record IsSweptTo (t : TapeState) (target : Matrix) (x z : ℕ) : Type 0 where
   pub source : t.source ≡ empty target.resolution
   pub matrix : t.matrix ≡ swept target x z
   pub profile : t.profile ≡ full_profile

@@ -1,7 +1,8 @@
 //! The sweep: row by row over the floor, a layer above it.
 ghost use Rattle.std.specs.Prelude.{◌≡◌, ◌+◌, ◌<◌, OnOk};
 ghost use Rattle.nano_spec.specs.Legal.{IsLegal};
-ghost use Rattle.floor_planner.specs.Floor.{IsFlat, IsSweptTo, down as down_of};
+ghost use Rattle.floor_planner.specs.Floor.{IsFlat, IsSweptTo};
+ghost use Rattle.vox_geom.specs.Point.{down as down_of};
 
 use plan_tape::{Tape, is_full};
 use vox_geom::{Coord, Diff, Memory, Near};

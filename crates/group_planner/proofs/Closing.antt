@@ -4,17 +4,17 @@ use Rattle.vox_geom.specs.declared.coordinate.Coord.{Coord}
 use Rattle.nano_spec.specs.declared.commands.Command.{Command}
 use Rattle.nano_spec.specs.Matrix.{Matrix}
 use Rattle.plan_tape.specs.Leg.{Moves, moves, moves_to}
-use Rattle.plan_tape.specs.Progress.{Progress, spot}
-use Rattle.layer_planner.specs.Painting.{coord}
+use Rattle.plan_tape.specs.Progress.{TapeState, spot}
 use Rattle.group_planner.specs.Rows.{is_row, rows, rows_of_layer, runs, runs_of_layer, runs_of_row}
 use Rattle.group_planner.proofs.Counts.{count_below-most, sum_below-most}
+use Rattle.vox_geom.specs.Point.{coord}
 
 -- ---- the only bot
 
 pub push_length : (old new : List Command) (k : Command) → new ≡ old ++ k ∷ [] → length new ≡ length old + 1
 push_length old new k e = ap length e ∙ length-append old (k ∷ [])
 
-pub legs_length : (p q : Progress) (to : Coord) → Moves p q to → length q.commands ≡ length p.commands + moves_to (spot p.bots) to
+pub legs_length : (p q : TapeState) (to : Coord) → Moves p q to → length q.commands ≡ length p.commands + moves_to (spot p.bots) to
 legs_length p q to m =
     let l = m.legs in
     let added = ap length m.added ∙ length-append p.commands m.commands in

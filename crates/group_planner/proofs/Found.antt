@@ -5,8 +5,8 @@ use Rattle.std.proofs.lemmas.Bool.{cases_lt}
 use Rattle.std.proofs.lemmas.Bool.Decides.{nat_tests}
 use Rattle.nano_spec.specs.Matrix.{Matrix}
 use Rattle.group_planner.specs.Rows.{begins_run, count_below, full_before, is_full_at, is_row, one_if}
-use Rattle.group_planner.specs.Runs.{IsAll, IsCut, IsNext, IsNextRun, IsNoRun, runs_before}
-use Rattle.group_planner.specs.declared.run.Run.{Run}
+use Rattle.group_planner.specs.Runs.{IsAll, IsCut, IsRunEnd, IsNextRun, IsNoRun, runs_before}
+use Rattle.group_planner.specs.declared.run.RowRun.{RowRun}
 use Rattle.layer_planner.proofs.Paints.{void_past_z}
 use Rattle.group_planner.proofs.Counts.{one_of_sum, sum_below-gap, sum_below-more, sum_below-zero}
 
@@ -100,7 +100,7 @@ module _ (m : Matrix) (x y : ℕ) where
   past : is_full_at m x y m.resolution ≡ false
   past = void_past_z m (record { x = x; y = y; z = m.resolution }) (below_itself m.resolution)
 
-  pub next_found : (z first end most : ℕ) → IsCut m x y z → first < m.resolution → most ≡ min m.resolution (first + 31) → IsNext m x y z m.resolution true first → IsNext m x y first most false end → IsNextRun m x y z (record { first = first; end = end })
+  pub next_found : (z first end most : ℕ) → IsCut m x y z → first < m.resolution → most ≡ min m.resolution (first + 31) → IsRunEnd m x y z m.resolution true first → IsRunEnd m x y first most false end → IsNextRun m x y z (record { first = first; end = end })
   next_found z first end most cut l e a b =
       run_found z first end cut a.low (longer (cases_lt first end)) (omega (arith, b.high)) (omega (arith, b.high)) a.others b.others (λ h. after h (cases_lt end most))
     where
@@ -113,7 +113,7 @@ module _ (m : Matrix) (x y : ℕ) where
       after h (inr k) = let s : m.resolution ≡ end = omega (arith, b.high) in ap (is_full_at m x y) (sym s) ∙ past
 
   -- a line with a run is a row, and one without is none
-  pub row_of_some : (run : Run) → IsNextRun m x y 0 run → is_row m x y ≡ true
+  pub row_of_some : (run : RowRun) → IsNextRun m x y 0 run → is_row m x y ≡ true
   row_of_some run h =
       let one = one_of_sum (λ z. one_if (is_full_at m x y z)) run.first m.resolution (let a = h.is_run.some in let b = h.is_run.within in omega arith) in
       let here = ap one_if (h.is_run.full run.first (omega arith) h.is_run.some) in

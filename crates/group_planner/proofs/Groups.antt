@@ -3,7 +3,7 @@ use Rattle.std.proofs.Common.{◌≡◌, ℕ, ◌+◌, ◌-◌, ◌*◌, ◌^◌
 use Rattle.std.specs.Prelude.{IsTrue, IsFalse, ℤ, pos, ◌-ℤ◌, flat_map}
 use Rattle.std.proofs.lemmas.Bool.Decides.{nat_tests}
 use Rattle.vox_geom.specs.declared.coordinate.Coord.{Coord}
-use Rattle.vox_geom.specs.Point.{Point, point, plus, same_number}
+use Rattle.vox_geom.specs.Point.{Point, point, plus, same_number, coord, down}
 use Rattle.vox_geom.specs.Region.{Span, between, dimension, is_between, is_within, same_region}
 use Rattle.nano_spec.specs.declared.commands.Command.{Command}
 use Rattle.nano_spec.specs.declared.system.Bot.{Bot}
@@ -16,8 +16,7 @@ use Rattle.step_order.specs.Acting.{with_region}
 use Rattle.step_order.specs.Unbroken.{AreOneGroup, IsCornered, MayJoin}
 use Rattle.step_order.proofs.Voxels.{in_space_is}
 use Rattle.plan_tape.specs.Crowd.{AllStep, CanPaintAll}
-use Rattle.plan_tape.specs.Progress.{Progress, spot, state_of}
-use Rattle.layer_planner.specs.Painting.{coord, down}
+use Rattle.plan_tape.specs.Progress.{TapeState, spot, state_of}
 use Rattle.group_planner.specs.Pair.{AreSet, IsPair, Sets, front, in_part, rear, second_spot}
 use Rattle.group_planner.specs.Writing.{ahead, all_below}
 use Rattle.group_planner.proofs.Pairs.{all_allowed, both_bots, spends}
@@ -96,7 +95,7 @@ cornered r x y a b c s ex ey ez h lx ly la lb same out =
       outside = out;
     }))
 
-module _ (p : Progress) (full : Bool) (k l : Command) (first last : ℕ) (h : IsPair p) (above : 1 ≤ (rear p).y) (ef : first ≡ (rear p).z) (el : last ≡ (front p).z) (ek : k ≡ all_below full (pos last -ℤ pos first)) (er : l ≡ all_below full (pos first -ℤ pos last)) where
+module _ (p : TapeState) (full : Bool) (k l : Command) (first last : ℕ) (h : IsPair p) (above : 1 ≤ (rear p).y) (ef : first ≡ (rear p).z) (el : last ≡ (front p).z) (ek : k ≡ all_below full (pos last -ℤ pos first)) (er : l ≡ all_below full (pos first -ℤ pos last)) where
   abbrev below_both : Span
   below_both = region (rear p).x ((rear p).y - 1) first last
 
@@ -151,7 +150,7 @@ module _ (p : Progress) (full : Bool) (k l : Command) (first last : ℕ) (h : Is
   pub can_paint : CanPaintAll p (k ∷ l ∷ [])
   can_paint = record { region = below_both; full = full; group = one_group }
 
-  pub wrote_both : (q : Progress) → AllStep p q (k ∷ l ∷ []) (with_region p.matrix below_both full) p.harmonics p.bots → Sets p q (rear p).x ((rear p).y - 1) (rear p).z ((front p).z + 1) full (rear p) (front p) 1 1
+  pub wrote_both : (q : TapeState) → AllStep p q (k ∷ l ∷ []) (with_region p.matrix below_both full) p.harmonics p.bots → Sets p q (rear p).x ((rear p).y - 1) (rear p).z ((front p).z + 1) full (rear p) (front p) 1 1
   wrote_both q s =
       let r = p.matrix.resolution in
       let y = h.in_row.y in

@@ -6,7 +6,7 @@ use Rattle.std.proofs.lemmas.Int.{ints}
 use Rattle.std.proofs.lemmas.Bool.Decides.{nat_tests}
 use Rattle.vox_geom.specs.declared.coordinate.Coord.{Coord}
 use Rattle.vox_geom.specs.declared.difference.Diff.{Diff}
-use Rattle.vox_geom.specs.Point.{Point, point, plus, same_number, same_point}
+use Rattle.vox_geom.specs.Point.{Point, point, plus, same_number, same_point, coord}
 use Rattle.vox_geom.specs.Space.{IsInSpace, coordinate, in_space}
 use Rattle.nano_spec.specs.declared.commands.Command.TheVariants.{Fission, FusionP, FusionS}
 use Rattle.nano_spec.specs.declared.system.Bot.{Bot}
@@ -20,10 +20,9 @@ use Rattle.nano_spec.specs.Step.{after}
 use Rattle.step_order.specs.Acting.{leaves_voxels}
 use Rattle.step_order.specs.Unbroken.{AreFree, IsFreeWay}
 use Rattle.step_order.proofs.Voxels.{in_space_is}
-use Rattle.plan_tape.specs.Progress.{Progress, spot, state_of}
-use Rattle.layer_planner.specs.Painting.{IsVoidFrom, coord}
+use Rattle.plan_tape.specs.Progress.{TapeState, spot, state_of, IsVoidFrom}
 use Rattle.group_planner.specs.Pair.{IsPair, front, rear, second_spot}
-use Rattle.group_planner.specs.Phases.{Joins, Splits, first_at}
+use Rattle.group_planner.specs.Phases.{PairJoins, Splits, first_at}
 use Rattle.group_planner.specs.Writing.{AreCalm, CalmStep, ahead}
 use Rattle.group_planner.proofs.Pairs.{all_allowed, both_bots, front_within, rear_within, void_way}
 
@@ -55,7 +54,7 @@ bids_rise = refl
 abbrev bot_at : Coord → Bot
 bot_at c = record { bid = 1; pos = c; seeds = (first_bot full_profile).seeds }
 
-module _ (p : Progress) (d : Diff) (e : d ≡ ahead (pos 1)) (alone : p.bots ≡ first_at (spot p.bots)) (full : p.profile ≡ full_profile) (room : (spot p.bots).z + 1 < p.matrix.resolution) (within : IsInSpace p.matrix.resolution (spot p.bots)) (free : IsVoidFrom p.matrix (spot p.bots).y) where
+module _ (p : TapeState) (d : Diff) (e : d ≡ ahead (pos 1)) (alone : p.bots ≡ first_at (spot p.bots)) (full : p.profile ≡ full_profile) (room : (spot p.bots).z + 1 < p.matrix.resolution) (within : IsInSpace p.matrix.resolution (spot p.bots)) (free : IsVoidFrom p.matrix (spot p.bots).y) where
   abbrev beside : Coord
   beside = coord (spot p.bots).x (spot p.bots).y ((spot p.bots).z + 1)
 
@@ -77,7 +76,7 @@ module _ (p : Progress) (d : Diff) (e : d ≡ ahead (pos 1)) (alone : p.bots ≡
   pub split_stays : AllByRecursion (λ x. IsTrue (leaves_voxels x.command)) (acts p.bots (Fission d 0 ∷ []))
   split_stays = subst (λ (bots : List Bot). AllByRecursion (λ x. IsTrue (leaves_voxels x.command)) (acts bots (Fission d 0 ∷ []))) (sym alone) (refl, tt)
 
-  pub has_split : (q : Progress) → p.harmonics ≡ High → CalmStep p q (Fission d 0 ∷ []) → (after (state_of p) (Fission d 0 ∷ [])).matrix ≡ p.matrix → Splits p q
+  pub has_split : (q : TapeState) → p.harmonics ≡ High → CalmStep p q (Fission d 0 ∷ []) → (after (state_of p) (Fission d 0 ∷ [])).matrix ≡ p.matrix → Splits p q
   has_split q high s m =
       let bots : q.bots ≡ parent (bot_at (spot p.bots)) 0 ∷ newborn (bot_at (spot p.bots)) (plus (point (spot p.bots)) d) 0 ∷ [] = s.bots_are ∙ (ap (λ (bs : List Bot). bots_after (acts bs (Fission d 0 ∷ []))) alone ∙ two_bots) in
       let rear_is : rear q ≡ spot p.bots = ap spot bots in
@@ -119,7 +118,7 @@ stays_there : (o : Option Act) (b : Bot) (f : Act → Bot) → ((c : Act) → (f
 stays_there None b f h = refl
 stays_there (Some c) b f h = h c
 
-module _ (p : Progress) (d e : Diff) (ed : d ≡ ahead (pos 1)) (ee : e ≡ ahead (negsuc 0)) (h : IsPair p) (beside : (front p).z ≡ (rear p).z + 1) where
+module _ (p : TapeState) (d e : Diff) (ed : d ≡ ahead (pos 1)) (ee : e ≡ ahead (negsuc 0)) (h : IsPair p) (beside : (front p).z ≡ (rear p).z + 1) where
   front_is_next : front p ≡ coord (rear p).x (rear p).y ((rear p).z + 1)
   front_is_next = λ i. record { x = h.in_row.same_x i; y = h.in_row.same_y i; z = beside i }
 
@@ -167,7 +166,7 @@ module _ (p : Progress) (d e : Diff) (ed : d ≡ ahead (pos 1)) (ee : e ≡ ahea
   pub join_stays : AllByRecursion (λ x. IsTrue (leaves_voxels x.command)) (acts p.bots (FusionP d ∷ FusionS e ∷ []))
   join_stays = let t = both_bots p.bots h.two in subst (λ (bots : List Bot). AllByRecursion (λ x. IsTrue (leaves_voxels x.command)) (acts bots (FusionP d ∷ FusionS e ∷ []))) (sym t.are) (refl, (refl, tt))
 
-  pub has_joined : (q : Progress) → CalmStep p q (FusionP d ∷ FusionS e ∷ []) → (after (state_of p) (FusionP d ∷ FusionS e ∷ [])).matrix ≡ p.matrix → Joins p q (rear p) 1
+  pub has_joined : (q : TapeState) → CalmStep p q (FusionP d ∷ FusionS e ∷ []) → (after (state_of p) (FusionP d ∷ FusionS e ∷ [])).matrix ≡ p.matrix → PairJoins p q (rear p) 1
   has_joined q s m =
       let t = both_bots p.bots h.two in
       let a = t.first in

@@ -3,11 +3,11 @@ use Rattle.std.proofs.Common.{◌≡◌, ℕ, zero, suc, ◌+◌, ◌-◌, ◌*�
 use Rattle.std.proofs.lemmas.Bool.Decides.{nat_tests}
 use Rattle.vox_geom.specs.declared.coordinate.Coord.{Coord}
 use Rattle.nano_spec.specs.Matrix.{Matrix, is_full}
-use Rattle.plan_tape.specs.Progress.{Progress}
-use Rattle.layer_planner.specs.Painting.{IsVoidFrom, from_layer, in_layer, layer}
+use Rattle.plan_tape.specs.Progress.{TapeState, IsVoidFrom}
+use Rattle.layer_planner.specs.Painting.{from_layer, in_layer, layer}
 use Rattle.layer_planner.proofs.Paints.{void_past_x}
 use Rattle.group_planner.specs.Rows.{is_row, one_if, rows, rows_of_layer, runs, runs_of_layer, runs_of_row, sum_below}
-use Rattle.group_planner.specs.Stamping.{CanClear, CanStamp, Stamps, between_layers, layer_steps, row_steps, steps_below}
+use Rattle.group_planner.specs.Stamping.{CanVoidModel, CanStamp, Stamps, between_layers, stamping_steps, row_steps, steps_below}
 use Rattle.group_planner.proofs.Counts.{sum_below-suc, sum_below-zero}
 use Rattle.group_planner.proofs.Stamps.{stamps_as}
 
@@ -27,7 +27,7 @@ sum_of_both f g (suc n) =
     let d = sum_of_both f g n in
     omega (arith, a, b, c, d)
 
-pub layer_sum : (m : Matrix) (y : ℕ) → sum_below (λ x. row_steps m x y) m.resolution ≡ layer_steps m y
+pub layer_sum : (m : Matrix) (y : ℕ) → sum_below (λ x. row_steps m x y) m.resolution ≡ stamping_steps m y
 layer_sum m y = sum_of_both (λ x. one_if (is_row m x y)) (λ x. runs_of_row m x y) m.resolution
 
 pub model_sum : (m : Matrix) → steps_below m m.resolution ≡ 135 * rows m + 3 * runs m
@@ -42,7 +42,7 @@ no_lines m y c = let e : nat_lt c.x 0 ≡ false = grind (arith, nat_tests) in by
     by s t u e = rw e refl
 
 -- all lines are the layer
-pub stamps_layer : (a b : Progress) (m : Matrix) (full : Bool) (x y : ℕ) → m.resolution ≤ x → Stamps a b m full (in_layer x y) (sum_below (λ k. runs_of_row m k y) x) → sum_below (λ k. runs_of_row m k y) x ≡ runs_of_layer m y → Stamps a b m full (layer y) (runs_of_layer m y)
+pub stamps_layer : (a b : TapeState) (m : Matrix) (full : Bool) (x y : ℕ) → m.resolution ≤ x → Stamps a b m full (in_layer x y) (sum_below (λ k. runs_of_row m k y) x) → sum_below (λ k. runs_of_row m k y) x ≡ runs_of_layer m y → Stamps a b m full (layer y) (runs_of_layer m y)
 stamps_layer a b m full x y l g n = stamps_as a b m full (in_layer x y) (layer y) _ (runs_of_layer m y) g (λ c. by c (nat_lt c.x x) refl) (omega (arith, n))
   where
     past : (u r : ℕ) → r ≤ u → nat_lt u r ≡ false
@@ -70,7 +70,7 @@ at_or_above : (v y : ℕ) → y ≤ v → nat_le y v ≡ true
 at_or_above v y h = grind (arith, nat_tests)
 
 -- at first nothing is written, since the top layer is void
-pub no_layers : (p : Progress) (m : Matrix) (c : Coord) → CanClear p m → (from_layer (p.matrix.resolution - 1) c && is_full m c) ≡ false
+pub no_layers : (p : TapeState) (m : Matrix) (c : Coord) → CanVoidModel p m → (from_layer (p.matrix.resolution - 1) c && is_full m c) ≡ false
 no_layers p m c h = by (from_layer (p.matrix.resolution - 1) c) refl
   where
     by : (t : Bool) → from_layer (p.matrix.resolution - 1) c ≡ t → (t && is_full m c) ≡ false
@@ -82,11 +82,11 @@ emptied true = refl
 emptied false = refl
 
 -- where the layers from a height on are voided, all is void there
-pub cleared : (a b : Progress) (m : Matrix) (y n : ℕ) → CanClear a m → Stamps a b m false (from_layer y) n → IsVoidFrom b.matrix y
+pub cleared : (a b : TapeState) (m : Matrix) (y n : ℕ) → CanVoidModel a m → Stamps a b m false (from_layer y) n → IsVoidFrom b.matrix y
 cleared a b m y n h g = λ c l. g.stamped c ∙ (ap (λ t. cond (t && is_full m c) false (is_full a.matrix c)) (at_or_above c.y y l) ∙ (ap (λ f. cond (true && is_full m c) false f) (h.alike c) ∙ emptied (is_full m c)))
 
 -- the next layer can be voided
-pub clear_on : (a b : Progress) (m : Matrix) (y z n : ℕ) → CanClear a m → Stamps a b m false (from_layer y) n → z + 1 ≡ y → y < a.matrix.resolution → CanStamp b m z
+pub clear_on : (a b : TapeState) (m : Matrix) (y z n : ℕ) → CanVoidModel a m → Stamps a b m false (from_layer y) n → z + 1 ≡ y → y < a.matrix.resolution → CanStamp b m z
 clear_on a b m y z n h g e l = record { pair = g.pair; same = h.same ∙ sym g.resolution; within = let r = g.resolution in omega arith; above = subst (IsVoidFrom b.matrix) (sym e) (cleared a b m y n h g) }
 
 -- ---- from below up

@@ -25,10 +25,9 @@ use Rattle.plan_tape.specs.declared.axis.Axis.{Axis}
 use Rattle.plan_tape.specs.declared.axis.Axis.TheVariants.{X, Y, Z}
 use Rattle.plan_tape.specs.Crowd.{AllStep, AreWaysApart, CanGo, CanMoveAll, MayGo, bots_gone}
 use Rattle.plan_tape.specs.Leg.{along, component_of, put}
-use Rattle.plan_tape.specs.Progress.{Progress, spot}
+use Rattle.plan_tape.specs.Progress.{TapeState, spot, IsVoidFrom}
 use Rattle.plan_tape.proofs.Legs.{plus-along, put-component_of}
-use Rattle.layer_planner.specs.Painting.{IsVoidFrom}
-use Rattle.group_planner.specs.Pair.{AreInRow, Goes, IsPair, Spends, front, rear, second_spot}
+use Rattle.group_planner.specs.Pair.{AreInRow, PairGoes, IsPair, Spends, front, rear, second_spot}
 
 -- ---- two bots
 
@@ -50,7 +49,7 @@ pub all_allowed : (profile : Profile) (k : Command) → profile ≡ full_profile
 all_allowed profile k e h = subst (λ (p : Profile). IsTrue (is_allowed p k)) (sym e) h
 
 -- the ways of both bots lie apart where these regions do
-pub can_move : (p : Progress) (k l : Command) → IsPair p → IsTrue (is_allowed full_profile k) → IsTrue (is_allowed full_profile l) → MayGo p.matrix (point (rear p)) k → MayGo p.matrix (point (front p)) l → LieApart (between (point (rear p)) (goal_of (point (rear p)) k)) (between (point (front p)) (goal_of (point (front p)) l)) → CanMoveAll p (k ∷ l ∷ [])
+pub can_move : (p : TapeState) (k l : Command) → IsPair p → IsTrue (is_allowed full_profile k) → IsTrue (is_allowed full_profile l) → MayGo p.matrix (point (rear p)) k → MayGo p.matrix (point (front p)) l → LieApart (between (point (rear p)) (goal_of (point (rear p)) k)) (between (point (front p)) (goal_of (point (front p)) l)) → CanMoveAll p (k ∷ l ∷ [])
 can_move p k l h ak al gk gl apart =
     let t = both_bots p.bots h.two in
     let a = t.first in
@@ -64,14 +63,14 @@ can_move p k l h ak al gk gl apart =
     }
 
 -- what a step of two commands costs
-pub spends : (p q : Progress) (k l : Command) (m : Matrix) (bots : List Bot) (n : ℕ) → AllStep p q (k ∷ l ∷ []) m p.harmonics bots → length (spellings (k ∷ l ∷ [])) ≤ 4 + 4 * n → Spends p q n
+pub spends : (p q : TapeState) (k l : Command) (m : Matrix) (bots : List Bot) (n : ℕ) → AllStep p q (k ∷ l ∷ []) m p.harmonics bots → length (spellings (k ∷ l ∷ [])) ≤ 4 + 4 * n → Spends p q n
 spends p q k l m bots n s h =
     let added = ap length s.added ∙ length-append p.commands (k ∷ l ∷ []) in
     let steps = s.steps in
     let bytes = s.bytes_are in
     record { commands_are = omega (arith, added, steps); bytes_are = omega (arith, bytes, steps, h) }
 
-pub there : (p : Progress) (k l : Command) (a b : Coord) → IsPair p → goal_of (point (rear p)) k ≡ point a → goal_of (point (front p)) l ≡ point b → (spot (bots_gone p.bots (k ∷ l ∷ [])) ≡ a) × (second_spot (bots_gone p.bots (k ∷ l ∷ [])) ≡ b) × (length (bots_gone p.bots (k ∷ l ∷ [])) ≡ 2)
+pub there : (p : TapeState) (k l : Command) (a b : Coord) → IsPair p → goal_of (point (rear p)) k ≡ point a → goal_of (point (front p)) l ≡ point b → (spot (bots_gone p.bots (k ∷ l ∷ [])) ≡ a) × (second_spot (bots_gone p.bots (k ∷ l ∷ [])) ≡ b) × (length (bots_gone p.bots (k ∷ l ∷ [])) ≡ 2)
 there p k l a b h ea eb =
     let t = both_bots p.bots h.two in (
       ap (λ (bots : List Bot). spot (bots_gone bots (k ∷ l ∷ []))) t.are ∙ (ap (λ (c : Coord). coordinate (goal_of (point c) k)) (sym t.rear_is) ∙ ap coordinate ea),
@@ -80,7 +79,7 @@ there p k l a b h ea eb =
     )
 
 -- the pair after a step in which each waits or moves
-pub moved_pair : (p q : Progress) (k l : Command) (a b : Coord) → IsPair p → AllStep p q (k ∷ l ∷ []) p.matrix p.harmonics (bots_gone p.bots (k ∷ l ∷ [])) → goal_of (point (rear p)) k ≡ point a → goal_of (point (front p)) l ≡ point b → AreInRow p.matrix.resolution a b → IsVoidFrom p.matrix a.y → length (spellings (k ∷ l ∷ [])) ≤ 4 → Goes p q a b 1
+pub moved_pair : (p q : TapeState) (k l : Command) (a b : Coord) → IsPair p → AllStep p q (k ∷ l ∷ []) p.matrix p.harmonics (bots_gone p.bots (k ∷ l ∷ [])) → goal_of (point (rear p)) k ≡ point a → goal_of (point (front p)) l ≡ point b → AreInRow p.matrix.resolution a b → IsVoidFrom p.matrix a.y → length (spellings (k ∷ l ∷ [])) ≤ 4 → PairGoes p q a b 1
 moved_pair p q k l a b h s ea eb row free few =
     let at = there p k l a b h ea eb in
     let rear_is : rear q ≡ a = ap spot s.bots_are ∙ at.0 in
@@ -166,10 +165,10 @@ pub front_within : (r : ℕ) (a b : Coord) → AreInRow r a b → IsInSpace r b
 front_within r a b h = let x = h.x in let y = h.y in let ex = h.same_x in let ey = h.same_y in record { x = omega arith; y = omega arith; z = h.z }
 
 -- at the height of the front all is void too
-pub front_free : (p : Progress) → IsPair p → IsVoidFrom p.matrix (front p).y
+pub front_free : (p : TapeState) → IsPair p → IsVoidFrom p.matrix (front p).y
 front_free p h = subst (IsVoidFrom p.matrix) (sym h.in_row.same_y) h.free
 
-module _ (p : Progress) (axis : Axis) (at next : ℕ) (d e : Diff) (h : IsPair p) (flat : (axis ≡ X) ⊎ (axis ≡ Y)) (here : component_of axis (rear p) ≡ at) (within : next < p.matrix.resolution) (free : IsVoidFrom p.matrix (put axis (rear p) next).y) (ed : d ≡ along axis (pos next -ℤ pos at)) (ee : e ≡ along axis (pos next -ℤ pos at)) where
+module _ (p : TapeState) (axis : Axis) (at next : ℕ) (d e : Diff) (h : IsPair p) (flat : (axis ≡ X) ⊎ (axis ≡ Y)) (here : component_of axis (rear p) ≡ at) (within : next < p.matrix.resolution) (free : IsVoidFrom p.matrix (put axis (rear p) next).y) (ed : d ≡ along axis (pos next -ℤ pos at)) (ee : e ≡ along axis (pos next -ℤ pos at)) where
   rear_led : plus (point (rear p)) d ≡ point (put axis (rear p) next)
   rear_led = led axis (rear p) at next d here ed
 
@@ -191,12 +190,12 @@ module _ (p : Progress) (axis : Axis) (at next : ℕ) (d e : Diff) (h : IsPair p
       (subst (λ (q : Point). LieApart (between (point (rear p)) (point a)) (between (point (front p)) q)) (sym front_led)
       (both_apart r axis (rear p) (front p) next flat h.in_row)))
 
-  pub both_moved : (q : Progress) → AllStep p q (SMove d ∷ SMove e ∷ []) p.matrix p.harmonics (bots_gone p.bots (SMove d ∷ SMove e ∷ [])) → Goes p q (put axis (rear p) next) (put axis (front p) next) 1
+  pub both_moved : (q : TapeState) → AllStep p q (SMove d ∷ SMove e ∷ []) p.matrix p.harmonics (bots_gone p.bots (SMove d ∷ SMove e ∷ [])) → PairGoes p q (put axis (rear p) next) (put axis (front p) next) 1
   both_moved q s = moved_pair p q (SMove d) (SMove e) (put axis (rear p) next) (put axis (front p) next) h s rear_led front_led there_in_row free (lit≤ tt)
 
 -- ---- one bot along z
 
-module _ (p : Progress) (at next : ℕ) (d : Diff) (h : IsPair p) (here : (front p).z ≡ at) (within : next < p.matrix.resolution) (past : (rear p).z < next) (ed : d ≡ along Z (pos next -ℤ pos at)) where
+module _ (p : TapeState) (at next : ℕ) (d : Diff) (h : IsPair p) (here : (front p).z ≡ at) (within : next < p.matrix.resolution) (past : (rear p).z < next) (ed : d ≡ along Z (pos next -ℤ pos at)) where
   ahead_led : plus (point (front p)) d ≡ point (put Z (front p) next)
   ahead_led = led Z (front p) at next d here ed
 
@@ -212,10 +211,10 @@ module _ (p : Progress) (at next : ℕ) (d : Diff) (h : IsPair p) (here : (front
       (subst (λ (q : Point). LieApart (between (point (rear p)) (point (rear p))) (between (point (front p)) q)) (sym ahead_led)
       (apart_z (rear p) (rear p) (front p) b order past order past))
 
-  pub front_moved : (q : Progress) → AllStep p q (Wait ∷ SMove d ∷ []) p.matrix p.harmonics (bots_gone p.bots (Wait ∷ SMove d ∷ [])) → Goes p q (rear p) (put Z (front p) next) 1
+  pub front_moved : (q : TapeState) → AllStep p q (Wait ∷ SMove d ∷ []) p.matrix p.harmonics (bots_gone p.bots (Wait ∷ SMove d ∷ [])) → PairGoes p q (rear p) (put Z (front p) next) 1
   front_moved q s = moved_pair p q Wait (SMove d) (rear p) (put Z (front p) next) h s refl ahead_led ahead_in_row h.free (lit≤ tt)
 
-module _ (p : Progress) (at next : ℕ) (d : Diff) (h : IsPair p) (here : (rear p).z ≡ at) (before : next < (front p).z) (ed : d ≡ along Z (pos next -ℤ pos at)) where
+module _ (p : TapeState) (at next : ℕ) (d : Diff) (h : IsPair p) (here : (rear p).z ≡ at) (before : next < (front p).z) (ed : d ≡ along Z (pos next -ℤ pos at)) where
   behind_led : plus (point (rear p)) d ≡ point (put Z (rear p) next)
   behind_led = led Z (rear p) at next d here ed
 
@@ -231,12 +230,12 @@ module _ (p : Progress) (at next : ℕ) (d : Diff) (h : IsPair p) (here : (rear 
       (subst (λ (q : Point). LieApart (between (point (rear p)) q) (between (point (front p)) (point (front p)))) (sym behind_led)
       (apart_z (rear p) a (front p) (front p) order order before before))
 
-  pub rear_moved : (q : Progress) → AllStep p q (SMove d ∷ Wait ∷ []) p.matrix p.harmonics (bots_gone p.bots (SMove d ∷ Wait ∷ [])) → Goes p q (put Z (rear p) next) (front p) 1
+  pub rear_moved : (q : TapeState) → AllStep p q (SMove d ∷ Wait ∷ []) p.matrix p.harmonics (bots_gone p.bots (SMove d ∷ Wait ∷ [])) → PairGoes p q (put Z (rear p) next) (front p) 1
   rear_moved q s = moved_pair p q (SMove d) Wait (put Z (rear p) next) (front p) h s behind_led refl behind_in_row h.free (lit≤ tt)
 
 -- ---- both along z
 
-module _ (p : Progress) (behind rear_next ahead front_next : ℕ) (d e : Diff) (h : IsPair p) (rear_here : (rear p).z ≡ behind) (front_here : (front p).z ≡ ahead) (within : front_next < p.matrix.resolution) (clear : rear_next < ahead) (past : behind < front_next) (order : rear_next < front_next) (ed : d ≡ along Z (pos rear_next -ℤ pos behind)) (ee : e ≡ along Z (pos front_next -ℤ pos ahead)) where
+module _ (p : TapeState) (behind rear_next ahead front_next : ℕ) (d e : Diff) (h : IsPair p) (rear_here : (rear p).z ≡ behind) (front_here : (front p).z ≡ ahead) (within : front_next < p.matrix.resolution) (clear : rear_next < ahead) (past : behind < front_next) (order : rear_next < front_next) (ed : d ≡ along Z (pos rear_next -ℤ pos behind)) (ee : e ≡ along Z (pos front_next -ℤ pos ahead)) where
   slid_rear : plus (point (rear p)) d ≡ point (put Z (rear p) rear_next)
   slid_rear = led Z (rear p) behind rear_next d rear_here ed
 
@@ -258,5 +257,5 @@ module _ (p : Progress) (behind rear_next ahead front_next : ℕ) (d e : Diff) (
       (subst (λ (q : Point). LieApart (between (point (rear p)) (point a)) (between (point (front p)) q)) (sym slid_front)
       (apart_z (rear p) a (front p) b h.in_row.order (omega (arith, rear_here, past)) (omega (arith, front_here, clear)) order)))
 
-  pub slid : (q : Progress) → AllStep p q (SMove d ∷ SMove e ∷ []) p.matrix p.harmonics (bots_gone p.bots (SMove d ∷ SMove e ∷ [])) → Goes p q (put Z (rear p) rear_next) (put Z (front p) front_next) 1
+  pub slid : (q : TapeState) → AllStep p q (SMove d ∷ SMove e ∷ []) p.matrix p.harmonics (bots_gone p.bots (SMove d ∷ SMove e ∷ [])) → PairGoes p q (put Z (rear p) rear_next) (put Z (front p) front_next) 1
   slid q s = moved_pair p q (SMove d) (SMove e) (put Z (rear p) rear_next) (put Z (front p) front_next) h s slid_rear slid_front slid_in_row h.free (lit≤ tt)

@@ -4,21 +4,22 @@ use Rattle.std.proofs.lemmas.Bool.Decides.{nat_tests}
 use Rattle.vox_geom.specs.declared.coordinate.Coord.{Coord}
 use Rattle.nano_spec.specs.Legal.{IsLegal}
 use Rattle.nano_spec.specs.Matrix.{Matrix, is_full}
-use Rattle.plan_tape.specs.Progress.{AreAlike, Progress, bytes, spot}
+use Rattle.plan_tape.specs.Progress.{AreAlike, TapeState, bytes, spot, IsVoidFrom}
 use Rattle.layer_planner.specs.Lowest.{IsLowest}
-use Rattle.layer_planner.specs.Painting.{IsVoidFrom, coord, from_layer}
+use Rattle.layer_planner.specs.Painting.{from_layer}
 use Rattle.layer_planner.proofs.Legality.{alike_is_same, void_at_top}
 use Rattle.vox_planes.specs.Voxel.{IsWhole}
 use Rattle.plan_tape.specs.Leg.{moves, moves_to}
 use Rattle.group_planner.specs.Pair.{IsPair, Spends, front, rear}
-use Rattle.group_planner.specs.Phases.{IsOpened, IsRebuilt, Joins, plan_steps}
+use Rattle.group_planner.specs.Phases.{PairIsOpened, PairHasRebuilt, PairJoins, plan_steps}
 use Rattle.group_planner.specs.Rows.{runs}
-use Rattle.group_planner.specs.Stamping.{CanClear, Stamps, between_layers, climb_to, steps_below}
+use Rattle.group_planner.specs.Stamping.{CanVoidModel, Stamps, between_layers, climb_to, steps_below}
 use Rattle.group_planner.proofs.Closing.{down_moves, gather_moves}
 use Rattle.group_planner.proofs.Layers.{model_sum}
 use Rattle.group_planner.proofs.Worked.{spends_on}
+use Rattle.vox_geom.specs.Point.{coord}
 
-pub can_clear : (a : Progress) (s : Matrix) → IsOpened a → a.source ≡ s → IsLegal s → CanClear a s
+pub can_clear : (a : TapeState) (s : Matrix) → PairIsOpened a → a.source ≡ s → IsLegal s → CanVoidModel a s
 can_clear a s o e h =
     let same = o.matrix ∙ e in
     record {
@@ -29,7 +30,7 @@ can_clear a s o e h =
     }
 
 -- the pair stands at the top
-pub top_climb : (a : Progress) (s : Matrix) → IsOpened a → a.source ≡ s → climb_to a (a.matrix.resolution - 1) ≤ 30
+pub top_climb : (a : TapeState) (s : Matrix) → PairIsOpened a → a.source ≡ s → climb_to a (a.matrix.resolution - 1) ≤ 30
 top_climb a s o e =
     let y = ap (λ (c : Coord). c.y) o.there in
     let r = ap (λ (m : Matrix). m.resolution) o.matrix in
@@ -63,7 +64,7 @@ alike_target s t b d low h below p q = λ c. q c ∙ (ap (cond (between_layers l
     by c true false e f = (λ i. cond ((e i && f i) && is_full t c) true (cond (e i && is_full s c) false (is_full s c))) ∙ emptied (is_full t c) (is_full s c) (void_at_top t h c (higher c.y (t.resolution - 1) f))
     by c false v e f = (λ i. cond ((e i && nat_lt c.y (t.resolution - 1)) && is_full t c) true (cond (e i && is_full s c) false (is_full s c))) ∙ below c (less c.y low e)
 
-pub rebuilt : (a b d : Progress) (s t : Matrix) (low : ℕ) → IsOpened a → a.source ≡ s → IsLegal t → t.resolution ≡ s.resolution → IsLowest s t low → Stamps a b s false (from_layer low) (runs s) → climb_to b low ≤ climb_to a (a.matrix.resolution - 1) + a.matrix.resolution + steps_below s a.matrix.resolution → Stamps b d t true (between_layers low (b.matrix.resolution - 1)) (runs t) → d.steps ≤ climb_to b (low + 1) + b.matrix.resolution + steps_below t b.matrix.resolution → IsRebuilt d t
+pub rebuilt : (a b d : TapeState) (s t : Matrix) (low : ℕ) → PairIsOpened a → a.source ≡ s → IsLegal t → t.resolution ≡ s.resolution → IsLowest s t low → Stamps a b s false (from_layer low) (runs s) → climb_to b low ≤ climb_to a (a.matrix.resolution - 1) + a.matrix.resolution + steps_below s a.matrix.resolution → Stamps b d t true (between_layers low (b.matrix.resolution - 1)) (runs t) → d.steps ≤ climb_to b (low + 1) + b.matrix.resolution + steps_below t b.matrix.resolution → PairHasRebuilt d t
 rebuilt a b d s t low o e h same l g climb k steps =
     let em = o.matrix ∙ e in
     let ra = ap (λ (m : Matrix). m.resolution) em in
@@ -88,11 +89,11 @@ rebuilt a b d s t low o e h same l g climb k steps =
     }
 
 -- the matrix is the target
-pub matrix_is : (t : Progress) (target : Matrix) → IsRebuilt t target → IsWhole t.matrix → IsWhole target → t.matrix ≡ target
+pub matrix_is : (t : TapeState) (target : Matrix) → PairHasRebuilt t target → IsWhole t.matrix → IsWhole target → t.matrix ≡ target
 matrix_is t target k v w = alike_is_same t.matrix target v w k.same (λ q i. k.matrix q)
 
 -- how many steps lead home
-pub home_steps : (t b : Progress) (n r : ℕ) → IsPair t → t.matrix.resolution ≡ r → r ≤ 400 → n ≡ moves (rear t).x 0 + moves (rear t).z 0 + moves (front t).z 1 + 1 → Joins t b (coord 0 (rear t).y 0) n → b.steps + moves_to (spot b.bots) (coord 0 0 0) ≤ t.steps + 109
+pub home_steps : (t b : TapeState) (n r : ℕ) → IsPair t → t.matrix.resolution ≡ r → r ≤ 400 → n ≡ moves (rear t).x 0 + moves (rear t).z 0 + moves (front t).z 1 + 1 → PairJoins t b (coord 0 (rear t).y 0) n → b.steps + moves_to (spot b.bots) (coord 0 0 0) ≤ t.steps + 109
 home_steps t b n r h er l e j =
     let x = h.in_row.x in
     let y = h.in_row.y in
@@ -105,8 +106,8 @@ home_steps t b n r h er l e j =
     omega (arith, gathered, down, way, steps, e)
 
 -- the plan's costs
-pub home_commands : (t b d f h : Progress) (n : ℕ) → length t.commands ≤ 2 * t.steps → Spends t b 0 → length d.commands ≡ length b.commands + n → d.steps ≡ b.steps + n → length f.commands ≡ length d.commands + 1 → f.steps ≡ d.steps + 1 → length h.commands ≡ length f.commands + 1 → h.steps ≡ f.steps + 1 → length h.commands ≤ 2 * h.steps
+pub home_commands : (t b d f h : TapeState) (n : ℕ) → length t.commands ≤ 2 * t.steps → Spends t b 0 → length d.commands ≡ length b.commands + n → d.steps ≡ b.steps + n → length f.commands ≡ length d.commands + 1 → f.steps ≡ d.steps + 1 → length h.commands ≡ length f.commands + 1 → h.steps ≡ f.steps + 1 → length h.commands ≤ 2 * h.steps
 home_commands t b d f h n a s e g i k l m = let c = s.commands_are in omega (arith, a, c, e, g, i, k, l, m)
 
-pub home_bytes : (t b d f h : Progress) (n more : ℕ) → bytes t ≤ 4 * t.steps + 4 * more → Spends t b 0 → bytes d ≡ bytes b + 2 * n → d.steps ≡ b.steps + n → bytes f ≡ bytes d + 1 → f.steps ≡ d.steps + 1 → bytes h ≡ bytes f + 1 → h.steps ≡ f.steps + 1 → bytes h ≤ 4 * h.steps + 4 * more
+pub home_bytes : (t b d f h : TapeState) (n more : ℕ) → bytes t ≤ 4 * t.steps + 4 * more → Spends t b 0 → bytes d ≡ bytes b + 2 * n → d.steps ≡ b.steps + n → bytes f ≡ bytes d + 1 → f.steps ≡ d.steps + 1 → bytes h ≡ bytes f + 1 → h.steps ≡ f.steps + 1 → bytes h ≤ 4 * h.steps + 4 * more
 home_bytes t b d f h n more a s e g i k l m = let c = s.bytes_are in omega (arith, a, c, e, g, i, k, l, m)

@@ -7,7 +7,7 @@ use Rattle.nano_spec.specs.Matrix.{Matrix, is_full}
 use Rattle.vox_planes.specs.Voxel.{is_state}
 use Rattle.vox_planes.specs.Walk.{at, row}
 use Rattle.vox_planes.proofs.Walks.{row-end, row-more}
-use Rattle.group_planner.specs.Runs.{IsNext}
+use Rattle.group_planner.specs.Runs.{IsRunEnd}
 
 -- the first coordinate of a row that passes a test
 record IsFirst (test : Coord → Bool) (c : Coord) (last : ℕ) (d : Coord) : Type 0 where
@@ -62,7 +62,7 @@ state_false m false c e = by (is_full m c) e
     by true f = refl
     by false f = cc
 
-pub is_next : (m : Matrix) (c d : Coord) (end : ℕ) (full : Bool) → c.z < end → find (is_state m full) (row c (end - 1)) ≡ Some d → IsNext m c.x c.y c.z end full d.z
+pub is_next : (m : Matrix) (c d : Coord) (end : ℕ) (full : Bool) → c.z < end → find (is_state m full) (row c (end - 1)) ≡ Some d → IsRunEnd m c.x c.y c.z end full d.z
 is_next m c d end full l f =
     let h = first_by (is_state m full) (end - 1 + 1 - c.z) c (end - 1) d refl f in
     record {
@@ -72,7 +72,7 @@ is_next m c d end full l f =
       here = λ _. ap (is_full m) (sym h.is) ∙ state_true m full d h.passes;
     }
 
-pub is_end : (m : Matrix) (c : Coord) (end : ℕ) (full : Bool) → c.z < end → find (is_state m full) (row c (end - 1)) ≡ None → IsNext m c.x c.y c.z end full end
+pub is_end : (m : Matrix) (c : Coord) (end : ℕ) (full : Bool) → c.z < end → find (is_state m full) (row c (end - 1)) ≡ None → IsRunEnd m c.x c.y c.z end full end
 is_end m c end full l f =
     record {
       low = omega arith;

@@ -3,7 +3,7 @@ use Rattle.std.proofs.Common.{◌≡◌, ℕ, ◌+◌, ◌-◌, ◌<◌, ◌≤�
 use Rattle.std.specs.Prelude.{IsTrue, IsFalse}
 use Rattle.std.specs.List.{AllByRecursion, list_any}
 use Rattle.vox_geom.specs.declared.coordinate.Coord.{Coord}
-use Rattle.vox_geom.specs.Point.{Point, point, plus}
+use Rattle.vox_geom.specs.Point.{Point, point, plus, coord, down}
 use Rattle.vox_geom.specs.Region.{Span, is_within, just}
 use Rattle.vox_geom.specs.Space.{IsInSpace, in_space}
 use Rattle.nano_spec.specs.declared.commands.Command.{Command}
@@ -21,8 +21,7 @@ use Rattle.step_order.specs.Apart.{LieApart}
 use Rattle.step_order.specs.Unbroken.{AreFree, MayAct}
 use Rattle.step_order.proofs.Voxels.{in_space_is}
 use Rattle.plan_tape.specs.Crowd.{AllStep, bots_gone}
-use Rattle.plan_tape.specs.Progress.{Progress, spot, state_of}
-use Rattle.layer_planner.specs.Painting.{coord, down}
+use Rattle.plan_tape.specs.Progress.{TapeState, spot, state_of}
 use Rattle.group_planner.specs.Pair.{AreSet, IsPair, Sets, front, in_part, rear, second_spot}
 use Rattle.group_planner.specs.Writing.{AreCalm, CalmStep, one_below}
 use Rattle.group_planner.proofs.Pairs.{all_allowed, apart_z, both_bots, front_within, rear_within, spends, there}
@@ -72,7 +71,7 @@ waits_apart k full a b w h l = (
   tt,
 )
 
-module _ (p : Progress) (k : Command) (full : Bool) (e : k ≡ one_below full) (h : IsPair p) (above : 1 ≤ (rear p).y) where
+module _ (p : TapeState) (k : Command) (full : Bool) (e : k ≡ one_below full) (h : IsPair p) (above : 1 ≤ (rear p).y) where
   how : Writer k full
   how = subst (λ (l : Command). Writer l full) (sym e) (writer full)
 
@@ -132,7 +131,7 @@ module _ (p : Progress) (k : Command) (full : Bool) (e : k ≡ one_below full) (
       subst (λ x. AreSet n p.matrix (in_part x ((rear p).y - 1) c.z (c.z + 1)) full) ex (subst (λ v. AreSet n p.matrix (in_part c.x (v - 1) c.z (c.z + 1)) full) ey here)
 
   -- the pair after either step
-  pub wrote_one : (q : Progress) (l r : Command) (z : ℕ) → AllStep p q (l ∷ r ∷ []) q.matrix p.harmonics (bots_gone p.bots (l ∷ r ∷ [])) → goal_of (point (rear p)) l ≡ point (rear p) → goal_of (point (front p)) r ≡ point (front p) → length (spellings (l ∷ r ∷ [])) ≤ 4 → q.matrix.resolution ≡ p.matrix.resolution → AreSet q.matrix p.matrix (in_part (rear p).x ((rear p).y - 1) z (z + 1)) full → Sets p q (rear p).x ((rear p).y - 1) z (z + 1) full (rear p) (front p) 1 0
+  pub wrote_one : (q : TapeState) (l r : Command) (z : ℕ) → AllStep p q (l ∷ r ∷ []) q.matrix p.harmonics (bots_gone p.bots (l ∷ r ∷ [])) → goal_of (point (rear p)) l ≡ point (rear p) → goal_of (point (front p)) r ≡ point (front p) → length (spellings (l ∷ r ∷ [])) ≤ 4 → q.matrix.resolution ≡ p.matrix.resolution → AreSet q.matrix p.matrix (in_part (rear p).x ((rear p).y - 1) z (z + 1)) full → Sets p q (rear p).x ((rear p).y - 1) z (z + 1) full (rear p) (front p) 1 0
   wrote_one q l r z s el er few res set =
       let at = there p l r (rear p) (front p) h el er in
       let rear_is : rear q ≡ rear p = ap spot s.bots_are ∙ at.0 in
@@ -154,14 +153,14 @@ module _ (p : Progress) (k : Command) (full : Bool) (e : k ≡ one_below full) (
         spends = spends p q l r q.matrix _ 0 s (omega (arith, few));
       }
 
-  calm_bots : (q : Progress) (l r : Command) → CalmStep p q (l ∷ r ∷ []) → (after (state_of p) (l ∷ r ∷ [])).bots ≡ bots_gone p.bots (l ∷ r ∷ []) → AllStep p q (l ∷ r ∷ []) q.matrix p.harmonics (bots_gone p.bots (l ∷ r ∷ []))
+  calm_bots : (q : TapeState) (l r : Command) → CalmStep p q (l ∷ r ∷ []) → (after (state_of p) (l ∷ r ∷ [])).bots ≡ bots_gone p.bots (l ∷ r ∷ []) → AllStep p q (l ∷ r ∷ []) q.matrix p.harmonics (bots_gone p.bots (l ∷ r ∷ []))
   calm_bots q l r s e = record { source = s.source; profile = s.profile; added = s.added; matrix = refl; harmonics = s.harmonics; bots_are = s.bots_are ∙ e; energy = s.energy; steps = s.steps; bytes_are = s.bytes_are }
 
   -- after the step all is as these laws say
   abbrev Voxels : Command → Command → Type 0
   Voxels l r = (d : Coord) → IsInSpace p.matrix.resolution d → is_full (after (state_of p) (l ∷ r ∷ [])).matrix d ≡ (is_filled (acts p.bots (l ∷ r ∷ [])) d || (is_full p.matrix d && not (is_voided (acts p.bots (l ∷ r ∷ [])) d)))
 
-  pub rear_wrote : (q : Progress) → CalmStep p q (k ∷ Wait ∷ []) → (after (state_of p) (k ∷ Wait ∷ [])).bots ≡ bots_gone p.bots (k ∷ Wait ∷ []) → Voxels k Wait → Sets p q (rear p).x ((rear p).y - 1) (rear p).z ((rear p).z + 1) full (rear p) (front p) 1 0
+  pub rear_wrote : (q : TapeState) → CalmStep p q (k ∷ Wait ∷ []) → (after (state_of p) (k ∷ Wait ∷ [])).bots ≡ bots_gone p.bots (k ∷ Wait ∷ []) → Voxels k Wait → Sets p q (rear p).x ((rear p).y - 1) (rear p).z ((rear p).z + 1) full (rear p) (front p) 1 0
   rear_wrote q s e v =
       let t = both_bots p.bots h.two in
       let w = how in
@@ -174,7 +173,7 @@ module _ (p : Progress) (k : Command) (full : Bool) (e : k ≡ one_below full) (
       ∙ (w.marks (point t.first.pos) (point d) (is_full p.matrix d)
       ∙ ap (λ (c : Coord). cond (is_within (just (plus (point c) down)) (point d)) full (is_full p.matrix d)) (sym t.rear_is))))))
 
-  pub front_wrote : (q : Progress) → CalmStep p q (Wait ∷ k ∷ []) → (after (state_of p) (Wait ∷ k ∷ [])).bots ≡ bots_gone p.bots (Wait ∷ k ∷ []) → Voxels Wait k → Sets p q (rear p).x ((rear p).y - 1) (front p).z ((front p).z + 1) full (rear p) (front p) 1 0
+  pub front_wrote : (q : TapeState) → CalmStep p q (Wait ∷ k ∷ []) → (after (state_of p) (Wait ∷ k ∷ [])).bots ≡ bots_gone p.bots (Wait ∷ k ∷ []) → Voxels Wait k → Sets p q (rear p).x ((rear p).y - 1) (front p).z ((front p).z + 1) full (rear p) (front p) 1 0
   front_wrote q s e v =
       let t = both_bots p.bots h.two in
       let w = how in

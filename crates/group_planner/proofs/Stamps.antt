@@ -5,10 +5,10 @@ use Rattle.std.proofs.lemmas.Bool.{cases_lt}
 use Rattle.std.proofs.lemmas.Bool.Decides.{nat_tests}
 use Rattle.vox_geom.specs.declared.coordinate.Coord.{Coord}
 use Rattle.nano_spec.specs.Matrix.{Matrix, is_full}
-use Rattle.plan_tape.specs.Progress.{Progress}
-use Rattle.layer_planner.specs.Painting.{IsVoidFrom, row}
+use Rattle.plan_tape.specs.Progress.{TapeState, IsVoidFrom}
+use Rattle.layer_planner.specs.Painting.{is_in_line}
 use Rattle.layer_planner.proofs.Paints.{void_past_z}
-use Rattle.group_planner.specs.declared.run.Run.{Run}
+use Rattle.group_planner.specs.declared.run.RowRun.{RowRun}
 use Rattle.group_planner.specs.Pair.{IsPair, in_part, rear}
 use Rattle.group_planner.specs.Rows.{is_full_at, runs_of_row}
 use Rattle.group_planner.specs.Runs.{IsNextRun, IsNoRun, runs_from}
@@ -33,7 +33,7 @@ on_line : (m : Matrix) (x y : ℕ) (c : Coord) → (c.x == x) ≡ true → (c.y 
 on_line m x y c ex ey = let a = equal c.x x ex in let b = equal c.y y ey in λ i. is_full m (record { x = a i; y = b i; z = c.z })
 
 -- what is written after one run more
-run_more : (m : Matrix) (x y z : ℕ) (run : Run) → IsNextRun m x y z run → (c : Coord) → (up_to x y run.end c && is_full m c) ≡ (in_part x y run.first run.end c || (up_to x y z c && is_full m c))
+run_more : (m : Matrix) (x y z : ℕ) (run : RowRun) → IsNextRun m x y z run → (c : Coord) → (up_to x y run.end c && is_full m c) ≡ (in_part x y run.first run.end c || (up_to x y z c && is_full m c))
 run_more m x y z run h c = by (c.x == x) (c.y == y) refl refl
   where
     full_z : (z' : ℕ) → z' ≡ c.z → (nat_le 0 z' && nat_lt z' run.end && is_full_at m x y z') ≡ ((nat_le run.first z' && nat_lt z' run.end) || (nat_le 0 z' && nat_lt z' z && is_full_at m x y z'))
@@ -71,7 +71,7 @@ run_more m x y z run h c = by (c.x == x) (c.y == y) refl refl
     by false t ex ey = rw ex refl
 
 -- what is written on the way back after one run more
-run_before : (m : Matrix) (x y z : ℕ) (run : Run) → IsNextRun m x y z run → (c : Coord) → (in_part x y z m.resolution c && is_full m c) ≡ (in_part x y run.first run.end c || (in_part x y run.end m.resolution c && is_full m c))
+run_before : (m : Matrix) (x y z : ℕ) (run : RowRun) → IsNextRun m x y z run → (c : Coord) → (in_part x y z m.resolution c && is_full m c) ≡ (in_part x y run.first run.end c || (in_part x y run.end m.resolution c && is_full m c))
 run_before m x y z run h c = by (c.x == x) (c.y == y) refl refl
   where
     Along : ℕ → Type 0
@@ -135,7 +135,7 @@ none_yet m x y c = by (c.x == x) (c.y == y) (nat_le 0 c.z) (nat_lt c.z 0) (is_fu
     by false t u v w e = refl
 
 -- after the last run all of the line is written
-all_written : (m : Matrix) (x y z : ℕ) → IsNoRun m x y z → (c : Coord) → (row x y c && is_full m c) ≡ (up_to x y z c && is_full m c)
+all_written : (m : Matrix) (x y z : ℕ) → IsNoRun m x y z → (c : Coord) → (is_in_line x y c && is_full m c) ≡ (up_to x y z c && is_full m c)
 all_written m x y z h c = by (c.x == x) (c.y == y) refl refl (cases_lt c.z z) (cases_lt c.z m.resolution)
   where
     same : (u v w : Bool) → u ≡ true → v ≡ true → w ≡ (u && v && w)
@@ -148,7 +148,7 @@ all_written m x y z h c = by (c.x == x) (c.y == y) refl refl (cases_lt c.z z) (c
         all true b f = f
         all false b f = refl
 
-    by : (s t : Bool) → (c.x == x) ≡ s → (c.y == y) ≡ t → (c.z < z) ⊎ (z ≤ c.z) → (c.z < m.resolution) ⊎ (m.resolution ≤ c.z) → (row x y c && is_full m c) ≡ (up_to x y z c && is_full m c)
+    by : (s t : Bool) → (c.x == x) ≡ s → (c.y == y) ≡ t → (c.z < z) ⊎ (z ≤ c.z) → (c.z < m.resolution) ⊎ (m.resolution ≤ c.z) → (is_in_line x y c && is_full m c) ≡ (up_to x y z c && is_full m c)
     by true true ex ey (inl a) b = let e0 : nat_le 0 c.z ≡ true = grind (arith, nat_tests) in let e1 : nat_lt c.z z ≡ true = grind (arith, nat_tests) in rw (ex, ey, e0, e1) refl
     by true true ex ey (inr a) (inl b) = let v = on_line m x y c ex ey ∙ h.void c.z a b in rw (ex, ey) (void (nat_le 0 c.z) (nat_lt c.z z) (is_full m c) v)
     by true true ex ey (inr a) (inr b) = let v = void_past_z m c (past c.z m.resolution b) in rw (ex, ey) (void (nat_le 0 c.z) (nat_lt c.z z) (is_full m c) v)
@@ -161,14 +161,14 @@ all_written m x y z h c = by (c.x == x) (c.y == y) refl refl (cases_lt c.z z) (c
 -- ---- tapes
 
 -- nothing is written
-pub stamps_none : (a : Progress) (m : Matrix) (full : Bool) (done : Coord → Bool) (n : ℕ) → IsPair a → ((c : Coord) → (done c && is_full m c) ≡ false) → Stamps a a m full done n
+pub stamps_none : (a : TapeState) (m : Matrix) (full : Bool) (done : Coord → Bool) (n : ℕ) → IsPair a → ((c : Coord) → (done c && is_full m c) ≡ false) → Stamps a a m full done n
 stamps_none a m full done n h e = record { source = refl; resolution = refl; stamped = λ c. rw (e c) refl; pair = h; spends = record { commands_are = omega arith; bytes_are = omega arith } }
 
-pub stamps_start : (a : Progress) (m : Matrix) (full : Bool) (x y n : ℕ) → IsPair a → Stamps a a m full (up_to x y 0) n
+pub stamps_start : (a : TapeState) (m : Matrix) (full : Bool) (x y n : ℕ) → IsPair a → Stamps a a m full (up_to x y 0) n
 stamps_start a m full x y n h = stamps_none a m full (up_to x y 0) n h (none_yet m x y)
 
 -- one run more
-stamps_one : (a b c : Progress) (m : Matrix) (full : Bool) (x y n : ℕ) (old new : Coord → Bool) (run : Run) → Stamps a b m full old n → WritesRun b c run.first run.end full → (rear b).x ≡ x → (rear b).y ≡ y + 1 → ((d : Coord) → (new d && is_full m d) ≡ (in_part x y run.first run.end d || (old d && is_full m d))) → Stamps a c m full new (n + 1)
+stamps_one : (a b c : TapeState) (m : Matrix) (full : Bool) (x y n : ℕ) (old new : Coord → Bool) (run : RowRun) → Stamps a b m full old n → WritesRun b c run.first run.end full → (rear b).x ≡ x → (rear b).y ≡ y + 1 → ((d : Coord) → (new d && is_full m d) ≡ (in_part x y run.first run.end d || (old d && is_full m d))) → Stamps a c m full new (n + 1)
 stamps_one a b c m full x y n old new run g w ex ey e =
     let y' : (rear b).y - 1 ≡ y = omega arith in
     record {
@@ -179,19 +179,19 @@ stamps_one a b c m full x y n old new run g w ex ey e =
       spends = spends_on a b c n 1 (n + 1) g.spends w.spends (omega arith);
     }
 
-pub stamps_run : (a b c : Progress) (m : Matrix) (full : Bool) (x y z n : ℕ) (run : Run) → Stamps a b m full (up_to x y z) n → WritesRun b c run.first run.end full → (rear b).x ≡ x → (rear b).y ≡ y + 1 → IsNextRun m x y z run → Stamps a c m full (up_to x y run.end) (n + 1)
+pub stamps_run : (a b c : TapeState) (m : Matrix) (full : Bool) (x y z n : ℕ) (run : RowRun) → Stamps a b m full (up_to x y z) n → WritesRun b c run.first run.end full → (rear b).x ≡ x → (rear b).y ≡ y + 1 → IsNextRun m x y z run → Stamps a c m full (up_to x y run.end) (n + 1)
 stamps_run a b c m full x y z n run g w ex ey h = stamps_one a b c m full x y n (up_to x y z) (up_to x y run.end) run g w ex ey (run_more m x y z run h)
 
 -- the same on the way back
-pub stamps_run_back : (a b c : Progress) (m : Matrix) (full : Bool) (x y z n : ℕ) (run : Run) → Stamps a b m full (in_part x y run.end m.resolution) n → WritesRun b c run.first run.end full → (rear b).x ≡ x → (rear b).y ≡ y + 1 → IsNextRun m x y z run → Stamps a c m full (in_part x y z m.resolution) (n + 1)
+pub stamps_run_back : (a b c : TapeState) (m : Matrix) (full : Bool) (x y z n : ℕ) (run : RowRun) → Stamps a b m full (in_part x y run.end m.resolution) n → WritesRun b c run.first run.end full → (rear b).x ≡ x → (rear b).y ≡ y + 1 → IsNextRun m x y z run → Stamps a c m full (in_part x y z m.resolution) (n + 1)
 stamps_run_back a b c m full x y z n run g w ex ey h = stamps_one a b c m full x y n (in_part x y run.end m.resolution) (in_part x y z m.resolution) run g w ex ey (run_before m x y z run h)
 
 -- nothing is written where there is no run
-pub stamps_no_run : (a : Progress) (m : Matrix) (full : Bool) (x y z n : ℕ) → IsPair a → IsNoRun m x y z → Stamps a a m full (in_part x y z m.resolution) n
+pub stamps_no_run : (a : TapeState) (m : Matrix) (full : Bool) (x y z n : ℕ) → IsPair a → IsNoRun m x y z → Stamps a a m full (in_part x y z m.resolution) n
 stamps_no_run a m full x y z n p h = stamps_none a m full (in_part x y z m.resolution) n p (none_from m x y z h)
 
 -- the whole line
-pub stamps_line : (a b : Progress) (m : Matrix) (full : Bool) (x y z n k : ℕ) → Stamps a b m full (up_to x y z) n → IsNoRun m x y z → n ≤ k → Stamps a b m full (row x y) k
+pub stamps_line : (a b : TapeState) (m : Matrix) (full : Bool) (x y z n k : ℕ) → Stamps a b m full (up_to x y z) n → IsNoRun m x y z → n ≤ k → Stamps a b m full (is_in_line x y) k
 stamps_line a b m full x y z n k g h l = record {
   source = g.source;
   resolution = g.resolution;
@@ -201,11 +201,11 @@ stamps_line a b m full x y z n k g h l = record {
 }
 
 -- the whole line, on the way back
-pub stamps_line_back : (a b : Progress) (m : Matrix) (full : Bool) (x y : ℕ) → Stamps a b m full (in_part x y 0 m.resolution) (runs_from m x y 0) → Stamps a b m full (row x y) (runs_of_row m x y)
+pub stamps_line_back : (a b : TapeState) (m : Matrix) (full : Bool) (x y : ℕ) → Stamps a b m full (in_part x y 0 m.resolution) (runs_from m x y 0) → Stamps a b m full (is_in_line x y) (runs_of_row m x y)
 stamps_line_back a b m full x y g = stamps_line a b m full x y m.resolution (runs_from m x y 0) (runs_of_row m x y) g (record { void = λ z l h. absurd (omega arith); none_more = refl }) (omega arith)
 
 -- where the voxels that are told by another test are the same
-pub stamps_as : (a b : Progress) (m : Matrix) (full : Bool) (done all : Coord → Bool) (n k : ℕ) → Stamps a b m full done n → ((c : Coord) → (all c && is_full m c) ≡ (done c && is_full m c)) → n ≤ k → Stamps a b m full all k
+pub stamps_as : (a b : TapeState) (m : Matrix) (full : Bool) (done all : Coord → Bool) (n k : ℕ) → Stamps a b m full done n → ((c : Coord) → (all c && is_full m c) ≡ (done c && is_full m c)) → n ≤ k → Stamps a b m full all k
 stamps_as a b m full done all n k g e l = record {
   source = g.source;
   resolution = g.resolution;
@@ -221,7 +221,7 @@ joined true false false full o = refl
 joined false f m full o = refl
 
 -- one part after another
-pub stamps_more : (a b c : Progress) (m : Matrix) (full : Bool) (first last all : Coord → Bool) (n k most : ℕ) → Stamps a b m full first n → Stamps b c m full last k → ((d : Coord) → all d ≡ (last d || first d)) → n + k ≤ most → Stamps a c m full all most
+pub stamps_more : (a b c : TapeState) (m : Matrix) (full : Bool) (first last all : Coord → Bool) (n k most : ℕ) → Stamps a b m full first n → Stamps b c m full last k → ((d : Coord) → all d ≡ (last d || first d)) → n + k ≤ most → Stamps a c m full all most
 stamps_more a b c m full first last all n k most g h e l = record {
   source = h.source ∙ g.source;
   resolution = h.resolution ∙ g.resolution;
@@ -231,9 +231,9 @@ stamps_more a b c m full first last all n k most g h e l = record {
 }
 
 -- what was void and is not written is void afterwards
-pub still_void : (a b : Progress) (m : Matrix) (full : Bool) (done : Coord → Bool) (n height : ℕ) → Stamps a b m full done n → ((c : Coord) → height ≤ c.y → done c ≡ false) → IsVoidFrom a.matrix height → IsVoidFrom b.matrix height
+pub still_void : (a b : TapeState) (m : Matrix) (full : Bool) (done : Coord → Bool) (n height : ℕ) → Stamps a b m full done n → ((c : Coord) → height ≤ c.y → done c ≡ false) → IsVoidFrom a.matrix height → IsVoidFrom b.matrix height
 still_void a b m full done n height g e v = λ c l. g.stamped c ∙ (ap (λ t. cond (t && is_full m c) full (is_full a.matrix c)) (e c l) ∙ v c l)
 
 -- the layer can be written on
-pub stamp_on : (a b : Progress) (m : Matrix) (full : Bool) (done : Coord → Bool) (n y : ℕ) → CanStamp a m y → Stamps a b m full done n → ((c : Coord) → y + 1 ≤ c.y → done c ≡ false) → CanStamp b m y
+pub stamp_on : (a b : TapeState) (m : Matrix) (full : Bool) (done : Coord → Bool) (n y : ℕ) → CanStamp a m y → Stamps a b m full done n → ((c : Coord) → y + 1 ≤ c.y → done c ≡ false) → CanStamp b m y
 stamp_on a b m full done n y h g e = record { pair = g.pair; same = h.same ∙ sym g.resolution; within = let w = h.within in let r = g.resolution in omega arith; above = still_void a b m full done n (y + 1) g e h.above }

@@ -3,19 +3,19 @@ use Rattle.std.proofs.Common.{◌≡◌, ℕ, ◌+◌, ◌-◌, ◌*◌, ◌<◌
 use Rattle.vox_geom.specs.declared.coordinate.Coord.{Coord}
 use Rattle.nano_spec.specs.Matrix.{Matrix}
 use Rattle.plan_tape.specs.Leg.{gap, moves}
-use Rattle.plan_tape.specs.Progress.{Progress}
-use Rattle.group_planner.specs.Pair.{AreSet, Goes, Sets, Spends, front, in_part, rear}
+use Rattle.plan_tape.specs.Progress.{TapeState}
+use Rattle.group_planner.specs.Pair.{AreSet, PairGoes, Sets, Spends, front, in_part, rear}
 use Rattle.group_planner.specs.Stamping.{WritesRun, most_work, work_at, work_to}
 
 -- costs, one part after another
-pub spends_on : (a b c : Progress) (n k most : ℕ) → Spends a b n → Spends b c k → n + k ≤ most → Spends a c most
+pub spends_on : (a b c : TapeState) (n k most : ℕ) → Spends a b n → Spends b c k → n + k ≤ most → Spends a c most
 spends_on a b c n k most g h l = record {
   commands_are = let x = g.commands_are in let y = h.commands_are in omega arith;
   bytes_are = let x = g.bytes_are in let y = h.bytes_are in omega arith;
 }
 
 -- the bots have gone somewhere in their row and written there
-pub wrote : (p q s : Progress) (a b : Coord) (n first end groups : ℕ) (full : Bool) → Goes p q a b n → Sets q s (rear q).x ((rear q).y - 1) first end full (rear q) (front q) 1 groups → groups ≤ 1 → a.x ≡ (rear p).x → a.y ≡ (rear p).y → 15 * (n + 1) + (gap a.z end + gap b.z end) ≤ (gap (rear p).z first + gap (front p).z first) + 45 + 2 * (end - first) → 15 * (n + 1) + (gap a.z first + gap b.z first) ≤ (gap (rear p).z end + gap (front p).z end) + 45 + 2 * (end - first) → WritesRun p s first end full
+pub wrote : (p q s : TapeState) (a b : Coord) (n first end groups : ℕ) (full : Bool) → PairGoes p q a b n → Sets q s (rear q).x ((rear q).y - 1) first end full (rear q) (front q) 1 groups → groups ≤ 1 → a.x ≡ (rear p).x → a.y ≡ (rear p).y → 15 * (n + 1) + (gap a.z end + gap b.z end) ≤ (gap (rear p).z first + gap (front p).z first) + 45 + 2 * (end - first) → 15 * (n + 1) + (gap a.z first + gap b.z first) ≤ (gap (rear p).z end + gap (front p).z end) + 45 + 2 * (end - first) → WritesRun p s first end full
 wrote p q s a b n first end groups full g w few ex ey forth back =
     let ax = ap (λ (c : Coord). c.x) g.rear_is ∙ ex in
     let ay = ap (λ (c : Coord). c.y) g.rear_is ∙ ey in
@@ -56,18 +56,18 @@ pub back_both : (u v first last : ℕ) → first < last → 15 * ((moves u first
 back_both u v first last h = omega arith
 
 -- the same of a part that is given by equations
-pub sets_at : (q s : Progress) (u v first end : ℕ) (full : Bool) (groups : ℕ) → u ≡ first → v ≡ end → Sets q s (rear q).x ((rear q).y - 1) u v full (rear q) (front q) 1 groups → Sets q s (rear q).x ((rear q).y - 1) first end full (rear q) (front q) 1 groups
+pub sets_at : (q s : TapeState) (u v first end : ℕ) (full : Bool) (groups : ℕ) → u ≡ first → v ≡ end → Sets q s (rear q).x ((rear q).y - 1) u v full (rear q) (front q) 1 groups → Sets q s (rear q).x ((rear q).y - 1) first end full (rear q) (front q) 1 groups
 sets_at q s u v first end full groups e f w = subst (λ z. Sets q s (rear q).x ((rear q).y - 1) z end full (rear q) (front q) 1 groups) e (subst (λ z. Sets q s (rear q).x ((rear q).y - 1) u z full (rear q) (front q) 1 groups) f w)
 
 -- how far both bots are from a place further on
-pub further : (p : Progress) (z first : ℕ) → z ≤ first → work_to p first ≤ work_to p z + 2 * (first - z)
+pub further : (p : TapeState) (z first : ℕ) → z ≤ first → work_to p first ≤ work_to p z + 2 * (first - z)
 further p z first h = omega arith
 
 -- and from the ends of a run
-pub from_first : (p : Progress) (first end : ℕ) → first < end → work_at p first (end - 1) ≤ work_to p first + 2 * (end - first)
+pub from_first : (p : TapeState) (first end : ℕ) → first < end → work_at p first (end - 1) ≤ work_to p first + 2 * (end - first)
 from_first p first end h = omega arith
 
-pub from_end : (p : Progress) (first end : ℕ) → first < end → work_at p first (end - 1) ≤ work_to p end + 2 * (end - first)
+pub from_end : (p : TapeState) (first end : ℕ) → first < end → work_at p first (end - 1) ≤ work_to p end + 2 * (end - first)
 from_end p first end h = omega arith
 
 -- what is left of a row's work before a run of it
@@ -86,7 +86,7 @@ pub back_after : (new now start z first end rest r : ℕ) → new ≤ now + 45 +
 back_after new now start z first end rest r g h a b d = omega arith
 
 -- how far both bots are from a place further back
-pub nearer : (p : Progress) (z first : ℕ) → z ≤ first → work_to p z ≤ work_to p first + 2 * (first - z)
+pub nearer : (p : TapeState) (z first : ℕ) → z ≤ first → work_to p z ≤ work_to p first + 2 * (first - z)
 nearer p z first h = omega arith
 
 -- ---- rows

@@ -4,15 +4,15 @@ use Rattle.std.specs.Prelude.{pos, ◌-ℤ◌, ◌+ℤ◌, negsuc}
 use Rattle.std.proofs.lemmas.Int.{ints}
 use Rattle.std.proofs.lemmas.Bool.Decides.{nat_tests}
 use Rattle.vox_geom.specs.declared.coordinate.Coord.{Coord}
-use Rattle.vox_geom.specs.Point.{point, plus}
+use Rattle.vox_geom.specs.Point.{point, plus, coord}
 use Rattle.vox_geom.specs.Region.{between, is_between, is_within}
 use Rattle.vox_geom.specs.Space.{IsInSpace, in_space}
 use Rattle.nano_spec.specs.Matrix.{Matrix, is_full}
 use Rattle.step_order.specs.Acting.{with_region}
 use Rattle.step_order.proofs.Voxels.{full_where, in_space_is}
-use Rattle.layer_planner.specs.Painting.{IsVoidFrom, coord}
 use Rattle.layer_planner.proofs.Paints.{space, void_out}
 use Rattle.group_planner.specs.Pair.{AreSet, in_part}
+use Rattle.plan_tape.specs.Progress.{IsVoidFrom}
 
 -- ---- regions along z
 

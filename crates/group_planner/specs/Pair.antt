@@ -8,8 +8,7 @@ use Rattle.nano_spec.specs.Profile.{full_profile}
 use Rattle.nano_spec.specs.State.{origin}
 use Rattle.plan_tape.specs.declared.axis.Axis.TheVariants.{Z}
 use Rattle.plan_tape.specs.Leg.{IsOnward, moves, put}
-use Rattle.plan_tape.specs.Progress.{Progress, bytes, spot}
-use Rattle.layer_planner.specs.Painting.{IsVoidFrom}
+use Rattle.plan_tape.specs.Progress.{TapeState, bytes, spot, IsVoidFrom}
 
 -- where the second bot is
 abbrev pub second_spot : List Bot → Coord
@@ -17,11 +16,11 @@ second_spot [] = origin
 second_spot (bot ∷ bots) = spot bots
 
 -- where the rear bot stands: the first
-abbrev pub rear : Progress → Coord
+abbrev pub rear : TapeState → Coord
 rear p = spot p.bots
 
 -- where the front bot stands: the second
-abbrev pub front : Progress → Coord
+abbrev pub front : TapeState → Coord
 front p = second_spot p.bots
 
 -- two coordinates of one row, the second ahead of the first along z
@@ -34,7 +33,7 @@ pub record AreInRow (r : ℕ) (a b : Coord) : Type 0 where
   pub order : a.z < b.z
 
 -- there are two bots, in one row, under High, and all is void from their height on
-pub record IsPair (p : Progress) : Type 0 where
+pub record IsPair (p : TapeState) : Type 0 where
   pub two : length p.bots ≡ 2
   pub high : p.harmonics ≡ High
   pub full : p.profile ≡ full_profile
@@ -42,12 +41,12 @@ pub record IsPair (p : Progress) : Type 0 where
   pub free : IsVoidFrom p.matrix (rear p).y
 
 -- in the steps of a part of the plan at most two bots act, and so many of them fill or void a region
-pub record Spends (old new : Progress) (groups : ℕ) : Type 0 where
+pub record Spends (old new : TapeState) (groups : ℕ) : Type 0 where
   pub commands_are : length new.commands + 2 * old.steps ≤ length old.commands + 2 * new.steps
   pub bytes_are : bytes new + 4 * old.steps ≤ bytes old + 4 * new.steps + 4 * groups
 
 -- the pair has gone to two coordinates in at most so many steps, and no voxel has changed
-pub record Goes (old new : Progress) (a b : Coord) (steps : ℕ) : Type 0 where
+pub record PairGoes (old new : TapeState) (a b : Coord) (steps : ℕ) : Type 0 where
   pub source : new.source ≡ old.source
   pub matrix : new.matrix ≡ old.matrix
   pub pair : IsPair new
@@ -71,11 +70,11 @@ pub record MaySlide (behind rear_next rear_to ahead front_next front_to : ℕ) :
   pub order : rear_next < front_next
 
 -- the pair has gone on towards two places of its row, by the moves that are not left
-pub record Slides (old new : Progress) (rear_to front_to : ℕ) : Type 0 where
+pub record Slides (old new : TapeState) (rear_to front_to : ℕ) : Type 0 where
   pub behind : ℕ
   pub ahead : ℕ
   pub left : moves behind rear_to + moves ahead front_to ≤ moves (rear old).z rear_to + moves (front old).z front_to
-  pub goes : Goes old new (put Z (rear old) behind) (put Z (front old) ahead) (moves (rear old).z rear_to + moves (front old).z front_to - (moves behind rear_to + moves ahead front_to))
+  pub goes : PairGoes old new (put Z (rear old) behind) (put Z (front old) ahead) (moves (rear old).z rear_to + moves (front old).z front_to - (moves behind rear_to + moves ahead front_to))
 
 -- the voxels of a row from a first z on and before an end
 abbrev pub in_part : ℕ → ℕ → ℕ → ℕ → Coord → Bool
@@ -86,7 +85,7 @@ abbrev pub AreSet : Matrix → Matrix → (Coord → Bool) → Bool → Type 0
 AreSet new old test full = (c : Coord) → is_full new c ≡ cond (test c) full (is_full old c)
 
 -- the pair, wherever it stands afterwards, has made voxels of a row full, or else void, in at most so many steps
-pub record Sets (old new : Progress) (x y first end : ℕ) (full : Bool) (a b : Coord) (steps groups : ℕ) : Type 0 where
+pub record Sets (old new : TapeState) (x y first end : ℕ) (full : Bool) (a b : Coord) (steps groups : ℕ) : Type 0 where
   pub source : new.source ≡ old.source
   pub resolution : new.matrix.resolution ≡ old.matrix.resolution
   pub set : AreSet new.matrix old.matrix (in_part x y first end) full

@@ -6,17 +6,17 @@ use Rattle.nano_spec.specs.declared.system.Harmonics.TheVariants.{High}
 use Rattle.nano_spec.specs.Matrix.{Matrix}
 use Rattle.nano_spec.specs.Profile.{full_profile}
 use Rattle.nano_spec.specs.State.{first_bot}
-use Rattle.plan_tape.specs.Progress.{AreAlike, Progress, bots_at, bytes, spot}
-use Rattle.layer_planner.specs.Painting.{coord}
+use Rattle.plan_tape.specs.Progress.{AreAlike, TapeState, bots_at, bytes, spot}
 use Rattle.group_planner.specs.Pair.{IsPair, Spends, rear}
 use Rattle.group_planner.specs.Rows.{rows, runs}
+use Rattle.vox_geom.specs.Point.{coord}
 
 -- the first bot alone, at a coordinate
 abbrev pub first_at : Coord → List Bot
 first_at c = bots_at (first_bot full_profile ∷ []) c
 
 -- the only bot has become two
-pub record Splits (old new : Progress) : Type 0 where
+pub record Splits (old new : TapeState) : Type 0 where
   pub source : new.source ≡ old.source
   pub matrix : new.matrix ≡ old.matrix
   pub pair : IsPair new
@@ -25,7 +25,7 @@ pub record Splits (old new : Progress) : Type 0 where
   pub spends : Spends old new 0
 
 -- the pair has become one bot, at a coordinate, in at most so many steps
-pub record Joins (old new : Progress) (c : Coord) (steps : ℕ) : Type 0 where
+pub record PairJoins (old new : TapeState) (c : Coord) (steps : ℕ) : Type 0 where
   pub source : new.source ≡ old.source
   pub matrix : new.matrix ≡ old.matrix
   pub profile : new.profile ≡ full_profile
@@ -36,7 +36,7 @@ pub record Joins (old new : Progress) (c : Coord) (steps : ℕ) : Type 0 where
   pub spends : Spends old new 0
 
 -- the pair stands at the top above the origin, under High, and nothing is changed
-pub record IsOpened (t : Progress) : Type 0 where
+pub record PairIsOpened (t : TapeState) : Type 0 where
   pub matrix : t.matrix ≡ t.source
   pub pair : IsPair t
   pub there : rear t ≡ coord 0 (t.source.resolution - 1) 0
@@ -49,7 +49,7 @@ abbrev pub plan_steps : Matrix → Matrix → ℕ
 plan_steps source target = 3 * (runs source + runs target) + 135 * (rows source + rows target) + 3 * source.resolution + 40
 
 -- the voxels are those of the target, written by the pair
-pub record IsRebuilt (t : Progress) (target : Matrix) : Type 0 where
+pub record PairHasRebuilt (t : TapeState) (target : Matrix) : Type 0 where
   pub matrix : AreAlike t.matrix target
   pub same : t.matrix.resolution ≡ target.resolution
   pub pair : IsPair t
@@ -58,8 +58,8 @@ pub record IsRebuilt (t : Progress) (target : Matrix) : Type 0 where
   pub bytes_are : bytes t ≤ 4 * t.steps + 4 * (runs t.source + runs target)
 
 -- the steps of the plan between two models, at most
-abbrev pub most_steps : Matrix → Matrix → ℕ
-most_steps source target = 8 * (runs source + runs target) + 160 * (rows source + rows target) + 200 * source.resolution + 400
+abbrev pub most_group_steps : Matrix → Matrix → ℕ
+most_group_steps source target = 8 * (runs source + runs target) + 160 * (rows source + rows target) + 200 * source.resolution + 400
 
 -- the bytes of its commands' spellings, at most
 abbrev pub most_bytes : Matrix → Matrix → ℕ

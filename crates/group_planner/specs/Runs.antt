@@ -1,6 +1,6 @@
 -- The next run of a row.
 use Rattle.std.specs.Prelude.{◌≡◌, ℕ, ◌+◌, ◌-◌, ◌%◌, ◌<◌, ◌≤◌, Bool, true, false, not}
-use Rattle.group_planner.specs.declared.run.Run.{Run}
+use Rattle.group_planner.specs.declared.run.RowRun.{RowRun}
 use Rattle.nano_spec.specs.Matrix.{Matrix}
 use Rattle.group_planner.specs.Rows.{begins_run, count_below, full_before, is_full_at, runs_of_row}
 
@@ -9,7 +9,7 @@ abbrev pub IsAll : Matrix → ℕ → ℕ → ℕ → ℕ → Bool → Type 0
 IsAll m x y from end full = (z : ℕ) → from ≤ z → z < end → is_full_at m x y z ≡ full
 
 -- the first z from one on at which the row is full, or else void, or else the end
-pub record IsNext (m : Matrix) (x y from end : ℕ) (full : Bool) (z : ℕ) : Type 0 where
+pub record IsRunEnd (m : Matrix) (x y from end : ℕ) (full : Bool) (z : ℕ) : Type 0 where
   pub low : from ≤ z
   pub high : z ≤ end
   pub others : IsAll m x y from z (not full)
@@ -20,7 +20,7 @@ abbrev pub IsCut : Matrix → ℕ → ℕ → ℕ → Type 0
 IsCut m x y z = is_full_at m x y z ≡ true → full_before m x y z % 31 ≡ 0
 
 -- a run of the row
-pub record IsRun (m : Matrix) (x y : ℕ) (run : Run) : Type 0 where
+pub record IsRun (m : Matrix) (x y : ℕ) (run : RowRun) : Type 0 where
   pub some : run.first < run.end
   pub most : run.end ≤ run.first + 31
   pub within : run.end ≤ m.resolution
@@ -36,7 +36,7 @@ abbrev pub runs_from : Matrix → ℕ → ℕ → ℕ → ℕ
 runs_from m x y z = runs_of_row m x y - runs_before m x y z
 
 -- the first run of a row from a z on
-pub record IsNextRun (m : Matrix) (x y z : ℕ) (run : Run) : Type 0 where
+pub record IsNextRun (m : Matrix) (x y z : ℕ) (run : RowRun) : Type 0 where
   pub is_run : IsRun m x y run
   pub low : z ≤ run.first
   pub void : IsAll m x y z run.first false

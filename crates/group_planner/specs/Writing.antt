@@ -8,8 +8,8 @@ use Rattle.nano_spec.specs.Act.{acts, is_flip}
 use Rattle.nano_spec.specs.Step.{after}
 use Rattle.step_order.specs.Unbroken.{AreFree}
 use Rattle.plan_tape.specs.Crowd.{AllStep}
-use Rattle.plan_tape.specs.Progress.{Progress, state_of}
-use Rattle.layer_planner.specs.Painting.{down}
+use Rattle.plan_tape.specs.Progress.{TapeState, state_of}
+use Rattle.vox_geom.specs.Point.{down}
 
 -- the difference along z
 abbrev pub ahead : ℤ → Diff
@@ -26,10 +26,10 @@ all_below true z = GFill down (ahead z)
 all_below false z = GVoid down (ahead z)
 
 -- no bot has a group command or a Flip, each has what it needs, and any two fuse or are apart
-pub record AreCalm (p : Progress) (commands : List Command) : Type 0 where
+pub record AreCalm (p : TapeState) (commands : List Command) : Type 0 where
   pub free : AreFree (state_of p) (acts p.bots commands)
   pub calm : AllByRecursion (λ a. IsFalse (is_flip a.command)) (acts p.bots commands)
 
 -- the tape after a step of such bots under High
-abbrev pub CalmStep : Progress → Progress → List Command → Type 0
+abbrev pub CalmStep : TapeState → TapeState → List Command → Type 0
 CalmStep old new commands = AllStep old new commands (after (state_of old) commands).matrix old.harmonics (after (state_of old) commands).bots

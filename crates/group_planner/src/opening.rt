@@ -5,11 +5,11 @@ ghost use Rattle.nano_spec.specs.declared.system.Harmonics.TheVariants.{High};
 ghost use Rattle.nano_spec.specs.Legal.{IsLegal};
 ghost use Rattle.nano_spec.specs.Profile.{full_profile};
 ghost use Rattle.plan_tape.specs.Leg.{moves};
-ghost use Rattle.plan_tape.specs.Progress.{spot};
-ghost use Rattle.layer_planner.specs.Painting.{IsVoidFrom, coord};
+ghost use Rattle.plan_tape.specs.Progress.{spot, IsVoidFrom};
 ghost use Rattle.group_planner.specs.Pair.{IsPair, front as front_of, rear as rear_of};
-ghost use Rattle.group_planner.specs.Phases.{IsOpened, Joins, Splits, first_at};
+ghost use Rattle.group_planner.specs.Phases.{PairIsOpened, PairJoins, Splits, first_at};
 ghost use Rattle.group_planner.specs.Writing.{ahead};
+ghost use Rattle.vox_geom.specs.Point.{coord};
 
 use crate::pair::{go_to_row, rear, spread};
 use crate::write::step_calmly;
@@ -69,7 +69,7 @@ fn join(tape: &mut Tape) -> Result<(), Memory>
     requires pair { IsPair tape.old }
     requires beside { (front_of tape.old).z ≡ (rear_of tape.old).z + 1 }
     requires limit { tape.old.steps < 1073741824 }
-    ensures { OnOk result (Joins tape.old tape.new (rear_of tape.old) 1) }
+    ensures { OnOk result (PairJoins tape.old tape.new (rear_of tape.old) 1) }
 {
     bots_act();
     tape.know_ready();
@@ -81,7 +81,7 @@ pub fn opened(alloc: Global, source: Planes) -> Result<Tape, Memory>
     requires legal { IsLegal source }
     requires room { 2 ≤ source.resolution }
     ensures source { IfOk result (λ t. t.source ≡ source) }
-    ensures opened { IfOk result IsOpened }
+    ensures opened { IfOk result PairIsOpened }
 {
     let r = source.resolution();
     let mut tape = Tape::start(alloc, source)?;
@@ -99,7 +99,7 @@ pub fn opened(alloc: Global, source: Planes) -> Result<Tape, Memory>
 pub fn gather(tape: &mut Tape) -> Result<(), Memory>
     requires pair { IsPair tape.old }
     requires limit { tape.old.steps + 82 ≤ 1073741824 }
-    ensures { OnOk result (Joins tape.old tape.new (coord 0 (rear_of tape.old).y 0) (moves (rear_of tape.old).x 0 + moves (rear_of tape.old).z 0 + moves (front_of tape.old).z 1 + 1)) }
+    ensures { OnOk result (PairJoins tape.old tape.new (coord 0 (rear_of tape.old).y 0) (moves (rear_of tape.old).x 0 + moves (rear_of tape.old).z 0 + moves (front_of tape.old).z 1 + 1)) }
 {
     let y = rear(tape).y;
     go_to_row(tape, 0, y)?;

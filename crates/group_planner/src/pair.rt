@@ -2,8 +2,8 @@
 ghost use Rattle.std.specs.Prelude.{◌≡◌, ◌≢◌, ◌⊎◌, ◌+◌, ◌*◌, ◌-◌, ◌<◌, ◌≤◌, IfSome, OnOk, length, pos};
 ghost use Rattle.vox_geom.specs.declared.TheConstants.{MOST_R};
 ghost use Rattle.plan_tape.specs.Leg.{component_of, moves, put};
-ghost use Rattle.layer_planner.specs.Painting.{IsVoidFrom};
-ghost use Rattle.group_planner.specs.Pair.{Goes, IsPair, MaySlide, Slides, front as front_of, rear as rear_of};
+ghost use Rattle.group_planner.specs.Pair.{PairGoes, IsPair, MaySlide, Slides, front as front_of, rear as rear_of};
+ghost use Rattle.plan_tape.specs.Progress.{IsVoidFrom};
 
 use nano_spec::Command;
 use plan_tape::{Axis, Tape, next_stop, towards};
@@ -39,7 +39,7 @@ fn both_move(tape: &mut Tape, axis: Axis, at: u16, next: u16) -> Result<(), Memo
     requires within { next < tape.old.matrix.resolution }
     requires free { IsVoidFrom tape.old.matrix (put axis (rear_of tape.old) next).y }
     requires limit { tape.old.steps < 1073741824 }
-    ensures { OnOk result (Goes tape.old tape.new (put axis (rear_of tape.old) next) (put axis (front_of tape.old) next) 1) }
+    ensures { OnOk result (PairGoes tape.old tape.new (put axis (rear_of tape.old) next) (put axis (front_of tape.old) next) 1) }
 {
     let _ = rear(tape);
     tape.move_all(&[
@@ -57,7 +57,7 @@ fn front_moves(tape: &mut Tape, at: u16, next: u16) -> Result<(), Memory>
     requires within { next < tape.old.matrix.resolution }
     requires past { (rear_of tape.old).z < next }
     requires limit { tape.old.steps < 1073741824 }
-    ensures { OnOk result (Goes tape.old tape.new (rear_of tape.old) (put Axis.Z (front_of tape.old) next) 1) }
+    ensures { OnOk result (PairGoes tape.old tape.new (rear_of tape.old) (put Axis.Z (front_of tape.old) next) 1) }
 {
     let _ = front(tape);
     tape.move_all(&[Command::Wait, Command::SMove(towards(Axis::Z, at, next))])
@@ -71,7 +71,7 @@ fn rear_moves(tape: &mut Tape, at: u16, next: u16) -> Result<(), Memory>
     requires near { (next ≤ at + 15) × (at ≤ next + 15) }
     requires before { next < (front_of tape.old).z }
     requires limit { tape.old.steps < 1073741824 }
-    ensures { OnOk result (Goes tape.old tape.new (put Axis.Z (rear_of tape.old) next) (front_of tape.old) 1) }
+    ensures { OnOk result (PairGoes tape.old tape.new (put Axis.Z (rear_of tape.old) next) (front_of tape.old) 1) }
 {
     let _ = rear(tape);
     tape.move_all(&[Command::SMove(towards(Axis::Z, at, next)), Command::Wait])
@@ -85,7 +85,7 @@ fn both_go(tape: &mut Tape, axis: Axis, from: u16, to: u16) -> Result<(), Memory
     requires within { to < tape.old.matrix.resolution }
     requires free { IsVoidFrom tape.old.matrix (put axis (rear_of tape.old) to).y }
     requires limit { tape.old.steps + moves from to ≤ 1073741824 }
-    ensures { OnOk result (Goes tape.old tape.new (put axis (rear_of tape.old) to) (put axis (front_of tape.old) to) (moves from to)) }
+    ensures { OnOk result (PairGoes tape.old tape.new (put axis (rear_of tape.old) to) (put axis (front_of tape.old) to) (moves from to)) }
 {
     let mut at = from;
     while at != to {
@@ -103,7 +103,7 @@ pub fn go_to_row(tape: &mut Tape, x: u16, y: u16) -> Result<(), Memory>
     requires y { y < tape.old.matrix.resolution }
     requires free { IsVoidFrom tape.old.matrix y }
     requires limit { tape.old.steps + moves (rear_of tape.old).x x + moves (rear_of tape.old).y y ≤ 1073741824 }
-    ensures { OnOk result (Goes tape.old tape.new (record { x = x; y = y; z = (rear_of tape.old).z }) (record { x = x; y = y; z = (front_of tape.old).z }) (moves (rear_of tape.old).x x + moves (rear_of tape.old).y y)) }
+    ensures { OnOk result (PairGoes tape.old tape.new (record { x = x; y = y; z = (rear_of tape.old).z }) (record { x = x; y = y; z = (front_of tape.old).z }) (moves (rear_of tape.old).x x + moves (rear_of tape.old).y y)) }
 {
     let from = rear(tape);
     both_go(tape, Axis::X, from.x, x)?;
@@ -116,7 +116,7 @@ pub fn front_goes(tape: &mut Tape, to: u16) -> Result<(), Memory>
     requires within { to < tape.old.matrix.resolution }
     requires past { (rear_of tape.old).z < to }
     requires limit { tape.old.steps + moves (front_of tape.old).z to ≤ 1073741824 }
-    ensures { OnOk result (Goes tape.old tape.new (rear_of tape.old) (put Axis.Z (front_of tape.old) to) (moves (front_of tape.old).z to)) }
+    ensures { OnOk result (PairGoes tape.old tape.new (rear_of tape.old) (put Axis.Z (front_of tape.old) to) (moves (front_of tape.old).z to)) }
 {
     let mut at = front(tape).z;
     while at != to {
@@ -132,7 +132,7 @@ pub fn rear_goes(tape: &mut Tape, to: u16) -> Result<(), Memory>
     requires pair { IsPair tape.old }
     requires before { to < (front_of tape.old).z }
     requires limit { tape.old.steps + moves (rear_of tape.old).z to ≤ 1073741824 }
-    ensures { OnOk result (Goes tape.old tape.new (put Axis.Z (rear_of tape.old) to) (front_of tape.old) (moves (rear_of tape.old).z to)) }
+    ensures { OnOk result (PairGoes tape.old tape.new (put Axis.Z (rear_of tape.old) to) (front_of tape.old) (moves (rear_of tape.old).z to)) }
 {
     let mut at = rear(tape).z;
     while at != to {
@@ -163,7 +163,7 @@ fn both_slide(
     requires past { behind < front_next }
     requires order { rear_next < front_next }
     requires limit { tape.old.steps < 1073741824 }
-    ensures { OnOk result (Goes tape.old tape.new (put Axis.Z (rear_of tape.old) rear_next) (put Axis.Z (front_of tape.old) front_next) 1) }
+    ensures { OnOk result (PairGoes tape.old tape.new (put Axis.Z (rear_of tape.old) rear_next) (put Axis.Z (front_of tape.old) front_next) 1) }
 {
     let _ = (rear(tape), front(tape));
     tape.move_all(&[
@@ -220,7 +220,7 @@ pub fn spread(tape: &mut Tape, rear_to: u16, front_to: u16) -> Result<(), Memory
     requires order { rear_to < front_to }
     requires within { front_to < tape.old.matrix.resolution }
     requires limit { tape.old.steps + moves (rear_of tape.old).z rear_to + moves (front_of tape.old).z front_to ≤ 1073741824 }
-    ensures { OnOk result (Goes tape.old tape.new (put Axis.Z (rear_of tape.old) rear_to) (put Axis.Z (front_of tape.old) front_to) (moves (rear_of tape.old).z rear_to + moves (front_of tape.old).z front_to)) }
+    ensures { OnOk result (PairGoes tape.old tape.new (put Axis.Z (rear_of tape.old) rear_to) (put Axis.Z (front_of tape.old) front_to) (moves (rear_of tape.old).z rear_to + moves (front_of tape.old).z front_to)) }
 {
     slide(tape, rear_to, front_to)?;
     if rear(tape).z < front_to {

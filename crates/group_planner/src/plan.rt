@@ -5,7 +5,7 @@ ghost use Rattle.nano_spec.specs.Profile.{full_profile};
 ghost use Rattle.nano_spec.specs.Spelling.{spellings};
 ghost use Rattle.plan_tape.specs.Progress.{IsAccepted};
 ghost use Rattle.layer_planner.specs.Lowest.{IsLowest};
-ghost use Rattle.group_planner.specs.Phases.{IsOpened, IsRebuilt, most_bytes, most_steps, plan_steps};
+ghost use Rattle.group_planner.specs.Phases.{PairIsOpened, PairHasRebuilt, most_bytes, most_group_steps, plan_steps};
 ghost use Rattle.group_planner.specs.Rows.{runs};
 
 use crate::opening::{gather, opened};
@@ -32,14 +32,14 @@ fn only_halt(alloc: Global, source: Planes) -> Result<Plan, Memory>
 
 /// Voids the source down to a layer and builds the target from there.
 fn rebuild(tape: &mut Tape, source: &Planes, target: &Planes, low: u16) -> Result<(), Memory>
-    requires opened { IsOpened tape.old }
+    requires opened { PairIsOpened tape.old }
     requires source { tape.old.source ≡ source.now }
     requires legal_source { IsLegal source.now }
     requires legal_target { IsLegal target.now }
     requires same { target.now.resolution ≡ source.now.resolution }
     requires lowest { IsLowest source.now target.now low }
     ensures source { OnOk result (tape.new.source ≡ source.now) }
-    ensures rebuilt { OnOk result (IsRebuilt tape.new target.now) }
+    ensures rebuilt { OnOk result (PairHasRebuilt tape.new target.now) }
 {
     let _ = source.resolution();
     clear(tape, source, low)?;
@@ -49,7 +49,7 @@ fn rebuild(tape: &mut Tape, source: &Planes, target: &Planes, low: u16) -> Resul
 
 /// The plan, once the bots are home.
 fn closed(mut tape: Tape, target: &Planes) -> Result<Plan, Memory>
-    requires rebuilt { IsRebuilt tape target.now }
+    requires rebuilt { PairHasRebuilt tape target.now }
     requires source { tape.source.resolution ≡ target.now.resolution }
     requires legal { IsLegal target.now }
     ensures accepted { IfOk result (λ plan. IsAccepted tape.source target.now plan.commands full_profile plan.energy plan.steps) }
@@ -75,8 +75,8 @@ pub fn plan_groups(alloc: Global, source: &Planes, target: &Planes) -> Result<Pl
     requires target { IsLegal target.now }
     requires same { source.now.resolution ≡ target.now.resolution }
     ensures accepted { IfOk result (λ plan. IsAccepted source.now target.now plan.commands full_profile plan.energy plan.steps) }
-    ensures steps { IfOk result (λ plan. plan.steps ≤ most_steps source.now target.now) }
-    ensures commands { IfOk result (λ plan. length plan.commands ≤ 2 * most_steps source.now target.now) }
+    ensures steps { IfOk result (λ plan. plan.steps ≤ most_group_steps source.now target.now) }
+    ensures commands { IfOk result (λ plan. length plan.commands ≤ 2 * most_group_steps source.now target.now) }
     ensures bytes { IfOk result (λ plan. length (spellings plan.commands) ≤ most_bytes source.now target.now) }
     ensures halt_alone { source.now ≡ target.now → IfOk result (λ plan. plan.commands ≡ Command.Halt ∷ []) }
 {

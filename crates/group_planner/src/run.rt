@@ -3,7 +3,7 @@ ghost use Rattle.std.specs.Prelude.{◌≡◌, ◌<◌, ◌≤◌, find, IfNone,
 ghost use Rattle.vox_geom.specs.Space.{IsInSpace};
 ghost use Rattle.vox_planes.specs.Voxel.{is_state};
 ghost use Rattle.vox_planes.specs.Walk.{row};
-ghost use Rattle.group_planner.specs.Runs.{IsCut, IsNext, IsNextRun, IsNoRun, IsRun};
+ghost use Rattle.group_planner.specs.Runs.{IsCut, IsRunEnd, IsNextRun, IsNoRun, IsRun};
 
 use std::marker::Brand;
 use std::sync::ledger::{Blank, Ledger};
@@ -15,7 +15,7 @@ const LONGEST: u16 = 31;
 
 /// A run: its first z, and the one after its last.
 #[derive(Clone, Copy)]
-pub struct Run {
+pub struct RowRun {
     pub first: u16,
     pub end: u16,
 }
@@ -46,7 +46,7 @@ fn next(planes: &Planes, first: Coord, end: u16, full: bool) -> u16
     requires y { first.y < planes.now.resolution }
     requires order { first.z ≤ end }
     requires end { end ≤ planes.now.resolution }
-    ensures { IsNext planes.now first.x first.y first.z end full result }
+    ensures { IsRunEnd planes.now first.x first.y first.z end full result }
 {
     if first.z == end {
         return end;
@@ -58,7 +58,7 @@ fn next(planes: &Planes, first: Coord, end: u16, full: bool) -> u16
 }
 
 /// The first run of the row of x and y from a z on that no run goes across.
-pub fn next_run(planes: &Planes, x: u16, y: u16, z: u16) -> Option<Run>
+pub fn next_run(planes: &Planes, x: u16, y: u16, z: u16) -> Option<RowRun>
     requires x { x < planes.now.resolution }
     requires y { y < planes.now.resolution }
     requires z { z ≤ planes.now.resolution }
@@ -73,11 +73,11 @@ pub fn next_run(planes: &Planes, x: u16, y: u16, z: u16) -> Option<Run>
     }
     let most = r.min(first + LONGEST);
     let end = next(planes, Coord { x, y, z: first }, most, false);
-    Some(Run { first, end })
+    Some(RowRun { first, end })
 }
 
 /// The last run of the row of x and y, from one of its runs on.
-pub fn last_run(planes: &Planes, x: u16, y: u16, run: Run) -> Run
+pub fn last_run(planes: &Planes, x: u16, y: u16, run: RowRun) -> RowRun
     requires x { x < planes.now.resolution }
     requires y { y < planes.now.resolution }
     requires run { IsRun planes.now x y run }

@@ -1,21 +1,22 @@
 //! Runs, rows and layers of a model that are filled or voided, from one layer above.
 ghost use Rattle.std.specs.Prelude.{◌≡◌, ◌+◌, ◌*◌, ◌-◌, ◌<◌, ◌≤◌, false, true, OnOk};
-ghost use Rattle.layer_planner.specs.Painting.{IsVoidFrom, from_layer, layer, row};
+ghost use Rattle.layer_planner.specs.Painting.{from_layer, layer, is_in_line};
 ghost use Rattle.plan_tape.specs.Leg.{gap};
 ghost use Rattle.group_planner.specs.Pair.{IsPair, front as front_of, in_part, rear as rear_of};
 ghost use Rattle.group_planner.specs.Rows.{runs as runs_of, runs_of_layer, runs_of_row};
 ghost use Rattle.group_planner.specs.Runs.{IsCut, IsRun, runs_from};
-ghost use Rattle.group_planner.specs.Stamping.{CanClear, CanStamp, Stamps, WritesRun, between_layers, climb_to, layer_steps, most_work, row_steps, steps_below, work_at, work_to};
+ghost use Rattle.group_planner.specs.Stamping.{CanVoidModel, CanStamp, Stamps, WritesRun, between_layers, climb_to, stamping_steps, most_work, row_steps, steps_below, work_at, work_to};
+ghost use Rattle.plan_tape.specs.Progress.{IsVoidFrom};
 
 use crate::pair::{front, go_to_row, rear};
-use crate::run::{Run, last_run, next_run};
+use crate::run::{RowRun, last_run, next_run};
 use crate::write::{write_voxel, write_voxels};
 use plan_tape::Tape;
 use vox_geom::Memory;
 use vox_planes::Planes;
 
 /// Makes the voxels of a run in the row below full or void.
-fn write_run(tape: &mut Tape, run: Run, full: bool) -> Result<(), Memory>
+fn write_run(tape: &mut Tape, run: RowRun, full: bool) -> Result<(), Memory>
     requires pair { IsPair tape.old }
     requires above { 1 ≤ (rear_of tape.old).y }
     requires some { run.first < run.end }
@@ -37,7 +38,7 @@ fn write_runs(tape: &mut Tape, model: &Planes, full: bool, x: u16, y: u16) -> Re
     requires x { (rear_of tape.old).x ≡ x }
     requires y { (rear_of tape.old).y ≡ y + 1 }
     requires limit { work_to tape.old 0 + 45 * runs_of_row model.now x y + 2 * tape.old.matrix.resolution ≤ most_work }
-    ensures stamps { OnOk result (Stamps tape.old tape.new model.now full (row x y) (runs_of_row model.now x y)) }
+    ensures stamps { OnOk result (Stamps tape.old tape.new model.now full (is_in_line x y) (runs_of_row model.now x y)) }
     ensures height { OnOk result ((rear_of tape.new).y ≡ y + 1) }
     ensures steps { OnOk result (15 * tape.new.steps ≤ work_to tape.old 0 + 45 * runs_of_row model.now x y + 2 * tape.old.matrix.resolution) }
 {
@@ -79,7 +80,7 @@ fn write_runs_back(
 }
 
 /// How far the bots are from the ends of a run.
-fn way_to(tape: &Tape, run: Run) -> u16
+fn way_to(tape: &Tape, run: RowRun) -> u16
     requires pair { IsPair tape.now }
     requires some { run.first < run.end }
     requires within { run.end ≤ tape.now.matrix.resolution }
@@ -89,7 +90,7 @@ fn way_to(tape: &Tape, run: Run) -> u16
 }
 
 /// Whether the pair is nearer to the last run of the row of x and y than to the first.
-fn is_nearer_to_last(tape: &Tape, model: &Planes, x: u16, y: u16, first: Run) -> bool
+fn is_nearer_to_last(tape: &Tape, model: &Planes, x: u16, y: u16, first: RowRun) -> bool
     requires pair { IsPair tape.now }
     requires same { model.now.resolution ≡ tape.now.matrix.resolution }
     requires x { x < model.now.resolution }
@@ -106,14 +107,14 @@ fn write_line(
     full: bool,
     x: u16,
     y: u16,
-    first: Run,
+    first: RowRun,
 ) -> Result<(), Memory>
     requires ready { CanStamp tape.old model.now y }
     requires x { (rear_of tape.old).x ≡ x }
     requires y { (rear_of tape.old).y ≡ y + 1 }
     requires first { IsRun model.now x y first }
     requires limit { 15 * tape.old.steps + 45 * runs_of_row model.now x y + 4 * tape.old.matrix.resolution ≤ most_work }
-    ensures stamps { OnOk result (Stamps tape.old tape.new model.now full (row x y) (runs_of_row model.now x y)) }
+    ensures stamps { OnOk result (Stamps tape.old tape.new model.now full (is_in_line x y) (runs_of_row model.now x y)) }
     ensures height { OnOk result ((rear_of tape.new).y ≡ y + 1) }
     ensures steps { OnOk result (15 * tape.new.steps ≤ 15 * tape.old.steps + 45 * runs_of_row model.now x y + 4 * tape.old.matrix.resolution) }
 {
@@ -131,13 +132,13 @@ fn go_and_write(
     full: bool,
     x: u16,
     y: u16,
-    first: Run,
+    first: RowRun,
 ) -> Result<(), Memory>
     requires ready { CanStamp tape.old model.now y }
     requires x { x < tape.old.matrix.resolution }
     requires first { IsRun model.now x y first }
     requires limit { climb_to tape.old (y + 1) + (135 + 3 * runs_of_row model.now x y) ≤ 1073741824 }
-    ensures stamps { OnOk result (Stamps tape.old tape.new model.now full (row x y) (runs_of_row model.now x y)) }
+    ensures stamps { OnOk result (Stamps tape.old tape.new model.now full (is_in_line x y) (runs_of_row model.now x y)) }
     ensures climb { OnOk result (climb_to tape.new (y + 1) ≤ climb_to tape.old (y + 1) + (135 + 3 * runs_of_row model.now x y)) }
 {
     let _ = rear(tape);
@@ -150,7 +151,7 @@ fn write_row(tape: &mut Tape, model: &Planes, full: bool, x: u16, y: u16) -> Res
     requires ready { CanStamp tape.old model.now y }
     requires x { x < tape.old.matrix.resolution }
     requires limit { climb_to tape.old (y + 1) + row_steps model.now x y ≤ 1073741824 }
-    ensures stamps { OnOk result (Stamps tape.old tape.new model.now full (row x y) (runs_of_row model.now x y)) }
+    ensures stamps { OnOk result (Stamps tape.old tape.new model.now full (is_in_line x y) (runs_of_row model.now x y)) }
     ensures climb { OnOk result (climb_to tape.new (y + 1) ≤ climb_to tape.old (y + 1) + row_steps model.now x y) }
 {
     match next_run(model, x, y, 0) {
@@ -162,9 +163,9 @@ fn write_row(tape: &mut Tape, model: &Planes, full: bool, x: u16, y: u16) -> Res
 /// Makes the runs of the layer of y full or void.
 fn write_layer(tape: &mut Tape, model: &Planes, full: bool, y: u16) -> Result<(), Memory>
     requires ready { CanStamp tape.old model.now y }
-    requires limit { climb_to tape.old (y + 1) + layer_steps model.now y ≤ 1073741824 }
+    requires limit { climb_to tape.old (y + 1) + stamping_steps model.now y ≤ 1073741824 }
     ensures stamps { OnOk result (Stamps tape.old tape.new model.now full (layer y) (runs_of_layer model.now y)) }
-    ensures climb { OnOk result (climb_to tape.new (y + 1) ≤ climb_to tape.old (y + 1) + layer_steps model.now y) }
+    ensures climb { OnOk result (climb_to tape.new (y + 1) ≤ climb_to tape.old (y + 1) + stamping_steps model.now y) }
 {
     for x in 0..model.resolution() {
         write_row(tape, model, full, x, y)?;
@@ -174,7 +175,7 @@ fn write_layer(tape: &mut Tape, model: &Planes, full: bool, y: u16) -> Result<()
 
 /// Voids all layers of a model from the top down to one.
 pub fn clear(tape: &mut Tape, source: &Planes, low: u16) -> Result<(), Memory>
-    requires ready { CanClear tape.old source.now }
+    requires ready { CanVoidModel tape.old source.now }
     requires low { low < tape.old.matrix.resolution }
     requires limit { climb_to tape.old (tape.old.matrix.resolution - 1) + tape.old.matrix.resolution + steps_below source.now tape.old.matrix.resolution ≤ 1073741824 }
     ensures stamps { OnOk result (Stamps tape.old tape.new source.now false (from_layer low) (runs_of source.now)) }

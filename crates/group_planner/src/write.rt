@@ -3,10 +3,10 @@ ghost use Rattle.std.specs.Prelude.{◌≡◌, ◌≢◌, ◌⊎◌, ◌+◌, �
 ghost use Rattle.vox_geom.specs.declared.TheConstants.{MOST_R};
 ghost use Rattle.nano_spec.specs.declared.system.Harmonics.TheVariants.{High};
 ghost use Rattle.plan_tape.specs.Leg.{moves, put};
-ghost use Rattle.layer_planner.specs.Painting.{down as down_of};
 ghost use Rattle.group_planner.specs.Pair.{IsPair, Sets, front as front_of, rear as rear_of};
 ghost use Rattle.group_planner.specs.Stamping.{WritesRun, most_work, work_at};
 ghost use Rattle.group_planner.specs.Writing.{AreCalm, CalmStep, ahead, all_below as all_below_of, one_below as one_below_of};
+ghost use Rattle.vox_geom.specs.Point.{down as down_of};
 
 use crate::pair::{front, front_goes, rear, rear_goes, spread};
 use nano_spec::Command;

@@ -5,8 +5,9 @@ use Rattle.nano_spec.specs.declared.system.Profile.{Profile}
 use Rattle.nano_spec.specs.Matrix.{Matrix}
 use Rattle.nano_spec.specs.Spelling.{spellings}
 use Rattle.plan_tape.specs.Leg.{moves_to}
-use Rattle.plan_tape.specs.Progress.{Progress, bytes, starting}
-use Rattle.layer_planner.specs.Painting.{coord, layer_bytes}
+use Rattle.plan_tape.specs.Progress.{TapeState, bytes, starting}
+use Rattle.layer_planner.specs.Painting.{layer_bytes}
+use Rattle.vox_geom.specs.Point.{coord}
 
 cube : (r : ℕ) → r ≤ 400 → r * r * r ≤ 64000000
 cube r h =
@@ -27,11 +28,11 @@ way_up r h = omega arith
 pub way_down : (r : ℕ) → 1 ≤ r → 2 * moves_to (coord 0 r 0) (coord 0 0 0) ≤ r + 1
 way_down r h = omega arith
 
-pub bytes-starting : (t : Progress) (source : Matrix) (profile : Profile) → t ≡ starting source profile → bytes t ≡ 0
+pub bytes-starting : (t : TapeState) (source : Matrix) (profile : Profile) → t ≡ starting source profile → bytes t ≡ 0
 unfolding bytes
 bytes-starting t source profile e = ap bytes e
 
 -- the length of the spellings of a plan
-pub bytes_of : (t : Progress) (commands : List Command) → commands ≡ t.commands → length (spellings commands) ≡ bytes t
+pub bytes_of : (t : TapeState) (commands : List Command) → commands ≡ t.commands → length (spellings commands) ≡ bytes t
 unfolding bytes
 bytes_of t commands e = ap (λ c. length (spellings c)) e

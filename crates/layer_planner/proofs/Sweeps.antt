@@ -3,17 +3,17 @@ use Rattle.std.proofs.Common.{◌≡◌, ℕ, ◌+◌, ◌-◌, ◌*◌, ◌<◌
 use Rattle.std.specs.Prelude.{ℤ, pos, negsuc, ◌+ℤ◌, unsigned_abs}
 use Rattle.std.proofs.lemmas.Int.{ints}
 use Rattle.vox_geom.specs.declared.coordinate.Coord.{Coord}
-use Rattle.vox_geom.specs.Point.{point, plus}
+use Rattle.vox_geom.specs.Point.{point, plus, coord, down}
 use Rattle.vox_geom.specs.Space.{IsInSpace, coordinate}
 use Rattle.nano_spec.specs.declared.commands.Command.{Command}
 use Rattle.nano_spec.specs.Matrix.{Matrix, is_full}
 use Rattle.nano_spec.specs.Spelling.{spelling}
 use Rattle.vox_planes.specs.Voxel.{with_voxel}
 use Rattle.plan_tape.specs.Leg.{Moves, moves_to}
-use Rattle.plan_tape.specs.Progress.{Progress, Writes, beside, spot}
-use Rattle.layer_planner.specs.Painting.{CanPaint, IsPainted, Paints, coord, down, layer_bytes, voxel}
+use Rattle.plan_tape.specs.Progress.{TapeState, Writes, beside, spot}
+use Rattle.layer_planner.specs.Painting.{CanPaint, IsPartlyBuilt, Paints, layer_bytes, voxel}
 use Rattle.layer_planner.proofs.Paints.{painted_set, voxel-is}
-use Rattle.layer_planner.proofs.Ways.{no_moves}
+use Rattle.layer_planner.proofs.ClearWays.{no_moves}
 
 -- ---- a voxel that is written from above
 
@@ -23,7 +23,7 @@ there n = omega (arith, ints)
 under : (n : ℕ) → unsigned_abs (pos (n + 1) +ℤ negsuc 0) ≡ n
 under n = omega (arith, ints)
 
-pub below_spot : (p : Progress) (x y z : ℕ) → spot p.bots ≡ coord x (y + 1) z → beside p down ≡ coord x y z
+pub below_spot : (p : TapeState) (x y z : ℕ) → spot p.bots ≡ coord x (y + 1) z → beside p down ≡ coord x y z
 below_spot p x y z e = ap (λ (c : Coord). coordinate (plus (point c) down)) e ∙ (λ i. record { x = there x i; y = under y i; z = there z i })
 
 not_there : (y : ℕ) (q c : Coord) → y + 1 ≤ q.y → c.y ≡ y → voxel c.x c.y c.z q ≡ false
@@ -33,7 +33,7 @@ not_there y q c l e = by (voxel c.x c.y c.z q) refl
     by false f = f
     by true f = let g = ap (λ (d : Coord). d.y) (voxel-is q c f) in absurd (omega arith)
 
-pub wrote : (a b c : Progress) (goal : Matrix) (k : Command) (v : Bool) (cost : ℤ) (x y z : ℕ) → CanPaint a goal y → x < a.matrix.resolution → z < a.matrix.resolution → Moves a b (coord x (y + 1) z) → Writes b c k (with_voxel b.matrix (beside b down) v) b.harmonics b.bots cost → length (spelling k) ≡ 1 → is_full goal (coord x y z) ≡ v → Paints a c goal (voxel x y z) (coord x (y + 1) z) (coord x (y + 1) z) 1
+pub wrote : (a b c : TapeState) (goal : Matrix) (k : Command) (v : Bool) (cost : ℤ) (x y z : ℕ) → CanPaint a goal y → x < a.matrix.resolution → z < a.matrix.resolution → Moves a b (coord x (y + 1) z) → Writes b c k (with_voxel b.matrix (beside b down) v) b.harmonics b.bots cost → length (spelling k) ≡ 1 → is_full goal (coord x y z) ≡ v → Paints a c goal (voxel x y z) (coord x (y + 1) z) (coord x (y + 1) z) 1
 wrote a b c goal k v cost x y z ready hx hz m w s e =
     let sweep = ready.sweep in
     let stands : spot b.bots ≡ coord x (y + 1) z = m.there in
@@ -42,7 +42,7 @@ wrote a b c goal k v cost x y z ready hx hz m w s e =
     let er : c.matrix.resolution ≡ a.matrix.resolution = ap (λ (q : Matrix). q.resolution) em in
     let high = ready.within in
     let at : IsInSpace a.matrix.resolution (coord x y z) = record { x = hx; y = omega arith; z = hz } in
-    let painted : IsPainted c.matrix a.matrix goal (voxel x y z) = subst (λ (q : Matrix). IsPainted q a.matrix goal (voxel x y z)) (sym em) (painted_set a.matrix goal (coord x y z) v at e) in
+    let painted : IsPartlyBuilt c.matrix a.matrix goal (voxel x y z) = subst (λ (q : Matrix). IsPartlyBuilt q a.matrix goal (voxel x y z)) (sym em) (painted_set a.matrix goal (coord x y z) v at e) in
     let none : moves_to (spot c.bots) (coord x (y + 1) z) ≡ 0 = ap (λ (q : Coord). moves_to q (coord x (y + 1) z)) stays ∙ no_moves (coord x (y + 1) z) in
     record {
       source = w.source ∙ m.source;

@@ -7,23 +7,11 @@ use Rattle.nano_spec.specs.declared.system.Harmonics.TheVariants.{High}
 use Rattle.nano_spec.specs.Matrix.{Matrix, is_full}
 use Rattle.nano_spec.specs.Profile.{full_profile}
 use Rattle.plan_tape.specs.Leg.{moves_to}
-use Rattle.plan_tape.specs.Progress.{Progress, bytes, spot}
-
--- a coordinate by its components
-abbrev pub coord : ℕ → ℕ → ℕ → Coord
-coord x y z = record { x = x; y = y; z = z }
-
--- the difference to the voxel below
-abbrev pub down : Diff
-down = record { dx = pos 0; dy = negsuc 0; dz = pos 0 }
+use Rattle.plan_tape.specs.Progress.{TapeState, bytes, spot, IsVoidFrom}
 
 -- where the test says so the voxels are those of the goal, and elsewhere those of the old matrix
-abbrev pub IsPainted : Matrix → Matrix → Matrix → (Coord → Bool) → Type 0
-IsPainted new old goal done = (c : Coord) → is_full new c ≡ cond (done c) (is_full goal c) (is_full old c)
-
--- from a height on all voxels are void
-abbrev pub IsVoidFrom : Matrix → ℕ → Type 0
-IsVoidFrom m h = (c : Coord) → h ≤ c.y → is_full m c ≡ false
+abbrev pub IsPartlyBuilt : Matrix → Matrix → Matrix → (Coord → Bool) → Type 0
+IsPartlyBuilt new old goal done = (c : Coord) → is_full new c ≡ cond (done c) (is_full goal c) (is_full old c)
 
 -- the voxel of x, y and z
 abbrev pub voxel : ℕ → ℕ → ℕ → Coord → Bool
@@ -34,8 +22,8 @@ abbrev pub in_row : ℕ → ℕ → ℕ → Coord → Bool
 in_row x y z c = c.x == x && c.y == y && nat_lt c.z z
 
 -- the row of x and y
-abbrev pub row : ℕ → ℕ → Coord → Bool
-row x y c = c.x == x && c.y == y
+abbrev pub is_in_line : ℕ → ℕ → Coord → Bool
+is_in_line x y c = c.x == x && c.y == y
 
 -- the first x rows of the layer of y
 abbrev pub in_layer : ℕ → ℕ → Coord → Bool
@@ -62,7 +50,7 @@ abbrev pub layer_bytes : ℕ → ℕ
 layer_bytes r = r * row_bytes r + r + 2
 
 -- the only bot is in space, under High, and all is void from its height on
-pub record CanSweep (p : Progress) (goal : Matrix) : Type 0 where
+pub record CanSweep (p : TapeState) (goal : Matrix) : Type 0 where
   pub alone : length p.bots ≡ 1
   pub high : p.harmonics ≡ High
   pub full : p.profile ≡ full_profile
@@ -71,24 +59,24 @@ pub record CanSweep (p : Progress) (goal : Matrix) : Type 0 where
   pub here : IsVoidFrom p.matrix (spot p.bots).y
 
 -- moreover all is void above the layer of y
-pub record CanPaint (p : Progress) (goal : Matrix) (y : ℕ) : Type 0 where
+pub record CanPaint (p : TapeState) (goal : Matrix) (y : ℕ) : Type 0 where
   pub sweep : CanSweep p goal
   pub within : y + 1 < p.matrix.resolution
   pub above : IsVoidFrom p.matrix (y + 1)
 
 -- the bytes of a tape and of the moves that lead its bot to a coordinate
-abbrev pub bytes_to : Progress → Coord → ℕ
+abbrev pub bytes_to : TapeState → Coord → ℕ
 bytes_to p c = bytes p + 2 * moves_to (spot p.bots) c
 
 -- no fewer than the steps of a tape and of those moves
-abbrev pub steps_to : Progress → Coord → ℕ
-steps_to p c = p.steps + 2 * moves_to (spot p.bots) c
+abbrev pub sweep_steps_to : TapeState → Coord → ℕ
+sweep_steps_to p c = p.steps + 2 * moves_to (spot p.bots) c
 
 -- the tape has painted the voxels of which the test says so; with the way to a coordinate it has so many bytes and steps more at most than it had with the way to another
-pub record Paints (old new : Progress) (goal : Matrix) (done : Coord → Bool) (first last : Coord) (most : ℕ) : Type 0 where
+pub record Paints (old new : TapeState) (goal : Matrix) (done : Coord → Bool) (first last : Coord) (most : ℕ) : Type 0 where
   pub source : new.source ≡ old.source
   pub resolution : new.matrix.resolution ≡ old.matrix.resolution
-  pub painted : IsPainted new.matrix old.matrix goal done
+  pub painted : IsPartlyBuilt new.matrix old.matrix goal done
   pub ready : CanSweep new goal
   pub bytes_are : bytes_to new last ≤ bytes_to old first + most
-  pub steps_are : steps_to new last ≤ steps_to old first + most
+  pub steps_are : sweep_steps_to new last ≤ sweep_steps_to old first + most

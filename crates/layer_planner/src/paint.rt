@@ -2,9 +2,10 @@
 ghost use Rattle.std.specs.Prelude.{◌≡◌, ◌+◌, ◌-◌, ◌*◌, ◌<◌, ◌≤◌, OnOk};
 ghost use Rattle.vox_geom.specs.declared.coordinate.Coord.{Coord as Coordinate};
 ghost use Rattle.nano_spec.specs.Matrix.{is_full as is_full_of};
-ghost use Rattle.plan_tape.specs.Progress.{spot};
-ghost use Rattle.layer_planner.specs.Painting.{CanPaint, CanSweep, IsVoidFrom, Paints, below_layer, coord, down as down_of, from_layer, layer, layer_bytes, row, row_bytes, steps_to, voxel};
-ghost use Rattle.layer_planner.specs.Phases.{end, top};
+ghost use Rattle.plan_tape.specs.Progress.{spot, IsVoidFrom, top};
+ghost use Rattle.layer_planner.specs.Painting.{CanPaint, CanSweep, Paints, below_layer, from_layer, layer, layer_bytes, is_in_line, row_bytes, sweep_steps_to, voxel};
+ghost use Rattle.layer_planner.specs.Phases.{end};
+ghost use Rattle.vox_geom.specs.Point.{coord, down as down_of};
 
 use plan_tape::{Tape, is_full};
 use vox_geom::{Coord, Diff, Memory, Near};
@@ -29,7 +30,7 @@ fn paint_voxel(tape: &mut Tape, goal: &Planes, x: u16, y: u16, z: u16) -> Result
     requires ready { CanPaint tape.old goal.now y }
     requires x { x < tape.old.matrix.resolution }
     requires z { z < tape.old.matrix.resolution }
-    requires limit { steps_to tape.old (coord x (y + 1) z) < 1073741824 }
+    requires limit { sweep_steps_to tape.old (coord x (y + 1) z) < 1073741824 }
     ensures { OnOk result (Paints tape.old tape.new goal.now (voxel x y z) (coord x (y + 1) z) (coord x (y + 1) z) 1) }
 {
     let c = Coord { x, y, z };
@@ -49,8 +50,8 @@ fn paint_voxel(tape: &mut Tape, goal: &Planes, x: u16, y: u16, z: u16) -> Result
 fn paint_row(tape: &mut Tape, goal: &Planes, x: u16, y: u16) -> Result<(), Memory>
     requires ready { CanPaint tape.old goal.now y }
     requires x { x < tape.old.matrix.resolution }
-    requires limit { steps_to tape.old (coord x (y + 1) 0) + 3 * tape.old.matrix.resolution < 1073741824 }
-    ensures { OnOk result (Paints tape.old tape.new goal.now (row x y) (coord x (y + 1) 0) (coord x (y + 1) tape.old.matrix.resolution) (3 * tape.old.matrix.resolution)) }
+    requires limit { sweep_steps_to tape.old (coord x (y + 1) 0) + 3 * tape.old.matrix.resolution < 1073741824 }
+    ensures { OnOk result (Paints tape.old tape.new goal.now (is_in_line x y) (coord x (y + 1) 0) (coord x (y + 1) tape.old.matrix.resolution) (3 * tape.old.matrix.resolution)) }
 {
     for z in 0..goal.resolution() {
         paint_voxel(tape, goal, x, y, z)?;
@@ -61,7 +62,7 @@ fn paint_row(tape: &mut Tape, goal: &Planes, x: u16, y: u16) -> Result<(), Memor
 /// Makes the layer of y that of the goal.
 fn paint_layer(tape: &mut Tape, goal: &Planes, y: u16) -> Result<(), Memory>
     requires ready { CanPaint tape.old goal.now y }
-    requires limit { steps_to tape.old (coord 0 (y + 1) 0) + tape.old.matrix.resolution * row_bytes tape.old.matrix.resolution < 1073741824 }
+    requires limit { sweep_steps_to tape.old (coord 0 (y + 1) 0) + tape.old.matrix.resolution * row_bytes tape.old.matrix.resolution < 1073741824 }
     ensures { OnOk result (Paints tape.old tape.new goal.now (layer y) (coord 0 (y + 1) 0) (coord tape.old.matrix.resolution (y + 1) 0) (tape.old.matrix.resolution * row_bytes tape.old.matrix.resolution)) }
 {
     for x in 0..goal.resolution() {
@@ -76,7 +77,7 @@ pub fn clear(tape: &mut Tape, nothing: &Planes, low: u16) -> Result<(), Memory>
     requires top { IsVoidFrom tape.old.matrix (tape.old.matrix.resolution - 1) }
     requires nothing { IsVoidFrom nothing.now 0 }
     requires low { low < tape.old.matrix.resolution }
-    requires limit { steps_to tape.old (top tape.old.matrix) + (tape.old.matrix.resolution - 1) * layer_bytes tape.old.matrix.resolution < 1073741824 }
+    requires limit { sweep_steps_to tape.old (top tape.old.matrix) + (tape.old.matrix.resolution - 1) * layer_bytes tape.old.matrix.resolution < 1073741824 }
     ensures { OnOk result (Paints tape.old tape.new nothing.now (from_layer low) (top tape.old.matrix) (coord 0 low 0) ((tape.old.matrix.resolution - 1) * layer_bytes tape.old.matrix.resolution)) }
 {
     let mut y = nothing.resolution() - 1;
@@ -93,7 +94,7 @@ pub fn build(tape: &mut Tape, goal: &Planes, low: u16) -> Result<(), Memory>
     requires low { low < tape.old.matrix.resolution }
     requires below { (c : Coordinate) → c.y < low → is_full_of tape.old.matrix c ≡ is_full_of goal.now c }
     requires void { IsVoidFrom tape.old.matrix low }
-    requires limit { steps_to tape.old (coord 0 (low + 1) 0) + (tape.old.matrix.resolution - 1) * layer_bytes tape.old.matrix.resolution < 1073741824 }
+    requires limit { sweep_steps_to tape.old (coord 0 (low + 1) 0) + (tape.old.matrix.resolution - 1) * layer_bytes tape.old.matrix.resolution < 1073741824 }
     ensures { OnOk result (Paints tape.old tape.new goal.now (below_layer (tape.old.matrix.resolution - 1)) (coord 0 (low + 1) 0) (end tape.old.matrix) ((tape.old.matrix.resolution - 1) * layer_bytes tape.old.matrix.resolution)) }
 {
     for y in low..goal.resolution() - 1 {

@@ -3,9 +3,8 @@ ghost use Rattle.std.specs.Prelude.{◌≡◌, ◌+◌, ◌*◌, ◌<◌, ◌≤
 ghost use Rattle.nano_spec.specs.Legal.{IsLegal};
 ghost use Rattle.nano_spec.specs.Profile.{full_profile};
 ghost use Rattle.nano_spec.specs.Spelling.{spellings};
-ghost use Rattle.plan_tape.specs.Progress.{IsAccepted};
+ghost use Rattle.plan_tape.specs.Progress.{IsAccepted, IsVoidFrom};
 ghost use Rattle.layer_planner.specs.Lowest.{IsLowest};
-ghost use Rattle.layer_planner.specs.Painting.{IsVoidFrom};
 ghost use Rattle.layer_planner.specs.Phases.{IsOpened, IsRebuilt};
 
 use crate::difference::lowest_difference;

@@ -5,12 +5,12 @@ use Rattle.std.proofs.lemmas.Bool.{cases_lt}
 use Rattle.std.proofs.lemmas.Bool.Decides.{nat_tests}
 use Rattle.std.proofs.lemmas.Int.{ints}
 use Rattle.vox_geom.specs.declared.coordinate.Coord.{Coord}
-use Rattle.vox_geom.specs.Point.{are_adjacent, point}
+use Rattle.vox_geom.specs.Point.{are_adjacent, point, coord}
 use Rattle.vox_geom.specs.Space.{IsInSpace, in_space}
 use Rattle.nano_spec.specs.Matrix.{Matrix, is_full}
 use Rattle.nano_spec.proofs.Coordinates.{in_space-is}
 use Rattle.nano_spec.proofs.Grounding.{left}
-use Rattle.low_planner.specs.Sweep.{IsBeside, coord}
+use Rattle.low_planner.specs.Sweep.{AreBesideInLayer}
 
 gap : (a b : ℕ) → unsigned_abs (pos a -ℤ pos b) ≡ (a - b) + (b - a)
 gap a b = omega (arith, ints)
@@ -37,14 +37,14 @@ pub adjacent_below : (c b : Coord) → b.x ≡ c.x → b.z ≡ c.z → c.y ≡ b
 adjacent_below c b x z y = adjacent_by c b (omega arith)
 
 -- beside each other in a layer
-pub beside_by : (a b : Coord) → b.y ≡ a.y → ((a.x - b.x) + (b.x - a.x)) + ((a.z - b.z) + (b.z - a.z)) ≡ 1 → IsBeside a b
+pub beside_by : (a b : Coord) → b.y ≡ a.y → ((a.x - b.x) + (b.x - a.x)) + ((a.z - b.z) + (b.z - a.z)) ≡ 1 → AreBesideInLayer a b
 beside_by a b y e = record { adjacent = adjacent_by a b (omega arith); level = y }
 
-pub beside-sym : (a b : Coord) → IsBeside a b → IsBeside b a
+pub beside-sym : (a b : Coord) → AreBesideInLayer a b → AreBesideInLayer b a
 beside-sym a b h = let g = gaps a b h.adjacent in let l = h.level in beside_by b a (sym l) (omega arith)
 
 -- how far apart such coordinates are
-pub beside_gap : (a b : Coord) → IsBeside a b → ((a.x - b.x) + (b.x - a.x)) + ((a.z - b.z) + (b.z - a.z)) ≡ 1
+pub beside_gap : (a b : Coord) → AreBesideInLayer a b → ((a.x - b.x) + (b.x - a.x)) + ((a.z - b.z) + (b.z - a.z)) ≡ 1
 beside_gap a b h = let g = gaps a b h.adjacent in let l = h.level in omega arith
 
 -- a full voxel is in space
@@ -55,7 +55,7 @@ same : (a b : Coord) → a.x ≡ b.x → a.y ≡ b.y → a.z ≡ b.z → a ≡ b
 same a b x y z = λ i. record { x = x i; y = y i; z = z i }
 
 -- none of the four is full
-pub none_beside : (m : Matrix) (c : Coord) → is_full m (coord c.x c.y (c.z + 1)) ≡ false → (0 < c.z → is_full m (coord c.x c.y (c.z - 1)) ≡ false) → is_full m (coord (c.x + 1) c.y c.z) ≡ false → (0 < c.x → is_full m (coord (c.x - 1) c.y c.z) ≡ false) → (d : Coord) → IsBeside c d → is_full m d ≡ false
+pub none_beside : (m : Matrix) (c : Coord) → is_full m (coord c.x c.y (c.z + 1)) ≡ false → (0 < c.z → is_full m (coord c.x c.y (c.z - 1)) ≡ false) → is_full m (coord (c.x + 1) c.y c.z) ≡ false → (0 < c.x → is_full m (coord (c.x - 1) c.y c.z) ≡ false) → (d : Coord) → AreBesideInLayer c d → is_full m d ≡ false
 none_beside m c e f g h d b = by (beside_gap c d b) b.level (cases_lt c.x d.x) (cases_lt d.x c.x) (cases_lt c.z d.z)
   where
     at : (x y z : ℕ) → d.x ≡ x → d.y ≡ y → d.z ≡ z → is_full m (coord x y z) ≡ false → is_full m d ≡ false

@@ -14,17 +14,18 @@ use Rattle.nano_spec.specs.Profile.{light_profile}
 use Rattle.nano_spec.specs.State.{origin}
 use Rattle.vox_planes.specs.Voxel.{with_voxel}
 use Rattle.plan_tape.specs.Leg.{distance, moves_to}
-use Rattle.plan_tape.specs.Progress.{Progress, spot, starting}
+use Rattle.plan_tape.specs.Progress.{TapeState, spot, starting, IsVoidFrom}
 use Rattle.low_planner.specs.declared.sweep.Sweep.{Sweep}
-use Rattle.low_planner.specs.Build.{CanFill, CanGo, IsBuilt, IsCarried, IsFinished, IsVoidFrom, Works, above}
+use Rattle.low_planner.specs.Build.{CanFill, CanGoAbove, IsBuilt, IsCarried, IsFinished, Works, above}
 use Rattle.low_planner.specs.Commands.{IsEmpty, IsPlain, full_count}
-use Rattle.low_planner.specs.Supported.{FirstUnsupported, below}
-use Rattle.low_planner.specs.Sweep.{Begins, Ends, GoesBack, GoesOn, IsSweep, IsTrail, IsVisited, Loses, reach}
+use Rattle.low_planner.specs.Supported.{FirstUnsupported}
+use Rattle.low_planner.specs.Sweep.{BeginsPart, EndsSweep, TurnsBack, GoesOn, IsSweep, IsTrail, IsVisited, LosesVoxel, reach}
 use Rattle.low_planner.proofs.Beside.{adjacent_below, beside-sym, full_within}
 use Rattle.low_planner.proofs.Counts.{one_less}
 use Rattle.low_planner.proofs.Grounds.{empty_is_void, is_supported, set_here, set_other}
 use Rattle.low_planner.proofs.Sweeps.{contrary, in_none, none_left, same_or_not, still}
-use Rattle.low_planner.proofs.Ways.{above_in_space, moves_most, moves_paid, one_move, reach_most}
+use Rattle.low_planner.proofs.ClearWays.{above_in_space, moves_most, moves_paid, one_move, reach_most}
+use Rattle.vox_geom.specs.Point.{below}
 
 -- ---- how many voxels there are at most
 
@@ -63,7 +64,7 @@ last_is xs most more a b e f = (same_from_push most more a b (sym e ∙ f)).1
 
 -- ---- what is built
 
-module _ (m : Matrix) (s : Sweep) (p : Progress) (h : IsSweep m s) (b : IsBuilt m s p) where
+module _ (m : Matrix) (s : Sweep) (p : TapeState) (h : IsSweep m s) (b : IsBuilt m s p) where
   built_is_visited : (d : Coord) → IsTrue (is_full p.matrix d) → IsVisited m s.remaining d
   built_is_visited d f = by (is_full m d) (is_full s.remaining d) refl refl (sym (b.made d) ∙ f)
     where
@@ -112,7 +113,7 @@ module _ (m : Matrix) (s : Sweep) (p : Progress) (h : IsSweep m s) (b : IsBuilt 
       omega arith
 
   -- the bot may go to the coordinate above a voxel of the model that is not below the layer that the sweep is in
-  pub can_go : IsLegal m → m.resolution ≤ 400 → (c : Coord) → IsTrue (is_full m c) → s.at.y ≤ c.y → CanGo p c
+  pub can_go : IsLegal m → m.resolution ≤ 400 → (c : Coord) → IsTrue (is_full m c) → s.at.y ≤ c.y → CanGoAbove p c
   can_go legal most c full up =
       let above_it = above_in_space m c legal full in
       let steps = few_steps most in
@@ -130,7 +131,7 @@ module _ (m : Matrix) (s : Sweep) (p : Progress) (h : IsSweep m s) (b : IsBuilt 
 
 -- ---- a voxel more is built
 
-module _ (m : Matrix) (s t : Sweep) (p q : Progress) (h : IsSweep m s) (b : IsBuilt m s p) (c : Coord) (count : ℕ) (l : Loses s.remaining t.remaining c) (w : Works p q (above c) (with_voxel p.matrix c true) count) where
+module _ (m : Matrix) (s t : Sweep) (p q : TapeState) (h : IsSweep m s) (b : IsBuilt m s p) (c : Coord) (count : ℕ) (l : LosesVoxel s.remaining t.remaining c) (w : Works p q (above c) (with_voxel p.matrix c true) count) where
   full_there : IsTrue (is_full m c)
   full_there = full_at_visit m s p h b c l.before
 
@@ -165,7 +166,7 @@ on_floor y e = grind (arith, nat_tests)
 over_floor : (y : ℕ) → (y == 0) ≡ false → 0 < y
 over_floor y e = grind (arith, nat_tests)
 
-module _ (m : Matrix) (s t : Sweep) (p : Progress) (h : IsSweep m s) (g : IsSweep m t) (b : IsBuilt m s p) (c : Coord) (v : Begins m s t c) where
+module _ (m : Matrix) (s t : Sweep) (p : TapeState) (h : IsSweep m s) (g : IsSweep m t) (b : IsBuilt m s p) (c : Coord) (v : BeginsPart m s t c) where
   -- where it rests on a full voxel, that one was visited
   rested : FirstUnsupported m None → IsCarried p.matrix c
   rested supported = by (c.y == 0) refl v.resting
@@ -209,7 +210,7 @@ module _ (m : Matrix) (s t : Sweep) (p : Progress) (h : IsSweep m s) (g : IsSwee
           only_one xs [] last e k l = let i : IsTrail s.at (last ∷ []) = subst (IsTrail s.at) e k in i.0
           only_one xs (x ∷ most) last e k l = let n = ap length e ∙ length-append (x ∷ most) (last ∷ []) in absurd (omega arith)
 
-  pub built_first : (q : Progress) → Works p q (above c) (with_voxel p.matrix c true) (moves_to (spot p.bots) (above c) + 1) → IsBuilt m t q
+  pub built_first : (q : TapeState) → Works p q (above c) (with_voxel p.matrix c true) (moves_to (spot p.bots) (above c) + 1) → IsBuilt m t q
   built_first q w =
       let moves = paid in
       let few = b.few in
@@ -223,7 +224,7 @@ module _ (m : Matrix) (s t : Sweep) (p : Progress) (h : IsSweep m s) (g : IsSwee
 
 -- ---- a voxel beside the last one
 
-module _ (m : Matrix) (s t : Sweep) (p : Progress) (h : IsSweep m s) (b : IsBuilt m s p) (c : Coord) (v : GoesOn s t c) where
+module _ (m : Matrix) (s t : Sweep) (p : TapeState) (h : IsSweep m s) (b : IsBuilt m s p) (c : Coord) (v : GoesOn s t c) where
   pub can_go_on : IsLegal m → m.resolution ≤ 400 → CanFill p c
   can_go_on legal most =
       let last = on_trail_is m s p h b v.most v.last v.ends in
@@ -233,7 +234,7 @@ module _ (m : Matrix) (s t : Sweep) (p : Progress) (h : IsSweep m s) (b : IsBuil
         carried = inr (v.last, visited_is_built m s p h b v.last last.0, (beside-sym v.last c v.beside).adjacent);
       }
 
-  pub built_onward : (q : Progress) → Works p q (above c) (with_voxel p.matrix c true) (moves_to (spot p.bots) (above c) + 1) → IsBuilt m t q
+  pub built_onward : (q : TapeState) → Works p q (above c) (with_voxel p.matrix c true) (moves_to (spot p.bots) (above c) + 1) → IsBuilt m t q
   built_onward q w =
       let one : moves_to (spot p.bots) (above c) ≡ 1 = ap (λ (k : Coord). moves_to k (above c)) (b.spot_is v.most v.last v.ends) ∙ one_move v.last c v.beside in
       let few = b.few in
@@ -246,14 +247,14 @@ module _ (m : Matrix) (s t : Sweep) (p : Progress) (h : IsSweep m s) (b : IsBuil
 
 -- ---- back on the trail
 
-module _ (m : Matrix) (s t : Sweep) (p : Progress) (h : IsSweep m s) (g : IsSweep m t) (b : IsBuilt m s p) (c : Coord) (v : GoesBack s t c) where
+module _ (m : Matrix) (s t : Sweep) (p : TapeState) (h : IsSweep m s) (g : IsSweep m t) (b : IsBuilt m s p) (c : Coord) (v : TurnsBack s t c) where
   back_is : IsVisited m t.remaining c × (c.y ≡ t.at.y)
   back_is = g.on_trail c (subst (λ (xs : List Coord). Contains xs c) (sym v.ends) (Contains-push v.most c))
 
-  pub can_go_back : IsLegal m → m.resolution ≤ 400 → CanGo p c
+  pub can_go_back : IsLegal m → m.resolution ≤ 400 → CanGoAbove p c
   can_go_back legal most = can_go m s p h b legal most c back_is.0.before (let l = back_is.1 in let e = ap (λ (q : Coord). q.y) v.at in omega arith)
 
-  pub built_back : (q : Progress) → Works p q (above c) p.matrix (moves_to (spot p.bots) (above c)) → IsBuilt m t q
+  pub built_back : (q : TapeState) → Works p q (above c) p.matrix (moves_to (spot p.bots) (above c)) → IsBuilt m t q
   built_back q w =
       let one : moves_to (spot p.bots) (above c) ≡ 1 = ap (λ (k : Coord). moves_to k (above c)) (b.spot_is (v.most ++ c ∷ []) v.last v.ended) ∙ one_move v.last c (beside-sym c v.last v.beside) in
       let few = b.few in
@@ -276,7 +277,7 @@ module _ (m : Matrix) (s t : Sweep) (p : Progress) (h : IsSweep m s) (g : IsSwee
 
 -- ---- the start and the end
 
-pub built_start : (m : Matrix) (s : Sweep) (p : Progress) → s.remaining ≡ m → s.trail.items ≡ [] → s.at ≡ origin → p ≡ starting (empty m.resolution) light_profile → IsBuilt m s p
+pub built_start : (m : Matrix) (s : Sweep) (p : TapeState) → s.remaining ≡ m → s.trail.items ≡ [] → s.at ≡ origin → p ≡ starting (empty m.resolution) light_profile → IsBuilt m s p
 built_start m s p er et ea ep = subst (IsBuilt m s) (sym ep) (record {
   source = refl;
   working = record { alone = refl; low = refl; light = refl };
@@ -293,7 +294,7 @@ built_start m s p er et ea ep = subst (IsBuilt m s) (sym ep) (record {
     nothing true = refl
     nothing false = refl
 
-pub finished : (m : Matrix) (s t : Sweep) (p : Progress) → IsLegal m → FirstUnsupported m None → IsSweep m s → IsSweep m t → IsBuilt m s p → Ends m s t → IsFinished m p
+pub finished : (m : Matrix) (s t : Sweep) (p : TapeState) → IsLegal m → FirstUnsupported m None → IsSweep m s → IsSweep m t → IsBuilt m s p → EndsSweep m s t → IsFinished m p
 finished m s t p legal supported h g b v = record {
   source = b.source;
   working = b.working;
@@ -319,7 +320,7 @@ finished m s t p legal supported h g b v = record {
     no_trail z (inr e) = absurd (contrary (is_full m e.1) (on_trail_is m s p h b e.0 e.1 e.2).0.before (z e.1))
 
 -- the way home and the Halt have their steps
-pub steps_home : (m : Matrix) (p : Progress) → m.resolution ≤ 400 → IsFinished m p → p.steps + moves_to (spot p.bots) origin ≤ 300000100
+pub steps_home : (m : Matrix) (p : TapeState) → m.resolution ≤ 400 → IsFinished m p → p.steps + moves_to (spot p.bots) origin ≤ 300000100
 steps_home m p most h =
     let full = full_most m in
     let size = cube m.resolution most in

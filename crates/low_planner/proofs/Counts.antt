@@ -13,7 +13,7 @@ use Rattle.low_planner.specs.declared.sweep.Sweep.{Sweep}
 use Rattle.low_planner.specs.declared.sweep.Visit.{Visit}
 use Rattle.low_planner.specs.declared.sweep.Visit.TheVariants.{First, Onward, Back}
 use Rattle.low_planner.specs.Commands.{full_count}
-use Rattle.low_planner.specs.Sweep.{Loses, Visits, weight}
+use Rattle.low_planner.specs.Sweep.{LosesVoxel, Visits, sweep_weight}
 use Rattle.low_planner.proofs.Beside.{full_within}
 
 abbrev tally : Bool → ℕ
@@ -50,7 +50,7 @@ change_at p q f (suc n) a k l m h =
     ]
 
 -- a voxel that is full no longer
-pub one_less : (old new : Matrix) (c : Coord) → Loses old new c → full_count new + 1 ≡ full_count old
+pub one_less : (old new : Matrix) (c : Coord) → LosesVoxel old new c → full_count new + 1 ≡ full_count old
 unfolding full_count
 one_less old new c h =
     let r = old.resolution in
@@ -64,7 +64,7 @@ one_less old new c h =
     omega arith
 
 -- each visit leaves less to do
-pub visit_lessens : (m : Matrix) (old new : Sweep) (v : Visit) → Visits m old new (Some v) → weight new < weight old
+pub visit_lessens : (m : Matrix) (old new : Sweep) (v : Visit) → Visits m old new (Some v) → sweep_weight new < sweep_weight old
 visit_lessens m old new (First c) h =
     let less = one_less old.remaining new.remaining c h.loses in
     let short = h.short in

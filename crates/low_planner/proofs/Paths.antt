@@ -9,8 +9,8 @@ use Rattle.nano_spec.specs.Grounded as grounded
 use Rattle.nano_spec.specs.Matrix.{Matrix, is_full}
 use Rattle.nano_spec.proofs.Grounding.{left, right}
 use Rattle.nano_spec.proofs.Island.{same_coordinate}
-use Rattle.low_planner.specs.Sweep.{IsBeside}
-use Rattle.low_planner.specs.Supported.{IsSupported, is_path, rests}
+use Rattle.low_planner.specs.Sweep.{AreBesideInLayer}
+use Rattle.low_planner.specs.Supported.{IsSupported, is_layer_path, rests}
 
 pub self_same : (c : Coord) → same_point (point c) (point c) ≡ true
 self_same c = grind (arith, nat_tests)
@@ -26,25 +26,25 @@ same_number a b e = grind (arith, nat_tests)
 pub at_rest : (m : Matrix) (c : Coord) → IsTrue (is_full m c) → IsTrue (rests m c) → IsSupported m c
 at_rest m c f r = (c ∷ [], rw (self_same c, f) r)
 
-pub one_more : (m : Matrix) (a b : Coord) → IsTrue (is_full m a) → IsBeside a b → IsSupported m b → IsSupported m a
+pub one_more : (m : Matrix) (a b : Coord) → IsTrue (is_full m a) → AreBesideInLayer a b → IsSupported m b → IsSupported m a
 one_more m a b f n ([], h) = cc
 one_more m a b f n (d ∷ path, h) =
-    let same : b ≡ d = same_coordinate b d (left (same_point (point b) (point d)) (is_path m (d ∷ path)) h) in
+    let same : b ≡ d = same_coordinate b d (left (same_point (point b) (point d)) (is_layer_path m (d ∷ path)) h) in
     let next : IsTrue (are_adjacent a d) = subst (λ (v : Coord). IsTrue (are_adjacent a v)) same n.adjacent in
     let level : (a.y == d.y) ≡ true = number_same a.y d.y (sym n.level ∙ ap (λ (v : Coord). v.y) same) in
-    (a ∷ d ∷ path, rw (self_same a, f, next, level) (right (same_point (point b) (point d)) (is_path m (d ∷ path)) h))
+    (a ∷ d ∷ path, rw (self_same a, f, next, level) (right (same_point (point b) (point d)) (is_layer_path m (d ∷ path)) h))
 
 -- what holds of each full voxel that rests, and of each full voxel beside one of which it holds, holds of each voxel of a supported part
-module _ (m : Matrix) (P : Coord → Type 0) (rest : (a : Coord) → IsTrue (is_full m a) → IsTrue (rests m a) → P a) (more : (a b : Coord) → IsTrue (is_full m a) → IsTrue (is_full m b) → IsBeside a b → P b → P a) where
-  full_head : (b : Coord) (path : List Coord) → IsTrue (is_path m (b ∷ path)) → IsTrue (is_full m b)
+module _ (m : Matrix) (P : Coord → Type 0) (rest : (a : Coord) → IsTrue (is_full m a) → IsTrue (rests m a) → P a) (more : (a b : Coord) → IsTrue (is_full m a) → IsTrue (is_full m b) → AreBesideInLayer a b → P b → P a) where
+  full_head : (b : Coord) (path : List Coord) → IsTrue (is_layer_path m (b ∷ path)) → IsTrue (is_full m b)
   full_head b [] p = left (is_full m b) (rests m b) p
-  full_head b (d ∷ path) p = left (is_full m b) (are_adjacent b d) (left (is_full m b && are_adjacent b d) (b.y == d.y) (left (is_full m b && are_adjacent b d && b.y == d.y) (is_path m (d ∷ path)) p))
+  full_head b (d ∷ path) p = left (is_full m b) (are_adjacent b d) (left (is_full m b && are_adjacent b d) (b.y == d.y) (left (is_full m b && are_adjacent b d && b.y == d.y) (is_layer_path m (d ∷ path)) p))
 
-  along : (a : Coord) (path : List Coord) → IsTrue (is_path m (a ∷ path)) → P a
+  along : (a : Coord) (path : List Coord) → IsTrue (is_layer_path m (a ∷ path)) → P a
   along a [] p = rest a (left (is_full m a) (rests m a) p) (right (is_full m a) (rests m a) p)
   along a (b ∷ path) p =
-      let next = right (is_full m a && are_adjacent a b && a.y == b.y) (is_path m (b ∷ path)) p in
-      let front = left (is_full m a && are_adjacent a b && a.y == b.y) (is_path m (b ∷ path)) p in
+      let next = right (is_full m a && are_adjacent a b && a.y == b.y) (is_layer_path m (b ∷ path)) p in
+      let front = left (is_full m a && are_adjacent a b && a.y == b.y) (is_layer_path m (b ∷ path)) p in
       let near = left (is_full m a && are_adjacent a b) (a.y == b.y) front in
       more a b (left (is_full m a) (are_adjacent a b) near) (full_head b path next)
       (record { adjacent = right (is_full m a) (are_adjacent a b) near; level = sym (same_number a.y b.y (right (is_full m a && are_adjacent a b) (a.y == b.y) front)) })
@@ -53,8 +53,8 @@ module _ (m : Matrix) (P : Coord → Type 0) (rest : (a : Coord) → IsTrue (is_
   pub in_part : (c : Coord) → IsSupported m c → P c
   in_part c ([], h) = cc
   in_part c (d ∷ path, h) =
-      let same : c ≡ d = same_coordinate c d (left (same_point (point c) (point d)) (is_path m (d ∷ path)) h) in
-      subst P (sym same) (along d path (right (same_point (point c) (point d)) (is_path m (d ∷ path)) h))
+      let same : c ≡ d = same_coordinate c d (left (same_point (point c) (point d)) (is_layer_path m (d ∷ path)) h) in
+      subst P (sym same) (along d path (right (same_point (point c) (point d)) (is_layer_path m (d ∷ path)) h))
 
 -- ---- to the floor
 

@@ -6,7 +6,7 @@ use Rattle.std.proofs.lemmas.Bool.Decides.{nat_tests}
 use native.Mathlib.Decide.{ℕ_discrete}
 use Rattle.vox_geom.specs.declared.coordinate.Coord.{Coord}
 use Rattle.vox_geom.specs.Least.{LeastOf}
-use Rattle.vox_geom.specs.Point.{point}
+use Rattle.vox_geom.specs.Point.{point, coord}
 use Rattle.vox_geom.specs.Region.{Corners, corners, is_between, is_within, span}
 use Rattle.vox_geom.specs.Space.{IsInSpace, is_before}
 use Rattle.vox_geom.proofs.Firsts.{first_of}
@@ -15,7 +15,7 @@ use Rattle.nano_spec.proofs.Grounding.{left, right}
 use Rattle.low_planner.specs.Supported.{rests}
 use Rattle.plan_tape.specs.Leg.{distance}
 use Rattle.low_planner.specs.declared.sweep.Sweep.{Sweep}
-use Rattle.low_planner.specs.Sweep.{AreAllSwept, AreSwept, IsNextFull, IsNextRow, IsStart, IsStartInRow, IsSweptRow, IsVoidRow, IsWithinReach, coord}
+use Rattle.low_planner.specs.Sweep.{AreAllSwept, AreSwept, IsNextFull, IsNextRow, IsPartStart, IsStartInRow, IsSweptRow, IsVoidRow, IsWithinReach}
 use Rattle.low_planner.proofs.Beside.{full_within}
 
 -- ---- boxes
@@ -206,7 +206,7 @@ swept_to m left from c h s = record {
     by d e f l r (inr k) = s.first d f e k l r
 
 -- the next part begins where it begins in a row that the search has come to
-pub start_is : (m : Matrix) (s : Sweep) (from c : Coord) → IsWithinReach m.resolution s.at from → s.at.y ≤ from.y → AreSwept m s.remaining from → IsStartInRow m s.remaining from c → IsStart m s c
+pub start_is : (m : Matrix) (s : Sweep) (from c : Coord) → IsWithinReach m.resolution s.at from → s.at.y ≤ from.y → AreSwept m s.remaining from → IsStartInRow m s.remaining from c → IsPartStart m s c
 start_is m s from c near up swept h = record {
   within = h.within;
   here = h.here;

@@ -11,7 +11,7 @@ use Rattle.nano_spec.specs.First.{FirstFailing}
 use Rattle.nano_spec.specs.Matrix.{Matrix, all_of, is_full}
 use Rattle.low_planner.specs.declared.sweep.Sweep.{Sweep}
 use Rattle.low_planner.specs.Supported.{FirstUnsupported, IsSupported, rests}
-use Rattle.low_planner.specs.Sweep.{AreAllSwept, AreSwept, IsBeside, IsSweep, IsTrail, IsVisited, Takes}
+use Rattle.low_planner.specs.Sweep.{AreAllSwept, AreSwept, AreBesideInLayer, IsSweep, IsTrail, IsVisited, TakesVoxel}
 use Rattle.low_planner.proofs.Beside.{beside-sym}
 use Rattle.low_planner.proofs.Paths.{in_part}
 
@@ -55,7 +55,7 @@ moved m s t c er et ea h none swept up within = record {
 
 -- ---- a voxel more
 
-module _ (m : Matrix) (s t : Sweep) (c : Coord) (h : IsSweep m s) (k : Takes s t c) (at : t.at ≡ s.at) (supported : IsSupported m c) (level : c.y ≡ s.at.y) (trail : IsTrail t.at t.trail.items) where
+module _ (m : Matrix) (s t : Sweep) (c : Coord) (h : IsSweep m s) (k : TakesVoxel s t c) (at : t.at ≡ s.at) (supported : IsSupported m c) (level : c.y ≡ s.at.y) (trail : IsTrail t.at t.trail.items) where
   was_full : IsTrue (is_full m c)
   was_full = still (is_full m c) (is_full s.remaining c) (h.fewer c) k.loses.before
 
@@ -106,7 +106,7 @@ module _ (m : Matrix) (s t : Sweep) (c : Coord) (h : IsSweep m s) (k : Takes s t
       of d (inl e) = subst (IsSupported m) (sym e) supported
       of d (inr v) = h.supported d v
 
-      near : (a b : Coord) → IsBeside a b → IsTrue (is_full t.remaining b) → (a ≡ c) ⊎ IsVisited m s.remaining a → Contains t.trail.items a
+      near : (a b : Coord) → AreBesideInLayer a b → IsTrue (is_full t.remaining b) → (a ≡ c) ⊎ IsVisited m s.remaining a → Contains t.trail.items a
       near a b n f (inl e) = subst (λ (q : Coord). Contains t.trail.items q) (sym e) on_it
       near a b n f (inr v) = stays_on a (h.closed a b v n (left_before b f))
 
@@ -120,7 +120,7 @@ module _ (m : Matrix) (s t : Sweep) (c : Coord) (h : IsSweep m s) (k : Takes s t
 
 -- ---- a voxel less on the trail
 
-pub popped : (m : Matrix) (s t : Sweep) (last : Coord) → IsSweep m s → t.remaining ≡ s.remaining → t.at ≡ s.at → s.trail.items ≡ t.trail.items ++ last ∷ [] → ((d : Coord) → IsBeside last d → is_full s.remaining d ≡ false) → IsTrail s.at t.trail.items → IsSweep m t
+pub popped : (m : Matrix) (s t : Sweep) (last : Coord) → IsSweep m s → t.remaining ≡ s.remaining → t.at ≡ s.at → s.trail.items ≡ t.trail.items ++ last ∷ [] → ((d : Coord) → AreBesideInLayer last d → is_full s.remaining d ≡ false) → IsTrail s.at t.trail.items → IsSweep m t
 popped m s t last h er ea ends alone trail = record {
   resolution = ap (λ (l : Matrix). l.resolution) er ∙ h.resolution;
   fewer = λ d f. ap (λ (l : Matrix). is_full l d) er ∙ h.fewer d f;
@@ -136,9 +136,9 @@ popped m s t last h er ea ends alone trail = record {
     was : (d : Coord) → IsVisited m t.remaining d → IsVisited m s.remaining d
     was d k = record { before = k.before; after = sym (ap (λ (l : Matrix). is_full l d) er) ∙ k.after }
 
-    near : (a b : Coord) → IsBeside a b → IsTrue (is_full s.remaining b) → (Contains t.trail.items a ⊎ (last ≡ a)) → Contains t.trail.items a
+    near : (a b : Coord) → AreBesideInLayer a b → IsTrue (is_full s.remaining b) → (Contains t.trail.items a ⊎ (last ≡ a)) → Contains t.trail.items a
     near a b n g (inl i) = i
-    near a b n g (inr e) = contrary (is_full s.remaining b) g (alone b (subst (λ (q : Coord). IsBeside q b) (sym e) n))
+    near a b n g (inr e) = contrary (is_full s.remaining b) g (alone b (subst (λ (q : Coord). AreBesideInLayer q b) (sym e) n))
 
 -- ---- what was not visited
 
@@ -146,7 +146,7 @@ popped m s t last h er ea ends alone trail = record {
 pub none_left : (m : Matrix) (s : Sweep) (y : ℕ) → IsSweep m s → ((c : Coord) → c.y ≡ y → IsTrue (rests m c) → is_full s.remaining c ≡ false) → ((c : Coord) → c.y ≡ y → Contains s.trail.items c → ⊥) → (c : Coord) → IsSupported m c → c.y ≡ y → is_full s.remaining c ≡ false
 none_left m s y h rest off = in_part m (λ a. a.y ≡ y → is_full s.remaining a ≡ false) (λ a f r e. rest a e r) more
   where
-    more : (a b : Coord) → IsTrue (is_full m a) → IsTrue (is_full m b) → IsBeside a b → (b.y ≡ y → is_full s.remaining b ≡ false) → a.y ≡ y → is_full s.remaining a ≡ false
+    more : (a b : Coord) → IsTrue (is_full m a) → IsTrue (is_full m b) → AreBesideInLayer a b → (b.y ≡ y → is_full s.remaining b ≡ false) → a.y ≡ y → is_full s.remaining a ≡ false
     more a b f g n later e = by (is_full s.remaining a) refl
       where
         at : b.y ≡ y

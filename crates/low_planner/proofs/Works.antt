@@ -4,7 +4,7 @@ use Rattle.std.specs.Prelude.{ℤ, pos, negsuc, ◌+ℤ◌, unsigned_abs}
 use Rattle.std.proofs.lemmas.Int.{ints}
 use Rattle.std.proofs.lemmas.List.Elements.{All-append, All-cons, All-nil}
 use Rattle.vox_geom.specs.declared.coordinate.Coord.{Coord}
-use Rattle.vox_geom.specs.Point.{plus, point}
+use Rattle.vox_geom.specs.Point.{plus, point, down}
 use Rattle.vox_geom.specs.Space.{IsInSpace, coordinate}
 use Rattle.nano_spec.specs.declared.commands.Command.{Command}
 use Rattle.nano_spec.specs.declared.commands.Command.TheVariants.{Fill}
@@ -12,8 +12,8 @@ use Rattle.vox_planes.specs.Voxel.{with_voxel}
 use Rattle.plan_tape.specs.declared.axis.Axis.{Axis}
 use Rattle.plan_tape.specs.declared.axis.Axis.TheVariants.{X, Y, Z}
 use Rattle.plan_tape.specs.Leg.{AreLegs, IsLeg, IsLeastLeg, Moves, moves, moves_to}
-use Rattle.plan_tape.specs.Progress.{Progress, Writes, beside, spot}
-use Rattle.low_planner.specs.Build.{IsWorking, Works, above, down}
+use Rattle.plan_tape.specs.Progress.{TapeState, Writes, beside, spot}
+use Rattle.low_planner.specs.Build.{IsWorking, Works, above}
 use Rattle.low_planner.specs.Commands.{IsPlain}
 
 -- ---- plain commands
@@ -35,7 +35,7 @@ plain_and cs c h k = All-append IsPlain cs (c ∷ []) k (plain_more c [] h (All-
 
 -- ---- a way
 
-pub went : (old new : Progress) (to : Coord) → IsWorking old → Moves old new to → Works old new to old.matrix (moves_to (spot old.bots) to)
+pub went : (old new : TapeState) (to : Coord) → IsWorking old → Moves old new to → Works old new to old.matrix (moves_to (spot old.bots) to)
 went old new to w m = record {
   source = m.source;
   working = record { alone = m.alone; low = m.harmonics ∙ w.low; light = m.profile ∙ w.light };
@@ -56,7 +56,7 @@ no_leg : (axis : Axis) (a b : ℕ) (cs : List Command) → a ≡ b → IsLeastLe
 no_leg axis a b cs e h = none_of cs (h.least ∙ (ap (λ (n : ℕ). moves a n) (sym e) ∙ no_moves a))
 
 -- no commands where the bot is there
-pub went_nowhere : (old new : Progress) (to : Coord) → spot old.bots ≡ to → Moves old new to → new.commands ≡ old.commands
+pub went_nowhere : (old new : TapeState) (to : Coord) → spot old.bots ≡ to → Moves old new to → new.commands ≡ old.commands
 went_nowhere old new to e m =
     let h = m.legs in
     let x = no_leg X (spot old.bots).x to.x h.x (ap (λ (q : Coord). q.x) e) h.along_x in
@@ -73,10 +73,10 @@ there n = omega (arith, ints)
 under : (n : ℕ) → unsigned_abs (pos (n + 1) +ℤ negsuc 0) ≡ n
 under n = omega (arith, ints)
 
-pub below_spot : (p : Progress) (c : Coord) → spot p.bots ≡ above c → beside p down ≡ c
+pub below_spot : (p : TapeState) (c : Coord) → spot p.bots ≡ above c → beside p down ≡ c
 below_spot p c e = ap (λ (q : Coord). coordinate (plus (point q) down)) e ∙ (λ i. record { x = there c.x i; y = under c.y i; z = there c.z i })
 
-pub filled : (a b c : Progress) (at : Coord) (n : ℕ) (cost : ℤ) → Works a b (above at) a.matrix n → Writes b c (Fill down) (with_voxel b.matrix (beside b down) true) b.harmonics b.bots cost → Works a c (above at) (with_voxel a.matrix at true) (n + 1)
+pub filled : (a b c : TapeState) (at : Coord) (n : ℕ) (cost : ℤ) → Works a b (above at) a.matrix n → Writes b c (Fill down) (with_voxel b.matrix (beside b down) true) b.harmonics b.bots cost → Works a c (above at) (with_voxel a.matrix at true) (n + 1)
 filled a b c at n cost w f = record {
   source = f.source ∙ w.source;
   working = record { alone = ap length f.bots_are ∙ w.working.alone; low = f.harmonics ∙ w.working.low; light = f.profile ∙ w.working.light };

@@ -9,7 +9,7 @@ use Rattle.nano_spec.specs.Matrix.{Matrix, empty, is_full}
 use Rattle.nano_spec.specs.Profile.{light_profile}
 use Rattle.nano_spec.specs.State.{origin}
 use Rattle.plan_tape.specs.Leg.{moves_to}
-use Rattle.plan_tape.specs.Progress.{AreAlike, Progress, spot}
+use Rattle.plan_tape.specs.Progress.{AreAlike, TapeState, spot, IsVoidFrom}
 use Rattle.low_planner.specs.declared.sweep.Sweep.{Sweep}
 use Rattle.low_planner.specs.Commands.{IsEmpty, IsPlain, full_count}
 use Rattle.low_planner.specs.Sweep.{reach}
@@ -18,16 +18,8 @@ use Rattle.low_planner.specs.Sweep.{reach}
 abbrev pub above : Coord → Coord
 above c = record { x = c.x; y = c.y + 1; z = c.z }
 
--- the difference to the voxel below
-abbrev pub down : Diff
-down = record { dx = pos 0; dy = negsuc 0; dz = pos 0 }
-
--- from a height on all voxels are void
-abbrev pub IsVoidFrom : Matrix → ℕ → Type 0
-IsVoidFrom m h = (c : Coord) → h ≤ c.y → is_full m c ≡ false
-
 -- the only bot is under Low, with the light profile
-pub record IsWorking (p : Progress) : Type 0 where
+pub record IsWorking (p : TapeState) : Type 0 where
   pub alone : length p.bots ≡ 1
   pub low : p.harmonics ≡ Low
   pub light : p.profile ≡ light_profile
@@ -37,7 +29,7 @@ abbrev pub IsCarried : Matrix → Coord → Type 0
 IsCarried m c = (c.y ≡ 0) ⊎ ((b : Coord) × IsTrue (is_full m b) × IsTrue (are_adjacent c b))
 
 -- the bot may go to the coordinate right above a voxel: from its height and from that coordinate's on all is void
-pub record CanGo (p : Progress) (c : Coord) : Type 0 where
+pub record CanGoAbove (p : TapeState) (c : Coord) : Type 0 where
   pub working : IsWorking p
   pub within : IsInSpace p.matrix.resolution (above c)
   pub here : IsVoidFrom p.matrix (spot p.bots).y
@@ -45,12 +37,12 @@ pub record CanGo (p : Progress) (c : Coord) : Type 0 where
   pub limit : p.steps + moves_to (spot p.bots) (above c) < 1073741824
 
 -- the bot may go there and fill the voxel
-pub record CanFill (p : Progress) (c : Coord) : Type 0 where
-  pub can_go : CanGo p c
+pub record CanFill (p : TapeState) (c : Coord) : Type 0 where
+  pub can_go : CanGoAbove p c
   pub carried : IsCarried p.matrix c
 
 -- the bot has come there, in so many steps without a Flip or a Fission, and the matrix is m
-pub record Works (old new : Progress) (to : Coord) (m : Matrix) (count : ℕ) : Type 0 where
+pub record Works (old new : TapeState) (to : Coord) (m : Matrix) (count : ℕ) : Type 0 where
   pub source : new.source ≡ old.source
   pub working : IsWorking new
   pub there : spot new.bots ≡ to
@@ -59,25 +51,25 @@ pub record Works (old new : Progress) (to : Coord) (m : Matrix) (count : ℕ) : 
   pub plain : All IsPlain old.commands → All IsPlain new.commands
 
 -- before the first visit the bot is at the origin, and nothing is built
-pub record IsIdle (s : Sweep) (p : Progress) : Type 0 where
+pub record HasNotBegun (s : Sweep) (p : TapeState) : Type 0 where
   pub spot_is : spot p.bots ≡ origin
   pub at : s.at ≡ origin
   pub nothing : IsVoidFrom p.matrix 0
 
 -- what the sweep has visited is built, and the bot is above the last voxel of the trail
-pub record IsBuilt (m : Matrix) (s : Sweep) (p : Progress) : Type 0 where
+pub record IsBuilt (m : Matrix) (s : Sweep) (p : TapeState) : Type 0 where
   pub source : p.source ≡ empty m.resolution
   pub working : IsWorking p
   pub resolution : p.matrix.resolution ≡ m.resolution
   pub made : (c : Coord) → is_full p.matrix c ≡ (is_full m c && not (is_full s.remaining c))
   pub spot_is : (most : List Coord) (last : Coord) → s.trail.items ≡ most ++ last ∷ [] → spot p.bots ≡ above last
-  pub first : s.trail.items ≡ [] → IsIdle s p
+  pub first : s.trail.items ≡ [] → HasNotBegun s p
   pub plain : All IsPlain p.commands
   pub idle : IsEmpty m → p.commands ≡ []
   pub few : 15 * p.steps + 60 * full_count s.remaining + 15 * (length s.trail.items - 1) ≤ 60 * full_count m + reach m.resolution s.at
 
 -- all is built, and from the height of the bot on all is void
-pub record IsFinished (m : Matrix) (p : Progress) : Type 0 where
+pub record IsFinished (m : Matrix) (p : TapeState) : Type 0 where
   pub source : p.source ≡ empty m.resolution
   pub working : IsWorking p
   pub resolution : p.matrix.resolution ≡ m.resolution

@@ -6,9 +6,9 @@ use Rattle.low_planner.specs.declared.fault.LowFault.TheVariants.{Unsupported, M
 use Rattle.low_planner.specs.Supported.{FirstUnsupported}
 
 -- the number by which a refusal is printed
-abbrev pub number_of : LowFault → ℕ
-number_of (Unsupported at) = 1
-number_of Memory = 2
+abbrev pub low_fault_number : LowFault → ℕ
+low_fault_number (Unsupported at) = 1
+low_fault_number Memory = 2
 
 -- the refusal has its cause: at is the least voxel of all parts that are unsupported, or there was no memory
 abbrev pub HasCause : Matrix → LowFault → Type 0

@@ -11,12 +11,8 @@ use Rattle.low_planner.specs.declared.sweep.Visit.TheVariants.{First, Onward, Ba
 use Rattle.low_planner.specs.Commands.{full_count}
 use Rattle.low_planner.specs.Supported.{IsSupported, rests}
 
--- a coordinate by its components
-abbrev pub coord : ℕ → ℕ → ℕ → Coord
-coord x y z = record { x = x; y = y; z = z }
-
 -- the two coordinates are adjacent within a layer
-pub record IsBeside (a b : Coord) : Type 0 where
+pub record AreBesideInLayer (a b : Coord) : Type 0 where
   pub adjacent : IsTrue (are_adjacent a b)
   pub level : b.y ≡ a.y
 
@@ -83,7 +79,7 @@ pub record IsNextRow (r : ℕ) (from next : Coord) : Type 0 where
   pub swept : (m left : Matrix) → m.resolution ≡ r → left.resolution ≡ r → AreSwept m left from → IsSweptRow m left from r → AreSwept m left next
 
 -- the next part begins there
-pub record IsStart (m : Matrix) (s : Sweep) (c : Coord) : Type 0 where
+pub record IsPartStart (m : Matrix) (s : Sweep) (c : Coord) : Type 0 where
   pub within : IsInSpace m.resolution c
   pub here : IsTrue (is_full s.remaining c)
   pub resting : IsTrue (rests m c)
@@ -96,7 +92,7 @@ pub record IsStart (m : Matrix) (s : Sweep) (c : Coord) : Type 0 where
 -- each coordinate is beside the one before it
 abbrev pub IsChain : Coord → List Coord → Type 0
 IsChain a [] = Unit {0}
-IsChain a (b ∷ more) = IsBeside a b × IsChain b more
+IsChain a (b ∷ more) = AreBesideInLayer a b × IsChain b more
 
 -- the trail begins at a coordinate
 abbrev pub IsTrail : Coord → List Coord → Type 0
@@ -108,7 +104,7 @@ pub record IsSweep (m : Matrix) (s : Sweep) : Type 0 where
   pub resolution : s.remaining.resolution ≡ m.resolution
   pub fewer : (c : Coord) → is_full m c ≡ false → is_full s.remaining c ≡ false
   pub supported : (c : Coord) → IsVisited m s.remaining c → IsSupported m c
-  pub closed : (a b : Coord) → IsVisited m s.remaining a → IsBeside a b → IsTrue (is_full s.remaining b) → Contains s.trail.items a
+  pub closed : (a b : Coord) → IsVisited m s.remaining a → AreBesideInLayer a b → IsTrue (is_full s.remaining b) → Contains s.trail.items a
   pub ahead : (c : Coord) → IsVisited m s.remaining c → c.y ≤ s.at.y
   pub swept : AreSwept m s.remaining s.at
   pub place : IsInSpace m.resolution s.at
@@ -116,23 +112,23 @@ pub record IsSweep (m : Matrix) (s : Sweep) : Type 0 where
   pub on_trail : (c : Coord) → Contains s.trail.items c → IsVisited m s.remaining c × (c.y ≡ s.at.y)
 
 -- the voxel is full no longer, and all others are as they were
-pub record Loses (old new : Matrix) (c : Coord) : Type 0 where
+pub record LosesVoxel (old new : Matrix) (c : Coord) : Type 0 where
   pub resolution : new.resolution ≡ old.resolution
   pub before : IsTrue (is_full old c)
   pub after : is_full new c ≡ false
   pub others : (d : Coord) → d ≢ c → is_full new d ≡ is_full old d
 
 -- a voxel was visited, and it is the last one of the trail
-pub record Takes (old new : Sweep) (c : Coord) : Type 0 where
-  pub loses : Loses old.remaining new.remaining c
+pub record TakesVoxel (old new : Sweep) (c : Coord) : Type 0 where
+  pub loses : LosesVoxel old.remaining new.remaining c
   pub trail : new.trail.items ≡ old.trail.items ++ c ∷ []
 
 -- ---- visits
 
 -- the sweep begins a part at a voxel
-pub record Begins (m : Matrix) (old new : Sweep) (c : Coord) : Type 0 where
+pub record BeginsPart (m : Matrix) (old new : Sweep) (c : Coord) : Type 0 where
   pub short : length old.trail.items ≤ 1
-  pub loses : Loses old.remaining new.remaining c
+  pub loses : LosesVoxel old.remaining new.remaining c
   pub trail : new.trail.items ≡ c ∷ []
   pub at : new.at ≡ c
   pub resting : IsTrue (rests m c)
@@ -144,22 +140,22 @@ pub record GoesOn (old new : Sweep) (c : Coord) : Type 0 where
   pub most : List Coord
   pub last : Coord
   pub ends : old.trail.items ≡ most ++ last ∷ []
-  pub beside : IsBeside last c
-  pub takes : Takes old new c
+  pub beside : AreBesideInLayer last c
+  pub takes : TakesVoxel old new c
   pub at : new.at ≡ old.at
 
 -- the sweep leaves the last voxel of the trail for the one before it
-pub record GoesBack (old new : Sweep) (c : Coord) : Type 0 where
+pub record TurnsBack (old new : Sweep) (c : Coord) : Type 0 where
   pub most : List Coord
   pub last : Coord
   pub ends : new.trail.items ≡ most ++ c ∷ []
   pub ended : old.trail.items ≡ (most ++ c ∷ []) ++ last ∷ []
-  pub beside : IsBeside c last
+  pub beside : AreBesideInLayer c last
   pub remaining : new.remaining ≡ old.remaining
   pub at : new.at ≡ old.at
 
 -- the sweep has visited all
-pub record Ends (m : Matrix) (old new : Sweep) : Type 0 where
+pub record EndsSweep (m : Matrix) (old new : Sweep) : Type 0 where
   pub short : length old.trail.items ≤ 1
   pub none : new.trail.items ≡ []
   pub remaining : new.remaining ≡ old.remaining
@@ -168,11 +164,11 @@ pub record Ends (m : Matrix) (old new : Sweep) : Type 0 where
 
 -- what the sweep did
 abbrev pub Visits : Matrix → Sweep → Sweep → Option Visit → Type 0
-Visits m old new (Some (First c)) = Begins m old new c
+Visits m old new (Some (First c)) = BeginsPart m old new c
 Visits m old new (Some (Onward c)) = GoesOn old new c
-Visits m old new (Some (Back c)) = GoesBack old new c
-Visits m old new None = Ends m old new
+Visits m old new (Some (Back c)) = TurnsBack old new c
+Visits m old new None = EndsSweep m old new
 
 -- how much a sweep still has to do at most
-abbrev pub weight : Sweep → ℕ
-weight s = 2 * full_count s.remaining + length s.trail.items
+abbrev pub sweep_weight : Sweep → ℕ
+sweep_weight s = 2 * full_count s.remaining + length s.trail.items

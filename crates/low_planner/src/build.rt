@@ -5,9 +5,10 @@ ghost use Rattle.nano_spec.specs.Legal.{IsLegal};
 ghost use Rattle.vox_planes.specs.Voxel.{with_voxel};
 ghost use Rattle.plan_tape.specs.Leg.{AreVoidTo, moves_to};
 ghost use Rattle.plan_tape.specs.Progress.{spot};
-ghost use Rattle.low_planner.specs.Build.{CanFill, CanGo, IsBuilt, IsFinished, IsWorking, Works, above, down as down_of};
+ghost use Rattle.low_planner.specs.Build.{CanFill, CanGoAbove, IsBuilt, IsFinished, IsWorking, Works, above};
 ghost use Rattle.low_planner.specs.Supported.{FirstUnsupported};
 ghost use Rattle.low_planner.specs.Sweep.{IsSweep};
+ghost use Rattle.vox_geom.specs.Point.{down as down_of};
 
 use crate::sweep::{Sweep, Visit};
 use plan_tape::Tape;
@@ -42,7 +43,7 @@ pub fn go(tape: &mut Tape, to: Coord) -> Result<(), Memory>
 
 /// Goes to the coordinate right above a voxel.
 fn go_above(tape: &mut Tape, c: Coord) -> Result<(), Memory>
-    requires { CanGo tape.old c }
+    requires { CanGoAbove tape.old c }
     ensures { OnOk result (Works tape.old tape.new (above c) tape.old.matrix (moves_to (spot tape.old.bots) (above c))) }
 {
     let _ = tape.matrix();

@@ -1,7 +1,7 @@
 //! Why a model is not planned.
 ghost use Rattle.std.specs.Prelude.{◌≡◌};
 ghost use Rattle.low_planner.specs.declared.fault.LowFault.TheVariants.{Memory};
-ghost use Rattle.low_planner.specs.Fault.{number_of};
+ghost use Rattle.low_planner.specs.Fault.{low_fault_number};
 
 use vox_geom::{Coord, Memory};
 
@@ -17,7 +17,7 @@ pub enum LowFault {
 impl LowFault {
     /// The number by which the refusal is printed.
     pub fn number(self) -> u8
-        ensures { result ≡ number_of self }
+        ensures { result ≡ low_fault_number self }
     {
         match self {
             LowFault::Unsupported { .. } => 1,

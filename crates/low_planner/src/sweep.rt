@@ -5,7 +5,8 @@ ghost use Rattle.vox_geom.specs.Space.{IsInSpace};
 ghost use Rattle.nano_spec.specs.Matrix.{is_full as is_full_of};
 ghost use Rattle.nano_spec.specs.State.{origin};
 ghost use Rattle.low_planner.specs.Supported.{rests as rests_of};
-ghost use Rattle.low_planner.specs.Sweep.{AreAllSwept, AreSwept, IsBeside, IsNextFull, IsNextRow, IsStart, IsStartInRow, IsSweep, IsSweptRow, IsVoidRow, Takes, Visits, coord};
+ghost use Rattle.low_planner.specs.Sweep.{AreAllSwept, AreSwept, AreBesideInLayer, IsNextFull, IsNextRow, IsPartStart, IsStartInRow, IsSweep, IsSweptRow, IsVoidRow, TakesVoxel, Visits};
+ghost use Rattle.vox_geom.specs.Point.{coord};
 
 use plan_tape::is_full;
 use std::alloc::Global;
@@ -127,7 +128,7 @@ impl Sweep {
     /// A voxel that was not visited, beside a coordinate in its layer.
     fn beside(&self, c: Coord) -> Option<Coord>
         requires { IsInSpace self.now.remaining.resolution c }
-        ensures { MatchOption result ((d : Coordinate) → IsBeside c d → is_full_of self.now.remaining d ≡ false) (λ d. IsBeside c d × IsTrue (is_full_of self.now.remaining d)) }
+        ensures { MatchOption result ((d : Coordinate) → AreBesideInLayer c d → is_full_of self.now.remaining d ≡ false) (λ d. AreBesideInLayer c d × IsTrue (is_full_of self.now.remaining d)) }
     {
         let _ = self.remaining.resolution();
         let Coord { x, y, z } = c;
@@ -149,7 +150,7 @@ impl Sweep {
     /// Visits a voxel, which becomes the last one of the trail.
     fn take(&mut self, c: Coord) -> Result<(), Memory>
         requires { IsTrue (is_full_of self.old.remaining c) }
-        ensures takes { OnOk result (Takes self.old self.new c) }
+        ensures takes { OnOk result (TakesVoxel self.old self.new c) }
         ensures at { self.new.at ≡ self.old.at }
     {
         match self.trail.push(c) {
@@ -185,7 +186,7 @@ impl Sweep {
         requires same { self.now.remaining.resolution ≡ target.now.resolution }
         requires place { IsInSpace target.now.resolution self.now.at }
         requires swept { AreSwept target.now self.now.remaining self.now.at }
-        ensures { MatchOption result (AreAllSwept target.now self.now.remaining) (IsStart target.now self.now) }
+        ensures { MatchOption result (AreAllSwept target.now self.now.remaining) (IsPartStart target.now self.now) }
     {
         let resolution = target.resolution();
         let mut from = self.at;

@@ -22,7 +22,7 @@ use Rattle.vox_planes.specs.Walk.{at}
 use Rattle.model_file.specs.declared.flood.Flood.{Flood}
 use Rattle.model_file.specs.declared.flood.Stretch.{Stretch}
 use Rattle.model_file.proofs.Stretches.{moved, near_above, near_after, near_before, near_below, near_left, near_moved, near_right, one_less, word_less}
-use Rattle.model_file.specs.Flood.{HasFound, IsAmong, IsBeside, IsStart, IsTaken, Takes, full_of, passing}
+use Rattle.model_file.specs.Flood.{HasFound, IsAmong, IsBeside, IsStart, IsTaken, TakesOut, full_of, passing}
 
 -- ---- how many are full
 
@@ -102,7 +102,7 @@ has_cases a b s e d h = of (Contains-push_cases a.found.items s h.stretch (subst
     of (inr q) = inr (subst (λ (t : Stretch). IsAmong t d) (sym q) h.among)
 
 -- nothing was taken
-pub takes_none : (near : Coord → Type 0) (a b : Flood) → b.remaining.resolution ≡ a.remaining.resolution → ((d : Coord) → is_full b.remaining d ≡ is_full a.remaining d) → b.found.items ≡ a.found.items → Takes near a b
+pub takes_none : (near : Coord → Type 0) (a b : Flood) → b.remaining.resolution ≡ a.remaining.resolution → ((d : Coord) → is_full b.remaining d ≡ is_full a.remaining d) → b.found.items ≡ a.found.items → TakesOut near a b
 takes_none near a b r same found = record {
   resolution = r;
   fewer = λ d f. same d ∙ f;
@@ -229,7 +229,7 @@ module _ (a b : Flood) (first : Coord) (count bits taken : ℕ) (r : b.remaining
       positive zero h = absurd (h refl)
       positive (suc n) h = omega arith
 
-  pub takes_row : IsInSpace a.remaining.resolution first → first.z % 64 ≡ 0 → taken < 2 ^ count → (taken ≡ 0 → ⊥) → taken < 2 ^ 64 → b.found.items ≡ a.found.items ++ record { first = first; bits = taken } ∷ [] → Takes (IsAmong (record { first = first; bits = bits })) a b
+  pub takes_row : IsInSpace a.remaining.resolution first → first.z % 64 ≡ 0 → taken < 2 ^ count → (taken ≡ 0 → ⊥) → taken < 2 ^ 64 → b.found.items ≡ a.found.items ++ record { first = first; bits = taken } ∷ [] → TakesOut (IsAmong (record { first = first; bits = bits })) a b
   takes_row within each below some fits items = record {
     resolution = r;
     fewer = fewer_in_row;
@@ -255,7 +255,7 @@ module _ (a b : Flood) (first : Coord) (count bits taken : ℕ) (r : b.remaining
 
 -- ---- one part after another
 
-pub takes_then : (near : Coord → Type 0) (a b c : Flood) → Takes near a b → Takes near b c → Takes near a c
+pub takes_then : (near : Coord → Type 0) (a b c : Flood) → TakesOut near a b → TakesOut near b c → TakesOut near a c
 takes_then near a b c h k = record {
   resolution = k.resolution ∙ h.resolution;
   fewer = λ d f. k.fewer d (h.fewer d f);
@@ -287,7 +287,7 @@ takes_then near a b c h k = record {
     start s (inr m) = inr (subst (λ (n : ℕ). IsInSpace n s.first × (s.first.z % 64 ≡ 0)) h.resolution m)
 
 -- what is near by a narrower word is near by a wider one
-pub takes_wider : (near far : Coord → Type 0) (a b : Flood) → ((d : Coord) → IsTrue (is_full a.remaining d) → near d → far d) → Takes near a b → Takes far a b
+pub takes_wider : (near far : Coord → Type 0) (a b : Flood) → ((d : Coord) → IsTrue (is_full a.remaining d) → near d → far d) → TakesOut near a b → TakesOut far a b
 takes_wider near far a b wider h = record {
   resolution = h.resolution;
   fewer = h.fewer;
@@ -330,19 +330,19 @@ gone_row a b first count bits taken r few was left size d h = by (cases_lt d.z (
 -- ---- around a stretch
 
 -- a stretch beside another was taken
-pub takes_beside : (a b : Flood) (s t : Stretch) → Takes (IsAmong t) a b → ((d : Coord) → IsInSpace a.remaining.resolution d → IsAmong t d → IsBeside s d) → Takes (IsBeside s) a b
+pub takes_beside : (a b : Flood) (s t : Stretch) → TakesOut (IsAmong t) a b → ((d : Coord) → IsInSpace a.remaining.resolution d → IsAmong t d → IsBeside s d) → TakesOut (IsBeside s) a b
 takes_beside a b s t h near = takes_wider (IsAmong t) (IsBeside s) a b (λ d f k. near d (full_within a.remaining d f) k) h
 
 -- the seven stretches beside one were taken
 pub takes_around : (a b c d e f g h : Flood) (s : Stretch) → IsStart MOST_R s → a.remaining.resolution ≤ MOST_R → s.bits < 2 ^ 64 →
-    Takes (IsAmong (record { first = record { x = s.first.x + 1; y = s.first.y; z = s.first.z }; bits = s.bits })) a b →
-    Takes (IsAmong (record { first = record { x = one_less s.first.x; y = s.first.y; z = s.first.z }; bits = s.bits })) b c →
-    Takes (IsAmong (record { first = record { x = s.first.x; y = s.first.y + 1; z = s.first.z }; bits = s.bits })) c d →
-    Takes (IsAmong (record { first = record { x = s.first.x; y = one_less s.first.y; z = s.first.z }; bits = s.bits })) d e →
-    Takes (IsAmong (record { first = s.first; bits = moved s.bits })) e f →
-    Takes (IsAmong (record { first = record { x = s.first.x; y = s.first.y; z = s.first.z + 64 }; bits = s.bits / 2 ^ 63 })) f g →
-    Takes (IsAmong (record { first = record { x = s.first.x; y = s.first.y; z = word_less s.first.z }; bits = s.bits * 2 ^ 63 % 2 ^ 64 })) g h →
-    Takes (IsBeside s) a h
+    TakesOut (IsAmong (record { first = record { x = s.first.x + 1; y = s.first.y; z = s.first.z }; bits = s.bits })) a b →
+    TakesOut (IsAmong (record { first = record { x = one_less s.first.x; y = s.first.y; z = s.first.z }; bits = s.bits })) b c →
+    TakesOut (IsAmong (record { first = record { x = s.first.x; y = s.first.y + 1; z = s.first.z }; bits = s.bits })) c d →
+    TakesOut (IsAmong (record { first = record { x = s.first.x; y = one_less s.first.y; z = s.first.z }; bits = s.bits })) d e →
+    TakesOut (IsAmong (record { first = s.first; bits = moved s.bits })) e f →
+    TakesOut (IsAmong (record { first = record { x = s.first.x; y = s.first.y; z = s.first.z + 64 }; bits = s.bits / 2 ^ 63 })) f g →
+    TakesOut (IsAmong (record { first = record { x = s.first.x; y = s.first.y; z = word_less s.first.z }; bits = s.bits * 2 ^ 63 % 2 ^ 64 })) g h →
+    TakesOut (IsBeside s) a h
 takes_around a b c d e f g h s start most fits h1 h2 h3 h4 h5 h6 h7 =
     let b_most : b.remaining.resolution ≤ MOST_R = rw h1.resolution most in
     let c_most : c.remaining.resolution ≤ MOST_R = rw h2.resolution b_most in

@@ -25,7 +25,7 @@ use Rattle.model_file.specs.declared.flood.Stretch.{Stretch}
 use Rattle.model_file.proofs.Beside.{adjacent-sym}
 use Rattle.model_file.proofs.Stretches.{is_one, moved, near_moved, one_of}
 use Rattle.model_file.proofs.Floods.{fewer_in_row, full_within, row_asked, row_taken, row_was, has_cases, has_last, has_more, has_same, self_same, takes_then, takes_wider}
-use Rattle.model_file.specs.Flood.{HasFound, IsAmong, IsBeside, IsFlood, IsStart, IsTaken, Takes, full_of, weight}
+use Rattle.model_file.specs.Flood.{HasFound, IsAmong, IsBeside, IsFlood, IsStart, IsTaken, TakesOut, full_of, weight}
 
 contrary : {A : Type 0} (b : Bool) → IsTrue b → b ≡ false → A
 contrary b t f = cc
@@ -49,7 +49,7 @@ one_more m a b f n (d ∷ path, h) =
     (a ∷ d ∷ path, rw (self_same a, f, next) (right (same_point (point b) (point d)) (is_path m (d ∷ path)) h))
 
 -- a stretch that was found is looked around
-pub flood_more : (m : Matrix) (s popped new : Flood) (p : Stretch) → IsFlood m s → popped.remaining ≡ s.remaining → s.found.items ≡ popped.found.items ++ p ∷ [] → Takes (IsBeside p) popped new → ((d : Coord) → IsBeside p d → is_full new.remaining d ≡ false) → IsFlood m new
+pub flood_more : (m : Matrix) (s popped new : Flood) (p : Stretch) → IsFlood m s → popped.remaining ≡ s.remaining → s.found.items ≡ popped.found.items ++ p ∷ [] → TakesOut (IsBeside p) popped new → ((d : Coord) → IsBeside p d → is_full new.remaining d ≡ false) → IsFlood m new
 flood_more m s popped new p fl same items t gone = record {
   resolution = t.resolution ∙ (ap (λ (l : Matrix). l.resolution) same ∙ fl.resolution);
   fewer = λ d f. less d (fl.fewer d f);
@@ -91,7 +91,7 @@ flood_more m s popped new p fl same items t gone = record {
         of (inr h) = contrary (is_full new.remaining b) f (gone b (record { one = a; among = h; adjacent = n }))
 
 -- stretches that were found begin where stretches do
-pub found_starts : (near : Coord → Type 0) (popped new : Flood) → All (IsStart popped.remaining.resolution) popped.found.items → Takes near popped new → All (IsStart popped.remaining.resolution) new.found.items
+pub found_starts : (near : Coord → Type 0) (popped new : Flood) → All (IsStart popped.remaining.resolution) popped.found.items → TakesOut near popped new → All (IsStart popped.remaining.resolution) new.found.items
 found_starts near popped new starts t = All-weaker (Contains new.found.items) (IsStart popped.remaining.resolution) (λ s k. by s (t.starts s k)) new.found.items (All-contains_itself new.found.items)
   where
     by : (s : Stretch) → (Contains popped.found.items s ⊎ (IsInSpace popped.remaining.resolution s.first × (s.first.z % 64 ≡ 0))) → IsStart popped.remaining.resolution s
@@ -187,7 +187,7 @@ in_none : (f : Flood) (d : Coord) → f.found.items ≡ [] → HasFound f d → 
 in_none f d e h = let l : length f.found.items ≡ 0 = ap length e in let k = h.is_found in omega (arith, k.1)
 
 -- the floor was taken
-pub flood_begun : (m : Matrix) (a b : Flood) → a.remaining ≡ m → a.found.items ≡ [] → Takes (λ d. d.y ≡ 0) a b → ((d : Coord) → d.y ≡ 0 → is_full b.remaining d ≡ false) → IsFlood m b
+pub flood_begun : (m : Matrix) (a b : Flood) → a.remaining ≡ m → a.found.items ≡ [] → TakesOut (λ d. d.y ≡ 0) a b → ((d : Coord) → d.y ≡ 0 → is_full b.remaining d ≡ false) → IsFlood m b
 flood_begun m a b same none t gone = record {
   resolution = t.resolution ∙ ap (λ (l : Matrix). l.resolution) same;
   fewer = λ d f. t.fewer d (ap (λ (l : Matrix). is_full l d) same ∙ f);
@@ -259,7 +259,7 @@ flood_same m a b same items fl = record {
 
 -- ---- the measure
 
-pub weight_falls : (near : Coord → Type 0) (s popped new : Flood) (p : Stretch) → popped.remaining ≡ s.remaining → s.found.items ≡ popped.found.items ++ p ∷ [] → Takes near popped new → weight new < weight s
+pub weight_falls : (near : Coord → Type 0) (s popped new : Flood) (p : Stretch) → popped.remaining ≡ s.remaining → s.found.items ≡ popped.found.items ++ p ∷ [] → TakesOut near popped new → weight new < weight s
 weight_falls near s popped new p same items t =
     let left : full_of popped.remaining.resolution popped.remaining ≡ full_of s.remaining.resolution s.remaining = ap (λ (l : Matrix). full_of l.resolution l) same in
     let more : length s.found.items ≡ length popped.found.items + 1 = ap length items ∙ length-append popped.found.items (p ∷ []) in
@@ -272,8 +272,8 @@ all_ones : (k : ℕ) → k < 64 → bit (2 ^ 64 - 1) k ≡ true
 all_ones k l = ap (λ d. d == 1) (bit_at_ones 64 k l)
 
 -- one more stretch of a row of the floor was taken
-pub row_more : (a b c : Flood) (x k : ℕ) → Takes (λ d. d.y ≡ 0) a b → ((d : Coord) → d.x ≡ x → d.y ≡ 0 → d.z < 64 * k → is_full b.remaining d ≡ false) → Takes (IsAmong (record { first = record { x = x; y = 0; z = 64 * k }; bits = 2 ^ 64 - 1 })) b c → ((d : Coord) → IsAmong (record { first = record { x = x; y = 0; z = 64 * k }; bits = 2 ^ 64 - 1 }) d → is_full c.remaining d ≡ false) →
-    Takes (λ d. d.y ≡ 0) a c × ((d : Coord) → d.x ≡ x → d.y ≡ 0 → d.z < 64 * (k + 1) → is_full c.remaining d ≡ false)
+pub row_more : (a b c : Flood) (x k : ℕ) → TakesOut (λ d. d.y ≡ 0) a b → ((d : Coord) → d.x ≡ x → d.y ≡ 0 → d.z < 64 * k → is_full b.remaining d ≡ false) → TakesOut (IsAmong (record { first = record { x = x; y = 0; z = 64 * k }; bits = 2 ^ 64 - 1 })) b c → ((d : Coord) → IsAmong (record { first = record { x = x; y = 0; z = 64 * k }; bits = 2 ^ 64 - 1 }) d → is_full c.remaining d ≡ false) →
+    TakesOut (λ d. d.y ≡ 0) a c × ((d : Coord) → d.x ≡ x → d.y ≡ 0 → d.z < 64 * (k + 1) → is_full c.remaining d ≡ false)
 row_more a b c x k t before u here = (
   takes_then (λ d. d.y ≡ 0) a b c t (takes_wider (IsAmong (record { first = record { x = x; y = 0; z = 64 * k }; bits = 2 ^ 64 - 1 })) (λ d. d.y ≡ 0) b c (λ d f s. s.y) u),
   λ d ex ey l. by d ex ey l (cases_lt d.z (64 * k)),
@@ -284,8 +284,8 @@ row_more a b c x k t before u here = (
     by d ex ey l (inr m) = here d (record { x = ex; y = ey; from = m; to = omega arith; here = all_ones (d.z - 64 * k) (omega arith) })
 
 -- one more row of the floor was taken
-pub floor_more : (a b c : Flood) (x : ℕ) → Takes (λ d. d.y ≡ 0) a b → ((d : Coord) → d.x < x → d.y ≡ 0 → is_full b.remaining d ≡ false) → Takes (λ d. d.y ≡ 0) b c → ((d : Coord) → d.x ≡ x → d.y ≡ 0 → is_full c.remaining d ≡ false) →
-    Takes (λ d. d.y ≡ 0) a c × ((d : Coord) → d.x < x + 1 → d.y ≡ 0 → is_full c.remaining d ≡ false)
+pub floor_more : (a b c : Flood) (x : ℕ) → TakesOut (λ d. d.y ≡ 0) a b → ((d : Coord) → d.x < x → d.y ≡ 0 → is_full b.remaining d ≡ false) → TakesOut (λ d. d.y ≡ 0) b c → ((d : Coord) → d.x ≡ x → d.y ≡ 0 → is_full c.remaining d ≡ false) →
+    TakesOut (λ d. d.y ≡ 0) a c × ((d : Coord) → d.x < x + 1 → d.y ≡ 0 → is_full c.remaining d ≡ false)
 floor_more a b c x t before u here = (takes_then (λ d. d.y ≡ 0) a b c t u, λ d l e. by d l e (ℕ_discrete d.x x))
   where
     by : (d : Coord) → d.x < x + 1 → d.y ≡ 0 → Dec (d.x ≡ x) → is_full c.remaining d ≡ false

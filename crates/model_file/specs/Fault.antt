@@ -8,35 +8,35 @@ use Rattle.model_file.specs.declared.fault.ModelFault.{ModelFault}
 use Rattle.model_file.specs.declared.fault.ModelFault.TheVariants.{NoByte, Resolution, Short, Long, Memory, Border, Floating, WideHead, WideResolution, WideRun, WideShort, WideLong}
 
 -- the number by which a refusal is printed
-abbrev pub number_of : ModelFault → ℕ
-number_of NoByte = 1
-number_of (Resolution r) = 2
-number_of (Short want have) = 3
-number_of (Long want) = 4
-number_of Memory = 5
-number_of (Border at) = 6
-number_of (Floating at) = 7
-number_of (WideHead have) = 8
-number_of (WideResolution r) = 9
-number_of (WideRun index) = 10
-number_of (WideShort have) = 11
-number_of WideLong = 12
+abbrev pub model_fault_number : ModelFault → ℕ
+model_fault_number NoByte = 1
+model_fault_number (Resolution r) = 2
+model_fault_number (Short want have) = 3
+model_fault_number (Long want) = 4
+model_fault_number Memory = 5
+model_fault_number (Border at) = 6
+model_fault_number (Floating at) = 7
+model_fault_number (WideHead have) = 8
+model_fault_number (WideResolution r) = 9
+model_fault_number (WideRun index) = 10
+model_fault_number (WideShort have) = 11
+model_fault_number WideLong = 12
 
 -- the answer is what the bytes say, unless there was no memory
-abbrev pub Reads : Result Matrix spec.NoModel → Result Matrix ModelFault → Type 0
-Reads said (Ok m) = said ≡ Ok m
-Reads said (Err NoByte) = said ≡ Err spec.NoByte
-Reads said (Err (Resolution r)) = said ≡ Err (spec.Resolution r)
-Reads said (Err (Short want have)) = said ≡ Err (spec.Short want have)
-Reads said (Err (Long want)) = said ≡ Err (spec.Long want)
-Reads said (Err Memory) = ⊤
-Reads said (Err (Border at)) = ⊥
-Reads said (Err (Floating at)) = ⊥
-Reads said (Err (WideHead have)) = said ≡ Err (spec.WideHead have)
-Reads said (Err (WideResolution r)) = said ≡ Err (spec.WideResolution r)
-Reads said (Err (WideRun index)) = said ≡ Err (spec.WideRun index)
-Reads said (Err (WideShort have)) = said ≡ Err (spec.WideShort have)
-Reads said (Err WideLong) = said ≡ Err spec.WideLong
+abbrev pub ReadsModel : Result Matrix spec.NoModel → Result Matrix ModelFault → Type 0
+ReadsModel said (Ok m) = said ≡ Ok m
+ReadsModel said (Err NoByte) = said ≡ Err spec.NoByte
+ReadsModel said (Err (Resolution r)) = said ≡ Err (spec.Resolution r)
+ReadsModel said (Err (Short want have)) = said ≡ Err (spec.Short want have)
+ReadsModel said (Err (Long want)) = said ≡ Err (spec.Long want)
+ReadsModel said (Err Memory) = ⊤
+ReadsModel said (Err (Border at)) = ⊥
+ReadsModel said (Err (Floating at)) = ⊥
+ReadsModel said (Err (WideHead have)) = said ≡ Err (spec.WideHead have)
+ReadsModel said (Err (WideResolution r)) = said ≡ Err (spec.WideResolution r)
+ReadsModel said (Err (WideRun index)) = said ≡ Err (spec.WideRun index)
+ReadsModel said (Err (WideShort have)) = said ≡ Err (spec.WideShort have)
+ReadsModel said (Err WideLong) = said ≡ Err spec.WideLong
 
 -- the answer is whether the model is legal, and if not why, unless there was no memory
 abbrev pub Judges : Matrix → Result (Unit {0}) ModelFault → Type 0

@@ -53,7 +53,7 @@ pub record IsTaken (old new : Matrix) (c : Coord) : Type 0 where
   pub after : is_full new c ≡ false
 
 -- what a part of the search does: it takes voxels out that are near, and each that it takes it has found
-pub record Takes (near : Coord → Type 0) (old new : Flood) : Type 0 where
+pub record TakesOut (near : Coord → Type 0) (old new : Flood) : Type 0 where
   pub resolution : new.remaining.resolution ≡ old.remaining.resolution
   pub fewer : (d : Coord) → is_full old.remaining d ≡ false → is_full new.remaining d ≡ false
   pub taken : (d : Coord) → IsTaken old.remaining new.remaining d → near d × HasFound new d

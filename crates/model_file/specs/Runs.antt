@@ -3,12 +3,12 @@ use Rattle.std.specs.Prelude.{ℕ, ◌++◌, Bool, List, Result, Ok, Err, flat_m
 use Rattle.nano_spec.specs.Matrix.{Matrix}
 use Rattle.nano_spec.specs.Model.{four_bytes, of_runs, run_lengths, runs_in, volume}
 use Rattle.model_file.specs.declared.fault.ModelFault.{ModelFault}
-use Rattle.model_file.specs.Fault.{Reads}
+use Rattle.model_file.specs.Fault.{ReadsModel}
 
 -- the matrix is that of the runs, or the answer says why they are none
 abbrev pub FillsRuns : ℕ → List ℕ → Matrix → Result (Unit {0}) ModelFault → Type 0
-FillsRuns r bytes m (Ok done) = Reads (of_runs r (runs_in (volume r) 0 0 bytes)) (Ok m)
-FillsRuns r bytes m (Err fault) = Reads (of_runs r (runs_in (volume r) 0 0 bytes)) (Err fault)
+FillsRuns r bytes m (Ok done) = ReadsModel (of_runs r (runs_in (volume r) 0 0 bytes)) (Ok m)
+FillsRuns r bytes m (Err fault) = ReadsModel (of_runs r (runs_in (volume r) 0 0 bytes)) (Err fault)
 
 -- bytes, and behind them the runs of voxels of which so many of one value were counted already
 abbrev pub with_runs : List ℕ → ℕ → Bool → List Bool → List ℕ

@@ -1,7 +1,7 @@
 //! Why bytes are no model, and why a model is not legal.
 ghost use Rattle.std.specs.Prelude.{◌≡◌};
 ghost use Rattle.model_file.specs.declared.fault.ModelFault.TheVariants.{Memory};
-ghost use Rattle.model_file.specs.Fault.{number_of};
+ghost use Rattle.model_file.specs.Fault.{model_fault_number};
 
 use vox_geom::{Coord, Memory};
 
@@ -37,7 +37,7 @@ pub enum ModelFault {
 impl ModelFault {
     /// The number by which the refusal is printed.
     pub fn number(self) -> u8
-        ensures { result ≡ number_of self }
+        ensures { result ≡ model_fault_number self }
     {
         match self {
             ModelFault::NoByte => 1,

@@ -1,7 +1,7 @@
 //! Model files in either form.
 ghost use Rattle.std.specs.Prelude.{◌≡◌, ◌<◌, IfOk};
 ghost use Rattle.nano_spec.specs.Model.{model, written};
-ghost use Rattle.model_file.specs.Fault.{Reads};
+ghost use Rattle.model_file.specs.Fault.{ReadsModel};
 
 use crate::WIDE_MARK;
 use crate::fault::ModelFault;
@@ -15,7 +15,7 @@ use vox_planes::Planes;
 
 /// The model that the bytes say, in either form.
 pub fn read_model(alloc: Global, bytes: &[u8]) -> Result<Planes, ModelFault>
-    ensures { Reads (model bytes.now) result }
+    ensures { ReadsModel (model bytes.now) result }
 {
     if bytes.is_empty() {
         return Err(ModelFault::NoByte);

@@ -2,7 +2,7 @@
 ghost use Rattle.std.specs.Prelude.{◌≡◌, ◌<◌, ◌≤◌, ◌+◌, ◌/◌, ◌%◌, ◌∷◌, ℕ, IfOk, length, map};
 ghost use Rattle.vox_geom.specs.Space.{numbers_below};
 ghost use Rattle.nano_spec.specs.Model.{byte_at, first_form, volume as volume_of, voxel_bit, wanted as wanted_of};
-ghost use Rattle.model_file.specs.Fault.{Reads};
+ghost use Rattle.model_file.specs.Fault.{ReadsModel};
 ghost use Rattle.model_file.specs.Words.{IsWordOf};
 ghost use Rattle.vox_planes.specs.Places.{voxel_at};
 ghost use Rattle.vox_planes.specs.Voxel.{IsWhole};
@@ -84,7 +84,7 @@ fn set_voxels(planes: &mut Planes, bytes: &[u8])
 
 /// The model that the bytes of this form say, whose first byte is the resolution.
 pub fn read_first(alloc: Global, r: u8, bytes: &[u8]) -> Result<Planes, ModelFault>
-    ensures { Reads (first_form r bytes.now) result }
+    ensures { ReadsModel (first_form r bytes.now) result }
 {
     if r == 0 || r > FIRST_FORM_MOST_R {
         return Err(ModelFault::Resolution { r });

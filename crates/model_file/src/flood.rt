@@ -5,7 +5,7 @@ ghost use Rattle.vox_geom.specs.Space.{IsInSpace};
 ghost use Rattle.nano_spec.specs.Grounded.{FirstUngrounded};
 ghost use Rattle.nano_spec.specs.Matrix.{Matrix, is_full};
 ghost use Rattle.model_file.specs.declared.flood.Flood.{Flood as FloodModel};
-ghost use Rattle.model_file.specs.Flood.{IsAmong, IsBeside, IsFlood, IsStart, Takes, weight};
+ghost use Rattle.model_file.specs.Flood.{IsAmong, IsBeside, IsFlood, IsStart, TakesOut, weight};
 
 use crate::least::least_full;
 use std::alloc::Global;
@@ -30,7 +30,7 @@ impl Flood {
     /// Takes those voxels of a stretch out that are there. None is there outside the matrix.
     fn take(&mut self, first: Coord, bits: u64) -> Result<(), Memory>
         requires { first.z % 64 ≡ 0 }
-        ensures takes { IfOk result (λ _. Takes (IsAmong (record { first = first; bits = bits })) self.old self.new) }
+        ensures takes { IfOk result (λ _. TakesOut (IsAmong (record { first = first; bits = bits })) self.old self.new) }
         ensures gone { IfOk result (λ _. (d : Coordinate) → IsAmong (record { first = first; bits = bits }) d → is_full self.new.remaining d ≡ false) }
     {
         let r = self.remaining.resolution();
@@ -52,7 +52,7 @@ impl Flood {
     fn take_around(&mut self, first: Coord, bits: u64) -> Result<(), Memory>
         requires start { IsStart MOST_R (record { first = first; bits = bits }) }
         requires most { self.old.remaining.resolution ≤ MOST_R }
-        ensures takes { IfOk result (λ _. Takes (IsBeside (record { first = first; bits = bits })) self.old self.new) }
+        ensures takes { IfOk result (λ _. TakesOut (IsBeside (record { first = first; bits = bits })) self.old self.new) }
         ensures gone { IfOk result (λ _. (d : Coordinate) → IsBeside (record { first = first; bits = bits }) d → is_full self.new.remaining d ≡ false) }
     {
         let Coord { x, y, z } = first;
@@ -118,7 +118,7 @@ impl Flood {
 
     /// Takes out the floor's voxels with this x.
     fn take_floor_row(&mut self, x: u16) -> Result<(), Memory>
-        ensures takes { IfOk result (λ _. Takes (λ d. d.y ≡ 0) self.old self.new) }
+        ensures takes { IfOk result (λ _. TakesOut (λ d. d.y ≡ 0) self.old self.new) }
         ensures gone { IfOk result (λ _. (d : Coordinate) → d.x ≡ x → d.y ≡ 0 → is_full self.new.remaining d ≡ false) }
     {
         let words = self.remaining.resolution().div_ceil(64);
@@ -130,7 +130,7 @@ impl Flood {
 
     /// Takes out the floor's voxels.
     fn take_floor(&mut self) -> Result<(), Memory>
-        ensures takes { IfOk result (λ _. Takes (λ d. d.y ≡ 0) self.old self.new) }
+        ensures takes { IfOk result (λ _. TakesOut (λ d. d.y ≡ 0) self.old self.new) }
         ensures gone { IfOk result (λ _. (d : Coordinate) → d.y ≡ 0 → is_full self.new.remaining d ≡ false) }
     {
         let r = self.remaining.resolution();

@@ -4,7 +4,7 @@ ghost use Rattle.nano_spec.specs.Matrix.{empty as empty_of};
 ghost use Rattle.nano_spec.specs.Model.{four_bytes, number_of_four, of_runs, run_lengths, runs_in, volume as volume_of, wide_form};
 ghost use Rattle.vox_planes.specs.Places.{is_from, voxel_at};
 ghost use Rattle.vox_planes.specs.Voxel.{IsWhole};
-ghost use Rattle.model_file.specs.Fault.{Reads};
+ghost use Rattle.model_file.specs.Fault.{ReadsModel};
 ghost use Rattle.model_file.specs.Runs.{FillsRuns, with_runs};
 
 use crate::WIDE_MARK;
@@ -78,7 +78,7 @@ fn fill_runs(planes: &mut Planes, bytes: &[u8]) -> Result<(), ModelFault>
 
 /// The model that the bytes of this form say behind the mark.
 pub fn read_wide(alloc: Global, bytes: &[u8]) -> Result<Planes, ModelFault>
-    ensures { Reads (wide_form bytes.now) result }
+    ensures { ReadsModel (wide_form bytes.now) result }
 {
     if bytes.len() < 2 {
         return Err(ModelFault::WideHead {

@@ -7,7 +7,7 @@ use Rattle.std.proofs.lemmas.Bool.Decides.{nat_tests}
 use Rattle.std.proofs.lemmas.List.{ext_get_or, get_or_past}
 use Rattle.vox_geom.specs.declared.coordinate.Coord.{Coord}
 use Rattle.vox_geom.specs.Space.{coordinate_at}
-use Rattle.nano_spec.specs.Forge.{forged, height, is_inner, line_of_tallest, tallest}
+use Rattle.nano_spec.specs.Forge.{forged, column_height, is_inner, line_of_tallest, tallest}
 use Rattle.nano_spec.specs.Matrix.{Matrix, empty, matrix_where}
 use Rattle.nano_spec.specs.Model.{volume}
 use Rattle.vox_planes.specs.Places.{voxel_at}
@@ -19,7 +19,7 @@ use Rattle.model_forge.proofs.InRow.{lower, no_lower}
 
 -- a coordinate that is not over the columns' places is void
 outside : (number r : ℕ) (tower : Tower) (c : Coord) → is_inner r c ≡ false → is_forged number r tower c ≡ false
-outside number r tower c e = ap (λ b. b && (nat_lt c.y (height number r c.x c.z) || (c.y + 1 == tower.height && (c.x % 2 == 0 || c.z == tower.z)))) e
+outside number r tower c e = ap (λ b. b && (nat_lt c.y (column_height number r c.x c.z) || (c.y + 1 == tower.height && (c.x % 2 == 0 || c.z == tower.z)))) e
 
 -- ---- before the first wall
 
@@ -75,9 +75,9 @@ tower_test number r tower eh ez = by tower.height refl
     by : (h : ℕ) → tower.height ≡ h → matrix_where r (is_forged number r tower) ≡ forged number r
     by zero e =
         let none : tallest number r ≡ 0 = sym eh ∙ e in
-        (λ i. matrix_where r (λ c. is_inner r c && (nat_lt c.y (height number r c.x c.z) || (no_top c.y tower.height e i && (c.x % 2 == 0 || c.z == tower.z)))))
-        ∙ sym (λ i. matrix_where r (λ c. is_inner r c && (nat_lt c.y (height number r c.x c.z) || (no_top c.y (tallest number r) none i && (c.x % 2 == 0 || c.z == line_of_tallest number r)))))
-    by (suc h) e = λ i. matrix_where r (λ c. is_inner r c && (nat_lt c.y (height number r c.x c.z) || (c.y + 1 == eh i && (c.x % 2 == 0 || c.z == ez (omega (arith, e)) i))))
+        (λ i. matrix_where r (λ c. is_inner r c && (nat_lt c.y (column_height number r c.x c.z) || (no_top c.y tower.height e i && (c.x % 2 == 0 || c.z == tower.z)))))
+        ∙ sym (λ i. matrix_where r (λ c. is_inner r c && (nat_lt c.y (column_height number r c.x c.z) || (no_top c.y (tallest number r) none i && (c.x % 2 == 0 || c.z == line_of_tallest number r)))))
+    by (suc h) e = λ i. matrix_where r (λ c. is_inner r c && (nat_lt c.y (column_height number r c.x c.z) || (c.y + 1 == eh i && (c.x % 2 == 0 || c.z == ez (omega (arith, e)) i))))
 
 module _ (number : ℕ) (tower : Tower) (r x : ℕ) (m : Matrix) (same_r : m.resolution ≡ r) (w : IsWhole m) (h : IsForged number tower m (row_place r x 0)) (last : r ≤ x + 1) where
   voxel : (p : ℕ) → p < r * r * r → voxel_at m p ≡ is_forged number r tower (coordinate_at r p)

@@ -5,7 +5,7 @@ use Rattle.std.proofs.lemmas.Bool.{cases_lt}
 use Rattle.std.proofs.lemmas.Bool.Decides.{nat_tests}
 use Rattle.vox_geom.specs.Space.{coordinate_at, place}
 use Rattle.vox_geom.proofs.Places.{coordinate_at-place}
-use Rattle.nano_spec.specs.Forge.{height, is_inner}
+use Rattle.nano_spec.specs.Forge.{column_height, is_inner}
 use Rattle.nano_spec.specs.Matrix.{Matrix}
 use Rattle.vox_planes.specs.Places.{is_from, voxel_at}
 use Rattle.model_forge.specs.declared.tower.Tower.{Tower}
@@ -62,7 +62,7 @@ module _ (number : ℕ) (tower : Tower) (r x y : ℕ) (x_low : 1 ≤ x) (x_high 
 
   -- whether the voxel is full, of a coordinate that is inside
   abbrev full_inside : ℕ → Bool
-  full_inside z = nat_lt y (height number r x z) || (y + 1 == tower.height && (x % 2 == 0 || z == tower.z))
+  full_inside z = nat_lt y (column_height number r x z) || (y + 1 == tower.height && (x % 2 == 0 || z == tower.z))
 
   inner_by : (z : ℕ) → 1 ≤ z → z + 1 < r → is_inner r (record { x = x; y = y; z = z }) ≡ true
   inner_by z l m = grind (arith, nat_tests)
@@ -114,8 +114,8 @@ module _ (number : ℕ) (tower : Tower) (r x y : ℕ) (x_low : 1 ≤ x) (x_high 
         let next : z - 1 + 1 ≡ z = omega arith in
         ap (λ b. (b && (y + 1 == tower.height && (x % 2 == 0 || row_place r x y + z + 1 == from + tower.z))) || cond b (nat_lt y (slice_index heights (row_place r x y + z - from))) (voxel_at old (row_place r x y + z))) one
         ∙ ((λ i. (y + 1 == tower.height && (x % 2 == 0 || line i)) || nat_lt y (slice_index heights (index i)))
-        ∙ (ap (λ h. (y + 1 == tower.height && (x % 2 == 0 || z == tower.z)) || nat_lt y h) (are.at (z - 1) (omega arith) ∙ ap (height number r x) next)
-        ∙ swapped (y + 1 == tower.height && (x % 2 == 0 || z == tower.z)) (nat_lt y (height number r x z))))
+        ∙ (ap (λ h. (y + 1 == tower.height && (x % 2 == 0 || z == tower.z)) || nat_lt y h) (are.at (z - 1) (omega arith) ∙ ap (column_height number r x) next)
+        ∙ swapped (y + 1 == tower.height && (x % 2 == 0 || z == tower.z)) (nat_lt y (column_height number r x z))))
 
     pub row_forged : old.resolution ≡ r → new.resolution ≡ r → ((p : ℕ) → voxel_at new p ≡ put_at p) → IsForged number tower old (row_place r x y) → IsForged number tower new (row_place r x (y + 1))
     row_forged eo en put h = record { voxels = λ p. put p ∙ (by p (cases_lt p (row_place r x y)) (cases_lt p (row_place r x (y + 1))) ∙ ap (λ s. nat_lt p (row_place r x (y + 1)) && is_forged number s tower (coordinate_at s p)) (sym en)) }

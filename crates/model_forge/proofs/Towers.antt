@@ -4,9 +4,9 @@ use Rattle.std.specs.Prelude.{Some, flat_map, find, max, nat_lt, option_map, unw
 use Rattle.std.proofs.lemmas.Bool.{cases_order}
 use Rattle.std.proofs.lemmas.Bool.Decides.{nat_tests}
 use Rattle.vox_geom.specs.Space.{numbers_from}
-use Rattle.nano_spec.specs.Forge.{Column, columns, greatest, height, line_of_tallest, tallest}
+use Rattle.nano_spec.specs.Forge.{Column, columns, greatest, column_height, line_of_tallest, tallest}
 use Rattle.model_forge.specs.declared.tower.Tower.{Tower}
-use Rattle.model_forge.specs.Tower.{columns_from, higher, highest, row_of}
+use Rattle.model_forge.specs.Tower.{columns_from, higher, highest, columns_of}
 
 -- before any column
 abbrev pub none : Tower
@@ -14,7 +14,7 @@ none = record { height = 0; z = 0 }
 
 -- the columns of so many x, from one on
 abbrev pub walls_from : ℕ → ℕ → ℕ → List Column
-walls_from r first count = flat_map (row_of r) (numbers_from first count)
+walls_from r first count = flat_map (columns_of r) (numbers_from first count)
 
 -- ---- one column after another
 
@@ -23,26 +23,26 @@ some_left a b l = omega arith
 
 pub highest-append : (number r : ℕ) (tower : Tower) (xs ys : List Column) → highest number r tower (xs ++ ys) ≡ highest number r (highest number r tower xs) ys
 highest-append number r tower [] ys = refl
-highest-append number r tower (k ∷ xs) ys = highest-append number r (higher tower (height number r k.x k.z) k.z) xs ys
+highest-append number r tower (k ∷ xs) ys = highest-append number r (higher tower (column_height number r k.x k.z) k.z) xs ys
 
 -- one more column of a wall
-pub column_more : (number r x z : ℕ) (tower new whole : Tower) → z < r - 1 → highest number r tower (columns_from x z (r - 1 - z)) ≡ whole → new ≡ higher tower (height number r x z) z → highest number r new (columns_from x (z + 1) (r - 1 - (z + 1))) ≡ whole
+pub column_more : (number r x z : ℕ) (tower new whole : Tower) → z < r - 1 → highest number r tower (columns_from x z (r - 1 - z)) ≡ whole → new ≡ higher tower (column_height number r x z) z → highest number r new (columns_from x (z + 1) (r - 1 - (z + 1))) ≡ whole
 column_more number r x z tower new whole l e en =
     ap (λ t. highest number r t (columns_from x (z + 1) (r - 1 - (z + 1)))) en
     ∙ (ap (λ n. highest number r tower (columns_from x z n)) (sym (some_left z (r - 1) l)) ∙ e)
 
 -- one more wall
-pub wall_more : (number r x : ℕ) (tower new whole : Tower) → x < r - 1 → highest number r tower (walls_from r x (r - 1 - x)) ≡ whole → new ≡ highest number r tower (row_of r x) → highest number r new (walls_from r (x + 1) (r - 1 - (x + 1))) ≡ whole
+pub wall_more : (number r x : ℕ) (tower new whole : Tower) → x < r - 1 → highest number r tower (walls_from r x (r - 1 - x)) ≡ whole → new ≡ highest number r tower (columns_of r x) → highest number r new (walls_from r (x + 1) (r - 1 - (x + 1))) ≡ whole
 wall_more number r x tower new whole l e en =
     ap (λ t. highest number r t (walls_from r (x + 1) (r - 1 - (x + 1)))) en
-    ∙ (sym (highest-append number r tower (row_of r x) (walls_from r (x + 1) (r - 1 - (x + 1))))
+    ∙ (sym (highest-append number r tower (columns_of r x) (walls_from r (x + 1) (r - 1 - (x + 1))))
     ∙ (ap (λ n. highest number r tower (walls_from r x n)) (sym (some_left x (r - 1) l)) ∙ e))
 
 -- ---- the tallest of all
 
 module _ (number r : ℕ) where
   abbrev of_column : Column → ℕ
-  of_column k = height number r k.x k.z
+  of_column k = column_height number r k.x k.z
 
   -- the line of the first column of a height
   abbrev line : ℕ → List Column → ℕ

@@ -2,18 +2,18 @@
 use Rattle.std.specs.Prelude.{◌≡◌, ℕ, ◌+◌, ◌*◌, ◌%◌, Bool, ◌&&◌, ◌||◌, ◌==◌, ◌<◌, nat_lt, List, slice_index}
 use Rattle.vox_geom.specs.declared.coordinate.Coord.{Coord}
 use Rattle.vox_geom.specs.Space.{coordinate_at}
-use Rattle.nano_spec.specs.Forge.{height, is_inner}
+use Rattle.nano_spec.specs.Forge.{column_height, is_inner}
 use Rattle.nano_spec.specs.Matrix.{Matrix}
 use Rattle.vox_planes.specs.Places.{voxel_at}
 use Rattle.model_forge.specs.declared.tower.Tower.{Tower}
 
 -- the heights of the columns of one x, from the column at z = 1 on
 pub record AreHeights (number r x : ℕ) (heights : List ℕ) : Type 0 where
-  pub at : (k : ℕ) → k + 2 < r → slice_index heights k ≡ height number r x (k + 1)
+  pub at : (k : ℕ) → k + 2 < r → slice_index heights k ≡ column_height number r x (k + 1)
 
 -- whether the voxel at a coordinate is full in the forged model with this tower
 abbrev pub is_forged : ℕ → ℕ → Tower → Coord → Bool
-is_forged number r tower c = is_inner r c && (nat_lt c.y (height number r c.x c.z) || (c.y + 1 == tower.height && (c.x % 2 == 0 || c.z == tower.z)))
+is_forged number r tower c = is_inner r c && (nat_lt c.y (column_height number r c.x c.z) || (c.y + 1 == tower.height && (c.x % 2 == 0 || c.z == tower.z)))
 
 -- the place of the first voxel of the row with this x and y
 abbrev pub row_place : ℕ → ℕ → ℕ → ℕ

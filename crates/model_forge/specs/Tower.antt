@@ -1,7 +1,7 @@
 -- The first of the tallest of columns that are looked at one after another.
 use Rattle.std.specs.Prelude.{ℕ, ◌+◌, ◌-◌, ◌<◌, ◌≤◌, cond, nat_lt, List, [], ◌∷◌, map}
 use Rattle.vox_geom.specs.Space.{numbers_from}
-use Rattle.nano_spec.specs.Forge.{Column, height}
+use Rattle.nano_spec.specs.Forge.{Column, column_height}
 use Rattle.model_forge.specs.declared.tower.Tower.{Tower}
 
 -- the tower, or a column that is higher
@@ -11,15 +11,15 @@ higher tower h z = cond (nat_lt tower.height h) (record { height = h; z = z }) t
 -- the tower, or the first of the tallest columns where that is higher
 abbrev pub highest : ℕ → ℕ → Tower → List Column → Tower
 highest number r tower [] = tower
-highest number r tower (k ∷ more) = highest number r (higher tower (height number r k.x k.z) k.z) more
+highest number r tower (k ∷ more) = highest number r (higher tower (column_height number r k.x k.z) k.z) more
 
 -- so many columns of one x, from one on
 abbrev pub columns_from : ℕ → ℕ → ℕ → List Column
 columns_from x first count = map (λ z. record { x = x; z = z }) (numbers_from first count)
 
 -- the columns of one x
-abbrev pub row_of : ℕ → ℕ → List Column
-row_of r x = columns_from x 1 (r - 2)
+abbrev pub columns_of : ℕ → ℕ → List Column
+columns_of r x = columns_from x 1 (r - 2)
 
 -- a tower of some height stands inside
 pub record IsInside (r : ℕ) (tower : Tower) : Type 0 where

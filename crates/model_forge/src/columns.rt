@@ -1,6 +1,6 @@
 //! The heights of columns.
 ghost use Rattle.std.specs.Prelude.{◌≡◌, ◌+◌, ◌-◌, ◌<◌, ◌≤◌, length};
-ghost use Rattle.nano_spec.specs.Forge.{height as height_of, mixed as mixed_of};
+ghost use Rattle.nano_spec.specs.Forge.{column_height as height_of, mixed as mixed_of};
 ghost use Rattle.model_forge.specs.Forging.{AreHeights};
 
 use vox_geom::MOST_R;

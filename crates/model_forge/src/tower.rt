@@ -1,7 +1,7 @@
 //! The first of the tallest columns.
 ghost use Rattle.std.specs.Prelude.{◌≡◌, ◌+◌, ◌<◌, ◌≤◌};
 ghost use Rattle.nano_spec.specs.Forge.{line_of_tallest, tallest};
-ghost use Rattle.model_forge.specs.Tower.{IsInside, highest, row_of};
+ghost use Rattle.model_forge.specs.Tower.{IsInside, highest, columns_of};
 
 use crate::columns::height;
 use vox_geom::MOST_R;
@@ -19,7 +19,7 @@ impl Tower {
         requires some { 2 ≤ r }
         requires most { r ≤ MOST_R }
         requires x { x < r }
-        ensures value { result ≡ highest number r self (row_of r x) }
+        ensures value { result ≡ highest number r self (columns_of r x) }
         ensures inside { IsInside r self → IsInside r result }
     {
         let mut tower = self;

@@ -4,11 +4,12 @@ use Rattle.std.specs.Fmt.{digits}
 use Rattle.std.specs.Prelude.{Some, None}
 use Rattle.nano_spec.specs.declared.commands.Command.TheVariants.{SMove, FusionP}
 use Rattle.nano_spec.specs.Legal.{Border, Floating}
-use Rattle.nano_spec.specs.Worked.{coord, diff, voxels_at}
+use Rattle.nano_spec.specs.Worked.{diff, voxels_at}
 use Rattle.nano_spec.specs.WorkedBytes.{WorkedSpellings, WorkedTraces, WorkedModels, WorkedTexts}
 use Rattle.nano_spec.proofs.Heads.{bad, cut}
 use Rattle.nano_spec.proofs.Levels.{before, afterwards}
 use Rattle.nano_spec.proofs.Simulation.{legality_is}
+use Rattle.vox_geom.specs.Point.{coord}
 
 pub worked_spellings : WorkedSpellings
 worked_spellings = record {

@@ -3,7 +3,7 @@ use Rattle.std.proofs.Common.{◌≡◌, ℕ, zero, suc, ◌<◌, refl, sym, ap,
 use Rattle.std.specs.Prelude.{Option, Some, None, IsTrue, IsFalse, Contains}
 use Rattle.nano_spec.specs.declared.commands.Command.{Command}
 use Rattle.nano_spec.specs.First.{HasOneAtMost}
-use Rattle.nano_spec.specs.Line.{Skipped, Says, Faulty, NotAscii, Range, IsLineOf, line_of, said, said_by, word_of, from_word, content, after_word, has_high_byte, is_skipped}
+use Rattle.nano_spec.specs.Line.{Skipped, Says, Faulty, NotAscii, Range, IsLineOf, line_of, said, said_by, word_of, from_word, line_content, after_word, has_high_byte, is_skipped}
 use Rattle.nano_spec.specs.LineForm.{Word, readings, form, has_range, command_of}
 use Rattle.nano_spec.proofs.Readings.{one_reading_of}
 
@@ -33,10 +33,10 @@ by_word (Some w) rest c h = said_is w rest (readings (form w) rest) c refl h
 pub says_is : (line : List ℕ) (c : Command) → line_of line ≡ Says c → IsLineOf line c
 says_is line c h = by (has_high_byte line) (is_skipped line) h
   where
-    by : (a b : Bool) → cond a (Faulty NotAscii) (cond b Skipped (said_by (word_of (from_word (content line))) (after_word (from_word (content line))))) ≡ Says c → Reads (word_of (from_word (content line))) (after_word (from_word (content line))) c
+    by : (a b : Bool) → cond a (Faulty NotAscii) (cond b Skipped (said_by (word_of (from_word (line_content line))) (after_word (from_word (line_content line))))) ≡ Says c → Reads (word_of (from_word (line_content line))) (after_word (from_word (line_content line))) c
     by true b g = cc
     by false true g = cc
-    by false false g = by_word (word_of (from_word (content line))) (after_word (from_word (content line))) c g
+    by false false g = by_word (word_of (from_word (line_content line))) (after_word (from_word (line_content line))) c g
 
 only : (xs : List (List ℤ)) (ns : List ℤ) → HasOneAtMost xs → Contains xs ns → xs ≡ ns ∷ []
 only [] ns h k = absurd (omega (arith, k.1))
@@ -50,5 +50,5 @@ only (x ∷ y ∷ xs) ns h k = absurd h
 -- an ASCII line of the form of a command, which is not skipped, says the command
 pub is_says : (line : List ℕ) (c : Command) → IsFalse (has_high_byte line) → IsFalse (is_skipped line) → IsLineOf line c → line_of line ≡ Says c
 is_says line c a b (word, ns, w, k, r, e) =
-    let one : readings (form word) (after_word (from_word (content line))) ≡ ns ∷ [] = only (readings (form word) (after_word (from_word (content line)))) ns (one_reading_of word (after_word (from_word (content line)))) k in
+    let one : readings (form word) (after_word (from_word (line_content line))) ≡ ns ∷ [] = only (readings (form word) (after_word (from_word (line_content line)))) ns (one_reading_of word (after_word (from_word (line_content line)))) k in
     rw (a, b, w, one, r) (ap Says (sym e))

@@ -3,9 +3,9 @@ use Rattle.std.proofs.Common.{refl}
 use Rattle.nano_spec.specs.declared.outcomes.Rule.TheVariants.{TraceEnds, OutOfSpace, Seeds}
 use Rattle.nano_spec.specs.State.{seed_numbers}
 use Rattle.nano_spec.specs.Work.{stops}
-use Rattle.nano_spec.specs.Worked.{coord}
 use Rattle.nano_spec.proofs.WorkDone.{work_of_a_ring}
 use Rattle.nano_spec.specs.WorkedOthers.{WorkedForge, WorkedOrders, WorkedWork}
+use Rattle.vox_geom.specs.Point.{coord}
 
 pub worked_forge : WorkedForge
 worked_forge = record {

@@ -15,7 +15,7 @@ use Rattle.nano_spec.specs.declared.commands.Command.TheVariants.{Halt, Wait, Fl
 use Rattle.nano_spec.specs.Command.{IsCommand}
 use Rattle.nano_spec.specs.Cutting.{AreCommands}
 use Rattle.nano_spec.specs.Printing.{print, printed, printed_difference, spaced}
-use Rattle.nano_spec.specs.Line.{word_of, from_word, after_word, Says, content, has_high_byte, line_of, without_return}
+use Rattle.nano_spec.specs.Line.{word_of, from_word, after_word, Says, line_content, has_high_byte, line_of, without_return}
 use Rattle.nano_spec.specs.LineForm.{Blanks, Mark, Number, Part, Read, Word, SMoveWord, LMoveWord, FusionPWord, FusionSWord, FissionWord, FillWord, VoidWord, GFillWord, GVoidWord, after_blanks, command_of, difference_parts, digits, form, has_range, is_blank, is_digit, negative, numbers, readings}
 use Rattle.nano_spec.specs.Reading.{read, read_lines, with_first, without_last_empty}
 use Rattle.nano_spec.proofs.Grounding.{left, right}
@@ -255,7 +255,7 @@ no_comment (b ∷ more) h =
     let count : cond (not (b == 35)) (1 + position_or_len (λ c. c == 35) more) 0 ≡ suc (position_or_len (λ c. c == 35) more) = rw (no_hash b (left (is_plain b) (list_all is_plain more) h)) (omega arith) in
     ap (λ n. take n (b ∷ more)) count ∙ ap (λ v. b ∷ v) later
 
-content_is : (line : List ℕ) → Plain line → content line ≡ line
+content_is : (line : List ℕ) → Plain line → line_content line ≡ line
 content_is line h = ap (before_first (λ b. b == 35)) (whole line h) ∙ no_comment line h
 
 -- ---- small differences

@@ -9,8 +9,8 @@ abbrev pub mixed : ℕ → ℕ → ℕ → ℕ
 mixed number x z = (number + 71 * x + 113 * z + 5 * x * x * z) % 1024
 
 -- the height of the column at x and z: a third of the columns are 1 to r - 1 high
-abbrev pub height : ℕ → ℕ → ℕ → ℕ → ℕ
-height number r x z = cond (mixed number x z % 3 == 0) (1 + mixed number x z % (r - 1)) 0
+abbrev pub column_height : ℕ → ℕ → ℕ → ℕ → ℕ
+column_height number r x z = cond (mixed number x z % 3 == 0) (1 + mixed number x z % (r - 1)) 0
 
 -- where a column can stand
 pub record Column : Type 0 where
@@ -32,11 +32,11 @@ greatest (n ∷ more) = max n (greatest more)
 
 -- the greatest height
 abbrev pub tallest : ℕ → ℕ → ℕ
-tallest number r = greatest (map (λ k. height number r k.x k.z) (columns r))
+tallest number r = greatest (map (λ k. column_height number r k.x k.z) (columns r))
 
 -- the z of the first column of the greatest height
 abbrev pub line_of_tallest : ℕ → ℕ → ℕ
-line_of_tallest number r = unwrap_or (option_map (λ (k : Column). k.z) (find (λ k. height number r k.x k.z == tallest number r) (columns r))) 0
+line_of_tallest number r = unwrap_or (option_map (λ (k : Column). k.z) (find (λ k. column_height number r k.x k.z == tallest number r) (columns r))) 0
 
 -- whether a coordinate is over the columns' places
 abbrev pub is_inner : ℕ → Coord → Bool
@@ -44,7 +44,7 @@ is_inner r c = nat_le 1 c.x && nat_lt (c.x + 1) r && nat_le 1 c.z && nat_lt (c.z
 
 -- the columns up to their heights, and on the layer of the greatest height t the lines of even x and the line z0, which join them
 abbrev pub forged_by : ℕ → ℕ → ℕ → ℕ → Matrix
-forged_by number r t z0 = matrix_where r (λ c. is_inner r c && (nat_lt c.y (height number r c.x c.z) || (c.y + 1 == t && (c.x % 2 == 0 || c.z == z0))))
+forged_by number r t z0 = matrix_where r (λ c. is_inner r c && (nat_lt c.y (column_height number r c.x c.z) || (c.y + 1 == t && (c.x % 2 == 0 || c.z == z0))))
 
 -- the model of a number and a resolution
 abbrev pub forged : ℕ → ℕ → Matrix

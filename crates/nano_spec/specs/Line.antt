@@ -25,8 +25,8 @@ without_return (b ∷ []) = cond (b == 13) [] (b ∷ [])
 without_return (b ∷ c ∷ more) = b ∷ without_return (c ∷ more)
 
 -- the line without a carriage return at its end and without its comment, which begins with #
-abbrev pub content : List ℕ → List ℕ
-content line = before_first (λ b. b == 35) (without_return line)
+abbrev pub line_content : List ℕ → List ℕ
+line_content line = before_first (λ b. b == 35) (without_return line)
 
 -- the line from its first byte on that is no blank
 abbrev pub from_word : List ℕ → List ℕ
@@ -56,16 +56,16 @@ has_high_byte line = list_any (nat_lt 127) line
 
 -- whether nothing is asked of a line but its bytes: it has blanks and a comment at most
 abbrev pub is_skipped : List ℕ → Bool
-is_skipped line = list_all is_blank (content line)
+is_skipped line = list_all is_blank (line_content line)
 
 -- the line is of the form of the command: the word is the command's, and the line can be read with its numbers
 abbrev pub IsLineOf : List ℕ → Command → Type 0
 IsLineOf line command =
-    (word : Word) × (ns : List ℤ) × (word_of (from_word (content line)) ≡ Some word) × Contains (readings (form word) (after_word (from_word (content line)))) ns × IsTrue (has_range word ns) × (command ≡ command_of word ns)
+    (word : Word) × (ns : List ℤ) × (word_of (from_word (line_content line)) ≡ Some word) × Contains (readings (form word) (after_word (from_word (line_content line)))) ns × IsTrue (has_range word ns) × (command ≡ command_of word ns)
 
 -- what a line says
 abbrev pub line_of : List ℕ → Line
 line_of line =
     cond (has_high_byte line) (Faulty NotAscii)
     (cond (is_skipped line) Skipped
-    (said_by (word_of (from_word (content line))) (after_word (from_word (content line)))))
+    (said_by (word_of (from_word (line_content line))) (after_word (from_word (line_content line)))))

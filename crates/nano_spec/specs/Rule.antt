@@ -4,22 +4,22 @@ use Rattle.nano_spec.specs.declared.outcomes.Rule.{Rule}
 use Rattle.nano_spec.specs.declared.outcomes.Rule.TheVariants.{TraceEnds, HaltAlone, HaltOrigin, HaltLow, OutOfSpace, Blocked, Seeds, InRegion, Partner, GroupShape, Interference, Ungrounded, AfterHalt, WrongResult, Forbidden}
 
 -- the number of a rule
-abbrev pub number_of : Rule → ℕ
-number_of TraceEnds = 1
-number_of HaltAlone = 2
-number_of HaltOrigin = 3
-number_of HaltLow = 4
-number_of OutOfSpace = 5
-number_of Blocked = 6
-number_of Seeds = 7
-number_of InRegion = 8
-number_of Partner = 9
-number_of GroupShape = 10
-number_of Interference = 11
-number_of Ungrounded = 12
-number_of AfterHalt = 13
-number_of WrongResult = 14
-number_of Forbidden = 15
+abbrev pub rule_number : Rule → ℕ
+rule_number TraceEnds = 1
+rule_number HaltAlone = 2
+rule_number HaltOrigin = 3
+rule_number HaltLow = 4
+rule_number OutOfSpace = 5
+rule_number Blocked = 6
+rule_number Seeds = 7
+rule_number InRegion = 8
+rule_number Partner = 9
+rule_number GroupShape = 10
+rule_number Interference = 11
+rule_number Ungrounded = 12
+rule_number AfterHalt = 13
+rule_number WrongResult = 14
+rule_number Forbidden = 15
 
 -- the name of a rule, as it is printed
 abbrev pub name_of : Rule → List ℕ

@@ -28,15 +28,15 @@ abbrev pub keeps_rules : State → List Act → Bool
 keeps_rules s group = list_all (λ a. is_active s a.bot && list_all (λ rule. is_none (fault s group a rule)) rules_of_bots) group
 
 -- the bots that are not of the group
-abbrev pub others : List Bot → List Act → List Bot
-others bots group = filter (λ b. not (list_any (λ a. a.bot.bid == b.bid) group)) bots
+abbrev pub bots_outside : List Bot → List Act → List Bot
+bots_outside bots group = filter (λ b. not (list_any (λ a. a.bot.bid == b.bid) group)) bots
 
 -- the state after the acts of one group
 abbrev pub after_group : State → List Act → State
 after_group s group = record {
   matrix = matrix_after s.matrix group;
   harmonics = harmonics_after s.harmonics group;
-  bots = in_rising_order (flat_map (λ a. successors group a a.command) group ++ others s.bots group);
+  bots = in_rising_order (flat_map (λ a. successors group a a.command) group ++ bots_outside s.bots group);
   energy = s.energy +ℤ groups_cost s.matrix group;
   profile = s.profile;
 }

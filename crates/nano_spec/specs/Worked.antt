@@ -107,13 +107,9 @@ AcceptsLight source target trace energy steps = Runs light_profile source target
 abbrev pub RefusesLight : List ℕ → List ℕ → List ℕ → Rule → ℕ → ℕ → Coord → Type 0
 RefusesLight source target trace rule step bid at = Runs light_profile source target trace (Refused (record { step = step; bid = bid; rule = rule; at = at }))
 
--- a coordinate by its components
-abbrev pub coord : ℕ → ℕ → ℕ → Coord
-coord x y z = record { x = x; y = y; z = z }
-
 -- a negative number
-abbrev pub minus : ℕ → ℤ
-minus n = neg_ℤ (pos n)
+abbrev pub below_zero : ℕ → ℤ
+below_zero n = neg_ℤ (pos n)
 
 -- a difference by its components
 abbrev pub diff : ℤ → ℤ → ℤ → Diff

@@ -11,9 +11,10 @@ use Rattle.nano_spec.specs.Serial.{serial}
 use Rattle.nano_spec.specs.State.{State}
 use Rattle.nano_spec.specs.Step.{after}
 use Rattle.nano_spec.specs.Work.{Work}
-use Rattle.nano_spec.specs.Worked.{coord, diff, hex, voxels_at, minus}
+use Rattle.nano_spec.specs.Worked.{diff, hex, voxels_at, below_zero}
 use Rattle.nano_spec.specs.WorkedBytes.{ring}
 use Rattle.nano_spec.specs.WorkedStep.{bot}
+use Rattle.vox_geom.specs.Point.{coord}
 
 -- forged models and their bytes
 pub record WorkedForge : Type 0 where
@@ -48,7 +49,7 @@ one_fills = Fill (diff (pos 1) (pos 0) (pos 1)) ∷ SMove (diff (pos 1) (pos 0) 
 
 -- both fill a line of two voxels
 abbrev pub both_fill : List Command
-both_fill = GFill (diff (pos 1) (pos 0) (pos 0)) (diff (pos 0) (pos 0) (pos 1)) ∷ GFill (diff (pos 1) (pos 0) (pos 0)) (diff (pos 0) (pos 0) (minus 1)) ∷ []
+both_fill = GFill (diff (pos 1) (pos 0) (pos 0)) (diff (pos 0) (pos 0) (pos 1)) ∷ GFill (diff (pos 1) (pos 0) (pos 0)) (diff (pos 0) (pos 0) (below_zero 1)) ∷ []
 
 -- groups that act one after another
 pub record WorkedOrders : Type 0 where
@@ -70,4 +71,4 @@ pub record WorkedWork : Type 0 where
   -- a ring on two posts, of which one is voided: two volatile coordinates, one voxel that changes, and four whose levels change; then the Halt's one volatile coordinate
   pub work_of_a_ring : Work (voxels_at 5 (coord 1 0 1 ∷ ring)) (Void (diff (pos 1) (pos 0) (pos 1)) ∷ Halt ∷ []) full_profile 8
   -- a command that leaves space has no volatile coordinate
-  pub work_of_a_command_out_of_space : Work (empty 3) (SMove (diff (minus 1) (pos 0) (pos 0)) ∷ []) full_profile 0
+  pub work_of_a_command_out_of_space : Work (empty 3) (SMove (diff (below_zero 1) (pos 0) (pos 0)) ∷ []) full_profile 0

@@ -1,6 +1,7 @@
 -- Worked examples of runs in which more than one rule is broken, or in which groups interfere.
 use Rattle.nano_spec.specs.declared.outcomes.Rule.TheVariants.{TraceEnds, HaltAlone, HaltOrigin, OutOfSpace, Blocked, Seeds, InRegion, Partner, Interference, AfterHalt}
-use Rattle.nano_spec.specs.Worked.{Refuses, coord, hex, empty_3, empty_4, empty_5, one_voxel, a_line}
+use Rattle.nano_spec.specs.Worked.{Refuses, hex, empty_3, empty_4, empty_5, one_voxel, a_line}
+use Rattle.vox_geom.specs.Point.{coord}
 
 -- where more than one rule is broken
 pub record OrderOfRules : Type 0 where

@@ -1,7 +1,8 @@
 -- Worked examples of runs: from the bytes of a source model, a target model and a trace to the verdict.
 use Rattle.std.specs.Prelude.{pos}
 use Rattle.nano_spec.specs.declared.outcomes.Rule.TheVariants.{TraceEnds, HaltAlone, HaltOrigin, HaltLow, OutOfSpace, Blocked, Seeds, Partner, GroupShape, Ungrounded, AfterHalt, WrongResult, Forbidden}
-use Rattle.nano_spec.specs.Worked.{Accepts, Refuses, AcceptsLight, RefusesLight, coord, hex, empty_1, empty_3, empty_4, empty_5, one_voxel, two_voxels, a_line, ring_on_a_post, ring_on_two_posts, ring_on_the_other_post}
+use Rattle.nano_spec.specs.Worked.{Accepts, Refuses, AcceptsLight, RefusesLight, hex, empty_1, empty_3, empty_4, empty_5, one_voxel, two_voxels, a_line, ring_on_a_post, ring_on_two_posts, ring_on_the_other_post}
+use Rattle.vox_geom.specs.Point.{coord}
 
 -- traces that are accepted, with their energy and their number of steps
 pub record AcceptedRuns : Type 0 where

@@ -10,7 +10,8 @@ use Rattle.nano_spec.specs.Next.{Next, Goes}
 use Rattle.nano_spec.specs.Profile.{full_profile}
 use Rattle.nano_spec.specs.State.{State}
 use Rattle.nano_spec.specs.Step.{after}
-use Rattle.nano_spec.specs.Worked.{coord, diff, minus}
+use Rattle.nano_spec.specs.Worked.{diff, below_zero}
+use Rattle.vox_geom.specs.Point.{coord}
 
 -- the block from (1,0,1) to (3,2,3), at resolution 5
 abbrev pub block : Matrix
@@ -27,10 +28,10 @@ eight_bots = bot 1 0 0 1 ∷ bot 2 4 0 1 ∷ bot 3 0 0 3 ∷ bot 4 4 0 3 ∷ bot
 -- each voids the whole block from its corner on
 abbrev pub eight_commands : List Command
 eight_commands =
-    GVoid (diff (pos 1) (pos 0) (pos 0)) (diff (pos 2) (pos 2) (pos 2)) ∷ GVoid (diff (minus 1) (pos 0) (pos 0)) (diff (minus 2) (pos 2) (pos 2))
-    ∷ GVoid (diff (pos 1) (pos 0) (pos 0)) (diff (pos 2) (pos 2) (minus 2)) ∷ GVoid (diff (minus 1) (pos 0) (pos 0)) (diff (minus 2) (pos 2) (minus 2))
-    ∷ GVoid (diff (pos 1) (pos 0) (pos 0)) (diff (pos 2) (minus 2) (pos 2)) ∷ GVoid (diff (minus 1) (pos 0) (pos 0)) (diff (minus 2) (minus 2) (pos 2))
-    ∷ GVoid (diff (pos 1) (pos 0) (pos 0)) (diff (pos 2) (minus 2) (minus 2)) ∷ GVoid (diff (minus 1) (pos 0) (pos 0)) (diff (minus 2) (minus 2) (minus 2)) ∷ []
+    GVoid (diff (pos 1) (pos 0) (pos 0)) (diff (pos 2) (pos 2) (pos 2)) ∷ GVoid (diff (below_zero 1) (pos 0) (pos 0)) (diff (below_zero 2) (pos 2) (pos 2))
+    ∷ GVoid (diff (pos 1) (pos 0) (pos 0)) (diff (pos 2) (pos 2) (below_zero 2)) ∷ GVoid (diff (below_zero 1) (pos 0) (pos 0)) (diff (below_zero 2) (pos 2) (below_zero 2))
+    ∷ GVoid (diff (pos 1) (pos 0) (pos 0)) (diff (pos 2) (below_zero 2) (pos 2)) ∷ GVoid (diff (below_zero 1) (pos 0) (pos 0)) (diff (below_zero 2) (below_zero 2) (pos 2))
+    ∷ GVoid (diff (pos 1) (pos 0) (pos 0)) (diff (pos 2) (below_zero 2) (below_zero 2)) ∷ GVoid (diff (below_zero 1) (pos 0) (pos 0)) (diff (below_zero 2) (below_zero 2) (below_zero 2)) ∷ []
 
 -- the state with these voxels and this energy, and the eight bots
 abbrev pub with_eight : Matrix → ℤ → State

@@ -1,6 +1,6 @@
 //! Rules, and what comes of a run.
 ghost use Rattle.std.specs.Prelude.{◌≡◌};
-ghost use Rattle.nano_spec.specs.Rule.{name_of, number_of};
+ghost use Rattle.nano_spec.specs.Rule.{name_of, rule_number};
 
 use vox_geom::Coord;
 
@@ -28,7 +28,7 @@ pub enum Rule {
 impl Rule {
     /// The number of the rule.
     pub fn number(self) -> u8
-        ensures { result ≡ number_of self }
+        ensures { result ≡ rule_number self }
     {
         match self {
             Rule::TraceEnds => 1,

@@ -16,7 +16,7 @@ use Rattle.nano_spec.specs.Verdict.{VerdictOf}
 use Rattle.group_planner.specs.Phases.{most_bytes}
 use Rattle.group_planner.specs.Rows.{rows, runs}
 use Rattle.low_planner.specs.Supported.{FirstUnsupported}
-use Rattle.step_debugger.specs.Session.{Line}
+use Rattle.step_debugger.specs.Session.{DebugLine}
 use Rattle.debug_script.specs.Script.{ScriptSays}
 use Rattle.debug_script.specs.Sessions.{PrintsFrom}
 use Rattle.vox_depot.specs.Files.{Files, content}
@@ -27,8 +27,8 @@ use Rattle.nanobot_rows.specs.declared.status.Status.{Status}
 use Rattle.nanobot_rows.specs.declared.status.Status.TheVariants as is
 use Rattle.nanobot_rows.specs.Answer.{Answer, AnswerOf, AnswerOfRun, AskNoPlan, Judged, OfBytes, OfDecoding, OfGroupPlan, OfLines, OfLowPlan, OfPlan, OfReading, OfRun, OfScript, OfSession, OfText, OfTrace, Reply, WhereSupported, WithBoth, WithFile, WithModel, WithModels, WithSide, dis_limit, group_limit, run_limit, script_limit, text_limit}
 use Rattle.nanobot_rows.specs.Planners.{IsGroupPlan, IsLayerPlan, IsLowPlan, IsSwarmPlan, IsVoidPlan, PlanFacts}
-use Rattle.nanobot_app.specs.Outcome.{DepotRose, IsAnswer, LacksFile, Outcome, Outside, SinkRose}
-use Rattle.nanobot_rows.specs.Reading.{gone, reply_of}
+use Rattle.nanobot_app.specs.Outcome.{DepotRose, IsAnswer, LacksFile, CallOutcome, Outside, SinkRose}
+use Rattle.nanobot_rows.specs.Reading.{no_such_file, reply_of}
 use Rattle.nanobot_rows.specs.Report.{faulty_text, not_legal, no_model, of_verdict}
 use Rattle.nanobot_words.specs.Rows.{Row, asm, check, debug, dis, exercise, light, make, plan_group, plan_layer, plan_low, plan_swarm, plan_void, run, IsRow, MakesPlans}
 use Rattle.nanobot_rows.proofs.Told.{if_some}
@@ -51,10 +51,10 @@ abbrev pub RowLaw : Type 0
 RowLaw = (words : List (List ℕ)) (row row' : Row) → IsRow words row → IsRow words row' → row ≡ row'
 
 abbrev ScriptLaw : Type 0
-ScriptLaw = (r : ℕ) (bytes : List ℕ) (a b : Result (List Line) FaultyLine) → ScriptSays r bytes a → ScriptSays r bytes b → a ≡ b
+ScriptLaw = (r : ℕ) (bytes : List ℕ) (a b : Result (List DebugLine) FaultyLine) → ScriptSays r bytes a → ScriptSays r bytes b → a ≡ b
 
 abbrev TextLaw : Type 0
-TextLaw = (source : Matrix) (profile : Profile) (commands : List Command) (script : List Line) (a b : List ℕ) → PrintsFrom source profile commands script a → PrintsFrom source profile commands script b → a ≡ b
+TextLaw = (source : Matrix) (profile : Profile) (commands : List Command) (script : List DebugLine) (a b : List ℕ) → PrintsFrom source profile commands script a → PrintsFrom source profile commands script b → a ≡ b
 
 -- what the definitions determine
 pub record Laws : Type 0 where
@@ -77,8 +77,8 @@ module _ {A : Type 0} (part : Reply → A) (laws : Laws) where
     file_once : (name : List ℕ) (p : List ℕ → Reply → Type 0) → ((bytes : List ℕ) → Once (p bytes)) → Once (WithFile files name p)
     file_once name p f = by (content files name)
       where
-        by : (o : Option (List ℕ)) → Once (λ r. MatchOption o (r ≡ gone files) (λ bytes. p bytes r))
-        by None = same_reply (gone files)
+        by : (o : Option (List ℕ)) → Once (λ r. MatchOption o (r ≡ no_such_file files) (λ bytes. p bytes r))
+        by None = same_reply (no_such_file files)
         by (Some bytes) = f bytes
 
     judged_once : (w : Who) (a : Option NotLegal) (p : Reply → Type 0) → Once p → Once (Judged w files a p)
@@ -135,25 +135,25 @@ module _ {A : Type 0} (part : Reply → A) (laws : Laws) where
         choice_once (nat_lt text_limit (length bytes)) (λ r. r ≡ reply_of files (report.TextLong text_limit)) (OfReading files (read bytes) p)
         (same_reply (reply_of files (report.TextLong text_limit))) (reading_once (read bytes) p f)
 
-    lines_once : (said : Result (List Line) FaultyLine) (p : List Line → Reply → Type 0) → ((lines : List Line) → Once (p lines)) → Once (OfLines files said p)
+    lines_once : (said : Result (List DebugLine) FaultyLine) (p : List DebugLine → Reply → Type 0) → ((lines : List DebugLine) → Once (p lines)) → Once (OfLines files said p)
     lines_once (Ok lines) p f = f lines
     lines_once (Err faulty) p f = same_reply (reply_of files (faulty_text faulty))
 
-    said_once : (r : ℕ) (bytes : List ℕ) (p : List Line → Reply → Type 0) → ((lines : List Line) → Once (p lines)) → Once (λ x. (said : Result (List Line) FaultyLine) × ScriptSays r bytes said × OfLines files said p x)
+    said_once : (r : ℕ) (bytes : List ℕ) (p : List DebugLine → Reply → Type 0) → ((lines : List DebugLine) → Once (p lines)) → Once (λ x. (said : Result (List DebugLine) FaultyLine) × ScriptSays r bytes said × OfLines files said p x)
     said_once r bytes p f x y h k =
         let same = laws.scripts r bytes h.0 k.0 h.1 k.1 in
-        lines_once k.0 p f x y (subst (λ (said : Result (List Line) FaultyLine). OfLines files said p x) same h.2) k.2
+        lines_once k.0 p f x y (subst (λ (said : Result (List DebugLine) FaultyLine). OfLines files said p x) same h.2) k.2
 
-    script_once : (r : ℕ) (bytes : List ℕ) (p : List Line → Reply → Type 0) → ((lines : List Line) → Once (p lines)) → Once (OfScript r files bytes p)
+    script_once : (r : ℕ) (bytes : List ℕ) (p : List DebugLine → Reply → Type 0) → ((lines : List DebugLine) → Once (p lines)) → Once (OfScript r files bytes p)
     script_once r bytes p f =
-        choice_once (nat_lt script_limit (length bytes)) (λ x. x ≡ reply_of files (report.TextLong script_limit)) (λ x. (said : Result (List Line) FaultyLine) × ScriptSays r bytes said × OfLines files said p x)
+        choice_once (nat_lt script_limit (length bytes)) (λ x. x ≡ reply_of files (report.TextLong script_limit)) (λ x. (said : Result (List DebugLine) FaultyLine) × ScriptSays r bytes said × OfLines files said p x)
         (same_reply (reply_of files (report.TextLong script_limit))) (said_once r bytes p f)
 
     -- the reply of a session
     abbrev done_with : List ℕ → Reply
     done_with text = record { status = is.Done; line = text; after = files }
 
-    session_once : (source : Matrix) (commands : List Command) (script : List Line) → Once (OfSession files source commands script)
+    session_once : (source : Matrix) (commands : List Command) (script : List DebugLine) → Once (OfSession files source commands script)
     session_once source commands script x y h k = ap part (h.2 ∙ (ap done_with (laws.sessions source full_profile commands script h.0 k.0 h.1 k.1) ∙ sym k.2))
 
     models_once : (source target : Option (List ℕ)) (p : Matrix → Matrix → Reply → Type 0) → ((s t : Matrix) → Once (p s t)) → Once (WithModels files source target p)
@@ -221,16 +221,16 @@ StatusLaw = (words : List (List ℕ)) (files : Files) (r s : Reply) → Answer w
 abbrev pub AnswerLaw : Type 0
 AnswerLaw = (words : List (List ℕ)) (files : Files) (r s : Reply) → AskNoPlan words → Answer words files r → Answer words files s → r ≡ s
 
-pub complete : {stores : List ℕ → Type 0} (law : StatusLaw) (words : List (List ℕ)) (old new : Outside) (result : Status) → Outcome (Answer words) stores old new result
+pub complete : {stores : List ℕ → Type 0} (law : StatusLaw) (words : List (List ℕ)) (old new : Outside) (result : Status) → CallOutcome (Answer words) stores old new result
     → (DepotRose old new → ⊥) → (SinkRose old new → ⊥) → IfSome old.files (λ files. (reply : Reply) → Answer words files reply → (result ≡ reply.status) ⊎ (result ≡ is.Memory))
 complete {stores} law words old new result o no_depot no_sink = if_some old.files (λ files told reply a. by files told reply a result o)
   where
-    answered : (files : Files) → old.files ≡ Some files → (reply : Reply) → Answer words files reply → (s : Status) → IsAnswer s → Outcome (Answer words) stores old new s → s ≡ reply.status
+    answered : (files : Files) → old.files ≡ Some files → (reply : Reply) → Answer words files reply → (s : Status) → IsAnswer s → CallOutcome (Answer words) stores old new s → s ≡ reply.status
     answered files told reply a s is_answer o =
         let stands = subst (λ t. IfSome t (λ files. (reply : Reply) × Answer words files reply × (new.files ≡ Some reply.after) × ((reply.status ≡ s) × (new.written ≡ append_known old.written reply.line)))) told (o.answer is_answer) in
         sym stands.3.0 ∙ law words files stands.0 reply stands.1 a
 
-    by : (files : Files) → old.files ≡ Some files → (reply : Reply) → Answer words files reply → (s : Status) → Outcome (Answer words) stores old new s → (s ≡ reply.status) ⊎ (s ≡ is.Memory)
+    by : (files : Files) → old.files ≡ Some files → (reply : Reply) → Answer words files reply → (s : Status) → CallOutcome (Answer words) stores old new s → (s ≡ reply.status) ⊎ (s ≡ is.Memory)
     by files told reply a is.Depot o = inl (cause (o.depot refl))
       where
         cause : DepotRose old new ⊎ LacksFile (Answer words) old → is.Depot ≡ reply.status

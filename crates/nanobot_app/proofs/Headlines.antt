@@ -20,9 +20,9 @@ use Rattle.nanobot_rows.specs.declared.report.Who.TheVariants as who
 use Rattle.nanobot_rows.specs.declared.status.Status.{Status}
 use Rattle.nanobot_rows.specs.declared.status.Status.TheVariants as is
 use Rattle.nanobot_rows.specs.Answer.{Answer, AnswerOf, AskNoPlan, Judged, OfBytes, OfDecoding, OfRun, OfTrace, Reply, WithBoth, WithFile, WithModel, WithModels, WithSide, run_limit}
-use Rattle.nanobot_app.specs.Headline.{IsDoneWith, Takes, TakesBytes}
-use Rattle.nanobot_app.specs.Outcome.{DepotRose, IsAnswer, Outcome, Outside, SinkRose}
-use Rattle.nanobot_rows.specs.Reading.{AreBoth, AreModels, IsModelOf, IsSide, gone, reply_of}
+use Rattle.nanobot_app.specs.Headline.{IsDoneWith, MachineTakes, TakesBytes}
+use Rattle.nanobot_app.specs.Outcome.{DepotRose, IsAnswer, CallOutcome, Outside, SinkRose}
+use Rattle.nanobot_rows.specs.Reading.{AreBoth, AreModels, IsModelOf, IsSide, no_such_file, reply_of}
 use Rattle.nanobot_rows.specs.Report.{no_model, not_legal, of_verdict, status_of}
 use Rattle.nanobot_words.specs.Rows.{Row, run, MakesPlans, IsRow}
 use Rattle.nanobot_rows.proofs.Loads.{not_longer}
@@ -42,11 +42,11 @@ taken files source target trace energy steps h = by (content files trace) h
         (sym (not_longer run_limit (length bytes) t.0))
         (Ok t.1.0, t.1.1, (verdict.Accepted energy steps, t.1.2, refl))
 
-    by : (o : Option (List ℕ)) → IsSomeAnd o (λ bytes. TakesBytes source target bytes energy steps) → MatchOption o (reply_of files (report.Accepted energy steps) ≡ gone files) (λ bytes. OfTrace run_limit files bytes (OfRun full_profile files source target) (reply_of files (report.Accepted energy steps)))
+    by : (o : Option (List ℕ)) → IsSomeAnd o (λ bytes. TakesBytes source target bytes energy steps) → MatchOption o (reply_of files (report.Accepted energy steps) ≡ no_such_file files) (λ bytes. OfTrace run_limit files bytes (OfRun full_profile files source target) (reply_of files (report.Accepted energy steps)))
     by None h = absurd h
     by (Some bytes) h = of_bytes bytes h
 
-pub answers_taken : (files : Files) (source target : Option (List ℕ)) (trace : List ℕ) (energy : ℤ) (steps : ℕ) → Takes files source target trace energy steps → AnswerOf (run source target trace) files (reply_of files (report.Accepted energy steps))
+pub answers_taken : (files : Files) (source target : Option (List ℕ)) (trace : List ℕ) (energy : ℤ) (steps : ℕ) → MachineTakes files source target trace energy steps → AnswerOf (run source target trace) files (reply_of files (report.Accepted energy steps))
 answers_taken files source target trace energy steps t =
     models_given files source target _ t.from t.to _ t.models (taken files t.from t.to trace energy steps t.taken)
 
@@ -56,7 +56,7 @@ answers_taken files source target trace energy steps t =
 other : (files : Files) (r : Report) (reply : Reply) → reply ≡ reply_of files r → reply.status ≡ is.Done → status_of r ≡ is.Done
 other files r reply e f = sym (ap (λ (x : Reply). x.status) e) ∙ f
 
-not_gone : (files : Files) (reply : Reply) → reply ≡ gone files → reply.status ≡ is.Done → ⊥
+not_gone : (files : Files) (reply : Reply) → reply ≡ no_such_file files → reply.status ≡ is.Done → ⊥
 not_gone files reply e f = let no : is.Depot ≡ is.Done = sym (ap (λ (x : Reply). x.status) e) ∙ f in cc
 
 done_model : (w : Who) (files : Files) (name : List ℕ) (p : Matrix → Reply → Type 0) (reply : Reply) → reply.status ≡ is.Done → WithModel w files name p reply → (m : Matrix) × IsModelOf files name m × p m reply
@@ -70,7 +70,7 @@ done_model w files name p reply done h = by (content files name) h
     of_bytes bytes (Err why) e h = absurd (let no = other files (report.Model w (no_model why)) reply h done in cc)
     of_bytes bytes (Ok m) e h = of_legality bytes m h.0 e h.1 h.2
 
-    by : (o : Option (List ℕ)) → MatchOption o (reply ≡ gone files) (λ bytes. OfBytes w files (model bytes) p reply) → (m : Matrix) × IsSomeAnd o (λ bytes. (model bytes ≡ Ok m) × Legality m None) × p m reply
+    by : (o : Option (List ℕ)) → MatchOption o (reply ≡ no_such_file files) (λ bytes. OfBytes w files (model bytes) p reply) → (m : Matrix) × IsSomeAnd o (λ bytes. (model bytes ≡ Ok m) × Legality m None) × p m reply
     by None h = absurd (not_gone files reply h done)
     by (Some bytes) h = of_bytes bytes (model bytes) refl h
 
@@ -128,13 +128,13 @@ module _ (files : Files) (source target : Matrix) (reply : Reply) (done : reply.
       of_bytes bytes true e h = absurd (let no = other files (report.TraceLong run_limit) reply h done in cc)
       of_bytes bytes false e h = done_decoding bytes h.0 (longer_not run_limit (length bytes) e) h.1 h.2
 
-      by : (o : Option (List ℕ)) → MatchOption o (reply ≡ gone files) (λ bytes. OfTrace run_limit files bytes (OfRun full_profile files source target) reply)
+      by : (o : Option (List ℕ)) → MatchOption o (reply ≡ no_such_file files) (λ bytes. OfTrace run_limit files bytes (OfRun full_profile files source target) reply)
           → (energy : ℤ) × (steps : ℕ) × IsSomeAnd o (λ bytes. TakesBytes source target bytes energy steps) × (reply ≡ reply_of files (report.Accepted energy steps))
       by None h = absurd (not_gone files reply h done)
       by (Some bytes) h = let f = of_bytes bytes (nat_lt run_limit (length bytes)) refl h in (f.0, f.1, f.2, f.3)
 
 takes_done : (files : Files) (source target : Option (List ℕ)) (trace : List ℕ) (reply : Reply) → reply.status ≡ is.Done → AnswerOf (run source target trace) files reply
-    → (energy : ℤ) × (steps : ℕ) × Takes files source target trace energy steps × (reply ≡ reply_of files (report.Accepted energy steps))
+    → (energy : ℤ) × (steps : ℕ) × MachineTakes files source target trace energy steps × (reply ≡ reply_of files (report.Accepted energy steps))
 takes_done files source target trace reply done h =
     let m = done_models files source target _ reply done h in
     let t = done_trace files m.0 m.1 reply done trace m.3 in
@@ -151,11 +151,11 @@ run_is_no_plan one words source target trace is row other plan = subst MakesPlan
 
 -- ---- both halves of the headline
 
-module _ {stores : List ℕ → Type 0} (one : RowLaw) (statuses : StatusLaw) (law : AnswerLaw) (words : List (List ℕ)) (old new : Outside) (result : Status) (o : Outcome (Answer words) stores old new result) (source target : Option (List ℕ)) (trace : List ℕ) (is_row : IsRow words (run source target trace)) where
+module _ {stores : List ℕ → Type 0} (one : RowLaw) (statuses : StatusLaw) (law : AnswerLaw) (words : List (List ℕ)) (old new : Outside) (result : Status) (o : CallOutcome (Answer words) stores old new result) (source target : Option (List ℕ)) (trace : List ℕ) (is_row : IsRow words (run source target trace)) where
   stood : (files : Files) → old.files ≡ Some files → IsAnswer result → (reply : Reply) × Answer words files reply × (new.files ≡ Some reply.after) × ((reply.status ≡ result) × (new.written ≡ append_known old.written reply.line))
   stood files told a = subst (λ t. IfSome t (λ files. (reply : Reply) × Answer words files reply × (new.files ≡ Some reply.after) × ((reply.status ≡ result) × (new.written ≡ append_known old.written reply.line)))) told (o.answer a)
 
-  pub headline_where : (DepotRose old new → ⊥) → (SinkRose old new → ⊥) → (result ≡ is.Memory → ⊥) → IfSome old.files (λ files. (energy : ℤ) (steps : ℕ) → Takes files source target trace energy steps → IsDoneWith result old.written new.written energy steps)
+  pub headline_where : (DepotRose old new → ⊥) → (SinkRose old new → ⊥) → (result ≡ is.Memory → ⊥) → IfSome old.files (λ files. (energy : ℤ) (steps : ℕ) → MachineTakes files source target trace energy steps → IsDoneWith result old.written new.written energy steps)
   headline_where no_depot no_sink no_memory = if_some old.files (λ files told energy steps takes.
       let reply = reply_of files (report.Accepted energy steps) in
       let answer : Answer words files reply = inr (run source target trace, is_row, answers_taken files source target trace energy steps takes) in
@@ -170,7 +170,7 @@ module _ {stores : List ℕ → Type 0} (one : RowLaw) (statuses : StatusLaw) (l
           let same = law words files s.0 (reply_of files (report.Accepted energy steps)) (run_is_no_plan one words source target trace is_row) s.1 answer in
           (done, s.3.1 ∙ ap (λ (r : Reply). append_known old.written r.line) same)
 
-  pub headline_only : result ≡ is.Done → IfSome old.files (λ files. (energy : ℤ) × (steps : ℕ) × Takes files source target trace energy steps × IsDoneWith result old.written new.written energy steps)
+  pub headline_only : result ≡ is.Done → IfSome old.files (λ files. (energy : ℤ) × (steps : ℕ) × MachineTakes files source target trace energy steps × IsDoneWith result old.written new.written energy steps)
   headline_only done = if_some old.files (λ files told.
       let s = stood files told (subst IsAnswer (sym done) tt) in
       let t = takes_done files source target trace s.0 (s.3.0 ∙ done) (of_the_row one words (run source target trace) files s.0 is_row s.1) in

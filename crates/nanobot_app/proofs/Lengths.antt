@@ -28,7 +28,7 @@ use Rattle.plan_tape.specs.Reaches.{Reaches, starts, steps_on}
 use Rattle.low_planner.specs.Commands.{IsPlain}
 use Rattle.void_planner.specs.Few.{HasAtMost, is_fission}
 use Rattle.swarm_planner.specs.Strips.{width}
-use Rattle.void_planner.specs.Phases.{most_steps}
+use Rattle.void_planner.specs.Phases.{most_void_steps}
 use Rattle.void_planner.specs.Tiles.{tiles_of}
 use Rattle.void_planner.proofs.Counts.{few_at_most}
 use Rattle.nanobot_rows.specs.Answer.{run_limit}
@@ -162,7 +162,7 @@ alone source profile commands h = few_at_most source profile commands 1 (let e =
 
 -- ---- within the limit of a run
 
-pub void_fits : (r steps commands size : ℕ) → r ≤ 400 → steps ≤ most_steps r → commands ≤ 4 * steps → size ≤ 4 * commands → size ≤ run_limit
+pub void_fits : (r steps commands size : ℕ) → r ≤ 400 → steps ≤ most_void_steps r → commands ≤ 4 * steps → size ≤ 4 * commands → size ≤ run_limit
 void_fits r steps commands size most few a b =
     let side : tiles_of r ≤ 13 = few_tiles r most in
     let square : tiles_of r * tiles_of r ≤ 13 * 13 = mul-le-mul side side in

@@ -12,10 +12,10 @@ use Rattle.nanobot_rows.specs.declared.report.Report.TheVariants as report
 use Rattle.nanobot_rows.specs.declared.status.Status.{Status}
 use Rattle.nanobot_rows.specs.declared.status.Status.TheVariants as is
 use Rattle.nanobot_rows.specs.Answer.{Answer, AnswerOf, Answers, with_file}
-use Rattle.nanobot_rows.specs.Effects.{IsFor, IsLost, bytes_by, files_with, reply_by, status_by, told_with}
-use Rattle.nanobot_app.specs.Outcome.{DepotRose, Finished, IsAnswer, LacksFile, Outcome, Outside, Printed, RowStores, SinkRose, SparesOthers, StoredBy, Told}
+use Rattle.nanobot_rows.specs.Effects.{IsFor, IsUnstored, bytes_by, files_with, reply_by, status_by, told_with}
+use Rattle.nanobot_app.specs.Outcome.{DepotRose, Finished, IsAnswer, LacksFile, CallOutcome, Outside, Printed, RowStores, SinkRose, SparesOthers, StoredBy, Told}
 use Rattle.nanobot_rows.specs.Reading.{reply_of}
-use Rattle.nanobot_rows.specs.Report.{line_of, status_of}
+use Rattle.nanobot_rows.specs.Report.{report_line, status_of}
 use Rattle.nanobot_words.specs.Rows.{IsRow, Row}
 use Rattle.nanobot_rows.proofs.Replies.{rose_since}
 use Rattle.nanobot_rows.proofs.Told.{weaker}
@@ -55,10 +55,10 @@ module _ {answers : Answers} {stores : List ℕ → Type 0} (old new : Outside) 
   -- a line is printed, and the files stand as the answer says
   pub outcome_printed : (status result : Status) (line : List ℕ) → IsAnswer status
       → IfSome old.files (λ files. (after : Files) × answers files (record { status = status; line = line; after = after }) × (new.files ≡ Some after))
-      → Printed status line old.written new.written old.sink_faults new.sink_faults result → Outcome answers stores old new result
+      → Printed status line old.written new.written old.sink_faults new.sink_faults result → CallOutcome answers stores old new result
   outcome_printed status result line a stands printed = by printed.cases
     where
-      by : ((result ≡ status) × (new.written ≡ append_known old.written line)) ⊎ ((result ≡ is.Sink) × SinkRose old new × ((n : ℕ) × (new.written ≡ append_known old.written (take n line)))) → Outcome answers stores old new result
+      by : ((result ≡ status) × (new.written ≡ append_known old.written line)) ⊎ ((result ≡ is.Sink) × SinkRose old new × ((n : ℕ) × (new.written ≡ append_known old.written (take n line)))) → CallOutcome answers stores old new result
       by (inl done) =
           let b : IsAnswer result = subst IsAnswer (sym done.0) a in
           record {
@@ -78,7 +78,7 @@ module _ {answers : Answers} {stores : List ℕ → Type 0} (old new : Outside) 
         after_memory = λ e. let no : is.Sink ≡ is.Memory = sym part.0 ∙ e in absurd (cc);
       }
 
-  pub outcome_memory : (result : Status) → result ≡ is.Memory → new.files ≡ old.files → new.written ≡ old.written → Outcome answers stores old new result
+  pub outcome_memory : (result : Status) → result ≡ is.Memory → new.files ≡ old.files → new.written ≡ old.written → CallOutcome answers stores old new result
   outcome_memory result e files written = record {
     answer = λ b. absurd (not_memory result b e);
     depot = λ f. let no : is.Memory ≡ is.Depot = sym e ∙ f in absurd (cc);
@@ -89,22 +89,22 @@ module _ {answers : Answers} {stores : List ℕ → Type 0} (old new : Outside) 
   }
 
   -- a report is told, and no file is stored
-  pub outcome_told : (r : Report) (result : Status) → IfSome old.files (λ files. answers files (reply_of files r)) → new.files ≡ old.files → Told r old.written new.written old.sink_faults new.sink_faults result → Outcome answers stores old new result
+  pub outcome_told : (r : Report) (result : Status) → IfSome old.files (λ files. answers files (reply_of files r)) → new.files ≡ old.files → Told r old.written new.written old.sink_faults new.sink_faults result → CallOutcome answers stores old new result
   outcome_told r result answer files told = by told.cases
     where
-      stands : IfSome old.files (λ files. (after : Files) × answers files (record { status = status_of r; line = line_of r; after = after }) × (new.files ≡ Some after))
-      stands = subst (λ o. IfSome old.files (λ fs. (after : Files) × answers fs (record { status = status_of r; line = line_of r; after = after }) × (o ≡ Some after))) (sym files) (same old.files answer)
+      stands : IfSome old.files (λ files. (after : Files) × answers files (record { status = status_of r; line = report_line r; after = after }) × (new.files ≡ Some after))
+      stands = subst (λ o. IfSome old.files (λ fs. (after : Files) × answers fs (record { status = status_of r; line = report_line r; after = after }) × (o ≡ Some after))) (sym files) (same old.files answer)
         where
-          same : (o : Option Files) → IfSome o (λ fs. answers fs (reply_of fs r)) → IfSome o (λ fs. (after : Files) × answers fs (record { status = status_of r; line = line_of r; after = after }) × (o ≡ Some after))
+          same : (o : Option Files) → IfSome o (λ fs. answers fs (reply_of fs r)) → IfSome o (λ fs. (after : Files) × answers fs (record { status = status_of r; line = report_line r; after = after }) × (o ≡ Some after))
           same None h = tt
           same (Some fs) h = (fs, h, refl)
 
-      by : ((result ≡ is.Memory) × (new.written ≡ old.written)) ⊎ Printed (status_of r) (line_of r) old.written new.written old.sink_faults new.sink_faults result → Outcome answers stores old new result
+      by : ((result ≡ is.Memory) × (new.written ≡ old.written)) ⊎ Printed (status_of r) (report_line r) old.written new.written old.sink_faults new.sink_faults result → CallOutcome answers stores old new result
       by (inl none) = outcome_memory result none.0 files none.1
-      by (inr printed) = outcome_printed (status_of r) result (line_of r) (is_answer r) stands printed
+      by (inr printed) = outcome_printed (status_of r) result (report_line r) (is_answer r) stands printed
 
   -- a file could not be stored
-  outcome_lost : (result : Status) → result ≡ is.Depot → DepotRose old new → new.written ≡ old.written → SparesOthers answers stores old new → Outcome answers stores old new result
+  outcome_lost : (result : Status) → result ≡ is.Depot → DepotRose old new → new.written ≡ old.written → SparesOthers answers stores old new → CallOutcome answers stores old new result
   outcome_lost result e rose written spared = record {
     answer = λ b. absurd (not_depot result b e);
     depot = λ _. inl rose;
@@ -116,10 +116,10 @@ module _ {answers : Answers} {stores : List ℕ → Type 0} (old new : Outside) 
 
 -- an effect is finished, after files were read
 pub outcome_finished : {answers : Answers} (stored : Option (List ℕ)) (effect : Effect) (old mid new : Outside) (result : Status) → IfSome old.files (λ files. answers files (reply_by files effect)) → IsFor stored effect → mid.files ≡ old.files → old.depot_faults ≤ mid.depot_faults
-    → mid.written ≡ old.written → mid.sink_faults ≡ old.sink_faults → Finished effect mid new result → Outcome answers (λ name. stored ≡ Some name) old new result
+    → mid.written ≡ old.written → mid.sink_faults ≡ old.sink_faults → Finished effect mid new result → CallOutcome answers (λ name. stored ≡ Some name) old new result
 outcome_finished {answers} stored effect old mid new result answer for files faults written sink finished = by finished.cases
   where
-    spared : DepotRose old new → (o : Option NewFile) → IfSome o (λ file. (stored ≡ Some file.name.now) × (status_by effect.message ≡ is.Done)) → IsLost o mid.files new.files → SparesOthers answers (λ name. stored ≡ Some name) old new
+    spared : DepotRose old new → (o : Option NewFile) → IfSome o (λ file. (stored ≡ Some file.name.now) × (status_by effect.message ≡ is.Done)) → IsUnstored o mid.files new.files → SparesOthers answers (λ name. stored ≡ Some name) old new
     spared rose None named lost = inl (lost ∙ files)
     spared rose (Some file) named lost = inr (record {
       rose = rose;
@@ -136,8 +136,8 @@ outcome_finished {answers} stored effect old mid new result answer for files fau
     kept (Some fs) (Some file) now e h = (with_file fs file.name.now file.bytes.items, h, e)
 
     by : ((result ≡ is.Memory) × (new.files ≡ mid.files) × (new.written ≡ mid.written))
-        ⊎ (((result ≡ is.Depot) × DepotRose mid new × (new.written ≡ mid.written) × IsLost effect.file mid.files new.files)
-        ⊎ ((new.files ≡ told_with mid.files effect.file) × Printed (status_by effect.message) (bytes_by effect.message) mid.written new.written mid.sink_faults new.sink_faults result)) → Outcome answers (λ name. stored ≡ Some name) old new result
+        ⊎ (((result ≡ is.Depot) × DepotRose mid new × (new.written ≡ mid.written) × IsUnstored effect.file mid.files new.files)
+        ⊎ ((new.files ≡ told_with mid.files effect.file) × Printed (status_by effect.message) (bytes_by effect.message) mid.written new.written mid.sink_faults new.sink_faults result)) → CallOutcome answers (λ name. stored ≡ Some name) old new result
     by (inl none) = outcome_memory old new result none.0 (none.1 ∙ files) (none.2 ∙ written)
     by (inr (inl lost)) =
         let rose : DepotRose old new = rose_since old.depot_faults mid.depot_faults new.depot_faults faults lost.1 in
@@ -148,7 +148,7 @@ outcome_finished {answers} stored effect old mid new result answer for files fau
         (subst (λ w. Printed (status_by effect.message) (bytes_by effect.message) w new.written old.sink_faults new.sink_faults result) written (subst (λ n. Printed (status_by effect.message) (bytes_by effect.message) mid.written new.written n new.sink_faults result) sink done.1))
 
 -- an outcome of a row is one of its words
-pub outcome_of_row : (words : List (List ℕ)) (row : Row) (old new : Outside) (result : Status) → IsRow words row → Outcome (AnswerOf row) (RowStores row) old new result → Outcome (Answer words) (StoredBy words) old new result
+pub outcome_of_row : (words : List (List ℕ)) (row : Row) (old new : Outside) (result : Status) → IsRow words row → CallOutcome (AnswerOf row) (RowStores row) old new result → CallOutcome (Answer words) (StoredBy words) old new result
 outcome_of_row words row old new result written o = record {
   answer = λ a. weaker old.files (λ files s. (s.0, inr (row, written, s.1), s.2, s.3)) (o.answer a);
   depot = λ e. cause (o.depot e);

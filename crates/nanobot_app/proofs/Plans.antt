@@ -25,7 +25,7 @@ use Rattle.nanobot_rows.specs.declared.status.Status.TheVariants as is
 use Rattle.nanobot_rows.specs.Answer.{AnswerOf, AnswerOfRun, OfDecoding, OfGroupPlan, OfLowPlan, OfPlan, OfRun, OfTrace, Reply, Stores, Tells, WhereSupported, group_limit, run_limit, with_file}
 use Rattle.nanobot_rows.specs.Planners.{IsGroupPlan, IsLayerPlan, IsLowPlan, IsSwarmPlan, IsVoidPlan}
 use Rattle.nanobot_app.specs.Plans.{IsRunOfPlan}
-use Rattle.nanobot_rows.specs.Reading.{AreBoth, AreModels, IsModelOf, IsSide, gone, reply_of}
+use Rattle.nanobot_rows.specs.Reading.{AreBoth, AreModels, IsModelOf, IsSide, no_such_file, reply_of}
 use Rattle.nanobot_words.specs.Rows.{plan_group, plan_layer, plan_low, plan_swarm, plan_void}
 use Rattle.low_planner.specs.Commands.{full_count}
 use Rattle.low_planner.proofs.Builds.{full_most}
@@ -79,7 +79,7 @@ runs_through profile files source target trace s t commands energy steps models 
     let reply = reply_of files (report.Accepted energy steps) in
     let bytes = spellings commands in
     models_given files source target _ s t reply models
-    (subst (λ (o : Option (List ℕ)). MatchOption o (reply ≡ gone files) (λ bytes. OfTrace run_limit files bytes (OfRun profile files s t) reply)) (sym there)
+    (subst (λ (o : Option (List ℕ)). MatchOption o (reply ≡ no_such_file files) (λ bytes. OfTrace run_limit files bytes (OfRun profile files s t) reply)) (sym there)
     (subst (λ (b : Bool). MatchBool b (reply ≡ reply_of files (report.TraceLong run_limit)) ((d : Result (List Command) NoTrace) × Decoding bytes d × OfDecoding files d (OfRun profile files s t) reply)) (sym (not_longer run_limit (length bytes) size))
     (Ok commands, (are, refl), (Accepted energy steps, accepted, refl))))
 

@@ -13,14 +13,14 @@ use Rattle.nanobot_rows.specs.declared.status.Status.TheVariants as is
 use Rattle.nanobot_rows.specs.Answer.{run_limit}
 use Rattle.nanobot_rows.specs.declared.report.Report.TheVariants as report
 use Rattle.nanobot_rows.specs.Reading.{AreModels}
-use Rattle.nanobot_rows.specs.Report.{line_of}
+use Rattle.nanobot_rows.specs.Report.{report_line}
 
 -- the machine of the definitions takes the whole trace from the one model to the other, to a halt, with this energy in so many steps
 abbrev pub TakesBytes : Matrix → Matrix → List ℕ → ℤ → ℕ → Type 0
 TakesBytes source target bytes energy steps = (length bytes ≤ run_limit) × ((commands : List Command) × Cutting bytes commands × VerdictOf source target commands full_profile (Accepted energy steps))
 
 -- the same of files: both models are legal and of one resolution, and the file of the trace is not too long
-pub record Takes (files : Files) (source target : Option (List ℕ)) (trace : List ℕ) (energy : ℤ) (steps : ℕ) : Type 0 where
+pub record MachineTakes (files : Files) (source target : Option (List ℕ)) (trace : List ℕ) (energy : ℤ) (steps : ℕ) : Type 0 where
   -- the models, where what has no file is the empty model of the other's resolution
   pub from : Matrix
   pub to : Matrix
@@ -29,4 +29,4 @@ pub record Takes (files : Files) (source target : Option (List ℕ)) (trace : Li
 
 -- it answers 0 and prints the energy and the number of steps
 abbrev pub IsDoneWith : Status → Option (List ℕ) → Option (List ℕ) → ℤ → ℕ → Type 0
-IsDoneWith result before now energy steps = (result ≡ is.Done) × (now ≡ append_known before (line_of (report.Accepted energy steps)))
+IsDoneWith result before now energy steps = (result ≡ is.Done) × (now ≡ append_known before (report_line (report.Accepted energy steps)))

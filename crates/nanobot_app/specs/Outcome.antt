@@ -8,8 +8,8 @@ use Rattle.nanobot_rows.specs.declared.status.Status.TheVariants as is
 use Rattle.nanobot_rows.specs.Answer.{Reply, Answers}
 use Rattle.nanobot_rows.specs.declared.effect.Effect.{Effect}
 use Rattle.nanobot_rows.specs.declared.report.Report.{Report}
-use Rattle.nanobot_rows.specs.Effects.{IsLost, bytes_by, status_by, told_with}
-use Rattle.nanobot_rows.specs.Report.{line_of, status_of}
+use Rattle.nanobot_rows.specs.Effects.{IsUnstored, bytes_by, status_by, told_with}
+use Rattle.nanobot_rows.specs.Report.{report_line, status_of}
 use Rattle.nanobot_words.specs.Rows.{Row, IsRow, stores_of}
 
 -- the depot's files and faults, and the sink's bytes and faults
@@ -30,8 +30,8 @@ IsAnswer is.Memory = ⊥
 IsAnswer _ = ⊤
 
 -- where files are told: an answer to them whose files now stand
-abbrev pub Stands : Answers → Outside → Outside → (Reply → Type 0) → Type 0
-Stands answers old new p = IfSome old.files (λ files. (reply : Reply) × answers files reply × (new.files ≡ Some reply.after) × p reply)
+abbrev pub AnswerStands : Answers → Outside → Outside → (Reply → Type 0) → Type 0
+AnswerStands answers old new p = IfSome old.files (λ files. (reply : Reply) × answers files reply × (new.files ≡ Some reply.after) × p reply)
 
 abbrev pub DepotRose : Outside → Outside → Type 0
 DepotRose old new = Rose old.depot_faults new.depot_faults
@@ -67,12 +67,12 @@ Delivered result old new reply = (reply.status ≡ result) × (new.written ≡ a
 abbrev pub DeliveredPart : Outside → Outside → Reply → Type 0
 DeliveredPart old new reply = (n : ℕ) × (new.written ≡ append_known old.written (take n reply.line))
 
-pub record Outcome (answers : Answers) (stores : List ℕ → Type 0) (old new : Outside) (result : Status) : Type 0 where
-  pub answer : IsAnswer result → Stands answers old new (Delivered result old new)
+pub record CallOutcome (answers : Answers) (stores : List ℕ → Type 0) (old new : Outside) (result : Status) : Type 0 where
+  pub answer : IsAnswer result → AnswerStands answers old new (Delivered result old new)
   pub depot : result ≡ is.Depot → DepotRose old new ⊎ LacksFile answers old
   pub sink : result ≡ is.Sink → SinkRose old new
   pub after_depot : result ≡ is.Depot → (new.written ≡ old.written) × SparesOthers answers stores old new
-  pub after_sink : result ≡ is.Sink → Stands answers old new (DeliveredPart old new)
+  pub after_sink : result ≡ is.Sink → AnswerStands answers old new (DeliveredPart old new)
   pub after_memory : result ≡ is.Memory → (new.files ≡ old.files) × (new.written ≡ old.written)
 
 -- the name that the row of the words stores
@@ -85,7 +85,7 @@ pub record Printed (status : Status) (line : List ℕ) (old new : Option (List �
 
 -- the same of a report, whose line takes memory
 pub record Told (report : Report) (old new : Option (List ℕ)) (before now : ℕ) (result : Status) : Type 0 where
-  pub cases : ((result ≡ is.Memory) × (new ≡ old)) ⊎ Printed (status_of report) (line_of report) old new before now result
+  pub cases : ((result ≡ is.Memory) × (new ≡ old)) ⊎ Printed (status_of report) (report_line report) old new before now result
 
 -- the name that the row stores
 abbrev pub RowStores : Row → List ℕ → Type 0
@@ -94,5 +94,5 @@ RowStores row name = stores_of row ≡ Some name
 -- what was done of an effect: nothing for want of memory; or the file was not stored; or it was, and the line was put
 pub record Finished (effect : Effect) (old new : Outside) (result : Status) : Type 0 where
   pub cases : ((result ≡ is.Memory) × (new.files ≡ old.files) × (new.written ≡ old.written))
-      ⊎ (((result ≡ is.Depot) × DepotRose old new × (new.written ≡ old.written) × IsLost effect.file old.files new.files)
+      ⊎ (((result ≡ is.Depot) × DepotRose old new × (new.written ≡ old.written) × IsUnstored effect.file old.files new.files)
       ⊎ ((new.files ≡ told_with old.files effect.file) × Printed (status_by effect.message) (bytes_by effect.message) old.written new.written old.sink_faults new.sink_faults result))

@@ -3,9 +3,9 @@ ghost use Rattle.std.specs.Prelude.{◌≡◌, ◌⊎◌, ◌≤◌, ℕ, ℤ, L
 ghost use Rattle.vox_depot.specs.Causes.{Rose};
 ghost use Rattle.nanobot_rows.specs.Answer.{Answer, AnswerOf, Reply};
 ghost use Rattle.nanobot_rows.specs.Effects.{MayKeep, bytes_by};
-ghost use Rattle.nanobot_app.specs.Headline.{IsDoneWith, Takes};
+ghost use Rattle.nanobot_app.specs.Headline.{IsDoneWith, MachineTakes};
 ghost use Rattle.nanobot_words.specs.Parsing.{row_of};
-ghost use Rattle.nanobot_app.specs.Outcome.{Delivered, DeliveredPart, Finished, IsAnswer, Outcome, SparesOthers, Stands, Printed, RowStores, StoredBy, Told, outside};
+ghost use Rattle.nanobot_app.specs.Outcome.{Delivered, DeliveredPart, Finished, IsAnswer, CallOutcome, SparesOthers, AnswerStands, Printed, RowStores, StoredBy, Told, outside};
 ghost use Rattle.nanobot_words.specs.Rows.{IsInNoRow, IsOfTable, IsRow, MayRead, MayStore, Row as RowOf, reads_of, run as run_of, stores_of, texts};
 ghost use Rattle.nanobot_rows.specs.Touching.{IsRowWithin};
 
@@ -93,7 +93,7 @@ fn run_row<D: Depot, O: Sink, L: Ledger>(
     requires may_fetch { All D.may_fetch (reads_of (row_of row)) }
     requires may_store { (name : List ℕ) → stores_of (row_of row) ≡ Some name → D.may_store name }
     requires of_table { IsOfTable (row_of row) }
-    ensures outcome { Outcome (AnswerOf (row_of row.entry)) (RowStores (row_of row.entry))
+    ensures outcome { CallOutcome (AnswerOf (row_of row.entry)) (RowStores (row_of row.entry))
         (outside D.files D.faults O.written O.faults depot.old out.old)
         (outside D.files D.faults O.written O.faults depot.new out.new) result }
     ensures words { result ≡ Status.Words → ⊥ }
@@ -117,7 +117,7 @@ fn run<D: Depot, O: Sink, L: Ledger>(
 ) -> Status
     requires may_fetch { MayRead D.may_fetch (texts words.now) }
     requires may_store { MayStore D.may_store (texts words.now) }
-    ensures outcome { Outcome (Answer (texts words.now)) (StoredBy (texts words.now))
+    ensures outcome { CallOutcome (Answer (texts words.now)) (StoredBy (texts words.now))
         (outside D.files D.faults O.written O.faults depot.old out.old)
         (outside D.files D.faults O.written O.faults depot.new out.new) result }
     ensures words { result ≡ Status.Words → IsInNoRow (texts words.now) }
@@ -150,16 +150,16 @@ pub fn drive<D: Depot, O: Sink, L: Ledger>(
     // was there, and only then. Otherwise it prints the definition's refusal: the clause `answer`.
     ensures headline_where { (source target : Option (List ℕ)) (trace : List ℕ) → IsRow (texts words.now) (run_of source target trace)
         → (Rose (D.faults depot.old) (D.faults depot.new) → ⊥) → (Rose (O.faults out.old) (O.faults out.new) → ⊥) → (result ≡ Status.Memory → ⊥)
-        → IfSome (D.files depot.old) (λ files. (energy : ℤ) (count : ℕ) → Takes files source target trace energy count
+        → IfSome (D.files depot.old) (λ files. (energy : ℤ) (count : ℕ) → MachineTakes files source target trace energy count
         → IsDoneWith result (O.written out.old) (O.written out.new) energy count) }
     ensures headline_only { (source target : Option (List ℕ)) (trace : List ℕ) → IsRow (texts words.now) (run_of source target trace)
         → result ≡ Status.Done
-        → IfSome (D.files depot.old) (λ files. (energy : ℤ) × (count : ℕ) × Takes files source target trace energy count
+        → IfSome (D.files depot.old) (λ files. (energy : ℤ) × (count : ℕ) × MachineTakes files source target trace energy count
         × IsDoneWith result (O.written out.old) (O.written out.new) energy count) }
 
     // A status other than 5, 6 and 7 is the answer's, with its whole line written and its files stored. `run light S T B`
     // is answered as `run S T B` is, with the verdict of the light profile in place of the full one.
-    ensures answer { IsAnswer result → Stands (Answer (texts words.now))
+    ensures answer { IsAnswer result → AnswerStands (Answer (texts words.now))
         (outside D.files D.faults O.written O.faults depot.old out.old)
         (outside D.files D.faults O.written O.faults depot.new out.new)
         (Delivered result (outside D.files D.faults O.written O.faults depot.old out.old)
@@ -182,7 +182,7 @@ pub fn drive<D: Depot, O: Sink, L: Ledger>(
     ensures others_stay { result ≡ Status.Depot → SparesOthers (Answer (texts words.now)) (StoredBy (texts words.now))
         (outside D.files D.faults O.written O.faults depot.old out.old)
         (outside D.files D.faults O.written O.faults depot.new out.new) }
-    ensures part_written { result ≡ Status.Sink → Stands (Answer (texts words.now))
+    ensures part_written { result ≡ Status.Sink → AnswerStands (Answer (texts words.now))
         (outside D.files D.faults O.written O.faults depot.old out.old)
         (outside D.files D.faults O.written O.faults depot.new out.new)
         (DeliveredPart (outside D.files D.faults O.written O.faults depot.old out.old)

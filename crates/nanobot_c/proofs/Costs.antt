@@ -13,7 +13,7 @@ use Rattle.nanobot_rows.specs.declared.status.Status.{Status}
 use Rattle.nanobot_rows.specs.declared.status.Status.TheVariants as is
 use Rattle.nanobot_rows.specs.Answer.{AnswerOf, Reply}
 use Rattle.nanobot_rows.specs.Effects.{IsFor, bytes_by, files_with, reply_by, status_by}
-use Rattle.nanobot_rows.specs.Reading.{gone, reply_of}
+use Rattle.nanobot_rows.specs.Reading.{no_such_file, reply_of}
 use Rattle.nanobot_rows.specs.Report.{code_of, status_of}
 use Rattle.nanobot_words.specs.Rows.{Row, stores_of}
 use Rattle.nanobot_c.specs.Calls.{CostOf, IsRefused, ToldCostOf}
@@ -28,9 +28,9 @@ module _ (row : Row) (files : Files) where
   pub refused_report : (report : Report) (number : ℕ) → AnswerOf row files (reply_of files report) → IsRefused (status_of report) number → CostOf row files (Err number)
   refused_report report number answer is = refused (reply_of files report) number answer is
 
-  pub refused_gone : (number : ℕ) → Rose 0 0 ⊎ AnswerOf row files (gone files) → number ≡ code_of is.Depot → CostOf row files (Err number)
+  pub refused_gone : (number : ℕ) → Rose 0 0 ⊎ AnswerOf row files (no_such_file files) → number ≡ code_of is.Depot → CostOf row files (Err number)
   refused_gone number (inl rose) same = absurd (none_rose rose)
-  refused_gone number (inr answer) same = refused (gone files) number answer ((λ done. absurd (omega arith)), inr same)
+  refused_gone number (inr answer) same = refused (no_such_file files) number answer ((λ done. absurd (omega arith)), inr same)
 
   no_file : (file : Option NewFile) (status : Status) → stores_of row ≡ None → IfSome file (λ f. (stores_of row ≡ Some f.name.now) × (status ≡ is.Done)) → files_with files file ≡ files
   no_file None status none named = refl

@@ -11,8 +11,8 @@ use Rattle.nanobot_rows.specs.declared.status.Status.{Status}
 use Rattle.nanobot_rows.specs.declared.status.Status.TheVariants as is
 use Rattle.nanobot_rows.specs.Answer.{AnswerOf, Reply}
 use Rattle.nanobot_rows.specs.Effects.{IsFor, bytes_by, files_with, reply_by, status_by}
-use Rattle.nanobot_rows.specs.Reading.{gone, reply_of}
-use Rattle.nanobot_rows.specs.Report.{code_of, line_of, status_of}
+use Rattle.nanobot_rows.specs.Reading.{no_such_file, reply_of}
+use Rattle.nanobot_rows.specs.Report.{code_of, report_line, status_of}
 use Rattle.nanobot_words.specs.Rows.{Row, plan_group, plan_layer, stores_of}
 use Rattle.nanobot_c.specs.Calls.{GaveLineOf, GavePlanOf, Gives, bytes_in, stored_in}
 use Rattle.nanobot_c.specs.Given.{Gave, IsDone, IsMemory, MayGive, file_or_line}
@@ -64,14 +64,14 @@ module _ (row : Row) (files : Files) (old new : List ℕ) (size result : ℕ) wh
         gives (reply_by files effect) (file_or_line (bytes_in effect.file) (bytes_by effect.message)) answer (message_is_none effect.message)
         (ap (λ o. file_or_line o (bytes_by effect.message)) (stored (status_by effect.message) (bytes_by effect.message) effect.file named)) given
 
-    pub gives_report : (report : Report) → AnswerOf row files (reply_of files report) → MayGive (code_of (status_of report)) (line_of report) old new size result → Gives row files old new size result
+    pub gives_report : (report : Report) → AnswerOf row files (reply_of files report) → MayGive (code_of (status_of report)) (report_line report) old new size result → Gives row files old new size result
     gives_report report answer given =
-        gives (reply_of files report) (line_of report) answer (report_is_none report) (ap (λ o. file_or_line o (line_of report)) (sym (none_stored (stores_of row) (status_of report) (line_of report) absent))) given
+        gives (reply_of files report) (report_line report) answer (report_is_none report) (ap (λ o. file_or_line o (report_line report)) (sym (none_stored (stores_of row) (status_of report) (report_line report) absent))) given
 
-    pub gives_gone : Rose 0 0 ⊎ AnswerOf row files (gone files) → Gave (code_of is.Depot) [] old new size result → Gives row files old new size result
+    pub gives_gone : Rose 0 0 ⊎ AnswerOf row files (no_such_file files) → Gave (code_of is.Depot) [] old new size result → Gives row files old new size result
     gives_gone (inl rose) given = absurd (none_rose rose)
     gives_gone (inr answer) given =
-        gives (gone files) [] answer (λ e. absurd (omega arith)) (ap (λ o. file_or_line o []) (sym (none_stored (stores_of row) is.Depot [] absent))) (inr given)
+        gives (no_such_file files) [] answer (λ e. absurd (omega arith)) (ap (λ o. file_or_line o []) (sym (none_stored (stores_of row) is.Depot [] absent))) (inr given)
 
   pub gives_nothing : IsMemory result → new ≡ old → size ≡ 0 → Gives row files old new size result
   gives_nothing answered same none = record { answer = λ has. absurd (has answered); memory = λ _. (same, none) }

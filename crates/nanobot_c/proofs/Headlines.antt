@@ -7,9 +7,9 @@ use Rattle.nanobot_rows.specs.declared.status.Status.{Status}
 use Rattle.nanobot_rows.specs.declared.status.Status.TheVariants as is
 use Rattle.nanobot_rows.specs.Answer.{Answer, AnswerOf, Reply}
 use Rattle.nanobot_rows.specs.Reading.{reply_of}
-use Rattle.nanobot_rows.specs.Report.{code_of, line_of}
-use Rattle.nanobot_words.specs.Rows.{IsName, IsRow, MakesPlans, Row, run, with_side, words_of}
-use Rattle.nanobot_app.specs.Outcome.{Outcome, Outside}
+use Rattle.nanobot_rows.specs.Report.{code_of, report_line}
+use Rattle.nanobot_words.specs.Rows.{IsName, IsRow, MakesPlans, Row, run, with_side, row_words}
+use Rattle.nanobot_app.specs.Outcome.{CallOutcome, Outside}
 use Rattle.nanobot_app.proofs.Determined.{AnswerLaw, RowLaw, StatusLaw}
 use Rattle.nanobot_app.proofs.Headlines as app
 use Rattle.nanobot_app.proofs.Headlines.{answers_taken}
@@ -50,7 +50,7 @@ module _ (one : RowLaw) (statuses : StatusLaw) (law : AnswerLaw) (source target 
   row = run (source_side source) (target_side target) trace_name
 
   abbrev words : List (List ℕ)
-  words = words_of row
+  words = row_words row
 
   abbrev files : Files
   files = lent source target trace
@@ -67,7 +67,7 @@ module _ (one : RowLaw) (statuses : StatusLaw) (law : AnswerLaw) (source target 
   abbrev outside : List ℕ → Files → Outside
   outside written now = record { files = Some now; depot_faults = 0; written = Some written; sink_faults = 0 }
 
-  outcome : (reply : Reply) → AnswerOf row files reply → reply.status ≡ is.Done → Outcome (Answer words) (λ _. ⊥) (outside [] files) (outside reply.line reply.after) is.Done
+  outcome : (reply : Reply) → AnswerOf row files reply → reply.status ≡ is.Done → CallOutcome (Answer words) (λ _. ⊥) (outside [] files) (outside reply.line reply.after) is.Done
   outcome reply answer done = record {
     answer = λ _. (reply, inr (row, is_row, answer), refl, (done, refl));
     depot = λ e. let no : is.Done ≡ is.Depot = e in absurd (cc);
@@ -82,7 +82,7 @@ module _ (one : RowLaw) (statuses : StatusLaw) (law : AnswerLaw) (source target 
   bytes_or_none (Some bytes) = bytes
 
   -- where the answer is done, the machine takes the trace, and the line is that of its energy and its steps
-  pub answer_only : (reply : Reply) → AnswerOf row files reply → reply.status ≡ is.Done → (energy : ℤ) × (count : ℕ) × TakesAll source target trace energy count × (reply.line ≡ line_of (report.Accepted energy count))
+  pub answer_only : (reply : Reply) → AnswerOf row files reply → reply.status ≡ is.Done → (energy : ℤ) × (count : ℕ) × TakesAll source target trace energy count × (reply.line ≡ report_line (report.Accepted energy count))
   answer_only reply answer done =
       let found = app.headline_only one statuses law words (outside [] files) (outside reply.line reply.after) is.Done (outcome reply answer done) (source_side source) (target_side target) trace_name is_row refl in
       (found.0, found.1, found.2, ap bytes_or_none found.3.1)
@@ -103,7 +103,7 @@ module _ (one : RowLaw) (statuses : StatusLaw) (law : AnswerLaw) (light : Bool) 
           found.0,
           found.1,
           found.2,
-          subst (λ (s : Status). Gave (code_of s) (line_of (report.Accepted found.0 found.1)) old new size result) is
+          subst (λ (s : Status). Gave (code_of s) (report_line (report.Accepted found.0 found.1)) old new size result) is
               (subst (λ b. Gave (code_of given.0.status) b old new size result) found.3 given.2),
         )
 

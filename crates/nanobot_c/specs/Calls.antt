@@ -7,8 +7,8 @@ use Rattle.nanobot_rows.specs.declared.status.Status.{Status}
 use Rattle.nanobot_rows.specs.declared.status.Status.TheVariants as is
 use Rattle.nanobot_rows.specs.Answer.{AnswerOf, Reply}
 use Rattle.nanobot_rows.specs.Reading.{reply_of}
-use Rattle.nanobot_rows.specs.Report.{code_of, line_of}
-use Rattle.nanobot_app.specs.Headline.{Takes}
+use Rattle.nanobot_rows.specs.Report.{code_of, report_line}
+use Rattle.nanobot_app.specs.Headline.{MachineTakes}
 use Rattle.nanobot_words.specs.Rows.{HasName, Row, stores_of}
 use Rattle.nanobot_c.specs.Given.{Gave, IsDone, IsMemory, file_or_line}
 use Rattle.nanobot_c.specs.Lent.{lent, plan_name, source_side, target_side, trace_name}
@@ -49,15 +49,15 @@ GavePlanOf row files old new size result = (reply : Reply) × AnswerOf row files
 
 -- the machine of the definitions takes the whole trace from the source to the target, with this energy in so many steps
 abbrev pub TakesAll : List ℕ → List ℕ → List ℕ → ℤ → ℕ → Type 0
-TakesAll source target trace energy count = Takes (lent source target trace) (source_side source) (target_side target) trace_name energy count
+TakesAll source target trace energy count = MachineTakes (lent source target trace) (source_side source) (target_side target) trace_name energy count
 
 -- the line of an accepted run was given
 abbrev pub GaveDone : ℤ → ℕ → List ℕ → List ℕ → ℕ → ℕ → Type 0
-GaveDone energy count old new size result = Gave (code_of is.Done) (line_of (Accepted energy count)) old new size result
+GaveDone energy count old new size result = Gave (code_of is.Done) (report_line (Accepted energy count)) old new size result
 
 -- both energies and both numbers of steps are printed alike
 abbrev pub PrintAlike : ℤ → ℕ → ℤ → ℕ → Type 0
-PrintAlike energy count energy' count' = line_of (Accepted energy count) ≡ line_of (Accepted energy' count')
+PrintAlike energy count energy' count' = report_line (Accepted energy count) ≡ report_line (Accepted energy' count')
 
 -- an answer of the row has this status; where it is 0, it is the line of this energy and this number of steps
 abbrev pub ToldCostOf : Row → Files → ℤ → ℕ → ℕ → Type 0

@@ -22,8 +22,8 @@ plan_name = codes "p"
 abbrev pub lent : List ℕ → List ℕ → List ℕ → Files
 lent source target trace = finite.insert (finite.insert (finite.insert finite.empty source_name source) target_name target) trace_name trace
 
-abbrev pub files_of : Lent → Files
-files_of l = lent l.source.now l.target.now l.trace.now
+abbrev pub lent_files : Lent → Files
+lent_files l = lent l.source.now l.target.now l.trace.now
 
 -- the file of the name, or none where it has no bytes: that is the empty model of the other's resolution
 abbrev pub side_named : List ℕ → List ℕ → Option (List ℕ)

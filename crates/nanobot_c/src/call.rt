@@ -3,13 +3,13 @@ ghost use Rattle.std.specs.Prelude.{◌≡◌, ◌<◌, ℕ, List, IfOk, Some, N
 ghost use Rattle.vox_depot.specs.Causes.{Rose};
 ghost use Rattle.vox_depot.specs.Files.{content};
 ghost use Rattle.nanobot_rows.specs.Answer.{AnswerOf};
-ghost use Rattle.nanobot_rows.specs.Effects.{Finishes, IsFor, bytes_by, status_by};
-ghost use Rattle.nanobot_rows.specs.Report.{code_of, line_of, status_of};
+ghost use Rattle.nanobot_rows.specs.Effects.{EndsStored, IsFor, bytes_by, status_by};
+ghost use Rattle.nanobot_rows.specs.Report.{code_of, report_line, status_of};
 ghost use Rattle.nanobot_words.specs.Parsing.{row_of};
 ghost use Rattle.nanobot_words.specs.Rows.{IsOfTable, stores_of};
 ghost use Rattle.nanobot_c.specs.Calls.{Gives, bytes_in};
 ghost use Rattle.nanobot_c.specs.Given.{Gave, GaveNoRow, IsMemory, MayGive, file_or_line};
-ghost use Rattle.nanobot_c.specs.Lent.{files_of};
+ghost use Rattle.nanobot_c.specs.Lent.{lent_files};
 
 use crate::lent::{Lent, LentFiles};
 use nanobot_rows::{Effect, Message, Report, Status, Stop, answer};
@@ -59,7 +59,7 @@ pub fn give_no_row(out: &mut [u8], size: &mut usize) -> u32
 
 /// Gives the line of the report.
 fn give_line(alloc: Global, report: &Report, out: &mut [u8], size: &mut usize) -> u32
-    ensures { MayGive (code_of (status_of report.now)) (line_of report.now) out.old out.new size.new result }
+    ensures { MayGive (code_of (status_of report.now)) (report_line report.now) out.old out.new size.new result }
 {
     let Ok(line) = report.line(alloc) else {
         return give_nothing(size);
@@ -92,7 +92,7 @@ fn counted<L: Ledger>(
     requires parts { blank.parts ≡ L.parts }
     requires some { 0 < L.parts }
     requires of_table { IsOfTable (row_of row) }
-    ensures finishes { Finishes (AnswerOf (row_of row.entry)) (Some (files_of lent.entry)) (Rose 0 0) result }
+    ensures finishes { EndsStored (AnswerOf (row_of row.entry)) (Some (lent_files lent.entry)) (Rose 0 0) result }
     ensures named { IfOk result (IsFor (stores_of (row_of row.entry))) }
 {
     let mut files = LentFiles { lent, faults: 0 };
@@ -107,7 +107,7 @@ fn counted<L: Ledger>(
 /// What the row comes to over the lent bytes.
 pub fn ask(alloc: Global, row: Row<'static>, lent: Lent<'_>) -> Result<Effect<'static>, Stop>
     requires of_table { IsOfTable (row_of row) }
-    ensures finishes { Finishes (AnswerOf (row_of row.entry)) (Some (files_of lent.entry)) (Rose 0 0) result }
+    ensures finishes { EndsStored (AnswerOf (row_of row.entry)) (Some (lent_files lent.entry)) (Rose 0 0) result }
     ensures named { IfOk result (IsFor (stores_of (row_of row.entry))) }
 {
     counted::<Brand>(alloc, row, lent, Blank::new(1))
@@ -122,8 +122,8 @@ pub fn call(
     size: &mut usize,
 ) -> u32
     requires of_table { IsOfTable (row_of row) }
-    requires new_name { (name : List ℕ) → stores_of (row_of row) ≡ Some name → content (files_of lent) name ≡ None }
-    ensures { Gives (row_of row.entry) (files_of lent.entry) out.old out.new size.new result }
+    requires new_name { (name : List ℕ) → stores_of (row_of row) ≡ Some name → content (lent_files lent) name ≡ None }
+    ensures { Gives (row_of row.entry) (lent_files lent.entry) out.old out.new size.new result }
 {
     match ask(alloc, row, lent) {
         Ok(effect) => give_effect(alloc, &effect, out, size),

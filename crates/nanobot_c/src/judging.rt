@@ -7,7 +7,7 @@ ghost use Rattle.nanobot_words.specs.Parsing.{row_of};
 ghost use Rattle.nanobot_words.specs.Rows.{IsOfTable, check as check_row, stores_of};
 ghost use Rattle.nanobot_c.specs.Calls.{CostOf, GaveDone, GaveLineOf, HasModel, HasNoModel, IsRefused, PrintAlike, TakesAll, ToldCostOf};
 ghost use Rattle.nanobot_c.specs.Given.{GaveNoRow, IsDone, IsMemory};
-ghost use Rattle.nanobot_c.specs.Lent.{files_of, lent, run_row as run_row_of, source_name};
+ghost use Rattle.nanobot_c.specs.Lent.{lent_files, lent, run_row as run_row_of, source_name};
 
 use crate::call::{ask, call, code, give_no_row};
 use crate::lent::{Lent, side};
@@ -109,7 +109,7 @@ fn told_cost(message: &Message) -> Result<(i64, u32), u32>
 fn cost(alloc: Global, row: Row<'static>, lent: Lent<'_>) -> Result<(i64, u32), u32>
     requires of_table { IsOfTable (row_of row) }
     requires stores_none { stores_of (row_of row) ≡ None }
-    ensures { CostOf (row_of row.entry) (files_of lent.entry) result }
+    ensures { CostOf (row_of row.entry) (lent_files lent.entry) result }
 {
     match ask(alloc, row, lent) {
         Ok(effect) => told_cost(&effect.message),

@@ -2,7 +2,7 @@
 ghost use Rattle.std.specs.Prelude.{◌≡◌, ◌-◌, min, length, option_map};
 ghost use Rattle.vox_depot.specs.Files.{IsPiece, content};
 ghost use Rattle.nanobot_words.specs.Parsing.{side_of};
-ghost use Rattle.nanobot_c.specs.Lent.{files_of, side_named};
+ghost use Rattle.nanobot_c.specs.Lent.{lent_files, side_named};
 
 use nanobot_words::Side;
 use vox_depot::{Depot, FetchFault, StoreFault};
@@ -42,7 +42,7 @@ fn copy_piece(bytes: &[u8], from: u64, buf: &mut [u8]) -> usize
 impl<'a> Lent<'a> {
     /// The file of this name.
     fn file(&self, name: &str) -> Option<&'a [u8]>
-        ensures { option_map (λ x. x.now) result ≡ content (files_of self.now) name.now }
+        ensures { option_map (λ x. x.now) result ≡ content (lent_files self.now) name.now }
     {
         match name {
             "s" => Some(self.source),
@@ -62,9 +62,9 @@ pub struct LentFiles<'a> {
 
 impl<'a> Depot for LentFiles<'a> {
     ghost use Rattle.std.specs.Prelude.{Some, ⊤};
-    ghost use Rattle.nanobot_c.specs.Lent.{files_of};
+    ghost use Rattle.nanobot_c.specs.Lent.{lent_files};
 
-    ghost files = { λ d. Some (files_of d.lent) };
+    ghost files = { λ d. Some (lent_files d.lent) };
 
     ghost faults = { λ d. d.faults };
 

@@ -6,7 +6,7 @@ use Rattle.nano_spec.specs.Matrix.{Matrix}
 use Rattle.nano_spec.specs.Reading.{FaultyLine}
 use Rattle.vox_depot.specs.Causes.{Rose}
 use Rattle.vox_depot.specs.Files.{Files}
-use Rattle.step_debugger.specs.Session.{Line}
+use Rattle.step_debugger.specs.Session.{DebugLine}
 use Rattle.debug_script.specs.Calls.{lines_are}
 use Rattle.debug_script.specs.Script.{ScriptSays}
 use Rattle.debug_script.specs.declared.line.ScriptLine.{ScriptLine}
@@ -17,7 +17,7 @@ use Rattle.nanobot_rows.specs.declared.report.Who.TheVariants as who
 use Rattle.nanobot_rows.specs.declared.stop.Stop.{Stop}
 use Rattle.nanobot_words.specs.Rows.{debug}
 use Rattle.nanobot_rows.specs.Answer.{AnswerOf, Answers, OfLines, OfScript, OfSession, OfTrace, Reply, WithFile, dis_limit, script_limit}
-use Rattle.nanobot_rows.specs.Effects.{Finishes, reply_by}
+use Rattle.nanobot_rows.specs.Effects.{EndsStored, reply_by}
 use Rattle.nanobot_rows.specs.Reading.{IsModelOf, IsScriptOf, IsTraceOf, Lacks, Reads, RefusesFile, RefusesLines, RefusesScript, RefusesTrace, reply_of}
 use Rattle.nanobot_rows.proofs.Loads.{not_longer}
 use Rattle.nanobot_rows.proofs.Replies.{both_told, model_given, model_lacks, model_refused, rose_since, stops}
@@ -26,17 +26,17 @@ use Rattle.nanobot_rows.proofs.Told.{if_some, weaker}
 
 -- ---- a script
 
-module _ (files : Files) (name : List ℕ) (r : ℕ) (p : List Line → Reply → Type 0) where
+module _ (files : Files) (name : List ℕ) (r : ℕ) (p : List DebugLine → Reply → Type 0) where
   pub script_given : (script : List ScriptLine) (reply : Reply) → IsScriptOf files name r script → p (lines_are script) reply → WithFile files name (λ bytes. OfScript r files bytes p) reply
   script_given script reply is h = of_file files name (λ bytes. (length bytes ≤ script_limit) × ScriptSays r bytes (Ok (lines_are script))) (λ bytes. OfScript r files bytes p) reply (λ bytes g.
-      subst (λ b. MatchBool b (reply ≡ reply_of files (report.TextLong script_limit)) ((said : Result (List Line) FaultyLine) × ScriptSays r bytes said × OfLines files said p reply)) (sym (not_longer script_limit (length bytes) g.0))
+      subst (λ b. MatchBool b (reply ≡ reply_of files (report.TextLong script_limit)) ((said : Result (List DebugLine) FaultyLine) × ScriptSays r bytes said × OfLines files said p reply)) (sym (not_longer script_limit (length bytes) g.0))
       (Ok (lines_are script), g.1, h)) is
 
   pub script_refused : (told : Report) → RefusesScript name r files told → WithFile files name (λ bytes. OfScript r files bytes p) (reply_of files told)
   script_refused told refuses = of_file files name (λ bytes. MatchBool (nat_lt script_limit (length bytes)) (told ≡ report.TextLong script_limit) (RefusesLines r bytes told)) (λ bytes. OfScript r files bytes p) (reply_of files told) (λ bytes g. by bytes (nat_lt script_limit (length bytes)) g) refuses
     where
       by : (bytes : List ℕ) (b : Bool) → MatchBool b (told ≡ report.TextLong script_limit) (RefusesLines r bytes told)
-          → MatchBool b (reply_of files told ≡ reply_of files (report.TextLong script_limit)) ((said : Result (List Line) FaultyLine) × ScriptSays r bytes said × OfLines files said p (reply_of files told))
+          → MatchBool b (reply_of files told ≡ reply_of files (report.TextLong script_limit)) ((said : Result (List DebugLine) FaultyLine) × ScriptSays r bytes said × OfLines files said p (reply_of files told))
       by bytes true e = ap (reply_of files) e
       by bytes false w = (Err w.0, w.1, ap (reply_of files) w.2)
 
@@ -56,7 +56,7 @@ module _ (told : Option Files) (source trace script : List ℕ) where
   OfSource files m reply = WithFile files trace (λ bytes. OfTrace dis_limit files bytes (OfCommands files m)) reply
 
   -- the source stops the call
-  pub source_stops : (rose : Type 0) (s : Stop) → Reads {A = Matrix} told rose (λ files m. IsModelOf files source m) (RefusesFile who.Source source) (Lacks source) (Err s) → Finishes OfDebug told rose (Err s)
+  pub source_stops : (rose : Type 0) (s : Stop) → Reads {A = Matrix} told rose (λ files m. IsModelOf files source m) (RefusesFile who.Source source) (Lacks source) (Err s) → EndsStored OfDebug told rose (Err s)
   source_stops rose s reads =
       stops Effect (λ files effect. OfDebug files (reply_by files effect)) OfDebug told rose rose (λ files m. IsModelOf files source m) (RefusesFile who.Source source) (Lacks source) s reads (λ h. h)
       (if_some told (λ files _. ((λ r h. model_refused who.Source files source (OfSource files) r h), (λ h. model_lacks who.Source files source (OfSource files) h))))
@@ -64,7 +64,7 @@ module _ (told : Option Files) (source trace script : List ℕ) where
   module _ (m : Matrix) (found : IfSome told (λ files. IsModelOf files source m)) (before : ℕ) where
     -- the trace stops it
     pub trace_stops : (later : Option Files) (between now : ℕ) (s : Stop) → later ≡ told → before ≤ between
-        → Reads {A = List Command} later (Rose between now) (λ files commands. IsTraceOf files trace commands) (RefusesTrace trace) (Lacks trace) (Err s) → Finishes OfDebug told (Rose before now) (Err s)
+        → Reads {A = List Command} later (Rose between now) (λ files commands. IsTraceOf files trace commands) (RefusesTrace trace) (Lacks trace) (Err s) → EndsStored OfDebug told (Rose before now) (Err s)
     trace_stops later between now s same l reads =
         stops Effect (λ files effect. OfDebug files (reply_by files effect)) OfDebug told (Rose between now) (Rose before now) (λ files commands. IsTraceOf files trace commands) (RefusesTrace trace) (Lacks trace) s
         (subst (λ (o : Option Files). Reads {A = List Command} o (Rose between now) (λ files commands. IsTraceOf files trace commands) (RefusesTrace trace) (Lacks trace) (Err s)) same reads)
@@ -82,7 +82,7 @@ module _ (told : Option Files) (source trace script : List ℕ) where
       -- the script stops it
       module _ (A : Type 0) (P : Files → A → Type 0) (r : ℕ) where
         pub script_stops : r ≡ m.resolution → (later : Option Files) (between now : ℕ) (s : Stop) → later ≡ told → before ≤ between
-            → Reads {A = A} later (Rose between now) P (RefusesScript script r) (Lacks script) (Err s) → Finishes OfDebug told (Rose before now) (Err s)
+            → Reads {A = A} later (Rose between now) P (RefusesScript script r) (Lacks script) (Err s) → EndsStored OfDebug told (Rose before now) (Err s)
         script_stops high later between now s same l reads =
             stops Effect (λ files effect. OfDebug files (reply_by files effect)) OfDebug told (Rose between now) (Rose before now) P (RefusesScript script r) (Lacks script) s
             (subst (λ (o : Option Files). Reads {A = A} o (Rose between now) P (RefusesScript script r) (Lacks script) (Err s)) same reads)

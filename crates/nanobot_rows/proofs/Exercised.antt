@@ -13,13 +13,13 @@ use Rattle.nanobot_rows.specs.declared.stop.Stop.{Stop}
 use Rattle.nanobot_rows.specs.declared.stop.Stop.TheVariants as stop
 use Rattle.nanobot_words.specs.Rows.{exercise}
 use Rattle.nanobot_rows.specs.Answer.{AnswerOf, Answers, Costs, full_count}
-use Rattle.nanobot_rows.specs.Effects.{Finishes, alone}
+use Rattle.nanobot_rows.specs.Effects.{EndsStored, alone}
 use Rattle.nanobot_rows.specs.Planners.{IsGroupPlan, IsLayerPlan, PlanFacts}
-use Rattle.nanobot_rows.specs.Reading.{Ends, reply_of}
+use Rattle.nanobot_rows.specs.Reading.{EndsUnstored, reply_of}
 use Rattle.nanobot_rows.proofs.Told.{if_some}
 
 -- a report alone finishes as it ends
-pub ends_finish : (answers : Answers) (told : Option Files) (rose : Type 0) (r : Result Report Stop) → Ends answers told rose r → Finishes answers told rose (alone r)
+pub ends_finish : (answers : Answers) (told : Option Files) (rose : Type 0) (r : Result Report Stop) → EndsUnstored answers told rose r → EndsStored answers told rose (alone r)
 ends_finish answers told rose (Ok report) h = h
 ends_finish answers told rose (Err (stop.Told report)) h = h
 ends_finish answers told rose (Err stop.Depot) h = h

@@ -7,6 +7,6 @@ pub mod Paying
 pub mod Replies
 pub mod Running
 pub mod Stored
-pub mod Taken
+pub mod TakenBytes
 pub mod Told
 pub mod Tracing

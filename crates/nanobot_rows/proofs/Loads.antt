@@ -67,7 +67,7 @@ module _ (told : Option Files) (name v : List ℕ) (most : ℕ) (one_more : most
         subst (λ b. MatchBool b (faulty_text faulty ≡ TextLong text_limit) (RefusesReading (read file) (faulty_text faulty))) (sym (not_longer text_limit (length file) h.0))
         (subst (λ (r : Result (List Command) FaultyLine). RefusesReading r (faulty_text faulty)) (sym (ap read h.1 ∙ e)) refl)) (is_whole told name v text_limit most one_more loaded fits)
 
-    pub text_refused : (rose : Type 0) (f : TextFault) → said.Reads v (Err f) → Reads {A = List Command} told rose (λ files commands. IsTextOf files name commands) (RefusesText name) (Lacks name) (Err (of_text f))
+    pub text_refused : (rose : Type 0) (f : TextFault) → said.ReadsText v (Err f) → Reads {A = List Command} told rose (λ files commands. IsTextOf files name commands) (RefusesText name) (Lacks name) (Err (of_text f))
     text_refused rose (text.NotAscii n) h = refused (record { fault = line.NotAscii; line = n }) h
     text_refused rose (text.UnknownWord n) h = refused (record { fault = line.UnknownWord; line = n }) h
     text_refused rose (text.Shape n) h = refused (record { fault = line.Shape; line = n }) h
@@ -89,7 +89,7 @@ module _ (told : Option Files) (name v : List ℕ) (r most : ℕ) (one_more : mo
         subst (λ b. MatchBool b (faulty_text e ≡ TextLong script_limit) (RefusesLines r file (faulty_text e))) (sym (not_longer script_limit (length file) g.0))
         (e, subst (λ (bytes : List ℕ). ScriptSays r bytes (Err e)) (sym g.1) h, refl)) (is_whole told name v script_limit most one_more loaded fits)
 
-    pub script_refused : (rose : Type 0) (f : TextFault) → script.Reads {Y = Global} r v (Err f) → Reads {A = List ScriptLine} told rose (λ files lines. IsScriptOf files name r lines) (RefusesScript name r) (Lacks name) (Err (of_text f))
+    pub script_refused : (rose : Type 0) (f : TextFault) → script.ReadsScript {Y = Global} r v (Err f) → Reads {A = List ScriptLine} told rose (λ files lines. IsScriptOf files name r lines) (RefusesScript name r) (Lacks name) (Err (of_text f))
     script_refused rose (text.NotAscii n) h = faulty (record { fault = line.NotAscii; line = n }) h
     script_refused rose (text.UnknownWord n) h = faulty (record { fault = line.UnknownWord; line = n }) h
     script_refused rose (text.Shape n) h = faulty (record { fault = line.Shape; line = n }) h

@@ -16,7 +16,7 @@ use Rattle.nano_spec.proofs.Traces.{one_spelling}
 use Rattle.run_progress.specs.Progress.{Progress, Pushes, begun}
 use Rattle.step_machine.specs.Course.{Course}
 use Rattle.step_machine.specs.Payment.{IsPaid, Touches}
-use Rattle.trace_codec.specs.Decoder.{Answers, DecoderState, HasTaken, after, fresh}
+use Rattle.trace_codec.specs.Decoder.{AnswersPiece, DecoderState, HasTaken, decoder_after, fresh}
 use Rattle.trace_codec.specs.declared.decoder.Fed.TheVariants.{Got, All, Bad}
 use Rattle.vox_depot.specs.Files.{Files, IfTold, IsPiece, content}
 use Rattle.nanobot_rows.specs.Reading.{AreBoth, AreModels, IsModelOf, IsSide, RunState}
@@ -30,7 +30,7 @@ abbrev pub FirstLaw : Type 0
 FirstLaw = (source : Matrix) (profile : Profile) (p : Progress) (start : ℕ) → p ≡ begun source profile → IsPaid source profile [] p start start
 
 abbrev pub PushLaw : Type 0
-PushLaw = (source : Matrix) (profile : Profile) (commands : List Command) (p q : Progress) (command : Command) (start before after : ℕ) → p.state.matrix.resolution ≡ source.resolution → Pushes p command q → Touches p q command before after → IsPaid source profile commands p start before → IsPaid source profile (commands ++ command ∷ []) q start after
+PushLaw = (source : Matrix) (profile : Profile) (commands : List Command) (p q : Progress) (command : Command) (start before decoder_after : ℕ) → p.state.matrix.resolution ≡ source.resolution → Pushes p command q → Touches p q command before decoder_after → IsPaid source profile commands p start before → IsPaid source profile (commands ++ command ∷ []) q start decoder_after
 
 abbrev pub WholeLaw : Type 0
 WholeLaw = (source : Matrix) (profile : Profile) (commands rest : List Command) (p : Progress) (start now n : ℕ) → IsPaid source profile commands p start now → Work source (commands ++ rest) profile n → now ≤ start + 100 * n + volume source.resolution
@@ -65,22 +65,22 @@ paid_at_first law source profile d r start taken e f = record {
 }
 
 module _ (source : Matrix) (profile : Profile) (bytes piece : List ℕ) (s : RunState) (start before : ℕ) (old : HasPaid source profile bytes s start before) where
-  pub paid_got : (got : GotLaw) (push : PushLaw) (command : Command) (used : ℕ) (r : Course) (now : ℕ) → s.run.progress.state.matrix.resolution ≡ source.resolution → Answers s.decoder piece (Got command used) → Pushes s.run.progress command r.progress → Touches s.run.progress r.progress command before now
-      → HasPaid source profile (bytes ++ take used piece) (record { decoder = after s.decoder piece (Got command used); run = r }) start now
+  pub paid_got : (got : GotLaw) (push : PushLaw) (command : Command) (used : ℕ) (r : Course) (now : ℕ) → s.run.progress.state.matrix.resolution ≡ source.resolution → AnswersPiece s.decoder piece (Got command used) → Pushes s.run.progress command r.progress → Touches s.run.progress r.progress command before now
+      → HasPaid source profile (bytes ++ take used piece) (record { decoder = decoder_after s.decoder piece (Got command used); run = r }) start now
   paid_got got push command used r now same answers pushes touches = record {
     commands = old.commands ++ command ∷ [];
     given = got bytes piece old.commands s.decoder command used (taken_of bytes old.commands s.decoder answers.works old.given) answers;
     paid = push source profile old.commands s.run.progress r.progress command start before now same pushes touches old.paid;
   }
 
-  pub paid_all : (all : AllLaw) → Answers s.decoder piece All → HasPaid source profile (bytes ++ piece) (record { decoder = after s.decoder piece All; run = s.run }) start before
+  pub paid_all : (all : AllLaw) → AnswersPiece s.decoder piece All → HasPaid source profile (bytes ++ piece) (record { decoder = decoder_after s.decoder piece All; run = s.run }) start before
   paid_all all answers = record {
     commands = old.commands;
     given = all bytes piece old.commands s.decoder (taken_of bytes old.commands s.decoder answers.0 old.given) answers;
     paid = old.paid;
   }
 
-  pub paid_bad : (offset : ℕ) → HasPaid source profile (bytes ++ piece) (record { decoder = after s.decoder piece (Bad offset); run = s.run }) start before
+  pub paid_bad : (offset : ℕ) → HasPaid source profile (bytes ++ piece) (record { decoder = decoder_after s.decoder piece (Bad offset); run = s.run }) start before
   paid_bad offset = record {
     commands = old.commands;
     given = begins_more bytes piece old.commands (begins bytes old.commands s.decoder old.given);

@@ -17,7 +17,7 @@ use Rattle.nanobot_rows.specs.declared.stop.Stop.{Stop}
 use Rattle.nanobot_rows.specs.declared.stop.Stop.TheVariants as stop
 use Rattle.nanobot_rows.specs.declared.report.Who.TheVariants as who
 use Rattle.nanobot_rows.specs.Answer.{AnswerOfRun, Answers, run_limit, OfBytes, OfDecoding, OfRun, OfTrace, Reply, WithBoth, WithFile, WithModel, WithModels, WithSide}
-use Rattle.nanobot_rows.specs.Reading.{AreBoth, AreModels, AreUnlike, Ends, IsModelOf, IsSide, Lacks, LacksModels, LacksSide, OnBytes, OnCommands, OnDecoding, OnFile, OnTrace, Reads, RefusesBytes, RefusesFile, RefusesModels, RefusesSide, by_both, by_source, by_target, gone, lacks_source, lacks_target, reply_of, tells_nothing}
+use Rattle.nanobot_rows.specs.Reading.{AreBoth, AreModels, AreUnlike, EndsUnstored, IsModelOf, IsSide, Lacks, LacksModels, LacksSide, OnBytes, OnCommands, OnDecoding, OnFile, OnTrace, Reads, RefusesBytes, RefusesFile, RefusesModels, RefusesSide, by_both, by_source, by_target, no_such_file, lacks_source, lacks_target, reply_of, tells_nothing}
 use Rattle.nanobot_rows.proofs.Told.{if_some, weaker}
 
 -- ---- counts of faults
@@ -34,7 +34,7 @@ module _ (who : Who) (files : Files) (name : List ℕ) (p : Matrix → Reply →
   pub model_given : (m : Matrix) (reply : Reply) → IsModelOf files name m → p m reply → WithModel who files name p reply
   model_given m reply is h = by (content files name) is
     where
-      by : (o : Option (List ℕ)) → IsSomeAnd o (λ bytes. (model bytes ≡ Ok m) × IsLegal m) → MatchOption o (reply ≡ gone files) (λ bytes. OfBytes who files (model bytes) p reply)
+      by : (o : Option (List ℕ)) → IsSomeAnd o (λ bytes. (model bytes ≡ Ok m) × IsLegal m) → MatchOption o (reply ≡ no_such_file files) (λ bytes. OfBytes who files (model bytes) p reply)
       by None is = absurd is
       by (Some bytes) is = subst (λ (r : Result Matrix NoModel). OfBytes who files r p reply) (sym is.0) (None, is.1, h)
 
@@ -45,12 +45,12 @@ module _ (who : Who) (files : Files) (name : List ℕ) (p : Matrix → Reply →
       of_bytes (Err why) e = ap (reply_of files) e
       of_bytes (Ok m) refuses = (Some refuses.0, refuses.1, ap (reply_of files) refuses.2)
 
-      by : (o : Option (List ℕ)) → IsSomeAnd o (λ bytes. RefusesBytes who (model bytes) told) → MatchOption o (reply_of files told ≡ gone files) (λ bytes. OfBytes who files (model bytes) p (reply_of files told))
+      by : (o : Option (List ℕ)) → IsSomeAnd o (λ bytes. RefusesBytes who (model bytes) told) → MatchOption o (reply_of files told ≡ no_such_file files) (λ bytes. OfBytes who files (model bytes) p (reply_of files told))
       by None h = absurd h
       by (Some bytes) h = of_bytes (model bytes) h
 
-  pub model_lacks : Lacks name files → WithModel who files name p (gone files)
-  model_lacks h = subst (λ (o : Option (List ℕ)). MatchOption o (gone files ≡ gone files) (λ bytes. OfBytes who files (model bytes) p (gone files))) (sym h) refl
+  pub model_lacks : Lacks name files → WithModel who files name p (no_such_file files)
+  model_lacks h = subst (λ (o : Option (List ℕ)). MatchOption o (no_such_file files ≡ no_such_file files) (λ bytes. OfBytes who files (model bytes) p (no_such_file files))) (sym h) refl
 
 -- ---- a source or a target
 
@@ -65,7 +65,7 @@ module _ (who : Who) (files : Files) (p : Option Matrix → Reply → Type 0) wh
   side_refused None told h = absurd h
   side_refused (Some name) told h = model_refused who files name (λ m. p (Some m)) told h
 
-  pub side_lacks : (name : Option (List ℕ)) → LacksSide name files → WithSide who files name p (gone files)
+  pub side_lacks : (name : Option (List ℕ)) → LacksSide name files → WithSide who files name p (no_such_file files)
   side_lacks None h = absurd h
   side_lacks (Some name) h = model_lacks who files name (λ m. p (Some m)) h
 
@@ -104,9 +104,9 @@ module _ (files : Files) (source target : Option (List ℕ)) (p : Matrix → Mat
   models_refused told (by_target s is refuses) = side_given who.Source files _ source s (reply_of files told) is (side_refused who.Target files _ target told refuses)
   models_refused told (by_both s t is are unlike) = side_given who.Source files _ source s (reply_of files told) is (side_given who.Target files _ target t (reply_of files told) are (both_unlike files p s t told unlike))
 
-  pub models_lack : LacksModels source target files → WithModels files source target p (gone files)
+  pub models_lack : LacksModels source target files → WithModels files source target p (no_such_file files)
   models_lack (lacks_source lacks) = side_lacks who.Source files _ source lacks
-  models_lack (lacks_target s is lacks) = side_given who.Source files _ source s (gone files) is (side_lacks who.Target files _ target lacks)
+  models_lack (lacks_target s is lacks) = side_given who.Source files _ source s (no_such_file files) is (side_lacks who.Target files _ target lacks)
 
 -- ---- a trace
 
@@ -131,12 +131,12 @@ module _ (limit : ℕ) (profile : Profile) (files : Files) (source target : Matr
   trace_given name told h = by (content files name) h
     where
       by : (o : Option (List ℕ)) → IsSomeAnd o (λ bytes. OnTrace limit profile source target bytes told)
-          → MatchOption o (reply_of files told ≡ gone files) (λ bytes. OfTrace limit files bytes (OfRun profile files source target) (reply_of files told))
+          → MatchOption o (reply_of files told ≡ no_such_file files) (λ bytes. OfTrace limit files bytes (OfRun profile files source target) (reply_of files told))
       by None h = absurd h
       by (Some bytes) h = of_trace bytes told h
 
-  pub trace_lacks : (name : List ℕ) → Lacks name files → WithFile files name (λ bytes. OfTrace limit files bytes (OfRun profile files source target)) (gone files)
-  trace_lacks name h = subst (λ (o : Option (List ℕ)). MatchOption o (gone files ≡ gone files) (λ bytes. OfTrace limit files bytes (OfRun profile files source target) (gone files))) (sym h) refl
+  pub trace_lacks : (name : List ℕ) → Lacks name files → WithFile files name (λ bytes. OfTrace limit files bytes (OfRun profile files source target)) (no_such_file files)
+  trace_lacks name h = subst (λ (o : Option (List ℕ)). MatchOption o (no_such_file files ≡ no_such_file files) (λ bytes. OfTrace limit files bytes (OfRun profile files source target) (no_such_file files))) (sym h) refl
 
 -- ---- where a call ends
 
@@ -156,8 +156,8 @@ stops_as B told rose wider P Q R S M N stop.Memory reads w f = tt
 
 -- the same, told as an answer
 pub stops : {A : Type 0} (B : Type 0) (Q : Files → B → Type 0) (answers : Answers) (told : Option Files) (rose wider : Type 0) (P : Files → A → Type 0) (R : Files → Report → Type 0) (M : Files → Type 0) (s : Stop) → Reads told rose P R M (Err s) → (rose → wider)
-    → IfSome told (λ files. ((r : Report) → R files r → answers files (reply_of files r)) × (M files → answers files (gone files))) → Reads told wider Q (λ files r. answers files (reply_of files r)) (λ files. answers files (gone files)) (Err s)
-stops B Q answers told rose wider P R M s = stops_as B told rose wider P Q R (λ files r. answers files (reply_of files r)) M (λ files. answers files (gone files)) s
+    → IfSome told (λ files. ((r : Report) → R files r → answers files (reply_of files r)) × (M files → answers files (no_such_file files))) → Reads told wider Q (λ files r. answers files (reply_of files r)) (λ files. answers files (no_such_file files)) (Err s)
+stops B Q answers told rose wider P R M s = stops_as B told rose wider P Q R (λ files r. answers files (reply_of files r)) M (λ files. answers files (no_such_file files)) s
 
 pub both_told : (P Q : Files → Type 0) (told : Option Files) → IfSome told P → IfSome told Q → IfSome told (λ files. P files × Q files)
 both_told P Q None a b = tt
@@ -202,14 +202,14 @@ module _ (told : Option Files) (source target : Option (List ℕ)) where
 
 module _ (profile : Profile) (told : Option Files) (source target : Option (List ℕ)) (trace : List ℕ) where
   -- the models stop the call
-  pub run_stops : (rose : Type 0) (s : Stop) → ReadsModels told source target rose (Err s) → Ends (AnswerOfRun profile source target trace) told rose (Err s)
+  pub run_stops : (rose : Type 0) (s : Stop) → ReadsModels told source target rose (Err s) → EndsUnstored (AnswerOfRun profile source target trace) told rose (Err s)
   run_stops rose s reads =
       stops Report (λ files r. AnswerOfRun profile source target trace files (reply_of files r)) (AnswerOfRun profile source target trace) told rose rose (λ files (models : Matrix × Matrix). AreModels source target files models.0 models.1) (RefusesModels source target) (LacksModels source target) s
       reads (λ h. h) (if_some told (λ files _. ((λ r h. models_refused files source target _ r h), (λ h. models_lack files source target _ h))))
 
   -- the trace
   pub run_ends : (later : Option Files) (before between now : ℕ) (s t : Matrix) (r : Result Report Stop) → IfSome told (λ files. AreModels source target files s t) → later ≡ told → before ≤ between
-      → Reads later (Rose between now) (OnFile run_limit profile s t trace) tells_nothing (Lacks trace) r → Ends (AnswerOfRun profile source target trace) told (Rose before now) r
+      → Reads later (Rose between now) (OnFile run_limit profile s t trace) tells_nothing (Lacks trace) r → EndsUnstored (AnswerOfRun profile source target trace) told (Rose before now) r
   run_ends later before between now s t (Ok r) found same l reads =
       let here = subst (λ (o : Option Files). IfSome o (λ files. OnFile run_limit profile s t trace files r)) same reads in
       weaker told (λ files is. models_given files source target _ s t _ is.0 (trace_given run_limit profile files s t trace r is.1)) (both_told _ _ told found here)

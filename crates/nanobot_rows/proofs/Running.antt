@@ -11,19 +11,19 @@ use Rattle.nano_spec.specs.Spelling.{spelling}
 use Rattle.nano_spec.specs.Verdict.{VerdictOf}
 use Rattle.run_progress.specs.Progress.{Comes, Finishes, Progress, Pushes, begun, first, later}
 use Rattle.step_machine.specs.Course.{Course}
-use Rattle.trace_codec.specs.Decoder.{Answers, DecoderState, Ends, HasTaken, after, fresh}
+use Rattle.trace_codec.specs.Decoder.{AnswersPiece, DecoderState, EndsTrace, HasTaken, decoder_after, fresh}
 use Rattle.trace_codec.specs.Whole.{Decodes}
 use Rattle.trace_codec.specs.declared.decoder.Fed.TheVariants.{Got, All, Bad}
 use Rattle.trace_codec.specs.declared.fault.TraceFault.{TraceFault}
 use Rattle.trace_codec.specs.declared.fault.TraceFault.TheVariants as fault
 use Rattle.nanobot_rows.specs.declared.report.Report.TheVariants.{TraceBad, TraceCut}
-use Rattle.nanobot_rows.specs.Reading.{AreBad, HasRun, OnBytes, RunState, Stands}
+use Rattle.nanobot_rows.specs.Reading.{AreBad, HasRun, OnBytes, RunState, RunStands}
 use Rattle.nanobot_rows.specs.Report.{of_verdict}
 
 -- ---- pieces
 
-stands_of : (source : Matrix) (profile : Profile) (bytes : List ℕ) (s : RunState) → IsFalse s.decoder.failed → HasRun source profile bytes s → Stands source profile bytes s
-stands_of source profile bytes s works run = subst (λ t. MatchBool t (AreBad bytes s.decoder.offset) (Stands source profile bytes s)) works run
+stands_of : (source : Matrix) (profile : Profile) (bytes : List ℕ) (s : RunState) → IsFalse s.decoder.failed → HasRun source profile bytes s → RunStands source profile bytes s
+stands_of source profile bytes s works run = subst (λ t. MatchBool t (AreBad bytes s.decoder.offset) (RunStands source profile bytes s)) works run
 
 pub started : (source : Matrix) (profile : Profile) (d : DecoderState) (r : Course) → HasTaken [] [] fresh → d ≡ fresh → r.progress ≡ begun source profile → HasRun source profile [] (record { decoder = d; run = r })
 started source profile d r taken e f =
@@ -33,20 +33,20 @@ started source profile d r taken e f =
 -- what the decoder's law says of a command
 abbrev pub GotLaw : Type 0
 GotLaw = (bytes piece : List ℕ) (commands : List Command) (decoder : DecoderState) (command : Command) (used : ℕ) →
-    HasTaken bytes commands decoder → Answers decoder piece (Got command used) →
-    HasTaken (bytes ++ take used piece) (commands ++ command ∷ []) (after decoder piece (Got command used))
+    HasTaken bytes commands decoder → AnswersPiece decoder piece (Got command used) →
+    HasTaken (bytes ++ take used piece) (commands ++ command ∷ []) (decoder_after decoder piece (Got command used))
 
 abbrev pub AllLaw : Type 0
 AllLaw = (bytes piece : List ℕ) (commands : List Command) (decoder : DecoderState) →
-    HasTaken bytes commands decoder → Answers decoder piece All → HasTaken (bytes ++ piece) commands (after decoder piece All)
+    HasTaken bytes commands decoder → AnswersPiece decoder piece All → HasTaken (bytes ++ piece) commands (decoder_after decoder piece All)
 
 abbrev pub BadLaw : Type 0
 BadLaw = (bytes piece more : List ℕ) (commands : List Command) (decoder : DecoderState) (offset : ℕ) →
-    HasTaken bytes commands decoder → Answers decoder piece (Bad offset) → Decoding ((bytes ++ piece) ++ more) (Err (BadAt offset))
+    HasTaken bytes commands decoder → AnswersPiece decoder piece (Bad offset) → Decoding ((bytes ++ piece) ++ more) (Err (BadAt offset))
 
 module _ (source : Matrix) (profile : Profile) (bytes piece : List ℕ) (s : RunState) (run : HasRun source profile bytes s) where
-  pub got_step : (law : GotLaw) (command : Command) (used : ℕ) (r : Course) → Answers s.decoder piece (Got command used) → Pushes s.run.progress command r.progress
-      → HasRun source profile (bytes ++ take used piece) (record { decoder = after s.decoder piece (Got command used); run = r })
+  pub got_step : (law : GotLaw) (command : Command) (used : ℕ) (r : Course) → AnswersPiece s.decoder piece (Got command used) → Pushes s.run.progress command r.progress
+      → HasRun source profile (bytes ++ take used piece) (record { decoder = decoder_after s.decoder piece (Got command used); run = r })
   got_step law command used r answers pushes =
       let st = stands_of source profile bytes s answers.works run in
       record {
@@ -55,7 +55,7 @@ module _ (source : Matrix) (profile : Profile) (bytes piece : List ℕ) (s : Run
         progress_is = later st.commands s.run.progress command st.progress_is pushes refl;
       }
 
-  pub all_step : (law : AllLaw) → Answers s.decoder piece All → HasRun source profile (bytes ++ piece) (record { decoder = after s.decoder piece All; run = s.run })
+  pub all_step : (law : AllLaw) → AnswersPiece s.decoder piece All → HasRun source profile (bytes ++ piece) (record { decoder = decoder_after s.decoder piece All; run = s.run })
   all_step law answers =
       let st = stands_of source profile bytes s answers.0 run in
       record {
@@ -64,15 +64,15 @@ module _ (source : Matrix) (profile : Profile) (bytes piece : List ℕ) (s : Run
         progress_is = st.progress_is;
       }
 
-  pub bad_step : (law : BadLaw) (offset : ℕ) → Answers s.decoder piece (Bad offset) → HasRun source profile (bytes ++ piece) (record { decoder = after s.decoder piece (Bad offset); run = s.run })
+  pub bad_step : (law : BadLaw) (offset : ℕ) → AnswersPiece s.decoder piece (Bad offset) → HasRun source profile (bytes ++ piece) (record { decoder = decoder_after s.decoder piece (Bad offset); run = s.run })
   bad_step law offset answers = by s.decoder.failed refl run
     where
-      by : (t : Bool) → s.decoder.failed ≡ t → MatchBool t (AreBad bytes s.decoder.offset) (Stands source profile bytes s) → AreBad (bytes ++ piece) s.decoder.offset
+      by : (t : Bool) → s.decoder.failed ≡ t → MatchBool t (AreBad bytes s.decoder.offset) (RunStands source profile bytes s) → AreBad (bytes ++ piece) s.decoder.offset
       by true f bad = λ more. subst (λ (b : List ℕ). Decoding b (Err (BadAt s.decoder.offset))) (sym (append_assoc bytes piece more)) (bad (piece ++ more))
       by false f st = λ more. subst (λ (n : ℕ). Decoding ((bytes ++ piece) ++ more) (Err (BadAt n))) answers.0 (law bytes piece more st.commands s.decoder offset st.taken answers)
 
 -- a command that was got has a spelling of one byte at least
-pub longer : (d : DecoderState) (piece : List ℕ) (command : Command) (used : ℕ) → Answers d piece (Got command used) → 1 ≤ length (spelling command)
+pub longer : (d : DecoderState) (piece : List ℕ) (command : Command) (used : ℕ) → AnswersPiece d piece (Got command used) → 1 ≤ length (spelling command)
 longer d piece command used a =
     let e = ap length a.spelling_is in
     let l = length-append d.held (take used piece) in
@@ -82,24 +82,24 @@ longer d piece command used a =
 -- ---- the end
 
 abbrev pub WholeLaw : Type 0
-WholeLaw = (bytes : List ℕ) (commands : List Command) (decoder : DecoderState) → HasTaken bytes commands decoder → Ends {A = Unit {0}} decoder (Ok tt) → Decodes bytes (Ok commands)
+WholeLaw = (bytes : List ℕ) (commands : List Command) (decoder : DecoderState) → HasTaken bytes commands decoder → EndsTrace {A = Unit {0}} decoder (Ok tt) → Decodes bytes (Ok commands)
 
 abbrev pub CutLaw : Type 0
-CutLaw = (bytes : List ℕ) (commands : List Command) (decoder : DecoderState) (fault : TraceFault) → HasTaken bytes commands decoder → Ends {A = Unit {0}} decoder (Err fault) → Decodes bytes (Err fault)
+CutLaw = (bytes : List ℕ) (commands : List Command) (decoder : DecoderState) (fault : TraceFault) → HasTaken bytes commands decoder → EndsTrace {A = Unit {0}} decoder (Err fault) → Decodes bytes (Err fault)
 
 module _ (source target : Matrix) (profile : Profile) (bytes : List ℕ) (s : RunState) (run : HasRun source profile bytes s) where
-  pub ends_bad : (offset : ℕ) → Ends {A = Unit {0}} s.decoder (Err (fault.Bad offset)) → OnBytes profile source target bytes (TraceBad offset)
+  pub ends_bad : (offset : ℕ) → EndsTrace {A = Unit {0}} s.decoder (Err (fault.Bad offset)) → OnBytes profile source target bytes (TraceBad offset)
   ends_bad offset ends =
-      let bad = subst (λ t. MatchBool t (AreBad bytes s.decoder.offset) (Stands source profile bytes s)) ends.0 run in
+      let bad = subst (λ t. MatchBool t (AreBad bytes s.decoder.offset) (RunStands source profile bytes s)) ends.0 run in
       (Err (BadAt offset), subst (λ (n : ℕ). Decoding bytes (Err (BadAt n))) (sym ends.1) (subst (λ (b : List ℕ). Decoding b (Err (BadAt s.decoder.offset))) (append-nil bytes) (bad [])), refl)
 
-  pub ends_cut : (law : CutLaw) (offset : ℕ) → Ends {A = Unit {0}} s.decoder (Err (fault.Cut offset)) → OnBytes profile source target bytes (TraceCut offset)
+  pub ends_cut : (law : CutLaw) (offset : ℕ) → EndsTrace {A = Unit {0}} s.decoder (Err (fault.Cut offset)) → OnBytes profile source target bytes (TraceCut offset)
   ends_cut law offset ends =
       let st = stands_of source profile bytes s ends.0 run in
       (Err (CutAt offset), law bytes st.commands s.decoder (fault.Cut offset) st.taken ends, refl)
 
   pub ends_run : (law : WholeLaw) (verdicts : (commands : List Command) (p : Progress) (v : Verdict) → Comes source profile commands p → Finishes target p v → VerdictOf source target commands profile v)
-      (v : Verdict) → Ends {A = Unit {0}} s.decoder (Ok tt) → Finishes target s.run.progress v → OnBytes profile source target bytes (of_verdict v)
+      (v : Verdict) → EndsTrace {A = Unit {0}} s.decoder (Ok tt) → Finishes target s.run.progress v → OnBytes profile source target bytes (of_verdict v)
   ends_run law verdicts v ends f =
       let st = stands_of source profile bytes s ends.0 run in
       (Ok st.commands, law bytes st.commands s.decoder st.taken ends, (v, verdicts st.commands s.run.progress v st.progress_is f, refl))

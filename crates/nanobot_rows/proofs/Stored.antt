@@ -18,23 +18,23 @@ use Rattle.nanobot_rows.specs.declared.report.Report.TheVariants as report
 use Rattle.nanobot_rows.specs.declared.stop.Stop.{Stop}
 use Rattle.nanobot_rows.specs.Answer.{AnswerOf, Answers, OfDecoding, OfGroupPlan, OfPlan, OfReading, OfText, OfTrace, Reply, Stores, Tells, WithFile, WithModels, dis_limit, group_limit, text_limit, with_file}
 use Rattle.nanobot_rows.specs.Planners.{IsGroupPlan, PlanFacts}
-use Rattle.nanobot_rows.specs.Effects.{Finishes, KeepsPlan, bytes_by, files_with, reply_by, status_by}
-use Rattle.nanobot_rows.specs.Reading.{AreBoth, AreModels, IsSide, IsTextOf, IsTraceOf, Lacks, LacksModels, Reads, RefusesDecoding, RefusesModels, RefusesReading, RefusesText, RefusesTrace, gone, reply_of}
-use Rattle.nanobot_rows.specs.Report.{line_of, no_trace, status_of}
+use Rattle.nanobot_rows.specs.Effects.{EndsStored, KeepsPlan, bytes_by, files_with, reply_by, status_by}
+use Rattle.nanobot_rows.specs.Reading.{AreBoth, AreModels, IsSide, IsTextOf, IsTraceOf, Lacks, LacksModels, Reads, RefusesDecoding, RefusesModels, RefusesReading, RefusesText, RefusesTrace, no_such_file, reply_of}
+use Rattle.nanobot_rows.specs.Report.{report_line, no_trace, status_of}
 use Rattle.nanobot_words.specs.Rows.{dis}
 use Rattle.nanobot_rows.proofs.Loads.{not_longer}
 use Rattle.nanobot_rows.proofs.Replies.{ReadsModels, models_given, models_lack, models_refused, stops}
 use Rattle.nanobot_rows.proofs.Told.{if_some, weaker}
 
 -- a file that is not there
-pub file_lacks : (files : Files) (name : List ℕ) (p : List ℕ → Reply → Type 0) → Lacks name files → WithFile files name p (gone files)
-file_lacks files name p h = subst (λ (o : Option (List ℕ)). MatchOption o (gone files ≡ gone files) (λ bytes. p bytes (gone files))) (sym h) refl
+pub file_lacks : (files : Files) (name : List ℕ) (p : List ℕ → Reply → Type 0) → Lacks name files → WithFile files name p (no_such_file files)
+file_lacks files name p h = subst (λ (o : Option (List ℕ)). MatchOption o (no_such_file files ≡ no_such_file files) (λ bytes. p bytes (no_such_file files))) (sym h) refl
 
 -- what holds of the bytes of a file
 pub of_file : (files : Files) (name : List ℕ) (P : List ℕ → Type 0) (p : List ℕ → Reply → Type 0) (reply : Reply) → ((bytes : List ℕ) → P bytes → p bytes reply) → IsSomeAnd (content files name) P → WithFile files name p reply
 of_file files name P p reply f h = by (content files name) h
   where
-    by : (o : Option (List ℕ)) → IsSomeAnd o P → MatchOption o (reply ≡ gone files) (λ bytes. p bytes reply)
+    by : (o : Option (List ℕ)) → IsSomeAnd o P → MatchOption o (reply ≡ no_such_file files) (λ bytes. p bytes reply)
     by None h = absurd h
     by (Some bytes) h = f bytes h
 
@@ -73,14 +73,14 @@ module _ (files : Files) (name : List ℕ) (p : List Command → Reply → Type 
 
 -- what is told with a file that is stored
 stored_reply : (files : Files) (effect : Effect) (told : Report) (file : NewFile) (name bytes : List ℕ) → effect ≡ record { message = message.Line told; file = Some file } → file.name.now ≡ name → file.bytes.items ≡ bytes → Stores told name bytes files (reply_by files effect)
-stored_reply files effect told file name bytes e en eb = ap (reply_by files) e ∙ (λ i. record { status = status_of told; line = line_of told; after = with_file files (en i) (eb i) })
+stored_reply files effect told file name bytes e en eb = ap (reply_by files) e ∙ (λ i. record { status = status_of told; line = report_line told; after = with_file files (en i) (eb i) })
 
 module _ (told : Option Files) (trace text : List ℕ) where
   -- what the commands come to
   abbrev Prints : Files → List Command → Reply → Type 0
   Prints files commands = Stores (report.Stored (length commands) (length (print commands))) text (print commands) files
 
-  pub dis_stops : (rose : Type 0) (s : Stop) → Reads {A = List Command} told rose (λ files commands. IsTraceOf files trace commands) (RefusesTrace trace) (Lacks trace) (Err s) → Finishes (AnswerOf (dis trace text)) told rose (Err s)
+  pub dis_stops : (rose : Type 0) (s : Stop) → Reads {A = List Command} told rose (λ files commands. IsTraceOf files trace commands) (RefusesTrace trace) (Lacks trace) (Err s) → EndsStored (AnswerOf (dis trace text)) told rose (Err s)
   dis_stops rose s reads =
       stops Effect (λ files effect. AnswerOf (dis trace text) files (reply_by files effect)) (AnswerOf (dis trace text)) told rose rose (λ files commands. IsTraceOf files trace commands) (RefusesTrace trace) (Lacks trace) s reads (λ h. h)
       (if_some told (λ files _. ((λ r h. trace_refused files trace (Prints files) r h), (λ h. file_lacks files trace (λ bytes. OfTrace dis_limit files bytes (Prints files)) h))))
@@ -116,7 +116,7 @@ module _ (told : Option Files) (source target : Option (List ℕ)) (p : Files �
   OfModels files = WithModels files source target (p files)
 
   -- the models stop the call
-  pub models_stop : (rose : Type 0) (s : Stop) → ReadsModels told source target rose (Err s) → Finishes OfModels told rose (Err s)
+  pub models_stop : (rose : Type 0) (s : Stop) → ReadsModels told source target rose (Err s) → EndsStored OfModels told rose (Err s)
   models_stop rose s reads =
       stops Effect (λ files effect. OfModels files (reply_by files effect)) OfModels told rose rose (λ files (models : Matrix × Matrix). AreModels source target files models.0 models.1) (RefusesModels source target) (LacksModels source target) s
       reads (λ h. h) (if_some told (λ files _. ((λ r h. models_refused files source target _ r h), (λ h. models_lack files source target _ h))))

@@ -49,7 +49,7 @@ module _ (told : Option Files) (name v : List ℕ) (loaded : IfTold told name (�
   unlawful who p why e h = told_weaker told name _ _ (λ file s. subst (λ (r : Result Matrix NoModel). RefusesBytes who r (Model who (not_legal why))) (sym (s ∙ e)) (why, h, refl)) says
 
   module _ (rose : Type 0) (who : Who) where
-    pub not_read : (f : ModelFault) → file.Reads (model v) (Err f) → Reads {A = Matrix} told rose (λ files p. IsModelOf files name p) (RefusesFile who name) (Lacks name) (Err (of_fault who f))
+    pub not_read : (f : ModelFault) → file.ReadsModel (model v) (Err f) → Reads {A = Matrix} told rose (λ files p. IsModelOf files name p) (RefusesFile who name) (Lacks name) (Err (of_fault who f))
     not_read fault.NoByte h = none_is who m.NoByte h
     not_read (fault.Resolution r) h = none_is who (m.Resolution r) h
     not_read (fault.Short want have) h = none_is who (m.Short want have) h

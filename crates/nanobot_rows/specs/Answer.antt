@@ -19,7 +19,7 @@ use Rattle.vox_depot.specs.Files.{Files, content}
 use Rattle.group_planner.specs.Phases as group
 use Rattle.group_planner.specs.Rows.{rows, runs}
 use Rattle.low_planner.specs.Supported.{FirstUnsupported}
-use Rattle.step_debugger.specs.Session.{Line}
+use Rattle.step_debugger.specs.Session.{DebugLine}
 use Rattle.debug_script.specs.Script.{ScriptSays}
 use Rattle.debug_script.specs.Sessions.{PrintsFrom}
 use Rattle.nanobot_rows.specs.declared.report.Cost.{Cost}
@@ -30,7 +30,7 @@ use Rattle.nanobot_rows.specs.declared.report.Who.TheVariants as who
 use Rattle.nanobot_rows.specs.declared.status.Status.{Status}
 use Rattle.nanobot_rows.specs.declared.status.Status.TheVariants as is
 use Rattle.nanobot_rows.specs.Planners.{IsGroupPlan, IsLayerPlan, IsLowPlan, IsSwarmPlan, IsVoidPlan, PlanFacts}
-use Rattle.nanobot_rows.specs.Report.{faulty_text, line_of, no_model, not_legal, of_verdict, status_of, words_line}
+use Rattle.nanobot_rows.specs.Report.{faulty_text, report_line, no_model, not_legal, of_verdict, status_of, words_line}
 use Rattle.nanobot_words.specs.Rows.{Row, asm, check, debug, dis, exercise, light, make, plan_group, plan_layer, plan_low, plan_swarm, plan_void, run, IsRow, IsInNoRow, MakesPlans}
 
 pub record Reply : Type 0 where
@@ -43,7 +43,7 @@ Answers = Files → Reply → Type 0
 
 -- this report, and the files as they were
 abbrev pub Tells : Report → Files → Reply → Type 0
-Tells report files reply = reply ≡ record { status = status_of report; line = line_of report; after = files }
+Tells report files reply = reply ≡ record { status = status_of report; line = report_line report; after = files }
 
 -- the files, of which that of the name now has these bytes
 abbrev pub with_file : Files → List ℕ → List ℕ → Files
@@ -51,7 +51,7 @@ with_file files name bytes = finite.insert files name bytes
 
 -- this report, and the file of the name now has these bytes
 abbrev pub Stores : Report → List ℕ → List ℕ → Files → Reply → Type 0
-Stores report name bytes files reply = reply ≡ record { status = status_of report; line = line_of report; after = with_file files name bytes }
+Stores report name bytes files reply = reply ≡ record { status = status_of report; line = report_line report; after = with_file files name bytes }
 
 -- the words are in no row of the table
 abbrev pub IsNoRow : Files → Reply → Type 0
@@ -182,19 +182,19 @@ abbrev pub script_limit : ℕ
 script_limit = 65536
 
 -- p of the lines of a script, which may have a faulty one
-abbrev pub OfLines : Files → Result (List Line) FaultyLine → (List Line → Reply → Type 0) → Reply → Type 0
+abbrev pub OfLines : Files → Result (List DebugLine) FaultyLine → (List DebugLine → Reply → Type 0) → Reply → Type 0
 OfLines files (Ok lines) p = p lines
 OfLines files (Err faulty) p = Tells (faulty_text faulty) files
 
 -- the same of a script that may be too long, over a source of a resolution
-abbrev pub OfScript : ℕ → Files → List ℕ → (List Line → Reply → Type 0) → Reply → Type 0
+abbrev pub OfScript : ℕ → Files → List ℕ → (List DebugLine → Reply → Type 0) → Reply → Type 0
 OfScript r files bytes p reply =
     MatchBool (nat_lt script_limit (length bytes))
     (Tells (TextLong script_limit) files reply)
-    ((said : Result (List Line) FaultyLine) × ScriptSays r bytes said × OfLines files said p reply)
+    ((said : Result (List DebugLine) FaultyLine) × ScriptSays r bytes said × OfLines files said p reply)
 
 -- the lines of a session over the commands from the source on
-abbrev pub OfSession : Files → Matrix → List Command → List Line → Reply → Type 0
+abbrev pub OfSession : Files → Matrix → List Command → List DebugLine → Reply → Type 0
 OfSession files source commands script reply =
     (text : List ℕ) × PrintsFrom source full_profile commands script text × (reply ≡ record { status = is.Done; line = text; after = files })
 

@@ -14,8 +14,8 @@ use Rattle.nanobot_rows.specs.declared.status.Status.{Status}
 use Rattle.nanobot_rows.specs.declared.status.Status.TheVariants as is
 use Rattle.nanobot_rows.specs.declared.stop.Stop.{Stop}
 use Rattle.nanobot_rows.specs.Answer.{Answers, Reply, with_file}
-use Rattle.nanobot_rows.specs.Reading.{Reads, gone, reply_of}
-use Rattle.nanobot_rows.specs.Report.{line_of, status_of}
+use Rattle.nanobot_rows.specs.Reading.{Reads, no_such_file, reply_of}
+use Rattle.nanobot_rows.specs.Report.{report_line, status_of}
 
 -- the status and the bytes of a message: those of a report and its line, or those of the lines of a session
 abbrev pub status_by : Message → Status
@@ -23,7 +23,7 @@ status_by (message.Line report) = status_of report
 status_by (message.Session lines) = is.Done
 
 abbrev pub bytes_by : Message → List ℕ
-bytes_by (message.Line report) = line_of report
+bytes_by (message.Line report) = report_line report
 bytes_by (message.Session lines) = lines.items
 
 -- a report alone
@@ -47,8 +47,8 @@ pub record KeepsPlan (name : List ℕ) (commands : List Command) (energy : ℤ) 
   pub file : IsSomeAnd effect.file (λ file. (file.name.now ≡ name) × (file.bytes.items ≡ spellings commands))
 
 -- what is answered where a file may be stored
-abbrev pub Finishes : Answers → Option Files → Type 0 → Result Effect Stop → Type 0
-Finishes answers told rose result = Reads told rose (λ files effect. answers files (reply_by files effect)) (λ files report. answers files (reply_of files report)) (λ files. answers files (gone files)) result
+abbrev pub EndsStored : Answers → Option Files → Type 0 → Result Effect Stop → Type 0
+EndsStored answers told rose result = Reads told rose (λ files effect. answers files (reply_by files effect)) (λ files report. answers files (reply_of files report)) (λ files. answers files (no_such_file files)) result
 
 -- a file that the effect stores has this name, and is stored where the call is done
 abbrev pub IsFor : Option (List ℕ) → Effect → Type 0
@@ -65,6 +65,6 @@ told_with told None = told
 told_with told (Some file) = stored told file.name.now file.bytes.items
 
 -- a new file was not stored: all others are as they were
-abbrev pub IsLost : Option NewFile → Option Files → Option Files → Type 0
-IsLost None old new = new ≡ old
-IsLost (Some file) old new = others new file.name.now ≡ others old file.name.now
+abbrev pub IsUnstored : Option NewFile → Option Files → Option Files → Type 0
+IsUnstored None old new = new ≡ old
+IsUnstored (Some file) old new = others new file.name.now ≡ others old file.name.now

@@ -32,7 +32,7 @@ pub record IsLayerPlan (source target : Matrix) (commands : List Command) (energ
 pub record IsVoidPlan (source target : Matrix) (commands : List Command) (energy : ℤ) (steps : ℕ) : Type 0 where
   pub are_commands : AreCommands commands
   pub accepted : VerdictOf source target commands full_profile (verdict.Accepted energy steps)
-  pub few_steps : steps ≤ void.most_steps source.resolution
+  pub few_steps : steps ≤ void.most_void_steps source.resolution
   pub few_bots : HasAtMost source full_profile commands 4
   pub halt_alone : source ≡ target → commands ≡ Halt ∷ []
 
@@ -41,8 +41,8 @@ pub record IsVoidPlan (source target : Matrix) (commands : List Command) (energy
 pub record IsGroupPlan (source target : Matrix) (commands : List Command) (energy : ℤ) (steps : ℕ) : Type 0 where
   pub are_commands : AreCommands commands
   pub accepted : VerdictOf source target commands full_profile (verdict.Accepted energy steps)
-  pub few_steps : steps ≤ group.most_steps source target
-  pub few_commands : length commands ≤ 2 * group.most_steps source target
+  pub few_steps : steps ≤ group.most_group_steps source target
+  pub few_commands : length commands ≤ 2 * group.most_group_steps source target
   pub few_bytes : length (spellings commands) ≤ group.most_bytes source target
   pub halt_alone : source ≡ target → commands ≡ Halt ∷ []
 

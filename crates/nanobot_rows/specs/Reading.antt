@@ -34,7 +34,7 @@ use Rattle.debug_script.specs.Calls.{lines_are}
 use Rattle.debug_script.specs.Script.{ScriptSays}
 use Rattle.debug_script.specs.declared.line.ScriptLine.{ScriptLine}
 use Rattle.nanobot_rows.specs.Answer.{Answers, Reply, dis_limit, script_limit, text_limit}
-use Rattle.nanobot_rows.specs.Report.{faulty_text, line_of, no_model, no_trace, not_legal, of_verdict, status_of}
+use Rattle.nanobot_rows.specs.Report.{faulty_text, report_line, no_model, no_trace, not_legal, of_verdict, status_of}
 
 -- ---- why a call stops
 
@@ -186,13 +186,13 @@ abbrev pub AreBad : List ℕ → ℕ → Type 0
 AreBad bytes offset = (more : List ℕ) → Decoding (bytes ++ more) (Err (BadAt offset))
 
 -- the bytes were taken, and this is how the run of their commands stands
-pub record Stands (source : Matrix) (profile : Profile) (bytes : List ℕ) (s : RunState) : Type 0 where
+pub record RunStands (source : Matrix) (profile : Profile) (bytes : List ℕ) (s : RunState) : Type 0 where
   pub commands : List Command
   pub taken : HasTaken bytes commands s.decoder
   pub progress_is : Comes source profile commands s.run.progress
 
 abbrev pub HasRun : Matrix → Profile → List ℕ → RunState → Type 0
-HasRun source profile bytes s = MatchBool s.decoder.failed (AreBad bytes s.decoder.offset) (Stands source profile bytes s)
+HasRun source profile bytes s = MatchBool s.decoder.failed (AreBad bytes s.decoder.offset) (RunStands source profile bytes s)
 
 -- the report on commands
 abbrev pub OnCommands : Profile → Matrix → Matrix → List Command → Report → Type 0
@@ -224,12 +224,12 @@ tells_nothing files report = ⊥
 
 -- the report as a reply
 abbrev pub reply_of : Files → Report → Reply
-reply_of files report = record { status = status_of report; line = line_of report; after = files }
+reply_of files report = record { status = status_of report; line = report_line report; after = files }
 
 -- a file is not there
-abbrev pub gone : Files → Reply
-gone files = record { status = is.Depot; line = []; after = files }
+abbrev pub no_such_file : Files → Reply
+no_such_file files = record { status = is.Depot; line = []; after = files }
 
 -- what is answered without any file that is stored
-abbrev pub Ends : Answers → Option Files → Type 0 → Result Report Stop → Type 0
-Ends answers told rose result = Reads told rose (λ files report. answers files (reply_of files report)) (λ files report. answers files (reply_of files report)) (λ files. answers files (gone files)) result
+abbrev pub EndsUnstored : Answers → Option Files → Type 0 → Result Report Stop → Type 0
+EndsUnstored answers told rose result = Reads told rose (λ files report. answers files (reply_of files report)) (λ files report. answers files (reply_of files report)) (λ files. answers files (no_such_file files)) result

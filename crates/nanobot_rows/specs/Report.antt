@@ -103,23 +103,23 @@ abbrev pub words_line : List ℕ
 words_line = codes "words not understood\n"
 
 -- the line of a report
-abbrev pub line_of : Report → List ℕ
-line_of (report.Accepted energy steps) = concat (codes "ok energy " ∷ signed_decimal energy ∷ codes " steps " ∷ decimal steps ∷ codes "\n" ∷ [])
-line_of (report.Legal resolution full) = concat (codes "legal resolution " ∷ decimal resolution ∷ codes " full " ∷ decimal full ∷ codes "\n" ∷ [])
-line_of (report.Stored commands bytes) = concat (codes "commands " ∷ decimal commands ∷ codes " bytes " ∷ decimal bytes ∷ codes "\n" ∷ [])
-line_of (report.Forged resolution full) = concat (codes "model resolution " ∷ decimal resolution ∷ codes " full " ∷ decimal full ∷ codes "\n" ∷ [])
-line_of (report.Planned energy steps commands bytes) = concat (codes "plan energy " ∷ signed_decimal energy ∷ codes " steps " ∷ decimal steps ∷ codes " commands " ∷ decimal commands ∷ codes " bytes " ∷ decimal bytes ∷ codes "\n" ∷ [])
-line_of (report.Broken broken) = broken_line broken
-line_of (report.Model who fault) = model_line who fault
-line_of (report.Resolutions source target) = concat (codes "resolutions " ∷ decimal source ∷ codes " " ∷ decimal target ∷ codes "\n" ∷ [])
-line_of (report.TraceBad offset) = concat (codes "trace bad at " ∷ decimal offset ∷ codes "\n" ∷ [])
-line_of (report.TraceCut offset) = concat (codes "trace cut at " ∷ decimal offset ∷ codes "\n" ∷ [])
-line_of (report.TraceLong limit) = concat (codes "trace longer than " ∷ decimal limit ∷ codes "\n" ∷ [])
-line_of (report.Text fault) = text_line fault
-line_of (report.TextLong limit) = concat (codes "text longer than " ∷ decimal limit ∷ codes "\n" ∷ [])
-line_of (report.GroupLong runs rows) = concat (codes "group plan too long runs " ∷ decimal runs ∷ codes " rows " ∷ decimal rows ∷ codes "\n" ∷ [])
-line_of (report.Unsupported at) = concat (codes "unsupported at " ∷ decimal at.x ∷ codes " " ∷ decimal at.y ∷ codes " " ∷ decimal at.z ∷ codes "\n" ∷ [])
-line_of (report.Exercised number resolution full layer group) = exercised_line (exercised_head number resolution full) layer group
+abbrev pub report_line : Report → List ℕ
+report_line (report.Accepted energy steps) = concat (codes "ok energy " ∷ signed_decimal energy ∷ codes " steps " ∷ decimal steps ∷ codes "\n" ∷ [])
+report_line (report.Legal resolution full) = concat (codes "legal resolution " ∷ decimal resolution ∷ codes " full " ∷ decimal full ∷ codes "\n" ∷ [])
+report_line (report.Stored commands bytes) = concat (codes "commands " ∷ decimal commands ∷ codes " bytes " ∷ decimal bytes ∷ codes "\n" ∷ [])
+report_line (report.Forged resolution full) = concat (codes "model resolution " ∷ decimal resolution ∷ codes " full " ∷ decimal full ∷ codes "\n" ∷ [])
+report_line (report.Planned energy steps commands bytes) = concat (codes "plan energy " ∷ signed_decimal energy ∷ codes " steps " ∷ decimal steps ∷ codes " commands " ∷ decimal commands ∷ codes " bytes " ∷ decimal bytes ∷ codes "\n" ∷ [])
+report_line (report.Broken broken) = broken_line broken
+report_line (report.Model who fault) = model_line who fault
+report_line (report.Resolutions source target) = concat (codes "resolutions " ∷ decimal source ∷ codes " " ∷ decimal target ∷ codes "\n" ∷ [])
+report_line (report.TraceBad offset) = concat (codes "trace bad at " ∷ decimal offset ∷ codes "\n" ∷ [])
+report_line (report.TraceCut offset) = concat (codes "trace cut at " ∷ decimal offset ∷ codes "\n" ∷ [])
+report_line (report.TraceLong limit) = concat (codes "trace longer than " ∷ decimal limit ∷ codes "\n" ∷ [])
+report_line (report.Text fault) = text_line fault
+report_line (report.TextLong limit) = concat (codes "text longer than " ∷ decimal limit ∷ codes "\n" ∷ [])
+report_line (report.GroupLong runs rows) = concat (codes "group plan too long runs " ∷ decimal runs ∷ codes " rows " ∷ decimal rows ∷ codes "\n" ∷ [])
+report_line (report.Unsupported at) = concat (codes "unsupported at " ∷ decimal at.x ∷ codes " " ∷ decimal at.y ∷ codes " " ∷ decimal at.z ∷ codes "\n" ∷ [])
+report_line (report.Exercised number resolution full layer group) = exercised_line (exercised_head number resolution full) layer group
 
 -- ---- what the definitions come to, as reports
 

@@ -26,13 +26,13 @@ pub record BeginWith (bytes : List ℕ) (commands : List Command) : Type 0 where
 
 -- from before to after there are at most a hundred touches for each voxel of the source and for each part of a work: of that of the longest
 -- front of the trace, and of that of commands that the trace begins with
-pub record IsWithin (profile : Profile) (source : Matrix) (bytes : List ℕ) (before after : ℕ) : Type 0 where
+pub record IsWithinTrace (profile : Profile) (source : Matrix) (bytes : List ℕ) (before after : ℕ) : Type 0 where
   pub longest : (commands : List Command) → AreInFront bytes commands → IsWithinWorkOfRun source commands profile before after
   pub given : (commands : List Command) × BeginWith bytes commands × IsWithinWorkOfRun source commands profile before after
 
 -- the same where files are told, and the trace is one of them
 abbrev pub IsWithinFile : Profile → Matrix → Option Files → List ℕ → ℕ → ℕ → Type 0
-IsWithinFile profile source told trace before after = (files : Files) (bytes : List ℕ) → told ≡ Some files → content files trace ≡ Some bytes → IsWithin profile source bytes before after
+IsWithinFile profile source told trace before after = (files : Files) (bytes : List ℕ) → told ≡ Some files → content files trace ≡ Some bytes → IsWithinTrace profile source bytes before after
 
 -- the same of the legal models of a source and a target
 abbrev pub IsRunWithin : Profile → Option (List ℕ) → Option (List ℕ) → List ℕ → Option Files → ℕ → ℕ → Type 0

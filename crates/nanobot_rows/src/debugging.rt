@@ -3,7 +3,7 @@ ghost use Rattle.std.specs.Prelude.{◌≡◌, ◌≤◌, IfOk, None};
 ghost use Rattle.vox_depot.specs.Causes.{Rose};
 ghost use Rattle.nanobot_words.specs.Rows.{debug as debug_row};
 ghost use Rattle.nanobot_rows.specs.Answer.{AnswerOf};
-ghost use Rattle.nanobot_rows.specs.Effects.{Finishes, IsFor};
+ghost use Rattle.nanobot_rows.specs.Effects.{EndsStored, IsFor};
 ghost use Rattle.nanobot_rows.specs.Reading.{IsScriptOf, Lacks, Reads, RefusesScript};
 
 use crate::commands::load_trace;
@@ -56,7 +56,7 @@ pub fn debug<'a, D: Depot, L: Ledger>(
     requires source { D.may_fetch source.now }
     requires trace { D.may_fetch trace.now }
     requires script { D.may_fetch script.now }
-    ensures finishes { Finishes (AnswerOf (debug_row source.now trace.now script.now)) (D.files depot.old) (Rose (D.faults depot.old) (D.faults depot.new)) result }
+    ensures finishes { EndsStored (AnswerOf (debug_row source.now trace.now script.now)) (D.files depot.old) (Rose (D.faults depot.old) (D.faults depot.new)) result }
     ensures named { IfOk result (IsFor None) }
     ensures files { D.files depot.new ≡ D.files depot.old }
     ensures later { D.faults depot.old ≤ D.faults depot.new }

@@ -1,7 +1,7 @@
 //! What a row comes to.
 ghost use Rattle.std.specs.Prelude.{◌≡◌, ◌≤◌, OnOk, OnErr, Some};
 ghost use Rattle.vox_depot.specs.Causes.{Rose};
-ghost use Rattle.nanobot_rows.specs.Effects.{IsLost, MayKeep, alone, status_by, told_with};
+ghost use Rattle.nanobot_rows.specs.Effects.{IsUnstored, MayKeep, alone, status_by, told_with};
 
 use crate::report::Report;
 use crate::status::Status;
@@ -69,7 +69,7 @@ impl<'a> Effect<'a> {
     pub fn keep<D: Depot>(&self, depot: &mut D) -> Result<(), StoreFault>
         requires { MayKeep D.may_store self.now.file }
         ensures kept { OnOk result (D.files depot.new ≡ told_with (D.files depot.old) self.now.file) }
-        ensures lost { OnErr result (IsLost self.now.file (D.files depot.old) (D.files depot.new)) }
+        ensures lost { OnErr result (IsUnstored self.now.file (D.files depot.old) (D.files depot.new)) }
         ensures failed { OnErr result (Rose (D.faults depot.old) (D.faults depot.new)) }
         ensures later { D.faults depot.old ≤ D.faults depot.new }
     {

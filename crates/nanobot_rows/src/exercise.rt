@@ -8,7 +8,7 @@ ghost use Rattle.nano_spec.specs.declared.outcomes.Verdict.TheVariants.{Accepted
 ghost use Rattle.nano_spec.specs.Verdict.{VerdictOf};
 ghost use Rattle.nanobot_words.specs.Rows.{exercise as exercise_row};
 ghost use Rattle.nanobot_rows.specs.Answer.{AnswerOf};
-ghost use Rattle.nanobot_rows.specs.Reading.{Ends};
+ghost use Rattle.nanobot_rows.specs.Reading.{EndsUnstored};
 
 use crate::report::{Cost, Report};
 use crate::stop::Stop;
@@ -62,7 +62,7 @@ pub fn exercise<L: Ledger>(
 ) -> Result<Report, Stop>
     requires some { 1 ≤ resolution }
     requires most { resolution ≤ MOST_R }
-    ensures ends { (told : Option Files) (before now : ℕ) → Ends (AnswerOf (exercise_row number resolution)) told (Rose before now) result }
+    ensures ends { (told : Option Files) (before now : ℕ) → EndsUnstored (AnswerOf (exercise_row number resolution)) told (Rose before now) result }
 {
     let target = forge(alloc, number, resolution)?;
     let nothing = Planes::empty(alloc, resolution)?;

@@ -6,7 +6,7 @@ ghost use Rattle.vox_depot.specs.Causes.{Rose};
 ghost use Rattle.nanobot_words.specs.Parsing.{side_of};
 ghost use Rattle.nanobot_words.specs.Rows.{plan_group as group_row, plan_layer as layer_row, plan_low as low_row, plan_swarm as swarm_row, plan_void as void_row};
 ghost use Rattle.nanobot_rows.specs.Answer.{AnswerOf};
-ghost use Rattle.nanobot_rows.specs.Effects.{Finishes, IsFor, KeepsPlan};
+ghost use Rattle.nanobot_rows.specs.Effects.{EndsStored, IsFor, KeepsPlan};
 ghost use Rattle.nanobot_rows.specs.declared.report.Report.TheVariants.{GroupLong};
 
 use crate::effect::Effect;
@@ -49,7 +49,7 @@ pub fn plan_layer<'a, D: Depot>(
     requires source { (name : List ℕ) → side_of source ≡ Some name → D.may_fetch name }
     requires target { (name : List ℕ) → side_of target ≡ Some name → D.may_fetch name }
     requires some { side_of source ≡ None → side_of target ≡ None → ⊥ }
-    ensures finishes { Finishes (AnswerOf (layer_row (side_of source.entry) (side_of target.entry) trace.now)) (D.files depot.old) (Rose (D.faults depot.old) (D.faults depot.new)) result }
+    ensures finishes { EndsStored (AnswerOf (layer_row (side_of source.entry) (side_of target.entry) trace.now)) (D.files depot.old) (Rose (D.faults depot.old) (D.faults depot.new)) result }
     ensures named { IfOk result (IsFor (Some trace.now)) }
     ensures files { D.files depot.new ≡ D.files depot.old }
     ensures later { D.faults depot.old ≤ D.faults depot.new }
@@ -85,7 +85,7 @@ pub fn plan_group<'a, D: Depot>(
     requires source { (name : List ℕ) → side_of source ≡ Some name → D.may_fetch name }
     requires target { (name : List ℕ) → side_of target ≡ Some name → D.may_fetch name }
     requires some { side_of source ≡ None → side_of target ≡ None → ⊥ }
-    ensures finishes { Finishes (AnswerOf (group_row (side_of source.entry) (side_of target.entry) trace.now)) (D.files depot.old) (Rose (D.faults depot.old) (D.faults depot.new)) result }
+    ensures finishes { EndsStored (AnswerOf (group_row (side_of source.entry) (side_of target.entry) trace.now)) (D.files depot.old) (Rose (D.faults depot.old) (D.faults depot.new)) result }
     ensures named { IfOk result (IsFor (Some trace.now)) }
     ensures files { D.files depot.new ≡ D.files depot.old }
     ensures later { D.faults depot.old ≤ D.faults depot.new }
@@ -107,7 +107,7 @@ pub fn plan_void<'a, D: Depot>(
     trace: &'a str,
 ) -> Result<Effect<'a>, Stop>
     requires { D.may_fetch source.now }
-    ensures finishes { Finishes (AnswerOf (void_row source.now trace.now)) (D.files depot.old) (Rose (D.faults depot.old) (D.faults depot.new)) result }
+    ensures finishes { EndsStored (AnswerOf (void_row source.now trace.now)) (D.files depot.old) (Rose (D.faults depot.old) (D.faults depot.new)) result }
     ensures named { IfOk result (IsFor (Some trace.now)) }
     ensures files { D.files depot.new ≡ D.files depot.old }
     ensures later { D.faults depot.old ≤ D.faults depot.new }
@@ -126,7 +126,7 @@ pub fn plan_low<'a, D: Depot>(
     trace: &'a str,
 ) -> Result<Effect<'a>, Stop>
     requires { D.may_fetch target.now }
-    ensures finishes { Finishes (AnswerOf (low_row target.now trace.now)) (D.files depot.old) (Rose (D.faults depot.old) (D.faults depot.new)) result }
+    ensures finishes { EndsStored (AnswerOf (low_row target.now trace.now)) (D.files depot.old) (Rose (D.faults depot.old) (D.faults depot.new)) result }
     ensures named { IfOk result (IsFor (Some trace.now)) }
     ensures files { D.files depot.new ≡ D.files depot.old }
     ensures later { D.faults depot.old ≤ D.faults depot.new }
@@ -149,7 +149,7 @@ pub fn plan_swarm<'a, D: Depot>(
     trace: &'a str,
 ) -> Result<Effect<'a>, Stop>
     requires { D.may_fetch target.now }
-    ensures finishes { Finishes (AnswerOf (swarm_row target.now trace.now)) (D.files depot.old) (Rose (D.faults depot.old) (D.faults depot.new)) result }
+    ensures finishes { EndsStored (AnswerOf (swarm_row target.now trace.now)) (D.files depot.old) (Rose (D.faults depot.old) (D.faults depot.new)) result }
     ensures named { IfOk result (IsFor (Some trace.now)) }
     ensures files { D.files depot.new ≡ D.files depot.old }
     ensures later { D.faults depot.old ≤ D.faults depot.new }

@@ -1,7 +1,7 @@
 //! What is told of a call, and its lines.
 ghost use Rattle.std.specs.List.{concat};
 ghost use Rattle.std.specs.Prelude.{◌≡◌, ◌∷◌, [], IfOk, codes, decimal, length, string_bytes};
-ghost use Rattle.nanobot_rows.specs.Report.{exercised_head as exercised_head_of, exercised_line as exercised_line_of, line_of, model_line as model_line_of, of_verdict, status_of, text_line as text_line_of, who_of};
+ghost use Rattle.nanobot_rows.specs.Report.{exercised_head as exercised_head_of, exercised_line as exercised_line_of, report_line, model_line as model_line_of, of_verdict, status_of, text_line as text_line_of, who_of};
 
 use crate::status::Status;
 use debug_script::broken_line;
@@ -249,7 +249,7 @@ impl Report {
 
     /// The line of the report.
     pub fn line(&self, alloc: Global) -> Result<String, AllocError>
-        ensures { IfOk result (λ s. string_bytes s ≡ line_of self.now) }
+        ensures { IfOk result (λ s. string_bytes s ≡ report_line self.now) }
     {
         match self {
             Report::Accepted { energy, steps } => {

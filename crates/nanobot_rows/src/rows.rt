@@ -5,8 +5,8 @@ ghost use Rattle.vox_depot.specs.Files.{Files};
 ghost use Rattle.nanobot_words.specs.Parsing.{row_of, side_of};
 ghost use Rattle.nanobot_words.specs.Rows.{IsOfTable, asm as asm_row, check as check_row, dis as dis_row, make as make_row, reads_of, stores_of};
 ghost use Rattle.nanobot_rows.specs.Answer.{AnswerOf, AnswerOfRun};
-ghost use Rattle.nanobot_rows.specs.Effects.{Finishes, IsFor};
-ghost use Rattle.nanobot_rows.specs.Reading.{Ends};
+ghost use Rattle.nanobot_rows.specs.Effects.{EndsStored, IsFor};
+ghost use Rattle.nanobot_rows.specs.Reading.{EndsUnstored};
 ghost use Rattle.nanobot_rows.specs.Touching.{IsRowWithin, IsRunWithin};
 
 use crate::commands::{load_text, load_trace};
@@ -38,7 +38,7 @@ fn check<D: Depot, L: Ledger>(
     steps: &mut Steps<L>,
 ) -> Result<Report, Stop>
     requires { D.may_fetch model.now }
-    ensures ends { Ends (AnswerOf (check_row model.now)) (D.files depot.old) (Rose (D.faults depot.old) (D.faults depot.new)) result }
+    ensures ends { EndsUnstored (AnswerOf (check_row model.now)) (D.files depot.old) (Rose (D.faults depot.old) (D.faults depot.new)) result }
     ensures files { D.files depot.new ≡ D.files depot.old }
     ensures later { D.faults depot.old ≤ D.faults depot.new }
 {
@@ -64,7 +64,7 @@ fn run<D: Depot, L: Ledger>(
     requires trace { D.may_fetch trace.now }
     requires some { side_of source ≡ None → side_of target ≡ None → ⊥ }
     requires seeds { profile.seeds ≤ 39 }
-    ensures ends { Ends (AnswerOfRun profile (side_of source.entry) (side_of target.entry) trace.now) (D.files depot.old) (Rose (D.faults depot.old) (D.faults depot.new)) result }
+    ensures ends { EndsUnstored (AnswerOfRun profile (side_of source.entry) (side_of target.entry) trace.now) (D.files depot.old) (Rose (D.faults depot.old) (D.faults depot.new)) result }
     ensures files { D.files depot.new ≡ D.files depot.old }
     ensures later { D.faults depot.old ≤ D.faults depot.new }
     ensures within { (result ≡ Err Stop.Memory → ⊥) → IsRunWithin profile (side_of source.entry) (side_of target.entry) trace.now (D.files depot.old) steps.old steps.new }
@@ -82,7 +82,7 @@ fn asm<'a, D: Depot>(
     trace: &'a str,
 ) -> Result<Effect<'a>, Stop>
     requires { D.may_fetch text.now }
-    ensures finishes { Finishes (AnswerOf (asm_row text.now trace.now)) (D.files depot.old) (Rose (D.faults depot.old) (D.faults depot.new)) result }
+    ensures finishes { EndsStored (AnswerOf (asm_row text.now trace.now)) (D.files depot.old) (Rose (D.faults depot.old) (D.faults depot.new)) result }
     ensures named { IfOk result (IsFor (Some trace.now)) }
     ensures files { D.files depot.new ≡ D.files depot.old }
     ensures later { D.faults depot.old ≤ D.faults depot.new }
@@ -101,7 +101,7 @@ fn dis<'a, D: Depot>(
     text: &'a str,
 ) -> Result<Effect<'a>, Stop>
     requires { D.may_fetch trace.now }
-    ensures finishes { Finishes (AnswerOf (dis_row trace.now text.now)) (D.files depot.old) (Rose (D.faults depot.old) (D.faults depot.new)) result }
+    ensures finishes { EndsStored (AnswerOf (dis_row trace.now text.now)) (D.files depot.old) (Rose (D.faults depot.old) (D.faults depot.new)) result }
     ensures named { IfOk result (IsFor (Some text.now)) }
     ensures files { D.files depot.new ≡ D.files depot.old }
     ensures later { D.faults depot.old ≤ D.faults depot.new }
@@ -122,7 +122,7 @@ fn make<'a, L: Ledger>(
 ) -> Result<Effect<'a>, Stop>
     requires some { 1 ≤ resolution }
     requires most { resolution ≤ MOST_R }
-    ensures finishes { (told : Option Files) (before now : ℕ) → Finishes (AnswerOf (make_row number resolution model.now)) told (Rose before now) result }
+    ensures finishes { (told : Option Files) (before now : ℕ) → EndsStored (AnswerOf (make_row number resolution model.now)) told (Rose before now) result }
     ensures named { IfOk result (IsFor (Some model.now)) }
 {
     let planes = forge(alloc, number, resolution)?;
@@ -143,7 +143,7 @@ pub fn answer<'a, D: Depot, L: Ledger>(
 ) -> Result<Effect<'a>, Stop>
     requires may_fetch { All D.may_fetch (reads_of (row_of row)) }
     requires of_table { IsOfTable (row_of row) }
-    ensures finishes { Finishes (AnswerOf (row_of row.entry)) (D.files depot.old) (Rose (D.faults depot.old) (D.faults depot.new)) result }
+    ensures finishes { EndsStored (AnswerOf (row_of row.entry)) (D.files depot.old) (Rose (D.faults depot.old) (D.faults depot.new)) result }
     ensures named { IfOk result (IsFor (stores_of (row_of row.entry))) }
     ensures files { D.files depot.new ≡ D.files depot.old }
     ensures later { D.faults depot.old ≤ D.faults depot.new }

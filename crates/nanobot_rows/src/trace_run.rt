@@ -4,7 +4,7 @@ ghost use Rattle.nano_spec.specs.declared.system.Profile.{Profile as ProfileOf};
 ghost use Rattle.nano_spec.specs.Grounded.{FirstUngrounded};
 ghost use Rattle.nano_spec.specs.Matrix.{Matrix};
 ghost use Rattle.nano_spec.specs.Model.{volume};
-ghost use Rattle.trace_codec.specs.Decoder.{Answers, DecoderState, IsBetween, after};
+ghost use Rattle.trace_codec.specs.Decoder.{AnswersPiece, DecoderState, IsBetween, decoder_after};
 ghost use Rattle.nanobot_rows.specs.Reading.{HasRun, OnBytes};
 ghost use Rattle.nanobot_rows.specs.Taking.{Gets, Takes};
 ghost use Rattle.nanobot_rows.specs.Touching.{HasPaid};
@@ -173,7 +173,7 @@ fn push<L: Ledger>(
     requires stands { runner.old.spent ≡ false }
     requires steps { runner.old.progress.steps < 1073741824 }
     ensures gets { IfOk result (λ n. Gets runner.old fed count n runner.new steps.old steps.new) }
-    ensures counted { (decoder : DecoderState) (piece : List ℕ) → Answers decoder piece fed → runner.old.progress.steps ≤ decoder.offset → runner.new.progress.steps ≤ (after decoder piece fed).offset }
+    ensures counted { (decoder : DecoderState) (piece : List ℕ) → AnswersPiece decoder piece fed → runner.old.progress.steps ≤ decoder.offset → runner.new.progress.steps ≤ (decoder_after decoder piece fed).offset }
 {
     match fed {
         Fed::Got { command, used } => {

@@ -3,7 +3,7 @@ use Rattle.std.proofs.Common.{◌≡◌, ℕ, List, [], ◌∷◌, Option, Some,
 use Rattle.std.specs.Str.{bytes_eq}
 use Rattle.std.specs.Prelude.{All, IsFalse, IsTrue}
 use Rattle.std.proofs.lemmas.Fmt.{decimal_injective}
-use Rattle.nanobot_words.specs.Rows.{Row, asm, check, debug, dis, exercise, light, make, plan_group, plan_layer, plan_low, plan_swarm, plan_void, run, words_of, side_word, CanForge, IsName, IsRow, with_side}
+use Rattle.nanobot_words.specs.Rows.{Row, asm, check, debug, dis, exercise, light, make, plan_group, plan_layer, plan_low, plan_swarm, plan_void, run, row_words, side_word, CanForge, IsName, IsRow, with_side}
 use Rattle.nanobot_words.proofs.Parsed.{first_named, same_side, second_named, trace_last}
 
 -- the word that tells what is asked for: the planner behind `plan`, and else the first
@@ -13,22 +13,22 @@ telling_word (w ∷ []) = w
 telling_word (w ∷ v ∷ ws) = cond (bytes_eq w (codes "plan")) v w
 
 -- rows whose telling words differ are written otherwise
-other_heads : (row row' : Row) → IsTrue (bytes_eq (telling_word (words_of row)) (telling_word (words_of row))) → IsFalse (bytes_eq (telling_word (words_of row)) (telling_word (words_of row'))) → words_of row ≡ words_of row' → ⊥
-other_heads row row' same other e = let t = subst (λ ws. IsTrue (bytes_eq (telling_word (words_of row)) (telling_word ws))) e same in cc
+other_heads : (row row' : Row) → IsTrue (bytes_eq (telling_word (row_words row)) (telling_word (row_words row))) → IsFalse (bytes_eq (telling_word (row_words row)) (telling_word (row_words row'))) → row_words row ≡ row_words row' → ⊥
+other_heads row row' same other e = let t = subst (λ ws. IsTrue (bytes_eq (telling_word (row_words row)) (telling_word ws))) e same in cc
 
-check_check : (m m' : List ℕ) → words_of (check m) ≡ words_of (check m') → check m ≡ check m'
+check_check : (m m' : List ℕ) → row_words (check m) ≡ row_words (check m') → check m ≡ check m'
 check_check m m' e = cc
 
-same_asm : (x b x' b' : List ℕ) → words_of (asm x b) ≡ words_of (asm x' b') → asm x b ≡ asm x' b'
+same_asm : (x b x' b' : List ℕ) → row_words (asm x b) ≡ row_words (asm x' b') → asm x b ≡ asm x' b'
 same_asm x b x' b' e = cc
 
-same_dis : (b x b' x' : List ℕ) → words_of (dis b x) ≡ words_of (dis b' x') → dis b x ≡ dis b' x'
+same_dis : (b x b' x' : List ℕ) → row_words (dis b x) ≡ row_words (dis b' x') → dis b x ≡ dis b' x'
 same_dis b x b' x' e = cc
 
 same_target : (f : List ℕ → List ℕ → Row) (t b t' b' : List ℕ) → t ≡ t' → b ≡ b' → f t b ≡ f t' b'
 same_target f t b t' b' et eb = λ i. f (et i) (eb i)
 
-same_void : (s b s' b' : List ℕ) → words_of (plan_void s b) ≡ words_of (plan_void s' b') → plan_void s b ≡ plan_void s' b'
+same_void : (s b s' b' : List ℕ) → row_words (plan_void s b) ≡ row_words (plan_void s' b') → plan_void s b ≡ plan_void s' b'
 same_void s b s' b' e = cc
 
 -- a source, a target and a trace are those of their words
@@ -43,10 +43,10 @@ same_operands f s t s' t' b b' h h' es et eb =
 same_numbers : (n r n' r' : ℕ) → CanForge n r → CanForge n' r' → decimal n ≡ decimal n' → decimal r ≡ decimal r' → (n ≡ n') × (r ≡ r')
 same_numbers n r n' r' a b en er = (decimal_injective n n' (omega arith) (omega arith) en, decimal_injective r r' (omega arith) (omega arith) er)
 
-same_debug : (s b x s' b' x' : List ℕ) → words_of (debug s b x) ≡ words_of (debug s' b' x') → debug s b x ≡ debug s' b' x'
+same_debug : (s b x s' b' x' : List ℕ) → row_words (debug s b x) ≡ row_words (debug s' b' x') → debug s b x ≡ debug s' b' x'
 same_debug s b x s' b' x' e = cc
 
-run_light : (s t s' t' : Option (List ℕ)) (b b' : List ℕ) → words_of (run s t b) ≡ words_of (light s' t' b') → ⊥
+run_light : (s t s' t' : Option (List ℕ)) (b b' : List ℕ) → row_words (run s t b) ≡ row_words (light s' t' b') → ⊥
 run_light s t s' t' b b' e = cc
 
 pub row_once : (words : List (List ℕ)) (row row' : Row) → IsRow words row → IsRow words row' → row ≡ row'

@@ -24,20 +24,20 @@ side_word None = codes "-"
 side_word (Some name) = name
 
 -- the words of a row
-abbrev pub words_of : Row → List (List ℕ)
-words_of (check model) = codes "check" ∷ model ∷ []
-words_of (run source target trace) = codes "run" ∷ side_word source ∷ side_word target ∷ trace ∷ []
-words_of (light source target trace) = codes "run" ∷ codes "light" ∷ side_word source ∷ side_word target ∷ trace ∷ []
-words_of (asm text trace) = codes "asm" ∷ text ∷ trace ∷ []
-words_of (dis trace text) = codes "dis" ∷ trace ∷ text ∷ []
-words_of (make number resolution model) = codes "make" ∷ decimal number ∷ decimal resolution ∷ model ∷ []
-words_of (plan_layer source target trace) = codes "plan" ∷ codes "layer" ∷ side_word source ∷ side_word target ∷ trace ∷ []
-words_of (plan_group source target trace) = codes "plan" ∷ codes "group" ∷ side_word source ∷ side_word target ∷ trace ∷ []
-words_of (plan_void source trace) = codes "plan" ∷ codes "void" ∷ source ∷ codes "-" ∷ trace ∷ []
-words_of (plan_low target trace) = codes "plan" ∷ codes "low" ∷ codes "-" ∷ target ∷ trace ∷ []
-words_of (plan_swarm target trace) = codes "plan" ∷ codes "swarm" ∷ codes "-" ∷ target ∷ trace ∷ []
-words_of (exercise number resolution) = codes "exercise" ∷ decimal number ∷ decimal resolution ∷ []
-words_of (debug source trace script) = codes "debug" ∷ source ∷ trace ∷ script ∷ []
+abbrev pub row_words : Row → List (List ℕ)
+row_words (check model) = codes "check" ∷ model ∷ []
+row_words (run source target trace) = codes "run" ∷ side_word source ∷ side_word target ∷ trace ∷ []
+row_words (light source target trace) = codes "run" ∷ codes "light" ∷ side_word source ∷ side_word target ∷ trace ∷ []
+row_words (asm text trace) = codes "asm" ∷ text ∷ trace ∷ []
+row_words (dis trace text) = codes "dis" ∷ trace ∷ text ∷ []
+row_words (make number resolution model) = codes "make" ∷ decimal number ∷ decimal resolution ∷ model ∷ []
+row_words (plan_layer source target trace) = codes "plan" ∷ codes "layer" ∷ side_word source ∷ side_word target ∷ trace ∷ []
+row_words (plan_group source target trace) = codes "plan" ∷ codes "group" ∷ side_word source ∷ side_word target ∷ trace ∷ []
+row_words (plan_void source trace) = codes "plan" ∷ codes "void" ∷ source ∷ codes "-" ∷ trace ∷ []
+row_words (plan_low target trace) = codes "plan" ∷ codes "low" ∷ codes "-" ∷ target ∷ trace ∷ []
+row_words (plan_swarm target trace) = codes "plan" ∷ codes "swarm" ∷ codes "-" ∷ target ∷ trace ∷ []
+row_words (exercise number resolution) = codes "exercise" ∷ decimal number ∷ decimal resolution ∷ []
+row_words (debug source trace script) = codes "debug" ∷ source ∷ trace ∷ script ∷ []
 
 -- a name, if there is one, before others
 abbrev pub with_side : Option (List ℕ) → List (List ℕ) → List (List ℕ)
@@ -135,7 +135,7 @@ pub record AreWith (words : List (List ℕ)) (first second : List ℕ) (source t
 
 -- the words are written as this row
 pub record IsRow (words : List (List ℕ)) (row : Row) : Type 0 where
-  pub written : words ≡ words_of row
+  pub written : words ≡ row_words row
   pub named : All IsName (names_of row)
   pub of_table : IsOfTable row
 

@@ -19,8 +19,8 @@ use Rattle.step_order.specs.Acting.{goal_of, leaves_voxels, stays_one}
 use Rattle.step_order.specs.Apart.{AreApart, AreUntangled, LieApart, MayMeet}
 use Rattle.step_order.specs.Unbroken.{AreFree, IsFree, MayAct}
 use Rattle.plan_tape.specs.Crowd.{AllStep, AreWaysApart, CanGo, MayGo, way}
-use Rattle.plan_tape.specs.Progress.{IsHeld, Progress, state_of, stepped}
-use Rattle.plan_tape.proofs.Taken.{bytes_stepped}
+use Rattle.plan_tape.specs.Progress.{IsHeld, TapeState, state_of, tape_stepped}
+use Rattle.plan_tape.proofs.AfterSteps.{bytes_stepped}
 
 -- ---- bots that wait or move
 
@@ -49,7 +49,7 @@ flips_not m p Wait h = refl
 flips_not m p (SMove d) h = refl
 flips_not m p _ h = absurd h
 
-module _ (p : Progress) where
+module _ (p : TapeState) where
   -- what follows for each bot
   pub each_by : (P : Act → Type 0) → ((a : Act) → CanGo p a → P a) → (xs : List Act) → AllByRecursion (CanGo p) xs → AllByRecursion P xs
   each_by P f [] h = tt
@@ -96,15 +96,15 @@ held_under_high t h e f = λ low. absurd (high_low (sym f ∙ (sym e ∙ low)))
     high_low : High ≡ Low → ⊥
     high_low g = cc
 
-pub stepped_is : (p q : Progress) (k : List Command) (m : Matrix) (h : Harmonics) (bots : List Bot) → q ≡ stepped p k → (after (state_of p) k).matrix ≡ m → (after (state_of p) k).harmonics ≡ h → (after (state_of p) k).bots ≡ bots → AllStep p q k m h bots
+pub stepped_is : (p q : TapeState) (k : List Command) (m : Matrix) (h : Harmonics) (bots : List Bot) → q ≡ tape_stepped p k → (after (state_of p) k).matrix ≡ m → (after (state_of p) k).harmonics ≡ h → (after (state_of p) k).bots ≡ bots → AllStep p q k m h bots
 stepped_is p q k m h bots e em eh eb = record {
-  source = ap (λ (x : Progress). x.source) e;
-  profile = ap (λ (x : Progress). x.profile) e;
-  added = ap (λ (x : Progress). x.commands) e;
-  matrix = ap (λ (x : Progress). x.matrix) e ∙ em;
-  harmonics = ap (λ (x : Progress). x.harmonics) e ∙ eh;
-  bots_are = ap (λ (x : Progress). x.bots) e ∙ eb;
-  energy = ap (λ (x : Progress). x.energy) e;
-  steps = ap (λ (x : Progress). x.steps) e;
+  source = ap (λ (x : TapeState). x.source) e;
+  profile = ap (λ (x : TapeState). x.profile) e;
+  added = ap (λ (x : TapeState). x.commands) e;
+  matrix = ap (λ (x : TapeState). x.matrix) e ∙ em;
+  harmonics = ap (λ (x : TapeState). x.harmonics) e ∙ eh;
+  bots_are = ap (λ (x : TapeState). x.bots) e ∙ eb;
+  energy = ap (λ (x : TapeState). x.energy) e;
+  steps = ap (λ (x : TapeState). x.steps) e;
   bytes_are = bytes_stepped p q k e;
 }

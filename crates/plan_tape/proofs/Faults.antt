@@ -21,7 +21,7 @@ use Rattle.nano_spec.specs.Profile.{is_allowed}
 use Rattle.nano_spec.specs.Rules.{broken, fault, judge_pairs}
 use Rattle.nano_spec.specs.State.{State, origin}
 use Rattle.step_order.proofs.Lists.{none_find}
-use Rattle.plan_tape.specs.Progress.{IsVoid}
+use Rattle.step_order.specs.Unbroken.{IsVoid}
 
 -- the only bot with its command
 abbrev pub lone : Bot → Command → Act

@@ -16,7 +16,8 @@ use Rattle.nano_spec.specs.Matrix.{Matrix}
 use Rattle.plan_tape.specs.declared.axis.Axis.{Axis}
 use Rattle.plan_tape.specs.declared.axis.Axis.TheVariants.{X, Y, Z}
 use Rattle.plan_tape.specs.Leg.{IsLeg, IsLeastLeg, IsMove, IsOnward, IsVoidAlong, along, component_of, gap, moves, put}
-use Rattle.plan_tape.specs.Progress.{IsVoid, bots_at, spot}
+use Rattle.plan_tape.specs.Progress.{bots_at, spot}
+use Rattle.step_order.specs.Unbroken.{IsVoid}
 
 -- ---- moves, one after another
 

@@ -4,8 +4,8 @@ pub mod Runs
 pub mod Legs
 pub mod Steps
 pub mod Written
-pub mod Gone
-pub mod Taken
+pub mod AfterMoves
+pub mod AfterSteps
 pub mod Voids
 pub mod Works
 pub mod Many

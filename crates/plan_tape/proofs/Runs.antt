@@ -11,7 +11,7 @@ use Rattle.nano_spec.specs.Next.{Next, Goes}
 use Rattle.nano_spec.specs.State.{State}
 use Rattle.nano_spec.specs.Verdict.{Run, ends, goes, VerdictOf, compared}
 use Rattle.step_order.proofs.Lists.{none_find}
-use Rattle.plan_tape.specs.Progress.{AreAlike, IsAccepted, IsReached, Progress}
+use Rattle.plan_tape.specs.Progress.{AreAlike, IsAccepted, IsReached, TapeState}
 use Rattle.plan_tape.specs.Reaches.{Reaches, starts, steps_on}
 
 -- a step of the run
@@ -39,7 +39,7 @@ accepted {source} {profile} {commands} {s} {steps} target h none same =
     (run_of target [] (Accepted s.energy steps) h (ends none (sym (ap (compared s.energy steps) (none_find (differ_at s.matrix target) (all_of s.matrix) (λ c i. alike (is_full s.matrix c) (is_full target c) (same c)))))))
 
 -- the same of a tape
-pub finished : (p q : Progress) → p ≡ q → IsReached p → q.bots ≡ [] → (target : Matrix) → AreAlike q.matrix target → IsAccepted q.source target p.commands q.profile p.energy p.steps
+pub finished : (p q : TapeState) → p ≡ q → IsReached p → q.bots ≡ [] → (target : Matrix) → AreAlike q.matrix target → IsAccepted q.source target p.commands q.profile p.energy p.steps
 finished p q e r none target same =
-    subst (λ (x : Progress). IsAccepted x.source target p.commands x.profile p.energy p.steps) e
-    (accepted target r.reaches (ap (λ (x : Progress). x.bots) e ∙ none) (λ c. ap (λ (x : Progress). is_full x.matrix c) e ∙ same c))
+    subst (λ (x : TapeState). IsAccepted x.source target p.commands x.profile p.energy p.steps) e
+    (accepted target r.reaches (ap (λ (x : TapeState). x.bots) e ∙ none) (λ c. ap (λ (x : TapeState). is_full x.matrix c) e ∙ same c))

@@ -29,11 +29,12 @@ use Rattle.vox_planes.specs.Voxel.{IsWhole, with_voxel}
 use Rattle.plan_tape.specs.declared.axis.Axis.{Axis}
 use Rattle.plan_tape.specs.declared.axis.Axis.TheVariants.{X, Y, Z}
 use Rattle.plan_tape.specs.Leg.{AreLegs, AreVoidTo, IsLeg, IsOnward, IsVoidAlong, MayMove, along, component_of, distance, gap, moves_to, put}
-use Rattle.plan_tape.specs.Progress.{IsAllowed, IsHeld, IsReachable, IsVoid, Progress, beside, bots_at, spot, state_of, upkeep_of_step}
+use Rattle.plan_tape.specs.Progress.{IsAllowed, IsHeld, IsReachable, TapeState, beside, bots_at, spot, state_of, upkeep_of_step}
 use Rattle.plan_tape.specs.Reaches.{Reaches, steps_on}
 use Rattle.system_state.proofs.OnlyBot.{cost_is, fill_cost, matrix_filled, matrix_voided, untouched, void_cost}
 use Rattle.plan_tape.proofs.Faults.{IsFaultless, fill_faults, flip_faults, halt_faults, lone, move_faults, unbroken, void_faults, with_one}
 use Rattle.plan_tape.proofs.Legs.{bots_at-bots_at, bots_at-spot, first_void, last_void, length-bots_at, mlen-along, plus-along, put-component_of, put-put, put_in_space, spot-bots_at}
+use Rattle.step_order.specs.Unbroken.{IsVoid}
 
 -- ---- the step is accepted
 
@@ -50,7 +51,7 @@ goes_on s t commands step b e g =
 -- ---- one more step of the only bot
 
 -- what a tape shows after a command
-abbrev pub progress_after : Progress → Command → Matrix → Harmonics → List Bot → ℤ → Progress
+abbrev pub progress_after : TapeState → Command → Matrix → Harmonics → List Bot → ℤ → TapeState
 progress_after p k m h bots cost = record {
   source = p.source;
   commands = p.commands ++ k ∷ [];
@@ -63,11 +64,11 @@ progress_after p k m h bots cost = record {
 }
 
 -- the commands of a tape reach its state
-abbrev pub IsRun : Progress → Type 0
+abbrev pub IsRun : TapeState → Type 0
 IsRun p = Reaches p.source p.profile p.commands (state_of p) p.steps
 
 -- what the only bot does by a command that breaks no rule
-pub record Does (p : Progress) (b : Bot) (k : Command) (m : Matrix) (h : Harmonics) (bots : List Bot) (cost : ℤ) : Type 0 where
+pub record Does (p : TapeState) (b : Bot) (k : Command) (m : Matrix) (h : Harmonics) (bots : List Bot) (cost : ℤ) : Type 0 where
   pub faultless : IsFaultless p.matrix p.harmonics b p.energy p.profile k
   pub matrix_is : matrix_after p.matrix (lone b k ∷ []) ≡ m
   pub harmonics_are : harmonics_after p.harmonics (lone b k ∷ []) ≡ h
@@ -75,7 +76,7 @@ pub record Does (p : Progress) (b : Bot) (k : Command) (m : Matrix) (h : Harmoni
   pub cost_is : groups_cost p.matrix (lone b k ∷ []) ≡ cost
   pub held : IsHeld h m
 
-module _ (p : Progress) (b : Bot) (k : Command) (m : Matrix) (h : Harmonics) (bots : List Bot) (cost : ℤ) (only : p.bots ≡ b ∷ []) where
+module _ (p : TapeState) (b : Bot) (k : Command) (m : Matrix) (h : Harmonics) (bots : List Bot) (cost : ℤ) (only : p.bots ≡ b ∷ []) where
   pub one_more : IsRun p → Does p b k m h bots cost → IsRun (progress_after p k m h bots cost)
   one_more r d =
       let start : State = with_one p.matrix p.harmonics b p.energy p.profile in
@@ -96,13 +97,13 @@ only_bot [] e = absurd (omega arith)
 only_bot (b ∷ []) e = (b, refl, refl)
 only_bot (b ∷ c ∷ bots) e = absurd (omega arith)
 
-in_place : (p : Progress) (b : Bot) (d : Diff) → spot p.bots ≡ b.pos → IsReachable p d → in_space p.matrix.resolution (plus (point b.pos) d) ≡ true
+in_place : (p : TapeState) (b : Bot) (d : Diff) → spot p.bots ≡ b.pos → IsReachable p d → in_space p.matrix.resolution (plus (point b.pos) d) ≡ true
 in_place p b d e i = subst (λ (q : Coord). in_space p.matrix.resolution (plus (point q) d) ≡ true) e i
 
 all_moved : (bots : List Bot) (b : Bot) (c e : Coord) → bots ≡ b ∷ [] → c ≡ e → record { bid = b.bid; pos = e; seeds = b.seeds } ∷ [] ≡ bots_at bots c
 all_moved bots b c e f g = rw (f, g) refl
 
-module _ (p : Progress) (w : IsWhole p.matrix) (alone : length p.bots ≡ 1) where
+module _ (p : TapeState) (w : IsWhole p.matrix) (alone : length p.bots ≡ 1) where
   pub flips : IsAllowed p Flip → IsHeld (flipped p.harmonics) p.matrix → Does p (only_bot p.bots alone).0 Flip p.matrix (flipped p.harmonics) p.bots (pos 0)
   flips a g =
       let o = only_bot p.bots alone in
@@ -155,7 +156,7 @@ module _ (p : Progress) (w : IsWhole p.matrix) (alone : length p.bots ≡ 1) whe
 -- ---- many moves along an axis
 
 -- what a tape shows after them
-abbrev pub progress_along : Progress → Axis → ℕ → ℕ → List Command → Progress
+abbrev pub progress_along : TapeState → Axis → ℕ → ℕ → List Command → TapeState
 progress_along p axis a b moves = record {
   source = p.source;
   commands = p.commands ++ moves;
@@ -191,7 +192,7 @@ component_of-put Y c v = refl
 component_of-put Z c v = refl
 
 -- from where a tape stands, moves along an axis reach what it shows after them
-pub walked : (moves : List Command) (p : Progress) (axis : Axis) (a b : ℕ) → IsWhole p.matrix → IsHeld p.harmonics p.matrix → length p.bots ≡ 1 → IsInSpace p.matrix.resolution (spot p.bots) → component_of axis (spot p.bots) ≡ a → b < p.matrix.resolution → MayMove p → IsVoidAlong p.matrix axis (spot p.bots) b → IsLeg axis a b moves → IsRun p → IsRun (progress_along p axis a b moves)
+pub walked : (moves : List Command) (p : TapeState) (axis : Axis) (a b : ℕ) → IsWhole p.matrix → IsHeld p.harmonics p.matrix → length p.bots ≡ 1 → IsInSpace p.matrix.resolution (spot p.bots) → component_of axis (spot p.bots) ≡ a → b < p.matrix.resolution → MayMove p → IsVoidAlong p.matrix axis (spot p.bots) b → IsLeg axis a b moves → IsRun p → IsRun (progress_along p axis a b moves)
 walked [] p axis a b w g alone i at l may v leg r = subst IsRun (λ j. stayed j) r
   where
     spot_is : put axis (spot p.bots) b ≡ spot p.bots
@@ -234,7 +235,7 @@ walked (k ∷ more) p axis a b w g alone i at l may v leg r =
         below (inl h) = omega arith
         below (inr h) = let m = component_below axis p.matrix.resolution (spot p.bots) i in omega (arith, at, m)
 
-    q : Progress
+    q : TapeState
     q = progress_after p (SMove d) p.matrix p.harmonics (bots_at p.bots (beside p d)) (pos (2 * mlen d))
 
     spot_is : spot (bots_at p.bots (beside p d)) ≡ put axis (spot p.bots) u
@@ -270,7 +271,7 @@ pub spellings-joined : (x y : List Command) → length (spellings (x ++ y)) ≡ 
 spellings-joined x y = ap length (flat_map-append spelling x y) ∙ length-append (spellings x) (spellings y)
 
 -- what a tape shows after moves to a coordinate
-abbrev pub progress_at : Progress → Coord → List Command → Progress
+abbrev pub progress_at : TapeState → Coord → List Command → TapeState
 progress_at p to moves = record {
   source = p.source;
   commands = p.commands ++ moves;
@@ -285,7 +286,7 @@ progress_at p to moves = record {
 paid_all : (e : ℤ) (a b c u g h i : ℕ) → ((e +ℤ pos (a * u + 2 * g)) +ℤ pos (b * u + 2 * h)) +ℤ pos (c * u + 2 * i) ≡ e +ℤ pos ((a + b + c) * u + 2 * (g + h + i))
 paid_all e a b c u g h i = omega (arith, ints)
 
-module _ (p : Progress) (to : Coord) (moves : List Command) (legs : AreLegs (spot p.bots) to moves) where
+module _ (p : TapeState) (to : Coord) (moves : List Command) (legs : AreLegs (spot p.bots) to moves) where
   pub legs_length : length moves ≡ moves_to (spot p.bots) to
   legs_length =
       let a = legs.along_x.least in
@@ -310,13 +311,13 @@ module _ (p : Progress) (to : Coord) (moves : List Command) (legs : AreLegs (spo
     abbrev a : Coord
     a = spot p.bots
 
-    abbrev p1 : Progress
+    abbrev p1 : TapeState
     p1 = progress_along p X a.x to.x legs.x
 
-    abbrev p2 : Progress
+    abbrev p2 : TapeState
     p2 = progress_along p1 Y a.y to.y legs.y
 
-    abbrev p3 : Progress
+    abbrev p3 : TapeState
     p3 = progress_along p2 Z a.z to.z legs.z
 
     spot1 : spot p1.bots ≡ put X a to.x

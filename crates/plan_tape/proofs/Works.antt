@@ -20,7 +20,7 @@ use Rattle.step_order.proofs.Facts.{Rising, rising_is}
 use Rattle.step_order.proofs.Faultless.{all_by}
 use Rattle.step_order.proofs.Lists.{In, flat_in, in_map}
 use Rattle.plan_tape.specs.Crowd.{FillsOrWaits, FusesOrWaits, SplitsOrWaits, bots_fused, bots_split, parts, with_fills}
-use Rattle.plan_tape.specs.Progress.{Progress, state_of}
+use Rattle.plan_tape.specs.Progress.{TapeState, state_of}
 
 -- what holds of the acts by their commands
 pub each_act : (P : Command → Type 0) (Q : Act → Type 0) → ((a : Act) → P a.command → Q a) → (bots : List Bot) (commands : List Command) → AllByRecursion P commands → AllByRecursion Q (acts bots commands)
@@ -158,7 +158,7 @@ bots_of [] commands l = refl
 bots_of (b ∷ bots) [] l = absurd (omega arith)
 bots_of (b ∷ bots) (k ∷ commands) l = ap (λ bs. b ∷ bs) (bots_of bots commands (omega arith))
 
-pub fusions_merge : (p : Progress) (commands : List Command) → IsReady (state_of p) → length commands ≡ length p.bots → AllByRecursion FusesOrWaits commands → bots_after (acts p.bots commands) ≡ bots_fused p.bots commands
+pub fusions_merge : (p : TapeState) (commands : List Command) → IsReady (state_of p) → length commands ≡ length p.bots → AllByRecursion FusesOrWaits commands → bots_after (acts p.bots commands) ≡ bots_fused p.bots commands
 fusions_merge p commands ready l h =
     let all = acts p.bots commands in
     rising_itself (bots_fused p.bots commands)

@@ -16,7 +16,7 @@ use Rattle.nano_spec.specs.Step.{is_filled}
 use Rattle.step_order.specs.Acting.{goal_of, gone}
 use Rattle.step_order.specs.Apart.{LieApart}
 use Rattle.step_order.specs.Unbroken.{AreOneGroup, IsFreeWay}
-use Rattle.plan_tape.specs.Progress.{IsAllowed, Progress, bytes, state_of, upkeep_of_step}
+use Rattle.plan_tape.specs.Progress.{IsAllowed, TapeState, bytes, state_of, upkeep_of_step}
 
 -- what a bot at a point needs to wait, or to move along an axis
 abbrev pub MayGo : Matrix → Point → Command → Type 0
@@ -25,7 +25,7 @@ MayGo m p (SMove d) = IsFreeWay m p (plus p d)
 MayGo m p _ = ⊥
 
 -- the profile allows the bot's command, and it waits or moves on a free way
-pub record CanGo (p : Progress) (a : Act) : Type 0 where
+pub record CanGo (p : TapeState) (a : Act) : Type 0 where
   pub allowed : IsAllowed p a.command
   pub may : MayGo p.matrix (position a) a.command
 
@@ -39,12 +39,12 @@ AreWaysApart [] = Unit {0}
 AreWaysApart (a ∷ more) = AllByRecursion (λ b. LieApart (way a) (way b)) more × AreWaysApart more
 
 -- each of the bots waits or moves, and their ways lie apart
-pub record CanMoveAll (p : Progress) (commands : List Command) : Type 0 where
+pub record CanMoveAll (p : TapeState) (commands : List Command) : Type 0 where
   pub each : AllByRecursion (CanGo p) (acts p.bots commands)
   pub apart : AreWaysApart (acts p.bots commands)
 
 -- the tape after a step of all bots: what it leaves of the matrix, the harmonics and the bots, and what it costs
-pub record AllStep (old new : Progress) (commands : List Command) (m : Matrix) (h : Harmonics) (bots : List Bot) : Type 0 where
+pub record AllStep (old new : TapeState) (commands : List Command) (m : Matrix) (h : Harmonics) (bots : List Bot) : Type 0 where
   pub source : new.source ≡ old.source
   pub profile : new.profile ≡ old.profile
   pub added : new.commands ≡ old.commands ++ commands
@@ -60,7 +60,7 @@ abbrev pub bots_gone : List Bot → List Command → List Bot
 bots_gone bots commands = map gone (acts bots commands)
 
 -- the bots are one group, which makes some region full or void
-pub record CanPaintAll (p : Progress) (commands : List Command) : Type 0 where
+pub record CanPaintAll (p : TapeState) (commands : List Command) : Type 0 where
   pub region : Span
   pub full : Bool
   pub group : AreOneGroup (state_of p) region full (acts p.bots commands)

@@ -9,7 +9,8 @@ use Rattle.nano_spec.specs.declared.commands.Command.TheVariants.{SMove}
 use Rattle.nano_spec.specs.Matrix.{Matrix}
 use Rattle.plan_tape.specs.declared.axis.Axis.{Axis}
 use Rattle.plan_tape.specs.declared.axis.Axis.TheVariants.{X, Y, Z}
-use Rattle.plan_tape.specs.Progress.{Progress, IsAllowed, IsVoid, bots_at, bytes, spot, upkeep_of_step}
+use Rattle.plan_tape.specs.Progress.{TapeState, IsAllowed, bots_at, bytes, spot, upkeep_of_step}
+use Rattle.step_order.specs.Unbroken.{IsVoid}
 
 -- the component of a coordinate on an axis
 abbrev pub component_of : Axis → Coord → ℕ
@@ -85,11 +86,11 @@ pub record AreVoidTo (m : Matrix) (a b : Coord) : Type 0 where
   pub z : IsVoidAlong m Z (put Y (put X a b.x) b.y) b.z
 
 -- the profile allows moves
-abbrev pub MayMove : Progress → Type 0
+abbrev pub MayMove : TapeState → Type 0
 MayMove p = (d : Diff) → IsAllowed p (SMove d)
 
 -- the tape after moves of its only bot to a coordinate
-pub record Moves (old new : Progress) (to : Coord) : Type 0 where
+pub record Moves (old new : TapeState) (to : Coord) : Type 0 where
   pub source : new.source ≡ old.source
   pub profile : new.profile ≡ old.profile
   pub commands : List Command

@@ -1,8 +1,8 @@
 -- What a tape shows, and what its calls change (docs/FORMATS.md, "Commands" and "Rules").
-use Rattle.std.specs.Prelude.{◌≡◌, ℕ, ◌+◌, ◌*◌, ◌≤◌, ℤ, pos, ◌+ℤ◌, ◌≤ℤ◌, neg_ℤ, unsigned_abs, false, List, [], ◌∷◌, ◌++◌, length, None, IsTrue, All}
+use Rattle.std.specs.Prelude.{◌≡◌, ℕ, ◌+◌, ◌*◌, ◌≤◌, ℤ, pos, ◌+ℤ◌, ◌≤ℤ◌, neg_ℤ, unsigned_abs, false, List, [], ◌∷◌, ◌++◌, length, None, IsTrue, All, ◌-◌}
 use Rattle.vox_geom.specs.declared.coordinate.Coord.{Coord}
 use Rattle.vox_geom.specs.declared.difference.Diff.{Diff}
-use Rattle.vox_geom.specs.Point.{point, plus}
+use Rattle.vox_geom.specs.Point.{point, plus, coord}
 use Rattle.vox_geom.specs.Region.{Span, is_within}
 use Rattle.vox_geom.specs.Space.{coordinate, IsInSpace, in_space}
 use Rattle.nano_spec.specs.declared.commands.Command.{Command}
@@ -23,7 +23,7 @@ use Rattle.vox_planes.specs.Voxel.{IsWhole}
 use Rattle.plan_tape.specs.Reaches.{Reaches}
 
 -- the source, the commands, the parts of the state that they reach, and the number of their steps
-pub record Progress : Type 0 where
+pub record TapeState : Type 0 where
   pub source : Matrix
   pub commands : List Command
   pub matrix : Matrix
@@ -34,19 +34,19 @@ pub record Progress : Type 0 where
   pub steps : ℕ
 
 -- the state
-abbrev pub state_of : Progress → State
+abbrev pub state_of : TapeState → State
 state_of p = record { matrix = p.matrix; harmonics = p.harmonics; bots = p.bots; energy = p.energy; profile = p.profile }
 
 -- what is seen of the parts of a tape
-abbrev pub progress_of : Matrix → List Command → State → ℕ → Progress
+abbrev pub progress_of : Matrix → List Command → State → ℕ → TapeState
 progress_of source commands s steps = record { source = source; commands = commands; matrix = s.matrix; harmonics = s.harmonics; bots = s.bots; energy = s.energy; profile = s.profile; steps = steps }
 
 -- the tape before the first command
-abbrev pub starting : Matrix → Profile → Progress
+abbrev pub starting : Matrix → Profile → TapeState
 starting source profile = record { source = source; commands = []; matrix = source; harmonics = Low; bots = first_bot profile ∷ []; energy = pos 0; profile = profile; steps = 0 }
 
 -- how many bytes the spellings of the commands have together
-unfoldable pub bytes : Progress → ℕ
+unfoldable pub bytes : TapeState → ℕ
 bytes p = length (spellings p.commands)
 
 -- under Low each full voxel is grounded
@@ -59,7 +59,7 @@ pub record IsBounded (energy : ℤ) (steps : ℕ) : Type 0 where
   pub high : energy ≤ℤ pos (3000000000 * steps)
 
 -- every step was accepted, and there are at most 2^30
-pub record IsReached (p : Progress) : Type 0 where
+pub record IsReached (p : TapeState) : Type 0 where
   pub whole : IsWhole p.matrix
   pub placed : All (λ b. IsInSpace p.matrix.resolution b.pos) p.bots
   pub held : IsHeld p.harmonics p.matrix
@@ -80,27 +80,23 @@ bots_at [] c = []
 bots_at (bot ∷ bots) c = record { bid = bot.bid; pos = c; seeds = bot.seeds } ∷ bots
 
 -- the coordinate that a difference leads to from the only bot
-abbrev pub beside : Progress → Diff → Coord
+abbrev pub beside : TapeState → Diff → Coord
 beside p d = coordinate (plus (point (spot p.bots)) d)
 
 -- the difference leads from the only bot into space
-abbrev pub IsReachable : Progress → Diff → Type 0
+abbrev pub IsReachable : TapeState → Diff → Type 0
 IsReachable p d = IsTrue (in_space p.matrix.resolution (plus (point (spot p.bots)) d))
 
 -- the profile allows the command
-abbrev pub IsAllowed : Progress → Command → Type 0
+abbrev pub IsAllowed : TapeState → Command → Type 0
 IsAllowed p command = IsTrue (is_allowed p.profile command)
 
--- no full voxel is in the region
-abbrev pub IsVoid : Matrix → Span → Type 0
-IsVoid m s = (c : Coord) → IsTrue (is_within s (point c)) → is_full m c ≡ false
-
 -- what a step costs before its commands
-abbrev pub upkeep_of_step : Progress → ℕ
+abbrev pub upkeep_of_step : TapeState → ℕ
 upkeep_of_step p = unsigned_abs (upkeep (state_of p))
 
 -- one more command in one step, which costs this beside its upkeep, and what it leaves: the matrix, the harmonics and the bots
-pub record Writes (old new : Progress) (command : Command) (m : Matrix) (h : Harmonics) (bots : List Bot) (cost : ℤ) : Type 0 where
+pub record Writes (old new : TapeState) (command : Command) (m : Matrix) (h : Harmonics) (bots : List Bot) (cost : ℤ) : Type 0 where
   pub source : new.source ≡ old.source
   pub profile : new.profile ≡ old.profile
   pub commands : new.commands ≡ old.commands ++ command ∷ []
@@ -114,8 +110,8 @@ pub record Writes (old new : Progress) (command : Command) (m : Matrix) (h : Har
 -- ---- all bots
 
 -- the tape after a step in which the i-th command is for the i-th bot
-abbrev pub stepped : Progress → List Command → Progress
-stepped p commands = progress_of p.source (p.commands ++ commands) (after (state_of p) commands) (p.steps + 1)
+abbrev pub tape_stepped : TapeState → List Command → TapeState
+tape_stepped p commands = progress_of p.source (p.commands ++ commands) (after (state_of p) commands) (p.steps + 1)
 
 -- ---- the end
 
@@ -126,3 +122,11 @@ AreAlike m n = (c : Coord) → is_full m c ≡ is_full n c
 -- the definitions accept the commands from the one model to the other with this energy and in so many steps
 abbrev pub IsAccepted : Matrix → Matrix → List Command → Profile → ℤ → ℕ → Type 0
 IsAccepted source target commands profile energy steps = VerdictOf source target commands profile (Accepted energy steps)
+
+-- from a height on all voxels are void
+abbrev pub IsVoidFrom : Matrix → ℕ → Type 0
+IsVoidFrom m h = (c : Coord) → h ≤ c.y → is_full m c ≡ false
+
+-- the top above the origin, where sweeps begin
+abbrev pub top : Matrix → Coord
+top m = coord 0 (m.resolution - 1) 0

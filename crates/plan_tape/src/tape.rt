@@ -22,7 +22,7 @@ ghost use Rattle.step_order.specs.Unbroken.{AreFree, AreOneGroup};
 ghost use Rattle.plan_tape.specs.Crowd.{AllStep, CanMoveAll, CanPaintAll, FillsOrWaits, FusesOrWaits, SplitsOrWaits, bots_fused, bots_gone, bots_split, with_fills};
 ghost use Rattle.plan_tape.specs.Leg.{AreVoidTo, MayMove, Moves, moves_to as moves_to_of};
 ghost use Rattle.plan_tape.specs.Reaches.{Reaches};
-ghost use Rattle.plan_tape.specs.Progress.{AreAlike, IsAccepted, IsAllowed, IsBounded, IsHeld, IsReachable, Writes, beside as beside_of, bytes, spot, starting, state_of, stepped, upkeep_of_step};
+ghost use Rattle.plan_tape.specs.Progress.{AreAlike, IsAccepted, IsAllowed, IsBounded, IsHeld, IsReachable, Writes, beside as beside_of, bytes, spot, starting, state_of, tape_stepped, upkeep_of_step};
 
 use crate::axis::{Axis, cost_of_way, moves_to, push_leg};
 use crate::costs::{charged, upkeep_of_steps};
@@ -57,9 +57,9 @@ pub struct Tape {
 }
 
 impl Model for Tape {
-    ghost use Rattle.plan_tape.specs.Progress.{Progress, IsReached, progress_of};
+    ghost use Rattle.plan_tape.specs.Progress.{TapeState, IsReached, progress_of};
 
-    ghost Value = { Progress };
+    ghost Value = { TapeState };
 
     ghost view = { λ t. progress_of t.source t.commands.items t.system t.steps };
 
@@ -216,9 +216,9 @@ impl Tape {
         requires some { 1 ≤ length self.old.bots }
         requires commands { length commands.now ≡ length self.old.bots }
         requires unbroken { broken_of (state_of self.old) commands.now (self.old.steps + 1) ≡ None }
-        requires held { IsHeld (stepped self.old commands.now).harmonics (stepped self.old commands.now).matrix }
+        requires held { IsHeld (tape_stepped self.old commands.now).harmonics (tape_stepped self.old commands.now).matrix }
         requires limit { self.old.steps < 1073741824 }
-        ensures ok { OnOk result (self.new ≡ stepped self.old commands.now) }
+        ensures ok { OnOk result (self.new ≡ tape_stepped self.old commands.now) }
         ensures bytes { OnOk result (bytes self.new ≡ bytes self.old + length (spellings commands.now)) }
         ensures err { OnErr result (self.new ≡ self.old) }
     {

@@ -19,7 +19,7 @@ use Rattle.nano_spec.specs.Rules.{broken, judge_trace, judge_bots, judge_pairs}
 use Rattle.nano_spec.specs.Group.{leaders}
 use Rattle.nano_spec.specs.State.{State, origin}
 use Rattle.nano_spec.specs.Verdict.{Run, ends, breaks, goes, VerdictOf, broken_end, ending}
-use Rattle.run_progress.specs.Progress.{Mark, Running, Refused, Halted, Followed, Progress, mark_of, stepped, with_command, Joins, Steps, PushesAt, Pushes, Comes, first, later, FinishesAt, Finishes}
+use Rattle.run_progress.specs.Progress.{Mark, Running, Refused, Halted, Followed, Progress, mark_of, stepped, with_command, Joins, MakesStep, PushesAt, Pushes, Comes, first, later, FinishesAt, Finishes}
 
 -- ---- what is kept: while the run goes on the next step lacks a command, and after the Halt no bot is left
 
@@ -90,7 +90,7 @@ joined : (target : Matrix) (p q : Progress) (rest : List Command) (v : Verdict) 
     → Joins p q → Leads target q rest v → Run target p.state (p.pending ++ rest) p.steps v
 joined target p q rest v running some below joins leads = by (length p.pending == length p.state.bots) refl joins
   where
-    by : (t : Bool) → (length p.pending == length p.state.bots) ≡ t → MatchBool t (Steps p q) (q ≡ p) → Run target p.state (p.pending ++ rest) p.steps v
+    by : (t : Bool) → (length p.pending == length p.state.bots) ≡ t → MatchBool t (MakesStep p q) (q ≡ p) → Run target p.state (p.pending ++ rest) p.steps v
     by true e steps =
         let whole = same_count (length p.pending) (length p.state.bots) e in
         made target p rest v whole (omega arith) steps.0 steps.1 (subst (λ (x : Progress). Leads target x rest v) steps.2 leads)
@@ -121,7 +121,7 @@ keeps_stepped p (Breaks b) = tt
 keeps_joined : (p q : Progress) → p.mark ≡ Running → length p.pending < length p.state.bots + 1 → Joins p q → Keeps q
 keeps_joined p q running below joins = by (length p.pending == length p.state.bots) refl joins
   where
-    by : (t : Bool) → (length p.pending == length p.state.bots) ≡ t → MatchBool t (Steps p q) (q ≡ p) → Keeps q
+    by : (t : Bool) → (length p.pending == length p.state.bots) ≡ t → MatchBool t (MakesStep p q) (q ≡ p) → Keeps q
     by true e steps = subst Keeps (sym steps.2) (keeps_stepped p steps.0)
     by false e same =
         let other = other_count (length p.pending) (length p.state.bots) e in

@@ -46,12 +46,12 @@ abbrev pub with_command : Progress → Command → Progress
 with_command p command = record p { pending = p.pending ++ command ∷ [] }
 
 -- as many commands have come for the next step as bots are active: q is what comes of the step
-abbrev pub Steps : Progress → Progress → Type 0
-Steps p q = (outcome : Outcome) × Next p.state p.pending (p.steps + 1) outcome × (q ≡ stepped p outcome)
+abbrev pub MakesStep : Progress → Progress → Type 0
+MakesStep p q = (outcome : Outcome) × Next p.state p.pending (p.steps + 1) outcome × (q ≡ stepped p outcome)
 
 -- while the run goes on, a command joins the next step, which is made once each bot has one
 abbrev pub Joins : Progress → Progress → Type 0
-Joins p q = MatchBool (length p.pending == length p.state.bots) (Steps p q) (q ≡ p)
+Joins p q = MatchBool (length p.pending == length p.state.bots) (MakesStep p q) (q ≡ p)
 
 -- q is the progress after one more command
 abbrev pub PushesAt : Mark → Progress → Command → Progress → Type 0

@@ -5,6 +5,7 @@ use Rattle.std.specs.Bool.{beq}
 use Rattle.std.specs.List.{list_any}
 use Rattle.std.proofs.lemmas.Bool.Decides.{nat_tests}
 use Rattle.std.proofs.lemmas.List.{length-map}
+use Rattle.step_groups.specs.Judging.{act}
 use native.Mathlib.Decide.{ℕ_discrete}
 use Rattle.circular_buffer.specs.Buffer.{Buffer}
 use Rattle.vox_geom.specs.declared.coordinate.Coord.{Coord}
@@ -31,9 +32,8 @@ use Rattle.step_machine.specs.declared.undo.Undo.{Undo}
 use Rattle.step_machine.proofs.Acting.{stays}
 use Rattle.step_machine.proofs.Changed.{is_changed, one_way, same_edit}
 use Rattle.step_machine.proofs.Regions.{edits_nothing, edits_region}
-use Rattle.system_state.specs.declared.work.Work.{Work}
-use Rattle.system_state.specs.Effects.{act}
-use Rattle.system_state.specs.Work.{IsWork, region_of}
+use Rattle.system_state.specs.declared.edited.EditedRegion.{EditedRegion}
+use Rattle.system_state.specs.Edited.{IsEditedRegion, region_of}
 use Rattle.step_debugger.specs.Debugging.{Debugging, debugging_of, point_of}
 use Rattle.step_debugger.specs.Kept.{IsKept}
 use Rattle.step_debugger.specs.Middle.{IsEditOf, matrix_after_some}
@@ -119,7 +119,7 @@ module _ (s : State) (all : List Act) (good : IsGood s all) (begun : List ℕ) (
 
 -- ---- what one command makes of a voxel
 
-module _ (r : ℕ) (b : Bot) (k : Command) (w : Work) (h : IsWork r b k w) (c : Coord) where
+module _ (r : ℕ) (b : Bot) (k : Command) (w : EditedRegion) (h : IsEditedRegion r b k w) (c : Coord) where
   pub edit_within : is_within (region_of w) (point c) ≡ true → is_edited (not w.full) (act b k) c ≡ true
   edit_within e = sym (edits_region r b k w (not w.full) h (other w.full) c) ∙ e
     where

@@ -31,7 +31,7 @@ use Rattle.step_debugger.specs.Calls.{fault_report, group_report, step_report}
 use Rattle.step_debugger.specs.Debugging.{Debugging, debugging_of, point_of}
 use Rattle.step_debugger.specs.Kept.{AreBegun, Begin, IsKept}
 use Rattle.step_debugger.specs.Readiness.{IsUnready}
-use Rattle.step_debugger.specs.Session.{Answers, Begins, Begun, Ended, Group, NoLeader, Refused, Report, Session, Steps, is_last, may_begin, middle_state, next_commands, next_leaders}
+use Rattle.step_debugger.specs.Session.{AnswersLine, BeginsGroup, Begun, Ended, Group, NoLeader, Refused, DebugReport, Session, TriesStep, is_last, may_begin, middle_state, next_commands, next_leaders}
 use Rattle.step_debugger.proofs.Making.{here}
 use Rattle.step_debugger.proofs.Trying.{ended_is, unless_active}
 
@@ -166,45 +166,45 @@ module _ (commands : List Command) (s : Session) (left : List ℕ) (perm : IsPer
 -- ---- what a group's line answers
 
 module _ (commands : List Command) (s : Session) (bid : ℕ) (some : 1 ≤ length s.point.state.bots) where
-  judged : (t : Session) (report : Report) → broken s.point.state (next_commands commands s.point) (s.point.steps + 1) ≡ None → Begins commands bid s t report → Answers commands (Group bid) s t report
+  judged : (t : Session) (report : DebugReport) → broken s.point.state (next_commands commands s.point) (s.point.steps + 1) ≡ None → BeginsGroup commands bid s t report → AnswersLine commands (Group bid) s t report
   judged t report e h =
       unless_active s.point.state.bots s t report _ some
-      (subst (λ (o : Option Broken). MatchOption o (Begins commands bid s t report) (λ b. (t ≡ s) × (report ≡ Refused b))) (sym e) h)
+      (subst (λ (o : Option Broken). MatchOption o (BeginsGroup commands bid s t report) (λ b. (t ≡ s) × (report ≡ Refused b))) (sym e) h)
 
-  pub group_refused : (b : Broken) → broken s.point.state (next_commands commands s.point) (s.point.steps + 1) ≡ Some b → Answers commands (Group bid) s s (Refused b)
+  pub group_refused : (b : Broken) → broken s.point.state (next_commands commands s.point) (s.point.steps + 1) ≡ Some b → AnswersLine commands (Group bid) s s (Refused b)
   group_refused b e =
       unless_active s.point.state.bots s s (Refused b) _ some
-      (subst (λ (o : Option Broken). MatchOption o (Begins commands bid s s (Refused b)) (λ c. (s ≡ s) × (Refused b ≡ Refused c))) (sym e) (refl, refl))
+      (subst (λ (o : Option Broken). MatchOption o (BeginsGroup commands bid s s (Refused b)) (λ c. (s ≡ s) × (Refused b ≡ Refused c))) (sym e) (refl, refl))
 
   module _ (keeps : broken s.point.state (next_commands commands s.point) (s.point.steps + 1) ≡ None) where
-    pub no_leader : may_begin commands s bid ≡ false → Answers commands (Group bid) s s (NoLeader bid)
-    no_leader f = judged s (NoLeader bid) keeps (subst (λ (b : Bool). MatchBool b (MatchBool (is_last commands s) (Steps commands s s (NoLeader bid)) ((s ≡ record s { begun = s.begun ++ bid ∷ [] }) × (NoLeader bid ≡ Begun bid (s.point.steps + 1)))) ((s ≡ s) × (NoLeader bid ≡ NoLeader bid))) (sym f) (refl, refl))
+    pub no_leader : may_begin commands s bid ≡ false → AnswersLine commands (Group bid) s s (NoLeader bid)
+    no_leader f = judged s (NoLeader bid) keeps (subst (λ (b : Bool). MatchBool b (MatchBool (is_last commands s) (TriesStep commands s s (NoLeader bid)) ((s ≡ record s { begun = s.begun ++ bid ∷ [] }) × (NoLeader bid ≡ Begun bid (s.point.steps + 1)))) ((s ≡ s) × (NoLeader bid ≡ NoLeader bid))) (sym f) (refl, refl))
 
-    group_begun : (t : Session) → t ≡ record s { begun = s.begun ++ bid ∷ [] } → may_begin commands s bid ≡ true → is_last commands s ≡ false → Answers commands (Group bid) s t (Begun bid (s.point.steps + 1))
+    group_begun : (t : Session) → t ≡ record s { begun = s.begun ++ bid ∷ [] } → may_begin commands s bid ≡ true → is_last commands s ≡ false → AnswersLine commands (Group bid) s t (Begun bid (s.point.steps + 1))
     group_begun t is f g = judged t (Begun bid (s.point.steps + 1)) keeps
-        (subst (λ (b : Bool). MatchBool b (MatchBool (is_last commands s) (Steps commands s t (Begun bid (s.point.steps + 1))) ((t ≡ record s { begun = s.begun ++ bid ∷ [] }) × (Begun bid (s.point.steps + 1) ≡ Begun bid (s.point.steps + 1)))) ((t ≡ s) × (Begun bid (s.point.steps + 1) ≡ NoLeader bid))) (sym f)
-        (subst (λ (b : Bool). MatchBool b (Steps commands s t (Begun bid (s.point.steps + 1))) ((t ≡ record s { begun = s.begun ++ bid ∷ [] }) × (Begun bid (s.point.steps + 1) ≡ Begun bid (s.point.steps + 1)))) (sym g) (is, refl)))
+        (subst (λ (b : Bool). MatchBool b (MatchBool (is_last commands s) (TriesStep commands s t (Begun bid (s.point.steps + 1))) ((t ≡ record s { begun = s.begun ++ bid ∷ [] }) × (Begun bid (s.point.steps + 1) ≡ Begun bid (s.point.steps + 1)))) ((t ≡ s) × (Begun bid (s.point.steps + 1) ≡ NoLeader bid))) (sym f)
+        (subst (λ (b : Bool). MatchBool b (TriesStep commands s t (Begun bid (s.point.steps + 1))) ((t ≡ record s { begun = s.begun ++ bid ∷ [] }) × (Begun bid (s.point.steps + 1) ≡ Begun bid (s.point.steps + 1)))) (sym g) (is, refl)))
 
-    pub group_begun_at : (t : Session) → t ≡ record s { begun = s.begun ++ bid ∷ [] } → may_begin commands s bid ≡ true → is_last commands s ≡ false → Answers commands (Group bid) s t (Begun bid (t.point.steps + 1))
-    group_begun_at t is f g = subst (λ (n : ℕ). Answers commands (Group bid) s t (Begun bid (n + 1))) (sym (ap (λ (x : Session). x.point.steps) is)) (group_begun t is f g)
+    pub group_begun_at : (t : Session) → t ≡ record s { begun = s.begun ++ bid ∷ [] } → may_begin commands s bid ≡ true → is_last commands s ≡ false → AnswersLine commands (Group bid) s t (Begun bid (t.point.steps + 1))
+    group_begun_at t is f g = subst (λ (n : ℕ). AnswersLine commands (Group bid) s t (Begun bid (n + 1))) (sym (ap (λ (x : Session). x.point.steps) is)) (group_begun t is f g)
 
-    group_last : (t : Session) (report : Report) → Steps commands s t report → may_begin commands s bid ≡ true → is_last commands s ≡ true → Answers commands (Group bid) s t report
+    group_last : (t : Session) (report : DebugReport) → TriesStep commands s t report → may_begin commands s bid ≡ true → is_last commands s ≡ true → AnswersLine commands (Group bid) s t report
     group_last t report made f g = judged t report keeps
-        (subst (λ (b : Bool). MatchBool b (MatchBool (is_last commands s) (Steps commands s t report) ((t ≡ record s { begun = s.begun ++ bid ∷ [] }) × (report ≡ Begun bid (s.point.steps + 1)))) ((t ≡ s) × (report ≡ NoLeader bid))) (sym f)
-        (subst (λ (b : Bool). MatchBool b (Steps commands s t report) ((t ≡ record s { begun = s.begun ++ bid ∷ [] }) × (report ≡ Begun bid (s.point.steps + 1)))) (sym g) made))
+        (subst (λ (b : Bool). MatchBool b (MatchBool (is_last commands s) (TriesStep commands s t report) ((t ≡ record s { begun = s.begun ++ bid ∷ [] }) × (report ≡ Begun bid (s.point.steps + 1)))) ((t ≡ s) × (report ≡ NoLeader bid))) (sym f)
+        (subst (λ (b : Bool). MatchBool b (TriesStep commands s t report) ((t ≡ record s { begun = s.begun ++ bid ∷ [] }) × (report ≡ Begun bid (s.point.steps + 1)))) (sym g) made))
 
     -- the last group, by what the step answered
-    pub last_ok : (t : Session) (ok : StepOk) → IfSome (step_report t.point.steps (Ok ok)) (Steps commands s t) → may_begin commands s bid ≡ true → is_last commands s ≡ true → IfSome (group_report bid t.point.steps (Ok (Some ok))) (Answers commands (Group bid) s t)
+    pub last_ok : (t : Session) (ok : StepOk) → IfSome (step_report t.point.steps (Ok ok)) (TriesStep commands s t) → may_begin commands s bid ≡ true → is_last commands s ≡ true → IfSome (group_report bid t.point.steps (Ok (Some ok))) (AnswersLine commands (Group bid) s t)
     last_ok t ok made f g = group_last t _ made f g
 
-    pub last_err : (t : Session) (fault : DebugFault) → IfSome (step_report t.point.steps (Err fault)) (Steps commands s t) → may_begin commands s bid ≡ true → is_last commands s ≡ true → IfSome (group_report bid t.point.steps (Err fault)) (Answers commands (Group bid) s t)
+    pub last_err : (t : Session) (fault : DebugFault) → IfSome (step_report t.point.steps (Err fault)) (TriesStep commands s t) → may_begin commands s bid ≡ true → is_last commands s ≡ true → IfSome (group_report bid t.point.steps (Err fault)) (AnswersLine commands (Group bid) s t)
     last_err t (fault.Broken b) made f g = group_last t (Refused b) made f g
     last_err t fault.Ended made f g = group_last t Ended made f g
     last_err t fault.NoHistory made f g = group_last t _ made f g
     last_err t (fault.NotLeader leader) made f g = group_last t (NoLeader leader) made f g
     last_err t fault.Memory made f g = tt
 
-pub unready_group : (commands : List Command) (s : Session) (bid : ℕ) (f : DebugFault) → IsUnready commands s.point f → IfSome (fault_report f) (Answers commands (Group bid) s s)
+pub unready_group : (commands : List Command) (s : Session) (bid : ℕ) (f : DebugFault) → IsUnready commands s.point f → IfSome (fault_report f) (AnswersLine commands (Group bid) s s)
 unready_group commands s bid fault.Ended h = ended_is s.point.state.bots s _ h
 unready_group commands s bid (fault.Broken b) h = group_refused commands s bid h.0 b h.1
 unready_group commands s bid fault.NoHistory h = absurd h

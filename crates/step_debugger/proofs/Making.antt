@@ -16,7 +16,7 @@ use Rattle.step_machine.specs.Undoing.{MayUndo, state_before}
 use Rattle.step_machine.specs.declared.machine.StepOk.{StepOk}
 use Rattle.step_machine.specs.declared.machine.StepFault.TheVariants as fault
 use Rattle.step_machine.specs.declared.undo.Undo.{Undo}
-use Rattle.step_debugger.specs.Session.{Made, Point, Refused, Session, Steps, dropped, latest, made, most_past, next_commands, none_left, refused}
+use Rattle.step_debugger.specs.Session.{Made, Moment, Refused, Session, TriesStep, dropped, latest, made, most_past, next_commands, none_left, refused}
 use Rattle.step_debugger.specs.Debugging.{Debugging, debugging_of, point_before, point_of, points_of}
 use Rattle.step_debugger.specs.Kept.{Begin, Fit, IsKept, LeadTo, LeadsTo}
 use Rattle.step_debugger.proofs.Notes.{lead_drop, lead_more, points_latest, points_more}
@@ -95,7 +95,7 @@ module _ (v : Situation) (notes : Buffer Undo) (commands : List Command) (taken 
         leads_all =
             subst (λ (us : List Undo). LeadTo (point_of w (taken + n)) us) (sym latest_is)
             (lead_drop (point_of w (taken + n)) (length (notes.items ++ undo ∷ []) - most_past) (notes.items ++ undo ∷ [])
-            (lead_more (point_of w (taken + n)) notes.items undo (subst (λ (q : Point). LeadTo q notes.items) (sym point_is) here.notes_lead) leads))
+            (lead_more (point_of w (taken + n)) notes.items undo (subst (λ (q : Moment). LeadTo q notes.items) (sym point_is) here.notes_lead) leads))
 
         begins : (now : List ℕ) → now ≡ [] → (standing : List Bot) → standing ≡ w.state.bots → Begin commands (point_of w (taken + n)) now left standing
         begins [] f standing g = g
@@ -124,8 +124,8 @@ module _ (v : Situation) (notes : Buffer Undo) (commands : List Command) (taken 
         session_is : (now : List ℕ) → now ≡ [] → (debugging_of w rest.items commands (taken + n) now).session ≡ made (debugging_of v notes.items commands taken begun).session w.state
         session_is now f = λ i. record { point = record { state = w.state; steps = stepped.counted i; taken = taken + count i }; past = past_is i; begun = f i }
 
-        pub session_made : (now : List ℕ) → now ≡ [] → Steps d.commands d.session (debugging_of w rest.items commands (taken + n) now).session (Made w.steps ok.energy ok.halted)
-        session_made now f = subst (λ (x : Debugging). Steps x.commands x.session (debugging_of w rest.items commands (taken + n) now).session (Made w.steps ok.energy ok.halted)) e (
+        pub session_made : (now : List ℕ) → now ≡ [] → TriesStep d.commands d.session (debugging_of w rest.items commands (taken + n) now).session (Made w.steps ok.energy ok.halted)
+        session_made now f = subst (λ (x : Debugging). TriesStep x.commands x.session (debugging_of w rest.items commands (taken + n) now).session (Made w.steps ok.energy ok.halted)) e (
           Goes w.state,
           subst (λ (xs : List Command). Next v.state xs (v.steps + 1) (Goes w.state)) next_here stepped.goes,
           (session_is now f, λ i. Made (stepped.counted i) (stepped.energy i) (halted_is ok.halted w.state.bots stepped.halted i)),
@@ -143,8 +143,8 @@ module _ (v : Situation) (notes : Buffer Undo) (commands : List Command) (taken 
         session_stays : (debugging_of w notes.items commands taken begun).session ≡ (debugging_of v notes.items commands taken begun).session
         session_stays = λ i. record { point = point_stays i; past = points_of (point_stays i) notes.items; begun = begun }
 
-        pub session_refused : w.spent ≡ false → Steps d.commands d.session (debugging_of w notes.items commands taken begun).session (Refused b)
-        session_refused free = subst (λ (x : Debugging). Steps x.commands x.session (debugging_of w notes.items commands taken begun).session (Refused b)) e (
+        pub session_refused : w.spent ≡ false → TriesStep d.commands d.session (debugging_of w notes.items commands taken begun).session (Refused b)
+        session_refused free = subst (λ (x : Debugging). TriesStep x.commands x.session (debugging_of w notes.items commands taken begun).session (Refused b)) e (
           Breaks b,
           breaks,
           (session_stays ∙ sym (refused_other b.rule (debugging_of v notes.items commands taken begun).session (λ f. let g = stepped.ungrounded.1 f in not_spent free g)), refl),
@@ -170,10 +170,10 @@ module _ (v : Situation) (notes : Buffer Undo) (commands : List Command) (taken 
             few = kept.few;
             capacity = kept.capacity;
             fit = λ _. record {
-              well_formed = subst (λ (q : Point). IsWellFormed q.state) (sym point_anew) here.well_formed;
-              counted = subst (λ (q : Point). q.steps ≤ q.taken) (sym point_anew) here.counted;
+              well_formed = subst (λ (q : Moment). IsWellFormed q.state) (sym point_anew) here.well_formed;
+              counted = subst (λ (q : Moment). q.steps ≤ q.taken) (sym point_anew) here.counted;
               taken = here.taken;
-              notes_lead = subst (λ (q : Point). LeadTo q notes.items) (sym point_anew) here.notes_lead;
+              notes_lead = subst (λ (q : Moment). LeadTo q notes.items) (sym point_anew) here.notes_lead;
               begin = begins_anew now none standing g;
               within = subst (λ (bs : List Bot). All (λ b. IsInSpace u.state.matrix.resolution b.pos) bs) (sym g) ready.within;
             };
@@ -182,8 +182,8 @@ module _ (v : Situation) (notes : Buffer Undo) (commands : List Command) (taken 
           session_anew : (debugging_of u notes.items commands taken now).session ≡ dropped (debugging_of v notes.items commands taken begun).session
           session_anew = λ i. record { point = point_anew i; past = points_of (point_anew i) notes.items; begun = none i }
 
-          pub session_ungrounded : Steps d.commands d.session (debugging_of u notes.items commands taken now).session (Refused b)
-          session_ungrounded = subst (λ (x : Debugging). Steps x.commands x.session (debugging_of u notes.items commands taken now).session (Refused b)) e (
+          pub session_ungrounded : TriesStep d.commands d.session (debugging_of u notes.items commands taken now).session (Refused b)
+          session_ungrounded = subst (λ (x : Debugging). TriesStep x.commands x.session (debugging_of u notes.items commands taken now).session (Refused b)) e (
             Breaks b,
             breaks,
             (session_anew ∙ sym (refused_last b.rule (debugging_of v notes.items commands taken begun).session (stepped.ungrounded.0 spent)), refl),

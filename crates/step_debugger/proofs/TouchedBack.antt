@@ -7,7 +7,7 @@ use Rattle.vox_geom.specs.declared.coordinate.Coord.{Coord}
 use Rattle.vox_geom.specs.Space.{IsInSpace}
 use Rattle.nano_spec.specs.Matrix.{Matrix, all_of, differ_at, is_full}
 use Rattle.nano_spec.specs.Work.{Levels, changed_count}
-use Rattle.system_state.specs.Painting.{is_among}
+use Rattle.system_state.specs.Painting.{is_cell}
 use Rattle.step_order.proofs.Lists.{In, both, by_left, by_right, in_either, in_filter, in_place, not_both}
 use Rattle.step_order.proofs.Voxels.{in_coordinates, matrix_same}
 use Rattle.step_machine.specs.Undoing.{HaveChanged, IsUndoneBy, matrix_before, without_filled}
@@ -29,11 +29,11 @@ module _ (old : Matrix) (undo : Undo) (h : HaveChanged old undo) where
   voided_is : (c : Coord) → In c undo.voided.items → IsInSpace old.resolution c × (is_full old c ≡ false)
   voided_is c i = (of_each (λ (d : Coord). IsInSpace old.resolution d) undo.voided.items c h.voided_within (holds c undo.voided.items i), of_each (λ (d : Coord). IsFalse (is_full old d)) undo.voided.items c h.voided (holds c undo.voided.items i))
 
-  new_at : (d : Coord) → IsInSpace old.resolution d → is_full (matrix_before old undo.filled.items undo.voided.items) d ≡ cond (is_among undo.voided.items d) true (cond (is_among undo.filled.items d) false (is_full old d))
-  new_at d w = full_with (without_filled old undo.filled.items) undo.voided.items true d w ∙ ap (λ b. cond (is_among undo.voided.items d) true b) (full_with old undo.filled.items false d w)
+  new_at : (d : Coord) → IsInSpace old.resolution d → is_full (matrix_before old undo.filled.items undo.voided.items) d ≡ cond (is_cell undo.voided.items d) true (cond (is_cell undo.filled.items d) false (is_full old d))
+  new_at d w = full_with (without_filled old undo.filled.items) undo.voided.items true d w ∙ ap (λ b. cond (is_cell undo.voided.items d) true b) (full_with old undo.filled.items false d w)
 
-  both_are : (d : Coord) → IsInSpace old.resolution d → (is_full old d && is_full (matrix_before old undo.filled.items undo.voided.items) d) ≡ cond (is_among undo.filled.items d) false (is_full old d)
-  both_are d w = ap (λ b. is_full old d && b) (new_at d w) ∙ by (is_among undo.voided.items d) refl
+  both_are : (d : Coord) → IsInSpace old.resolution d → (is_full old d && is_full (matrix_before old undo.filled.items undo.voided.items) d) ≡ cond (is_cell undo.filled.items d) false (is_full old d)
+  both_are d w = ap (λ b. is_full old d && b) (new_at d w) ∙ by (is_cell undo.voided.items d) refl
     where
       gone : (f o : Bool) → o ≡ false → (o && true) ≡ cond f false o
       gone true false e = refl
@@ -46,12 +46,12 @@ module _ (old : Matrix) (undo : Undo) (h : HaveChanged old undo) where
       stays false true = refl
       stays false false = refl
 
-      by : (v : Bool) → is_among undo.voided.items d ≡ v → (is_full old d && cond v true (cond (is_among undo.filled.items d) false (is_full old d))) ≡ cond (is_among undo.filled.items d) false (is_full old d)
-      by true e = gone (is_among undo.filled.items d) (is_full old d) (voided_is d (of_among undo.voided.items d e)).1
-      by false e = stays (is_among undo.filled.items d) (is_full old d)
+      by : (v : Bool) → is_cell undo.voided.items d ≡ v → (is_full old d && cond v true (cond (is_cell undo.filled.items d) false (is_full old d))) ≡ cond (is_cell undo.filled.items d) false (is_full old d)
+      by true e = gone (is_cell undo.filled.items d) (is_full old d) (voided_is d (of_among undo.voided.items d e)).1
+      by false e = stays (is_cell undo.filled.items d) (is_full old d)
 
   common_is : common old (matrix_before old undo.filled.items undo.voided.items) ≡ without_filled old undo.filled.items
-  common_is = matrix_same old.resolution (λ c. is_full old c && is_full (matrix_before old undo.filled.items undo.voided.items) c) (λ d. cond (is_among undo.filled.items d) false (is_full old d)) both_are
+  common_is = matrix_same old.resolution (λ c. is_full old c && is_full (matrix_before old undo.filled.items undo.voided.items) c) (λ d. cond (is_cell undo.filled.items d) false (is_full old d)) both_are
 
   filled_differs : (c : Coord) → In c undo.filled.items → differ_at old (matrix_before old undo.filled.items undo.voided.items) c ≡ true
   filled_differs c i =
@@ -65,7 +65,7 @@ module _ (old : Matrix) (undo : Undo) (h : HaveChanged old undo) where
   voided_differs c i =
       let w = voided_is c i in
       let a = among undo.voided.items c i in
-      let e : is_full (matrix_before old undo.filled.items undo.voided.items) c ≡ true = new_at c w.0 ∙ ap (λ b. cond b true (cond (is_among undo.filled.items c) false (is_full old c))) a in
+      let e : is_full (matrix_before old undo.filled.items undo.voided.items) c ≡ true = new_at c w.0 ∙ ap (λ b. cond b true (cond (is_cell undo.filled.items c) false (is_full old c))) a in
       by_right (is_full old c && not (is_full (matrix_before old undo.filled.items undo.voided.items) c)) (is_full (matrix_before old undo.filled.items undo.voided.items) c && not (is_full old c)) (both e (ap not w.1))
 
   all_differ : length undo.filled.items + length undo.voided.items ≤ changed_count old (matrix_before old undo.filled.items undo.voided.items)

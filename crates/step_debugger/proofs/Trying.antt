@@ -24,12 +24,12 @@ use Rattle.step_debugger.specs.Calls.{fault_report}
 use Rattle.step_debugger.specs.Debugging.{Debugging, debugging_of, point_of}
 use Rattle.step_debugger.specs.Kept.{AreBegun, Begin, IsKept}
 use Rattle.step_debugger.specs.Readiness.{IsUnready}
-use Rattle.step_debugger.specs.Session.{Answers, Ended, Refused, Report, Session, Step, UnlessEnded, next_commands, next_leaders}
+use Rattle.step_debugger.specs.Session.{AnswersLine, Ended, Refused, DebugReport, Session, Step, UnlessEnded, next_commands, next_leaders}
 use Rattle.step_debugger.proofs.Making.{here, refused_other}
 
 -- ---- where no step can be tried
 
-pub unless_active : (bots : List Bot) (s t : Session) (report : Report) (P : Type 0) → 1 ≤ length bots → P → UnlessEnded bots s t report P
+pub unless_active : (bots : List Bot) (s t : Session) (report : DebugReport) (P : Type 0) → 1 ≤ length bots → P → UnlessEnded bots s t report P
 unless_active [] s t report P l p = absurd (omega arith)
 unless_active (b ∷ bots) s t report P l p = p
 
@@ -40,7 +40,7 @@ ended_is (b ∷ bots) s P e = cc
 broken_next : (s : Session) (commands : List Command) (b : Broken) → broken s.point.state (next_commands commands s.point) (s.point.steps + 1) ≡ Some b → Next s.point.state (next_commands commands s.point) (s.point.steps + 1) (Breaks b)
 broken_next s commands b e = subst (λ (o : Option Broken). MatchOption o (Settles (after s.point.state (next_commands commands s.point)) (s.point.steps + 1) (Breaks b)) (λ c. Breaks b ≡ Breaks c)) (sym e) refl
 
-pub unready_step : (commands : List Command) (s : Session) (f : DebugFault) → IsUnready commands s.point f → IfSome (fault_report f) (Answers commands Step s s)
+pub unready_step : (commands : List Command) (s : Session) (f : DebugFault) → IsUnready commands s.point f → IfSome (fault_report f) (AnswersLine commands Step s s)
 unready_step commands s fault.Ended h = ended_is s.point.state.bots s _ h
 unready_step commands s (fault.Broken b) h =
     unless_active s.point.state.bots s s (Refused b) _ h.0

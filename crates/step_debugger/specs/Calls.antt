@@ -3,10 +3,10 @@ use Rattle.std.specs.Prelude.{ℕ, ◌+◌, Option, Some, None, Result, Ok, Err}
 use Rattle.step_machine.specs.declared.machine.StepOk.{StepOk}
 use Rattle.step_debugger.specs.declared.fault.DebugFault.{DebugFault}
 use Rattle.step_debugger.specs.declared.fault.DebugFault.TheVariants as fault
-use Rattle.step_debugger.specs.Session.{Begun, Ended, Made, NoHistory, NoLeader, Point, Refused, Report, is_returned}
+use Rattle.step_debugger.specs.Session.{Begun, Ended, Made, NoHistory, NoLeader, Moment, Refused, DebugReport, is_returned}
 
 -- a fault, but for want of memory, of which a session knows nothing
-abbrev pub fault_report : DebugFault → Option Report
+abbrev pub fault_report : DebugFault → Option DebugReport
 fault_report (fault.Broken b) = Some (Refused b)
 fault_report fault.Ended = Some Ended
 fault_report fault.NoHistory = Some NoHistory
@@ -14,25 +14,25 @@ fault_report (fault.NotLeader leader) = Some (NoLeader leader)
 fault_report fault.Memory = None
 
 -- a step, after which so many steps are made
-abbrev pub step_report : ℕ → Result StepOk DebugFault → Option Report
+abbrev pub step_report : ℕ → Result StepOk DebugFault → Option DebugReport
 step_report steps (Ok ok) = Some (Made steps ok.energy ok.halted)
 step_report steps (Err fault) = fault_report fault
 
 -- a group of a leader, after which so many steps are made
-abbrev pub group_report : ℕ → ℕ → Result (Option StepOk) DebugFault → Option Report
+abbrev pub group_report : ℕ → ℕ → Result (Option StepOk) DebugFault → Option DebugReport
 group_report leader steps (Ok None) = Some (Begun leader (steps + 1))
 group_report leader steps (Ok (Some ok)) = Some (Made steps ok.energy ok.halted)
 group_report leader steps (Err fault) = fault_report fault
 
 -- a way back, after which the point stands
-abbrev pub back_report : Point → Result Unit DebugFault → Option Report
+abbrev pub back_report : Moment → Result Unit DebugFault → Option DebugReport
 back_report p (Ok _) = Some (is_returned p)
 back_report p (Err fault) = fault_report fault
 
 -- the number of a fault
-abbrev pub number_of : DebugFault → ℕ
-number_of (fault.Broken b) = 1
-number_of fault.Ended = 2
-number_of fault.NoHistory = 3
-number_of (fault.NotLeader leader) = 4
-number_of fault.Memory = 5
+abbrev pub debug_fault_number : DebugFault → ℕ
+debug_fault_number (fault.Broken b) = 1
+debug_fault_number fault.Ended = 2
+debug_fault_number fault.NoHistory = 3
+debug_fault_number (fault.NotLeader leader) = 4
+debug_fault_number fault.Memory = 5

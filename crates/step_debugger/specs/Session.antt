@@ -17,7 +17,7 @@ use Rattle.nano_spec.specs.Serial.{leader_bids, serial}
 use Rattle.nano_spec.specs.State.{State, opening}
 
 -- a state, with how many steps were made and how many commands were taken until then
-pub record Point : Type 0 where
+pub record Moment : Type 0 where
   pub state : State
   pub steps : ℕ
   pub taken : ℕ
@@ -25,8 +25,8 @@ pub record Point : Type 0 where
 -- the point where it stands, the points before it, of which the last comes last, and the leaders of the groups that are begun, in the
 -- order in which they were begun
 pub record Session : Type 0 where
-  pub point : Point
-  pub past : List Point
+  pub point : Moment
+  pub past : List Moment
   pub begun : List ℕ
 
 -- how many points are kept
@@ -42,11 +42,11 @@ abbrev pub opened : Matrix → Profile → Session
 opened source profile = record { point = record { state = opening source profile; steps = 0; taken = 0 }; past = []; begun = [] }
 
 -- the commands of the next step: one for each bot, as far as there are any
-abbrev pub next_commands : List Command → Point → List Command
+abbrev pub next_commands : List Command → Moment → List Command
 next_commands commands p = take (length p.state.bots) (drop p.taken commands)
 
 -- the bids of the leaders of the next step, in rising order
-abbrev pub next_leaders : List Command → Point → List ℕ
+abbrev pub next_leaders : List Command → Moment → List ℕ
 next_leaders commands p = leader_bids (acts p.state.bots (next_commands commands p))
 
 -- the state after the begun groups alone, one after another
@@ -54,34 +54,34 @@ abbrev pub middle_state : List Command → Session → Option State
 middle_state commands s = serial s.point.state (next_commands commands s.point) s.begun
 
 -- a line of a script
-pub data Line : Type 0 where
-  Step : Line
-  Group : ℕ → Line
-  Back : Line
-  Bots : Line
-  Voxel : Coord → Line
+pub data DebugLine : Type 0 where
+  Step : DebugLine
+  Group : ℕ → DebugLine
+  Back : DebugLine
+  Bots : DebugLine
+  Voxel : Coord → DebugLine
 
 -- what is printed for a line
-pub data Report : Type 0 where
+pub data DebugReport : Type 0 where
   -- no bot is active
-  Ended : Report
+  Ended : DebugReport
   -- the next commands break a rule
-  Refused : Broken → Report
+  Refused : Broken → DebugReport
   -- a step was made: their number, the energy, and whether no bot is left
-  Made : ℕ → ℤ → Bool → Report
+  Made : ℕ → ℤ → Bool → DebugReport
   -- this is no leader of the step, or its group is begun
-  NoLeader : ℕ → Report
+  NoLeader : ℕ → DebugReport
   -- the group of this leader was begun, in the step of this number
-  Begun : ℕ → ℕ → Report
+  Begun : ℕ → ℕ → DebugReport
   -- there is no earlier point
-  NoHistory : Report
+  NoHistory : DebugReport
   -- an earlier point stands again: its number of steps and its energy
-  Returned : ℕ → ℤ → Report
+  Returned : ℕ → ℤ → DebugReport
   -- the active bots
-  Crew : List Bot → Report
+  Crew : List Bot → DebugReport
   -- a voxel that is void, and one that is full with its level
-  IsVoid : Coord → Report
-  IsFull : Coord → Option ℕ → Report
+  IsVoid : Coord → DebugReport
+  IsFull : Coord → Option ℕ → DebugReport
 
 -- nothing is begun any more
 abbrev pub dropped : Session → Session
@@ -106,17 +106,17 @@ none_left [] = true
 none_left (bot ∷ bots) = false
 
 -- what an outcome of the next step changes, and what is printed
-abbrev pub Follows : Session → Session → Report → Outcome → Type 0
-Follows s t report (Goes u) = (t ≡ made s u) × (report ≡ Made (s.point.steps + 1) u.energy (none_left u.bots))
-Follows s t report (Breaks b) = (t ≡ refused b.rule s) × (report ≡ Refused b)
+abbrev pub FollowsStep : Session → Session → DebugReport → Outcome → Type 0
+FollowsStep s t report (Goes u) = (t ≡ made s u) × (report ≡ Made (s.point.steps + 1) u.energy (none_left u.bots))
+FollowsStep s t report (Breaks b) = (t ≡ refused b.rule s) × (report ≡ Refused b)
 
 -- the next step is tried
-abbrev pub Steps : List Command → Session → Session → Report → Type 0
-Steps commands s t report =
-    (outcome : Outcome) × Next s.point.state (next_commands commands s.point) (s.point.steps + 1) outcome × Follows s t report outcome
+abbrev pub TriesStep : List Command → Session → Session → DebugReport → Type 0
+TriesStep commands s t report =
+    (outcome : Outcome) × Next s.point.state (next_commands commands s.point) (s.point.steps + 1) outcome × FollowsStep s t report outcome
 
 -- where no bot is active the run has ended, and else P holds
-abbrev pub UnlessEnded : List Bot → Session → Session → Report → Type 0 → Type 0
+abbrev pub UnlessEnded : List Bot → Session → Session → DebugReport → Type 0 → Type 0
 UnlessEnded [] s t report P = (t ≡ s) × (report ≡ Ended)
 UnlessEnded (bot ∷ bots) s t report P = P
 
@@ -129,46 +129,46 @@ abbrev pub is_last : List Command → Session → Bool
 is_last commands s = length s.begun + 1 == length (next_leaders commands s.point)
 
 -- a group is begun, where its leader is one and its group is not begun; the last one makes the step
-abbrev pub Begins : List Command → ℕ → Session → Session → Report → Type 0
-Begins commands bid s t report =
+abbrev pub BeginsGroup : List Command → ℕ → Session → Session → DebugReport → Type 0
+BeginsGroup commands bid s t report =
     MatchBool (may_begin commands s bid)
     (MatchBool (is_last commands s)
-    (Steps commands s t report)
+    (TriesStep commands s t report)
     ((t ≡ record s { begun = s.begun ++ bid ∷ [] }) × (report ≡ Begun bid (s.point.steps + 1))))
     ((t ≡ s) × (report ≡ NoLeader bid))
 
 -- a group is begun unless the next commands break a rule that is judged at a step's start
-abbrev pub Groups : List Command → ℕ → Session → Session → Report → Type 0
-Groups commands bid s t report =
-    MatchOption (broken s.point.state (next_commands commands s.point) (s.point.steps + 1)) (Begins commands bid s t report) (λ b. (t ≡ s) × (report ≡ Refused b))
+abbrev pub TriesGroup : List Command → ℕ → Session → Session → DebugReport → Type 0
+TriesGroup commands bid s t report =
+    MatchOption (broken s.point.state (next_commands commands s.point) (s.point.steps + 1)) (BeginsGroup commands bid s t report) (λ b. (t ≡ s) × (report ≡ Refused b))
 
 -- the point stands again
-abbrev pub is_returned : Point → Report
+abbrev pub is_returned : Moment → DebugReport
 is_returned p = Returned p.steps p.state.energy
 
 -- the last point of the past stands again
-pub record IsBack (s t : Session) (report : Report) : Type 0 where
-  pub earlier : List Point
-  pub last : Point
+pub record IsBack (s t : Session) (report : DebugReport) : Type 0 where
+  pub earlier : List Moment
+  pub last : Moment
   pub past : s.past ≡ earlier ++ last ∷ []
   pub session : t ≡ record { point = last; past = earlier; begun = [] }
   pub report_is : report ≡ is_returned last
 
 -- where nothing is begun the last step is taken back
-abbrev pub TakesBack : List Point → Session → Session → Report → Type 0
+abbrev pub TakesBack : List Moment → Session → Session → DebugReport → Type 0
 TakesBack [] s t report = (t ≡ s) × (report ≡ NoHistory)
 TakesBack (p ∷ past) s t report = IsBack s t report
 
 -- what is begun is dropped, or else the last step is taken back
-abbrev pub GoesBack : List ℕ → Session → Session → Report → Type 0
+abbrev pub GoesBack : List ℕ → Session → Session → DebugReport → Type 0
 GoesBack [] s t report = TakesBack s.past s t report
 GoesBack (bid ∷ begun) s t report = (t ≡ dropped s) × (report ≡ is_returned s.point)
 
 -- what a line changes, and what is printed
-abbrev pub Answers : List Command → Line → Session → Session → Report → Type 0
-Answers commands Step s t report = UnlessEnded s.point.state.bots s t report (Steps commands s t report)
-Answers commands (Group bid) s t report = UnlessEnded s.point.state.bots s t report (Groups commands bid s t report)
-Answers commands Back s t report = GoesBack s.begun s t report
-Answers commands Bots s t report = (t ≡ s) × ((m : State) × (middle_state commands s ≡ Some m) × (report ≡ Crew m.bots))
-Answers commands (Voxel c) s t report =
+abbrev pub AnswersLine : List Command → DebugLine → Session → Session → DebugReport → Type 0
+AnswersLine commands Step s t report = UnlessEnded s.point.state.bots s t report (TriesStep commands s t report)
+AnswersLine commands (Group bid) s t report = UnlessEnded s.point.state.bots s t report (TriesGroup commands bid s t report)
+AnswersLine commands Back s t report = GoesBack s.begun s t report
+AnswersLine commands Bots s t report = (t ≡ s) × ((m : State) × (middle_state commands s ≡ Some m) × (report ≡ Crew m.bots))
+AnswersLine commands (Voxel c) s t report =
     (t ≡ s) × ((level : Option ℕ) × Level s.point.state.matrix c level × (report ≡ cond (is_full s.point.state.matrix c) (IsFull c level) (IsVoid c)))

@@ -2,7 +2,7 @@
 use Rattle.std.specs.Prelude.{ℕ, ◌+◌, ◌*◌, ◌≤◌, ◌&&◌}
 use Rattle.nano_spec.specs.Matrix.{Matrix, is_full, matrix_where}
 use Rattle.nano_spec.specs.Work.{changed_count}
-use Rattle.step_machine.specs.Undoing.{LevelsThrough, moved}
+use Rattle.step_machine.specs.Undoing.{LevelsThrough, levels_moved}
 
 -- what is full in both matrices
 abbrev pub common : Matrix → Matrix → Matrix
@@ -11,4 +11,4 @@ common old new = matrix_where old.resolution (λ c. is_full old c && is_full new
 -- at most a hundred touches for each voxel that changes, for each voxel whose level changes by what becomes void, and for each whose
 -- level changes then by what becomes full
 abbrev pub IsTouchedBack : Matrix → Matrix → ℕ → ℕ → Type 0
-IsTouchedBack old new began ended = (levels : LevelsThrough old (common old new) new) × (ended ≤ began + 100 * (changed_count old new + moved levels))
+IsTouchedBack old new began ended = (levels : LevelsThrough old (common old new) new) × (ended ≤ began + 100 * (changed_count old new + levels_moved levels))

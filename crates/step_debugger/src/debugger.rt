@@ -11,7 +11,7 @@ ghost use Rattle.vox_geom.specs.Space.{IsInSpace};
 ghost use Rattle.step_debugger.specs.Calls.{back_report, group_report, step_report};
 ghost use Rattle.step_debugger.specs.Debugging.{situation_of};
 ghost use Rattle.step_debugger.specs.Readiness.{IsUnready};
-ghost use Rattle.step_debugger.specs.Session.{Answers, Back, Group, Step, middle_state, Steps as StepsOf, next_commands as next_of, next_leaders, opened};
+ghost use Rattle.step_debugger.specs.Session.{AnswersLine, Back, Group, Step, middle_state, TriesStep as StepsOf, next_commands as next_of, next_leaders, opened};
 ghost use Rattle.step_debugger.specs.Touches.{IsTouchedBack};
 
 use crate::fault::DebugFault;
@@ -147,7 +147,7 @@ impl Debugger {
     /// Makes the next step: first the groups that are begun, and then the others in rising order of their leaders.
     pub fn step<L: Ledger>(&mut self, steps: &mut Steps<L>) -> Result<StepOk, DebugFault>
         requires { self.old.spent ≡ false }
-        ensures session { IfSome (step_report self.new.session.point.steps result) (Answers self.old.commands Step self.old.session self.new.session) }
+        ensures session { IfSome (step_report self.new.session.point.steps result) (AnswersLine self.old.commands Step self.old.session self.new.session) }
         ensures commands { self.new.commands ≡ self.old.commands }
         ensures spent { result ≡ Err DebugFault.Memory ↔ self.new.spent ≡ true }
     {
@@ -237,7 +237,7 @@ impl Debugger {
         steps: &mut Steps<L>,
     ) -> Result<Option<StepOk>, DebugFault>
         requires { self.old.spent ≡ false }
-        ensures session { IfSome (group_report leader self.new.session.point.steps result) (Answers self.old.commands (Group leader) self.old.session self.new.session) }
+        ensures session { IfSome (group_report leader self.new.session.point.steps result) (AnswersLine self.old.commands (Group leader) self.old.session self.new.session) }
         ensures commands { self.new.commands ≡ self.old.commands }
         ensures spent { result ≡ Err DebugFault.Memory ↔ self.new.spent ≡ true }
     {
@@ -320,7 +320,7 @@ impl Debugger {
     /// Drops the groups that are begun, or else takes the last step back.
     pub fn back<L: Ledger>(&mut self, steps: &mut Steps<L>) -> Result<(), DebugFault>
         requires { self.old.spent ≡ false }
-        ensures session { IfSome (back_report self.new.session.point result) (Answers self.old.commands Back self.old.session self.new.session) }
+        ensures session { IfSome (back_report self.new.session.point result) (AnswersLine self.old.commands Back self.old.session self.new.session) }
         ensures commands { self.new.commands ≡ self.old.commands }
         ensures spent { result ≡ Err DebugFault.Memory ↔ self.new.spent ≡ true }
         ensures touches { IfOk result (λ _. IsTouchedBack self.old.session.point.state.matrix self.new.session.point.state.matrix steps.old steps.new) }

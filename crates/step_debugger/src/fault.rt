@@ -1,6 +1,6 @@
 //! Why a call of the debugger did not do its work.
 ghost use Rattle.std.specs.Prelude.{◌≡◌};
-ghost use Rattle.step_debugger.specs.Calls.{number_of};
+ghost use Rattle.step_debugger.specs.Calls.{debug_fault_number};
 
 use nano_spec::Broken;
 
@@ -22,7 +22,7 @@ pub enum DebugFault {
 impl DebugFault {
     /// The number of the fault.
     pub fn number(self) -> u8
-        ensures { result ≡ number_of self }
+        ensures { result ≡ debug_fault_number self }
     {
         match self {
             DebugFault::Broken(_) => 1,

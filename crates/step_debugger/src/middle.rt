@@ -6,13 +6,13 @@ ghost use Rattle.nano_spec.specs.Act.{stays_in_space};
 ghost use Rattle.nano_spec.specs.Matrix.{is_full};
 ghost use Rattle.nano_spec.specs.Rules.{broken};
 ghost use Rattle.step_debugger.specs.Middle.{IsEditOf, matrix_after_some};
-ghost use Rattle.system_state.specs.Effects.{act};
+ghost use Rattle.step_groups.specs.Judging.{act};
 
 use crate::steps::place_of;
 use nano_spec::{Bot, Command};
 use std::sync::ledger::Ledger;
 use step_machine::Machine;
-use system_state::work_of;
+use system_state::edited_region;
 use vox_geom::{Coord, Region, Steps};
 
 /// What the command of a bot makes of a voxel, if it changes it: full or void.
@@ -21,7 +21,7 @@ fn edit_of(r: u16, bot: &Bot, command: &Command, c: Coord) -> Option<bool>
     requires stays { IsTrue (stays_in_space r (act bot.now command.now)) }
     ensures { IsEditOf (act bot.now command.now) c result }
 {
-    let work = work_of(r, *bot, command)?;
+    let work = edited_region(r, *bot, command)?;
     if Region::of(work.near, work.far).has(c) {
         return Some(work.full);
     }

@@ -19,7 +19,7 @@ use Rattle.nano_spec.specs.declared.outcomes.Broken.{Broken}
 use Rattle.nano_spec.specs.declared.outcomes.Rule.TheVariants.{OutOfSpace, Blocked, InRegion, GroupShape}
 use Rattle.nano_spec.specs.declared.system.Bot.{Bot}
 use Rattle.step_groups.specs.Judging.{act, first_fault, later_rules, corner_list}
-use Rattle.step_groups.proofs.Ways.{skip, unblocked}
+use Rattle.step_groups.proofs.BlockedWays.{skip, unblocked}
 use Rattle.step_groups.proofs.Lists.{or_false}
 
 -- whether the members of a bot's group misfit a region

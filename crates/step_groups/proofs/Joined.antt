@@ -16,7 +16,7 @@ use Rattle.nano_spec.specs.Volatile.{is_volatile, is_volatile_of}
 use Rattle.step_order.proofs.Facts.{Rising}
 use Rattle.step_order.proofs.Lists.{In, in_place, place_in}
 use Rattle.step_groups.specs.Boxes.{AreBoxesIn, IsBoxIn, in_boxes}
-use Rattle.step_groups.specs.Groups.{AreGroups, IsGroup, bid_of, spot}
+use Rattle.step_groups.specs.Groups.{AreGroups, IsGroup, bid_of, box_of_bot}
 use Rattle.step_groups.specs.Judging.{is_alone}
 use Rattle.step_groups.specs.declared.groups.Group.{Group}
 use Rattle.step_groups.proofs.Mates.{group, leads, none_after, none_before, volatile}
@@ -45,23 +45,23 @@ least_below r n h = omega arith
 most_below : (r n : ℕ) → n < r → max n n < r
 most_below r n h = omega arith
 
-spot_in : (r : ℕ) (a : Act) → IsInSpace r a.bot.pos → IsBoxIn r (spot a)
+spot_in : (r : ℕ) (a : Act) → IsInSpace r a.bot.pos → IsBoxIn r (box_of_bot a)
 spot_in r a h = record {
   low = record { x = least_below r a.bot.pos.x h.x; y = least_below r a.bot.pos.y h.y; z = least_below r a.bot.pos.z h.z };
   high = record { x = most_below r a.bot.pos.x h.x; y = most_below r a.bot.pos.y h.y; z = most_below r a.bot.pos.z h.z };
 }
 
-pub more_in : (r : ℕ) (boxes : List Corners) (others : List Act) → AreBoxesIn r boxes → ((b : Act) → In b others → IsInSpace r b.bot.pos) → AreBoxesIn r (boxes ++ map spot others)
+pub more_in : (r : ℕ) (boxes : List Corners) (others : List Act) → AreBoxesIn r boxes → ((b : Act) → In b others → IsInSpace r b.bot.pos) → AreBoxesIn r (boxes ++ map box_of_bot others)
 more_in r [] [] h k = tt
 more_in r [] (a ∷ others) h k = (spot_in r a (k a (inl refl)), more_in r [] others tt (λ b i. k b (inr i)))
 more_in r (box ∷ boxes) others h k = (h.0, more_in r boxes others h.1 k)
 
-in_spots : (others : List Act) (c : Coord) → in_boxes (map spot others) c ≡ list_any (λ b. is_within (span (spot b)) (point c)) others
+in_spots : (others : List Act) (c : Coord) → in_boxes (map box_of_bot others) c ≡ list_any (λ b. is_within (span (box_of_bot b)) (point c)) others
 in_spots [] c = refl
-in_spots (a ∷ others) c = ap (λ b. is_within (span (spot a)) (point c) || b) (in_spots others c)
+in_spots (a ∷ others) c = ap (λ b. is_within (span (box_of_bot a)) (point c) || b) (in_spots others c)
 
-pub in_more : (boxes : List Corners) (others : List Act) (c : Coord) → in_boxes (boxes ++ map spot others) c ≡ (in_boxes boxes c || list_any (λ b. is_within (span (spot b)) (point c)) others)
-in_more boxes others c = list_any-append (λ k. is_within (span k) (point c)) boxes (map spot others) ∙ ap (λ b. in_boxes boxes c || b) (in_spots others c)
+pub in_more : (boxes : List Corners) (others : List Act) (c : Coord) → in_boxes (boxes ++ map box_of_bot others) c ≡ (in_boxes boxes c || list_any (λ b. is_within (span (box_of_bot b)) (point c)) others)
+in_more boxes others c = list_any-append (λ k. is_within (span k) (point c)) boxes (map box_of_bot others) ∙ ap (λ b. in_boxes boxes c || b) (in_spots others c)
 
 itself_least : (n : ℕ) → min n n ≡ n
 itself_least n = omega arith
@@ -70,12 +70,12 @@ itself_most : (n : ℕ) → max n n ≡ n
 itself_most n = omega arith
 
 -- the box of a place is the place
-spot_is : (a : Act) → span (spot a) ≡ just (position a)
+spot_is : (a : Act) → span (box_of_bot a) ≡ just (position a)
 spot_is a =
     let p = a.bot.pos in
     λ i. between (point (record { x = itself_least p.x i; y = itself_least p.y i; z = itself_least p.z i })) (point (record { x = itself_most p.x i; y = itself_most p.y i; z = itself_most p.z i }))
 
-spots_are : (others : List Act) (p : Point) → list_any (λ b. is_within (span (spot b)) p) others ≡ list_any (λ b. is_within (just (position b)) p) others
+spots_are : (others : List Act) (p : Point) → list_any (λ b. is_within (span (box_of_bot b)) p) others ≡ list_any (λ b. is_within (just (position b)) p) others
 spots_are others p = ap (λ t. list_any t others) (λ i b. is_within (spot_is b i) p)
 
 -- ---- groups
@@ -109,7 +109,7 @@ module _ (r : ℕ) (all xs ys : List Act) (a : Act) (whole : all ≡ xs ++ a ∷
       subst (λ (ls : List Act). AreGroups r all ls groups) (sym (ap (filter (is_leader all)) e ∙ (with_leader all xs a false (leads_all ∙ ap not h) ∙ nothing_more (filter (is_leader all) xs)))) k
 
   -- a bot that leads the group of those after it
-  pub add_joined : (more : List Act) (groups next : List Group) (g : Group) → more ≡ xs ++ a ∷ [] → next ≡ groups ++ g ∷ [] → list_any (are_together a) xs ≡ false → g.leader ≡ a.bot.bid → g.members.items ≡ a.bot.bid ∷ map bid_of (filter (are_together a) ys) → ((c : Coord) → in_boxes g.boxes.items c ≡ (is_volatile_of (point c) a || list_any (λ b. is_within (span (spot b)) (point c)) (filter (are_together a) ys))) → AreBoxesIn r g.boxes.items → AreGroups r all (filter (is_leader all) xs) groups → AreGroups r all (filter (is_leader all) more) next
+  pub add_joined : (more : List Act) (groups next : List Group) (g : Group) → more ≡ xs ++ a ∷ [] → next ≡ groups ++ g ∷ [] → list_any (are_together a) xs ≡ false → g.leader ≡ a.bot.bid → g.members.items ≡ a.bot.bid ∷ map bid_of (filter (are_together a) ys) → ((c : Coord) → in_boxes g.boxes.items c ≡ (is_volatile_of (point c) a || list_any (λ b. is_within (span (box_of_bot b)) (point c)) (filter (are_together a) ys))) → AreBoxesIn r g.boxes.items → AreGroups r all (filter (is_leader all) xs) groups → AreGroups r all (filter (is_leader all) more) next
   add_joined more groups next g e f h leader mates boxes space k =
       let one : IsGroup r all a g = record {
         leader = leader;
@@ -126,7 +126,7 @@ module _ (r : ℕ) (all xs ys : List Act) (a : Act) (whole : all ≡ xs ++ a ∷
       let after : filter (are_together a) ys ≡ [] = none_after xs ys a rise h in
       add_joined more groups next g e f (none_before xs ys a rise h) leader
       (mates ∙ ap (λ zs. a.bot.bid ∷ map bid_of zs) (sym after))
-      (λ c. boxes c ∙ (sym (or_false (is_volatile_of (point c) a)) ∙ ap (λ zs. is_volatile_of (point c) a || list_any (λ b. is_within (span (spot b)) (point c)) zs) (sym after)))
+      (λ c. boxes c ∙ (sym (or_false (is_volatile_of (point c) a)) ∙ ap (λ zs. is_volatile_of (point c) a || list_any (λ b. is_within (span (box_of_bot b)) (point c)) zs) (sym after)))
       space k
 
   -- a leader of no more than eight has seven after it

@@ -17,7 +17,7 @@ use Rattle.nano_spec.specs.Rules.{broken_by, clash, judge_pairs}
 use Rattle.nano_spec.specs.Volatile.{is_volatile, is_volatile_of}
 use Rattle.step_order.proofs.Facts.{Rising, rising_is}
 use Rattle.step_order.proofs.Lists.{In, filter_every, none_find}
-use Rattle.step_groups.specs.Apart.{AreApart, IsApartFrom}
+use Rattle.step_groups.specs.Apart.{AreAllApart, IsApartFrom}
 use Rattle.step_groups.specs.Boxes.{IsHull, in_boxes}
 use Rattle.step_groups.specs.Groups.{judge_with}
 use Rattle.step_groups.specs.Judging.{is_alone}
@@ -51,7 +51,7 @@ any_more c xs a h =
       | inr k ↦ inr (sym (or_false (is_volatile_of (point c) a)) ∙ k)
     ]
 
-pub apart_more : (xs : List Act) (a : Act) → AreApart xs → IsApartFrom a xs → AreApart (xs ++ a ∷ [])
+pub apart_more : (xs : List Act) (a : Act) → AreAllApart xs → IsApartFrom a xs → AreAllApart (xs ++ a ∷ [])
 apart_more [] a h k = ((λ c v w. cc), tt)
 apart_more (x ∷ xs) a h k = (
   (λ c v w. elim (any_more c xs a w) [
@@ -84,7 +84,7 @@ none_of (Some c) P e h = cc
 pub record AreBoxed (all : Corners) (hulls : List Corners) (xs : List Act) : Type 0 where
   pub around : IsHull all hulls
   pub each : (c : Coord) → IsTrue (list_any (is_volatile_of (point c)) xs) → IsTrue (in_boxes hulls c)
-  pub apart : AreApart xs
+  pub apart : AreAllApart xs
 
 pub boxed_more : (xs more : List Act) (a : Act) (hulls next slice other : List Corners) (all after hull : Corners) → AreBoxed all hulls xs → more ≡ xs ++ a ∷ [] → next ≡ hulls ++ hull ∷ [] → slice ≡ hulls → other ≡ hulls → ((c : Coord) → IsTrue (is_volatile_of (point c) a) → IsTrue (is_within (span hull) (point c))) → ((c : Coord) → IsTrue (is_within (span hull) (point c)) → IsTrue (in_boxes slice c) → ⊥) → IsHull after (other ++ hull ∷ []) → AreBoxed after next more
 boxed_more xs more a hulls next slice other all after hull b e f g h own apart hulled =
@@ -128,7 +128,7 @@ module _ (m : Matrix) (all : List Act) (step : ℕ) where
       ap (λ o. first_value (broken_by step Interference a.bot.bid o ∷ map (λ x. broken_by step Interference a.bot.bid (clash m all a x)) more)) n
       ∙ with_none a more e (λ x i. h x (inr i)) (λ c v w. k c v (or_second (is_volatile_of (point c) b) (list_any (is_volatile_of (point c)) more) w))
 
-  pairs_none : (xs : List Act) → ((a : Act) → In a xs → members all a ≡ a ∷ []) → AreApart xs → first_value (judge_pairs m all step xs) ≡ None
+  pairs_none : (xs : List Act) → ((a : Act) → In a xs → members all a ≡ a ∷ []) → AreAllApart xs → first_value (judge_pairs m all step xs) ≡ None
   pairs_none [] h k = refl
   pairs_none (a ∷ more) h k =
       pairs_miss m all step a more (with_none a more (h a (inl refl)) (λ b i. h b (inr i)) k.0)
@@ -158,5 +158,5 @@ module _ (m : Matrix) (bots : List Bot) (commands : List Command) (lengths : len
   lone_leaders = filter_every (is_leader (acts bots commands)) (acts bots commands) (λ a i. alone_leads m (acts bots commands) up a i (alone_in bots commands a alone i))
 
   -- and none interferes with another where they are apart
-  pub lone_pairs : (step : ℕ) → AreApart (acts bots commands) → first_value (judge_pairs m (acts bots commands) step (leaders (acts bots commands))) ≡ None
+  pub lone_pairs : (step : ℕ) → AreAllApart (acts bots commands) → first_value (judge_pairs m (acts bots commands) step (leaders (acts bots commands))) ≡ None
   lone_pairs step h = ap (λ ls. first_value (judge_pairs m (acts bots commands) step ls)) lone_leaders ∙ pairs_none m (acts bots commands) step (acts bots commands) own_members h

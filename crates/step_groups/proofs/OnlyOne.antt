@@ -18,7 +18,7 @@ use Rattle.nano_spec.specs.State.{State}
 use Rattle.nano_spec.specs.Work.{volatile_total}
 use Rattle.step_groups.specs.Judging.{act, edit_of, first_fault, later_rules, start_of, touches_of}
 use Rattle.step_groups.proofs.Sums.{touched}
-use Rattle.step_groups.proofs.Ways.{skip}
+use Rattle.step_groups.proofs.BlockedWays.{skip}
 use Rattle.step_groups.proofs.Whole.{by_itself, none_after}
 
 -- of a command that the profile allows the later rules decide

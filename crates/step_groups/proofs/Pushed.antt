@@ -13,7 +13,7 @@ use Rattle.nano_spec.specs.Volatile.{is_volatile_of}
 use Rattle.step_order.proofs.Facts.{Rising, rising_is}
 use Rattle.step_order.proofs.Lists.{In}
 use Rattle.step_groups.specs.Boxes.{AreBoxesIn, in_boxes}
-use Rattle.step_groups.specs.Groups.{AreGroups, bid_of, spot}
+use Rattle.step_groups.specs.Groups.{AreGroups, bid_of, box_of_bot}
 use Rattle.step_groups.specs.Judging.{act, is_alone}
 use Rattle.step_groups.specs.declared.groups.Group.{Group}
 use Rattle.step_groups.proofs.Joined.{add_alone, add_joined, add_none, all_in, few_after}
@@ -69,9 +69,9 @@ module _ (r : ℕ) (bots : List Bot) (commands : List Command) (i : ℕ) (b : Bo
     pub alone_here : (groups next : List Group) (g : Group) → next ≡ groups ++ g ∷ [] → IsTrue (is_alone k) → g.leader ≡ b.bid → g.members.items ≡ b.bid ∷ [] → ((c : Coord) → in_boxes g.boxes.items c ≡ is_volatile_of (point c) (act b k)) → AreBoxesIn r g.boxes.items → AreGroups r (acts bots commands) (filter (is_leader (acts bots commands)) (acts (take i bots) (take i commands))) groups → AreGroups r (acts bots commands) (filter (is_leader (acts bots commands)) (acts (take (i + 1) bots) (take (i + 1) commands))) next
     alone_here groups next g f alone leader mates boxes space h = add_alone r all xs ys a whole up more groups next g one_more f alone leader mates boxes space h
 
-    pub joined_here : (groups next : List Group) (g : Group) → next ≡ groups ++ g ∷ [] → list_any (are_together (act b k)) (acts (take i bots) (take i commands)) ≡ false → g.leader ≡ b.bid → g.members.items ≡ b.bid ∷ map bid_of (filter (are_together (act b k)) (acts (take (length bots - (i + 1)) (drop (i + 1) bots)) (take (length commands - (i + 1)) (drop (i + 1) commands)))) → ((c : Coord) → in_boxes g.boxes.items c ≡ (is_volatile_of (point c) (act b k) || list_any (λ b. is_within (span (spot b)) (point c)) (filter (are_together (act b k)) (acts (take (length bots - (i + 1)) (drop (i + 1) bots)) (take (length commands - (i + 1)) (drop (i + 1) commands)))))) → AreBoxesIn r g.boxes.items → AreGroups r (acts bots commands) (filter (is_leader (acts bots commands)) (acts (take i bots) (take i commands))) groups → AreGroups r (acts bots commands) (filter (is_leader (acts bots commands)) (acts (take (i + 1) bots) (take (i + 1) commands))) next
+    pub joined_here : (groups next : List Group) (g : Group) → next ≡ groups ++ g ∷ [] → list_any (are_together (act b k)) (acts (take i bots) (take i commands)) ≡ false → g.leader ≡ b.bid → g.members.items ≡ b.bid ∷ map bid_of (filter (are_together (act b k)) (acts (take (length bots - (i + 1)) (drop (i + 1) bots)) (take (length commands - (i + 1)) (drop (i + 1) commands)))) → ((c : Coord) → in_boxes g.boxes.items c ≡ (is_volatile_of (point c) (act b k) || list_any (λ b. is_within (span (box_of_bot b)) (point c)) (filter (are_together (act b k)) (acts (take (length bots - (i + 1)) (drop (i + 1) bots)) (take (length commands - (i + 1)) (drop (i + 1) commands)))))) → AreBoxesIn r g.boxes.items → AreGroups r (acts bots commands) (filter (is_leader (acts bots commands)) (acts (take i bots) (take i commands))) groups → AreGroups r (acts bots commands) (filter (is_leader (acts bots commands)) (acts (take (i + 1) bots) (take (i + 1) commands))) next
     joined_here groups next g f e leader mates boxes space h =
         add_joined r all xs ys a whole up more groups next g one_more f e leader
         (mates ∙ ap (λ zs. b.bid ∷ map bid_of (filter (are_together a) zs)) (sym after_is))
-        (λ c. boxes c ∙ ap (λ zs. is_volatile_of (point c) a || list_any (λ x. is_within (span (spot x)) (point c)) (filter (are_together a) zs)) (sym after_is))
+        (λ c. boxes c ∙ ap (λ zs. is_volatile_of (point c) a || list_any (λ x. is_within (span (box_of_bot x)) (point c)) (filter (are_together a) zs)) (sym after_is))
         space h

@@ -11,6 +11,6 @@ abbrev pub IsApartFrom : Act → List Act → Type 0
 IsApartFrom a others = (c : Coord) → IsTrue (is_volatile_of (point c) a) → IsTrue (list_any (is_volatile_of (point c)) others) → ⊥
 
 -- no coordinate is volatile for two of the bots
-abbrev pub AreApart : List Act → Type 0
-AreApart [] = Unit {0}
-AreApart (a ∷ more) = IsApartFrom a more × AreApart more
+abbrev pub AreAllApart : List Act → Type 0
+AreAllApart [] = Unit {0}
+AreAllApart (a ∷ more) = IsApartFrom a more × AreAllApart more

@@ -19,8 +19,8 @@ abbrev pub bid_of : Act → ℕ
 bid_of a = a.bot.bid
 
 -- the box of a bot's position
-abbrev pub spot : Act → Corners
-spot a = corners a.bot.pos a.bot.pos
+abbrev pub box_of_bot : Act → Corners
+box_of_bot a = corners a.bot.pos a.bot.pos
 
 -- the group that this bot leads: its members are those of the definition, and its boxes are in space and cover what is volatile for it
 pub record IsGroup (r : ℕ) (all : List Act) (a : Act) (g : Group) : Type 0 where

@@ -27,9 +27,9 @@ abbrev pub first_fault : State → List Act → ℕ → Act → List Rule → Op
 first_fault s all step a rules = first_value (judge_by rules s all step a)
 
 -- the rule that is broken, where one is
-abbrev pub fault_of : {T : Type 0} → Result T Broken → Option Broken
-fault_of (Ok value) = None
-fault_of (Err broken) = Some broken
+abbrev pub rule_broken : {T : Type 0} → Result T Broken → Option Broken
+rule_broken (Ok value) = None
+rule_broken (Err broken) = Some broken
 
 -- the command that fills the voxel at a difference, or else the one that voids it
 abbrev pub edit_of : Bool → Diff → Command

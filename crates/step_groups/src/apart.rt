@@ -6,7 +6,7 @@ ghost use Rattle.vox_geom.specs.Point.{point};
 ghost use Rattle.vox_geom.specs.Region.{is_within, span};
 ghost use Rattle.vox_geom.specs.Space.{IsInSpace};
 ghost use Rattle.nano_spec.specs.Act.{acts, stays_in_space};
-ghost use Rattle.step_groups.specs.Apart.{AreApart};
+ghost use Rattle.step_groups.specs.Apart.{AreAllApart};
 ghost use Rattle.step_groups.specs.Boxes.{IsHull, in_boxes};
 ghost use Rattle.step_groups.specs.Judging.{is_alone};
 
@@ -64,7 +64,7 @@ pub(crate) fn are_apart(planes: &Planes, bots: &[Bot], commands: &[Command]) -> 
     requires lengths { length commands.now ≡ length bots.now }
     requires within { All (λ b. IsInSpace planes.now.resolution b.pos) bots.now }
     requires stays { All (λ a. IsTrue (stays_in_space planes.now.resolution a)) (acts bots.now commands.now) }
-    ensures { result ≡ true → AreApart (acts bots.now commands.now) }
+    ensures { result ≡ true → AreAllApart (acts bots.now commands.now) }
 {
     let mut hulls: ArrayVec<Region, MOST_BOTS> = ArrayVec::new();
     let mut all = Region::default();

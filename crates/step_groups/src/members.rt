@@ -10,7 +10,7 @@ ghost use Rattle.nano_spec.specs.Act.{acts, stays_in_space};
 ghost use Rattle.nano_spec.specs.Group.{are_together as are_together_of, is_leader, leaders};
 ghost use Rattle.nano_spec.specs.Volatile.{is_volatile_of};
 ghost use Rattle.step_groups.specs.Boxes.{AreBoxesIn, in_boxes};
-ghost use Rattle.step_groups.specs.Groups.{AreGroups, AreJudged, bid_of, spot};
+ghost use Rattle.step_groups.specs.Groups.{AreGroups, AreJudged, bid_of, box_of_bot};
 ghost use Rattle.step_groups.specs.Judging.{act, is_alone};
 
 use crate::groups::Group;
@@ -82,7 +82,7 @@ fn join(group: &mut Group, bots: &[Bot], commands: &[Command], bot: &Bot, comman
     requires boxes { array_vec_len group.old.boxes + length (filter (are_together_of (act bot.now command.now)) (acts bots.now commands.now)) ≤ 9 }
     ensures leader { group.new.leader ≡ group.old.leader }
     ensures members { group.new.members.items ≡ group.old.members.items ++ map bid_of (filter (are_together_of (act bot.now command.now)) (acts bots.now commands.now)) }
-    ensures boxes { group.new.boxes.items ≡ group.old.boxes.items ++ map spot (filter (are_together_of (act bot.now command.now)) (acts bots.now commands.now)) }
+    ensures boxes { group.new.boxes.items ≡ group.old.boxes.items ++ map box_of_bot (filter (are_together_of (act bot.now command.now)) (acts bots.now commands.now)) }
 {
     for i in 0..bots.len() {
         if are_together(bot, command, &bots[i], &commands[i]) {
@@ -107,7 +107,7 @@ fn joined_group(
     requires few { length (filter (are_together_of (act bot.now command.now)) (acts bots.now commands.now)) ≤ 7 }
     ensures leader { result.leader ≡ bot.now.bid }
     ensures members { result.members.items ≡ bot.now.bid ∷ map bid_of (filter (are_together_of (act bot.now command.now)) (acts bots.now commands.now)) }
-    ensures boxes { (c : Coordinate) → in_boxes result.boxes.items c ≡ (is_volatile_of (point c) (act bot.now command.now) || list_any (λ b. is_within (span (spot b)) (point c)) (filter (are_together_of (act bot.now command.now)) (acts bots.now commands.now))) }
+    ensures boxes { (c : Coordinate) → in_boxes result.boxes.items c ≡ (is_volatile_of (point c) (act bot.now command.now) || list_any (λ b. is_within (span (box_of_bot b)) (point c)) (filter (are_together_of (act bot.now command.now)) (acts bots.now commands.now))) }
     ensures space { AreBoxesIn planes.now.resolution result.boxes.items }
 {
     let mut group = lone_group(planes, bot, command);

@@ -8,7 +8,7 @@ ghost use Rattle.nano_spec.specs.Rules.{broken_by};
 ghost use Rattle.nano_spec.specs.State.{State, seed_list};
 ghost use Rattle.vox_geom.specs.Space.{is_before as is_before_of};
 ghost use Rattle.vox_planes.specs.Difference.{earlier as earlier_of};
-ghost use Rattle.step_groups.specs.Judging.{act, fault_of, first_fault, judge_bot as judge_bot_of, later_rules, start_of, judge_each, touches_of};
+ghost use Rattle.step_groups.specs.Judging.{act, rule_broken, first_fault, judge_bot as judge_bot_of, later_rules, start_of, judge_each, touches_of};
 
 use crate::partners::has_partner;
 use crate::shapes::is_misshapen;
@@ -112,7 +112,7 @@ pub(crate) fn end_of_move<L: Ledger>(
     steps: &mut Steps<L>,
 ) -> Result<Coord, Broken>
     requires { IsInSpace planes.now.resolution bot.pos }
-    ensures value { (s : State) (all : List Act) → fault_of result ≡ first_fault (record s { matrix = planes.now }) all step (act bot (SMove d)) later_rules }
+    ensures value { (s : State) (all : List Act) → rule_broken result ≡ first_fault (record s { matrix = planes.now }) all step (act bot (SMove d)) later_rules }
     ensures sum { IfOk result (λ to. point to ≡ plus (point bot.pos) d) }
     ensures within { IfOk result (λ to. IsInSpace planes.now.resolution to) }
     ensures touches { steps.new ≤ steps.old + touches_of planes.now (act bot (SMove d)) }
@@ -233,8 +233,8 @@ fn judge_still(step: u32, bot: Bot) -> Option<Broken>
 #[inline(always)]
 pub(crate) fn named_by(planes: &Planes, step: u32, bot: Bot, d: Diff) -> Result<Coord, Broken>
     requires { IsInSpace planes.now.resolution bot.pos }
-    ensures fill { (s : State) (all : List Act) → fault_of result ≡ first_fault (record s { matrix = planes.now }) all step (act bot (Fill d)) later_rules }
-    ensures void { (s : State) (all : List Act) → fault_of result ≡ first_fault (record s { matrix = planes.now }) all step (act bot (Void d)) later_rules }
+    ensures fill { (s : State) (all : List Act) → rule_broken result ≡ first_fault (record s { matrix = planes.now }) all step (act bot (Fill d)) later_rules }
+    ensures void { (s : State) (all : List Act) → rule_broken result ≡ first_fault (record s { matrix = planes.now }) all step (act bot (Void d)) later_rules }
     ensures sum { IfOk result (λ at. point at ≡ plus (point bot.pos) d) }
     ensures within { IfOk result (λ at. IsInSpace planes.now.resolution at) }
 {

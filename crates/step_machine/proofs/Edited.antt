@@ -18,10 +18,9 @@ use Rattle.nano_spec.specs.Rules.{broken}
 use Rattle.nano_spec.specs.State.{IsReady, State}
 use Rattle.nano_spec.specs.Step.{after, harmonics_after}
 use Rattle.nano_spec.specs.Work.{volatile_total}
-use Rattle.step_groups.specs.Judging.{edit_of}
+use Rattle.step_groups.specs.Judging.{edit_of, act}
 use Rattle.step_groups.proofs.Alone.{single_leaders}
 use Rattle.vox_planes.proofs.Voxels.{same_point-is, same_point-refl}
-use Rattle.system_state.specs.Effects.{act}
 use Rattle.system_state.proofs.OnlyBot.{within_just}
 use Rattle.system_state.proofs.Single.{only_one}
 use Rattle.step_machine.specs.Edits.{cells_of, cells_of_all, edit_count, edits_of, edits_total}

@@ -17,7 +17,7 @@ use Rattle.nano_spec.specs.State.{State}
 use Rattle.nano_spec.specs.Work.{Work, WorkFrom, WorkOfStep, rests, stops, works}
 use Rattle.nano_spec.proofs.Unique.{Next-unique}
 use Rattle.run_progress.specs.Progress as progress
-use Rattle.run_progress.specs.Progress.{Comes, begun, first, later, mark_of, Progress, Pushes, PushesAt, Steps, stepped, with_command}
+use Rattle.run_progress.specs.Progress.{Comes, begun, first, later, mark_of, Progress, Pushes, PushesAt, MakesStep, stepped, with_command}
 use Rattle.step_machine.specs.Course.{Course, searched_by}
 use Rattle.step_machine.specs.Payment.{IsPaid, LeftAt, Touches}
 use Rattle.step_machine.specs.Situation.{searched_for}
@@ -110,10 +110,10 @@ module _ (p q : Progress) (command : Command) (rest : List Command) (v start bef
         let z = space in
         subst (λ (x : Progress). Left x rest v start after n) (sym e) (omega (arith, h, s, z, l))
 
-  running : MatchBool (length (p.pending ++ command ∷ []) == length p.state.bots) (Steps (with_command p command) q) (q ≡ with_command p command) → (more : ℕ) × WorkFrom p.state (p.pending ++ command ∷ rest) p.steps more × (before + 100 * more ≤ start + 100 * n) → Left q rest v start after n
+  running : MatchBool (length (p.pending ++ command ∷ []) == length p.state.bots) (MakesStep (with_command p command) q) (q ≡ with_command p command) → (more : ℕ) × WorkFrom p.state (p.pending ++ command ∷ rest) p.steps more × (before + 100 * more ≤ start + 100 * n) → Left q rest v start after n
   running j w = by (length (p.pending ++ command ∷ []) == length p.state.bots) refl j
     where
-      by : (b : Bool) → (length (p.pending ++ command ∷ []) == length p.state.bots) ≡ b → MatchBool b (Steps (with_command p command) q) (q ≡ with_command p command) → Left q rest v start after n
+      by : (b : Bool) → (length (p.pending ++ command ∷ []) == length p.state.bots) ≡ b → MatchBool b (MakesStep (with_command p command) q) (q ≡ with_command p command) → Left q rest v start after n
       by true e k = made (test_is (length (p.pending ++ command ∷ [])) (length p.state.bots) e) k.0 k.1 k.2 w.0 w.1 w.2
       by false e k = waits e k w.0 w.1 w.2
 

@@ -12,10 +12,10 @@ use Rattle.nano_spec.specs.declared.commands.Command.TheVariants.{Halt, Wait, Fl
 use Rattle.nano_spec.specs.declared.system.Bot.{Bot}
 use Rattle.nano_spec.specs.Act.{Act, filled, voided}
 use Rattle.step_order.proofs.Lists.{not_both}
-use Rattle.system_state.specs.declared.work.Work.{Work}
-use Rattle.system_state.specs.Effects.{act}
-use Rattle.system_state.specs.Work.{IsIdle, IsWork, region_of}
+use Rattle.system_state.specs.declared.edited.EditedRegion.{EditedRegion}
+use Rattle.system_state.specs.Edited.{IsIdle, IsEditedRegion, region_of}
 use Rattle.step_machine.specs.Edits.{is_change, is_edited}
+use Rattle.step_groups.specs.Judging.{act}
 
 or_false : (b : Bool) → b ≡ (b || false)
 or_false true = refl
@@ -28,7 +28,7 @@ none : (spans : List Span) (c : Coord) → spans ≡ [] → false ≡ list_any (
 none spans c e = ap (λ ts. list_any (λ t. is_within t (point c)) ts) (sym e)
 
 -- the region is edited so, where it is not as it is to be
-pub edits_region : (r : ℕ) (b : Bot) (k : Command) (w : Work) (full : Bool) → IsWork r b k w → beq w.full full ≡ false → (c : Coord) → is_within (region_of w) (point c) ≡ is_edited full (act b k) c
+pub edits_region : (r : ℕ) (b : Bot) (k : Command) (w : EditedRegion) (full : Bool) → IsEditedRegion r b k w → beq w.full full ≡ false → (c : Coord) → is_within (region_of w) (point c) ≡ is_edited full (act b k) c
 edits_region r b k w full h e c = by w.full full h.filled h.voided e
   where
     by : (f full : Bool) → filled (point b.pos) k ≡ cond f (region_of w ∷ []) [] → voided (point b.pos) k ≡ cond f [] (region_of w ∷ []) → beq f full ≡ false → is_within (region_of w) (point c) ≡ is_edited full (act b k) c
@@ -38,7 +38,7 @@ edits_region r b k w full h e c = by w.full full h.filled h.voided e
     by false false p q e = cc
 
 -- and else nothing is
-pub edits_nothing : (r : ℕ) (b : Bot) (k : Command) (w : Work) (full : Bool) → IsWork r b k w → beq w.full full ≡ true → (c : Coord) → false ≡ is_edited full (act b k) c
+pub edits_nothing : (r : ℕ) (b : Bot) (k : Command) (w : EditedRegion) (full : Bool) → IsEditedRegion r b k w → beq w.full full ≡ true → (c : Coord) → false ≡ is_edited full (act b k) c
 edits_nothing r b k w full h e c = by w.full full h.filled h.voided e
   where
     by : (f full : Bool) → filled (point b.pos) k ≡ cond f (region_of w ∷ []) [] → voided (point b.pos) k ≡ cond f [] (region_of w ∷ []) → beq f full ≡ true → false ≡ is_edited full (act b k) c
@@ -60,7 +60,7 @@ changes_some p (GVoid d f) false h e = cc
 changes_some p k full h e = cc
 
 -- what changes so is not so already
-pub change_is_other : (r : ℕ) (b : Bot) (k : Command) (w : Work) (full : Bool) → IsWork r b k w → is_change full k ≡ true → beq w.full full ≡ false
+pub change_is_other : (r : ℕ) (b : Bot) (k : Command) (w : EditedRegion) (full : Bool) → IsEditedRegion r b k w → is_change full k ≡ true → beq w.full full ≡ false
 change_is_other r b k w full h e = by w.full full h.filled h.voided e
   where
     by : (f full : Bool) → filled (point b.pos) k ≡ cond f (region_of w ∷ []) [] → voided (point b.pos) k ≡ cond f [] (region_of w ∷ []) → is_change full k ≡ true → beq f full ≡ false

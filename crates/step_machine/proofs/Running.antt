@@ -6,7 +6,7 @@ use Rattle.nano_spec.specs.declared.system.Bot.{Bot}
 use Rattle.nano_spec.specs.Next.{Goes, Next}
 use Rattle.nano_spec.specs.State.{State}
 use Rattle.run_progress.specs.Progress as progress
-use Rattle.run_progress.specs.Progress.{Progress, Pushes, PushesAt, Steps, mark_of, with_command}
+use Rattle.run_progress.specs.Progress.{Progress, Pushes, PushesAt, MakesStep, mark_of, with_command}
 use Rattle.step_machine.specs.declared.runner.Mark.{Mark}
 use Rattle.step_machine.specs.declared.runner.Mark.TheVariants as mark
 use Rattle.step_machine.specs.Course.{Course, course_of, mark_by}
@@ -19,11 +19,11 @@ module _ (machine : Situation) (pending : List Command) (m : Mark) (v : Course) 
       subst (λ (w : Course). Pushes w.progress command q) seen
       (subst (λ (k : progress.Mark). PushesAt k (course_of machine pending m).progress command q) (sym (ap mark_by runs)) joins)
     where
-      steps : Steps (with_command (course_of machine pending m).progress command) q
+      steps : MakesStep (with_command (course_of machine pending m).progress command) q
       steps = (Goes t, n, f)
 
-      joins : MatchBool (length (pending ++ command ∷ []) == length machine.state.bots) (Steps (with_command (course_of machine pending m).progress command) q) (q ≡ with_command (course_of machine pending m).progress command)
-      joins = subst (λ (b : Bool). MatchBool b (Steps (with_command (course_of machine pending m).progress command) q) (q ≡ with_command (course_of machine pending m).progress command)) (sym (eq-eqb (length (pending ++ command ∷ [])) (length machine.state.bots) (length-append pending (command ∷ []) ∙ l))) steps
+      joins : MatchBool (length (pending ++ command ∷ []) == length machine.state.bots) (MakesStep (with_command (course_of machine pending m).progress command) q) (q ≡ with_command (course_of machine pending m).progress command)
+      joins = subst (λ (b : Bool). MatchBool b (MakesStep (with_command (course_of machine pending m).progress command) q) (q ≡ with_command (course_of machine pending m).progress command)) (sym (eq-eqb (length (pending ++ command ∷ [])) (length machine.state.bots) (length-append pending (command ∷ []) ∙ l))) steps
 
 -- the mark after a step
 pub halted_mark : (bots : List Bot) (halted : Bool) → (halted ≡ true ↔ bots ≡ []) → halted ≡ true → progress.Halted ≡ mark_of bots

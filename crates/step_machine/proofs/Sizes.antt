@@ -29,7 +29,7 @@ use Rattle.step_order.proofs.Groups.{Differ, differ_acts}
 use Rattle.step_order.proofs.Together.{number_is, together_back, together_on, with_itself}
 use Rattle.step_machine.proofs.Apart.{Apart, apart_filter, apart_flat}
 use Rattle.step_machine.specs.Edits.{edit_count, edits_total}
-use Rattle.system_state.specs.Effects.{act}
+use Rattle.step_groups.specs.Judging.{act}
 
 -- ---- a region by its dimension
 

@@ -20,7 +20,7 @@ use Rattle.nano_spec.specs.Rules.{broken, broken_by, clash, fault, judge_bots, j
 use Rattle.nano_spec.specs.State.{IsWellFormed, State, is_high}
 use Rattle.nano_spec.specs.Step.{after, flipped}
 use Rattle.step_order.proofs.Lists.{In, flat_in, in_either, map_in}
-use Rattle.step_machine.specs.Situation.{IsPaid, IsSound, Situation}
+use Rattle.step_machine.specs.Situation.{IsEnergyBounded, IsConsistent, Situation}
 use Rattle.support_forest.specs.Standing.{Standing}
 use Rattle.vox_planes.specs.Changes.{Changes}
 use Rattle.step_machine.specs.declared.TheConstants.{MOST_CHANGED}
@@ -128,7 +128,7 @@ not_grounding s commands step b e f = by (first_in (judge_trace s commands step 
 
 -- ---- the energy
 
-pub paid_on : (e f : ℤ) (steps : ℕ) → IsPaid e steps → f <ℤ (e +ℤ pos 3000000000) → e <ℤ (f +ℤ pos 3000000000) → IsPaid f (steps + 1)
+pub paid_on : (e f : ℤ) (steps : ℕ) → IsEnergyBounded e steps → f <ℤ (e +ℤ pos 3000000000) → e <ℤ (f +ℤ pos 3000000000) → IsEnergyBounded f (steps + 1)
 paid_on e f steps p up down = record { above = omega (arith, ints, p.above, up); below = omega (arith, ints, p.below, down) }
 
 -- ---- the step of a machine
@@ -146,13 +146,13 @@ few_seen s steps spent v commands e h = subst (λ (w : Situation). length comman
 few_steps : (s : State) (steps : ℕ) (spent : Bool) (v : Situation) → seen s steps spent ≡ v → v.steps < 1073741824 → steps + 1 ≤ 1073741824
 few_steps s steps spent v e h = let f = ap (λ (w : Situation). w.steps) e in omega arith
 
-pub sound_on : (s t : State) (commands : List Command) (old new : Standing) (changed list : Changes) (steps : ℕ) (spent : Bool) (v : Situation) → IsSound s old changed steps spent → seen s steps spent ≡ v → v.steps < 1073741824 → t ≡ after s commands → new.spent ≡ false → new.matrix ≡ (after s commands).matrix → MOST_CHANGED ≤ list.spare + length list.items → (after s commands).energy <ℤ (s.energy +ℤ pos 3000000000) → s.energy <ℤ ((after s commands).energy +ℤ pos 3000000000) → IsSound t new list (steps + 1) spent
+pub sound_on : (s t : State) (commands : List Command) (old new : Standing) (changed list : Changes) (steps : ℕ) (spent : Bool) (v : Situation) → IsConsistent s old changed steps spent → seen s steps spent ≡ v → v.steps < 1073741824 → t ≡ after s commands → new.spent ≡ false → new.matrix ≡ (after s commands).matrix → MOST_CHANGED ≤ list.spare + length list.items → (after s commands).energy <ℤ (s.energy +ℤ pos 3000000000) → s.energy <ℤ ((after s commands).energy +ℤ pos 3000000000) → IsConsistent t new list (steps + 1) spent
 sound_on s t commands old new changed list steps spent v sound e few is stands tied room up down = record {
   stands = λ _. stands;
   tied = λ _. tied ∙ ap (λ (x : State). x.matrix) (sym is);
   room = room;
   seeds = subst (λ (x : State). x.profile.seeds ≤ 39) (sym is) sound.seeds;
-  paid = subst (λ (x : State). IsPaid x.energy (steps + 1)) (sym is) (paid_on s.energy (after s commands).energy steps sound.paid up down);
+  paid = subst (λ (x : State). IsEnergyBounded x.energy (steps + 1)) (sym is) (paid_on s.energy (after s commands).energy steps sound.paid up down);
   few = few_steps s steps spent v e few;
 }
 

@@ -15,10 +15,10 @@ use Rattle.nano_spec.specs.State.{State, is_high}
 use Rattle.nano_spec.specs.Step.{after, harmonics_after, matrix_after}
 use Rattle.support_forest.specs.Standing.{Standing}
 use Rattle.vox_planes.specs.Voxel.{IsWhole}
-use Rattle.system_state.specs.Effects.{act}
 use Rattle.system_state.proofs.OnlyBot.{untouched}
 use Rattle.step_machine.specs.Settling.{IsSettled}
 use Rattle.step_machine.proofs.Stepping.{goes}
+use Rattle.step_groups.specs.Judging.{act}
 
 -- the only bot of a list of one
 pub only_bot : (bots : List Bot) → length bots ≡ 1 → (b : Bot) × (bots ≡ b ∷ [])

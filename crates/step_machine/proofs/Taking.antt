@@ -17,13 +17,13 @@ use Rattle.nano_spec.specs.State.{IsReady, IsWellFormed, State}
 use Rattle.nano_spec.specs.Step.{after, is_filled, is_voided, matrix_after}
 use Rattle.support_forest.specs.Standing.{AreAdded, AreRemoved, MayAdd, MayRemove, Standing}
 use Rattle.support_forest.proofs.Counts.{length_coordinates}
-use Rattle.system_state.specs.Painting.{is_among, with_cells}
+use Rattle.system_state.specs.Painting.{is_cell, with_cells}
 use Rattle.step_order.proofs.Facts.{IsGood, good_is}
 use Rattle.step_order.proofs.Lists.{In, any_in, by_left, in_any, is_false, not_both, place_in, same_test}
 use Rattle.step_order.proofs.Voxels.{as_it_is, full_where, matrix_same}
 use Rattle.step_machine.specs.Edits.{edits_of}
-use Rattle.step_machine.specs.Situation.{IsPaid, IsSound, Situation}
-use Rattle.step_machine.specs.Undoing.{HaveChanged, IsNote, IsUndoneBy, MayStand, MayUndo, matrix_before, state_before, without_filled}
+use Rattle.step_machine.specs.Situation.{IsEnergyBounded, IsConsistent, Situation}
+use Rattle.step_machine.specs.Undoing.{HaveChanged, IsNote, IsUndoneBy, IsMachineState, MayUndo, matrix_before, state_before, without_filled}
 use Rattle.step_machine.specs.declared.undo.Undo.{Undo}
 use Rattle.step_machine.proofs.Apart.{held, holds, pairs_of}
 use Rattle.step_machine.proofs.Changed.{cell_of, cells_apart, of_cell, one_way, state_void, void_state}
@@ -32,31 +32,31 @@ use Rattle.step_machine.proofs.Working.{all_change}
 
 -- ---- cells that a matrix gains and loses
 
-pub among : (cells : List Coord) (d : Coord) → In d cells → is_among cells d ≡ true
+pub among : (cells : List Coord) (d : Coord) → In d cells → is_cell cells d ≡ true
 among cells d i = in_any (λ c. same_point (point d) (point c)) d cells i (same_point-refl d)
 
-pub of_among : (cells : List Coord) (d : Coord) → is_among cells d ≡ true → In d cells
+pub of_among : (cells : List Coord) (d : Coord) → is_cell cells d ≡ true → In d cells
 of_among cells d h =
     let r = any_in (λ c. same_point (point d) (point c)) cells h in
     subst (λ (c : Coord). In c cells) (sym (same_point-is d r.0 r.2)) r.1
 
-pub not_among : (cells : List Coord) (d : Coord) → (In d cells → ⊥) → is_among cells d ≡ false
-not_among cells d h = is_false (is_among cells d) (λ e. h (of_among cells d e))
+pub not_among : (cells : List Coord) (d : Coord) → (In d cells → ⊥) → is_cell cells d ≡ false
+not_among cells d h = is_false (is_cell cells d) (λ e. h (of_among cells d e))
 
-pub full_with : (m : Matrix) (cells : List Coord) (full : Bool) (d : Coord) → IsInSpace m.resolution d → is_full (with_cells m cells full) d ≡ cond (is_among cells d) full (is_full m d)
-full_with m cells full d w = full_where m.resolution (λ e. cond (is_among cells e) full (is_full m e)) d w
+pub full_with : (m : Matrix) (cells : List Coord) (full : Bool) (d : Coord) → IsInSpace m.resolution d → is_full (with_cells m cells full) d ≡ cond (is_cell cells d) full (is_full m d)
+full_with m cells full d w = full_where m.resolution (λ e. cond (is_cell cells e) full (is_full m e)) d w
 
 pub removed_is : (old new : Matrix) (cells : List Coord) → AreRemoved old new cells → new ≡ with_cells old cells false
 removed_is old new cells r =
     sym (as_it_is new r.whole)
     ∙ (ap (λ n. matrix_where n (is_full new)) r.resolution
-    ∙ matrix_same old.resolution (is_full new) (λ d. cond (is_among cells d) false (is_full old d)) (λ d w. by d (is_among cells d) refl))
+    ∙ matrix_same old.resolution (is_full new) (λ d. cond (is_cell cells d) false (is_full old d)) (λ d w. by d (is_cell cells d) refl))
   where
     left : (d : Coord) → (In d cells → ⊥) → IsTrue (is_full new d) ⊎ Contains cells d → is_full new d ≡ true
     left d n (inl e) = e
     left d n (inr i) = absurd (n (held d cells i))
 
-    by : (d : Coord) (b : Bool) → is_among cells d ≡ b → is_full new d ≡ cond b false (is_full old d)
+    by : (d : Coord) (b : Bool) → is_cell cells d ≡ b → is_full new d ≡ cond b false (is_full old d)
     by d true e = r.gone d (holds d cells (of_among cells d e))
     by d false e = same_test (is_full new d) (is_full old d) (r.full d) (λ f. left d (λ i. not_both (among cells d i) e) (r.kept d f))
 
@@ -64,13 +64,13 @@ pub added_is : (old new : Matrix) (cells : List Coord) → AreAdded old new cell
 added_is old new cells a =
     sym (as_it_is new a.whole)
     ∙ (ap (λ n. matrix_where n (is_full new)) a.resolution
-    ∙ matrix_same old.resolution (is_full new) (λ d. cond (is_among cells d) true (is_full old d)) (λ d w. by d (is_among cells d) refl))
+    ∙ matrix_same old.resolution (is_full new) (λ d. cond (is_cell cells d) true (is_full old d)) (λ d w. by d (is_cell cells d) refl))
   where
     old_one : (d : Coord) → (In d cells → ⊥) → IsTrue (is_full old d) ⊎ Contains cells d → is_full old d ≡ true
     old_one d n (inl e) = e
     old_one d n (inr i) = absurd (n (held d cells i))
 
-    by : (d : Coord) (b : Bool) → is_among cells d ≡ b → is_full new d ≡ cond b true (is_full old d)
+    by : (d : Coord) (b : Bool) → is_cell cells d ≡ b → is_full new d ≡ cond b true (is_full old d)
     by d true e = a.added d (holds d cells (of_among cells d e))
     by d false e = same_test (is_full new d) (is_full old d) (λ f. old_one d (λ i. not_both (among cells d i) e) (a.full d f)) (a.kept d)
 
@@ -92,7 +92,7 @@ pub may_gain_back : (m n : Matrix) (undo : Undo) → m ≡ n → HaveChanged n u
 may_gain_back m n undo e h = subst (λ (x : Matrix). MayAdd (without_filled x undo.filled.items) undo.voided.items) (sym e) (record {
   differ = h.voided_differ;
   within = λ c i. of_each (λ (d : Coord). IsInSpace n.resolution d) undo.voided.items c h.voided_within i;
-  void = λ c i. full_with n undo.filled.items false c (of_each (λ (d : Coord). IsInSpace n.resolution d) undo.voided.items c h.voided_within i) ∙ void_still (is_among undo.filled.items c) (is_full n c) (of_each (λ (d : Coord). IsFalse (is_full n d)) undo.voided.items c h.voided i);
+  void = λ c i. full_with n undo.filled.items false c (of_each (λ (d : Coord). IsInSpace n.resolution d) undo.voided.items c h.voided_within i) ∙ void_still (is_cell undo.filled.items c) (is_full n c) (of_each (λ (d : Coord). IsFalse (is_full n d)) undo.voided.items c h.voided i);
 })
   where
     void_still : (b full : Bool) → full ≡ false → cond b false full ≡ false
@@ -100,7 +100,7 @@ may_gain_back m n undo e h = subst (λ (x : Matrix). MayAdd (without_filled x un
     void_still false full f = f
 
 -- a machine may lose and gain the voxels of a note, as they are read from it
-module _ (s : State) (undo : Undo) (old : Standing) (changed : Changes) (steps : ℕ) (spent : Bool) (v : Situation) (sound : IsSound s old changed steps spent) (e : seen s steps spent ≡ v) (stands : v.spent ≡ false) (may : MayUndo v.state undo) where
+module _ (s : State) (undo : Undo) (old : Standing) (changed : Changes) (steps : ℕ) (spent : Bool) (v : Situation) (sound : IsConsistent s old changed steps spent) (e : seen s steps spent ≡ v) (stands : v.spent ≡ false) (may : MayUndo v.state undo) where
   here : MayUndo s undo
   here = subst (λ (w : Situation). MayUndo w.state undo) (sym e) may
 
@@ -116,13 +116,13 @@ module _ (s : State) (undo : Undo) (old : Standing) (changed : Changes) (steps :
       (subst (λ (ys : List Coord). MayAdd (without_filled old.matrix undo.filled.items) ys) (sym u) (may_gain_back old.matrix s.matrix undo (sound.tied unspent) here.voxels))
 
   -- the machine's parts belong together again
-  pub sound_back : (now : State) (new : Standing) (filled voided : List Coord) → filled ≡ undo.filled.items → voided ≡ undo.voided.items → now ≡ state_before s undo → new.spent ≡ false → new.matrix ≡ matrix_before old.matrix filled voided → IsSound now new changed undo.steps spent
+  pub sound_back : (now : State) (new : Standing) (filled voided : List Coord) → filled ≡ undo.filled.items → voided ≡ undo.voided.items → now ≡ state_before s undo → new.spent ≡ false → new.matrix ≡ matrix_before old.matrix filled voided → IsConsistent now new changed undo.steps spent
   sound_back now new filled voided f u is free tied = record {
     stands = λ _. free;
     tied = λ _. tied ∙ ((λ i. matrix_before (sound.tied unspent i) (f i) (u i)) ∙ ap (λ (x : State). x.matrix) (sym is));
     room = sound.room;
     seeds = subst (λ (x : State). x.profile.seeds ≤ 39) (sym is) here.before.seeds;
-    paid = subst (λ (x : State). IsPaid x.energy undo.steps) (sym is) here.before.paid;
+    paid = subst (λ (x : State). IsEnergyBounded x.energy undo.steps) (sym is) here.before.paid;
     few = here.before.few;
   }
 
@@ -207,10 +207,10 @@ module _ (s : State) (commands : List Command) (step : ℕ) (ready : IsReady s) 
         by true e = stays (is_filled (acts s.bots commands) d) (is_voided (acts s.bots commands) d) (not_voided e)
         by false e = ap (λ f. f || false) (not_filled e)
 
-    voxel_back : (d : Coord) → IsInSpace s.matrix.resolution d → cond (is_among undo.voided.items d) true (is_full (without_filled (after s commands).matrix undo.filled.items) d) ≡ is_full s.matrix d
-    voxel_back d w = by (is_among undo.voided.items d) (is_among undo.filled.items d) refl refl
+    voxel_back : (d : Coord) → IsInSpace s.matrix.resolution d → cond (is_cell undo.voided.items d) true (is_full (without_filled (after s commands).matrix undo.filled.items) d) ≡ is_full s.matrix d
+    voxel_back d w = by (is_cell undo.voided.items d) (is_cell undo.filled.items d) refl refl
       where
-        by : (v f : Bool) → is_among undo.voided.items d ≡ v → is_among undo.filled.items d ≡ f → cond v true (is_full (without_filled (after s commands).matrix undo.filled.items) d) ≡ is_full s.matrix d
+        by : (v f : Bool) → is_cell undo.voided.items d ≡ v → is_cell undo.filled.items d ≡ f → cond v true (is_full (without_filled (after s commands).matrix undo.filled.items) d) ≡ is_full s.matrix d
         by true f e k = sym (cell_of s (acts s.bots commands) good true d (voided_cell d (of_among undo.voided.items d e))).1
         by false true e k =
             full_with (after s commands).matrix undo.filled.items false d w
@@ -223,21 +223,21 @@ module _ (s : State) (commands : List Command) (step : ℕ) (ready : IsReady s) 
 
     pub matrix_is_back : matrix_before (after s commands).matrix undo.filled.items undo.voided.items ≡ s.matrix
     matrix_is_back =
-        matrix_same s.matrix.resolution (λ d. cond (is_among undo.voided.items d) true (is_full (without_filled (after s commands).matrix undo.filled.items) d)) (is_full s.matrix) voxel_back
+        matrix_same s.matrix.resolution (λ d. cond (is_cell undo.voided.items d) true (is_full (without_filled (after s commands).matrix undo.filled.items) d)) (is_full s.matrix) voxel_back
         ∙ as_it_is s.matrix ready.whole
 
     pub state_is_back : state_before t undo ≡ s
     state_is_back = ap (λ (x : State). state_before x undo) is ∙ (λ i. record { matrix = matrix_is_back i; harmonics = h.harmonics i; bots = h.crew i; energy = h.energy i; profile = s.profile })
 
     -- what a machine in the state of a well-formed step may take back
-    pub may_undo : s.profile.seeds ≤ 39 → undo.steps ≤ 1073741824 → IsPaid s.energy undo.steps → IsWellFormed s → MayUndo t undo
+    pub may_undo : s.profile.seeds ≤ 39 → undo.steps ≤ 1073741824 → IsEnergyBounded s.energy undo.steps → IsWellFormed s → MayUndo t undo
     may_undo seeds few paid formed = record {
       voxels = note_holds;
-      before = subst (λ (x : State). MayStand x undo.steps) (sym state_is_back) (record { well_formed = formed; within = ready.within; seeds = seeds; few = few; paid = paid });
+      before = subst (λ (x : State). IsMachineState x undo.steps) (sym state_is_back) (record { well_formed = formed; within = ready.within; seeds = seeds; few = few; paid = paid });
     }
 
     -- seen at a machine
-    pub note_may_undo : (old : Standing) (changed : Changes) (steps : ℕ) (spent : Bool) (v : Situation) → IsSound s old changed steps spent → seen s steps spent ≡ v → undo.steps + 1 ≡ steps + 1 → IsWellFormed v.state → MayUndo t undo
+    pub note_may_undo : (old : Standing) (changed : Changes) (steps : ℕ) (spent : Bool) (v : Situation) → IsConsistent s old changed steps spent → seen s steps spent ≡ v → undo.steps + 1 ≡ steps + 1 → IsWellFormed v.state → MayUndo t undo
     note_may_undo old changed steps spent v sound e counted formed =
         let same : undo.steps ≡ steps = omega arith in
-        may_undo sound.seeds (subst (λ (n : ℕ). n ≤ 1073741824) (sym same) sound.few) (subst (λ (n : ℕ). IsPaid s.energy n) (sym same) sound.paid) (subst (λ (w : Situation). IsWellFormed w.state) (sym e) formed)
+        may_undo sound.seeds (subst (λ (n : ℕ). n ≤ 1073741824) (sym same) sound.few) (subst (λ (n : ℕ). IsEnergyBounded s.energy n) (sym same) sound.paid) (subst (λ (w : Situation). IsWellFormed w.state) (sym e) formed)

@@ -11,10 +11,10 @@ use Rattle.nano_spec.specs.Act.{Act, acts}
 use Rattle.nano_spec.specs.Matrix.{Matrix}
 use Rattle.vox_planes.specs.Changes.{Changes}
 use Rattle.step_order.proofs.Lists.{In}
-use Rattle.system_state.specs.Effects.{act}
 use Rattle.step_machine.specs.Edits.{cells_of, cells_of_all, edit_count, edits_total}
 use Rattle.system_state.specs.Turns.{AreTurns, IsTurn}
 use Rattle.system_state.specs.declared.turns.Turn.{Turn}
+use Rattle.step_groups.specs.Judging.{act}
 
 -- the voxels of the first i leaders were appended
 pub record IsListing (m : Matrix) (full : Bool) (ls : List Act) (i : ℕ) (old new : Changes) (before after : ℕ) : Type 0 where

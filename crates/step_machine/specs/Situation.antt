@@ -20,11 +20,11 @@ pub record Situation : Type 0 where
   pub spent : Bool
 
 -- each step changes the energy by less than 3,000,000,000 either way
-abbrev pub IsPaid : ℤ → ℕ → Type 0
-IsPaid energy steps = IsWithin (3000000000 * steps) energy
+abbrev pub IsEnergyBounded : ℤ → ℕ → Type 0
+IsEnergyBounded energy steps = IsWithin (3000000000 * steps) energy
 
 -- the parts of a machine belong together
-pub record IsSound (system : State) (forest : Standing) (changed : Changes) (steps : ℕ) (spent : Bool) : Type 0 where
+pub record IsConsistent (system : State) (forest : Standing) (changed : Changes) (steps : ℕ) (spent : Bool) : Type 0 where
   -- until the machine is spent, its forest is one of its matrix
   pub stands : spent ≡ false → forest.spent ≡ false
   pub tied : spent ≡ false → forest.matrix ≡ system.matrix
@@ -33,7 +33,7 @@ pub record IsSound (system : State) (forest : Standing) (changed : Changes) (ste
   -- the profile gives no more seeds than there are bids
   pub seeds : system.profile.seeds ≤ 39
   -- energy and steps are within their types
-  pub paid : IsPaid system.energy steps
+  pub paid : IsEnergyBounded system.energy steps
   pub few : steps ≤ 1073741824
 
 -- where a step breaks a rule, P holds of it

@@ -14,19 +14,19 @@ use Rattle.step_machine.specs.declared.machine.StepOk.{StepOk}
 use Rattle.step_machine.specs.declared.machine.StepFault.{StepFault}
 use Rattle.step_machine.specs.declared.undo.Undo.{Undo}
 use Rattle.step_machine.specs.Edits.{edits_of}
-use Rattle.step_machine.specs.Situation.{IsPaid}
+use Rattle.step_machine.specs.Situation.{IsEnergyBounded}
 
 -- the state of these parts
-abbrev pub state_of : Matrix → List Bot → Harmonics → ℤ → Profile → State
-state_of matrix bots harmonics energy profile = record { matrix = matrix; harmonics = harmonics; bots = bots; energy = energy; profile = profile }
+abbrev pub state_with : Matrix → List Bot → Harmonics → ℤ → Profile → State
+state_with matrix bots harmonics energy profile = record { matrix = matrix; harmonics = harmonics; bots = bots; energy = energy; profile = profile }
 
 -- a machine can stand in the state, after so many steps
-pub record MayStand (s : State) (steps : ℕ) : Type 0 where
+pub record IsMachineState (s : State) (steps : ℕ) : Type 0 where
   pub well_formed : IsWellFormed s
   pub within : All (λ b. IsInSpace s.matrix.resolution b.pos) s.bots
   pub seeds : s.profile.seeds ≤ 39
   pub few : steps ≤ 1073741824
-  pub paid : IsPaid s.energy steps
+  pub paid : IsEnergyBounded s.energy steps
 
 -- the matrix without the voxels that became full in a step
 abbrev pub without_filled : Matrix → List Coord → Matrix
@@ -38,7 +38,7 @@ matrix_before m filled voided = with_cells (without_filled m filled) voided true
 
 -- the state that the note tells, from the state after its step on
 abbrev pub state_before : State → Undo → State
-state_before s undo = state_of (matrix_before s.matrix undo.filled.items undo.voided.items) undo.crew undo.harmonics undo.energy s.profile
+state_before s undo = state_with (matrix_before s.matrix undo.filled.items undo.voided.items) undo.crew undo.harmonics undo.energy s.profile
 
 -- the voxels of the note have changed as it says: they are in space and all differ, those that became full are full, and those that
 -- became void are void
@@ -53,7 +53,7 @@ pub record HaveChanged (m : Matrix) (undo : Undo) : Type 0 where
 -- the step of the note can be taken back in the state: its voxels have changed, and a machine can stand in the state that it tells
 pub record MayUndo (s : State) (undo : Undo) : Type 0 where
   pub voxels : HaveChanged s.matrix undo
-  pub before : MayStand (state_before s undo) undo.steps
+  pub before : IsMachineState (state_before s undo) undo.steps
 
 -- the note of a step: what there was before it, and the voxels that it changes
 pub record IsNote (s : State) (commands : List Command) (step : ℕ) (undo : Undo) : Type 0 where
@@ -79,11 +79,11 @@ pub record LevelsThrough (old between new : Matrix) : Type 0 where
   pub last_are : Levels new last
 
 -- how many voxels change their level by the first of two changes, and how many by the second
-abbrev pub moved : {old between new : Matrix} → LevelsThrough old between new → ℕ
-moved levels = differing levels.first levels.middle + differing levels.middle levels.last
+abbrev pub levels_moved : {old between new : Matrix} → LevelsThrough old between new → ℕ
+levels_moved levels = differing levels.first levels.middle + differing levels.middle levels.last
 
 -- a step is taken back by at most a hundred touches for each voxel of its note, for each voxel whose level changes by what is made
 -- void, and for each whose level changes then by what is made full
 abbrev pub IsUndoneBy : Matrix → List Coord → List Coord → ℕ → ℕ → Type 0
 IsUndoneBy m filled voided began ended =
-    (levels : LevelsThrough m (without_filled m filled) (matrix_before m filled voided)) × (ended ≤ began + 100 * (length filled + length voided + moved levels))
+    (levels : LevelsThrough m (without_filled m filled) (matrix_before m filled voided)) × (ended ≤ began + 100 * (length filled + length voided + levels_moved levels))

@@ -10,12 +10,12 @@ ghost use Rattle.nano_spec.specs.Matrix.{all_of};
 ghost use Rattle.nano_spec.specs.Rules.{broken as broken_of};
 ghost use Rattle.vox_planes.specs.Voxel.{is_state};
 ghost use Rattle.step_machine.specs.Edits.{cells_of, cells_of_all, edit_count, edits_total, is_change};
-ghost use Rattle.system_state.specs.Effects.{act};
 ghost use Rattle.system_state.specs.Turns.{AreTurns};
+ghost use Rattle.step_groups.specs.Judging.{act};
 
 use nano_spec::{Bot, Command};
 use std::sync::ledger::Ledger;
-use system_state::{System, Turns, work_of};
+use system_state::{System, Turns, edited_region};
 use vox_geom::{Region, Steps};
 use vox_planes::{ChangeList, Planes};
 
@@ -60,7 +60,7 @@ fn list_change<L: Ledger>(
     if !is_change(command, full) {
         return;
     }
-    let Some(work) = work_of(matrix.resolution(), *bot, command) else {
+    let Some(work) = edited_region(matrix.resolution(), *bot, command) else {
         return;
     };
     let region = Region::of(work.near, work.far);

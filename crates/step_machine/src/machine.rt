@@ -14,9 +14,9 @@ ghost use Rattle.vox_geom.specs.Space.{IsInSpace};
 ghost use Rattle.vox_planes.specs.Voxel.{IsWhole};
 ghost use Rattle.bot_crew.specs.Crew.{IsCrew};
 ghost use Rattle.step_machine.specs.Edits.{is_edit};
-ghost use Rattle.step_machine.specs.Situation.{IsPaid};
+ghost use Rattle.step_machine.specs.Situation.{IsEnergyBounded};
 ghost use Rattle.step_machine.specs.Stepped.{Stepped};
-ghost use Rattle.step_machine.specs.Undoing.{MayStand, state_of};
+ghost use Rattle.step_machine.specs.Undoing.{IsMachineState, state_with};
 
 mod alone;
 mod noted;
@@ -69,13 +69,13 @@ pub struct Machine {
 }
 
 impl Model for Machine {
-    ghost use Rattle.step_machine.specs.Situation.{IsSound, Situation};
+    ghost use Rattle.step_machine.specs.Situation.{IsConsistent, Situation};
 
     ghost Value = { Situation };
 
     ghost view = { λ m. record { state = m.system; steps = m.steps; spent = m.spent } };
 
-    ghost invariant = { λ m. IsSound m.system m.forest m.changed m.steps m.spent };
+    ghost invariant = { λ m. IsConsistent m.system m.forest m.changed m.steps m.spent };
 }
 
 /// What every step keeps: it changes the energy by little, and it leads from a well-formed state to such a state.
@@ -146,8 +146,8 @@ impl Machine {
         profile: Profile,
         steps: &mut Steps<L>,
     ) -> Result<Machine, Memory>
-        requires { MayStand (state_of matrix crew harmonics energy profile) steps_done }
-        ensures value { IfOk result (λ m. m ≡ record { state = state_of matrix crew harmonics energy profile; steps = steps_done; spent = false }) }
+        requires { IsMachineState (state_with matrix crew harmonics energy profile) steps_done }
+        ensures value { IfOk result (λ m. m ≡ record { state = state_with matrix crew harmonics energy profile; steps = steps_done; spent = false }) }
         ensures touches { IfOk result (λ _. steps.new ≤ steps.old + 91 * volume matrix.resolution) }
     {
         let forest = forest_of(alloc, &matrix, steps)?;
@@ -266,7 +266,7 @@ impl Machine {
     /// The energy spent so far.
     pub fn energy(&self) -> i64
         ensures value { result ≡ self.now.state.energy }
-        ensures paid { IsPaid self.now.state.energy self.now.steps }
+        ensures paid { IsEnergyBounded self.now.state.energy self.now.steps }
     {
         self.system.energy()
     }

@@ -11,22 +11,23 @@ use Rattle.nano_spec.specs.Profile.{full_profile}
 use Rattle.nano_spec.specs.Rules.{broken}
 use Rattle.nano_spec.specs.State.{IsReady, State}
 use Rattle.nano_spec.specs.Step.{after}
-use Rattle.nano_spec.specs.Worked.{coord, diff, minus}
+use Rattle.nano_spec.specs.Worked.{diff, below_zero}
 use Rattle.nano_spec.specs.Serial.{leader_bids, serial}
+use Rattle.vox_geom.specs.Point.{coord}
 
 -- two bots in an empty space of resolution 3, of which the first has the seeds 5, 6 and 7
-abbrev pub first_bot : Bot
-first_bot = record { bid = 1; pos = coord 0 0 0; seeds = 224 }
+abbrev pub worked_bot : Bot
+worked_bot = record { bid = 1; pos = coord 0 0 0; seeds = 224 }
 
 abbrev pub second_bot : Bot
 second_bot = record { bid = 2; pos = coord 0 0 2; seeds = 0 }
 
 abbrev pub two_bots : State
-two_bots = record { matrix = empty 3; harmonics = Low; bots = first_bot ∷ second_bot ∷ []; energy = pos 0; profile = full_profile }
+two_bots = record { matrix = empty 3; harmonics = Low; bots = worked_bot ∷ second_bot ∷ []; energy = pos 0; profile = full_profile }
 
 -- the first fills (0,0,1), and the second goes there: the groups interfere. In the order of their bids the second meets a blocked way, and in the other it does not
 abbrev pub into_one_place : List Command
-into_one_place = Fill (diff (pos 0) (pos 0) (pos 1)) ∷ SMove (diff (pos 0) (pos 0) (minus 1)) ∷ []
+into_one_place = Fill (diff (pos 0) (pos 0) (pos 1)) ∷ SMove (diff (pos 0) (pos 0) (below_zero 1)) ∷ []
 
 abbrev pub OrderMatters : Type 0
 OrderMatters =

@@ -18,7 +18,7 @@ use Rattle.vox_planes.specs.Voxel.{IsWhole}
 use Rattle.vox_planes.proofs.Voxels.{get_or-where, length-where}
 use Rattle.support_forest.specs.Directions.{Toward}
 use Rattle.support_forest.specs.Grid.{Grid, brick, brick_number, slot_at, slot_of, word_at}
-use Rattle.support_forest.specs.Heap.{AreBits, AreSlots, CanStack, HaveStacked, IsHeap, IsHeaped, IsSeen, under}
+use Rattle.support_forest.specs.Heap.{AreBits, AreBrickSlots, CanStack, HaveStacked, AreHeapWords, IsHeaped, IsSeen}
 use Rattle.support_forest.specs.Standing.{matrix_of}
 use Rattle.support_forest.specs.Waiting.{CanAdd, HaveAdded}
 use Rattle.support_forest.specs.Words.{height, AreExact, IsWritten}
@@ -27,6 +27,7 @@ use Rattle.support_forest.proofs.Each.{differ_more, no_member, none_differ}
 use Rattle.support_forest.proofs.Nearby.{same_slot}
 use Rattle.support_forest.proofs.Placing.{Fits, placed_with}
 use Rattle.support_forest.proofs.Settling.{same_or_not}
+use Rattle.vox_planes.specs.Heap.{under}
 
 -- ---- one voxel more in a heap
 
@@ -41,7 +42,7 @@ near_level d a b (inr (inr (inr (inr (inl h))))) = (omega arith, omega arith)
 near_level d a b (inr (inr (inr (inr (inr h))))) = (omega arith, omega arith)
 
 -- the neighbours in a heap allow the word that has the level of y
-fits_level : (r : ℕ) (w : Coord → ℕ) (c : Coord) (word : ℕ) → IsHeap w → word / 8 ≡ c.y + 1 → (c.y ≡ 0 → word ≡ 8) →
+fits_level : (r : ℕ) (w : Coord → ℕ) (c : Coord) (word : ℕ) → AreHeapWords w → word / 8 ≡ c.y + 1 → (c.y ≡ 0 → word ≡ 8) →
     ((word ≡ 8) × (c.y ≡ 0)) ⊎ ((q : Coord) × Toward (word % 8) c q × (8 ≤ w q) × (height w q + 1 ≡ word / 8)) → Fits r w c word
 fits_level r w c word h level floor parent = record {
   some = omega arith;
@@ -58,7 +59,7 @@ fits_level r w c word h level floor parent = record {
       (omega arith, omega (arith, y.0));
 }
 
-heap_with : (w v : Coord → ℕ) (c : Coord) (word : ℕ) → IsHeap w → word / 8 ≡ c.y + 1 → IsWritten w v c word → IsHeap v
+heap_with : (w v : Coord → ℕ) (c : Coord) (word : ℕ) → AreHeapWords w → word / 8 ≡ c.y + 1 → IsWritten w v c word → AreHeapWords v
 heap_with w v c word h level k d g = elim (same_or_not d c) [
   | inl m ↦ let n : v d ≡ word = ap v m ∙ k.here in let y : d.y ≡ c.y = ap (λ (x : Coord). x.y) m in omega arith
   | inr m ↦ let n = k.kept d m in let l : height w d ≡ d.y + 1 = h d (omega arith) in omega arith
@@ -102,11 +103,11 @@ slot_kept : (old new : Grid) (c : Coord) → new.table ≡ old.table → new.res
 slot_kept old new c t r = λ i. slot_at (t i) (brick_number (r i) c)
 
 pub slots_kept : (old new : Grid) (c : Coord) (own : ℕ) (below : Option ℕ) → new.table ≡ old.table → new.resolution ≡ old.resolution →
-    AreSlots old c own below → AreSlots new c own below
+    AreBrickSlots old c own below → AreBrickSlots new c own below
 slots_kept old new c own below t r s = record { here = slot_kept old new c t r ∙ s.here; there = λ y. s.there y ∙ sym (slot_kept old new (under c) t r) }
 
-pub slots_along : (g : Grid) (c : Coord) (z own : ℕ) (below : Option ℕ) → z / 8 ≡ c.z / 8 → AreSlots g c own below →
-    AreSlots g (record { x = c.x; y = c.y; z = z }) own below
+pub slots_along : (g : Grid) (c : Coord) (z own : ℕ) (below : Option ℕ) → z / 8 ≡ c.z / 8 → AreBrickSlots g c own below →
+    AreBrickSlots g (record { x = c.x; y = c.y; z = z }) own below
 slots_along g c z own below e s =
     let d : Coord = record { x = c.x; y = c.y; z = z } in
     let here : brick d ≡ brick c = λ i. record { x = c.x / 8; y = c.y / 8; z = e i } in
@@ -179,7 +180,7 @@ heaped_same m old new p rest r e h =
     record {
       resolution = r ∙ h.resolution;
       exact = subst (λ (n : ℕ). AreExact n (word_at new)) (sym r) (subst (λ (w : Coord → ℕ). AreExact old.resolution w) s h.exact);
-      heap = subst (λ (w : Coord → ℕ). IsHeap w) s h.heap;
+      heap = subst (λ (w : Coord → ℕ). AreHeapWords w) s h.heap;
       seen = λ c k. h.seen c (let o = e c in omega arith);
       done = λ c k. elim (h.done c k) [ inl f ↦ let o = e c in inl (omega arith) | inr f ↦ inr f ];
       listed = λ c k. let o = h.listed c k in (o.0, e c ∙ o.1);

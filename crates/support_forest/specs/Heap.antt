@@ -9,31 +9,28 @@ use Rattle.vox_planes.specs.Places.{voxel_at}
 use Rattle.support_forest.specs.Grid.{Grid, slot_of, word_at}
 use Rattle.support_forest.specs.Placing.{HavePlaced}
 use Rattle.support_forest.specs.Words.{height, AreExact}
+use Rattle.vox_planes.specs.Heap.{under}
 
 -- each full voxel has the level of its y
-abbrev pub IsHeap : (Coord → ℕ) → Type 0
-IsHeap w = (c : Coord) → 0 < w c → height w c ≡ c.y + 1
-
--- the coordinate under another, which is not on the floor
-abbrev pub under : Coord → Coord
-under c = record { x = c.x; y = c.y - 1; z = c.z }
+abbrev pub AreHeapWords : (Coord → ℕ) → Type 0
+AreHeapWords w = (c : Coord) → 0 < w c → height w c ≡ c.y + 1
 
 -- the words are those of a heap, and the voxel is void
 pub record CanStack (g : Grid) (c : Coord) : Type 0 where
   pub exact : AreExact g.resolution (word_at g)
-  pub heap : IsHeap (word_at g)
+  pub heap : AreHeapWords (word_at g)
   pub within : IsInSpace g.resolution c
   pub void : word_at g c ≡ 0
 
 -- the slot of a voxel's brick, and that of the brick of the voxel under it
-pub record AreSlots (g : Grid) (c : Coord) (own : ℕ) (below : Option ℕ) : Type 0 where
+pub record AreBrickSlots (g : Grid) (c : Coord) (own : ℕ) (below : Option ℕ) : Type 0 where
   pub here : slot_of g c ≡ Some own
   pub there : 0 < c.y → below ≡ slot_of g (under c)
 
 -- the voxel became full and is one of the heap
 pub record HaveStacked (old new : Grid) (c : Coord) (before after : ℕ) : Type 0 where
   pub placed : HavePlaced old new c before after
-  pub heap : IsHeap (word_at new)
+  pub heap : AreHeapWords (word_at new)
   pub slots : new.table ≡ old.table
 
 -- the voxel is full, and comes before a place
@@ -46,7 +43,7 @@ pub record IsSeen (m : Matrix) (p : ℕ) (c : Coord) : Type 0 where
 pub record IsHeaped (m : Matrix) (g : Grid) (p : ℕ) (rest : List Coord) : Type 0 where
   pub resolution : g.resolution ≡ m.resolution
   pub exact : AreExact g.resolution (word_at g)
-  pub heap : IsHeap (word_at g)
+  pub heap : AreHeapWords (word_at g)
   pub seen : (c : Coord) → 0 < word_at g c → IsSeen m p c
   pub done : (c : Coord) → IsSeen m p c → (0 < word_at g c) ⊎ Contains rest c
   pub listed : (c : Coord) → Contains rest c → IsSeen m p c × (word_at g c ≡ 0)

@@ -4,9 +4,10 @@ ghost use Rattle.nano_spec.specs.Model.{volume};
 ghost use Rattle.vox_geom.specs.Space.{IsInSpace, place as place_of};
 ghost use Rattle.vox_geom.specs.declared.coordinate.Coord.{Coord as Coordinate};
 ghost use Rattle.support_forest.specs.Grid.{slot_of, word_at};
-ghost use Rattle.support_forest.specs.Heap.{AreBits, AreSlots, CanStack, HaveStacked, IsHeaped, under as under_of};
+ghost use Rattle.support_forest.specs.Heap.{AreBits, AreBrickSlots, CanStack, HaveStacked, IsHeaped};
 ghost use Rattle.support_forest.specs.Standing.{matrix_of};
 ghost use Rattle.support_forest.specs.Words.{AreExact};
+ghost use Rattle.vox_planes.specs.Heap.{under as under_of};
 
 use crate::add::add_cells;
 use crate::cells::{BRICK_SIDE, Cells};
@@ -30,7 +31,7 @@ fn stack<L: Ledger>(
     steps: &mut Steps<L>,
 ) -> bool
     requires can { CanStack cells.old c }
-    requires slots { AreSlots cells.old c own below }
+    requires slots { AreBrickSlots cells.old c own below }
     ensures { MatchBool result (HaveStacked cells.old cells.new c steps.old steps.new) (cells.new ≡ cells.old × steps.new ≤ steps.old + 7) }
 {
     let _ = cells.resolution();

@@ -2,14 +2,14 @@
 use Rattle.std.proofs.Common.{◌≡◌, ℕ, zero, suc, ◌+◌, ◌-◌, ◌*◌, ◌<◌, ◌≤◌, refl, sym, ◌∙◌, ap, subst, arith, Bool, true, false, ◌&&◌, ◌||◌, not, ◌==◌, min, List, [], ◌∷◌, add-one}
 use Rattle.std.proofs.lemmas.Bool.Decides.{nat_tests}
 use Rattle.vox_geom.specs.declared.coordinate.Coord.{Coord}
-use Rattle.vox_geom.specs.Point.{point}
+use Rattle.vox_geom.specs.Point.{point, coord}
 use Rattle.vox_geom.specs.Space.{IsInSpace, in_space}
 use Rattle.nano_spec.specs.Matrix.{Matrix, is_full}
 use Rattle.plan_tape.specs.Leg.{distance}
-use Rattle.plan_tape.specs.Progress.{Progress, spot}
-use Rattle.swarm_planner.specs.Building.{Builds, CanPaint, Fills, IsRaised, are_wanted, cell, in_line, in_lines, is_below, is_column, is_under, is_wanted, line, line_steps, lines}
-use Rattle.swarm_planner.specs.Crew.{IsVoidFrom, MayLead, RowGoes, places}
-use Rattle.swarm_planner.specs.Strips.{coord, count, held, last, next, row, row_of, width}
+use Rattle.plan_tape.specs.Progress.{TapeState, spot, IsVoidFrom}
+use Rattle.swarm_planner.specs.Building.{Builds, CanFillLayer, Fills, IsRaised, are_wanted, cell, in_line, in_lines, is_below, is_column, is_under, is_wanted, line, line_steps, in_first_lines}
+use Rattle.swarm_planner.specs.Crew.{MayLead, RowGoes, places}
+use Rattle.swarm_planner.specs.Strips.{count, held, last, next, bot_row, strip_row, width}
 use Rattle.swarm_planner.proofs.Filling.{is_below-is, space}
 
 -- ---- which voxels are below a row
@@ -33,13 +33,13 @@ one_more true false c d e = or_false (c && d)
     or_false false = refl
 one_more false b c d e = refl
 
-under_row : (w l n a y z : ℕ) (c : Coord) → is_under (row w l n (coord a (y + 1) z)) c ≡ (is_column w l n a c.x && c.y == y && c.z == z)
+under_row : (w l n a y z : ℕ) (c : Coord) → is_under (bot_row w l n (coord a (y + 1) z)) c ≡ (is_column w l n a c.x && c.y == y && c.z == z)
 under_row w l zero a y z c = refl
 under_row w l (suc n) a y z c =
     (λ i. (c.x == min a l && one_up c.y y i && c.z == z) || under_row w l n (a + w) y z c i)
     ∙ one_more (c.x == min a l) (is_column w l n (a + w) c.x) (c.y == y) (c.z == z) true
 
-pub under_is : (r x y z : ℕ) (c : Coord) → is_under (row_of r (coord x (y + 1) z)) c ≡ cell r x y z c
+pub under_is : (r x y z : ℕ) (c : Coord) → is_under (strip_row r (coord x (y + 1) z)) c ≡ cell r x y z c
 under_is r x y z c = under_row (width r) (last r) (count r) x y z c
 
 -- ---- where nothing is wanted
@@ -94,7 +94,7 @@ pub raised_more : (k m n goal : Matrix) (d e all : Coord → Bool) → IsRaised 
 raised_more k m n goal d e all h i j = λ c. i c ∙ (ap (λ t. t || (e c && is_full goal c)) (h c) ∙ (both_parts (is_full n c) (d c) (e c) (is_full goal c) ∙ same_where_full (is_full n c) (d c || e c) (all c) (is_full goal c) (j c)))
 
 -- one part of the plan after another, with the way between them
-pub builds_then : (a b c : Progress) (goal : Matrix) (d e all : Coord → Bool) (from to start end : Coord) (m n way : ℕ) → Builds a b goal d from to m → Builds b c goal e start end n → ((p : Coord) → distance p start ≤ distance p to + way) → ((q : Coord) → is_full goal q ≡ true → (d q || e q) ≡ all q) → Builds a c goal all from end (m + way + n)
+pub builds_then : (a b c : TapeState) (goal : Matrix) (d e all : Coord → Bool) (from to start end : Coord) (m n way : ℕ) → Builds a b goal d from to m → Builds b c goal e start end n → ((p : Coord) → distance p start ≤ distance p to + way) → ((q : Coord) → is_full goal q ≡ true → (d q || e q) ≡ all q) → Builds a c goal all from end (m + way + n)
 builds_then a b c goal d e all from to start end m n way h k near join = record {
   source = k.source ∙ h.source;
   resolution = k.resolution ∙ h.resolution;
@@ -105,7 +105,7 @@ builds_then a b c goal d e all from to start end m n way h k near join = record 
 }
 
 -- the same part, with the way to another place at its end
-pub builds_on : (a b : Progress) (goal : Matrix) (d e : Coord → Bool) (from to end : Coord) (m most way : ℕ) → Builds a b goal d from to m → ((p : Coord) → distance p end ≤ distance p to + way) → to.y ≤ end.y → m + way ≤ most → ((q : Coord) → is_full goal q ≡ true → d q ≡ e q) → Builds a b goal e from end most
+pub builds_on : (a b : TapeState) (goal : Matrix) (d e : Coord → Bool) (from to end : Coord) (m most way : ℕ) → Builds a b goal d from to m → ((p : Coord) → distance p end ≤ distance p to + way) → to.y ≤ end.y → m + way ≤ most → ((q : Coord) → is_full goal q ≡ true → d q ≡ e q) → Builds a b goal e from end most
 builds_on a b goal d e from to end m most way h near up fits same = record {
   source = h.source;
   resolution = h.resolution;
@@ -135,43 +135,43 @@ no_cell r x y z c h = last_false (in_line r x c.x) (c.y == y) (c.z == z) (higher
 
 -- ---- the search for what is wanted
 
-row_more : (w l n i : ℕ) (c : Coord) → i < n → row w l (n - i) c ≡ held l c ∷ row w l (n - (i + 1)) (next w c)
-row_more w l n i c h = let e : n - i ≡ suc (n - (i + 1)) = omega arith in ap (λ k. row w l k c) e
+row_more : (w l n i : ℕ) (c : Coord) → i < n → bot_row w l (n - i) c ≡ held l c ∷ bot_row w l (n - (i + 1)) (next w c)
+row_more w l n i c h = let e : n - i ≡ suc (n - (i + 1)) = omega arith in ap (λ k. bot_row w l k c) e
 
-pub wanted_here : (m goal : Matrix) (w l n i : ℕ) (c : Coord) → i < n → is_wanted m goal (held l c) ≡ true → are_wanted m goal (row w l (n - i) c) ≡ true
-wanted_here m goal w l n i c h e = ap (are_wanted m goal) (row_more w l n i c h) ∙ ap (λ t. t || are_wanted m goal (row w l (n - (i + 1)) (next w c))) e
+pub wanted_here : (m goal : Matrix) (w l n i : ℕ) (c : Coord) → i < n → is_wanted m goal (held l c) ≡ true → are_wanted m goal (bot_row w l (n - i) c) ≡ true
+wanted_here m goal w l n i c h e = ap (are_wanted m goal) (row_more w l n i c h) ∙ ap (λ t. t || are_wanted m goal (bot_row w l (n - (i + 1)) (next w c))) e
 
-pub wanted_later : (m goal : Matrix) (w l n i : ℕ) (c : Coord) → i < n → is_wanted m goal (held l c) ≡ false → are_wanted m goal (row w l (n - (i + 1)) (next w c)) ≡ are_wanted m goal (row w l (n - i) c)
-wanted_later m goal w l n i c h e = sym (ap (are_wanted m goal) (row_more w l n i c h) ∙ ap (λ t. t || are_wanted m goal (row w l (n - (i + 1)) (next w c))) e)
+pub wanted_later : (m goal : Matrix) (w l n i : ℕ) (c : Coord) → i < n → is_wanted m goal (held l c) ≡ false → are_wanted m goal (bot_row w l (n - (i + 1)) (next w c)) ≡ are_wanted m goal (bot_row w l (n - i) c)
+wanted_later m goal w l n i c h e = sym (ap (are_wanted m goal) (row_more w l n i c h) ∙ ap (λ t. t || are_wanted m goal (bot_row w l (n - (i + 1)) (next w c))) e)
 
 pub wanted_by : (m n goal : Matrix) (t u : Bool) (v x r s y z : ℕ) → t ≡ is_wanted m goal (coord v y z) → t ≡ u → m ≡ n → v ≡ min x (r - 2) → r ≡ s → is_wanted n goal (held (last s) (coord x y z)) ≡ u
 wanted_by m n goal t u v x r s y z h g e f k =
     sym (λ i. is_wanted (e i) goal (coord ((f ∙ ap (λ q. min x (q - 2)) k) i) y z)) ∙ (sym h ∙ g)
 
-pub none_left : (m goal : Matrix) (w l n i : ℕ) (c : Coord) → n ≤ i → are_wanted m goal (row w l (n - i) c) ≡ false
-none_left m goal w l n i c h = let e : n - i ≡ 0 = omega arith in ap (λ k. are_wanted m goal (row w l k c)) e
+pub none_left : (m goal : Matrix) (w l n i : ℕ) (c : Coord) → n ≤ i → are_wanted m goal (bot_row w l (n - i) c) ≡ false
+none_left m goal w l n i c h = let e : n - i ≡ 0 = omega arith in ap (λ k. are_wanted m goal (bot_row w l k c)) e
 
 -- ---- one cell
 
 no_way : (c : Coord) → distance c c ≡ 0
 no_way c = omega arith
 
-pub cell_already : (p : Progress) (goal : Matrix) (x y z : ℕ) → CanPaint p goal y → are_wanted p.matrix goal (row_of p.matrix.resolution (coord x (y + 1) z)) ≡ false → Builds p p goal (cell p.matrix.resolution x y z) (coord x (y + 1) z) (coord x (y + 1) z) 1
+pub cell_already : (p : TapeState) (goal : Matrix) (x y z : ℕ) → CanFillLayer p goal y → are_wanted p.matrix goal (strip_row p.matrix.resolution (coord x (y + 1) z)) ≡ false → Builds p p goal (cell p.matrix.resolution x y z) (coord x (y + 1) z) (coord x (y + 1) z) 1
 cell_already p goal x y z k h = record {
   source = refl;
   resolution = refl;
-  raised = raised_as p.matrix p.matrix goal (is_under (row_of p.matrix.resolution (coord x (y + 1) z))) (cell p.matrix.resolution x y z) (raised_already p.matrix goal (row_of p.matrix.resolution (coord x (y + 1) z)) h) (λ c g. under_is p.matrix.resolution x y z c);
+  raised = raised_as p.matrix p.matrix goal (is_under (strip_row p.matrix.resolution (coord x (y + 1) z))) (cell p.matrix.resolution x y z) (raised_already p.matrix goal (strip_row p.matrix.resolution (coord x (y + 1) z)) h) (λ c g. under_is p.matrix.resolution x y z c);
   ready = k.ready;
   low = k.below;
   steps_are = omega arith;
 }
 
-pub cell_built : (a b c : Progress) (goal : Matrix) (x y z : ℕ) → CanPaint a goal y → RowGoes a b (coord x (y + 1) z) (distance (spot a.bots) (coord x (y + 1) z)) → Fills b c goal → Builds a c goal (cell a.matrix.resolution x y z) (coord x (y + 1) z) (coord x (y + 1) z) 1
+pub cell_built : (a b c : TapeState) (goal : Matrix) (x y z : ℕ) → CanFillLayer a goal y → RowGoes a b (coord x (y + 1) z) (distance (spot a.bots) (coord x (y + 1) z)) → Fills b c goal → Builds a c goal (cell a.matrix.resolution x y z) (coord x (y + 1) z) (coord x (y + 1) z) 1
 cell_built a b c goal x y z k g f =
     let at = coord x (y + 1) z in
     let r = a.matrix.resolution in
     let size : b.matrix.resolution ≡ r = ap (λ (m : Matrix). m.resolution) g.matrix in
-    let here : places b.bots ≡ row_of r at = g.row.places_are ∙ (λ i. row_of (size i) (g.there i)) in
+    let here : places b.bots ≡ strip_row r at = g.row.places_are ∙ (λ i. strip_row (size i) (g.there i)) in
     let all : (q : Coord) → is_under (places b.bots) q ≡ cell r x y z q = λ q. ap (λ ps. is_under ps q) here ∙ under_is r x y z q in
     let raised : IsRaised c.matrix a.matrix goal (cell r x y z) = subst (λ (m : Matrix). IsRaised c.matrix m goal (cell r x y z)) g.matrix (raised_as c.matrix b.matrix goal (is_under (places b.bots)) (cell r x y z) f.raised (λ q h. all q)) in
     let stands : spot c.bots ≡ at = ap spot f.bots ∙ g.there in
@@ -184,7 +184,7 @@ cell_built a b c goal x y z k g f =
       ready = record {
         swarm = f.swarm;
         row = record {
-          places_are = ap places f.bots ∙ (g.row.places_are ∙ (λ i. row_of (sym f.resolution i) (ap spot (sym f.bots) i)));
+          places_are = ap places f.bots ∙ (g.row.places_are ∙ (λ i. strip_row (sym f.resolution i) (ap spot (sym f.bots) i)));
           leads = subst (λ n. MayLead n (spot c.bots)) (sym f.resolution) (subst (λ (q : Coord). MayLead b.matrix.resolution q) (sym (ap spot f.bots)) g.row.leads);
         };
         same = k.ready.same ∙ sym same;
@@ -214,14 +214,14 @@ joined_front true false true = refl
 joined_front true false false = refl
 joined_front false b c = refl
 
-lines_more : (r x y : ℕ) (c : Coord) → (lines r x y c || line r (x + 1) y c) ≡ lines r (x + 1) y c
+lines_more : (r x y : ℕ) (c : Coord) → (in_first_lines r x y c || line r (x + 1) y c) ≡ in_first_lines r (x + 1) y c
 lines_more r x y c =
     ap (λ n. (in_lines r x c.x && c.y == y) || (in_line r n c.x && c.y == y)) (add-one x)
     ∙ (joined_front (in_lines r x c.x) (in_line r (suc x) c.x) (c.y == y) ∙ ap (λ n. in_lines r n c.x && c.y == y) (sym (add-one x)))
 
-pub one_more_line : (a b c : Progress) (goal : Matrix) (x y : ℕ) → Builds a b goal (lines a.matrix.resolution x y) (coord 1 (y + 1) 0) (coord (x + 1) (y + 1) 0) (x * line_steps a.matrix.resolution) → Builds b c goal (line b.matrix.resolution (x + 1) y) (coord (x + 1) (y + 1) 0) (coord (x + 1) (y + 1) b.matrix.resolution) (2 * b.matrix.resolution) → Builds a c goal (lines a.matrix.resolution (x + 1) y) (coord 1 (y + 1) 0) (coord (x + 1 + 1) (y + 1) 0) ((x + 1) * line_steps a.matrix.resolution)
+pub one_more_line : (a b c : TapeState) (goal : Matrix) (x y : ℕ) → Builds a b goal (in_first_lines a.matrix.resolution x y) (coord 1 (y + 1) 0) (coord (x + 1) (y + 1) 0) (x * line_steps a.matrix.resolution) → Builds b c goal (line b.matrix.resolution (x + 1) y) (coord (x + 1) (y + 1) 0) (coord (x + 1) (y + 1) b.matrix.resolution) (2 * b.matrix.resolution) → Builds a c goal (in_first_lines a.matrix.resolution (x + 1) y) (coord 1 (y + 1) 0) (coord (x + 1 + 1) (y + 1) 0) ((x + 1) * line_steps a.matrix.resolution)
 one_more_line a b c goal x y h k =
     let e = h.resolution in
-    builds_on a c goal (lines a.matrix.resolution (x + 1) y) (lines a.matrix.resolution (x + 1) y) (coord 1 (y + 1) 0) (coord (x + 1) (y + 1) b.matrix.resolution) (coord (x + 1 + 1) (y + 1) 0) (x * line_steps a.matrix.resolution + 0 + 2 * b.matrix.resolution) ((x + 1) * line_steps a.matrix.resolution) (b.matrix.resolution + 1)
-    (builds_then a b c goal (lines a.matrix.resolution x y) (line b.matrix.resolution (x + 1) y) (lines a.matrix.resolution (x + 1) y) (coord 1 (y + 1) 0) (coord (x + 1) (y + 1) 0) (coord (x + 1) (y + 1) 0) (coord (x + 1) (y + 1) b.matrix.resolution) (x * line_steps a.matrix.resolution) (2 * b.matrix.resolution) 0 h k (λ p. omega arith) (λ q g. ap (λ r. lines a.matrix.resolution x y q || line r (x + 1) y q) e ∙ lines_more a.matrix.resolution x y q))
+    builds_on a c goal (in_first_lines a.matrix.resolution (x + 1) y) (in_first_lines a.matrix.resolution (x + 1) y) (coord 1 (y + 1) 0) (coord (x + 1) (y + 1) b.matrix.resolution) (coord (x + 1 + 1) (y + 1) 0) (x * line_steps a.matrix.resolution + 0 + 2 * b.matrix.resolution) ((x + 1) * line_steps a.matrix.resolution) (b.matrix.resolution + 1)
+    (builds_then a b c goal (in_first_lines a.matrix.resolution x y) (line b.matrix.resolution (x + 1) y) (in_first_lines a.matrix.resolution (x + 1) y) (coord 1 (y + 1) 0) (coord (x + 1) (y + 1) 0) (coord (x + 1) (y + 1) 0) (coord (x + 1) (y + 1) b.matrix.resolution) (x * line_steps a.matrix.resolution) (2 * b.matrix.resolution) 0 h k (λ p. omega arith) (λ q g. ap (λ r. in_first_lines a.matrix.resolution x y q || line r (x + 1) y q) e ∙ lines_more a.matrix.resolution x y q))
     (λ p. omega arith) (omega arith) (omega arith) (λ q g. refl)

@@ -6,9 +6,8 @@ use Rattle.std.proofs.lemmas.Bool.Decides.{nat_tests}
 use Rattle.vox_geom.specs.declared.coordinate.Coord.{Coord}
 use Rattle.nano_spec.specs.Legal.{IsLegal}
 use Rattle.nano_spec.specs.Matrix.{Matrix, is_full}
-use Rattle.plan_tape.specs.Progress.{AreAlike}
+use Rattle.plan_tape.specs.Progress.{AreAlike, IsVoidFrom}
 use Rattle.swarm_planner.specs.Building.{IsRaised, in_line, in_lines, is_column, layers}
-use Rattle.swarm_planner.specs.Crew.{IsVoidFrom}
 use Rattle.swarm_planner.specs.Strips.{count, last, width}
 use Rattle.swarm_planner.proofs.Legality.{full_in_box}
 

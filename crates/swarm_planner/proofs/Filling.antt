@@ -5,7 +5,7 @@ use Rattle.std.specs.List.{AllByRecursion, list_any}
 use Rattle.std.proofs.lemmas.Bool.Decides.{nat_tests}
 use Rattle.std.proofs.lemmas.Int.{ints}
 use Rattle.vox_geom.specs.declared.coordinate.Coord.{Coord}
-use Rattle.vox_geom.specs.Point.{Point, plus, point}
+use Rattle.vox_geom.specs.Point.{Point, plus, point, down, below}
 use Rattle.vox_geom.specs.Region.{is_between, is_within, just}
 use Rattle.vox_geom.specs.Space.{IsInSpace, in_range, in_space}
 use Rattle.nano_spec.specs.declared.commands.Command.{Command}
@@ -22,8 +22,8 @@ use Rattle.step_order.specs.Unbroken.{AreFree, IsFree, MayAct}
 use Rattle.step_order.proofs.Voxels.{full_where, in_space_is}
 use Rattle.plan_tape.specs.declared.axis.Axis.TheVariants.{Z}
 use Rattle.plan_tape.specs.Crowd.{AllStep, FillsOrWaits, with_fills}
-use Rattle.plan_tape.specs.Progress.{Progress, spot, state_of}
-use Rattle.swarm_planner.specs.Building.{Fills, IsRaised, below, down, fill, fills, is_below, is_under, is_wanted}
+use Rattle.plan_tape.specs.Progress.{TapeState, spot, state_of}
+use Rattle.swarm_planner.specs.Building.{Fills, IsRaised, fill, fills, is_below, is_under, is_wanted}
 use Rattle.swarm_planner.specs.Crew.{AreLed, InRow, IsSwarm, places}
 use Rattle.swarm_planner.proofs.Rows.{led_row}
 use Rattle.swarm_planner.proofs.Fences.{AreFenced, IsFenced, IsInColumns, untangled}
@@ -203,7 +203,7 @@ raised_by m goal bots low e k = λ c. by c (in_space m.resolution (point c)) ref
 
 -- ---- the tape
 
-module _ (p : Progress) (swarm : IsSwarm p) (row : InRow p) (up : 1 ≤ (spot p.bots).y) where
+module _ (p : TapeState) (swarm : IsSwarm p) (row : InRow p) (up : 1 ≤ (spot p.bots).y) where
   pub standing : AreLed p.matrix.resolution 1 Z 1 (places p.bots) (places p.bots)
   standing = subst (λ (cs : List Coord). AreLed p.matrix.resolution 1 Z 1 cs cs) (sym row.places_are) (led_row p.matrix.resolution 1 Z (spot p.bots) (spot p.bots) row.leads row.leads (refl, refl) (omega arith) up up)
 
@@ -221,7 +221,7 @@ module _ (p : Progress) (swarm : IsSwarm p) (row : InRow p) (up : 1 ≤ (spot p.
     pub only_fills : AllByRecursion FillsOrWaits ks
     only_fills = subst (λ (k : List Command). AllByRecursion FillsOrWaits k) (sym e) (fills_wait p.matrix goal p.bots)
 
-    pub has_filled : (q : Progress) → goal.resolution ≡ p.matrix.resolution → AllStep p q ks (with_fills p.matrix (acts p.bots ks)) p.harmonics p.bots → Fills p q goal
+    pub has_filled : (q : TapeState) → goal.resolution ≡ p.matrix.resolution → AllStep p q ks (with_fills p.matrix (acts p.bots ks)) p.harmonics p.bots → Fills p q goal
     has_filled q same s = record {
       source = s.source;
       swarm = record { high = s.harmonics ∙ swarm.high; light = s.profile ∙ swarm.light };

@@ -21,9 +21,9 @@ use Rattle.step_order.proofs.Judgements.{containing}
 use Rattle.step_order.proofs.Lists.{In}
 use Rattle.step_order.proofs.Voxels.{in_space_is}
 use Rattle.plan_tape.specs.Crowd.{FusesOrWaits, bots_fused}
-use Rattle.plan_tape.specs.Progress.{Progress, spot, state_of}
+use Rattle.plan_tape.specs.Progress.{TapeState, spot, state_of}
 use Rattle.swarm_planner.specs.Crew.{places}
-use Rattle.swarm_planner.specs.Lineup.{AreLined, InLine, beside, free_column, fused, last_column, left, pair_ends, right}
+use Rattle.swarm_planner.specs.Lineup.{AreLined, InLine, next_along_x, free_column, without_last, last_column, left, pair_ends, right}
 use Rattle.swarm_planner.proofs.Fences.{AreFenced, untangled}
 use Rattle.swarm_planner.proofs.Filling.{just_in}
 use Rattle.swarm_planner.proofs.Lines.{waits_then_two}
@@ -37,7 +37,7 @@ one_back n = omega (arith, ints)
 none_on : (n : ℕ) → pos n +ℤ pos 0 ≡ pos n
 none_on n = omega (arith, ints)
 
-left_is : (p : Coord) → plus (point (beside p)) left ≡ point p
+left_is : (p : Coord) → plus (point (next_along_x p)) left ≡ point p
 left_is p = λ i. record { x = one_back p.x i; y = none_on p.y i; z = none_on p.z i }
 
 itself : (p : Coord) → same_point (point p) (point p) ≡ true
@@ -47,12 +47,12 @@ itself p = λ i. same p.x i && same p.y i && same p.z i
     same v = grind (arith, nat_tests)
 
 -- the next place is where the other bot stands
-beside_is : (p q : Coord) → q.x ≡ p.x + 1 → q.y ≡ p.y → q.z ≡ p.z → beside p ≡ q
+beside_is : (p q : Coord) → q.x ≡ p.x + 1 → q.y ≡ p.y → q.z ≡ p.z → next_along_x p ≡ q
 beside_is p q e f g = λ i. record { x = sym e i; y = sym f i; z = sym g i }
 
-are_pair : (b c : Bot) → beside b.pos ≡ c.pos → is_pair (record { bot = b; command = FusionP right }) (record { bot = c; command = FusionS left }) ≡ true
+are_pair : (b c : Bot) → next_along_x b.pos ≡ c.pos → is_pair (record { bot = b; command = FusionP right }) (record { bot = c; command = FusionS left }) ≡ true
 are_pair b c e =
-    let to : same_point (plus (point b.pos) right) (point c.pos) ≡ true = (λ i. same_point (right_is b.pos i) (point (sym e i))) ∙ itself (beside b.pos) in
+    let to : same_point (plus (point b.pos) right) (point c.pos) ≡ true = (λ i. same_point (right_is b.pos i) (point (sym e i))) ∙ itself (next_along_x b.pos) in
     let back : same_point (plus (point c.pos) left) (point b.pos) ≡ true = (λ i. same_point (plus (point (sym e i)) left) (point b.pos)) ∙ ((λ i. same_point (left_is b.pos i) (point b.pos)) ∙ itself b.pos) in
     λ i. to i && back i
 
@@ -72,16 +72,16 @@ allowed profile k e h = subst (λ (f : Profile). IsTrue (is_allowed f k)) (sym e
 module _ (s : State) (light : s.profile ≡ light_profile) (y z : ℕ) (below : y < s.matrix.resolution) (deep : z < s.matrix.resolution) where
   pair_free : (all : List Act) (low : ℕ) (b c : Bot) → ((a : Act) → In a (acts (b ∷ c ∷ []) (FusionP right ∷ FusionS left ∷ [])) → In a all) → AreLined s.matrix.resolution y z low (b.pos ∷ c.pos ∷ []) → c.pos.x ≡ b.pos.x + 1 → AllByRecursion (IsFree s all) (acts (b ∷ c ∷ []) (FusionP right ∷ FusionS left ∷ []))
   pair_free all low b c within k e =
-      let next : beside b.pos ≡ c.pos = beside_is b.pos c.pos e (k.1.0.height ∙ sym k.0.height) (k.1.0.depth ∙ sym k.0.depth) in
+      let next : next_along_x b.pos ≡ c.pos = beside_is b.pos c.pos e (k.1.0.height ∙ sym k.0.height) (k.1.0.depth ∙ sym k.0.depth) in
       let pair = are_pair b c next in
       let h = k.0.height in
       let d = k.0.depth in
       let here : IsInSpace s.matrix.resolution b.pos = record { x = k.0.within; y = omega arith; z = omega arith } in
-      let there : IsInSpace s.matrix.resolution (beside b.pos) = let x = k.1.0.within in record { x = omega arith; y = omega arith; z = omega arith } in (
+      let there : IsInSpace s.matrix.resolution (next_along_x b.pos) = let x = k.1.0.within in record { x = omega arith; y = omega arith; z = omega arith } in (
         record {
           allowed = allowed s.profile (FusionP right) light refl;
           may = record {
-            within = subst (λ (q : Point). IsTrue (in_space s.matrix.resolution q)) (sym (right_is b.pos)) (in_space_is s.matrix.resolution (beside b.pos) there);
+            within = subst (λ (q : Point). IsTrue (in_space s.matrix.resolution q)) (sym (right_is b.pos)) (in_space_is s.matrix.resolution (next_along_x b.pos) there);
             other = record { bot = c; command = FusionS left };
             here = containing all (record { bot = c; command = FusionS left }) (within (record { bot = c; command = FusionS left }) (inr (inl refl)));
             partners = either_way (is_pair (record { bot = b; command = FusionP right }) (record { bot = c; command = FusionS left })) _ pair;
@@ -113,7 +113,7 @@ module _ (s : State) (light : s.profile ≡ light_profile) (y z : ℕ) (below : 
   all_fenced (b ∷ c ∷ []) low k e h =
       let l = k.0.past in
       let m = k.1.0.past in
-      let next : beside b.pos ≡ c.pos = beside_is b.pos c.pos e (k.1.0.height ∙ sym k.0.height) (k.1.0.depth ∙ sym k.0.depth) in
+      let next : next_along_x b.pos ≡ c.pos = beside_is b.pos c.pos e (k.1.0.height ∙ sym k.0.height) (k.1.0.depth ∙ sym k.0.depth) in
       AreFenced.two c.pos.x (just_in low c.pos.x (point b.pos) b.pos.x refl l (omega arith), tt) (just_in low c.pos.x (point c.pos) c.pos.x refl (omega arith) (omega arith), tt) (either_way (is_pair (record { bot = b; command = FusionP right }) (record { bot = c; command = FusionS left })) _ (are_pair b c next))
   all_fenced (b ∷ c ∷ d ∷ more) low k e h =
       let l = k.0.past in
@@ -151,18 +151,18 @@ become : (all : List Act) → PrimaryFuses all → (bots : List Bot) (r y z low 
 become all law [] r y z low within k e = refl
 become all law (b ∷ []) r y z low within k e = refl
 become all law (b ∷ c ∷ []) r y z low within k e =
-    let next : beside b.pos ≡ c.pos = beside_is b.pos c.pos e (k.1.0.height ∙ sym k.0.height) (k.1.0.depth ∙ sym k.0.depth) in
+    let next : next_along_x b.pos ≡ c.pos = beside_is b.pos c.pos e (k.1.0.height ∙ sym k.0.height) (k.1.0.depth ∙ sym k.0.depth) in
     let a = law (record { bot = b; command = FusionP right }) (record { bot = c; command = FusionS left }) (containing all (record { bot = b; command = FusionP right }) (within (record { bot = b; command = FusionP right }) (inl refl))) (containing all (record { bot = c; command = FusionS left }) (within (record { bot = c; command = FusionS left }) (inr (inl refl)))) (are_pair b c next) in
     ap (λ (bs : List Bot). bs ++ []) a
 become all law (b ∷ c ∷ d ∷ more) r y z low within k e = ap (λ bs. b ∷ bs) (become all law (c ∷ d ∷ more) r y z (b.pos.x + 1) (λ a i. within a (inr i)) k.1 e)
 
-places_merged : (bots : List Bot) → places (merged bots) ≡ fused (places bots)
+places_merged : (bots : List Bot) → places (merged bots) ≡ without_last (places bots)
 places_merged [] = refl
 places_merged (b ∷ []) = refl
 places_merged (b ∷ c ∷ []) = refl
 places_merged (b ∷ c ∷ d ∷ more) = ap (λ cs. b.pos ∷ cs) (places_merged (c ∷ d ∷ more))
 
-fused_places : (bots : List Bot) (r y z low : ℕ) → PrimaryFuses (acts bots (pair_ends (FusionP right) (FusionS left) bots)) → AreLined r y z low (places bots) → last_column (places bots) ≡ free_column low (places bots) → places (bots_fused bots (pair_ends (FusionP right) (FusionS left) bots)) ≡ fused (places bots)
+fused_places : (bots : List Bot) (r y z low : ℕ) → PrimaryFuses (acts bots (pair_ends (FusionP right) (FusionS left) bots)) → AreLined r y z low (places bots) → last_column (places bots) ≡ free_column low (places bots) → places (bots_fused bots (pair_ends (FusionP right) (FusionS left) bots)) ≡ without_last (places bots)
 fused_places bots r y z low law k e = ap places (become (acts bots (pair_ends (FusionP right) (FusionS left) bots)) law bots r y z low (λ a i. i) k e) ∙ places_merged bots
 
 -- the commands by what is read of the tape
@@ -174,7 +174,7 @@ pair_ends_are bots read waits first ks k l eb two ew ef ek =
 
 -- ---- the tape
 
-module _ (p : Progress) (line : InLine p) (two : 2 ≤ length p.bots) (near : last_column (places p.bots) ≡ free_column 1 (places p.bots)) (ks : List Command) (e : ks ≡ pair_ends (FusionP right) (FusionS left) p.bots) where
+module _ (p : TapeState) (line : InLine p) (two : 2 ≤ length p.bots) (near : last_column (places p.bots) ≡ free_column 1 (places p.bots)) (ks : List Command) (e : ks ≡ pair_ends (FusionP right) (FusionS left) p.bots) where
   pub is_free : AreFree (state_of p) (acts p.bots ks)
   is_free = subst (λ (k : List Command). AreFree (state_of p) (acts p.bots k)) (sym e) (fuse_free (state_of p) line.swarm.light (spot p.bots).y (spot p.bots).z line.y line.z p.bots 1 line.lined near (omega arith))
 
@@ -184,7 +184,7 @@ module _ (p : Progress) (line : InLine p) (two : 2 ≤ length p.bots) (near : la
   pub is_long : length ks ≡ length p.bots
   is_long = ap length e ∙ pair_length (FusionP right) (FusionS left) p.bots (omega arith)
 
-  pub has_fused : PrimaryFuses (acts p.bots ks) → places (bots_fused p.bots ks) ≡ fused (places p.bots)
+  pub has_fused : PrimaryFuses (acts p.bots ks) → places (bots_fused p.bots ks) ≡ without_last (places p.bots)
   has_fused law =
       ap (λ (k : List Command). places (bots_fused p.bots k)) e
       ∙ fused_places p.bots p.matrix.resolution (spot p.bots).y (spot p.bots).z 1 (subst (λ (k : List Command). PrimaryFuses (acts p.bots k)) e law) line.lined near

@@ -22,9 +22,9 @@ use Rattle.plan_tape.specs.declared.axis.Axis.{Axis}
 use Rattle.plan_tape.specs.declared.axis.Axis.TheVariants.{X, Y, Z}
 use Rattle.plan_tape.specs.Crowd.{AreWaysApart, CanGo, MayGo, way}
 use Rattle.plan_tape.specs.Leg.{along, component_of, put}
-use Rattle.plan_tape.specs.Progress.{Progress}
+use Rattle.plan_tape.specs.Progress.{TapeState, IsVoidFrom}
 use Rattle.plan_tape.proofs.Legs.{plus-along, put-component_of}
-use Rattle.swarm_planner.specs.Crew.{AreAlong, AreLed, IsLed, IsVoidFrom, lead, led, placed, places}
+use Rattle.swarm_planner.specs.Crew.{AreAlong, AreLed, IsLed, lead, led, placed, places}
 
 -- ---- one bot
 
@@ -85,7 +85,7 @@ allowed profile axis p q e = subst (λ (k : Profile). IsTrue (is_allowed k (lead
 
 -- ---- all bots
 
-module _ (p : Progress) (light : p.profile ≡ light_profile) (h : ℕ) (void : IsVoidFrom p.matrix h) (axis : Axis) where
+module _ (p : TapeState) (light : p.profile ≡ light_profile) (h : ℕ) (void : IsVoidFrom p.matrix h) (axis : Axis) where
   pub all_can : (bots : List Bot) (cs : List Coord) (low : ℕ) → AreLed p.matrix.resolution h axis low (places bots) cs → AllByRecursion (CanGo p) (acts bots (led axis bots cs))
   all_can [] [] low k = tt
   all_can [] (c ∷ cs) low k = absurd k

@@ -16,9 +16,9 @@ use Rattle.step_order.proofs.Lists.{find_none}
 use Rattle.step_order.proofs.Voxels.{as_it_is, full_where, in_coordinates, matrix_same}
 use Rattle.vox_planes.specs.Voxel.{IsWhole}
 use Rattle.plan_tape.specs.Leg.{AreVoidTo}
-use Rattle.swarm_planner.specs.Crew.{IsVoidFrom}
 use Rattle.swarm_planner.proofs.Building.{full_inside}
 use Rattle.swarm_planner.proofs.Filling.{space}
+use Rattle.plan_tape.specs.Progress.{IsVoidFrom}
 
 -- ---- legal models
 

@@ -10,8 +10,8 @@ use Rattle.nano_spec.specs.declared.system.Bot.{Bot}
 use Rattle.plan_tape.specs.declared.axis.Axis.TheVariants.{X}
 use Rattle.plan_tape.specs.Leg.{along, gap}
 use Rattle.swarm_planner.specs.Crew.{AreLed, lead, led, places}
-use Rattle.swarm_planner.specs.Lineup.{AreLined, ends, free_column, fused, last_column, pair_ends, sent, split}
-use Rattle.swarm_planner.specs.Strips.{coord}
+use Rattle.swarm_planner.specs.Lineup.{AreLined, ends, free_column, without_last, last_column, pair_ends, sent, split}
+use Rattle.vox_geom.specs.Point.{coord}
 
 -- ---- places
 
@@ -77,12 +77,12 @@ split_lined r y z low [] k h = tt
 split_lined r y z low (c ∷ []) k h = (k.0, (record { within = h; past = omega arith; height = k.0.height; depth = k.0.depth }, tt))
 split_lined r y z low (c ∷ d ∷ more) k h = (k.0, split_lined r y z (c.x + 1) (d ∷ more) k.1 h)
 
-pub fused-sent : (x : ℕ) (cs : List Coord) → fused (sent cs x) ≡ fused cs
+pub fused-sent : (x : ℕ) (cs : List Coord) → without_last (sent cs x) ≡ without_last cs
 fused-sent x [] = refl
 fused-sent x (c ∷ []) = refl
 fused-sent x (c ∷ d ∷ more) = fused_more c (sent (d ∷ more) x) (let e = length-sent (d ∷ more) x in omega arith) ∙ ap (λ ds. c ∷ ds) (fused-sent x (d ∷ more))
   where
-    fused_more : (c : Coord) (cs : List Coord) → 0 < length cs → fused (c ∷ cs) ≡ c ∷ fused cs
+    fused_more : (c : Coord) (cs : List Coord) → 0 < length cs → without_last (c ∷ cs) ≡ c ∷ without_last cs
     fused_more c [] h = absurd (omega arith)
     fused_more c (d ∷ more) h = refl
 

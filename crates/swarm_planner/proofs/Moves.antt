@@ -7,17 +7,17 @@ use Rattle.nano_spec.specs.Matrix.{Matrix}
 use Rattle.plan_tape.specs.declared.axis.Axis.{Axis}
 use Rattle.plan_tape.specs.Crowd.{AllStep, CanMoveAll, bots_gone}
 use Rattle.plan_tape.specs.Leg.{component_of, gap}
-use Rattle.plan_tape.specs.Progress.{Progress, spot}
-use Rattle.swarm_planner.specs.Strips.{last, row as row_at, row_of, width}
-use Rattle.swarm_planner.specs.Crew.{AreAlong, AreLed, AreNear, Goes, InRow, IsSwarm, IsVoidFrom, MayLead, RowGoes, led, places, row_led}
+use Rattle.plan_tape.specs.Progress.{TapeState, spot, IsVoidFrom}
+use Rattle.swarm_planner.specs.Strips.{last, bot_row as row_at, strip_row, width}
+use Rattle.swarm_planner.specs.Crew.{AreAlong, AreLed, AreNear, CrewGoes, InRow, IsSwarm, MayLead, RowGoes, led, places, row_led}
 use Rattle.swarm_planner.proofs.Leading.{all_can, gone_there, led_length, places-placed, ways_apart}
 use Rattle.swarm_planner.proofs.Rows.{led_row, length_of_row, near_by, row_led-is, spot_of_row}
 
-module _ (p : Progress) (swarm : IsSwarm p) (h : ℕ) (void : IsVoidFrom p.matrix h) (axis : Axis) (cs : List Coord) (low : ℕ) (k : AreLed p.matrix.resolution h axis low (places p.bots) cs) where
+module _ (p : TapeState) (swarm : IsSwarm p) (h : ℕ) (void : IsVoidFrom p.matrix h) (axis : Axis) (cs : List Coord) (low : ℕ) (k : AreLed p.matrix.resolution h axis low (places p.bots) cs) where
   pub can_move : CanMoveAll p (led axis p.bots cs)
   can_move = record { each = all_can p swarm.light h void axis p.bots cs low k; apart = ways_apart p.matrix.resolution h axis p.bots cs low k }
 
-  pub goes_by : (q : Progress) → AllStep p q (led axis p.bots cs) p.matrix p.harmonics (bots_gone p.bots (led axis p.bots cs)) → Goes p q cs 1
+  pub goes_by : (q : TapeState) → AllStep p q (led axis p.bots cs) p.matrix p.harmonics (bots_gone p.bots (led axis p.bots cs)) → CrewGoes p q cs 1
   goes_by q s = record {
     source = s.source;
     matrix = s.matrix;
@@ -29,19 +29,19 @@ module _ (p : Progress) (swarm : IsSwarm p) (h : ℕ) (void : IsVoidFrom p.matri
 -- ---- the row of all strips
 
 -- the commands by what is read of a tape
-pub same_way : (p : Progress) (axis : Axis) (to : Coord) (r w : ℕ) (bots : List Bot) → r ≡ p.matrix.resolution → w ≡ width r → bots ≡ p.bots → row_led axis w (r - 2) bots to ≡ row_led axis (width p.matrix.resolution) (last p.matrix.resolution) p.bots to
+pub same_way : (p : TapeState) (axis : Axis) (to : Coord) (r w : ℕ) (bots : List Bot) → r ≡ p.matrix.resolution → w ≡ width r → bots ≡ p.bots → row_led axis w (r - 2) bots to ≡ row_led axis (width p.matrix.resolution) (last p.matrix.resolution) p.bots to
 same_way p axis to r w bots er ew eb = let e : w ≡ width p.matrix.resolution = ew ∙ ap width er in λ i. row_led axis (e i) (er i - 2) (eb i) to
 
-pub near_way : (p : Progress) (axis : Axis) (to : Coord) (r w : ℕ) (bots : List Bot) → r ≡ p.matrix.resolution → w ≡ width r → bots ≡ p.bots → AreNear axis (width p.matrix.resolution) (last p.matrix.resolution) p.bots to → AreNear axis w (r - 2) bots to
+pub near_way : (p : TapeState) (axis : Axis) (to : Coord) (r w : ℕ) (bots : List Bot) → r ≡ p.matrix.resolution → w ≡ width r → bots ≡ p.bots → AreNear axis (width p.matrix.resolution) (last p.matrix.resolution) p.bots to → AreNear axis w (r - 2) bots to
 near_way p axis to r w bots er ew eb h =
     let e : w ≡ width p.matrix.resolution = ew ∙ ap width er in
     subst (λ n. AreNear axis n (r - 2) bots to) (sym e) (subst (λ n. AreNear axis (width p.matrix.resolution) (n - 2) bots to) (sym er) (subst (λ (bs : List Bot). AreNear axis (width p.matrix.resolution) (last p.matrix.resolution) bs to) (sym eb) h))
 
-module _ (p : Progress) (swarm : IsSwarm p) (row : InRow p) (void : IsVoidFrom p.matrix (spot p.bots).y) (axis : Axis) (to : Coord) (leads : MayLead p.matrix.resolution to) (line : AreAlong axis (spot p.bots) to) (near : gap (component_of axis (spot p.bots)) (component_of axis to) ≤ 15) (up : (spot p.bots).y ≤ to.y) where
-  all_led : AreLed p.matrix.resolution (spot p.bots).y axis 1 (places p.bots) (row_of p.matrix.resolution to)
-  all_led = subst (λ (cs : List Coord). AreLed p.matrix.resolution (spot p.bots).y axis 1 cs (row_of p.matrix.resolution to)) (sym row.places_are) (led_row p.matrix.resolution (spot p.bots).y axis (spot p.bots) to row.leads leads line near (omega arith) up)
+module _ (p : TapeState) (swarm : IsSwarm p) (row : InRow p) (void : IsVoidFrom p.matrix (spot p.bots).y) (axis : Axis) (to : Coord) (leads : MayLead p.matrix.resolution to) (line : AreAlong axis (spot p.bots) to) (near : gap (component_of axis (spot p.bots)) (component_of axis to) ≤ 15) (up : (spot p.bots).y ≤ to.y) where
+  all_led : AreLed p.matrix.resolution (spot p.bots).y axis 1 (places p.bots) (strip_row p.matrix.resolution to)
+  all_led = subst (λ (cs : List Coord). AreLed p.matrix.resolution (spot p.bots).y axis 1 cs (strip_row p.matrix.resolution to)) (sym row.places_are) (led_row p.matrix.resolution (spot p.bots).y axis (spot p.bots) to row.leads leads line near (omega arith) up)
 
-  as_led : row_led axis (width p.matrix.resolution) (last p.matrix.resolution) p.bots to ≡ led axis p.bots (row_of p.matrix.resolution to)
+  as_led : row_led axis (width p.matrix.resolution) (last p.matrix.resolution) p.bots to ≡ led axis p.bots (strip_row p.matrix.resolution to)
   as_led =
       row_led-is axis (width p.matrix.resolution) (last p.matrix.resolution) p.bots to
       ∙ ap (λ n. led axis p.bots (row_at (width p.matrix.resolution) (last p.matrix.resolution) n to)) (length_of_row p.matrix.resolution p.bots (spot p.bots) row.places_are)
@@ -51,23 +51,23 @@ module _ (p : Progress) (swarm : IsSwarm p) (row : InRow p) (void : IsVoidFrom p
       (subst (λ n. AreLed p.matrix.resolution (spot p.bots).y axis 1 (places p.bots) (row_at (width p.matrix.resolution) (last p.matrix.resolution) n to)) (sym (length_of_row p.matrix.resolution p.bots (spot p.bots) row.places_are)) all_led)
 
   pub row_can : (commands : List Command) → commands ≡ row_led axis (width p.matrix.resolution) (last p.matrix.resolution) p.bots to → CanMoveAll p commands
-  row_can commands e = subst (λ (ks : List Command). CanMoveAll p ks) (sym (e ∙ as_led)) (can_move p swarm (spot p.bots).y void axis (row_of p.matrix.resolution to) 1 all_led)
+  row_can commands e = subst (λ (ks : List Command). CanMoveAll p ks) (sym (e ∙ as_led)) (can_move p swarm (spot p.bots).y void axis (strip_row p.matrix.resolution to) 1 all_led)
 
   pub row_length : (commands : List Command) → commands ≡ row_led axis (width p.matrix.resolution) (last p.matrix.resolution) p.bots to → length commands ≡ length p.bots
-  row_length commands e = ap length (e ∙ as_led) ∙ led_length p.matrix.resolution (spot p.bots).y axis p.bots (row_of p.matrix.resolution to) 1 all_led
+  row_length commands e = ap length (e ∙ as_led) ∙ led_length p.matrix.resolution (spot p.bots).y axis p.bots (strip_row p.matrix.resolution to) 1 all_led
 
-  pub row_goes : (q : Progress) (commands : List Command) → commands ≡ row_led axis (width p.matrix.resolution) (last p.matrix.resolution) p.bots to → AllStep p q commands p.matrix p.harmonics (bots_gone p.bots commands) → RowGoes p q to 1
+  pub row_goes : (q : TapeState) (commands : List Command) → commands ≡ row_led axis (width p.matrix.resolution) (last p.matrix.resolution) p.bots to → AllStep p q commands p.matrix p.harmonics (bots_gone p.bots commands) → RowGoes p q to 1
   row_goes q commands e s =
-      let g = goes_by p swarm (spot p.bots).y void axis (row_of p.matrix.resolution to) 1 all_led q (subst (λ (ks : List Command). AllStep p q ks p.matrix p.harmonics (bots_gone p.bots ks)) (e ∙ as_led) s) in
+      let g = goes_by p swarm (spot p.bots).y void axis (strip_row p.matrix.resolution to) 1 all_led q (subst (λ (ks : List Command). AllStep p q ks p.matrix p.harmonics (bots_gone p.bots ks)) (e ∙ as_led) s) in
       let size = ap (λ (m : Matrix). m.resolution) g.matrix in
-      let there : places q.bots ≡ row_of p.matrix.resolution to = ap places g.bots_are ∙ places-placed p.matrix.resolution (spot p.bots).y axis p.bots (row_of p.matrix.resolution to) 1 all_led in
+      let there : places q.bots ≡ strip_row p.matrix.resolution to = ap places g.bots_are ∙ places-placed p.matrix.resolution (spot p.bots).y axis p.bots (strip_row p.matrix.resolution to) 1 all_led in
       let at : spot q.bots ≡ to = spot_of_row p.matrix.resolution q.bots to leads there in
       record {
         source = g.source;
         matrix = g.matrix;
         swarm = g.swarm;
         row = record {
-          places_are = there ∙ (λ i. row_of (sym size i) (sym at i));
+          places_are = there ∙ (λ i. strip_row (sym size i) (sym at i));
           leads = subst (λ r. MayLead r (spot q.bots)) (sym size) (subst (λ (c : Coord). MayLead p.matrix.resolution c) (sym at) leads);
         };
         there = at;

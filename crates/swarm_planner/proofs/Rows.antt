@@ -9,7 +9,7 @@ use Rattle.plan_tape.specs.declared.axis.Axis.{Axis}
 use Rattle.plan_tape.specs.declared.axis.Axis.TheVariants.{X, Y, Z}
 use Rattle.plan_tape.specs.Leg.{component_of, gap}
 use Rattle.plan_tape.specs.Progress.{spot}
-use Rattle.swarm_planner.specs.Strips.{count, held, last, next, row, row_of, width}
+use Rattle.swarm_planner.specs.Strips.{count, held, last, next, bot_row, strip_row, width}
 use Rattle.swarm_planner.specs.Crew.{AreAlong, AreLed, AreNear, MayLead, lead, led, places, row_led}
 
 -- ---- how many strips there are, and how wide
@@ -31,7 +31,7 @@ few r h = let s = many_columns r h in let w = strip_some r in div_below (r - 3) 
 
 -- ---- rows
 
-pub length-row : (w l n : ℕ) (c : Coord) → length (row w l n c) ≡ n
+pub length-row : (w l n : ℕ) (c : Coord) → length (bot_row w l n c) ≡ n
 length-row w l zero c = refl
 length-row w l (suc n) c = ap suc (length-row w l n (next w c))
 
@@ -39,7 +39,7 @@ pub length-places : (bots : List Bot) → length (places bots) ≡ length bots
 length-places [] = refl
 length-places (b ∷ bots) = ap suc (length-places bots)
 
-pub row_led-is : (axis : Axis) (w l : ℕ) (bots : List Bot) (c : Coord) → row_led axis w l bots c ≡ led axis bots (row w l (length bots) c)
+pub row_led-is : (axis : Axis) (w l : ℕ) (bots : List Bot) (c : Coord) → row_led axis w l bots c ≡ led axis bots (bot_row w l (length bots) c)
 row_led-is axis w l [] c = refl
 row_led-is axis w l (b ∷ bots) c = ap (λ ks. lead axis b.pos (held l c) ∷ ks) (row_led-is axis w l bots (next w c))
 
@@ -87,7 +87,7 @@ more_room : (start w n l : ℕ) → start + w * suc n ≤ l + w → (start ≤ l
 more_room start w n l h = (omega arith, omega arith)
 
 module _ (r h : ℕ) (axis : Axis) (w l : ℕ) where
-  pub row_are_led : (n low start : ℕ) (c d : Coord) → Leads r h axis w l n low start c d → AreLed r h axis low (row w l n c) (row w l n d)
+  pub row_are_led : (n low start : ℕ) (c d : Coord) → Leads r h axis w l n low start c d → AreLed r h axis low (bot_row w l n c) (bot_row w l n d)
   row_are_led zero low start c d k = tt
   row_are_led (suc n) low start c d k =
       let m = more_room start w n l k.room in
@@ -129,7 +129,7 @@ module _ (r h : ℕ) (axis : Axis) (w l : ℕ) where
 
 -- ---- the row of all strips
 
-pub led_row : (r h : ℕ) (axis : Axis) (c d : Coord) → MayLead r c → MayLead r d → AreAlong axis c d → gap (component_of axis c) (component_of axis d) ≤ 15 → h ≤ c.y → h ≤ d.y → AreLed r h axis 1 (row_of r c) (row_of r d)
+pub led_row : (r h : ℕ) (axis : Axis) (c d : Coord) → MayLead r c → MayLead r d → AreAlong axis c d → gap (component_of axis c) (component_of axis d) ≤ 15 → h ≤ c.y → h ≤ d.y → AreLed r h axis 1 (strip_row r c) (strip_row r d)
 led_row r h axis c d a b line near high high_to =
     let s = a.some in
     let m = a.most in
@@ -155,8 +155,8 @@ led_row r h axis c d a b line near high high_to =
       high_to = high_to;
     })
 
-pub row_begins : (r : ℕ) (c : Coord) → row_of r c ≡ held (last r) c ∷ row (width r) (last r) ((r - 3) / width r) (next (width r) c)
-row_begins r c = ap (λ n. row (width r) (last r) n c) (add-one ((r - 3) / width r))
+pub row_begins : (r : ℕ) (c : Coord) → strip_row r c ≡ held (last r) c ∷ bot_row (width r) (last r) ((r - 3) / width r) (next (width r) c)
+row_begins r c = ap (λ n. bot_row (width r) (last r) n c) (add-one ((r - 3) / width r))
 
 first_of_bots : (bots : List Bot) (c : Coord) (cs : List Coord) → places bots ≡ c ∷ cs → spot bots ≡ c
 first_of_bots [] c cs e = cc
@@ -173,15 +173,15 @@ held_is r c h =
     let e : min c.x (last r) ≡ c.x = omega arith in
     λ i. record { x = e i; y = c.y; z = c.z }
 
-pub spot_of_row : (r : ℕ) (bots : List Bot) (c : Coord) → MayLead r c → places bots ≡ row_of r c → spot bots ≡ c
+pub spot_of_row : (r : ℕ) (bots : List Bot) (c : Coord) → MayLead r c → places bots ≡ strip_row r c → spot bots ≡ c
 spot_of_row r bots c h e = first_of_bots bots (held (last r) c) _ (e ∙ row_begins r c) ∙ held_is r c h
 
-pub length_of_row : (r : ℕ) (bots : List Bot) (c : Coord) → places bots ≡ row_of r c → length bots ≡ count r
+pub length_of_row : (r : ℕ) (bots : List Bot) (c : Coord) → places bots ≡ strip_row r c → length bots ≡ count r
 length_of_row r bots c e = sym (length-places bots) ∙ (ap length e ∙ length-row (width r) (last r) (count r) c)
 
 -- ---- near ways
 
-pub near_by : (r h : ℕ) (axis : Axis) (w l low : ℕ) (bots : List Bot) (c : Coord) → r ≤ 400 → AreLed r h axis low (places bots) (row w l (length bots) c) → AreNear axis w l bots c
+pub near_by : (r h : ℕ) (axis : Axis) (w l low : ℕ) (bots : List Bot) (c : Coord) → r ≤ 400 → AreLed r h axis low (places bots) (bot_row w l (length bots) c) → AreNear axis w l bots c
 near_by r h axis w l low [] c m k = tt
 near_by r h axis w l low (b ∷ bots) c m k = (record { from = below axis b.pos k.0.from; to = below axis (held l c) k.0.to; near = k.0.near }, near_by r h axis w l (max b.pos.x (min c.x l) + 1) bots (next w c) m k.1)
   where

@@ -5,13 +5,14 @@ use Rattle.vox_geom.specs.declared.coordinate.Coord.{Coord}
 use Rattle.nano_spec.specs.declared.system.Bot.{Bot}
 use Rattle.nano_spec.specs.Matrix.{Matrix}
 use Rattle.plan_tape.specs.Leg.{IsOnward, gap}
-use Rattle.plan_tape.specs.Progress.{Progress, spot}
-use Rattle.swarm_planner.specs.Crew.{Goes, IsSwarm, IsVoidFrom, placed, places}
-use Rattle.swarm_planner.specs.Lineup.{AreLined, InLine, IsSpread, Regroups, Spreads, free_column, last_column, lined_up, sent, split}
-use Rattle.swarm_planner.specs.Strips.{coord, count, held, last, next, row, width}
+use Rattle.plan_tape.specs.Progress.{TapeState, spot, IsVoidFrom}
+use Rattle.swarm_planner.specs.Crew.{CrewGoes, IsSwarm, placed, places}
+use Rattle.swarm_planner.specs.Lineup.{AreLined, InLine, IsSpreadOver, Regroups, SpreadsOver, free_column, last_column, lined_up, sent, split}
+use Rattle.swarm_planner.specs.Strips.{count, held, last, next, bot_row, width}
 use Rattle.swarm_planner.proofs.Lines.{length-sent, sent-sent, sent_lined, sent_more, sent_there, split_lined}
 use Rattle.swarm_planner.proofs.Rows.{length-places, length-row}
 use Rattle.swarm_planner.proofs.Splitting.{places-lined_up}
+use Rattle.vox_geom.specs.Point.{coord}
 
 -- ---- bots at places
 
@@ -48,7 +49,7 @@ level r y z low [] k h = absurd (omega arith)
 level r y z low (b ∷ bots) k h = (k.0.height, k.0.depth)
 
 -- where the places are in a line, the tape is so
-pub line_of : (p : Progress) (y z : ℕ) → IsSwarm p → 0 < length (places p.bots) → p.matrix.resolution ≤ 400 → y < p.matrix.resolution → z < p.matrix.resolution → AreLined p.matrix.resolution y z 1 (places p.bots) → IsVoidFrom p.matrix y → InLine p
+pub line_of : (p : TapeState) (y z : ℕ) → IsSwarm p → 0 < length (places p.bots) → p.matrix.resolution ≤ 400 → y < p.matrix.resolution → z < p.matrix.resolution → AreLined p.matrix.resolution y z 1 (places p.bots) → IsVoidFrom p.matrix y → InLine p
 line_of p y z swarm some most hy hz k void =
     let n = length-places p.bots in
     let at = level p.matrix.resolution y z 1 p.bots k (omega arith) in
@@ -66,7 +67,7 @@ line_of p y z swarm some most hy hz k void =
 
 -- ---- the last bot goes on
 
-module _ (a b : Progress) (line : InLine a) (x m : ℕ) (goes : Goes a b (sent (places a.bots) x) m) where
+module _ (a b : TapeState) (line : InLine a) (x m : ℕ) (goes : CrewGoes a b (sent (places a.bots) x) m) where
   pub places_on : places b.bots ≡ sent (places a.bots) x
   places_on = ap places goes.bots_are ∙ places_of_placed a.bots (sent (places a.bots) x) (length-sent (places a.bots) x ∙ length-places a.bots)
 
@@ -84,7 +85,7 @@ module _ (a b : Progress) (line : InLine a) (x m : ℕ) (goes : Goes a b (sent (
       (subst (λ r. AreLined r (spot a.bots).y (spot a.bots).z 1 (places b.bots)) (sym size) (subst (λ (cs : List Coord). AreLined a.matrix.resolution (spot a.bots).y (spot a.bots).z 1 cs) (sym places_on) (sent_lined a.matrix.resolution (spot a.bots).y (spot a.bots).z 1 x (places a.bots) line.lined free within)))
       (subst (λ (k : Matrix). IsVoidFrom k (spot a.bots).y) (sym goes.matrix) line.void)
 
-pub goes_nowhere : (p : Progress) (x : ℕ) → InLine p → x ≡ last_column (places p.bots) → (Goes p p (sent (places p.bots) x) (gap (last_column (places p.bots)) x)) × (places p.bots ≡ sent (places p.bots) x)
+pub goes_nowhere : (p : TapeState) (x : ℕ) → InLine p → x ≡ last_column (places p.bots) → (CrewGoes p p (sent (places p.bots) x) (gap (last_column (places p.bots)) x)) × (places p.bots ≡ sent (places p.bots) x)
 goes_nowhere p x line e =
     let stays : sent (places p.bots) x ≡ places p.bots = ap (sent (places p.bots)) e ∙ sent_there (places p.bots) in (
       record {
@@ -97,7 +98,7 @@ goes_nowhere p x line e =
       sym stays,
     )
 
-pub goes_more : (a b c : Progress) (u v m n most : ℕ) → Goes a b (sent (places a.bots) u) m → places b.bots ≡ sent (places a.bots) u → Goes b c (sent (places b.bots) v) n → m + n ≤ most → Goes a c (sent (places a.bots) v) most
+pub goes_more : (a b c : TapeState) (u v m n most : ℕ) → CrewGoes a b (sent (places a.bots) u) m → places b.bots ≡ sent (places a.bots) u → CrewGoes b c (sent (places b.bots) v) n → m + n ≤ most → CrewGoes a c (sent (places a.bots) v) most
 goes_more a b c u v m n most g e h l =
     let onto : sent (places b.bots) v ≡ sent (places a.bots) v = ap (λ cs. sent cs v) e ∙ sent-sent u v (places a.bots) in
     record {
@@ -134,7 +135,7 @@ pub record Stands (r w l n low start : ℕ) (c : Coord) : Type 0 where
   pub room : start + w * n ≤ l + w
   pub within : l < r
 
-pub row_lined : (r w l n low start : ℕ) (c : Coord) → Stands r w l n low start c → AreLined r c.y c.z low (row w l n c)
+pub row_lined : (r w l n low start : ℕ) (c : Coord) → Stands r w l n low start c → AreLined r c.y c.z low (bot_row w l n c)
 row_lined r w l zero low start c k = tt
 row_lined r w l (suc n) low start c k =
     let room : start + w * suc n ≤ l + w = k.room in
@@ -146,7 +147,7 @@ row_lined r w l (suc n) low start c k =
     (record { within = omega arith; past = omega arith; height = refl; depth = refl }, row_lined r w l n (min c.x l + 1) (start + w) (next w c) (record { begins = omega arith; from = omega arith; from_end = omega arith; room = omega arith; within = i }))
 
 -- where the last of n + 1 places is
-pub last-row : (w l n : ℕ) (c : Coord) → c.x + w * n ≤ l → last_column (row w l (suc n) c) ≡ c.x + w * n
+pub last-row : (w l n : ℕ) (c : Coord) → c.x + w * n ≤ l → last_column (bot_row w l (suc n) c) ≡ c.x + w * n
 last-row w l zero c h = omega arith
 last-row w l (suc n) c h = last-row w l n (next w c) (let e : c.x + w * suc n ≡ c.x + w + w * n = omega arith in omega arith) ∙ (let e : c.x + w * suc n ≡ c.x + w + w * n = omega arith in omega arith)
 
@@ -178,13 +179,13 @@ last-split (c ∷ d ∷ more) h = last_more c (split (d ∷ more)) (some_split (
     last_more c (d ∷ more) h = refl
 
 -- the row with one more place
-pub row_grows : (w l n x : ℕ) (c : Coord) → x ≡ c.x + w * suc n → x ≤ l → sent (split (row w l (suc n) c)) x ≡ row w l (suc (suc n)) c
+pub row_grows : (w l n x : ℕ) (c : Coord) → x ≡ c.x + w * suc n → x ≤ l → sent (split (bot_row w l (suc n) c)) x ≡ bot_row w l (suc (suc n)) c
 row_grows w l zero x c e h =
     let f : x ≡ min (c.x + w) l = omega arith in
     λ i. held l c ∷ coord (f i) c.y c.z ∷ []
 row_grows w l (suc n) x c e h =
-    ap (λ cs. sent cs x) (split_more (held l c) (row w l (suc n) (next w c)) (omega arith))
-    ∙ (sent_more (held l c) (split (row w l (suc n) (next w c))) x (some_split (row w l (suc n) (next w c)) (omega arith))
+    ap (λ cs. sent cs x) (split_more (held l c) (bot_row w l (suc n) (next w c)) (omega arith))
+    ∙ (sent_more (held l c) (split (bot_row w l (suc n) (next w c))) x (some_split (bot_row w l (suc n) (next w c)) (omega arith))
     ∙ ap (λ cs. held l c ∷ cs) (row_grows w l n x (next w c) (let g : c.x + w * suc (suc n) ≡ c.x + w + w * suc n = omega arith in omega arith) h))
 
 -- ---- one more strip
@@ -199,9 +200,9 @@ strip_start r n s h =
 
 -- the places of the first n + 1 strips
 abbrev pub starts : ℕ → ℕ → List Coord
-starts r n = row (width r) (last r) n (coord 1 1 0)
+starts r n = bot_row (width r) (last r) n (coord 1 1 0)
 
-module _ (p : Progress) (n : ℕ) (spread : IsSpread p (suc n)) (more : suc n < count p.matrix.resolution) where
+module _ (p : TapeState) (n : ℕ) (spread : IsSpreadOver p (suc n)) (more : suc n < count p.matrix.resolution) where
   pub spread_places : places p.bots ≡ starts p.matrix.resolution (suc n)
   spread_places = ap places spread.bots_are ∙ places-lined_up 1 (starts p.matrix.resolution (suc n))
 
@@ -227,7 +228,7 @@ module _ (p : Progress) (n : ℕ) (spread : IsSpread p (suc n)) (more : suc n < 
   pub spread_room : last_column (places p.bots) + width p.matrix.resolution ≤ last p.matrix.resolution
   spread_room = let l = spread_last in let h = room in let e : width p.matrix.resolution * suc n ≡ width p.matrix.resolution * n + width p.matrix.resolution = omega arith in omega arith
 
-  module _ (q : Progress) (g : Regroups p q) (bots : q.bots ≡ lined_up 1 (split (places p.bots))) where
+  module _ (q : TapeState) (g : Regroups p q) (bots : q.bots ≡ lined_up 1 (split (places p.bots))) where
     size : q.matrix.resolution ≡ p.matrix.resolution
     size = ap (λ (m : Matrix). m.resolution) g.matrix
 
@@ -255,7 +256,7 @@ module _ (p : Progress) (n : ℕ) (spread : IsSpread p (suc n)) (more : suc n < 
     pub born_last : last_column (places q.bots) ≡ last_column (places p.bots) + 1
     born_last = ap last_column born_places ∙ last-split (places p.bots) some
 
-    pub spreads : (t : Progress) (x m : ℕ) → x ≡ last_column (places p.bots) + width p.matrix.resolution → Goes q t (sent (places q.bots) x) m → m ≤ 19 → Spreads p t (suc (suc n)) 20
+    pub spreads : (t : TapeState) (x m : ℕ) → x ≡ last_column (places p.bots) + width p.matrix.resolution → CrewGoes q t (sent (places q.bots) x) m → m ≤ 19 → SpreadsOver p t (suc (suc n)) 20
     spreads t x m ex h few_steps =
         let same : t.matrix ≡ p.matrix = h.matrix ∙ g.matrix in
         let wide = ap (λ (k : Matrix). k.resolution) same in

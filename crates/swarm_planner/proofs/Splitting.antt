@@ -22,9 +22,9 @@ use Rattle.step_order.proofs.Facts.{Rising}
 use Rattle.step_order.proofs.Lists.{In}
 use Rattle.step_order.proofs.Voxels.{in_space_is}
 use Rattle.plan_tape.specs.Crowd.{AllStep, SplitsOrWaits, bots_split, parts}
-use Rattle.plan_tape.specs.Progress.{Progress, spot, state_of}
-use Rattle.swarm_planner.specs.Crew.{IsSwarm, IsVoidFrom, places}
-use Rattle.swarm_planner.specs.Lineup.{AreLined, InLine, Regroups, beside, ends, last_column, lined_up, right, seeds_after, split}
+use Rattle.plan_tape.specs.Progress.{TapeState, spot, state_of, IsVoidFrom}
+use Rattle.swarm_planner.specs.Crew.{IsSwarm, places}
+use Rattle.swarm_planner.specs.Lineup.{AreLined, InLine, Regroups, next_along_x, ends, last_column, lined_up, right, seeds_after, split}
 use Rattle.swarm_planner.proofs.Fences.{AreFenced, untangled}
 use Rattle.swarm_planner.proofs.Filling.{just_in}
 use Rattle.swarm_planner.proofs.Leading.{void_way}
@@ -39,7 +39,7 @@ one_on n = omega (arith, ints)
 none_on : (n : ℕ) → pos n +ℤ pos 0 ≡ pos n
 none_on n = omega (arith, ints)
 
-pub right_is : (p : Coord) → plus (point p) right ≡ point (beside p)
+pub right_is : (p : Coord) → plus (point p) right ≡ point (next_along_x p)
 right_is p = λ i. record { x = one_on p.x i; y = none_on p.y i; z = none_on p.z i }
 
 -- ---- each bot has what it needs
@@ -59,8 +59,8 @@ allowed_split profile m e = subst (λ (k : Profile). IsTrue (is_allowed k (Fissi
 module _ (s : State) (light : s.profile ≡ light_profile) (y z : ℕ) (void : IsVoidFrom s.matrix y) (below : y < s.matrix.resolution) (deep : z < s.matrix.resolution) (m : ℕ) where
   free_beside : (p : Coord) → p.x + 1 < s.matrix.resolution → p.y ≡ y → p.z ≡ z → IsFreeWay s.matrix (plus (point p) right) (plus (point p) right)
   free_beside p h e f = subst (λ (q : Point). IsFreeWay s.matrix q q) (sym (right_is p)) (record {
-    within = in_space_is s.matrix.resolution (beside p) (record { x = h; y = omega arith; z = omega arith });
-    void = λ c t. void_way s.matrix y (beside p) (beside p) c void (omega arith) (omega arith) t;
+    within = in_space_is s.matrix.resolution (next_along_x p) (record { x = h; y = omega arith; z = omega arith });
+    void = λ c t. void_way s.matrix y (next_along_x p) (next_along_x p) c void (omega arith) (omega arith) t;
   })
 
   each_free : (all : List Act) (bots : List Bot) (low : ℕ) → AreLined s.matrix.resolution y z low (places bots) → last_column (places bots) + 1 < s.matrix.resolution → m < length (seed_list (last_seeds bots)) → AllByRecursion (IsFree s all) (acts bots (ends (Fission right m) bots))
@@ -132,7 +132,7 @@ parent_is bid m c h =
     let whole : drop (m + 1) (seed_list (seeds_after bid)) ≡ [] = ap (drop (m + 1)) (first_seed bid m h) ∙ (ap (λ n. drop n ((bid + 1) ∷ numbers_from (bid + 1 + 1) m)) (let e : m + 1 ≡ suc m = omega arith in e) ∙ drop_numbers (bid + 1 + 1) m) in
     λ i. record { bid = bid; pos = c; seeds = seed_set (whole i) }
 
-pub newborn_is : (bid m : ℕ) (c : Coord) → m + bid ≡ 19 → newborn (record { bid = bid; pos = c; seeds = seeds_after bid }) (plus (point c) right) m ≡ record { bid = bid + 1; pos = beside c; seeds = seeds_after (bid + 1) }
+pub newborn_is : (bid m : ℕ) (c : Coord) → m + bid ≡ 19 → newborn (record { bid = bid; pos = c; seeds = seeds_after bid }) (plus (point c) right) m ≡ record { bid = bid + 1; pos = next_along_x c; seeds = seeds_after (bid + 1) }
 newborn_is bid m c h =
     let first : slice_index (seed_list (seeds_after bid)) 0 ≡ bid + 1 = ap (λ ks. slice_index ks 0) (first_seed bid m h) in
     let rest : take m (drop 1 (seed_list (seeds_after bid))) ≡ numbers_from (bid + 1 + 1) (20 - (bid + 1)) =
@@ -216,7 +216,7 @@ ends_are bots read waits ks k eb some ew ek = ek ∙ (ap (λ w. w ++ k ∷ []) (
 
 -- ---- the tape
 
-module _ (p : Progress) (line : InLine p) (m : ℕ) (bots_are : p.bots ≡ lined_up 1 (places p.bots)) (seeds : m + 1 + length p.bots ≡ 20) (within : last_column (places p.bots) + 1 < p.matrix.resolution) (ks : List Command) (e : ks ≡ ends (Fission right m) p.bots) where
+module _ (p : TapeState) (line : InLine p) (m : ℕ) (bots_are : p.bots ≡ lined_up 1 (places p.bots)) (seeds : m + 1 + length p.bots ≡ 20) (within : last_column (places p.bots) + 1 < p.matrix.resolution) (ks : List Command) (e : ks ≡ ends (Fission right m) p.bots) where
   some : 0 < length (places p.bots)
   some = let n = length-places p.bots in let h = line.some in omega arith
 
@@ -241,7 +241,7 @@ module _ (p : Progress) (line : InLine p) (m : ℕ) (bots_are : p.bots ≡ lined
       ∙ parted m (places p.bots) some all_seeds)
 
 -- a step that leaves voxels and harmonics
-pub regroups : (p q : Progress) (ks : List Command) (bots : List Bot) → IsSwarm p → AllStep p q ks p.matrix p.harmonics bots → Regroups p q
+pub regroups : (p q : TapeState) (ks : List Command) (bots : List Bot) → IsSwarm p → AllStep p q ks p.matrix p.harmonics bots → Regroups p q
 regroups p q ks bots swarm s = record {
   source = s.source;
   matrix = s.matrix;

@@ -7,19 +7,12 @@ use Rattle.nano_spec.specs.declared.commands.Command.TheVariants.{Fill, Wait}
 use Rattle.nano_spec.specs.declared.system.Bot.{Bot}
 use Rattle.nano_spec.specs.Matrix.{Matrix, is_full}
 use Rattle.plan_tape.specs.Leg.{distance}
-use Rattle.plan_tape.specs.Progress.{Progress, spot}
-use Rattle.swarm_planner.specs.Crew.{InRow, IsSwarm, IsVoidFrom, places}
+use Rattle.plan_tape.specs.Progress.{TapeState, spot, IsVoidFrom}
+use Rattle.swarm_planner.specs.Crew.{InRow, IsSwarm, places}
 use Rattle.swarm_planner.specs.Strips.{count, last, width}
-
--- the difference to the voxel below
-abbrev pub down : Diff
-down = record { dx = pos 0; dy = negsuc 0; dz = pos 0 }
+use Rattle.vox_geom.specs.Point.{down, below}
 
 -- ---- one step of fills
-
--- the voxel below a place
-abbrev pub below : Coord → Coord
-below p = record { x = p.x; y = p.y - 1; z = p.z }
 
 -- whether the coordinate is the one below a place
 abbrev pub is_below : Coord → Coord → Bool
@@ -53,7 +46,7 @@ abbrev pub IsRaised : Matrix → Matrix → Matrix → (Coord → Bool) → Type
 IsRaised new old goal done = (c : Coord) → is_full new c ≡ (is_full old c || (done c && is_full goal c))
 
 -- the tape after one step, by which all voxels below the bots are as the goal has them
-pub record Fills (old new : Progress) (goal : Matrix) : Type 0 where
+pub record Fills (old new : TapeState) (goal : Matrix) : Type 0 where
   pub source : new.source ≡ old.source
   pub swarm : IsSwarm new
   pub bots : new.bots ≡ old.bots
@@ -90,8 +83,8 @@ abbrev pub line : ℕ → ℕ → ℕ → Coord → Bool
 line r a y c = in_line r a c.x && c.y == y
 
 -- the first k lines of the layer of y
-abbrev pub lines : ℕ → ℕ → ℕ → Coord → Bool
-lines r k y c = in_lines r k c.x && c.y == y
+abbrev pub in_first_lines : ℕ → ℕ → ℕ → Coord → Bool
+in_first_lines r k y c = in_lines r k c.x && c.y == y
 
 -- the layers below that of y
 abbrev pub layers : ℕ → ℕ → Coord → Bool
@@ -100,36 +93,36 @@ layers r y c = in_lines r (width r) c.x && nat_lt c.y y
 -- ---- the tape
 
 -- the swarm stands in a row, and all is void from its height on
-pub record CanBuild (p : Progress) (goal : Matrix) : Type 0 where
+pub record CanBuild (p : TapeState) (goal : Matrix) : Type 0 where
   pub swarm : IsSwarm p
   pub row : InRow p
   pub same : goal.resolution ≡ p.matrix.resolution
   pub here : IsVoidFrom p.matrix (spot p.bots).y
 
 -- moreover it stands no higher than above the layer of y, and all is void from there on
-pub record CanPaint (p : Progress) (goal : Matrix) (y : ℕ) : Type 0 where
+pub record CanFillLayer (p : TapeState) (goal : Matrix) (y : ℕ) : Type 0 where
   pub ready : CanBuild p goal
   pub within : y + 1 < p.matrix.resolution
   pub above : IsVoidFrom p.matrix (y + 1)
   pub below : (spot p.bots).y ≤ y + 1
 
 -- the steps of a tape and at most as many as lead its row to a place
-abbrev pub steps_to : Progress → Coord → ℕ
-steps_to p c = p.steps + distance (spot p.bots) c
+abbrev pub crew_steps_to : TapeState → Coord → ℕ
+crew_steps_to p c = p.steps + distance (spot p.bots) c
 
 -- the tape has built the voxels of which the test says so; with the way to a place it has so many steps more at most than it had with the way to another
-pub record Builds (old new : Progress) (goal : Matrix) (done : Coord → Bool) (from to : Coord) (most : ℕ) : Type 0 where
+pub record Builds (old new : TapeState) (goal : Matrix) (done : Coord → Bool) (from to : Coord) (most : ℕ) : Type 0 where
   pub source : new.source ≡ old.source
   pub resolution : new.matrix.resolution ≡ old.matrix.resolution
   pub raised : IsRaised new.matrix old.matrix goal done
   pub ready : CanBuild new goal
   pub low : (spot new.bots).y ≤ to.y
-  pub steps_are : steps_to new to ≤ steps_to old from + most
+  pub steps_are : crew_steps_to new to ≤ crew_steps_to old from + most
 
 -- how many steps a line takes at most, with the way to the next one
 abbrev pub line_steps : ℕ → ℕ
 line_steps r = 3 * r + 1
 
 -- how many steps a layer takes at most, with the way to the next one
-abbrev pub layer_steps : ℕ → ℕ
-layer_steps r = width r * line_steps r + width r + 1
+abbrev pub swarm_layer_steps : ℕ → ℕ
+swarm_layer_steps r = width r * line_steps r + width r + 1

@@ -11,12 +11,8 @@ use Rattle.nano_spec.specs.Profile.{light_profile}
 use Rattle.plan_tape.specs.declared.axis.Axis.{Axis}
 use Rattle.plan_tape.specs.declared.axis.Axis.TheVariants.{X, Y, Z}
 use Rattle.plan_tape.specs.Leg.{along, component_of, gap}
-use Rattle.plan_tape.specs.Progress.{Progress, spot}
-use Rattle.swarm_planner.specs.Strips.{held, next, row_of, width}
-
--- from a height on all voxels are void
-abbrev pub IsVoidFrom : Matrix → ℕ → Type 0
-IsVoidFrom m h = (c : Coord) → h ≤ c.y → is_full m c ≡ false
+use Rattle.plan_tape.specs.Progress.{TapeState, spot}
+use Rattle.swarm_planner.specs.Strips.{held, next, strip_row, width}
 
 -- where the bots stand
 abbrev pub places : List Bot → List Coord
@@ -29,7 +25,7 @@ placed (b ∷ bots) [] = []
 placed (b ∷ bots) (c ∷ cs) = record { bid = b.bid; pos = c; seeds = b.seeds } ∷ placed bots cs
 
 -- under High, with the light profile
-pub record IsSwarm (p : Progress) : Type 0 where
+pub record IsSwarm (p : TapeState) : Type 0 where
   pub high : p.harmonics ≡ High
   pub light : p.profile ≡ light_profile
 
@@ -75,7 +71,7 @@ AreLed r h axis low (p ∷ ps) [] = ⊥
 AreLed r h axis low (p ∷ ps) (q ∷ qs) = IsLed r h axis low p q × AreLed r h axis (max p.x q.x + 1) ps qs
 
 -- the tape after moves of the crew in so many steps at most
-pub record Goes (old new : Progress) (cs : List Coord) (most : ℕ) : Type 0 where
+pub record CrewGoes (old new : TapeState) (cs : List Coord) (most : ℕ) : Type 0 where
   pub source : new.source ≡ old.source
   pub matrix : new.matrix ≡ old.matrix
   pub swarm : IsSwarm new
@@ -105,12 +101,12 @@ pub record MayLead (r : ℕ) (c : Coord) : Type 0 where
   pub z : c.z < r
 
 -- there is a bot in each strip, and all stand in a row
-pub record InRow (p : Progress) : Type 0 where
-  pub places_are : places p.bots ≡ row_of p.matrix.resolution (spot p.bots)
+pub record InRow (p : TapeState) : Type 0 where
+  pub places_are : places p.bots ≡ strip_row p.matrix.resolution (spot p.bots)
   pub leads : MayLead p.matrix.resolution (spot p.bots)
 
 -- the tape after moves of the row, until the first bot stands there, in so many steps at most
-pub record RowGoes (old new : Progress) (to : Coord) (most : ℕ) : Type 0 where
+pub record RowGoes (old new : TapeState) (to : Coord) (most : ℕ) : Type 0 where
   pub source : new.source ≡ old.source
   pub matrix : new.matrix ≡ old.matrix
   pub swarm : IsSwarm new

@@ -7,9 +7,10 @@ use Rattle.nano_spec.specs.declared.commands.Command.{Command}
 use Rattle.nano_spec.specs.declared.commands.Command.TheVariants.{Wait}
 use Rattle.nano_spec.specs.declared.system.Bot.{Bot}
 use Rattle.nano_spec.specs.State.{seed_set}
-use Rattle.plan_tape.specs.Progress.{Progress, spot}
-use Rattle.swarm_planner.specs.Crew.{IsSwarm, IsVoidFrom, places}
-use Rattle.swarm_planner.specs.Strips.{coord, last, row, width}
+use Rattle.plan_tape.specs.Progress.{TapeState, spot, IsVoidFrom}
+use Rattle.swarm_planner.specs.Crew.{IsSwarm, places}
+use Rattle.swarm_planner.specs.Strips.{last, bot_row, width}
+use Rattle.vox_geom.specs.Point.{coord}
 
 -- ---- places
 
@@ -44,20 +45,20 @@ sent (c ∷ []) x = coord x c.y c.z ∷ []
 sent (c ∷ d ∷ more) x = c ∷ sent (d ∷ more) x
 
 -- the next place along x
-abbrev pub beside : Coord → Coord
-beside c = coord (c.x + 1) c.y c.z
+abbrev pub next_along_x : Coord → Coord
+next_along_x c = coord (c.x + 1) c.y c.z
 
 -- the places and one more beside the last
 abbrev pub split : List Coord → List Coord
 split [] = []
-split (c ∷ []) = c ∷ beside c ∷ []
+split (c ∷ []) = c ∷ next_along_x c ∷ []
 split (c ∷ d ∷ more) = c ∷ split (d ∷ more)
 
 -- the places but the last
-abbrev pub fused : List Coord → List Coord
-fused [] = []
-fused (c ∷ []) = []
-fused (c ∷ d ∷ more) = c ∷ fused (d ∷ more)
+abbrev pub without_last : List Coord → List Coord
+without_last [] = []
+without_last (c ∷ []) = []
+without_last (c ∷ d ∷ more) = c ∷ without_last (d ∷ more)
 
 -- ---- commands
 
@@ -97,7 +98,7 @@ lined_up bid (c ∷ d ∷ more) = record { bid = bid; pos = c; seeds = 0 } ∷ l
 -- ---- the tape
 
 -- the swarm stands in a line, and all is void from its height on
-pub record InLine (p : Progress) : Type 0 where
+pub record InLine (p : TapeState) : Type 0 where
   pub swarm : IsSwarm p
   pub some : 1 ≤ length p.bots
   pub most : p.matrix.resolution ≤ 400
@@ -107,37 +108,37 @@ pub record InLine (p : Progress) : Type 0 where
   pub void : IsVoidFrom p.matrix (spot p.bots).y
 
 -- the tape after a step that changes the bots alone
-pub record Regroups (old new : Progress) : Type 0 where
+pub record Regroups (old new : TapeState) : Type 0 where
   pub source : new.source ≡ old.source
   pub matrix : new.matrix ≡ old.matrix
   pub swarm : IsSwarm new
   pub steps : new.steps ≡ old.steps + 1
 
 -- the last two bots have become one, after so many steps at most
-pub record Gathers (old new : Progress) (most : ℕ) : Type 0 where
+pub record Gathers (old new : TapeState) (most : ℕ) : Type 0 where
   pub source : new.source ≡ old.source
   pub matrix : new.matrix ≡ old.matrix
   pub line : InLine new
-  pub places_are : places new.bots ≡ fused (places old.bots)
+  pub places_are : places new.bots ≡ without_last (places old.bots)
   pub steps_are : new.steps ≤ old.steps + most
 
 -- there is a bot in the first column of each of the first n strips, and the last has all seeds that are left
-pub record IsSpread (p : Progress) (n : ℕ) : Type 0 where
+pub record IsSpreadOver (p : TapeState) (n : ℕ) : Type 0 where
   pub swarm : IsSwarm p
   pub some : 3 ≤ p.matrix.resolution
   pub most : p.matrix.resolution ≤ 400
   pub void : IsVoidFrom p.matrix 0
-  pub bots_are : p.bots ≡ lined_up 1 (row (width p.matrix.resolution) (last p.matrix.resolution) n (coord 1 1 0))
+  pub bots_are : p.bots ≡ lined_up 1 (bot_row (width p.matrix.resolution) (last p.matrix.resolution) n (coord 1 1 0))
 
 -- it is spread over n strips after so many steps at most
-pub record Spreads (old new : Progress) (n most : ℕ) : Type 0 where
+pub record SpreadsOver (old new : TapeState) (n most : ℕ) : Type 0 where
   pub source : new.source ≡ old.source
   pub matrix : new.matrix ≡ old.matrix
-  pub spread : IsSpread new n
+  pub spread : IsSpreadOver new n
   pub steps_are : new.steps ≤ old.steps + most
 
 -- one bot is left, at z = 0, after so many steps at most
-pub record IsGathered (old new : Progress) (most : ℕ) : Type 0 where
+pub record HasGathered (old new : TapeState) (most : ℕ) : Type 0 where
   pub source : new.source ≡ old.source
   pub matrix : new.matrix ≡ old.matrix
   pub swarm : IsSwarm new

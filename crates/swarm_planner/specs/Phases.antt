@@ -1,24 +1,24 @@
 -- The tape after each phase of the plan.
 use Rattle.std.specs.Prelude.{◌≡◌, ◌+◌, ◌-◌, ◌*◌, ◌≤◌, ℕ, length}
 use Rattle.nano_spec.specs.Matrix.{Matrix}
-use Rattle.plan_tape.specs.Progress.{AreAlike, Progress, spot}
-use Rattle.swarm_planner.specs.Building.{layer_steps}
+use Rattle.plan_tape.specs.Progress.{AreAlike, TapeState, spot}
+use Rattle.swarm_planner.specs.Building.{swarm_layer_steps}
 use Rattle.swarm_planner.specs.Crew.{IsSwarm}
-use Rattle.swarm_planner.specs.Lineup.{IsSpread}
+use Rattle.swarm_planner.specs.Lineup.{IsSpreadOver}
 
 -- the first bot is in the first column, above the floor, under High, and nothing is built
-pub record IsOpened (t : Progress) (nothing : Matrix) : Type 0 where
+pub record SwarmIsOpened (t : TapeState) (nothing : Matrix) : Type 0 where
   pub source : t.source ≡ nothing
   pub matrix : t.matrix ≡ nothing
-  pub spread : IsSpread t 1
+  pub spread : IsSpreadOver t 1
   pub steps_are : t.steps ≤ 3
 
 -- how many steps the phases take at most, without the last way home
 abbrev pub phase_steps : ℕ → ℕ
-phase_steps r = (r - 1) * layer_steps r + 823
+phase_steps r = (r - 1) * swarm_layer_steps r + 823
 
 -- the target is built, and one bot is left, at z = 0; with the way home there are so many steps at most
-pub record IsErected (t : Progress) (target : Matrix) : Type 0 where
+pub record IsErected (t : TapeState) (target : Matrix) : Type 0 where
   pub swarm : IsSwarm t
   pub alone : length t.bots ≡ 1
   pub built : AreAlike t.matrix target

@@ -2,10 +2,6 @@
 use Rattle.std.specs.Prelude.{ℕ, zero, suc, ◌+◌, ◌-◌, ◌/◌, max, min, List, [], ◌∷◌}
 use Rattle.vox_geom.specs.declared.coordinate.Coord.{Coord}
 
--- a coordinate by its components
-abbrev pub coord : ℕ → ℕ → ℕ → Coord
-coord x y z = record { x = x; y = y; z = z }
-
 -- how many columns the widest strip has
 abbrev pub width : ℕ → ℕ
 width r = max 1 ((r + 17) / 20)
@@ -27,10 +23,10 @@ abbrev pub next : ℕ → Coord → Coord
 next w c = record { x = c.x + w; y = c.y; z = c.z }
 
 -- the places of n bots, the first of them led to c, each further one a width further along x, and none past the last column
-abbrev pub row : ℕ → ℕ → ℕ → Coord → List Coord
-row w l zero c = []
-row w l (suc n) c = held l c ∷ row w l n (next w c)
+abbrev pub bot_row : ℕ → ℕ → ℕ → Coord → List Coord
+bot_row w l zero c = []
+bot_row w l (suc n) c = held l c ∷ bot_row w l n (next w c)
 
 -- the row of all strips
-abbrev pub row_of : ℕ → Coord → List Coord
-row_of r c = row (width r) (last r) (count r) c
+abbrev pub strip_row : ℕ → Coord → List Coord
+strip_row r c = bot_row (width r) (last r) (count r) c

@@ -1,9 +1,9 @@
 //! How the crew comes to stand in a row, and how it becomes one bot again.
 ghost use Rattle.std.specs.Prelude.{◌≡◌, ◌+◌, ◌*◌, ◌≤◌, ◌<◌, OnOk, length};
 ghost use Rattle.plan_tape.specs.Leg.{gap};
-ghost use Rattle.plan_tape.specs.Progress.{spot};
-ghost use Rattle.swarm_planner.specs.Crew.{Goes, InRow, IsSwarm, IsVoidFrom, places};
-ghost use Rattle.swarm_planner.specs.Lineup.{Gathers, InLine, IsGathered, IsSpread, Spreads, free_column, last_column, sent};
+ghost use Rattle.plan_tape.specs.Progress.{spot, IsVoidFrom};
+ghost use Rattle.swarm_planner.specs.Crew.{CrewGoes, InRow, IsSwarm, places};
+ghost use Rattle.swarm_planner.specs.Lineup.{Gathers, InLine, HasGathered, IsSpreadOver, SpreadsOver, free_column, last_column, sent};
 ghost use Rattle.swarm_planner.specs.Strips.{count as count_of};
 
 use crate::paint::{first_place, go};
@@ -19,7 +19,7 @@ fn send_last(alloc: Global, tape: &mut Tape, to: u16) -> Result<(), Memory>
     requires free { free_column 1 (places tape.old.bots) ≤ to }
     requires within { to < tape.old.matrix.resolution }
     requires limit { tape.old.steps + gap (last_column (places tape.old.bots)) to ≤ 1073741824 }
-    ensures goes { OnOk result (Goes tape.old tape.new (sent (places tape.old.bots) to) (gap (last_column (places tape.old.bots)) to)) }
+    ensures goes { OnOk result (CrewGoes tape.old tape.new (sent (places tape.old.bots) to) (gap (last_column (places tape.old.bots)) to)) }
     ensures line { OnOk result (InLine tape.new) }
 {
     let mut at = last_place(tape);
@@ -32,11 +32,11 @@ fn send_last(alloc: Global, tape: &mut Tape, to: u16) -> Result<(), Memory>
 
 /// The last bot splits, and the new bot goes to the first column of its strip.
 fn spread_one(alloc: Global, tape: &mut Tape, count: u16) -> Result<(), Memory>
-    requires spread { IsSpread tape.old count }
+    requires spread { IsSpreadOver tape.old count }
     requires some { 1 ≤ count }
     requires more { count < count_of tape.old.matrix.resolution }
     requires limit { tape.old.steps + 20 ≤ 1073741824 }
-    ensures { OnOk result (Spreads tape.old tape.new (count + 1) 20) }
+    ensures { OnOk result (SpreadsOver tape.old tape.new (count + 1) 20) }
 {
     let to = last_place(tape) + strip_width(tape.matrix().resolution());
     split_last(alloc, tape, (19 - count) as u8)?;
@@ -45,9 +45,9 @@ fn spread_one(alloc: Global, tape: &mut Tape, count: u16) -> Result<(), Memory>
 
 /// The bots split and spread, until there is one in the first column of each strip.
 pub fn spread(alloc: Global, tape: &mut Tape) -> Result<(), Memory>
-    requires spread { IsSpread tape.old 1 }
+    requires spread { IsSpreadOver tape.old 1 }
     requires limit { tape.old.steps + 400 ≤ 1073741824 }
-    ensures { OnOk result (Spreads tape.old tape.new (count_of tape.old.matrix.resolution) 400) }
+    ensures { OnOk result (SpreadsOver tape.old tape.new (count_of tape.old.matrix.resolution) 400) }
 {
     for count in 1..strip_count(tape.matrix().resolution()) {
         spread_one(alloc, tape, count)?;
@@ -84,7 +84,7 @@ pub fn gather(alloc: Global, tape: &mut Tape) -> Result<(), Memory>
     requires row { InRow tape.old }
     requires void { IsVoidFrom tape.old.matrix (spot tape.old.bots).y }
     requires limit { tape.old.steps + (spot tape.old.bots).z + 420 ≤ 1073741824 }
-    ensures { OnOk result (IsGathered tape.old tape.new ((spot tape.old.bots).z + 420)) }
+    ensures { OnOk result (HasGathered tape.old tape.new ((spot tape.old.bots).z + 420)) }
 {
     let at = first_place(tape);
     go(alloc, tape, Coord { z: 0, ..at })?;

@@ -1,10 +1,11 @@
 //! Voxels, lines and layers that are built from one layer above.
 ghost use Rattle.std.specs.Prelude.{◌≡◌, ◌+◌, ◌-◌, ◌*◌, ◌≤◌, ◌<◌, OnOk};
 ghost use Rattle.plan_tape.specs.Leg.{component_of, distance, gap, put};
-ghost use Rattle.plan_tape.specs.Progress.{spot};
-ghost use Rattle.swarm_planner.specs.Building.{Builds, CanBuild, CanPaint, are_wanted, cell, layer_steps, layers, line, line_steps, lines, steps_to};
-ghost use Rattle.swarm_planner.specs.Crew.{InRow, IsSwarm, IsVoidFrom, MayLead, RowGoes};
-ghost use Rattle.swarm_planner.specs.Strips.{coord, row_of, width};
+ghost use Rattle.plan_tape.specs.Progress.{spot, IsVoidFrom};
+ghost use Rattle.swarm_planner.specs.Building.{Builds, CanBuild, CanFillLayer, are_wanted, cell, swarm_layer_steps, layers, line, line_steps, in_first_lines, crew_steps_to};
+ghost use Rattle.swarm_planner.specs.Crew.{InRow, IsSwarm, MayLead, RowGoes};
+ghost use Rattle.swarm_planner.specs.Strips.{strip_row, width};
+ghost use Rattle.vox_geom.specs.Point.{coord};
 
 use crate::steps::{component, fill_below, is_wanted, move_row, with_component};
 use crate::strips::{strip_count, strip_width};
@@ -61,7 +62,7 @@ fn has_work(tape: &Tape, goal: &Planes, to: Coord) -> bool
     requires same { goal.now.resolution ≡ tape.now.matrix.resolution }
     requires leads { MayLead tape.now.matrix.resolution to }
     requires up { 1 ≤ to.y }
-    ensures { result ≡ are_wanted tape.now.matrix goal.now (row_of tape.now.matrix.resolution to) }
+    ensures { result ≡ are_wanted tape.now.matrix goal.now (strip_row tape.now.matrix.resolution to) }
 {
     let r = goal.resolution();
     let mut x = to.x;
@@ -87,11 +88,11 @@ fn paint_cell(
     y: u16,
     z: u16,
 ) -> Result<(), Memory>
-    requires ready { CanPaint tape.old goal.now y }
+    requires ready { CanFillLayer tape.old goal.now y }
     requires first { 1 ≤ x }
     requires wide { x ≤ width tape.old.matrix.resolution }
     requires z { z < tape.old.matrix.resolution }
-    requires limit { steps_to tape.old (coord x (y + 1) z) < 1073741824 }
+    requires limit { crew_steps_to tape.old (coord x (y + 1) z) < 1073741824 }
     ensures { OnOk result (Builds tape.old tape.new goal.now (cell tape.old.matrix.resolution x y z) (coord x (y + 1) z) (coord x (y + 1) z) 1) }
 {
     let to = Coord { x, y: y + 1, z };
@@ -104,10 +105,10 @@ fn paint_cell(
 
 /// Builds in all strips the line of y that the row meets where its first bot is at x.
 fn paint_line(alloc: Global, tape: &mut Tape, goal: &Planes, x: u16, y: u16) -> Result<(), Memory>
-    requires ready { CanPaint tape.old goal.now y }
+    requires ready { CanFillLayer tape.old goal.now y }
     requires first { 1 ≤ x }
     requires wide { x ≤ width tape.old.matrix.resolution }
-    requires limit { steps_to tape.old (coord x (y + 1) 0) + 2 * tape.old.matrix.resolution < 1073741824 }
+    requires limit { crew_steps_to tape.old (coord x (y + 1) 0) + 2 * tape.old.matrix.resolution < 1073741824 }
     ensures { OnOk result (Builds tape.old tape.new goal.now (line tape.old.matrix.resolution x y) (coord x (y + 1) 0) (coord x (y + 1) tape.old.matrix.resolution) (2 * tape.old.matrix.resolution)) }
 {
     for z in 0..goal.resolution() {
@@ -118,9 +119,9 @@ fn paint_line(alloc: Global, tape: &mut Tape, goal: &Planes, x: u16, y: u16) -> 
 
 /// Builds the layer of y.
 fn paint_layer(alloc: Global, tape: &mut Tape, goal: &Planes, y: u16) -> Result<(), Memory>
-    requires ready { CanPaint tape.old goal.now y }
-    requires limit { steps_to tape.old (coord 1 (y + 1) 0) + width tape.old.matrix.resolution * line_steps tape.old.matrix.resolution < 1073741824 }
-    ensures { OnOk result (Builds tape.old tape.new goal.now (lines tape.old.matrix.resolution (width tape.old.matrix.resolution) y) (coord 1 (y + 1) 0) (coord (width tape.old.matrix.resolution + 1) (y + 1) 0) (width tape.old.matrix.resolution * line_steps tape.old.matrix.resolution)) }
+    requires ready { CanFillLayer tape.old goal.now y }
+    requires limit { crew_steps_to tape.old (coord 1 (y + 1) 0) + width tape.old.matrix.resolution * line_steps tape.old.matrix.resolution < 1073741824 }
+    ensures { OnOk result (Builds tape.old tape.new goal.now (in_first_lines tape.old.matrix.resolution (width tape.old.matrix.resolution) y) (coord 1 (y + 1) 0) (coord (width tape.old.matrix.resolution + 1) (y + 1) 0) (width tape.old.matrix.resolution * line_steps tape.old.matrix.resolution)) }
 {
     for x in 0..strip_width(goal.resolution()) {
         paint_line(alloc, tape, goal, x + 1, y)?;
@@ -133,8 +134,8 @@ pub fn build(alloc: Global, tape: &mut Tape, goal: &Planes) -> Result<(), Memory
     requires ready { CanBuild tape.old goal.now }
     requires void { IsVoidFrom tape.old.matrix 0 }
     requires low { (spot tape.old.bots).y ≤ 1 }
-    requires limit { steps_to tape.old (coord 1 1 0) + (tape.old.matrix.resolution - 1) * layer_steps tape.old.matrix.resolution < 1073741824 }
-    ensures { OnOk result (Builds tape.old tape.new goal.now (layers tape.old.matrix.resolution (tape.old.matrix.resolution - 1)) (coord 1 1 0) (coord 1 tape.old.matrix.resolution 0) ((tape.old.matrix.resolution - 1) * layer_steps tape.old.matrix.resolution)) }
+    requires limit { crew_steps_to tape.old (coord 1 1 0) + (tape.old.matrix.resolution - 1) * swarm_layer_steps tape.old.matrix.resolution < 1073741824 }
+    ensures { OnOk result (Builds tape.old tape.new goal.now (layers tape.old.matrix.resolution (tape.old.matrix.resolution - 1)) (coord 1 1 0) (coord 1 tape.old.matrix.resolution 0) ((tape.old.matrix.resolution - 1) * swarm_layer_steps tape.old.matrix.resolution)) }
 {
     for y in 0..goal.resolution() - 1 {
         paint_layer(alloc, tape, goal, y)?;

@@ -4,10 +4,9 @@ ghost use Rattle.nano_spec.specs.Legal.{IsLegal};
 ghost use Rattle.nano_spec.specs.Matrix.{empty};
 ghost use Rattle.nano_spec.specs.Profile.{full_profile, light_profile};
 ghost use Rattle.vox_planes.specs.Voxel.{IsWhole};
-ghost use Rattle.plan_tape.specs.Progress.{IsAccepted};
+ghost use Rattle.plan_tape.specs.Progress.{IsAccepted, IsVoidFrom};
 ghost use Rattle.plan_tape.specs.Reaches.{HasAtMost};
-ghost use Rattle.swarm_planner.specs.Crew.{IsVoidFrom};
-ghost use Rattle.swarm_planner.specs.Phases.{IsErected, IsOpened};
+ghost use Rattle.swarm_planner.specs.Phases.{IsErected, SwarmIsOpened};
 ghost use Rattle.swarm_planner.specs.Strips.{width};
 
 use crate::crew::{gather, spread};
@@ -48,7 +47,7 @@ fn are_same(nothing: &Planes, target: &Planes) -> bool
 fn opened(alloc: Global, nothing: Planes) -> Result<Tape, Memory>
     requires some { 3 ≤ nothing.resolution }
     requires void { IsVoidFrom nothing 0 }
-    ensures { IfOk result (λ t. IsOpened t nothing) }
+    ensures { IfOk result (λ t. SwarmIsOpened t nothing) }
 {
     let _ = nothing.resolution();
     let mut tape = Tape::start_as(alloc, nothing, Profile::light())?;
@@ -59,7 +58,7 @@ fn opened(alloc: Global, nothing: Planes) -> Result<Tape, Memory>
 
 /// Spreads the crew, builds the target, and gathers the crew again.
 fn erect(alloc: Global, tape: &mut Tape, target: &Planes) -> Result<(), Memory>
-    requires opened { IsOpened tape.old tape.old.source }
+    requires opened { SwarmIsOpened tape.old tape.old.source }
     requires target { IsLegal target.now }
     requires same { target.now.resolution ≡ tape.old.source.resolution }
     ensures source { OnOk result (tape.new.source ≡ tape.old.source) }

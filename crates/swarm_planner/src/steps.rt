@@ -2,11 +2,12 @@
 ghost use Rattle.std.specs.List.{AllByRecursion};
 ghost use Rattle.std.specs.Prelude.{◌≡◌, ◌-◌, ◌+◌, ◌++◌, ◌≤◌, ◌<◌, ◌≢◌, [], ◌∷◌, replicate, IfOk, OnErr, OnOk, length, vec_capacity, vec_len};
 ghost use Rattle.plan_tape.specs.Leg.{component_of, gap, put as put_of};
-ghost use Rattle.plan_tape.specs.Progress.{spot};
+ghost use Rattle.plan_tape.specs.Progress.{spot, IsVoidFrom};
 ghost use Rattle.vox_geom.specs.Space.{IsInSpace};
-ghost use Rattle.swarm_planner.specs.Building.{Fills, down as down_of, fills as fills_of, is_wanted as is_wanted_of};
-ghost use Rattle.swarm_planner.specs.Crew.{AreAlong, AreNear, Goes, InRow, IsNearOn, IsSwarm, IsVoidFrom, MayLead, RowGoes, lead as lead_of, places, row_led};
-ghost use Rattle.swarm_planner.specs.Lineup.{InLine, Regroups, free_column, fused, last_column, left as left_of, lined_up, right as right_of, sent, split};
+ghost use Rattle.swarm_planner.specs.Building.{Fills, fills as fills_of, is_wanted as is_wanted_of};
+ghost use Rattle.swarm_planner.specs.Crew.{AreAlong, AreNear, CrewGoes, InRow, IsNearOn, IsSwarm, MayLead, RowGoes, lead as lead_of, places, row_led};
+ghost use Rattle.swarm_planner.specs.Lineup.{InLine, Regroups, free_column, without_last, last_column, left as left_of, lined_up, right as right_of, sent, split};
+ghost use Rattle.vox_geom.specs.Point.{down as down_of};
 
 use crate::strips::strip_width;
 use nano_spec::{Bot, Command};
@@ -135,7 +136,7 @@ pub fn move_last(alloc: Global, tape: &mut Tape, to: u16) -> Result<(), Memory>
     requires differ { last_column (places tape.old.bots) ≢ to }
     requires near { gap (last_column (places tape.old.bots)) to ≤ 15 }
     requires limit { tape.old.steps < 1073741824 }
-    ensures { OnOk result (Goes tape.old tape.new (sent (places tape.old.bots) to) 1) }
+    ensures { OnOk result (CrewGoes tape.old tape.new (sent (places tape.old.bots) to) 1) }
 {
     let at = last_place(tape);
     let mut commands = waits(alloc, tape.crew().bots().len() - 1)?;
@@ -257,7 +258,7 @@ pub fn fuse_last(alloc: Global, tape: &mut Tape) -> Result<(), Memory>
     requires beside { last_column (places tape.old.bots) ≡ free_column 1 (places tape.old.bots) }
     requires limit { tape.old.steps < 1073741824 }
     ensures regroups { OnOk result (Regroups tape.old tape.new) }
-    ensures places { OnOk result (places tape.new.bots ≡ fused (places tape.old.bots)) }
+    ensures places { OnOk result (places tape.new.bots ≡ without_last (places tape.old.bots)) }
 {
     let mut commands = waits(alloc, tape.crew().bots().len() - 2)?;
     put(&mut commands, Command::FusionP(right()))?;

@@ -16,7 +16,8 @@ use Rattle.step_order.proofs.Groups.{Differ, differ_acts}
 use Rattle.step_order.proofs.Lists.{In, filter_in, in_either, in_place, place_in}
 use Rattle.step_order.proofs.Order.{listed}
 use Rattle.system_state.specs.declared.turns.Turn.{Turn}
-use Rattle.system_state.specs.Turns.{AreAllTurns, AreTurns, IsTurn, bid_of, leader_of}
+use Rattle.system_state.specs.Turns.{AreAllTurns, AreTurns, IsTurn, leader_of}
+use Rattle.step_groups.specs.Groups.{bid_of}
 
 -- a sum is the same in every order
 pub same_sum : (f : Act → ℕ) (xs ys : List Act) → IsPermutation xs ys → sum (map f ys) ≡ sum (map f xs)

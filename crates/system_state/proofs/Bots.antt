@@ -10,7 +10,7 @@ use Rattle.nano_spec.specs.declared.commands.Command.TheVariants.{Halt, Wait, Fl
 use Rattle.nano_spec.specs.declared.system.Bot.{Bot}
 use Rattle.nano_spec.specs.Act.{stays_in_space}
 use Rattle.nano_spec.specs.Bots.{fused, in_rising_order, moved, newborn, parent, successors}
-use Rattle.step_groups.specs.Judging.{is_alone}
+use Rattle.step_groups.specs.Judging.{is_alone, act}
 use Rattle.step_order.proofs.Crews.{Differing, differ_append, differing, in_order, order_in, rising_order, rising_same}
 use Rattle.step_order.proofs.Ends.{space_is}
 use Rattle.step_order.proofs.Facts.{Rising}
@@ -18,7 +18,7 @@ use Rattle.step_order.proofs.Groups.{differ_filter}
 use Rattle.step_order.proofs.Lists.{In, any_in, filter_in, first, in_any, in_either, in_filter, in_left, in_map, in_place, in_right, map_in, not_both, place_in, second}
 use Rattle.bot_crew.specs.Crew.{bot_of, replaced, without}
 use Rattle.bot_crew.proofs.Heirs.{found_in}
-use Rattle.system_state.specs.Effects.{MayTake, act, bots_after, with_partner}
+use Rattle.system_state.specs.Effects.{MayTake, bots_after_turn, with_partner}
 
 -- ---- bots in their own place
 
@@ -112,7 +112,7 @@ module _ (r : ℕ) (bots : List Bot) (within : (b : Bot) → In b bots → IsInS
       by (Some other) e i = all_replaced (λ (c : Bot). IsInSpace r c.pos) bots bids (fuse other ∷ []) within (one (fuse other) (h other (found_in (λ c. c.bid == partner) bots other e).0)) b i
 
   -- the bots after a turn stand in space
-  pub after_within : (partner : ℕ) (command : Command) → stays_in_space r (act bot command) ≡ true → (b : Bot) → In b (bots_after bots bot partner command) → IsInSpace r b.pos
+  pub after_within : (partner : ℕ) (command : Command) → stays_in_space r (act bot command) ≡ true → (b : Bot) → In b (bots_after_turn bots bot partner command) → IsInSpace r b.pos
   after_within partner Halt e b i = absurd i
   after_within partner Wait e b i = within b i
   after_within partner Flip e b i = within b i
@@ -131,7 +131,7 @@ module _ (r : ℕ) (bots : List Bot) (within : (b : Bot) → In b bots → IsInS
 halted : (bot : Bot) → in_rising_order (without (bot ∷ []) (bot.bid ∷ [])) ≡ []
 halted bot = ap (λ t. in_rising_order (cond (not (t || false)) (bot ∷ []) [])) (eq-eqb bot.bid bot.bid refl)
 
-pub alone_bots : (bots : List Bot) (bot : Bot) (partner : ℕ) (command : Command) → is_alone command ≡ true → Rising bots → In bot bots → (command ≡ Halt → bots ≡ bot ∷ []) → replaced bots (bot.bid ∷ []) (successors (act bot command ∷ []) (act bot command) command ++ []) ≡ bots_after bots bot partner command
+pub alone_bots : (bots : List Bot) (bot : Bot) (partner : ℕ) (command : Command) → is_alone command ≡ true → Rising bots → In bot bots → (command ≡ Halt → bots ≡ bot ∷ []) → replaced bots (bot.bid ∷ []) (successors (act bot command ∷ []) (act bot command) command ++ []) ≡ bots_after_turn bots bot partner command
 alone_bots bots bot partner command h rising i lone = by command h lone
   where
     still : replaced bots (bot.bid ∷ []) (bot ∷ []) ≡ bots
@@ -141,7 +141,7 @@ alone_bots bots bot partner command h rising i lone = by command h lone
         own b (inl e) = subst (λ (c : Bot). In c bots) (sym e) i
         own b (inr j) = absurd j
 
-    by : (c : Command) → is_alone c ≡ true → (c ≡ Halt → bots ≡ bot ∷ []) → replaced bots (bot.bid ∷ []) (successors (act bot c ∷ []) (act bot c) c ++ []) ≡ bots_after bots bot partner c
+    by : (c : Command) → is_alone c ≡ true → (c ≡ Halt → bots ≡ bot ∷ []) → replaced bots (bot.bid ∷ []) (successors (act bot c ∷ []) (act bot c) c ++ []) ≡ bots_after_turn bots bot partner c
     by Halt e l = ap (λ (bs : List Bot). in_rising_order (without bs (bot.bid ∷ []))) (l refl) ∙ halted bot
     by Wait e l = still
     by Flip e l = still
@@ -160,5 +160,5 @@ alone_bots bots bot partner command h rising i lone = by command h lone
 pub in_all : (r : ℕ) (bots : List Bot) → All (λ b. IsInSpace r b.pos) bots → (b : Bot) → In b bots → IsInSpace r b.pos
 in_all r bots h b i = let p = in_place b b bots i in subst (λ (c : Bot). IsInSpace r c.pos) p.2 (h p.0 b p.1)
 
-pub turn_within : (r : ℕ) (bots : List Bot) (bot : Bot) (partner : ℕ) (command : Command) → All (λ b. IsInSpace r b.pos) bots → MayTake r bots bot partner command → All (λ b. IsInSpace r b.pos) (bots_after bots bot partner command)
-turn_within r bots bot partner command h may = λ k d l. after_within r bots (in_all r bots h) bot may.within partner command may.stays (get_or (bots_after bots bot partner command) k d) (place_in d (bots_after bots bot partner command) k l)
+pub turn_within : (r : ℕ) (bots : List Bot) (bot : Bot) (partner : ℕ) (command : Command) → All (λ b. IsInSpace r b.pos) bots → MayTake r bots bot partner command → All (λ b. IsInSpace r b.pos) (bots_after_turn bots bot partner command)
+turn_within r bots bot partner command h may = λ k d l. after_within r bots (in_all r bots h) bot may.within partner command may.stays (get_or (bots_after_turn bots bot partner command) k d) (place_in d (bots_after_turn bots bot partner command) k l)

@@ -21,11 +21,12 @@ use Rattle.step_order.proofs.Groups.{differ_acts, filter_only}
 use Rattle.step_order.proofs.Order.{listed}
 use Rattle.step_order.proofs.Lists.{In, filter_in, in_left, in_right, in_place, place_in}
 use Rattle.system_state.specs.declared.turns.Turn.{Turn}
-use Rattle.system_state.specs.Effects.{MayTake, bots_after}
-use Rattle.system_state.specs.Turns.{AreTurns, FollowsOn, IsTurn, bid_of, bots_after_some, leader_of}
+use Rattle.system_state.specs.Effects.{MayTake, bots_after_turn}
+use Rattle.system_state.specs.Turns.{AreTurns, FollowsOn, IsTurn, bots_after_some, leader_of}
 use Rattle.system_state.proofs.Advancing.{OfTurns, Replaces, TurnOf, command_at, contained, known_at}
 use Rattle.system_state.proofs.Arranged.{in_order_of, leaders_are, one_of_them, same_act}
 use Rattle.system_state.proofs.TurnTaken.{found_there, itself_in, may_take, turn_is_group}
+use Rattle.step_groups.specs.Groups.{bid_of}
 
 -- a list whose keys are these has parts with these keys
 split_keys : (key : Act → ℕ) (ys : List Act) (xs : List ℕ) (k : ℕ) (zs : List ℕ) → map key ys ≡ xs ++ k ∷ zs → (before : List Act) × (l : Act) × (rest : List Act) × (ys ≡ before ++ l ∷ rest) × (map key before ≡ xs) × (key l ≡ k)
@@ -146,11 +147,11 @@ module _ (s : State) (commands : List Command) (step : ℕ) (ready : IsReady s) 
           same : Some parts.1.bot ≡ Some bot → parts.1.bot ≡ bot
           same h = cc
 
-      pub moved_on : Replaces → (bot : Bot) (command : Command) (new : List Bot) → bot_of bots leader ≡ Some bot → command ≡ get_or commands t.place command → new ≡ bots_after bots bot t.partner command → new ≡ bots_after_some s commands (before ++ leader ∷ [])
+      pub moved_on : Replaces → (bot : Bot) (command : Command) (new : List Bot) → bot_of bots leader ≡ Some bot → command ≡ get_or commands t.place command → new ≡ bots_after_turn bots bot t.partner command → new ≡ bots_after_some s commands (before ++ leader ∷ [])
       moved_on replaces bot command new o e is =
           let b : bot ≡ parts.1.bot = same (sym o ∙ found) in
           is
-          ∙ ((λ j. bots_after (taken j) (b j) t.partner (command_is command e j))
+          ∙ ((λ j. bots_after_turn (taken j) (b j) t.partner (command_is command e j))
           ∙ (ap (λ (u : State). u.bots) (turn_is_group s (acts s.bots commands) good parts.1 leads (after_some s (acts s.bots commands) parts.0) law.bots law.rules apart_there
           (rising_is (after_some s (acts s.bots commands) parts.0).bots (subst (λ (bs : List Bot). AllPairs (λ a b. a.bid < b.bid) bs) taken crew.rising)) within_there t.partner turn_is.partner replaces
           ∙ law.next)

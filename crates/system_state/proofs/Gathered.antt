@@ -6,12 +6,12 @@ use Rattle.nano_spec.specs.declared.system.Bot.{Bot}
 use Rattle.nano_spec.specs.Act.{Act, acts}
 use Rattle.nano_spec.specs.Group.{is_leader, leaders, members}
 use Rattle.step_groups.specs.declared.groups.Group.{Group}
-use Rattle.step_groups.specs.Groups.{AreGroups, IsGroup}
+use Rattle.step_groups.specs.Groups.{AreGroups, IsGroup, bid_of}
 use Rattle.step_order.proofs.Facts.{Rising}
 use Rattle.step_order.proofs.Lists.{In, filter_in}
 use Rattle.system_state.specs.declared.turns.Turn.{Turn}
 use Rattle.step_groups.proofs.Joined.{all_in}
-use Rattle.system_state.specs.Turns.{AreTurns, IsTurn, bid_of}
+use Rattle.system_state.specs.Turns.{AreTurns, IsTurn}
 
 -- ---- the place of a leader
 

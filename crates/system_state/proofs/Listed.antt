@@ -12,8 +12,9 @@ use Rattle.step_groups.specs.Judging.{act, is_alone}
 use Rattle.step_groups.proofs.Joined.{nothing_more, with_leader}
 use Rattle.step_groups.proofs.Mates.{bots_are, group, leads, none_after, none_before, split_at, take_more}
 use Rattle.system_state.specs.declared.turns.Turn.{Turn}
-use Rattle.system_state.specs.Turns.{AreTurns, bid_of, first_mate}
+use Rattle.system_state.specs.Turns.{AreTurns, first_mate}
 use Rattle.system_state.proofs.Gathered.{turn_more}
+use Rattle.step_groups.specs.Groups.{bid_of}
 
 -- the act of a bot and its command at a place
 act_there : (bots : List Bot) (commands : List Command) (i : ℕ) (b : Bot) (k : Command) → i < length bots → length commands ≡ length bots → b ≡ get_or bots i b → k ≡ get_or commands i k → slice_get (acts bots commands) i ≡ Some (act b k)

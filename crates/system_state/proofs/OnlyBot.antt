@@ -23,7 +23,7 @@ use Rattle.step_order.proofs.Lists.{In, map_in}
 use Rattle.step_order.proofs.Together.{point_is}
 use Rattle.step_order.proofs.Voxels.{as_it_is, in_coordinates, matrix_same}
 use Rattle.vox_planes.specs.Voxel.{IsWhole, with_voxel}
-use Rattle.system_state.specs.Effects.{act as lone}
+use Rattle.step_groups.specs.Judging.{act as lone}
 
 -- ---- a point that is in space, and its coordinate
 

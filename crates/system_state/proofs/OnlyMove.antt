@@ -14,8 +14,8 @@ use Rattle.nano_spec.specs.State.{State}
 use Rattle.nano_spec.specs.Step.{after}
 use Rattle.bot_crew.specs.Crew.{bot_of, replaced}
 use Rattle.vox_planes.specs.Voxel.{IsWhole}
-use Rattle.system_state.specs.Effects.{act}
 use Rattle.system_state.proofs.OnlyBot.{cost_is, untouched}
+use Rattle.step_groups.specs.Judging.{act}
 
 -- ---- the crew of one bot
 

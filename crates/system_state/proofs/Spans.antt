@@ -11,17 +11,17 @@ use Rattle.nano_spec.specs.declared.system.Bot.{Bot}
 use Rattle.nano_spec.specs.Act.{filled, voided}
 use Rattle.nano_spec.specs.Matrix.{Matrix, all_of, is_full, matrix_where}
 use Rattle.nano_spec.specs.Step.{matrix_after}
-use Rattle.energy_sum.specs.Costs.{full_count, is_met, met, void_count}
+use Rattle.energy_sum.specs.Costs.{met_full_count, is_met, met, void_count}
 use Rattle.energy_sum.proofs.Prices.{fulls-one, voids-and-fulls, voids-one}
 use Rattle.step_order.proofs.Voxels.{as_it_is, matrix_same}
-use Rattle.system_state.specs.Effects.{act}
 use Rattle.system_state.specs.Painting.{full_in, met_count, size_in, void_in, with_span}
-use Rattle.vox_planes.specs.Painting.{other_count, with_region}
+use Rattle.vox_planes.specs.Painting.{other_count, with_box}
+use Rattle.step_groups.specs.Judging.{act}
 
 -- ---- a region by its corners and by two points
 
 module _ (m : Matrix) (k : Corners) (s : Span) (same : (p : Point) → is_within (span k) p ≡ is_within s p) where
-  pub same_painted : (full : Bool) → with_region m k full ≡ with_span m s full
+  pub same_painted : (full : Bool) → with_box m k full ≡ with_span m s full
   same_painted full = λ i. matrix_where m.resolution (λ d. cond (same (point d) i) full (is_full m d))
 
   pub same_size : count_by (λ c. is_within (span k) (point c)) (all_of m) ≡ size_in m s
@@ -105,7 +105,7 @@ module _ (m : Matrix) (bot : Bot) (command : Command) where
     pub void_is : void_in m s ≡ void_count m (point bot.pos) command
     void_is = sym (voids-one m s) ∙ (λ i. count_by (λ c. is_met (sym (met_is s full h k) i) c && not (is_full m c)) (all_of m))
 
-    pub full_is : full_in m s ≡ full_count m (point bot.pos) command
+    pub full_is : full_in m s ≡ met_full_count m (point bot.pos) command
     full_is = sym (fulls-one m s) ∙ (λ i. count_by (λ c. is_met (sym (met_is s full h k) i) c && is_full m c) (all_of m))
 
     pub size_is : size_in m s ≡ met_count m bot command
@@ -125,5 +125,5 @@ module _ (m : Matrix) (bot : Bot) (command : Command) where
   pub no_void : filled (point bot.pos) command ≡ [] → voided (point bot.pos) command ≡ [] → 0 ≡ void_count m (point bot.pos) command
   no_void h k = none_of (all_of m) ∙ (λ i. count_by (λ c. is_met (sym (met_none h k) i) c && not (is_full m c)) (all_of m))
 
-  pub no_full : filled (point bot.pos) command ≡ [] → voided (point bot.pos) command ≡ [] → 0 ≡ full_count m (point bot.pos) command
+  pub no_full : filled (point bot.pos) command ≡ [] → voided (point bot.pos) command ≡ [] → 0 ≡ met_full_count m (point bot.pos) command
   no_full h k = none_of (all_of m) ∙ (λ i. count_by (λ c. is_met (sym (met_none h k) i) c && is_full m c) (all_of m))

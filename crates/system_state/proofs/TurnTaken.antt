@@ -33,11 +33,11 @@ use Rattle.step_order.proofs.Facts.{IsGood, Rising}
 use Rattle.step_order.proofs.Groups.{Differ, differ_acts, differ_filter, one_leader}
 use Rattle.step_order.proofs.Lists.{In, any_in, first, flat_same, in_any, in_filter, is_false, map_in, one_of, same_test}
 use Rattle.step_order.proofs.Together.{share_back, with_itself}
-use Rattle.system_state.specs.Effects.{MayTake, Needs, after_turn, bots_after, with_partner}
-use Rattle.system_state.specs.Turns.{bid_of}
+use Rattle.system_state.specs.Effects.{MayTake, Needs, after_turn, bots_after_turn, with_partner}
 use Rattle.system_state.proofs.Bots.{alone_bots, replaced_itself}
 use Rattle.system_state.proofs.Members.{alone_is, couple, is_group, leader_in, shared}
 use Rattle.system_state.proofs.Meeting.{at_most_one, enough, found, free_for, halts_alone, is_met, is_there, nobody, seeded, some_of, stays}
+use Rattle.step_groups.specs.Groups.{bid_of}
 
 -- ---- kinds of commands
 
@@ -347,7 +347,7 @@ module _ (s : State) (all : List Act) (good : IsGood s all) (l : Act) (leads : I
       turned false true = refl
       turned false false = refl
 
-  couple_bots : (c : Command) → l.command ≡ c → is_fusion c ≡ true → (b : Act) → are_partners l b ≡ true → members all l ≡ l ∷ b ∷ [] → Come (l ∷ b ∷ []) ≡ bots_after t.bots l.bot partner c
+  couple_bots : (c : Command) → l.command ≡ c → is_fusion c ≡ true → (b : Act) → are_partners l b ≡ true → members all l ≡ l ∷ b ∷ [] → Come (l ∷ b ∷ []) ≡ bots_after_turn t.bots l.bot partner c
   unfolding Come
   couple_bots (FusionP d) e h b q m =
       (λ i. replaced t.bots (l.bot.bid ∷ b.bot.bid ∷ []) (first_comes i ++ (second_comes i ++ [])))
@@ -386,7 +386,7 @@ module _ (s : State) (all : List Act) (good : IsGood s all) (l : Act) (leads : I
           comes_of c k = cc
   couple_bots c e h b q m = cc
 
-  group_bots : (c : Command) → l.command ≡ c → is_group c ≡ true → Come (members all l) ≡ bots_after t.bots l.bot partner c
+  group_bots : (c : Command) → l.command ≡ c → is_group c ≡ true → Come (members all l) ≡ bots_after_turn t.bots l.bot partner c
   unfolding Come
   group_bots c e h =
       (λ i. replaced t.bots (bids_are (members all l) i) ((flat_same (λ (a : Act). successors (members all l) a a.command) (λ (a : Act). a.bot ∷ []) (members all l) stay ∙ flat_map_single (λ (a : Act). a.bot) (members all l)) i))
@@ -416,16 +416,16 @@ module _ (s : State) (all : List Act) (good : IsGood s all) (l : Act) (leads : I
           of (inl k) = still_there a a.command (ap (λ (b : Act). is_group b.command) k ∙ (ap is_group e ∙ h))
           of (inr k) = still_there a a.command (shares_group (position l) l.command (position a) a.command k)
 
-      same : (d : Command) → is_group d ≡ true → t.bots ≡ bots_after t.bots l.bot partner d
+      same : (d : Command) → is_group d ≡ true → t.bots ≡ bots_after_turn t.bots l.bot partner d
       same (GFill d f) k = refl
       same (GVoid d f) k = refl
       same d k = cc
 
-  same_bots : Come (members all l) ≡ bots_after t.bots l.bot partner l.command
+  same_bots : Come (members all l) ≡ bots_after_turn t.bots l.bot partner l.command
   unfolding Come
   same_bots = by (kind l.command)
     where
-      by : (is_alone l.command ≡ true) ⊎ ((is_fusion l.command ≡ true) ⊎ (is_group l.command ≡ true)) → Come (members all l) ≡ bots_after t.bots l.bot partner l.command
+      by : (is_alone l.command ≡ true) ⊎ ((is_fusion l.command ≡ true) ⊎ (is_group l.command ≡ true)) → Come (members all l) ≡ bots_after_turn t.bots l.bot partner l.command
       by (inl h) = ap Come (alone_is s all good l leads h) ∙ alone_bots t.bots l.bot partner l.command h rising (bot_there l itself_in) lone_halt
       by (inr (inl h)) = let w = couple s all good l leads h in ap Come w.3 ∙ couple_bots l.command refl h w.0 w.1 w.3
       by (inr (inr h)) = group_bots l.command refl h

@@ -12,10 +12,7 @@ use Rattle.nano_spec.specs.Energy.{group_cost}
 use Rattle.nano_spec.specs.State.{State, seed_list}
 use Rattle.nano_spec.specs.Step.{harmonics_after, matrix_after}
 use Rattle.bot_crew.specs.Crew.{IsActive, bot_at, bot_of, replaced}
-
--- a bot and its command
-abbrev pub act : Bot → Command → Act
-act bot command = record { bot = bot; command = command }
+use Rattle.step_groups.specs.Judging.{act}
 
 -- no other bot stands there
 abbrev pub IsFreeFor : List Bot → Bot → Coord → Type 0
@@ -43,21 +40,21 @@ abbrev pub with_partner : List Bot → ℕ → (Bot → List Bot) → List Bot
 with_partner bots partner change = unwrap_or (option_map change (bot_of bots partner)) bots
 
 -- the bots after the turn
-abbrev pub bots_after : List Bot → Bot → ℕ → Command → List Bot
-bots_after bots bot partner Halt = []
-bots_after bots bot partner (SMove d) = replaced bots (bot.bid ∷ []) (moved bot (plus (point bot.pos) d) ∷ [])
-bots_after bots bot partner (LMove d e) = replaced bots (bot.bid ∷ []) (moved bot (plus (plus (point bot.pos) d) e) ∷ [])
-bots_after bots bot partner (Fission d m) = replaced bots (bot.bid ∷ []) (parent bot m ∷ newborn bot (plus (point bot.pos) d) m ∷ [])
-bots_after bots bot partner (FusionP d) = with_partner bots partner (λ other. replaced bots (bot.bid ∷ partner ∷ []) (fused bot other ∷ []))
-bots_after bots bot partner (FusionS d) = with_partner bots partner (λ other. replaced bots (partner ∷ bot.bid ∷ []) (fused other bot ∷ []))
-bots_after bots bot partner _ = bots
+abbrev pub bots_after_turn : List Bot → Bot → ℕ → Command → List Bot
+bots_after_turn bots bot partner Halt = []
+bots_after_turn bots bot partner (SMove d) = replaced bots (bot.bid ∷ []) (moved bot (plus (point bot.pos) d) ∷ [])
+bots_after_turn bots bot partner (LMove d e) = replaced bots (bot.bid ∷ []) (moved bot (plus (plus (point bot.pos) d) e) ∷ [])
+bots_after_turn bots bot partner (Fission d m) = replaced bots (bot.bid ∷ []) (parent bot m ∷ newborn bot (plus (point bot.pos) d) m ∷ [])
+bots_after_turn bots bot partner (FusionP d) = with_partner bots partner (λ other. replaced bots (bot.bid ∷ partner ∷ []) (fused bot other ∷ []))
+bots_after_turn bots bot partner (FusionS d) = with_partner bots partner (λ other. replaced bots (partner ∷ bot.bid ∷ []) (fused other bot ∷ []))
+bots_after_turn bots bot partner _ = bots
 
 -- the state after the turn
 abbrev pub after_turn : State → Bot → ℕ → Command → State
 after_turn s bot partner command = record {
   matrix = matrix_after s.matrix (act bot command ∷ []);
   harmonics = harmonics_after s.harmonics (act bot command ∷ []);
-  bots = bots_after s.bots bot partner command;
+  bots = bots_after_turn s.bots bot partner command;
   energy = s.energy +ℤ group_cost s.matrix (point bot.pos) command;
   profile = s.profile;
 }

@@ -2,4 +2,4 @@ pub mod Bounds
 pub mod Effects
 pub mod Painting
 pub mod Turns
-pub mod Work
+pub mod Edited

@@ -10,12 +10,12 @@ use Rattle.nano_spec.specs.Matrix.{Matrix, all_of, is_full, matrix_where}
 use Rattle.energy_sum.specs.Costs.{is_met, met}
 
 -- whether the coordinate is one of the cells
-abbrev pub is_among : List Coord → Coord → Bool
-is_among cells d = list_any (λ c. same_point (point d) (point c)) cells
+abbrev pub is_cell : List Coord → Coord → Bool
+is_cell cells d = list_any (λ c. same_point (point d) (point c)) cells
 
 -- the matrix in which the cells are full or void, and all other voxels as they were
 abbrev pub with_cells : Matrix → List Coord → Bool → Matrix
-with_cells m cells full = matrix_where m.resolution (λ d. cond (is_among cells d) full (is_full m d))
+with_cells m cells full = matrix_where m.resolution (λ d. cond (is_cell cells d) full (is_full m d))
 
 -- the matrix in which the region between two points is full or void
 abbrev pub with_span : Matrix → Span → Bool → Matrix

@@ -8,10 +8,7 @@ use Rattle.nano_spec.specs.Serial.{acts_of, leader_bids}
 use Rattle.nano_spec.specs.State.{State}
 use Rattle.step_order.specs.SomeGroups.{after_some}
 use Rattle.system_state.specs.declared.turns.Turn.{Turn}
-
--- the bid of an act's bot
-abbrev pub bid_of : Act → ℕ
-bid_of a = a.bot.bid
+use Rattle.step_groups.specs.Groups.{bid_of}
 
 -- the bid of the first of some acts that is of this act's group, or 0 where none is
 abbrev pub first_mate : Act → List Act → ℕ

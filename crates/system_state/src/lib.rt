@@ -7,12 +7,12 @@ mod moves;
 mod system;
 mod turns;
 mod voxels;
-mod work;
+mod edited;
 
 pub use known::{know, know_all};
 pub use system::System;
 pub use turns::{Turn, Turns};
-pub use work::{Work, work_of};
+pub use edited::{EditedRegion, edited_region};
 
 #[cfg(test)]
 mod tests;

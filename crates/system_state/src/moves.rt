@@ -2,7 +2,7 @@
 ghost use Rattle.std.specs.Prelude.{◌≡◌, ◌<◌, ◌+ℤ◌, pos, IsTrue};
 ghost use Rattle.vox_geom.specs.Point.{point, plus};
 ghost use Rattle.vox_geom.specs.Space.{IsInSpace, coordinate, in_range, in_space};
-ghost use Rattle.system_state.specs.Effects.{MayTake, bots_after};
+ghost use Rattle.system_state.specs.Effects.{MayTake, bots_after_turn};
 
 use bot_crew::Crew;
 use nano_spec::{Bot, Command};
@@ -35,7 +35,7 @@ pub(crate) fn target(r: u16, from: Coord, d: Diff) -> Coord
 /// The bots after the turn of the bot's group.
 pub(crate) fn move_bots(crew: &mut Crew, r: u16, bot: Bot, partner: u8, command: &Command)
     requires { MayTake r crew.old bot partner command.now }
-    ensures { crew.new ≡ bots_after crew.old bot partner command.now }
+    ensures { crew.new ≡ bots_after_turn crew.old bot partner command.now }
 {
     match command {
         Command::Halt => crew.halt(),

@@ -13,10 +13,10 @@ ghost use Rattle.nano_spec.specs.State.{IsReady, opening as opening_of};
 ghost use Rattle.nano_spec.specs.Step.{after, harmonics_after};
 ghost use Rattle.nano_spec.specs.Work.{volatile_total};
 ghost use Rattle.bot_crew.specs.Crew.{IsCrew, bot_of};
-ghost use Rattle.step_groups.specs.Judging.{is_alone};
+ghost use Rattle.step_groups.specs.Judging.{is_alone, act};
 ghost use Rattle.vox_planes.specs.Voxel.{IsWhole};
 ghost use Rattle.system_state.specs.Bounds.{IsPayable, IsWithin};
-ghost use Rattle.system_state.specs.Effects.{MayTake, act, after_turn};
+ghost use Rattle.system_state.specs.Effects.{MayTake, after_turn};
 ghost use Rattle.system_state.specs.Painting.{met_count};
 ghost use Rattle.system_state.specs.Turns.{AreAllTurns, AreTurns, FollowsOn, bots_after_some, leader_of};
 

@@ -7,8 +7,8 @@ ghost use Rattle.nano_spec.specs.declared.system.Bot.{Bot as ActiveBot};
 ghost use Rattle.nano_spec.specs.Act.{acts};
 ghost use Rattle.nano_spec.specs.Group.{is_leader, leaders, members};
 ghost use Rattle.step_groups.specs.Groups.{AreGroups};
-ghost use Rattle.system_state.specs.Effects.{act};
 ghost use Rattle.system_state.specs.Turns.{AreAllTurns, AreTurns, first_mate as first_mate_of, leader_of};
+ghost use Rattle.step_groups.specs.Judging.{act};
 
 use arrayvec::ArrayVec;
 use bot_crew::MOST_BOTS;

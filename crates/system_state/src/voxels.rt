@@ -6,15 +6,15 @@ ghost use Rattle.nano_spec.specs.Act.{stays_in_space};
 ghost use Rattle.nano_spec.specs.Energy.{group_cost};
 ghost use Rattle.nano_spec.specs.Matrix.{Matrix};
 ghost use Rattle.nano_spec.specs.Step.{matrix_after};
-ghost use Rattle.energy_sum.specs.Costs.{full_count, void_count};
+ghost use Rattle.energy_sum.specs.Costs.{met_full_count, void_count};
 ghost use Rattle.system_state.specs.Bounds.{IsWithin};
-ghost use Rattle.system_state.specs.Effects.{act};
-ghost use Rattle.system_state.specs.Work.{region_of};
+ghost use Rattle.system_state.specs.Edited.{region_of};
 ghost use Rattle.system_state.specs.Painting.{full_in, met_count, size_in, void_in, with_cells, with_span};
 ghost use Rattle.vox_planes.specs.Voxel.{IsWhole};
+ghost use Rattle.step_groups.specs.Judging.{act};
 
 use crate::known::know;
-use crate::work::{Work, work_of};
+use crate::edited::{EditedRegion, edited_region};
 use energy_sum::{a_group_costs_little, command_cost};
 use nano_spec::{Bot, Command};
 use std::sync::ledger::Ledger;
@@ -41,18 +41,18 @@ pub(crate) struct Met {
 }
 
 /// Makes the region full or void, and tells what it met.
-fn change_region<L: Ledger>(matrix: &mut Planes, work: Work, steps: &mut Steps<L>) -> Met
-    requires near { IsInSpace matrix.old.resolution work.near }
-    requires far { IsInSpace matrix.old.resolution work.far }
-    ensures matrix { matrix.new ≡ with_span matrix.old (region_of work) work.full }
-    ensures void { result.void ≡ void_in matrix.old (region_of work) }
-    ensures full { result.full ≡ full_in matrix.old (region_of work) }
-    ensures touches { steps.new ≤ steps.old + size_in matrix.old (region_of work) }
+fn change_region<L: Ledger>(matrix: &mut Planes, edited: EditedRegion, steps: &mut Steps<L>) -> Met
+    requires near { IsInSpace matrix.old.resolution edited.near }
+    requires far { IsInSpace matrix.old.resolution edited.far }
+    ensures matrix { matrix.new ≡ with_span matrix.old (region_of edited) edited.full }
+    ensures void { result.void ≡ void_in matrix.old (region_of edited) }
+    ensures full { result.full ≡ full_in matrix.old (region_of edited) }
+    ensures touches { steps.new ≤ steps.old + size_in matrix.old (region_of edited) }
 {
     let _ = matrix.resolution();
-    let region = Region::of(work.near, work.far);
-    let others = matrix.set_region(&region, work.full, steps);
-    met_by(region.size(), others, work.full)
+    let region = Region::of(edited.near, edited.far);
+    let others = matrix.set_region(&region, edited.full, steps);
+    met_by(region.size(), others, edited.full)
 }
 
 /// What is met in a region of which so many voxels were not yet full, or else not yet void.
@@ -77,7 +77,7 @@ fn met_by(size: u32, others: u32, full: bool) -> Met
 
 /// What the turn of a group costs, by its leader's command.
 fn turn_cost(command: &Command, met: Met) -> i64
-    ensures cost { (m : Matrix) (p : Point) → met.void ≡ void_count m p command.now → met.full ≡ full_count m p command.now → result ≡ group_cost m p command.now }
+    ensures cost { (m : Matrix) (p : Point) → met.void ≡ void_count m p command.now → met.full ≡ met_full_count m p command.now → result ≡ group_cost m p command.now }
 {
     match command {
         Command::FusionS(d) => command_cost(Command::FusionP(*d), met.void, met.full),
@@ -106,11 +106,11 @@ fn change_voxels<L: Ledger>(
     requires stays { IsTrue (stays_in_space matrix.old.resolution (act bot command.now)) }
     ensures matrix { matrix.new ≡ matrix_after matrix.old (act bot command.now ∷ []) }
     ensures void { result.void ≡ void_count matrix.old (point bot.pos) command.now }
-    ensures full { result.full ≡ full_count matrix.old (point bot.pos) command.now }
+    ensures full { result.full ≡ met_full_count matrix.old (point bot.pos) command.now }
     ensures touches { steps.new ≤ steps.old + met_count matrix.old bot command.now }
 {
-    match work_of(matrix.resolution(), bot, command) {
-        Some(work) => change_region(matrix, work, steps),
+    match edited_region(matrix.resolution(), bot, command) {
+        Some(edited) => change_region(matrix, edited, steps),
         None => Met { void: 0, full: 0 },
     }
 }

@@ -14,7 +14,7 @@ use Rattle.nano_spec.proofs.Decoder.{long_is, short_is}
 use Rattle.nano_spec.proofs.Grounding.{left, right}
 use Rattle.trace_codec.specs.declared.one.FarFront.TheVariants as far
 use Rattle.trace_codec.specs.FarFront.{SaysFar}
-use Rattle.trace_codec.specs.One.{IsRefused}
+use Rattle.trace_codec.specs.One.{IsNoCommand}
 
 -- the bytes begin with those of a far difference
 abbrev pub HasFar : List ℕ → Type 0
@@ -73,11 +73,11 @@ front (GFill d f) h bytes y i e = far_front h 1 d f bytes y (left (is_near d) (i
 front (GVoid d f) h bytes y i e = far_front h 0 d f bytes y (left (is_near d) (is_far f) i) (right (is_near d) (is_far f) i) (omega arith) (omega arith) e
 
 -- bytes are refused where they agree with no spelling, however both go on
-pub refused : (bytes : List ℕ) → ((c : Command) (x y : List ℕ) → IsCommand c → bytes ++ x ≡ spelling c ++ y → ⊥) → IsRefused bytes
+pub refused : (bytes : List ℕ) → ((c : Command) (x y : List ℕ) → IsCommand c → bytes ++ x ≡ spelling c ++ y → ⊥) → IsNoCommand bytes
 refused bytes none = (λ c y i e. none c [] y i (append-nil bytes ∙ e), λ b. none b.0 b.1 [] b.2 (b.4 ∙ sym (append-nil (spelling b.0))))
 
 -- the same of a first byte and the bytes after it
-pub refused_by : (h : ℕ) (bytes : List ℕ) → ((x : List ℕ) → Front h (bytes ++ x) → ⊥) → IsRefused (h ∷ bytes)
+pub refused_by : (h : ℕ) (bytes : List ℕ) → ((x : List ℕ) → Front h (bytes ++ x) → ⊥) → IsNoCommand (h ∷ bytes)
 refused_by h bytes none = refused (h ∷ bytes) (λ c x y i e. none x (front c h (bytes ++ x) y i e))
 
 -- ---- what bytes begin
@@ -124,7 +124,7 @@ begins_short a b bytes l m n o z =
 
 -- ---- what bytes are refused
 
-pub refused_group : (d : Diff) (k : ℕ) (bytes : List ℕ) → k < 2 → IsNear d → SaysFar bytes far.Bad → IsRefused ((8 * near_code d + k) ∷ bytes)
+pub refused_group : (d : Diff) (k : ℕ) (bytes : List ℕ) → k < 2 → IsNear d → SaysFar bytes far.Bad → IsNoCommand ((8 * near_code d + k) ∷ bytes)
 refused_group d k bytes l n h = refused_by (8 * near_code d + k) bytes (λ x f. no_group x f)
   where
     no_group : (x : List ℕ) → Front (8 * near_code d + k) (bytes ++ x) → ⊥
@@ -144,10 +144,10 @@ no_short_at a b v bytes l m (by_short d e n o p q r s t u) =
     let w : v ≡ 16 * raised (component e) 5 + raised (component d) 5 = same_head v _ bytes u.0 u.1 in
     (d, e, n, o, omega arith, omega arith, omega arith, omega arith)
 
-pub refused_first : (a b : ℕ) (bytes : List ℕ) → a ≤ 3 → b ≤ 3 → 1 ≤ length bytes → ((d : Diff) → IsShort d → axis d ≡ a → raised (component d) 5 ≡ get_or bytes 0 0 % 16 → ⊥) → IsRefused ((64 * b + 16 * a + 12) ∷ bytes)
+pub refused_first : (a b : ℕ) (bytes : List ℕ) → a ≤ 3 → b ≤ 3 → 1 ≤ length bytes → ((d : Diff) → IsShort d → axis d ≡ a → raised (component d) 5 ≡ get_or bytes 0 0 % 16 → ⊥) → IsNoCommand ((64 * b + 16 * a + 12) ∷ bytes)
 refused_first a b [] l m n h = absurd (omega arith)
 refused_first a b (v ∷ bytes) l m n h = refused_by _ (v ∷ bytes) (λ x f. let s = no_short_at a b v (bytes ++ x) l m f in h s.0 s.2 s.4 s.6)
 
-pub refused_second : (a b : ℕ) (bytes : List ℕ) → a ≤ 3 → b ≤ 3 → 1 ≤ length bytes → ((d : Diff) → IsShort d → axis d ≡ b → raised (component d) 5 ≡ get_or bytes 0 0 / 16 → ⊥) → IsRefused ((64 * b + 16 * a + 12) ∷ bytes)
+pub refused_second : (a b : ℕ) (bytes : List ℕ) → a ≤ 3 → b ≤ 3 → 1 ≤ length bytes → ((d : Diff) → IsShort d → axis d ≡ b → raised (component d) 5 ≡ get_or bytes 0 0 / 16 → ⊥) → IsNoCommand ((64 * b + 16 * a + 12) ∷ bytes)
 refused_second a b [] l m n h = absurd (omega arith)
 refused_second a b (v ∷ bytes) l m n h = refused_by _ (v ∷ bytes) (λ x f. let s = no_short_at a b v (bytes ++ x) l m f in h s.1 s.3 s.5 s.7)

@@ -1,6 +1,6 @@
 pub mod Far
 pub mod Fronts
 pub mod Pieces
-pub mod Taken
+pub mod TakenBytes
 pub mod Unique
 pub mod WholeTraces

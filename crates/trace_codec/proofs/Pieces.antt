@@ -13,8 +13,8 @@ use Rattle.trace_codec.specs.declared.decoder.Fed.{Fed}
 use Rattle.trace_codec.specs.declared.decoder.Fed.TheVariants as fed
 use Rattle.trace_codec.specs.declared.one.One.{One}
 use Rattle.trace_codec.specs.declared.one.One.TheVariants.{Got, More, Bad}
-use Rattle.trace_codec.specs.Decoder.{DecoderState, Completes, Answers}
-use Rattle.trace_codec.specs.One.{Spells, Says, IsRefused}
+use Rattle.trace_codec.specs.Decoder.{DecoderState, Completes, AnswersPiece}
+use Rattle.trace_codec.specs.One.{Spells, BeginsWith, IsNoCommand}
 use Rattle.trace_codec.proofs.Unique.{no_part, nil_of, same_command}
 
 -- ---- lengths
@@ -60,7 +60,7 @@ prefix (u ∷ a) (v ∷ b) x y e l = by_tails (prefix a b x y (tails u v (a ++ x
     by_tails (r, p) q = (r, λ i. q i ∷ p i)
 
 -- what is refused is refused however it goes on
-pub refused_more : (bytes more : List ℕ) → IsRefused bytes → IsRefused (bytes ++ more)
+pub refused_more : (bytes more : List ℕ) → IsNoCommand bytes → IsNoCommand (bytes ++ more)
 refused_more bytes more h = (none, part)
   where
     longer : (c : Command) (r : List ℕ) → length bytes < length (spelling c) → spelling c ≡ bytes ++ r → r ≢ []
@@ -79,7 +79,7 @@ refused_more bytes more h = (none, part)
     part (c, m, i, n, e) = h.1 (c, more ++ m, i, λ z. n (nil_of more m z), sym (append_assoc bytes more m) ∙ e)
 
 -- four bytes tell what all that go on as they do begin with
-pub says_more : (front rest : List ℕ) (one : One) → 4 ≤ length front → Says front one → Says (front ++ rest) one
+pub says_more : (front rest : List ℕ) (one : One) → 4 ≤ length front → BeginsWith front one → BeginsWith (front ++ rest) one
 says_more front rest (Got c n) l s = record {
   is_command = s.is_command;
   within = let k = s.within in omega (arith, length-append front rest);
@@ -89,18 +89,18 @@ says_more front rest More l s = let k = begins_short front s in absurd (omega ar
 says_more front rest Bad l s = refused_more front rest s
 
 -- the held bytes, and as many of the piece as make four, tell what all of them begin with
-pub says_joined : (held piece bytes : List ℕ) (one : One) → length held < 4 → bytes ≡ held ++ take (min (length piece) (4 - length held)) piece → Says bytes one → Says (held ++ piece) one
-says_joined held piece bytes one l e s = by_length (min (length piece) (4 - length held)) refl (cases_lt (min (length piece) (4 - length held)) (length piece)) (subst (λ (b : List ℕ). Says b one) e s)
+pub says_joined : (held piece bytes : List ℕ) (one : One) → length held < 4 → bytes ≡ held ++ take (min (length piece) (4 - length held)) piece → BeginsWith bytes one → BeginsWith (held ++ piece) one
+says_joined held piece bytes one l e s = by_length (min (length piece) (4 - length held)) refl (cases_lt (min (length piece) (4 - length held)) (length piece)) (subst (λ (b : List ℕ). BeginsWith b one) e s)
   where
-    by_length : (n : ℕ) → n ≡ min (length piece) (4 - length held) → (n < length piece) ⊎ (length piece ≤ n) → Says (held ++ take n piece) one → Says (held ++ piece) one
+    by_length : (n : ℕ) → n ≡ min (length piece) (4 - length held) → (n < length piece) ⊎ (length piece ≤ n) → BeginsWith (held ++ take n piece) one → BeginsWith (held ++ piece) one
     by_length n m (inl k) s =
         let four : 4 ≤ length (held ++ take n piece) = omega (arith, length-append held (take n piece), length-take n piece) in
-        subst (λ (b : List ℕ). Says b one) (append_assoc held (take n piece) (drop n piece) ∙ ap (λ x. held ++ x) (take-append-drop n piece)) (says_more (held ++ take n piece) (drop n piece) one four s)
-    by_length n m (inr k) s = subst (λ (b : List ℕ). Says (held ++ b) one) (take_all n piece k) s
+        subst (λ (b : List ℕ). BeginsWith b one) (append_assoc held (take n piece) (drop n piece) ∙ ap (λ x. held ++ x) (take-append-drop n piece)) (says_more (held ++ take n piece) (drop n piece) one four s)
+    by_length n m (inr k) s = subst (λ (b : List ℕ). BeginsWith (held ++ b) one) (take_all n piece k) s
 
 -- where nothing is held the piece does
-pub says_alone : (held piece bytes : List ℕ) (one : One) → length held ≡ 0 → bytes ≡ piece → Says bytes one → Says (held ++ piece) one
-says_alone [] piece bytes one l e s = subst (λ (b : List ℕ). Says b one) e s
+pub says_alone : (held piece bytes : List ℕ) (one : One) → length held ≡ 0 → bytes ≡ piece → BeginsWith bytes one → BeginsWith (held ++ piece) one
+says_alone [] piece bytes one l e s = subst (λ (b : List ℕ). BeginsWith b one) e s
 says_alone (b ∷ held) piece bytes one l e s = absurd (omega arith)
 
 -- ---- what a decoder answers
@@ -142,7 +142,7 @@ not_both : (decoder : DecoderState) → IsFalse decoder.failed → IsTrue decode
 not_both decoder f t = cc
 
 -- a decoder has one answer to a piece
-pub Answers-unique : (decoder : DecoderState) (piece : List ℕ) (a b : Fed) → Answers decoder piece a → Answers decoder piece b → a ≡ b
+pub Answers-unique : (decoder : DecoderState) (piece : List ℕ) (a b : Fed) → AnswersPiece decoder piece a → AnswersPiece decoder piece b → a ≡ b
 Answers-unique decoder piece (fed.Got c n) (fed.Got d m) s t =
     let e = same_command (decoder.held ++ piece) c d _ _ s.is_command t.is_command (fed_split decoder piece c n s) (fed_split decoder piece d m t) in
     let k : length (spelling c) ≡ length (spelling d) = ap (λ x. length (spelling x)) e in

@@ -9,7 +9,7 @@ use Rattle.nano_spec.specs.Spelling.{spelling}
 use Rattle.nano_spec.proofs.Traces.{one_spelling}
 use Rattle.trace_codec.specs.declared.one.One.{One}
 use Rattle.trace_codec.specs.declared.one.One.TheVariants.{Got, More, Bad}
-use Rattle.trace_codec.specs.One.{Spells, Says}
+use Rattle.trace_codec.specs.One.{Spells, BeginsWith}
 
 -- no bytes begin a spelling
 pub begins_nil : BeginsSpelling []
@@ -39,7 +39,7 @@ no_part bytes rest c i e b =
 pub same_command : (bytes : List ℕ) (c d : Command) (x y : List ℕ) → IsCommand c → IsCommand d → bytes ≡ spelling c ++ x → bytes ≡ spelling d ++ y → c ≡ d
 same_command bytes c d x y i j e f = (one_spelling c d x y i j (sym e ∙ f)).0
 
-pub Says-unique : (bytes : List ℕ) (a b : One) → Says bytes a → Says bytes b → a ≡ b
+pub Says-unique : (bytes : List ℕ) (a b : One) → BeginsWith bytes a → BeginsWith bytes b → a ≡ b
 Says-unique bytes (Got c n) (Got d m) s t =
     let e = same_command bytes c d _ _ s.is_command t.is_command (split bytes c n s) (split bytes d m t) in
     let l : n ≡ m = len_is bytes c n s ∙ (ap (λ x. length (spelling x)) e ∙ sym (len_is bytes d m t)) in

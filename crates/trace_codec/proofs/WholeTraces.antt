@@ -9,13 +9,13 @@ use Rattle.nano_spec.specs.Spelling.{spelling, spellings}
 use Rattle.nano_spec.proofs.Traces.{Decoding-unique}
 use Rattle.trace_codec.specs.declared.fault.TraceFault.{TraceFault}
 use Rattle.trace_codec.specs.declared.fault.TraceFault.TheVariants.{Bad, Cut, Memory}
-use Rattle.trace_codec.specs.One.{Spells, IsRefused}
-use Rattle.trace_codec.specs.Whole.{Decodes, IsAnswer}
-use Rattle.trace_codec.proofs.Taken.{are_commands_more, spellings_more, bad_at, cut_at, whole}
+use Rattle.trace_codec.specs.One.{Spells, IsNoCommand}
+use Rattle.trace_codec.specs.Whole.{Decodes, IsDecoding}
+use Rattle.trace_codec.proofs.TakenBytes.{are_commands_more, spellings_more, bad_at, cut_at, whole}
 use Rattle.trace_codec.proofs.Unique.{split, len_is}
 
 -- the answer is how the bytes are decoded, and bytes are decoded in one way
-pub is_answer : (bytes : List ℕ) (answer : Result (List Command) TraceFault) (decoding : Result (List Command) NoTrace) → Decodes bytes answer → Decoding bytes decoding → IsAnswer answer decoding
+pub is_answer : (bytes : List ℕ) (answer : Result (List Command) TraceFault) (decoding : Result (List Command) NoTrace) → Decodes bytes answer → Decoding bytes decoding → IsDecoding answer decoding
 is_answer bytes (Ok commands) decoding h k = Decoding-unique bytes decoding (Ok commands) k h
 is_answer bytes (Err (Bad offset)) decoding h k = Decoding-unique bytes decoding (Err (BadAt offset)) k h
 is_answer bytes (Err (Cut offset)) decoding h k = Decoding-unique bytes decoding (Err (CutAt offset)) k h
@@ -28,7 +28,7 @@ same_commands a b e = cc
 pub decoded_again : (commands : List Command) (bytes : List ℕ) (answer : Result (List Command) TraceFault) → Cutting bytes commands → Decodes bytes answer → answer ≢ Err Memory → answer ≡ Ok commands
 decoded_again commands bytes answer h k n = by_answer answer (is_answer bytes answer (Ok commands) k h) n
   where
-    by_answer : (answer : Result (List Command) TraceFault) → IsAnswer answer (Ok commands) → answer ≢ Err Memory → answer ≡ Ok commands
+    by_answer : (answer : Result (List Command) TraceFault) → IsDecoding answer (Ok commands) → answer ≢ Err Memory → answer ≡ Ok commands
     by_answer (Ok others) e n = ap Ok (sym (same_commands commands others e))
     by_answer (Err (Bad offset)) e n = cc
     by_answer (Err (Cut offset)) e n = cc
@@ -73,8 +73,8 @@ cut_more bytes commands start c len h s = cut_on bytes commands start c len h (s
 pub ends_in_command : (bytes : List ℕ) (commands : List Command) (start : ℕ) → HasCut bytes commands start → start < length bytes → BeginsSpelling (left_from bytes start) → Decoding bytes (Err (CutAt start))
 ends_in_command bytes commands start h l b = cut_at bytes commands (drop start bytes) start h.are_commands h.bytes_are h.start_is (some_left bytes start l) (subst (λ (b : List ℕ). BeginsSpelling b) (take_rest bytes start) b)
 
-pub is_refused : (bytes : List ℕ) (commands : List Command) (start : ℕ) → HasCut bytes commands start → IsRefused (left_from bytes start) → Decoding bytes (Err (BadAt start))
-is_refused bytes commands start h r = bad_at bytes commands (drop start bytes) start h.are_commands h.bytes_are h.start_is (subst (λ (b : List ℕ). IsRefused b) (take_rest bytes start) r)
+pub is_refused : (bytes : List ℕ) (commands : List Command) (start : ℕ) → HasCut bytes commands start → IsNoCommand (left_from bytes start) → Decoding bytes (Err (BadAt start))
+is_refused bytes commands start h r = bad_at bytes commands (drop start bytes) start h.are_commands h.bytes_are h.start_is (subst (λ (b : List ℕ). IsNoCommand b) (take_rest bytes start) r)
 
 pub is_whole : (bytes : List ℕ) (commands : List Command) (start : ℕ) → HasCut bytes commands start → length bytes ≤ start → Decoding bytes (Ok commands)
 is_whole bytes commands start h l = whole bytes commands (drop start bytes) h.are_commands h.bytes_are (drop_all start bytes l)

@@ -8,7 +8,7 @@ use Rattle.trace_codec.specs.declared.decoder.Fed.{Fed}
 use Rattle.trace_codec.specs.declared.decoder.Fed.TheVariants.{Got, All, Bad}
 use Rattle.trace_codec.specs.declared.fault.TraceFault.{TraceFault}
 use Rattle.trace_codec.specs.declared.fault.TraceFault.TheVariants as fault
-use Rattle.trace_codec.specs.One.{IsRefused}
+use Rattle.trace_codec.specs.One.{IsNoCommand}
 
 -- a decoder as contracts see it: the bytes that it holds of the next command, where the first of them stands in the trace, and whether it has failed
 pub record DecoderState : Type 0 where
@@ -33,29 +33,29 @@ pub record Completes (decoder : DecoderState) (piece : List ℕ) (command : Comm
   pub spelling_is : decoder.held ++ take used piece ≡ spelling command
 
 -- what a decoder answers to a piece
-abbrev pub Answers : DecoderState → List ℕ → Fed → Type 0
-Answers decoder piece (Got command used) = Completes decoder piece command used
-Answers decoder piece All = IsFalse decoder.failed × BeginsSpelling (decoder.held ++ piece)
-Answers decoder piece (Bad offset) = (offset ≡ decoder.offset) × (IsTrue decoder.failed ⊎ IsRefused (decoder.held ++ piece))
+abbrev pub AnswersPiece : DecoderState → List ℕ → Fed → Type 0
+AnswersPiece decoder piece (Got command used) = Completes decoder piece command used
+AnswersPiece decoder piece All = IsFalse decoder.failed × BeginsSpelling (decoder.held ++ piece)
+AnswersPiece decoder piece (Bad offset) = (offset ≡ decoder.offset) × (IsTrue decoder.failed ⊎ IsNoCommand (decoder.held ++ piece))
 
 -- what a decoder is after that answer
-abbrev pub after : DecoderState → List ℕ → Fed → DecoderState
-after decoder piece (Got command used) = record { held = []; offset = decoder.offset + length (spelling command); failed = false }
-after decoder piece All = record { held = decoder.held ++ piece; offset = decoder.offset; failed = false }
-after decoder piece (Bad offset) = record { held = decoder.held; offset = decoder.offset; failed = true }
+abbrev pub decoder_after : DecoderState → List ℕ → Fed → DecoderState
+decoder_after decoder piece (Got command used) = record { held = []; offset = decoder.offset + length (spelling command); failed = false }
+decoder_after decoder piece All = record { held = decoder.held ++ piece; offset = decoder.offset; failed = false }
+decoder_after decoder piece (Bad offset) = record { held = decoder.held; offset = decoder.offset; failed = true }
 
 -- how many bytes of the piece a decoder has taken with that answer
-abbrev pub taken : List ℕ → Fed → ℕ
-taken piece (Got command used) = used
-taken piece All = length piece
-taken piece (Bad offset) = 0
+abbrev pub bytes_taken : List ℕ → Fed → ℕ
+bytes_taken piece (Got command used) = used
+bytes_taken piece All = length piece
+bytes_taken piece (Bad offset) = 0
 
 -- what a decoder answers where no more bytes come
-abbrev pub Ends : {A : Type 0} → DecoderState → Result A TraceFault → Type 0
-Ends decoder (Ok _) = IsFalse decoder.failed × (decoder.held ≡ [])
-Ends decoder (Err (fault.Cut offset)) = IsFalse decoder.failed × (decoder.held ≢ []) × (offset ≡ decoder.offset)
-Ends decoder (Err (fault.Bad offset)) = IsTrue decoder.failed × (offset ≡ decoder.offset)
-Ends decoder (Err fault.Memory) = ⊥
+abbrev pub EndsTrace : {A : Type 0} → DecoderState → Result A TraceFault → Type 0
+EndsTrace decoder (Ok _) = IsFalse decoder.failed × (decoder.held ≡ [])
+EndsTrace decoder (Err (fault.Cut offset)) = IsFalse decoder.failed × (decoder.held ≢ []) × (offset ≡ decoder.offset)
+EndsTrace decoder (Err (fault.Bad offset)) = IsTrue decoder.failed × (offset ≡ decoder.offset)
+EndsTrace decoder (Err fault.Memory) = ⊥
 
 -- the decoder has taken the bytes, and has given the commands: their spellings, and after them what is held, are the bytes
 pub record HasTaken (bytes : List ℕ) (commands : List Command) (decoder : DecoderState) : Type 0 where

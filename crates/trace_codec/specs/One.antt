@@ -18,11 +18,11 @@ abbrev pub NoSpelling : List ℕ → Type 0
 NoSpelling bytes = (command : Command) (rest : List ℕ) → IsCommand command → bytes ≡ spelling command ++ rest → ⊥
 
 -- no spelling begins the bytes, and they are no part of one
-abbrev pub IsRefused : List ℕ → Type 0
-IsRefused bytes = NoSpelling bytes × (BeginsSpelling bytes → ⊥)
+abbrev pub IsNoCommand : List ℕ → Type 0
+IsNoCommand bytes = NoSpelling bytes × (BeginsSpelling bytes → ⊥)
 
 -- what the bytes begin with
-abbrev pub Says : List ℕ → One → Type 0
-Says bytes (Got command len) = Spells bytes command len
-Says bytes More = BeginsSpelling bytes
-Says bytes Bad = IsRefused bytes
+abbrev pub BeginsWith : List ℕ → One → Type 0
+BeginsWith bytes (Got command len) = Spells bytes command len
+BeginsWith bytes More = BeginsSpelling bytes
+BeginsWith bytes Bad = IsNoCommand bytes

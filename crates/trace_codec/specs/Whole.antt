@@ -13,8 +13,8 @@ Decodes bytes (Err (Cut offset)) = Decoding bytes (Err (CutAt offset))
 Decodes bytes (Err Memory) = ⊤
 
 -- the answer is this one, unless there was no memory
-abbrev pub IsAnswer : Result (List Command) TraceFault → Result (List Command) NoTrace → Type 0
-IsAnswer (Ok commands) decoding = decoding ≡ Ok commands
-IsAnswer (Err (Bad offset)) decoding = decoding ≡ Err (BadAt offset)
-IsAnswer (Err (Cut offset)) decoding = decoding ≡ Err (CutAt offset)
-IsAnswer (Err Memory) decoding = ⊤
+abbrev pub IsDecoding : Result (List Command) TraceFault → Result (List Command) NoTrace → Type 0
+IsDecoding (Ok commands) decoding = decoding ≡ Ok commands
+IsDecoding (Err (Bad offset)) decoding = decoding ≡ Err (BadAt offset)
+IsDecoding (Err (Cut offset)) decoding = decoding ≡ Err (CutAt offset)
+IsDecoding (Err Memory) decoding = ⊤

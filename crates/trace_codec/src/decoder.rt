@@ -1,8 +1,8 @@
 //! A trace that comes in pieces.
 ghost use Rattle.std.specs.Prelude.{◌≡◌, ◌↔◌, ℕ, ◌+◌, ◌-◌, ◌<◌, ◌≤◌, ◌^◌, true, IsFalse, List, [], ◌∷◌, ◌++◌, length, min, take as front_of};
 ghost use Rattle.trace_codec.specs.declared.decoder.Fed.{Fed};
-ghost use Rattle.trace_codec.specs.Decoder.{Answers, Ends, IsBetween, after, fresh, taken};
-ghost use Rattle.trace_codec.specs.One.{Says};
+ghost use Rattle.trace_codec.specs.Decoder.{AnswersPiece, EndsTrace, IsBetween, decoder_after, fresh, bytes_taken};
+ghost use Rattle.trace_codec.specs.One.{BeginsWith};
 
 use crate::fault::TraceFault;
 use crate::one::{One, decode_by, decode_one};
@@ -57,12 +57,12 @@ impl Decoder {
     pub fn feed(&mut self, piece: &[u8]) -> Fed
         requires { self.old.offset + length self.old.held + length piece.now < 2 ^ 63 }
         // What the answer says of the bytes.
-        ensures answer { Answers self.old piece.now result }
+        ensures answer { AnswersPiece self.old piece.now result }
         // No other answer says something true.
-        ensures only { (other : Fed) → Answers self.old piece.now other → other ≡ result }
-        ensures after { self.new ≡ after self.old piece.now result }
+        ensures only { (other : Fed) → AnswersPiece self.old piece.now other → other ≡ result }
+        ensures after { self.new ≡ decoder_after self.old piece.now result }
         ensures held { length self.new.held ≤ 3 }
-        ensures taken { self.new.offset + length self.new.held ≡ self.old.offset + length self.old.held + taken piece.now result }
+        ensures taken { self.new.offset + length self.new.held ≡ self.old.offset + length self.old.held + bytes_taken piece.now result }
     {
         if self.failed {
             return Fed::Bad {
@@ -87,9 +87,9 @@ impl Decoder {
         requires between { IsBetween self.old }
         requires head { (rest : List ℕ) × (piece.now ≡ head ∷ rest) }
         requires few { self.old.offset + length self.old.held + length piece.now < 2 ^ 63 }
-        ensures answer { Answers self.old piece.now result }
-        ensures after { self.new ≡ after self.old piece.now result }
-        ensures taken { self.new.offset + length self.new.held ≡ self.old.offset + length self.old.held + taken piece.now result }
+        ensures answer { AnswersPiece self.old piece.now result }
+        ensures after { self.new ≡ decoder_after self.old piece.now result }
+        ensures taken { self.new.offset + length self.new.held ≡ self.old.offset + length self.old.held + bytes_taken piece.now result }
     {
         match decode_by(head, piece) {
             One::Got { command, len } => {
@@ -107,12 +107,12 @@ impl Decoder {
     #[inline(always)]
     fn take(&mut self, front: One, piece: &[u8]) -> Fed
         requires works { IsFalse self.old.failed }
-        requires says { Says (self.old.held ++ piece.now) front }
+        requires says { BeginsWith (self.old.held ++ piece.now) front }
         requires few { self.old.offset + length self.old.held + length piece.now < 2 ^ 63 }
-        ensures answer { Answers self.old piece.now result }
-        ensures after { self.new ≡ after self.old piece.now result }
+        ensures answer { AnswersPiece self.old piece.now result }
+        ensures after { self.new ≡ decoder_after self.old piece.now result }
         ensures held { length self.new.held ≤ 3 }
-        ensures taken { self.new.offset + length self.new.held ≡ self.old.offset + length self.old.held + taken piece.now result }
+        ensures taken { self.new.offset + length self.new.held ≡ self.old.offset + length self.old.held + bytes_taken piece.now result }
     {
         match front {
             One::Got { command, len } => {
@@ -137,7 +137,7 @@ impl Decoder {
     /// What the held bytes and the piece begin with.
     #[inline(always)]
     fn front(&self, piece: &[u8]) -> One
-        ensures { Says (self.now.held ++ piece.now) result }
+        ensures { BeginsWith (self.now.held ++ piece.now) result }
     {
         let mut joined = ArrayVec::new();
         let bytes = if self.held.is_empty() {
@@ -159,7 +159,7 @@ impl Decoder {
 
     /// Whether the trace may end here.
     pub fn end(&self) -> Result<(), TraceFault>
-        ensures { Ends self.now result }
+        ensures { EndsTrace self.now result }
     {
         if self.failed {
             Err(TraceFault::Bad {

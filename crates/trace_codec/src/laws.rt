@@ -5,7 +5,7 @@ ghost use Rattle.nano_spec.specs.Cutting.{BadAt, Cutting, Decoding};
 ghost use Rattle.trace_codec.specs.declared.decoder.Fed.TheVariants as fed;
 ghost use Rattle.trace_codec.specs.declared.fault.TraceFault.{TraceFault};
 ghost use Rattle.trace_codec.specs.declared.fault.TraceFault.TheVariants as fault;
-ghost use Rattle.trace_codec.specs.Decoder.{Answers, DecoderState, Ends, HasTaken, after, fresh};
+ghost use Rattle.trace_codec.specs.Decoder.{AnswersPiece, DecoderState, EndsTrace, HasTaken, decoder_after, fresh};
 ghost use Rattle.trace_codec.specs.Whole.{Decodes};
 
 /// A decoder cuts a trace as a whole is cut, in whatever pieces it comes. What it has taken stands to what it has given
@@ -13,22 +13,22 @@ ghost use Rattle.trace_codec.specs.Whole.{Decodes};
 pub fn pieces_decode()
     ensures start { HasTaken [] [] fresh }
     ensures got { (bytes piece : List ℕ) (commands : List Command) (decoder : DecoderState) (command : Command) (used : ℕ) →
-        HasTaken bytes commands decoder → Answers decoder piece (fed.Got command used) →
-        HasTaken (bytes ++ take used piece) (commands ++ command ∷ []) (after decoder piece (fed.Got command used)) }
+        HasTaken bytes commands decoder → AnswersPiece decoder piece (fed.Got command used) →
+        HasTaken (bytes ++ take used piece) (commands ++ command ∷ []) (decoder_after decoder piece (fed.Got command used)) }
     ensures all { (bytes piece : List ℕ) (commands : List Command) (decoder : DecoderState) →
-        HasTaken bytes commands decoder → Answers decoder piece fed.All →
-        HasTaken (bytes ++ piece) commands (after decoder piece fed.All) }
+        HasTaken bytes commands decoder → AnswersPiece decoder piece fed.All →
+        HasTaken (bytes ++ piece) commands (decoder_after decoder piece fed.All) }
 
     // Whatever bytes follow.
     ensures bad { (bytes piece more : List ℕ) (commands : List Command) (decoder : DecoderState) (offset : ℕ) →
-        HasTaken bytes commands decoder → Answers decoder piece (fed.Bad offset) →
+        HasTaken bytes commands decoder → AnswersPiece decoder piece (fed.Bad offset) →
         Decoding ((bytes ++ piece) ++ more) (Err (BadAt offset)) }
 
     // Where no more bytes come.
     ensures whole { (bytes : List ℕ) (commands : List Command) (decoder : DecoderState) →
-        HasTaken bytes commands decoder → Ends {A = Unit {0}} decoder (Ok tt) → Decodes bytes (Ok commands) }
+        HasTaken bytes commands decoder → EndsTrace {A = Unit {0}} decoder (Ok tt) → Decodes bytes (Ok commands) }
     ensures cut { (bytes : List ℕ) (commands : List Command) (decoder : DecoderState) (fault : TraceFault) →
-        HasTaken bytes commands decoder → Ends {A = Unit {0}} decoder (Err fault) → Decodes bytes (Err fault) }
+        HasTaken bytes commands decoder → EndsTrace {A = Unit {0}} decoder (Err fault) → Decodes bytes (Err fault) }
 {}
 
 /// Commands that are encoded are decoded as the same commands, and a trace that is decoded is encoded as the same bytes.

@@ -3,7 +3,7 @@ ghost use Rattle.std.specs.Prelude.{◌≡◌, ◌≢◌, ◌+◌, ◌*◌, ◌%
 ghost use Rattle.vox_geom.specs.Difference.{IsNear};
 ghost use Rattle.nano_spec.specs.Spelling.{near_code};
 ghost use Rattle.trace_codec.specs.FarFront.{SaysFar};
-ghost use Rattle.trace_codec.specs.One.{Says};
+ghost use Rattle.trace_codec.specs.One.{BeginsWith};
 ghost use Rattle.trace_codec.specs.declared.one.One.{One};
 
 use crate::codes::{far_at, long_at, near_at, short_at};
@@ -25,9 +25,9 @@ pub enum One {
 #[inline(always)]
 pub fn decode_one(bytes: &[u8]) -> One
     // What the answer says of the bytes.
-    ensures answer { Says bytes.now result }
+    ensures answer { BeginsWith bytes.now result }
     // No other answer says something true.
-    ensures only { (other : One) → Says bytes.now other → other ≡ result }
+    ensures only { (other : One) → BeginsWith bytes.now other → other ≡ result }
 {
     match bytes {
         [] => One::More,
@@ -39,7 +39,7 @@ pub fn decode_one(bytes: &[u8]) -> One
 #[inline(always)]
 pub(crate) fn decode_by(head: u8, bytes: &[u8]) -> One
     requires { (rest : List ℕ) × (bytes.now ≡ head ∷ rest) }
-    ensures { Says bytes.now result }
+    ensures { BeginsWith bytes.now result }
 {
     decode_from(head, &bytes[1..])
 }
@@ -47,7 +47,7 @@ pub(crate) fn decode_by(head: u8, bytes: &[u8]) -> One
 /// What a byte and the bytes after it begin with.
 #[inline(always)]
 fn decode_from(head: u8, rest: &[u8]) -> One
-    ensures { Says (head ∷ rest.now) result }
+    ensures { BeginsWith (head ∷ rest.now) result }
 {
     if head % 8 == 0b100 {
         return decode_move(head, rest);
@@ -94,7 +94,7 @@ fn decode_near(kind: u8, near: Near, rest: &[u8]) -> One
     requires bits { kind < 8 }
     requires no_move { kind ≢ 4 }
     requires is_near { IsNear near }
-    ensures { Says ((8 * near_code near + kind) ∷ rest.now) result }
+    ensures { BeginsWith ((8 * near_code near + kind) ∷ rest.now) result }
 {
     match kind {
         0b111 | 0b110 | 0b011 | 0b010 => got(one_byte(kind, near), 1),
@@ -148,7 +148,7 @@ fn far_front(bytes: &[u8]) -> FarFront
 #[inline(always)]
 fn decode_move(head: u8, rest: &[u8]) -> One
     requires { head % 8 ≡ 4 }
-    ensures { Says (head ∷ rest.now) result }
+    ensures { BeginsWith (head ∷ rest.now) result }
 {
     match head {
         0b0001_0100 => decode_long(1, rest),
@@ -165,7 +165,7 @@ fn decode_two_moves(head: u8, rest: &[u8]) -> One
     requires not_x { head ≢ 0b0001_0100 }
     requires not_y { head ≢ 0b0010_0100 }
     requires not_z { head ≢ 0b0011_0100 }
-    ensures { Says (head ∷ rest.now) result }
+    ensures { BeginsWith (head ∷ rest.now) result }
 {
     let first = head / 16 % 4;
     let second = head / 64;
@@ -180,7 +180,7 @@ fn decode_two_moves(head: u8, rest: &[u8]) -> One
 fn decode_long(axis: u8, rest: &[u8]) -> One
     requires low { 1 ≤ axis }
     requires high { axis ≤ 3 }
-    ensures { Says ((16 * axis + 0b0100) ∷ rest.now) result }
+    ensures { BeginsWith ((16 * axis + 0b0100) ∷ rest.now) result }
 {
     match rest {
         [] => One::More,
@@ -198,7 +198,7 @@ fn decode_short(first: u8, second: u8, rest: &[u8]) -> One
     requires first_high { first ≤ 3 }
     requires second_low { 1 ≤ second }
     requires second_high { second ≤ 3 }
-    ensures { Says ((64 * second + 16 * first + 0b1100) ∷ rest.now) result }
+    ensures { BeginsWith ((64 * second + 16 * first + 0b1100) ∷ rest.now) result }
 {
     let [codes, ..] = rest else {
         return One::More;

@@ -3,7 +3,7 @@ ghost use Rattle.std.specs.Prelude.{◌≡◌, ◌+◌, ◌*◌, ◌≤◌, IfOk
 ghost use Rattle.nano_spec.specs.declared.commands.Command.{Command};
 ghost use Rattle.nano_spec.specs.Cutting.{Cutting, Decoding, NoTrace};
 ghost use Rattle.nano_spec.specs.Spelling.{spellings};
-ghost use Rattle.trace_codec.specs.Whole.{Decodes, IsAnswer};
+ghost use Rattle.trace_codec.specs.Whole.{Decodes, IsDecoding};
 
 use crate::fault::TraceFault;
 use crate::one::{One, decode_one};
@@ -18,7 +18,7 @@ pub fn decode_all(alloc: Global, bytes: &[u8]) -> Result<CommandList, TraceFault
     // What the answer says of the bytes.
     ensures answer { Decodes bytes.now result }
     // No other answer says something true, but that there is no memory.
-    ensures only { (other : Result (List Command) NoTrace) → Decoding bytes.now other → IsAnswer result other }
+    ensures only { (other : Result (List Command) NoTrace) → Decoding bytes.now other → IsDecoding result other }
 {
     let mut commands = CommandList::new(alloc);
     let mut start = 0;

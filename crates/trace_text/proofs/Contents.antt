@@ -4,7 +4,7 @@ use Rattle.std.specs.Prelude.{Some, None, IsAscii, ◌==◌, ◌||◌, find, nat
 use Rattle.std.specs.List.{list_all, prefix_len}
 use Rattle.std.specs.Str.{bytes_eq}
 use Rattle.std.proofs.lemmas.Bool.Decides.{nat_tests}
-use Rattle.nano_spec.specs.Line.{Line, Skipped, Faulty, UnknownWord, content, has_high_byte, line_of, said, said_by, word_of, after_word, from_word}
+use Rattle.nano_spec.specs.Line.{Line, Skipped, Faulty, UnknownWord, line_content, has_high_byte, line_of, said, said_by, word_of, after_word, from_word}
 use Rattle.nano_spec.specs.LineForm.{Word, form, is_blank, is_letter, letters, readings, words}
 
 some_no_zero : (n : ℕ) → (suc n == 0) ≡ false
@@ -38,20 +38,20 @@ no_high (b ∷ bs) h = by (nat_lt 127 b) refl (no_high bs (λ i. h (suc i)))
 -- the line's parts, as the reader has them
 pub record HasParts (line middle rest : List ℕ) : Type 0 where
   pub low : has_high_byte line ≡ false
-  pub middle_is : middle ≡ content line
+  pub middle_is : middle ≡ line_content line
   pub rest_is : rest ≡ drop (prefix_len is_blank middle) middle
 
 pub skipped : (line middle rest : List ℕ) → HasParts line middle rest → true ≡ (length rest == 0) → Skipped ≡ line_of line
 skipped line middle rest h e =
-    let r : rest ≡ from_word (content line) = h.rest_is ∙ ap from_word h.middle_is in
-    let b : list_all is_blank (content line) ≡ true = all_blank (content line) ∙ (ap (λ xs. length xs == 0) (sym r) ∙ sym e) in
+    let r : rest ≡ from_word (line_content line) = h.rest_is ∙ ap from_word h.middle_is in
+    let b : list_all is_blank (line_content line) ≡ true = all_blank (line_content line) ∙ (ap (λ xs. length xs == 0) (sym r) ∙ sym e) in
     let low = h.low in
     rw (low, b) refl
 
 by_word : (line middle rest : List ℕ) → HasParts line middle rest → false ≡ (length rest == 0) → said_by (word_of rest) (after_word rest) ≡ line_of line
 by_word line middle rest h e =
-    let r : rest ≡ from_word (content line) = h.rest_is ∙ ap from_word h.middle_is in
-    let b : list_all is_blank (content line) ≡ false = all_blank (content line) ∙ (ap (λ xs. length xs == 0) (sym r) ∙ sym e) in
+    let r : rest ≡ from_word (line_content line) = h.rest_is ∙ ap from_word h.middle_is in
+    let b : list_all is_blank (line_content line) ≡ false = all_blank (line_content line) ∙ (ap (λ xs. length xs == 0) (sym r) ∙ sym e) in
     let low = h.low in
     rw (low, b) (ap (λ xs. said_by (word_of xs) (after_word xs)) r)
 

@@ -5,7 +5,7 @@ use Rattle.std.proofs.lemmas.List.{append_assoc}
 use Rattle.nano_spec.specs.declared.commands.Command.{Command}
 use Rattle.nano_spec.specs.Line.{Fault, NotAscii, UnknownWord, Shape, Range, Line, Skipped, Says, Faulty, line_of}
 use Rattle.nano_spec.specs.Reading.{FaultyLine, lines, read, read_lines, with_first}
-use Rattle.trace_text.specs.Text.{Reads, fault_at}
+use Rattle.trace_text.specs.Text.{ReadsText, fault_at}
 
 -- commands before those that are read
 abbrev pub onto : List Command → Result (List Command) FaultyLine → Result (List Command) FaultyLine
@@ -38,13 +38,13 @@ skipped_on text commands left number line more h l m s = let w = h.within in rec
 pub says_on : (text : List ℕ) (commands : List Command) (left : List ℕ) (number : ℕ) (line more : List ℕ) (c : Command) → HasRead text commands left number → lines left ≡ line ∷ lines more → length more < length left → Says c ≡ line_of line → HasRead text (commands ++ c ∷ []) more (number + 1)
 says_on text commands left number line more c h l m s = let w = h.within in record { is = next text commands left number line more (Says c) h l s ∙ onto_more commands c (read_lines (number + 1 + 1) (map line_of (lines more))); within = omega (arith, w) }
 
-told : (text : List ℕ) (n : ℕ) (fault : Fault) → read text ≡ Err (record { fault = fault; line = n }) → Reads text (Err (fault_at fault n))
+told : (text : List ℕ) (n : ℕ) (fault : Fault) → read text ≡ Err (record { fault = fault; line = n }) → ReadsText text (Err (fault_at fault n))
 told text n NotAscii e = e
 told text n UnknownWord e = e
 told text n Shape e = e
 told text n Range e = e
 
-pub faulty_here : (text : List ℕ) (commands : List Command) (left : List ℕ) (number : ℕ) (line more : List ℕ) (fault : Fault) → HasRead text commands left number → lines left ≡ line ∷ lines more → Faulty fault ≡ line_of line → Reads text (Err (fault_at fault (number + 1)))
+pub faulty_here : (text : List ℕ) (commands : List Command) (left : List ℕ) (number : ℕ) (line more : List ℕ) (fault : Fault) → HasRead text commands left number → lines left ≡ line ∷ lines more → Faulty fault ≡ line_of line → ReadsText text (Err (fault_at fault (number + 1)))
 faulty_here text commands left number line more fault h l s = told text (number + 1) fault (next text commands left number line more (Faulty fault) h l s)
 
 nothing_more : (xs : List Command) → xs ++ [] ≡ xs

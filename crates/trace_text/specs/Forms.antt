@@ -13,9 +13,9 @@ said_is (Ok command) = Says command
 said_is (Err fault) = Faulty (fault_of fault)
 
 -- nothing follows, and the command is answered, or something does
-abbrev pub IsAlone : List (List ℤ) → Command → Result Command Fault → Type 0
-IsAlone readings command (Ok answer) = (readings ≡ [] ∷ []) × (answer ≡ command)
-IsAlone readings command (Err fault) = (readings ≡ []) × (fault ≡ Shape)
+abbrev pub StandsAlone : List (List ℤ) → Command → Result Command Fault → Type 0
+StandsAlone readings command (Ok answer) = (readings ≡ [] ∷ []) × (answer ≡ command)
+StandsAlone readings command (Err fault) = (readings ≡ []) × (fault ≡ Shape)
 
 -- the one reading is a difference, or there is none
 abbrev pub IsOne : List (List ℤ) → Result Diff Fault → Type 0

@@ -28,12 +28,12 @@ fault_at line.Shape n = text_fault.Shape n
 fault_at line.Range n = text_fault.Range n
 
 -- the number by which a refusal is printed
-abbrev pub number_of : TextFault → ℕ
-number_of (text_fault.NotAscii n) = 1
-number_of (text_fault.UnknownWord n) = 2
-number_of (text_fault.Shape n) = 3
-number_of (text_fault.Range n) = 4
-number_of text_fault.Memory = 5
+abbrev pub text_fault_number : TextFault → ℕ
+text_fault_number (text_fault.NotAscii n) = 1
+text_fault_number (text_fault.UnknownWord n) = 2
+text_fault_number (text_fault.Shape n) = 3
+text_fault_number (text_fault.Range n) = 4
+text_fault_number text_fault.Memory = 5
 
 -- what a line says, by the definitions
 abbrev pub line_is : Line → line.Line
@@ -61,10 +61,10 @@ word_if_any None = None
 word_if_any (Some w) = Some (word_is w)
 
 -- the text is read as the definition reads it, unless there was no memory
-abbrev pub Reads : List ℕ → Result (List Command) TextFault → Type 0
-Reads text (Ok commands) = read text ≡ Ok commands
-Reads text (Err (text_fault.NotAscii n)) = read text ≡ Err (record { fault = line.NotAscii; line = n })
-Reads text (Err (text_fault.UnknownWord n)) = read text ≡ Err (record { fault = line.UnknownWord; line = n })
-Reads text (Err (text_fault.Shape n)) = read text ≡ Err (record { fault = line.Shape; line = n })
-Reads text (Err (text_fault.Range n)) = read text ≡ Err (record { fault = line.Range; line = n })
-Reads text (Err text_fault.Memory) = ⊤
+abbrev pub ReadsText : List ℕ → Result (List Command) TextFault → Type 0
+ReadsText text (Ok commands) = read text ≡ Ok commands
+ReadsText text (Err (text_fault.NotAscii n)) = read text ≡ Err (record { fault = line.NotAscii; line = n })
+ReadsText text (Err (text_fault.UnknownWord n)) = read text ≡ Err (record { fault = line.UnknownWord; line = n })
+ReadsText text (Err (text_fault.Shape n)) = read text ≡ Err (record { fault = line.Shape; line = n })
+ReadsText text (Err (text_fault.Range n)) = read text ≡ Err (record { fault = line.Range; line = n })
+ReadsText text (Err text_fault.Memory) = ⊤

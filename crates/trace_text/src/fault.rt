@@ -1,7 +1,7 @@
 //! Why a text is no trace.
 ghost use Rattle.std.specs.Prelude.{◌≡◌};
 ghost use Rattle.trace_text.specs.declared.fault.TextFault.TheVariants.{Memory as no_memory};
-ghost use Rattle.trace_text.specs.Text.{fault_at, fault_of, number_of};
+ghost use Rattle.trace_text.specs.Text.{fault_at, fault_of, text_fault_number};
 
 use vox_geom::Memory;
 
@@ -23,7 +23,7 @@ pub enum TextFault {
 impl TextFault {
     /// The number by which the refusal is printed.
     pub fn number(self) -> u8
-        ensures { result ≡ number_of self }
+        ensures { result ≡ text_fault_number self }
     {
         match self {
             TextFault::NotAscii { .. } => 1,

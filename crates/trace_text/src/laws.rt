@@ -5,12 +5,12 @@ ghost use Rattle.nano_spec.specs.Cutting.{AreCommands};
 ghost use Rattle.nano_spec.specs.Printing.{print};
 ghost use Rattle.trace_text.specs.declared.fault.TextFault.{TextFault};
 ghost use Rattle.trace_text.specs.declared.fault.TextFault.TheVariants.{Memory};
-ghost use Rattle.trace_text.specs.Text.{Reads};
+ghost use Rattle.trace_text.specs.Text.{ReadsText};
 
 /// Commands that are printed are read as the same commands.
 pub fn printing_and_reading()
     ensures { (commands : List Command) (answer : Result (List Command) TextFault) →
-        AreCommands commands → Reads (print commands) answer → answer ≢ Err Memory → answer ≡ Ok commands }
+        AreCommands commands → ReadsText (print commands) answer → answer ≢ Err Memory → answer ≡ Ok commands }
 {
     nano_spec::printed_is_read();
 }

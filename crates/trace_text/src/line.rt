@@ -1,9 +1,9 @@
 //! What a line says.
 ghost use Rattle.std.specs.Prelude.{◌≡◌, ◌∷◌, ◌++◌, []};
 ghost use Rattle.vox_geom.specs.Difference.{is_far, is_long, is_near, is_short};
-ghost use Rattle.nano_spec.specs.Line.{content as content_of, line_of, said, without_return as without_return_of};
+ghost use Rattle.nano_spec.specs.Line.{line_content as content_of, line_of, said, without_return as without_return_of};
 ghost use Rattle.nano_spec.specs.LineForm.{Blanks, FissionWord, Number, difference_parts, form, readings};
-ghost use Rattle.trace_text.specs.Forms.{IsAlone, IsKind, IsNumber, IsOne, IsTwo, said_is};
+ghost use Rattle.trace_text.specs.Forms.{StandsAlone, IsKind, IsNumber, IsOne, IsTwo, said_is};
 ghost use Rattle.trace_text.specs.Text.{line_is, word_is};
 
 use crate::fault::Fault;
@@ -93,7 +93,7 @@ fn command(word: Word, rest: &mut Rest) -> Result<Command, Fault>
 
 /// A command that has no difference, where nothing follows it.
 fn alone(command: Command, rest: &mut Rest) -> Result<Command, Fault>
-    ensures { IsAlone (readings (Blanks ∷ []) rest.old.bytes.now) command result }
+    ensures { StandsAlone (readings (Blanks ∷ []) rest.old.bytes.now) command result }
 {
     if rest.ends() {
         Ok(command)

@@ -1,7 +1,7 @@
 //! What a text says.
 ghost use Rattle.std.specs.Prelude.{◌≡◌, ◌<◌, ◌≤◌, ◌^◌, ◌∷◌, length};
 ghost use Rattle.nano_spec.specs.Reading.{lines};
-ghost use Rattle.trace_text.specs.Text.{Reads};
+ghost use Rattle.trace_text.specs.Text.{ReadsText};
 
 use crate::fault::TextFault;
 use crate::line::{Line, read_line};
@@ -13,7 +13,7 @@ use std::alloc::Global;
 #[tactic(auto, using(crate::proofs::Texts::nothing_read, crate::proofs::Texts::skipped_on, crate::proofs::Texts::says_on, crate::proofs::Texts::faulty_here, crate::proofs::Texts::all_read))]
 pub fn read_text(alloc: Global, bytes: &[u8]) -> Result<CommandList, TextFault>
     requires { length bytes.now ≤ 2 ^ 30 }
-    ensures { Reads bytes.now result }
+    ensures { ReadsText bytes.now result }
 {
     let mut commands = CommandList::new(alloc);
     let mut left = bytes;

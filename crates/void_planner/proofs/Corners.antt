@@ -6,7 +6,7 @@ use Rattle.std.proofs.lemmas.Bool.Decides.{nat_tests}
 use Rattle.std.proofs.lemmas.Int.{ints}
 use Rattle.vox_geom.specs.declared.coordinate.Coord.{Coord}
 use Rattle.vox_geom.specs.declared.difference.Diff.{Diff}
-use Rattle.vox_geom.specs.Point.{Point, point, plus, same_number, same_point}
+use Rattle.vox_geom.specs.Point.{Point, point, plus, same_number, same_point, coord}
 use Rattle.vox_geom.specs.Region.{between, differs, dimension, is_between, is_within, same_extent, same_region}
 use Rattle.vox_geom.specs.Space.{IsInSpace}
 use Rattle.nano_spec.specs.declared.commands.Command.{Command}
@@ -22,9 +22,9 @@ use Rattle.step_order.specs.Acting.{with_region}
 use Rattle.step_order.specs.Unbroken.{AreOneGroup, IsCornered, IsMember}
 use Rattle.step_order.proofs.Voxels.{in_space_is}
 use Rattle.plan_tape.specs.Crowd.{AllStep, CanPaintAll}
-use Rattle.plan_tape.specs.Progress.{Progress, spot, state_of}
-use Rattle.void_planner.specs.Square.{CanStand, FourVoid, bot, four}
-use Rattle.void_planner.specs.Tiles.{coord, tile}
+use Rattle.plan_tape.specs.Progress.{TapeState, spot, state_of}
+use Rattle.void_planner.specs.Square.{CanStand, FourVoid, bot_with, four}
+use Rattle.void_planner.specs.Tiles.{tile}
 use Rattle.void_planner.proofs.Counts.{fissions_more}
 use Rattle.void_planner.proofs.Regions.{region_fewer}
 
@@ -40,7 +40,7 @@ record IsAbove (r far : ℕ) (t : Coord) (p : Coord) (a o : Coord) : Type 0 wher
   same : same_region (between (point a) (point o)) (tile far t) ≡ true
   outside : is_within (tile far t) (point p) ≡ false
 
-member : (p : Progress) (b : Bot) (n f : Diff) (far : ℕ) (t a o : Coord) → p.profile ≡ full_profile → plus (point b.pos) n ≡ point a → plus (point a) f ≡ point o → IsAbove p.matrix.resolution far t b.pos a o → IsMember (state_of p) (tile far t) false (act b (GVoid n f))
+member : (p : TapeState) (b : Bot) (n f : Diff) (far : ℕ) (t a o : Coord) → p.profile ≡ full_profile → plus (point b.pos) n ≡ point a → plus (point a) f ≡ point o → IsAbove p.matrix.resolution far t b.pos a o → IsMember (state_of p) (tile far t) false (act b (GVoid n f))
 member p b n f far t a o full e g h = record {
   allowed = ap (λ (k : Profile). is_allowed k (GVoid n f)) full;
   joins =
@@ -145,7 +145,7 @@ over dx dz = record { dx = dx; dy = pos 0; dz = dz }
 below : (b : Coord) (y : ℕ) (n : Diff) → n ≡ down → b.y ≡ y + 1 → plus (point b) n ≡ point (coord b.x y b.z)
 below b y n e h = ap (plus (point b)) e ∙ point_by b down (coord b.x y b.z) (by_none b.x) (by_down b.y y h) (by_none b.z)
 
-module _ (p : Progress) (far x y z : ℕ) (k l m o f g h j : Diff) (full : p.profile ≡ full_profile) (some : 1 ≤ far) (wide : x + far < p.matrix.resolution) (high : y < p.matrix.resolution) (deep : z + far < p.matrix.resolution) (ek : k ≡ down) (el : l ≡ down) (em : m ≡ down) (eo : o ≡ down) (ef : f ≡ over (pos far) (pos far)) (eg : g ≡ over (neg_ℤ (pos far)) (pos far)) (eh : h ≡ over (neg_ℤ (pos far)) (neg_ℤ (pos far))) (ej : j ≡ over (pos far) (neg_ℤ (pos far))) where
+module _ (p : TapeState) (far x y z : ℕ) (k l m o f g h j : Diff) (full : p.profile ≡ full_profile) (some : 1 ≤ far) (wide : x + far < p.matrix.resolution) (high : y < p.matrix.resolution) (deep : z + far < p.matrix.resolution) (ek : k ≡ down) (el : l ≡ down) (em : m ≡ down) (eo : o ≡ down) (ef : f ≡ over (pos far) (pos far)) (eg : g ≡ over (neg_ℤ (pos far)) (pos far)) (eh : h ≡ over (neg_ℤ (pos far)) (neg_ℤ (pos far))) (ej : j ≡ over (pos far) (neg_ℤ (pos far))) where
   abbrev low : Coord
   low = coord x y z
 
@@ -169,16 +169,16 @@ module _ (p : Progress) (far x y z : ℕ) (k l m o f g h j : Diff) (full : p.pro
 
   members : AllByRecursion (IsMember (state_of p) (tile far low) false) (acts (four s far far) commands)
   members = (
-    member p (bot 1 s (2 ^ 41 - 2 ^ 5)) k f far low (coord x y z) (coord (x + far) y (z + far)) full (below s y k ek refl) (ap (plus (point (coord x y z))) ef ∙ point_by (coord x y z) (over (pos far) (pos far)) (coord (x + far) y (z + far)) refl (by_none y) refl)
+    member p (bot_with 1 s (2 ^ 41 - 2 ^ 5)) k f far low (coord x y z) (coord (x + far) y (z + far)) full (below s y k ek refl) (ap (plus (point (coord x y z))) ef ∙ point_by (coord x y z) (over (pos far) (pos far)) (coord (x + far) y (z + far)) refl (by_none y) refl)
         (record { near = near_first; across = near_third; same = all_three _ _ _ (straight x (x + far)) (straight y y) (straight z (z + far)); outside = above_tile far low s refl }),
     (
-      member p (bot 2 (coord (x + far) (y + 1) z) 0) l g far low (coord (x + far) y z) (coord x y (z + far)) full (below (coord (x + far) (y + 1) z) y l el refl) (ap (plus (point (coord (x + far) y z))) eg ∙ point_by (coord (x + far) y z) (over (neg_ℤ (pos far)) (pos far)) (coord x y (z + far)) (by_back x far) (by_none y) refl)
+      member p (bot_with 2 (coord (x + far) (y + 1) z) 0) l g far low (coord (x + far) y z) (coord x y (z + far)) full (below (coord (x + far) (y + 1) z) y l el refl) (ap (plus (point (coord (x + far) y z))) eg ∙ point_by (coord (x + far) y z) (over (neg_ℤ (pos far)) (pos far)) (coord x y (z + far)) (by_back x far) (by_none y) refl)
           (record { near = near_second; across = near_fourth; same = all_three _ _ _ (crossed x (x + far)) (straight y y) (straight z (z + far)); outside = above_tile far low (coord (x + far) (y + 1) z) refl }),
       (
-        member p (bot 3 (coord (x + far) (y + 1) (z + far)) 0) m h far low (coord (x + far) y (z + far)) (coord x y z) full (below (coord (x + far) (y + 1) (z + far)) y m em refl) (ap (plus (point (coord (x + far) y (z + far)))) eh ∙ point_by (coord (x + far) y (z + far)) (over (neg_ℤ (pos far)) (neg_ℤ (pos far))) (coord x y z) (by_back x far) (by_none y) (by_back z far))
+        member p (bot_with 3 (coord (x + far) (y + 1) (z + far)) 0) m h far low (coord (x + far) y (z + far)) (coord x y z) full (below (coord (x + far) (y + 1) (z + far)) y m em refl) (ap (plus (point (coord (x + far) y (z + far)))) eh ∙ point_by (coord (x + far) y (z + far)) (over (neg_ℤ (pos far)) (neg_ℤ (pos far))) (coord x y z) (by_back x far) (by_none y) (by_back z far))
             (record { near = near_third; across = near_first; same = all_three _ _ _ (crossed x (x + far)) (straight y y) (crossed z (z + far)); outside = above_tile far low (coord (x + far) (y + 1) (z + far)) refl }),
         (
-          member p (bot 4 (coord x (y + 1) (z + far)) 0) o j far low (coord x y (z + far)) (coord (x + far) y z) full (below (coord x (y + 1) (z + far)) y o eo refl) (ap (plus (point (coord x y (z + far)))) ej ∙ point_by (coord x y (z + far)) (over (pos far) (neg_ℤ (pos far))) (coord (x + far) y z) refl (by_none y) (by_back z far))
+          member p (bot_with 4 (coord x (y + 1) (z + far)) 0) o j far low (coord x y (z + far)) (coord (x + far) y z) full (below (coord x (y + 1) (z + far)) y o eo refl) (ap (plus (point (coord x y (z + far)))) ej ∙ point_by (coord x y (z + far)) (over (pos far) (neg_ℤ (pos far))) (coord (x + far) y z) refl (by_none y) (by_back z far))
               (record { near = near_fourth; across = near_second; same = all_three _ _ _ (straight x (x + far)) (straight y y) (crossed z (z + far)); outside = above_tile far low (coord x (y + 1) (z + far)) refl }),
           tt,
         ),
@@ -201,7 +201,7 @@ module _ (p : Progress) (far x y z : ℕ) (k l m o f g h j : Diff) (full : p.pro
     pub can_void : CanPaintAll p commands
     can_void = record { region = tile far low; full = false; group = voids_together }
 
-    pub voided_together : (q : Progress) → p.harmonics ≡ High → CanStand p.matrix far far s → AllStep p q commands (with_region p.matrix (tile far low) false) p.harmonics p.bots → FourVoid p q far (tile far low) (with_region p.matrix (tile far low) false)
+    pub voided_together : (q : TapeState) → p.harmonics ≡ High → CanStand p.matrix far far s → AllStep p q commands (with_region p.matrix (tile far low) false) p.harmonics p.bots → FourVoid p q far (tile far low) (with_region p.matrix (tile far low) false)
     voided_together q high stand w =
         let all : q.bots ≡ four s far far = w.bots_are ∙ bots in
         let there : spot q.bots ≡ s = ap spot all in

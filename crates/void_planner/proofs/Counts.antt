@@ -20,7 +20,7 @@ use Rattle.nano_spec.specs.Step.{after}
 use Rattle.plan_tape.specs.Leg.{IsLeg, Moves}
 use Rattle.plan_tape.specs.declared.axis.Axis.{Axis}
 use Rattle.plan_tape.specs.declared.axis.Axis.TheVariants.{X, Y, Z}
-use Rattle.plan_tape.specs.Progress.{Progress, spot}
+use Rattle.plan_tape.specs.Progress.{TapeState, spot}
 use Rattle.plan_tape.specs.Reaches.{Reaches, starts, steps_on}
 use Rattle.void_planner.specs.Few.{HasAtMost, fissions, is_fission}
 
@@ -115,7 +115,7 @@ few_at_most source profile commands n le = λ before rest s steps e r.
 
 -- ---- tapes
 
-pub fissions_more : (p q : Progress) (k : List Command) (n : ℕ) → q.commands ≡ p.commands ++ k → count_by is_fission k ≡ n → fissions q ≡ fissions p + n
+pub fissions_more : (p q : TapeState) (k : List Command) (n : ℕ) → q.commands ≡ p.commands ++ k → count_by is_fission k ≡ n → fissions q ≡ fissions p + n
 unfolding fissions
 fissions_more p q k n e f = ap (count_by is_fission) e ∙ (sum_by-append (λ x. cond {A = ℕ} (is_fission x) 1 0) p.commands k ∙ ap (λ m. count_by is_fission p.commands + m) f)
 
@@ -127,16 +127,16 @@ no_fission_in_leg axis a b (k ∷ more) h =
     let r = no_fission_in_leg axis h.0 b more h.3 in
     omega (arith, s, e, r)
 
-pub fissions_is : (p : Progress) (k : List Command) → k ≡ p.commands → count_by is_fission k ≡ fissions p
+pub fissions_is : (p : TapeState) (k : List Command) → k ≡ p.commands → count_by is_fission k ≡ fissions p
 unfolding fissions
 fissions_is p k e = ap (count_by is_fission) e
 
-pub fissions_none : (p : Progress) → p.commands ≡ [] → fissions p ≡ 0
+pub fissions_none : (p : TapeState) → p.commands ≡ [] → fissions p ≡ 0
 unfolding fissions
 fissions_none p e = ap (count_by is_fission) e
 
 -- moves make no bot
-pub moves_make_none : (p q : Progress) (to : Coord) → Moves p q to → fissions q ≡ fissions p
+pub moves_make_none : (p q : TapeState) (to : Coord) → Moves p q to → fissions q ≡ fissions p
 moves_make_none p q to h =
     let l = h.legs in
     let x = no_fission_in_leg X (spot p.bots).x to.x l.x l.along_x.leg in
@@ -151,7 +151,7 @@ moves_make_none p q to h =
     omega arith
 
 -- one command of the only bot that is no Fission makes none
-pub write_makes_none : (p q : Progress) (k : Command) → q.commands ≡ p.commands ++ k ∷ [] → is_fission k ≡ false → fissions q ≡ fissions p
+pub write_makes_none : (p q : TapeState) (k : Command) → q.commands ≡ p.commands ++ k ∷ [] → is_fission k ≡ false → fissions q ≡ fissions p
 write_makes_none p q k e n =
     let s = sum_by-cons (λ (c : Command). cond {A = ℕ} (is_fission c) 1 0) k [] in
     let one : cond {A = ℕ} (is_fission k) 1 0 ≡ 0 = ap (λ t. cond {A = ℕ} t 1 0) n in

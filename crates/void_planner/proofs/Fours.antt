@@ -6,7 +6,7 @@ use Rattle.std.proofs.lemmas.Bool.Decides.{nat_tests}
 use Rattle.std.proofs.lemmas.Int.{ints}
 use Rattle.vox_geom.specs.declared.coordinate.Coord.{Coord}
 use Rattle.vox_geom.specs.declared.difference.Diff.{Diff}
-use Rattle.vox_geom.specs.Point.{Point, point, plus}
+use Rattle.vox_geom.specs.Point.{Point, point, plus, coord}
 use Rattle.vox_geom.specs.Region.{Span, between, is_between}
 use Rattle.vox_geom.specs.Space.{IsInSpace, coordinate, in_space}
 use Rattle.nano_spec.specs.declared.commands.Command.{Command}
@@ -25,10 +25,10 @@ use Rattle.plan_tape.specs.declared.axis.Axis.{Axis}
 use Rattle.plan_tape.specs.declared.axis.Axis.TheVariants.{X, Y, Z}
 use Rattle.plan_tape.specs.Crowd.{AllStep, AreWaysApart, CanGo, CanMoveAll, bots_gone, way}
 use Rattle.plan_tape.specs.Leg.{along, component_of, put}
-use Rattle.plan_tape.specs.Progress.{Progress, spot}
+use Rattle.plan_tape.specs.Progress.{TapeState, spot, IsVoidFrom}
 use Rattle.void_planner.specs.Few.{is_fission}
-use Rattle.void_planner.specs.Square.{CanStand, FourGo, IsRectangle, bot, four}
-use Rattle.void_planner.specs.Tiles.{IsVoidFrom, coord, far_of}
+use Rattle.void_planner.specs.Square.{CanStand, FourGo, IsRectangle, bot_with, four}
+use Rattle.void_planner.specs.Tiles.{far_of}
 use Rattle.void_planner.proofs.Counts.{fissions_more}
 
 -- ---- one bot
@@ -57,7 +57,7 @@ void_between m a b v w = λ c t. by c (one_of a.y b.y c.y (second (is_between (p
     by c (inl h) = v c h
     by c (inr h) = w c h
 
-module _ (p : Progress) (full : p.profile ≡ full_profile) (b : Bot) (k : Command) (q : Coord) where
+module _ (p : TapeState) (full : p.profile ≡ full_profile) (b : Bot) (k : Command) (q : Coord) where
   allowed : is_allowed full_profile k ≡ true → IsTrue (is_allowed p.profile k)
   allowed e = ap (λ (f : Profile). is_allowed f k) full ∙ e
 
@@ -75,9 +75,9 @@ pub way_is : (b : Bot) (k : Command) (q : Coord) → Goes b k q → way (act b k
 way_is b k q (waits e f) = rw e (ap (λ (c : Coord). between (point b.pos) (point c)) (sym f))
 way_is b k q (moves d e f) = rw e (ap (between (point b.pos)) f)
 
-pub gone_is : (b : Bot) (k : Command) (q : Coord) → Goes b k q → gone (act b k) ≡ bot b.bid q b.seeds
-gone_is b k q (waits e f) = rw e (ap (λ (c : Coord). bot b.bid c b.seeds) (sym f))
-gone_is b k q (moves d e f) = rw e (ap (λ (u : Point). bot b.bid (coordinate u) b.seeds) f)
+pub gone_is : (b : Bot) (k : Command) (q : Coord) → Goes b k q → gone (act b k) ≡ bot_with b.bid q b.seeds
+gone_is b k q (waits e f) = rw e (ap (λ (c : Coord). bot_with b.bid c b.seeds) (sym f))
+gone_is b k q (moves d e f) = rw e (ap (λ (u : Point). bot_with b.bid (coordinate u) b.seeds) f)
 
 -- ---- four bots
 
@@ -97,12 +97,12 @@ below a b c d h i j k = record { near = omega (arith, ints); far = omega (arith,
 
 -- each of the four goes from a corner of one rectangle to that of another
 pub record FourGoes (c : Coord) (w d : ℕ) (n : Coord) (width depth : ℕ) (k l m o : Command) : Type 0 where
-  pub first : Goes (bot 1 c (2 ^ 41 - 2 ^ 5)) k n
-  pub second : Goes (bot 2 (coord (c.x + w) c.y c.z) 0) l (coord (n.x + width) n.y n.z)
-  pub third : Goes (bot 3 (coord (c.x + w) c.y (c.z + d)) 0) m (coord (n.x + width) n.y (n.z + depth))
-  pub fourth : Goes (bot 4 (coord c.x c.y (c.z + d)) 0) o (coord n.x n.y (n.z + depth))
+  pub first : Goes (bot_with 1 c (2 ^ 41 - 2 ^ 5)) k n
+  pub second : Goes (bot_with 2 (coord (c.x + w) c.y c.z) 0) l (coord (n.x + width) n.y n.z)
+  pub third : Goes (bot_with 3 (coord (c.x + w) c.y (c.z + d)) 0) m (coord (n.x + width) n.y (n.z + depth))
+  pub fourth : Goes (bot_with 4 (coord c.x c.y (c.z + d)) 0) o (coord n.x n.y (n.z + depth))
 
-module _ (p : Progress) (c : Coord) (w d : ℕ) (n : Coord) (width depth : ℕ) (k l m o : Command) (full : p.profile ≡ full_profile) (stand : CanStand p.matrix w d c) (then : CanStand p.matrix width depth n) (apart : StayApart c w d n width depth) (goes : FourGoes c w d n width depth k l m o) where
+module _ (p : TapeState) (c : Coord) (w d : ℕ) (n : Coord) (width depth : ℕ) (k l m o : Command) (full : p.profile ≡ full_profile) (stand : CanStand p.matrix w d c) (then : CanStand p.matrix width depth n) (apart : StayApart c w d n width depth) (goes : FourGoes c w d n width depth k l m o) where
   pub can_move : AllByRecursion (CanGo p) (acts (four c w d) (k ∷ l ∷ m ∷ o ∷ []))
   can_move =
       let sx = stand.x in
@@ -110,13 +110,13 @@ module _ (p : Progress) (c : Coord) (w d : ℕ) (n : Coord) (width depth : ℕ) 
       let tx = then.x in
       let ty = then.y in
       let tz = then.z in (
-        can_go p full (bot 1 c (2 ^ 41 - 2 ^ 5)) k n goes.first (record { x = omega arith; y = ty; z = omega arith }) stand.above then.above,
+        can_go p full (bot_with 1 c (2 ^ 41 - 2 ^ 5)) k n goes.first (record { x = omega arith; y = ty; z = omega arith }) stand.above then.above,
         (
-          can_go p full (bot 2 (coord (c.x + w) c.y c.z) 0) l (coord (n.x + width) n.y n.z) goes.second (record { x = tx; y = ty; z = omega arith }) stand.above then.above,
+          can_go p full (bot_with 2 (coord (c.x + w) c.y c.z) 0) l (coord (n.x + width) n.y n.z) goes.second (record { x = tx; y = ty; z = omega arith }) stand.above then.above,
           (
-            can_go p full (bot 3 (coord (c.x + w) c.y (c.z + d)) 0) m (coord (n.x + width) n.y (n.z + depth)) goes.third (record { x = tx; y = ty; z = tz }) stand.above then.above,
+            can_go p full (bot_with 3 (coord (c.x + w) c.y (c.z + d)) 0) m (coord (n.x + width) n.y (n.z + depth)) goes.third (record { x = tx; y = ty; z = tz }) stand.above then.above,
             (
-              can_go p full (bot 4 (coord c.x c.y (c.z + d)) 0) o (coord n.x n.y (n.z + depth)) goes.fourth (record { x = omega arith; y = ty; z = tz }) stand.above then.above,
+              can_go p full (bot_with 4 (coord c.x c.y (c.z + d)) 0) o (coord n.x n.y (n.z + depth)) goes.fourth (record { x = omega arith; y = ty; z = tz }) stand.above then.above,
               tt,
             ),
           ),
@@ -135,10 +135,10 @@ module _ (p : Progress) (c : Coord) (w d : ℕ) (n : Coord) (width depth : ℕ) 
 
   pub ways_apart : AreWaysApart (acts (four c w d) (k ∷ l ∷ m ∷ o ∷ []))
   ways_apart =
-      let one = bot 1 c (2 ^ 41 - 2 ^ 5) in
-      let two = bot 2 (coord (c.x + w) c.y c.z) 0 in
-      let three = bot 3 (coord (c.x + w) c.y (c.z + d)) 0 in
-      let four = bot 4 (coord c.x c.y (c.z + d)) 0 in
+      let one = bot_with 1 c (2 ^ 41 - 2 ^ 5) in
+      let two = bot_with 2 (coord (c.x + w) c.y c.z) 0 in
+      let three = bot_with 3 (coord (c.x + w) c.y (c.z + d)) 0 in
+      let four = bot_with 4 (coord c.x c.y (c.z + d)) 0 in
       let q = coord (n.x + width) n.y n.z in
       let r = coord (n.x + width) n.y (n.z + depth) in
       let s = coord n.x n.y (n.z + depth) in (
@@ -154,10 +154,10 @@ module _ (p : Progress) (c : Coord) (w d : ℕ) (n : Coord) (width depth : ℕ) 
 
   pub four_gone : bots_gone (four c w d) (k ∷ l ∷ m ∷ o ∷ []) ≡ four n width depth
   four_gone =
-      let a = gone_is (bot 1 c (2 ^ 41 - 2 ^ 5)) k n goes.first in
-      let b = gone_is (bot 2 (coord (c.x + w) c.y c.z) 0) l (coord (n.x + width) n.y n.z) goes.second in
-      let e = gone_is (bot 3 (coord (c.x + w) c.y (c.z + d)) 0) m (coord (n.x + width) n.y (n.z + depth)) goes.third in
-      let f = gone_is (bot 4 (coord c.x c.y (c.z + d)) 0) o (coord n.x n.y (n.z + depth)) goes.fourth in
+      let a = gone_is (bot_with 1 c (2 ^ 41 - 2 ^ 5)) k n goes.first in
+      let b = gone_is (bot_with 2 (coord (c.x + w) c.y c.z) 0) l (coord (n.x + width) n.y n.z) goes.second in
+      let e = gone_is (bot_with 3 (coord (c.x + w) c.y (c.z + d)) 0) m (coord (n.x + width) n.y (n.z + depth)) goes.third in
+      let f = gone_is (bot_with 4 (coord c.x c.y (c.z + d)) 0) o (coord n.x n.y (n.z + depth)) goes.fourth in
       λ i. a i ∷ b i ∷ e i ∷ f i ∷ []
 
   module _ (bots : p.bots ≡ four c w d) where
@@ -167,7 +167,7 @@ module _ (p : Progress) (c : Coord) (w d : ℕ) (n : Coord) (width depth : ℕ) 
       apart = subst (λ (bs : List Bot). AreWaysApart (acts bs (k ∷ l ∷ m ∷ o ∷ []))) (sym bots) ways_apart;
     }
 
-    pub went : (q : Progress) → p.harmonics ≡ High → count_by is_fission (k ∷ l ∷ m ∷ o ∷ []) ≡ 0 → AllStep p q (k ∷ l ∷ m ∷ o ∷ []) p.matrix p.harmonics (bots_gone p.bots (k ∷ l ∷ m ∷ o ∷ [])) → FourGo p q width depth n 1
+    pub went : (q : TapeState) → p.harmonics ≡ High → count_by is_fission (k ∷ l ∷ m ∷ o ∷ []) ≡ 0 → AllStep p q (k ∷ l ∷ m ∷ o ∷ []) p.matrix p.harmonics (bots_gone p.bots (k ∷ l ∷ m ∷ o ∷ [])) → FourGo p q width depth n 1
     went q high none s =
         let all : q.bots ≡ four n width depth = s.bots_are ∙ (ap (λ (bs : List Bot). bots_gone bs (k ∷ l ∷ m ∷ o ∷ [])) bots ∙ four_gone) in
         let there : spot q.bots ≡ n = ap spot all in
@@ -265,29 +265,29 @@ stay_apart c w d width depth h i j k = record { wide = h; wide_then = j; deep = 
 
 -- ---- the three ways to go
 
-module _ (p : Progress) (axis : Axis) (at next : ℕ) (a b e g : Diff) (square : IsRectangle p (far_of p.matrix.resolution) (far_of p.matrix.resolution)) (here : component_of axis (spot p.bots) ≡ at) (near : next ≤ at + 15) (back : at ≤ next + 15) (then : CanStand p.matrix (far_of p.matrix.resolution) (far_of p.matrix.resolution) (put axis (spot p.bots) next)) (ea : a ≡ along axis (pos next -ℤ pos at)) (eb : b ≡ along axis (pos next -ℤ pos at)) (ee : e ≡ along axis (pos next -ℤ pos at)) (eg : g ≡ along axis (pos next -ℤ pos at)) where
+module _ (p : TapeState) (axis : Axis) (at next : ℕ) (a b e g : Diff) (square : IsRectangle p (far_of p.matrix.resolution) (far_of p.matrix.resolution)) (here : component_of axis (spot p.bots) ≡ at) (near : next ≤ at + 15) (back : at ≤ next + 15) (then : CanStand p.matrix (far_of p.matrix.resolution) (far_of p.matrix.resolution) (put axis (spot p.bots) next)) (ea : a ≡ along axis (pos next -ℤ pos at)) (eb : b ≡ along axis (pos next -ℤ pos at)) (ee : e ≡ along axis (pos next -ℤ pos at)) (eg : g ≡ along axis (pos next -ℤ pos at)) where
   pub can_shift : CanMoveAll p (SMove a ∷ SMove b ∷ SMove e ∷ SMove g ∷ [])
   can_shift = can_move_all p _ _ _ _ _ _ _ _ _ _ square.full square.stand then (shift_apart axis p.matrix (spot p.bots) at next square.wide here near back square.stand then) (shift_goes axis (spot p.bots) (far_of p.matrix.resolution) at next a b e g here ea eb ee eg) square.bots_are
 
-  pub shift_went : (q : Progress) → AllStep p q (SMove a ∷ SMove b ∷ SMove e ∷ SMove g ∷ []) p.matrix p.harmonics (bots_gone p.bots (SMove a ∷ SMove b ∷ SMove e ∷ SMove g ∷ [])) → FourGo p q (far_of p.matrix.resolution) (far_of p.matrix.resolution) (put axis (spot p.bots) next) 1
+  pub shift_went : (q : TapeState) → AllStep p q (SMove a ∷ SMove b ∷ SMove e ∷ SMove g ∷ []) p.matrix p.harmonics (bots_gone p.bots (SMove a ∷ SMove b ∷ SMove e ∷ SMove g ∷ [])) → FourGo p q (far_of p.matrix.resolution) (far_of p.matrix.resolution) (put axis (spot p.bots) next) 1
   shift_went q = went p _ _ _ _ _ _ _ _ _ _ square.full square.stand then (shift_apart axis p.matrix (spot p.bots) at next square.wide here near back square.stand then) (shift_goes axis (spot p.bots) (far_of p.matrix.resolution) at next a b e g here ea eb ee eg) square.bots_are q square.high refl
 
-module _ (p : Progress) (d at next : ℕ) (b e : Diff) (rectangle : IsRectangle p at d) (some : 1 ≤ next) (within : (spot p.bots).x + next < p.matrix.resolution) (eb : b ≡ along X (pos next -ℤ pos at)) (ee : e ≡ along X (pos next -ℤ pos at)) where
+module _ (p : TapeState) (d at next : ℕ) (b e : Diff) (rectangle : IsRectangle p at d) (some : 1 ≤ next) (within : (spot p.bots).x + next < p.matrix.resolution) (eb : b ≡ along X (pos next -ℤ pos at)) (ee : e ≡ along X (pos next -ℤ pos at)) where
   wider : CanStand p.matrix next d (spot p.bots)
   wider = let s = rectangle.stand in record { x = within; y = s.y; z = s.z; above = s.above }
 
   pub can_widen : CanMoveAll p (Wait ∷ SMove b ∷ SMove e ∷ Wait ∷ [])
   can_widen = can_move_all p _ _ _ _ _ _ _ _ _ _ rectangle.full rectangle.stand wider (stay_apart (spot p.bots) at d next d rectangle.wide rectangle.deep some rectangle.deep) (widen_goes (spot p.bots) d at next b e eb ee) rectangle.bots_are
 
-  pub widen_went : (q : Progress) → AllStep p q (Wait ∷ SMove b ∷ SMove e ∷ Wait ∷ []) p.matrix p.harmonics (bots_gone p.bots (Wait ∷ SMove b ∷ SMove e ∷ Wait ∷ [])) → FourGo p q next d (spot p.bots) 1
+  pub widen_went : (q : TapeState) → AllStep p q (Wait ∷ SMove b ∷ SMove e ∷ Wait ∷ []) p.matrix p.harmonics (bots_gone p.bots (Wait ∷ SMove b ∷ SMove e ∷ Wait ∷ [])) → FourGo p q next d (spot p.bots) 1
   widen_went q = went p _ _ _ _ _ _ _ _ _ _ rectangle.full rectangle.stand wider (stay_apart (spot p.bots) at d next d rectangle.wide rectangle.deep some rectangle.deep) (widen_goes (spot p.bots) d at next b e eb ee) rectangle.bots_are q rectangle.high refl
 
-module _ (p : Progress) (w at next : ℕ) (e g : Diff) (rectangle : IsRectangle p w at) (some : 1 ≤ next) (within : (spot p.bots).z + next < p.matrix.resolution) (ee : e ≡ along Z (pos next -ℤ pos at)) (eg : g ≡ along Z (pos next -ℤ pos at)) where
+module _ (p : TapeState) (w at next : ℕ) (e g : Diff) (rectangle : IsRectangle p w at) (some : 1 ≤ next) (within : (spot p.bots).z + next < p.matrix.resolution) (ee : e ≡ along Z (pos next -ℤ pos at)) (eg : g ≡ along Z (pos next -ℤ pos at)) where
   deeper : CanStand p.matrix w next (spot p.bots)
   deeper = let s = rectangle.stand in record { x = s.x; y = s.y; z = within; above = s.above }
 
   pub can_deepen : CanMoveAll p (Wait ∷ Wait ∷ SMove e ∷ SMove g ∷ [])
   can_deepen = can_move_all p _ _ _ _ _ _ _ _ _ _ rectangle.full rectangle.stand deeper (stay_apart (spot p.bots) w at w next rectangle.wide rectangle.deep rectangle.wide some) (deepen_goes (spot p.bots) w at next e g ee eg) rectangle.bots_are
 
-  pub deepen_went : (q : Progress) → AllStep p q (Wait ∷ Wait ∷ SMove e ∷ SMove g ∷ []) p.matrix p.harmonics (bots_gone p.bots (Wait ∷ Wait ∷ SMove e ∷ SMove g ∷ [])) → FourGo p q w next (spot p.bots) 1
+  pub deepen_went : (q : TapeState) → AllStep p q (Wait ∷ Wait ∷ SMove e ∷ SMove g ∷ []) p.matrix p.harmonics (bots_gone p.bots (Wait ∷ Wait ∷ SMove e ∷ SMove g ∷ [])) → FourGo p q w next (spot p.bots) 1
   deepen_went q = went p _ _ _ _ _ _ _ _ _ _ rectangle.full rectangle.stand deeper (stay_apart (spot p.bots) w at w next rectangle.wide rectangle.deep rectangle.wide some) (deepen_goes (spot p.bots) w at next e g ee eg) rectangle.bots_are q rectangle.high refl

@@ -13,9 +13,10 @@ use Rattle.nano_spec.proofs.Opening.{legal_is}
 use Rattle.step_order.proofs.Lists.{In, find_none}
 use Rattle.step_order.proofs.Voxels.{full_where, in_coordinates}
 use Rattle.plan_tape.specs.Leg.{AreVoidTo}
-use Rattle.void_planner.specs.Phases.{IsVoidModel, top}
-use Rattle.void_planner.specs.Tiles.{IsVoidFrom, coord}
+use Rattle.void_planner.specs.Phases.{IsVoidModel}
 use Rattle.void_planner.proofs.Regions.{void_by_space}
+use Rattle.vox_geom.specs.Point.{coord}
+use Rattle.plan_tape.specs.Progress.{IsVoidFrom, top}
 
 in_box : (full box : Bool) → (full && not box) ≡ false → box ≡ false → full ≡ false
 in_box true true e f = cc

@@ -6,7 +6,7 @@ use Rattle.std.proofs.lemmas.Bool.Decides.{nat_tests}
 use Rattle.std.proofs.lemmas.Int.{ints}
 use Rattle.vox_geom.specs.declared.coordinate.Coord.{Coord}
 use Rattle.vox_geom.specs.declared.difference.Diff.{Diff}
-use Rattle.vox_geom.specs.Point.{Point, point, plus, same_number, same_point}
+use Rattle.vox_geom.specs.Point.{Point, point, plus, same_number, same_point, coord}
 use Rattle.vox_geom.specs.Region.{just}
 use Rattle.vox_geom.specs.Space.{IsInSpace, in_space}
 use Rattle.nano_spec.specs.declared.commands.Command.{Command}
@@ -24,16 +24,15 @@ use Rattle.step_order.specs.Apart.{AreBelow, LieApart, after_x, before_x}
 use Rattle.step_order.specs.Unbroken.{AreFree, IsFreeWay}
 use Rattle.step_order.proofs.Voxels.{in_space_is}
 use Rattle.plan_tape.specs.Crowd.{AllStep, bots_fused, bots_split}
-use Rattle.plan_tape.specs.Progress.{Progress, state_of}
+use Rattle.plan_tape.specs.Progress.{TapeState, state_of}
 use Rattle.void_planner.specs.Few.{is_fission}
-use Rattle.void_planner.specs.Square.{Becomes, CanStand, bot, four, one, two}
-use Rattle.void_planner.specs.Tiles.{coord}
+use Rattle.void_planner.specs.Square.{Becomes, CanStand, bot_with, four, one, two}
 use Rattle.void_planner.proofs.Counts.{fissions_more}
 use Rattle.void_planner.proofs.Fours.{void_between}
 
 -- ---- what a step makes
 
-pub becomes : (p q : Progress) (k : List Command) (some bots : List Bot) (made : ℕ) → count_by is_fission k ≡ made → some ≡ bots → p.harmonics ≡ High → p.profile ≡ full_profile → AllStep p q k p.matrix p.harmonics some → Becomes p q bots made
+pub becomes : (p q : TapeState) (k : List Command) (some bots : List Bot) (made : ℕ) → count_by is_fission k ≡ made → some ≡ bots → p.harmonics ≡ High → p.profile ≡ full_profile → AllStep p q k p.matrix p.harmonics some → Becomes p q bots made
 becomes p q k some bots made n e high full s = record {
   source = s.source;
   matrix = s.matrix;
@@ -83,7 +82,7 @@ below a b h = record { near = omega (arith, ints); far = omega (arith, ints); ne
 
 -- ---- one bot becomes two
 
-split_bots : (c q : Coord) → in_rising_order (parent (bot 1 c (2 ^ 41 - 2 ^ 2)) 1 ∷ newborn (bot 1 c (2 ^ 41 - 2 ^ 2)) (point q) 1 ∷ []) ≡ bot 1 c (2 ^ 41 - 2 ^ 4) ∷ bot 2 q (2 ^ 3) ∷ []
+split_bots : (c q : Coord) → in_rising_order (parent (bot_with 1 c (2 ^ 41 - 2 ^ 2)) 1 ∷ newborn (bot_with 1 c (2 ^ 41 - 2 ^ 2)) (point q) 1 ∷ []) ≡ bot_with 1 c (2 ^ 41 - 2 ^ 4) ∷ bot_with 2 q (2 ^ 3) ∷ []
 unfolding seed_numbers
 split_bots c q = refl
 
@@ -91,7 +90,7 @@ many_seeds : 1 < length (seed_list (2 ^ 41 - 2 ^ 2))
 unfolding seed_numbers
 many_seeds = lit< tt
 
-module _ (p : Progress) (c : Coord) (d : Diff) (bots : p.bots ≡ one c) (full : p.profile ≡ full_profile) (stand : CanStand p.matrix 1 1 c) (ed : d ≡ to (pos 1) (pos 0)) where
+module _ (p : TapeState) (c : Coord) (d : Diff) (bots : p.bots ≡ one c) (full : p.profile ≡ full_profile) (stand : CanStand p.matrix 1 1 c) (ed : d ≡ to (pos 1) (pos 0)) where
   there : plus (point c) d ≡ point (coord (c.x + 1) c.y c.z)
   there = ap (plus (point c)) ed ∙ beside_x c
 
@@ -111,11 +110,11 @@ module _ (p : Progress) (c : Coord) (d : Diff) (bots : p.bots ≡ one c) (full :
       })
 
   pub split_makes : bots_split p.bots (Fission d 1 ∷ []) ≡ two c
-  split_makes = ap (λ (bs : List Bot). bots_split bs (Fission d 1 ∷ [])) bots ∙ (ap (λ (u : Point). in_rising_order (parent (bot 1 c (2 ^ 41 - 2 ^ 2)) 1 ∷ newborn (bot 1 c (2 ^ 41 - 2 ^ 2)) u 1 ∷ [])) there ∙ split_bots c (coord (c.x + 1) c.y c.z))
+  split_makes = ap (λ (bs : List Bot). bots_split bs (Fission d 1 ∷ [])) bots ∙ (ap (λ (u : Point). in_rising_order (parent (bot_with 1 c (2 ^ 41 - 2 ^ 2)) 1 ∷ newborn (bot_with 1 c (2 ^ 41 - 2 ^ 2)) u 1 ∷ [])) there ∙ split_bots c (coord (c.x + 1) c.y c.z))
 
 -- ---- two become four
 
-split_bots_both : (c f g e : Coord) → in_rising_order (parent (bot 1 c (2 ^ 41 - 2 ^ 4)) 0 ∷ newborn (bot 1 c (2 ^ 41 - 2 ^ 4)) (point f) 0 ∷ parent (bot 2 e (2 ^ 3)) 0 ∷ newborn (bot 2 e (2 ^ 3)) (point g) 0 ∷ []) ≡ bot 1 c (2 ^ 41 - 2 ^ 5) ∷ bot 2 e 0 ∷ bot 3 g 0 ∷ bot 4 f 0 ∷ []
+split_bots_both : (c f g e : Coord) → in_rising_order (parent (bot_with 1 c (2 ^ 41 - 2 ^ 4)) 0 ∷ newborn (bot_with 1 c (2 ^ 41 - 2 ^ 4)) (point f) 0 ∷ parent (bot_with 2 e (2 ^ 3)) 0 ∷ newborn (bot_with 2 e (2 ^ 3)) (point g) 0 ∷ []) ≡ bot_with 1 c (2 ^ 41 - 2 ^ 5) ∷ bot_with 2 e 0 ∷ bot_with 3 g 0 ∷ bot_with 4 f 0 ∷ []
 unfolding seed_numbers
 split_bots_both c f g e = refl
 
@@ -134,7 +133,7 @@ before_by a b u v e f h = subst (λ (x : Point). LieApart (just x) (just v)) (sy
 after_by : (a b : Coord) → b.x < a.x → LieApart (just (point a)) (just (point b))
 after_by a b h = after_x (below b.x a.x h)
 
-module _ (p : Progress) (c : Coord) (d e : Diff) (bots : p.bots ≡ two c) (full : p.profile ≡ full_profile) (stand : CanStand p.matrix 1 1 c) (ed : d ≡ to (pos 0) (pos 1)) (ee : e ≡ to (pos 0) (pos 1)) where
+module _ (p : TapeState) (c : Coord) (d e : Diff) (bots : p.bots ≡ two c) (full : p.profile ≡ full_profile) (stand : CanStand p.matrix 1 1 c) (ed : d ≡ to (pos 0) (pos 1)) (ee : e ≡ to (pos 0) (pos 1)) where
   rear : plus (point c) d ≡ point (coord c.x c.y (c.z + 1))
   rear = ap (plus (point c)) ed ∙ beside_z c
 
@@ -181,7 +180,7 @@ module _ (p : Progress) (c : Coord) (d e : Diff) (bots : p.bots ≡ two c) (full
   pub split_both_makes : bots_split p.bots (Fission d 0 ∷ Fission e 0 ∷ []) ≡ four c 1 1
   split_both_makes =
       ap (λ (bs : List Bot). bots_split bs (Fission d 0 ∷ Fission e 0 ∷ [])) bots
-      ∙ ((λ i. in_rising_order (parent (bot 1 c (2 ^ 41 - 2 ^ 4)) 0 ∷ newborn (bot 1 c (2 ^ 41 - 2 ^ 4)) (rear i) 0 ∷ parent (bot 2 (coord (c.x + 1) c.y c.z) (2 ^ 3)) 0 ∷ newborn (bot 2 (coord (c.x + 1) c.y c.z) (2 ^ 3)) (rear_right i) 0 ∷ []))
+      ∙ ((λ i. in_rising_order (parent (bot_with 1 c (2 ^ 41 - 2 ^ 4)) 0 ∷ newborn (bot_with 1 c (2 ^ 41 - 2 ^ 4)) (rear i) 0 ∷ parent (bot_with 2 (coord (c.x + 1) c.y c.z) (2 ^ 3)) 0 ∷ newborn (bot_with 2 (coord (c.x + 1) c.y c.z) (2 ^ 3)) (rear_right i) 0 ∷ []))
       ∙ split_bots_both c (coord c.x c.y (c.z + 1)) (coord (c.x + 1) c.y (c.z + 1)) (coord (c.x + 1) c.y c.z))
 
 -- ---- bots that fuse
@@ -205,23 +204,23 @@ pair a b d e f g = both (same_point (plus (point a) d) (point b)) (same_point (p
 by_left : (a b : Bool) → a ≡ true → (a || b) ≡ true
 by_left a b e = rw e refl
 
-fused_two : (c e : Coord) → fused (bot 1 c (2 ^ 41 - 2 ^ 4)) (bot 2 e (2 ^ 3)) ∷ [] ≡ one c
+fused_two : (c e : Coord) → fused (bot_with 1 c (2 ^ 41 - 2 ^ 4)) (bot_with 2 e (2 ^ 3)) ∷ [] ≡ one c
 unfolding seed_numbers
 fused_two c e = refl
 
-fused_four : (c e f g : Coord) → fused (bot 1 c (2 ^ 41 - 2 ^ 5)) (bot 4 f 0) ∷ fused (bot 2 e 0) (bot 3 g 0) ∷ [] ≡ bot 1 c (2 ^ 41 - 2 ^ 4) ∷ bot 2 e (2 ^ 3) ∷ []
+fused_four : (c e f g : Coord) → fused (bot_with 1 c (2 ^ 41 - 2 ^ 5)) (bot_with 4 f 0) ∷ fused (bot_with 2 e 0) (bot_with 3 g 0) ∷ [] ≡ bot_with 1 c (2 ^ 41 - 2 ^ 4) ∷ bot_with 2 e (2 ^ 3) ∷ []
 unfolding seed_numbers
 fused_four c e f g = refl
 
-module _ (p : Progress) (c : Coord) (d e : Diff) (bots : p.bots ≡ two c) (full : p.profile ≡ full_profile) (stand : CanStand p.matrix 1 1 c) (ed : d ≡ to (pos 1) (pos 0)) (ee : e ≡ to (negsuc 0) (pos 0)) where
+module _ (p : TapeState) (c : Coord) (d e : Diff) (bots : p.bots ≡ two c) (full : p.profile ≡ full_profile) (stand : CanStand p.matrix 1 1 c) (ed : d ≡ to (pos 1) (pos 0)) (ee : e ≡ to (negsuc 0) (pos 0)) where
   abbrev fusion : List Act
   fusion = acts (two c) (FusionP d ∷ FusionS e ∷ [])
 
   abbrev pub first : Act
-  first = record { bot = bot 1 c (2 ^ 41 - 2 ^ 4); command = FusionP d }
+  first = record { bot = bot_with 1 c (2 ^ 41 - 2 ^ 4); command = FusionP d }
 
   abbrev pub second : Act
-  second = record { bot = bot 2 (coord (c.x + 1) c.y c.z) (2 ^ 3); command = FusionS e }
+  second = record { bot = bot_with 2 (coord (c.x + 1) c.y c.z) (2 ^ 3); command = FusionS e }
 
   forth : plus (point c) d ≡ point (coord (c.x + 1) c.y c.z)
   forth = ap (plus (point c)) ed ∙ beside_x c
@@ -259,7 +258,7 @@ module _ (p : Progress) (c : Coord) (d e : Diff) (bots : p.bots ≡ two c) (full
 
 -- ---- four become two
 
-module _ (p : Progress) (c : Coord) (d e f g : Diff) (bots : p.bots ≡ four c 1 1) (full : p.profile ≡ full_profile) (stand : CanStand p.matrix 1 1 c) (ed : d ≡ to (pos 0) (pos 1)) (ee : e ≡ to (pos 0) (pos 1)) (ef : f ≡ to (pos 0) (negsuc 0)) (eg : g ≡ to (pos 0) (negsuc 0)) where
+module _ (p : TapeState) (c : Coord) (d e f g : Diff) (bots : p.bots ≡ four c 1 1) (full : p.profile ≡ full_profile) (stand : CanStand p.matrix 1 1 c) (ed : d ≡ to (pos 0) (pos 1)) (ee : e ≡ to (pos 0) (pos 1)) (ef : f ≡ to (pos 0) (negsuc 0)) (eg : g ≡ to (pos 0) (negsuc 0)) where
   abbrev commands : List Command
   commands = FusionP d ∷ FusionP e ∷ FusionS f ∷ FusionS g ∷ []
 
@@ -276,16 +275,16 @@ module _ (p : Progress) (c : Coord) (d e f g : Diff) (bots : p.bots ≡ four c 1
   behind = coord c.x c.y (c.z + 1)
 
   abbrev pub one_of_four : Act
-  one_of_four = record { bot = bot 1 c (2 ^ 41 - 2 ^ 5); command = FusionP d }
+  one_of_four = record { bot = bot_with 1 c (2 ^ 41 - 2 ^ 5); command = FusionP d }
 
   abbrev pub two_of_four : Act
-  two_of_four = record { bot = bot 2 right 0; command = FusionP e }
+  two_of_four = record { bot = bot_with 2 right 0; command = FusionP e }
 
   abbrev pub three_of_four : Act
-  three_of_four = record { bot = bot 3 behind_right 0; command = FusionS f }
+  three_of_four = record { bot = bot_with 3 behind_right 0; command = FusionS f }
 
   abbrev pub four_of_four : Act
-  four_of_four = record { bot = bot 4 behind 0; command = FusionS g }
+  four_of_four = record { bot = bot_with 4 behind 0; command = FusionS g }
 
   left_forth : plus (point c) d ≡ point behind
   left_forth = ap (plus (point c)) ed ∙ beside_z c

@@ -4,10 +4,11 @@ use Rattle.vox_geom.specs.declared.coordinate.Coord.{Coord}
 use Rattle.nano_spec.specs.Matrix.{Matrix, is_full}
 use Rattle.step_order.specs.Acting.{with_region}
 use Rattle.plan_tape.specs.Leg.{moves, moves_to}
-use Rattle.plan_tape.specs.Progress.{Progress, spot}
-use Rattle.void_planner.specs.Square.{AreFewer, CanClear, Clears, FourGo, FourVoid, IsRectangle, layer_steps, steps_to, strip_steps}
-use Rattle.void_planner.specs.Tiles.{IsVoidBefore, IsVoidFrom, IsVoidStrip, IsVoidTile, coord, edge, far_of, place_of, tile, tiles_of, turned}
+use Rattle.plan_tape.specs.Progress.{TapeState, spot, IsVoidFrom}
+use Rattle.void_planner.specs.Square.{AreFewer, CanVoidLayers, Clears, FourGo, FourVoid, IsRectangle, voiding_steps, steps_to, strip_steps}
+use Rattle.void_planner.specs.Tiles.{IsVoidBefore, IsVoidStrip, IsVoidTile, edge, far_of, place_of, tile, tiles_of, turned}
 use Rattle.void_planner.proofs.Regions.{region_fewer, tile_void, void_by_space}
+use Rattle.vox_geom.specs.Point.{coord}
 
 -- ---- how many moves
 
@@ -24,11 +25,11 @@ no_moves a = omega arith
 -- ---- tapes
 
 -- nothing is voided yet
-pub clears_none : (a : Progress) (at : Coord) → IsRectangle a (far_of a.matrix.resolution) (far_of a.matrix.resolution) → Clears a a at at 0
+pub clears_none : (a : TapeState) (at : Coord) → IsRectangle a (far_of a.matrix.resolution) (far_of a.matrix.resolution) → Clears a a at at 0
 clears_none a at square = record { source = refl; resolution = refl; fewer = λ c v. v; square = square; fissions_are = refl; steps_are = omega arith }
 
 -- some more
-pub clears_more : (a b c : Progress) (p q s : Coord) (k n most : ℕ) → Clears a b p q k → Clears b c q s n → k + n ≤ most → Clears a c p s most
+pub clears_more : (a b c : TapeState) (p q s : Coord) (k n most : ℕ) → Clears a b p q k → Clears b c q s n → k + n ≤ most → Clears a c p s most
 clears_more a b c p q s k n most h g l = record {
   source = g.source ∙ h.source;
   resolution = g.resolution ∙ h.resolution;
@@ -39,7 +40,7 @@ clears_more a b c p q s k n most h g l = record {
 }
 
 -- the way to another coordinate
-pub clears_to : (a b : Progress) (p q s : Coord) (k n most : ℕ) → Clears a b p q k → moves_to q s ≤ n → k + n ≤ most → Clears a b p s most
+pub clears_to : (a b : TapeState) (p q s : Coord) (k n most : ℕ) → Clears a b p q k → moves_to q s ≤ n → k + n ≤ most → Clears a b p s most
 clears_to a b p q s k n most h l m = record {
   source = h.source;
   resolution = h.resolution;
@@ -50,7 +51,7 @@ clears_to a b p q s k n most h l m = record {
 }
 
 -- the four can go on where they have voided
-pub clears_on : (a b : Progress) (p q : Coord) (k y : ℕ) → CanClear a y → Clears a b p q k → CanClear b y
+pub clears_on : (a b : TapeState) (p q : Coord) (k y : ℕ) → CanVoidLayers a y → Clears a b p q k → CanVoidLayers b y
 clears_on a b p q k y c h = record {
   square = subst (λ r. IsRectangle b (far_of r) (far_of r)) (sym h.resolution) h.square;
   within = let w = c.within in let r = h.resolution in omega arith;
@@ -60,7 +61,7 @@ clears_on a b p q k y c h = record {
 -- ---- a tile
 
 -- the four have gone above a tile and voided it
-pub tile_cleared : (a b c : Progress) (x y z far : ℕ) → far ≡ far_of b.matrix.resolution → FourGo a b (far_of a.matrix.resolution) (far_of a.matrix.resolution) (coord x (y + 1) z) (moves_to (spot a.bots) (coord x (y + 1) z)) → FourVoid b c far (tile far (coord (spot b.bots).x ((spot b.bots).y - 1) (spot b.bots).z)) (with_region b.matrix (tile far (coord (spot b.bots).x ((spot b.bots).y - 1) (spot b.bots).z)) false) → Clears a c (coord x (y + 1) z) (coord x (y + 1) z) 1 × IsVoidTile c.matrix (far_of a.matrix.resolution) x y z
+pub tile_cleared : (a b c : TapeState) (x y z far : ℕ) → far ≡ far_of b.matrix.resolution → FourGo a b (far_of a.matrix.resolution) (far_of a.matrix.resolution) (coord x (y + 1) z) (moves_to (spot a.bots) (coord x (y + 1) z)) → FourVoid b c far (tile far (coord (spot b.bots).x ((spot b.bots).y - 1) (spot b.bots).z)) (with_region b.matrix (tile far (coord (spot b.bots).x ((spot b.bots).y - 1) (spot b.bots).z)) false) → Clears a c (coord x (y + 1) z) (coord x (y + 1) z) 1 × IsVoidTile c.matrix (far_of a.matrix.resolution) x y z
 tile_cleared a b c x y z far ef g v =
     let t = coord x (y + 1) z in
     let er : far ≡ far_of a.matrix.resolution = ef ∙ ap (λ (m : Matrix). far_of m.resolution) g.matrix in
@@ -149,7 +150,7 @@ layer_void m r turn y e h = λ c l w.
     void_by_space m c (λ i. each_taken (λ j. IsVoidStrip m (far_of r) (place_of r j) y r) (tiles_of r) turn h (c.x / 31) n.0 c n.1 n.2 w (let z = i.z in omega arith))
 
 -- the next strip is within the steps of all
-pub layer_limit : (a b : Progress) (r : ℕ) (turn first now : Bool) (y k limit : ℕ) → k < tiles_of r → Clears a b (coord (edge r turn) (y + 1) (edge r first)) (coord (place_of r (turned (tiles_of r) turn (k - 1))) (y + 1) (edge r now)) (strip_steps r * k) → steps_to a (coord (edge r turn) (y + 1) (edge r first)) + strip_steps r * tiles_of r < limit → steps_to b (coord (place_of r (turned (tiles_of r) turn k)) (y + 1) (edge r now)) + 4 * tiles_of r < limit
+pub layer_limit : (a b : TapeState) (r : ℕ) (turn first now : Bool) (y k limit : ℕ) → k < tiles_of r → Clears a b (coord (edge r turn) (y + 1) (edge r first)) (coord (place_of r (turned (tiles_of r) turn (k - 1))) (y + 1) (edge r now)) (strip_steps r * k) → steps_to a (coord (edge r turn) (y + 1) (edge r first)) + strip_steps r * tiles_of r < limit → steps_to b (coord (place_of r (turned (tiles_of r) turn k)) (y + 1) (edge r now)) + 4 * tiles_of r < limit
 layer_limit a b r turn first now y k limit h p q =
     let u = coord (place_of r (turned (tiles_of r) turn (k - 1))) (y + 1) (edge r now) in
     let t = coord (place_of r (turned (tiles_of r) turn k)) (y + 1) (edge r now) in
@@ -162,7 +163,7 @@ layer_limit a b r turn first now y k limit h p q =
     within s b u t w n k m limit e f g h q = let d : (4 * n + 3) * (k + 1) ≡ (4 * n + 3) * k + (4 * n + 3) = omega arith in omega arith
 
 -- one strip more, and the way to it
-pub layer_on : (a b c : Progress) (r : ℕ) (turn first now : Bool) (y k : ℕ) → Clears a b (coord (edge r turn) (y + 1) (edge r first)) (coord (place_of r (turned (tiles_of r) turn (k - 1))) (y + 1) (edge r now)) (strip_steps r * k) → Clears b c (coord (place_of r (turned (tiles_of r) turn k)) (y + 1) (edge r now)) (coord (place_of r (turned (tiles_of r) turn k)) (y + 1) (edge r (not now))) (4 * tiles_of r) → Clears a c (coord (edge r turn) (y + 1) (edge r first)) (coord (place_of r (turned (tiles_of r) turn (k + 1 - 1))) (y + 1) (edge r (not now))) (strip_steps r * (k + 1))
+pub layer_on : (a b c : TapeState) (r : ℕ) (turn first now : Bool) (y k : ℕ) → Clears a b (coord (edge r turn) (y + 1) (edge r first)) (coord (place_of r (turned (tiles_of r) turn (k - 1))) (y + 1) (edge r now)) (strip_steps r * k) → Clears b c (coord (place_of r (turned (tiles_of r) turn k)) (y + 1) (edge r now)) (coord (place_of r (turned (tiles_of r) turn k)) (y + 1) (edge r (not now))) (4 * tiles_of r) → Clears a c (coord (edge r turn) (y + 1) (edge r first)) (coord (place_of r (turned (tiles_of r) turn (k + 1 - 1))) (y + 1) (edge r (not now))) (strip_steps r * (k + 1))
 layer_on a b c r turn first now y k p q =
     let start = coord (edge r turn) (y + 1) (edge r first) in
     let u = coord (place_of r (turned (tiles_of r) turn (k - 1))) (y + 1) (edge r now) in
@@ -187,7 +188,7 @@ one_layer_less : (r y n : ℕ) → 0 < y → y < r → (r - 1 - y) * n + n ≤ (
 one_layer_less r y n h l = let e : r - 1 - (y - 1) ≡ r - 1 - y + 1 = omega arith in rw e (omega arith)
 
 -- one layer more, above which all is void
-pub layers_on : (a b c : Progress) (r y : ℕ) (turn back next : Bool) → 0 < y → y < r → Clears a b (coord 0 (r - 1) 0) (coord (edge r turn) y (edge r back)) ((r - 1 - y) * fro_steps r) → Clears b c (coord (edge r turn) (y - 1 + 1) (edge r back)) (coord (edge r (not turn)) (y - 1 + 1) (edge r next)) (strip_steps r * tiles_of r) → Clears a c (coord 0 (r - 1) 0) (coord (edge r (not turn)) (y - 1) (edge r next)) ((r - 1 - (y - 1)) * fro_steps r)
+pub layers_on : (a b c : TapeState) (r y : ℕ) (turn back next : Bool) → 0 < y → y < r → Clears a b (coord 0 (r - 1) 0) (coord (edge r turn) y (edge r back)) ((r - 1 - y) * fro_steps r) → Clears b c (coord (edge r turn) (y - 1 + 1) (edge r back)) (coord (edge r (not turn)) (y - 1 + 1) (edge r next)) (strip_steps r * tiles_of r) → Clears a c (coord 0 (r - 1) 0) (coord (edge r (not turn)) (y - 1) (edge r next)) ((r - 1 - (y - 1)) * fro_steps r)
 layers_on a b c r y turn back next h l p q =
     let up : y - 1 + 1 ≡ y = omega arith in
     let layer = subst (λ v. Clears b c (coord (edge r turn) v (edge r back)) (coord (edge r (not turn)) v (edge r next)) (strip_steps r * tiles_of r)) up q in
@@ -228,22 +229,22 @@ times m n w l h k =
 all_but : (m k n l : ℕ) → m + 1 ≤ k → n ≤ l → m * n + n ≤ k * l
 all_but m k n l h g = let all : (m + 1) * n ≤ k * l = mul-le-mul h g in omega (arith, all)
 
-pub layers_limit : (a b : Progress) (r y : ℕ) (turn back : Bool) (limit : ℕ) → 0 < y → y < r → Clears a b (coord 0 (r - 1) 0) (coord (edge r turn) y (edge r back)) ((r - 1 - y) * fro_steps r) → steps_to a (coord 0 (r - 1) 0) + (r - 1) * layer_steps r < limit → steps_to b (coord (edge r turn) (y - 1 + 1) (edge r back)) + strip_steps r * tiles_of r < limit
+pub layers_limit : (a b : TapeState) (r y : ℕ) (turn back : Bool) (limit : ℕ) → 0 < y → y < r → Clears a b (coord 0 (r - 1) 0) (coord (edge r turn) y (edge r back)) ((r - 1 - y) * fro_steps r) → steps_to a (coord 0 (r - 1) 0) + (r - 1) * voiding_steps r < limit → steps_to b (coord (edge r turn) (y - 1 + 1) (edge r back)) + strip_steps r * tiles_of r < limit
 layers_limit a b r y turn back limit h l p q =
     let up : y - 1 + 1 ≡ y = omega arith in
-    let most = all_but (r - 1 - y) (r - 1) (fro_steps r) (layer_steps r) (omega arith) (let w = with_way (tiles_of r) in omega (arith, w)) in
-    subst (λ v. steps_to b (coord (edge r turn) v (edge r back)) + strip_steps r * tiles_of r < limit) (sym up) (within (steps_to a (coord 0 (r - 1) 0)) (steps_to b (coord (edge r turn) y (edge r back))) ((r - 1 - y) * fro_steps r) (strip_steps r * tiles_of r) ((r - 1) * layer_steps r) limit p.steps_are most q)
+    let most = all_but (r - 1 - y) (r - 1) (fro_steps r) (voiding_steps r) (omega arith) (let w = with_way (tiles_of r) in omega (arith, w)) in
+    subst (λ v. steps_to b (coord (edge r turn) v (edge r back)) + strip_steps r * tiles_of r < limit) (sym up) (within (steps_to a (coord 0 (r - 1) 0)) (steps_to b (coord (edge r turn) y (edge r back))) ((r - 1 - y) * fro_steps r) (strip_steps r * tiles_of r) ((r - 1) * voiding_steps r) limit p.steps_are most q)
   where
     within : (s t m n k limit : ℕ) → t ≤ s + m → m + (n + 1) ≤ k → s + k < limit → t + n < limit
     within s t m n k limit e f g = omega arith
 
 -- once all layers are void, the way to the origin is within the steps of the layers
-pub layers_all : (a b : Progress) (r y : ℕ) (turn back : Bool) → 2 ≤ r → y ≡ 0 → Clears a b (coord 0 (r - 1) 0) (coord (edge r turn) y (edge r back)) ((r - 1 - y) * fro_steps r) → Clears a b (coord 0 (r - 1) 0) (coord 0 0 0) ((r - 1) * layer_steps r)
+pub layers_all : (a b : TapeState) (r y : ℕ) (turn back : Bool) → 2 ≤ r → y ≡ 0 → Clears a b (coord 0 (r - 1) 0) (coord (edge r turn) y (edge r back)) ((r - 1 - y) * fro_steps r) → Clears a b (coord 0 (r - 1) 0) (coord 0 0 0) ((r - 1) * voiding_steps r)
 layers_all a b r y turn back some e p =
     let low = subst (λ v. Clears a b (coord 0 (r - 1) 0) (coord (edge r turn) v (edge r back)) ((r - 1 - v) * fro_steps r)) e p in
     let way : moves_to (coord (edge r turn) 0 (edge r back)) (coord 0 0 0) ≤ 6 * tiles_of r = let u = edge_near r turn in let v = edge_near r back in omega arith in
-    clears_to a b (coord 0 (r - 1) 0) (coord (edge r turn) 0 (edge r back)) (coord 0 0 0) ((r - 1 - 0) * fro_steps r) (6 * tiles_of r) ((r - 1) * layer_steps r) low way
-    (subst (λ v. v * fro_steps r + 6 * tiles_of r ≤ (r - 1) * layer_steps r) (let e : r - 1 ≡ r - 1 - 0 = omega arith in e) (times (r - 1) (fro_steps r) (6 * tiles_of r) (layer_steps r) (omega arith) (with_way (tiles_of r))))
+    clears_to a b (coord 0 (r - 1) 0) (coord (edge r turn) 0 (edge r back)) (coord 0 0 0) ((r - 1 - 0) * fro_steps r) (6 * tiles_of r) ((r - 1) * voiding_steps r) low way
+    (subst (λ v. v * fro_steps r + 6 * tiles_of r ≤ (r - 1) * voiding_steps r) (let e : r - 1 ≡ r - 1 - 0 = omega arith in e) (times (r - 1) (fro_steps r) (6 * tiles_of r) (voiding_steps r) (omega arith) (with_way (tiles_of r))))
 
 -- with the layer below all is void from there on
 pub void_more : (a b : Matrix) (y : ℕ) → 0 < y → AreFewer b a → IsVoidFrom a y → IsVoidBefore b b.resolution (y - 1) → IsVoidFrom b (y - 1)

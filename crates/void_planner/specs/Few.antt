@@ -3,7 +3,7 @@ pub use Rattle.plan_tape.specs.Reaches.{HasAtMost}
 use Rattle.std.specs.Prelude.{ℕ, Bool, true, false, count_by}
 use Rattle.nano_spec.specs.declared.commands.Command.{Command}
 use Rattle.nano_spec.specs.declared.commands.Command.TheVariants.{Fission}
-use Rattle.plan_tape.specs.Progress.{Progress}
+use Rattle.plan_tape.specs.Progress.{TapeState}
 
 -- whether the command makes a bot
 abbrev pub is_fission : Command → Bool
@@ -11,5 +11,5 @@ is_fission (Fission d m) = true
 is_fission _ = false
 
 -- how many of a tape's commands do
-unfoldable pub fissions : Progress → ℕ
+unfoldable pub fissions : TapeState → ℕ
 fissions p = count_by is_fission p.commands

@@ -5,20 +5,17 @@ use Rattle.nano_spec.specs.declared.system.Harmonics.TheVariants.{High}
 use Rattle.nano_spec.specs.Matrix.{Matrix, is_full}
 use Rattle.nano_spec.specs.Profile.{full_profile}
 use Rattle.plan_tape.specs.Leg.{moves_to}
-use Rattle.plan_tape.specs.Progress.{Progress, spot}
+use Rattle.plan_tape.specs.Progress.{TapeState, spot, IsVoidFrom, top}
 use Rattle.void_planner.specs.Square.{IsRectangle, one}
-use Rattle.void_planner.specs.Tiles.{IsVoidFrom, coord, far_of, tiles_of}
-
--- where the sweep begins: at the top above the origin
-abbrev pub top : Matrix → Coord
-top m = coord 0 (m.resolution - 1) 0
+use Rattle.void_planner.specs.Tiles.{far_of, tiles_of}
+use Rattle.vox_geom.specs.Point.{coord}
 
 -- no voxel is full
 abbrev pub IsVoidModel : Matrix → Type 0
 IsVoidModel m = (c : Coord) → is_full m c ≡ false
 
 -- under High, nothing is changed, and the only bot is at the top above the origin
-pub record IsRisen (t : Progress) : Type 0 where
+pub record IsRisen (t : TapeState) : Type 0 where
   pub matrix : t.matrix ≡ t.source
   pub high : t.harmonics ≡ High
   pub full : t.profile ≡ full_profile
@@ -26,14 +23,14 @@ pub record IsRisen (t : Progress) : Type 0 where
   pub steps_are : t.steps ≤ 28
 
 -- there are four bots, above the corners of a tile
-pub record IsSpread (t : Progress) : Type 0 where
+pub record IsSpread (t : TapeState) : Type 0 where
   pub matrix : t.matrix ≡ t.source
   pub square : IsRectangle t (far_of t.matrix.resolution) (far_of t.matrix.resolution)
   pub there : spot t.bots ≡ top t.source
   pub steps_are : t.steps ≤ 34
 
 -- under High, all is void, and there is one bot, which has no more than so many steps to go home
-pub record IsGathered (t : Progress) (most : ℕ) : Type 0 where
+pub record IsGathered (t : TapeState) (most : ℕ) : Type 0 where
   pub void : IsVoidFrom t.matrix 0
   pub high : t.harmonics ≡ High
   pub full : t.profile ≡ full_profile
@@ -41,5 +38,5 @@ pub record IsGathered (t : Progress) (most : ℕ) : Type 0 where
   pub steps_are : t.steps + moves_to (spot t.bots) (coord 0 0 0) ≤ most
 
 -- how many steps a plan takes at most at a resolution
-abbrev pub most_steps : ℕ → ℕ
-most_steps r = 8 * r * (tiles_of r * tiles_of r) + 8 * r + 200
+abbrev pub most_void_steps : ℕ → ℕ
+most_void_steps r = 8 * r * (tiles_of r * tiles_of r) + 8 * r + 200

@@ -7,25 +7,26 @@ use Rattle.nano_spec.specs.declared.system.Harmonics.TheVariants.{High}
 use Rattle.nano_spec.specs.Matrix.{Matrix, is_full}
 use Rattle.nano_spec.specs.Profile.{full_profile}
 use Rattle.plan_tape.specs.Leg.{moves_to}
-use Rattle.plan_tape.specs.Progress.{Progress, spot}
+use Rattle.plan_tape.specs.Progress.{TapeState, spot, IsVoidFrom}
 use Rattle.void_planner.specs.Few.{fissions}
-use Rattle.void_planner.specs.Tiles.{IsVoidFrom, coord, far_of, tiles_of}
+use Rattle.void_planner.specs.Tiles.{far_of, tiles_of}
+use Rattle.vox_geom.specs.Point.{coord}
 
 -- a bot by its parts
-abbrev pub bot : ℕ → Coord → ℕ → Bot
-bot bid c seeds = record { bid = bid; pos = c; seeds = seeds }
+abbrev pub bot_with : ℕ → Coord → ℕ → Bot
+bot_with bid c seeds = record { bid = bid; pos = c; seeds = seeds }
 
 -- the first bot with the seeds 2 to 40
 abbrev pub one : Coord → List Bot
-one c = bot 1 c (2 ^ 41 - 2 ^ 2) ∷ []
+one c = bot_with 1 c (2 ^ 41 - 2 ^ 2) ∷ []
 
 -- it and one beside it along x: the seeds 4 to 40, and 3
 abbrev pub two : Coord → List Bot
-two c = bot 1 c (2 ^ 41 - 2 ^ 4) ∷ bot 2 (coord (c.x + 1) c.y c.z) (2 ^ 3) ∷ []
+two c = bot_with 1 c (2 ^ 41 - 2 ^ 4) ∷ bot_with 2 (coord (c.x + 1) c.y c.z) (2 ^ 3) ∷ []
 
 -- four bots at the corners of a rectangle, with the first bot at its least corner: the seeds 5 to 40, and none
 abbrev pub four : Coord → ℕ → ℕ → List Bot
-four c w d = bot 1 c (2 ^ 41 - 2 ^ 5) ∷ bot 2 (coord (c.x + w) c.y c.z) 0 ∷ bot 3 (coord (c.x + w) c.y (c.z + d)) 0 ∷ bot 4 (coord c.x c.y (c.z + d)) 0 ∷ []
+four c w d = bot_with 1 c (2 ^ 41 - 2 ^ 5) ∷ bot_with 2 (coord (c.x + w) c.y c.z) 0 ∷ bot_with 3 (coord (c.x + w) c.y (c.z + d)) 0 ∷ bot_with 4 (coord c.x c.y (c.z + d)) 0 ∷ []
 
 -- bots at the corners of a rectangle stand in space, and all is void from their height on
 pub record CanStand (m : Matrix) (w d : ℕ) (c : Coord) : Type 0 where
@@ -35,7 +36,7 @@ pub record CanStand (m : Matrix) (w d : ℕ) (c : Coord) : Type 0 where
   pub above : IsVoidFrom m c.y
 
 -- under High, four bots stand at the corners of a rectangle
-pub record IsRectangle (p : Progress) (w d : ℕ) : Type 0 where
+pub record IsRectangle (p : TapeState) (w d : ℕ) : Type 0 where
   pub bots_are : p.bots ≡ four (spot p.bots) w d
   pub high : p.harmonics ≡ High
   pub full : p.profile ≡ full_profile
@@ -44,7 +45,7 @@ pub record IsRectangle (p : Progress) (w d : ℕ) : Type 0 where
   pub stand : CanStand p.matrix w d (spot p.bots)
 
 -- in so many steps the four have come to stand at the corners of a rectangle with this least corner, and no voxel has changed
-pub record FourGo (old new : Progress) (w d : ℕ) (c : Coord) (count : ℕ) : Type 0 where
+pub record FourGo (old new : TapeState) (w d : ℕ) (c : Coord) (count : ℕ) : Type 0 where
   pub source : new.source ≡ old.source
   pub matrix : new.matrix ≡ old.matrix
   pub rectangle : IsRectangle new w d
@@ -53,7 +54,7 @@ pub record FourGo (old new : Progress) (w d : ℕ) (c : Coord) (count : ℕ) : T
   pub steps : new.steps ≡ old.steps + count
 
 -- in one step the four have voided a region and stayed where they stand
-pub record FourVoid (old new : Progress) (far : ℕ) (region : Span) (m : Matrix) : Type 0 where
+pub record FourVoid (old new : TapeState) (far : ℕ) (region : Span) (m : Matrix) : Type 0 where
   pub source : new.source ≡ old.source
   pub matrix : new.matrix ≡ m
   pub rectangle : IsRectangle new far far
@@ -66,11 +67,11 @@ abbrev pub AreFewer : Matrix → Matrix → Type 0
 AreFewer new old = (c : Coord) → is_full old c ≡ false → is_full new c ≡ false
 
 -- no fewer than the steps of a tape and of the moves that lead its first bot to a coordinate
-abbrev pub steps_to : Progress → Coord → ℕ
+abbrev pub steps_to : TapeState → Coord → ℕ
 steps_to p c = p.steps + moves_to (spot p.bots) c
 
 -- the four have voided some voxels; with the way to a coordinate the tape has so many steps more at most than it had with the way to another
-pub record Clears (old new : Progress) (first last : Coord) (most : ℕ) : Type 0 where
+pub record Clears (old new : TapeState) (first last : Coord) (most : ℕ) : Type 0 where
   pub source : new.source ≡ old.source
   pub resolution : new.matrix.resolution ≡ old.matrix.resolution
   pub fewer : AreFewer new.matrix old.matrix
@@ -79,7 +80,7 @@ pub record Clears (old new : Progress) (first last : Coord) (most : ℕ) : Type 
   pub steps_are : steps_to new last ≤ steps_to old first + most
 
 -- the four stand under High, and all is void above the layer of y
-pub record CanClear (p : Progress) (y : ℕ) : Type 0 where
+pub record CanVoidLayers (p : TapeState) (y : ℕ) : Type 0 where
   pub square : IsRectangle p (far_of p.matrix.resolution) (far_of p.matrix.resolution)
   pub within : y + 1 < p.matrix.resolution
   pub above : IsVoidFrom p.matrix (y + 1)
@@ -89,11 +90,11 @@ abbrev pub strip_steps : ℕ → ℕ
 strip_steps r = 4 * tiles_of r + 3
 
 -- how many steps a layer takes at most, with the way to the one below, and a way back to the origin
-abbrev pub layer_steps : ℕ → ℕ
-layer_steps r = 8 * (tiles_of r * tiles_of r) + 8
+abbrev pub voiding_steps : ℕ → ℕ
+voiding_steps r = 8 * (tiles_of r * tiles_of r) + 8
 
 -- under High, a step has made these bots of the tape's, by so many Fissions, and no voxel has changed
-pub record Becomes (old new : Progress) (bots : List Bot) (made : ℕ) : Type 0 where
+pub record Becomes (old new : TapeState) (bots : List Bot) (made : ℕ) : Type 0 where
   pub source : new.source ≡ old.source
   pub matrix : new.matrix ≡ old.matrix
   pub high : new.harmonics ≡ High

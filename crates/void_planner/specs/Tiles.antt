@@ -1,13 +1,9 @@
 -- The square tiles of a layer, the last of a line overlapping the one before it.
 use Rattle.std.specs.Prelude.{◌≡◌, ℕ, ◌+◌, ◌-◌, ◌*◌, ◌/◌, ◌<◌, ◌≤◌, Bool, cond, min, false}
 use Rattle.vox_geom.specs.declared.coordinate.Coord.{Coord}
-use Rattle.vox_geom.specs.Point.{point}
+use Rattle.vox_geom.specs.Point.{point, coord}
 use Rattle.vox_geom.specs.Region.{Span, between}
 use Rattle.nano_spec.specs.Matrix.{Matrix, is_full}
-
--- a coordinate by its components
-abbrev pub coord : ℕ → ℕ → ℕ → Coord
-coord x y z = record { x = x; y = y; z = z }
 
 -- how far the corners of a tile are from each other along x and along z
 abbrev pub far_of : ℕ → ℕ
@@ -32,10 +28,6 @@ edge r back = place_of r (turned (tiles_of r) back 0)
 -- the tile with a least corner
 abbrev pub tile : ℕ → Coord → Span
 tile far c = between (point c) (point (coord (c.x + far) c.y (c.z + far)))
-
--- from a height on all voxels are void
-abbrev pub IsVoidFrom : Matrix → ℕ → Type 0
-IsVoidFrom m h = (c : Coord) → h ≤ c.y → is_full m c ≡ false
 
 -- the tile with the least corner x, y, z is void
 abbrev pub IsVoidTile : Matrix → ℕ → ℕ → ℕ → ℕ → Type 0

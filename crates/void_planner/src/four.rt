@@ -5,7 +5,8 @@ ghost use Rattle.plan_tape.specs.Leg.{component_of, moves as moves_of, moves_to 
 ghost use Rattle.plan_tape.specs.Progress.{spot};
 ghost use Rattle.step_order.specs.Acting.{with_region};
 ghost use Rattle.void_planner.specs.Square.{CanStand, FourGo, FourVoid, IsRectangle};
-ghost use Rattle.void_planner.specs.Tiles.{coord, far_of, tile};
+ghost use Rattle.void_planner.specs.Tiles.{far_of, tile};
+ghost use Rattle.vox_geom.specs.Point.{coord};
 
 use nano_spec::Command;
 use plan_tape::{Axis, Tape, next_stop, towards};

@@ -5,7 +5,7 @@ ghost use Rattle.nano_spec.specs.Matrix.{Matrix as MatrixValue, all_of, empty, i
 ghost use Rattle.nano_spec.specs.Profile.{full_profile};
 ghost use Rattle.plan_tape.specs.Progress.{IsAccepted};
 ghost use Rattle.void_planner.specs.Few.{HasAtMost};
-ghost use Rattle.void_planner.specs.Phases.{IsVoidModel, most_steps};
+ghost use Rattle.void_planner.specs.Phases.{IsVoidModel, most_void_steps};
 
 use crate::ends::{closed, gather, rise, spread};
 use crate::sweep::void_all;
@@ -40,7 +40,7 @@ fn is_empty(planes: &Planes) -> bool
 /// How many steps a plan takes at most but for its last two, at resolution r.
 fn most_but_two(r: u16) -> u32
     requires { r ≤ MOST_R }
-    ensures value { result + 2 ≡ most_steps r }
+    ensures value { result + 2 ≡ most_void_steps r }
     ensures limit { result + 2 ≤ 1073741824 }
 {
     let r = u32::from(r);
@@ -67,7 +67,7 @@ fn with_four(alloc: Global, source: Planes) -> Result<Plan, Memory>
     requires legal { IsLegal source }
     requires some { 2 ≤ source.resolution }
     ensures accepted { IfOk result (λ plan. (target : MatrixValue) → IsVoidModel target → IsAccepted source target plan.commands full_profile plan.energy plan.steps) }
-    ensures steps { IfOk result (λ plan. plan.steps ≤ most_steps source.resolution) }
+    ensures steps { IfOk result (λ plan. plan.steps ≤ most_void_steps source.resolution) }
     ensures few { IfOk result (λ plan. HasAtMost source full_profile plan.commands 4) }
 {
     let most = most_but_two(source.resolution());
@@ -83,7 +83,7 @@ fn with_four(alloc: Global, source: Planes) -> Result<Plan, Memory>
 pub fn plan_void(alloc: Global, source: &Planes) -> Result<Plan, Memory>
     requires { IsLegal source.now }
     ensures accepted { IfOk result (λ plan. IsAccepted source.now (empty source.now.resolution) plan.commands full_profile plan.energy plan.steps) }
-    ensures steps { IfOk result (λ plan. plan.steps ≤ most_steps source.now.resolution) }
+    ensures steps { IfOk result (λ plan. plan.steps ≤ most_void_steps source.now.resolution) }
     ensures few { IfOk result (λ plan. HasAtMost source.now full_profile plan.commands 4) }
     ensures halt_alone { source.now ≡ empty source.now.resolution → IfOk result (λ plan. plan.commands ≡ Command.Halt ∷ []) }
 {

@@ -1,7 +1,9 @@
 //! Tiles, strips and layers that are made void, from one layer above.
 ghost use Rattle.std.specs.Prelude.{◌≡◌, ◌+◌, ◌-◌, ◌*◌, ◌<◌, ◌≤◌, IfOk, OnOk, not};
-ghost use Rattle.void_planner.specs.Square.{CanClear, Clears, IsRectangle, layer_steps, steps_to, strip_steps};
-ghost use Rattle.void_planner.specs.Tiles.{IsVoidBefore, IsVoidFrom, IsVoidStrip, IsVoidTile, coord, edge, far_of, tiles_of};
+ghost use Rattle.void_planner.specs.Square.{CanVoidLayers, Clears, IsRectangle, voiding_steps, steps_to, strip_steps};
+ghost use Rattle.void_planner.specs.Tiles.{IsVoidBefore, IsVoidStrip, IsVoidTile, edge, far_of, tiles_of};
+ghost use Rattle.vox_geom.specs.Point.{coord};
+ghost use Rattle.plan_tape.specs.Progress.{IsVoidFrom};
 
 use crate::four::{go, void_below};
 use crate::tiles::{far, is_void, place, tiles, turned};
@@ -10,7 +12,7 @@ use vox_geom::{Coord, Memory};
 
 /// Voids a tile, if it is not void.
 fn void_tile(tape: &mut Tape, x: u16, y: u16, z: u16) -> Result<(), Memory>
-    requires ready { CanClear tape.old y }
+    requires ready { CanVoidLayers tape.old y }
     requires x { x + far_of tape.old.matrix.resolution < tape.old.matrix.resolution }
     requires z { z + far_of tape.old.matrix.resolution < tape.old.matrix.resolution }
     requires limit { steps_to tape.old (coord x (y + 1) z) < 1073741824 }
@@ -27,7 +29,7 @@ fn void_tile(tape: &mut Tape, x: u16, y: u16, z: u16) -> Result<(), Memory>
 
 /// Voids the tiles of one x, forth or back along z.
 fn void_strip(tape: &mut Tape, x: u16, y: u16, back: bool) -> Result<(), Memory>
-    requires ready { CanClear tape.old y }
+    requires ready { CanVoidLayers tape.old y }
     requires x { x + far_of tape.old.matrix.resolution < tape.old.matrix.resolution }
     requires limit { steps_to tape.old (coord x (y + 1) (edge tape.old.matrix.resolution back)) + 4 * tiles_of tape.old.matrix.resolution < 1073741824 }
     ensures clears { OnOk result (Clears tape.old tape.new (coord x (y + 1) (edge tape.old.matrix.resolution back)) (coord x (y + 1) (edge tape.old.matrix.resolution (not back))) (4 * tiles_of tape.old.matrix.resolution)) }
@@ -44,7 +46,7 @@ fn void_strip(tape: &mut Tape, x: u16, y: u16, back: bool) -> Result<(), Memory>
 /// Voids a layer, forth or back along x. The strips are taken forth and back along z, the first one as told; the answer says how
 /// the next one would be taken.
 fn void_layer(tape: &mut Tape, y: u16, turn: bool, back: bool) -> Result<bool, Memory>
-    requires ready { CanClear tape.old y }
+    requires ready { CanVoidLayers tape.old y }
     requires limit { steps_to tape.old (coord (edge tape.old.matrix.resolution turn) (y + 1) (edge tape.old.matrix.resolution back)) + strip_steps tape.old.matrix.resolution * tiles_of tape.old.matrix.resolution < 1073741824 }
     ensures clears { IfOk result (λ next. Clears tape.old tape.new (coord (edge tape.old.matrix.resolution turn) (y + 1) (edge tape.old.matrix.resolution back)) (coord (edge tape.old.matrix.resolution (not turn)) (y + 1) (edge tape.old.matrix.resolution next)) (strip_steps tape.old.matrix.resolution * tiles_of tape.old.matrix.resolution)) }
     ensures void { IfOk result (λ next. IsVoidBefore tape.new.matrix tape.old.matrix.resolution y) }
@@ -63,8 +65,8 @@ fn void_layer(tape: &mut Tape, y: u16, turn: bool, back: bool) -> Result<bool, M
 pub fn void_all(tape: &mut Tape) -> Result<(), Memory>
     requires square { IsRectangle tape.old (far_of tape.old.matrix.resolution) (far_of tape.old.matrix.resolution) }
     requires top { IsVoidFrom tape.old.matrix (tape.old.matrix.resolution - 1) }
-    requires limit { steps_to tape.old (coord 0 (tape.old.matrix.resolution - 1) 0) + (tape.old.matrix.resolution - 1) * layer_steps tape.old.matrix.resolution < 1073741824 }
-    ensures clears { OnOk result (Clears tape.old tape.new (coord 0 (tape.old.matrix.resolution - 1) 0) (coord 0 0 0) ((tape.old.matrix.resolution - 1) * layer_steps tape.old.matrix.resolution)) }
+    requires limit { steps_to tape.old (coord 0 (tape.old.matrix.resolution - 1) 0) + (tape.old.matrix.resolution - 1) * voiding_steps tape.old.matrix.resolution < 1073741824 }
+    ensures clears { OnOk result (Clears tape.old tape.new (coord 0 (tape.old.matrix.resolution - 1) 0) (coord 0 0 0) ((tape.old.matrix.resolution - 1) * voiding_steps tape.old.matrix.resolution)) }
     ensures void { OnOk result (IsVoidFrom tape.new.matrix 0) }
 {
     let mut y = tape.matrix().resolution() - 1;

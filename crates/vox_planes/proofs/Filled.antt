@@ -4,7 +4,7 @@ use Rattle.std.specs.Prelude.{IsFalse, ◌⊎◌, count_ones}
 use Rattle.std.proofs.lemmas.Bool.{cases_lt}
 use Rattle.std.proofs.lemmas.Nat.Bits.{bit_at-zero}
 use Rattle.nano_spec.specs.Model.{bit}
-use Rattle.vox_planes.specs.Bits.{others_of, state_of}
+use Rattle.vox_planes.specs.Bits.{others_of, has_value}
 use Rattle.vox_planes.specs.Layers.{is_set}
 use Rattle.vox_planes.specs.Places.{is_from}
 use Rattle.vox_planes.proofs.Chunks.{outside}
@@ -13,8 +13,8 @@ use Rattle.vox_planes.proofs.Totals.{as_number, both_ways, counted_from, one_if,
 
 -- ---- how many bits have the other value
 
-pub others_total : (ws : List ℕ) (index count : ℕ) (full : Bool) → others_of ws index count full ≡ total count (λ k. one_if (state_of (not full) (is_set ws (index + k))))
-others_total ws index count full = counted_from (λ j. state_of (not full) (is_set ws j)) count index
+pub others_total : (ws : List ℕ) (index count : ℕ) (full : Bool) → others_of ws index count full ≡ total count (λ k. one_if (has_value (not full) (is_set ws (index + k))))
+others_total ws index count full = counted_from (λ j. has_value (not full) (is_set ws j)) count index
 
 -- ---- bits of one word
 
@@ -52,9 +52,9 @@ filled_more old mid new index done count full a b h p = record {
   here = λ k l. by k l (cases_lt k done);
   others = λ j f. other j (outside index (done + count) j f);
   changed =
-      (λ i. h.changed i + (p.changed ∙ (others_total mid (index + done) count full ∙ total-same count _ (λ k. one_if (state_of (not full) (is_set old (index + (done + k))))) (λ k l. ap one_if (ap (state_of (not full)) (unmoved k))))) i)
-      ∙ (ap (λ v. v + total count (λ k. one_if (state_of (not full) (is_set old (index + (done + k)))))) (others_total old index done full)
-      ∙ sym (others_total old index (done + count) full ∙ total-add done count (λ k. one_if (state_of (not full) (is_set old (index + k))))));
+      (λ i. h.changed i + (p.changed ∙ (others_total mid (index + done) count full ∙ total-same count _ (λ k. one_if (has_value (not full) (is_set old (index + (done + k))))) (λ k l. ap one_if (ap (has_value (not full)) (unmoved k))))) i)
+      ∙ (ap (λ v. v + total count (λ k. one_if (has_value (not full) (is_set old (index + (done + k)))))) (others_total old index done full)
+      ∙ sym (others_total old index (done + count) full ∙ total-add done count (λ k. one_if (has_value (not full) (is_set old (index + k))))));
 }
   where
     unmoved : (k : ℕ) → is_set mid (index + done + k) ≡ is_set old (index + (done + k))

@@ -7,7 +7,7 @@ pub mod Voxels
 pub mod Walks
 pub mod Placed
 pub mod Chunks
-pub mod Taken
+pub mod TakenBits
 pub mod Lines
 pub mod Painting
 pub mod Filled

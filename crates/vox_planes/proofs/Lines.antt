@@ -8,7 +8,7 @@ use Rattle.vox_geom.specs.declared.coordinate.Coord.{Coord}
 use Rattle.vox_geom.specs.Region.{Corners, IsOrdered, size, span}
 use Rattle.vox_geom.specs.Space.{IsInSpace, coordinates, place}
 use Rattle.nano_spec.specs.Matrix.{Matrix, all_of, is_full}
-use Rattle.vox_planes.specs.Bits.{AreFree, IsFirst}
+use Rattle.vox_planes.specs.Bits.{AreClear, IsFirstBit}
 use Rattle.vox_planes.specs.Layers.{bit_index, is_set, layer_words, layered}
 use Rattle.vox_planes.specs.Walk.{coordinates_from, passes_in, row, row_start}
 use Rattle.vox_planes.proofs.Bits.{in_layer}
@@ -17,10 +17,10 @@ use Rattle.vox_planes.proofs.Walks.{filter-end, filter-next_wall, filter-start, 
 
 -- ---- bits that lie equally far apart
 
-pub free_none : (ws : List ℕ) (from apart : ℕ) → AreFree ws from apart 0
+pub free_none : (ws : List ℕ) (from apart : ℕ) → AreClear ws from apart 0
 free_none ws from apart = record { free = λ n l. absurd (omega arith) }
 
-pub free_more : (ws : List ℕ) (from apart n at : ℕ) → AreFree ws from apart n → at ≡ from + n * apart → is_set ws at ≡ false → AreFree ws from apart (n + 1)
+pub free_more : (ws : List ℕ) (from apart n at : ℕ) → AreClear ws from apart n → at ≡ from + n * apart → is_set ws at ≡ false → AreClear ws from apart (n + 1)
 free_more ws from apart n at f e h = record { free = λ k l. by k l (cases_lt k n) }
   where
     by : (k : ℕ) → k < n + 1 → ((k < n) ⊎ (n ≤ k)) → is_set ws (from + k * apart) ≡ false
@@ -184,36 +184,36 @@ module _ (r : ℕ) (ws : List ℕ) (m : Matrix) (k : Corners) (e : layered r ws 
       let i : bit_index r (along_y k n) ≡ bit_index r k.low + n * (layer_words r * 64) = omega arith in
       is_full-layered r ws (along_y k n) (in_y x z n l) ∙ ap (is_set ws) i
 
-  pub found_x : k.low.y ≡ k.high.y → k.low.z ≡ k.high.z → (n : ℕ) → n < k.high.x + 1 - k.low.x → IsFirst ws (bit_index r k.low) r n → Some (along_x k n) ≡ find (passes_in k (is_full m)) (all_of m)
+  pub found_x : k.low.y ≡ k.high.y → k.low.z ≡ k.high.z → (n : ℕ) → n < k.high.x + 1 - k.low.x → IsFirstBit ws (bit_index r k.low) r n → Some (along_x k n) ≡ find (passes_in k (is_full m)) (all_of m)
   found_x y z n l f =
       sym (ap (λ (v : Matrix). find (passes_in k (is_full v)) (all_of v)) (sym e)
       ∙ (start_x r k (is_full (layered r ws)) o s
       ∙ first_of (is_full (layered r ws)) (along_x k) _ _ (is_line_x r k (is_full (layered r ws)) o s y z) n l (λ j h. voxel_x y z j (omega arith) ∙ (f.before).free j h) (voxel_x y z n l ∙ f.here)))
 
-  pub none_x : k.low.y ≡ k.high.y → k.low.z ≡ k.high.z → AreFree ws (bit_index r k.low) r (k.high.x + 1 - k.low.x) → None ≡ find (passes_in k (is_full m)) (all_of m)
+  pub none_x : k.low.y ≡ k.high.y → k.low.z ≡ k.high.z → AreClear ws (bit_index r k.low) r (k.high.x + 1 - k.low.x) → None ≡ find (passes_in k (is_full m)) (all_of m)
   none_x y z f =
       sym (ap (λ (v : Matrix). find (passes_in k (is_full v)) (all_of v)) (sym e)
       ∙ (start_x r k (is_full (layered r ws)) o s
       ∙ none_of (is_full (layered r ws)) (along_x k) _ _ (is_line_x r k (is_full (layered r ws)) o s y z) (λ j h. voxel_x y z j h ∙ f.free j h)))
 
-  pub found_y : k.low.x ≡ k.high.x → k.low.z ≡ k.high.z → (n : ℕ) → n < k.high.y + 1 - k.low.y → IsFirst ws (bit_index r k.low) (layer_words r * 64) n → Some (along_y k n) ≡ find (passes_in k (is_full m)) (all_of m)
+  pub found_y : k.low.x ≡ k.high.x → k.low.z ≡ k.high.z → (n : ℕ) → n < k.high.y + 1 - k.low.y → IsFirstBit ws (bit_index r k.low) (layer_words r * 64) n → Some (along_y k n) ≡ find (passes_in k (is_full m)) (all_of m)
   found_y x z n l f =
       sym (ap (λ (v : Matrix). find (passes_in k (is_full v)) (all_of v)) (sym e)
       ∙ (start_y r k (is_full (layered r ws)) o s
       ∙ first_of (is_full (layered r ws)) (along_y k) _ _ (is_line_y r k (is_full (layered r ws)) o s x z) n l (λ j h. voxel_y x z j (omega arith) ∙ (f.before).free j h) (voxel_y x z n l ∙ f.here)))
 
-  pub none_y : k.low.x ≡ k.high.x → k.low.z ≡ k.high.z → AreFree ws (bit_index r k.low) (layer_words r * 64) (k.high.y + 1 - k.low.y) → None ≡ find (passes_in k (is_full m)) (all_of m)
+  pub none_y : k.low.x ≡ k.high.x → k.low.z ≡ k.high.z → AreClear ws (bit_index r k.low) (layer_words r * 64) (k.high.y + 1 - k.low.y) → None ≡ find (passes_in k (is_full m)) (all_of m)
   none_y x z f =
       sym (ap (λ (v : Matrix). find (passes_in k (is_full v)) (all_of v)) (sym e)
       ∙ (start_y r k (is_full (layered r ws)) o s
       ∙ none_of (is_full (layered r ws)) (along_y k) _ _ (is_line_y r k (is_full (layered r ws)) o s x z) (λ j h. voxel_y x z j h ∙ f.free j h)))
 
 -- what `next_apart` says, read from the words as they are kept
-pub first_as : (ws us : List ℕ) (from s apart a n : ℕ) → ws ≡ us → from ≡ s → apart ≡ a → IsFirst ws from apart n → IsFirst us s a n
-first_as ws us from s apart a n ew es ea f = subst (λ (v : List ℕ). IsFirst v s a n) ew (subst (λ (v : ℕ). IsFirst ws v a n) es (subst (λ (v : ℕ). IsFirst ws from v n) ea f))
+pub first_as : (ws us : List ℕ) (from s apart a n : ℕ) → ws ≡ us → from ≡ s → apart ≡ a → IsFirstBit ws from apart n → IsFirstBit us s a n
+first_as ws us from s apart a n ew es ea f = subst (λ (v : List ℕ). IsFirstBit v s a n) ew (subst (λ (v : ℕ). IsFirstBit ws v a n) es (subst (λ (v : ℕ). IsFirstBit ws from v n) ea f))
 
-pub all_as : (ws us : List ℕ) (from s apart a n m : ℕ) → ws ≡ us → from ≡ s → apart ≡ a → n ≡ m → AreFree ws from apart n → AreFree us s a m
-all_as ws us from s apart a n m ew es ea en f = subst (λ (v : List ℕ). AreFree v s a m) ew (subst (λ (v : ℕ). AreFree ws v a m) es (subst (λ (v : ℕ). AreFree ws from v m) ea (subst (λ (v : ℕ). AreFree ws from apart v) en f)))
+pub all_as : (ws us : List ℕ) (from s apart a n m : ℕ) → ws ≡ us → from ≡ s → apart ≡ a → n ≡ m → AreClear ws from apart n → AreClear us s a m
+all_as ws us from s apart a n m ew es ea en f = subst (λ (v : List ℕ). AreClear v s a m) ew (subst (λ (v : ℕ). AreClear ws v a m) es (subst (λ (v : ℕ). AreClear ws from v m) ea (subst (λ (v : ℕ). AreClear ws from apart v) en f)))
 
 -- ---- how many coordinates a line has
 

@@ -13,7 +13,7 @@ use Rattle.vox_geom.proofs.Firsts.{at_in_space, place_below}
 use Rattle.vox_geom.proofs.Places.{coordinate_at-place, place-coordinate_at}
 use Rattle.nano_spec.specs.Matrix.{Matrix, is_full, matrix_where}
 use Rattle.nano_spec.specs.Model.{bit}
-use Rattle.vox_planes.specs.Bits.{state_of}
+use Rattle.vox_planes.specs.Bits.{has_value}
 use Rattle.vox_planes.specs.Layers.{IsLayered, bit_index, is_set, layered}
 use Rattle.vox_planes.specs.Painting.{IsPainted, is_in_layer, is_in_layers, is_in_row, is_up_to}
 use Rattle.vox_planes.specs.Voxel.{IsWhole, is_state}
@@ -75,7 +75,7 @@ twice_chosen true true full old = refl
 twice_chosen true false full old = refl
 twice_chosen false b full old = refl
 
-once_counted : (a b full old : Bool) → one_if (state_of (not full) old && (a || b)) ≡ one_if (state_of (not full) old && a) + one_if (state_of (not full) (cond a full old) && b)
+once_counted : (a b full old : Bool) → one_if (has_value (not full) old && (a || b)) ≡ one_if (has_value (not full) old && a) + one_if (has_value (not full) (cond a full old) && b)
 once_counted true true true true = refl
 once_counted true true true false = refl
 once_counted true true false true = refl
@@ -115,7 +115,7 @@ painted_more old mid new f g h full a b p q joins = subst (λ (t : Coord → Boo
           (λ i. p.count i + (q.count ∙ ap (λ n. count_by (λ c. is_state mid (not full) c && g c) (coordinates n)) side) i)
           ∙ sym (count_both old.resolution (λ c. is_state old (not full) c && f c) (λ c. is_state mid (not full) c && g c) (λ c. is_state old (not full) c && (f c || g c)) (λ d i.
           once_counted (f d) (g d) full (is_full old d)
-          ∙ ap (λ b. one_if (is_state old (not full) d && f d) + one_if (state_of (not full) b && g d)) (sym (now d i))));
+          ∙ ap (λ b. one_if (is_state old (not full) d && f d) + one_if (has_value (not full) b && g d)) (sym (now d i))));
     }
 
 -- ---- boxes
@@ -224,7 +224,7 @@ module _ (r : ℕ) (first : Coord) (last : ℕ) (old new : List ℕ) (full : Boo
       h.changed
       ∙ (others_total old (bit_index r first) (last + 1 - first.z) full
       ∙ (total-same (last + 1 - first.z) _ (λ j. one_if (is_state (layered r old) (not full) (at first (first.z + j)))) (λ j l.
-      ap one_if (ap (state_of (not full)) (ap (is_set old) (sym (on j)) ∙ sym (is_full-layered r old (at first (first.z + j)) (in_row j l)))))
+      ap one_if (ap (has_value (not full)) (ap (is_set old) (sym (on j)) ∙ sym (is_full-layered r old (at first (first.z + j)) (in_row j l)))))
       ∙ (sym (row_count (is_state (layered r old) (not full)) first last)
       ∙ (sym (length-filter (is_state (layered r old) (not full)) (row first last))
       ∙ (ap length (row_listed r k test o s refl refl)

@@ -9,7 +9,7 @@ use Rattle.vox_geom.specs.declared.coordinate.Coord.{Coord}
 use Rattle.vox_geom.specs.Space.{IsInSpace}
 use Rattle.nano_spec.specs.Matrix.{Matrix, is_full}
 use Rattle.nano_spec.specs.Model.{bit}
-use Rattle.vox_planes.specs.Bits.{IsFree, IsMarked, IsNext, state_of}
+use Rattle.vox_planes.specs.Bits.{LacksValue, IsMarked, IsNextBit, has_value}
 use Rattle.vox_planes.specs.Layers.{bit_index, is_set, layered}
 use Rattle.vox_planes.specs.Voxel.{is_state}
 use Rattle.vox_planes.specs.Walk.{at, row}
@@ -18,12 +18,12 @@ use Rattle.vox_planes.proofs.Walks.{row-end, row-more}
 
 -- ---- the bits of a word from one on
 
-state-true : (value b : Bool) → state_of value b ≡ true → b ≡ value
+state-true : (value b : Bool) → has_value value b ≡ true → b ≡ value
 state-true true b e = e
 state-true false true e = cc
 state-true false false e = refl
 
-state-false : (value b : Bool) → state_of value b ≡ false → b ≡ not value
+state-false : (value b : Bool) → has_value value b ≡ false → b ≡ not value
 state-false true b e = e
 state-false false true e = refl
 state-false false false e = cc
@@ -60,7 +60,7 @@ mark_other w h = record { bits = λ k l. ap (λ n. n == 1) (bit_at_not w64 w k h
     by (suc zero) m = refl
     by (suc (suc v)) m = absurd (omega arith)
 
-pub free_word : (ws : List ℕ) (from i w v : ℕ) (value : Bool) → w ≡ get_or ws (i / 64) 0 → IsMarked w v value → v / 2 ^ (i % 64) ≡ 0 → IsFree ws from i value → IsFree ws from (i + (64 - i % 64)) value
+pub free_word : (ws : List ℕ) (from i w v : ℕ) (value : Bool) → w ≡ get_or ws (i / 64) 0 → IsMarked w v value → v / 2 ^ (i % 64) ≡ 0 → LacksValue ws from i value → LacksValue ws from (i + (64 - i % 64)) value
 free_word ws from i w v value e h z f = record { free = λ j l m. by j l m (cases_lt j i) }
   where
     by : (j : ℕ) → from ≤ j → j < i + (64 - i % 64) → ((j < i) ⊎ (i ≤ j)) → is_set ws j ≡ not value
@@ -70,7 +70,7 @@ free_word ws from i w v value e h z f = record { free = λ j l m. by j l m (case
         let same : i + k ≡ j = omega arith in
         sym (ap (is_set ws) same) ∙ unmarked ws i w v k value e h (omega arith) (ap (λ n. bit_at n k) z ∙ bit_at-zero k)
 
-pub next_in_word : (ws : List ℕ) (from i w v : ℕ) (value : Bool) → w ≡ get_or ws (i / 64) 0 → v < 2 ^ 64 → IsMarked w v value → 0 < v / 2 ^ (i % 64) → from ≤ i → IsFree ws from i value → IsNext ws from (i + trailing_zeros w64 (v / 2 ^ (i % 64))) value
+pub next_in_word : (ws : List ℕ) (from i w v : ℕ) (value : Bool) → w ≡ get_or ws (i / 64) 0 → v < 2 ^ 64 → IsMarked w v value → 0 < v / 2 ^ (i % 64) → from ≤ i → LacksValue ws from i value → IsNextBit ws from (i + trailing_zeros w64 (v / 2 ^ (i % 64))) value
 next_in_word ws from i w v value e l h p o f =
     let bits : ℕ = v / 2 ^ (i % 64) in
     let s : ℕ = i % 64 in
@@ -138,7 +138,7 @@ is-no_state : (m : Matrix) (value : Bool) (c : Coord) (b : Bool) → is_full m c
 is-no_state m true c b e f = e ∙ f
 is-no_state m false c b e f = ap not (e ∙ f)
 
-pub row_found : (r : ℕ) (ws : List ℕ) (m : Matrix) (c : Coord) (last i : ℕ) (value : Bool) → layered r ws ≡ m → IsInSpace r c → last < r → i ≤ bit_index r c + (last - c.z) → c.z ≤ last → IsNext ws (bit_index r c) i value → find (is_state m value) (row c last) ≡ Some (at c (c.z + (i - bit_index r c)))
+pub row_found : (r : ℕ) (ws : List ℕ) (m : Matrix) (c : Coord) (last i : ℕ) (value : Bool) → layered r ws ≡ m → IsInSpace r c → last < r → i ≤ bit_index r c + (last - c.z) → c.z ≤ last → IsNextBit ws (bit_index r c) i value → find (is_state m value) (row c last) ≡ Some (at c (c.z + (i - bit_index r c)))
 row_found r ws m c last i value e h l il cl n =
     ap (λ v. find (is_state v value) (row c last)) (sym e)
     ∙ find_at (is_state (layered r ws) value) (i - bit_index r c) c last (c.z + (i - bit_index r c)) (omega arith) (omega arith) hit none
@@ -152,7 +152,7 @@ row_found r ws m c last i value e h l il cl n =
     none : (y : ℕ) → c.z ≤ y → y < c.z + (i - bit_index r c) → is_state (layered r ws) value (at c y) ≡ false
     none y a b = is-no_state (layered r ws) value (at c y) (is_set ws (bit_index r c + (y - c.z))) (bit_of r ws c y h a (omega arith)) ((n.before).free (bit_index r c + (y - c.z)) (omega arith) (omega arith))
 
-pub row_free : (r : ℕ) (ws : List ℕ) (m : Matrix) (c : Coord) (last : ℕ) (value : Bool) → layered r ws ≡ m → IsInSpace r c → last < r → c.z ≤ last → IsFree ws (bit_index r c) (bit_index r c + (last - c.z) + 1) value → find (is_state m value) (row c last) ≡ None
+pub row_free : (r : ℕ) (ws : List ℕ) (m : Matrix) (c : Coord) (last : ℕ) (value : Bool) → layered r ws ≡ m → IsInSpace r c → last < r → c.z ≤ last → LacksValue ws (bit_index r c) (bit_index r c + (last - c.z) + 1) value → find (is_state m value) (row c last) ≡ None
 row_free r ws m c last value e h l cl f =
     ap (λ v. find (is_state v value) (row c last)) (sym e)
     ∙ find_none (is_state (layered r ws) value) (last + 1 - c.z) c last (omega arith) (λ y a b.
@@ -207,12 +207,12 @@ none_by test (x ∷ xs) f = by (test x) f (none_by test xs)
 pub list_ended : (test : Coord → Bool) (c : Coord) (last : ℕ) → find test (row c last) ≡ None → filter test (row c last) ≡ []
 list_ended test c last f = none_by test (row c last) f
 
-pub free_less : (ws : List ℕ) (from a b : ℕ) (value : Bool) → b ≤ a → IsFree ws from a value → IsFree ws from b value
+pub free_less : (ws : List ℕ) (from a b : ℕ) (value : Bool) → b ≤ a → LacksValue ws from a value → LacksValue ws from b value
 free_less ws from a b value l f = record { free = λ j m n. f.free j m (omega arith) }
 
 -- what `next_bit` says, read from the words as they are kept
-pub free_as : (ws us : List ℕ) (from s end e : ℕ) (value : Bool) → ws ≡ us → from ≡ s → end ≡ e → IsFree ws from end value → IsFree us s e value
-free_as ws us from s end e value ew es ee f = subst (λ (v : List ℕ). IsFree v s e value) ew (subst (λ (v : ℕ). IsFree ws v e value) es (subst (λ (v : ℕ). IsFree ws from v value) ee f))
+pub free_as : (ws us : List ℕ) (from s end e : ℕ) (value : Bool) → ws ≡ us → from ≡ s → end ≡ e → LacksValue ws from end value → LacksValue us s e value
+free_as ws us from s end e value ew es ee f = subst (λ (v : List ℕ). LacksValue v s e value) ew (subst (λ (v : ℕ). LacksValue ws v e value) es (subst (λ (v : ℕ). LacksValue ws from v value) ee f))
 
-pub next_as : (ws us : List ℕ) (from s i : ℕ) (value : Bool) → ws ≡ us → from ≡ s → IsNext ws from i value → IsNext us s i value
-next_as ws us from s i value ew es n = subst (λ (v : List ℕ). IsNext v s i value) ew (subst (λ (v : ℕ). IsNext ws v i value) es n)
+pub next_as : (ws us : List ℕ) (from s i : ℕ) (value : Bool) → ws ≡ us → from ≡ s → IsNextBit ws from i value → IsNextBit us s i value
+next_as ws us from s i value ew es n = subst (λ (v : List ℕ). IsNextBit v s i value) ew (subst (λ (v : ℕ). IsNextBit ws v i value) es n)

@@ -5,32 +5,32 @@ use Rattle.nano_spec.specs.Model.{bit}
 use Rattle.vox_planes.specs.Layers.{is_set}
 
 -- whether a bit has the value
-abbrev pub state_of : Bool → Bool → Bool
-state_of value b = cond value b (not b)
+abbrev pub has_value : Bool → Bool → Bool
+has_value value b = cond value b (not b)
 
 -- the bits of the word v are 1 where those of the word w have the value
 pub record IsMarked (w v : ℕ) (value : Bool) : Type 0 where
-  pub bits : (k : ℕ) → k < 64 → bit v k ≡ state_of value (bit w k)
+  pub bits : (k : ℕ) → k < 64 → bit v k ≡ has_value value (bit w k)
 
 -- no bit of the value stands from an index on and before an end
-pub record IsFree (ws : List ℕ) (from end : ℕ) (value : Bool) : Type 0 where
+pub record LacksValue (ws : List ℕ) (from end : ℕ) (value : Bool) : Type 0 where
   pub free : (j : ℕ) → from ≤ j → j < end → is_set ws j ≡ not value
 
 -- the bit at an index has the value, and none before it does
-pub record IsNext (ws : List ℕ) (from at : ℕ) (value : Bool) : Type 0 where
+pub record IsNextBit (ws : List ℕ) (from at : ℕ) (value : Bool) : Type 0 where
   pub first : from ≤ at
-  pub before : IsFree ws from at value
+  pub before : LacksValue ws from at value
   pub here : is_set ws at ≡ value
 
 -- none of so many bits is 1, the first of them at an index and each so far behind the one before
-pub record AreFree (ws : List ℕ) (from apart count : ℕ) : Type 0 where
+pub record AreClear (ws : List ℕ) (from apart count : ℕ) : Type 0 where
   pub free : (n : ℕ) → n < count → is_set ws (from + n * apart) ≡ false
 
 -- of such bits the one with this number is 1, and none before it is
-pub record IsFirst (ws : List ℕ) (from apart n : ℕ) : Type 0 where
-  pub before : AreFree ws from apart n
+pub record IsFirstBit (ws : List ℕ) (from apart n : ℕ) : Type 0 where
+  pub before : AreClear ws from apart n
   pub here : is_set ws (from + n * apart) ≡ true
 
 -- how many of so many bits from an index on have the other value
 abbrev pub others_of : List ℕ → ℕ → ℕ → Bool → ℕ
-others_of ws index count value = count_by (λ j. state_of (not value) (is_set ws j)) (numbers_from index count)
+others_of ws index count value = count_by (λ j. has_value (not value) (is_set ws j)) (numbers_from index count)

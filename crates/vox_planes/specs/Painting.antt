@@ -7,8 +7,8 @@ use Rattle.nano_spec.specs.Matrix.{Matrix, all_of, is_full, matrix_where}
 use Rattle.vox_planes.specs.Voxel.{is_state}
 
 -- the matrix in which the voxels of a region are full or void, and all others as they were
-abbrev pub with_region : Matrix → Corners → Bool → Matrix
-with_region m k full = matrix_where m.resolution (λ d. cond (is_within (span k) (point d)) full (is_full m d))
+abbrev pub with_box : Matrix → Corners → Bool → Matrix
+with_box m k full = matrix_where m.resolution (λ d. cond (is_within (span k) (point d)) full (is_full m d))
 
 -- how many voxels of the region are not yet so
 abbrev pub other_count : Matrix → Corners → Bool → ℕ

@@ -12,7 +12,7 @@ ghost use Rattle.nano_spec.specs.Matrix.{is_full};
 ghost use Rattle.nano_spec.specs.Rules.{broken as broken_of};
 ghost use Rattle.nano_spec.specs.Step.{after};
 ghost use Rattle.nano_spec.specs.Work.{volatile_total};
-ghost use Rattle.step_groups.specs.Judging.{edit_of, fault_of};
+ghost use Rattle.step_groups.specs.Judging.{edit_of, rule_broken};
 ghost use Rattle.system_state.specs.Bounds.{IsPayable, IsWithin};
 
 use super::{System, paid};
@@ -76,7 +76,7 @@ impl System {
     #[inline(always)]
     pub fn judge_edit(&self, d: Near, full: bool, step: u32) -> Result<Coord, Broken>
         requires one { length self.now.bots ≡ 1 }
-        ensures value { fault_of result ≡ broken_of self.now (edit_of full d ∷ []) step }
+        ensures value { rule_broken result ≡ broken_of self.now (edit_of full d ∷ []) step }
         ensures named { IfOk result (λ at. (b : ActiveBot) → self.now.bots ≡ b ∷ [] → point at ≡ plus (point b.pos) d) }
         ensures stays { IfOk result (λ at. IsInSpace self.now.matrix.resolution at) }
     {

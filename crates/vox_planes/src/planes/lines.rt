@@ -3,7 +3,7 @@ ghost use Rattle.std.specs.Prelude.{◌≡◌, ℕ, ◌+◌, ◌*◌, ◌/◌, �
 ghost use Rattle.vox_geom.specs.Region.{size, span};
 ghost use Rattle.vox_geom.specs.Space.{IsInSpace};
 ghost use Rattle.nano_spec.specs.Matrix.{all_of, is_full};
-ghost use Rattle.vox_planes.specs.Bits.{AreFree, IsFirst};
+ghost use Rattle.vox_planes.specs.Bits.{AreClear, IsFirstBit};
 ghost use Rattle.vox_planes.specs.Walk.{passes_in};
 
 use super::{Planes, WORD_BITS, bit_index, is_set, layer_words};
@@ -67,9 +67,9 @@ fn next_apart<L: Ledger>(
 ) -> Option<u16>
     requires within { (n : ℕ) → n < count → (from + n * apart) / 64 < length words.now }
     requires small { from + count * apart < 2 ^ 63 }
-    ensures found { IfSome result (λ n. IsFirst words.now from apart n) }
+    ensures found { IfSome result (λ n. IsFirstBit words.now from apart n) }
     ensures below { IfSome result (λ n. n < count) }
-    ensures none { IfNone result (AreFree words.now from apart count) }
+    ensures none { IfNone result (AreClear words.now from apart count) }
     ensures touches { steps.new ≤ steps.old + count }
 {
     let mut at = from;

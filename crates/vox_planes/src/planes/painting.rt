@@ -4,7 +4,7 @@ ghost use Rattle.vox_geom.specs.Region.{size, span};
 ghost use Rattle.vox_geom.specs.Space.{IsInSpace};
 ghost use Rattle.vox_planes.specs.Bits.{others_of};
 ghost use Rattle.vox_planes.specs.Layers.{is_set as is_set_of};
-ghost use Rattle.vox_planes.specs.Painting.{IsPainted, is_in_layer, is_in_row, other_count, with_region};
+ghost use Rattle.vox_planes.specs.Painting.{IsPainted, is_in_layer, is_in_row, other_count, with_box};
 ghost use Rattle.vox_planes.specs.Places.{is_from};
 ghost use Rattle.vox_planes.specs.Voxel.{IsWhole};
 ghost use Rattle.vox_planes.specs.Walk.{layer_size};
@@ -61,7 +61,7 @@ impl Planes {
     /// Makes the region full or void. How many voxels changed. At most as many touches as the region has coordinates.
     pub fn set_region<L: Ledger>(&mut self, b: &Region, full: bool, steps: &mut Steps<L>) -> u32
         requires { IsInSpace self.old.resolution b.now.high }
-        ensures value { self.new ≡ with_region self.old b.now full }
+        ensures value { self.new ≡ with_box self.old b.now full }
         ensures count { result ≡ other_count self.old b.now full }
         ensures most { result ≤ size (span b.now) }
         ensures resolution { self.new.resolution ≡ self.old.resolution }

@@ -5,7 +5,7 @@ ghost use Rattle.vox_geom.specs.Point.{point};
 ghost use Rattle.vox_geom.specs.Region.{is_within, size, span};
 ghost use Rattle.vox_geom.specs.Space.{IsInSpace, place};
 ghost use Rattle.nano_spec.specs.Matrix.{all_of, is_full};
-ghost use Rattle.vox_planes.specs.Bits.{IsFree, IsMarked, IsNext};
+ghost use Rattle.vox_planes.specs.Bits.{LacksValue, IsMarked, IsNextBit};
 ghost use Rattle.vox_planes.specs.Voxel.{is_state};
 ghost use Rattle.vox_planes.specs.Walk.{coordinates_from, passes_in, row, row_start, row_size, wall_size};
 
@@ -215,9 +215,9 @@ fn next_bit<L: Ledger>(
     requires order { from ≤ end }
     requires within { end ≤ 64 * length words.now }
     requires small { end < 2 ^ 32 }
-    ensures found { IfSome result (λ i. IsNext words.now from i value) }
+    ensures found { IfSome result (λ i. IsNextBit words.now from i value) }
     ensures before_end { IfSome result (λ i. i < end) }
-    ensures none { IfNone result (IsFree words.now from end value) }
+    ensures none { IfNone result (LacksValue words.now from end value) }
     ensures touches { steps.new ≤ steps.old + (end - from) }
     ensures touches_found { IfSome result (λ i. steps.new + from ≤ steps.old + (i + 1)) }
 {

@@ -1,5 +1,5 @@
 use Rattle.std.proofs.Common.{◌≡◌, ◌+◌, ◌*◌, get_or, sym, ap, subst, ◌∙◌, arith}
-use Rattle.brick_arena.specs.Chunks.{word_at}
+use Rattle.brick_arena.specs.Chunks.{chunk_word}
 use Rattle.brick_arena.specs.Slots.{words_of, AreSlots}
 use Rattle.brick_arena.proofs.Rows.{get-row}
 use Rattle.brick_arena.proofs.Standing.{words-live, live_at, are_slots}
@@ -13,7 +13,7 @@ load-requires-clause-inside g c =
 
 pub returns-clause-value : goal.returns-clause-value
 returns-clause-value g c =
-    let b = c.self.inside in let s = c.args.slot in let i = c.args.index in let m = word_at b.chunks.items in
+    let b = c.self.inside in let s = c.args.slot in let i = c.args.index in let m = chunk_word b.chunks.items in
     let at = live_at b.chunks.items b.first_vacant b.vacant b.reached c.self.invariant c.args.self.now c.self.view_is s c.requires.live in
     let place : c.place.result ≡ 512 * s + i = omega (arith, c.place.ensures) in
     c.load.ensures ∙ ap m place ∙ sym (get-row m (512 * s) 512 i 0 c.requires.index)

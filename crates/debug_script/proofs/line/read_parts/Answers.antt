@@ -1,6 +1,6 @@
 use Rattle.std.proofs.Common.{◌∙◌, ℕ, List, [], ◌∷◌, ap, subst, sym}
 use Rattle.debug_script.specs.Calls.{IsReadBy}
-use Rattle.debug_script.specs.Script.{PartsSay, parts}
+use Rattle.debug_script.specs.Script.{PartsSay, line_parts}
 use Rattle.debug_script.proofs.Forms.{word_found}
 use Rattle.debug_script.proofs.line.read_parts.Goals as goal
 
@@ -14,4 +14,4 @@ pub returns-in-Some-rest : goal.returns-in-Some-rest
 returns-in-Some-rest c =
     let h = rw c.in-Some-rest.is at c.cut_part.ensures in
     let w = word_found c.cut_part.result.0.now c.in-Some.word (sym c.in-Some.is ∙ c.of.ensures) in
-    subst (λ (ps : List (List ℕ)). IsReadBy (PartsSay c.args.resolution ps) c.args.number c.read_numbers.result) (sym (h ∙ ap (λ (b : List ℕ). b ∷ parts c.in-Some-rest.rest.now) w)) c.read_numbers.ensures
+    subst (λ (ps : List (List ℕ)). IsReadBy (PartsSay c.args.resolution ps) c.args.number c.read_numbers.result) (sym (h ∙ ap (λ (b : List ℕ). b ∷ line_parts c.in-Some-rest.rest.now) w)) c.read_numbers.ensures

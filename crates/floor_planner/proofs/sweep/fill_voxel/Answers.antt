@@ -4,9 +4,9 @@ use Rattle.nano_spec.specs.declared.commands.Command.TheVariants.{Fill}
 use Rattle.nano_spec.specs.Matrix.{is_full}
 use Rattle.vox_planes.specs.Voxel.{with_voxel}
 use Rattle.plan_tape.specs.Progress.{Writes, beside}
-use Rattle.floor_planner.specs.Floor.{coord, down}
 use Rattle.floor_planner.proofs.Sweeping.{filled_one, place_above, room_left, skipped, ways_above}
 use Rattle.floor_planner.proofs.sweep.fill_voxel.Goals as goal
+use Rattle.vox_geom.specs.Point.{coord, down}
 
 pub returns-then-not-is_full : goal.returns-then-not-is_full
 returns-then-not-is_full c = skipped c.args.tape.now c.args.target.now c.args.x c.args.z c.requires.flat c.requires.swept cc

@@ -3,7 +3,6 @@ use Rattle.nano_spec.specs.declared.system.Profile.{Profile}
 use Rattle.nano_spec.specs.Matrix.{Matrix, is_full}
 use Rattle.plan_tape.specs.Leg.{moves_to}
 use Rattle.plan_tape.specs.Progress.{IsAccepted, spot}
-use Rattle.layer_planner.specs.Painting.{coord}
 use Rattle.layer_planner.proofs.Bounds.{bytes_of}
 use Rattle.layer_planner.proofs.Legality.{grounded_at, ways_home_at}
 use Rattle.group_planner.specs.Pair.{rear}
@@ -11,6 +10,7 @@ use Rattle.group_planner.specs.Rows.{runs}
 use Rattle.group_planner.proofs.Closing.{legs_length, plan_fits, push_length}
 use Rattle.group_planner.proofs.Rebuilt.{home_bytes, home_commands, home_steps, matrix_is}
 use Rattle.group_planner.proofs.plan.closed.Goals as goal
+use Rattle.vox_geom.specs.Point.{coord}
 
 pub gather-requires-clause-limit : goal.gather-requires-clause-limit
 gather-requires-clause-limit c =

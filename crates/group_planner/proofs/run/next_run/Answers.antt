@@ -1,5 +1,5 @@
 use Rattle.std.proofs.Common.{◌+◌, min, ◌∙◌, ap, subst, arith, true, false}
-use Rattle.group_planner.specs.Runs.{IsAll, IsNext}
+use Rattle.group_planner.specs.Runs.{IsAll, IsRunEnd}
 use Rattle.group_planner.proofs.Found.{next_found, no_more}
 use Rattle.group_planner.proofs.run.next_run.Goals as goal
 
@@ -13,4 +13,4 @@ returns-then-first-r-clause-none c =
 pub returns-clause-found : goal.returns-clause-found
 returns-clause-found c =
     let r = c.resolution-r.ensures.value in
-    next_found c.args.planes.now c.args.x c.args.y c.args.z c.next-first.result c.next-end.result c.min-most.result c.requires.cut (omega arith) (c.min-most.ensures ∙ ap (λ n. min n (c.next-first.result + 31)) r) (subst (λ n. IsNext c.args.planes.now c.args.x c.args.y c.args.z n true c.next-first.result) r c.next-first.ensures) c.next-end.ensures
+    next_found c.args.planes.now c.args.x c.args.y c.args.z c.next-first.result c.next-end.result c.min-most.result c.requires.cut (omega arith) (c.min-most.ensures ∙ ap (λ n. min n (c.next-first.result + 31)) r) (subst (λ n. IsRunEnd c.args.planes.now c.args.x c.args.y c.args.z n true c.next-first.result) r c.next-first.ensures) c.next-end.ensures

@@ -1,7 +1,7 @@
 use Rattle.std.proofs.Common.{◌≡◌, ℕ, ◌+◌, ◌-◌, true, refl, sym, ◌∙◌, subst, arith}
 use Rattle.layer_planner.specs.Painting.{layer}
 use Rattle.group_planner.specs.Rows.{runs, runs_of_layer}
-use Rattle.group_planner.specs.Stamping.{Stamps, between_layers, layer_steps}
+use Rattle.group_planner.specs.Stamping.{Stamps, between_layers, stamping_steps}
 use Rattle.group_planner.proofs.Counts.{sum_below-more, sum_below-rises}
 use Rattle.group_planner.proofs.Layers.{above_between, between_layers-more, no_layers_yet}
 use Rattle.group_planner.proofs.Stamps.{stamps_as, stamps_more, stamps_none, still_void}
@@ -32,10 +32,10 @@ write_layer-requires-clause-limit c =
     let m = c.args.target.now in
     let y = c.loop-y.y in
     let r = c.args.tape.now.matrix.resolution in
-    let more = sum_below-more (layer_steps m) y in
+    let more = sum_below-more (stamping_steps m) y in
     let s = c.requires.same in
     let e = c.resolution-y-end.ensures.value in
-    let rises = sum_below-rises (layer_steps m) (y + 1) r (omega (arith, s, e)) in
+    let rises = sum_below-rises (stamping_steps m) (y + 1) r (omega (arith, s, e)) in
     let inv = c.loop-y.invariant.climb in
     let limit = c.requires.limit in
     omega (arith, more, rises, inv, limit, s, e)
@@ -47,7 +47,7 @@ loop-y-preserved c =
     let inv = c.loop-y.invariant in
     let g = c.in_ok-write_layer.ensures in
     let runs_more = sum_below-more (runs_of_layer m) y in
-    let steps_more = sum_below-more (layer_steps m) y in
+    let steps_more = sum_below-more (stamping_steps m) y in
     let one = g.climb in
     let before = inv.climb in
     record {
@@ -76,6 +76,6 @@ returns-clause-steps c =
     let s = c.requires.same in
     let e = c.resolution-y-end.ensures.value in
     let end : y ≡ a.matrix.resolution - 1 = omega (arith, s, e, low) in
-    let rises = sum_below-rises (layer_steps m) y a.matrix.resolution (omega (arith, end)) in
+    let rises = sum_below-rises (stamping_steps m) y a.matrix.resolution (omega (arith, end)) in
     let inv = c.loop-y.invariant.climb in
     omega (arith, rises, inv, end)

@@ -2,7 +2,7 @@ use Rattle.std.proofs.Common.{◌≡◌, ℕ, ◌+◌, ◌-◌, ◌≤◌, false
 use Rattle.layer_planner.specs.Painting.{from_layer, layer}
 use Rattle.layer_planner.proofs.Paints.{from_layer-more}
 use Rattle.group_planner.specs.Rows.{runs, runs_of_layer, sum_below}
-use Rattle.group_planner.specs.Stamping.{Stamps, climb_to, layer_steps}
+use Rattle.group_planner.specs.Stamping.{Stamps, climb_to, stamping_steps}
 use Rattle.group_planner.proofs.Counts.{one_of_sum, sum_below-more, sum_below-rises}
 use Rattle.group_planner.proofs.Layers.{clear_on, no_layers}
 use Rattle.group_planner.proofs.Stamps.{stamps_more, stamps_none}
@@ -15,13 +15,13 @@ loop-y-init c =
     let r = a.matrix.resolution in
     let low = c.requires.low in
     let e : c.resolution-y.result - 1 ≡ r - 1 = ap (λ n. n - 1) (c.resolution-y.ensures.value ∙ c.requires.ready.same) in
-    let rises = sum_below-rises (layer_steps m) (r - 1) r (omega arith) in
-    let climb : climb_to a (r - 1) + sum_below (layer_steps m) (r - 1) + (r - 1) ≤ climb_to a (r - 1) + r + sum_below (layer_steps m) r = omega (arith, rises) in
+    let rises = sum_below-rises (stamping_steps m) (r - 1) r (omega arith) in
+    let climb : climb_to a (r - 1) + sum_below (stamping_steps m) (r - 1) + (r - 1) ≤ climb_to a (r - 1) + r + sum_below (stamping_steps m) r = omega (arith, rises) in
     record {
       stamps = subst (λ (y : ℕ). Stamps a a m false (from_layer y) (runs m - sum_below (runs_of_layer m) y)) (sym e) (stamps_none a m false (from_layer (r - 1)) _ c.requires.ready.pair (λ d. no_layers a m d c.requires.ready));
       within = omega (arith, e, low);
       low = omega (arith, e, low);
-      climb = subst (λ (y : ℕ). climb_to a y + sum_below (layer_steps m) y + y ≤ climb_to a (r - 1) + r + sum_below (layer_steps m) r) (sym e) climb;
+      climb = subst (λ (y : ℕ). climb_to a y + sum_below (stamping_steps m) y + y ≤ climb_to a (r - 1) + r + sum_below (stamping_steps m) r) (sym e) climb;
     }
 
 pub write_layer-requires-clause-ready : goal.write_layer-requires-clause-ready
@@ -35,7 +35,7 @@ write_layer-requires-clause-limit c =
     let y = c.loop-y.y in
     let back : y - 1 + 1 ≡ y = omega arith in
     let here = ap (climb_to c.loop-y.tape) back in
-    let one = one_of_sum (layer_steps m) (y - 1) y (omega arith) in
+    let one = one_of_sum (stamping_steps m) (y - 1) y (omega arith) in
     let inv = c.loop-y.invariant.climb in
     let limit = c.requires.limit in
     omega (arith, here, one, inv, limit)
@@ -54,8 +54,8 @@ loop-y-preserved c =
     let runs_more = sum_below-more (runs_of_layer m) (y - 1) in
     let runs_here = ap (sum_below (runs_of_layer m)) back in
     let runs_all = sum_below-rises (runs_of_layer m) y m.resolution (let w = inv.within in let s = c.requires.ready.same in omega (arith, w, s)) in
-    let steps_more = sum_below-more (layer_steps m) (y - 1) in
-    let steps_here = ap (sum_below (layer_steps m)) back in
+    let steps_more = sum_below-more (stamping_steps m) (y - 1) in
+    let steps_here = ap (sum_below (stamping_steps m)) back in
     let old_here = ap (climb_to b) back in
     let new_here = ap (climb_to d) back in
     let one = g.climb in

@@ -1,5 +1,5 @@
 use Rattle.std.proofs.Common.{◌≡◌, ℕ, ◌+◌, ap, arith}
-use Rattle.layer_planner.specs.Painting.{in_layer, row}
+use Rattle.layer_planner.specs.Painting.{in_layer, is_in_line}
 use Rattle.layer_planner.proofs.Paints.{above_layers, in_layer-more}
 use Rattle.group_planner.specs.Rows.{runs_of_row, sum_below}
 use Rattle.group_planner.specs.Stamping.{row_steps}
@@ -35,7 +35,7 @@ loop-x-preserved c =
     let one = g.climb in
     let before = inv.climb in
     record {
-      stamps = stamps_more c.args.tape.now c.loop-x.tape c.write_row.new.tape m c.args.full (in_layer c.loop-x.x c.args.y) (row c.loop-x.x c.args.y) (in_layer (c.loop-x.x + 1) c.args.y) _ _ _ inv.stamps g.stamps (in_layer-more c.loop-x.x c.args.y) (omega (arith, runs));
+      stamps = stamps_more c.args.tape.now c.loop-x.tape c.write_row.new.tape m c.args.full (in_layer c.loop-x.x c.args.y) (is_in_line c.loop-x.x c.args.y) (in_layer (c.loop-x.x + 1) c.args.y) _ _ _ inv.stamps g.stamps (in_layer-more c.loop-x.x c.args.y) (omega (arith, runs));
       climb = omega (arith, steps, one, before);
     }
 

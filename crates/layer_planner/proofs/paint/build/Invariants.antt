@@ -1,6 +1,7 @@
 use Rattle.std.proofs.Common.{◌+◌, ◌*◌}
-use Rattle.layer_planner.specs.Painting.{Paints, below_layer, coord, layer_bytes}
+use Rattle.layer_planner.specs.Painting.{Paints, below_layer, layer_bytes}
 use Rattle.layer_planner.proofs.paint.build.Given as goal
+use Rattle.vox_geom.specs.Point.{coord}
 
 -- the layers below that of y are those of the goal
 abbrev pub invariant-loop-y : goal.invariant-loop-y

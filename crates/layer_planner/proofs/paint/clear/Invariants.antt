@@ -1,7 +1,8 @@
 use Rattle.std.proofs.Common.{◌-◌, ◌*◌, ◌<◌, ◌≤◌}
-use Rattle.layer_planner.specs.Painting.{Paints, coord, from_layer, layer_bytes}
-use Rattle.layer_planner.specs.Phases.{top}
+use Rattle.layer_planner.specs.Painting.{Paints, from_layer, layer_bytes}
 use Rattle.layer_planner.proofs.paint.clear.Given as goal
+use Rattle.vox_geom.specs.Point.{coord}
+use Rattle.plan_tape.specs.Progress.{top}
 
 -- the layers from that of y on are void
 abbrev pub invariant-loop-y : goal.invariant-loop-y

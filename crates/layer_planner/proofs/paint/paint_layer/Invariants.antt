@@ -1,6 +1,7 @@
 use Rattle.std.proofs.Common.{◌+◌, ◌*◌}
-use Rattle.layer_planner.specs.Painting.{Paints, coord, in_layer, row_bytes}
+use Rattle.layer_planner.specs.Painting.{Paints, in_layer, row_bytes}
 use Rattle.layer_planner.proofs.paint.paint_layer.Given as goal
+use Rattle.vox_geom.specs.Point.{coord}
 
 -- the first x rows of the layer are painted
 abbrev pub invariant-loop-x : goal.invariant-loop-x

@@ -1,6 +1,7 @@
 use Rattle.std.proofs.Common.{◌+◌, ◌*◌}
-use Rattle.layer_planner.specs.Painting.{Paints, coord, in_row}
+use Rattle.layer_planner.specs.Painting.{Paints, in_row}
 use Rattle.layer_planner.proofs.paint.paint_row.Given as goal
+use Rattle.vox_geom.specs.Point.{coord}
 
 -- the first z voxels of the row are painted
 abbrev pub invariant-loop-z : goal.invariant-loop-z

@@ -4,9 +4,9 @@ use Rattle.nano_spec.specs.declared.commands.Command.TheVariants.{Fill, Void}
 use Rattle.nano_spec.specs.Matrix.{is_full}
 use Rattle.vox_planes.specs.Voxel.{with_voxel}
 use Rattle.plan_tape.specs.Progress.{Writes, beside}
-use Rattle.layer_planner.specs.Painting.{coord, down}
 use Rattle.layer_planner.proofs.Sweeps.{wrote}
 use Rattle.layer_planner.proofs.paint.paint_voxel.Goals as goal
+use Rattle.vox_geom.specs.Point.{coord, down}
 
 pub returns-then-is_wanted : goal.returns-then-is_wanted
 returns-then-is_wanted c =

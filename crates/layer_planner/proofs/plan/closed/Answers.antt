@@ -2,16 +2,16 @@ use Rattle.std.proofs.Common.{◌≡◌, refl, sym, ◌∙◌, ap, subst, inl, a
 use Rattle.nano_spec.specs.declared.system.Profile.{Profile}
 use Rattle.nano_spec.specs.Matrix.{Matrix, is_full}
 use Rattle.vox_planes.specs.Voxel.{IsWhole}
-use Rattle.plan_tape.specs.Progress.{IsAccepted, Progress, spot}
-use Rattle.layer_planner.specs.Painting.{IsVoidFrom, coord}
+use Rattle.plan_tape.specs.Progress.{IsAccepted, TapeState, spot, IsVoidFrom}
 use Rattle.layer_planner.specs.Phases.{IsRebuilt, end}
 use Rattle.layer_planner.proofs.Bounds.{bytes_of, total, total_fits, way_down}
 use Rattle.layer_planner.proofs.Legality.{alike_is_same, grounded_at, ways_home_at}
-use Rattle.layer_planner.proofs.Ways.{moves_on}
+use Rattle.layer_planner.proofs.ClearWays.{moves_on}
 use Rattle.layer_planner.proofs.plan.closed.Goals as goal
+use Rattle.vox_geom.specs.Point.{coord}
 
 -- the matrix is the target
-matrix_is : (t : Progress) (target : Matrix) → IsRebuilt t target → IsWhole t.matrix → IsWhole target → t.matrix ≡ target
+matrix_is : (t : TapeState) (target : Matrix) → IsRebuilt t target → IsWhole t.matrix → IsWhole target → t.matrix ≡ target
 matrix_is t target k v w = alike_is_same t.matrix target v w (sym k.ready.same) (λ q i. k.matrix q)
 
 pub go-requires-clause-ways : goal.go-requires-clause-ways

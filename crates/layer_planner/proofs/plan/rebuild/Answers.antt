@@ -2,14 +2,15 @@ use Rattle.std.proofs.Common.{◌≡◌, ◌+◌, ◌*◌, ◌-◌, ◌≤◌, s
 use Rattle.vox_geom.specs.declared.coordinate.Coord.{Coord}
 use Rattle.nano_spec.specs.Matrix.{Matrix, is_full}
 use Rattle.plan_tape.specs.Leg.{moves_to}
-use Rattle.plan_tape.specs.Progress.{spot}
-use Rattle.layer_planner.specs.Painting.{IsVoidFrom, bytes_to, coord, layer_bytes, steps_to}
-use Rattle.layer_planner.specs.Phases.{end, top}
+use Rattle.plan_tape.specs.Progress.{spot, IsVoidFrom, top}
+use Rattle.layer_planner.specs.Painting.{bytes_to, layer_bytes, sweep_steps_to}
+use Rattle.layer_planner.specs.Phases.{end}
 use Rattle.layer_planner.proofs.Bounds.{total_fits}
 use Rattle.layer_planner.proofs.Legality.{left_alone, rebuilt_is, void_at_top, void_from}
 use Rattle.layer_planner.proofs.Sweeps.{spent}
-use Rattle.layer_planner.proofs.Ways.{moves_on, no_moves}
+use Rattle.layer_planner.proofs.ClearWays.{moves_on, no_moves}
 use Rattle.layer_planner.proofs.plan.rebuild.Goals as goal
+use Rattle.vox_geom.specs.Point.{coord}
 
 pub clear-requires-clause-top : goal.clear-requires-clause-top
 clear-requires-clause-top c = subst (λ (m : Matrix). IsVoidFrom m (m.resolution - 1)) (sym c.requires.opened.matrix) (void_at_top c.args.tape.now.source c.requires.source)
@@ -51,7 +52,7 @@ returns-clause-rebuilt c =
       matrix = rebuilt_is b.matrix d.matrix c.args.target.now low c.requires.target rt (let l = c.requires.lowest.within in omega (arith, l, er, p.resolution)) (void_from a.matrix b.matrix c.args.nothing.now low c.requires.nothing p.painted) q.painted;
       ready = q.ready;
       bytes_are = subst (λ n. n ≤ t + 3 + 2 * ((t - 1) * layer_bytes t)) (sym (ap (bytes_to d) to)) (spent (bytes_to d (end b.matrix)) (bytes_to b (coord 0 low 0)) (bytes_to b (coord 0 (low + 1) 0)) (bytes_to a (top a.matrix)) a.matrix.resolution b.matrix.resolution a.source.resolution c.args.target.now.resolution q.bytes_are (omega arith) p.bytes_are (let s = o.bytes_are in omega arith) rt ra (sym c.requires.same));
-      steps_are = subst (λ n. n ≤ t + 3 + 2 * ((t - 1) * layer_bytes t)) (sym (ap (steps_to d) to)) (spent (steps_to d (end b.matrix)) (steps_to b (coord 0 low 0)) (steps_to b (coord 0 (low + 1) 0)) (steps_to a (top a.matrix)) a.matrix.resolution b.matrix.resolution a.source.resolution c.args.target.now.resolution q.steps_are (omega arith) p.steps_are (let s = o.steps_are in omega arith) rt ra (sym c.requires.same));
+      steps_are = subst (λ n. n ≤ t + 3 + 2 * ((t - 1) * layer_bytes t)) (sym (ap (sweep_steps_to d) to)) (spent (sweep_steps_to d (end b.matrix)) (sweep_steps_to b (coord 0 low 0)) (sweep_steps_to b (coord 0 (low + 1) 0)) (sweep_steps_to a (top a.matrix)) a.matrix.resolution b.matrix.resolution a.source.resolution c.args.target.now.resolution q.steps_are (omega arith) p.steps_are (let s = o.steps_are in omega arith) rt ra (sym c.requires.same));
     }
 
 pub clear-requires-clause-low : goal.clear-requires-clause-low
@@ -79,6 +80,6 @@ build-requires-clause-limit c =
     let start : moves_to (spot a.bots) (top a.matrix) ≡ 0 = ap (λ (s : Coord). moves_to s (top a.matrix)) (o.there ∙ ap (λ n. coord 0 (n - 1) 0) (sym er)) ∙ no_moves (top a.matrix) in
     let on = moves_on (spot b.bots) (coord 0 low 0) (coord 0 (low + 1) 0) in
     let w = c.resolution.ensures.whole in
-    let shifted = steps_to b (coord 0 (low + 1) 0) in
-    let most = spent (shifted + (b.matrix.resolution - 1) * layer_bytes b.matrix.resolution) (steps_to b (coord 0 low 0)) shifted (steps_to a (top a.matrix)) a.matrix.resolution b.matrix.resolution a.source.resolution c.args.target.now.resolution (omega arith) (omega arith) p.steps_are (let s = o.steps_are in omega arith) rb ra (sym c.requires.same) in
+    let shifted = sweep_steps_to b (coord 0 (low + 1) 0) in
+    let most = spent (shifted + (b.matrix.resolution - 1) * layer_bytes b.matrix.resolution) (sweep_steps_to b (coord 0 low 0)) shifted (sweep_steps_to a (top a.matrix)) a.matrix.resolution b.matrix.resolution a.source.resolution c.args.target.now.resolution (omega arith) (omega arith) p.steps_are (let s = o.steps_are in omega arith) rb ra (sym c.requires.same) in
     omega (arith, most, total_fits c.args.target.now.resolution w.some w.most)

@@ -1,6 +1,6 @@
 use Rattle.std.proofs.Common.{◌≤◌}
 use Rattle.low_planner.specs.Build.{IsBuilt}
-use Rattle.low_planner.specs.Sweep.{IsSweep, weight}
+use Rattle.low_planner.specs.Sweep.{IsSweep, sweep_weight}
 use Rattle.low_planner.proofs.build.build.Given as goal
 
 -- what the sweep has visited is built
@@ -12,4 +12,4 @@ invariant-loop-visit l = record {
 }
 
 abbrev pub decreases-loop-visit : goal.decreases-loop-visit
-decreases-loop-visit l = weight l.sweep
+decreases-loop-visit l = sweep_weight l.sweep

@@ -7,7 +7,7 @@ use Rattle.nano_spec.specs.State.{origin}
 use Rattle.plan_tape.specs.Progress.{AreAlike, IsAccepted, spot}
 use Rattle.low_planner.specs.Commands.{IsPlain}
 use Rattle.low_planner.proofs.Builds.{steps_home}
-use Rattle.low_planner.proofs.Ways.{void_at_border, ways_home}
+use Rattle.low_planner.proofs.ClearWays.{void_at_border, ways_home}
 use Rattle.low_planner.proofs.Works.{plain_and}
 use Rattle.low_planner.proofs.plan.closed.Goals as goal
 

@@ -5,11 +5,11 @@ use Rattle.nano_spec.specs.Model.{NoModel}
 use Rattle.nano_spec.proofs.Writing.{read_back}
 use Rattle.model_file.specs.declared.fault.ModelFault.{ModelFault}
 use Rattle.model_file.specs.declared.fault.ModelFault.TheVariants.{NoByte, Resolution, Short, Long, Memory, Border, Floating, WideHead, WideResolution, WideRun, WideShort, WideLong}
-use Rattle.model_file.specs.Fault.{Reads}
+use Rattle.model_file.specs.Fault.{ReadsModel}
 use Rattle.model_file.proofs.Rewritten.{written_again}
 use Rattle.model_file.proofs.laws.reading_and_writing.Goals as goal
 
-only : (m : Matrix) (answer : Result Matrix ModelFault) → Reads (Ok m) answer → answer ≢ Err Memory → answer ≡ Ok m
+only : (m : Matrix) (answer : Result Matrix ModelFault) → ReadsModel (Ok m) answer → answer ≢ Err Memory → answer ≡ Ok m
 only m (Ok n) h ne = ap Ok (sym (same m n h))
   where
     same : (m n : Matrix) → ◌≡◌ {A = Result Matrix NoModel} (Ok m) (Ok n) → m ≡ n
@@ -28,7 +28,7 @@ only m (Err (WideShort have)) h ne = cc
 only m (Err WideLong) h ne = cc
 
 pub returns-clause-read : goal.returns-clause-read
-returns-clause-read c = λ m answer w h ne. only m answer (subst (λ (s : Result Matrix NoModel). Reads s answer) (read_back m w.some w.most w.voxels) h) ne
+returns-clause-read c = λ m answer w h ne. only m answer (subst (λ (s : Result Matrix NoModel). ReadsModel s answer) (read_back m w.some w.most w.voxels) h) ne
 
 pub returns-clause-written : goal.returns-clause-written
 returns-clause-written c = λ bytes m bound h. written_again bytes m bound h

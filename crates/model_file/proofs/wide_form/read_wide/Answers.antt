@@ -4,16 +4,16 @@ use Rattle.std.proofs.lemmas.List.{get_or_default, take_rest}
 use Rattle.nano_spec.specs.Matrix.{Matrix}
 use Rattle.nano_spec.specs.Model.{NoModel, of_runs, runs_in, volume, wide_form}
 use Rattle.model_file.specs.declared.fault.ModelFault.{ModelFault}
-use Rattle.model_file.specs.Fault.{Reads}
+use Rattle.model_file.specs.Fault.{ReadsModel}
 use Rattle.model_file.proofs.WideForms.{wide_is}
 use Rattle.model_file.proofs.wide_form.read_wide.Goals as goal
 
 -- what was found of the runs is said of the whole
-said : (bytes : List ℕ) (n r : ℕ) (answer : Result Matrix ModelFault) → n ≡ r → 2 ≤ length bytes → r ≡ slice_index bytes 0 * 256 + slice_index bytes 1 → 251 ≤ r → r ≤ 400 → Reads (of_runs n (runs_in (volume n) 0 0 (take (length bytes - 2) (drop 2 bytes)))) answer → Reads (wide_form bytes) answer
+said : (bytes : List ℕ) (n r : ℕ) (answer : Result Matrix ModelFault) → n ≡ r → 2 ≤ length bytes → r ≡ slice_index bytes 0 * 256 + slice_index bytes 1 → 251 ≤ r → r ≤ 400 → ReadsModel (of_runs n (runs_in (volume n) 0 0 (take (length bytes - 2) (drop 2 bytes)))) answer → ReadsModel (wide_form bytes) answer
 said bytes n r answer en two e l u h =
-    subst (λ (s : Result Matrix NoModel). Reads s answer) (wide_is bytes r two e l u)
-    (subst (λ (k : ℕ). Reads (of_runs k (runs_in (volume k) 0 0 (drop 2 bytes))) answer) en
-    (subst (λ (rest : List ℕ). Reads (of_runs n (runs_in (volume n) 0 0 rest)) answer) (take_rest bytes 2) h))
+    subst (λ (s : Result Matrix NoModel). ReadsModel s answer) (wide_is bytes r two e l u)
+    (subst (λ (k : ℕ). ReadsModel (of_runs k (runs_in (volume k) 0 0 (drop 2 bytes))) answer) en
+    (subst (λ (rest : List ℕ). ReadsModel (of_runs n (runs_in (volume n) 0 0 rest)) answer) (take_rest bytes 2) h))
 
 pub returns-in-Ok : goal.returns-in-Ok
 returns-in-Ok c =

@@ -4,10 +4,10 @@ use Rattle.nano_spec.specs.declared.commands.Command.TheVariants.{Halt}
 use Rattle.step_machine.proofs.Turning.{no_bot}
 use Rattle.nano_spec.specs.Act.{stays_in_space}
 use Rattle.nano_spec.specs.Matrix.{Matrix, is_full}
-use Rattle.system_state.specs.Effects.{act}
 use Rattle.step_debugger.specs.Middle.{IsEditOf}
 use Rattle.step_debugger.proofs.Between.{all_kept, decided, found, has_command, not_edited, not_led, one_kept, stays_here, unfound}
 use Rattle.step_debugger.proofs.middle.full_after.Goals as goal
+use Rattle.step_groups.specs.Judging.{act}
 
 pub loop-i-preserved-then-is_none : goal.loop-i-preserved-then-is_none
 loop-i-preserved-then-is_none g c =

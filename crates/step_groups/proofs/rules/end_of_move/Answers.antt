@@ -2,7 +2,7 @@ use Rattle.std.proofs.Common.{ap, ◌∙◌, sym}
 use Rattle.nano_spec.specs.Rules.{broken_by}
 use Rattle.nano_spec.specs.declared.outcomes.Rule.TheVariants.{Blocked}
 use Rattle.step_groups.proofs.Touching.{counted, smove_reads}
-use Rattle.step_groups.proofs.Ways.{smove}
+use Rattle.step_groups.proofs.BlockedWays.{smove}
 use Rattle.step_groups.proofs.rules.end_of_move.Goals as goal
 
 pub returns-in-None-clause-value : goal.returns-in-None-clause-value

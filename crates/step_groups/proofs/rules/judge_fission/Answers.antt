@@ -4,7 +4,7 @@ use Rattle.nano_spec.specs.Rules.{broken_by}
 use Rattle.nano_spec.specs.State.{seed_list}
 use Rattle.nano_spec.specs.declared.outcomes.Rule.TheVariants.{Blocked, Seeds}
 use Rattle.step_groups.proofs.Touching.{counted, fission_reads}
-use Rattle.step_groups.proofs.Ways.{fission, blocked_at, only_next}
+use Rattle.step_groups.proofs.BlockedWays.{fission, blocked_at, only_next}
 use Rattle.step_groups.proofs.rules.judge_fission.Goals as goal
 
 pub returns-in-Some-region_full-clause-value : goal.returns-in-Some-region_full-clause-value

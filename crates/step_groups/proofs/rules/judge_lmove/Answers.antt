@@ -2,7 +2,7 @@ use Rattle.std.proofs.Common.{ap, ◌∙◌, sym}
 use Rattle.nano_spec.specs.Rules.{broken_by}
 use Rattle.nano_spec.specs.declared.outcomes.Rule.TheVariants.{Blocked}
 use Rattle.step_groups.proofs.Touching.{counted, lmove_reads}
-use Rattle.step_groups.proofs.Ways.{lmove, lmove_out}
+use Rattle.step_groups.proofs.BlockedWays.{lmove, lmove_out}
 use Rattle.step_groups.proofs.rules.judge_lmove.Goals as goal
 
 pub returns-in_default-reached-clause-value : goal.returns-in_default-reached-clause-value

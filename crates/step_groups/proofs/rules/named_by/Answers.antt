@@ -2,7 +2,7 @@ use Rattle.std.proofs.Common.{◌∙◌, sym}
 use Rattle.vox_geom.specs.Point.{point, plus}
 use Rattle.nano_spec.specs.declared.commands.Command.TheVariants.{Fill}
 use Rattle.step_groups.specs.Judging.{act}
-use Rattle.step_groups.proofs.Ways.{near, stays}
+use Rattle.step_groups.proofs.BlockedWays.{near, stays}
 use Rattle.step_groups.proofs.rules.named_by.Goals as goal
 
 pub returns-clause-fill : goal.returns-clause-fill

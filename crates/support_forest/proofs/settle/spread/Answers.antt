@@ -1,4 +1,4 @@
-use Rattle.support_forest.proofs.Underway.{can_go_on}
+use Rattle.support_forest.proofs.SettlingSteps.{can_go_on}
 use Rattle.support_forest.proofs.settle.spread.Goals as goal
 
 pub spread_toward-requires-2-clause-can : goal.spread_toward-requires-2-clause-can

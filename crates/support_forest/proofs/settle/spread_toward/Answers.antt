@@ -1,7 +1,7 @@
 use Rattle.std.proofs.Common.{ℕ, ◌⊎◌, ◌+◌, ◌<◌, ◌/◌, refl, sym, subst, inr}
 use Rattle.vox_geom.specs.Space.{IsInSpace}
 use Rattle.support_forest.proofs.Nearby.{slot_stays}
-use Rattle.support_forest.proofs.Underway.{direction_void, direction_idle, direction_offered}
+use Rattle.support_forest.proofs.SettlingSteps.{direction_void, direction_idle, direction_offered}
 use Rattle.support_forest.proofs.settle.spread_toward.Goals as goal
 
 pub word_toward-word-requires-clause-within : goal.word_toward-word-requires-clause-within

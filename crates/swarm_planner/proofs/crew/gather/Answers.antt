@@ -2,15 +2,16 @@ use Rattle.std.proofs.Common.{◌≡◌, ℕ, suc, ◌+◌, ◌-◌, ◌*◌, �
 use Rattle.vox_geom.specs.declared.coordinate.Coord.{Coord}
 use Rattle.nano_spec.specs.Matrix.{Matrix}
 use Rattle.plan_tape.specs.Leg.{distance}
-use Rattle.plan_tape.specs.Progress.{Progress, spot}
+use Rattle.plan_tape.specs.Progress.{TapeState, spot}
 use Rattle.swarm_planner.specs.Crew.{RowGoes}
-use Rattle.swarm_planner.specs.Strips.{coord, count}
+use Rattle.swarm_planner.specs.Strips.{count}
 use Rattle.swarm_planner.proofs.Gathering.{all_left, is_gathered, left_as, near_left, one_less, two_left}
 use Rattle.swarm_planner.proofs.Rows.{few, narrow}
 use Rattle.swarm_planner.proofs.crew.gather.Goals as goal
+use Rattle.vox_geom.specs.Point.{coord}
 
 -- the end of the range of strips, by what is read of the tape
-end_is : (n r : ℕ) (m : Matrix) (a b : Progress) → n ≡ count r → r ≡ m.resolution → m ≡ b.matrix → b.matrix ≡ a.matrix → n ≡ count a.matrix.resolution
+end_is : (n r : ℕ) (m : Matrix) (a b : TapeState) → n ≡ count r → r ≡ m.resolution → m ≡ b.matrix → b.matrix ≡ a.matrix → n ≡ count a.matrix.resolution
 end_is n r m a b e f g h = e ∙ ap count (f ∙ (ap (λ (k : Matrix). k.resolution) g ∙ ap (λ (k : Matrix). k.resolution) h))
 
 -- two and more are left

@@ -1,8 +1,9 @@
 use Rattle.std.proofs.Common.{◌+◌, ◌-◌, ◌*◌}
 use Rattle.plan_tape.specs.Progress.{spot}
-use Rattle.swarm_planner.specs.Strips.{coord, count}
+use Rattle.swarm_planner.specs.Strips.{count}
 use Rattle.swarm_planner.proofs.Gathering.{AreLeft}
 use Rattle.swarm_planner.proofs.crew.gather.Given as goal
+use Rattle.vox_geom.specs.Point.{coord}
 
 -- so many bots are left
 abbrev pub invariant-loop-merged : goal.invariant-loop-merged

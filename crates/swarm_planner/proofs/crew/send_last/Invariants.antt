@@ -1,13 +1,13 @@
 use Rattle.std.proofs.Common.{◌≡◌, ◌+◌, ◌≤◌}
 use Rattle.plan_tape.specs.Leg.{gap}
-use Rattle.swarm_planner.specs.Crew.{Goes, places}
+use Rattle.swarm_planner.specs.Crew.{CrewGoes, places}
 use Rattle.swarm_planner.specs.Lineup.{InLine, free_column, last_column, sent}
 use Rattle.swarm_planner.proofs.crew.send_last.Given as goal
 
 -- the last bot has gone so far, and the rest of the way is shorter by that
 abbrev pub invariant-loop-at : goal.invariant-loop-at
 invariant-loop-at l = record {
-  goes : Goes l.initial.tape l.tape (sent (places l.initial.tape.bots) l.at) (gap (last_column (places l.initial.tape.bots)) l.at);
+  goes : CrewGoes l.initial.tape l.tape (sent (places l.initial.tape.bots) l.at) (gap (last_column (places l.initial.tape.bots)) l.at);
   line : InLine l.tape;
   there : places l.tape.bots ≡ sent (places l.initial.tape.bots) l.at;
   free : free_column 1 (places l.initial.tape.bots) ≤ l.at;

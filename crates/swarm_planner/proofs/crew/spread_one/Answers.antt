@@ -1,10 +1,10 @@
 use Rattle.std.proofs.Common.{◌≡◌, ℕ, suc, ◌+◌, ◌-◌, ◌<◌, ◌≤◌, sym, ◌∙◌, ap, subst, arith}
 use Rattle.std.proofs.lemmas.Result.{on_ok_weaker}
 use Rattle.plan_tape.specs.Leg.{gap}
-use Rattle.plan_tape.specs.Progress.{Progress}
+use Rattle.plan_tape.specs.Progress.{TapeState}
 use Rattle.swarm_planner.specs.Strips.{count, width}
-use Rattle.swarm_planner.specs.Crew.{Goes, places}
-use Rattle.swarm_planner.specs.Lineup.{IsSpread, Spreads, last_column, lined_up, sent}
+use Rattle.swarm_planner.specs.Crew.{CrewGoes, places}
+use Rattle.swarm_planner.specs.Lineup.{IsSpreadOver, SpreadsOver, last_column, lined_up, sent}
 use Rattle.swarm_planner.proofs.Rows.{few, narrow}
 use Rattle.swarm_planner.proofs.Sending.{born_free, born_last, born_line, spread_length, spread_line, spread_places, spread_room, spreads}
 use Rattle.swarm_planner.proofs.crew.spread_one.Goals as goal
@@ -13,8 +13,8 @@ use Rattle.swarm_planner.proofs.crew.spread_one.Goals as goal
 one_less : (n : ℕ) → 1 ≤ n → n ≡ suc (n - 1)
 one_less n h = omega arith
 
-at_one_less : (p : Progress) (n : ℕ) → 1 ≤ n → IsSpread p n → IsSpread p (suc (n - 1))
-at_one_less p n h s = subst (λ k. IsSpread p k) (one_less n h) s
+at_one_less : (p : TapeState) (n : ℕ) → 1 ≤ n → IsSpreadOver p n → IsSpreadOver p (suc (n - 1))
+at_one_less p n h s = subst (λ k. IsSpreadOver p k) (one_less n h) s
 
 more_one_less : (r n : ℕ) → 1 ≤ n → n < count r → suc (n - 1) < count r
 more_one_less r n h l = subst (λ k. k < count r) (one_less n h) l
@@ -107,6 +107,6 @@ returns c =
     let steps = near (last_column (places q.bots)) (last_column (places p.bots)) (width p.matrix.resolution) c.last_place.result c.strip_width.result (born_last p (c.args.count - 1) s m q g b) c.last_place.ensures.value w (omega arith) (narrow p.matrix.resolution s.most) in
     let one_more : suc (suc (c.args.count - 1)) ≡ c.args.count + 1 = let o = c.requires.some in omega arith in
     on_ok_weaker c.send_last.result
-    (λ (h : Goes q t (sent (places q.bots) x) (gap (last_column (places q.bots)) x)).
-    subst (λ n. Spreads p t n 20) one_more (spreads p (c.args.count - 1) s m q g b t x (gap (last_column (places q.bots)) x) to h steps))
+    (λ (h : CrewGoes q t (sent (places q.bots) x) (gap (last_column (places q.bots)) x)).
+    subst (λ n. SpreadsOver p t n 20) one_more (spreads p (c.args.count - 1) s m q g b t x (gap (last_column (places q.bots)) x) to h steps))
     c.send_last.ensures.goes

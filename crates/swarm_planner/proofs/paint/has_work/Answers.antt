@@ -1,9 +1,10 @@
 use Rattle.std.proofs.Common.{◌≡◌, ◌+◌, ◌-◌, ◌≤◌, ◌<◌, true, false, sym, ◌∙◌, ap, arith}
-use Rattle.swarm_planner.specs.Strips.{coord, count, last, row, width}
+use Rattle.swarm_planner.specs.Strips.{count, last, bot_row, width}
 use Rattle.swarm_planner.specs.Building.{are_wanted}
 use Rattle.swarm_planner.proofs.Building.{none_left, wanted_by, wanted_here, wanted_later}
 use Rattle.swarm_planner.proofs.Rows.{few, narrow}
 use Rattle.swarm_planner.proofs.paint.has_work.Goals as goal
+use Rattle.vox_geom.specs.Point.{coord}
 
 pub returns-then-is_wanted : goal.returns-then-is_wanted
 returns-then-is_wanted c =
@@ -21,7 +22,7 @@ loop-strip-preserved c =
     let wide : c.strip_width-x.result ≡ width m.resolution = c.strip_width-x.ensures ∙ ap width size in
     record {
       left =
-          (λ j. are_wanted m c.args.goal.now (row (width m.resolution) (last m.resolution) (count m.resolution - (c.loop-strip._strip + 1)) (coord (c.loop-strip.x + wide j) c.args.to.y c.args.to.z)))
+          (λ j. are_wanted m c.args.goal.now (bot_row (width m.resolution) (last m.resolution) (count m.resolution - (c.loop-strip._strip + 1)) (coord (c.loop-strip.x + wide j) c.args.to.y c.args.to.z)))
           ∙ (wanted_later m c.args.goal.now (width m.resolution) (last m.resolution) (count m.resolution) c.loop-strip._strip (coord c.loop-strip.x c.args.to.y c.args.to.z) i
           (wanted_by c.matrix.result.now m c.args.goal.now c.is_wanted.result false c.min.result c.loop-strip.x c.resolution-r.result m.resolution c.args.to.y c.args.to.z c.is_wanted.ensures c.if-is_wanted.false c.matrix.ensures.value c.min.ensures size)
           ∙ c.loop-strip.invariant.left);

@@ -1,11 +1,12 @@
 use Rattle.std.proofs.Common.{◌≡◌, ◌+◌, ◌-◌, ◌*◌, ◌≤◌}
-use Rattle.swarm_planner.specs.Strips.{coord, count, last, row, row_of, width}
+use Rattle.swarm_planner.specs.Strips.{count, last, bot_row, strip_row, width}
 use Rattle.swarm_planner.specs.Building.{are_wanted}
 use Rattle.swarm_planner.proofs.paint.has_work.Given as goal
+use Rattle.vox_geom.specs.Point.{coord}
 
 -- what is wanted is below the places that are left
 abbrev pub invariant-loop-strip : goal.invariant-loop-strip
 invariant-loop-strip l = record {
-  left : are_wanted l.tape.matrix l.goal (row (width l.tape.matrix.resolution) (last l.tape.matrix.resolution) (count l.tape.matrix.resolution - l._strip) (coord l.x l.to.y l.to.z)) ≡ are_wanted l.tape.matrix l.goal (row_of l.tape.matrix.resolution l.to);
+  left : are_wanted l.tape.matrix l.goal (bot_row (width l.tape.matrix.resolution) (last l.tape.matrix.resolution) (count l.tape.matrix.resolution - l._strip) (coord l.x l.to.y l.to.z)) ≡ are_wanted l.tape.matrix l.goal (strip_row l.tape.matrix.resolution l.to);
   bound : l.x ≤ l.to.x + 20 * l._strip;
 }

@@ -1,14 +1,15 @@
 use Rattle.std.proofs.Common.{◌≡◌, ◌+◌, false}
 use Rattle.std.proofs.lemmas.Result.{on_ok_weaker}
 use Rattle.swarm_planner.specs.Building.{Fills, are_wanted}
-use Rattle.swarm_planner.specs.Strips.{coord, row_of}
+use Rattle.swarm_planner.specs.Strips.{strip_row}
 use Rattle.swarm_planner.proofs.Building.{cell_already, cell_built}
 use Rattle.swarm_planner.proofs.paint.paint_cell.Goals as goal
+use Rattle.vox_geom.specs.Point.{coord}
 
 pub returns-then-not-has_work : goal.returns-then-not-has_work
 returns-then-not-has_work c =
     let p = c.args.tape.now in
-    let none : are_wanted p.matrix c.args.goal.now (row_of p.matrix.resolution (coord c.args.x (c.args.y + 1) c.args.z)) ≡ false = let h = c.has_work.ensures in let t = c.if-not-has_work.true in cc in
+    let none : are_wanted p.matrix c.args.goal.now (strip_row p.matrix.resolution (coord c.args.x (c.args.y + 1) c.args.z)) ≡ false = let h = c.has_work.ensures in let t = c.if-not-has_work.true in cc in
     cell_already p c.args.goal.now c.args.x c.args.y c.args.z c.requires.ready none
 
 pub returns : goal.returns

@@ -1,7 +1,7 @@
 use Rattle.std.proofs.Common.{◌+◌, ◌*◌}
-use Rattle.swarm_planner.specs.Strips.{coord}
 use Rattle.swarm_planner.specs.Building.{Builds, cells}
 use Rattle.swarm_planner.proofs.paint.paint_line.Given as goal
+use Rattle.vox_geom.specs.Point.{coord}
 
 -- the first z voxels of the line are built
 abbrev pub invariant-loop-z : goal.invariant-loop-z

@@ -3,15 +3,15 @@ use Rattle.nano_spec.specs.declared.system.Profile.{Profile}
 use Rattle.nano_spec.specs.Matrix.{Matrix, is_full}
 use Rattle.nano_spec.specs.Profile.{light_profile}
 use Rattle.vox_planes.specs.Voxel.{IsWhole}
-use Rattle.plan_tape.specs.Progress.{IsAccepted, Progress, spot}
+use Rattle.plan_tape.specs.Progress.{IsAccepted, TapeState, spot}
 use Rattle.swarm_planner.specs.Phases.{IsErected}
-use Rattle.swarm_planner.specs.Strips.{coord}
 use Rattle.swarm_planner.proofs.Legality.{alike_is_same, grounded_at, ways_home_in}
 use Rattle.swarm_planner.proofs.Phases.{layers_fit, total}
 use Rattle.swarm_planner.proofs.plan.closed.Goals as goal
+use Rattle.vox_geom.specs.Point.{coord}
 
 -- the matrix is the target
-matrix_is : (t : Progress) (target : Matrix) → IsErected t target → IsWhole t.matrix → IsWhole target → t.matrix ≡ target
+matrix_is : (t : TapeState) (target : Matrix) → IsErected t target → IsWhole t.matrix → IsWhole target → t.matrix ≡ target
 matrix_is t target k v w = alike_is_same t.matrix target v w (sym k.same) k.built
 
 pub go-requires-clause-ways : goal.go-requires-clause-ways

@@ -5,12 +5,12 @@ use Rattle.nano_spec.specs.Profile.{light_profile}
 use Rattle.nano_spec.specs.State.{first_bot}
 use Rattle.nano_spec.specs.Step.{flipped}
 use Rattle.plan_tape.specs.Leg.{moves_to}
-use Rattle.plan_tape.specs.Progress.{Progress, bots_at, spot}
-use Rattle.swarm_planner.specs.Crew.{IsVoidFrom}
+use Rattle.plan_tape.specs.Progress.{TapeState, bots_at, spot, IsVoidFrom}
 use Rattle.swarm_planner.specs.Lineup.{seeds_after}
-use Rattle.swarm_planner.specs.Strips.{coord, last}
+use Rattle.swarm_planner.specs.Strips.{last}
 use Rattle.swarm_planner.proofs.Legality.{void_is_grounded}
 use Rattle.swarm_planner.proofs.plan.opened.Goals as goal
+use Rattle.vox_geom.specs.Point.{coord}
 
 pub start_as-requires-clause-grounded : goal.start_as-requires-clause-grounded
 start_as-requires-clause-grounded c = void_is_grounded c.args.nothing c.requires.void
@@ -20,25 +20,25 @@ returns c =
     let w = c.in_ok-flip.ensures.ok in
     let m = c.in_ok-go.ensures.ok in
     let e = c.in_ok-tape.ensures in
-    let matrix : c.go.new.self.matrix ≡ c.args.nothing = m.matrix ∙ (w.matrix ∙ ap (λ (x : Progress). x.matrix) e) in
+    let matrix : c.go.new.self.matrix ≡ c.args.nothing = m.matrix ∙ (w.matrix ∙ ap (λ (x : TapeState). x.matrix) e) in
     let r = c.args.nothing.resolution in
     let size : c.go.new.self.matrix.resolution ≡ r = ap (λ (k : Matrix). k.resolution) matrix in
     let s = c.requires.some in
     let most = c.resolution.ensures.whole.most in
-    let first : c.flip.new.self.bots ≡ first_bot light_profile ∷ [] = w.bots_are ∙ (ap (λ (x : Progress). x.bots) e ∙ ap (λ k. first_bot k ∷ []) c.light.ensures) in
+    let first : c.flip.new.self.bots ≡ first_bot light_profile ∷ [] = w.bots_are ∙ (ap (λ (x : TapeState). x.bots) e ∙ ap (λ k. first_bot k ∷ []) c.light.ensures) in
     let one : min 1 (last c.go.new.self.matrix.resolution) ≡ 1 = omega (arith, size, s) in
     let there : bots_at (first_bot light_profile ∷ []) (coord 1 1 0) ≡ record { bid = 1; pos = coord 1 1 0; seeds = seeds_after 1 } ∷ [] = refl in
     let steps : moves_to (spot c.flip.new.self.bots) (coord 1 1 0) ≡ 2 = ap (λ (bots : List Bot). moves_to (spot bots) (coord 1 1 0)) first in
-    let none : c.in_ok-tape.tape.steps ≡ 0 = ap (λ (x : Progress). x.steps) e in
+    let none : c.in_ok-tape.tape.steps ≡ 0 = ap (λ (x : TapeState). x.steps) e in
     let a = w.steps in
     let b = m.steps in
     record {
-      source = m.source ∙ (w.source ∙ ap (λ (x : Progress). x.source) e);
+      source = m.source ∙ (w.source ∙ ap (λ (x : TapeState). x.source) e);
       matrix = matrix;
       spread = record {
         swarm = record {
-          high = m.harmonics ∙ (w.harmonics ∙ ap (λ (x : Progress). flipped x.harmonics) e);
-          light = m.profile ∙ (w.profile ∙ (ap (λ (x : Progress). x.profile) e ∙ c.light.ensures));
+          high = m.harmonics ∙ (w.harmonics ∙ ap (λ (x : TapeState). flipped x.harmonics) e);
+          light = m.profile ∙ (w.profile ∙ (ap (λ (x : TapeState). x.profile) e ∙ c.light.ensures));
         };
         some = omega (arith, size, s);
         most = omega (arith, size, most);

@@ -6,14 +6,14 @@ use Rattle.nano_spec.specs.declared.system.Bot.{Bot}
 use Rattle.nano_spec.specs.Act.{acts}
 use Rattle.nano_spec.specs.Matrix.{Matrix}
 use Rattle.plan_tape.specs.Crowd.{AllStep, with_fills}
-use Rattle.plan_tape.specs.Progress.{Progress, state_of}
+use Rattle.plan_tape.specs.Progress.{TapeState, state_of}
 use Rattle.plan_tape.proofs.Crowds.{held_under_high}
 use Rattle.swarm_planner.specs.Building.{fills}
 use Rattle.swarm_planner.proofs.Filling.{bots_within, fills_are_free, fills_length, has_filled, only_fills}
 use Rattle.swarm_planner.proofs.steps.fill_below.Goals as goal
 
 -- the commands by what is read of the tape
-are : (p : Progress) (m goal : Matrix) (bots : List Bot) → m ≡ p.matrix → bots ≡ p.bots → fills m goal bots ≡ fills p.matrix goal p.bots
+are : (p : TapeState) (m goal : Matrix) (bots : List Bot) → m ≡ p.matrix → bots ≡ p.bots → fills m goal bots ≡ fills p.matrix goal p.bots
 are p m goal bots em eb = λ i. fills (em i) goal (eb i)
 
 within : (m n : Matrix) (bots old : List Bot) → m ≡ n → bots ≡ old → AllByRecursion (λ b. IsInSpace n.resolution b.pos × (1 ≤ b.pos.y)) old → AllByRecursion (λ b. IsInSpace m.resolution b.pos × (1 ≤ b.pos.y)) bots

@@ -3,9 +3,10 @@ use Rattle.std.proofs.lemmas.List.{drop_more}
 use Rattle.vox_geom.specs.declared.coordinate.Coord.{Coord}
 use Rattle.nano_spec.specs.declared.system.Bot.{Bot}
 use Rattle.plan_tape.specs.declared.axis.Axis.{Axis}
-use Rattle.swarm_planner.specs.Strips.{coord, held}
+use Rattle.swarm_planner.specs.Strips.{held}
 use Rattle.swarm_planner.specs.Crew.{AreNear, IsNearOn}
 use Rattle.swarm_planner.proofs.steps.leads.Goals as goal
+use Rattle.vox_geom.specs.Point.{coord}
 
 abbrev nobody : Bot
 nobody = record { bid = 0; pos = record { x = 0; y = 0; z = 0 }; seeds = 0 }

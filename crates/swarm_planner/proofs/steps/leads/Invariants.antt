@@ -1,7 +1,7 @@
 use Rattle.std.proofs.Common.{◌≡◌, ◌+◌, ◌*◌, ◌≤◌, ◌++◌, drop}
-use Rattle.swarm_planner.specs.Strips.{coord}
 use Rattle.swarm_planner.specs.Crew.{AreNear, row_led}
 use Rattle.swarm_planner.proofs.steps.leads.Given as goal
+use Rattle.vox_geom.specs.Point.{coord}
 
 -- the commands so far and those of the bots that are left
 abbrev pub invariant-loop-bot : goal.invariant-loop-bot

@@ -1,8 +1,8 @@
 use Rattle.std.proofs.Common.{◌≡◌, drop}
 use Rattle.nano_spec.specs.Act.{acts}
-use Rattle.system_state.specs.Effects.{act}
 use Rattle.system_state.specs.Turns.{first_mate}
 use Rattle.system_state.proofs.turns.first_mate.Given as goal
+use Rattle.step_groups.specs.Judging.{act}
 
 abbrev pub invariant-loop-i : goal.invariant-loop-i
 invariant-loop-i l =

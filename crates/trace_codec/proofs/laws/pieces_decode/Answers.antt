@@ -1,4 +1,4 @@
-use Rattle.trace_codec.proofs.Taken.{taken_nothing, taken_bad, taken_ended}
+use Rattle.trace_codec.proofs.TakenBytes.{taken_nothing, taken_bad, taken_ended}
 use Rattle.trace_codec.proofs.laws.pieces_decode.Goals as goal
 
 pub returns-clause-start : goal.returns-clause-start

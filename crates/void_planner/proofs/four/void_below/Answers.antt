@@ -11,9 +11,10 @@ use Rattle.step_order.specs.Unbroken.{AreOneGroup}
 use Rattle.plan_tape.specs.Crowd.{AllStep}
 use Rattle.plan_tape.specs.Progress.{spot, state_of}
 use Rattle.void_planner.specs.Square.{CanStand, FourVoid, four}
-use Rattle.void_planner.specs.Tiles.{coord, far_of, tile}
+use Rattle.void_planner.specs.Tiles.{far_of, tile}
 use Rattle.void_planner.proofs.Corners.{can_void, over, voided_together, voids_together}
 use Rattle.void_planner.proofs.four.void_below.Goals as goal
+use Rattle.vox_geom.specs.Point.{coord}
 
 forth : (f r : ℕ) → f ≡ far_of r → to_z w16 f ≡ pos f
 forth f r e = omega (arith, ints)

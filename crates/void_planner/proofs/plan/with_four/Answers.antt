@@ -6,7 +6,7 @@ use Rattle.nano_spec.specs.Profile.{full_profile}
 use Rattle.plan_tape.specs.declared.tape.Plan.{Plan}
 use Rattle.plan_tape.specs.Progress.{IsAccepted}
 use Rattle.void_planner.specs.Few.{fissions, is_fission}
-use Rattle.void_planner.specs.Phases.{IsVoidModel, most_steps}
+use Rattle.void_planner.specs.Phases.{IsVoidModel, most_void_steps}
 use Rattle.void_planner.proofs.Counts.{few_at_most}
 use Rattle.void_planner.proofs.Openings.{all_steps, gathered_within}
 use Rattle.void_planner.proofs.plan.with_four.Goals as goal
@@ -16,7 +16,7 @@ closed-requires-clause-gathered c =
     let b = c.spread.new.tape in
     let d = c.void_all.new.tape in
     gathered_within c.gather.new.tape _ c.most_but_two-most.result c.in_ok-gather.ensures.gathered
-    (all_steps b d c.args.source c.most_but_two-most.result c.in_ok-spread.ensures.spread (c.in_ok-spread.ensures.source ∙ c.in_ok-tape.ensures.source) c.requires.some c.in_ok-void_all.ensures.clears (c.most_but_two-most.ensures.value ∙ ap most_steps c.resolution.ensures.value))
+    (all_steps b d c.args.source c.most_but_two-most.result c.in_ok-spread.ensures.spread (c.in_ok-spread.ensures.source ∙ c.in_ok-tape.ensures.source) c.requires.some c.in_ok-void_all.ensures.clears (c.most_but_two-most.ensures.value ∙ ap most_void_steps c.resolution.ensures.value))
 
 pub returns-clause-accepted : goal.returns-clause-accepted
 returns-clause-accepted c =

@@ -1,8 +1,10 @@
 use Rattle.std.proofs.Common.{◌-◌, ◌*◌, ◌<◌}
 use Rattle.void_planner.specs.Square.{Clears}
-use Rattle.void_planner.specs.Tiles.{IsVoidFrom, coord, edge}
+use Rattle.void_planner.specs.Tiles.{edge}
 use Rattle.void_planner.proofs.Sweeps.{fro_steps}
 use Rattle.void_planner.proofs.sweep.void_all.Given as goal
+use Rattle.vox_geom.specs.Point.{coord}
+use Rattle.plan_tape.specs.Progress.{IsVoidFrom}
 
 -- the layers from that of y on are void
 abbrev pub invariant-loop-y : goal.invariant-loop-y

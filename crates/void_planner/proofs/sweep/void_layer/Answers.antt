@@ -1,9 +1,10 @@
 use Rattle.std.proofs.Common.{◌≡◌, ◌+◌, ◌*◌, ◌<◌, ◌∙◌, not, sym, ap, subst, arith}
 use Rattle.nano_spec.specs.Matrix.{Matrix}
 use Rattle.void_planner.specs.Square.{Clears, steps_to}
-use Rattle.void_planner.specs.Tiles.{IsVoidStrip, coord, edge, far_of, place_of, tiles_of, turned}
+use Rattle.void_planner.specs.Tiles.{IsVoidStrip, edge, far_of, place_of, tiles_of, turned}
 use Rattle.void_planner.proofs.Sweeps.{layer_limit, layer_on, layer_void, strips_more}
 use Rattle.void_planner.proofs.sweep.void_layer.Goals as goal
+use Rattle.vox_geom.specs.Point.{coord}
 
 pub void_strip-requires-clause-limit : goal.void_strip-requires-clause-limit
 void_strip-requires-clause-limit c =

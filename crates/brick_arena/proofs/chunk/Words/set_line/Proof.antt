@@ -24,7 +24,7 @@ use denote.Ref.{MutRef, mut_vals, mut_Tells}
 use denote.Signature.{plain}
 use denote.Steps.{nothing, opens, closes, peeks, heard}
 use denote.Triple.Walked.{Stays, walk_of, says, stay_ref, stay_dropped, Goes-ref, Goes-dropped, ends_at}
-use Rattle.brick_arena.specs.Ownership.{places, words_own}
+use Rattle.brick_arena.specs.Ownership.{word_places, words_own}
 use Rattle.brick_arena.proofs.Lines.{typed_zeros, blanked, length-blanked, Around, line_out, line_in, blanked-range}
 use Rattle.brick_arena.specs.contracts.chunk.Words.set_line as f
 use Rattle.brick_arena.proofs.chunk.Words.set_line.Statement.{statement}
@@ -67,7 +67,7 @@ set_line_spec 𝓤 𝓛 𝓜 𝓡 wired =
     assigns_last ! (of_opd ! (get ! refl)) (through ! refl (stop !)) (init ! 0 refl typed) $
     exec ! 𝓣.C 𝓣.Λ (env code.Mir.locals l) (after 1 (code.function).body) (at_ret _ (W.post y)) $
     sets ! (of_opd ! (unit_lit !)) refl (tt, tt) $
-    use2 𝓛 (‵ (places b' o' new.words)) (line_in 𝓛 b' 16 o' h.words i lt) $
+    use2 𝓛 (‵ (word_places b' o' new.words)) (line_in 𝓛 b' 16 o' h.words i lt) $
     rewrite ! 0 (λ (p : Ptr). ‵ (words_own p new.words)) (sym e) refl $ rewrite ! 2 Cell (sym word) refl $
     move ! (1 ∷ []) $ fjoin ! $ move ! (1 ∷ []) $ closes ! tt R new us b o $
     returns ! (look_at ! 0 refl) $ free_all ! refl $ keep ! (0 ∷ 1 ∷ 2 ∷ []) $ feq_i ! (List Val) (vunit ∷ []) (vunit ∷ []) refl $ move ! (1 ∷ 2 ∷ 3 ∷ 0 ∷ []) $

@@ -1,9 +1,9 @@
 use Rattle.std.proofs.Common.{◌+◌, ◌-◌, ◌<◌, ◌≡◌, refl, sym, arith, false}
 use Rattle.nano_spec.specs.Matrix.{is_full}
-use Rattle.low_planner.specs.Sweep.{coord}
 use Rattle.low_planner.proofs.Beside.{beside_by, none_beside}
 use Rattle.low_planner.proofs.sweep.Sweep.beside.Goals as goal
 use Rattle.low_planner.proofs.sweep.Sweep.beside.Goals.{else-z-gt0-via-then-z-gt0+else-is_left-2, else-z-gt0-via-else-z-gt0, else-x-gt0-via-then-x-gt0+else-is_left-4, else-x-gt0-via-else-x-gt0}
+use Rattle.vox_geom.specs.Point.{coord}
 
 pub returns-then-is_left-3 : goal.returns-then-is_left-3
 returns-then-is_left-3 c = (beside_by c.args.c (coord (c.args.c.x + 1) c.args.c.y c.args.c.z) refl (omega arith), sym c.if-is_left-3.ensures)

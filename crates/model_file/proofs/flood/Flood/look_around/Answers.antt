@@ -3,14 +3,14 @@ use Rattle.std.proofs.lemmas.List.{length-append}
 use Rattle.model_file.specs.declared.flood.Flood.{Flood}
 use Rattle.model_file.specs.declared.flood.Stretch.{Stretch}
 use Rattle.vox_geom.specs.declared.TheConstants.{MOST_R}
-use Rattle.model_file.specs.Flood.{IsBeside, IsStart, Takes, full_of}
+use Rattle.model_file.specs.Flood.{IsBeside, IsStart, TakesOut, full_of}
 use Rattle.model_file.proofs.Floods.{row_lighter, row_same, takes_none, takes_then}
 use Rattle.model_file.proofs.Spreads.{flood_more, flood_wider, found_starts}
 use Rattle.model_file.proofs.Stretches.{moved}
 use Rattle.model_file.proofs.flood.Flood.look_around.Goals as goal
 
 -- where nothing beside it is in its word, all that is beside it is taken by the other part
-both : (c : goal.In_ok-take_around) → Takes (IsBeside (record { first = c.args.first; bits = c.args.bits })) c.args.self.now c.take_around.new.self
+both : (c : goal.In_ok-take_around) → TakesOut (IsBeside (record { first = c.args.first; bits = c.args.bits })) c.args.self.now c.take_around.new.self
 both c =
     let s : Stretch = record { first = c.args.first; bits = c.args.bits } in
     let mid : Flood = record { remaining = c.take_row-more.new.self; found = c.args.self.now.found } in

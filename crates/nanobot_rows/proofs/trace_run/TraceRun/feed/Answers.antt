@@ -1,7 +1,7 @@
 use Rattle.std.proofs.Common.{◌≡◌, ◌-◌, ◌≤◌, ℕ, List, length, take, drop, subst, arith, length-drop}
 use Rattle.std.proofs.lemmas.List.{take_all}
 use Rattle.nanobot_rows.specs.Taking.{Takes}
-use Rattle.nanobot_rows.proofs.Taken.{takes_next}
+use Rattle.nanobot_rows.proofs.TakenBytes.{takes_next}
 use Rattle.nanobot_rows.proofs.trace_run.TraceRun.feed.Goals as goal
 
 pub loop-at-preserved : goal.loop-at-preserved

@@ -1,4 +1,4 @@
-use Rattle.nanobot_rows.proofs.Taken.{known_head}
+use Rattle.nanobot_rows.proofs.TakenBytes.{known_head}
 use Rattle.nanobot_rows.proofs.trace_run.TraceRun.next.Goals as goal
 
 pub take_from-requires-in-3-clause-head : goal.take_from-requires-in-3-clause-head

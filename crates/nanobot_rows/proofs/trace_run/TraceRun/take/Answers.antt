@@ -1,4 +1,4 @@
-use Rattle.nanobot_rows.proofs.Taken.{takes_if_ok}
+use Rattle.nanobot_rows.proofs.TakenBytes.{takes_if_ok}
 use Rattle.nanobot_rows.proofs.trace_run.TraceRun.take.Goals as goal
 
 pub returns-clause-takes : goal.returns-clause-takes

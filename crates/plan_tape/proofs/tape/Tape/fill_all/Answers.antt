@@ -3,7 +3,7 @@ use Rattle.std.proofs.lemmas.Result.{on_ok_weaker}
 use Rattle.nano_spec.specs.Act.{acts}
 use Rattle.nano_spec.specs.Step.{after}
 use Rattle.plan_tape.specs.Crowd.{with_fills}
-use Rattle.plan_tape.specs.Progress.{state_of, stepped}
+use Rattle.plan_tape.specs.Progress.{state_of, tape_stepped}
 use Rattle.plan_tape.proofs.Crowds.{held_as, stepped_is}
 use Rattle.plan_tape.proofs.Works.{fills_flip_not, fills_stand, fills_stay, matrix_filled}
 use Rattle.plan_tape.proofs.tape.Tape.fill_all.Goals as goal
@@ -27,7 +27,7 @@ returns-clause-ok c =
     let p = c.args.self.now in
     let k = c.args.fills.now in
     on_ok_weaker c.step.result
-    (λ (e : c.step.new.self ≡ stepped p k). stepped_is p c.step.new.self k (with_fills p.matrix (acts p.bots k)) p.harmonics p.bots e
+    (λ (e : c.step.new.self ≡ tape_stepped p k). stepped_is p c.step.new.self k (with_fills p.matrix (acts p.bots k)) p.harmonics p.bots e
     (matrix_filled p.matrix p.bots k c.requires.fills)
     (c.bots_act.ensures.harmonics (state_of p) k (fills_flip_not p.bots k c.requires.fills))
     (c.bots_act.ensures.gone (state_of p) k c.know_ready.ensures.ready c.requires.commands (fills_stay p.bots k c.requires.fills) ∙ fills_stand p.bots k c.requires.commands c.requires.fills))

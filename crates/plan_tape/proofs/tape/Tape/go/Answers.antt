@@ -6,13 +6,13 @@ use Rattle.nano_spec.specs.declared.system.Bot.{Bot}
 use Rattle.nano_spec.specs.State.{State}
 use Rattle.plan_tape.specs.contracts.tape.Tape.{the_view}
 use Rattle.plan_tape.specs.Leg.{AreLegs, distance, moves_to}
-use Rattle.plan_tape.specs.Progress.{Progress, bots_at, progress_of, spot, upkeep_of_step}
-use Rattle.plan_tape.proofs.Gone.{Comes, free_one, go_makes, moved_one}
+use Rattle.plan_tape.specs.Progress.{TapeState, bots_at, progress_of, spot, upkeep_of_step}
+use Rattle.plan_tape.proofs.AfterMoves.{Comes, free_one, go_makes, moved_one}
 use Rattle.plan_tape.proofs.Written.{IsCharged, charged_as}
 use Rattle.plan_tape.proofs.tape.Tape.go.Goals as goal
 
 pub move_to-requires-clause-free : goal.move_to-requires-clause-free
-move_to-requires-clause-free c = free_one c.self.inside.system.bots c.bots.result.now c.args.to _ (subst (λ (o : Progress). length o.bots ≡ 1) (sym c.self.view_is) c.requires.alone) (c.bots.ensures.value ∙ c.crew.ensures.value)
+move_to-requires-clause-free c = free_one c.self.inside.system.bots c.bots.result.now c.args.to _ (subst (λ (o : TapeState). length o.bots ≡ 1) (sym c.self.view_is) c.requires.alone) (c.bots.ensures.value ∙ c.crew.ensures.value)
 
 legs : (c : goal.After-self-1) → (moves : List Command) × AreLegs (spot c.args.self.now.bots) c.args.to moves × (c.push_leg-3.new.commands.items ≡ c.self.inside.commands.items ++ moves)
 legs c =
@@ -39,7 +39,7 @@ comes c =
     let energy = to_z w64 (of_z w64 c.energy_after-energy.result) in
     let count = c.moves_to-count.ensures.value ∙ ap (λ p. moves_to p c.args.to) c.spot-from.ensures.value in
     let moved : c.move_to.new.self ≡ record r.system { bots = bots_at r.system.bots c.args.to } =
-    moved_one (λ (bots : List Bot). c.move_to.new.self ≡ record r.system { bots = bots }) r.system.bots c.bots.result.now c.args.to _ (subst (λ (o : Progress). length o.bots ≡ 1) (sym c.self.view_is) c.requires.alone) (c.bots.ensures.value ∙ c.crew.ensures.value) c.move_to.ensures.moved in
+    moved_one (λ (bots : List Bot). c.move_to.new.self ≡ record r.system { bots = bots }) r.system.bots c.bots.result.now c.args.to _ (subst (λ (o : TapeState). length o.bots ≡ 1) (sym c.self.view_is) c.requires.alone) (c.bots.ensures.value ∙ c.crew.ensures.value) c.move_to.ensures.moved in
     let now : c.set_energy.new.self ≡ record r.system { bots = bots_at r.system.bots c.args.to; energy = energy } = c.set_energy.ensures ∙ (λ i. record (moved i) { energy = energy }) in
     subst (λ (s : State). Comes old (progress_of r.source c.push_leg-3.new.commands.items s (r.steps + c.moves_to-count.result)) c.args.to) (sym now)
     (go_makes (the_view r) old c.self.view_is c.self.invariant c.args.to c.push_leg-3.new.commands.items l.0 (bots_at r.system.bots c.args.to) energy c.moves_to-count.result c.requires.alone c.requires.allowed c.requires.within c.requires.ways c.requires.limit l.1 l.2 refl count (charge c))

@@ -2,7 +2,7 @@ use Rattle.std.proofs.Common.{◌≡◌, ◌+◌}
 use Rattle.std.proofs.lemmas.Result.{on_ok_weaker}
 use Rattle.nano_spec.specs.Step.{after}
 use Rattle.step_order.specs.Acting.{with_region}
-use Rattle.plan_tape.specs.Progress.{state_of, stepped}
+use Rattle.plan_tape.specs.Progress.{state_of, tape_stepped}
 use Rattle.plan_tape.proofs.Crowds.{held_under_high, stepped_is}
 use Rattle.plan_tape.proofs.tape.Tape.paint_all.Goals as goal
 
@@ -22,7 +22,7 @@ pub returns-clause-ok : goal.returns-clause-ok
 returns-clause-ok c =
     let p = c.args.self.now in
     on_ok_weaker c.step.result
-    (λ (e : c.step.new.self ≡ stepped p c.args.commands.now) region full group. stepped_is p c.step.new.self c.args.commands.now (with_region p.matrix region full) p.harmonics p.bots e
+    (λ (e : c.step.new.self ≡ tape_stepped p c.args.commands.now) region full group. stepped_is p c.step.new.self c.args.commands.now (with_region p.matrix region full) p.harmonics p.bots e
     (c.one_group_acts.ensures.matrix (state_of p) c.args.commands.now region full group)
     (c.one_group_acts.ensures.harmonics (state_of p) c.args.commands.now region full group)
     (c.one_group_acts.ensures.bots (state_of p) c.args.commands.now region full c.know_ready.ensures.ready c.requires.commands group))

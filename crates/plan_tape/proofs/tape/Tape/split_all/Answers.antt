@@ -2,7 +2,7 @@ use Rattle.std.proofs.Common.{◌≡◌, ◌+◌}
 use Rattle.std.proofs.lemmas.Result.{on_ok_weaker}
 use Rattle.nano_spec.specs.Step.{after}
 use Rattle.plan_tape.specs.Crowd.{bots_split}
-use Rattle.plan_tape.specs.Progress.{state_of, stepped}
+use Rattle.plan_tape.specs.Progress.{state_of, tape_stepped}
 use Rattle.plan_tape.proofs.Crowds.{held_as, stepped_is}
 use Rattle.plan_tape.proofs.Works.{splits_flip_not, splits_leave, splits_part}
 use Rattle.plan_tape.proofs.tape.Tape.split_all.Goals as goal
@@ -26,7 +26,7 @@ returns-clause-ok c =
     let p = c.args.self.now in
     let k = c.args.splits.now in
     on_ok_weaker c.step.result
-    (λ (e : c.step.new.self ≡ stepped p k). stepped_is p c.step.new.self k p.matrix p.harmonics (bots_split p.bots k) e
+    (λ (e : c.step.new.self ≡ tape_stepped p k). stepped_is p c.step.new.self k p.matrix p.harmonics (bots_split p.bots k) e
     (c.bots_act.ensures.still (state_of p) k c.know_ready.ensures.ready (splits_leave p.bots k c.requires.splits))
     (c.bots_act.ensures.harmonics (state_of p) k (splits_flip_not p.bots k c.requires.splits))
     (splits_part p.bots k c.requires.splits))

@@ -6,7 +6,7 @@ use Rattle.nano_spec.specs.Next.{Goes, Next}
 use Rattle.nano_spec.specs.Rules.{broken}
 use Rattle.nano_spec.specs.State.{IsWellFormed, State}
 use Rattle.nano_spec.specs.Step.{after}
-use Rattle.step_groups.specs.Judging.{edit_of, fault_of}
+use Rattle.step_groups.specs.Judging.{edit_of, rule_broken}
 use Rattle.step_machine.specs.declared.machine.StepFault.TheVariants as fault
 use Rattle.step_machine.specs.Settling.{IsSettled, IsUnsettled}
 use Rattle.step_machine.specs.Situation.{Situation}
@@ -31,7 +31,7 @@ returns-in-Err g c =
     record {
       stepped = subst (λ (w : Situation). Stepped c.args.self.now w commands (Err (fault.Broken c.in-Err.broken)) c.args.steps.now c.args.steps.now) c.self.view_is
           (broken_at_start s commands c.self.inside.steps c.self.inside.spent c.args.self.now c.self.view_is stands c.args.steps.now
-          c.in-Err.broken c.args.steps.now (sym c.judge_edit.ensures.value ∙ ap fault_of c.in-Err.is) (omega arith) (λ lacks. refl));
+          c.in-Err.broken c.args.steps.now (sym c.judge_edit.ensures.value ∙ ap rule_broken c.in-Err.is) (omega arith) (λ lacks. refl));
     }
 
 pub returns-in-Err-settle_one : goal.returns-in-Err-settle_one
@@ -40,12 +40,12 @@ returns-in-Err-settle_one g c =
     let stands : c.self.inside.spent ≡ false = ap (λ (v : Situation). v.spent) c.self.view_is ∙ c.requires.stands in
     record {
       stepped = not_settled s (edit_of c.args.full c.args.d ∷ []) c.self.inside.steps c.self.inside.spent c.args.self.now c.self.view_is stands c.args.steps.now
-          c.args.steps.now (sym c.judge_edit.ensures.value ∙ ap fault_of c.in-Ok.is) (omega arith) c.in-Err-settle_one.fault c.settle_one.new.steps
+          c.args.steps.now (sym c.judge_edit.ensures.value ∙ ap rule_broken c.in-Ok.is) (omega arith) c.in-Err-settle_one.fault c.settle_one.new.steps
           (subst (λ (k : Command). IsUnsettled s (k ∷ []) (c.self.inside.steps + 1) c.in-Err-settle_one.fault c.args.steps.now c.settle_one.new.steps) c.edit.ensures c.in-Err-settle_one.ensures.unsettled);
     }
 
 keeps : (g : Over) (c : goal.After-made g) → broken c.self.inside.system (edit_of c.args.full c.args.d ∷ []) (c.self.inside.steps + 1) ≡ None
-keeps g c = sym c.judge_edit.ensures.value ∙ ap fault_of c.in-Ok.is
+keeps g c = sym c.judge_edit.ensures.value ∙ ap rule_broken c.in-Ok.is
 
 settled : (g : Over) (c : goal.After-made g) → IsSettled c.self.inside.system (edit_of c.args.full c.args.d ∷ []) (c.self.inside.steps + 1) c.settle_one.new.forest c.args.steps.now c.settle_one.new.steps
 settled g c = subst (λ (k : Command). IsSettled c.self.inside.system (k ∷ []) (c.self.inside.steps + 1) c.settle_one.new.forest c.args.steps.now c.settle_one.new.steps) c.edit.ensures c.in-Ok-settle_one.ensures.settled

@@ -7,7 +7,7 @@ use Rattle.vox_geom.specs.Point.{point}
 use Rattle.vox_geom.specs.Space.{IsInSpace}
 use Rattle.bot_crew.specs.Crew.{bot_of}
 use Rattle.system_state.specs.Bounds.{IsWithin}
-use Rattle.system_state.specs.Effects.{MayTake, after_turn, bots_after}
+use Rattle.system_state.specs.Effects.{MayTake, after_turn, bots_after_turn}
 use Rattle.system_state.proofs.Bots.{turn_within}
 use Rattle.system_state.proofs.Upkeep.{within_more}
 use Rattle.system_state.proofs.system.System.take_turn.Goals as goal
@@ -18,7 +18,7 @@ invariant_of-self g c =
     subst (λ (o : Option Bot). IfSome o (λ bot. MayTake c.self.inside.matrix.resolution c.self.inside.crew bot c.args.turn.partner c.args.command.now)) (sym c.in-Some.ensures)
     (subst (λ (t : State). IfSome (bot_of t.bots c.args.turn.leader) (λ bot. MayTake t.matrix.resolution t.bots bot c.args.turn.partner c.args.command.now)) (sym c.self.view_is) c.requires.may) in
     subst (λ (bots : List Bot). All (λ b. IsInSpace c.pay_turn-cost.new.matrix.resolution b.pos) bots) (sym c.move_bots.ensures)
-    (subst (λ r. All (λ b. IsInSpace r b.pos) (bots_after c.self.inside.crew c.in-Some.bot c.args.turn.partner c.args.command.now)) (sym (ap (λ m. m.resolution) c.pay_turn-cost.ensures.matrix)) (turn_within c.self.inside.matrix.resolution c.self.inside.crew c.in-Some.bot c.args.turn.partner c.args.command.now c.self.invariant may))
+    (subst (λ r. All (λ b. IsInSpace r b.pos) (bots_after_turn c.self.inside.crew c.in-Some.bot c.args.turn.partner c.args.command.now)) (sym (ap (λ m. m.resolution) c.pay_turn-cost.ensures.matrix)) (turn_within c.self.inside.matrix.resolution c.self.inside.crew c.in-Some.bot c.args.turn.partner c.args.command.now c.self.invariant may))
 
 pub returns-clause-value : goal.returns-clause-value
 returns-clause-value g c =

@@ -6,7 +6,7 @@ use Rattle.nano_spec.specs.Model.{bit}
 use Rattle.vox_planes.specs.Layers.{bit_index}
 use Rattle.vox_planes.specs.Places.{is_marked}
 use Rattle.vox_planes.specs.Walk.{at}
-use Rattle.vox_planes.proofs.Taken.{AreTaken, row_layered, row_left, row_was, taken_by}
+use Rattle.vox_planes.proofs.TakenBits.{AreTaken, row_layered, row_left, row_was, taken_by}
 use Rattle.vox_planes.proofs.Voxels.{layered_whole}
 use Rattle.vox_planes.proofs.planes.Planes.take_row.Goals as goal
 

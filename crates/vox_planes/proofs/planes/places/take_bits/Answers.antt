@@ -1,6 +1,6 @@
 use Rattle.std.proofs.Common.{◌+◌, ◌*◌, ◌<◌, ◌≤◌, ◌^◌, ◌%◌, refl, arith}
 use Rattle.vox_planes.proofs.Placed.{joined_fits}
-use Rattle.vox_planes.proofs.Taken.{taken_more}
+use Rattle.vox_planes.proofs.TakenBits.{taken_more}
 use Rattle.vox_planes.proofs.planes.places.take_bits.Goals as goal
 
 pub overflow_add-taken : goal.overflow_add-taken

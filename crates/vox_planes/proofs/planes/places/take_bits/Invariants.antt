@@ -1,5 +1,5 @@
 use Rattle.std.proofs.Common.{◌-◌, ◌≤◌}
-use Rattle.vox_planes.proofs.Taken.{AreTaken}
+use Rattle.vox_planes.proofs.TakenBits.{AreTaken}
 use Rattle.vox_planes.proofs.planes.places.take_bits.Given as goal
 
 abbrev pub invariant-loop-done : goal.invariant-loop-done

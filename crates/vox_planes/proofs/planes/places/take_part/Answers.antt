@@ -1,5 +1,5 @@
 use Rattle.std.proofs.Common.{arith}
-use Rattle.vox_planes.proofs.Taken.{part_left, part_was}
+use Rattle.vox_planes.proofs.TakenBits.{part_left, part_was}
 use Rattle.vox_planes.proofs.planes.places.take_part.Goals as goal
 
 pub returns-clause-was : goal.returns-clause-was

@@ -3,7 +3,7 @@ use Rattle.vox_geom.specs.Point.{Point, plus, point}
 use Rattle.vox_geom.specs.Region.{between, just, size}
 use Rattle.nano_spec.specs.Act.{filled, voided}
 use Rattle.energy_sum.proofs.Bounds.{size_far, size_just}
-use Rattle.system_state.proofs.work.work_of.Goals as goal
+use Rattle.system_state.proofs.edited.edited_region.Goals as goal
 
 pub returns-in-Fill : goal.returns-in-Fill
 returns-in-Fill c = record {

@@ -8,8 +8,8 @@ use Rattle.nano_spec.specs.declared.system.Harmonics.{Harmonics}
 use Rattle.nano_spec.specs.declared.system.Harmonics.TheVariants.{Low, High}
 use Rattle.nano_spec.specs.Matrix.{Matrix, is_full}
 use Rattle.plan_tape.specs.Leg.{AreVoidTo, moves, moves_to}
-use Rattle.plan_tape.specs.Progress.{IsHeld}
-use Rattle.layer_planner.specs.Painting.{IsVoidFrom, coord}
+use Rattle.plan_tape.specs.Progress.{IsHeld, IsVoidFrom}
+use Rattle.vox_geom.specs.Point.{coord}
 
 -- ---- where all is void
 

@@ -13,9 +13,10 @@ use Rattle.nano_spec.proofs.Opening.{legal_is}
 use Rattle.step_order.proofs.Lists.{find_none}
 use Rattle.step_order.proofs.Voxels.{in_coordinates}
 use Rattle.plan_tape.specs.Leg.{AreVoidTo, distance, moves_to}
-use Rattle.low_planner.specs.Build.{IsVoidFrom, above}
-use Rattle.low_planner.specs.Sweep.{IsBeside, reach}
+use Rattle.low_planner.specs.Build.{above}
+use Rattle.low_planner.specs.Sweep.{AreBesideInLayer, reach}
 use Rattle.low_planner.proofs.Beside.{beside_gap, full_within}
+use Rattle.plan_tape.specs.Progress.{IsVoidFrom}
 
 first : (a b c : Bool) → IsTrue (a && b && c) → IsTrue a
 first true b c t = refl
@@ -64,7 +65,7 @@ moves_paid a b = omega arith
 pub moves_most : (r : ℕ) (a b : Coord) → r ≤ 400 → IsInSpace r a → IsInSpace r b → moves_to a b ≤ 81
 moves_most r a b l i j = let ax = i.x in let ay = i.y in let az = i.z in let bx = j.x in let by = j.y in let bz = j.z in omega arith
 
-pub one_move : (a b : Coord) → IsBeside a b → moves_to (above a) (above b) ≡ 1
+pub one_move : (a b : Coord) → AreBesideInLayer a b → moves_to (above a) (above b) ≡ 1
 one_move a b h = let g = beside_gap a b h in let l = h.level in omega arith
 
 -- ---- legal models

@@ -12,7 +12,7 @@ use Rattle.nano_spec.specs.Bots.{moved}
 use Rattle.nano_spec.specs.Spelling.{spellings}
 use Rattle.bot_crew.specs.Crew.{bot_at, bot_of, replaced, stands_at}
 use Rattle.plan_tape.specs.Leg.{AreLegs, AreVoidTo, MayMove, Moves, distance, moves_to}
-use Rattle.plan_tape.specs.Progress.{IsReached, Progress, bots_at, bytes, spot, upkeep_of_step}
+use Rattle.plan_tape.specs.Progress.{IsReached, TapeState, bots_at, bytes, spot, upkeep_of_step}
 use Rattle.plan_tape.proofs.Legs.{length-bots_at, spot-bots_at}
 use Rattle.plan_tape.proofs.Steps.{IsRun, legs_bytes, progress_at, spellings-joined, walked_to}
 use Rattle.plan_tape.proofs.Written.{IsCharged, now_of}
@@ -48,11 +48,11 @@ moved_one P (a ∷ b ∷ bots) now c d l e h = absurd (omega arith)
 -- ---- the tape
 
 -- the tape now, of which moves to a coordinate were written
-pub record Comes (old now : Progress) (to : Coord) : Type 0 where
+pub record Comes (old now : TapeState) (to : Coord) : Type 0 where
   pub reached : IsReached now
   pub moves : Moves old now to
 
-bytes_gone : (p q : Progress) (moves : List Command) → q.commands ≡ p.commands ++ moves → bytes q ≡ bytes p + length (spellings moves)
+bytes_gone : (p q : TapeState) (moves : List Command) → q.commands ≡ p.commands ++ moves → bytes q ≡ bytes p + length (spellings moves)
 unfolding bytes
 bytes_gone p q moves e = ap (λ (xs : List Command). length (spellings xs)) e ∙ spellings-joined p.commands moves
 
@@ -69,15 +69,15 @@ placed_at r (b ∷ []) c l i = one
 placed_at r (a ∷ b ∷ bots) c l i = absurd (omega arith)
 
 -- where the only bot is is in space
-spot_placed : (p : Progress) → IsReached p → length p.bots ≡ 1 → IsInSpace p.matrix.resolution (spot p.bots)
+spot_placed : (p : TapeState) → IsReached p → length p.bots ≡ 1 → IsInSpace p.matrix.resolution (spot p.bots)
 spot_placed p r l = by p.bots l r.placed
   where
     by : (bots : List Bot) → length bots ≡ 1 → All (λ (a : Bot). IsInSpace p.matrix.resolution a.pos) bots → IsInSpace p.matrix.resolution (spot bots)
     by [] m h = absurd (omega arith)
     by (b ∷ bots) m h = h 0 b (omega arith)
 
-module _ (inside old : Progress) (e : inside ≡ old) (r : IsReached inside) (to : Coord) (commands moves : List Command) (bots : List Bot) (energy : ℤ) (count : ℕ) where
-  abbrev Result : Progress → Type 0
+module _ (inside old : TapeState) (e : inside ≡ old) (r : IsReached inside) (to : Coord) (commands moves : List Command) (bots : List Bot) (energy : ℤ) (count : ℕ) where
+  abbrev Result : TapeState → Type 0
   Result o = length o.bots ≡ 1 → MayMove o → IsInSpace o.matrix.resolution to → AreVoidTo o.matrix (spot o.bots) to → o.steps + moves_to (spot o.bots) to ≤ 1073741824 → AreLegs (spot o.bots) to moves → commands ≡ inside.commands ++ moves → bots ≡ bots_at inside.bots to → count ≡ moves_to (spot o.bots) to → IsCharged o count (pos (2 * distance (spot o.bots) to)) energy → Comes o (now_of inside commands inside.matrix inside.harmonics bots energy count) to
 
   pub go_makes : Result old

@@ -2,8 +2,8 @@
 ghost use Rattle.std.specs.Prelude.{◌≡◌, MatchOption, IsTrue};
 ghost use Rattle.vox_geom.specs.Space.{IsInSpace};
 ghost use Rattle.nano_spec.specs.Act.{stays_in_space};
-ghost use Rattle.system_state.specs.Effects.{act};
-ghost use Rattle.system_state.specs.Work.{IsIdle, IsWork};
+ghost use Rattle.system_state.specs.Edited.{IsIdle, IsEditedRegion};
+ghost use Rattle.step_groups.specs.Judging.{act};
 
 use crate::moves::target;
 use nano_spec::{Bot, Command};
@@ -11,22 +11,22 @@ use vox_geom::Coord;
 
 /// The region between two corners that a command makes full or void.
 #[derive(Clone, Copy, PartialEq, Eq, Debug)]
-pub struct Work {
+pub struct EditedRegion {
     pub near: Coord,
     pub far: Coord,
     pub full: bool,
 }
 
 /// The region that the command of the bot makes full or void, if it does. Condition: its coordinates are in space.
-pub fn work_of(r: u16, bot: Bot, command: &Command) -> Option<Work>
+pub fn edited_region(r: u16, bot: Bot, command: &Command) -> Option<EditedRegion>
     requires within { IsInSpace r bot.pos }
     requires stays { IsTrue (stays_in_space r (act bot command.now)) }
-    ensures { MatchOption result (IsIdle bot command.now) (IsWork r bot command.now) }
+    ensures { MatchOption result (IsIdle bot command.now) (IsEditedRegion r bot command.now) }
 {
     match command {
         Command::Fill(d) => {
             let at = target(r, bot.pos, d.diff());
-            Some(Work {
+            Some(EditedRegion {
                 near: at,
                 far: at,
                 full: true,
@@ -34,7 +34,7 @@ pub fn work_of(r: u16, bot: Bot, command: &Command) -> Option<Work>
         }
         Command::Void(d) => {
             let at = target(r, bot.pos, d.diff());
-            Some(Work {
+            Some(EditedRegion {
                 near: at,
                 far: at,
                 full: false,
@@ -43,7 +43,7 @@ pub fn work_of(r: u16, bot: Bot, command: &Command) -> Option<Work>
         Command::GFill(d, f) => {
             let near = target(r, bot.pos, d.diff());
             let far = target(r, near, f.diff());
-            Some(Work {
+            Some(EditedRegion {
                 near,
                 far,
                 full: true,
@@ -52,7 +52,7 @@ pub fn work_of(r: u16, bot: Bot, command: &Command) -> Option<Work>
         Command::GVoid(d, f) => {
             let near = target(r, bot.pos, d.diff());
             let far = target(r, near, f.diff());
-            Some(Work {
+            Some(EditedRegion {
                 near,
                 far,
                 full: false,

@@ -10,7 +10,7 @@ use Rattle.nano_spec.specs.State.{State}
 use Rattle.nano_spec.specs.Step.{after}
 use Rattle.vox_planes.specs.Voxel.{IsWhole}
 use Rattle.system_state.specs.Bounds.{IsPayable}
-use Rattle.plan_tape.specs.Progress.{IsBounded, IsHeld, IsReached, Progress, bytes, progress_of, state_of, stepped}
+use Rattle.plan_tape.specs.Progress.{IsBounded, IsHeld, IsReached, TapeState, bytes, progress_of, state_of, tape_stepped}
 use Rattle.plan_tape.specs.Reaches.{steps_on}
 use Rattle.plan_tape.proofs.Steps.{goes_on, spellings-joined}
 
@@ -37,12 +37,12 @@ pub record IsAfter (s : State) (k : List Command) (t : State) : Type 0 where
   pub falls : s.energy <ℤ (t.energy +ℤ pos 3000000000)
 
 -- the tape now, on which the commands of a step of all bots were written
-pub record Takes (old now : Progress) (k : List Command) : Type 0 where
+pub record Takes (old now : TapeState) (k : List Command) : Type 0 where
   pub reached : IsReached now
-  pub value : now ≡ stepped old k
+  pub value : now ≡ tape_stepped old k
 
 -- the commands of a step that breaks no rule lead on
-reached : (p : Progress) (k : List Command) → IsReached p → 1 ≤ length p.bots → length k ≡ length p.bots → broken (state_of p) k (p.steps + 1) ≡ None → IsHeld (stepped p k).harmonics (stepped p k).matrix → p.steps < 1073741824 → IsAfter (state_of p) k (after (state_of p) k) → IsReached (stepped p k)
+reached : (p : TapeState) (k : List Command) → IsReached p → 1 ≤ length p.bots → length k ≡ length p.bots → broken (state_of p) k (p.steps + 1) ≡ None → IsHeld (tape_stepped p k).harmonics (tape_stepped p k).matrix → p.steps < 1073741824 → IsAfter (state_of p) k (after (state_of p) k) → IsReached (tape_stepped p k)
 reached p k r some l b held few a = record {
   whole = a.whole;
   placed = a.within;
@@ -52,20 +52,20 @@ reached p k r some l b held few a = record {
   few = omega arith;
 }
 
-takes : (p : Progress) (k commands : List Command) (t : State) → IsReached p → 1 ≤ length p.bots → length k ≡ length p.bots → broken (state_of p) k (p.steps + 1) ≡ None → IsHeld (stepped p k).harmonics (stepped p k).matrix → p.steps < 1073741824 → commands ≡ p.commands ++ k → IsAfter (state_of p) k t → Takes p (progress_of p.source commands t (p.steps + 1)) k
+takes : (p : TapeState) (k commands : List Command) (t : State) → IsReached p → 1 ≤ length p.bots → length k ≡ length p.bots → broken (state_of p) k (p.steps + 1) ≡ None → IsHeld (tape_stepped p k).harmonics (tape_stepped p k).matrix → p.steps < 1073741824 → commands ≡ p.commands ++ k → IsAfter (state_of p) k t → Takes p (progress_of p.source commands t (p.steps + 1)) k
 takes p k commands t r some l b held few e a =
-    let value : progress_of p.source commands t (p.steps + 1) ≡ stepped p k = (λ i. progress_of p.source (e i) (a.value i) (p.steps + 1)) in
+    let value : progress_of p.source commands t (p.steps + 1) ≡ tape_stepped p k = (λ i. progress_of p.source (e i) (a.value i) (p.steps + 1)) in
     record {
       reached = subst IsReached (sym value) (reached p k r some l b held few (subst (λ (u : State). IsAfter (state_of p) k u) a.value a));
       value = value;
     }
 
 -- the same of the tape's parts
-pub step_takes : (inside old : Progress) → inside ≡ old → IsReached inside → (k commands : List Command) (t : State) → 1 ≤ length old.bots → length k ≡ length old.bots → broken (state_of old) k (old.steps + 1) ≡ None → IsHeld (stepped old k).harmonics (stepped old k).matrix → old.steps < 1073741824 → commands ≡ inside.commands ++ k → IsAfter (state_of inside) k t → Takes old (progress_of inside.source commands t (inside.steps + 1)) k
-step_takes inside old e r k commands t = subst (λ (o : Progress). 1 ≤ length o.bots → length k ≡ length o.bots → broken (state_of o) k (o.steps + 1) ≡ None → IsHeld (stepped o k).harmonics (stepped o k).matrix → o.steps < 1073741824 → commands ≡ inside.commands ++ k → IsAfter (state_of inside) k t → Takes o (progress_of inside.source commands t (inside.steps + 1)) k) e
+pub step_takes : (inside old : TapeState) → inside ≡ old → IsReached inside → (k commands : List Command) (t : State) → 1 ≤ length old.bots → length k ≡ length old.bots → broken (state_of old) k (old.steps + 1) ≡ None → IsHeld (tape_stepped old k).harmonics (tape_stepped old k).matrix → old.steps < 1073741824 → commands ≡ inside.commands ++ k → IsAfter (state_of inside) k t → Takes old (progress_of inside.source commands t (inside.steps + 1)) k
+step_takes inside old e r k commands t = subst (λ (o : TapeState). 1 ≤ length o.bots → length k ≡ length o.bots → broken (state_of o) k (o.steps + 1) ≡ None → IsHeld (tape_stepped o k).harmonics (tape_stepped o k).matrix → o.steps < 1073741824 → commands ≡ inside.commands ++ k → IsAfter (state_of inside) k t → Takes o (progress_of inside.source commands t (inside.steps + 1)) k) e
     (λ some l b held few ec a. takes inside k commands t r some l b held few ec a)
 
 -- how many bytes the commands have then
-pub bytes_stepped : (old now : Progress) (k : List Command) → now ≡ stepped old k → bytes now ≡ bytes old + length (spellings k)
+pub bytes_stepped : (old now : TapeState) (k : List Command) → now ≡ tape_stepped old k → bytes now ≡ bytes old + length (spellings k)
 unfolding bytes
-bytes_stepped old now k e = ap (λ (p : Progress). length (spellings p.commands)) e ∙ spellings-joined old.commands k
+bytes_stepped old now k e = ap (λ (p : TapeState). length (spellings p.commands)) e ∙ spellings-joined old.commands k

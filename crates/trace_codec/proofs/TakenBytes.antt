@@ -10,8 +10,8 @@ use Rattle.nano_spec.proofs.Traces.{one_spelling}
 use Rattle.trace_codec.specs.declared.decoder.Fed.TheVariants as fed
 use Rattle.trace_codec.specs.declared.fault.TraceFault.{TraceFault}
 use Rattle.trace_codec.specs.declared.fault.TraceFault.TheVariants as fault
-use Rattle.trace_codec.specs.Decoder.{DecoderState, fresh, Completes, Answers, Ends, after, HasTaken}
-use Rattle.trace_codec.specs.One.{NoSpelling, IsRefused}
+use Rattle.trace_codec.specs.Decoder.{DecoderState, fresh, Completes, AnswersPiece, EndsTrace, decoder_after, HasTaken}
+use Rattle.trace_codec.specs.One.{NoSpelling, IsNoCommand}
 use Rattle.trace_codec.specs.Whole.{Decodes}
 use Rattle.trace_codec.proofs.Pieces.{refused_more}
 use Rattle.trace_codec.proofs.Unique.{begins_nil, no_part}
@@ -43,7 +43,7 @@ length_is bytes commands rest offset e o =
     omega (arith, length-append (spellings commands) rest)
 
 -- bytes are bad from where commands are followed by what is refused
-pub bad_at : (bytes : List ℕ) (commands : List Command) (rest : List ℕ) (offset : ℕ) → AreCommands commands → bytes ≡ spellings commands ++ rest → offset ≡ length (spellings commands) → IsRefused rest → Decoding bytes (Err (BadAt offset))
+pub bad_at : (bytes : List ℕ) (commands : List Command) (rest : List ℕ) (offset : ℕ) → AreCommands commands → bytes ≡ spellings commands ++ rest → offset ≡ length (spellings commands) → IsNoCommand rest → Decoding bytes (Err (BadAt offset))
 bad_at bytes commands rest offset h e o r = (rest, rest_of bytes commands rest h e r.0, λ n. r.1 (subst (λ (b : List ℕ). BeginsSpelling b) (sym n) begins_nil), length_is bytes commands rest offset e o, r.1)
 
 -- bytes are cut where commands are followed by a part of a spelling
@@ -57,7 +57,7 @@ whole bytes commands rest h e n = (h, e ∙ (ap (λ x. spellings commands ++ x) 
 pub taken_nothing : HasTaken [] [] fresh
 taken_nothing = record { works = refl; are_commands = tt; bytes_are = refl; offset_is = refl; begins = begins_nil }
 
-pub taken_got : (bytes piece : List ℕ) (commands : List Command) (decoder : DecoderState) (c : Command) (used : ℕ) → HasTaken bytes commands decoder → Completes decoder piece c used → HasTaken (bytes ++ take used piece) (commands ++ c ∷ []) (after decoder piece (fed.Got c used))
+pub taken_got : (bytes piece : List ℕ) (commands : List Command) (decoder : DecoderState) (c : Command) (used : ℕ) → HasTaken bytes commands decoder → Completes decoder piece c used → HasTaken (bytes ++ take used piece) (commands ++ c ∷ []) (decoder_after decoder piece (fed.Got c used))
 taken_got bytes piece commands decoder c used h s =
     let o : decoder.offset ≡ length (spellings commands) = h.offset_is in
     let l : length (spellings (commands ++ c ∷ [])) ≡ length (spellings commands ++ spelling c) = ap length (spellings_more commands c) in
@@ -69,7 +69,7 @@ taken_got bytes piece commands decoder c used h s =
       begins = begins_nil;
     }
 
-pub taken_all : (bytes piece : List ℕ) (commands : List Command) (decoder : DecoderState) → HasTaken bytes commands decoder → BeginsSpelling (decoder.held ++ piece) → HasTaken (bytes ++ piece) commands (after decoder piece fed.All)
+pub taken_all : (bytes piece : List ℕ) (commands : List Command) (decoder : DecoderState) → HasTaken bytes commands decoder → BeginsSpelling (decoder.held ++ piece) → HasTaken (bytes ++ piece) commands (decoder_after decoder piece fed.All)
 taken_all bytes piece commands decoder h b = record {
   works = refl;
   are_commands = h.are_commands;
@@ -81,7 +81,7 @@ taken_all bytes piece commands decoder h b = record {
 not_both : (b : Bool) → b ≡ false → b ≡ true → ⊥
 not_both b p q = cc
 
-pub taken_bad : (bytes piece more : List ℕ) (commands : List Command) (decoder : DecoderState) (offset : ℕ) → HasTaken bytes commands decoder → Answers decoder piece (fed.Bad offset) → Decoding ((bytes ++ piece) ++ more) (Err (BadAt offset))
+pub taken_bad : (bytes piece more : List ℕ) (commands : List Command) (decoder : DecoderState) (offset : ℕ) → HasTaken bytes commands decoder → AnswersPiece decoder piece (fed.Bad offset) → Decoding ((bytes ++ piece) ++ more) (Err (BadAt offset))
 taken_bad bytes piece more commands decoder offset h (e, inl f) = absurd (not_both decoder.failed h.works f)
 taken_bad bytes piece more commands decoder offset h (e, inr r) =
     bad_at ((bytes ++ piece) ++ more) commands ((decoder.held ++ piece) ++ more) offset h.are_commands
@@ -93,7 +93,7 @@ pub taken_whole : (bytes : List ℕ) (commands : List Command) (decoder : Decode
 taken_whole bytes commands decoder h n = whole bytes commands decoder.held h.are_commands h.bytes_are n
 
 -- what the decoder answers at the end is how the bytes are decoded
-pub taken_ended : (bytes : List ℕ) (commands : List Command) (decoder : DecoderState) (fault : TraceFault) → HasTaken bytes commands decoder → Ends {A = Unit {0}} decoder (Err fault) → Decodes bytes (Err fault)
+pub taken_ended : (bytes : List ℕ) (commands : List Command) (decoder : DecoderState) (fault : TraceFault) → HasTaken bytes commands decoder → EndsTrace {A = Unit {0}} decoder (Err fault) → Decodes bytes (Err fault)
 taken_ended bytes commands decoder (fault.Cut offset) h e = cut_at bytes commands decoder.held offset h.are_commands h.bytes_are (e.2 ∙ h.offset_is) e.1 h.begins
 taken_ended bytes commands decoder (fault.Bad offset) h e = absurd (not_both decoder.failed h.works e.0)
 taken_ended bytes commands decoder fault.Memory h e = tt

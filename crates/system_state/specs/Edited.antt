@@ -6,10 +6,10 @@ use Rattle.vox_geom.specs.Space.{IsInSpace}
 use Rattle.nano_spec.specs.declared.commands.Command.{Command}
 use Rattle.nano_spec.specs.declared.system.Bot.{Bot}
 use Rattle.nano_spec.specs.Act.{filled, voided}
-use Rattle.system_state.specs.declared.work.Work.{Work}
+use Rattle.system_state.specs.declared.edited.EditedRegion.{EditedRegion}
 
 -- the region
-abbrev pub region_of : Work → Span
+abbrev pub region_of : EditedRegion → Span
 region_of w = between (point w.near) (point w.far)
 
 -- the command fills and voids nothing
@@ -18,7 +18,7 @@ pub record IsIdle (bot : Bot) (command : Command) : Type 0 where
   pub voided : voided (point bot.pos) command ≡ []
 
 -- the command fills the region, or else voids it, and nothing else
-pub record IsWork (r : ℕ) (bot : Bot) (command : Command) (w : Work) : Type 0 where
+pub record IsEditedRegion (r : ℕ) (bot : Bot) (command : Command) (w : EditedRegion) : Type 0 where
   pub near : IsInSpace r w.near
   pub far : IsInSpace r w.far
   pub filled : filled (point bot.pos) command ≡ cond w.full (region_of w ∷ []) []

@@ -5,7 +5,7 @@ use Rattle.std.proofs.Math.Seq.{take-add}
 use Rattle.std.proofs.lemmas.List.{take_all}
 use Rattle.nano_spec.specs.declared.commands.Command.{Command}
 use Rattle.step_machine.specs.Course.{Course}
-use Rattle.trace_codec.specs.Decoder.{Answers, DecoderState, after}
+use Rattle.trace_codec.specs.Decoder.{AnswersPiece, DecoderState, decoder_after}
 use Rattle.trace_codec.specs.declared.decoder.Fed.{Fed}
 use Rattle.trace_codec.specs.declared.decoder.Fed.TheVariants.{Got, All, Bad}
 use Rattle.nanobot_rows.specs.Reading.{HasRun, RunState}
@@ -20,8 +20,8 @@ module _ (got : GotLaw) (all : AllLaw) (bad : BadLaw) (push : PushLaw) (d : Deco
   abbrev old : RunState
   old = record { decoder = d; run = r }
 
-  takes_got : (command : Command) (used : ℕ) (new : Course) (began ended : ℕ) → Answers d piece (Got command used) → Gains r command new began ended
-      → Takes old (take used piece) (record { decoder = after d piece (Got command used); run = new }) began ended
+  takes_got : (command : Command) (used : ℕ) (new : Course) (began ended : ℕ) → AnswersPiece d piece (Got command used) → Gains r command new began ended
+      → Takes old (take used piece) (record { decoder = decoder_after d piece (Got command used); run = new }) began ended
   takes_got command used new began ended answers g = record {
     run = λ source profile before run. got_step source profile before piece old run got command used new answers g.progress;
     offset = (let e = ap length answers.spelling_is in let l = length-append d.held (take used piece) in omega (arith, e, l));
@@ -30,7 +30,7 @@ module _ (got : GotLaw) (all : AllLaw) (bad : BadLaw) (push : PushLaw) (d : Deco
     paid = λ source profile before start same paid. paid_got source profile before piece old start began paid got push command used new ended same answers g.progress g.touches;
   }
 
-  takes_all : (began : ℕ) → Answers d piece All → Takes old piece (record { decoder = after d piece All; run = r }) began began
+  takes_all : (began : ℕ) → AnswersPiece d piece All → Takes old piece (record { decoder = decoder_after d piece All; run = r }) began began
   takes_all began answers = record {
     run = λ source profile before run. all_step source profile before piece old run all answers;
     offset = (let l = length-append d.held piece in omega (arith, l));
@@ -39,7 +39,7 @@ module _ (got : GotLaw) (all : AllLaw) (bad : BadLaw) (push : PushLaw) (d : Deco
     paid = λ source profile before start same paid. paid_all source profile before piece old start began paid all answers;
   }
 
-  takes_bad : (offset began : ℕ) → Answers d piece (Bad offset) → Takes old piece (record { decoder = after d piece (Bad offset); run = r }) began began
+  takes_bad : (offset began : ℕ) → AnswersPiece d piece (Bad offset) → Takes old piece (record { decoder = decoder_after d piece (Bad offset); run = r }) began began
   takes_bad offset began answers = record {
     run = λ source profile before run. bad_step source profile before piece old run bad offset answers;
     offset = omega arith;
@@ -52,33 +52,33 @@ module _ (got : GotLaw) (all : AllLaw) (bad : BadLaw) (push : PushLaw) (d : Deco
   whole : (n : ℕ) → n ≡ length piece → take n piece ≡ piece
   whole n e = take_all n piece (omega (arith, e))
 
-  pub takes : (fed : Fed) (n : ℕ) (new : Course) (began ended : ℕ) → Answers d piece fed → Gets r fed (length piece) n new began ended
-      → Takes old (take n piece) (record { decoder = after d piece fed; run = new }) began ended
+  pub takes : (fed : Fed) (n : ℕ) (new : Course) (began ended : ℕ) → AnswersPiece d piece fed → Gets r fed (length piece) n new began ended
+      → Takes old (take n piece) (record { decoder = decoder_after d piece fed; run = new }) began ended
   takes (Got command used) n new began ended answers (e, g) =
-      subst (λ (k : ℕ). Takes old (take k piece) (record { decoder = after d piece (Got command used); run = new }) began ended) (sym e) (takes_got command used new began ended answers g)
+      subst (λ (k : ℕ). Takes old (take k piece) (record { decoder = decoder_after d piece (Got command used); run = new }) began ended) (sym e) (takes_got command used new began ended answers g)
   takes All n new began ended answers (e, same, still) =
-      subst (λ (b : List ℕ). Takes old b (record { decoder = after d piece All; run = new }) began ended) (sym (whole n e))
-      (subst (λ (x : Course). Takes old piece (record { decoder = after d piece All; run = x }) began ended) (sym same)
-      (subst (λ (t : ℕ). Takes old piece (record { decoder = after d piece All; run = r }) began t) (sym still) (takes_all began answers)))
+      subst (λ (b : List ℕ). Takes old b (record { decoder = decoder_after d piece All; run = new }) began ended) (sym (whole n e))
+      (subst (λ (x : Course). Takes old piece (record { decoder = decoder_after d piece All; run = x }) began ended) (sym same)
+      (subst (λ (t : ℕ). Takes old piece (record { decoder = decoder_after d piece All; run = r }) began t) (sym still) (takes_all began answers)))
   takes (Bad offset) n new began ended answers (e, same, still) =
-      subst (λ (b : List ℕ). Takes old b (record { decoder = after d piece (Bad offset); run = new }) began ended) (sym (whole n e))
-      (subst (λ (x : Course). Takes old piece (record { decoder = after d piece (Bad offset); run = x }) began ended) (sym same)
-      (subst (λ (t : ℕ). Takes old piece (record { decoder = after d piece (Bad offset); run = r }) began t) (sym still) (takes_bad offset began answers)))
+      subst (λ (b : List ℕ). Takes old b (record { decoder = decoder_after d piece (Bad offset); run = new }) began ended) (sym (whole n e))
+      (subst (λ (x : Course). Takes old piece (record { decoder = decoder_after d piece (Bad offset); run = x }) began ended) (sym same)
+      (subst (λ (t : ℕ). Takes old piece (record { decoder = decoder_after d piece (Bad offset); run = r }) began t) (sym still) (takes_bad offset began answers)))
 
 -- the same of a call that may be refused memory, over a run that has these parts
 pub takes_if_ok : (got : GotLaw) (all : AllLaw) (bad : BadLaw) (push : PushLaw) {E : Type 0} (answer : Result ℕ E) (old : RunState) (d next : DecoderState) (r new : Course) (piece : List ℕ) (fed : Fed) (began ended : ℕ)
-    → record { decoder = d; run = r } ≡ old → old.run.spent ≡ false → next ≡ after d piece fed → Answers d piece fed → IfOk answer (λ n. Gets r fed (length piece) n new began ended)
+    → record { decoder = d; run = r } ≡ old → old.run.spent ≡ false → next ≡ decoder_after d piece fed → AnswersPiece d piece fed → IfOk answer (λ n. Gets r fed (length piece) n new began ended)
     → IfOk answer (λ n. Takes old (take n piece) (record { decoder = next; run = new }) began ended)
 takes_if_ok got all bad push answer old d next r new piece fed began ended view stands is_next answers gets =
     subst (λ (x : DecoderState). IfOk answer (λ n. Takes old (take n piece) (record { decoder = x; run = new }) began ended)) (sym is_next)
-    (subst (λ (s : RunState). IfOk answer (λ n. Takes s (take n piece) (record { decoder = after d piece fed; run = new }) began ended)) view
-    (elim answer as (λ a. IfOk a (λ n. Gets r fed (length piece) n new began ended) → IfOk a (λ n. Takes (record { decoder = d; run = r }) (take n piece) (record { decoder = after d piece fed; run = new }) began ended)) [
+    (subst (λ (s : RunState). IfOk answer (λ n. Takes s (take n piece) (record { decoder = decoder_after d piece fed; run = new }) began ended)) view
+    (elim answer as (λ a. IfOk a (λ n. Gets r fed (length piece) n new began ended) → IfOk a (λ n. Takes (record { decoder = d; run = r }) (take n piece) (record { decoder = decoder_after d piece fed; run = new }) began ended)) [
       | Ok n ↦ λ g. takes got all bad push d r piece (ap (λ (s : RunState). s.run.spent) view ∙ stands) fed n new began ended answers g
       | Err e ↦ λ g. tt
     ] gets))
 
 -- how many bytes are taken
-pub some_taken : (d : DecoderState) (r new : Course) (piece : List ℕ) (fed : Fed) (n began ended : ℕ) → 1 ≤ length piece → Answers d piece fed → Gets r fed (length piece) n new began ended → (1 ≤ n) × (n ≤ length piece)
+pub some_taken : (d : DecoderState) (r new : Course) (piece : List ℕ) (fed : Fed) (n began ended : ℕ) → 1 ≤ length piece → AnswersPiece d piece fed → Gets r fed (length piece) n new began ended → (1 ≤ n) × (n ≤ length piece)
 some_taken d r new piece (Got command used) n began ended some answers (e, g) = (omega (arith, e, answers.some), omega (arith, e, answers.within))
 some_taken d r new piece All n began ended some answers (e, same, still) = (omega (arith, e), omega (arith, e))
 some_taken d r new piece (Bad offset) n began ended some answers (e, same, still) = (omega (arith, e), omega (arith, e))
