@@ -1,4 +1,4 @@
--- The ways above the floor, how long they are, and that High asks for no grounding.
+-- The ways above the floor.
 use Rattle.std.proofs.Common.{◌≡◌, ◌⊎◌, inr, ℕ, ◌*◌, ◌≤◌, sym, ◌∙◌, arith, mul-le-mul, false, ◌&&◌}
 use Rattle.std.specs.Prelude.{pos, IsTrue}
 use Rattle.std.proofs.lemmas.Bool.Decides.{nat_tests}
@@ -11,15 +11,13 @@ use Rattle.nano_spec.specs.Matrix.{Matrix, is_full}
 use Rattle.step_order.proofs.Lists.{first, second}
 use Rattle.plan_tape.specs.Leg.{AreVoidTo, moves_to}
 use Rattle.plan_tape.specs.Progress.{IsHeld}
+use Rattle.plan_tape.proofs.ClearWays.{at_either}
 
 same : (a v : ℕ) → IsTrue (is_between (pos a) (pos a) (pos v)) → v ≡ a
 same a v t = grind (arith, nat_tests)
 
 at_least : (a v : ℕ) → IsTrue (is_between (pos a) (pos a) (pos v)) → a ≤ v
 at_least a v t = grind (arith, nat_tests)
-
-one_of : (a b v : ℕ) → IsTrue (is_between (pos a) (pos b) (pos v)) → (a ≤ v) ⊎ (b ≤ v)
-one_of a b v t = grind (arith, nat_tests)
 
 sides : (a b v c d w e f u : ℕ) → IsTrue (is_between (pos a) (pos b) (pos v) && is_between (pos c) (pos d) (pos w) && is_between (pos e) (pos f) (pos u)) → IsTrue (is_between (pos a) (pos b) (pos v)) × IsTrue (is_between (pos c) (pos d) (pos w))
 sides a b v c d w e f u t = let p = first _ _ t in (first _ _ p, second _ _ p)
@@ -28,25 +26,9 @@ sides a b v c d w e f u t = let p = first _ _ t in (first _ _ p, second _ _ p)
 pub ways_are_void : (m : Matrix) (a b : Coord) → ((c : Coord) → a.y ≤ c.y → is_full m c ≡ false) → ((c : Coord) → c.x ≡ b.x → (a.y ≤ c.y) ⊎ (b.y ≤ c.y) → is_full m c ≡ false) → AreVoidTo m a b
 ways_are_void m a b above there = record {
   x = λ c t. above c (at_least a.y c.y (sides a.x b.x c.x a.y a.y c.y a.z a.z c.z t).1);
-  y = λ c t. let s = sides b.x b.x c.x a.y b.y c.y a.z a.z c.z t in there c (same b.x c.x s.0) (one_of a.y b.y c.y s.1);
+  y = λ c t. let s = sides b.x b.x c.x a.y b.y c.y a.z a.z c.z t in there c (same b.x c.x s.0) (at_either a.y b.y c.y s.1);
   z = λ c t. let s = sides b.x b.x c.x b.y b.y c.y a.z b.z c.z t in there c (same b.x c.x s.0) (inr (at_least b.y c.y s.1));
 }
 
-pub moves_are_few : (r : ℕ) (a b : Coord) → r ≤ 400 → IsInSpace r a → IsInSpace r b → moves_to a b ≤ 81
-moves_are_few r a b l i j =
-    let ax = i.x in let ay = i.y in let az = i.z in
-    let bx = j.x in let by' = j.y in let bz = j.z in
-    omega arith
-
-pub no_moves : (a : Coord) → moves_to a a ≡ 0
-no_moves a = omega arith
-
 pub area : (x r : ℕ) → x ≤ r → r ≤ 400 → x * r ≤ 160000
 area x r h l = let k : x ≤ 400 = omega arith in mul-le-mul k l
-
--- under High nothing has to be grounded
-pub held_high : (h : Harmonics) (m : Matrix) → h ≡ High → IsHeld h m
-held_high h m e = λ l. absurd (high_low (sym e ∙ l))
-  where
-    high_low : High ≡ Low → ⊥
-    high_low f = cc

@@ -19,7 +19,8 @@ use Rattle.plan_tape.specs.Leg.{AreVoidTo, Moves, moves_to}
 use Rattle.plan_tape.specs.Progress.{TapeState, Writes, beside, spot, starting}
 use Rattle.floor_planner.specs.Floor.{IsFlat, IsSweptTo, is_passed, swept}
 use Rattle.floor_planner.proofs.Models.{border_is_void, empty_is_void, full_in_space, full_passes, layer_above}
-use Rattle.floor_planner.proofs.ClearWays.{area, moves_are_few, ways_are_void}
+use Rattle.floor_planner.proofs.ClearWays.{area, ways_are_void}
+use Rattle.plan_tape.proofs.ClearWays.{moves_most}
 
 -- ---- which coordinates are passed
 
@@ -97,7 +98,7 @@ place_above r target x z legal e wanted =
 
 -- no way takes the tape past its limit
 pub room_left : (t : TapeState) (target : Matrix) (x z : ℕ) (to : Coord) → IsSweptTo t target x z → x ≤ target.resolution → z ≤ target.resolution → target.resolution ≤ 400 → IsInSpace target.resolution to → t.steps + moves_to (spot t.bots) to + 2 < 1073741824
-room_left t target x z to s h k most i = let few = s.few in omega (arith, area x target.resolution h most, moves_are_few target.resolution (spot t.bots) to most s.placed i)
+room_left t target x z to s h k most i = let few = s.few in omega (arith, area x target.resolution h most, moves_most target.resolution (spot t.bots) to most s.placed i)
 
 -- the ways to above a voxel of the floor
 pub ways_above : (t : TapeState) (target : Matrix) (x z : ℕ) → IsFlat target → IsSweptTo t target x z → AreVoidTo t.matrix (spot t.bots) (coord x 1 z)
@@ -126,7 +127,7 @@ filled_one s t u target k cost x z legal flat most w wanted m f =
       alone = ap length f.bots_are ∙ m.alone;
       placed = subst (IsInSpace target.resolution) (sym at) placed;
       above = λ c h. clear u.matrix target x (z + 1) flat matrix c (subst (λ (q : Coord). q.y ≤ c.y) at h);
-      few = let few = w.few in let one = f.steps in let way = m.steps in omega (arith, moves_are_few target.resolution (spot s.bots) (coord x 1 z) most w.placed placed);
+      few = let few = w.few in let one = f.steps in let way = m.steps in omega (arith, moves_most target.resolution (spot s.bots) (coord x 1 z) most w.placed placed);
     }
 
 -- ---- the beginning and the end

@@ -2,25 +2,10 @@
 ghost use Rattle.std.specs.Prelude.{◌≡◌, ◌+◌, ◌<◌, OnOk};
 ghost use Rattle.nano_spec.specs.Legal.{IsLegal};
 ghost use Rattle.floor_planner.specs.Floor.{IsFlat, IsSweptTo};
-ghost use Rattle.vox_geom.specs.Point.{down as down_of};
 
 use plan_tape::{Tape, is_full};
-use vox_geom::{Coord, Diff, Memory, Near};
+use vox_geom::{Coord, Memory, Near};
 use vox_planes::Planes;
-
-/// The difference to the voxel below.
-fn down() -> Near
-    ensures { result ≡ down_of }
-{
-    let Some(near) = Near::of(Diff {
-        dx: 0,
-        dy: -1,
-        dz: 0,
-    }) else {
-        unreachable!()
-    };
-    near
-}
 
 /// Fills the voxel of the floor at x and z, where the target has it.
 fn fill_voxel(tape: &mut Tape, target: &Planes, x: u16, z: u16) -> Result<(), Memory>
@@ -36,7 +21,7 @@ fn fill_voxel(tape: &mut Tape, target: &Planes, x: u16, z: u16) -> Result<(), Me
         return Ok(());
     }
     tape.go(Coord { x, y: 1, z })?;
-    tape.fill(down())
+    tape.fill(Near::down())
 }
 
 /// Fills the row of x.

@@ -7,7 +7,6 @@ use Rattle.nano_spec.specs.Matrix.{Matrix, is_full}
 use Rattle.plan_tape.specs.Progress.{AreAlike, TapeState, bytes, spot, IsVoidFrom}
 use Rattle.layer_planner.specs.Lowest.{IsLowest}
 use Rattle.layer_planner.specs.Painting.{from_layer}
-use Rattle.layer_planner.proofs.Legality.{alike_is_same, void_at_top}
 use Rattle.vox_planes.specs.Voxel.{IsWhole}
 use Rattle.plan_tape.specs.Leg.{moves, moves_to}
 use Rattle.group_planner.specs.Pair.{IsPair, Spends, front, rear}
@@ -18,6 +17,7 @@ use Rattle.group_planner.proofs.Closing.{down_moves, gather_moves}
 use Rattle.group_planner.proofs.Layers.{model_sum}
 use Rattle.group_planner.proofs.Worked.{spends_on}
 use Rattle.vox_geom.specs.Point.{coord}
+use Rattle.plan_tape.proofs.LegalModels.{alike_is_same, void_at_top}
 
 pub can_clear : (a : TapeState) (s : Matrix) → PairIsOpened a → a.source ≡ s → IsLegal s → CanVoidModel a s
 can_clear a s o e h =

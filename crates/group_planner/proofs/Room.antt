@@ -5,7 +5,7 @@ use Rattle.vox_geom.specs.declared.coordinate.Coord.{Coord}
 use Rattle.nano_spec.specs.Legal.{IsLegal, in_legal_box}
 use Rattle.nano_spec.specs.Matrix.{Matrix, is_full}
 use Rattle.layer_planner.specs.Lowest.{IsLowest}
-use Rattle.layer_planner.proofs.Legality.{legal_box}
+use Rattle.plan_tape.proofs.LegalModels.{legal_box}
 
 -- a legal model with a full voxel has a resolution of 3 at least
 wide : (r : ℕ) (c : Coord) → in_legal_box r c ≡ true → 3 ≤ r

@@ -10,9 +10,10 @@ use Rattle.vox_geom.specs.Space.{IsInSpace, in_space}
 use Rattle.nano_spec.specs.Matrix.{Matrix, is_full}
 use Rattle.step_order.specs.Acting.{with_region}
 use Rattle.step_order.proofs.Voxels.{full_where, in_space_is}
-use Rattle.layer_planner.proofs.Paints.{space, void_out}
+use Rattle.layer_planner.proofs.Paints.{void_out}
 use Rattle.group_planner.specs.Pair.{AreSet, in_part}
 use Rattle.plan_tape.specs.Progress.{IsVoidFrom}
+use Rattle.nano_spec.proofs.Coordinates.{in_space-is}
 
 -- ---- regions along z
 
@@ -61,7 +62,7 @@ pub set_by : (n m : Matrix) (x y a b : ℕ) (full : Bool) → n.resolution ≡ m
 set_by n m x y a b full e hx hy hb hab h = λ c. by c (in_space m.resolution (point c)) refl
   where
     by : (c : Coord) (t : Bool) → in_space m.resolution (point c) ≡ t → is_full n c ≡ cond (in_part x y a (b + 1) c) full (is_full m c)
-    by c true i = h c (space m.resolution c i) ∙ ap (λ t. cond t full (is_full m c)) (part_is x y a b c hab)
+    by c true i = h c (in_space-is m.resolution c i) ∙ ap (λ t. cond t full (is_full m c)) (part_is x y a b c hab)
     by c false o = void_out m.resolution n c e o ∙ sym (ap (λ t. cond t full (is_full m c)) (out_of_part m.resolution x y a b c hx hy hb o) ∙ void_out m.resolution m c refl o)
 
 pub set_region : (m : Matrix) (x y a b : ℕ) (full : Bool) → x < m.resolution → y < m.resolution → b < m.resolution → a ≤ b → AreSet (with_region m (between (point (coord x y a)) (point (coord x y b))) full) m (in_part x y a (b + 1)) full

@@ -6,27 +6,12 @@ ghost use Rattle.plan_tape.specs.Leg.{moves, put};
 ghost use Rattle.group_planner.specs.Pair.{IsPair, Sets, front as front_of, rear as rear_of};
 ghost use Rattle.group_planner.specs.Stamping.{WritesRun, most_work, work_at};
 ghost use Rattle.group_planner.specs.Writing.{AreCalm, CalmStep, ahead, all_below as all_below_of, one_below as one_below_of};
-ghost use Rattle.vox_geom.specs.Point.{down as down_of};
 
 use crate::pair::{front, front_goes, rear, rear_goes, spread};
 use nano_spec::Command;
 use plan_tape::{Axis, Tape};
 use step_order::{bots_act, free_bots_break_no_rule};
 use vox_geom::{Diff, Far, Memory, Near};
-
-/// The difference to the voxel below.
-fn down() -> Near
-    ensures { result ≡ down_of }
-{
-    let Some(near) = Near::of(Diff {
-        dx: 0,
-        dy: -1,
-        dz: 0,
-    }) else {
-        unreachable!()
-    };
-    near
-}
 
 /// What leads along z from one end of a run to the other.
 fn gap(from: u16, to: u16) -> i16
@@ -62,9 +47,9 @@ fn one_below(full: bool) -> Command
     ensures { result ≡ one_below_of full }
 {
     if full {
-        Command::Fill(down())
+        Command::Fill(Near::down())
     } else {
-        Command::Void(down())
+        Command::Void(Near::down())
     }
 }
 
@@ -77,9 +62,9 @@ fn all_below(full: bool, from: u16, to: u16) -> Command
     ensures { result ≡ all_below_of full (pos to -ℤ pos from) }
 {
     if full {
-        Command::GFill(down(), across(from, to))
+        Command::GFill(Near::down(), across(from, to))
     } else {
-        Command::GVoid(down(), across(from, to))
+        Command::GVoid(Near::down(), across(from, to))
     }
 }
 

@@ -3,4 +3,4 @@ pub mod Legality
 pub mod Lowest
 pub mod Paints
 pub mod Sweeps
-pub mod ClearWays
+pub mod Gaps

@@ -11,7 +11,8 @@ use Rattle.vox_planes.specs.Voxel.{with_voxel}
 use Rattle.plan_tape.specs.Leg.{moves_to}
 use Rattle.plan_tape.specs.Progress.{TapeState, spot}
 use Rattle.layer_planner.specs.Painting.{CanPaint, CanSweep, IsPartlyBuilt, Paints, below_layer, from_layer, in_layer, in_row, layer, is_in_line, voxel}
-use Rattle.layer_planner.proofs.ClearWays.{moves_on}
+use Rattle.plan_tape.proofs.ClearWays.{moves_on}
+use Rattle.nano_spec.proofs.Coordinates.{in_space-is}
 
 -- ---- one voxel
 
@@ -39,12 +40,6 @@ voxel-is q c h =
     let z = equal q.z c.z p.2 in
     λ j. record { x = x j; y = y j; z = z j }
 
-below : (r v : ℕ) → in_range r (pos v) ≡ true → v < r
-below r v h = grind (arith, nat_tests)
-
-pub space : (r : ℕ) (q : Coord) → in_space r (point q) ≡ true → IsInSpace r q
-space r q h = let p = three (in_range r (pos q.x)) (in_range r (pos q.y)) (in_range r (pos q.z)) h in record { x = below r q.x p.0; y = below r q.y p.1; z = below r q.z p.2 }
-
 both : {b : Bool} → b ≡ false → b ≡ true → ⊥
 both f g = let h = sym f ∙ g in cc
 
@@ -68,7 +63,7 @@ full_with m c b q i = by (in_space m.resolution (point q)) refl
   where
     by : (s : Bool) → in_space m.resolution (point q) ≡ s → is_full (with_voxel m c b) q ≡ cond (voxel c.x c.y c.z q) b (is_full m q)
     by true s =
-        full_where m.resolution (λ d. cond (same_point (point d) (point c)) b (is_full m d)) q (space m.resolution q s)
+        full_where m.resolution (λ d. cond (same_point (point d) (point c)) b (is_full m d)) q (in_space-is m.resolution q s)
         ∙ ap (λ t. cond t b (is_full m q)) (here_is q c)
     by false s =
         none (in_space m.resolution (point q)) _ s

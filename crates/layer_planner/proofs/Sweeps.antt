@@ -13,7 +13,7 @@ use Rattle.plan_tape.specs.Leg.{Moves, moves_to}
 use Rattle.plan_tape.specs.Progress.{TapeState, Writes, beside, spot}
 use Rattle.layer_planner.specs.Painting.{CanPaint, IsPartlyBuilt, Paints, layer_bytes, voxel}
 use Rattle.layer_planner.proofs.Paints.{painted_set, voxel-is}
-use Rattle.layer_planner.proofs.ClearWays.{no_moves}
+use Rattle.plan_tape.proofs.ClearWays.{no_moves}
 
 -- ---- a voxel that is written from above
 

@@ -5,25 +5,11 @@ ghost use Rattle.nano_spec.specs.Matrix.{is_full as is_full_of};
 ghost use Rattle.plan_tape.specs.Progress.{spot, IsVoidFrom, top};
 ghost use Rattle.layer_planner.specs.Painting.{CanPaint, CanSweep, Paints, below_layer, from_layer, layer, layer_bytes, is_in_line, row_bytes, sweep_steps_to, voxel};
 ghost use Rattle.layer_planner.specs.Phases.{end};
-ghost use Rattle.vox_geom.specs.Point.{coord, down as down_of};
+ghost use Rattle.vox_geom.specs.Point.{coord};
 
 use plan_tape::{Tape, is_full};
-use vox_geom::{Coord, Diff, Memory, Near};
+use vox_geom::{Coord, Memory, Near};
 use vox_planes::Planes;
-
-/// The difference to the voxel below.
-fn down() -> Near
-    ensures { result ≡ down_of }
-{
-    let Some(near) = Near::of(Diff {
-        dx: 0,
-        dy: -1,
-        dz: 0,
-    }) else {
-        unreachable!()
-    };
-    near
-}
 
 /// Makes one voxel that of the goal, where it is not so yet.
 fn paint_voxel(tape: &mut Tape, goal: &Planes, x: u16, y: u16, z: u16) -> Result<(), Memory>
@@ -40,9 +26,9 @@ fn paint_voxel(tape: &mut Tape, goal: &Planes, x: u16, y: u16, z: u16) -> Result
     }
     tape.go(Coord { x, y: y + 1, z })?;
     if is_wanted {
-        tape.fill(down())
+        tape.fill(Near::down())
     } else {
-        tape.void(down())
+        tape.void(Near::down())
     }
 }
 

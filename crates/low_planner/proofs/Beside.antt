@@ -11,26 +11,7 @@ use Rattle.nano_spec.specs.Matrix.{Matrix, is_full}
 use Rattle.nano_spec.proofs.Coordinates.{in_space-is}
 use Rattle.nano_spec.proofs.Grounding.{left}
 use Rattle.low_planner.specs.Sweep.{AreBesideInLayer}
-
-gap : (a b : ℕ) → unsigned_abs (pos a -ℤ pos b) ≡ (a - b) + (b - a)
-gap a b = omega (arith, ints)
-
-is_one : (n : ℕ) → IsTrue (n == 1) → n ≡ 1
-is_one n h = grind (arith, nat_tests)
-
-one_is : (n : ℕ) → n ≡ 1 → IsTrue (n == 1)
-one_is n h = rw h refl
-
-gaps : (a b : Coord) → IsTrue (are_adjacent a b) → ((a.x - b.x) + (b.x - a.x)) + ((a.y - b.y) + (b.y - a.y)) + ((a.z - b.z) + (b.z - a.z)) ≡ 1
-gaps a b h =
-    sym (λ i. gap a.x b.x i + gap a.y b.y i + gap a.z b.z i)
-    ∙ is_one (unsigned_abs (pos a.x -ℤ pos b.x) + unsigned_abs (pos a.y -ℤ pos b.y) + unsigned_abs (pos a.z -ℤ pos b.z)) h
-
--- coordinates that lie one apart on one axis are adjacent
-pub adjacent_by : (a b : Coord) → ((a.x - b.x) + (b.x - a.x)) + ((a.y - b.y) + (b.y - a.y)) + ((a.z - b.z) + (b.z - a.z)) ≡ 1 → IsTrue (are_adjacent a b)
-adjacent_by a b e =
-    one_is (unsigned_abs (pos a.x -ℤ pos b.x) + unsigned_abs (pos a.y -ℤ pos b.y) + unsigned_abs (pos a.z -ℤ pos b.z))
-    ((λ i. gap a.x b.x i + gap a.y b.y i + gap a.z b.z i) ∙ e)
+use Rattle.vox_geom.proofs.Adjacent.{adjacent_by, gaps}
 
 -- a voxel and the one right above it are adjacent
 pub adjacent_below : (c b : Coord) → b.x ≡ c.x → b.z ≡ c.z → c.y ≡ b.y + 1 → IsTrue (are_adjacent c b)
@@ -46,10 +27,6 @@ beside-sym a b h = let g = gaps a b h.adjacent in let l = h.level in beside_by b
 -- how far apart such coordinates are
 pub beside_gap : (a b : Coord) → AreBesideInLayer a b → ((a.x - b.x) + (b.x - a.x)) + ((a.z - b.z) + (b.z - a.z)) ≡ 1
 beside_gap a b h = let g = gaps a b h.adjacent in let l = h.level in omega arith
-
--- a full voxel is in space
-pub full_within : (m : Matrix) (c : Coord) → IsTrue (is_full m c) → IsInSpace m.resolution c
-full_within m c h = in_space-is m.resolution c (left (in_space m.resolution (point c)) _ h)
 
 same : (a b : Coord) → a.x ≡ b.x → a.y ≡ b.y → a.z ≡ b.z → a ≡ b
 same a b x y z = λ i. record { x = x i; y = y i; z = z i }

@@ -20,12 +20,14 @@ use Rattle.low_planner.specs.Build.{CanFill, CanGoAbove, IsBuilt, IsCarried, IsF
 use Rattle.low_planner.specs.Commands.{IsEmpty, IsPlain, full_count}
 use Rattle.low_planner.specs.Supported.{FirstUnsupported}
 use Rattle.low_planner.specs.Sweep.{BeginsPart, EndsSweep, TurnsBack, GoesOn, IsSweep, IsTrail, IsVisited, LosesVoxel, reach}
-use Rattle.low_planner.proofs.Beside.{adjacent_below, beside-sym, full_within}
+use Rattle.low_planner.proofs.Beside.{adjacent_below, beside-sym}
 use Rattle.low_planner.proofs.Counts.{one_less}
 use Rattle.low_planner.proofs.Grounds.{empty_is_void, is_supported, set_here, set_other}
 use Rattle.low_planner.proofs.Sweeps.{contrary, in_none, none_left, same_or_not, still}
-use Rattle.low_planner.proofs.ClearWays.{above_in_space, moves_most, moves_paid, one_move, reach_most}
 use Rattle.vox_geom.specs.Point.{below}
+use Rattle.low_planner.proofs.Reach.{above_in_space, moves_paid, one_move, reach_most}
+use Rattle.plan_tape.proofs.ClearWays.{moves_most}
+use Rattle.plan_tape.proofs.LegalModels.{full_within}
 
 -- ---- how many voxels there are at most
 

@@ -14,7 +14,7 @@ use Rattle.low_planner.specs.declared.sweep.Visit.{Visit}
 use Rattle.low_planner.specs.declared.sweep.Visit.TheVariants.{First, Onward, Back}
 use Rattle.low_planner.specs.Commands.{full_count}
 use Rattle.low_planner.specs.Sweep.{LosesVoxel, Visits, sweep_weight}
-use Rattle.low_planner.proofs.Beside.{full_within}
+use Rattle.plan_tape.proofs.LegalModels.{full_within}
 
 abbrev tally : Bool → ℕ
 tally b = cond b 1 0

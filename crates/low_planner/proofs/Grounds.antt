@@ -15,9 +15,9 @@ use Rattle.step_order.proofs.Voxels.{full_where, in_coordinates}
 use Rattle.vox_planes.specs.Voxel.{with_voxel}
 use Rattle.low_planner.specs.Build.{IsCarried}
 use Rattle.low_planner.specs.Supported.{FirstUnsupported, IsSupported}
-use Rattle.low_planner.proofs.Beside.{full_within}
 use Rattle.low_planner.proofs.Paths.{by_another, on_floor, self_same}
 use Rattle.low_planner.proofs.Sweeps.{same_or_not}
+use Rattle.plan_tape.proofs.LegalModels.{full_within}
 
 -- ---- what holds of each
 

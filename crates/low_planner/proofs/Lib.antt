@@ -6,5 +6,5 @@ pub mod Paths
 pub mod Rows
 pub mod Sweeps
 pub mod Trails
-pub mod ClearWays
+pub mod Reach
 pub mod Works

@@ -16,7 +16,7 @@ use Rattle.low_planner.specs.Supported.{rests}
 use Rattle.plan_tape.specs.Leg.{distance}
 use Rattle.low_planner.specs.declared.sweep.Sweep.{Sweep}
 use Rattle.low_planner.specs.Sweep.{AreAllSwept, AreSwept, IsNextFull, IsNextRow, IsPartStart, IsStartInRow, IsSweptRow, IsVoidRow, IsWithinReach}
-use Rattle.low_planner.proofs.Beside.{full_within}
+use Rattle.plan_tape.proofs.LegalModels.{full_within}
 
 -- ---- boxes
 

@@ -8,26 +8,11 @@ ghost use Rattle.plan_tape.specs.Progress.{spot};
 ghost use Rattle.low_planner.specs.Build.{CanFill, CanGoAbove, IsBuilt, IsFinished, IsWorking, Works, above};
 ghost use Rattle.low_planner.specs.Supported.{FirstUnsupported};
 ghost use Rattle.low_planner.specs.Sweep.{IsSweep};
-ghost use Rattle.vox_geom.specs.Point.{down as down_of};
 
 use crate::sweep::{Sweep, Visit};
 use plan_tape::Tape;
-use vox_geom::{Coord, Diff, Memory, Near};
+use vox_geom::{Coord, Memory, Near};
 use vox_planes::Planes;
-
-/// The difference to the voxel below.
-fn down() -> Near
-    ensures { result ≡ down_of }
-{
-    let Some(near) = Near::of(Diff {
-        dx: 0,
-        dy: -1,
-        dz: 0,
-    }) else {
-        unreachable!()
-    };
-    near
-}
 
 /// Goes to a coordinate. The three ways are void.
 pub fn go(tape: &mut Tape, to: Coord) -> Result<(), Memory>
@@ -57,7 +42,7 @@ fn fill(tape: &mut Tape, c: Coord) -> Result<(), Memory>
 {
     let _ = tape.harmonics();
     go_above(tape, c)?;
-    tape.fill(down())
+    tape.fill(Near::down())
 }
 
 /// Fills what the sweep visits.

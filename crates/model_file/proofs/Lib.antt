@@ -1,4 +1,3 @@
-pub mod Beside
 pub mod Floods
 pub mod Spreads
 pub mod Boxes

@@ -22,7 +22,7 @@ use Rattle.nano_spec.proofs.Grounding.{left, right, ungrounded_by}
 use Rattle.nano_spec.proofs.Island.{same_coordinate}
 use Rattle.model_file.specs.declared.flood.Flood.{Flood}
 use Rattle.model_file.specs.declared.flood.Stretch.{Stretch}
-use Rattle.model_file.proofs.Beside.{adjacent-sym}
+use Rattle.vox_geom.proofs.Adjacent.{adjacent-sym}
 use Rattle.model_file.proofs.Stretches.{is_one, moved, near_moved, one_of}
 use Rattle.model_file.proofs.Floods.{fewer_in_row, full_within, row_asked, row_taken, row_was, has_cases, has_last, has_more, has_same, self_same, takes_then, takes_wider}
 use Rattle.model_file.specs.Flood.{HasFound, IsAmong, IsBeside, IsFlood, IsStart, IsTaken, TakesOut, full_of, weight}

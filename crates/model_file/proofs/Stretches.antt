@@ -13,7 +13,7 @@ use Rattle.vox_geom.specs.Space.{IsInSpace}
 use Rattle.nano_spec.specs.Model.{bit}
 use Rattle.model_file.specs.declared.flood.Stretch.{Stretch}
 use Rattle.model_file.specs.Flood.{IsAmong, IsBeside, IsStart}
-use Rattle.model_file.proofs.Beside.{Side, adjacent_by, side_of, right, above, ahead, left, below, behind}
+use Rattle.vox_geom.proofs.Adjacent.{Side, adjacent_by, side_of, right, above, ahead, left, below, behind}
 
 -- ---- bits of moved words
 

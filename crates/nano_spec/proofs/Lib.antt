@@ -28,3 +28,6 @@ pub mod Whole
 pub mod WorkDone
 pub mod Works
 pub mod Writing
+pub mod Lengths
+pub mod EmptyModel
+pub mod Decimals

@@ -1,6 +1,7 @@
 //! The parts of the system's state, and its profiles.
 ghost use Rattle.std.specs.Prelude.{◌≡◌};
 ghost use Rattle.nano_spec.specs.Profile.{full_profile, is_allowed, light_profile};
+ghost use Rattle.nano_spec.specs.Step.{flipped};
 
 use crate::commands::Command;
 use vox_geom::Coord;
@@ -10,6 +11,18 @@ use vox_geom::Coord;
 pub enum Harmonics {
     Low,
     High,
+}
+
+impl Harmonics {
+    /// The other harmonics, as after a Flip.
+    pub fn flipped(self) -> Harmonics
+        ensures { result ≡ flipped self }
+    {
+        match self {
+            Harmonics::Low => Harmonics::High,
+            Harmonics::High => Harmonics::Low,
+        }
+    }
 }
 
 /// An active bot, with a bid from 1 to 40. Bit k of `seeds` says that k is a seed: the bid of a bot that it can make.

@@ -32,6 +32,7 @@ use Rattle.void_planner.specs.Phases.{most_void_steps}
 use Rattle.void_planner.specs.Tiles.{tiles_of}
 use Rattle.void_planner.proofs.Counts.{few_at_most}
 use Rattle.nanobot_rows.specs.Answer.{run_limit}
+use Rattle.nano_spec.proofs.Lengths.{spelling_short}
 
 -- a step that is accepted has a command for each bot
 enough : (s t : State) (step : List Command) (k : ℕ) → Next s step k (Goes t) → length s.bots ≤ length step
@@ -86,25 +87,11 @@ module _ (source target : Matrix) (profile : Profile) (commands : List Command) 
 
 -- ---- bytes
 
-four : (c : Command) → length (spelling c) ≤ 4
-four Halt = omega arith
-four Wait = omega arith
-four Flip = omega arith
-four (SMove d) = omega arith
-four (LMove d e) = omega arith
-four (FusionP d) = omega arith
-four (FusionS d) = omega arith
-four (Fission d m) = omega arith
-four (Fill d) = omega arith
-four (Void d) = omega arith
-four (GFill d f) = omega arith
-four (GVoid d f) = omega arith
-
 pub four_each : (commands : List Command) → length (spellings commands) ≤ 4 * length commands
 four_each [] = omega arith
 four_each (c ∷ more) =
     let sum : length (spellings (c ∷ more)) ≡ length (spelling c) + length (spellings more) = length-append (spelling c) (spellings more) in
-    let one = four c in
+    let one = spelling_short c in
     let rest = four_each more in
     omega (arith, sum, one, rest)
 

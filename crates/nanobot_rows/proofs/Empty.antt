@@ -7,26 +7,7 @@ use Rattle.nano_spec.specs.First.{FirstFailing}
 use Rattle.nano_spec.specs.Grounded.{FirstUngrounded, Grounded}
 use Rattle.nano_spec.specs.Legal.{Border, Floating, IsLegal, first_outside, in_legal_box}
 use Rattle.nano_spec.specs.Matrix.{Matrix, all_of, empty, is_full}
-
-none_there : (xs : List Coord) (k : ℕ) → get_or (map (λ _. false) xs) k false ≡ false
-none_there [] k = refl
-none_there (x ∷ xs) zero = refl
-none_there (x ∷ xs) (suc k) = none_there xs k
-
-not_full : (r : ℕ) (c : Coord) → is_full (empty r) c ≡ true → ⊥
-not_full r c e = by _ _ (none_there (coordinates r) (place r c)) e
-  where
-    by : (a b : Bool) → b ≡ false → (a && b) ≡ true → ⊥
-    by true true f g = cc
-    by true false f g = cc
-    by false b f g = cc
-
-all_hold : (P : Coord → Type 0) (xs : List Coord) → ((c : Coord) → P c) → FirstFailing P xs None
-all_hold P [] h = tt
-all_hold P (x ∷ xs) h = (h x, all_hold P xs h)
-
-empty_is_grounded : (r : ℕ) → FirstUngrounded (empty r) None
-empty_is_grounded r = all_hold (λ c. IsTrue (is_full (empty r) c) → Grounded (empty r) c) (coordinates r) (λ c e. absurd (not_full r c e))
+use Rattle.nano_spec.proofs.EmptyModel.{empty_is_grounded, not_full}
 
 none_find : (p : Coord → Bool) (xs : List Coord) → ((c : Coord) → p c ≡ false) → find p xs ≡ None
 none_find p [] h = refl
@@ -40,7 +21,7 @@ none_outside r = none_find (λ c. is_full (empty r) c && not (in_legal_box r c))
     by false b h = refl
 
 empty_is_legal : (r : ℕ) → IsLegal (empty r)
-empty_is_legal r = subst (λ (o : Option Coord). MatchOption o ((at : Option Coord) × FirstUngrounded (empty r) at × (None ≡ option_map Floating at)) (λ c. None ≡ Some (Border c))) (sym (none_outside r)) (None, empty_is_grounded r, refl)
+empty_is_legal r = subst (λ (o : Option Coord). MatchOption o ((at : Option Coord) × FirstUngrounded (empty r) at × (None ≡ option_map Floating at)) (λ c. None ≡ Some (Border c))) (sym (none_outside r)) (None, empty_is_grounded (empty r) r refl, refl)
 
 pub legal_where_empty : (m : Matrix) (r : ℕ) → m ≡ empty r → IsLegal m
 legal_where_empty m r e = subst IsLegal (sym e) (empty_is_legal r)

@@ -26,6 +26,7 @@ use Rattle.nanobot_rows.specs.Answer.{dis_limit, script_limit, text_limit}
 use Rattle.nanobot_rows.specs.Reading.{IsScriptOf, IsTextOf, IsTraceOf, Lacks, Reads, RefusesDecoding, RefusesLines, RefusesReading, RefusesScript, RefusesText, RefusesTrace, of_text, of_trace}
 use Rattle.nanobot_rows.specs.Report.{faulty_text, no_trace}
 use Rattle.nanobot_rows.proofs.Told.{told_weaker}
+use Rattle.nano_spec.proofs.Lengths.{spelling_some}
 
 longer : (limit size : ℕ) → limit < size → nat_lt limit size ≡ true
 longer limit size h = grind (arith, nat_tests)
@@ -118,25 +119,11 @@ module _ (told : Option Files) (name v : List ℕ) (most : ℕ) (one_more : most
 
 -- ---- how many commands there are
 
-some_bytes : (command : Command) → 1 ≤ length (spelling command)
-some_bytes Halt = omega arith
-some_bytes Wait = omega arith
-some_bytes Flip = omega arith
-some_bytes (SMove d) = omega arith
-some_bytes (LMove d e) = omega arith
-some_bytes (FusionP d) = omega arith
-some_bytes (FusionS d) = omega arith
-some_bytes (Fission d m) = omega arith
-some_bytes (Fill d) = omega arith
-some_bytes (Void d) = omega arith
-some_bytes (GFill d f) = omega arith
-some_bytes (GVoid d f) = omega arith
-
 no_more : (commands : List Command) → length commands ≤ length (spellings commands)
 no_more [] = omega arith
 no_more (c ∷ more) =
     let sum : length (spellings (c ∷ more)) ≡ length (spelling c) + length (spellings more) = length-append (spelling c) (spellings more) in
-    let one = some_bytes c in
+    let one = spelling_some c in
     let rest = no_more more in
     omega (arith, sum, one, rest)
 

@@ -23,6 +23,7 @@ use Rattle.nanobot_rows.specs.Reading.{AreBoth, AreModels, IsModelOf, IsSide, Ru
 use Rattle.nanobot_rows.specs.Touching.{AreInFront, BeginWith, HasGiven, HasPaid, IsRunWithin, IsWithinFile}
 use Rattle.nanobot_rows.proofs.Running.{AllLaw, GotLaw}
 use Rattle.nanobot_rows.proofs.Tracing.{from_told, piece_has}
+use Rattle.nano_spec.proofs.Lengths.{spelling_some}
 
 -- ---- the laws of the machine's touches
 
@@ -89,20 +90,6 @@ module _ (source : Matrix) (profile : Profile) (bytes piece : List ℕ) (s : Run
 
 -- ---- the commands in front of the bytes
 
-some_bytes : (command : Command) → 1 ≤ length (spelling command)
-some_bytes Halt = omega arith
-some_bytes Wait = omega arith
-some_bytes Flip = omega arith
-some_bytes (SMove d) = omega arith
-some_bytes (LMove d e) = omega arith
-some_bytes (FusionP d) = omega arith
-some_bytes (FusionS d) = omega arith
-some_bytes (Fission d m) = omega arith
-some_bytes (Fill d) = omega arith
-some_bytes (Void d) = omega arith
-some_bytes (GFill d f) = omega arith
-some_bytes (GVoid d f) = omega arith
-
 -- commands that the bytes begin with begin those of the longest front
 goes_on : (given commands : List Command) (tail rest : List ℕ) → AreCommands given → AreCommands commands → spellings commands ++ rest ≡ spellings given ++ tail → length rest ≤ length tail → (more : List Command) × (commands ≡ given ++ more)
 goes_on [] commands tail rest g h e l = (commands, refl)
@@ -110,7 +97,7 @@ goes_on (c ∷ given) [] tail rest g h e l =
     let k : length rest ≡ length ((spelling c ++ spellings given) ++ tail) = ap length e in
     let a = length-append (spelling c ++ spellings given) tail in
     let b = length-append (spelling c) (spellings given) in
-    let n = some_bytes c in
+    let n = spelling_some c in
     absurd (omega (arith, k, a, b, n, l))
 goes_on (c ∷ given) (d ∷ commands) tail rest g h e l =
     let o = one_spelling d c (spellings commands ++ rest) (spellings given ++ tail) h.0 g.0 (sym (append_assoc (spelling d) (spellings commands) rest) ∙ (e ∙ append_assoc (spelling c) (spellings given) tail)) in

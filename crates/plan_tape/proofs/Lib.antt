@@ -9,3 +9,5 @@ pub mod AfterSteps
 pub mod Voids
 pub mod Works
 pub mod Many
+pub mod ClearWays
+pub mod LegalModels

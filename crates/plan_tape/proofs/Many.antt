@@ -105,14 +105,14 @@ record IsMade (n : ℕ) (s : State) : Type 0 where
   ready : IsReady s
   numbered : AreNumbered n s.bots
 
-same_state : (s t : State) → Goes s ≡ Goes t → s ≡ t
+pub same_state : (s t : State) → Goes s ≡ Goes t → s ≡ t
 same_state s t e = ap (λ (o : Outcome). state_in s o) e
   where
     state_in : State → Outcome → State
     state_in u (Goes v) = v
     state_in u (Breaks b) = u
 
-settled_is : (t s : State) (step : ℕ) → Settles s step (Goes t) → t ≡ s
+pub settled_is : (t s : State) (step : ℕ) → Settles s step (Goes t) → t ≡ s
 settled_is t s step = by (is_high s.harmonics)
   where
     at_last : (at : Option Coord) → Goes t ≡ settled s step at → t ≡ s

@@ -97,16 +97,6 @@ fn write_all(commands: &mut Vec<Command>, more: &[Command]) -> Result<(), Memory
     }
 }
 
-/// The other harmonics.
-fn other(harmonics: Harmonics) -> Harmonics
-    ensures { result ≡ flipped harmonics }
-{
-    match harmonics {
-        Harmonics::Low => Harmonics::High,
-        Harmonics::High => Harmonics::Low,
-    }
-}
-
 impl Tape {
     /// The tape before the first command, with the profile of the contest. The source is grounded.
     pub fn start(alloc: Global, source: Planes) -> Result<Tape, Memory>
@@ -339,7 +329,7 @@ impl Tape {
         let energy = self.energy_after(1, 0);
         write(&mut self.commands, Command::Flip)?;
         self.system.set_energy(energy);
-        self.system.set_harmonics(other(self.system.harmonics()));
+        self.system.set_harmonics(self.system.harmonics().flipped());
         self.steps += 1;
         Ok(())
     }

@@ -22,6 +22,7 @@ use Rattle.nano_spec.specs.Work.{Levels, LevelsOf, Work, WorkFrom, WorkOfActs, W
 use Rattle.nano_spec.proofs.Unique.{Level-unique}
 use Rattle.step_machine.specs.Payment.{IsWithinWork}
 use Rattle.step_machine.proofs.Reaching.{first_ungrounded, levels_of}
+use Rattle.nano_spec.proofs.Works.{judged_same}
 
 -- ---- the work of a step
 
@@ -97,27 +98,6 @@ work_from (suc most) s commands steps l = by_bots s commands steps s.bots refl (
 
 pub run_work : (source : Matrix) (commands : List Command) (profile : Profile) → (n : ℕ) × Work source commands profile n
 run_work source commands profile = work_from (length commands) (opening source profile) commands 0 (omega arith)
-
--- ---- a step has one work
-
-levels_same : (m : Matrix) (cs : List Coord) (a b : List (Option ℕ)) → LevelsOf m cs a → LevelsOf m cs b → a ≡ b
-levels_same m [] [] [] h k = refl
-levels_same m [] [] (y ∷ b) h k = absurd k
-levels_same m [] (x ∷ a) b h k = absurd h
-levels_same m (c ∷ cs) [] b h k = absurd h
-levels_same m (c ∷ cs) (x ∷ a) [] h k = absurd k
-levels_same m (c ∷ cs) (x ∷ a) (y ∷ b) h k = λ i. Level-unique m c x y h.0 k.0 i ∷ levels_same m cs a b h.1 k.1 i
-
-acts_same : (m : Matrix) (all : List Act) (n k : ℕ) → WorkOfActs m all n → WorkOfActs m all k → n ≡ k
-acts_same m all n k (l, e) (o, f) =
-    let before : l.before ≡ o.before = levels_same m (all_of m) l.before o.before l.before_are o.before_are in
-    let between : l.between ≡ o.between = levels_same (without_voided m all) (all_of (without_voided m all)) l.between o.between l.between_are o.between_are in
-    let afterwards : l.afterwards ≡ o.afterwards = levels_same (matrix_after m all) (all_of (matrix_after m all)) l.afterwards o.afterwards l.afterwards_are o.afterwards_are in
-    e ∙ ((λ i. volatile_total m all + changed_count m (matrix_after m all) + differing (before i) (between i) + differing (between i) (afterwards i)) ∙ sym f)
-
-judged_same : (s : State) (all : List Act) (o : Option Broken) (n k : ℕ) → WorkOfJudged s all o n → WorkOfJudged s all o k → n ≡ k
-judged_same s all None n k h g = acts_same s.matrix all n k h g
-judged_same s all (Some b) n k h g = h ∙ sym g
 
 -- ---- touches within the work of a step
 

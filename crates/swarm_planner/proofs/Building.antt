@@ -10,7 +10,8 @@ use Rattle.plan_tape.specs.Progress.{TapeState, spot, IsVoidFrom}
 use Rattle.swarm_planner.specs.Building.{Builds, CanFillLayer, Fills, IsRaised, are_wanted, cell, in_line, in_lines, is_below, is_column, is_under, is_wanted, line, line_steps, in_first_lines}
 use Rattle.swarm_planner.specs.Crew.{MayLead, RowGoes, places}
 use Rattle.swarm_planner.specs.Strips.{count, held, last, next, bot_row, strip_row, width}
-use Rattle.swarm_planner.proofs.Filling.{is_below-is, space}
+use Rattle.swarm_planner.proofs.Filling.{is_below-is}
+use Rattle.nano_spec.proofs.Coordinates.{in_space-is}
 
 -- ---- which voxels are below a row
 
@@ -203,9 +204,6 @@ cell_built a b c goal x y z k g f =
 inside : (a b : Bool) → (a && b) ≡ true → a ≡ true
 inside true b h = refl
 inside false b h = cc
-
-pub full_inside : (m : Matrix) (c : Coord) → is_full m c ≡ true → IsInSpace m.resolution c
-full_inside m c h = space m.resolution c (inside (in_space m.resolution (point c)) _ h)
 
 joined_front : (a b c : Bool) → ((a && c) || (b && c)) ≡ ((a || b) && c)
 joined_front true true true = refl

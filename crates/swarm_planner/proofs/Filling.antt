@@ -27,6 +27,7 @@ use Rattle.swarm_planner.specs.Building.{Fills, IsRaised, fill, fills, is_below,
 use Rattle.swarm_planner.specs.Crew.{AreLed, InRow, IsSwarm, places}
 use Rattle.swarm_planner.proofs.Rows.{led_row}
 use Rattle.swarm_planner.proofs.Fences.{AreFenced, IsFenced, IsInColumns, untangled}
+use Rattle.nano_spec.proofs.Coordinates.{in_space-is}
 
 -- ---- one bot
 
@@ -186,15 +187,12 @@ outside n r c e o = no (in_space n.resolution (point c)) _ (ap (λ k. in_space k
 below_number : (r v : ℕ) → in_range r (pos v) ≡ true → v < r
 below_number r v h = grind (arith, nat_tests)
 
-pub space : (r : ℕ) (q : Coord) → in_space r (point q) ≡ true → IsInSpace r q
-space r q h = let p = three (in_range r (pos q.x)) (in_range r (pos q.y)) (in_range r (pos q.z)) h in record { x = below_number r q.x p.0; y = below_number r q.y p.1; z = below_number r q.z p.2 }
-
 pub raised_by : (m goal : Matrix) (bots : List Bot) (low : ℕ) → goal.resolution ≡ m.resolution → AreLed m.resolution 1 Z low (places bots) (places bots) → IsRaised (with_fills m (acts bots (fills m goal bots))) m goal (is_under (places bots))
 raised_by m goal bots low e k = λ c. by c (in_space m.resolution (point c)) refl
   where
     by : (c : Coord) (t : Bool) → in_space m.resolution (point c) ≡ t → is_full (with_fills m (acts bots (fills m goal bots))) c ≡ (is_full m c || (is_under (places bots) c && is_full goal c))
     by c true i =
-        full_where m.resolution (λ d. is_filled (acts bots (fills m goal bots)) d || is_full m d) c (space m.resolution c i)
+        full_where m.resolution (λ d. is_filled (acts bots (fills m goal bots)) d || is_full m d) c (in_space-is m.resolution c i)
         ∙ ((λ j. all_filled m goal c m.resolution low bots k j || is_full m c)
         ∙ together (is_under (places bots) c) (is_full goal c) (is_full m c))
     by c false o =

@@ -1,4 +1,4 @@
--- Where a legal model is void, and when two models are the same.
+-- How far a legal model reaches, its way home, and when two models differ.
 use Rattle.std.proofs.Common.{◌≡◌, ℕ, ◌+◌, ◌<◌, ◌≤◌, ◌⊎◌, inl, inr, nat_le, nat_lt, refl, sym, ◌∙◌, ap, subst, arith, List, [], ◌∷◌, Bool, true, false, ◌&&◌, ◌||◌, not}
 use Rattle.std.specs.Prelude.{IsTrue, None, find, pos}
 use Rattle.std.proofs.lemmas.Bool.Decides.{nat_tests}
@@ -16,22 +16,11 @@ use Rattle.step_order.proofs.Lists.{find_none}
 use Rattle.step_order.proofs.Voxels.{as_it_is, full_where, in_coordinates, matrix_same}
 use Rattle.vox_planes.specs.Voxel.{IsWhole}
 use Rattle.plan_tape.specs.Leg.{AreVoidTo}
-use Rattle.swarm_planner.proofs.Building.{full_inside}
-use Rattle.swarm_planner.proofs.Filling.{space}
 use Rattle.plan_tape.specs.Progress.{IsVoidFrom}
+use Rattle.nano_spec.proofs.Coordinates.{in_space-is}
+use Rattle.plan_tape.proofs.LegalModels.{full_within, alike_is_same, legal_box}
 
 -- ---- legal models
-
-in_box : (full box : Bool) → (full && not box) ≡ false → full ≡ true → box ≡ true
-in_box true true e f = refl
-in_box true false e f = cc
-in_box false box e f = cc
-
--- a full voxel of a legal model is in the legal box
-legal_box : (m : Matrix) (c : Coord) → IsLegal m → is_full m c ≡ true → in_legal_box m.resolution c ≡ true
-legal_box m c h f =
-    in_box (is_full m c) (in_legal_box m.resolution c)
-    (find_none (λ d. is_full m d && not (in_legal_box m.resolution d)) c (all_of m) (legal_is m h).0 (in_coordinates m.resolution c (full_inside m c f))) f
 
 -- the columns, layers and depths of the legal box
 pub record IsInBox (r : ℕ) (c : Coord) : Type 0 where
@@ -85,29 +74,7 @@ ways_home m a b h e f = record {
 pub ways_home_in : (m n : Matrix) (a b : Coord) → m ≡ n → IsLegal n → a.z ≡ 0 → b.z ≡ 0 → AreVoidTo m a b
 ways_home_in m n a b e h f g = subst (λ (k : Matrix). AreVoidTo k a b) (sym e) (ways_home n a b h f g)
 
-pub grounded_at : (m n : Matrix) → m ≡ n → IsLegal n → FirstUngrounded m None
-grounded_at m n e h = subst (λ (k : Matrix). FirstUngrounded k None) (sym e) (legal_is n h).1
-
--- ---- a matrix that is void
-
-pub void_is_grounded : (m : Matrix) → IsVoidFrom m 0 → FirstUngrounded m None
-void_is_grounded m void = all (all_of m)
-  where
-    never : (c : Coord) (t : Bool) → is_full m c ≡ t → t ≡ false → IsTrue (is_full m c) → Grounded m c
-    never c true e f g = cc
-    never c false e f g = cc
-
-    all : (cs : List Coord) → FirstFailing (λ c. IsTrue (is_full m c) → Grounded m c) cs None
-    all [] = tt
-    all (c ∷ cs) = (never c (is_full m c) refl (void c (omega arith)), all cs)
-
 -- ---- the same models
-
-pub alike_is_same : (m n : Matrix) → IsWhole m → IsWhole n → m.resolution ≡ n.resolution → ((c : Coord) → is_full m c ≡ is_full n c) → m ≡ n
-alike_is_same m n v w e h =
-    sym (as_it_is m v.voxels)
-    ∙ (matrix_same m.resolution (is_full m) (is_full n) (λ c i. h c)
-    ∙ (ap (λ r. matrix_where r (is_full n)) e ∙ as_it_is n w.voxels))
 
 unlike : (a b : Bool) → ((a && not b) || (b && not a)) ≡ false → a ≡ b
 unlike true true e = refl
@@ -122,10 +89,10 @@ outside m n c e o = none (in_space m.resolution (point c)) _ o ∙ sym (none (in
     none a b f = rw f refl
 
 pub no_difference : (m n : Matrix) → IsWhole m → IsWhole n → m.resolution ≡ n.resolution → first_difference m n ≡ None → m ≡ n
-no_difference m n v w e h = alike_is_same m n v w e (λ c. by c (in_space m.resolution (point c)) refl)
+no_difference m n v w e h = alike_is_same m n v w e (λ c _. by c (in_space m.resolution (point c)) refl)
   where
     by : (c : Coord) (t : Bool) → in_space m.resolution (point c) ≡ t → is_full m c ≡ is_full n c
-    by c true i = unlike (is_full m c) (is_full n c) (find_none (differ_at m n) c (all_of m) h (in_coordinates m.resolution c (space m.resolution c i)))
+    by c true i = unlike (is_full m c) (is_full n c) (find_none (differ_at m n) c (all_of m) h (in_coordinates m.resolution c (in_space-is m.resolution c i)))
     by c false o = outside m n c e o
 
 like : (a : Bool) → ((a && not a) || (a && not a)) ≡ false
@@ -139,14 +106,6 @@ same_difference m n e = subst (λ (k : Matrix). first_difference m k ≡ None) e
     none test [] h = refl
     none test (c ∷ xs) h = rw (h c) (none test xs h)
 
--- the empty model is void
-pub empty_is_void : (r : ℕ) (c : Coord) → is_full (empty r) c ≡ false
-empty_is_void r c = by (in_space r (point c)) refl
-  where
-    by : (s : Bool) → in_space r (point c) ≡ s → is_full (empty r) c ≡ false
-    by true s = full_where r (λ _. false) c (space r c s)
-    by false s = rw s refl
-
 three_or_less : (r : ℕ) → (3 ≤ r) ⊎ (r < 3)
 three_or_less r = grind arith
 
@@ -156,4 +115,4 @@ wide_enough m n h v w e void differ = by (three_or_less m.resolution)
   where
     by : (3 ≤ m.resolution) ⊎ (m.resolution < 3) → 3 ≤ m.resolution
     by (inl k) = k
-    by (inr k) = absurd (differ (alike_is_same n m w v e (λ c. void c (omega arith) ∙ sym (never_full (is_full m c) (λ f. let b = full_in_box m c h f in let x = b.x in let y = b.x_end in absurd (omega arith))))))
+    by (inr k) = absurd (differ (alike_is_same n m w v e (λ c _. void c (omega arith) ∙ sym (never_full (is_full m c) (λ f. let b = full_in_box m c h f in let x = b.x in let y = b.x_end in absurd (omega arith))))))

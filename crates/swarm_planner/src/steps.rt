@@ -7,7 +7,6 @@ ghost use Rattle.vox_geom.specs.Space.{IsInSpace};
 ghost use Rattle.swarm_planner.specs.Building.{Fills, fills as fills_of, is_wanted as is_wanted_of};
 ghost use Rattle.swarm_planner.specs.Crew.{AreAlong, AreNear, CrewGoes, InRow, IsNearOn, IsSwarm, MayLead, RowGoes, lead as lead_of, places, row_led};
 ghost use Rattle.swarm_planner.specs.Lineup.{InLine, Regroups, free_column, without_last, last_column, left as left_of, lined_up, right as right_of, sent, split};
-ghost use Rattle.vox_geom.specs.Point.{down as down_of};
 
 use crate::strips::strip_width;
 use nano_spec::{Bot, Command};
@@ -144,20 +143,6 @@ pub fn move_last(alloc: Global, tape: &mut Tape, to: u16) -> Result<(), Memory>
     tape.move_all(&commands)
 }
 
-/// The difference to the voxel below.
-fn down() -> Near
-    ensures { result ≡ down_of }
-{
-    let Some(near) = Near::of(Diff {
-        dx: 0,
-        dy: -1,
-        dz: 0,
-    }) else {
-        unreachable!()
-    };
-    near
-}
-
 /// The difference to the next column.
 fn right() -> Near
     ensures { result ≡ right_of }
@@ -214,7 +199,7 @@ fn fills(
     let mut commands = Vec::new(alloc);
     for bot in bots {
         let command = if is_wanted(planes, goal, bot.pos) {
-            Command::Fill(down())
+            Command::Fill(Near::down())
         } else {
             Command::Wait
         };

@@ -42,10 +42,7 @@ fn harmonics_by(harmonics: Harmonics, command: &Command) -> Harmonics
     ensures { (bot : ActiveBot) → result ≡ harmonics_after harmonics (act bot command.now ∷ []) }
 {
     match command {
-        Command::Flip => match harmonics {
-            Harmonics::Low => Harmonics::High,
-            Harmonics::High => Harmonics::Low,
-        },
+        Command::Flip => harmonics.flipped(),
         Command::Halt => harmonics,
         Command::Wait => harmonics,
         Command::SMove(_) => harmonics,

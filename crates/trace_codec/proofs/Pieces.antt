@@ -16,22 +16,9 @@ use Rattle.trace_codec.specs.declared.one.One.TheVariants.{Got, More, Bad}
 use Rattle.trace_codec.specs.Decoder.{DecoderState, Completes, AnswersPiece}
 use Rattle.trace_codec.specs.One.{Spells, BeginsWith, IsNoCommand}
 use Rattle.trace_codec.proofs.Unique.{no_part, nil_of, same_command}
+use Rattle.nano_spec.proofs.Lengths.{spelling_short}
 
 -- ---- lengths
-
-pub spelling_short : (c : Command) → length (spelling c) ≤ 4
-spelling_short Halt = omega arith
-spelling_short Wait = omega arith
-spelling_short Flip = omega arith
-spelling_short (SMove d) = omega arith
-spelling_short (LMove d e) = omega arith
-spelling_short (FusionP d) = omega arith
-spelling_short (FusionS d) = omega arith
-spelling_short (Fission d m) = omega arith
-spelling_short (Fill d) = omega arith
-spelling_short (Void d) = omega arith
-spelling_short (GFill d f) = omega arith
-spelling_short (GVoid d f) = omega arith
 
 some : (xs : List ℕ) → xs ≢ [] → 1 ≤ length xs
 some [] n = absurd (n refl)

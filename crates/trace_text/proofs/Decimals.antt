@@ -7,27 +7,14 @@ use Rattle.std.specs.Str.{bytes_eq}
 use Rattle.std.proofs.lemmas.Bool.Decides.{nat_tests}
 use Rattle.vox_geom.specs.Space.{numbers_from}
 use Rattle.nano_spec.proofs.Grounding.{left, right}
+use Rattle.nano_spec.proofs.Decimals.{at_number, same_bytes}
 
 abbrev text : ℕ → List ℕ
 text n = cond (nat_lt n 10) ((48 + n % 10) ∷ []) (cond (nat_lt n 100) ((48 + n / 10 % 10) ∷ (48 + n % 10) ∷ []) ((48 + n / 100) ∷ (48 + n / 10 % 10) ∷ (48 + n % 10) ∷ []))
 
-same_bytes : (xs ys : List ℕ) → IsTrue (bytes_eq xs ys) → xs ≡ ys
-same_bytes [] [] h = refl
-same_bytes [] (y ∷ ys) h = cc
-same_bytes (x ∷ xs) [] h = cc
-same_bytes (x ∷ xs) (y ∷ ys) h = let e : x ≡ y = head x y (left (x == y) (bytes_eq xs ys) h) in λ i. e i ∷ same_bytes xs ys (right (x == y) (bytes_eq xs ys) h) i
-  where
-    head : (a b : ℕ) → (a == b) ≡ true → a ≡ b
-    head a b k = grind (arith, nat_tests)
-
 all_texts : IsTrue (list_all (λ n. bytes_eq (decimal n) (text n)) (numbers_from 0 256))
 unfolding fmt_digits
 all_texts = refl
-
-at_number : (test : ℕ → Bool) (n a k : ℕ) → k < n → IsTrue (list_all test (numbers_from a n)) → IsTrue (test (a + k))
-at_number test zero a k l h = absurd (omega arith)
-at_number test (suc n) a zero l h = subst (λ (v : ℕ). IsTrue (test v)) (omega arith) (left (test a) (list_all test (numbers_from (a + 1) n)) h)
-at_number test (suc n) a (suc k) l h = subst (λ (v : ℕ). IsTrue (test v)) (omega arith) (at_number test n (a + 1) k (omega arith) (right (test a) (list_all test (numbers_from (a + 1) n)) h))
 
 decimal_is : (n : ℕ) → n < 256 → decimal n ≡ text n
 decimal_is n l = same_bytes (decimal n) (text n) (subst (λ (v : ℕ). IsTrue (bytes_eq (decimal v) (text v))) (omega arith) (at_number (λ v. bytes_eq (decimal v) (text v)) 256 0 n l all_texts))

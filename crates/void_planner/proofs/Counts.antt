@@ -23,6 +23,7 @@ use Rattle.plan_tape.specs.declared.axis.Axis.TheVariants.{X, Y, Z}
 use Rattle.plan_tape.specs.Progress.{TapeState, spot}
 use Rattle.plan_tape.specs.Reaches.{Reaches, starts, steps_on}
 use Rattle.void_planner.specs.Few.{HasAtMost, fissions, is_fission}
+use Rattle.plan_tape.proofs.Many.{settled_is}
 
 -- ---- one step
 
@@ -68,24 +69,6 @@ few_after : (s : State) (commands : List Command) → length (after s commands).
 few_after s commands = let h = few_in_all (acts s.bots commands) s.bots commands in let o = order_length (flat_map (λ a. successors (acts s.bots commands) a a.command) (acts s.bots commands)) in omega arith
 
 -- ---- the state of an accepted step
-
-same_state : (s t : State) → Goes s ≡ Goes t → s ≡ t
-same_state s t e = ap (λ (o : Outcome). state_in s o) e
-  where
-    state_in : State → Outcome → State
-    state_in u (Goes v) = v
-    state_in u (Breaks b) = u
-
-settled_is : (t s : State) (step : ℕ) → Settles s step (Goes t) → t ≡ s
-settled_is t s step = by (is_high s.harmonics)
-  where
-    at_last : (at : Option Coord) → Goes t ≡ settled s step at → t ≡ s
-    at_last None e = same_state t s e
-    at_last (Some c) e = cc
-
-    by : (b : Bool) → MatchBool b (Goes t ≡ Goes s) ((at : Option Coord) × FirstUngrounded s.matrix at × (Goes t ≡ settled s step at)) → t ≡ s
-    by true h = same_state t s h
-    by false h = at_last h.0 h.2
 
 goes_after : (s t : State) (commands : List Command) (step : ℕ) → Next s commands step (Goes t) → t ≡ after s commands
 goes_after s t commands step = by (broken s commands step)

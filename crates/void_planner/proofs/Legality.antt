@@ -14,63 +14,29 @@ use Rattle.step_order.proofs.Lists.{In, find_none}
 use Rattle.step_order.proofs.Voxels.{full_where, in_coordinates}
 use Rattle.plan_tape.specs.Leg.{AreVoidTo}
 use Rattle.void_planner.specs.Phases.{IsVoidModel}
-use Rattle.void_planner.proofs.Regions.{void_by_space}
 use Rattle.vox_geom.specs.Point.{coord}
 use Rattle.plan_tape.specs.Progress.{IsVoidFrom, top}
-
-in_box : (full box : Bool) → (full && not box) ≡ false → box ≡ false → full ≡ false
-in_box true true e f = cc
-in_box true false e f = cc
-in_box false box e f = refl
-
--- a voxel outside the legal box is void
-outside_is_void : (m : Matrix) (c : Coord) → IsLegal m → in_legal_box m.resolution c ≡ false → is_full m c ≡ false
-outside_is_void m c h e = void_by_space m c (λ i. in_box (is_full m c) (in_legal_box m.resolution c) (find_none (λ d. is_full m d && not (in_legal_box m.resolution d)) c (all_of m) (legal_is m h).0 (in_coordinates m.resolution c i)) e)
-
-at_border : (r : ℕ) (c : Coord) → c.x ≡ 0 → in_legal_box r c ≡ false
-at_border r c e = rw e refl
-
-above_box : (a b : Bool) (r y : ℕ) (d e : Bool) → r - 1 ≤ y → (a && b && nat_lt (y + 1) r && d && e) ≡ false
-above_box true true r y d e h = let f : nat_lt (y + 1) r ≡ false = grind (arith, nat_tests) in rw f refl
-above_box true false r y d e h = refl
-above_box false b r y d e h = refl
+use Rattle.plan_tape.proofs.LegalModels.{outside_is_void, void_at_border, void_by_space}
+use Rattle.plan_tape.proofs.ClearWays.{between_zeros, first_of_three}
 
 no_box : (r x : ℕ) (b d e : Bool) → r ≤ 2 → (nat_le 1 x && nat_lt (x + 1) r && b && d && e) ≡ false
 no_box r x b d e h = let f : (nat_le 1 x && nat_lt (x + 1) r) ≡ false = grind (arith, nat_tests) in rw f refl
-
-pub void_at_top : (m : Matrix) → IsLegal m → IsVoidFrom m (m.resolution - 1)
-void_at_top m h = λ c l. outside_is_void m c h (above_box (nat_le 1 c.x) (nat_lt (c.x + 1) m.resolution) m.resolution c.y (nat_le 1 c.z) (nat_lt (c.z + 1) m.resolution) l)
 
 -- a small legal model is void
 pub small_is_void : (m : Matrix) → IsLegal m → m.resolution ≤ 2 → IsVoidModel m
 small_is_void m h l = λ c. outside_is_void m c h (no_box m.resolution c.x (nat_lt (c.y + 1) m.resolution) (nat_le 1 c.z) (nat_lt (c.z + 1) m.resolution) l)
 
-first : (a b c : Bool) → IsTrue (a && b && c) → IsTrue a
-first true b c t = refl
-first false b c t = cc
-
-at_zero : (v : ℕ) → IsTrue (is_between (pos 0) (pos 0) (pos v)) → v ≡ 0
-at_zero v t = grind (arith, nat_tests)
-
 -- the way up above the origin
 pub way_up : (m : Matrix) → IsLegal m → AreVoidTo m (coord 0 0 0) (top m)
 way_up m h = record {
-  x = λ c t. outside_is_void m c h (at_border m.resolution c (at_zero c.x (first (is_between (pos 0) (pos 0) (pos c.x)) _ _ t)));
-  y = λ c t. outside_is_void m c h (at_border m.resolution c (at_zero c.x (first (is_between (pos 0) (pos 0) (pos c.x)) _ _ t)));
-  z = λ c t. outside_is_void m c h (at_border m.resolution c (at_zero c.x (first (is_between (pos 0) (pos 0) (pos c.x)) _ _ t)));
+  x = λ c t. void_at_border m h c (between_zeros c.x (first_of_three (is_between (pos 0) (pos 0) (pos c.x)) _ _ t));
+  y = λ c t. void_at_border m h c (between_zeros c.x (first_of_three (is_between (pos 0) (pos 0) (pos c.x)) _ _ t));
+  z = λ c t. void_at_border m h c (between_zeros c.x (first_of_three (is_between (pos 0) (pos 0) (pos c.x)) _ _ t));
 }
 
 -- where all is void, all ways are
 pub ways_void : (m : Matrix) (a b : Coord) → IsVoidModel m → AreVoidTo m a b
 ways_void m a b v = record { x = λ c t. v c; y = λ c t. v c; z = λ c t. v c }
-
--- a model without a full voxel is grounded
-pub void_is_grounded : (m : Matrix) → IsVoidModel m → FirstUngrounded m None
-void_is_grounded m v = all (all_of m)
-  where
-    all : (cs : List Coord) → FirstFailing (λ c. IsTrue (is_full m c) → Grounded m c) cs None
-    all [] = tt
-    all (c ∷ cs) = ((λ t. absurd (let e = sym (v c) ∙ t in cc)), all cs)
 
 -- ---- how many voxels are full
 
@@ -100,10 +66,6 @@ count_void m (d ∷ cs) e c i = by i (count_void m cs (let s = sum_by-cons (λ x
 -- where no voxel is counted, all is void
 pub none_counted : (m : Matrix) → count_by (is_full m) (all_of m) ≡ 0 → IsVoidModel m
 none_counted m e = λ c. void_by_space m c (λ i. count_void m (all_of m) e c (in_coordinates m.resolution c i))
-
--- the empty model is void
-pub empty_is_void : (r : ℕ) → IsVoidModel (empty r)
-empty_is_void r = λ c. void_by_space (empty r) c (λ i. full_where r (λ _. false) c i)
 
 -- a legal model that is not void has room
 pub has_room : (m : Matrix) → IsLegal m → (IsVoidModel m → ⊥) → 2 ≤ m.resolution

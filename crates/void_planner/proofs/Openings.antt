@@ -9,9 +9,9 @@ use Rattle.plan_tape.specs.Leg.{moves_to}
 use Rattle.void_planner.specs.Phases.{IsGathered, IsRisen, IsSpread, IsVoidModel, most_void_steps}
 use Rattle.void_planner.specs.Square.{Becomes, CanStand, Clears, IsRectangle, four, voiding_steps, steps_to}
 use Rattle.void_planner.specs.Tiles.{tiles_of}
-use Rattle.void_planner.proofs.Legality.{void_at_top}
-use Rattle.void_planner.proofs.Sweeps.{no_moves}
 use Rattle.vox_geom.specs.Point.{coord}
+use Rattle.plan_tape.proofs.LegalModels.{void_at_top}
+use Rattle.plan_tape.proofs.ClearWays.{no_moves}
 
 pub risen_stands : (t : TapeState) → IsRisen t → IsLegal t.source → 2 ≤ t.source.resolution → CanStand t.matrix 1 1 (spot t.bots)
 risen_stands t h legal some =

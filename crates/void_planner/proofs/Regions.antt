@@ -11,31 +11,7 @@ use Rattle.step_order.specs.Acting.{with_region}
 use Rattle.step_order.proofs.Lists.{find_none}
 use Rattle.step_order.proofs.Voxels.{full_where, in_coordinates}
 use Rattle.void_planner.specs.Tiles.{IsVoidTile, tile}
-
--- ---- in space and out of it
-
-three : (a b d : Bool) → (a && b && d) ≡ true → (a ≡ true) × (b ≡ true) × (d ≡ true)
-three true true true e = (refl, refl, refl)
-three true true false e = cc
-three true false d e = cc
-three false b d e = cc
-
-below : (r v : ℕ) → in_range r (pos v) ≡ true → v < r
-below r v h = grind (arith, nat_tests)
-
-pub space : (r : ℕ) (q : Coord) → in_space r (point q) ≡ true → IsInSpace r q
-space r q h = let p = three (in_range r (pos q.x)) (in_range r (pos q.y)) (in_range r (pos q.z)) h in record { x = below r q.x p.0; y = below r q.y p.1; z = below r q.z p.2 }
-
-none : (a b : Bool) → a ≡ false → (a && b) ≡ false
-none a b e = rw e refl
-
--- a voxel is void that is not in space, or void where it is in space
-pub void_by_space : (m : Matrix) (c : Coord) → (IsInSpace m.resolution c → is_full m c ≡ false) → is_full m c ≡ false
-void_by_space m c h = by (in_space m.resolution (point c)) refl
-  where
-    by : (t : Bool) → in_space m.resolution (point c) ≡ t → is_full m c ≡ false
-    by true e = h (space m.resolution c e)
-    by false e = none (in_space m.resolution (point c)) _ e
+use Rattle.plan_tape.proofs.LegalModels.{void_by_space}
 
 -- ---- a region that was voided
 

@@ -7,20 +7,10 @@ use Rattle.plan_tape.specs.Leg.{moves, moves_to}
 use Rattle.plan_tape.specs.Progress.{TapeState, spot, IsVoidFrom}
 use Rattle.void_planner.specs.Square.{AreFewer, CanVoidLayers, Clears, FourGo, FourVoid, IsRectangle, voiding_steps, steps_to, strip_steps}
 use Rattle.void_planner.specs.Tiles.{IsVoidBefore, IsVoidStrip, IsVoidTile, edge, far_of, place_of, tile, tiles_of, turned}
-use Rattle.void_planner.proofs.Regions.{region_fewer, tile_void, void_by_space}
+use Rattle.void_planner.proofs.Regions.{region_fewer, tile_void}
 use Rattle.vox_geom.specs.Point.{coord}
-
--- ---- how many moves
-
-on : (a b c : ℕ) → moves a c ≤ moves a b + moves b c
-on a b c = omega arith
-
--- a way by another coordinate takes no fewer moves
-pub moves_on : (a b c : Coord) → moves_to a c ≤ moves_to a b + moves_to b c
-moves_on a b c = omega (arith, on a.x b.x c.x, on a.y b.y c.y, on a.z b.z c.z)
-
-pub no_moves : (a : Coord) → moves_to a a ≡ 0
-no_moves a = omega arith
+use Rattle.plan_tape.proofs.LegalModels.{void_by_space}
+use Rattle.plan_tape.proofs.ClearWays.{moves_on, no_moves}
 
 -- ---- tapes
 

@@ -3,3 +3,4 @@ pub mod Covers
 pub mod Firsts
 pub mod Places
 pub mod Shares
+pub mod Adjacent

@@ -1,6 +1,7 @@
 //! Differences of a kind, valid by type.
 ghost use Rattle.std.specs.Prelude.{◌≡◌, ◌≤◌, IsTrue, ◌↔◌};
 ghost use Rattle.std.specs.Option.{SomeIff};
+ghost use Rattle.vox_geom.specs.Point.{down};
 ghost use Rattle.vox_geom.specs.Difference.{clen as chessboard_length, nonzero as nonzero_of, is_linear as is_linear_difference, IsNear, IsFar, IsShort, IsLong};
 
 use crate::difference::Diff;
@@ -93,6 +94,19 @@ impl Near {
             })
         } else {
             None
+        }
+    }
+
+    /// The difference to the voxel right below.
+    pub fn down() -> Near
+        ensures { result ≡ down }
+    {
+        Near {
+            difference: Small {
+                dx: 0,
+                dy: -1,
+                dz: 0,
+            },
         }
     }
 

@@ -5,10 +5,11 @@ use Rattle.nano_spec.specs.Profile.{full_profile}
 use Rattle.plan_tape.specs.Leg.{moves_to}
 use Rattle.plan_tape.specs.Progress.{TapeState, spot, IsVoidFrom}
 use Rattle.layer_planner.proofs.Bounds.{bytes-starting}
-use Rattle.layer_planner.proofs.Legality.{void_at_top, ways_home_at}
+use Rattle.layer_planner.proofs.Legality.{ways_home_at}
 use Rattle.group_planner.proofs.Closing.{legs_length, push_length, up_moves}
 use Rattle.group_planner.proofs.opening.opened.Goals as goal
 use Rattle.vox_geom.specs.Point.{coord}
+use Rattle.plan_tape.proofs.LegalModels.{void_at_top}
 
 pub go-requires-clause-ways : goal.go-requires-clause-ways
 go-requires-clause-ways c =

@@ -4,13 +4,14 @@ use Rattle.nano_spec.specs.Matrix.{Matrix, is_full}
 use Rattle.plan_tape.specs.Leg.{moves_to}
 use Rattle.plan_tape.specs.Progress.{IsAccepted, spot}
 use Rattle.layer_planner.proofs.Bounds.{bytes_of}
-use Rattle.layer_planner.proofs.Legality.{grounded_at, ways_home_at}
+use Rattle.layer_planner.proofs.Legality.{ways_home_at}
 use Rattle.group_planner.specs.Pair.{rear}
 use Rattle.group_planner.specs.Rows.{runs}
 use Rattle.group_planner.proofs.Closing.{legs_length, plan_fits, push_length}
 use Rattle.group_planner.proofs.Rebuilt.{home_bytes, home_commands, home_steps, matrix_is}
 use Rattle.group_planner.proofs.plan.closed.Goals as goal
 use Rattle.vox_geom.specs.Point.{coord}
+use Rattle.plan_tape.proofs.LegalModels.{grounded_at}
 
 pub gather-requires-clause-limit : goal.gather-requires-clause-limit
 gather-requires-clause-limit c =

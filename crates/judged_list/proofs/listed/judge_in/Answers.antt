@@ -1,4 +1,4 @@
-use Rattle.judged_list.proofs.Empty.{empty_is_grounded}
+use Rattle.nano_spec.proofs.EmptyModel.{empty_is_grounded}
 use Rattle.judged_list.proofs.listed.judge_in.Goals as goal
 
 pub judge-requires-clause-grounded : goal.judge-requires-clause-grounded

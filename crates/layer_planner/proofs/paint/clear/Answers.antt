@@ -2,10 +2,10 @@ use Rattle.std.proofs.Common.{◌≡◌, ◌-◌, ◌+◌, ◌*◌, subst, arith
 use Rattle.layer_planner.specs.Painting.{Paints, from_layer, layer, layer_bytes, row_bytes}
 use Rattle.layer_planner.proofs.Paints.{from_layer-more, paints_few, paints_more, paints_to}
 use Rattle.layer_planner.proofs.Sweeps.{fewer_layers, one_layer_less}
-use Rattle.layer_planner.proofs.ClearWays.{next_layer}
 use Rattle.layer_planner.proofs.paint.clear.Goals as goal
 use Rattle.vox_geom.specs.Point.{coord}
 use Rattle.plan_tape.specs.Progress.{top}
+use Rattle.layer_planner.proofs.Gaps.{next_layer}
 
 pub loop-y-preserved : goal.loop-y-preserved
 loop-y-preserved c =

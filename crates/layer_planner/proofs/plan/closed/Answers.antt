@@ -5,10 +5,11 @@ use Rattle.vox_planes.specs.Voxel.{IsWhole}
 use Rattle.plan_tape.specs.Progress.{IsAccepted, TapeState, spot, IsVoidFrom}
 use Rattle.layer_planner.specs.Phases.{IsRebuilt, end}
 use Rattle.layer_planner.proofs.Bounds.{bytes_of, total, total_fits, way_down}
-use Rattle.layer_planner.proofs.Legality.{alike_is_same, grounded_at, ways_home_at}
-use Rattle.layer_planner.proofs.ClearWays.{moves_on}
+use Rattle.layer_planner.proofs.Legality.{ways_home_at}
 use Rattle.layer_planner.proofs.plan.closed.Goals as goal
 use Rattle.vox_geom.specs.Point.{coord}
+use Rattle.plan_tape.proofs.ClearWays.{moves_on}
+use Rattle.plan_tape.proofs.LegalModels.{alike_is_same, grounded_at}
 
 -- the matrix is the target
 matrix_is : (t : TapeState) (target : Matrix) → IsRebuilt t target → IsWhole t.matrix → IsWhole target → t.matrix ≡ target

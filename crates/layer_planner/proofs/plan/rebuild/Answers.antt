@@ -6,11 +6,12 @@ use Rattle.plan_tape.specs.Progress.{spot, IsVoidFrom, top}
 use Rattle.layer_planner.specs.Painting.{bytes_to, layer_bytes, sweep_steps_to}
 use Rattle.layer_planner.specs.Phases.{end}
 use Rattle.layer_planner.proofs.Bounds.{total_fits}
-use Rattle.layer_planner.proofs.Legality.{left_alone, rebuilt_is, void_at_top, void_from}
+use Rattle.layer_planner.proofs.Legality.{left_alone, rebuilt_is, void_from}
 use Rattle.layer_planner.proofs.Sweeps.{spent}
-use Rattle.layer_planner.proofs.ClearWays.{moves_on, no_moves}
 use Rattle.layer_planner.proofs.plan.rebuild.Goals as goal
 use Rattle.vox_geom.specs.Point.{coord}
+use Rattle.plan_tape.proofs.ClearWays.{moves_on, no_moves}
+use Rattle.plan_tape.proofs.LegalModels.{void_at_top}
 
 pub clear-requires-clause-top : goal.clear-requires-clause-top
 clear-requires-clause-top c = subst (λ (m : Matrix). IsVoidFrom m (m.resolution - 1)) (sym c.requires.opened.matrix) (void_at_top c.args.tape.now.source c.requires.source)

@@ -7,16 +7,17 @@ use Rattle.nano_spec.specs.State.{origin}
 use Rattle.plan_tape.specs.Progress.{AreAlike, IsAccepted, spot}
 use Rattle.low_planner.specs.Commands.{IsPlain}
 use Rattle.low_planner.proofs.Builds.{steps_home}
-use Rattle.low_planner.proofs.ClearWays.{void_at_border, ways_home}
 use Rattle.low_planner.proofs.Works.{plain_and}
 use Rattle.low_planner.proofs.plan.closed.Goals as goal
+use Rattle.plan_tape.proofs.LegalModels.{void_at_border}
+use Rattle.plan_tape.proofs.ClearWays.{ways_to_border}
 
 pub go-requires-clause-ways : goal.go-requires-clause-ways
 go-requires-clause-ways c =
     let m = c.args.target.now in
     let p = c.args.tape in
     let h = c.requires.finished in
-    ways_home p.matrix (spot p.bots) origin refl h.here (λ d e. h.made d ∙ void_at_border m c.requires.legal d e)
+    ways_to_border p.matrix (spot p.bots) origin refl h.here (λ d e. h.made d ∙ void_at_border m c.requires.legal d e)
 
 pub go-requires-clause-limit : goal.go-requires-clause-limit
 go-requires-clause-limit c = let steps = steps_home c.args.target.now c.args.tape c.resolution.ensures.whole.most c.requires.finished in omega arith

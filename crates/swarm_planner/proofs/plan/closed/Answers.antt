@@ -5,14 +5,15 @@ use Rattle.nano_spec.specs.Profile.{light_profile}
 use Rattle.vox_planes.specs.Voxel.{IsWhole}
 use Rattle.plan_tape.specs.Progress.{IsAccepted, TapeState, spot}
 use Rattle.swarm_planner.specs.Phases.{IsErected}
-use Rattle.swarm_planner.proofs.Legality.{alike_is_same, grounded_at, ways_home_in}
+use Rattle.swarm_planner.proofs.Legality.{ways_home_in}
 use Rattle.swarm_planner.proofs.Phases.{layers_fit, total}
 use Rattle.swarm_planner.proofs.plan.closed.Goals as goal
 use Rattle.vox_geom.specs.Point.{coord}
+use Rattle.plan_tape.proofs.LegalModels.{alike_is_same, grounded_at}
 
 -- the matrix is the target
 matrix_is : (t : TapeState) (target : Matrix) → IsErected t target → IsWhole t.matrix → IsWhole target → t.matrix ≡ target
-matrix_is t target k v w = alike_is_same t.matrix target v w (sym k.same) k.built
+matrix_is t target k v w = alike_is_same t.matrix target v w (sym k.same) (λ c _. k.built c)
 
 pub go-requires-clause-ways : goal.go-requires-clause-ways
 go-requires-clause-ways c =

@@ -3,8 +3,8 @@ use Rattle.nano_spec.specs.declared.system.Profile.{Profile}
 use Rattle.nano_spec.specs.Matrix.{Matrix, is_full}
 use Rattle.nano_spec.specs.Profile.{light_profile}
 use Rattle.plan_tape.specs.Progress.{IsAccepted, TapeState}
-use Rattle.swarm_planner.proofs.Legality.{void_is_grounded}
 use Rattle.swarm_planner.proofs.plan.only_halt.Goals as goal
+use Rattle.plan_tape.proofs.LegalModels.{void_is_grounded}
 
 pub start_as-requires-clause-grounded : goal.start_as-requires-clause-grounded
 start_as-requires-clause-grounded c = void_is_grounded c.args.nothing c.requires

@@ -8,9 +8,9 @@ use Rattle.plan_tape.specs.Leg.{moves_to}
 use Rattle.plan_tape.specs.Progress.{TapeState, bots_at, spot, IsVoidFrom}
 use Rattle.swarm_planner.specs.Lineup.{seeds_after}
 use Rattle.swarm_planner.specs.Strips.{last}
-use Rattle.swarm_planner.proofs.Legality.{void_is_grounded}
 use Rattle.swarm_planner.proofs.plan.opened.Goals as goal
 use Rattle.vox_geom.specs.Point.{coord}
+use Rattle.plan_tape.proofs.LegalModels.{void_is_grounded}
 
 pub start_as-requires-clause-grounded : goal.start_as-requires-clause-grounded
 start_as-requires-clause-grounded c = void_is_grounded c.args.nothing c.requires.void

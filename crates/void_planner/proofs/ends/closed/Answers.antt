@@ -6,10 +6,10 @@ use Rattle.std.specs.Prelude.{None}
 use Rattle.plan_tape.specs.Progress.{IsAccepted}
 use Rattle.nano_spec.specs.declared.commands.Command.TheVariants.{Flip, Halt}
 use Rattle.void_planner.proofs.Counts.{fissions_is, moves_make_none, write_makes_none}
-use Rattle.void_planner.proofs.Legality.{void_is_grounded}
 use Rattle.void_planner.proofs.Openings.{void_all_over}
 use Rattle.void_planner.proofs.ends.closed.Goals as goal
 use Rattle.vox_geom.specs.Point.{coord}
+use Rattle.plan_tape.proofs.LegalModels.{void_is_grounded}
 
 pub flip-requires-clause-held : goal.flip-requires-clause-held
 flip-requires-clause-held c = λ low. subst (λ (m : Matrix). FirstUngrounded m None) (sym c.in_ok-go.ensures.ok.matrix) (void_is_grounded c.args.tape.matrix (void_all_over c.args.tape.matrix c.requires.gathered.void))

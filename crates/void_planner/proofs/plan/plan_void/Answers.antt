@@ -6,8 +6,9 @@ use Rattle.nano_spec.specs.Matrix.{Matrix, empty}
 use Rattle.nano_spec.specs.Profile.{full_profile}
 use Rattle.plan_tape.specs.Progress.{IsAccepted}
 use Rattle.void_planner.specs.Phases.{IsVoidModel}
-use Rattle.void_planner.proofs.Legality.{empty_is_void, has_room}
+use Rattle.void_planner.proofs.Legality.{has_room}
 use Rattle.void_planner.proofs.plan.plan_void.Goals as goal
+use Rattle.plan_tape.proofs.LegalModels.{empty_is_void}
 
 not_both : (b : Bool) → b ≡ true → b ≡ false → ⊥
 not_both b e f = let g = sym e ∙ f in cc

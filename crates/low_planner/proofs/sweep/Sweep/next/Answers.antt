@@ -6,11 +6,12 @@ use Rattle.vox_geom.specs.Space.{IsInSpace}
 use Rattle.nano_spec.specs.Matrix.{Matrix, is_full}
 use Rattle.low_planner.specs.declared.sweep.Sweep.{Sweep}
 use Rattle.low_planner.specs.Sweep.{IsSweep, IsTrail, IsVisited}
-use Rattle.low_planner.proofs.Beside.{beside-sym, full_within}
+use Rattle.low_planner.proofs.Beside.{beside-sym}
 use Rattle.low_planner.proofs.Paths.{one_more}
 use Rattle.low_planner.proofs.Sweeps.{popped, still, taken}
 use Rattle.low_planner.proofs.Trails.{trail_last, trail_pop, trail_push}
 use Rattle.low_planner.proofs.sweep.Sweep.next.Goals as goal
+use Rattle.plan_tape.proofs.LegalModels.{full_within}
 
 -- the last voxel of the trail was visited
 at_top : (m : Matrix) (s : Sweep) (most : List Coord) (top : Coord) → IsSweep m s → s.trail.items ≡ most ++ top ∷ [] → IsVisited m s.remaining top × (top.y ≡ s.at.y)

@@ -14,7 +14,7 @@ makes : (c : goal.After-self-1) → Makes c.args.self.now (progress_of c.self.in
 makes c =
     let r = c.self.inside in
     let energy = to_z w64 (of_z w64 c.energy_after-energy.result) in
-    let other : c.other.result ≡ flipped r.system.harmonics = c.other.ensures ∙ ap flipped (c.harmonics.ensures ∙ ap (λ (s : State). s.harmonics) c.set_energy.ensures) in
+    let other : c.flipped.result ≡ flipped r.system.harmonics = c.flipped.ensures ∙ ap flipped (c.harmonics.ensures ∙ ap (λ (s : State). s.harmonics) c.set_energy.ensures) in
     let now : c.set_harmonics.new.self ≡ record r.system { harmonics = flipped r.system.harmonics; energy = energy } = c.set_harmonics.ensures ∙ (λ i. record (c.set_energy.ensures i) { harmonics = other i }) in
     subst (λ (s : State). Makes c.args.self.now (progress_of r.source c.write.new.commands.items s (r.steps + 1)) Flip c.args.self.now.matrix (flipped c.args.self.now.harmonics) c.args.self.now.bots (pos 0)) (sym now)
     (flip_makes (the_view r) c.args.self.now c.self.view_is c.self.invariant c.write.new.commands.items energy (flipped r.system.harmonics) c.requires.alone c.requires.allowed c.requires.held c.requires.limit c.in_ok-write.ensures.ok refl (charge c))

@@ -1,0 +1,77 @@
+-- Ways along which all is void, how many moves they take, and that High asks for no grounding.
+use Rattle.std.proofs.Common.{◌≡◌, ◌⊎◌, inl, inr, ℕ, ◌+◌, ◌≤◌, sym, ◌∙◌, refl, subst, arith, Bool, true, false, ◌&&◌}
+use Rattle.std.specs.Prelude.{pos, IsTrue}
+use Rattle.std.proofs.lemmas.Bool.Decides.{nat_tests}
+use Rattle.vox_geom.specs.declared.coordinate.Coord.{Coord}
+use Rattle.vox_geom.specs.Region.{is_between}
+use Rattle.vox_geom.specs.Space.{IsInSpace}
+use Rattle.nano_spec.specs.declared.system.Harmonics.{Harmonics}
+use Rattle.nano_spec.specs.declared.system.Harmonics.TheVariants.{Low, High}
+use Rattle.nano_spec.specs.Matrix.{Matrix, is_full}
+use Rattle.plan_tape.specs.Leg.{AreVoidTo, moves, moves_to}
+use Rattle.plan_tape.specs.Progress.{IsHeld, IsVoidFrom}
+
+-- under High nothing has to be grounded
+pub held_high : (h : Harmonics) (m : Matrix) → h ≡ High → IsHeld h m
+held_high h m e = λ l. absurd (high_low (sym e ∙ l))
+  where
+    high_low : High ≡ Low → ⊥
+    high_low f = cc
+
+-- ---- where all is void
+
+pub first_of_three : (a b c : Bool) → IsTrue (a && b && c) → IsTrue a
+first_of_three true b c t = refl
+first_of_three false b c t = cc
+
+pub second_of_three : (a b c : Bool) → IsTrue (a && b && c) → IsTrue b
+second_of_three true true c t = refl
+second_of_three true false c t = cc
+second_of_three false b c t = cc
+
+pub between_zeros : (v : ℕ) → IsTrue (is_between (pos 0) (pos 0) (pos v)) → v ≡ 0
+between_zeros v t = grind (arith, nat_tests)
+
+pub at_either : (a b v : ℕ) → IsTrue (is_between (pos a) (pos b) (pos v)) → (a ≤ v) ⊎ (b ≤ v)
+at_either a b v t = grind (arith, nat_tests)
+
+void_between : (m : Matrix) (a b : ℕ) (c : Coord) → IsVoidFrom m a → IsVoidFrom m b → (a ≤ c.y) ⊎ (b ≤ c.y) → is_full m c ≡ false
+void_between m a b c v w (inl h) = v c h
+void_between m a b c v w (inr h) = w c h
+
+-- where all is void from the height of either end on, so are the ways
+pub ways_between : (m : Matrix) (a b : Coord) → IsVoidFrom m a.y → IsVoidFrom m b.y → AreVoidTo m a b
+ways_between m a b v w = record {
+  x = λ c t. void_between m a.y a.y c v v (at_either a.y a.y c.y (second_of_three (is_between (pos a.x) (pos b.x) (pos c.x)) _ _ t));
+  y = λ c t. void_between m a.y b.y c v w (at_either a.y b.y c.y (second_of_three (is_between (pos b.x) (pos b.x) (pos c.x)) _ _ t));
+  z = λ c t. void_between m b.y b.y c w w (at_either b.y b.y c.y (second_of_three (is_between (pos b.x) (pos b.x) (pos c.x)) _ _ t));
+}
+
+-- where all is void from the height of the one end on, and where x is 0, so are the ways to an end there
+pub ways_to_border : (m : Matrix) (a b : Coord) → b.x ≡ 0 → IsVoidFrom m a.y → ((c : Coord) → c.x ≡ 0 → is_full m c ≡ false) → AreVoidTo m a b
+ways_to_border m a b e v border = record {
+  x = λ c t. void_between m a.y a.y c v v (at_either a.y a.y c.y (second_of_three (is_between (pos a.x) (pos b.x) (pos c.x)) _ _ t));
+  y = λ c t. border c (along c (first_of_three (is_between (pos b.x) (pos b.x) (pos c.x)) _ _ t));
+  z = λ c t. border c (along c (first_of_three (is_between (pos b.x) (pos b.x) (pos c.x)) _ _ t));
+}
+  where
+    along : (c : Coord) → IsTrue (is_between (pos b.x) (pos b.x) (pos c.x)) → c.x ≡ 0
+    along c t = between_zeros c.x (subst (λ n. IsTrue (is_between (pos n) (pos n) (pos c.x))) e t)
+
+-- ---- how many moves
+
+on : (a b c : ℕ) → moves a c ≤ moves a b + moves b c
+on a b c = omega (arith)
+
+-- a way by another coordinate takes no fewer moves
+pub moves_on : (a b c : Coord) → moves_to a c ≤ moves_to a b + moves_to b c
+moves_on a b c = omega (arith, on a.x b.x c.x, on a.y b.y c.y, on a.z b.z c.z)
+
+pub no_moves : (a : Coord) → moves_to a a ≡ 0
+no_moves a = omega (arith)
+
+pub moves_most : (r : ℕ) (a b : Coord) → r ≤ 400 → IsInSpace r a → IsInSpace r b → moves_to a b ≤ 81
+moves_most r a b l i j =
+    let ax = i.x in let ay = i.y in let az = i.z in
+    let bx = j.x in let by' = j.y in let bz = j.z in
+    omega arith
