@@ -152,7 +152,8 @@ impl Crew {
         requires primary { IsActive self.old primary }
         requires secondary { IsActive self.old secondary }
         requires two { primary ≢ secondary }
-        ensures fused { IfSome (bot_of self.old primary) (λ b. IfSome (bot_of self.old secondary) (λ other. self.new ≡ replaced self.old (primary ∷ secondary ∷ []) (fused b other ∷ []))) }
+        ensures fused { IfSome (bot_of self.old primary)
+            (λ b. IfSome (bot_of self.old secondary) (λ other. self.new ≡ replaced self.old (primary ∷ secondary ∷ []) (fused b other ∷ []))) }
     {
         let end = place_of(&self.bots, secondary);
         let other = self.bots.remove(end);

@@ -9,10 +9,12 @@ ghost use Rattle.bot_crew.specs.Crew.{IsCrew, replaced};
 
 /// A state is ready for a step where its matrix is whole and its bots are a crew that stands in space.
 pub fn crew_is_ready()
-    ensures { (s : State) → length s.matrix.voxels ≡ s.matrix.resolution * s.matrix.resolution * s.matrix.resolution → All (λ a. IsInSpace s.matrix.resolution a.pos) s.bots → IsCrew s.bots → IsReady s }
+    ensures { (s : State) → length s.matrix.voxels ≡ s.matrix.resolution * s.matrix.resolution * s.matrix.resolution
+        → All (λ a. IsInSpace s.matrix.resolution a.pos) s.bots → IsCrew s.bots → IsReady s }
 {}
 
 /// The acts of one group replace the bots of the group by those that come of their commands.
 pub fn group_is_replaced()
-    ensures { (s : State) (group : List Act) → (after_group s group).bots ≡ replaced s.bots (map (λ a. a.bot.bid) group) (flat_map (λ a. successors group a a.command) group) }
+    ensures { (s : State) (group : List Act)
+        → (after_group s group).bots ≡ replaced s.bots (map (λ a. a.bot.bid) group) (flat_map (λ a. successors group a a.command) group) }
 {}

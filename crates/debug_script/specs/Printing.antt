@@ -17,11 +17,14 @@ printed_place c = concat (decimal c.x ∷ codes " " ∷ decimal c.y ∷ codes " 
 -- the line of a rule that is broken
 abbrev pub broken_line : Broken → List ℕ
 broken_line b =
-    concat (codes "broken " ∷ decimal (rule_number b.rule) ∷ codes " " ∷ name_of b.rule ∷ codes " step " ∷ decimal b.step ∷ codes " bid " ∷ decimal b.bid ∷ codes " at " ∷ printed_place b.at ∷ codes "\n" ∷ [])
+    concat
+    (codes "broken " ∷ decimal (rule_number b.rule) ∷ codes " " ∷ name_of b.rule ∷ codes " step " ∷ decimal b.step ∷ codes " bid "
+    ∷ decimal b.bid ∷ codes " at " ∷ printed_place b.at ∷ codes "\n" ∷ [])
 
 -- the line of an active bot
 abbrev pub bot_line : Bot → List ℕ
-bot_line b = concat (codes "bot " ∷ decimal b.bid ∷ codes " at " ∷ printed_place b.pos ∷ codes " seeds " ∷ decimal (length (seed_list b.seeds)) ∷ codes "\n" ∷ [])
+bot_line b = concat
+    (codes "bot " ∷ decimal b.bid ∷ codes " at " ∷ printed_place b.pos ∷ codes " seeds " ∷ decimal (length (seed_list b.seeds)) ∷ codes "\n" ∷ [])
 
 -- the end of the line of a step, which says whether no bot is left
 abbrev pub made_end : Bool → List ℕ

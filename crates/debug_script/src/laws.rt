@@ -17,7 +17,8 @@ pub fn one_script()
 
 /// The lines of a script print one text at most.
 pub fn one_text()
-    ensures { (source : Matrix) (profile : Profile) (commands : List Command) (script : List DebugLine) (a b : List ℕ) → PrintsFrom source profile commands script a → PrintsFrom source profile commands script b → a ≡ b }
+    ensures { (source : Matrix) (profile : Profile) (commands : List Command) (script : List DebugLine) (a b : List ℕ)
+        → PrintsFrom source profile commands script a → PrintsFrom source profile commands script b → a ≡ b }
 {
     one_answer();
 }

@@ -87,7 +87,8 @@ fn read_word(word: ScriptWord, number: u32) -> Result<ScriptLine, TextFault>
 
 /// The one number behind a word.
 fn one_number(rest: &[u8]) -> Option<u32>
-    ensures { MatchOption result ((n : ℕ) → HasFewDigits n → line_parts rest.now ≡ decimal n ∷ [] → ⊥) (λ n. HasFewDigits n × (line_parts rest.now ≡ decimal n ∷ [])) }
+    ensures { MatchOption result ((n : ℕ) → HasFewDigits n → line_parts rest.now ≡ decimal n ∷ [] → ⊥)
+        (λ n. HasFewDigits n × (line_parts rest.now ≡ decimal n ∷ [])) }
 {
     let (part, more) = cut_part(rest);
     match more {
@@ -127,7 +128,8 @@ fn read_group(rest: &[u8], number: u32) -> Result<ScriptLine, TextFault>
 
 /// Three numbers behind a word.
 fn three_numbers(rest: &[u8]) -> Option<(u32, u32, u32)>
-    ensures { MatchOption result ((x y z : ℕ) → HasFewDigits x → HasFewDigits y → HasFewDigits z → line_parts rest.now ≡ decimal x ∷ decimal y ∷ decimal z ∷ [] → ⊥)
+    ensures { MatchOption result
+        ((x y z : ℕ) → HasFewDigits x → HasFewDigits y → HasFewDigits z → line_parts rest.now ≡ decimal x ∷ decimal y ∷ decimal z ∷ [] → ⊥)
         (λ n. HasFewDigits n.0 × HasFewDigits n.1 × HasFewDigits n.2 × (line_parts rest.now ≡ decimal n.0 ∷ decimal n.1 ∷ decimal n.2 ∷ [])) }
 {
     let (x, rest) = first_number(rest)?;

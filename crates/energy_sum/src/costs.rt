@@ -66,7 +66,8 @@ fn row_cost(command: Command, was_void: u32, was_full: u32) -> i64
 #[tactic(auto, using(crate::proofs::Prices::cost_is_of_group))]
 pub fn command_cost(command: Command, was_void: u32, was_full: u32) -> i64
     ensures value { result ≡ cost_of command was_void was_full }
-    ensures group { (m : Matrix) (p : Point) → IsFalse (is_secondary command) → was_void ≡ void_count m p command → was_full ≡ met_full_count m p command → result ≡ group_cost m p command }
+    ensures group { (m : Matrix) (p : Point) → IsFalse (is_secondary command) → was_void ≡ void_count m p command
+        → was_full ≡ met_full_count m p command → result ≡ group_cost m p command }
 {
     row_cost(command, was_void, was_full)
 }

@@ -74,7 +74,8 @@ pub record Slides (old new : TapeState) (rear_to front_to : ℕ) : Type 0 where
   pub behind : ℕ
   pub ahead : ℕ
   pub left : moves behind rear_to + moves ahead front_to ≤ moves (rear old).z rear_to + moves (front old).z front_to
-  pub goes : PairGoes old new (put Z (rear old) behind) (put Z (front old) ahead) (moves (rear old).z rear_to + moves (front old).z front_to - (moves behind rear_to + moves ahead front_to))
+  pub goes : PairGoes old new (put Z (rear old) behind) (put Z (front old) ahead)
+      (moves (rear old).z rear_to + moves (front old).z front_to - (moves behind rear_to + moves ahead front_to))
 
 -- the voxels of a row from a first z on and before an end
 abbrev pub in_part : ℕ → ℕ → ℕ → ℕ → Coord → Bool

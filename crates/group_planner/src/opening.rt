@@ -99,7 +99,9 @@ pub fn opened(alloc: Global, source: Planes) -> Result<Tape, Memory>
 pub fn gather(tape: &mut Tape) -> Result<(), Memory>
     requires pair { IsPair tape.old }
     requires limit { tape.old.steps + 82 ≤ 1073741824 }
-    ensures { OnOk result (PairJoins tape.old tape.new (coord 0 (rear_of tape.old).y 0) (moves (rear_of tape.old).x 0 + moves (rear_of tape.old).z 0 + moves (front_of tape.old).z 1 + 1)) }
+    ensures { OnOk result
+        (PairJoins tape.old tape.new (coord 0 (rear_of tape.old).y 0)
+        (moves (rear_of tape.old).x 0 + moves (rear_of tape.old).z 0 + moves (front_of tape.old).z 1 + 1)) }
 {
     let y = rear(tape).y;
     go_to_row(tape, 0, y)?;

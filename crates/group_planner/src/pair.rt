@@ -103,7 +103,9 @@ pub fn go_to_row(tape: &mut Tape, x: u16, y: u16) -> Result<(), Memory>
     requires y { y < tape.old.matrix.resolution }
     requires free { IsVoidFrom tape.old.matrix y }
     requires limit { tape.old.steps + moves (rear_of tape.old).x x + moves (rear_of tape.old).y y ≤ 1073741824 }
-    ensures { OnOk result (PairGoes tape.old tape.new (record { x = x; y = y; z = (rear_of tape.old).z }) (record { x = x; y = y; z = (front_of tape.old).z }) (moves (rear_of tape.old).x x + moves (rear_of tape.old).y y)) }
+    ensures { OnOk result
+        (PairGoes tape.old tape.new (record { x = x; y = y; z = (rear_of tape.old).z }) (record { x = x; y = y; z = (front_of tape.old).z })
+        (moves (rear_of tape.old).x x + moves (rear_of tape.old).y y)) }
 {
     let from = rear(tape);
     both_go(tape, Axis::X, from.x, x)?;
@@ -220,7 +222,9 @@ pub fn spread(tape: &mut Tape, rear_to: u16, front_to: u16) -> Result<(), Memory
     requires order { rear_to < front_to }
     requires within { front_to < tape.old.matrix.resolution }
     requires limit { tape.old.steps + moves (rear_of tape.old).z rear_to + moves (front_of tape.old).z front_to ≤ 1073741824 }
-    ensures { OnOk result (PairGoes tape.old tape.new (put Axis.Z (rear_of tape.old) rear_to) (put Axis.Z (front_of tape.old) front_to) (moves (rear_of tape.old).z rear_to + moves (front_of tape.old).z front_to)) }
+    ensures { OnOk result
+        (PairGoes tape.old tape.new (put Axis.Z (rear_of tape.old) rear_to) (put Axis.Z (front_of tape.old) front_to)
+        (moves (rear_of tape.old).z rear_to + moves (front_of tape.old).z front_to)) }
 {
     slide(tape, rear_to, front_to)?;
     if rear(tape).z < front_to {

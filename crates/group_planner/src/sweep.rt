@@ -177,10 +177,13 @@ fn write_layer(tape: &mut Tape, model: &Planes, full: bool, y: u16) -> Result<()
 pub fn clear(tape: &mut Tape, source: &Planes, low: u16) -> Result<(), Memory>
     requires ready { CanVoidModel tape.old source.now }
     requires low { low < tape.old.matrix.resolution }
-    requires limit { climb_to tape.old (tape.old.matrix.resolution - 1) + tape.old.matrix.resolution + steps_below source.now tape.old.matrix.resolution ≤ 1073741824 }
+    requires limit { climb_to tape.old
+        (tape.old.matrix.resolution - 1) + tape.old.matrix.resolution + steps_below source.now tape.old.matrix.resolution ≤ 1073741824 }
     ensures stamps { OnOk result (Stamps tape.old tape.new source.now false (from_layer low) (runs_of source.now)) }
     ensures free { OnOk result (IsVoidFrom tape.new.matrix low) }
-    ensures climb { OnOk result (climb_to tape.new low ≤ climb_to tape.old (tape.old.matrix.resolution - 1) + tape.old.matrix.resolution + steps_below source.now tape.old.matrix.resolution) }
+    ensures climb { OnOk result
+        (climb_to tape.new low ≤ climb_to tape.old
+        (tape.old.matrix.resolution - 1) + tape.old.matrix.resolution + steps_below source.now tape.old.matrix.resolution) }
 {
     let mut y = source.resolution() - 1;
     while y > low {
@@ -198,7 +201,8 @@ pub fn build(tape: &mut Tape, target: &Planes, low: u16) -> Result<(), Memory>
     requires free { IsVoidFrom tape.old.matrix low }
     requires limit { climb_to tape.old (low + 1) + tape.old.matrix.resolution + steps_below target.now tape.old.matrix.resolution ≤ 1073741824 }
     ensures stamps { OnOk result (Stamps tape.old tape.new target.now true (between_layers low (tape.old.matrix.resolution - 1)) (runs_of target.now)) }
-    ensures steps { OnOk result (tape.new.steps ≤ climb_to tape.old (low + 1) + tape.old.matrix.resolution + steps_below target.now tape.old.matrix.resolution) }
+    ensures steps { OnOk result
+        (tape.new.steps ≤ climb_to tape.old (low + 1) + tape.old.matrix.resolution + steps_below target.now tape.old.matrix.resolution) }
 {
     for y in low..target.resolution() - 1 {
         write_layer(tape, target, true, y)?;

@@ -128,7 +128,8 @@ impl Sweep {
     /// A voxel that was not visited, beside a coordinate in its layer.
     fn beside(&self, c: Coord) -> Option<Coord>
         requires { IsInSpace self.now.remaining.resolution c }
-        ensures { MatchOption result ((d : Coordinate) → AreBesideInLayer c d → is_full_of self.now.remaining d ≡ false) (λ d. AreBesideInLayer c d × IsTrue (is_full_of self.now.remaining d)) }
+        ensures { MatchOption result ((d : Coordinate) → AreBesideInLayer c d → is_full_of self.now.remaining d ≡ false)
+            (λ d. AreBesideInLayer c d × IsTrue (is_full_of self.now.remaining d)) }
     {
         let _ = self.remaining.resolution();
         let Coord { x, y, z } = c;

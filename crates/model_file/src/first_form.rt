@@ -111,7 +111,8 @@ pub fn write_first<L: Ledger>(
     steps: &mut Steps<L>,
 ) -> Result<Vec<u8>, Memory>
     requires { planes.now.resolution ≤ FIRST_FORM_MOST_R }
-    ensures { IfOk result (λ bytes. bytes.items ≡ planes.now.resolution ∷ map (byte_at planes.now.voxels) (numbers_below ((volume_of planes.now.resolution + 7) / 8))) }
+    ensures { IfOk result
+        (λ bytes. bytes.items ≡ planes.now.resolution ∷ map (byte_at planes.now.voxels) (numbers_below ((volume_of planes.now.resolution + 7) / 8))) }
 {
     let r = planes.resolution();
     let places = volume(r);

@@ -94,9 +94,12 @@ impl Flood {
         requires within { IsInSpace self.old.remaining.resolution first }
         requires each { first.z % 64 ≡ 0 }
         requires most { self.old.remaining.resolution ≤ MOST_R }
-        ensures reaches { IfOk result (λ _. (m : Matrix) (s : FloodModel) → IsFlood m s → self.old.remaining ≡ s.remaining → s.found.items ≡ self.old.found.items ++ record { first = first; bits = bits } ∷ [] → IsFlood m self.new) }
+        ensures reaches { IfOk result
+            (λ _. (m : Matrix) (s : FloodModel) → IsFlood m s → self.old.remaining ≡ s.remaining
+            → s.found.items ≡ self.old.found.items ++ record { first = first; bits = bits } ∷ [] → IsFlood m self.new) }
         ensures resolution { IfOk result (λ _. self.new.remaining.resolution ≡ self.old.remaining.resolution) }
-        ensures starts { IfOk result (λ _. All (IsStart self.old.remaining.resolution) self.old.found.items → All (IsStart self.old.remaining.resolution) self.new.found.items) }
+        ensures starts { IfOk result
+            (λ _. All (IsStart self.old.remaining.resolution) self.old.found.items → All (IsStart self.old.remaining.resolution) self.new.found.items) }
         ensures weighs { IfOk result (λ _. weight self.new ≤ weight self.old) }
     {
         let count = u32::from(self.remaining.resolution() - first.z).min(64);

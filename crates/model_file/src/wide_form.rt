@@ -21,7 +21,8 @@ const WIDE_FORM_LEAST_R: u16 = 251;
 /// The number in four bytes, the most significant first.
 fn number_at(bytes: &[u8], at: usize) -> u32
     requires { at + 4 ≤ length bytes.now }
-    ensures { result ≡ number_of_four (slice_index bytes.now at) (slice_index bytes.now (at + 1)) (slice_index bytes.now (at + 2)) (slice_index bytes.now (at + 3)) }
+    ensures { result ≡ number_of_four (slice_index bytes.now at) (slice_index bytes.now (at + 1)) (slice_index bytes.now (at + 2))
+        (slice_index bytes.now (at + 3)) }
 {
     let first = u32::from(bytes[at]) * 256 + u32::from(bytes[at + 1]);
     let last = u32::from(bytes[at + 2]) * 256 + u32::from(bytes[at + 3]);
@@ -123,7 +124,9 @@ impl RunWriter {
     /// Adds one voxel. Whatever voxels follow, the bytes come out the same as if it was still to come.
     fn add(&mut self, full: bool) -> Result<(), Memory>
         requires { self.old.run + 1 < 2 ^ 32 }
-        ensures same { IfOk result (λ _. (more : List Bool) → with_runs self.new.bytes.items self.new.run self.new.full more ≡ with_runs self.old.bytes.items self.old.run self.old.full (full ∷ more)) }
+        ensures same { IfOk result
+            (λ _. (more : List Bool)
+            → with_runs self.new.bytes.items self.new.run self.new.full more ≡ with_runs self.old.bytes.items self.old.run self.old.full (full ∷ more)) }
         ensures run { IfOk result (λ _. self.new.run ≤ self.old.run + 1) }
     {
         if full == self.full {
@@ -152,7 +155,9 @@ pub fn write_wide<L: Ledger>(
     planes: &Planes,
     steps: &mut Steps<L>,
 ) -> Result<Vec<u8>, Memory>
-    ensures { IfOk result (λ bytes. bytes.items ≡ WIDE_MARK ∷ planes.now.resolution / 256 ∷ planes.now.resolution % 256 ∷ flat_map four_bytes (run_lengths 0 false planes.now.voxels)) }
+    ensures { IfOk result
+        (λ bytes. bytes.items ≡ WIDE_MARK ∷ planes.now.resolution / 256 ∷ planes.now.resolution % 256
+        ∷ flat_map four_bytes (run_lengths 0 false planes.now.voxels)) }
 {
     let r = planes.resolution();
     let mut writer = RunWriter::new(alloc, r)?;

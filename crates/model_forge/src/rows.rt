@@ -27,7 +27,8 @@ fn column_bits(heights: &[u16], first: usize, count: u32, y: u16) -> u64
 fn put_columns(planes: &mut Planes, from: u32, heights: &[u16], y: u16)
     requires within { from + length heights.now ≤ volume planes.old.resolution }
     requires small { from + length heights.now < 2 ^ 32 }
-    ensures places { (p : ℕ) → voxel_at planes.new p ≡ cond (is_from from (length heights.now) p) (nat_lt y (slice_index heights.now (p - from))) (voxel_at planes.old p) }
+    ensures places { (p : ℕ)
+        → voxel_at planes.new p ≡ cond (is_from from (length heights.now) p) (nat_lt y (slice_index heights.now (p - from))) (voxel_at planes.old p) }
     ensures resolution { planes.new.resolution ≡ planes.old.resolution }
     ensures whole { IsWhole planes.new }
 {
@@ -67,7 +68,8 @@ pub fn put_row(planes: &mut Planes, heights: &[u16], tower: Tower, x: u16, y: u1
     requires y { y < planes.old.resolution }
     requires tower { IsInside planes.old.resolution tower }
     requires count { length heights.now + 2 ≡ planes.old.resolution }
-    ensures forged { (number : ℕ) → AreHeights number planes.old.resolution x heights.now → IsForged number tower planes.old (row_place planes.old.resolution x y)
+    ensures forged { (number : ℕ) → AreHeights number planes.old.resolution x heights.now
+        → IsForged number tower planes.old (row_place planes.old.resolution x y)
         → IsForged number tower planes.new (row_place planes.old.resolution x (y + 1)) }
     ensures resolution { planes.new.resolution ≡ planes.old.resolution }
     ensures whole { IsWhole planes.new }

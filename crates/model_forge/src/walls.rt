@@ -20,7 +20,8 @@ fn put_wall(planes: &mut Planes, heights: &[u16], tower: Tower, x: u16)
     requires x_high { x + 1 < planes.old.resolution }
     requires tower { IsInside planes.old.resolution tower }
     requires count { length heights.now + 2 ≡ planes.old.resolution }
-    ensures forged { (number : ℕ) → AreHeights number planes.old.resolution x heights.now → IsForged number tower planes.old (row_place planes.old.resolution x 0)
+    ensures forged { (number : ℕ) → AreHeights number planes.old.resolution x heights.now
+        → IsForged number tower planes.old (row_place planes.old.resolution x 0)
         → IsForged number tower planes.new (row_place planes.old.resolution (x + 1) 0) }
     ensures resolution { planes.new.resolution ≡ planes.old.resolution }
     ensures whole { IsWhole planes.new }

@@ -23,7 +23,8 @@ parent bot m = record { bid = bot.bid; pos = bot.pos; seeds = seed_set (drop (m 
 
 -- the primary of a fusion takes the secondary's bid and seeds as seeds
 abbrev pub fused : Bot → Bot → Bot
-fused bot other = record { bid = bot.bid; pos = bot.pos; seeds = seed_set (filter (λ k. is_seed bot.seeds k || is_seed other.seeds k || k == other.bid) seed_numbers) }
+fused bot other =
+    record { bid = bot.bid; pos = bot.pos; seeds = seed_set (filter (λ k. is_seed bot.seeds k || is_seed other.seeds k || k == other.bid) seed_numbers) }
 
 -- what becomes of a bot by its command: the bots in its place
 abbrev pub successors : List Act → Act → Command → List Bot

@@ -7,4 +7,5 @@ use Rattle.nano_spec.specs.Matrix.{Matrix}
 -- the level is the length, less one, of a shortest path of full coordinates to the floor, or `None` where there is no path
 abbrev pub Level : Matrix → Coord → Option ℕ → Type 0
 Level m c None = Grounded m c → ⊥
-Level m c (Some n) = ((path : List Coord) × IsTrue (is_path_from m c path) × (length path ≡ n + 1)) × ((path : List Coord) → IsTrue (is_path_from m c path) → n < length path)
+Level m c (Some n) = ((path : List Coord) × IsTrue (is_path_from m c path) × (length path ≡ n + 1))
+    × ((path : List Coord) → IsTrue (is_path_from m c path) → n < length path)

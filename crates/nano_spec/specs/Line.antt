@@ -61,7 +61,9 @@ is_skipped line = list_all is_blank (line_content line)
 -- the line is of the form of the command: the word is the command's, and the line can be read with its numbers
 abbrev pub IsLineOf : List ℕ → Command → Type 0
 IsLineOf line command =
-    (word : Word) × (ns : List ℤ) × (word_of (from_word (line_content line)) ≡ Some word) × Contains (readings (form word) (after_word (from_word (line_content line)))) ns × IsTrue (has_range word ns) × (command ≡ command_of word ns)
+    (word : Word) × (ns : List ℤ) × (word_of (from_word (line_content line)) ≡ Some word)
+    × Contains (readings (form word) (after_word (from_word (line_content line)))) ns × IsTrue (has_range word ns)
+    × (command ≡ command_of word ns)
 
 -- what a line says
 abbrev pub line_of : List ℕ → Line

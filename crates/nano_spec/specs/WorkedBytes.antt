@@ -112,13 +112,18 @@ pub record WorkedModels : Type 0 where
 -- how texts are printed and read
 pub record WorkedTexts : Type 0 where
   -- a text as it is printed
-  pub printed : print (SMove (diff (pos 1) (pos 0) (pos 0)) ∷ Fill (diff (pos 0) (pos 0) (pos 1)) ∷ SMove (diff (below_zero 1) (pos 0) (pos 0)) ∷ Halt ∷ []) ≡ codes "SMove <1,0,0>\nFill <0,0,1>\nSMove <-1,0,0>\nHalt\n"
+  pub printed : print
+      (SMove (diff (pos 1) (pos 0) (pos 0)) ∷ Fill (diff (pos 0) (pos 0) (pos 1)) ∷ SMove (diff (below_zero 1) (pos 0) (pos 0)) ∷ Halt
+      ∷ []) ≡ codes "SMove <1,0,0>\nFill <0,0,1>\nSMove <-1,0,0>\nHalt\n"
   -- it has 47 bytes
-  pub printed_length : length (print (SMove (diff (pos 1) (pos 0) (pos 0)) ∷ Fill (diff (pos 0) (pos 0) (pos 1)) ∷ SMove (diff (below_zero 1) (pos 0) (pos 0)) ∷ Halt ∷ [])) ≡ 47
+  pub printed_length : length
+      (print (SMove (diff (pos 1) (pos 0) (pos 0)) ∷ Fill (diff (pos 0) (pos 0) (pos 1)) ∷ SMove (diff (below_zero 1) (pos 0) (pos 0)) ∷ Halt ∷ [])) ≡ 47
   -- and read again
-  pub read_again : read (codes "SMove <1,0,0>\nFill <0,0,1>\nSMove <-1,0,0>\nHalt\n") ≡ Ok (SMove (diff (pos 1) (pos 0) (pos 0)) ∷ Fill (diff (pos 0) (pos 0) (pos 1)) ∷ SMove (diff (below_zero 1) (pos 0) (pos 0)) ∷ Halt ∷ [])
+  pub read_again : read (codes "SMove <1,0,0>\nFill <0,0,1>\nSMove <-1,0,0>\nHalt\n") ≡ Ok
+      (SMove (diff (pos 1) (pos 0) (pos 0)) ∷ Fill (diff (pos 0) (pos 0) (pos 1)) ∷ SMove (diff (below_zero 1) (pos 0) (pos 0)) ∷ Halt ∷ [])
   -- with comments, empty lines, blanks and carriage returns
-  pub read_freely : read (codes "# to the voxel\r\n\n\tSMove  < 1 ,0,\t000>\r\nFill<-0,0,001> # filled\r\n \t \nSMove <-1,0,0>\r\nHalt") ≡ Ok (SMove (diff (pos 1) (pos 0) (pos 0)) ∷ Fill (diff (pos 0) (pos 0) (pos 1)) ∷ SMove (diff (below_zero 1) (pos 0) (pos 0)) ∷ Halt ∷ [])
+  pub read_freely : read (codes "# to the voxel\r\n\n\tSMove  < 1 ,0,\t000>\r\nFill<-0,0,001> # filled\r\n \t \nSMove <-1,0,0>\r\nHalt") ≡ Ok
+      (SMove (diff (pos 1) (pos 0) (pos 0)) ∷ Fill (diff (pos 0) (pos 0) (pos 1)) ∷ SMove (diff (below_zero 1) (pos 0) (pos 0)) ∷ Halt ∷ [])
   -- the empty text
   pub read_nothing : read [] ≡ Ok []
   -- no such word

@@ -29,9 +29,12 @@ eight_bots = bot 1 0 0 1 ∷ bot 2 4 0 1 ∷ bot 3 0 0 3 ∷ bot 4 4 0 3 ∷ bot
 abbrev pub eight_commands : List Command
 eight_commands =
     GVoid (diff (pos 1) (pos 0) (pos 0)) (diff (pos 2) (pos 2) (pos 2)) ∷ GVoid (diff (below_zero 1) (pos 0) (pos 0)) (diff (below_zero 2) (pos 2) (pos 2))
-    ∷ GVoid (diff (pos 1) (pos 0) (pos 0)) (diff (pos 2) (pos 2) (below_zero 2)) ∷ GVoid (diff (below_zero 1) (pos 0) (pos 0)) (diff (below_zero 2) (pos 2) (below_zero 2))
-    ∷ GVoid (diff (pos 1) (pos 0) (pos 0)) (diff (pos 2) (below_zero 2) (pos 2)) ∷ GVoid (diff (below_zero 1) (pos 0) (pos 0)) (diff (below_zero 2) (below_zero 2) (pos 2))
-    ∷ GVoid (diff (pos 1) (pos 0) (pos 0)) (diff (pos 2) (below_zero 2) (below_zero 2)) ∷ GVoid (diff (below_zero 1) (pos 0) (pos 0)) (diff (below_zero 2) (below_zero 2) (below_zero 2)) ∷ []
+    ∷ GVoid (diff (pos 1) (pos 0) (pos 0)) (diff (pos 2) (pos 2) (below_zero 2))
+    ∷ GVoid (diff (below_zero 1) (pos 0) (pos 0)) (diff (below_zero 2) (pos 2) (below_zero 2))
+    ∷ GVoid (diff (pos 1) (pos 0) (pos 0)) (diff (pos 2) (below_zero 2) (pos 2))
+    ∷ GVoid (diff (below_zero 1) (pos 0) (pos 0)) (diff (below_zero 2) (below_zero 2) (pos 2))
+    ∷ GVoid (diff (pos 1) (pos 0) (pos 0)) (diff (pos 2) (below_zero 2) (below_zero 2))
+    ∷ GVoid (diff (below_zero 1) (pos 0) (pos 0)) (diff (below_zero 2) (below_zero 2) (below_zero 2)) ∷ []
 
 -- the state with these voxels and this energy, and the eight bots
 abbrev pub with_eight : Matrix → ℤ → State

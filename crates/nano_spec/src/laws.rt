@@ -36,7 +36,8 @@ use vox_geom::MOST_R;
 
 /// A trace has one verdict at most.
 pub fn one_verdict()
-    ensures { (source target : Matrix) (commands : List Command) (profile : Profile) (v w : Verdict) → VerdictOf source target commands profile v → VerdictOf source target commands profile w → v ≡ w }
+    ensures { (source target : Matrix) (commands : List Command) (profile : Profile) (v w : Verdict) → VerdictOf source target commands profile v
+        → VerdictOf source target commands profile w → v ≡ w }
 {}
 
 /// A step has one outcome at most.
@@ -68,8 +69,10 @@ pub fn opening_is_ready()
 
 /// A ready state is well-formed where it is grounded and its bots stand in void voxels. A well-formed one is ready where its matrix is whole, its bots stand in space and their bids rise.
 pub fn ready_and_well_formed()
-    ensures well_formed { (s : State) → IsReady s → (s.harmonics ≡ Low → FirstUngrounded s.matrix None) → All (λ a. IsFalse (is_full s.matrix a.pos)) s.bots → IsWellFormed s }
-    ensures ready { (s : State) → IsWellFormed s → length s.matrix.voxels ≡ volume s.matrix.resolution → All (λ a. IsInSpace s.matrix.resolution a.pos) s.bots → AllPairs (λ a b. a.bid < b.bid) s.bots → IsReady s }
+    ensures well_formed { (s : State) → IsReady s → (s.harmonics ≡ Low → FirstUngrounded s.matrix None)
+        → All (λ a. IsFalse (is_full s.matrix a.pos)) s.bots → IsWellFormed s }
+    ensures ready { (s : State) → IsWellFormed s → length s.matrix.voxels ≡ volume s.matrix.resolution
+        → All (λ a. IsInSpace s.matrix.resolution a.pos) s.bots → AllPairs (λ a b. a.bid < b.bid) s.bots → IsReady s }
 {}
 
 /// A voxel has one level at most.
@@ -95,12 +98,14 @@ pub fn one_reading()
 /// A line of text says a command exactly where it is of its form, is ASCII and is not skipped.
 pub fn a_line_says_its_command()
     ensures says { (line : List ℕ) (command : Command) → line_of line ≡ Says command → IsLineOf line command }
-    ensures is_said { (line : List ℕ) (command : Command) → IsFalse (has_high_byte line) → IsFalse (is_skipped line) → IsLineOf line command → line_of line ≡ Says command }
+    ensures is_said { (line : List ℕ) (command : Command) → IsFalse (has_high_byte line) → IsFalse (is_skipped line) → IsLineOf line command
+        → line_of line ≡ Says command }
 {}
 
 /// A trace has one work at most.
 pub fn one_work()
-    ensures { (source : Matrix) (commands : List Command) (profile : Profile) (n k : ℕ) → Work source commands profile n → Work source commands profile k → n ≡ k }
+    ensures { (source : Matrix) (commands : List Command) (profile : Profile) (n k : ℕ) → Work source commands profile n
+        → Work source commands profile k → n ≡ k }
 {}
 
 /// A model that is written is read back as the same model.
@@ -120,7 +125,9 @@ pub fn forged_is_legal()
 
 /// What the light profile accepts the full one accepts, with the same energy and steps.
 pub fn full_accepts_what_light_accepts()
-    ensures { (source target : Matrix) (commands : List Command) (energy : ℤ) (steps : ℕ) → VerdictOf source target commands light_profile (Accepted energy steps) → VerdictOf source target commands full_profile (Accepted energy steps) }
+    ensures { (source target : Matrix) (commands : List Command) (energy : ℤ) (steps : ℕ)
+        → VerdictOf source target commands light_profile (Accepted energy steps)
+        → VerdictOf source target commands full_profile (Accepted energy steps) }
 {}
 
 /// Worked examples of runs.

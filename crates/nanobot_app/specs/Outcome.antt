@@ -20,7 +20,8 @@ pub record Outside : Type 0 where
   pub sink_faults : ℕ
 
 abbrev pub outside : {D O : Type 0} → (D → Option Files) → (D → ℕ) → (O → Option (List ℕ)) → (O → ℕ) → D → O → Outside
-outside files depot_faults written sink_faults depot out = record { files = files depot; depot_faults = depot_faults depot; written = written out; sink_faults = sink_faults out }
+outside files depot_faults written sink_faults depot out =
+    record { files = files depot; depot_faults = depot_faults depot; written = written out; sink_faults = sink_faults out }
 
 -- a status that is no fault of the outside and no want of memory
 abbrev pub IsAnswer : Status → Type 0
@@ -95,4 +96,6 @@ RowStores row name = stores_of row ≡ Some name
 pub record Finished (effect : Effect) (old new : Outside) (result : Status) : Type 0 where
   pub cases : ((result ≡ is.Memory) × (new.files ≡ old.files) × (new.written ≡ old.written))
       ⊎ (((result ≡ is.Depot) × DepotRose old new × (new.written ≡ old.written) × IsUnstored effect.file old.files new.files)
-      ⊎ ((new.files ≡ told_with old.files effect.file) × Printed (status_by effect.message) (bytes_by effect.message) old.written new.written old.sink_faults new.sink_faults result))
+      ⊎
+      ((new.files ≡ told_with old.files effect.file)
+      × Printed (status_by effect.message) (bytes_by effect.message) old.written new.written old.sink_faults new.sink_faults result))

@@ -33,12 +33,17 @@ pub fn a_plan_is_accepted()
         → AnswerOf (plan_layer source target trace) files reply → reply.status ≡ status.Done → IsRunOfPlan full_profile source target trace reply }
     ensures group { (source target : Option (List ℕ)) (trace : List ℕ) (files : Files) (reply : Reply) → (source ≡ Some trace → ⊥) → (target ≡ Some trace → ⊥)
         → AnswerOf (plan_group source target trace) files reply → reply.status ≡ status.Done → IsRunOfPlan full_profile source target trace reply }
-    ensures void { (source trace : List ℕ) (files : Files) (reply : Reply) → (source ≡ trace → ⊥) → AnswerOf (plan_void source trace) files reply → reply.status ≡ status.Done → IsRunOfPlan full_profile (Some source) None trace reply }
-    ensures low { (target trace : List ℕ) (files : Files) (reply : Reply) → (target ≡ trace → ⊥) → AnswerOf (plan_low target trace) files reply → reply.status ≡ status.Done → IsRunOfPlan full_profile None (Some target) trace reply }
-    ensures low_as_light { (target trace : List ℕ) (files : Files) (reply : Reply) → (target ≡ trace → ⊥) → AnswerOf (plan_low target trace) files reply → reply.status ≡ status.Done → IsRunOfPlan light_profile None (Some target) trace reply }
-    ensures swarm { (target trace : List ℕ) (files : Files) (reply : Reply) → (target ≡ trace → ⊥) → AnswerOf (plan_swarm target trace) files reply → reply.status ≡ status.Done
+    ensures void { (source trace : List ℕ) (files : Files) (reply : Reply) → (source ≡ trace → ⊥) → AnswerOf (plan_void source trace) files reply
+        → reply.status ≡ status.Done → IsRunOfPlan full_profile (Some source) None trace reply }
+    ensures low { (target trace : List ℕ) (files : Files) (reply : Reply) → (target ≡ trace → ⊥) → AnswerOf (plan_low target trace) files reply
+        → reply.status ≡ status.Done → IsRunOfPlan full_profile None (Some target) trace reply }
+    ensures low_as_light { (target trace : List ℕ) (files : Files) (reply : Reply) → (target ≡ trace → ⊥)
+        → AnswerOf (plan_low target trace) files reply → reply.status ≡ status.Done → IsRunOfPlan light_profile None (Some target) trace reply }
+    ensures swarm { (target trace : List ℕ) (files : Files) (reply : Reply) → (target ≡ trace → ⊥) → AnswerOf (plan_swarm target trace) files reply
+        → reply.status ≡ status.Done
         → IsRunOfPlan full_profile None (Some target) trace reply }
-    ensures swarm_as_light { (target trace : List ℕ) (files : Files) (reply : Reply) → (target ≡ trace → ⊥) → AnswerOf (plan_swarm target trace) files reply → reply.status ≡ status.Done
+    ensures swarm_as_light { (target trace : List ℕ) (files : Files) (reply : Reply) → (target ≡ trace → ⊥)
+        → AnswerOf (plan_swarm target trace) files reply → reply.status ≡ status.Done
         → IsRunOfPlan light_profile None (Some target) trace reply }
 {
     a_model_is_whole();

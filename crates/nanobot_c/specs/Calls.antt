@@ -45,7 +45,8 @@ GaveLineOf row files old new size result = (reply : Reply) × AnswerOf row files
 
 -- an answer of the row: the trace that it stores, or else its line, was given with its status
 abbrev pub GavePlanOf : Row → Files → List ℕ → List ℕ → ℕ → ℕ → Type 0
-GavePlanOf row files old new size result = (reply : Reply) × AnswerOf row files reply × Gave (code_of reply.status) (file_or_line (content reply.after plan_name) reply.line) old new size result
+GavePlanOf row files old new size result = (reply : Reply) × AnswerOf row files reply
+    × Gave (code_of reply.status) (file_or_line (content reply.after plan_name) reply.line) old new size result
 
 -- the machine of the definitions takes the whole trace from the source to the target, with this energy in so many steps
 abbrev pub TakesAll : List ℕ → List ℕ → List ℕ → ℤ → ℕ → Type 0
@@ -61,7 +62,8 @@ PrintAlike energy count energy' count' = report_line (Accepted energy count) ≡
 
 -- an answer of the row has this status; where it is 0, it is the line of this energy and this number of steps
 abbrev pub ToldCostOf : Row → Files → ℤ → ℕ → ℕ → Type 0
-ToldCostOf row files energy count result = (reply : Reply) × AnswerOf row files reply × (result ≡ code_of reply.status) × (IsDone result → reply ≡ reply_of files (Accepted energy count))
+ToldCostOf row files energy count result = (reply : Reply) × AnswerOf row files reply × (result ≡ code_of reply.status)
+    × (IsDone result → reply ≡ reply_of files (Accepted energy count))
 
 -- the number is not 0, and is that of the status or of want of memory
 abbrev pub IsRefused : Status → ℕ → Type 0

@@ -69,7 +69,8 @@ fn give_line(alloc: Global, report: &Report, out: &mut [u8], size: &mut usize) -
 
 /// Gives the file of the effect or, where there is none, its message.
 fn give_effect(alloc: Global, effect: &Effect<'_>, out: &mut [u8], size: &mut usize) -> u32
-    ensures { MayGive (code_of (status_by effect.now.message)) (file_or_line (bytes_in effect.now.file) (bytes_by effect.now.message)) out.old out.new size.new result }
+    ensures { MayGive (code_of (status_by effect.now.message))
+        (file_or_line (bytes_in effect.now.file) (bytes_by effect.now.message)) out.old out.new size.new result }
 {
     if let Some(file) = &effect.file {
         return give(effect.message.status(), file.bytes.as_slice(), out, size);

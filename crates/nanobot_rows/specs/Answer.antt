@@ -135,7 +135,8 @@ OfText files bytes p reply = MatchBool (nat_lt text_limit (length bytes)) (Tells
 
 -- the verdict of the commands
 abbrev pub OfRun : Profile → Files → Matrix → Matrix → List Command → Reply → Type 0
-OfRun profile files source target commands reply = (verdict : Verdict) × VerdictOf source target commands profile verdict × Tells (of_verdict verdict) files reply
+OfRun profile files source target commands reply = (verdict : Verdict) × VerdictOf source target commands profile verdict
+    × Tells (of_verdict verdict) files reply
 
 -- ---- plans
 
@@ -163,7 +164,8 @@ WhereSupported files (Some at) p = Tells (Unsupported at) files
 
 -- a plan of the low planner, where each part of the target is supported
 abbrev pub OfLowPlan : List ℕ → Files → Matrix → Matrix → Reply → Type 0
-OfLowPlan name files source target reply = (at : Option Coord) × FirstUnsupported target at × WhereSupported files at (OfPlan IsLowPlan name files source target) reply
+OfLowPlan name files source target reply = (at : Option Coord) × FirstUnsupported target at
+    × WhereSupported files at (OfPlan IsLowPlan name files source target) reply
 
 -- a plan of which this is so makes the target of the empty model at this cost
 abbrev pub Costs : PlanFacts → Matrix → Cost → Type 0
@@ -227,7 +229,8 @@ AnswerOf (dis trace text) files =
     WithFile files trace (λ bytes.
     OfTrace dis_limit files bytes (λ commands.
     Stores (Stored (length commands) (length (print commands))) text (print commands) files))
-AnswerOf (make number resolution name) files = Stores (Forged resolution (full_count (forged number resolution))) name (written (forged number resolution)) files
+AnswerOf (make number resolution name) files = Stores (Forged resolution (full_count (forged number resolution))) name
+    (written (forged number resolution)) files
 AnswerOf (plan_layer source target trace) files = WithModels files source target (OfPlan IsLayerPlan trace files)
 AnswerOf (plan_group source target trace) files = WithModels files source target (OfGroupPlan trace files)
 AnswerOf (plan_void source trace) files = WithModels files (Some source) None (OfPlan IsVoidPlan trace files)

@@ -48,7 +48,8 @@ pub record KeepsPlan (name : List ℕ) (commands : List Command) (energy : ℤ) 
 
 -- what is answered where a file may be stored
 abbrev pub EndsStored : Answers → Option Files → Type 0 → Result Effect Stop → Type 0
-EndsStored answers told rose result = Reads told rose (λ files effect. answers files (reply_by files effect)) (λ files report. answers files (reply_of files report)) (λ files. answers files (no_such_file files)) result
+EndsStored answers told rose result = Reads told rose (λ files effect. answers files (reply_by files effect))
+    (λ files report. answers files (reply_of files report)) (λ files. answers files (no_such_file files)) result
 
 -- a file that the effect stores has this name, and is stored where the call is done
 abbrev pub IsFor : Option (List ℕ) → Effect → Type 0

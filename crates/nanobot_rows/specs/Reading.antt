@@ -150,7 +150,8 @@ RefusesReading (Ok commands) report = ⊥
 RefusesReading (Err faulty) report = report ≡ faulty_text faulty
 
 abbrev pub RefusesText : List ℕ → Files → Report → Type 0
-RefusesText name files report = IsSomeAnd (content files name) (λ bytes. MatchBool (nat_lt text_limit (length bytes)) (report ≡ TextLong text_limit) (RefusesReading (read bytes) report))
+RefusesText name files report = IsSomeAnd (content files name)
+    (λ bytes. MatchBool (nat_lt text_limit (length bytes)) (report ≡ TextLong text_limit) (RefusesReading (read bytes) report))
 
 -- the file of the name is a trace of these commands
 abbrev pub IsTraceOf : Files → List ℕ → List Command → Type 0
@@ -161,7 +162,8 @@ abbrev pub RefusesDecoding : List ℕ → Report → Type 0
 RefusesDecoding bytes report = (why : NoTrace) × Decoding bytes (Err why) × (report ≡ no_trace why)
 
 abbrev pub RefusesTrace : List ℕ → Files → Report → Type 0
-RefusesTrace name files report = IsSomeAnd (content files name) (λ bytes. MatchBool (nat_lt dis_limit (length bytes)) (report ≡ TraceLong dis_limit) (RefusesDecoding bytes report))
+RefusesTrace name files report = IsSomeAnd (content files name)
+    (λ bytes. MatchBool (nat_lt dis_limit (length bytes)) (report ≡ TraceLong dis_limit) (RefusesDecoding bytes report))
 
 -- the file of the name is a script that says these lines at a resolution
 abbrev pub IsScriptOf : Files → List ℕ → ℕ → List ScriptLine → Type 0
@@ -172,7 +174,8 @@ abbrev pub RefusesLines : ℕ → List ℕ → Report → Type 0
 RefusesLines r bytes report = (faulty : FaultyLine) × ScriptSays r bytes (Err faulty) × (report ≡ faulty_text faulty)
 
 abbrev pub RefusesScript : List ℕ → ℕ → Files → Report → Type 0
-RefusesScript name r files report = IsSomeAnd (content files name) (λ bytes. MatchBool (nat_lt script_limit (length bytes)) (report ≡ TextLong script_limit) (RefusesLines r bytes report))
+RefusesScript name r files report = IsSomeAnd (content files name)
+    (λ bytes. MatchBool (nat_lt script_limit (length bytes)) (report ≡ TextLong script_limit) (RefusesLines r bytes report))
 
 -- ---- traces
 
@@ -206,11 +209,13 @@ OnDecoding profile source target (Err (CutAt offset)) report = report ≡ TraceC
 
 -- the report on the bytes of a trace that is not too long
 abbrev pub OnBytes : Profile → Matrix → Matrix → List ℕ → Report → Type 0
-OnBytes profile source target bytes report = (decoding : Result (List Command) NoTrace) × Decoding bytes decoding × OnDecoding profile source target decoding report
+OnBytes profile source target bytes report = (decoding : Result (List Command) NoTrace) × Decoding bytes decoding
+    × OnDecoding profile source target decoding report
 
 -- the report on the bytes of a trace
 abbrev pub OnTrace : ℕ → Profile → Matrix → Matrix → List ℕ → Report → Type 0
-OnTrace limit profile source target bytes report = MatchBool (nat_lt limit (length bytes)) (report ≡ TraceLong limit) (OnBytes profile source target bytes report)
+OnTrace limit profile source target bytes report = MatchBool (nat_lt limit (length bytes)) (report ≡ TraceLong limit)
+    (OnBytes profile source target bytes report)
 
 -- the report on the trace of a file
 abbrev pub OnFile : ℕ → Profile → Matrix → Matrix → List ℕ → Files → Report → Type 0
@@ -232,4 +237,5 @@ no_such_file files = record { status = is.Depot; line = []; after = files }
 
 -- what is answered without any file that is stored
 abbrev pub EndsUnstored : Answers → Option Files → Type 0 → Result Report Stop → Type 0
-EndsUnstored answers told rose result = Reads told rose (λ files report. answers files (reply_of files report)) (λ files report. answers files (reply_of files report)) (λ files. answers files (no_such_file files)) result
+EndsUnstored answers told rose result = Reads told rose (λ files report. answers files (reply_of files report))
+    (λ files report. answers files (reply_of files report)) (λ files. answers files (no_such_file files)) result

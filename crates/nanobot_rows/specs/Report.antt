@@ -84,11 +84,14 @@ model_line who fault.WideLong = concat (who_of who ∷ codes " 12 WideLong\n" �
 
 -- the line of a forged model: up to what its plans cost, and whole
 abbrev pub exercised_head : ℕ → ℕ → ℕ → List ℕ
-exercised_head number resolution full = concat (codes "exercise number " ∷ decimal number ∷ codes " resolution " ∷ decimal resolution ∷ codes " full " ∷ decimal full ∷ codes " layer" ∷ [])
+exercised_head number resolution full = concat
+    (codes "exercise number " ∷ decimal number ∷ codes " resolution " ∷ decimal resolution ∷ codes " full " ∷ decimal full ∷ codes " layer" ∷ [])
 
 abbrev pub exercised_line : List ℕ → Cost → Cost → List ℕ
 exercised_line head layer group =
-    concat (head ∷ codes " energy " ∷ signed_decimal layer.energy ∷ codes " steps " ∷ decimal layer.steps ∷ codes " group energy " ∷ signed_decimal group.energy ∷ codes " steps " ∷ decimal group.steps ∷ codes "\n" ∷ [])
+    concat
+    (head ∷ codes " energy " ∷ signed_decimal layer.energy ∷ codes " steps " ∷ decimal layer.steps ∷ codes " group energy "
+    ∷ signed_decimal group.energy ∷ codes " steps " ∷ decimal group.steps ∷ codes "\n" ∷ [])
 
 -- the line of a text that is refused; want of memory is told by no line
 abbrev pub text_line : TextFault → List ℕ
@@ -108,7 +111,9 @@ report_line (report.Accepted energy steps) = concat (codes "ok energy " ∷ sign
 report_line (report.Legal resolution full) = concat (codes "legal resolution " ∷ decimal resolution ∷ codes " full " ∷ decimal full ∷ codes "\n" ∷ [])
 report_line (report.Stored commands bytes) = concat (codes "commands " ∷ decimal commands ∷ codes " bytes " ∷ decimal bytes ∷ codes "\n" ∷ [])
 report_line (report.Forged resolution full) = concat (codes "model resolution " ∷ decimal resolution ∷ codes " full " ∷ decimal full ∷ codes "\n" ∷ [])
-report_line (report.Planned energy steps commands bytes) = concat (codes "plan energy " ∷ signed_decimal energy ∷ codes " steps " ∷ decimal steps ∷ codes " commands " ∷ decimal commands ∷ codes " bytes " ∷ decimal bytes ∷ codes "\n" ∷ [])
+report_line (report.Planned energy steps commands bytes) = concat
+    (codes "plan energy " ∷ signed_decimal energy ∷ codes " steps " ∷ decimal steps ∷ codes " commands " ∷ decimal commands ∷ codes " bytes "
+    ∷ decimal bytes ∷ codes "\n" ∷ [])
 report_line (report.Broken broken) = broken_line broken
 report_line (report.Model who fault) = model_line who fault
 report_line (report.Resolutions source target) = concat (codes "resolutions " ∷ decimal source ∷ codes " " ∷ decimal target ∷ codes "\n" ∷ [])

@@ -32,11 +32,13 @@ pub record IsWithinTrace (profile : Profile) (source : Matrix) (bytes : List ℕ
 
 -- the same where files are told, and the trace is one of them
 abbrev pub IsWithinFile : Profile → Matrix → Option Files → List ℕ → ℕ → ℕ → Type 0
-IsWithinFile profile source told trace before after = (files : Files) (bytes : List ℕ) → told ≡ Some files → content files trace ≡ Some bytes → IsWithinTrace profile source bytes before after
+IsWithinFile profile source told trace before after = (files : Files) (bytes : List ℕ) → told ≡ Some files → content files trace ≡ Some bytes
+    → IsWithinTrace profile source bytes before after
 
 -- the same of the legal models of a source and a target
 abbrev pub IsRunWithin : Profile → Option (List ℕ) → Option (List ℕ) → List ℕ → Option Files → ℕ → ℕ → Type 0
-IsRunWithin profile source target trace told before after = (files : Files) (from to : Matrix) → told ≡ Some files → AreModels source target files from to → IsWithinFile profile from told trace before after
+IsRunWithin profile source target trace told before after = (files : Files) (from to : Matrix) → told ≡ Some files
+    → AreModels source target files from to → IsWithinFile profile from told trace before after
 
 -- the same of a row that runs a trace
 abbrev pub IsRowWithin : Row → Option Files → ℕ → ℕ → Type 0

@@ -28,7 +28,8 @@ fn load_script<D: Depot>(
     resolution: u16,
 ) -> Result<Vec<ScriptLine>, Stop>
     requires { D.may_fetch name.now }
-    ensures reads { Reads (D.files depot.old) (Rose (D.faults depot.old) (D.faults depot.new)) (λ files script. IsScriptOf files name.now resolution script.items) (RefusesScript name.now resolution) (Lacks name.now) result }
+    ensures reads { Reads (D.files depot.old) (Rose (D.faults depot.old) (D.faults depot.new))
+        (λ files script. IsScriptOf files name.now resolution script.items) (RefusesScript name.now resolution) (Lacks name.now) result }
     ensures files { D.files depot.new ≡ D.files depot.old }
     ensures later { D.faults depot.old ≤ D.faults depot.new }
 {
@@ -56,7 +57,8 @@ pub fn debug<'a, D: Depot, L: Ledger>(
     requires source { D.may_fetch source.now }
     requires trace { D.may_fetch trace.now }
     requires script { D.may_fetch script.now }
-    ensures finishes { EndsStored (AnswerOf (debug_row source.now trace.now script.now)) (D.files depot.old) (Rose (D.faults depot.old) (D.faults depot.new)) result }
+    ensures finishes { EndsStored (AnswerOf (debug_row source.now trace.now script.now)) (D.files depot.old)
+        (Rose (D.faults depot.old) (D.faults depot.new)) result }
     ensures named { IfOk result (IsFor None) }
     ensures files { D.files depot.new ≡ D.files depot.old }
     ensures later { D.faults depot.old ≤ D.faults depot.new }

@@ -49,7 +49,8 @@ pub fn plan_layer<'a, D: Depot>(
     requires source { (name : List ℕ) → side_of source ≡ Some name → D.may_fetch name }
     requires target { (name : List ℕ) → side_of target ≡ Some name → D.may_fetch name }
     requires some { side_of source ≡ None → side_of target ≡ None → ⊥ }
-    ensures finishes { EndsStored (AnswerOf (layer_row (side_of source.entry) (side_of target.entry) trace.now)) (D.files depot.old) (Rose (D.faults depot.old) (D.faults depot.new)) result }
+    ensures finishes { EndsStored (AnswerOf (layer_row (side_of source.entry) (side_of target.entry) trace.now)) (D.files depot.old)
+        (Rose (D.faults depot.old) (D.faults depot.new)) result }
     ensures named { IfOk result (IsFor (Some trace.now)) }
     ensures files { D.files depot.new ≡ D.files depot.old }
     ensures later { D.faults depot.old ≤ D.faults depot.new }
@@ -64,7 +65,8 @@ pub fn plan_layer<'a, D: Depot>(
 fn group_long(source: &Planes, target: &Planes) -> Option<Report>
     requires { source.now.resolution ≡ target.now.resolution }
     ensures { MatchOption result (most_bytes source.now target.now ≤ 1073741824)
-        (λ report. (1073741824 < most_bytes source.now target.now) × (report ≡ GroupLong (runs_of source.now + runs_of target.now) (rows_of source.now + rows_of target.now))) }
+        (λ report. (1073741824 < most_bytes source.now target.now)
+        × (report ≡ GroupLong (runs_of source.now + runs_of target.now) (rows_of source.now + rows_of target.now))) }
 {
     let runs = u64::from(runs(source)) + u64::from(runs(target));
     let rows = u64::from(rows(source)) + u64::from(rows(target));
@@ -85,7 +87,8 @@ pub fn plan_group<'a, D: Depot>(
     requires source { (name : List ℕ) → side_of source ≡ Some name → D.may_fetch name }
     requires target { (name : List ℕ) → side_of target ≡ Some name → D.may_fetch name }
     requires some { side_of source ≡ None → side_of target ≡ None → ⊥ }
-    ensures finishes { EndsStored (AnswerOf (group_row (side_of source.entry) (side_of target.entry) trace.now)) (D.files depot.old) (Rose (D.faults depot.old) (D.faults depot.new)) result }
+    ensures finishes { EndsStored (AnswerOf (group_row (side_of source.entry) (side_of target.entry) trace.now)) (D.files depot.old)
+        (Rose (D.faults depot.old) (D.faults depot.new)) result }
     ensures named { IfOk result (IsFor (Some trace.now)) }
     ensures files { D.files depot.new ≡ D.files depot.old }
     ensures later { D.faults depot.old ≤ D.faults depot.new }

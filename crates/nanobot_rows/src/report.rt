@@ -121,7 +121,9 @@ impl Who {
 
 /// The line of a coordinate.
 fn at_line(alloc: Global, who: &str, refusal: &str, at: Coord) -> Result<String, AllocError>
-    ensures { IfOk result (λ s. string_bytes s ≡ concat (who.now ∷ refusal.now ∷ codes " " ∷ decimal at.x ∷ codes " " ∷ decimal at.y ∷ codes " " ∷ decimal at.z ∷ codes "\n" ∷ [])) }
+    ensures { IfOk result
+        (λ s. string_bytes s ≡ concat
+        (who.now ∷ refusal.now ∷ codes " " ∷ decimal at.x ∷ codes " " ∷ decimal at.y ∷ codes " " ∷ decimal at.z ∷ codes "\n" ∷ [])) }
 {
     format!(in alloc; "{who}{refusal} {} {} {}\n", at.x, at.y, at.z)
 }
@@ -164,7 +166,8 @@ fn text_line(alloc: Global, fault: TextFault) -> Result<String, AllocError>
 
 /// The line of a target with an unsupported part.
 fn unsupported_line(alloc: Global, at: Coord) -> Result<String, AllocError>
-    ensures { IfOk result (λ s. string_bytes s ≡ concat (codes "unsupported at " ∷ decimal at.x ∷ codes " " ∷ decimal at.y ∷ codes " " ∷ decimal at.z ∷ codes "\n" ∷ [])) }
+    ensures { IfOk result
+        (λ s. string_bytes s ≡ concat (codes "unsupported at " ∷ decimal at.x ∷ codes " " ∷ decimal at.y ∷ codes " " ∷ decimal at.z ∷ codes "\n" ∷ [])) }
 {
     format!(in alloc; "unsupported at {} {} {}\n", at.x, at.y, at.z)
 }

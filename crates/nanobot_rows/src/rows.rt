@@ -64,10 +64,12 @@ fn run<D: Depot, L: Ledger>(
     requires trace { D.may_fetch trace.now }
     requires some { side_of source ≡ None → side_of target ≡ None → ⊥ }
     requires seeds { profile.seeds ≤ 39 }
-    ensures ends { EndsUnstored (AnswerOfRun profile (side_of source.entry) (side_of target.entry) trace.now) (D.files depot.old) (Rose (D.faults depot.old) (D.faults depot.new)) result }
+    ensures ends { EndsUnstored (AnswerOfRun profile (side_of source.entry) (side_of target.entry) trace.now) (D.files depot.old)
+        (Rose (D.faults depot.old) (D.faults depot.new)) result }
     ensures files { D.files depot.new ≡ D.files depot.old }
     ensures later { D.faults depot.old ≤ D.faults depot.new }
-    ensures within { (result ≡ Err Stop.Memory → ⊥) → IsRunWithin profile (side_of source.entry) (side_of target.entry) trace.now (D.files depot.old) steps.old steps.new }
+    ensures within { (result ≡ Err Stop.Memory → ⊥)
+        → IsRunWithin profile (side_of source.entry) (side_of target.entry) trace.now (D.files depot.old) steps.old steps.new }
 {
     every_run_has_work();
     let (source, target) = load_models(alloc, depot, source, target)?;

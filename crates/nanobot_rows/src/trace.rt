@@ -37,7 +37,8 @@ pub fn run_trace<D: Depot, L: Ledger>(
     requires grounded { FirstUngrounded source None }
     requires seeds { profile.seeds ≤ 39 }
     requires resolutions { source.resolution ≡ target.now.resolution }
-    ensures reads { Reads (D.files depot.old) (Rose (D.faults depot.old) (D.faults depot.new)) (OnFile run_limit profile source target.now name.now) tells_nothing (Lacks name.now) result }
+    ensures reads { Reads (D.files depot.old) (Rose (D.faults depot.old) (D.faults depot.new))
+        (OnFile run_limit profile source target.now name.now) tells_nothing (Lacks name.now) result }
     ensures files { D.files depot.new ≡ D.files depot.old }
     ensures later { D.faults depot.old ≤ D.faults depot.new }
     ensures within { (result ≡ Err Stop.Memory → ⊥) → IsWithinFile profile source (D.files depot.old) name.now steps.old steps.new }

@@ -148,7 +148,8 @@ impl TraceRun {
     pub fn finish<L: Ledger>(self, target: &Planes, steps: &mut Steps<L>) -> Report
         requires stands { self.run.spent ≡ false }
         requires resolution { self.run.progress.state.matrix.resolution ≡ target.now.resolution }
-        ensures report { (source : Matrix) (profile : ProfileOf) (bytes : List ℕ) → HasRun source profile bytes self → OnBytes profile source target.now bytes result }
+        ensures report { (source : Matrix) (profile : ProfileOf) (bytes : List ℕ) → HasRun source profile bytes self
+            → OnBytes profile source target.now bytes result }
         ensures touches { steps.new ≤ steps.old + 2 * volume target.now.resolution }
     {
         pieces_decode();
@@ -173,7 +174,8 @@ fn push<L: Ledger>(
     requires stands { runner.old.spent ≡ false }
     requires steps { runner.old.progress.steps < 1073741824 }
     ensures gets { IfOk result (λ n. Gets runner.old fed count n runner.new steps.old steps.new) }
-    ensures counted { (decoder : DecoderState) (piece : List ℕ) → AnswersPiece decoder piece fed → runner.old.progress.steps ≤ decoder.offset → runner.new.progress.steps ≤ (decoder_after decoder piece fed).offset }
+    ensures counted { (decoder : DecoderState) (piece : List ℕ) → AnswersPiece decoder piece fed → runner.old.progress.steps ≤ decoder.offset
+        → runner.new.progress.steps ≤ (decoder_after decoder piece fed).offset }
 {
     match fed {
         Fed::Got { command, used } => {

@@ -132,7 +132,8 @@ fn parse_make(words: &[String]) -> Option<Row<'_>>
 
 /// The words, where they are four.
 fn four(words: &[String]) -> Option<(&str, &str, &str, &str)>
-    ensures { MatchOption result ((a b c d : List ℕ) → texts words.now ≡ a ∷ b ∷ c ∷ d ∷ [] → ⊥) (λ r. texts words.now ≡ r.0.now ∷ r.1.now ∷ r.2.now ∷ r.3.now ∷ []) }
+    ensures { MatchOption result ((a b c d : List ℕ) → texts words.now ≡ a ∷ b ∷ c ∷ d ∷ [] → ⊥)
+        (λ r. texts words.now ≡ r.0.now ∷ r.1.now ∷ r.2.now ∷ r.3.now ∷ []) }
 {
     match words {
         [a, b, c, d] => Some((a.as_str(), b.as_str(), c.as_str(), d.as_str())),
@@ -168,7 +169,8 @@ fn parse_sides<'a>(source: &'a str, target: &'a str, trace: &str) -> Option<(Sid
 
 /// The source, the target and the trace after `run`.
 fn parse_run(words: &[String]) -> Option<Row<'_>>
-    ensures { MatchOption result ((s t : Option (List ℕ)) (b : List ℕ) → IsRow (texts words.now) (run s t b) → ⊥) (λ row. IsRow (texts words.now) (row_of row)) }
+    ensures { MatchOption result ((s t : Option (List ℕ)) (b : List ℕ) → IsRow (texts words.now) (run s t b) → ⊥)
+        (λ row. IsRow (texts words.now) (row_of row)) }
 {
     let (word, source, target, trace) = four(words)?;
     if word != "run" {
@@ -184,7 +186,8 @@ fn parse_run(words: &[String]) -> Option<Row<'_>>
 
 /// The words, where they are five.
 fn five(words: &[String]) -> Option<(&str, &str, &str, &str, &str)>
-    ensures { MatchOption result ((a b c d e : List ℕ) → texts words.now ≡ a ∷ b ∷ c ∷ d ∷ e ∷ [] → ⊥) (λ r. texts words.now ≡ r.0.now ∷ r.1.now ∷ r.2.now ∷ r.3.now ∷ r.4.now ∷ []) }
+    ensures { MatchOption result ((a b c d e : List ℕ) → texts words.now ≡ a ∷ b ∷ c ∷ d ∷ e ∷ [] → ⊥)
+        (λ r. texts words.now ≡ r.0.now ∷ r.1.now ∷ r.2.now ∷ r.3.now ∷ r.4.now ∷ []) }
 {
     match words {
         [a, b, c, d, e] => Some((a.as_str(), b.as_str(), c.as_str(), d.as_str(), e.as_str())),
@@ -214,7 +217,8 @@ fn parse_operands<'a>(
 
 /// The source, the target and the trace after `run light`.
 fn parse_light(words: &[String]) -> Option<Row<'_>>
-    ensures { MatchOption result ((s t : Option (List ℕ)) (b : List ℕ) → IsRow (texts words.now) (light s t b) → ⊥) (λ row. IsRow (texts words.now) (row_of row)) }
+    ensures { MatchOption result ((s t : Option (List ℕ)) (b : List ℕ) → IsRow (texts words.now) (light s t b) → ⊥)
+        (λ row. IsRow (texts words.now) (row_of row)) }
 {
     let (source, target, trace) = parse_operands(words, "run", "light")?;
     Some(Row::Light {
@@ -226,7 +230,8 @@ fn parse_light(words: &[String]) -> Option<Row<'_>>
 
 /// The source, the target and the trace after `plan layer`.
 fn parse_plan_layer(words: &[String]) -> Option<Row<'_>>
-    ensures { MatchOption result ((s t : Option (List ℕ)) (b : List ℕ) → IsRow (texts words.now) (plan_layer s t b) → ⊥) (λ row. IsRow (texts words.now) (row_of row)) }
+    ensures { MatchOption result ((s t : Option (List ℕ)) (b : List ℕ) → IsRow (texts words.now) (plan_layer s t b) → ⊥)
+        (λ row. IsRow (texts words.now) (row_of row)) }
 {
     let (source, target, trace) = parse_operands(words, "plan", "layer")?;
     Some(Row::PlanLayer {
@@ -238,7 +243,8 @@ fn parse_plan_layer(words: &[String]) -> Option<Row<'_>>
 
 /// The source, the target and the trace after `plan group`.
 fn parse_plan_group(words: &[String]) -> Option<Row<'_>>
-    ensures { MatchOption result ((s t : Option (List ℕ)) (b : List ℕ) → IsRow (texts words.now) (plan_group s t b) → ⊥) (λ row. IsRow (texts words.now) (row_of row)) }
+    ensures { MatchOption result ((s t : Option (List ℕ)) (b : List ℕ) → IsRow (texts words.now) (plan_group s t b) → ⊥)
+        (λ row. IsRow (texts words.now) (row_of row)) }
 {
     let (source, target, trace) = parse_operands(words, "plan", "group")?;
     Some(Row::PlanGroup {

@@ -39,11 +39,13 @@ state_of p = record { matrix = p.matrix; harmonics = p.harmonics; bots = p.bots;
 
 -- what is seen of the parts of a tape
 abbrev pub progress_of : Matrix → List Command → State → ℕ → TapeState
-progress_of source commands s steps = record { source = source; commands = commands; matrix = s.matrix; harmonics = s.harmonics; bots = s.bots; energy = s.energy; profile = s.profile; steps = steps }
+progress_of source commands s steps =
+    record { source = source; commands = commands; matrix = s.matrix; harmonics = s.harmonics; bots = s.bots; energy = s.energy; profile = s.profile; steps = steps }
 
 -- the tape before the first command
 abbrev pub starting : Matrix → Profile → TapeState
-starting source profile = record { source = source; commands = []; matrix = source; harmonics = Low; bots = first_bot profile ∷ []; energy = pos 0; profile = profile; steps = 0 }
+starting source profile =
+    record { source = source; commands = []; matrix = source; harmonics = Low; bots = first_bot profile ∷ []; energy = pos 0; profile = profile; steps = 0 }
 
 -- how many bytes the spellings of the commands have together
 unfoldable pub bytes : TapeState → ℕ

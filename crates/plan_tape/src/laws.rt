@@ -9,5 +9,6 @@ ghost use Rattle.plan_tape.specs.Reaches.{HasAtMost};
 
 /// A state that commands reach, every step accepted, has at most as many bots as the profile has seeds, and one more.
 pub fn seeds_bound_the_bots()
-    ensures { (source : Matrix) (profile : Profile) (commands : List Command) → IsWhole source → AreCommands commands → HasAtMost source profile commands (profile.seeds + 1) }
+    ensures { (source : Matrix) (profile : Profile) (commands : List Command) → IsWhole source → AreCommands commands
+        → HasAtMost source profile commands (profile.seeds + 1) }
 {}

@@ -258,7 +258,9 @@ impl Tape {
         requires group { CanPaintAll self.old commands.now }
         requires high { self.old.harmonics ≡ Harmonics.High }
         requires limit { self.old.steps < 1073741824 }
-        ensures ok { OnOk result ((region : Span) (full : Bool) → AreOneGroup (state_of self.old) region full (acts self.old.bots commands.now) → AllStep self.old self.new commands.now (with_region self.old.matrix region full) self.old.harmonics self.old.bots) }
+        ensures ok { OnOk result
+            ((region : Span) (full : Bool) → AreOneGroup (state_of self.old) region full (acts self.old.bots commands.now)
+            → AllStep self.old self.new commands.now (with_region self.old.matrix region full) self.old.harmonics self.old.bots) }
         ensures err { OnErr result (self.new ≡ self.old) }
     {
         one_group_breaks_no_rule();
@@ -275,7 +277,8 @@ impl Tape {
         requires free { AreFree (state_of self.old) (acts self.old.bots fills.now) }
         requires held { IsHeld self.old.harmonics (with_fills self.old.matrix (acts self.old.bots fills.now)) }
         requires limit { self.old.steps < 1073741824 }
-        ensures ok { OnOk result (AllStep self.old self.new fills.now (with_fills self.old.matrix (acts self.old.bots fills.now)) self.old.harmonics self.old.bots) }
+        ensures ok { OnOk result
+            (AllStep self.old self.new fills.now (with_fills self.old.matrix (acts self.old.bots fills.now)) self.old.harmonics self.old.bots) }
         ensures err { OnErr result (self.new ≡ self.old) }
     {
         free_bots_break_no_rule();
@@ -308,7 +311,8 @@ impl Tape {
         requires free { AreFree (state_of self.old) (acts self.old.bots fusions.now) }
         requires limit { self.old.steps < 1073741824 }
         ensures ok { OnOk result (AllStep self.old self.new fusions.now self.old.matrix self.old.harmonics (bots_fused self.old.bots fusions.now)) }
-        ensures primary { (first second : Act) → Contains (acts self.old.bots fusions.now) first → Contains (acts self.old.bots fusions.now) second → IsTrue (is_pair first second) → successors (acts self.old.bots fusions.now) first first.command ≡ fused first.bot second.bot ∷ [] }
+        ensures primary { (first second : Act) → Contains (acts self.old.bots fusions.now) first → Contains (acts self.old.bots fusions.now) second
+            → IsTrue (is_pair first second) → successors (acts self.old.bots fusions.now) first first.command ≡ fused first.bot second.bot ∷ [] }
         ensures err { OnErr result (self.new ≡ self.old) }
     {
         free_bots_break_no_rule();
@@ -341,7 +345,9 @@ impl Tape {
         requires reachable { IsReachable self.old d }
         requires held { IsHeld self.old.harmonics (with_voxel self.old.matrix (beside_of self.old d) true) }
         requires limit { self.old.steps < 1073741824 }
-        ensures ok { OnOk result (Writes self.old self.new (Command.Fill d) (with_voxel self.old.matrix (beside_of self.old d) true) self.old.harmonics self.old.bots (cond (is_full_of self.old.matrix (beside_of self.old d)) (pos 6) (pos 12))) }
+        ensures ok { OnOk result
+            (Writes self.old self.new (Command.Fill d) (with_voxel self.old.matrix (beside_of self.old d) true) self.old.harmonics self.old.bots
+            (cond (is_full_of self.old.matrix (beside_of self.old d)) (pos 6) (pos 12))) }
         ensures err { OnErr result (self.new ≡ self.old) }
     {
         let at = self.beside(d.diff());
@@ -361,7 +367,9 @@ impl Tape {
         requires reachable { IsReachable self.old d }
         requires held { IsHeld self.old.harmonics (with_voxel self.old.matrix (beside_of self.old d) false) }
         requires limit { self.old.steps < 1073741824 }
-        ensures ok { OnOk result (Writes self.old self.new (Command.Void d) (with_voxel self.old.matrix (beside_of self.old d) false) self.old.harmonics self.old.bots (cond (is_full_of self.old.matrix (beside_of self.old d)) (negsuc 11) (pos 3))) }
+        ensures ok { OnOk result
+            (Writes self.old self.new (Command.Void d) (with_voxel self.old.matrix (beside_of self.old d) false) self.old.harmonics self.old.bots
+            (cond (is_full_of self.old.matrix (beside_of self.old d)) (negsuc 11) (pos 3))) }
         ensures err { OnErr result (self.new ≡ self.old) }
     {
         let at = self.beside(d.diff());
@@ -423,7 +431,8 @@ impl Tape {
         ensures energy { result.energy ≡ self.energy }
         ensures steps { result.steps ≡ self.steps }
         ensures are_commands { AreCommands result.commands }
-        ensures accepted { (target : MatrixValue) → AreAlike self.matrix target → IsAccepted self.source target result.commands self.profile result.energy result.steps }
+        ensures accepted { (target : MatrixValue) → AreAlike self.matrix target
+            → IsAccepted self.source target result.commands self.profile result.energy result.steps }
     {
         know_all(&self.commands);
         Plan {

@@ -66,7 +66,8 @@ Pushes p command q = PushesAt p.mark p command q
 -- the progress that the commands make one after another from the opening
 pub data Comes (source : Matrix) (profile : Profile) : List Command → Progress → Type 0 where
   first : {commands : List Command} {p : Progress} → commands ≡ [] → p ≡ begun source profile → Comes source profile commands p
-  later : {commands : List Command} {p : Progress} (before : List Command) (q : Progress) (command : Command) → Comes source profile before q → Pushes q command p → commands ≡ before ++ command ∷ [] → Comes source profile commands p
+  later : {commands : List Command} {p : Progress} (before : List Command) (q : Progress) (command : Command) → Comes source profile before q
+      → Pushes q command p → commands ≡ before ++ command ∷ [] → Comes source profile commands p
 
 -- the verdict where no further command comes: a step that was begun lacks commands
 abbrev pub FinishesAt : Mark → Matrix → Progress → Verdict → Type 0

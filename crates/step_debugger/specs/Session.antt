@@ -140,7 +140,8 @@ BeginsGroup commands bid s t report =
 -- a group is begun unless the next commands break a rule that is judged at a step's start
 abbrev pub TriesGroup : List Command → ℕ → Session → Session → DebugReport → Type 0
 TriesGroup commands bid s t report =
-    MatchOption (broken s.point.state (next_commands commands s.point) (s.point.steps + 1)) (BeginsGroup commands bid s t report) (λ b. (t ≡ s) × (report ≡ Refused b))
+    MatchOption (broken s.point.state (next_commands commands s.point) (s.point.steps + 1)) (BeginsGroup commands bid s t report)
+    (λ b. (t ≡ s) × (report ≡ Refused b))
 
 -- the point stands again
 abbrev pub is_returned : Moment → DebugReport

@@ -237,7 +237,8 @@ impl Debugger {
         steps: &mut Steps<L>,
     ) -> Result<Option<StepOk>, DebugFault>
         requires { self.old.spent ≡ false }
-        ensures session { IfSome (group_report leader self.new.session.point.steps result) (AnswersLine self.old.commands (Group leader) self.old.session self.new.session) }
+        ensures session { IfSome (group_report leader self.new.session.point.steps result)
+            (AnswersLine self.old.commands (Group leader) self.old.session self.new.session) }
         ensures commands { self.new.commands ≡ self.old.commands }
         ensures spent { result ≡ Err DebugFault.Memory ↔ self.new.spent ≡ true }
     {
@@ -267,7 +268,9 @@ impl Debugger {
         requires some { 1 ≤ length self.now.session.point.state.bots }
         requires all { length (next_of self.now.commands self.now.session.point) ≡ length self.now.session.point.state.bots }
         ensures value { result ≡ broken self.now.session.point.state (next_of self.now.commands self.now.session.point) (self.now.session.point.steps + 1) }
-        ensures turns { IfNone result (AreTurns (acts self.now.session.point.state.bots (next_of self.now.commands self.now.session.point)) (leaders (acts self.now.session.point.state.bots (next_of self.now.commands self.now.session.point))) turns.new) }
+        ensures turns { IfNone result
+            (AreTurns (acts self.now.session.point.state.bots (next_of self.now.commands self.now.session.point))
+            (leaders (acts self.now.session.point.state.bots (next_of self.now.commands self.now.session.point))) turns.new) }
     {
         let count = self.machine.active();
         let next = next_commands(self.commands.as_slice(), self.taken, count);
@@ -297,7 +300,8 @@ impl Debugger {
 
     /// The group at a place among those that are not begun is begun.
     fn begin(&mut self, leader: u8, left: ArrayVec<u8, MOST_BOTS>, place: usize, turns: &Turns)
-        requires turns { AreTurns (acts self.old.session.point.state.bots (next_of self.old.commands self.old.session.point)) (leaders (acts self.old.session.point.state.bots (next_of self.old.commands self.old.session.point))) turns.now }
+        requires turns { AreTurns (acts self.old.session.point.state.bots (next_of self.old.commands self.old.session.point))
+            (leaders (acts self.old.session.point.state.bots (next_of self.old.commands self.old.session.point))) turns.now }
         requires stands { self.old.spent ≡ false }
         requires keeps { broken self.old.session.point.state (next_of self.old.commands self.old.session.point) (self.old.session.point.steps + 1) ≡ None }
         requires leaders { IsPermutation (next_leaders self.old.commands self.old.session.point) (self.old.session.begun ++ left.items) }

@@ -87,8 +87,10 @@ impl Groups {
     ) -> Result<(), Broken>
         requires lengths { length commands.now ≡ length crew.now }
         requires within { All (λ b. IsInSpace planes.now.resolution b.pos) crew.now }
-        ensures broken { IfErr result (λ b. (energy : ℤ) → broken (record (start_of planes.now harmonics profile crew.now) { energy = energy }) commands.now step ≡ Some b) }
-        ensures unbroken { OnOk result ((energy : ℤ) → broken (record (start_of planes.now harmonics profile crew.now) { energy = energy }) commands.now step ≡ None) }
+        ensures broken { IfErr result
+            (λ b. (energy : ℤ) → broken (record (start_of planes.now harmonics profile crew.now) { energy = energy }) commands.now step ≡ Some b) }
+        ensures unbroken { OnOk result
+            ((energy : ℤ) → broken (record (start_of planes.now harmonics profile crew.now) { energy = energy }) commands.now step ≡ None) }
         ensures groups { OnOk result (AreGroups planes.now.resolution (acts crew.now commands.now) (leaders (acts crew.now commands.now)) self.new) }
         ensures none { OnErr result (self.new ≡ []) }
         ensures touches { steps.new ≤ steps.old + 2 * volatile_total planes.now (acts crew.now commands.now) }
@@ -167,8 +169,10 @@ pub fn judge_groups<L: Ledger>(
 ) -> Result<Groups, Broken>
     requires lengths { length commands.now ≡ length crew.now }
     requires within { All (λ b. IsInSpace planes.now.resolution b.pos) crew.now }
-    ensures broken { IfErr result (λ b. (energy : ℤ) → broken (record (start_of planes.now harmonics profile crew.now) { energy = energy }) commands.now step ≡ Some b) }
-    ensures unbroken { OnOk result ((energy : ℤ) → broken (record (start_of planes.now harmonics profile crew.now) { energy = energy }) commands.now step ≡ None) }
+    ensures broken { IfErr result
+        (λ b. (energy : ℤ) → broken (record (start_of planes.now harmonics profile crew.now) { energy = energy }) commands.now step ≡ Some b) }
+    ensures unbroken { OnOk result
+        ((energy : ℤ) → broken (record (start_of planes.now harmonics profile crew.now) { energy = energy }) commands.now step ≡ None) }
     ensures groups { IfOk result (λ g. AreGroups planes.now.resolution (acts crew.now commands.now) (leaders (acts crew.now commands.now)) g) }
     ensures touches { steps.new ≤ steps.old + 2 * volatile_total planes.now (acts crew.now commands.now) }
 {

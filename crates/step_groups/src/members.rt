@@ -81,8 +81,10 @@ fn join(group: &mut Group, bots: &[Bot], commands: &[Command], bot: &Bot, comman
     requires members { array_vec_len group.old.members + length (filter (are_together_of (act bot.now command.now)) (acts bots.now commands.now)) ≤ 8 }
     requires boxes { array_vec_len group.old.boxes + length (filter (are_together_of (act bot.now command.now)) (acts bots.now commands.now)) ≤ 9 }
     ensures leader { group.new.leader ≡ group.old.leader }
-    ensures members { group.new.members.items ≡ group.old.members.items ++ map bid_of (filter (are_together_of (act bot.now command.now)) (acts bots.now commands.now)) }
-    ensures boxes { group.new.boxes.items ≡ group.old.boxes.items ++ map box_of_bot (filter (are_together_of (act bot.now command.now)) (acts bots.now commands.now)) }
+    ensures members { group.new.members.items ≡ group.old.members.items
+        ++ map bid_of (filter (are_together_of (act bot.now command.now)) (acts bots.now commands.now)) }
+    ensures boxes { group.new.boxes.items ≡ group.old.boxes.items
+        ++ map box_of_bot (filter (are_together_of (act bot.now command.now)) (acts bots.now commands.now)) }
 {
     for i in 0..bots.len() {
         if are_together(bot, command, &bots[i], &commands[i]) {
@@ -107,7 +109,11 @@ fn joined_group(
     requires few { length (filter (are_together_of (act bot.now command.now)) (acts bots.now commands.now)) ≤ 7 }
     ensures leader { result.leader ≡ bot.now.bid }
     ensures members { result.members.items ≡ bot.now.bid ∷ map bid_of (filter (are_together_of (act bot.now command.now)) (acts bots.now commands.now)) }
-    ensures boxes { (c : Coordinate) → in_boxes result.boxes.items c ≡ (is_volatile_of (point c) (act bot.now command.now) || list_any (λ b. is_within (span (box_of_bot b)) (point c)) (filter (are_together_of (act bot.now command.now)) (acts bots.now commands.now))) }
+    ensures boxes { (c : Coordinate)
+        → in_boxes result.boxes.items c ≡
+        (is_volatile_of (point c) (act bot.now command.now)
+        || list_any (λ b. is_within (span (box_of_bot b)) (point c))
+        (filter (are_together_of (act bot.now command.now)) (acts bots.now commands.now))) }
     ensures space { AreBoxesIn planes.now.resolution result.boxes.items }
 {
     let mut group = lone_group(planes, bot, command);
@@ -129,7 +135,10 @@ fn push_group(
     requires rising { AllPairs (λ a b. a.bid < b.bid) bots.now }
     requires within { All (λ b. IsInSpace planes.now.resolution b.pos) bots.now }
     requires judged { AreJudged planes.now.resolution (acts bots.now commands.now) }
-    ensures groups { AreGroups planes.now.resolution (acts bots.now commands.now) (filter (is_leader (acts bots.now commands.now)) (acts (take i bots.now) (take i commands.now))) groups.old.items → AreGroups planes.now.resolution (acts bots.now commands.now) (filter (is_leader (acts bots.now commands.now)) (acts (take (i + 1) bots.now) (take (i + 1) commands.now))) groups.new.items }
+    ensures groups { AreGroups planes.now.resolution (acts bots.now commands.now)
+        (filter (is_leader (acts bots.now commands.now)) (acts (take i bots.now) (take i commands.now))) groups.old.items
+        → AreGroups planes.now.resolution (acts bots.now commands.now)
+        (filter (is_leader (acts bots.now commands.now)) (acts (take (i + 1) bots.now) (take (i + 1) commands.now))) groups.new.items }
     ensures len { array_vec_len groups.new ≤ array_vec_len groups.old + 1 }
 {
     let bot = &bots[i];

@@ -112,7 +112,8 @@ pub(crate) fn end_of_move<L: Ledger>(
     steps: &mut Steps<L>,
 ) -> Result<Coord, Broken>
     requires { IsInSpace planes.now.resolution bot.pos }
-    ensures value { (s : State) (all : List Act) → rule_broken result ≡ first_fault (record s { matrix = planes.now }) all step (act bot (SMove d)) later_rules }
+    ensures value { (s : State) (all : List Act)
+        → rule_broken result ≡ first_fault (record s { matrix = planes.now }) all step (act bot (SMove d)) later_rules }
     ensures sum { IfOk result (λ to. point to ≡ plus (point bot.pos) d) }
     ensures within { IfOk result (λ to. IsInSpace planes.now.resolution to) }
     ensures touches { steps.new ≤ steps.old + touches_of planes.now (act bot (SMove d)) }
@@ -260,8 +261,12 @@ fn judge_near(planes: &Planes, step: u32, bot: Bot, d: Diff) -> Option<Broken>
 fn judge_fusion(step: &Step, bot: &Bot, command: &Command, d: Diff) -> Option<Broken>
     requires within { IsInSpace step.now.planes.now.resolution bot.now.pos }
     requires lengths { length step.now.commands.now ≡ length step.now.bots.now }
-    ensures primary { (s : State) → command.now ≡ FusionP d → result ≡ first_fault (record s { matrix = step.now.planes.now }) (acts step.now.bots.now step.now.commands.now) step.now.number (act bot.now command.now) later_rules }
-    ensures secondary { (s : State) → command.now ≡ FusionS d → result ≡ first_fault (record s { matrix = step.now.planes.now }) (acts step.now.bots.now step.now.commands.now) step.now.number (act bot.now command.now) later_rules }
+    ensures primary { (s : State) → command.now ≡ FusionP d
+        → result ≡ first_fault (record s { matrix = step.now.planes.now }) (acts step.now.bots.now step.now.commands.now) step.now.number
+        (act bot.now command.now) later_rules }
+    ensures secondary { (s : State) → command.now ≡ FusionS d
+        → result ≡ first_fault (record s { matrix = step.now.planes.now }) (acts step.now.bots.now step.now.commands.now) step.now.number
+        (act bot.now command.now) later_rules }
 {
     let Some(_to) = reached(step.planes, bot.pos, d) else {
         return broken_here(step.number, *bot, Rule::OutOfSpace);
@@ -274,8 +279,12 @@ fn judge_fusion(step: &Step, bot: &Bot, command: &Command, d: Diff) -> Option<Br
 fn judge_group(step: &Step, bot: &Bot, command: &Command, d: Diff, f: Diff) -> Option<Broken>
     requires within { IsInSpace step.now.planes.now.resolution bot.now.pos }
     requires lengths { length step.now.commands.now ≡ length step.now.bots.now }
-    ensures fill { (s : State) → command.now ≡ GFill d f → result ≡ first_fault (record s { matrix = step.now.planes.now }) (acts step.now.bots.now step.now.commands.now) step.now.number (act bot.now command.now) later_rules }
-    ensures void { (s : State) → command.now ≡ GVoid d f → result ≡ first_fault (record s { matrix = step.now.planes.now }) (acts step.now.bots.now step.now.commands.now) step.now.number (act bot.now command.now) later_rules }
+    ensures fill { (s : State) → command.now ≡ GFill d f
+        → result ≡ first_fault (record s { matrix = step.now.planes.now }) (acts step.now.bots.now step.now.commands.now) step.now.number
+        (act bot.now command.now) later_rules }
+    ensures void { (s : State) → command.now ≡ GVoid d f
+        → result ≡ first_fault (record s { matrix = step.now.planes.now }) (acts step.now.bots.now step.now.commands.now) step.now.number
+        (act bot.now command.now) later_rules }
 {
     let Some(near) = reached(step.planes, bot.pos, d) else {
         return broken_here(step.number, *bot, Rule::OutOfSpace);
@@ -300,7 +309,9 @@ fn judge_later<L: Ledger>(
 ) -> Option<Broken>
     requires within { IsInSpace step.now.planes.now.resolution bot.now.pos }
     requires lengths { length step.now.commands.now ≡ length step.now.bots.now }
-    ensures value { (s : State) → result ≡ first_fault (record s { matrix = step.now.planes.now; harmonics = step.now.harmonics; bots = step.now.bots.now }) (acts step.now.bots.now step.now.commands.now) step.now.number (act bot.now command.now) later_rules }
+    ensures value { (s : State)
+        → result ≡ first_fault (record s { matrix = step.now.planes.now; harmonics = step.now.harmonics; bots = step.now.bots.now })
+        (acts step.now.bots.now step.now.commands.now) step.now.number (act bot.now command.now) later_rules }
     ensures touches { steps.new ≤ steps.old + touches_of step.now.planes.now (act bot.now command.now) }
 {
     let planes = step.planes;
@@ -330,7 +341,8 @@ fn judge_bot<L: Ledger>(
 ) -> Option<Broken>
     requires within { IsInSpace step.now.planes.now.resolution bot.now.pos }
     requires lengths { length step.now.commands.now ≡ length step.now.bots.now }
-    ensures value { result ≡ judge_bot_of (start_of step.now.planes.now step.now.harmonics step.now.profile step.now.bots.now) (acts step.now.bots.now step.now.commands.now) step.now.number (act bot.now command.now) }
+    ensures value { result ≡ judge_bot_of (start_of step.now.planes.now step.now.harmonics step.now.profile step.now.bots.now)
+        (acts step.now.bots.now step.now.commands.now) step.now.number (act bot.now command.now) }
     ensures touches { steps.new ≤ steps.old + touches_of step.now.planes.now (act bot.now command.now) }
 {
     if step.profile.allows(*command) {
@@ -344,7 +356,8 @@ fn judge_bot<L: Ledger>(
 pub(crate) fn judge_bots<L: Ledger>(step: &Step, steps: &mut Steps<L>) -> Option<Broken>
     requires within { All (λ b. IsInSpace step.now.planes.now.resolution b.pos) step.now.bots.now }
     requires lengths { length step.now.commands.now ≡ length step.now.bots.now }
-    ensures value { result ≡ judge_each (start_of step.now.planes.now step.now.harmonics step.now.profile step.now.bots.now) (acts step.now.bots.now step.now.commands.now) step.now.number (acts step.now.bots.now step.now.commands.now) }
+    ensures value { result ≡ judge_each (start_of step.now.planes.now step.now.harmonics step.now.profile step.now.bots.now)
+        (acts step.now.bots.now step.now.commands.now) step.now.number (acts step.now.bots.now step.now.commands.now) }
     ensures touches { steps.new ≤ steps.old + sum_by (touches_of step.now.planes.now) (acts step.now.bots.now step.now.commands.now) }
 {
     let bots = step.bots;

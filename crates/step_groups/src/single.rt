@@ -58,7 +58,8 @@ pub fn judge_move<L: Ledger>(
     steps: &mut Steps<L>,
 ) -> Result<Coord, Broken>
     requires within { IsInSpace planes.now.resolution bot.pos }
-    ensures value { (harmonics : HarmonicsOf) (energy : ℤ) → rule_broken result ≡ broken (record (start_of planes.now harmonics profile (bot ∷ [])) { energy = energy }) (SMove d ∷ []) step }
+    ensures value { (harmonics : HarmonicsOf) (energy : ℤ)
+        → rule_broken result ≡ broken (record (start_of planes.now harmonics profile (bot ∷ [])) { energy = energy }) (SMove d ∷ []) step }
     ensures sum { IfOk result (λ to. point to ≡ plus (point bot.pos) d) }
     ensures stays { IfOk result (λ to. IsInSpace planes.now.resolution to) }
     ensures touches { steps.new ≤ steps.old + 2 * volatile_total planes.now (acts (bot ∷ []) (SMove d ∷ [])) }
@@ -81,7 +82,8 @@ pub fn judge_edit(
     step: u32,
 ) -> Result<Coord, Broken>
     requires within { IsInSpace planes.now.resolution bot.pos }
-    ensures value { (harmonics : HarmonicsOf) (energy : ℤ) → rule_broken result ≡ broken (record (start_of planes.now harmonics profile (bot ∷ [])) { energy = energy }) (edit_of full d ∷ []) step }
+    ensures value { (harmonics : HarmonicsOf) (energy : ℤ)
+        → rule_broken result ≡ broken (record (start_of planes.now harmonics profile (bot ∷ [])) { energy = energy }) (edit_of full d ∷ []) step }
     ensures sum { IfOk result (λ at. point at ≡ plus (point bot.pos) d) }
     ensures stays { IfOk result (λ at. IsInSpace planes.now.resolution at) }
 {

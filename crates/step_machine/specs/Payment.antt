@@ -32,4 +32,5 @@ LeftAt _ p rest searched start now n = now ≤ start + 100 * n + searched
 
 -- whatever commands follow those that have come, the touches from start to now are paid for by the work of them all
 abbrev pub IsPaid : Matrix → Profile → List Command → Progress → ℕ → ℕ → Type 0
-IsPaid source profile commands p start now = (rest : List Command) (n : ℕ) → Work source (commands ++ rest) profile n → LeftAt p.mark p rest (volume source.resolution) start now n
+IsPaid source profile commands p start now = (rest : List Command) (n : ℕ) → Work source (commands ++ rest) profile n
+    → LeftAt p.mark p rest (volume source.resolution) start now n

@@ -86,4 +86,5 @@ levels_moved levels = differing levels.first levels.middle + differing levels.mi
 -- void, and for each whose level changes then by what is made full
 abbrev pub IsUndoneBy : Matrix → List Coord → List Coord → ℕ → ℕ → Type 0
 IsUndoneBy m filled voided began ended =
-    (levels : LevelsThrough m (without_filled m filled) (matrix_before m filled voided)) × (ended ≤ began + 100 * (length filled + length voided + levels_moved levels))
+    (levels : LevelsThrough m (without_filled m filled) (matrix_before m filled voided))
+    × (ended ≤ began + 100 * (length filled + length voided + levels_moved levels))

@@ -20,6 +20,9 @@ pub fn every_run_has_work()
 /// all, but for one search of the matrix.
 pub fn the_work_pays()
     ensures first { (source : Matrix) (profile : Profile) (p : Progress) (start : ℕ) → p ≡ begun source profile → IsPaid source profile [] p start start }
-    ensures push { (source : Matrix) (profile : Profile) (commands : List CommandOf) (p q : Progress) (command : CommandOf) (start before after : ℕ) → p.state.matrix.resolution ≡ source.resolution → Pushes p command q → Touches p q command before after → IsPaid source profile commands p start before → IsPaid source profile (commands ++ command ∷ []) q start after }
-    ensures all { (source : Matrix) (profile : Profile) (commands rest : List CommandOf) (p : Progress) (start now n : ℕ) → IsPaid source profile commands p start now → Work source (commands ++ rest) profile n → now ≤ start + 100 * n + volume source.resolution }
+    ensures push { (source : Matrix) (profile : Profile) (commands : List CommandOf) (p q : Progress) (command : CommandOf) (start before after : ℕ)
+        → p.state.matrix.resolution ≡ source.resolution → Pushes p command q → Touches p q command before after
+        → IsPaid source profile commands p start before → IsPaid source profile (commands ++ command ∷ []) q start after }
+    ensures all { (source : Matrix) (profile : Profile) (commands rest : List CommandOf) (p : Progress) (start now n : ℕ)
+        → IsPaid source profile commands p start now → Work source (commands ++ rest) profile n → now ≤ start + 100 * n + volume source.resolution }
 {}

@@ -132,7 +132,9 @@ impl Runner {
         ensures resolution { self.new.progress.state.matrix.resolution ≡ self.old.progress.state.matrix.resolution }
         ensures lacks { IfOk result (λ _. LacksCommands self.new.progress) }
         ensures untouched { MakesNoStep self.old.progress → steps.new ≡ steps.old }
-        ensures touches { IfOk result (λ _. IsWithinWork self.old.progress.state (self.old.progress.pending ++ command ∷ []) (self.old.progress.steps + 1) (steps.old + searched_by self.new.progress.mark self.old.progress.state.matrix) steps.new) }
+        ensures touches { IfOk result
+            (λ _. IsWithinWork self.old.progress.state (self.old.progress.pending ++ command ∷ []) (self.old.progress.steps + 1)
+            (steps.old + searched_by self.new.progress.mark self.old.progress.state.matrix) steps.new) }
     {
         match &self.mark {
             Mark::Running => {}

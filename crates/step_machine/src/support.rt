@@ -127,7 +127,9 @@ fn refit_cells<L: Ledger>(
     requires added { added.now ≡ edits_of system.now commands.now false }
     requires stands { forest.old.spent ≡ false }
     requires tied { forest.old.matrix ≡ system.now.matrix }
-    ensures refitted { IfOk result (λ _. (before : ℕ) → steps.old ≤ before + volatile_total system.now.matrix (acts system.now.bots commands.now) → IsRefitted system.now commands.now forest.new before steps.new) }
+    ensures refitted { IfOk result
+        (λ _. (before : ℕ) → steps.old ≤ before + volatile_total system.now.matrix (acts system.now.bots commands.now)
+        → IsRefitted system.now commands.now forest.new before steps.new) }
     ensures edits { IfErr result (λ _. 1 ≤ count_by is_edit commands.now) }
 {
     let _ = system.crew();
@@ -180,7 +182,8 @@ fn change_cell<L: Ledger>(
 ) -> Result<(), Memory>
     requires stands { forest.old.spent ≡ false }
     requires cell { MatchBool full (MayAdd forest.old.matrix (cell ∷ [])) (MayRemove forest.old.matrix (cell ∷ [])) }
-    ensures value { IfOk result (λ _. MatchBool full (AreAdded forest.old.matrix forest.new.matrix (cell ∷ [])) (AreRemoved forest.old.matrix forest.new.matrix (cell ∷ []))) }
+    ensures value { IfOk result
+        (λ _. MatchBool full (AreAdded forest.old.matrix forest.new.matrix (cell ∷ [])) (AreRemoved forest.old.matrix forest.new.matrix (cell ∷ []))) }
     ensures stands { IfOk result (λ _. forest.new.spent ≡ false) }
     ensures touches { IfOk result (λ _. IsCheap forest.old.matrix forest.new.matrix (cell ∷ []) 100 steps.old steps.new) }
 {

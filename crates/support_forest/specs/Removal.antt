@@ -29,7 +29,8 @@ abbrev pub IsInHand : List Orphan → ℕ → Orphan → ℕ → Coord → Orpha
 IsInHand queue i x d c y = IsLater queue i y ⊎ IsAtHand x d c y
 
 -- one orphan, at some of its neighbours
-pub record IsHandling (old first now : Grid) (gone : List Coord) (start queue : List Orphan) (fresh : List Coord) (i d : ℕ) (x : Orphan) (before steps : ℕ) : Type 0 where
+pub record IsHandling (old first now : Grid) (gone : List Coord) (start queue : List Orphan) (fresh : List Coord) (i d : ℕ) (x : Orphan)
+    (before steps : ℕ) : Type 0 where
   pub removing : IsRemoving old now gone queue fresh (IsInHand queue i x d)
   pub below : i ≤ length queue
   pub orphan : (0 < x.height) × (0 < word_at old x.at)
@@ -50,4 +51,6 @@ pub record CanLose (now : Grid) (queue : List Orphan) (fresh : List Coord) (x : 
 -- every removal goes on from one direction to another
 abbrev pub Loses : Grid → Grid → List Orphan → List Orphan → List Coord → List Coord → Orphan → ℕ → ℕ → ℕ → ℕ → Type 0
 Loses now new queue more fresh most x d e steps after =
-    (old first : Grid) (gone : List Coord) (start : List Orphan) (place before : ℕ) → AreExact old.resolution (word_at old) → IsHandling old first now gone start queue fresh place d x before steps → IsHandling old first new gone start more most place e x before after
+    (old first : Grid) (gone : List Coord) (start : List Orphan) (place before : ℕ) → AreExact old.resolution (word_at old)
+    → IsHandling old first now gone start queue fresh place d x before steps
+    → IsHandling old first new gone start more most place e x before after

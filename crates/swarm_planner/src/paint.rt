@@ -109,7 +109,9 @@ fn paint_line(alloc: Global, tape: &mut Tape, goal: &Planes, x: u16, y: u16) -> 
     requires first { 1 ≤ x }
     requires wide { x ≤ width tape.old.matrix.resolution }
     requires limit { crew_steps_to tape.old (coord x (y + 1) 0) + 2 * tape.old.matrix.resolution < 1073741824 }
-    ensures { OnOk result (Builds tape.old tape.new goal.now (line tape.old.matrix.resolution x y) (coord x (y + 1) 0) (coord x (y + 1) tape.old.matrix.resolution) (2 * tape.old.matrix.resolution)) }
+    ensures { OnOk result
+        (Builds tape.old tape.new goal.now (line tape.old.matrix.resolution x y) (coord x (y + 1) 0) (coord x (y + 1) tape.old.matrix.resolution)
+        (2 * tape.old.matrix.resolution)) }
 {
     for z in 0..goal.resolution() {
         paint_cell(alloc, tape, goal, x, y, z)?;
@@ -121,7 +123,9 @@ fn paint_line(alloc: Global, tape: &mut Tape, goal: &Planes, x: u16, y: u16) -> 
 fn paint_layer(alloc: Global, tape: &mut Tape, goal: &Planes, y: u16) -> Result<(), Memory>
     requires ready { CanFillLayer tape.old goal.now y }
     requires limit { crew_steps_to tape.old (coord 1 (y + 1) 0) + width tape.old.matrix.resolution * line_steps tape.old.matrix.resolution < 1073741824 }
-    ensures { OnOk result (Builds tape.old tape.new goal.now (in_first_lines tape.old.matrix.resolution (width tape.old.matrix.resolution) y) (coord 1 (y + 1) 0) (coord (width tape.old.matrix.resolution + 1) (y + 1) 0) (width tape.old.matrix.resolution * line_steps tape.old.matrix.resolution)) }
+    ensures { OnOk result
+        (Builds tape.old tape.new goal.now (in_first_lines tape.old.matrix.resolution (width tape.old.matrix.resolution) y) (coord 1 (y + 1) 0)
+        (coord (width tape.old.matrix.resolution + 1) (y + 1) 0) (width tape.old.matrix.resolution * line_steps tape.old.matrix.resolution)) }
 {
     for x in 0..strip_width(goal.resolution()) {
         paint_line(alloc, tape, goal, x + 1, y)?;
@@ -135,7 +139,9 @@ pub fn build(alloc: Global, tape: &mut Tape, goal: &Planes) -> Result<(), Memory
     requires void { IsVoidFrom tape.old.matrix 0 }
     requires low { (spot tape.old.bots).y ≤ 1 }
     requires limit { crew_steps_to tape.old (coord 1 1 0) + (tape.old.matrix.resolution - 1) * swarm_layer_steps tape.old.matrix.resolution < 1073741824 }
-    ensures { OnOk result (Builds tape.old tape.new goal.now (layers tape.old.matrix.resolution (tape.old.matrix.resolution - 1)) (coord 1 1 0) (coord 1 tape.old.matrix.resolution 0) ((tape.old.matrix.resolution - 1) * swarm_layer_steps tape.old.matrix.resolution)) }
+    ensures { OnOk result
+        (Builds tape.old tape.new goal.now (layers tape.old.matrix.resolution (tape.old.matrix.resolution - 1)) (coord 1 1 0)
+        (coord 1 tape.old.matrix.resolution 0) ((tape.old.matrix.resolution - 1) * swarm_layer_steps tape.old.matrix.resolution)) }
 {
     for y in 0..goal.resolution() - 1 {
         paint_layer(alloc, tape, goal, y)?;

@@ -78,7 +78,8 @@ fn closed(mut tape: Tape, target: &Planes) -> Result<Plan, Memory>
     requires whole { IsWhole tape.source }
     ensures accepted { IfOk result (λ plan. IsAccepted tape.source target.now plan.commands light_profile plan.energy plan.steps) }
     ensures few { IfOk result (λ plan. HasAtMost tape.source light_profile plan.commands 20) }
-    ensures steps { IfOk result (λ plan. plan.steps ≤ 4 * width target.now.resolution * target.now.resolution * target.now.resolution + 8 * target.now.resolution + 2000) }
+    ensures steps { IfOk result
+        (λ plan. plan.steps ≤ 4 * width target.now.resolution * target.now.resolution * target.now.resolution + 8 * target.now.resolution + 2000) }
 {
     seeds_bound_the_bots();
     let _ = target.resolution();
@@ -112,7 +113,8 @@ fn planned(alloc: Global, nothing: Planes, target: &Planes) -> Result<Plan, Memo
     requires differ { nothing ≢ target.now }
     ensures accepted { IfOk result (λ plan. IsAccepted nothing target.now plan.commands light_profile plan.energy plan.steps) }
     ensures few { IfOk result (λ plan. HasAtMost nothing light_profile plan.commands 20) }
-    ensures steps { IfOk result (λ plan. plan.steps ≤ 4 * width target.now.resolution * target.now.resolution * target.now.resolution + 8 * target.now.resolution + 2000) }
+    ensures steps { IfOk result
+        (λ plan. plan.steps ≤ 4 * width target.now.resolution * target.now.resolution * target.now.resolution + 8 * target.now.resolution + 2000) }
 {
     let _ = nothing.resolution();
     let _ = target.resolution();
@@ -128,7 +130,8 @@ pub fn plan_swarm(alloc: Global, target: &Planes) -> Result<Plan, Memory>
     requires { IsLegal target.now }
     ensures light { IfOk result (λ plan. IsAccepted (empty target.now.resolution) target.now plan.commands light_profile plan.energy plan.steps) }
     ensures full { IfOk result (λ plan. IsAccepted (empty target.now.resolution) target.now plan.commands full_profile plan.energy plan.steps) }
-    ensures steps { IfOk result (λ plan. plan.steps ≤ 4 * width target.now.resolution * target.now.resolution * target.now.resolution + 8 * target.now.resolution + 2000) }
+    ensures steps { IfOk result
+        (λ plan. plan.steps ≤ 4 * width target.now.resolution * target.now.resolution * target.now.resolution + 8 * target.now.resolution + 2000) }
     ensures few { IfOk result (λ plan. HasAtMost (empty target.now.resolution) light_profile plan.commands 20) }
     ensures halt_alone { target.now ≡ empty target.now.resolution → IfOk result (λ plan. plan.commands ≡ Command.Halt ∷ []) }
 {

@@ -2,17 +2,17 @@
 //! commands of a step, and the effects of its groups, one group after another. No call takes memory.
 #![tactic(auto)]
 
+mod edited;
 mod known;
 mod moves;
 mod system;
 mod turns;
 mod voxels;
-mod edited;
 
+pub use edited::{EditedRegion, edited_region};
 pub use known::{know, know_all};
 pub use system::System;
 pub use turns::{Turn, Turns};
-pub use edited::{EditedRegion, edited_region};
 
 #[cfg(test)]
 mod tests;

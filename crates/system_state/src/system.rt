@@ -401,7 +401,8 @@ impl System {
         requires turns { AreTurns (acts self.now.bots commands.now) (leaders (acts self.now.bots commands.now)) turns.now }
         requires within { All (λ b. IsInSpace self.now.matrix.resolution b.pos) crew.old }
         requires next { (before : List ℕ) × (rest : List ℕ) × FollowsOn self.now commands.now before leader rest crew.old }
-        ensures bots { (before rest : List ℕ) → FollowsOn self.now commands.now before leader rest crew.old → crew.new ≡ bots_after_some self.now commands.now (before ++ leader ∷ []) }
+        ensures bots { (before rest : List ℕ) → FollowsOn self.now commands.now before leader rest crew.old
+            → crew.new ≡ bots_after_some self.now commands.now (before ++ leader ∷ []) }
         ensures within { All (λ b. IsInSpace self.now.matrix.resolution b.pos) crew.new }
     {
         know_all(commands);

@@ -77,7 +77,8 @@ impl Turns {
     pub(crate) fn arrange(&mut self, order: &[u8])
         requires { IsPermutation (map leader_of self.old) order.now }
         ensures leaders { map leader_of self.new ≡ order.now }
-        ensures groups { (bots : List ActiveBot) (commands : List Command) → AllPairs (λ a b. a.bid < b.bid) bots → length commands ≡ length bots → AreTurns (acts bots commands) (leaders (acts bots commands)) self.old → AreAllTurns (acts bots commands) self.new }
+        ensures groups { (bots : List ActiveBot) (commands : List Command) → AllPairs (λ a b. a.bid < b.bid) bots → length commands ≡ length bots
+            → AreTurns (acts bots commands) (leaders (acts bots commands)) self.old → AreAllTurns (acts bots commands) self.new }
     {
         let mut arranged = ArrayVec::new();
         for leader in order {
@@ -114,7 +115,8 @@ fn partner_of(group: &Group) -> u8
 /// The place of the bot with the bid, where there is one.
 fn place_of(bots: &[Bot], bid: u8) -> u8
     requires { length bots.now ≤ 40 }
-    ensures { (k : ℕ) → k < length bots.now → (d : ActiveBot) → (slice_index_or bots.now k d).bid ≡ bid → (result < length bots.now) × ((slice_index_or bots.now result d).bid ≡ bid) }
+    ensures { (k : ℕ) → k < length bots.now → (d : ActiveBot) → (slice_index_or bots.now k d).bid ≡ bid
+        → (result < length bots.now) × ((slice_index_or bots.now result d).bid ≡ bid) }
 {
     for i in 0..bots.len() {
         if bots[i].bid == bid {
@@ -129,7 +131,9 @@ pub(crate) fn gather(turns: &mut ArrayVec<Turn, MOST_BOTS>, groups: &[Group], bo
     requires bots { length bots.now ≤ 40 }
     requires groups { length groups.now ≤ 40 }
     requires rising { AllPairs (λ a b. a.bid < b.bid) bots.now }
-    ensures { (r : ℕ) (commands : List Command) → length commands ≡ length bots.now → AreGroups r (acts bots.now commands) (leaders (acts bots.now commands)) groups.now → AreTurns (acts bots.now commands) (leaders (acts bots.now commands)) turns.new.items }
+    ensures { (r : ℕ) (commands : List Command) → length commands ≡ length bots.now
+        → AreGroups r (acts bots.now commands) (leaders (acts bots.now commands)) groups.now
+        → AreTurns (acts bots.now commands) (leaders (acts bots.now commands)) turns.new.items }
 {
     turns.clear();
     for group in groups {
@@ -144,7 +148,9 @@ pub(crate) fn gather(turns: &mut ArrayVec<Turn, MOST_BOTS>, groups: &[Group], bo
 /// The turns of bots each of which is a group of its own.
 pub(crate) fn gather_lone(turns: &mut ArrayVec<Turn, MOST_BOTS>, bots: &[Bot])
     requires { length bots.now ≤ 40 }
-    ensures { (commands : List Command) → length commands ≡ length bots.now → leaders (acts bots.now commands) ≡ acts bots.now commands → All (λ a. members (acts bots.now commands) a ≡ a ∷ []) (acts bots.now commands) → AreTurns (acts bots.now commands) (leaders (acts bots.now commands)) turns.new.items }
+    ensures { (commands : List Command) → length commands ≡ length bots.now → leaders (acts bots.now commands) ≡ acts bots.now commands
+        → All (λ a. members (acts bots.now commands) a ≡ a ∷ []) (acts bots.now commands)
+        → AreTurns (acts bots.now commands) (leaders (acts bots.now commands)) turns.new.items }
 {
     turns.clear();
     for i in 0..bots.len() {
@@ -176,7 +182,10 @@ fn push_turn(turns: &mut ArrayVec<Turn, MOST_BOTS>, bots: &[Bot], commands: &[Co
     requires most { length bots.now ≤ 40 }
     requires room { array_vec_len turns.old ≤ i }
     requires rising { AllPairs (λ a b. a.bid < b.bid) bots.now }
-    ensures turns { AreTurns (acts bots.now commands.now) (filter (is_leader (acts bots.now commands.now)) (acts (take i bots.now) (take i commands.now))) turns.old.items → AreTurns (acts bots.now commands.now) (filter (is_leader (acts bots.now commands.now)) (acts (take (i + 1) bots.now) (take (i + 1) commands.now))) turns.new.items }
+    ensures turns { AreTurns (acts bots.now commands.now)
+        (filter (is_leader (acts bots.now commands.now)) (acts (take i bots.now) (take i commands.now))) turns.old.items
+        → AreTurns (acts bots.now commands.now)
+        (filter (is_leader (acts bots.now commands.now)) (acts (take (i + 1) bots.now) (take (i + 1) commands.now))) turns.new.items }
     ensures len { array_vec_len turns.new ≤ i + 1 }
 {
     let bot = &bots[i];

@@ -13,8 +13,8 @@ ghost use Rattle.system_state.specs.Painting.{full_in, met_count, size_in, void_
 ghost use Rattle.vox_planes.specs.Voxel.{IsWhole};
 ghost use Rattle.step_groups.specs.Judging.{act};
 
-use crate::known::know;
 use crate::edited::{EditedRegion, edited_region};
+use crate::known::know;
 use energy_sum::{a_group_costs_little, command_cost};
 use nano_spec::{Bot, Command};
 use std::sync::ledger::Ledger;
@@ -77,7 +77,8 @@ fn met_by(size: u32, others: u32, full: bool) -> Met
 
 /// What the turn of a group costs, by its leader's command.
 fn turn_cost(command: &Command, met: Met) -> i64
-    ensures cost { (m : Matrix) (p : Point) → met.void ≡ void_count m p command.now → met.full ≡ met_full_count m p command.now → result ≡ group_cost m p command.now }
+    ensures cost { (m : Matrix) (p : Point) → met.void ≡ void_count m p command.now → met.full ≡ met_full_count m p command.now
+        → result ≡ group_cost m p command.now }
 {
     match command {
         Command::FusionS(d) => command_cost(Command::FusionP(*d), met.void, met.full),

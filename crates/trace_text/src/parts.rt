@@ -173,7 +173,8 @@ impl<'a> Rest<'a> {
     fn number_and(&mut self, mark: u8) -> Option<i16>
         requires no_blank { IsFalse (is_blank_byte mark) }
         requires no_digit { IsFalse (is_digit mark) }
-        ensures { (parts : List Part) → readings (Blanks ∷ Number ∷ Blanks ∷ Mark mark ∷ parts) self.old.bytes.now ≡ after_number result parts self.new.bytes.now }
+        ensures { (parts : List Part)
+            → readings (Blanks ∷ Number ∷ Blanks ∷ Mark mark ∷ parts) self.old.bytes.now ≡ after_number result parts self.new.bytes.now }
     {
         self.skip_blanks();
         let number = self.number()?;

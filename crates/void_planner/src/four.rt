@@ -39,7 +39,8 @@ fn shift(tape: &mut Tape, axis: Axis, at: u16, next: u16) -> Result<(), Memory>
     requires near { (next ≤ at + 15) × (at ≤ next + 15) }
     requires stand { CanStand tape.old.matrix (far_of tape.old.matrix.resolution) (far_of tape.old.matrix.resolution) (put axis (spot tape.old.bots) next) }
     requires limit { tape.old.steps < 1073741824 }
-    ensures { OnOk result (FourGo tape.old tape.new (far_of tape.old.matrix.resolution) (far_of tape.old.matrix.resolution) (put axis (spot tape.old.bots) next) 1) }
+    ensures { OnOk result
+        (FourGo tape.old tape.new (far_of tape.old.matrix.resolution) (far_of tape.old.matrix.resolution) (put axis (spot tape.old.bots) next) 1) }
 {
     let _ = tape.matrix().resolution();
     tape.move_all(&[
@@ -55,7 +56,9 @@ fn go_along(tape: &mut Tape, axis: Axis, to: u16) -> Result<(), Memory>
     requires square { IsRectangle tape.old (far_of tape.old.matrix.resolution) (far_of tape.old.matrix.resolution) }
     requires stand { CanStand tape.old.matrix (far_of tape.old.matrix.resolution) (far_of tape.old.matrix.resolution) (put axis (spot tape.old.bots) to) }
     requires limit { tape.old.steps + moves_of (component_of axis (spot tape.old.bots)) to ≤ 1073741824 }
-    ensures { OnOk result (FourGo tape.old tape.new (far_of tape.old.matrix.resolution) (far_of tape.old.matrix.resolution) (put axis (spot tape.old.bots) to) (moves_of (component_of axis (spot tape.old.bots)) to)) }
+    ensures { OnOk result
+        (FourGo tape.old tape.new (far_of tape.old.matrix.resolution) (far_of tape.old.matrix.resolution) (put axis (spot tape.old.bots) to)
+        (moves_of (component_of axis (spot tape.old.bots)) to)) }
 {
     let mut at = component(axis, corner(tape));
     while at != to {
@@ -71,7 +74,8 @@ pub fn go(tape: &mut Tape, to: Coord) -> Result<(), Memory>
     requires square { IsRectangle tape.old (far_of tape.old.matrix.resolution) (far_of tape.old.matrix.resolution) }
     requires stand { CanStand tape.old.matrix (far_of tape.old.matrix.resolution) (far_of tape.old.matrix.resolution) to }
     requires limit { tape.old.steps + moves_to_of (spot tape.old.bots) to ≤ 1073741824 }
-    ensures { OnOk result (FourGo tape.old tape.new (far_of tape.old.matrix.resolution) (far_of tape.old.matrix.resolution) to (moves_to_of (spot tape.old.bots) to)) }
+    ensures { OnOk result
+        (FourGo tape.old tape.new (far_of tape.old.matrix.resolution) (far_of tape.old.matrix.resolution) to (moves_to_of (spot tape.old.bots) to)) }
 {
     go_along(tape, Axis::X, to.x)?;
     go_along(tape, Axis::Y, to.y)?;
@@ -178,7 +182,9 @@ pub fn void_below(tape: &mut Tape, far: u16) -> Result<(), Memory>
     requires square { IsRectangle tape.old far far }
     requires above { 1 ≤ (spot tape.old.bots).y }
     requires limit { tape.old.steps < 1073741824 }
-    ensures { OnOk result (FourVoid tape.old tape.new far (tile far (coord (spot tape.old.bots).x ((spot tape.old.bots).y - 1) (spot tape.old.bots).z)) (with_region tape.old.matrix (tile far (coord (spot tape.old.bots).x ((spot tape.old.bots).y - 1) (spot tape.old.bots).z)) false)) }
+    ensures { OnOk result
+        (FourVoid tape.old tape.new far (tile far (coord (spot tape.old.bots).x ((spot tape.old.bots).y - 1) (spot tape.old.bots).z))
+        (with_region tape.old.matrix (tile far (coord (spot tape.old.bots).x ((spot tape.old.bots).y - 1) (spot tape.old.bots).z)) false)) }
 {
     let far = far as i16;
     tape.paint_all(&[

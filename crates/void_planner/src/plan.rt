@@ -52,7 +52,8 @@ fn most_but_two(r: u16) -> u32
 fn only_halt(alloc: Global, source: Planes) -> Result<Plan, Memory>
     requires legal { IsLegal source }
     requires void { IsVoidModel source }
-    ensures accepted { IfOk result (λ plan. (target : MatrixValue) → IsVoidModel target → IsAccepted source target plan.commands full_profile plan.energy plan.steps) }
+    ensures accepted { IfOk result
+        (λ plan. (target : MatrixValue) → IsVoidModel target → IsAccepted source target plan.commands full_profile plan.energy plan.steps) }
     ensures commands { IfOk result (λ plan. plan.commands ≡ Command.Halt ∷ []) }
     ensures steps { IfOk result (λ plan. plan.steps ≡ 1) }
     ensures few { IfOk result (λ plan. HasAtMost source full_profile plan.commands 4) }
@@ -66,7 +67,8 @@ fn only_halt(alloc: Global, source: Planes) -> Result<Plan, Memory>
 fn with_four(alloc: Global, source: Planes) -> Result<Plan, Memory>
     requires legal { IsLegal source }
     requires some { 2 ≤ source.resolution }
-    ensures accepted { IfOk result (λ plan. (target : MatrixValue) → IsVoidModel target → IsAccepted source target plan.commands full_profile plan.energy plan.steps) }
+    ensures accepted { IfOk result
+        (λ plan. (target : MatrixValue) → IsVoidModel target → IsAccepted source target plan.commands full_profile plan.energy plan.steps) }
     ensures steps { IfOk result (λ plan. plan.steps ≤ most_void_steps source.resolution) }
     ensures few { IfOk result (λ plan. HasAtMost source full_profile plan.commands 4) }
 {

@@ -91,7 +91,8 @@ impl System {
         requires payable { IsPayable self.old.energy }
         requires within { IsInSpace self.old.matrix.resolution at }
         requires was { was_full ≡ is_full self.old.matrix at }
-        ensures { (b : ActiveBot) (d : Difference) → self.old.bots ≡ b ∷ [] → point at ≡ plus (point b.pos) d → self.new ≡ after self.old (edit_of full d ∷ []) }
+        ensures { (b : ActiveBot) (d : Difference) → self.old.bots ≡ b ∷ [] → point at ≡ plus (point b.pos) d
+            → self.new ≡ after self.old (edit_of full d ∷ []) }
     {
         self.pay(cost_of_edit(full, was_full));
         self.set_voxel(at, full);

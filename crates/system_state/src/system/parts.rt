@@ -61,7 +61,8 @@ impl System {
         requires active { IsActive self.old.bots bid }
         requires free { IfSome (bot_at self.old.bots c) (λ b. b.bid ≡ bid) }
         requires within { IsInSpace self.old.matrix.resolution c }
-        ensures moved { IfSome (bot_of self.old.bots bid) (λ b. self.new ≡ record self.old { bots = replaced self.old.bots (bid ∷ []) (moved b (point c) ∷ []) }) }
+        ensures moved { IfSome (bot_of self.old.bots bid)
+            (λ b. self.new ≡ record self.old { bots = replaced self.old.bots (bid ∷ []) (moved b (point c) ∷ []) }) }
     {
         self.crew.move_to(bid, c);
     }

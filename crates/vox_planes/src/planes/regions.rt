@@ -44,7 +44,10 @@ impl Planes {
         requires within { IsInSpace self.now.resolution b.now.high }
         requires low { b.now.low.x ≤ x }
         requires high { x ≤ b.now.high.x }
-        ensures value { option_or result (find (passes_in b.now (is_full self.now)) (coordinates_from self.now.resolution (place self.now.resolution (row_start b.now (x + 1) b.now.low.y)))) ≡ find (passes_in b.now (is_full self.now)) (coordinates_from self.now.resolution (place self.now.resolution (row_start b.now x b.now.low.y))) }
+        ensures value { option_or result
+            (find (passes_in b.now (is_full self.now))
+            (coordinates_from self.now.resolution (place self.now.resolution (row_start b.now (x + 1) b.now.low.y)))) ≡ find
+            (passes_in b.now (is_full self.now)) (coordinates_from self.now.resolution (place self.now.resolution (row_start b.now x b.now.low.y))) }
         ensures touches { steps.new ≤ steps.old + wall_size b.now }
     {
         let low = b.low();
@@ -141,7 +144,11 @@ impl Planes {
         requires low { b.now.low.x ≤ x }
         requires high { x ≤ b.now.high.x }
         requires room { wall_size b.now ≤ list.old.spare }
-        ensures items { list.new.items ++ filter (passes_in b.now (is_state self.now full)) (coordinates_from self.now.resolution (place self.now.resolution (row_start b.now (x + 1) b.now.low.y))) ≡ list.old.items ++ filter (passes_in b.now (is_state self.now full)) (coordinates_from self.now.resolution (place self.now.resolution (row_start b.now x b.now.low.y))) }
+        ensures items { list.new.items
+            ++ filter (passes_in b.now (is_state self.now full))
+            (coordinates_from self.now.resolution (place self.now.resolution (row_start b.now (x + 1) b.now.low.y))) ≡ list.old.items
+            ++ filter (passes_in b.now (is_state self.now full))
+            (coordinates_from self.now.resolution (place self.now.resolution (row_start b.now x b.now.low.y))) }
         ensures room { list.old.spare + length list.old.items ≤ list.new.spare + length list.new.items }
         ensures left { list.old.spare ≤ list.new.spare + wall_size b.now }
         ensures touches { steps.new ≤ steps.old + wall_size b.now }
