@@ -17,19 +17,9 @@ use Rattle.plan_tape.specs.Leg.{distance}
 use Rattle.low_planner.specs.declared.sweep.Sweep.{Sweep}
 use Rattle.low_planner.specs.Sweep.{AreAllSwept, AreSwept, IsNextFull, IsNextRow, IsPartStart, IsStartInRow, IsSweptRow, IsVoidRow, IsWithinReach}
 use Rattle.plan_tape.proofs.LegalModels.{full_within}
+use Rattle.model_file.proofs.Boxes.{box_least, in_box}
 
 -- ---- boxes
-
-between_is : (low high v : ℕ) → low ≤ high → is_between (pos (min low high)) (pos (max low high)) (pos v) ≡ (nat_le low v && nat_le v high)
-between_is low high v o = grind (arith, nat_tests)
-
--- whether a coordinate is in the box between two
-unfoldable in_box : Coord → Coord → Coord → Bool
-in_box low high c = (nat_le low.x c.x && nat_le c.x high.x) && (nat_le low.y c.y && nat_le c.y high.y) && (nat_le low.z c.z && nat_le c.z high.z)
-
-within_is : (low high c : Coord) → low.x ≤ high.x → low.y ≤ high.y → low.z ≤ high.z → is_within (span (corners low high)) (point c) ≡ in_box low high c
-unfolding in_box
-within_is low high c x y z = λ i. between_is low.x high.x c.x x i && between_is low.y high.y c.y y i && between_is low.z high.z c.z z i
 
 between_by : (low high v : ℕ) → low ≤ v → v ≤ high → (nat_le low v && nat_le v high) ≡ true
 between_by low high v h k = grind (arith, nat_tests)
@@ -49,30 +39,6 @@ box_from low high c h =
     let y = between_from low.y high.y c.y (right (nat_le low.x c.x && nat_le c.x high.x) (nat_le low.y c.y && nat_le c.y high.y) front) in
     let z = between_from low.z high.z c.z (right ((nat_le low.x c.x && nat_le c.x high.x) && (nat_le low.y c.y && nat_le c.y high.y)) (nat_le low.z c.z && nat_le c.z high.z) h) in
     (x.0, x.1, y.0, y.1, z.0, z.1)
-
--- tests that agree in space have one least
-least_same : (r : ℕ) (f g : Coord → Bool) → ((c : Coord) → IsInSpace r c → f c ≡ g c) → (o : Option Coord) → LeastOf r f o → LeastOf r g o
-least_same r f g same None h = λ d i. sym (same d i) ∙ h d i
-least_same r f g same (Some c) h = record { within = h.within; passes = sym (same c h.within) ∙ h.passes; least = λ d i t. h.least d i (same d i ∙ t) }
-
--- what a search of a box has found
-box_least : (m : Matrix) (k : Corners) (low high : Coord) (o : Option Coord) → k ≡ corners low high → low.x ≤ high.x → low.y ≤ high.y → low.z ≤ high.z → o ≡ find (λ c. is_full m c && is_within (span k) (point c)) (all_of m) → LeastOf m.resolution (λ c. is_full m c && in_box low high c) o
-box_least m k low high o e x y z found =
-    subst (λ (p : Option Coord). LeastOf m.resolution (λ c. is_full m c && in_box low high c) p) (sym found)
-    (least_same m.resolution (λ c. is_full m c && is_within (span k) (point c)) (λ c. is_full m c && in_box low high c)
-    (λ c i. ap (λ b. is_full m c && b) (ap (λ (j : Corners). is_within (span j) (point c)) e ∙ within_is low high c x y z))
-    (find (λ c. is_full m c && is_within (span k) (point c)) (all_of m))
-    (first_of m.resolution (λ c. is_full m c && is_within (span k) (point c))))
-
-and_true : (a b : Bool) → b ≡ true → (a && b) ≡ a
-and_true true b e = e
-and_true false b e = refl
-
-pub least_of_all : (m : Matrix) (k : Corners) (e : ℕ) (o : Option Coord) → e + 1 ≡ m.resolution → k ≡ corners (coord 0 0 0) (coord e e e) → o ≡ find (λ c. is_full m c && is_within (span k) (point c)) (all_of m) → LeastOf m.resolution (is_full m) o
-least_of_all m k e o h c found =
-    least_same m.resolution (λ d. is_full m d && in_box (coord 0 0 0) (coord e e e) d) (is_full m)
-    (λ d i. and_true (is_full m d) (in_box (coord 0 0 0) (coord e e e) d) (let x = i.x in let y = i.y in let z = i.z in box_by (coord 0 0 0) (coord e e e) d (omega arith) (omega arith) (omega arith) (omega arith) (omega arith) (omega arith))) o
-    (box_least m k (coord 0 0 0) (coord e e e) o c (omega arith) (omega arith) (omega arith) found)
 
 -- ---- the first full voxel of a row
 

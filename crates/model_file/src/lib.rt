@@ -15,6 +15,7 @@ pub use fault::ModelFault;
 pub use files::{read_model, write_model};
 pub use flood::first_ungrounded;
 pub use laws::reading_and_writing;
+pub use least::least_full;
 pub use legality::legal;
 
 /// The first byte of the wide form.

@@ -1,5 +1,5 @@
 //! How the full voxels are held up.
-ghost use Rattle.std.specs.Prelude.{◌≡◌, ℕ, ◌+◌, ◌*◌, ◌≤◌, ◌%◌, ◌==◌, [], ◌∷◌, ◌++◌, true, false, length, count_by, cond, IfOk, IfErr, IfSome, IfNone, IsTrue, MatchBool, None, Err};
+ghost use Rattle.std.specs.Prelude.{◌≡◌, ℕ, ◌+◌, ◌*◌, ◌≤◌, ◌%◌, ◌==◌, [], ◌∷◌, ◌++◌, true, false, length, count_by, cond, IfOk, IfErr, IfNone, MatchBool, None, Err};
 ghost use Rattle.nano_spec.specs.Act.{acts, is_flip};
 ghost use Rattle.nano_spec.specs.Cutting.{AreCommands};
 ghost use Rattle.nano_spec.specs.Grounded.{FirstUngrounded};
@@ -331,7 +331,7 @@ fn harmonics_after(harmonics: Harmonics, commands: &[Command]) -> Harmonics
 {
     let flips = commands.iter().filter(|command| is_flip(command)).count();
     if flips % 2 == 1 {
-        other(harmonics)
+        harmonics.flipped()
     } else {
         harmonics
     }
@@ -342,16 +342,6 @@ fn is_flip(command: &Command) -> bool
     ensures { result ≡ is_flip command.now }
 {
     matches!(command, Command::Flip)
-}
-
-/// The other harmonics.
-fn other(harmonics: Harmonics) -> Harmonics
-    ensures { result ≡ flipped harmonics }
-{
-    match harmonics {
-        Harmonics::Low => Harmonics::High,
-        Harmonics::High => Harmonics::Low,
-    }
 }
 
 /// The least full voxel that is not held up, under Low, where each has to be. Only where there is one are voxels read.

@@ -62,7 +62,6 @@ fn bit_index(c: Coord, r: u16) -> usize
 }
 
 /// Whether the bit of this index is 1.
-#[inline(always)]
 #[tactic(auto, unfolding(crate::specs::Layers::is_set))]
 #[inline(always)]
 fn is_set(words: &[u64], i: usize) -> bool
