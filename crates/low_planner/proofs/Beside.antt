@@ -1,17 +1,12 @@
 -- Adjacent coordinates: one component differs, by one.
 use Rattle.std.proofs.Common.{◌≡◌, ℕ, ◌+◌, ◌-◌, ◌<◌, ◌≤◌, refl, sym, ◌∙◌, subst, arith, ◌==◌, pos, ◌-ℤ◌, inl, inr, false}
-use Rattle.std.specs.Prelude.{IsTrue, ◌⊎◌, unsigned_abs}
+use Rattle.std.specs.Prelude.{IsTrue, ◌⊎◌}
 use Rattle.std.proofs.lemmas.Bool.{cases_lt}
-use Rattle.std.proofs.lemmas.Bool.Decides.{nat_tests}
-use Rattle.std.proofs.lemmas.Int.{ints}
 use Rattle.vox_geom.specs.declared.coordinate.Coord.{Coord}
-use Rattle.vox_geom.specs.Point.{are_adjacent, point, coord}
-use Rattle.vox_geom.specs.Space.{IsInSpace, in_space}
+use Rattle.vox_geom.specs.Point.{are_adjacent, coord}
 use Rattle.nano_spec.specs.Matrix.{Matrix, is_full}
-use Rattle.nano_spec.proofs.Coordinates.{in_space-is}
-use Rattle.nano_spec.proofs.Grounding.{left}
 use Rattle.low_planner.specs.Sweep.{AreBesideInLayer}
-use Rattle.vox_geom.proofs.Adjacent.{adjacent_by, gaps}
+use Rattle.vox_geom.proofs.Adjacent.{Side, adjacent-sym, adjacent_by, right, above, ahead, left, below, behind, side_of}
 
 -- a voxel and the one right above it are adjacent
 pub adjacent_below : (c b : Coord) → b.x ≡ c.x → b.z ≡ c.z → c.y ≡ b.y + 1 → IsTrue (are_adjacent c b)
@@ -22,11 +17,19 @@ pub beside_by : (a b : Coord) → b.y ≡ a.y → ((a.x - b.x) + (b.x - a.x)) + 
 beside_by a b y e = record { adjacent = adjacent_by a b (omega arith); level = y }
 
 pub beside-sym : (a b : Coord) → AreBesideInLayer a b → AreBesideInLayer b a
-beside-sym a b h = let g = gaps a b h.adjacent in let l = h.level in beside_by b a (sym l) (omega arith)
+beside-sym a b h = record { adjacent = adjacent-sym a b h.adjacent; level = sym h.level }
 
 -- how far apart such coordinates are
 pub beside_gap : (a b : Coord) → AreBesideInLayer a b → ((a.x - b.x) + (b.x - a.x)) + ((a.z - b.z) + (b.z - a.z)) ≡ 1
-beside_gap a b h = let g = gaps a b h.adjacent in let l = h.level in omega arith
+beside_gap a b h = by (side_of a b h.adjacent) h.level
+  where
+    by : Side a b → b.y ≡ a.y → ((a.x - b.x) + (b.x - a.x)) + ((a.z - b.z) + (b.z - a.z)) ≡ 1
+    by (right x y z) l = omega arith
+    by (above x y z) l = absurd (omega arith)
+    by (ahead x y z) l = omega arith
+    by (left x y z) l = omega arith
+    by (below x y z) l = absurd (omega arith)
+    by (behind x y z) l = omega arith
 
 same : (a b : Coord) → a.x ≡ b.x → a.y ≡ b.y → a.z ≡ b.z → a ≡ b
 same a b x y z = λ i. record { x = x i; y = y i; z = z i }

@@ -1,4 +1,4 @@
-use Rattle.std.proofs.Common.{◌≡◌, ◌∙◌, ap, subst}
+use Rattle.std.proofs.Common.{◌≡◌, ◌∙◌, ap, subst, arith}
 use Rattle.nano_spec.specs.declared.system.Profile.{Profile}
 use Rattle.nano_spec.specs.Matrix.{Matrix, is_full}
 use Rattle.nano_spec.specs.Profile.{light_profile}
@@ -7,7 +7,7 @@ use Rattle.swarm_planner.proofs.plan.only_halt.Goals as goal
 use Rattle.plan_tape.proofs.LegalModels.{void_is_grounded}
 
 pub start_as-requires-clause-grounded : goal.start_as-requires-clause-grounded
-start_as-requires-clause-grounded c = void_is_grounded c.args.nothing c.requires
+start_as-requires-clause-grounded c = void_is_grounded c.args.nothing (λ q. c.requires q (omega arith))
 
 pub returns-clause-accepted : goal.returns-clause-accepted
 returns-clause-accepted c =

@@ -13,7 +13,7 @@ use Rattle.vox_geom.specs.Point.{coord}
 use Rattle.plan_tape.proofs.LegalModels.{void_is_grounded}
 
 pub start_as-requires-clause-grounded : goal.start_as-requires-clause-grounded
-start_as-requires-clause-grounded c = void_is_grounded c.args.nothing c.requires.void
+start_as-requires-clause-grounded c = void_is_grounded c.args.nothing (λ q. c.requires.void q (omega arith))
 
 pub returns : goal.returns
 returns c =
