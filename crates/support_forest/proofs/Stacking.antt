@@ -27,7 +27,7 @@ use Rattle.support_forest.proofs.Each.{differ_more, no_member, none_differ}
 use Rattle.support_forest.proofs.Nearby.{same_slot}
 use Rattle.support_forest.proofs.Placing.{Fits, placed_with}
 use Rattle.support_forest.proofs.Settling.{same_or_not}
-use Rattle.vox_planes.specs.Heap.{under}
+use Rattle.vox_geom.specs.Point.{below as under}
 
 -- ---- one voxel more in a heap
 

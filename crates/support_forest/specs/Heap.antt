@@ -9,7 +9,7 @@ use Rattle.vox_planes.specs.Places.{voxel_at}
 use Rattle.support_forest.specs.Grid.{Grid, slot_of, word_at}
 use Rattle.support_forest.specs.Placing.{HavePlaced}
 use Rattle.support_forest.specs.Words.{height, AreExact}
-use Rattle.vox_planes.specs.Heap.{under}
+use Rattle.vox_geom.specs.Point.{below as under}
 
 -- each full voxel has the level of its y
 abbrev pub AreHeapWords : (Coord → ℕ) → Type 0

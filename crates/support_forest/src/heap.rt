@@ -7,7 +7,7 @@ ghost use Rattle.support_forest.specs.Grid.{slot_of, word_at};
 ghost use Rattle.support_forest.specs.Heap.{AreBits, AreBrickSlots, CanStack, HaveStacked, IsHeaped};
 ghost use Rattle.support_forest.specs.Standing.{matrix_of};
 ghost use Rattle.support_forest.specs.Words.{AreExact};
-ghost use Rattle.vox_planes.specs.Heap.{under as under_of};
+ghost use Rattle.vox_geom.specs.Point.{below as under_of};
 
 use crate::add::add_cells;
 use crate::cells::{BRICK_SIDE, Cells};

@@ -16,6 +16,7 @@ pub struct Coord {
 }
 
 /// A component and what is added to it, where the sum is from 0 to r - 1.
+#[inline(always)]
 fn shifted(v: u16, by: i16, r: u16) -> Option<u16>
     ensures { SomeIff result (IsTrue (in_range r (pos v +ℤ by))) (unsigned_abs (pos v +ℤ by)) }
 {
@@ -29,6 +30,7 @@ fn shifted(v: u16, by: i16, r: u16) -> Option<u16>
 
 impl Coord {
     /// The coordinate that the difference leads to: `None` exactly where it is outside the matrix.
+    #[inline(always)]
     pub fn plus(self, d: Diff, r: u16) -> Option<Coord>
         requires { IsInSpace r self }
         ensures within { IsSome result ↔ IsTrue (in_space r (point_plus (point self) d)) }

@@ -10,11 +10,11 @@ use Rattle.std.proofs.lemmas.Bool.Decides.{nat_tests}
 use Rattle.std.proofs.lemmas.Nat.Bits.{bit_at-lt, bit_at-zero, bit_at_and, bit_at_not, bit_at-trailing_zeros}
 use Rattle.vox_geom.specs.declared.coordinate.Coord.{Coord}
 use Rattle.vox_geom.specs.Space.{IsInSpace, in_space}
-use Rattle.vox_geom.specs.Point.{point}
+use Rattle.vox_geom.specs.Point.{below as under, point}
 use Rattle.nano_spec.specs.Matrix.{is_full}
 use Rattle.nano_spec.specs.Model.{bit}
 use Rattle.nano_spec.proofs.Coordinates.{in_space-is}
-use Rattle.vox_planes.specs.Heap.{IsHeap, under}
+use Rattle.vox_planes.specs.Heap.{IsHeap}
 use Rattle.vox_planes.specs.Layers.{IsLayered, bit_index, is_set, layer_words, layered}
 use Rattle.vox_planes.proofs.Bits.{in_layer}
 use Rattle.vox_planes.proofs.Voxels.{is_full-layered}
