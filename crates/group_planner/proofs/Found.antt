@@ -7,7 +7,7 @@ use Rattle.nano_spec.specs.Matrix.{Matrix}
 use Rattle.group_planner.specs.Rows.{begins_run, count_below, full_before, is_full_at, is_row, one_if}
 use Rattle.group_planner.specs.Runs.{IsAll, IsCut, IsRunEnd, IsNextRun, IsNoRun, runs_before}
 use Rattle.group_planner.specs.declared.run.RowRun.{RowRun}
-use Rattle.layer_planner.proofs.Paints.{void_past_z}
+use Rattle.plan_tape.proofs.Parts.{void_past_z}
 use Rattle.group_planner.proofs.Counts.{one_of_sum, sum_below-gap, sum_below-more, sum_below-zero}
 
 before-suc : (m : Matrix) (x y z : ℕ) → full_before m x y (suc z) ≡ cond (is_full_at m x y z) (full_before m x y z + 1) 0

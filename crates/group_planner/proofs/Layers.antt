@@ -4,8 +4,8 @@ use Rattle.std.proofs.lemmas.Bool.Decides.{nat_tests}
 use Rattle.vox_geom.specs.declared.coordinate.Coord.{Coord}
 use Rattle.nano_spec.specs.Matrix.{Matrix, is_full}
 use Rattle.plan_tape.specs.Progress.{TapeState, IsVoidFrom}
-use Rattle.layer_planner.specs.Painting.{from_layer, in_layer, layer}
-use Rattle.layer_planner.proofs.Paints.{void_past_x}
+use Rattle.plan_tape.specs.Parts.{from_layer, in_layer, layer}
+use Rattle.plan_tape.proofs.Parts.{void_past_x}
 use Rattle.group_planner.specs.Rows.{is_row, one_if, rows, rows_of_layer, runs, runs_of_layer, runs_of_row, sum_below}
 use Rattle.group_planner.specs.Stamping.{CanVoidModel, CanStamp, Stamps, between_layers, stamping_steps, row_steps, steps_below}
 use Rattle.group_planner.proofs.Counts.{sum_below-suc, sum_below-zero}

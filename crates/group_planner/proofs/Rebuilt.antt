@@ -5,8 +5,8 @@ use Rattle.vox_geom.specs.declared.coordinate.Coord.{Coord}
 use Rattle.nano_spec.specs.Legal.{IsLegal}
 use Rattle.nano_spec.specs.Matrix.{Matrix, is_full}
 use Rattle.plan_tape.specs.Progress.{AreAlike, TapeState, bytes, spot, IsVoidFrom}
-use Rattle.layer_planner.specs.Lowest.{IsLowest}
-use Rattle.layer_planner.specs.Painting.{from_layer}
+use Rattle.plan_tape.specs.Lowest.{IsLowest}
+use Rattle.plan_tape.specs.Parts.{from_layer}
 use Rattle.vox_planes.specs.Voxel.{IsWhole}
 use Rattle.plan_tape.specs.Leg.{moves, moves_to}
 use Rattle.group_planner.specs.Pair.{IsPair, Spends, front, rear}

@@ -4,7 +4,7 @@ use Rattle.std.proofs.lemmas.Bool.Decides.{nat_tests}
 use Rattle.vox_geom.specs.declared.coordinate.Coord.{Coord}
 use Rattle.nano_spec.specs.Legal.{IsLegal, in_legal_box}
 use Rattle.nano_spec.specs.Matrix.{Matrix, is_full}
-use Rattle.layer_planner.specs.Lowest.{IsLowest}
+use Rattle.plan_tape.specs.Lowest.{IsLowest}
 use Rattle.plan_tape.proofs.LegalModels.{legal_box}
 
 -- a legal model with a full voxel has a resolution of 3 at least

@@ -6,8 +6,8 @@ use Rattle.std.proofs.lemmas.Bool.Decides.{nat_tests}
 use Rattle.vox_geom.specs.declared.coordinate.Coord.{Coord}
 use Rattle.nano_spec.specs.Matrix.{Matrix, is_full}
 use Rattle.plan_tape.specs.Progress.{TapeState, IsVoidFrom}
-use Rattle.layer_planner.specs.Painting.{is_in_line}
-use Rattle.layer_planner.proofs.Paints.{void_past_z}
+use Rattle.plan_tape.specs.Parts.{is_in_line}
+use Rattle.plan_tape.proofs.Parts.{void_past_z}
 use Rattle.group_planner.specs.declared.run.RowRun.{RowRun}
 use Rattle.group_planner.specs.Pair.{IsPair, in_part, rear}
 use Rattle.group_planner.specs.Rows.{is_full_at, runs_of_row}

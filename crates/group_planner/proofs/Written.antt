@@ -10,7 +10,7 @@ use Rattle.vox_geom.specs.Space.{IsInSpace, in_space}
 use Rattle.nano_spec.specs.Matrix.{Matrix, is_full}
 use Rattle.step_order.specs.Acting.{with_region}
 use Rattle.step_order.proofs.Voxels.{full_where, in_space_is}
-use Rattle.layer_planner.proofs.Paints.{void_out}
+use Rattle.plan_tape.proofs.Parts.{void_out}
 use Rattle.group_planner.specs.Pair.{AreSet, in_part}
 use Rattle.plan_tape.specs.Progress.{IsVoidFrom}
 use Rattle.nano_spec.proofs.Coordinates.{in_space-is}

@@ -4,16 +4,15 @@ ghost use Rattle.nano_spec.specs.Legal.{IsLegal};
 ghost use Rattle.nano_spec.specs.Profile.{full_profile};
 ghost use Rattle.nano_spec.specs.Spelling.{spellings};
 ghost use Rattle.plan_tape.specs.Progress.{IsAccepted};
-ghost use Rattle.layer_planner.specs.Lowest.{IsLowest};
+ghost use Rattle.plan_tape.specs.Lowest.{IsLowest};
 ghost use Rattle.group_planner.specs.Phases.{PairIsOpened, PairHasRebuilt, most_bytes, most_group_steps, plan_steps};
 ghost use Rattle.group_planner.specs.Rows.{runs};
 
 use crate::opening::{gather, opened};
 use crate::pair::rear;
 use crate::sweep::{build, clear};
-use layer_planner::lowest_difference;
 use nano_spec::Command;
-use plan_tape::{Plan, Tape};
+use plan_tape::{Plan, Tape, lowest_difference};
 use std::alloc::Global;
 use vox_geom::{Coord, Memory};
 use vox_planes::Planes;

@@ -1,6 +1,6 @@
 //! Runs, rows and layers of a model that are filled or voided, from one layer above.
 ghost use Rattle.std.specs.Prelude.{◌≡◌, ◌+◌, ◌*◌, ◌-◌, ◌<◌, ◌≤◌, false, true, OnOk};
-ghost use Rattle.layer_planner.specs.Painting.{from_layer, layer, is_in_line};
+ghost use Rattle.plan_tape.specs.Parts.{from_layer, layer, is_in_line};
 ghost use Rattle.plan_tape.specs.Leg.{gap};
 ghost use Rattle.group_planner.specs.Pair.{IsPair, front as front_of, in_part, rear as rear_of};
 ghost use Rattle.group_planner.specs.Rows.{runs as runs_of, runs_of_layer, runs_of_row};

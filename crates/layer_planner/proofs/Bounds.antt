@@ -1,11 +1,6 @@
 -- How many bytes and steps a plan has.
-use Rattle.std.proofs.Common.{◌≡◌, ℕ, zero, suc, ◌+◌, ◌-◌, ◌*◌, ◌<◌, ◌≤◌, List, length, ap, arith, mul-le-mul}
-use Rattle.nano_spec.specs.declared.commands.Command.{Command}
-use Rattle.nano_spec.specs.declared.system.Profile.{Profile}
-use Rattle.nano_spec.specs.Matrix.{Matrix}
-use Rattle.nano_spec.specs.Spelling.{spellings}
+use Rattle.std.proofs.Common.{◌≡◌, ℕ, zero, suc, ◌+◌, ◌-◌, ◌*◌, ◌<◌, ◌≤◌, arith, mul-le-mul}
 use Rattle.plan_tape.specs.Leg.{moves_to}
-use Rattle.plan_tape.specs.Progress.{TapeState, bytes, starting}
 use Rattle.layer_planner.specs.Painting.{layer_bytes}
 use Rattle.vox_geom.specs.Point.{coord}
 
@@ -27,12 +22,3 @@ way_up r h = omega arith
 
 pub way_down : (r : ℕ) → 1 ≤ r → 2 * moves_to (coord 0 r 0) (coord 0 0 0) ≤ r + 1
 way_down r h = omega arith
-
-pub bytes-starting : (t : TapeState) (source : Matrix) (profile : Profile) → t ≡ starting source profile → bytes t ≡ 0
-unfolding bytes
-bytes-starting t source profile e = ap bytes e
-
--- the length of the spellings of a plan
-pub bytes_of : (t : TapeState) (commands : List Command) → commands ≡ t.commands → length (spellings commands) ≡ bytes t
-unfolding bytes
-bytes_of t commands e = ap (λ c. length (spellings c)) e

@@ -1,6 +1,5 @@
 pub mod Bounds
-pub mod Legality
-pub mod Lowest
+pub mod LeftAndBuilt
 pub mod Paints
 pub mod Sweeps
 pub mod Gaps

@@ -11,7 +11,8 @@ use Rattle.nano_spec.specs.Spelling.{spelling}
 use Rattle.vox_planes.specs.Voxel.{with_voxel}
 use Rattle.plan_tape.specs.Leg.{Moves, moves_to}
 use Rattle.plan_tape.specs.Progress.{TapeState, Writes, beside, spot}
-use Rattle.layer_planner.specs.Painting.{CanPaint, IsPartlyBuilt, Paints, layer_bytes, voxel}
+use Rattle.layer_planner.specs.Painting.{CanPaint, IsPartlyBuilt, Paints, layer_bytes}
+use Rattle.plan_tape.specs.Parts.{voxel}
 use Rattle.layer_planner.proofs.Paints.{painted_set, voxel-is}
 use Rattle.plan_tape.proofs.ClearWays.{no_moves}
 

@@ -1,7 +1,6 @@
 -- What a part of the plan has made: some voxels are those of a goal, and the others as they were.
-use Rattle.std.specs.Prelude.{◌≡◌, ℕ, ◌+◌, ◌*◌, ◌≤◌, ◌<◌, Bool, false, cond, ◌&&◌, ◌==◌, nat_le, nat_lt, pos, negsuc, length}
+use Rattle.std.specs.Prelude.{◌≡◌, ℕ, ◌+◌, ◌*◌, ◌≤◌, ◌<◌, Bool, cond, length}
 use Rattle.vox_geom.specs.declared.coordinate.Coord.{Coord}
-use Rattle.vox_geom.specs.declared.difference.Diff.{Diff}
 use Rattle.vox_geom.specs.Space.{IsInSpace}
 use Rattle.nano_spec.specs.declared.system.Harmonics.TheVariants.{High}
 use Rattle.nano_spec.specs.Matrix.{Matrix, is_full}
@@ -12,34 +11,6 @@ use Rattle.plan_tape.specs.Progress.{TapeState, bytes, spot, IsVoidFrom}
 -- where the test says so the voxels are those of the goal, and elsewhere those of the old matrix
 abbrev pub IsPartlyBuilt : Matrix → Matrix → Matrix → (Coord → Bool) → Type 0
 IsPartlyBuilt new old goal done = (c : Coord) → is_full new c ≡ cond (done c) (is_full goal c) (is_full old c)
-
--- the voxel of x, y and z
-abbrev pub voxel : ℕ → ℕ → ℕ → Coord → Bool
-voxel x y z c = c.x == x && c.y == y && c.z == z
-
--- the first z voxels of the row of x and y
-abbrev pub in_row : ℕ → ℕ → ℕ → Coord → Bool
-in_row x y z c = c.x == x && c.y == y && nat_lt c.z z
-
--- the row of x and y
-abbrev pub is_in_line : ℕ → ℕ → Coord → Bool
-is_in_line x y c = c.x == x && c.y == y
-
--- the first x rows of the layer of y
-abbrev pub in_layer : ℕ → ℕ → Coord → Bool
-in_layer x y c = nat_lt c.x x && c.y == y
-
--- the layer of y
-abbrev pub layer : ℕ → Coord → Bool
-layer y c = c.y == y
-
--- the layers from that of y on
-abbrev pub from_layer : ℕ → Coord → Bool
-from_layer y c = nat_le y c.y
-
--- the layers below that of y
-abbrev pub below_layer : ℕ → Coord → Bool
-below_layer y c = nat_lt c.y y
 
 -- how many bytes a row takes at most, with the way to the next one
 abbrev pub row_bytes : ℕ → ℕ

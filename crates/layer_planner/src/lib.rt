@@ -3,11 +3,9 @@
 //! other.
 #![tactic(auto)]
 
-mod difference;
 mod paint;
 mod plan;
 
-pub use difference::lowest_difference;
 pub use plan::plan_layers;
 
 #[cfg(test)]

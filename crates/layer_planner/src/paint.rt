@@ -1,9 +1,10 @@
 //! Voxels, rows and layers that are made those of a goal, from one layer above.
-ghost use Rattle.std.specs.Prelude.{◌≡◌, ◌+◌, ◌-◌, ◌*◌, ◌<◌, ◌≤◌, OnOk};
+ghost use Rattle.std.specs.Prelude.{◌≡◌, ◌+◌, ◌-◌, ◌*◌, ◌<◌, OnOk};
 ghost use Rattle.vox_geom.specs.declared.coordinate.Coord.{Coord as Coordinate};
 ghost use Rattle.nano_spec.specs.Matrix.{is_full as is_full_of};
-ghost use Rattle.plan_tape.specs.Progress.{spot, IsVoidFrom, top};
-ghost use Rattle.layer_planner.specs.Painting.{CanPaint, CanSweep, Paints, below_layer, from_layer, layer, layer_bytes, is_in_line, row_bytes, sweep_steps_to, voxel};
+ghost use Rattle.plan_tape.specs.Progress.{IsVoidFrom, top};
+ghost use Rattle.layer_planner.specs.Painting.{CanPaint, CanSweep, Paints, layer_bytes, row_bytes, sweep_steps_to};
+ghost use Rattle.plan_tape.specs.Parts.{below_layer, from_layer, layer, is_in_line, voxel};
 ghost use Rattle.layer_planner.specs.Phases.{end};
 ghost use Rattle.vox_geom.specs.Point.{coord};
 

@@ -4,13 +4,12 @@ ghost use Rattle.nano_spec.specs.Legal.{IsLegal};
 ghost use Rattle.nano_spec.specs.Profile.{full_profile};
 ghost use Rattle.nano_spec.specs.Spelling.{spellings};
 ghost use Rattle.plan_tape.specs.Progress.{IsAccepted, IsVoidFrom};
-ghost use Rattle.layer_planner.specs.Lowest.{IsLowest};
+ghost use Rattle.plan_tape.specs.Lowest.{IsLowest};
 ghost use Rattle.layer_planner.specs.Phases.{IsOpened, IsRebuilt};
 
-use crate::difference::lowest_difference;
 use crate::paint::{build, clear};
 use nano_spec::Command;
-use plan_tape::{Plan, Tape};
+use plan_tape::{Plan, Tape, lowest_difference};
 use std::alloc::Global;
 use vox_geom::{Coord, Memory};
 use vox_planes::Planes;

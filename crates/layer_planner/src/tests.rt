@@ -49,21 +49,3 @@ fn plans_pay_by_their_steps(rt: HostRuntime) -> Result<(), Fail> {
     }
     Ok(())
 }
-
-/// The lowest layer in which the models of two files differ, if they are of one resolution.
-fn lowest(alloc: Global, source: &[u8], target: &[u8]) -> Result<Option<u16>, ModelFault> {
-    let source = read_model(alloc, source)?;
-    let target = read_model(alloc, target)?;
-    if source.resolution() != target.resolution() {
-        return Err(ModelFault::NoByte);
-    }
-    Ok(lowest_difference(&source, &target))
-}
-
-#[test]
-fn the_lowest_difference_is_found(rt: HostRuntime) -> Result<(), Fail> {
-    assert_eq!(rt; lowest(rt.alloc(), &LEFT, &LEFT), Ok(None));
-    assert_eq!(rt; lowest(rt.alloc(), &LEFT, &RIGHT), Ok(Some(1)));
-    assert_eq!(rt; lowest(rt.alloc(), &EMPTY, &POST), Ok(Some(0)));
-    Ok(())
-}

@@ -1,4 +1,4 @@
--- Ways along which all is void, how many moves they take, and that High asks for no grounding.
+-- Ways along which all is void, how many moves they take, the ways home of a legal model, and that High asks for no grounding.
 use Rattle.std.proofs.Common.{◌≡◌, ◌⊎◌, inl, inr, ℕ, ◌+◌, ◌≤◌, sym, ◌∙◌, refl, subst, arith, Bool, true, false, ◌&&◌}
 use Rattle.std.specs.Prelude.{pos, IsTrue}
 use Rattle.std.proofs.lemmas.Bool.Decides.{nat_tests}
@@ -7,9 +7,11 @@ use Rattle.vox_geom.specs.Region.{is_between}
 use Rattle.vox_geom.specs.Space.{IsInSpace}
 use Rattle.nano_spec.specs.declared.system.Harmonics.{Harmonics}
 use Rattle.nano_spec.specs.declared.system.Harmonics.TheVariants.{Low, High}
+use Rattle.nano_spec.specs.Legal.{IsLegal}
 use Rattle.nano_spec.specs.Matrix.{Matrix, is_full}
 use Rattle.plan_tape.specs.Leg.{AreVoidTo, moves, moves_to}
 use Rattle.plan_tape.specs.Progress.{IsHeld, IsVoidFrom}
+use Rattle.plan_tape.proofs.LegalModels.{void_at_border}
 
 -- under High nothing has to be grounded
 pub held_high : (h : Harmonics) (m : Matrix) → h ≡ High → IsHeld h m
@@ -75,3 +77,25 @@ moves_most r a b l i j =
     let ax = i.x in let ay = i.y in let az = i.z in
     let bx = j.x in let by' = j.y in let bz = j.z in
     omega arith
+
+-- ---- ways home
+
+at_height : (y v : ℕ) → IsTrue (is_between (pos y) (pos y) (pos v)) → y ≤ v
+at_height y v t = grind (arith, nat_tests)
+
+-- where all is void from the height of the one coordinate on, or it is at the border of x, the ways from there to the border and along it are void
+pub ways_home : (m : Matrix) (a b : Coord) → IsLegal m → IsVoidFrom m a.y ⊎ (a.x ≡ 0) → b.x ≡ 0 → AreVoidTo m a b
+ways_home m a b h from e = record {
+  x = λ c t. by from c t;
+  y = λ c t. void_at_border m h c (between_zeros c.x (subst (λ v. IsTrue (is_between (pos v) (pos v) (pos c.x))) e (first_of_three (is_between (pos b.x) (pos b.x) (pos c.x)) (is_between (pos a.y) (pos b.y) (pos c.y)) (is_between (pos a.z) (pos a.z) (pos c.z)) t)));
+  z = λ c t. void_at_border m h c (between_zeros c.x (subst (λ v. IsTrue (is_between (pos v) (pos v) (pos c.x))) e (first_of_three (is_between (pos b.x) (pos b.x) (pos c.x)) (is_between (pos b.y) (pos b.y) (pos c.y)) (is_between (pos a.z) (pos b.z) (pos c.z)) t)));
+}
+  where
+    by : IsVoidFrom m a.y ⊎ (a.x ≡ 0) → (c : Coord) → IsTrue (is_between (pos a.x) (pos b.x) (pos c.x) && is_between (pos a.y) (pos a.y) (pos c.y) && is_between (pos a.z) (pos a.z) (pos c.z)) → is_full m c ≡ false
+    by (inl void) c t = void c (at_height a.y c.y (second_of_three (is_between (pos a.x) (pos b.x) (pos c.x)) (is_between (pos a.y) (pos a.y) (pos c.y)) (is_between (pos a.z) (pos a.z) (pos c.z)) t))
+    by (inr f) c t = void_at_border m h c (between_zeros c.x (let k : IsTrue (is_between (pos a.x) (pos b.x) (pos c.x)) = first_of_three (is_between (pos a.x) (pos b.x) (pos c.x)) (is_between (pos a.y) (pos a.y) (pos c.y)) (is_between (pos a.z) (pos a.z) (pos c.z)) t in subst (λ v. IsTrue (is_between (pos v) (pos 0) (pos c.x))) f (subst (λ v. IsTrue (is_between (pos a.x) (pos v) (pos c.x))) e k)))
+
+-- the same of a matrix and a coordinate that are given by equations
+pub ways_home_at : (m n : Matrix) (a b to : Coord) → m ≡ n → a ≡ b → IsLegal n → IsVoidFrom n b.y ⊎ (b.x ≡ 0) → to.x ≡ 0 → AreVoidTo m a to
+ways_home_at m n a b to e f h from g =
+    subst (λ (k : Matrix). AreVoidTo k a to) (sym e) (subst (λ (q : Coord). AreVoidTo n q to) (sym f) (ways_home n b to h from g))

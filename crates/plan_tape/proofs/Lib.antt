@@ -11,3 +11,6 @@ pub mod Works
 pub mod Many
 pub mod ClearWays
 pub mod LegalModels
+pub mod Parts
+pub mod Lowest
+pub mod Bytes

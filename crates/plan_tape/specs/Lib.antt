@@ -2,3 +2,5 @@ pub mod Crowd
 pub mod Leg
 pub mod Progress
 pub mod Reaches
+pub mod Lowest
+pub mod Parts

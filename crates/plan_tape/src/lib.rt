@@ -5,12 +5,14 @@
 
 mod axis;
 mod costs;
+mod difference;
 mod laws;
 mod several;
 mod tape;
 mod voxels;
 
 pub use axis::{Axis, next_stop, towards};
+pub use difference::lowest_difference;
 pub use laws::seeds_bound_the_bots;
 pub use tape::{Plan, Tape};
 pub use voxels::is_full;

@@ -1,4 +1,4 @@
-//! A plan of two bots. Its energies were worked out by hand from the rules.
+//! A plan of two bots, whose energies were worked out by hand from the rules, and the lowest difference of two matrices.
 ghost use Rattle.std.specs.Prelude.{◌≡◌, ◌<◌, IsTrue, None, OnOk};
 ghost use Rattle.nano_spec.specs.Grounded.{FirstUngrounded};
 ghost use Rattle.plan_tape.specs.Progress.{state_of};
@@ -99,5 +99,45 @@ fn two_bots_go_out_and_come_home(rt: HostRuntime) -> Result<(), Fail> {
     assert_eq!(rt; plan.energy, 577);
     assert_eq!(rt; plan.steps, 5);
     assert_eq!(rt; plan.commands.as_slice().len(), 8);
+    Ok(())
+}
+
+/// The matrix of resolution 3 with these voxels full.
+fn matrix(alloc: Global, full: &[Coord]) -> Result<Planes, Memory> {
+    let mut planes = Planes::empty(alloc, 3)?;
+    for c in full {
+        let r = planes.resolution();
+        if c.x < r && c.y < r && c.z < r {
+            planes.set(*c, true);
+        }
+    }
+    Ok(planes)
+}
+
+/// The lowest layer in which two matrices of resolution 3 differ.
+fn lowest(
+    rt: &impl Abort,
+    alloc: Global,
+    source: &[Coord],
+    target: &[Coord],
+) -> Result<Option<u16>, Memory> {
+    let source = matrix(alloc, source)?;
+    let target = matrix(alloc, target)?;
+    assert!(rt; source.resolution() == target.resolution());
+    Ok(lowest_difference(&source, &target))
+}
+
+#[test]
+fn the_lowest_difference_is_found(rt: HostRuntime) -> Result<(), Fail> {
+    let foot = Coord { x: 1, y: 0, z: 1 };
+    let middle = Coord { x: 1, y: 1, z: 1 };
+    let head = Coord { x: 1, y: 2, z: 1 };
+    assert_eq!(rt; lowest(&rt, rt.alloc(), &[], &[])?, None);
+    assert_eq!(rt; lowest(&rt, rt.alloc(), &[foot], &[foot])?, None);
+    assert_eq!(rt; lowest(&rt, rt.alloc(), &[], &[foot, middle])?, Some(0));
+    assert_eq!(rt;
+        lowest(&rt, rt.alloc(), &[foot, middle], &[foot, head])?,
+        Some(1)
+    );
     Ok(())
 }

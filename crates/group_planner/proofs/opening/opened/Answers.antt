@@ -4,8 +4,8 @@ use Rattle.nano_spec.specs.Matrix.{Matrix}
 use Rattle.nano_spec.specs.Profile.{full_profile}
 use Rattle.plan_tape.specs.Leg.{moves_to}
 use Rattle.plan_tape.specs.Progress.{TapeState, spot, IsVoidFrom}
-use Rattle.layer_planner.proofs.Bounds.{bytes-starting}
-use Rattle.layer_planner.proofs.Legality.{ways_home_at}
+use Rattle.plan_tape.proofs.Bytes.{bytes-starting}
+use Rattle.plan_tape.proofs.ClearWays.{ways_home_at}
 use Rattle.group_planner.proofs.Closing.{legs_length, push_length, up_moves}
 use Rattle.group_planner.proofs.opening.opened.Goals as goal
 use Rattle.vox_geom.specs.Point.{coord}

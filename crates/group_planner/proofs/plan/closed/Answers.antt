@@ -3,8 +3,8 @@ use Rattle.nano_spec.specs.declared.system.Profile.{Profile}
 use Rattle.nano_spec.specs.Matrix.{Matrix, is_full}
 use Rattle.plan_tape.specs.Leg.{moves_to}
 use Rattle.plan_tape.specs.Progress.{IsAccepted, spot}
-use Rattle.layer_planner.proofs.Bounds.{bytes_of}
-use Rattle.layer_planner.proofs.Legality.{ways_home_at}
+use Rattle.plan_tape.proofs.Bytes.{bytes_of}
+use Rattle.plan_tape.proofs.ClearWays.{ways_home_at}
 use Rattle.group_planner.specs.Pair.{rear}
 use Rattle.group_planner.specs.Rows.{runs}
 use Rattle.group_planner.proofs.Closing.{legs_length, plan_fits, push_length}

@@ -1,5 +1,5 @@
 use Rattle.std.proofs.Common.{◌≡◌, ℕ, ◌+◌, ◌-◌, true, refl, sym, ◌∙◌, subst, arith}
-use Rattle.layer_planner.specs.Painting.{layer}
+use Rattle.plan_tape.specs.Parts.{layer}
 use Rattle.group_planner.specs.Rows.{runs, runs_of_layer}
 use Rattle.group_planner.specs.Stamping.{Stamps, between_layers, stamping_steps}
 use Rattle.group_planner.proofs.Counts.{sum_below-more, sum_below-rises}

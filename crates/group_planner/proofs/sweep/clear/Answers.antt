@@ -1,6 +1,6 @@
 use Rattle.std.proofs.Common.{◌≡◌, ℕ, ◌+◌, ◌-◌, ◌≤◌, false, sym, ◌∙◌, ap, subst, arith}
-use Rattle.layer_planner.specs.Painting.{from_layer, layer}
-use Rattle.layer_planner.proofs.Paints.{from_layer-more}
+use Rattle.plan_tape.specs.Parts.{from_layer, layer}
+use Rattle.plan_tape.proofs.Parts.{from_layer-more}
 use Rattle.group_planner.specs.Rows.{runs, runs_of_layer, sum_below}
 use Rattle.group_planner.specs.Stamping.{Stamps, climb_to, stamping_steps}
 use Rattle.group_planner.proofs.Counts.{one_of_sum, sum_below-more, sum_below-rises}

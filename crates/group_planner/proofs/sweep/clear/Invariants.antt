@@ -1,5 +1,5 @@
 use Rattle.std.proofs.Common.{false, ◌+◌, ◌-◌, ◌<◌, ◌≤◌}
-use Rattle.layer_planner.specs.Painting.{from_layer}
+use Rattle.plan_tape.specs.Parts.{from_layer}
 use Rattle.group_planner.specs.Rows.{runs, runs_of_layer, sum_below}
 use Rattle.group_planner.specs.Stamping.{Stamps, climb_to, steps_below}
 use Rattle.group_planner.proofs.sweep.clear.Given as goal

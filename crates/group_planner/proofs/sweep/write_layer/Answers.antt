@@ -1,6 +1,6 @@
 use Rattle.std.proofs.Common.{◌≡◌, ℕ, ◌+◌, ap, arith}
-use Rattle.layer_planner.specs.Painting.{in_layer, is_in_line}
-use Rattle.layer_planner.proofs.Paints.{above_layers, in_layer-more}
+use Rattle.plan_tape.specs.Parts.{in_layer, is_in_line}
+use Rattle.plan_tape.proofs.Parts.{above_layers, in_layer-more}
 use Rattle.group_planner.specs.Rows.{runs_of_row, sum_below}
 use Rattle.group_planner.specs.Stamping.{row_steps}
 use Rattle.group_planner.proofs.Counts.{sum_below-more, sum_below-rises}

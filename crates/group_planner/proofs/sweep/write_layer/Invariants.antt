@@ -1,5 +1,5 @@
 use Rattle.std.proofs.Common.{◌+◌, ◌≤◌}
-use Rattle.layer_planner.specs.Painting.{in_layer}
+use Rattle.plan_tape.specs.Parts.{in_layer}
 use Rattle.group_planner.specs.Rows.{runs_of_row, sum_below}
 use Rattle.group_planner.specs.Stamping.{Stamps, climb_to, row_steps}
 use Rattle.group_planner.proofs.sweep.write_layer.Given as goal

@@ -1,5 +1,5 @@
 use Rattle.std.proofs.Common.{◌+◌}
-use Rattle.layer_planner.specs.Painting.{below_layer}
+use Rattle.plan_tape.specs.Parts.{below_layer}
 use Rattle.layer_planner.proofs.Paints.{paints_yet, same_below}
 use Rattle.layer_planner.proofs.paint.build.Goals as goal
 use Rattle.vox_geom.specs.Point.{coord}

@@ -1,5 +1,6 @@
 use Rattle.std.proofs.Common.{◌-◌, ◌*◌, ◌<◌, ◌≤◌}
-use Rattle.layer_planner.specs.Painting.{Paints, from_layer, layer_bytes}
+use Rattle.layer_planner.specs.Painting.{Paints, layer_bytes}
+use Rattle.plan_tape.specs.Parts.{from_layer}
 use Rattle.layer_planner.proofs.paint.clear.Given as goal
 use Rattle.vox_geom.specs.Point.{coord}
 use Rattle.plan_tape.specs.Progress.{top}

@@ -1,5 +1,6 @@
 use Rattle.std.proofs.Common.{◌+◌, ◌*◌}
-use Rattle.layer_planner.specs.Painting.{Paints, in_layer, row_bytes}
+use Rattle.layer_planner.specs.Painting.{Paints, row_bytes}
+use Rattle.plan_tape.specs.Parts.{in_layer}
 use Rattle.layer_planner.proofs.paint.paint_layer.Given as goal
 use Rattle.vox_geom.specs.Point.{coord}
 

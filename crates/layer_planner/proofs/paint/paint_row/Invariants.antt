@@ -1,5 +1,6 @@
 use Rattle.std.proofs.Common.{◌+◌, ◌*◌}
-use Rattle.layer_planner.specs.Painting.{Paints, in_row}
+use Rattle.layer_planner.specs.Painting.{Paints}
+use Rattle.plan_tape.specs.Parts.{in_row}
 use Rattle.layer_planner.proofs.paint.paint_row.Given as goal
 use Rattle.vox_geom.specs.Point.{coord}
 

@@ -4,8 +4,9 @@ use Rattle.nano_spec.specs.Matrix.{Matrix, is_full}
 use Rattle.vox_planes.specs.Voxel.{IsWhole}
 use Rattle.plan_tape.specs.Progress.{IsAccepted, TapeState, spot, IsVoidFrom}
 use Rattle.layer_planner.specs.Phases.{IsRebuilt, end}
-use Rattle.layer_planner.proofs.Bounds.{bytes_of, total, total_fits, way_down}
-use Rattle.layer_planner.proofs.Legality.{ways_home_at}
+use Rattle.layer_planner.proofs.Bounds.{total, total_fits, way_down}
+use Rattle.plan_tape.proofs.Bytes.{bytes_of}
+use Rattle.plan_tape.proofs.ClearWays.{ways_home_at}
 use Rattle.layer_planner.proofs.plan.closed.Goals as goal
 use Rattle.vox_geom.specs.Point.{coord}
 use Rattle.plan_tape.proofs.ClearWays.{moves_on}

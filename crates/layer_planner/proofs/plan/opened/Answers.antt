@@ -4,8 +4,9 @@ use Rattle.nano_spec.specs.Profile.{full_profile}
 use Rattle.nano_spec.specs.Step.{flipped}
 use Rattle.plan_tape.specs.Leg.{moves_to}
 use Rattle.plan_tape.specs.Progress.{TapeState, spot}
-use Rattle.layer_planner.proofs.Bounds.{bytes-starting, way_up}
-use Rattle.layer_planner.proofs.Legality.{ways_home_at}
+use Rattle.layer_planner.proofs.Bounds.{way_up}
+use Rattle.plan_tape.proofs.Bytes.{bytes-starting}
+use Rattle.plan_tape.proofs.ClearWays.{ways_home_at}
 use Rattle.layer_planner.proofs.plan.opened.Goals as goal
 use Rattle.vox_geom.specs.Point.{coord}
 

@@ -1,6 +1,6 @@
 use Rattle.std.proofs.Common.{◌∙◌, ap}
 use Rattle.nano_spec.specs.Matrix.{Matrix, is_full}
-use Rattle.layer_planner.proofs.Lowest.{not_same}
+use Rattle.plan_tape.proofs.Lowest.{not_same}
 use Rattle.layer_planner.proofs.plan.plan_layers.Goals as goal
 use Rattle.plan_tape.proofs.LegalModels.{empty_is_void}
 

@@ -6,7 +6,7 @@ use Rattle.plan_tape.specs.Progress.{spot, IsVoidFrom, top}
 use Rattle.layer_planner.specs.Painting.{bytes_to, layer_bytes, sweep_steps_to}
 use Rattle.layer_planner.specs.Phases.{end}
 use Rattle.layer_planner.proofs.Bounds.{total_fits}
-use Rattle.layer_planner.proofs.Legality.{left_alone, rebuilt_is, void_from}
+use Rattle.layer_planner.proofs.LeftAndBuilt.{left_alone, rebuilt_is, void_from}
 use Rattle.layer_planner.proofs.Sweeps.{spent}
 use Rattle.layer_planner.proofs.plan.rebuild.Goals as goal
 use Rattle.vox_geom.specs.Point.{coord}

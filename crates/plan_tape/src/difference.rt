@@ -2,7 +2,7 @@
 ghost use Rattle.std.specs.Prelude.{◌≡◌, ◌<◌, IfNone, IfSome};
 ghost use Rattle.vox_geom.specs.Least.{LeastOf};
 ghost use Rattle.vox_planes.specs.Difference.{in_layer_differ};
-ghost use Rattle.layer_planner.specs.Lowest.{IsLowest};
+ghost use Rattle.plan_tape.specs.Lowest.{IsLowest};
 
 use std::marker::Brand;
 use std::sync::ledger::{Blank, Ledger};

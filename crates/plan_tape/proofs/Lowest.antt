@@ -10,8 +10,8 @@ use Rattle.vox_geom.specs.Space.{in_space}
 use Rattle.nano_spec.specs.Matrix.{Matrix, is_full}
 use Rattle.vox_planes.specs.Difference.{in_layer_differ}
 use Rattle.vox_planes.specs.Voxel.{IsWhole}
-use Rattle.layer_planner.specs.Lowest.{IsLowest}
-use Rattle.layer_planner.proofs.Paints.{void_out}
+use Rattle.plan_tape.specs.Lowest.{IsLowest}
+use Rattle.plan_tape.proofs.Parts.{void_out}
 use Rattle.plan_tape.proofs.LegalModels.{alike_is_same}
 use Rattle.nano_spec.proofs.Coordinates.{in_space-is}
 

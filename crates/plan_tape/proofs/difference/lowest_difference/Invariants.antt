@@ -1,7 +1,7 @@
 use Rattle.std.proofs.Common.{◌≡◌, ◌<◌}
 use Rattle.vox_geom.specs.declared.coordinate.Coord.{Coord}
 use Rattle.nano_spec.specs.Matrix.{is_full}
-use Rattle.layer_planner.proofs.difference.lowest_difference.Given as goal
+use Rattle.plan_tape.proofs.difference.lowest_difference.Given as goal
 
 -- the first y layers are the same
 abbrev pub invariant-loop-y : goal.invariant-loop-y

@@ -1,6 +1,6 @@
 use Rattle.std.proofs.Common.{arith}
-use Rattle.layer_planner.proofs.Lowest.{all_same, layers_more, lowest_at, same_layer}
-use Rattle.layer_planner.proofs.difference.lowest_difference.Goals as goal
+use Rattle.plan_tape.proofs.Lowest.{all_same, layers_more, lowest_at, same_layer}
+use Rattle.plan_tape.proofs.difference.lowest_difference.Goals as goal
 
 pub loop-y-preserved : goal.loop-y-preserved
 loop-y-preserved c = layers_more c.args.source.now c.args.target.now c.loop-y.y c.loop-y.invariant (same_layer c.args.source.now c.args.target.now c.loop-y.y c.requires.same c.in-None.ensures)
