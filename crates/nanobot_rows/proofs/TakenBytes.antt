@@ -9,7 +9,7 @@ use Rattle.trace_codec.specs.Decoder.{AnswersPiece, DecoderState, decoder_after}
 use Rattle.trace_codec.specs.declared.decoder.Fed.{Fed}
 use Rattle.trace_codec.specs.declared.decoder.Fed.TheVariants.{Got, All, Bad}
 use Rattle.nanobot_rows.specs.Reading.{HasRun, RunState}
-use Rattle.nanobot_rows.specs.Taking.{Gains, Gets, Takes}
+use Rattle.nanobot_rows.specs.Taking.{Gains, Gets, Takes, TakesFront}
 use Rattle.nanobot_rows.specs.Touching.{HasPaid}
 use Rattle.nanobot_rows.proofs.Paying.{PushLaw, paid_all, paid_bad, paid_got}
 use Rattle.nanobot_rows.proofs.Running.{AllLaw, BadLaw, GotLaw, all_step, bad_step, got_step}
@@ -65,23 +65,27 @@ module _ (got : GotLaw) (all : AllLaw) (bad : BadLaw) (push : PushLaw) (d : Deco
       (subst (λ (x : Course). Takes old piece (record { decoder = decoder_after d piece (Bad offset); run = x }) began ended) (sym same)
       (subst (λ (t : ℕ). Takes old piece (record { decoder = decoder_after d piece (Bad offset); run = r }) began t) (sym still) (takes_bad offset began answers)))
 
--- the same of a call that may be refused memory, over a run that has these parts
-pub takes_if_ok : (got : GotLaw) (all : AllLaw) (bad : BadLaw) (push : PushLaw) {E : Type 0} (answer : Result ℕ E) (old : RunState) (d next : DecoderState) (r new : Course) (piece : List ℕ) (fed : Fed) (began ended : ℕ)
-    → record { decoder = d; run = r } ≡ old → old.run.spent ≡ false → next ≡ decoder_after d piece fed → AnswersPiece d piece fed → IfOk answer (λ n. Gets r fed (length piece) n new began ended)
-    → IfOk answer (λ n. Takes old (take n piece) (record { decoder = next; run = new }) began ended)
-takes_if_ok got all bad push answer old d next r new piece fed began ended view stands is_next answers gets =
-    subst (λ (x : DecoderState). IfOk answer (λ n. Takes old (take n piece) (record { decoder = x; run = new }) began ended)) (sym is_next)
-    (subst (λ (s : RunState). IfOk answer (λ n. Takes s (take n piece) (record { decoder = decoder_after d piece fed; run = new }) began ended)) view
-    (elim answer as (λ a. IfOk a (λ n. Gets r fed (length piece) n new began ended) → IfOk a (λ n. Takes (record { decoder = d; run = r }) (take n piece) (record { decoder = decoder_after d piece fed; run = new }) began ended)) [
-      | Ok n ↦ λ g. takes got all bad push d r piece (ap (λ (s : RunState). s.run.spent) view ∙ stands) fed n new began ended answers g
-      | Err e ↦ λ g. tt
-    ] gets))
-
 -- how many bytes are taken
 pub some_taken : (d : DecoderState) (r new : Course) (piece : List ℕ) (fed : Fed) (n began ended : ℕ) → 1 ≤ length piece → AnswersPiece d piece fed → Gets r fed (length piece) n new began ended → (1 ≤ n) × (n ≤ length piece)
 some_taken d r new piece (Got command used) n began ended some answers (e, g) = (omega (arith, e, answers.some), omega (arith, e, answers.within))
 some_taken d r new piece All n began ended some answers (e, same, still) = (omega (arith, e), omega (arith, e))
 some_taken d r new piece (Bad offset) n began ended some answers (e, same, still) = (omega (arith, e), omega (arith, e))
+
+-- the bytes that a call takes which may be refused memory, over a run that has these parts
+pub takes_if_ok : (got : GotLaw) (all : AllLaw) (bad : BadLaw) (push : PushLaw) {E : Type 0} (answer : Result ℕ E) (old : RunState) (d next : DecoderState) (r new : Course) (piece : List ℕ) (fed : Fed) (began ended : ℕ)
+    → record { decoder = d; run = r } ≡ old → old.run.spent ≡ false → next ≡ decoder_after d piece fed → AnswersPiece d piece fed → 1 ≤ length piece → IfOk answer (λ n. Gets r fed (length piece) n new began ended)
+    → IfOk answer (λ n. TakesFront old piece n (record { decoder = next; run = new }) began ended)
+takes_if_ok got all bad push answer old d next r new piece fed began ended view stands is_next answers some gets =
+    subst (λ (x : DecoderState). IfOk answer (λ n. TakesFront old piece n (record { decoder = x; run = new }) began ended)) (sym is_next)
+    (subst (λ (s : RunState). IfOk answer (λ n. TakesFront s piece n (record { decoder = decoder_after d piece fed; run = new }) began ended)) view
+    (elim answer as (λ a. IfOk a (λ n. Gets r fed (length piece) n new began ended) → IfOk a (λ n. TakesFront (record { decoder = d; run = r }) piece n (record { decoder = decoder_after d piece fed; run = new }) began ended)) [
+      | Ok n ↦ λ g. (let taken = some_taken d r new piece fed n began ended some answers g in record {
+          some = taken.0;
+          within = taken.1;
+          takes = takes got all bad push d r piece (ap (λ (s : RunState). s.run.spent) view ∙ stands) fed n new began ended answers g;
+        })
+      | Err e ↦ λ g. tt
+    ] gets))
 
 -- ---- one after another
 

@@ -1,5 +1,5 @@
 -- What a run makes of the next bytes of its trace.
-use Rattle.std.specs.Prelude.{◌≡◌, ℕ, ◌+◌, ◌≤◌, List, ◌++◌, length, false}
+use Rattle.std.specs.Prelude.{◌≡◌, ℕ, ◌+◌, ◌≤◌, List, ◌++◌, length, take, false}
 use Rattle.nano_spec.specs.declared.commands.Command.{Command}
 use Rattle.nano_spec.specs.declared.system.Profile.{Profile}
 use Rattle.nano_spec.specs.Matrix.{Matrix}
@@ -20,6 +20,12 @@ pub record Takes (old : RunState) (bytes : List ℕ) (new : RunState) (began end
   pub stands : new.run.spent ≡ false
   pub paid : (source : Matrix) (profile : Profile) (before : List ℕ) (start : ℕ) → old.run.progress.state.matrix.resolution ≡ source.resolution
       → HasPaid source profile before old start began → HasPaid source profile (before ++ bytes) new start ended
+
+-- a run takes the first n bytes of a piece, at least one
+pub record TakesFront (old : RunState) (piece : List ℕ) (n : ℕ) (new : RunState) (began ended : ℕ) : Type 0 where
+  pub some : 1 ≤ n
+  pub within : n ≤ length piece
+  pub takes : Takes old (take n piece) new began ended
 
 -- a runner gets a command
 pub record Gains (old : Course) (command : Command) (new : Course) (began ended : ℕ) : Type 0 where

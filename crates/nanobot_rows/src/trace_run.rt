@@ -1,12 +1,12 @@
 //! A run whose trace comes in pieces.
-ghost use Rattle.std.specs.Prelude.{◌≡◌, ◌+◌, ◌*◌, ◌<◌, ◌≤◌, ℕ, List, [], ◌∷◌, false, length, take, None, IfOk, OnOk};
+ghost use Rattle.std.specs.Prelude.{◌≡◌, ◌+◌, ◌*◌, ◌<◌, ◌≤◌, ℕ, List, [], ◌∷◌, false, length, None, IfOk, OnOk};
 ghost use Rattle.nano_spec.specs.declared.system.Profile.{Profile as ProfileOf};
 ghost use Rattle.nano_spec.specs.Grounded.{FirstUngrounded};
 ghost use Rattle.nano_spec.specs.Matrix.{Matrix};
 ghost use Rattle.nano_spec.specs.Model.{volume};
 ghost use Rattle.trace_codec.specs.Decoder.{AnswersPiece, DecoderState, IsBetween, decoder_after};
 ghost use Rattle.nanobot_rows.specs.Reading.{HasRun, OnBytes};
-ghost use Rattle.nanobot_rows.specs.Taking.{Gets, Takes};
+ghost use Rattle.nanobot_rows.specs.Taking.{Gets, Takes, TakesFront};
 ghost use Rattle.nanobot_rows.specs.Touching.{HasPaid};
 
 use crate::report::Report;
@@ -86,9 +86,7 @@ impl TraceRun {
         requires some { 1 ≤ length piece.now }
         requires offset { self.old.decoder.offset + length self.old.decoder.held + length piece.now ≤ 1073741824 }
         requires stands { self.old.run.spent ≡ false }
-        ensures some { IfOk result (λ n. 1 ≤ n) }
-        ensures within { IfOk result (λ n. n ≤ length piece.now) }
-        ensures takes { IfOk result (λ n. Takes self.old (take n piece.now) self.new steps.old steps.new) }
+        ensures { IfOk result (λ n. TakesFront self.old piece.now n self.new steps.old steps.new) }
     {
         if !self.decoder.is_between() {
             return self.take(piece, steps);
@@ -118,9 +116,7 @@ impl TraceRun {
         requires head { (rest : List ℕ) × (piece.now ≡ head ∷ rest) }
         requires offset { self.old.decoder.offset + length self.old.decoder.held + length piece.now ≤ 1073741824 }
         requires stands { self.old.run.spent ≡ false }
-        ensures some { IfOk result (λ n. 1 ≤ n) }
-        ensures within { IfOk result (λ n. n ≤ length piece.now) }
-        ensures takes { IfOk result (λ n. Takes self.old (take n piece.now) self.new steps.old steps.new) }
+        ensures { IfOk result (λ n. TakesFront self.old piece.now n self.new steps.old steps.new) }
     {
         pieces_decode();
         the_work_pays();
@@ -134,9 +130,7 @@ impl TraceRun {
         requires some { 1 ≤ length piece.now }
         requires offset { self.old.decoder.offset + length self.old.decoder.held + length piece.now ≤ 1073741824 }
         requires stands { self.old.run.spent ≡ false }
-        ensures some { IfOk result (λ n. 1 ≤ n) }
-        ensures within { IfOk result (λ n. n ≤ length piece.now) }
-        ensures takes { IfOk result (λ n. Takes self.old (take n piece.now) self.new steps.old steps.new) }
+        ensures { IfOk result (λ n. TakesFront self.old piece.now n self.new steps.old steps.new) }
     {
         pieces_decode();
         the_work_pays();

@@ -1,24 +1,15 @@
--- How far a legal model reaches, its way home, and when two models differ.
-use Rattle.std.proofs.Common.{◌≡◌, ℕ, ◌+◌, ◌<◌, ◌≤◌, ◌⊎◌, inl, inr, nat_le, nat_lt, refl, sym, ◌∙◌, ap, subst, arith, List, [], ◌∷◌, Bool, true, false, ◌&&◌, ◌||◌, not}
-use Rattle.std.specs.Prelude.{IsTrue, None, find, pos}
+-- How far a legal model reaches, and its way home.
+use Rattle.std.proofs.Common.{◌≡◌, ℕ, ◌+◌, ◌<◌, ◌≤◌, ◌⊎◌, inl, inr, nat_le, nat_lt, refl, sym, ◌∙◌, subst, arith, Bool, true, false, ◌&&◌}
+use Rattle.std.specs.Prelude.{IsTrue, pos}
 use Rattle.std.proofs.lemmas.Bool.Decides.{nat_tests}
 use Rattle.vox_geom.specs.declared.coordinate.Coord.{Coord}
-use Rattle.vox_geom.specs.Point.{point}
 use Rattle.vox_geom.specs.Region.{is_between}
-use Rattle.vox_geom.specs.Space.{in_space}
-use Rattle.nano_spec.specs.First.{FirstFailing}
-use Rattle.nano_spec.specs.Grounded.{FirstUngrounded, Grounded}
-use Rattle.nano_spec.specs.Legal.{IsLegal, in_legal_box}
-use Rattle.nano_spec.specs.Matrix.{Matrix, all_of, differ_at, empty, is_full, matrix_where}
-use Rattle.nano_spec.specs.Verdict.{first_difference}
-use Rattle.nano_spec.proofs.Opening.{legal_is}
-use Rattle.step_order.proofs.Lists.{find_none}
-use Rattle.step_order.proofs.Voxels.{as_it_is, full_where, in_coordinates, matrix_same}
+use Rattle.nano_spec.specs.Legal.{IsLegal}
+use Rattle.nano_spec.specs.Matrix.{Matrix, is_full}
 use Rattle.vox_planes.specs.Voxel.{IsWhole}
 use Rattle.plan_tape.specs.Leg.{AreVoidTo}
 use Rattle.plan_tape.specs.Progress.{IsVoidFrom}
-use Rattle.nano_spec.proofs.Coordinates.{in_space-is}
-use Rattle.plan_tape.proofs.LegalModels.{full_within, alike_is_same, legal_box}
+use Rattle.plan_tape.proofs.LegalModels.{alike_is_same, legal_box}
 
 -- ---- legal models
 
@@ -73,38 +64,6 @@ ways_home m a b h e f = record {
 
 pub ways_home_in : (m n : Matrix) (a b : Coord) → m ≡ n → IsLegal n → a.z ≡ 0 → b.z ≡ 0 → AreVoidTo m a b
 ways_home_in m n a b e h f g = subst (λ (k : Matrix). AreVoidTo k a b) (sym e) (ways_home n a b h f g)
-
--- ---- the same models
-
-unlike : (a b : Bool) → ((a && not b) || (b && not a)) ≡ false → a ≡ b
-unlike true true e = refl
-unlike true false e = cc
-unlike false true e = cc
-unlike false false e = refl
-
-outside : (m n : Matrix) (c : Coord) → m.resolution ≡ n.resolution → in_space m.resolution (point c) ≡ false → is_full m c ≡ is_full n c
-outside m n c e o = none (in_space m.resolution (point c)) _ o ∙ sym (none (in_space n.resolution (point c)) _ (ap (λ r. in_space r (point c)) (sym e) ∙ o))
-  where
-    none : (a b : Bool) → a ≡ false → (a && b) ≡ false
-    none a b f = rw f refl
-
-pub no_difference : (m n : Matrix) → IsWhole m → IsWhole n → m.resolution ≡ n.resolution → first_difference m n ≡ None → m ≡ n
-no_difference m n v w e h = alike_is_same m n v w e (λ c _. by c (in_space m.resolution (point c)) refl)
-  where
-    by : (c : Coord) (t : Bool) → in_space m.resolution (point c) ≡ t → is_full m c ≡ is_full n c
-    by c true i = unlike (is_full m c) (is_full n c) (find_none (differ_at m n) c (all_of m) h (in_coordinates m.resolution c (in_space-is m.resolution c i)))
-    by c false o = outside m n c e o
-
-like : (a : Bool) → ((a && not a) || (a && not a)) ≡ false
-like true = refl
-like false = refl
-
-pub same_difference : (m n : Matrix) → m ≡ n → first_difference m n ≡ None
-same_difference m n e = subst (λ (k : Matrix). first_difference m k ≡ None) e (none (differ_at m m) (all_of m) (λ c. like (is_full m c)))
-  where
-    none : (test : Coord → Bool) (xs : List Coord) → ((c : Coord) → test c ≡ false) → find test xs ≡ None
-    none test [] h = refl
-    none test (c ∷ xs) h = rw (h c) (none test xs h)
 
 three_or_less : (r : ℕ) → (3 ≤ r) ⊎ (r < 3)
 three_or_less r = grind arith

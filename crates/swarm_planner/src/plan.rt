@@ -1,5 +1,5 @@
 //! The plan.
-ghost use Rattle.std.specs.Prelude.{◌≡◌, ◌≢◌, ◌+◌, ◌*◌, ◌<◌, ◌≤◌, [], ◌∷◌, IfOk, IsFalse, IsTrue, OnOk};
+ghost use Rattle.std.specs.Prelude.{◌≡◌, ◌≢◌, ◌+◌, ◌*◌, ◌<◌, ◌≤◌, [], ◌∷◌, IfOk, OnOk};
 ghost use Rattle.nano_spec.specs.Legal.{IsLegal};
 ghost use Rattle.nano_spec.specs.Matrix.{empty};
 ghost use Rattle.nano_spec.specs.Profile.{full_profile, light_profile};
@@ -12,36 +12,10 @@ ghost use Rattle.swarm_planner.specs.Strips.{width};
 use crate::crew::{gather, spread};
 use crate::paint::build;
 use nano_spec::{Command, Profile, full_accepts_what_light_accepts};
-use plan_tape::{Plan, Tape, seeds_bound_the_bots};
+use plan_tape::{Plan, Tape, lowest_difference, seeds_bound_the_bots};
 use std::alloc::Global;
-use std::marker::Brand;
-use std::sync::ledger::{Blank, Ledger};
-use vox_geom::{Coord, Memory, Steps};
+use vox_geom::{Coord, Memory};
 use vox_planes::Planes;
-
-/// Whether both models are the same, counted in a ledger of its own.
-fn are_same_in<L: Ledger>(nothing: &Planes, target: &Planes, blank: Blank) -> bool
-    requires same { nothing.now.resolution ≡ target.now.resolution }
-    requires name { blank.name ≡ L.name }
-    requires parts { blank.parts ≡ L.parts }
-    requires some { 0 < L.parts }
-    ensures same { IsTrue result → nothing.now ≡ target.now }
-    ensures differ { IsFalse result → nothing.now ≢ target.now }
-{
-    let _ = nothing.resolution();
-    let _ = target.resolution();
-    let mut steps: Steps<L> = Steps::new(blank);
-    nothing.equal(target, &mut steps).is_none()
-}
-
-/// Whether both models are the same.
-fn are_same(nothing: &Planes, target: &Planes) -> bool
-    requires { nothing.now.resolution ≡ target.now.resolution }
-    ensures same { IsTrue result → nothing.now ≡ target.now }
-    ensures differ { IsFalse result → nothing.now ≢ target.now }
-{
-    are_same_in::<Brand>(nothing, target, Blank::new(1))
-}
 
 /// The tape with the bot in the first column, above the floor, under High.
 fn opened(alloc: Global, nothing: Planes) -> Result<Tape, Memory>
@@ -137,8 +111,8 @@ pub fn plan_swarm(alloc: Global, target: &Planes) -> Result<Plan, Memory>
 {
     full_accepts_what_light_accepts();
     let nothing = Planes::empty(alloc, target.resolution())?;
-    if are_same(&nothing, target) {
+    let Some(_) = lowest_difference(&nothing, target) else {
         return only_halt(alloc, nothing);
-    }
+    };
     planned(alloc, nothing, target)
 }
