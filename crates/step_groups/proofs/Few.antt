@@ -22,7 +22,7 @@ use Rattle.step_order.proofs.Facts.{Rising, pairs_in, rising_is}
 use Rattle.step_order.proofs.Lists.{In, first, second, in_map, is_false, any_in, one_of}
 use Rattle.step_order.proofs.Together.{point_is}
 use Rattle.step_groups.specs.Groups.{AreJudged}
-use Rattle.step_groups.specs.Judging.{act, judge_bot, judge_each}
+use Rattle.step_groups.specs.Judging.{act, first_fault, judge_bot, judge_each, later_rules}
 use Rattle.step_groups.proofs.Joined.{bot_in, in_all}
 use Rattle.step_groups.proofs.Mates.{bots_are, no_filter}
 use Rattle.step_groups.proofs.Lists.{or_false}
@@ -59,6 +59,13 @@ no_fault a false e = refl
 not_not : (b : Bool) → not b ≡ false → b ≡ true
 not_not true e = refl
 not_not false e = cc
+
+-- so the command of a bot that breaks no later rule stays in space
+pub stays_if : (s : State) (all : List Act) (step : ℕ) (a : Act) → first_fault s all step a later_rules ≡ None → IsTrue (stays_in_space s.matrix.resolution a)
+stays_if s all step a e =
+    let judged = λ (r : Rule). broken_by step r a.bot.bid (fault s all a r) in
+    not_not (stays_in_space s.matrix.resolution a) (no_fault a (not (stays_in_space s.matrix.resolution a))
+    (no_map (λ (c : Coord). record { step = step; bid = a.bot.bid; rule = OutOfSpace; at = c }) (fault s all a OutOfSpace) (none_first (map judged later_rules) (judged OutOfSpace) e (inr (inr (inr (inl refl)))))))
 
 -- ---- how many members a group has
 

@@ -2,3 +2,4 @@ pub mod Judging
 pub mod Boxes
 pub mod Groups
 pub mod Apart
+pub mod Outlines

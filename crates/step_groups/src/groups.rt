@@ -11,6 +11,7 @@ ghost use Rattle.step_groups.specs.Judging.{is_alone, start_of};
 
 use crate::apart::are_apart;
 use crate::members::gather;
+use crate::one_pass::judge_apart;
 use crate::pairs::judge_pairs;
 use crate::rules::{Step, judge_bots};
 use arrayvec::ArrayVec;
@@ -117,7 +118,8 @@ impl Groups {
     }
 
     /// Judges a step in which each command needs no other bot, so that each bot is a group of its own: the first rule that is
-    /// broken. Mostly boxes around what is volatile for the bots are apart, and no group is made.
+    /// broken. Mostly each bot is beside the box around those before it, or else boxes around what is volatile for the bots are
+    /// apart: no group is made.
     pub fn judge_lone<L: Ledger>(
         &mut self,
         crew: &Crew,
@@ -145,8 +147,12 @@ impl Groups {
             commands,
             number: step,
         };
-        if let Some(broken) = judge_bots(&judged, steps) {
-            return Some(broken);
+        let apart = match judge_apart(&judged, steps) {
+            Ok(apart) => apart,
+            Err(broken) => return Some(broken),
+        };
+        if apart {
+            return None;
         }
         if are_apart(planes, bots, commands) {
             return None;

@@ -6,6 +6,7 @@ mod boxes;
 mod groups;
 mod leading;
 mod members;
+mod one_pass;
 mod pairs;
 mod partners;
 mod rules;

@@ -45,7 +45,7 @@ fn broken_where(step: u32, bot: Bot, rule: Rule, at: Option<Coord>) -> Option<Br
 }
 
 /// The rule is broken where the bot stands.
-fn broken_here(step: u32, bot: Bot, rule: Rule) -> Option<Broken>
+pub(crate) fn broken_here(step: u32, bot: Bot, rule: Rule) -> Option<Broken>
     ensures { result ≡ broken_by step rule bot.bid (Some bot.pos) }
 {
     broken_where(step, bot, rule, Some(bot.pos))
@@ -223,7 +223,7 @@ fn judge_fission<L: Ledger>(
 }
 
 /// The first rule that a bot with `Wait` or `Flip` breaks: none.
-fn judge_still(step: u32, bot: Bot) -> Option<Broken>
+pub(crate) fn judge_still(step: u32, bot: Bot) -> Option<Broken>
     ensures wait { (s : State) (all : List Act) → result ≡ first_fault s all step (act bot Wait) later_rules }
     ensures flip { (s : State) (all : List Act) → result ≡ first_fault s all step (act bot Flip) later_rules }
 {
@@ -301,7 +301,7 @@ fn judge_group(step: &Step, bot: &Bot, command: &Command, d: Diff, f: Diff) -> O
 }
 
 /// The first rule after the one on the profile that a bot breaks.
-fn judge_later<L: Ledger>(
+pub(crate) fn judge_later<L: Ledger>(
     step: &Step,
     bot: &Bot,
     command: &Command,

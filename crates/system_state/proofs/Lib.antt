@@ -5,6 +5,7 @@ pub mod Single
 pub mod Bots
 pub mod Members
 pub mod Meeting
+pub mod Still
 pub mod TurnTaken
 pub mod Upkeep
 pub mod Gathered

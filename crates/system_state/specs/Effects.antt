@@ -6,7 +6,7 @@ use Rattle.vox_geom.specs.Space.{IsInSpace, coordinate}
 use Rattle.nano_spec.specs.declared.commands.Command.{Command}
 use Rattle.nano_spec.specs.declared.commands.Command.TheVariants.{Halt, SMove, LMove, FusionP, FusionS, Fission}
 use Rattle.nano_spec.specs.declared.system.Bot.{Bot}
-use Rattle.nano_spec.specs.Act.{Act, stays_in_space}
+use Rattle.nano_spec.specs.Act.{stays_in_space}
 use Rattle.nano_spec.specs.Bots.{fused, moved, newborn, parent}
 use Rattle.nano_spec.specs.Energy.{group_cost}
 use Rattle.nano_spec.specs.State.{State, seed_list}

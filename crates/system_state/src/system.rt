@@ -3,6 +3,7 @@ ghost use Rattle.std.specs.Prelude.{◌≡◌, ℕ, ◌+◌, ◌*◌, ◌≤◌,
 ghost use Rattle.std.specs.List.{list_all};
 ghost use Rattle.vox_geom.specs.Space.{IsInSpace};
 ghost use Rattle.nano_spec.specs.declared.commands.Command.{Command as Trace};
+ghost use Rattle.nano_spec.specs.declared.commands.Command.TheVariants.{SMove};
 ghost use Rattle.nano_spec.specs.declared.system.Bot.{Bot as ActiveBot};
 ghost use Rattle.nano_spec.specs.Act.{acts};
 ghost use Rattle.nano_spec.specs.Group.{leaders};
@@ -24,17 +25,18 @@ mod alone;
 mod parts;
 
 use crate::known::know_all;
-use crate::moves::move_bots;
+use crate::moves::{move_bots, target};
 use crate::turns::{Turn, Turns, gather, gather_lone, list_turns, turn_of};
 use crate::voxels::pay_turn;
+use alone::cost_of_move;
 use bot_crew::{Crew, crew_is_ready, group_is_replaced};
 use energy_sum::upkeep;
-use nano_spec::{Broken, Command, Harmonics, Profile, Rule};
+use nano_spec::{Bot, Broken, Command, Harmonics, Profile, Rule};
 use std::marker::Model;
 use std::sync::ledger::Ledger;
 use step_groups::{all_act_alone, judge_single};
 use step_order::groups_take_turns;
-use vox_geom::{MOST_R, Steps};
+use vox_geom::{Long, MOST_R, Steps};
 use vox_planes::Planes;
 
 /// The other harmonics after a Flip.
@@ -324,7 +326,9 @@ impl System {
         self.energy = paid(self.energy, upkeep);
     }
 
-    /// The turn of a group, by the command of its leader.
+    /// The turn of a group, by the command of its leader. Waits and straight moves, which most commands of many bots are, are
+    /// made at once.
+    #[inline(always)]
     fn take_turn<L: Ledger>(&mut self, turn: Turn, command: &Command, steps: &mut Steps<L>)
         requires may { IfSome (bot_of self.old.bots turn.leader) (λ bot. MayTake self.old.matrix.resolution self.old.bots bot turn.partner command.now) }
         requires payable { IsWithin 9000000000000000000 self.old.energy }
@@ -332,12 +336,57 @@ impl System {
         ensures within { (k : ℕ) → IsWithin k self.old.energy → IsWithin (k + 357492) self.new.energy }
         ensures touches { IfSome (bot_of self.old.bots turn.leader) (λ bot. steps.new ≤ steps.old + met_count self.old.matrix bot command.now) }
     {
-        let resolution = self.matrix.resolution();
+        let _ = self.matrix.resolution();
         let Some(bot) = self.crew.bot(turn.leader) else {
             return;
         };
+        match command {
+            Command::Wait => {}
+            Command::SMove(d) => self.take_move(bot, *d),
+            Command::Halt
+            | Command::Flip
+            | Command::LMove(_, _)
+            | Command::FusionP(_)
+            | Command::FusionS(_)
+            | Command::Fission(_, _)
+            | Command::Fill(_)
+            | Command::Void(_)
+            | Command::GFill(_, _)
+            | Command::GVoid(_, _) => self.take_other_turn(bot, turn.partner, command, steps),
+        }
+    }
+
+    /// The turn of a bot that moves straight.
+    #[inline(always)]
+    fn take_move(&mut self, bot: Bot, d: Long)
+        requires may { (partner : ℕ) → MayTake self.old.matrix.resolution self.old.bots bot partner (SMove d) }
+        requires payable { IsWithin 9000000000000000000 self.old.energy }
+        ensures value { (partner : ℕ) → self.new ≡ after_turn self.old bot partner (SMove d) }
+        ensures within { (k : ℕ) → IsWithin k self.old.energy → IsWithin (k + 357492) self.new.energy }
+    {
+        let resolution = self.matrix.resolution();
+        self.crew
+            .move_to(bot.bid, target(resolution, bot.pos, d.diff()));
+        self.energy = paid(self.energy, cost_of_move(d));
+    }
+
+    /// The turn of a group by any command of its leader.
+    fn take_other_turn<L: Ledger>(
+        &mut self,
+        bot: Bot,
+        partner: u8,
+        command: &Command,
+        steps: &mut Steps<L>,
+    )
+        requires may { MayTake self.old.matrix.resolution self.old.bots bot partner command.now }
+        requires payable { IsWithin 9000000000000000000 self.old.energy }
+        ensures value { self.new ≡ after_turn self.old bot partner command.now }
+        ensures within { (k : ℕ) → IsWithin k self.old.energy → IsWithin (k + 357492) self.new.energy }
+        ensures touches { steps.new ≤ steps.old + met_count self.old.matrix bot command.now }
+    {
+        let resolution = self.matrix.resolution();
         let cost = pay_turn(&mut self.matrix, bot, command, steps);
-        move_bots(&mut self.crew, resolution, bot, turn.partner, command);
+        move_bots(&mut self.crew, resolution, bot, partner, command);
         self.harmonics = harmonics_by(self.harmonics, command);
         self.energy = paid(self.energy, cost);
     }

@@ -114,9 +114,10 @@ fn cost_of_edit(full: bool, was_full: bool) -> i64
 }
 
 /// What a straight move costs beside the upkeep.
-fn cost_of_move(d: Long) -> i64
+#[inline(always)]
+pub(super) fn cost_of_move(d: Long) -> i64
     ensures value { result ≡ pos (2 * mlen d) }
-    ensures small { IsWithin 2000000000 result }
+    ensures small { IsWithin 357492 result }
 {
     2 * i64::from(d.diff().mlen())
 }

@@ -1,0 +1,88 @@
+-- One box around all that is volatile for some bots, bot by bot.
+use Rattle.std.proofs.Common.{◌≡◌, ℕ, ◌≤◌, refl, ap, sym, ◌∙◌, subst, arith, inl, inr, Bool, true, false, ◌&&◌, ◌||◌, List, [], ◌∷◌, ◌++◌, pos}
+use Rattle.std.specs.Prelude.{ℤ, IsTrue}
+use Rattle.std.proofs.lemmas.Bool.Decides.{nat_tests}
+use Rattle.std.proofs.lemmas.Int.{ints}
+use Rattle.vox_geom.specs.declared.coordinate.Coord.{Coord}
+use Rattle.vox_geom.specs.declared.difference.Diff.{Diff}
+use Rattle.vox_geom.specs.Point.{Point, point, plus}
+use Rattle.vox_geom.specs.Region.{Corners, IsOrdered, between, is_between, is_within, just, span}
+use Rattle.nano_spec.specs.declared.commands.Command.TheVariants.{Fill, SMove, Wait}
+use Rattle.nano_spec.specs.declared.system.Bot.{Bot}
+use Rattle.nano_spec.specs.Act.{Act}
+use Rattle.step_groups.specs.declared.one_pass.Outline.{Outline}
+use Rattle.step_groups.specs.Outlines.{LiesBetween, IsOutlineOf, IsVolatileFor, TakesIn}
+use Rattle.step_groups.specs.Judging.{act}
+use Rattle.step_groups.proofs.Lists.{or_false}
+use Rattle.step_groups.proofs.Lone.{any_more, apart_more}
+use Rattle.step_groups.proofs.Shared.{both_left, both_right, both_true}
+use Rattle.step_groups.proofs.Volatiles.{covers, one}
+
+-- ---- a box and its ends
+
+ends : (l h v : ℕ) → l ≤ h → IsTrue (is_between (pos l) (pos h) (pos v)) → (l ≤ v) × (v ≤ h)
+ends l h v o t = (grind (arith, nat_tests), grind (arith, nat_tests))
+
+pub inside_box : (k : Corners) (c : Coord) → IsOrdered k → IsTrue (is_within (span k) (point c)) → LiesBetween k.low k.high c
+inside_box k c o t =
+    let x : Bool = is_between (pos k.low.x) (pos k.high.x) (pos c.x) in
+    let y : Bool = is_between (pos k.low.y) (pos k.high.y) (pos c.y) in
+    let z : Bool = is_between (pos k.low.z) (pos k.high.z) (pos c.z) in
+    let ex = ends k.low.x k.high.x c.x o.x (both_left x y (both_left (x && y) z t)) in
+    let ey = ends k.low.y k.high.y c.y o.y (both_right x y (both_left (x && y) z t)) in
+    let ez = ends k.low.z k.high.z c.z o.z (both_right (x && y) z t) in
+    record { from_x = ex.0; from_y = ey.0; from_z = ez.0; to_x = ex.1; to_y = ey.1; to_z = ez.1 }
+
+-- the box takes in also what is less
+pub takes_less : (P Q : Coord → Type 0) (old new : Outline) → ((c : Coord) → Q c → P c) → TakesIn P old new → TakesIn Q old new
+takes_less P Q old new f h = record { keeps = h.keeps; takes = λ c q. h.takes c (f c q); was = h.was; beside = λ e c q. h.beside e c (f c q) }
+
+-- ---- what is volatile for one bot lies within the box between where it stands and what it names
+
+module _ (bot : Bot) (k : Corners) (to : Coord) (around : (p : Point) → is_within (span k) p ≡ is_within (between (point bot.pos) (point to)) p) where
+  pub way_within : (d : Diff) → point to ≡ plus (point bot.pos) d → (c : Coord) → IsVolatileFor (act bot (SMove d)) c → IsTrue (is_within (span k) (point c))
+  way_within d e c h =
+      sym (or_false (is_within (span k) (point c)))
+      ∙ (one (k ∷ []) k (between (point bot.pos) (plus (point bot.pos) d)) bot (SMove d) (SMove d) c refl (covers k bot.pos to (point bot.pos) (plus (point bot.pos) d) around refl e) refl refl ∙ h)
+
+  first_end : (a b v : ℤ) → IsTrue (is_between a a v) → IsTrue (is_between a b v)
+  first_end a b v h = grind (arith, ints)
+
+  last_end : (a b v : ℤ) → IsTrue (is_between b b v) → IsTrue (is_between a b v)
+  last_end a b v h = grind (arith, ints)
+
+  -- a coordinate that is one of the ends
+  end_within : (p q e c : Point) → ((v : ℤ) → IsTrue (is_between e.x e.x v) → IsTrue (is_between p.x q.x v)) → ((v : ℤ) → IsTrue (is_between e.y e.y v) → IsTrue (is_between p.y q.y v)) → ((v : ℤ) → IsTrue (is_between e.z e.z v) → IsTrue (is_between p.z q.z v)) → IsTrue (is_within (just e) c) → IsTrue (is_within (between p q) c)
+  end_within p q e c fx fy fz t =
+      let x : Bool = is_between e.x e.x c.x in
+      let y : Bool = is_between e.y e.y c.y in
+      let z : Bool = is_between e.z e.z c.z in
+      both_true (is_between p.x q.x c.x && is_between p.y q.y c.y) (is_between p.z q.z c.z)
+      (both_true (is_between p.x q.x c.x) (is_between p.y q.y c.y) (fx c.x (both_left x y (both_left (x && y) z t))) (fy c.y (both_right x y (both_left (x && y) z t))))
+      (fz c.z (both_right (x && y) z t))
+
+  either : (a b : Bool) (c : Bool) → (IsTrue a → IsTrue c) → (IsTrue b → IsTrue c) → IsTrue (a || (b || false)) → IsTrue c
+  either true b c f g h = f refl
+  either false true c f g h = g refl
+  either false false c f g h = cc
+
+  pub named_within : (d : Diff) → point to ≡ plus (point bot.pos) d → (c : Coord) → IsVolatileFor (act bot (Fill d)) c → IsTrue (is_within (span k) (point c))
+  named_within d e c h =
+      let p : Point = point bot.pos in
+      let q : Point = plus p d in
+      around (point c)
+      ∙ (ap (λ (w : Point). is_within (between p w) (point c)) e
+      ∙ either (is_within (just p) (point c)) (is_within (just q) (point c)) (is_within (between p q) (point c))
+      (end_within p q p (point c) (λ v. first_end p.x q.x v) (λ v. first_end p.y q.y v) (λ v. first_end p.z q.z v))
+      (end_within p q q (point c) (λ v. last_end p.x q.x v) (λ v. last_end p.y q.y v) (λ v. last_end p.z q.z v)) h)
+
+pub wait_within : (bot : Bot) (k : Corners) → ((p : Point) → is_within (span k) p ≡ is_within (just (point bot.pos)) p) → (c : Coord) → IsVolatileFor (act bot Wait) c → IsTrue (is_within (span k) (point c))
+wait_within bot k around c h = sym (or_false (is_within (span k) (point c))) ∙ (one (k ∷ []) k (just (point bot.pos)) bot Wait Wait c refl around refl refl ∙ h)
+
+-- ---- one bot more
+
+pub outline_more : (xs more : List Act) (a : Act) (old new : Outline) → IsOutlineOf old xs → more ≡ xs ++ a ∷ [] → TakesIn (IsVolatileFor a) old new → IsOutlineOf new more
+outline_more xs more a old new h e t = subst (λ (ys : List Act). IsOutlineOf new ys) (sym e) (record {
+  around = λ c v. elim (any_more c xs a v) [ inl o ↦ t.keeps c (h.around c o) | inr o ↦ t.takes c o ];
+  apart = λ f. apart_more xs a (h.apart (t.was f)) (λ c v w. t.beside f c v (h.around c w));
+})
