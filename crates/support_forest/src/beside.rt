@@ -108,7 +108,7 @@ pub fn word_toward<L: Ledger>(
 
 /// The words of the neighbours of a voxel whose brick has no slot.
 #[inline(never)]
-fn words_beyond<L: Ledger>(cells: &Cells, c: Coord, steps: &mut Steps<L>) -> Beside
+pub fn words_beyond<L: Ledger>(cells: &Cells, c: Coord, steps: &mut Steps<L>) -> Beside
     requires within { IsInSpace cells.now.resolution c }
     requires space { (q : Coord) → 0 < word_at cells.now q → IsInSpace cells.now.resolution q }
     ensures words { AreBesideWords (word_at cells.now) c result }
@@ -145,26 +145,6 @@ pub fn words_in<L: Ledger>(cells: &Cells, c: Coord, slot: u32, steps: &mut Steps
     }
 }
 
-/// The words of a voxel's neighbours, with the slot of its brick in hand.
-#[inline(always)]
-pub fn words_around<L: Ledger>(
-    cells: &Cells,
-    c: Coord,
-    own: Option<u32>,
-    steps: &mut Steps<L>,
-) -> Beside
-    requires within { IsInSpace cells.now.resolution c }
-    requires own { own ≡ slot_of cells.now c }
-    requires space { (q : Coord) → 0 < word_at cells.now q → IsInSpace cells.now.resolution q }
-    ensures words { AreBesideWords (word_at cells.now) c result }
-    ensures touches { steps.new ≤ steps.old + 6 }
-{
-    match own {
-        Some(slot) => words_in(cells, c, slot, steps),
-        None => words_beyond(cells, c, steps),
-    }
-}
-
 /// The words of a voxel's neighbours.
 #[inline(always)]
 pub fn words_beside<L: Ledger>(cells: &Cells, c: Coord, steps: &mut Steps<L>) -> Beside
@@ -174,5 +154,8 @@ pub fn words_beside<L: Ledger>(cells: &Cells, c: Coord, steps: &mut Steps<L>) ->
     ensures few { cells.now.resolution ≤ 400 }
     ensures touches { steps.new ≤ steps.old + 6 }
 {
-    words_around(cells, c, cells.slot(c), steps)
+    match cells.slot(c) {
+        Some(slot) => words_in(cells, c, slot, steps),
+        None => words_beyond(cells, c, steps),
+    }
 }
