@@ -5,7 +5,7 @@ use Rattle.std.proofs.lemmas.List.{get_or_past}
 use Rattle.std.specs.FinMap.{get}
 use Rattle.brick_arena.specs.Arena.{is_listed, chain, slot_words, view_of, IsArena}
 use Rattle.brick_arena.specs.Chunks.{AreChunks, chunk_word}
-use Rattle.brick_arena.specs.Slots.{Slots, IsLive, words_of, AreSlots}
+use Rattle.brick_arena.specs.Slots.{Slots, IsLive, words_of, AreSlots, HasSlot}
 use Rattle.brick_arena.proofs.LiveSlots.{get_past, get_vacant, get_live, live_inside}
 use Rattle.brick_arena.proofs.Rows.{length-row, get-row}
 
@@ -55,3 +55,21 @@ module _ (cs : List (List ℕ)) (free vacant reached : ℕ) (arena : IsArena cs 
   live_at slots is s live =
       let inside = live_inside m fs reached s (subst (λ w. IsLive w s) (sym is) live) in
       (inside.0, inside.1, omega (arith, inside.0, arena.room))
+
+  -- the chunk of a live slot has its words
+  pub has_slot : (slots : Slots) → v ≡ slots → (s : ℕ) → IsLive slots s → (chunk : List ℕ) → chunk ≡ get_or cs (s / 64) [] → HasSlot slots s chunk
+  has_slot slots is s live chunk e =
+      let at = live_at slots is s live in
+      let l : s / 64 < length cs = omega (arith, at.2) in
+      record {
+        full = ap (λ ws. length ws) e ∙ (arena.chunks (s / 64) l).full;
+        each = λ i lt.
+            let q : s / 64 ≡ (512 * s + i) / 32768 = omega arith in
+            let r : s % 64 * 512 + i ≡ (512 * s + i) % 32768 = omega arith in
+            ap (λ ws. get_or ws (s % 64 * 512 + i) 0) e
+            ∙ ap (λ k. get_or (get_or cs k []) (s % 64 * 512 + i) 0) q
+            ∙ ap (λ k. get_or (get_or cs ((512 * s + i) / 32768) []) k 0) r
+            ∙ sym (get-row m (512 * s) 512 i 0 lt)
+            ∙ sym (ap (λ words. get_or words i 0) (words-live s at.0 at.1))
+            ∙ ap (λ w. get_or (words_of w s) i 0) is;
+      }

@@ -1,8 +1,9 @@
 -- The live slots by number, each with its words: what callers see of an arena.
-use Rattle.std.specs.Prelude.{◌≡◌, ℕ, ◌^◌, ◌<◌, List, [], length, slice_index, IsSome, unwrap_or}
+use Rattle.std.specs.Prelude.{◌≡◌, ℕ, ◌+◌, ◌*◌, ◌%◌, ◌^◌, ◌<◌, List, [], length, slice_index, IsSome, unwrap_or}
 use Rattle.std.specs.Ordering.{nat_cmp}
 use Rattle.std.specs.FinMap.{FinMap, get}
 use Rattle.brick_arena.specs.declared.TheConstants.{SLOT_WORDS, MOST_SLOTS}
+use Rattle.brick_arena.specs.declared.chunk.TheConstants.{CHUNK_WORDS, CHUNK_SLOTS}
 
 abbrev pub Slots : Type 0
 Slots = FinMap nat_cmp (List ℕ)
@@ -19,3 +20,12 @@ pub record AreSlots (slots : Slots) : Type 0 where
   pub numbers : (slot : ℕ) → IsLive slots slot → slot < MOST_SLOTS
   pub lengths : (slot : ℕ) → IsLive slots slot → length (words_of slots slot) ≡ SLOT_WORDS
   pub words : (slot index : ℕ) → slice_index (words_of slots slot) index < 2 ^ 32
+
+-- the place of a slot's first word in its chunk
+abbrev pub start_in_chunk : ℕ → ℕ
+start_in_chunk slot = slot % CHUNK_SLOTS * SLOT_WORDS
+
+-- the chunk has the words of the slot
+pub record HasSlot (slots : Slots) (slot : ℕ) (chunk : List ℕ) : Type 0 where
+  pub full : length chunk ≡ CHUNK_WORDS
+  pub each : (index : ℕ) → index < SLOT_WORDS → slice_index chunk (start_in_chunk slot + index) ≡ slice_index (words_of slots slot) index

@@ -106,7 +106,7 @@ impl Words {
 }
 
 /// A chunk, which gives its memory back at its end.
-pub(crate) struct Chunk {
+pub struct Chunk {
     words: Words,
     deed: Deed<Global>,
     alloc: Global,
@@ -135,7 +135,8 @@ impl Chunk {
         Ok(Chunk { words, deed, alloc })
     }
 
-    pub(crate) fn word(&self, index: usize) -> u32
+    /// The word at a place.
+    pub fn word(&self, index: usize) -> u32
         requires { index < length self.now }
         ensures { result ≡ slice_index self.now index }
     {

@@ -1,6 +1,7 @@
 //! Words over a list of chunks, by place: the words of slot 0, those of slot 1, and so on.
 ghost use Rattle.std.specs.Prelude.{◌≡◌, ◌+◌, ◌*◌, ◌<◌, ◌≤◌, length, OnOk, OnErr};
 ghost use Rattle.brick_arena.specs.Chunks.{chunk_word, AreChunks, IsStored, IsCleared, HasRoom};
+ghost use Rattle.brick_arena.specs.Slots.{start_in_chunk as start_in_chunk_of};
 
 use super::SLOT_WORDS;
 use super::chunk::{CHUNK_SLOTS, CHUNK_WORDS, Chunk, LINE_WORDS};
@@ -31,6 +32,14 @@ pub(crate) fn store(chunks: &mut Vec<Chunk>, place: usize, word: u32)
     chunk.set_word(place % CHUNK_WORDS, word);
 }
 
+/// The place of a slot's first word in its chunk.
+#[inline(always)]
+pub fn start_in_chunk(slot: u32) -> usize
+    ensures { result ≡ start_in_chunk_of slot }
+{
+    slot as usize % CHUNK_SLOTS * usize::from(SLOT_WORDS)
+}
+
 /// Writes 0 into all words of a slot.
 pub(crate) fn clear(chunks: &mut Vec<Chunk>, slot: u32)
     requires inside { slot < CHUNK_SLOTS * length chunks.old.items }
@@ -38,7 +47,7 @@ pub(crate) fn clear(chunks: &mut Vec<Chunk>, slot: u32)
     ensures { IsCleared chunks.old.items chunks.new.items slot }
 {
     let chunk = &mut chunks[slot as usize / CHUNK_SLOTS];
-    let start = slot as usize % CHUNK_SLOTS * usize::from(SLOT_WORDS);
+    let start = start_in_chunk(slot);
     chunk.set_zeros(start, usize::from(SLOT_WORDS) / LINE_WORDS);
 }
 

@@ -8,9 +8,11 @@ mod tests;
 
 ghost use Rattle.std.specs.Prelude.{◌≡◌, ◌+◌, ◌<◌, None, replicate, slice_index, slice_set, OnErr, IfOk};
 ghost use Rattle.std.specs.FinMap as map;
-ghost use Rattle.brick_arena.specs.Slots.{IsLive, words_of, AreSlots};
+ghost use Rattle.brick_arena.specs.Slots.{IsLive, words_of, AreSlots, HasSlot};
 
-use chunk::Chunk;
+use chunk::CHUNK_SLOTS;
+pub use chunk::Chunk;
+pub use chunks::start_in_chunk;
 use chunks::{clear, load, place, reserve, store};
 use std::alloc::Global;
 use std::marker::Model;
@@ -120,6 +122,16 @@ impl Bricks {
     {
         steps.tick();
         load(&self.chunks, place(slot, index))
+    }
+
+    /// The chunk that has the words of a live slot, from [`start_in_chunk`] on. A caller that reads several of them looks for
+    /// it once, and counts the touches.
+    #[inline(always)]
+    pub fn chunk(&self, slot: u32) -> &Chunk
+        requires { IsLive self.now slot }
+        ensures { HasSlot self.now slot result.now }
+    {
+        &self.chunks[slot as usize / CHUNK_SLOTS]
     }
 
     /// Writes the word at `index` of a live slot, by one touch.

@@ -1,5 +1,5 @@
 -- Each step has a work, and so has each run, and no step has two.
-use Rattle.std.proofs.Common.{◌≡◌, ℕ, zero, suc, ◌+◌, ◌*◌, ◌≤◌, refl, sym, ◌∙◌, ap, subst, arith, List, [], ◌∷◌, ◌++◌, Bool, true, false, length, take, drop}
+use Rattle.std.proofs.Common.{◌≡◌, ℕ, zero, suc, ◌+◌, ◌*◌, ◌≤◌, refl, ap, subst, arith, List, [], ◌∷◌, ◌++◌, Bool, true, false, length, take, drop}
 use Rattle.std.specs.Prelude.{Option, Some, None, MatchOption, option_map, slice_get}
 use Rattle.std.specs.Bool.{MatchBool}
 use Rattle.std.proofs.lemmas.List.{length-drop}
@@ -18,8 +18,7 @@ use Rattle.nano_spec.specs.Next.{Breaks, Goes, Next, Outcome, Settles, settled}
 use Rattle.nano_spec.specs.Rules.{broken, judge_bots, judge_pairs}
 use Rattle.nano_spec.specs.State.{State, is_high, opening}
 use Rattle.nano_spec.specs.Step.{after, matrix_after}
-use Rattle.nano_spec.specs.Work.{Levels, LevelsOf, Work, WorkFrom, WorkOfActs, WorkOfJudged, WorkOfStep, changed_count, differing, rests, stops, volatile_total, without_voided, work_by_rule, works}
-use Rattle.nano_spec.proofs.Unique.{Level-unique}
+use Rattle.nano_spec.specs.Work.{Levels, Work, WorkFrom, WorkOfActs, WorkOfJudged, WorkOfStep, changed_count, differing, rests, stops, volatile_total, without_voided, work_by_rule, works}
 use Rattle.step_machine.specs.Payment.{IsWithinWork}
 use Rattle.step_machine.proofs.Reaching.{first_ungrounded, levels_of}
 use Rattle.nano_spec.proofs.Works.{judged_same}

@@ -23,7 +23,7 @@ mod noted;
 
 use crate::MOST_CHANGED;
 use crate::order::take_turns;
-use crate::support::{forest_of, settle};
+use crate::support::settle;
 use arrayvec::ArrayVec;
 use bot_crew::{Crew, MOST_BOTS};
 use energy_sum::a_step_changes_the_energy_by_little;
@@ -121,7 +121,7 @@ impl Machine {
         opening_is_ready();
         ready_and_well_formed();
         let _ = source.resolution();
-        let forest = forest_of(alloc, &source, steps)?;
+        let forest = Forest::of(alloc, &source, steps)?;
         let changed = ChangeList::with_room(alloc, MOST_CHANGED)?;
         let system = System::opening(source, profile);
         Ok(Machine {
@@ -150,7 +150,7 @@ impl Machine {
         ensures value { IfOk result (λ m. m ≡ record { state = state_with matrix crew harmonics energy profile; steps = steps_done; spent = false }) }
         ensures touches { IfOk result (λ _. steps.new ≤ steps.old + 91 * volume matrix.resolution) }
     {
-        let forest = forest_of(alloc, &matrix, steps)?;
+        let forest = Forest::of(alloc, &matrix, steps)?;
         let changed = ChangeList::with_room(alloc, MOST_CHANGED)?;
         let system = System::at(matrix, crew, harmonics, energy, profile);
         Ok(Machine {

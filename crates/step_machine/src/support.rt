@@ -21,25 +21,11 @@ use crate::MOST_CHANGED;
 use crate::changes::list_changes;
 use crate::machine::StepFault;
 use nano_spec::{Broken, Command, Harmonics, Rule};
-use std::alloc::Global;
 use std::sync::ledger::Ledger;
 use support_forest::Forest;
 use system_state::{System, Turns};
 use vox_geom::{Coord, Memory, Near, Steps};
 use vox_planes::{ChangeList, Planes};
-
-/// The forest of a matrix.
-pub(crate) fn forest_of<L: Ledger>(
-    alloc: Global,
-    matrix: &Planes,
-    steps: &mut Steps<L>,
-) -> Result<Forest, Memory>
-    ensures value { IfOk result (λ f. f.matrix ≡ matrix.now) }
-    ensures stands { IfOk result (λ f. f.spent ≡ false) }
-    ensures touches { IfOk result (λ _. steps.new ≤ steps.old + 91 * volume matrix.now.resolution) }
-{
-    Forest::of(alloc, matrix, steps)
-}
 
 /// Cells that become void. Memory may be refused only where there are some.
 #[inline(always)]
@@ -187,11 +173,16 @@ fn change_cell<L: Ledger>(
     ensures stands { IfOk result (λ _. forest.new.spent ≡ false) }
     ensures touches { IfOk result (λ _. IsCheap forest.old.matrix forest.new.matrix (cell ∷ []) 100 steps.old steps.new) }
 {
-    let cells = [cell];
     if full {
-        return add(forest, &cells, steps);
+        return match forest.add_one(cell, steps) {
+            Ok(()) => Ok(()),
+            Err(_) => Err(Memory),
+        };
     }
-    remove(forest, &cells, steps)
+    match forest.remove_one(cell, steps) {
+        Ok(()) => Ok(()),
+        Err(_) => Err(Memory),
+    }
 }
 
 /// The forest after the only bot filled the voxel at the coordinate, or else voided it, and whether that was full.

@@ -8,7 +8,6 @@ ghost use Rattle.vox_geom.specs.Space.{IsInSpace};
 
 use super::*;
 use crate::runner::refused;
-use crate::support::forest_of;
 use arrayvec::ArrayVec;
 use bot_crew::MOST_BOTS;
 use nano_spec::{Broken, Command, Harmonics, Profile, Rule, Verdict};
@@ -17,6 +16,7 @@ use std::marker::Brand;
 use std::process::Abort;
 use std::sync::ledger::{Blank, Ledger};
 use std::test::Fail;
+use support_forest::Forest;
 use vox_geom::{Coord, Diff, Far, Long, Memory, Near, Steps};
 use vox_planes::Planes;
 
@@ -53,7 +53,7 @@ fn source<L: Ledger>(
         assert!(rt; c.z < resolution);
         matrix.set(*c, true);
     }
-    let forest = forest_of(alloc, &matrix, steps)?;
+    let forest = Forest::of(alloc, &matrix, steps)?;
     assert!(rt; forest.floating() == 0);
     assert!(rt; matrix.resolution() == r);
     Ok(matrix)

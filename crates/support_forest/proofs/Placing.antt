@@ -1,5 +1,5 @@
 -- A voxel that becomes full beside others whose levels stay as they are.
-use Rattle.std.proofs.Common.{◌≡◌, ℕ, ◌+◌, ◌*◌, ◌/◌, ◌%◌, ◌<◌, ◌≤◌, ◌⊎◌, inl, inr, sym, ◌∙◌, ap, subst, arith, Bool, true, false, List, length}
+use Rattle.std.proofs.Common.{◌≡◌, ℕ, ◌+◌, ◌*◌, ◌/◌, ◌%◌, ◌<◌, ◌≤◌, ◌⊎◌, inl, inr, refl, sym, ◌∙◌, ap, subst, arith, Bool, true, false, List, length}
 use Rattle.std.specs.Prelude.{slice_index_or, MatchBool}
 use Rattle.std.specs.List.{Contains}
 use Rattle.std.proofs.lemmas.Bool.{cases_lt, false≢true}
@@ -11,7 +11,7 @@ use Rattle.support_forest.specs.declared.beside.Beside.{Beside}
 use Rattle.support_forest.specs.declared.place.Around.{Around}
 use Rattle.support_forest.specs.Directions.{Toward, AreBeside}
 use Rattle.support_forest.specs.Grid.{Grid, word_at}
-use Rattle.support_forest.specs.Placing.{AreBesideWords, HavePlaced, IsAround, LeavesRoom, MayStand}
+use Rattle.support_forest.specs.Placing.{AreBesideWords, HavePlaced, IsAround, IsWordToward, LeavesRoom, MayLieUnder, MayStand}
 use Rattle.support_forest.specs.Waiting.{CanAdd, HaveAdded}
 use Rattle.support_forest.specs.Words.{height, AreExact, AreSettling, IsSound, IsWritten}
 use Rattle.support_forest.proofs.Nearby.{each_beside, toward_down}
@@ -224,6 +224,30 @@ fits_over r w c b k m =
     below v (inl z) h = absurd (omega arith)
     below v (inr z) h = let l = z.0 in let u = z.1 in let g = m.under in (omega arith, omega arith)
 
+-- ---- the voxel is on the floor
+
+-- a full neighbour of a voxel on the floor has height 1 too, or lies over it
+floor_near : (r : ℕ) (w : Coord → ℕ) (c a : Coord) (d over : ℕ) → AreExact r w → c.y ≡ 0 → IsWordToward w c 4 over → MayLieUnder over → 0 < w a → Toward d c a → (8 ≤ w a) × (height w a ≤ 8 / 8 + 1)
+unfolding Toward
+floor_near r w c a d over e y k m f (inl h) = let l : w a ≡ 8 = e.floor a f (omega arith) in (omega arith, omega arith)
+floor_near r w c a d over e y k m f (inr (inl h)) = let l : w a ≡ 8 = e.floor a f (omega arith) in (omega arith, omega arith)
+floor_near r w c a d over e y k m f (inr (inr (inl h))) = absurd (omega arith)
+floor_near r w c a d over e y k m f (inr (inr (inr (inl h)))) =
+    let l : w a ≡ over = k.each a (inr (inr (inr (inl (refl, omega arith, omega arith, omega arith))))) in
+    elim m [ inl z ↦ absurd (omega arith) | inr b ↦ (omega (arith, b.0), omega (arith, b.1)) ]
+floor_near r w c a d over e y k m f (inr (inr (inr (inr (inl h))))) = let l : w a ≡ 8 = e.floor a f (omega arith) in (omega arith, omega arith)
+floor_near r w c a d over e y k m f (inr (inr (inr (inr (inr h))))) = let l : w a ≡ 8 = e.floor a f (omega arith) in (omega arith, omega arith)
+
+fits_on_floor : (r : ℕ) (w : Coord → ℕ) (c : Coord) (over : ℕ) → AreExact r w → c.y ≡ 0 → IsWordToward w c 4 over → MayLieUnder over → Fits r w c 8
+fits_on_floor r w c over e y k m = record {
+  some = omega arith;
+  form = λ h. omega arith;
+  floor = λ z. refl;
+  parent = λ h. inl (refl, y);
+  above = λ b h n. (omega arith, omega arith);
+  below = λ a f h n. let b = beside_back a c n in floor_near r w c a b.direction over e y k m f b.toward;
+}
+
 -- the word that is written is a small number
 pub word_small : (r : ℕ) (w : Coord → ℕ) (c : Coord) (a : Around) → AreExact r w → r * r * r ≤ 64000000 → IsAround w c a 7 → a.height ≤ 64000001
 word_small r w c a e few i = elim i.sound [
@@ -271,6 +295,9 @@ placed_below old new c a before mid after e few s z i h firm calm k r m t = plac
 
 pub placed_over : (old new : Grid) (c : Coord) (b : Beside) (before mid after : ℕ) → AreExact old.resolution (word_at old) → IsInSpace old.resolution c → word_at old c ≡ 0 → AreBesideWords (word_at old) c b → MayStand b → IsWritten (word_at old) (word_at new) c (8 * (b.under / 8) + 11) → new.resolution ≡ old.resolution → mid ≤ before + 6 → after ≡ mid + 1 → HavePlaced old new c before after
 placed_over old new c b before mid after e s z i m k r l t = placed_with old new c (8 * (b.under / 8) + 11) before mid after e s z (fits_over old.resolution (word_at old) c b i m) k r l t
+
+pub placed_on_floor : (old new : Grid) (c : Coord) (over before mid after : ℕ) → AreExact old.resolution (word_at old) → IsInSpace old.resolution c → word_at old c ≡ 0 → c.y ≡ 0 → IsWordToward (word_at old) c 4 over → MayLieUnder over → IsWritten (word_at old) (word_at new) c 8 → new.resolution ≡ old.resolution → mid ≤ before + 1 → after ≡ mid + 1 → HavePlaced old new c before after
+placed_on_floor old new c over before mid after e s z y i m k r l t = placed_with old new c 8 before mid after e s z (fits_on_floor old.resolution (word_at old) c over e y i m) k r (omega arith) t
 
 -- a voxel has a small height where one stands on it
 pub under_small : (r : ℕ) (w : Coord → ℕ) (c : Coord) (b : Beside) → AreExact r w → r * r * r ≤ 64000000 → AreBesideWords w c b → MayStand b → b.under / 8 ≤ 64000000

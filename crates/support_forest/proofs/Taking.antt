@@ -7,8 +7,8 @@ use Rattle.support_forest.specs.declared.beside.Beside.{Beside}
 use Rattle.support_forest.specs.Directions.{Toward}
 use Rattle.support_forest.specs.Grid.{Grid, word_at}
 use Rattle.support_forest.specs.Losing.{CanRemove, HaveRemoved}
-use Rattle.support_forest.specs.Placing.{AreBesideWords}
-use Rattle.support_forest.specs.Taking.{HaveTaken, NoneHangs}
+use Rattle.support_forest.specs.Placing.{AreBesideWords, IsWordToward}
+use Rattle.support_forest.specs.Taking.{HangsNot, HaveTaken, NoneHangs}
 use Rattle.support_forest.specs.Words.{AreExact, IsWritten}
 use Rattle.support_forest.proofs.Placing.{only_one}
 use Rattle.support_forest.proofs.Settling.{same_or_not}
@@ -46,14 +46,35 @@ exact_without r w v c e n k = record {
     still : (d : Coord) → 0 < v d → v d ≡ w d
     still d f = k.kept d (λ m. let z : v d ≡ 0 = ap v m ∙ k.here in omega arith)
 
-pub taken : (old new : Grid) (c : Coord) (b : Beside) (before mid next after : ℕ) → AreExact old.resolution (word_at old) → AreBesideWords (word_at old) c b → NoneHangs b → IsWritten (word_at old) (word_at new) c 0 → new.resolution ≡ old.resolution → mid ≤ before + 6 → next ≤ mid + 1 → after ≡ next + 1 → HaveTaken old new c before after
-taken old new c b before mid next after e k n w r l m t = record {
+taken_by : (old new : Grid) (c : Coord) (before after : ℕ) → AreExact old.resolution (word_at old) → IsNoParent (word_at old) c → IsWritten (word_at old) (word_at new) c 0 → new.resolution ≡ old.resolution → after ≤ before + 8 → HaveTaken old new c before after
+taken_by old new c before after e n w r t = record {
   resolution = r;
-  exact = subst (λ (s : ℕ). AreExact s (word_at new)) (sym r) (exact_without old.resolution (word_at old) (word_at new) c e (none_hangs (word_at old) c b k n) w);
+  exact = subst (λ (s : ℕ). AreExact s (word_at new)) (sym r) (exact_without old.resolution (word_at old) (word_at new) c e n w);
   gone = w.here;
   kept = w.kept;
-  cost = omega arith;
+  cost = t;
 }
+
+pub taken : (old new : Grid) (c : Coord) (b : Beside) (before mid next after : ℕ) → AreExact old.resolution (word_at old) → AreBesideWords (word_at old) c b → NoneHangs b → IsWritten (word_at old) (word_at new) c 0 → new.resolution ≡ old.resolution → mid ≤ before + 6 → next ≤ mid + 1 → after ≡ next + 1 → HaveTaken old new c before after
+taken old new c b before mid next after e k n w r l m t = taken_by old new c before after e (none_hangs (word_at old) c b k n) w r (omega arith)
+
+-- ---- the voxel is on the floor
+
+-- what stands on the floor beside it hangs on no voxel
+none_hangs_on_floor : (r : ℕ) (w : Coord → ℕ) (c : Coord) (over : ℕ) → AreExact r w → c.y ≡ 0 → IsWordToward w c 4 over → HangsNot over 3 → IsNoParent w c
+unfolding Toward
+none_hangs_on_floor r w c over e y k n q h t = by t
+  where
+    by : Toward (w q % 8) q c → ⊥
+    by (inl d) = let l : w q ≡ 8 = e.floor q (omega arith) (omega arith) in omega arith
+    by (inr (inl d)) = let l : w q ≡ 8 = e.floor q (omega arith) (omega arith) in omega arith
+    by (inr (inr (inl d))) = let l : w q ≡ over = k.each q (inr (inr (inr (inl (refl, omega arith, omega arith, omega arith))))) in n (omega arith) (omega arith)
+    by (inr (inr (inr (inl d)))) = omega arith
+    by (inr (inr (inr (inr (inl d))))) = let l : w q ≡ 8 = e.floor q (omega arith) (omega arith) in omega arith
+    by (inr (inr (inr (inr (inr d))))) = let l : w q ≡ 8 = e.floor q (omega arith) (omega arith) in omega arith
+
+pub taken_from_floor : (old new : Grid) (c : Coord) (over before mid after : ℕ) → AreExact old.resolution (word_at old) → c.y ≡ 0 → IsWordToward (word_at old) c 4 over → HangsNot over 3 → IsWritten (word_at old) (word_at new) c 0 → new.resolution ≡ old.resolution → mid ≤ before + 1 → after ≡ mid + 1 → HaveTaken old new c before after
+taken_from_floor old new c over before mid after e y k n w r l t = taken_by old new c before after e (none_hangs_on_floor old.resolution (word_at old) c over e y k n) w r (omega arith)
 
 -- ---- the only one
 

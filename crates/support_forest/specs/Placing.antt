@@ -42,6 +42,10 @@ pub record AreBesideWords (w : Coord → ℕ) (c : Coord) (b : Beside) : Type 0 
 abbrev pub LeavesRoom : ℕ → ℕ → Type 0
 LeavesRoom word height = (word ≡ 0) ⊎ ((8 * height ≤ word) × (word < 8 * height + 24))
 
+-- the word is that of a void voxel, or of one whose height a voxel of the floor under it does not lessen
+abbrev pub MayLieUnder : ℕ → Type 0
+MayLieUnder word = (word ≡ 0) ⊎ ((8 ≤ word) × (word < 24))
+
 -- a voxel that stands on the one under it changes no other level
 pub record MayStand (b : Beside) : Type 0 where
   pub under : 8 ≤ b.under

@@ -1,5 +1,6 @@
 //! The words beside a voxel.
 ghost use Rattle.std.specs.Prelude.{◌≡◌, ℕ, ◌+◌, ◌%◌, ◌<◌, ◌≤◌, IfSome, Some};
+ghost use Rattle.brick_arena.specs.Slots.{HasSlot, start_in_chunk as start_in_chunk_of};
 ghost use Rattle.vox_geom.specs.Space.{IsInSpace};
 ghost use Rattle.vox_geom.specs.declared.coordinate.Coord.{Coord};
 ghost use Rattle.support_forest.specs.Grid.{slot_of, word_at, word_index as word_index_of};
@@ -7,6 +8,7 @@ ghost use Rattle.support_forest.specs.Placing.{AreBesideWords, IsIndexToward, Is
 
 use crate::cells::{BRICK_SIDE, Cells, word_index};
 use crate::directions::neighbor;
+use brick_arena::{Chunk, start_in_chunk};
 use std::sync::ledger::Ledger;
 use vox_geom::{Coord, Steps};
 
@@ -106,9 +108,38 @@ pub fn word_toward<L: Ledger>(
     word_beyond(cells, c, d, steps)
 }
 
+/// The word of the neighbour in a direction, 0 where there is none. `chunk` has the words of the slot of the voxel's brick, from
+/// `start` on: where several words are read it is looked for once.
+#[inline(always)]
+fn word_near<L: Ledger>(
+    cells: &Cells,
+    c: Coord,
+    slot: u32,
+    chunk: &Chunk,
+    start: usize,
+    d: u8,
+    steps: &mut Steps<L>,
+) -> u32
+    requires direction { (0 < d) × (d ≤ 6) }
+    requires within { IsInSpace cells.now.resolution c }
+    requires slot { slot_of cells.now c ≡ Some slot }
+    requires chunk { HasSlot cells.now.bricks slot chunk.now }
+    requires start { start ≡ start_in_chunk_of slot }
+    requires space { (q : Coord) → 0 < word_at cells.now q → IsInSpace cells.now.resolution q }
+    ensures word { IsWordToward (word_at cells.now) c d result }
+    ensures touch { steps.new ≤ steps.old + 1 }
+{
+    let _ = cells.resolution();
+    if let Some(i) = index_toward(c, word_index(c), d) {
+        steps.tick();
+        return chunk.word(start + usize::from(i));
+    }
+    word_beyond(cells, c, d, steps)
+}
+
 /// The words of the neighbours of a voxel whose brick has no slot.
 #[inline(never)]
-fn words_beyond<L: Ledger>(cells: &Cells, c: Coord, steps: &mut Steps<L>) -> Beside
+pub fn words_beyond<L: Ledger>(cells: &Cells, c: Coord, steps: &mut Steps<L>) -> Beside
     requires within { IsInSpace cells.now.resolution c }
     requires space { (q : Coord) → 0 < word_at cells.now q → IsInSpace cells.now.resolution q }
     ensures words { AreBesideWords (word_at cells.now) c result }
@@ -134,34 +165,16 @@ pub fn words_in<L: Ledger>(cells: &Cells, c: Coord, slot: u32, steps: &mut Steps
     ensures words { AreBesideWords (word_at cells.now) c result }
     ensures touches { steps.new ≤ steps.old + 6 }
 {
-    let index = word_index(c);
+    let _ = cells.resolution();
+    let chunk = cells.chunk(slot);
+    let start = start_in_chunk(slot);
     Beside {
-        left: word_toward(cells, c, Some(slot), index, 1, steps),
-        right: word_toward(cells, c, Some(slot), index, 2, steps),
-        under: word_toward(cells, c, Some(slot), index, 3, steps),
-        over: word_toward(cells, c, Some(slot), index, 4, steps),
-        near: word_toward(cells, c, Some(slot), index, 5, steps),
-        far: word_toward(cells, c, Some(slot), index, 6, steps),
-    }
-}
-
-/// The words of a voxel's neighbours, with the slot of its brick in hand.
-#[inline(always)]
-pub fn words_around<L: Ledger>(
-    cells: &Cells,
-    c: Coord,
-    own: Option<u32>,
-    steps: &mut Steps<L>,
-) -> Beside
-    requires within { IsInSpace cells.now.resolution c }
-    requires own { own ≡ slot_of cells.now c }
-    requires space { (q : Coord) → 0 < word_at cells.now q → IsInSpace cells.now.resolution q }
-    ensures words { AreBesideWords (word_at cells.now) c result }
-    ensures touches { steps.new ≤ steps.old + 6 }
-{
-    match own {
-        Some(slot) => words_in(cells, c, slot, steps),
-        None => words_beyond(cells, c, steps),
+        left: word_near(cells, c, slot, chunk, start, 1, steps),
+        right: word_near(cells, c, slot, chunk, start, 2, steps),
+        under: word_near(cells, c, slot, chunk, start, 3, steps),
+        over: word_near(cells, c, slot, chunk, start, 4, steps),
+        near: word_near(cells, c, slot, chunk, start, 5, steps),
+        far: word_near(cells, c, slot, chunk, start, 6, steps),
     }
 }
 
@@ -174,5 +187,8 @@ pub fn words_beside<L: Ledger>(cells: &Cells, c: Coord, steps: &mut Steps<L>) ->
     ensures few { cells.now.resolution ≤ 400 }
     ensures touches { steps.new ≤ steps.old + 6 }
 {
-    words_around(cells, c, cells.slot(c), steps)
+    match cells.slot(c) {
+        Some(slot) => words_in(cells, c, slot, steps),
+        None => words_beyond(cells, c, steps),
+    }
 }

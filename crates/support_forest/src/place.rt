@@ -1,13 +1,13 @@
 //! Puts a voxel beside others whose levels stay as they are.
-ghost use Rattle.std.specs.Prelude.{◌≡◌, ℕ, ◌+◌, ◌<◌, ◌≤◌, IfOk, MatchBool, true};
+ghost use Rattle.std.specs.Prelude.{◌≡◌, ℕ, ◌+◌, ◌<◌, ◌≤◌, IfOk, MatchBool, Some, true};
 ghost use Rattle.vox_geom.specs.Space.{IsInSpace};
 ghost use Rattle.vox_geom.specs.declared.coordinate.Coord.{Coord};
-ghost use Rattle.support_forest.specs.Grid.{word_at};
-ghost use Rattle.support_forest.specs.Placing.{AreBesideWords, HavePlaced, IsAround, IsWordToward, LeavesRoom, MayStand};
+ghost use Rattle.support_forest.specs.Grid.{slot_of, word_at};
+ghost use Rattle.support_forest.specs.Placing.{AreBesideWords, HavePlaced, IsAround, IsWordToward, LeavesRoom, MayLieUnder, MayStand};
 ghost use Rattle.support_forest.specs.Words.{AreExact};
 
-use crate::beside::{Beside, words_around};
-use crate::cells::Cells;
+use crate::beside::{Beside, word_toward, words_beyond, words_in};
+use crate::cells::{Cells, word_index};
 use std::alloc::AllocError;
 use std::sync::ledger::Ledger;
 use vox_geom::{Coord, Steps};
@@ -96,7 +96,101 @@ fn may_stand(beside: Beside) -> bool
         && leaves_room(beside.far, height)
 }
 
-/// Makes a void voxel full, where no other level changes by it, and tells whether it did: otherwise all stays.
+/// Whether the word is that of a void voxel, or of one that may stay over a voxel of the floor.
+#[inline(always)]
+fn may_lie_under(word: u32) -> bool
+    ensures { result ≡ true → MayLieUnder word }
+{
+    word == 0 || (word >= 8 && word < 24)
+}
+
+/// [`place`] where neither the floor nor the voxel under it holds the voxel up while the levels around it stay.
+#[inline(never)]
+fn place_beside<L: Ledger>(
+    cells: &mut Cells,
+    c: Coord,
+    beside: Beside,
+    steps: &mut Steps<L>,
+) -> Result<bool, AllocError>
+    requires exact { AreExact cells.old.resolution (word_at cells.old) }
+    requires within { IsInSpace cells.old.resolution c }
+    requires void { word_at cells.old c ≡ 0 }
+    requires words { AreBesideWords (word_at cells.old) c beside }
+    ensures { IfOk result (λ done. (before : ℕ) → steps.old ≤ before + 6
+        → MatchBool done (HavePlaced cells.old cells.new c before steps.new) (cells.new ≡ cells.old × steps.new ≤ before + 6)) }
+{
+    let _ = cells.slot(c);
+    let around = look_around(c, beside);
+    if around.height == 0 {
+        cells.fill(c, 1, steps)?;
+        return Ok(true);
+    }
+    if around.is_loose || around.height + 1 < around.highest {
+        return Ok(false);
+    }
+    cells.fill(c, 8 * around.height + u32::from(around.toward), steps)?;
+    Ok(true)
+}
+
+/// [`place`] where the voxel's brick has no slot.
+#[inline(never)]
+fn place_first<L: Ledger>(
+    cells: &mut Cells,
+    c: Coord,
+    steps: &mut Steps<L>,
+) -> Result<bool, AllocError>
+    requires exact { AreExact cells.old.resolution (word_at cells.old) }
+    requires within { IsInSpace cells.old.resolution c }
+    requires void { word_at cells.old c ≡ 0 }
+    ensures { IfOk result (λ done. MatchBool done (HavePlaced cells.old cells.new c steps.old steps.new) (cells.new ≡ cells.old × steps.new ≤ steps.old + 6)) }
+{
+    let beside = words_beyond(cells, c, steps);
+    place_beside(cells, c, beside, steps)
+}
+
+/// [`place`] on the floor, where a full voxel has level 0: that over it is the only one that can get another level.
+#[inline(always)]
+fn place_on_floor<L: Ledger>(cells: &mut Cells, c: Coord, slot: u32, steps: &mut Steps<L>) -> bool
+    requires exact { AreExact cells.old.resolution (word_at cells.old) }
+    requires within { IsInSpace cells.old.resolution c }
+    requires void { word_at cells.old c ≡ 0 }
+    requires floor { c.y ≡ 0 }
+    requires slot { slot_of cells.old c ≡ Some slot }
+    ensures { MatchBool result (HavePlaced cells.old cells.new c steps.old steps.new) (cells.new ≡ cells.old × steps.new ≤ steps.old + 6) }
+{
+    let over = word_toward(cells, c, Some(slot), word_index(c), 4, steps);
+    if !may_lie_under(over) {
+        return false;
+    }
+    cells.write(slot, c, 0, 8, steps);
+    true
+}
+
+/// [`place`] above the floor, where the voxel's brick has this slot.
+#[inline(always)]
+fn place_in<L: Ledger>(
+    cells: &mut Cells,
+    c: Coord,
+    slot: u32,
+    steps: &mut Steps<L>,
+) -> Result<bool, AllocError>
+    requires exact { AreExact cells.old.resolution (word_at cells.old) }
+    requires within { IsInSpace cells.old.resolution c }
+    requires void { word_at cells.old c ≡ 0 }
+    requires slot { slot_of cells.old c ≡ Some slot }
+    ensures { IfOk result (λ done. MatchBool done (HavePlaced cells.old cells.new c steps.old steps.new) (cells.new ≡ cells.old × steps.new ≤ steps.old + 6)) }
+{
+    let _ = cells.slot(c);
+    let beside = words_in(cells, c, slot, steps);
+    if may_stand(beside) {
+        cells.write(slot, c, 0, 8 * (beside.under / 8) + 11, steps);
+        return Ok(true);
+    }
+    place_beside(cells, c, beside, steps)
+}
+
+/// Makes a void voxel full, where no other level changes by it, and tells whether it did: otherwise all stays. Each way has
+/// the words that it reads to itself, so that they stay in registers.
 #[inline(always)]
 pub fn place<L: Ledger>(
     cells: &mut Cells,
@@ -108,20 +202,11 @@ pub fn place<L: Ledger>(
     requires void { word_at cells.old c ≡ 0 }
     ensures { IfOk result (λ done. MatchBool done (HavePlaced cells.old cells.new c steps.old steps.new) (cells.new ≡ cells.old × steps.new ≤ steps.old + 6)) }
 {
-    let own = cells.slot(c);
-    let beside = words_around(cells, c, own, steps);
-    if may_stand(beside) {
-        cells.fill_in(own, c, 8 * (beside.under / 8) + 11, steps)?;
-        return Ok(true);
+    let Some(slot) = cells.slot(c) else {
+        return place_first(cells, c, steps);
+    };
+    if c.y == 0 {
+        return Ok(place_on_floor(cells, c, slot, steps));
     }
-    let around = look_around(c, beside);
-    if around.height == 0 {
-        cells.fill(c, 1, steps)?;
-        return Ok(true);
-    }
-    if around.is_loose || around.height + 1 < around.highest {
-        return Ok(false);
-    }
-    cells.fill(c, 8 * around.height + u32::from(around.toward), steps)?;
-    Ok(true)
+    place_in(cells, c, slot, steps)
 }

@@ -1,12 +1,12 @@
 //! Takes away a voxel on which no other hangs.
-ghost use Rattle.std.specs.Prelude.{◌≡◌, ◌+◌, ◌<◌, ◌≤◌, MatchBool, false};
+ghost use Rattle.std.specs.Prelude.{◌≡◌, ◌+◌, ◌<◌, ◌≤◌, MatchBool, Some, false};
 ghost use Rattle.vox_geom.specs.declared.coordinate.Coord.{Coord};
-ghost use Rattle.support_forest.specs.Grid.{word_at};
+ghost use Rattle.support_forest.specs.Grid.{slot_of, word_at};
 ghost use Rattle.support_forest.specs.Taking.{HangsNot, HaveTaken, NoneHangs};
 ghost use Rattle.support_forest.specs.Words.{AreExact};
 
-use crate::beside::{Beside, words_in};
-use crate::cells::Cells;
+use crate::beside::{Beside, word_toward, words_in};
+use crate::cells::{Cells, word_index};
 use std::sync::ledger::Ledger;
 use vox_geom::{Coord, Steps};
 
@@ -31,6 +31,23 @@ fn is_parent(beside: Beside) -> bool
         || hangs(beside.far, 5)
 }
 
+/// [`take`] on the floor, where each full voxel stands on the floor: that over it is the only one that can hang on it.
+#[inline(always)]
+fn take_from_floor<L: Ledger>(cells: &mut Cells, c: Coord, slot: u32, steps: &mut Steps<L>) -> bool
+    requires exact { AreExact cells.old.resolution (word_at cells.old) }
+    requires full { 0 < word_at cells.old c }
+    requires floor { c.y ≡ 0 }
+    requires slot { slot_of cells.old c ≡ Some slot }
+    ensures { MatchBool result (HaveTaken cells.old cells.new c steps.old steps.new) (cells.new ≡ cells.old × steps.new ≤ steps.old + 6) }
+{
+    let over = word_toward(cells, c, Some(slot), word_index(c), 4, steps);
+    if hangs(over, 3) {
+        return false;
+    }
+    cells.write(slot, c, 8, 0, steps);
+    true
+}
+
 /// Makes a full voxel void, where it is no other's parent, and tells whether it did: otherwise all stays.
 #[inline(always)]
 pub fn take<L: Ledger>(cells: &mut Cells, c: Coord, steps: &mut Steps<L>) -> bool
@@ -41,6 +58,9 @@ pub fn take<L: Ledger>(cells: &mut Cells, c: Coord, steps: &mut Steps<L>) -> boo
     let Some(slot) = cells.slot(c) else {
         return false;
     };
+    if c.y == 0 {
+        return take_from_floor(cells, c, slot, steps);
+    }
     if is_parent(words_in(cells, c, slot, steps)) {
         return false;
     }

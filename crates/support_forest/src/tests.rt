@@ -48,7 +48,7 @@ fn word_of<L: Ledger>(forest: &Forest, c: Coord, steps: &mut Steps<L>) -> u32
 
 /// Adds a voxel whose word says that it is void.
 #[tactic(auto, using(crate::proofs::OneOrTwo::may_add_one))]
-fn add_one<L: Ledger>(
+fn add_void<L: Ledger>(
     rt: &impl Abort,
     forest: &mut Forest,
     c: Coord,
@@ -61,8 +61,7 @@ fn add_one<L: Ledger>(
 {
     let word = word_of(forest, c, steps);
     assert!(rt; word == 0);
-    let cells = [c];
-    forest.add(&cells, steps)
+    forest.add_one(c, steps)
 }
 
 /// Adds two voxels whose words say that they are void.
@@ -91,7 +90,7 @@ fn add_two<L: Ledger>(
 
 /// Removes a voxel whose word says that it is full.
 #[tactic(auto, using(crate::proofs::OneOrTwo::may_remove_one))]
-fn remove_one<L: Ledger>(
+fn remove_full<L: Ledger>(
     rt: &impl Abort,
     forest: &mut Forest,
     c: Coord,
@@ -104,8 +103,7 @@ fn remove_one<L: Ledger>(
 {
     let word = word_of(forest, c, steps);
     assert!(rt; word != 0);
-    let cells = [c];
-    forest.remove(&cells, steps)
+    forest.remove_one(c, steps)
 }
 
 /// A ring of eight voxels round (2, 1, 2) on two posts: each voxel, its level, and its level without the post at (1, 0, 1).
@@ -136,7 +134,7 @@ fn add_ring<L: Ledger>(
 {
     for (c, _, _) in ring() {
         inside(rt, c, 5);
-        add_one(rt, forest, c, steps)?;
+        add_void(rt, forest, c, steps)?;
     }
     Ok(())
 }
@@ -164,13 +162,13 @@ fn ring_on_posts<L: Ledger>(rt: &impl Abort, blank: Blank, alloc: Global) -> Res
         return Err(ForestFault::Memory);
     };
     add_ring(rt, &mut forest, &mut steps)?;
-    add_one(rt, &mut forest, at(1, 0, 1), &mut steps)?;
+    add_void(rt, &mut forest, at(1, 0, 1), &mut steps)?;
     assert_levels(rt, &forest, false, &mut steps);
-    remove_one(rt, &mut forest, at(1, 0, 1), &mut steps)?;
+    remove_full(rt, &mut forest, at(1, 0, 1), &mut steps)?;
     assert_levels(rt, &forest, true, &mut steps);
     assert_eq!(rt; forest.parent(at(1, 1, 2), &mut steps), Some(at(1, 1, 3)));
     assert_eq!(rt; forest.floating(), 0);
-    remove_one(rt, &mut forest, at(3, 0, 3), &mut steps)?;
+    remove_full(rt, &mut forest, at(3, 0, 3), &mut steps)?;
     assert_eq!(rt; forest.floating(), 8);
     assert_eq!(rt; forest.first_floating(&mut steps), Some(at(1, 1, 1)));
     assert_eq!(rt; forest.level(at(3, 1, 3), &mut steps), None);
@@ -196,7 +194,7 @@ fn two_bricks<L: Ledger>(rt: &impl Abort, blank: Blank, alloc: Global) -> Result
     assert_eq!(rt; word_of(&forest, high, &mut steps), 1);
     assert_eq!(rt; forest.floating(), 1);
     assert_eq!(rt; forest.first_floating(&mut steps), Some(high));
-    add_one(rt, &mut forest, at(8, 0, 0), &mut steps)?;
+    add_void(rt, &mut forest, at(8, 0, 0), &mut steps)?;
     assert_eq!(rt; word_of(&forest, high, &mut steps), 19);
     assert_eq!(rt; forest.parent(high, &mut steps), Some(at(8, 0, 0)));
     assert_eq!(rt; forest.first_floating(&mut steps), None);
@@ -244,7 +242,7 @@ fn add_arm<L: Ledger>(
 {
     for (c, _) in arm() {
         inside(rt, c, 5);
-        add_one(rt, forest, c, steps)?;
+        add_void(rt, forest, c, steps)?;
     }
     Ok(())
 }

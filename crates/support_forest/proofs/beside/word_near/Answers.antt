@@ -1,0 +1,30 @@
+use Rattle.std.proofs.Common.{◌≡◌, ◌+◌, ◌<◌, ◌∙◌, ap, arith, get_or}
+use Rattle.support_forest.specs.Grid.{word_at}
+use Rattle.support_forest.proofs.Nearby.{stands_beside}
+use Rattle.support_forest.proofs.Sides.{one_toward}
+use Rattle.support_forest.proofs.Store.{index_below}
+use Rattle.support_forest.proofs.Writes.{reads_index}
+use Rattle.support_forest.proofs.beside.word_near.Goals as goal
+
+pub word-requires : goal.word-requires
+word-requires g c =
+    let t = c.in-Some.ensures in
+    let below = index_below t.there in
+    let same = t.at_index in
+    let start = c.requires.start in
+    let full = c.requires.chunk.full in
+    let from = c.from.ensures in
+    omega arith
+
+pub returns-in-Some-clause-word : goal.returns-in-Some-clause-word
+returns-in-Some-clause-word g c =
+    let t = c.in-Some.ensures in
+    let below : c.in-Some.i < 512 = let b = index_below t.there in let same = t.at_index in omega arith in
+    let at : c.args.start + c.from.result ≡ c.args.start + c.in-Some.i = let f = c.from.ensures in omega arith in
+    let read = c.word.ensures ∙ ap (λ k. get_or c.args.chunk.now k 0) at ∙ ap (λ k. get_or c.args.chunk.now (k + c.in-Some.i) 0) c.requires.start ∙ c.requires.chunk.each c.in-Some.i below in
+    let s = reads_index c.args.cells.now t.there c.args.slot c.in-Some.i c.word.result c.resolution.ensures.store
+    (stands_beside c.args.cells.now c.args.c c.args.d c.args.slot c.in-Some.i c.requires.within c.requires.slot t) read in
+    record {
+      each = λ q k. ap (word_at c.args.cells.now) (one_toward c.args.d c.args.c q t.there k t.toward) ∙ s;
+      some = λ f. (t.there, t.toward);
+    }
