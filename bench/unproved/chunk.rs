@@ -1,6 +1,6 @@
 //! Stands in for brick_arena's chunk of raw memory.
 use crate::shim::*;
-use crate::vox_geom::Memory;
+use crate::vox_geom::{Memory, Steps};
 
 pub const CHUNK_SLOTS: usize = 64;
 pub const CHUNK_WORDS: usize = 32_768;
@@ -17,7 +17,13 @@ impl Chunk {
     }
 
     #[inline(always)]
-    pub fn word(&self, index: usize) -> u32 {
+    pub fn peek(&self, index: usize) -> u32 {
+        self.words[index]
+    }
+
+    #[inline(always)]
+    pub fn word<L: Ledger>(&self, index: usize, steps: &mut Steps<L>) -> u32 {
+        steps.tick();
         self.words[index]
     }
 

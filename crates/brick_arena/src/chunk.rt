@@ -7,7 +7,8 @@ ghost use Rattle.brick_arena.specs.Chunks.{IsBlank, SetsRange};
 
 use std::alloc::{Allocator, Global};
 use std::marker::{Model, PhantomData};
-use vox_geom::Memory;
+use std::sync::ledger::Ledger;
+use vox_geom::{Memory, Steps};
 
 /// How many slots a chunk has.
 pub(crate) const CHUNK_SLOTS: usize = 64;
@@ -135,12 +136,23 @@ impl Chunk {
         Ok(Chunk { words, deed, alloc })
     }
 
-    /// The word at a place.
-    pub fn word(&self, index: usize) -> u32
+    /// The word at a place, where the caller counts the touch.
+    pub(crate) fn peek(&self, index: usize) -> u32
         requires { index < length self.now }
         ensures { result ≡ slice_index self.now index }
     {
         self.words.get(index)
+    }
+
+    /// The word at a place, by one touch.
+    #[inline(always)]
+    pub fn word<L: Ledger>(&self, index: usize, steps: &mut Steps<L>) -> u32
+        requires { index < length self.now }
+        ensures value { result ≡ slice_index self.now index }
+        ensures touch { steps.new ≡ steps.old + 1 }
+    {
+        steps.tick();
+        self.peek(index)
     }
 
     pub(crate) fn set_word(&mut self, index: usize, word: u32)

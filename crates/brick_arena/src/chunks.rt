@@ -20,7 +20,7 @@ pub(crate) fn load(chunks: &Vec<Chunk>, place: usize) -> u32
     requires chunks { AreChunks chunks.now.items }
     ensures { result ≡ chunk_word chunks.now.items place }
 {
-    chunks[place / CHUNK_WORDS].word(place % CHUNK_WORDS)
+    chunks[place / CHUNK_WORDS].peek(place % CHUNK_WORDS)
 }
 
 pub(crate) fn store(chunks: &mut Vec<Chunk>, place: usize, word: u32)

@@ -125,7 +125,7 @@ impl Bricks {
     }
 
     /// The chunk that has the words of a live slot, from [`start_in_chunk`] on. A caller that reads several of them looks for
-    /// it once, and counts the touches.
+    /// it once.
     #[inline(always)]
     pub fn chunk(&self, slot: u32) -> &Chunk
         requires { IsLive self.now slot }

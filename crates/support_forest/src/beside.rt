@@ -131,8 +131,7 @@ fn word_near<L: Ledger>(
 {
     let _ = cells.resolution();
     if let Some(i) = index_toward(c, word_index(c), d) {
-        steps.tick();
-        return chunk.word(start + usize::from(i));
+        return chunk.word(start + usize::from(i), steps);
     }
     word_beyond(cells, c, d, steps)
 }
