@@ -7,7 +7,7 @@ use Rattle.vox_geom.specs.declared.coordinate.Coord.{Coord}
 use Rattle.vox_geom.specs.declared.difference.Diff.{Diff}
 use Rattle.vox_geom.specs.Point.{Point, point, plus}
 use Rattle.vox_geom.specs.Region.{Corners, IsOrdered, between, is_between, is_within, just, span}
-use Rattle.nano_spec.specs.declared.commands.Command.TheVariants.{Fill, SMove, Wait}
+use Rattle.nano_spec.specs.declared.commands.Command.TheVariants.{Fill, LMove, SMove, Wait}
 use Rattle.nano_spec.specs.declared.system.Bot.{Bot}
 use Rattle.nano_spec.specs.Act.{Act}
 use Rattle.step_groups.specs.declared.one_pass.Outline.{Outline}
@@ -39,6 +39,11 @@ takes_less P Q old new f h = record { keeps = h.keeps; takes = λ c q. h.takes c
 
 -- ---- what is volatile for one bot lies within the box between where it stands and what it names
 
+either : (a b : Bool) (c : Bool) → (IsTrue a → IsTrue c) → (IsTrue b → IsTrue c) → IsTrue (a || (b || false)) → IsTrue c
+either true b c f g h = f refl
+either false true c f g h = g refl
+either false false c f g h = cc
+
 module _ (bot : Bot) (k : Corners) (to : Coord) (around : (p : Point) → is_within (span k) p ≡ is_within (between (point bot.pos) (point to)) p) where
   pub way_within : (d : Diff) → point to ≡ plus (point bot.pos) d → (c : Coord) → IsVolatileFor (act bot (SMove d)) c → IsTrue (is_within (span k) (point c))
   way_within d e c h =
@@ -61,11 +66,6 @@ module _ (bot : Bot) (k : Corners) (to : Coord) (around : (p : Point) → is_wit
       (both_true (is_between p.x q.x c.x) (is_between p.y q.y c.y) (fx c.x (both_left x y (both_left (x && y) z t))) (fy c.y (both_right x y (both_left (x && y) z t))))
       (fz c.z (both_right (x && y) z t))
 
-  either : (a b : Bool) (c : Bool) → (IsTrue a → IsTrue c) → (IsTrue b → IsTrue c) → IsTrue (a || (b || false)) → IsTrue c
-  either true b c f g h = f refl
-  either false true c f g h = g refl
-  either false false c f g h = cc
-
   pub named_within : (d : Diff) → point to ≡ plus (point bot.pos) d → (c : Coord) → IsVolatileFor (act bot (Fill d)) c → IsTrue (is_within (span k) (point c))
   named_within d e c h =
       let p : Point = point bot.pos in
@@ -75,6 +75,16 @@ module _ (bot : Bot) (k : Corners) (to : Coord) (around : (p : Point) → is_wit
       ∙ either (is_within (just p) (point c)) (is_within (just q) (point c)) (is_within (between p q) (point c))
       (end_within p q p (point c) (λ v. first_end p.x q.x v) (λ v. first_end p.y q.y v) (λ v. first_end p.z q.z v))
       (end_within p q q (point c) (λ v. last_end p.x q.x v) (λ v. last_end p.y q.y v) (λ v. last_end p.z q.z v)) h)
+
+pub ways_within : (bot : Bot) (d e : Diff) (mid to : Coord) (k l all : Corners) → point mid ≡ plus (point bot.pos) d → point to ≡ plus (point mid) e → ((p : Point) → is_within (span k) p ≡ is_within (between (point bot.pos) (point mid)) p) → ((p : Point) → is_within (span l) p ≡ is_within (between (point mid) (point to)) p) → ((c : Coord) → IsTrue (is_within (span k) (point c)) → IsTrue (is_within (span all) (point c))) → ((c : Coord) → IsTrue (is_within (span l) (point c)) → IsTrue (is_within (span all) (point c))) → (c : Coord) → IsVolatileFor (act bot (LMove d e)) c → IsTrue (is_within (span all) (point c))
+ways_within bot d e mid to k l all half whole first second f g c h =
+    let p : Point = point bot.pos in
+    let m : Point = plus p d in
+    let q : Point = plus m e in
+    let end : point to ≡ q = whole ∙ ap (λ w. plus w e) half in
+    either (is_within (between p m) (point c)) (is_within (between m q) (point c)) (is_within (span all) (point c))
+    (λ t. f c (first (point c) ∙ (ap (λ (w : Point). is_within (between p w) (point c)) half ∙ t)))
+    (λ t. g c (second (point c) ∙ ((λ i. is_within (between (half i) (end i)) (point c)) ∙ t))) h
 
 pub wait_within : (bot : Bot) (k : Corners) → ((p : Point) → is_within (span k) p ≡ is_within (just (point bot.pos)) p) → (c : Coord) → IsVolatileFor (act bot Wait) c → IsTrue (is_within (span k) (point c))
 wait_within bot k around c h = sym (or_false (is_within (span k) (point c))) ∙ (one (k ∷ []) k (just (point bot.pos)) bot Wait Wait c refl around refl refl ∙ h)

@@ -5,14 +5,17 @@ ghost use Rattle.vox_geom.specs.declared.coordinate.Coord.{Coord as Coordinate};
 ghost use Rattle.vox_geom.specs.Point.{point};
 ghost use Rattle.vox_geom.specs.Region.{is_within, span};
 ghost use Rattle.vox_geom.specs.Space.{IsInSpace};
-ghost use Rattle.nano_spec.specs.declared.commands.Command.TheVariants.{Fill, SMove, Void};
+ghost use Rattle.nano_spec.specs.declared.commands.Command.TheVariants.{Fill, LMove, SMove, Void};
 ghost use Rattle.nano_spec.specs.Act.{Act, acts};
 ghost use Rattle.nano_spec.specs.State.{State};
 ghost use Rattle.step_groups.specs.Apart.{AreAllApart};
 ghost use Rattle.step_groups.specs.Judging.{act, first_fault, judge_bot as judge_bot_of, judge_each, later_rules, rule_broken, start_of, touches_of};
 ghost use Rattle.step_groups.specs.Outlines.{LiesBetween, IsVolatileFor, TakesIn};
 
-use crate::rules::{Step, broken_here, end_of_move, judge_later, judge_still, named_by};
+use crate::boxes::around;
+use crate::rules::{
+    Step, breaks, broken_here, earlier, end_of_move, judge_later, judge_still, named_by, reached,
+};
 use crate::volatile::own_hull;
 use nano_spec::{Bot, Broken, Command, Rule};
 use std::sync::ledger::Ledger;
@@ -118,6 +121,38 @@ fn judge_named(
     }
 }
 
+/// A box around the ways of a bot with `LMove`, or the first rule that it breaks.
+#[inline(always)]
+fn judge_ways<L: Ledger>(
+    planes: &Planes,
+    step: u32,
+    bot: Bot,
+    d: Diff,
+    e: Diff,
+    steps: &mut Steps<L>,
+) -> Result<Region, Broken>
+    requires { IsInSpace planes.now.resolution bot.pos }
+    ensures value { (s : State) (all : List Act)
+        → rule_broken result ≡ first_fault (record s { matrix = planes.now }) all step (act bot (LMove d e)) later_rules }
+    ensures hull { IfOk result (λ k. (c : Coordinate) → IsVolatileFor (act bot (LMove d e)) c → IsTrue (is_within (span k) (point c))) }
+    ensures touches { steps.new ≤ steps.old + touches_of planes.now (act bot (LMove d e)) }
+{
+    let Some(mid) = reached(planes, bot.pos, d) else {
+        return Err(breaks(step, bot, Rule::OutOfSpace, bot.pos));
+    };
+    let Some(to) = reached(planes, mid, e) else {
+        return Err(breaks(step, bot, Rule::OutOfSpace, bot.pos));
+    };
+    let first_way = Region::of(bot.pos, mid);
+    let second_way = Region::of(mid, to);
+    let first = planes.region_full(&first_way, steps);
+    let second = planes.region_full(&second_way, steps);
+    match earlier(first, second) {
+        None => Ok(around(&first_way, &second_way)),
+        Some(at) => Err(breaks(step, bot, Rule::Blocked, at)),
+    }
+}
+
 /// A box around all that is volatile for a bot, or the first rule after the one on the profile that it breaks.
 fn judge_other<L: Ledger>(
     step: &Step,
@@ -164,11 +199,17 @@ fn judge_inside<L: Ledger>(
             judge_still(number, *bot)
         }
         Command::SMove(d) => judge_way(planes, number, *bot, d.diff(), outline, steps),
+        Command::LMove(d, e) => match judge_ways(planes, number, *bot, d.diff(), e.diff(), steps) {
+            Ok(hull) => {
+                take_in(outline, &hull);
+                None
+            }
+            Err(broken) => Some(broken),
+        },
         Command::Fill(d) => judge_named(planes, number, *bot, d.diff(), outline),
         Command::Void(d) => judge_named(planes, number, *bot, d.diff(), outline),
         Command::Halt
         | Command::Flip
-        | Command::LMove(_, _)
         | Command::FusionP(_)
         | Command::FusionS(_)
         | Command::Fission(_, _)

@@ -1,12 +1,12 @@
 -- Turns that change no voxel.
-use Rattle.std.proofs.Common.{◌≡◌, ◌*◌, ◌∙◌, arith, refl, ap, subst, length, List, [], ◌∷◌, pos}
+use Rattle.std.proofs.Common.{◌≡◌, ◌+◌, ◌*◌, ◌∙◌, arith, refl, ap, subst, length, List, [], ◌∷◌, pos}
 use Rattle.std.specs.Prelude.{ℕ, ℤ, ◌+ℤ◌, IfSome, Option, Some}
 use Rattle.std.proofs.lemmas.Int.{ints}
 use Rattle.vox_geom.specs.declared.coordinate.Coord.{Coord}
 use Rattle.vox_geom.specs.declared.difference.Diff.{Diff}
 use Rattle.vox_geom.specs.Difference.{mlen}
 use Rattle.vox_geom.specs.Point.{Point, point, plus}
-use Rattle.nano_spec.specs.declared.commands.Command.TheVariants.{SMove, Wait}
+use Rattle.nano_spec.specs.declared.commands.Command.TheVariants.{LMove, SMove, Wait}
 use Rattle.nano_spec.specs.declared.system.Bot.{Bot}
 use Rattle.nano_spec.specs.Bots.{moved}
 use Rattle.nano_spec.specs.State.{State}
@@ -30,3 +30,13 @@ bots_moved bots new bot partner d e to active same sum h =
 -- the state after a straight move
 pub moved_straight : (s : State) (new : List Bot) (energy : ℤ) (bot : Bot) (partner : ℕ) (d : Diff) → length s.matrix.voxels ≡ s.matrix.resolution * s.matrix.resolution * s.matrix.resolution → new ≡ bots_after_turn s.bots bot partner (SMove d) → energy ≡ s.energy +ℤ pos (2 * mlen d) → record s { bots = new; energy = energy } ≡ after_turn s bot partner (SMove d)
 moved_straight s new energy bot partner d whole bots paid = λ i. record { matrix = after_none s.matrix bot (SMove d) whole refl refl i; harmonics = s.harmonics; bots = bots i; energy = paid i; profile = s.profile }
+
+-- the bots after two moves
+pub bots_moved_twice : (bots new : List Bot) (bot : Bot) (partner : ℕ) (d e f g : Diff) (middle to : Coord) → bot_of bots bot.bid ≡ Some bot → f ≡ d → g ≡ e → point middle ≡ plus (point bot.pos) f → point to ≡ plus (point middle) g → IfSome (bot_of bots bot.bid) (λ (b : Bot). new ≡ replaced bots (bot.bid ∷ []) (moved b (point to) ∷ [])) → new ≡ bots_after_turn bots bot partner (LMove d e)
+bots_moved_twice bots new bot partner d e f g middle to active first second half whole h =
+    subst (λ (o : Option Bot). IfSome o (λ (b : Bot). new ≡ replaced bots (bot.bid ∷ []) (moved b (point to) ∷ []))) active h
+    ∙ ap (λ (p : Point). replaced bots (bot.bid ∷ []) (moved bot p ∷ [])) (whole ∙ (λ i. plus ((half ∙ ap (plus (point bot.pos)) first) i) (second i)))
+
+-- the state after two moves
+pub moved_twice : (s : State) (new : List Bot) (energy : ℤ) (bot : Bot) (partner : ℕ) (d e : Diff) → length s.matrix.voxels ≡ s.matrix.resolution * s.matrix.resolution * s.matrix.resolution → new ≡ bots_after_turn s.bots bot partner (LMove d e) → energy ≡ s.energy +ℤ pos (2 * (mlen d + 2 + mlen e)) → record s { bots = new; energy = energy } ≡ after_turn s bot partner (LMove d e)
+moved_twice s new energy bot partner d e whole bots paid = λ i. record { matrix = after_none s.matrix bot (LMove d e) whole refl refl i; harmonics = s.harmonics; bots = bots i; energy = paid i; profile = s.profile }

@@ -1,9 +1,10 @@
 //! The state of the system.
 ghost use Rattle.std.specs.Prelude.{◌≡◌, ℕ, ◌+◌, ◌*◌, ◌≤◌, ◌<◌, pos, ◌+ℤ◌, ◌≤ℤ◌, [], ◌∷◌, ◌++◌, List, length, map, All, IfNone, IfSome, IsPermutation, IsTrue, None, Some};
 ghost use Rattle.std.specs.List.{list_all};
+ghost use Rattle.vox_geom.specs.Difference.{mlen};
 ghost use Rattle.vox_geom.specs.Space.{IsInSpace};
 ghost use Rattle.nano_spec.specs.declared.commands.Command.{Command as Trace};
-ghost use Rattle.nano_spec.specs.declared.commands.Command.TheVariants.{SMove};
+ghost use Rattle.nano_spec.specs.declared.commands.Command.TheVariants.{LMove, SMove};
 ghost use Rattle.nano_spec.specs.declared.system.Bot.{Bot as ActiveBot};
 ghost use Rattle.nano_spec.specs.Act.{acts};
 ghost use Rattle.nano_spec.specs.Group.{leaders};
@@ -36,7 +37,7 @@ use std::marker::Model;
 use std::sync::ledger::Ledger;
 use step_groups::{all_act_alone, judge_single};
 use step_order::groups_take_turns;
-use vox_geom::{Long, MOST_R, Steps};
+use vox_geom::{Long, MOST_R, Short, Steps};
 use vox_planes::Planes;
 
 /// The other harmonics after a Flip.
@@ -69,6 +70,24 @@ fn upkeep_at(resolution: u16, harmonics: Harmonics, bots: u8) -> i64
     ensures high { result ≤ℤ pos 2000000000 }
 {
     upkeep(resolution, harmonics, bots)
+}
+
+/// How long a short move is.
+#[inline(always)]
+fn length_of(d: Short) -> u32
+    ensures value { result ≡ mlen d }
+    ensures most { result ≤ 5 }
+{
+    d.diff().mlen()
+}
+
+/// What two moves cost beside the upkeep.
+#[inline(always)]
+fn cost_of_moves(d: Short, e: Short) -> i64
+    ensures value { result ≡ pos (2 * (mlen d + 2 + mlen e)) }
+    ensures small { IsWithin 357492 result }
+{
+    2 * i64::from(length_of(d) + 2 + length_of(e))
 }
 
 /// The energy after a cost.
@@ -343,9 +362,9 @@ impl System {
         match command {
             Command::Wait => {}
             Command::SMove(d) => self.take_move(bot, *d),
+            Command::LMove(d, e) => self.take_moves(bot, *d, *e),
             Command::Halt
             | Command::Flip
-            | Command::LMove(_, _)
             | Command::FusionP(_)
             | Command::FusionS(_)
             | Command::Fission(_, _)
@@ -368,6 +387,21 @@ impl System {
         self.crew
             .move_to(bot.bid, target(resolution, bot.pos, d.diff()));
         self.energy = paid(self.energy, cost_of_move(d));
+    }
+
+    /// The turn of a bot that makes two moves.
+    #[inline(always)]
+    fn take_moves(&mut self, bot: Bot, d: Short, e: Short)
+        requires may { (partner : ℕ) → MayTake self.old.matrix.resolution self.old.bots bot partner (LMove d e) }
+        requires payable { IsWithin 9000000000000000000 self.old.energy }
+        ensures value { (partner : ℕ) → self.new ≡ after_turn self.old bot partner (LMove d e) }
+        ensures within { (k : ℕ) → IsWithin k self.old.energy → IsWithin (k + 357492) self.new.energy }
+    {
+        let resolution = self.matrix.resolution();
+        let middle = target(resolution, bot.pos, d.diff());
+        self.crew
+            .move_to(bot.bid, target(resolution, middle, e.diff()));
+        self.energy = paid(self.energy, cost_of_moves(d, e));
     }
 
     /// The turn of a group by any command of its leader.

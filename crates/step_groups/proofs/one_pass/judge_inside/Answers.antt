@@ -1,7 +1,9 @@
-use Rattle.std.proofs.Common.{ap, ◌∙◌, sym, List}
+use Rattle.std.proofs.Common.{◌+◌, ◌≤◌, ap, ◌∙◌, sym, subst, List, None, Some}
 use Rattle.nano_spec.specs.Act.{Act, acts}
 use Rattle.nano_spec.specs.State.{State}
-use Rattle.nano_spec.specs.declared.commands.Command.TheVariants.{Fill, SMove, Void, Wait}
+use Rattle.nano_spec.specs.declared.commands.Command.TheVariants.{Fill, LMove, SMove, Void, Wait}
+use Rattle.nano_spec.specs.declared.commands.Command.{Command}
+use Rattle.step_groups.specs.Judging.{act, touches_of}
 use Rattle.step_groups.proofs.BlockedWays.{at_command}
 use Rattle.step_groups.proofs.one_pass.judge_inside.Goals as goal
 
@@ -28,3 +30,21 @@ returns-in-Void-clause-value g c = λ s.
     let S : State = record s { matrix = c.args.step.now.planes.now; harmonics = c.args.step.now.harmonics; bots = c.args.step.now.bots.now } in
     let A : List Act = acts c.args.step.now.bots.now c.args.step.now.commands.now in
     at_command S A c.args.step.now.number c.args.bot.now (Void c.diff-in-Void.result) c.args.command.now c.judge_named-in-Void.result (ap Void c.diff-in-Void.ensures.value ∙ sym c.in-Void.is) (c.judge_named-in-Void.ensures.void S A)
+
+pub returns-in-Ok-clause-value : goal.returns-in-Ok-clause-value
+returns-in-Ok-clause-value g c = λ s.
+    let S : State = record s { matrix = c.args.step.now.planes.now; harmonics = c.args.step.now.harmonics; bots = c.args.step.now.bots.now } in
+    let A : List Act = acts c.args.step.now.bots.now c.args.step.now.commands.now in
+    at_command S A c.args.step.now.number c.args.bot.now (LMove c.diff-in-LMove.result c.diff-in-LMove-2.result) c.args.command.now None ((λ i. LMove (c.diff-in-LMove.ensures.value i) (c.diff-in-LMove-2.ensures.value i)) ∙ sym c.in-LMove.is) (c.in-Ok.ensures.value S A)
+
+pub returns-in-Ok-clause-touches : goal.returns-in-Ok-clause-touches
+returns-in-Ok-clause-touches g c = subst (λ (k : Command). c.judge_ways.new.steps ≤ c.args.steps.now + touches_of c.args.step.now.planes.now (act c.args.bot.now k)) ((λ i. LMove (c.diff-in-LMove.ensures.value i) (c.diff-in-LMove-2.ensures.value i)) ∙ sym c.in-LMove.is) c.judge_ways.ensures.touches
+
+pub returns-in-Err-clause-value : goal.returns-in-Err-clause-value
+returns-in-Err-clause-value g c = λ s.
+    let S : State = record s { matrix = c.args.step.now.planes.now; harmonics = c.args.step.now.harmonics; bots = c.args.step.now.bots.now } in
+    let A : List Act = acts c.args.step.now.bots.now c.args.step.now.commands.now in
+    at_command S A c.args.step.now.number c.args.bot.now (LMove c.diff-in-LMove.result c.diff-in-LMove-2.result) c.args.command.now (Some c.in-Err.broken) ((λ i. LMove (c.diff-in-LMove.ensures.value i) (c.diff-in-LMove-2.ensures.value i)) ∙ sym c.in-LMove.is) (c.in-Err.ensures.value S A)
+
+pub returns-in-Err-clause-touches : goal.returns-in-Err-clause-touches
+returns-in-Err-clause-touches g c = subst (λ (k : Command). c.judge_ways.new.steps ≤ c.args.steps.now + touches_of c.args.step.now.planes.now (act c.args.bot.now k)) ((λ i. LMove (c.diff-in-LMove.ensures.value i) (c.diff-in-LMove-2.ensures.value i)) ∙ sym c.in-LMove.is) c.judge_ways.ensures.touches

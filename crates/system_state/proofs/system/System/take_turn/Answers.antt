@@ -19,3 +19,9 @@ returns-in-SMove-clause-value g c =
     let found : Some c.in-Some.bot ≡ bot_of c.args.self.now.bots c.args.turn.leader = c.in-Some.ensures ∙ ap (λ (t : State). bot_of t.bots c.args.turn.leader) c.self.view_is in
     subst (λ (o : Option Bot). IfSome o (λ bot. c.take_move.new.self ≡ after_turn c.args.self.now bot c.args.turn.partner c.args.command.now)) found
     (c.take_move.ensures.value c.args.turn.partner ∙ ap (after_turn c.args.self.now c.in-Some.bot c.args.turn.partner) (sym c.in-SMove.is))
+
+pub returns-in-LMove-clause-value : goal.returns-in-LMove-clause-value
+returns-in-LMove-clause-value g c =
+    let found : Some c.in-Some.bot ≡ bot_of c.args.self.now.bots c.args.turn.leader = c.in-Some.ensures ∙ ap (λ (t : State). bot_of t.bots c.args.turn.leader) c.self.view_is in
+    subst (λ (o : Option Bot). IfSome o (λ bot. c.take_moves.new.self ≡ after_turn c.args.self.now bot c.args.turn.partner c.args.command.now)) found
+    (c.take_moves.ensures.value c.args.turn.partner ∙ ap (after_turn c.args.self.now c.in-Some.bot c.args.turn.partner) (sym c.in-LMove.is))
