@@ -1,5 +1,5 @@
 -- The rules of single bots, bot by bot (docs/FORMATS.md, "Rules").
-use Rattle.std.specs.Prelude.{ℕ, ◌*◌, Bool, true, false, ◌&&◌, cond, pos, List, [], ◌∷◌, flat_map, count_by, Option, Some, None, Result, Ok, Err}
+use Rattle.std.specs.Prelude.{ℕ, ◌*◌, ◌^◌, ◌==◌, Bool, true, false, ◌&&◌, ◌||◌, not, cond, pos, List, [], ◌∷◌, length, flat_map, count_by, Option, Some, None, Result, Ok, Err}
 use Rattle.std.specs.Option.{option_or}
 use Rattle.vox_geom.specs.declared.difference.Diff.{Diff}
 use Rattle.vox_geom.specs.Point.{Point, point, plus}
@@ -14,7 +14,7 @@ use Rattle.nano_spec.specs.declared.system.Profile.{Profile}
 use Rattle.nano_spec.specs.Act.{Act, position, stays_in_space}
 use Rattle.nano_spec.specs.First.{first_value}
 use Rattle.nano_spec.specs.Matrix.{Matrix, all_of}
-use Rattle.nano_spec.specs.Rules.{corners_of, judge_by, rules_of_bots}
+use Rattle.nano_spec.specs.Rules.{corners_of, judge_by, repeats, rules_of_bots}
 use Rattle.nano_spec.specs.State.{State}
 use Rattle.nano_spec.specs.Volatile.{is_volatile_of}
 
@@ -56,6 +56,10 @@ judge_each s all step (a ∷ more) = option_or (judge_bot s all step a) (judge_e
 -- the corners that group commands of these bots name
 abbrev pub corner_list : List Act → List Point
 corner_list xs = flat_map (λ b. corners_of (position b) b.command) xs
+
+-- whether the members of a group are not as many as a region of the dimension has corners, or two are at one
+abbrev pub are_misshapen : List Act → ℕ → Bool
+are_misshapen members dimension = not (length members == 2 ^ dimension) || repeats (corner_list members)
 
 -- the point that the difference leads to, if there is one
 abbrev pub at_corner : Point → Option Diff → List Point

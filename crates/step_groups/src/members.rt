@@ -1,16 +1,15 @@
 //! Which bots are of a group, and what is volatile for them.
-ghost use Rattle.std.specs.Prelude.{◌≡◌, ◌+◌, ◌≤◌, ◌<◌, ◌++◌, ◌||◌, ℕ, length, map, filter, take, drop, [], ◌∷◌, All, AllPairs, IsTrue};
+ghost use Rattle.std.specs.Prelude.{◌≡◌, ◌+◌, ◌≤◌, ◌<◌, ◌++◌, ℕ, length, map, filter, take, drop, [], ◌∷◌, All, AllPairs, IsTrue};
 ghost use Rattle.std.specs.List.{list_any};
 ghost use Rattle.arrayvec.specs.ArrayVec.{array_vec_len};
 ghost use Rattle.vox_geom.specs.declared.coordinate.Coord.{Coord as Coordinate};
 ghost use Rattle.vox_geom.specs.Point.{point};
-ghost use Rattle.vox_geom.specs.Region.{is_within, span};
 ghost use Rattle.vox_geom.specs.Space.{IsInSpace};
 ghost use Rattle.nano_spec.specs.Act.{acts, stays_in_space};
 ghost use Rattle.nano_spec.specs.Group.{are_together as are_together_of, is_leader, leaders};
 ghost use Rattle.nano_spec.specs.Volatile.{is_volatile_of};
 ghost use Rattle.step_groups.specs.Boxes.{AreBoxesIn, in_boxes};
-ghost use Rattle.step_groups.specs.Groups.{AreGroups, AreJudged, bid_of, box_of_bot};
+ghost use Rattle.step_groups.specs.Groups.{AreGroups, AreJudged, bid_of, box_of_bot, is_volatile_with};
 ghost use Rattle.step_groups.specs.Judging.{act, is_alone};
 
 use crate::groups::Group;
@@ -109,11 +108,8 @@ fn joined_group(
     requires few { length (filter (are_together_of (act bot.now command.now)) (acts bots.now commands.now)) ≤ 7 }
     ensures leader { result.leader ≡ bot.now.bid }
     ensures members { result.members.items ≡ bot.now.bid ∷ map bid_of (filter (are_together_of (act bot.now command.now)) (acts bots.now commands.now)) }
-    ensures boxes { (c : Coordinate)
-        → in_boxes result.boxes.items c ≡
-        (is_volatile_of (point c) (act bot.now command.now)
-        || list_any (λ b. is_within (span (box_of_bot b)) (point c))
-        (filter (are_together_of (act bot.now command.now)) (acts bots.now commands.now))) }
+    ensures boxes { (c : Coordinate) → in_boxes result.boxes.items c
+        ≡ is_volatile_with (act bot.now command.now) (filter (are_together_of (act bot.now command.now)) (acts bots.now commands.now)) c }
     ensures space { AreBoxesIn planes.now.resolution result.boxes.items }
 {
     let mut group = lone_group(planes, bot, command);
