@@ -11,6 +11,7 @@ use Rattle.vox_geom.specs.Space.{IsInSpace, coordinates}
 use Rattle.support_forest.specs.Grid.{Grid, word_at}
 use Rattle.support_forest.specs.Losing.{CanRemove, HaveRemoved}
 use Rattle.support_forest.specs.Placing.{ArePlaced, HavePlaced}
+use Rattle.support_forest.specs.Stretches.{IsPast, IsTaking}
 use Rattle.support_forest.specs.Taking.{AreTaken, HaveTaken}
 use Rattle.support_forest.specs.Waiting.{CanAdd, HaveAdded}
 use Rattle.support_forest.specs.Words.{height, AreExact, has_changed, changed}
@@ -176,22 +177,6 @@ placed_and_added old now new cells rest before steps after a p h = record {
 }
 
 -- ---- voxels that become void
-
--- the voxel is one of those from a place on
-abbrev pub IsPast : List Coord → ℕ → Coord → Type 0
-IsPast gone i c = (k : ℕ) × (i ≤ k) × (k < length gone) × (slice_index_or gone k c ≡ c)
-
--- the voxels from a place on are void or listed
-pub record IsTaking (old now : Grid) (gone : List Coord) (i : ℕ) (rest : List Coord) (before steps : ℕ) : Type 0 where
-  pub resolution : now.resolution ≡ old.resolution
-  pub exact : AreExact now.resolution (word_at now)
-  pub each : (c : Coord) → (word_at now c ≡ word_at old c) ⊎ ((word_at now c ≡ 0) × IsPast gone i c)
-  pub done : (c : Coord) → IsPast gone i c → (word_at now c ≡ 0) ⊎ Contains rest c
-  pub listed : (c : Coord) → Contains rest c → IsPast gone i c × (word_at now c ≡ word_at old c)
-  pub differ : AllPairs ◌≢◌ rest
-  pub within : i ≤ length gone
-  pub few : length rest + i ≤ length gone
-  pub cost : steps + 2 * length rest + 8 * i ≤ before + 8 * length gone
 
 pub taking_none : (old : Grid) (gone rest : List Coord) (before : ℕ) → CanRemove old gone → rest ≡ [] → IsTaking old old gone (length gone) rest before before
 taking_none old gone rest before a e = record {

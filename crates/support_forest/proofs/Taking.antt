@@ -14,7 +14,7 @@ use Rattle.support_forest.proofs.Placing.{only_one}
 use Rattle.support_forest.proofs.Settling.{same_or_not}
 
 -- no voxel has its parent there
-abbrev IsNoParent : (Coord → ℕ) → Coord → Type 0
+abbrev pub IsNoParent : (Coord → ℕ) → Coord → Type 0
 IsNoParent w c = (q : Coord) → 8 ≤ w q → Toward (w q % 8) q c → ⊥
 
 none_hangs : (w : Coord → ℕ) (c : Coord) (b : Beside) → AreBesideWords w c b → NoneHangs b → IsNoParent w c
@@ -29,7 +29,7 @@ none_hangs w c b k n q h t = by t
     by (inr (inr (inr (inr (inl d))))) = let e : w q ≡ b.far = k.far.each q (inr (inr (inr (inr (inr (refl, omega arith, omega arith, omega arith)))))) in n.far (omega arith) (omega arith)
     by (inr (inr (inr (inr (inr d))))) = let e : w q ≡ b.near = k.near.each q (inr (inr (inr (inr (inl (refl, omega arith, omega arith, omega arith)))))) in n.near (omega arith) (omega arith)
 
-exact_without : (r : ℕ) (w v : Coord → ℕ) (c : Coord) → AreExact r w → IsNoParent w c → IsWritten w v c 0 → AreExact r v
+pub exact_without : (r : ℕ) (w v : Coord → ℕ) (c : Coord) → AreExact r w → IsNoParent w c → IsWritten w v c 0 → AreExact r v
 exact_without r w v c e n k = record {
   space = λ d f. let s = still d (omega arith) in e.space d (omega arith);
   form = λ d l. elim (same_or_not d c) [ inl m ↦ let z : v d ≡ 0 = ap v m ∙ k.here in omega arith | inr m ↦ let s = k.kept d m in let h : w d ≤ 1 = e.form d (omega arith) in omega arith ];

@@ -1,0 +1,196 @@
+-- Voxels that follow one another in a row of a brick, and become void together.
+use Rattle.std.proofs.Common.{◌≡◌, ℕ, ◌+◌, ◌-◌, ◌/◌, ◌%◌, ◌<◌, ◌≤◌, inl, inr, refl, sym, ◌∙◌, ap, subst, arith, List, length, Option, None}
+use Rattle.std.specs.Prelude.{slice_index_or}
+use Rattle.std.proofs.lemmas.Bool.{cases_lt}
+use Rattle.std.proofs.lemmas.List.{get_or_default}
+use Rattle.vox_geom.specs.declared.coordinate.Coord.{Coord}
+use Rattle.vox_geom.specs.Space.{IsInSpace}
+use Rattle.support_forest.specs.Directions.{Toward}
+use Rattle.support_forest.specs.Grid.{Grid, brick, slot_of, word_at}
+use Rattle.support_forest.specs.Stretches.{LieInRow, IsStretch, RowHangsNot, SideHangsNot, further}
+use Rattle.support_forest.specs.Taking.{HangsNot}
+use Rattle.support_forest.specs.Words.{AreExact}
+use Rattle.support_forest.proofs.Nearby.{same_slot}
+use Rattle.support_forest.proofs.Sides.{one_toward}
+use Rattle.support_forest.proofs.Writes.{reads_none}
+
+-- ---- where a stretch begins
+
+-- so many of the last voxels before the end follow one another
+pub record IsBefore (gone : List Coord) (end : ℕ) (last : Coord) (most count : ℕ) : Type 0 where
+  pub some : 0 < count
+  pub within : count ≤ end
+  pub few : count ≤ most
+  pub row : most ≡ last.z % 8 + 1
+  pub each : (k i : ℕ) (d : Coord) → k < count → i + k + 1 ≡ end → slice_index_or gone i d ≡ record { x = last.x; y = last.y; z = last.z - k }
+
+pub stretch_from : (gone : List Coord) (end : ℕ) (last : Coord) (most count : ℕ) (c : Coord) → IsBefore gone end last most count → end ≤ length gone → c ≡ slice_index_or gone (end - count) c → IsStretch gone (end - count) count c
+stretch_from gone end last most count c b l h =
+    let s = b.some in
+    let w = b.within in
+    let f = b.few in
+    let r = b.row in
+    let e : c ≡ record { x = last.x; y = last.y; z = last.z - (count - 1) } = h ∙ b.each (count - 1) (end - count) c (omega arith) (omega arith) in
+    let x : last.x ≡ c.x = sym (ap (λ (p : Coord). p.x) e) in
+    let y : last.y ≡ c.y = sym (ap (λ (p : Coord). p.y) e) in
+    let z : c.z ≡ last.z - (count - 1) = ap (λ (p : Coord). p.z) e in
+    record {
+      some = s;
+      within = omega arith;
+      row = omega arith;
+      each = λ k d m.
+          let t : last.z - (count - 1 - k) ≡ c.z + k = omega arith in
+          let u : record { x = last.x; y = last.y; z = last.z - (count - 1 - k) } ≡ further c k = λ j. record { x = x j; y = y j; z = t j } in
+          b.each (count - 1 - k) (end - count + k) d (omega arith) (omega arith) ∙ u;
+    }
+
+pub one_before : (gone : List Coord) (end : ℕ) (last : Coord) (most : ℕ) → 0 < end → end ≤ length gone → last ≡ slice_index_or gone (end - 1) last → most ≡ last.z % 8 + 1 → IsBefore gone end last most 1
+one_before gone end last most s l h m = record {
+  some = omega arith;
+  within = omega arith;
+  few = omega arith;
+  row = m;
+  each = λ k i d n e.
+      let p : i ≡ end - 1 = omega arith in
+      let z : last.z ≡ last.z - k = omega arith in
+      let u : last ≡ record { x = last.x; y = last.y; z = last.z - k } = λ j. record { x = last.x; y = last.y; z = z j } in
+      ap (λ (b : ℕ). slice_index_or gone b d) p ∙ (get_or_default gone (end - 1) d last (omega arith) ∙ (sym h ∙ u));
+}
+
+pub one_more_before : (gone : List Coord) (end : ℕ) (last : Coord) (most count : ℕ) (c : Coord) → IsBefore gone end last most count → end ≤ length gone → count < most → count < end → c ≡ slice_index_or gone (end - 1 - count) c → c.x ≡ last.x → c.y ≡ last.y → c.z + count ≡ last.z → IsBefore gone end last most (count + 1)
+one_more_before gone end last most count c b g l m h x y z = record {
+  some = omega arith;
+  within = omega arith;
+  few = omega arith;
+  row = b.row;
+  each = λ k i d n e. elim (cases_lt k count) [
+    | inl o ↦ b.each k i d o e
+    | inr o ↦
+        let p : i ≡ end - 1 - count = omega arith in
+        let q : k ≡ count = omega arith in
+        let t : c.z ≡ last.z - k = omega arith in
+        let u : c ≡ record { x = last.x; y = last.y; z = last.z - k } = λ j. record { x = x j; y = y j; z = t j } in
+        ap (λ (b : ℕ). slice_index_or gone b d) p ∙ (get_or_default gone (end - 1 - count) d c (omega arith) ∙ (sym h ∙ u))
+  ];
+}
+
+-- ---- the words of a row
+
+pub row_space : (g : Grid) (c : Coord) (n k : ℕ) → LieInRow g c n → k < n → IsInSpace g.resolution (further c k)
+row_space g c n k h l = record { x = h.within.x; y = h.within.y; z = let m = h.last in omega arith }
+
+pub row_slot : (g : Grid) (c : Coord) (n k : ℕ) (own : Option ℕ) → LieInRow g c n → k < n → own ≡ slot_of g c → own ≡ slot_of g (further c k)
+row_slot g c n k own h l e =
+    let r = h.row in
+    let z : (c.z + k) / 8 ≡ c.z / 8 = omega arith in
+    let b : brick (further c k) ≡ brick c = λ j. record { x = c.x / 8; y = c.y / 8; z = z j } in
+    same_slot g c (further c k) own b e
+
+pub row_void : (g : Grid) (c : Coord) (n toward : ℕ) → LieInRow g c n → None ≡ slot_of g c → RowHangsNot (word_at g) c n toward
+row_void g c n toward h e k l f = let z : 0 ≡ word_at g (further c k) = reads_none g (further c k) (row_space g c n k h l) (row_slot g c n k None h l e) in absurd (omega arith)
+
+pub hangs_more : (w : Coord → ℕ) (c : Coord) (k toward word : ℕ) → RowHangsNot w c k toward → word ≡ w (further c k) → HangsNot word toward → RowHangsNot w c (k + 1) toward
+hangs_more w c k toward word h e n j l = elim (cases_lt j k) [
+  | inl m ↦ h j m
+  | inr m ↦ let p : k ≡ j = omega arith in subst (λ (i : ℕ). HangsNot (w (further c i)) toward) p (subst (λ (v : ℕ). HangsNot v toward) e n)
+]
+
+-- ---- the words at a side
+
+-- the neighbour of a later voxel is the later one of the first one's neighbour
+pub beside_further : (d k : ℕ) (c q p : Coord) → (0 < d) × (d ≤ 4) → Toward d c q → Toward d (further c k) p → p ≡ further q k
+unfolding Toward
+beside_further d k c q p r (inl h) (inl t) = let x : p.x ≡ q.x = omega arith in let y : p.y ≡ q.y = omega arith in let z : p.z ≡ q.z + k = omega arith in λ j. record { x = x j; y = y j; z = z j }
+beside_further d k c q p r (inr (inl h)) (inr (inl t)) = let x : p.x ≡ q.x = omega arith in let y : p.y ≡ q.y = omega arith in let z : p.z ≡ q.z + k = omega arith in λ j. record { x = x j; y = y j; z = z j }
+beside_further d k c q p r (inr (inr (inl h))) (inr (inr (inl t))) = let x : p.x ≡ q.x = omega arith in let y : p.y ≡ q.y = omega arith in let z : p.z ≡ q.z + k = omega arith in λ j. record { x = x j; y = y j; z = z j }
+beside_further d k c q p r (inr (inr (inr (inl h)))) (inr (inr (inr (inl t)))) = let x : p.x ≡ q.x = omega arith in let y : p.y ≡ q.y = omega arith in let z : p.z ≡ q.z + k = omega arith in λ j. record { x = x j; y = y j; z = z j }
+beside_further d k c q p r (inl h) (inr (inl t)) = absurd (omega arith)
+beside_further d k c q p r (inl h) (inr (inr (inl t))) = absurd (omega arith)
+beside_further d k c q p r (inl h) (inr (inr (inr (inl t)))) = absurd (omega arith)
+beside_further d k c q p r (inl h) (inr (inr (inr (inr (inl t))))) = absurd (omega arith)
+beside_further d k c q p r (inl h) (inr (inr (inr (inr (inr t))))) = absurd (omega arith)
+beside_further d k c q p r (inr (inl h)) (inl t) = absurd (omega arith)
+beside_further d k c q p r (inr (inl h)) (inr (inr (inl t))) = absurd (omega arith)
+beside_further d k c q p r (inr (inl h)) (inr (inr (inr (inl t)))) = absurd (omega arith)
+beside_further d k c q p r (inr (inl h)) (inr (inr (inr (inr (inl t))))) = absurd (omega arith)
+beside_further d k c q p r (inr (inl h)) (inr (inr (inr (inr (inr t))))) = absurd (omega arith)
+beside_further d k c q p r (inr (inr (inl h))) (inl t) = absurd (omega arith)
+beside_further d k c q p r (inr (inr (inl h))) (inr (inl t)) = absurd (omega arith)
+beside_further d k c q p r (inr (inr (inl h))) (inr (inr (inr (inl t)))) = absurd (omega arith)
+beside_further d k c q p r (inr (inr (inl h))) (inr (inr (inr (inr (inl t))))) = absurd (omega arith)
+beside_further d k c q p r (inr (inr (inl h))) (inr (inr (inr (inr (inr t))))) = absurd (omega arith)
+beside_further d k c q p r (inr (inr (inr (inl h)))) (inl t) = absurd (omega arith)
+beside_further d k c q p r (inr (inr (inr (inl h)))) (inr (inl t)) = absurd (omega arith)
+beside_further d k c q p r (inr (inr (inr (inl h)))) (inr (inr (inl t))) = absurd (omega arith)
+beside_further d k c q p r (inr (inr (inr (inl h)))) (inr (inr (inr (inr (inl t))))) = absurd (omega arith)
+beside_further d k c q p r (inr (inr (inr (inl h)))) (inr (inr (inr (inr (inr t))))) = absurd (omega arith)
+beside_further d k c q p r (inr (inr (inr (inr (inl h))))) t = absurd (omega arith)
+beside_further d k c q p r (inr (inr (inr (inr (inr h))))) t = absurd (omega arith)
+
+same_height : (d : ℕ) (c q : Coord) → d ≤ 4 → Toward d c q → q.z ≡ c.z
+unfolding Toward
+same_height d c q r (inl h) = omega arith
+same_height d c q r (inr (inl h)) = omega arith
+same_height d c q r (inr (inr (inl h))) = omega arith
+same_height d c q r (inr (inr (inr (inl h)))) = omega arith
+same_height d c q r (inr (inr (inr (inr (inl h))))) = absurd (omega arith)
+same_height d c q r (inr (inr (inr (inr (inr h))))) = absurd (omega arith)
+
+pub side_row : (g : Grid) (c q : Coord) (n d : ℕ) → (0 < d) × (d ≤ 4) → LieInRow g c n → Toward d c q → IsInSpace g.resolution q → LieInRow g q n
+side_row g c q n d r h t s = let z : q.z ≡ c.z = same_height d c q r.1 t in record {
+  within = s;
+  last = let l = h.last in omega arith;
+  row = let l = h.row in omega arith;
+}
+
+pub side_free : (w : Coord → ℕ) (c q : Coord) (n d toward : ℕ) → (0 < d) × (d ≤ 4) → Toward d c q → RowHangsNot w q n toward → SideHangsNot w c n d toward
+side_free w c q n d toward r t h k p l u = subst (λ (x : Coord). HangsNot (w x) toward) (sym (beside_further d k c q p r t u)) (h k l)
+
+side_back : (d k : ℕ) (c p : Coord) → d ≤ 4 → Toward d (further c k) p → Toward d c (record { x = p.x; y = p.y; z = c.z })
+unfolding Toward
+side_back d k c p r (inl h) = inl (h.0, h.1, h.2, refl)
+side_back d k c p r (inr (inl h)) = inr (inl (h.0, h.1, h.2, refl))
+side_back d k c p r (inr (inr (inl h))) = inr (inr (inl (h.0, h.1, h.2, refl)))
+side_back d k c p r (inr (inr (inr (inl h)))) = inr (inr (inr (inl (h.0, h.1, h.2, refl))))
+side_back d k c p r (inr (inr (inr (inr (inl h))))) = absurd (omega arith)
+side_back d k c p r (inr (inr (inr (inr (inr h))))) = absurd (omega arith)
+
+pub side_none : (g : Grid) (r : ℕ) (c : Coord) (n d toward : ℕ) → (0 < d) × (d ≤ 4) → LieInRow g c n → r ≡ g.resolution → ((q : Coord) → 0 < word_at g q → IsInSpace g.resolution q) → ((q : Coord) → Toward d c q → IsInSpace r q → ⊥) → SideHangsNot (word_at g) c n d toward
+side_none g r c n d toward b h e space none k p l t f m =
+    let s = space p (omega arith) in
+    let z = h.within.z in
+    none (record { x = p.x; y = p.y; z = c.z }) (side_back d k c p b.1 t) (subst (λ (i : ℕ). IsInSpace i (record { x = p.x; y = p.y; z = c.z })) (sym e) (record { x = s.x; y = s.y; z = z }))
+
+pub end_free : (w : Coord → ℕ) (c q : Coord) (d toward : ℕ) → Toward d c q → RowHangsNot w q 1 toward → SideHangsNot w c 1 d toward
+end_free w c q d toward t h k p l u =
+    let e : c.z + k ≡ c.z = omega arith in
+    let b : further c k ≡ c = λ j. record { x = c.x; y = c.y; z = e j } in
+    let s : p ≡ q = one_toward d c p q (subst (λ (x : Coord). Toward d x p) b u) t in
+    let z : q.z ≡ q.z + 0 = omega arith in
+    let f : q ≡ further q 0 = λ j. record { x = q.x; y = q.y; z = z j } in
+    subst (λ (x : Coord). HangsNot (w x) toward) (sym (s ∙ f)) (h 0 (omega arith))
+
+pub far_free : (w : Coord → ℕ) (c : Coord) (n : ℕ) → 0 < n → SideHangsNot w (further c (n - 1)) 1 6 5 → (p : Coord) → p.x ≡ c.x → p.y ≡ c.y → p.z ≡ c.z + n → HangsNot (w p) 5
+unfolding Toward
+far_free w c n s h p x y z = h 0 p (omega arith) (inr (inr (inr (inr (inr (refl, omega arith, omega arith, omega arith))))))
+
+-- ---- the voxels of a stretch
+
+pub stretch_full : (g : Grid) (gone : List Coord) (end count k : ℕ) (c : Coord) → IsStretch gone (end - count) count c → count ≤ end → ((i : ℕ) (x : Coord) → i < end → x ≡ slice_index_or gone i x → 0 < word_at g x) → k < count → 0 < word_at g (further c k)
+stretch_full g gone end count k c s b full l = full (end - count + k) (further c k) (omega arith) (sym (s.each k (further c k) l))
+
+pub stretch_in_row : (g : Grid) (gone : List Coord) (end count : ℕ) (c : Coord) → AreExact g.resolution (word_at g) → IsStretch gone (end - count) count c → count ≤ end → ((i : ℕ) (x : Coord) → i < end → x ≡ slice_index_or gone i x → 0 < word_at g x) → LieInRow g c count
+stretch_in_row g gone end count c e s b full =
+    let m = s.some in
+    let first = e.space (further c 0) (stretch_full g gone end count 0 c s b full m) in
+    let last = e.space (further c (count - 1)) (stretch_full g gone end count (count - 1) c s b full (omega arith)) in
+    record {
+      within = record { x = first.x; y = first.y; z = let z = first.z in omega arith };
+      last = let z = last.z in omega arith;
+      row = s.row;
+    }
+
+-- the first voxel of a stretch, as it was read
+pub first_of : (gone : List Coord) (end from count : ℕ) (d : Coord) → 0 < count → count ≤ end → end ≤ length gone → from ≡ count → slice_index_or gone (end - from) d ≡ slice_index_or gone (end - count) (slice_index_or gone (end - from) d)
+first_of gone end from count d s b l e =
+    get_or_default gone (end - from) d (slice_index_or gone (end - from) d) (omega arith) ∙ ap (λ (k : ℕ). slice_index_or gone (end - k) (slice_index_or gone (end - from) d)) e

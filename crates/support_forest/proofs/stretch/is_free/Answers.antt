@@ -1,0 +1,14 @@
+use Rattle.support_forest.specs.Grid.{word_at}
+use Rattle.support_forest.proofs.Stretches.{far_free}
+use Rattle.support_forest.proofs.stretch.is_free.Goals as goal
+
+pub returns-clause-free : goal.returns-clause-free
+returns-clause-free g c t = record {
+  over = c.side_is_free.ensures.none c.if-not-side_is_free.false;
+  under = c.side_is_free-2.ensures.none c.if-not-side_is_free-2.false;
+  left = c.side_is_free-3.ensures.none c.if-not-side_is_free-3.false;
+  right = c.side_is_free-4.ensures.none c.if-not-side_is_free-4.false;
+  own = c.row_is_free.ensures.none c.if-not-row_is_free.false;
+  near = c.end_is_free.ensures.none c.if-not-end_is_free.false;
+  far = far_free (word_at c.args.cells.now) c.args.first c.args.count c.requires.some (c.end_is_free-2.ensures.none t);
+}

@@ -1,0 +1,76 @@
+-- Voxels that follow one another along z in a row of a brick, and become void together.
+use Rattle.std.specs.Prelude.{◌≡◌, ◌≢◌, ℕ, ◌+◌, ◌*◌, ◌%◌, ◌<◌, ◌≤◌, ◌⊎◌, List, length, slice_index_or}
+use Rattle.std.specs.List.{AllPairs, Contains}
+use Rattle.vox_geom.specs.declared.coordinate.Coord.{Coord}
+use Rattle.vox_geom.specs.Space.{IsInSpace}
+use Rattle.support_forest.specs.Directions.{Toward}
+use Rattle.support_forest.specs.Grid.{Grid, word_at}
+use Rattle.support_forest.specs.Losing.{CanRemove}
+use Rattle.support_forest.specs.Taking.{HangsNot}
+use Rattle.support_forest.specs.Words.{AreExact}
+
+-- the voxel that lies so many further along z
+abbrev pub further : Coord → ℕ → Coord
+further c k = record { x = c.x; y = c.y; z = c.z + k }
+
+-- so many voxels from this one on lie in space and in one row of a brick
+pub record LieInRow (g : Grid) (c : Coord) (n : ℕ) : Type 0 where
+  pub within : IsInSpace g.resolution c
+  pub last : c.z + n ≤ g.resolution
+  pub row : c.z % 8 + n ≤ 8
+
+-- so many voxels of the list from a place on are those from this one on, in one row of a brick
+pub record IsStretch (gone : List Coord) (start n : ℕ) (c : Coord) : Type 0 where
+  pub some : 0 < n
+  pub within : start + n ≤ length gone
+  pub row : c.z % 8 + n ≤ 8
+  pub each : (k : ℕ) (d : Coord) → k < n → slice_index_or gone (start + k) d ≡ further c k
+
+-- none of the words of the row says a parent in that direction
+abbrev pub RowHangsNot : (Coord → ℕ) → Coord → ℕ → ℕ → Type 0
+RowHangsNot w c n toward = (k : ℕ) → k < n → HangsNot (w (further c k)) toward
+
+-- no neighbour in the direction has its parent in a voxel of the row
+abbrev pub SideHangsNot : (Coord → ℕ) → Coord → ℕ → ℕ → ℕ → Type 0
+SideHangsNot w c n d toward = (k : ℕ) (p : Coord) → k < n → Toward d (further c k) p → HangsNot (w p) toward
+
+-- no neighbour has its parent in a voxel of the row, but for the next voxel of the row
+pub record RowIsFree (w : Coord → ℕ) (c : Coord) (n : ℕ) : Type 0 where
+  pub left : SideHangsNot w c n 1 2
+  pub right : SideHangsNot w c n 2 1
+  pub under : SideHangsNot w c n 3 4
+  pub over : SideHangsNot w c n 4 3
+  pub near : SideHangsNot w c 1 5 6
+  pub own : RowHangsNot w c n 6
+  pub far : (p : Coord) → p.x ≡ c.x → p.y ≡ c.y → p.z ≡ c.z + n → HangsNot (w p) 5
+
+-- the voxels of the row from one on became void, and the words are exact
+pub record AreCleared (old new : Grid) (c : Coord) (k n before after : ℕ) : Type 0 where
+  pub resolution : new.resolution ≡ old.resolution
+  pub table : new.table ≡ old.table
+  pub exact : AreExact new.resolution (word_at new)
+  pub gone : (j : ℕ) → k ≤ j → j < n → word_at new (further c j) ≡ 0
+  pub kept : (d : Coord) → ((j : ℕ) → k ≤ j → j < n → d ≡ further c j → ⊥) → word_at new d ≡ word_at old d
+  pub within : k ≤ n
+  pub cost : after + 2 * k ≤ before + 2 * n
+
+-- the voxel is one of those from a place on
+abbrev pub IsPast : List Coord → ℕ → Coord → Type 0
+IsPast gone i c = (k : ℕ) × (i ≤ k) × (k < length gone) × (slice_index_or gone k c ≡ c)
+
+-- the voxels from a place on are void or listed
+pub record IsTaking (old now : Grid) (gone : List Coord) (i : ℕ) (rest : List Coord) (before steps : ℕ) : Type 0 where
+  pub resolution : now.resolution ≡ old.resolution
+  pub exact : AreExact now.resolution (word_at now)
+  pub each : (c : Coord) → (word_at now c ≡ word_at old c) ⊎ ((word_at now c ≡ 0) × IsPast gone i c)
+  pub done : (c : Coord) → IsPast gone i c → (word_at now c ≡ 0) ⊎ Contains rest c
+  pub listed : (c : Coord) → Contains rest c → IsPast gone i c × (word_at now c ≡ word_at old c)
+  pub differ : AllPairs ◌≢◌ rest
+  pub within : i ≤ length gone
+  pub few : length rest + i ≤ length gone
+  pub cost : steps + 2 * length rest + 8 * i ≤ before + 8 * length gone
+
+-- whatever was taken before, these were taken too or listed
+abbrev pub TakesMore : Grid → Grid → List Coord → ℕ → ℕ → List Coord → List Coord → ℕ → ℕ → Type 0
+TakesMore now new gone i j rest more steps after =
+    (old : Grid) (before : ℕ) → CanRemove old gone → IsTaking old now gone i rest before steps → IsTaking old new gone j more before after
