@@ -1,4 +1,4 @@
-//! TakesMore away voxels that follow one another along z in a row of a brick: their slots are looked up once.
+//! Takes away voxels that follow one another along z in a row of a brick: their slots are looked up once.
 ghost use Rattle.std.specs.Prelude.{◌≡◌, ℕ, ◌+◌, ◌-◌, ◌*◌, ◌%◌, ◌<◌, ◌≤◌, IfOk, Some, false, true, length, slice_index_or};
 ghost use Rattle.vox_geom.specs.Space.{IsInSpace};
 ghost use Rattle.vox_geom.specs.declared.coordinate.Coord.{Coord};
@@ -9,7 +9,7 @@ ghost use Rattle.support_forest.specs.Words.{AreExact};
 
 use crate::cells::{BRICK_SIDE, Cells};
 use crate::directions::neighbor;
-use crate::take::take;
+use crate::take::{hangs, take};
 use std::alloc::AllocError;
 use std::sync::ledger::Ledger;
 use vox_geom::{Coord, Steps};
@@ -36,14 +36,6 @@ fn stretch_before(gone: &[Coord], end: usize) -> u16
     count
 }
 
-/// Whether the word says that the parent lies in that direction. The rest of a word that says none is 0 or 1.
-#[inline(always)]
-fn leans(word: u32, toward: u32) -> bool
-    ensures { result ≡ false → HangsNot word toward }
-{
-    word % 8 == toward && word != 1
-}
-
 /// Whether no word of the row says a parent in that direction. All are looked at, so that they can be read at once.
 #[inline(always)]
 fn row_hangs_not<L: Ledger>(
@@ -66,7 +58,7 @@ fn row_hangs_not<L: Ledger>(
             ..first
         };
         let word = cells.word_in(Some(slot), at, steps);
-        if !leans(word, toward) {
+        if !hangs(word, toward) {
             continue;
         }
         none = false;

@@ -10,20 +10,12 @@ use crate::cells::{Cells, word_index};
 use std::sync::ledger::Ledger;
 use vox_geom::{Coord, Steps};
 
-/// Whether the word says that the parent lies in that direction, not 1: no word without a height says another.
+/// Whether the word says that the parent lies in that direction. A word without a height is 0 or 1, and says none.
 #[inline(always)]
-fn hangs(word: u32, toward: u32) -> bool
+pub fn hangs(word: u32, toward: u32) -> bool
     ensures { result ≡ false → HangsNot word toward }
 {
-    word % 8 == toward
-}
-
-/// Whether the word says that the parent lies in direction 1, as the word of a voxel without a level seems to.
-#[inline(always)]
-fn hangs_left(word: u32) -> bool
-    ensures { result ≡ false → HangsNot word 1 }
-{
-    word >= 8 && word % 8 == 1
+    word % 8 == toward && word != 1
 }
 
 /// Whether a neighbour has its parent in the voxel between these words.
@@ -32,7 +24,7 @@ fn is_parent(beside: Beside) -> bool
     ensures { result ≡ false → NoneHangs beside }
 {
     hangs(beside.left, 2)
-        || hangs_left(beside.right)
+        || hangs(beside.right, 1)
         || hangs(beside.under, 4)
         || hangs(beside.over, 3)
         || hangs(beside.near, 6)
