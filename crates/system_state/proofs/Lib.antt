@@ -17,3 +17,4 @@ pub mod Following
 pub mod OnlyBot
 pub mod OnlyMove
 pub mod OnlyEdit
+pub mod OneVoxel

@@ -125,7 +125,7 @@ same_self p = λ i. itself p.x i && itself p.y i && itself p.z i
     itself : (z : ℤ) → (int_le z z && int_le z z) ≡ true
     itself z = grind (arith, ints)
 
-one_only : (r : ℕ) (p : Coord) → IsInSpace r p → filter (λ c. is_within (just (point p)) (point c)) (coordinates r) ≡ p ∷ []
+pub one_only : (r : ℕ) (p : Coord) → IsInSpace r p → filter (λ c. is_within (just (point p)) (point c)) (coordinates r) ≡ p ∷ []
 one_only r p i =
     ap (λ (test : Coord → Bool). filter test (coordinates r)) (λ j c. within_just (point p) (point c) j)
     ∙ filter_only (place r) (λ c. same_point (point c) (point p)) p (coordinates r) (numbers_differ r (r * r * r) 0) (in_coordinates r p i) (same_self (point p)) (λ c k e. coordinate_is c p (point_is (point c) (point p) e))

@@ -15,7 +15,7 @@ ghost use Rattle.nano_spec.specs.State.{IsReady, opening as opening_of};
 ghost use Rattle.nano_spec.specs.Step.{after, harmonics_after};
 ghost use Rattle.nano_spec.specs.Work.{volatile_total};
 ghost use Rattle.bot_crew.specs.Crew.{IsCrew, bot_of};
-ghost use Rattle.step_groups.specs.Judging.{is_alone, act};
+ghost use Rattle.step_groups.specs.Judging.{is_alone, act, edit_of};
 ghost use Rattle.vox_planes.specs.Voxel.{IsWhole};
 ghost use Rattle.system_state.specs.Bounds.{IsPayable, IsWithin};
 ghost use Rattle.system_state.specs.Effects.{MayTake, after_turn};
@@ -29,7 +29,7 @@ use crate::known::know_all;
 use crate::moves::{move_bots, target};
 use crate::turns::{Turn, Turns, gather, gather_lone, list_turns, turn_of};
 use crate::voxels::pay_turn;
-use alone::cost_of_move;
+use alone::{cost_of_edit, cost_of_move};
 use bot_crew::{Crew, crew_is_ready, group_is_replaced};
 use energy_sum::upkeep;
 use nano_spec::{Bot, Broken, Command, Harmonics, Profile, Rule};
@@ -37,7 +37,7 @@ use std::marker::Model;
 use std::sync::ledger::Ledger;
 use step_groups::{all_act_alone, judge_single};
 use step_order::groups_take_turns;
-use vox_geom::{Long, MOST_R, Short, Steps};
+use vox_geom::{Long, MOST_R, Near, Short, Steps};
 use vox_planes::Planes;
 
 /// The other harmonics after a Flip.
@@ -345,8 +345,8 @@ impl System {
         self.energy = paid(self.energy, upkeep);
     }
 
-    /// The turn of a group, by the command of its leader. Waits and straight moves, which most commands of many bots are, are
-    /// made at once.
+    /// The turn of a group, by the command of its leader. Waits, moves and edits of one voxel, which most commands of many bots
+    /// are, are made at once.
     #[inline(always)]
     fn take_turn<L: Ledger>(&mut self, turn: Turn, command: &Command, steps: &mut Steps<L>)
         requires may { IfSome (bot_of self.old.bots turn.leader) (λ bot. MayTake self.old.matrix.resolution self.old.bots bot turn.partner command.now) }
@@ -363,13 +363,13 @@ impl System {
             Command::Wait => {}
             Command::SMove(d) => self.take_move(bot, *d),
             Command::LMove(d, e) => self.take_moves(bot, *d, *e),
+            Command::Fill(d) => self.take_edit(bot, *d, true, steps),
+            Command::Void(d) => self.take_edit(bot, *d, false, steps),
             Command::Halt
             | Command::Flip
             | Command::FusionP(_)
             | Command::FusionS(_)
             | Command::Fission(_, _)
-            | Command::Fill(_)
-            | Command::Void(_)
             | Command::GFill(_, _)
             | Command::GVoid(_, _) => self.take_other_turn(bot, turn.partner, command, steps),
         }
@@ -402,6 +402,22 @@ impl System {
         self.crew
             .move_to(bot.bid, target(resolution, middle, e.diff()));
         self.energy = paid(self.energy, cost_of_moves(d, e));
+    }
+
+    /// The turn of a bot that fills a voxel, or else voids it.
+    #[inline(always)]
+    fn take_edit<L: Ledger>(&mut self, bot: Bot, d: Near, full: bool, steps: &mut Steps<L>)
+        requires may { (partner : ℕ) → MayTake self.old.matrix.resolution self.old.bots bot partner (edit_of full d) }
+        requires payable { IsWithin 9000000000000000000 self.old.energy }
+        ensures value { (partner : ℕ) → self.new ≡ after_turn self.old bot partner (edit_of full d) }
+        ensures within { (k : ℕ) → IsWithin k self.old.energy → IsWithin (k + 357492) self.new.energy }
+        ensures touches { steps.new ≤ steps.old + met_count self.old.matrix bot (edit_of full d) }
+    {
+        let resolution = self.matrix.resolution();
+        let at = target(resolution, bot.pos, d.diff());
+        let was_full = self.matrix.full_at(at, steps);
+        self.matrix.set(at, full);
+        self.energy = paid(self.energy, cost_of_edit(full, was_full));
     }
 
     /// The turn of a group by any command of its leader.

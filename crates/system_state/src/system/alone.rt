@@ -100,9 +100,10 @@ impl System {
 }
 
 /// What filling a voxel, or else voiding it, costs beside the upkeep.
-fn cost_of_edit(full: bool, was_full: bool) -> i64
+#[inline(always)]
+pub(super) fn cost_of_edit(full: bool, was_full: bool) -> i64
     ensures value { result ≡ cond full (cond was_full (pos 6) (pos 12)) (cond was_full (negsuc 11) (pos 3)) }
-    ensures small { IsWithin 2000000000 result }
+    ensures small { IsWithin 357492 result }
 {
     if full {
         if was_full { 6 } else { 12 }
