@@ -1,4 +1,6 @@
-//! TakesMore away voxels that follow one another along z in a row of a brick: their slots are looked up once.
+//! Takes away voxels that follow one another along z in a row of a brick: their slots are looked up once.
+//!
+//! Where a neighbour has its parent among them all of them are listed: to try each alone would read the words beside it again.
 ghost use Rattle.std.specs.Prelude.{◌≡◌, ℕ, ◌+◌, ◌-◌, ◌*◌, ◌%◌, ◌<◌, ◌≤◌, IfOk, IfSome, Some, false, true, length, slice_index_or};
 ghost use Rattle.vox_geom.specs.Space.{IsInSpace};
 ghost use Rattle.vox_geom.specs.declared.coordinate.Coord.{Coord};
@@ -297,8 +299,8 @@ fn list_voxels(
     Ok(())
 }
 
-/// The last voxels before `end` become void or are listed: those that follow one another in a row of a brick. Tells where the
-/// first of them stands in the list.
+/// The last voxels before `end` that follow one another in a row of a brick become void, or are listed. Tells where the first of
+/// them stands in `gone`.
 pub fn take_stretch<L: Ledger>(
     cells: &mut Cells,
     gone: &[Coord],
