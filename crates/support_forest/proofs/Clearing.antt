@@ -1,32 +1,19 @@
 -- The voxels of a stretch become void together, or are listed.
-use Rattle.std.proofs.Common.{◌≡◌, ℕ, zero, suc, ◌+◌, ◌-◌, ◌*◌, ◌%◌, ◌<◌, ◌≤◌, ◌⊎◌, inl, inr, refl, sym, ◌∙◌, ap, subst, arith, List, [], ◌∷◌, ◌++◌, None}
+use Rattle.std.proofs.Common.{◌≡◌, ℕ, zero, suc, ◌+◌, ◌-◌, ◌*◌, ◌%◌, ◌<◌, ◌≤◌, ◌⊎◌, inl, inr, refl, sym, ◌∙◌, ap, subst, arith, List, [], ◌∷◌, ◌++◌}
 use Rattle.std.specs.Prelude.{slice_index_or}
 use Rattle.std.proofs.lemmas.Bool.{cases_lt, cases_eq}
 use Rattle.vox_geom.specs.declared.coordinate.Coord.{Coord}
 use Rattle.support_forest.specs.Directions.{Toward}
-use Rattle.support_forest.specs.Grid.{Grid, slot_of, word_at}
+use Rattle.support_forest.specs.Grid.{Grid, word_at}
 use Rattle.support_forest.specs.Losing.{CanRemove}
-use Rattle.support_forest.specs.Stretches.{AreCleared, LieInRow, IsPast, IsStretch, IsTaking, RowIsFree, TakesMore, further}
+use Rattle.support_forest.specs.Stretches.{AreCleared, IsPast, IsStretch, IsTaking, RowIsFree, TakesMore, further}
 use Rattle.support_forest.specs.Taking.{HaveTaken}
 use Rattle.support_forest.specs.Words.{AreExact, IsWritten}
 use Rattle.support_forest.proofs.Each.{before_last, taking_listed, taking_taken}
 use Rattle.support_forest.proofs.Settling.{same_or_not}
-use Rattle.support_forest.proofs.Stretches.{row_slot, row_space}
 use Rattle.support_forest.proofs.Taking.{IsNoParent, exact_without}
-use Rattle.support_forest.proofs.Writes.{reads_none}
 
 -- ---- voxels of a row become void
-
-pub cleared_none : (g : Grid) (c : Coord) (n steps : ℕ) → AreExact g.resolution (word_at g) → LieInRow g c n → None ≡ slot_of g c → AreCleared g g c 0 n steps steps
-cleared_none g c n steps e h s = record {
-  resolution = refl;
-  table = refl;
-  exact = e;
-  gone = λ j b l. sym (reads_none g (further c j) (row_space g c n j h l) (row_slot g c n j None h l s));
-  kept = λ d f. refl;
-  within = omega arith;
-  cost = omega arith;
-}
 
 free_now : (old now : Grid) (c : Coord) (k n before steps : ℕ) → RowIsFree (word_at old) c n → AreCleared old now c (k + 1) n before steps → k < n → IsNoParent (word_at now) (further c k)
 unfolding Toward

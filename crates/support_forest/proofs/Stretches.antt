@@ -1,5 +1,5 @@
 -- Voxels that follow one another in a row of a brick, and become void together.
-use Rattle.std.proofs.Common.{◌≡◌, ℕ, ◌+◌, ◌-◌, ◌/◌, ◌%◌, ◌<◌, ◌≤◌, inl, inr, refl, sym, ◌∙◌, ap, subst, arith, List, length, Option, None}
+use Rattle.std.proofs.Common.{◌≡◌, ℕ, ◌+◌, ◌-◌, ◌/◌, ◌%◌, ◌<◌, ◌≤◌, inl, inr, refl, sym, ◌∙◌, ap, subst, arith, List, length, Option, Some, None}
 use Rattle.std.specs.Prelude.{slice_index_or}
 use Rattle.std.proofs.lemmas.Bool.{cases_lt}
 use Rattle.std.proofs.lemmas.List.{get_or_default}
@@ -194,3 +194,7 @@ stretch_in_row g gone end count c e s b full =
 pub first_of : (gone : List Coord) (end from count : ℕ) (d : Coord) → 0 < count → count ≤ end → end ≤ length gone → from ≡ count → slice_index_or gone (end - from) d ≡ slice_index_or gone (end - count) (slice_index_or gone (end - from) d)
 first_of gone end from count d s b l e =
     get_or_default gone (end - from) d (slice_index_or gone (end - from) d) (omega arith) ∙ ap (λ (k : ℕ). slice_index_or gone (end - k) (slice_index_or gone (end - from) d)) e
+
+-- where two voxels lie in one brick they have one slot
+pub slot_with : (g : Grid) (c d : Coord) (own : ℕ) → d.x / 8 ≡ c.x / 8 → d.y / 8 ≡ c.y / 8 → d.z / 8 ≡ c.z / 8 → slot_of g c ≡ Some own → Some own ≡ slot_of g d
+slot_with g c d own x y z e = same_slot g c d (Some own) (λ j. record { x = x j; y = y j; z = z j }) (sym e)

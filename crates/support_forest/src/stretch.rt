@@ -1,5 +1,7 @@
 //! Takes away voxels that follow one another along z in a row of a brick: their slots are looked up once.
-ghost use Rattle.std.specs.Prelude.{◌≡◌, ℕ, ◌+◌, ◌-◌, ◌*◌, ◌%◌, ◌<◌, ◌≤◌, IfOk, Some, false, true, length, slice_index_or};
+//!
+//! Where a neighbour has its parent among them all of them are listed: to try each alone would read the words beside it again.
+ghost use Rattle.std.specs.Prelude.{◌≡◌, ℕ, ◌+◌, ◌-◌, ◌*◌, ◌%◌, ◌<◌, ◌≤◌, IfOk, IfSome, Some, false, true, length, slice_index_or};
 ghost use Rattle.vox_geom.specs.Space.{IsInSpace};
 ghost use Rattle.vox_geom.specs.declared.coordinate.Coord.{Coord};
 ghost use Rattle.support_forest.specs.Grid.{Grid, slot_of, word_at};
@@ -66,20 +68,41 @@ fn row_hangs_not<L: Ledger>(
     none
 }
 
+/// The slot of a voxel's brick, with that of the brick of `c` in hand: mostly they are one.
+#[inline(always)]
+fn slot_by(cells: &Cells, c: Coord, own: u32, at: Coord) -> Option<u32>
+    requires own { slot_of cells.now c ≡ Some own }
+    requires within { IsInSpace cells.now.resolution at }
+    ensures { result ≡ slot_of cells.now at }
+{
+    if at.x / BRICK_SIDE != c.x / BRICK_SIDE {
+        return cells.slot(at);
+    }
+    if at.y / BRICK_SIDE != c.y / BRICK_SIDE {
+        return cells.slot(at);
+    }
+    if at.z / BRICK_SIDE != c.z / BRICK_SIDE {
+        return cells.slot(at);
+    }
+    Some(own)
+}
+
 /// Whether no word of the row says a parent in that direction. A row of a brick without a slot is void.
 #[inline(always)]
 fn row_is_free<L: Ledger>(
     cells: &Cells,
+    slot: Option<u32>,
     first: Coord,
     count: u16,
     toward: u32,
     steps: &mut Steps<L>,
 ) -> bool
     requires row { LieInRow cells.now first count }
+    requires slot { slot ≡ slot_of cells.now first }
     ensures none { result ≡ true → RowHangsNot (word_at cells.now) first count toward }
     ensures touches { steps.new ≤ steps.old + count }
 {
-    match cells.slot(first) {
+    match slot {
         Some(slot) => row_hangs_not(cells, slot, first, count, toward, steps),
         None => true,
     }
@@ -89,6 +112,7 @@ fn row_is_free<L: Ledger>(
 #[inline(always)]
 fn side_is_free<L: Ledger>(
     cells: &Cells,
+    own: u32,
     first: Coord,
     count: u16,
     d: u8,
@@ -96,36 +120,59 @@ fn side_is_free<L: Ledger>(
     steps: &mut Steps<L>,
 ) -> bool
     requires direction { (0 < d) × (d ≤ 4) }
+    requires own { slot_of cells.now first ≡ Some own }
     requires row { LieInRow cells.now first count }
     requires space { (q : Coord) → 0 < word_at cells.now q → IsInSpace cells.now.resolution q }
     ensures none { result ≡ true → SideHangsNot (word_at cells.now) first count d toward }
     ensures touches { steps.new ≤ steps.old + count }
 {
     match neighbor(first, d, cells.resolution()) {
-        Some(q) => row_is_free(cells, q, count, toward, steps),
+        Some(q) => row_is_free(
+            cells,
+            slot_by(cells, first, own, q),
+            q,
+            count,
+            toward,
+            steps,
+        ),
         None => true,
     }
 }
 
 /// Whether the neighbour in the direction, if there is one, has its parent elsewhere.
 #[inline(always)]
-fn end_is_free<L: Ledger>(cells: &Cells, c: Coord, d: u8, toward: u32, steps: &mut Steps<L>) -> bool
+fn end_is_free<L: Ledger>(
+    cells: &Cells,
+    own: u32,
+    c: Coord,
+    d: u8,
+    toward: u32,
+    steps: &mut Steps<L>,
+) -> bool
     requires direction { (0 < d) × (d ≤ 6) }
+    requires own { slot_of cells.now c ≡ Some own }
     requires within { IsInSpace cells.now.resolution c }
     requires space { (q : Coord) → 0 < word_at cells.now q → IsInSpace cells.now.resolution q }
     ensures none { result ≡ true → SideHangsNot (word_at cells.now) c 1 d toward }
     ensures touches { steps.new ≤ steps.old + 1 }
 {
     match neighbor(c, d, cells.resolution()) {
-        Some(q) => row_is_free(cells, q, 1, toward, steps),
+        Some(q) => row_is_free(cells, slot_by(cells, c, own, q), q, 1, toward, steps),
         None => true,
     }
 }
 
 /// Whether no neighbour has its parent in a voxel of the row, but for the next voxel of the row.
 #[inline(always)]
-fn is_free<L: Ledger>(cells: &Cells, first: Coord, count: u16, steps: &mut Steps<L>) -> bool
+fn is_free<L: Ledger>(
+    cells: &Cells,
+    own: u32,
+    first: Coord,
+    count: u16,
+    steps: &mut Steps<L>,
+) -> bool
     requires some { 0 < count }
+    requires own { slot_of cells.now first ≡ Some own }
     requires row { LieInRow cells.now first count }
     requires space { (q : Coord) → 0 < word_at cells.now q → IsInSpace cells.now.resolution q }
     ensures free { result ≡ true → RowIsFree (word_at cells.now) first count }
@@ -135,31 +182,38 @@ fn is_free<L: Ledger>(cells: &Cells, first: Coord, count: u16, steps: &mut Steps
         z: first.z + (count - 1),
         ..first
     };
-    if !side_is_free(cells, first, count, 4, 3, steps) {
+    if !side_is_free(cells, own, first, count, 4, 3, steps) {
         return false;
     }
-    if !side_is_free(cells, first, count, 3, 4, steps) {
+    if !side_is_free(cells, own, first, count, 3, 4, steps) {
         return false;
     }
-    if !side_is_free(cells, first, count, 1, 2, steps) {
+    if !side_is_free(cells, own, first, count, 1, 2, steps) {
         return false;
     }
-    if !side_is_free(cells, first, count, 2, 1, steps) {
+    if !side_is_free(cells, own, first, count, 2, 1, steps) {
         return false;
     }
-    if !row_is_free(cells, first, count, 6, steps) {
+    if !row_is_free(cells, Some(own), first, count, 6, steps) {
         return false;
     }
-    if !end_is_free(cells, first, 5, 6, steps) {
+    if !end_is_free(cells, own, first, 5, 6, steps) {
         return false;
     }
-    end_is_free(cells, last, 6, 5, steps)
+    end_is_free(cells, own, last, 6, 5, steps)
 }
 
 /// Whether no neighbour has its parent in a voxel of the row, but for the next voxel of the row. A whole row is read by
 /// steps that the compiler knows.
-fn are_free<L: Ledger>(cells: &Cells, first: Coord, count: u16, steps: &mut Steps<L>) -> bool
+fn are_free<L: Ledger>(
+    cells: &Cells,
+    own: u32,
+    first: Coord,
+    count: u16,
+    steps: &mut Steps<L>,
+) -> bool
     requires some { 0 < count }
+    requires own { slot_of cells.now first ≡ Some own }
     requires row { LieInRow cells.now first count }
     requires space { (q : Coord) → 0 < word_at cells.now q → IsInSpace cells.now.resolution q }
     ensures free { result ≡ true → RowIsFree (word_at cells.now) first count }
@@ -170,22 +224,41 @@ fn are_free<L: Ledger>(cells: &Cells, first: Coord, count: u16, steps: &mut Step
             z: first.z / BRICK_SIDE * BRICK_SIDE,
             ..first
         };
-        return is_free(cells, start, BRICK_SIDE, steps);
+        return is_free(cells, own, start, BRICK_SIDE, steps);
     }
-    is_free(cells, first, count, steps)
+    is_free(cells, own, first, count, steps)
+}
+
+/// The slot of the row, where no neighbour has its parent in one of its voxels, but for the next voxel of the row.
+#[inline(always)]
+fn free_slot<L: Ledger>(
+    cells: &Cells,
+    first: Coord,
+    count: u16,
+    steps: &mut Steps<L>,
+) -> Option<u32>
+    requires some { 0 < count }
+    requires row { LieInRow cells.now first count }
+    requires space { (q : Coord) → 0 < word_at cells.now q → IsInSpace cells.now.resolution q }
+    ensures own { IfSome result (λ own. slot_of cells.now first ≡ Some own) }
+    ensures free { IfSome result (λ _. RowIsFree (word_at cells.now) first count) }
+    ensures touches { steps.new ≤ steps.old + 5 * count + 2 }
+{
+    let own = cells.slot(first)?;
+    if !are_free(cells, own, first, count, steps) {
+        return None;
+    }
+    Some(own)
 }
 
 /// Makes the voxels of a row void, from the last to the first.
-fn clear_row<L: Ledger>(cells: &mut Cells, first: Coord, count: u16, steps: &mut Steps<L>)
+fn clear_row<L: Ledger>(cells: &mut Cells, own: u32, first: Coord, count: u16, steps: &mut Steps<L>)
+    requires own { slot_of cells.old first ≡ Some own }
     requires row { LieInRow cells.old first count }
     requires exact { AreExact cells.old.resolution (word_at cells.old) }
-    requires full { (k : ℕ) → k < count → 0 < word_at cells.old (further first k) }
     requires free { RowIsFree (word_at cells.old) first count }
     ensures { AreCleared cells.old cells.new first 0 count steps.old steps.new }
 {
-    let Some(slot) = cells.slot(first) else {
-        return;
-    };
     let mut left = count;
     while left > 0 {
         left -= 1;
@@ -193,8 +266,8 @@ fn clear_row<L: Ledger>(cells: &mut Cells, first: Coord, count: u16, steps: &mut
             z: first.z + left,
             ..first
         };
-        let word = cells.word_in(Some(slot), at, steps);
-        cells.write(slot, at, word, 0, steps);
+        let word = cells.word_in(Some(own), at, steps);
+        cells.write(own, at, word, 0, steps);
     }
 }
 
@@ -218,8 +291,8 @@ fn list_voxels(
     Ok(())
 }
 
-/// The last voxels before `end` become void or are listed: those that follow one another in a row of a brick. Tells where the
-/// first of them stands in the list.
+/// The last voxels before `end` that follow one another in a row of a brick become void, or are listed. Tells where the first of
+/// them stands in `gone`.
 pub fn take_stretch<L: Ledger>(
     cells: &mut Cells,
     gone: &[Coord],
@@ -243,8 +316,8 @@ pub fn take_stretch<L: Ledger>(
         }
         return Ok(start);
     }
-    if are_free(cells, first, count, steps) {
-        clear_row(cells, first, count, steps);
+    if let Some(own) = free_slot(cells, first, count, steps) {
+        clear_row(cells, own, first, count, steps);
         return Ok(start);
     }
     list_voxels(gone, start, end, rest)?;

@@ -1,26 +1,23 @@
 use Rattle.std.proofs.Common.{◌≡◌, ℕ, ◌-◌, arith, subst, Some, sym}
 use Rattle.support_forest.specs.Stretches.{AreCleared, further}
-use Rattle.support_forest.proofs.Clearing.{before_left, cleared_more, cleared_none}
+use Rattle.support_forest.proofs.Clearing.{before_left, cleared_more}
 use Rattle.support_forest.proofs.Nearby.{slot_stays}
 use Rattle.support_forest.proofs.Stretches.{row_slot}
 use Rattle.support_forest.proofs.stretch.clear_row.Goals as goal
-
-pub returns-in_default : goal.returns-in_default
-returns-in_default g c = cleared_none c.args.cells.now c.args.first c.args.count c.args.steps.now c.requires.exact c.requires.row c.in_default.ensures.value
 
 pub word_in-word-requires-clause-slot : goal.word_in-word-requires-clause-slot
 word_in-word-requires-clause-slot g c =
     let i = c.loop-left.invariant in
     let w = i.within in
-    slot_stays c.args.cells.now c.loop-left.cells (further c.args.first (c.loop-left.left - 1)) (Some c.in-Some.slot) i.table i.resolution
-    (row_slot c.args.cells.now c.args.first c.args.count (c.loop-left.left - 1) (Some c.in-Some.slot) c.requires.row (let t = c.loop-left-test.true in omega arith) c.in-Some.ensures.value)
+    slot_stays c.args.cells.now c.loop-left.cells (further c.args.first (c.loop-left.left - 1)) (Some c.args.own) i.table i.resolution
+    (row_slot c.args.cells.now c.args.first c.args.count (c.loop-left.left - 1) (Some c.args.own) c.requires.row (let t = c.loop-left-test.true in omega arith) (sym c.requires.own))
 
 pub write-requires-clause-slot : goal.write-requires-clause-slot
 write-requires-clause-slot g c =
     let i = c.loop-left.invariant in
     let w = i.within in
-    sym (slot_stays c.args.cells.now c.loop-left.cells (further c.args.first (c.loop-left.left - 1)) (Some c.in-Some.slot) i.table i.resolution
-    (row_slot c.args.cells.now c.args.first c.args.count (c.loop-left.left - 1) (Some c.in-Some.slot) c.requires.row (let t = c.loop-left-test.true in omega arith) c.in-Some.ensures.value))
+    sym (slot_stays c.args.cells.now c.loop-left.cells (further c.args.first (c.loop-left.left - 1)) (Some c.args.own) i.table i.resolution
+    (row_slot c.args.cells.now c.args.first c.args.count (c.loop-left.left - 1) (Some c.args.own) c.requires.row (let t = c.loop-left-test.true in omega arith) (sym c.requires.own)))
 
 pub loop-left-preserved : goal.loop-left-preserved
 loop-left-preserved g c =

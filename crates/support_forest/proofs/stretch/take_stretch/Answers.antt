@@ -4,7 +4,7 @@ use Rattle.support_forest.specs.Stretches.{TakesMore}
 use Rattle.support_forest.specs.Taking.{HaveTaken}
 use Rattle.support_forest.proofs.Clearing.{one_listed, one_taken, row_cleared, row_listed}
 use Rattle.support_forest.proofs.Placing.{unless, when}
-use Rattle.support_forest.proofs.Stretches.{first_of, stretch_full, stretch_in_row}
+use Rattle.support_forest.proofs.Stretches.{first_of, stretch_in_row}
 use Rattle.support_forest.proofs.stretch.take_stretch.Goals as goal
 
 abbrev origin : Coord
@@ -30,24 +30,16 @@ returns-else-not-take-clause-taken g c =
     (first_of c.args.gone.now c.args.end c.from.result n origin s.some s.below c.requires.within c.from.ensures)
     (when c.take.result (HaveTaken c.args.cells.now c.take.new.cells x c.args.steps.now c.take.new.steps) ((c.take.new.cells ≡ c.args.cells.now) × (c.take.new.steps ≤ c.args.steps.now + 6)) c.if-not-take.false c.take.ensures))
 
-pub are_free-requires-clause-row : goal.are_free-requires-clause-row
-are_free-requires-clause-row g c =
+pub free_slot-requires-clause-row : goal.free_slot-requires-clause-row
+free_slot-requires-clause-row g c =
     let n = c.stretch_before-count.result in
     let s = c.stretch_before-count.ensures in
     let x = get_or c.args.gone.now (c.args.end - c.from.result) origin in
     stretch_in_row c.args.cells.now c.args.gone.now c.args.end n x c.requires.exact
     (s.stretch x (first_of c.args.gone.now c.args.end c.from.result n origin s.some s.below c.requires.within c.from.ensures)) s.below c.requires.full
 
-pub clear_row-requires-clause-full : goal.clear_row-requires-clause-full
-clear_row-requires-clause-full g c k l =
-    let n = c.stretch_before-count.result in
-    let s = c.stretch_before-count.ensures in
-    let x = get_or c.args.gone.now (c.args.end - c.from.result) origin in
-    stretch_full c.args.cells.now c.args.gone.now c.args.end n k x
-    (s.stretch x (first_of c.args.gone.now c.args.end c.from.result n origin s.some s.below c.requires.within c.from.ensures)) s.below c.requires.full l
-
-pub returns-then-are_free-clause-taken : goal.returns-then-are_free-clause-taken
-returns-then-are_free-clause-taken g c =
+pub returns-in-Some-clause-taken : goal.returns-in-Some-clause-taken
+returns-in-Some-clause-taken g c =
     let n = c.stretch_before-count.result in
     let s = c.stretch_before-count.ensures in
     let x = get_or c.args.gone.now (c.args.end - c.from.result) origin in
@@ -55,8 +47,8 @@ returns-then-are_free-clause-taken g c =
     let more = c.if-count-eq1.false in
     let b : 2 ≤ n = grind arith in
     subst (λ (k : ℕ). TakesMore c.args.cells.now c.clear_row.new.cells c.args.gone.now c.args.end (c.args.end - k) c.args.rest.now.items c.args.rest.now.items c.args.steps.now c.clear_row.new.steps) (sym c.from.ensures)
-    (row_cleared c.args.cells.now c.clear_row.new.cells c.args.gone.now c.args.end n c.args.rest.now.items c.args.steps.now c.are_free.new.steps c.clear_row.new.steps x b s.below
-    (s.stretch x (first_of c.args.gone.now c.args.end c.from.result n origin s.some s.below c.requires.within c.from.ensures)) c.are_free.ensures.touches c.clear_row.ensures)
+    (row_cleared c.args.cells.now c.clear_row.new.cells c.args.gone.now c.args.end n c.args.rest.now.items c.args.steps.now c.free_slot.new.steps c.clear_row.new.steps x b s.below
+    (s.stretch x (first_of c.args.gone.now c.args.end c.from.result n origin s.some s.below c.requires.within c.from.ensures)) c.free_slot.ensures.touches c.clear_row.ensures)
 
 pub returns-clause-taken : goal.returns-clause-taken
 returns-clause-taken g c =
@@ -66,6 +58,6 @@ returns-clause-taken g c =
     let more = c.if-count-eq1.false in
     let b : 2 ≤ n = grind arith in
     let h = c.in_ok-list_voxels.ensures c.args.cells.now c.args.steps.now in
-    subst (λ (k : ℕ). TakesMore c.args.cells.now c.args.cells.now c.args.gone.now c.args.end (c.args.end - k) c.args.rest.now.items c.list_voxels.new.rest.items c.args.steps.now c.are_free.new.steps) (sym c.from.ensures)
-    (row_listed c.args.cells.now c.args.gone.now c.args.end n c.args.rest.now.items c.list_voxels.new.rest.items c.args.steps.now c.are_free.new.steps b s.below c.are_free.ensures.touches
+    subst (λ (k : ℕ). TakesMore c.args.cells.now c.args.cells.now c.args.gone.now c.args.end (c.args.end - k) c.args.rest.now.items c.list_voxels.new.rest.items c.args.steps.now c.free_slot.new.steps) (sym c.from.ensures)
+    (row_listed c.args.cells.now c.args.gone.now c.args.end n c.args.rest.now.items c.list_voxels.new.rest.items c.args.steps.now c.free_slot.new.steps b s.below c.free_slot.ensures.touches
     (subst (λ (k : ℕ). TakesMore c.args.cells.now c.args.cells.now c.args.gone.now c.args.end (c.args.end - k) c.args.rest.now.items c.list_voxels.new.rest.items c.args.steps.now (c.args.steps.now + 6 * (c.args.end - (c.args.end - k)))) c.from.ensures h))
