@@ -80,10 +80,10 @@ takes_if_ok got all bad push answer old d next r new piece fed began ended view 
     (subst (λ (s : RunState). IfOk answer (λ n. TakesFront s piece n (record { decoder = decoder_after d piece fed; run = new }) began ended)) view
     (elim answer as (λ a. IfOk a (λ n. Gets r fed (length piece) n new began ended) → IfOk a (λ n. TakesFront (record { decoder = d; run = r }) piece n (record { decoder = decoder_after d piece fed; run = new }) began ended)) [
       | Ok n ↦ λ g. (let taken = some_taken d r new piece fed n began ended some answers g in record {
-          some = taken.0;
-          within = taken.1;
-          takes = takes got all bad push d r piece (ap (λ (s : RunState). s.run.spent) view ∙ stands) fed n new began ended answers g;
-        })
+        some = taken.0;
+        within = taken.1;
+        takes = takes got all bad push d r piece (ap (λ (s : RunState). s.run.spent) view ∙ stands) fed n new began ended answers g;
+      })
       | Err e ↦ λ g. tt
     ] gets))
 
