@@ -1,6 +1,6 @@
 //! The step of the only bot by a command that needs no other, made at once: no turns and no changes are listed.
 ghost use Rattle.std.specs.Prelude.{◌≡◌, ◌<◌, [], ◌∷◌, false, true, length, IfNone, IfSome, Some, Err};
-ghost use Rattle.nano_spec.specs.declared.commands.Command.TheVariants.{Fill, SMove, Void};
+ghost use Rattle.nano_spec.specs.declared.commands.Command.TheVariants.{SMove};
 ghost use Rattle.nano_spec.specs.declared.system.Harmonics.TheVariants.{Low};
 ghost use Rattle.nano_spec.specs.Grounded.{FirstUngrounded};
 ghost use Rattle.step_groups.specs.Judging.{edit_of};
@@ -46,8 +46,9 @@ impl Machine {
         Ok(made(&self.system))
     }
 
-    /// The step of the only bot in which it fills a voxel, or else voids it.
-    #[inline(always)]
+    /// The step of the only bot in which it fills a voxel, or else voids it: a call of its own, so that the rest of
+    /// [`Machine::step_alone`] is small enough to be written out for its callers.
+    #[inline(never)]
     fn edit_alone<L: Ledger>(
         &mut self,
         d: Near,
@@ -78,29 +79,6 @@ impl Machine {
         Ok(made(&self.system))
     }
 
-    /// The step of the only bot in which it fills a voxel: a call of its own, as [`Machine::void_alone`], so that the rest of
-    /// [`Machine::step_alone`] is small enough to be written out for its callers.
-    #[inline(never)]
-    fn fill_alone<L: Ledger>(&mut self, d: Near, steps: &mut Steps<L>) -> Result<StepOk, StepFault>
-        requires stands { self.old.spent ≡ false }
-        requires one { length self.old.state.bots ≡ 1 }
-        requires steps { self.old.steps < 1073741824 }
-        ensures stepped { Stepped self.old self.new (Fill d ∷ []) result steps.old steps.new }
-    {
-        self.edit_alone(d, true, steps)
-    }
-
-    /// The step of the only bot in which it voids a voxel.
-    #[inline(never)]
-    fn void_alone<L: Ledger>(&mut self, d: Near, steps: &mut Steps<L>) -> Result<StepOk, StepFault>
-        requires stands { self.old.spent ≡ false }
-        requires one { length self.old.state.bots ≡ 1 }
-        requires steps { self.old.steps < 1073741824 }
-        ensures stepped { Stepped self.old self.new (Void d ∷ []) result steps.old steps.new }
-    {
-        self.edit_alone(d, false, steps)
-    }
-
     /// The step of the only bot by a command that is frequent. `None`, and nothing is changed, where the step is to be made
     /// as every other.
     #[inline(always)]
@@ -121,8 +99,8 @@ impl Machine {
         }
         match command {
             Command::SMove(d) => Some(self.move_alone(*d, steps)),
-            Command::Fill(d) => Some(self.fill_alone(*d, steps)),
-            Command::Void(d) => Some(self.void_alone(*d, steps)),
+            Command::Fill(d) => Some(self.edit_alone(*d, true, steps)),
+            Command::Void(d) => Some(self.edit_alone(*d, false, steps)),
             _ => None,
         }
     }
