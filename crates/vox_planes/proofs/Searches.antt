@@ -1,15 +1,16 @@
 -- The next bit of a value, and the next voxel of a row that is full or void.
-use Rattle.std.proofs.Common.{◌≡◌, ℕ, zero, suc, ◌+◌, ◌-◌, ◌/◌, ◌%◌, ◌^◌, ◌<◌, ◌≤◌, refl, sym, ◌∙◌, ap, subst, arith, Bool, true, false, cond, not, ◌==◌, List, [], ◌∷◌, get_or, filter, find, Some, None, inl, inr}
+use Rattle.std.proofs.Common.{◌≡◌, ℕ, zero, suc, ◌+◌, ◌-◌, ◌/◌, ◌%◌, ◌^◌, ◌<◌, ◌≤◌, refl, sym, ◌∙◌, ap, subst, arith, Bool, true, false, cond, not, ◌==◌, List, [], ◌∷◌, ◌++◌, get_or, filter, find, Some, None, inl, inr}
 use Rattle.std.specs.Prelude.{◌⊎◌}
 use Rattle.std.specs.Int.{bit_at, bit_not, trailing_zeros, w64}
 use Rattle.std.proofs.lemmas.Bool.{cases_lt}
+use Rattle.std.proofs.lemmas.List.Elements.{filter-append}
 use Rattle.std.proofs.lemmas.Nat.{shr-shr, shr_below, shr_le}
 use Rattle.std.proofs.lemmas.Nat.Bits.{bit_at_above, bit_at-lt, bit_at_not, bit_at-trailing_zeros, bit_at-zero}
 use Rattle.vox_geom.specs.declared.coordinate.Coord.{Coord}
 use Rattle.vox_geom.specs.Space.{IsInSpace}
 use Rattle.nano_spec.specs.Matrix.{Matrix, is_full}
 use Rattle.nano_spec.specs.Model.{bit}
-use Rattle.vox_planes.specs.Bits.{LacksValue, IsMarked, IsNextBit, has_value}
+use Rattle.vox_planes.specs.Bits.{AreBitsFrom, LacksValue, IsMarked, IsNextBit, has_bit, has_value}
 use Rattle.vox_planes.specs.Layers.{bit_index, is_set, layered}
 use Rattle.vox_planes.specs.Voxel.{is_state}
 use Rattle.vox_planes.specs.Walk.{at, row}
@@ -216,3 +217,83 @@ free_as ws us from s end e value ew es ee f = subst (λ (v : List ℕ). LacksVal
 
 pub next_as : (ws us : List ℕ) (from s i : ℕ) (value : Bool) → ws ≡ us → from ≡ s → IsNextBit ws from i value → IsNextBit us s i value
 next_as ws us from s i value ew es n = subst (λ (v : List ℕ). IsNextBit v s i value) ew (subst (λ (v : ℕ). IsNextBit ws v i value) es n)
+
+-- ---- the list of a row, word by word
+
+row-split : (n : ℕ) (c : Coord) (mid last : ℕ) → n ≡ mid - c.z → c.z ≤ mid → mid ≤ last → row c last ≡ row c mid ++ row (at c (mid + 1)) last
+row-split zero c mid last e l m =
+    let here : c.z ≡ mid = omega arith in
+    row-more c last (omega arith)
+    ∙ (ap (λ z. c ∷ row (at c (z + 1)) last) here
+    ∙ ap (λ xs. xs ++ row (at c (mid + 1)) last) (sym (row-more c mid l ∙ ap (λ xs. c ∷ xs) (row-end (at c (c.z + 1)) mid (omega arith)))))
+row-split (suc n) c mid last e l m =
+    row-more c last (omega arith)
+    ∙ (ap (λ xs. c ∷ xs) (row-split n (at c (c.z + 1)) mid last (omega arith) (omega arith) m)
+    ∙ ap (λ xs. xs ++ row (at c (mid + 1)) last) (sym (row-more c mid l)))
+
+-- two tests that agree on a row keep the same of it
+same_kept : (n : ℕ) (f g : Coord → Bool) (c : Coord) (last : ℕ) → n ≡ last + 1 - c.z → ((z : ℕ) → c.z ≤ z → z ≤ last → f (at c z) ≡ g (at c z)) → filter f (row c last) ≡ filter g (row c last)
+same_kept zero f g c last e h = ap (filter f) (row-end c last (omega arith)) ∙ sym (ap (filter g) (row-end c last (omega arith)))
+same_kept (suc n) f g c last e h =
+    let more = row-more c last (omega arith) in
+    let rest = same_kept n f g (at c (c.z + 1)) last (omega arith) (λ z a b. h z (omega arith) b) in
+    ap (filter f) more
+    ∙ (ap (λ b. cond b (c ∷ filter f (row (at c (c.z + 1)) last)) (filter f (row (at c (c.z + 1)) last))) (h c.z (omega arith) (omega arith))
+    ∙ (ap (λ xs. cond (g c) (c ∷ xs) xs) rest ∙ sym (ap (filter g) more)))
+
+-- a bit of a word of which so many of the lowest bits are gone
+left_bit : (v left s k : ℕ) → left ≡ v / 2 ^ s → bit v (s + k) ≡ bit left k
+left_bit v left s k e = ap (λ n. n == 1) (sym (shifted v s k)) ∙ ap (λ n. bit n k) (sym e)
+
+no_bit : (v left : ℕ) (c : Coord) (z y : ℕ) → left ≡ v / 2 ^ (z - c.z) → c.z ≤ z → z ≤ y → bit_at left (y - z) ≡ 0 → has_bit v c (at c y) ≡ false
+no_bit v left c z y e l m h =
+    let same : y - c.z ≡ z - c.z + (y - z) = omega arith in
+    ap (bit v) same ∙ (left_bit v left (z - c.z) (y - z) e ∙ is_zero left (y - z) h)
+
+-- no bit is left in the row: so none of it is listed
+pub none_left : (v left : ℕ) (c : Coord) (z last : ℕ) → left ≡ v / 2 ^ (z - c.z) → c.z ≤ z → z ≤ last + 1 → ((j : ℕ) → j < last + 1 - z → bit_at left j ≡ 0) → filter (has_bit v c) (row (at c z) last) ≡ []
+none_left v left c z last e l m h =
+    list_ended (has_bit v c) (at c z) last
+    (find_none (has_bit v c) (last + 1 - z) (at c z) last (omega arith) (λ y a b. no_bit v left c z y e l a (h (y - z) (omega arith))))
+
+-- the lowest bit that is left is the next that is listed
+pub next_listed : (v left : ℕ) (c : Coord) (z last t : ℕ) → left ≡ v / 2 ^ (z - c.z) → c.z ≤ z → t < last + 1 - z → bit_at left t ≡ 1 → ((j : ℕ) → j < t → bit_at left j ≡ 0) → filter (has_bit v c) (row (at c z) last) ≡ at c (z + t) ∷ filter (has_bit v c) (row (at c (z + t + 1)) last)
+next_listed v left c z last t e l m one zeros =
+    (head_of (has_bit v c) (at c z) last (at c (z + t))
+    (find_at (has_bit v c) t (at c z) last (z + t) refl (omega arith) hit (λ y a b. no_bit v left c z y e l a (zeros (y - z) (omega arith))))).list
+  where
+    hit : has_bit v c (at c (z + t)) ≡ true
+    hit =
+        let same : z + t - c.z ≡ z - c.z + t = omega arith in
+        ap (bit v) same ∙ (left_bit v left (z - c.z) t e ∙ is_one left t one)
+
+-- what is left of the bits when that one is gone, too
+pub left_after : (v left s t k : ℕ) → left ≡ v / 2 ^ s → k ≡ s + (t + 1) → left / 2 ^ t / 2 ^ 1 ≡ v / 2 ^ k
+left_after v left s t k e f = shr-shr left t 1 ∙ (ap (λ n. n / 2 ^ (t + 1)) e ∙ (shr-shr v s (t + 1) ∙ ap (λ n. v / 2 ^ n) (sym f)))
+
+-- what is marked of a word, shifted down to an index
+pub bits_marked : (ws : List ℕ) (i v : ℕ) (value : Bool) → IsMarked (get_or ws (i / 64) 0) v value → AreBitsFrom ws i (v / 2 ^ (i % 64)) value
+bits_marked ws i v value marks = record {
+  bits = λ k l.
+      ap (λ n. n == 1) (shifted v (i % 64) k) ∙ (marks.bits (i % 64 + k) l ∙ ap (has_value value) (sym (bit_from ws i k l)));
+}
+
+-- the bits of a word of the row, from a place on, tell the voxels up to the end of the word
+pub word_listed : (r : ℕ) (ws us : List ℕ) (m : Matrix) (c : Coord) (z stop last i v : ℕ) (value : Bool) → layered r ws ≡ m → us ≡ ws → IsInSpace r c → last < r → c.z ≤ z → z ≤ stop → stop ≤ last → i ≡ bit_index r c - c.z + z → stop - z + i % 64 < 64 → AreBitsFrom us i v value → filter (is_state m value) (row (at c z) last) ≡ filter (has_bit v (at c z)) (row (at c z) stop) ++ filter (is_state m value) (row (at c (stop + 1)) last)
+word_listed r ws us m c z stop last i v value e f h l low order high place short marks =
+    ap (filter (is_state m value)) (row-split (stop - z) (at c z) stop last refl order high)
+    ∙ (filter-append (is_state m value) (row (at c z) stop) (row (at c (stop + 1)) last)
+    ∙ ap (λ xs. xs ++ filter (is_state m value) (row (at c (stop + 1)) last)) (same_kept (stop + 1 - z) (is_state m value) (has_bit v (at c z)) (at c z) stop refl tells))
+  where
+    state_is : (value b : Bool) (d : Coord) → is_full m d ≡ b → is_state m value d ≡ has_value value b
+    state_is true b d f = f
+    state_is false b d f = ap not f
+
+    tells : (y : ℕ) → z ≤ y → y ≤ stop → is_state m value (at c y) ≡ has_bit v (at c z) (at c y)
+    tells y a b =
+        let index : bit_index r c + (y - c.z) ≡ i + (y - z) = omega arith in
+        state_is value (is_set us (i + (y - z))) (at c y)
+        (ap (λ n. is_full n (at c y)) (sym e)
+        ∙ (bit_of r ws c y h (omega arith) (omega arith)
+        ∙ (ap (is_set ws) index ∙ ap (λ xs. is_set xs (i + (y - z))) (sym f))))
+        ∙ sym (marks.bits (y - z) (omega arith))

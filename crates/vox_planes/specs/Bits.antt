@@ -1,5 +1,6 @@
 -- The next bit of a value among the bits of words.
-use Rattle.std.specs.Prelude.{◌≡◌, ℕ, ◌+◌, ◌*◌, ◌<◌, ◌≤◌, Bool, true, false, cond, not, List, count_by}
+use Rattle.std.specs.Prelude.{◌≡◌, ℕ, ◌+◌, ◌-◌, ◌*◌, ◌%◌, ◌<◌, ◌≤◌, Bool, true, false, cond, not, List, count_by}
+use Rattle.vox_geom.specs.declared.coordinate.Coord.{Coord}
 use Rattle.vox_geom.specs.Space.{numbers_from}
 use Rattle.nano_spec.specs.Model.{bit}
 use Rattle.vox_planes.specs.Layers.{is_set}
@@ -11,6 +12,14 @@ has_value value b = cond value b (not b)
 -- the bits of the word v are 1 where those of the word w have the value
 pub record IsMarked (w v : ℕ) (value : Bool) : Type 0 where
   pub bits : (k : ℕ) → k < 64 → bit v k ≡ has_value value (bit w k)
+
+-- the bits of the word v are 1 where those from an index on to the end of its word have the value
+pub record AreBitsFrom (ws : List ℕ) (from v : ℕ) (value : Bool) : Type 0 where
+  pub bits : (k : ℕ) → from % 64 + k < 64 → bit v k ≡ has_value value (is_set ws (from + k))
+
+-- the bit of a coordinate of a row is 1, the lowest bit being that of the first coordinate
+abbrev pub has_bit : ℕ → Coord → Coord → Bool
+has_bit v first c = bit v (c.z - first.z)
 
 -- no bit of the value stands from an index on and before an end
 pub record LacksValue (ws : List ℕ) (from end : ℕ) (value : Bool) : Type 0 where

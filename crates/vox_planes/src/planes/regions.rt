@@ -1,11 +1,11 @@
 //! Searches and lists over a region, row by row.
-ghost use Rattle.std.specs.Prelude.{◌≡◌, ◌+◌, ◌-◌, ◌*◌, ◌^◌, ◌≤◌, ◌<◌, IfSome, IfNone, ◌++◌, ◌&&◌, not, filter, find, length};
+ghost use Rattle.std.specs.Prelude.{◌≡◌, ◌+◌, ◌-◌, ◌*◌, ◌/◌, ◌^◌, ◌≤◌, ◌<◌, IfSome, IfNone, ◌++◌, ◌&&◌, not, filter, find, length};
 ghost use Rattle.std.specs.Option.{option_or};
 ghost use Rattle.vox_geom.specs.Point.{point};
 ghost use Rattle.vox_geom.specs.Region.{is_within, size, span};
 ghost use Rattle.vox_geom.specs.Space.{IsInSpace, place};
 ghost use Rattle.nano_spec.specs.Matrix.{all_of, is_full};
-ghost use Rattle.vox_planes.specs.Bits.{LacksValue, IsMarked, IsNextBit};
+ghost use Rattle.vox_planes.specs.Bits.{AreBitsFrom, LacksValue, IsMarked, IsNextBit, has_bit};
 ghost use Rattle.vox_planes.specs.Voxel.{is_state};
 ghost use Rattle.vox_planes.specs.Walk.{coordinates_from, passes_in, row, row_start, row_size, wall_size};
 
@@ -121,13 +121,15 @@ impl Planes {
         ensures left { list.old.spare ≤ list.new.spare + (last + 1 - first.z) }
         ensures touches { steps.new ≤ steps.old + (last + 1 - first.z) }
     {
+        let start = bit_index(first, self.resolution) - usize::from(first.z);
         let mut z = first.z;
-        while let Some(c) = self.row_next(Coord { z, ..first }, last, full, steps) {
-            list.push(c);
-            if c.z == last {
-                break;
-            }
-            z = c.z + 1;
+        while z <= last {
+            steps.tick();
+            let at = start + usize::from(z);
+            let bits = bits_from(&self.words, at, full);
+            let stop = last.min(z + (WORD_BITS - 1 - at % WORD_BITS) as u16);
+            list_bits(bits, Coord { z, ..first }, stop, list);
+            z = stop + 1;
         }
     }
 
@@ -204,11 +206,45 @@ impl Planes {
     }
 }
 
+/// Appends the coordinates of a row whose bit is 1, the lowest bit being that of the first.
+#[inline(always)]
+fn list_bits(bits: u64, first: Coord, last: u16, list: &mut ChangeList)
+    requires order { first.z ≤ last }
+    requires end { last < 65535 }
+    requires room { last + 1 - first.z ≤ list.old.spare }
+    ensures items { list.new.items ≡ list.old.items ++ filter (has_bit bits first) (row first last) }
+    ensures room { list.old.spare + length list.old.items ≤ list.new.spare + length list.new.items }
+    ensures left { list.old.spare ≤ list.new.spare + (last + 1 - first.z) }
+{
+    let end = last + 1;
+    let mut left = bits;
+    let mut z = first.z;
+    while left != 0 {
+        let gap = left.trailing_zeros() as u16;
+        if gap >= end - z {
+            break;
+        }
+        z += gap;
+        list.push(Coord { z, ..first });
+        z += 1;
+        left = left >> gap >> 1;
+    }
+}
+
 /// A word whose bits are 1 where those of the given one have the value.
 fn marked(word: u64, value: bool) -> u64
     ensures { IsMarked word result value }
 {
     if value { word } else { !word }
+}
+
+/// The bits of a word from an index on, 1 where they have the value. The lowest is that of the index.
+#[inline(always)]
+fn bits_from(words: &[u64], at: usize, value: bool) -> u64
+    requires { at / 64 < length words.now }
+    ensures { AreBitsFrom words.now at result value }
+{
+    marked(words[at / WORD_BITS], value) >> (at % WORD_BITS)
 }
 
 /// The first bit of a value from one index on and before an end.

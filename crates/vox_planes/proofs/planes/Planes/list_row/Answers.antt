@@ -1,43 +1,30 @@
-use Rattle.std.proofs.Common.{sym, ◌∙◌, ap, arith, ◌++◌, append-nil, length}
-use Rattle.std.proofs.lemmas.List.{length_push}
+use Rattle.std.proofs.Common.{◌≡◌, ℕ, ◌+◌, ◌-◌, sym, ◌∙◌, ap, subst, arith, ◌++◌, append-nil, filter}
+use Rattle.vox_geom.specs.Space.{IsInSpace}
+use Rattle.nano_spec.specs.Matrix.{Matrix}
 use Rattle.vox_planes.specs.Voxel.{is_state}
 use Rattle.vox_planes.specs.Walk.{at}
-use Rattle.vox_planes.proofs.Searches.{head_of, list_ended}
-use Rattle.vox_planes.proofs.Walks.{filter-row_last, pushed}
+use Rattle.vox_planes.proofs.Searches.{word_listed}
+use Rattle.vox_planes.proofs.Walks.{appended, row-end}
 use Rattle.vox_planes.proofs.planes.Planes.list_row.Goals as goal
 
-pub overflow_add-z : goal.overflow_add-z
-overflow_add-z g c =
-    let head = head_of (is_state c.args.self.now c.args.full) (at c.args.first c.loop-c.z) c.args.last c.in-Some.c (sym c.in-Some.ensures.value) in
-    omega (arith, head.high)
-
-pub loop-c-smaller : goal.loop-c-smaller
-loop-c-smaller g c =
-    let head = head_of (is_state c.args.self.now c.args.full) (at c.args.first c.loop-c.z) c.args.last c.in-Some.c (sym c.in-Some.ensures.value) in
-    omega (arith, head.high, head.low)
-
-pub loop-c-preserved : goal.loop-c-preserved
-loop-c-preserved g c =
-    let head = head_of (is_state c.args.self.now c.args.full) (at c.args.first c.loop-c.z) c.args.last c.in-Some.c (sym c.in-Some.ensures.value) in
-    let longer = ap length c.push.ensures.items ∙ length_push c.loop-c.list.items c.in-Some.c in
+pub loop-z-preserved : goal.loop-z-preserved
+loop-z-preserved g c =
+    let r : c.self.inside.resolution ≡ c.args.self.now.resolution = ap (λ (m : Matrix). m.resolution) c.self.view_is in
+    let index : ℕ = c.bit_index.result - c.from.result + c.from-in-loop-z.result in
+    let next = word_listed c.self.inside.resolution c.self.inside.words.items c.deref.result.now c.args.self.now c.args.first c.loop-z.z c.min-stop.result c.args.last index c.bits_from-bits.result c.args.full
+    c.self.view_is c.deref.ensures.value (subst (λ (n : ℕ). IsInSpace n c.args.first) (sym r) c.requires.within) (omega (arith, r, c.requires.end))
+    c.loop-z.invariant.low (omega (arith, c.loop-z-test.true, c.min-stop.ensures)) (omega (arith, c.min-stop.ensures))
+    (omega (arith, c.bit_index.ensures.value, c.from.ensures, c.from-in-loop-z.ensures)) (omega (arith, c.min-stop.ensures, c.loop-z-test.true)) c.bits_from-bits.ensures in
     record {
-      low = omega (arith, head.low, c.loop-c.invariant.low);
-      high = omega (arith, head.high);
-      items = pushed c.loop-c.list.items c.push.new.self.items _ _ c.in-Some.c c.push.ensures.items head.list ∙ c.loop-c.invariant.items;
-      room = omega (arith, longer, c.loop-c.invariant.room, c.push.ensures.room);
-      left = omega (arith, head.low, head.high, c.loop-c.invariant.left, c.push.ensures.room);
-      touches = omega (arith, head.low, head.high, c.loop-c.invariant.touches, c.in-Some.ensures.touches_found);
+      low = omega (arith, c.loop-z.invariant.low, c.loop-z-test.true, c.min-stop.ensures);
+      high = omega (arith, c.min-stop.ensures);
+      items = appended c.loop-z.list.items c.list_bits.new.list.items _ _ _ c.list_bits.ensures.items (sym next) ∙ c.loop-z.invariant.items;
+      room = omega (arith, c.loop-z.invariant.room, c.list_bits.ensures.room);
+      left = omega (arith, c.loop-z.invariant.left, c.list_bits.ensures.left, c.min-stop.ensures, c.loop-z-test.true);
+      touches = omega (arith, c.loop-z.invariant.touches, c.tick.ensures, c.min-stop.ensures, c.loop-z-test.true);
     }
 
-pub returns-then-c-last-clause-items : goal.returns-then-c-last-clause-items
-returns-then-c-last-clause-items g c =
-    let head = head_of (is_state c.args.self.now c.args.full) (at c.args.first c.loop-c.z) c.args.last c.in-Some.c (sym c.in-Some.ensures.value) in
-    let end = filter-row_last (is_state c.args.self.now c.args.full) c.args.first c.args.last c.in-Some.c.z (omega arith) in
-    sym (append-nil c.push.new.self.items)
-    ∙ (ap (λ zs. c.push.new.self.items ++ zs) (sym end)
-    ∙ (pushed c.loop-c.list.items c.push.new.self.items _ _ c.in-Some.c c.push.ensures.items head.list ∙ c.loop-c.invariant.items))
-
-pub returns-in_default-clause-items : goal.returns-in_default-clause-items
-returns-in_default-clause-items g c =
-    let end = list_ended (is_state c.args.self.now c.args.full) (at c.args.first c.loop-c.z) c.args.last (sym c.in_default.ensures.value) in
-    sym (append-nil c.loop-c.list.items) ∙ (ap (λ zs. c.loop-c.list.items ++ zs) (sym end) ∙ c.loop-c.invariant.items)
+pub returns-clause-items : goal.returns-clause-items
+returns-clause-items g c =
+    let none = ap (filter (is_state c.args.self.now c.args.full)) (row-end (at c.args.first c.loop-z.z) c.args.last (omega (arith, c.loop-z-test.false))) in
+    sym (append-nil c.loop-z.list.items) ∙ (ap (λ xs. c.loop-z.list.items ++ xs) (sym none) ∙ c.loop-z.invariant.items)
