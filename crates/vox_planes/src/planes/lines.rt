@@ -4,6 +4,7 @@ ghost use Rattle.vox_geom.specs.Region.{size, span};
 ghost use Rattle.vox_geom.specs.Space.{IsInSpace};
 ghost use Rattle.nano_spec.specs.Matrix.{all_of, is_full};
 ghost use Rattle.vox_planes.specs.Bits.{AreClear, IsFirstBit};
+ghost use Rattle.vox_planes.specs.Layers.{is_set as is_set_of};
 ghost use Rattle.vox_planes.specs.Walk.{passes_in};
 
 use super::{Planes, WORD_BITS, bit_index, is_set, layer_words};
@@ -41,12 +42,12 @@ impl Planes {
         ensures value { result ≡ find (passes_in b.now (is_full self.now)) (all_of self.now) }
         ensures touches { steps.new ≤ steps.old + size (span b.now) }
     {
-        let apart = layer_words(self.resolution) * WORD_BITS;
+        let apart = layer_words(self.resolution);
         let low = b.low();
         let high = b.high();
         let first = bit_index(low, self.resolution);
         let count = high.y - low.y + 1;
-        let Some(n) = next_apart(&self.words, first, apart, count, steps) else {
+        let Some(n) = next_above(&self.words, first, apart, count, steps) else {
             return None;
         };
         Some(Coord {
@@ -79,6 +80,45 @@ fn next_apart<L: Ledger>(
             return Some(n);
         }
         at += apart;
+    }
+    None
+}
+
+/// Whether the bit at a place of a word is 1.
+#[tactic(auto, unfolding(crate::specs::Layers::is_set))]
+#[inline(always)]
+fn is_set_in(words: &[u64], at: usize, place: usize) -> bool
+    requires within { at < length words.now }
+    requires place { place < 64 }
+    ensures { result ≡ is_set_of words.now (at * 64 + place) }
+{
+    (words[at] >> place) % 2 == 1
+}
+
+/// [`next_apart`] of bits that lie so many whole words apart, all at one place of their words.
+#[inline(always)]
+fn next_above<L: Ledger>(
+    words: &[u64],
+    from: usize,
+    apart: usize,
+    count: u16,
+    steps: &mut Steps<L>,
+) -> Option<u16>
+    requires within { (n : ℕ) → n < count → (from + n * (apart * 64)) / 64 < length words.now }
+    requires small { from + count * (apart * 64) < 2 ^ 63 }
+    ensures found { IfSome result (λ n. IsFirstBit words.now from (apart * 64) n) }
+    ensures below { IfSome result (λ n. n < count) }
+    ensures none { IfNone result (AreClear words.now from (apart * 64) count) }
+    ensures touches { steps.new ≤ steps.old + count }
+{
+    let place = from % WORD_BITS;
+    let mut word = from / WORD_BITS;
+    for n in 0..count {
+        steps.tick();
+        if is_set_in(words, word, place) {
+            return Some(n);
+        }
+        word += apart;
     }
     None
 }

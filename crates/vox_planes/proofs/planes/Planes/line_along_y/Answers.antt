@@ -6,8 +6,8 @@ use Rattle.vox_planes.specs.Layers.{bit_index, layer_words}
 use Rattle.vox_planes.proofs.Lines.{all_as, first_as, found_y, none_y, within_y}
 use Rattle.vox_planes.proofs.planes.Planes.line_along_y.Goals as goal
 
-pub next_apart-requires-clause-within : goal.next_apart-requires-clause-within
-next_apart-requires-clause-within g c = λ n l.
+pub next_above-requires-clause-within : goal.next_above-requires-clause-within
+next_above-requires-clause-within g c = λ n l.
     let space = subst (λ (n : ℕ). IsInSpace n c.args.b.now.high) (sym (ap (λ (m : Matrix). m.resolution) c.self.view_is)) c.requires.within in
     let start = c.bit_index-first.ensures.value ∙ ap (bit_index c.self.inside.resolution) c.low-low.ensures.value in
     let low = ap (λ (d : Coord). d.y) c.low-low.ensures.value in
