@@ -3,7 +3,7 @@ use Rattle.std.specs.Prelude.{◌≡◌, ◌≢◌, ℕ, ◌+◌, ◌<◌, ◌�
 use Rattle.nano_spec.specs.declared.commands.Command.{Command}
 use Rattle.nano_spec.specs.Matrix.{Matrix}
 use Rattle.run_progress.specs.Progress as progress
-use Rattle.run_progress.specs.Progress.{Progress}
+use Rattle.run_progress.specs.Progress.{Progress, Pushes}
 use Rattle.step_machine.specs.declared.runner.Mark.{Mark}
 use Rattle.step_machine.specs.declared.runner.Mark.TheVariants as mark
 use Rattle.step_machine.specs.Edits.{is_edit}
@@ -37,6 +37,11 @@ course_of machine pending m = record {
 abbrev pub IsUnderway : Situation → List Command → Mark → Type 0
 IsUnderway machine pending mark.Running = machine.spent ≡ false → length pending < length machine.state.bots
 IsUnderway machine pending _ = Unit {0}
+
+-- steps are made no more, and one command more has come
+pub record IsPassed (old new : Mark) : Type 0 where
+  pub pushes : (p : Progress) (command : Command) → p.mark ≡ mark_by old → Pushes p command (record p { mark = mark_by new })
+  pub ended : new ≡ mark.Running → ⊥
 
 -- one command more makes a step, in which some command fills or voids
 pub record MakesEdits (p : Progress) (command : Command) : Type 0 where

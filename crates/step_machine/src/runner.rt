@@ -6,7 +6,8 @@ ghost use Rattle.nano_spec.specs.Model.{volume};
 ghost use Rattle.nano_spec.specs.Profile.{full_profile};
 ghost use Rattle.nano_spec.specs.Verdict.{VerdictOf};
 ghost use Rattle.run_progress.specs.Progress.{Finishes, Pushes, begun};
-ghost use Rattle.step_machine.specs.Course.{LacksCommands, MakesEdits, MakesNoStep, course_of, searched_by};
+ghost use Rattle.step_machine.specs.declared.runner.Mark.TheVariants as Mark;
+ghost use Rattle.step_machine.specs.Course.{IsPassed, LacksCommands, MakesEdits, MakesNoStep, course_of, searched_by};
 ghost use Rattle.step_machine.specs.Edits.{is_edit};
 ghost use Rattle.step_machine.specs.Payment.{IsWithinWork, IsWithinWorkOfRun};
 ghost use Rattle.step_machine.specs.Stepped.{Stepped};
@@ -94,6 +95,19 @@ fn take<L: Ledger>(
     }
 }
 
+/// The mark after a command where no steps are made any more. In a function of its own what a run asks at each command is one
+/// test.
+#[inline(never)]
+fn passed(mark: Mark) -> Mark
+    requires ended { mark ≡ Mark.Running → ⊥ }
+    ensures { IsPassed mark result }
+{
+    match mark {
+        Mark::Halted => Mark::Followed,
+        Mark::Running | Mark::Refused(_) | Mark::Followed => mark,
+    }
+}
+
 impl Runner {
     /// The run before its first command, over a source whose full voxels are grounded. At most 91 touches for each voxel.
     pub fn start<L: Ledger>(
@@ -136,14 +150,13 @@ impl Runner {
             (λ _. IsWithinWork self.old.progress.state (self.old.progress.pending ++ command ∷ []) (self.old.progress.steps + 1)
             (steps.old + searched_by self.new.progress.mark self.old.progress.state.matrix) steps.new) }
     {
-        match &self.mark {
+        match self.mark {
             Mark::Running => {}
-            Mark::Halted => {
-                self.mark = Mark::Followed;
+            Mark::Refused(_) | Mark::Halted | Mark::Followed => {
+                let mark = passed(self.mark);
+                self.mark = mark;
                 return Ok(());
             }
-            Mark::Refused(_) => return Ok(()),
-            Mark::Followed => return Ok(()),
         }
         match take(&mut self.machine, &mut self.pending, command, steps) {
             None => Ok(()),

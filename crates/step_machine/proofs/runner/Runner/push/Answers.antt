@@ -1,23 +1,19 @@
-use Rattle.std.proofs.Common.{◌∙◌, ◌+◌, ◌++◌, [], ◌∷◌, refl, ap}
-use Rattle.step_machine.specs.Course.{mark_by, searched_by}
+use Rattle.std.proofs.Common.{◌∙◌, ◌+◌, ◌++◌, [], ◌∷◌, refl, ap, subst}
+use Rattle.run_progress.specs.Progress.{Pushes}
+use Rattle.step_machine.specs.Course.{Course, course_of, mark_by, searched_by}
 use Rattle.step_machine.proofs.Running.{halted_mark, made, running_mark}
 use Rattle.step_machine.proofs.Weighing.{untouched_within}
 use Rattle.step_machine.proofs.runner.Runner.push.Goals as goal
 
-pub returns-in-Halted-clause-touches : goal.returns-in-Halted-clause-touches
-returns-in-Halted-clause-touches g c =
-    let p = c.args.self.now.progress in
-    untouched_within p.state (p.pending ++ c.args.command ∷ []) (p.steps + 1) 0 c.args.steps.now c.args.steps.now refl
+pub returns-in-Refused-clause-progress : goal.returns-in-Refused-clause-progress
+returns-in-Refused-clause-progress g c =
+    let seen : Course = course_of c.self.inside.machine c.self.inside.pending c.self.inside.mark in
+    subst (λ (v : Course). Pushes v.progress c.args.command (record seen.progress { mark = mark_by c.passed-mark.result })) c.self.view_is (c.passed-mark.ensures.pushes seen.progress c.args.command refl)
 
 pub returns-in-Refused-clause-touches : goal.returns-in-Refused-clause-touches
 returns-in-Refused-clause-touches g c =
     let p = c.args.self.now.progress in
-    untouched_within p.state (p.pending ++ c.args.command ∷ []) (p.steps + 1) (searched_by p.mark p.state.matrix) c.args.steps.now c.args.steps.now refl
-
-pub returns-in-Followed-clause-touches : goal.returns-in-Followed-clause-touches
-returns-in-Followed-clause-touches g c =
-    let p = c.args.self.now.progress in
-    untouched_within p.state (p.pending ++ c.args.command ∷ []) (p.steps + 1) (searched_by p.mark p.state.matrix) c.args.steps.now c.args.steps.now refl
+    untouched_within p.state (p.pending ++ c.args.command ∷ []) (p.steps + 1) (searched_by (mark_by c.passed-mark.result) p.state.matrix) c.args.steps.now c.args.steps.now refl
 
 pub returns-in-None-clause-touches : goal.returns-in-None-clause-touches
 returns-in-None-clause-touches g c =
