@@ -26,7 +26,7 @@ pub allowed : (m : Matrix) (h : Harmonics) (profile : Profile) (b : Bot) (k : Co
 allowed m h profile b k step o may later energy =
     let s : State = start_of m h profile (b ∷ []) in
     let all : List Act = act b k ∷ [] in
-    by_itself m h profile (b ∷ []) (b ∷ []) (k ∷ []) step o refl refl refl
+    by_itself m h profile (b ∷ []) (k ∷ []) step o refl refl
     (later s all ∙ (sym (skip step b.bid Forbidden (act b k) (not (is_allowed profile k)) (map (λ rule. broken_by step rule b.bid (fault s all (act b k) rule)) later_rules) (ap not may)) ∙ sym (none_after _)))
     energy
 
@@ -37,7 +37,7 @@ one_rises b = search rules
 pub read_once : (m : Matrix) (b : Bot) (k : Command) (before after : ℕ) → after ≤ before + touches_of m (act b k) → after ≤ before + 2 * volatile_total m (acts (b ∷ []) (k ∷ []))
 read_once m b k before after le =
     let e = sum_by-cons (touches_of m) (act b k) [] in
-    touched m (b ∷ []) (b ∷ []) (k ∷ []) before after refl refl (one_rises b) (omega (arith, e, le))
+    touched m (b ∷ []) (k ∷ []) before after refl (one_rises b) (omega (arith, e, le))
 
 -- what holds of filling and of voiding
 pub by_kind : (P : Command → Type 0) (d : Diff) (full : Bool) → P (Fill d) → P (Void d) → P (edit_of full d)

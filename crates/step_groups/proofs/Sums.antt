@@ -74,10 +74,9 @@ module _ (m : Matrix) (all : List Act) (up : Rising (map (λ (x : Act). x.bot) a
           omega (arith, e, p, s)
 
 -- the touches of all bots
-pub touched : (m : Matrix) (bots crew : List Bot) (commands : List Command) (old new : ℕ) → bots ≡ crew → length commands ≡ length crew → AllPairs (λ a b. a.bid < b.bid) crew → new ≤ old + sum_by (touches_of m) (acts bots commands) → new ≤ old + 2 * volatile_total m (acts crew commands)
-touched m bots crew commands old new same lengths rising le =
-    let all : List Act = acts crew commands in
-    let up : Rising (map (λ (x : Act). x.bot) all) = subst (λ (bs : List Bot). Rising bs) (sym (bots_are crew commands lengths)) (rising_is crew rising) in
+pub touched : (m : Matrix) (bots : List Bot) (commands : List Command) (old new : ℕ) → length commands ≡ length bots → AllPairs (λ a b. a.bid < b.bid) bots → new ≤ old + sum_by (touches_of m) (acts bots commands) → new ≤ old + 2 * volatile_total m (acts bots commands)
+touched m bots commands old new lengths rising le =
+    let all : List Act = acts bots commands in
+    let up : Rising (map (λ (x : Act). x.bot) all) = subst (λ (bs : List Bot). Rising bs) (sym (bots_are bots commands lengths)) (rising_is bots rising) in
     let most : sum_by (touches_of m) all ≤ 2 * volatile_total m all = summed m all up all (λ a i. i) in
-    let e : sum_by (touches_of m) (acts bots commands) ≡ sum_by (touches_of m) all = ap (λ bs. sum_by (touches_of m) (acts bs commands)) same in
-    omega (arith, e, most, le)
+    omega (arith, most, le)

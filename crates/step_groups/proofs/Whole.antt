@@ -15,7 +15,9 @@ use Rattle.nano_spec.specs.Matrix.{Matrix}
 use Rattle.nano_spec.specs.Rules.{broken, broken_by, fault, rules_of_bots, judge_bots, judge_pairs, judge_trace}
 use Rattle.nano_spec.specs.State.{State}
 use Rattle.std.specs.Option.{option_or}
+use Rattle.step_groups.specs.declared.step.Step.{Step}
 use Rattle.step_groups.specs.Judging.{judge_bot, judge_each, start_of}
+use Rattle.step_groups.specs.Steps.{acts_of_step, broken_in, start_of_step}
 
 pub first-append : {A : Type 0} (xs ys : List (Option A)) → first_value (xs ++ ys) ≡ option_or (first_value xs) (first_value ys)
 first-append [] ys = refl
@@ -44,25 +46,22 @@ same_start m h profile bots energy all step [] = refl
 same_start m h profile bots energy all step (a ∷ xs) = ap (option_or (judge_bot (start_of m h profile bots) all step a)) (same_start m h profile bots energy all step xs)
 
 -- the first rule that a bot breaks is the first of the step
-pub by_bot : (m : Matrix) (h : Harmonics) (profile : Profile) (bots crew : List Bot) (commands : List Command) (step : ℕ) (o : Option Broken) (b : Broken) → bots ≡ crew → length commands ≡ length crew → o ≡ judge_each (start_of m h profile bots) (acts bots commands) step (acts bots commands) → o ≡ Some b → (energy : ℤ) → broken (record (start_of m h profile crew) { energy = energy }) commands step ≡ Some b
-by_bot m h profile bots crew commands step o b same lengths e f energy =
-    let all : List Act = acts crew commands in
-    let each : judge_each (record (start_of m h profile crew) { energy = energy }) all step all ≡ Some b =
-    same_start m h profile crew energy all step all
-    ∙ (ap (λ bs. judge_each (start_of m h profile bs) (acts bs commands) step (acts bs commands)) (sym same) ∙ (sym e ∙ f)) in
-    whole (record (start_of m h profile crew) { energy = energy }) commands step lengths
-    ∙ ap (λ v. option_or v (first_value (judge_pairs m all step (leaders all)))) each
+pub by_bot : (step : Step) (o : Option Broken) (b : Broken) → length step.commands.now ≡ length step.bots.now → o ≡ judge_each (start_of_step step) (acts_of_step step) step.number (acts_of_step step) → o ≡ Some b → (energy : ℤ) → broken_in step energy ≡ Some b
+by_bot step o b lengths e f energy =
+    let all : List Act = acts_of_step step in
+    let each : judge_each (record (start_of_step step) { energy = energy }) all step.number all ≡ Some b =
+    same_start step.planes.now step.harmonics step.profile step.bots.now energy all step.number all ∙ (sym e ∙ f) in
+    whole (record (start_of_step step) { energy = energy }) step.commands.now step.number lengths
+    ∙ ap (λ v. option_or v (first_value (judge_pairs step.planes.now all step.number (leaders all)))) each
 
 -- where no bot breaks one it is the first pair that interferes
-pub by_pair : (m : Matrix) (h : Harmonics) (profile : Profile) (bots crew : List Bot) (commands : List Command) (step : ℕ) (o p q : Option Broken) → bots ≡ crew → length commands ≡ length crew → o ≡ judge_each (start_of m h profile bots) (acts bots commands) step (acts bots commands) → o ≡ None → p ≡ first_value (judge_pairs m (acts bots commands) step (leaders (acts bots commands))) → p ≡ q → (energy : ℤ) → broken (record (start_of m h profile crew) { energy = energy }) commands step ≡ q
-by_pair m h profile bots crew commands step o p q same lengths e f pairs is energy =
-    let all : List Act = acts crew commands in
-    let each : judge_each (record (start_of m h profile crew) { energy = energy }) all step all ≡ None =
-    same_start m h profile crew energy all step all
-    ∙ (ap (λ bs. judge_each (start_of m h profile bs) (acts bs commands) step (acts bs commands)) (sym same) ∙ (sym e ∙ f)) in
-    whole (record (start_of m h profile crew) { energy = energy }) commands step lengths
-    ∙ (ap (λ v. option_or v (first_value (judge_pairs m all step (leaders all)))) each
-    ∙ (ap (λ bs. first_value (judge_pairs m (acts bs commands) step (leaders (acts bs commands)))) (sym same) ∙ (sym pairs ∙ is)))
+pub by_pair : (step : Step) (o p q : Option Broken) → length step.commands.now ≡ length step.bots.now → o ≡ judge_each (start_of_step step) (acts_of_step step) step.number (acts_of_step step) → o ≡ None → p ≡ first_value (judge_pairs step.planes.now (acts_of_step step) step.number (leaders (acts_of_step step))) → p ≡ q → (energy : ℤ) → broken_in step energy ≡ q
+by_pair step o p q lengths e f pairs is energy =
+    let all : List Act = acts_of_step step in
+    let each : judge_each (record (start_of_step step) { energy = energy }) all step.number all ≡ None =
+    same_start step.planes.now step.harmonics step.profile step.bots.now energy all step.number all ∙ (sym e ∙ f) in
+    whole (record (start_of_step step) { energy = energy }) step.commands.now step.number lengths
+    ∙ (ap (λ v. option_or v (first_value (judge_pairs step.planes.now all step.number (leaders all)))) each ∙ (sym pairs ∙ is))
 
 pub none_after : {A : Type 0} (o : Option A) → option_or o None ≡ o
 none_after None = refl
@@ -86,8 +85,7 @@ single s commands step e f =
     ∙ (ap (option_or (judge_each s all step all)) (alone s.matrix all step s.bots commands e) ∙ none_after (judge_each s all step all))
 
 -- what a single bot breaks is what it breaks by itself
-pub by_itself : (m : Matrix) (h : Harmonics) (profile : Profile) (bots crew : List Bot) (commands : List Command) (step : ℕ) (o : Option Broken) → bots ≡ crew → length crew ≡ 1 → length commands ≡ length crew → o ≡ judge_each (start_of m h profile bots) (acts bots commands) step (acts bots commands) → (energy : ℤ) → o ≡ broken (record (start_of m h profile crew) { energy = energy }) commands step
-by_itself m h profile bots crew commands step o same one lengths e energy =
-    let all : List Act = acts crew commands in
-    e ∙ (ap (λ bs. judge_each (start_of m h profile bs) (acts bs commands) step (acts bs commands)) same
-    ∙ (sym (same_start m h profile crew energy all step all) ∙ sym (single (record (start_of m h profile crew) { energy = energy }) commands step one lengths)))
+pub by_itself : (m : Matrix) (h : Harmonics) (profile : Profile) (bots : List Bot) (commands : List Command) (step : ℕ) (o : Option Broken) → length bots ≡ 1 → length commands ≡ length bots → o ≡ judge_each (start_of m h profile bots) (acts bots commands) step (acts bots commands) → (energy : ℤ) → o ≡ broken (record (start_of m h profile bots) { energy = energy }) commands step
+by_itself m h profile bots commands step o one lengths e energy =
+    let all : List Act = acts bots commands in
+    e ∙ (sym (same_start m h profile bots energy all step all) ∙ sym (single (record (start_of m h profile bots) { energy = energy }) commands step one lengths))

@@ -3,3 +3,4 @@ pub mod Boxes
 pub mod Groups
 pub mod Apart
 pub mod Outlines
+pub mod Steps

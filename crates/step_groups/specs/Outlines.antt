@@ -3,6 +3,7 @@ use Rattle.std.specs.Prelude.{◌≡◌, ◌≤◌, true, List, IsTrue}
 use Rattle.std.specs.List.{list_any}
 use Rattle.vox_geom.specs.declared.coordinate.Coord.{Coord}
 use Rattle.vox_geom.specs.Point.{point}
+use Rattle.vox_geom.specs.Region.{Corners, is_within, span}
 use Rattle.nano_spec.specs.Act.{Act}
 use Rattle.nano_spec.specs.Volatile.{is_volatile_of}
 use Rattle.step_groups.specs.declared.one_pass.Outline.{Outline}
@@ -27,6 +28,10 @@ pub record TakesIn (P : Coord → Type 0) (old new : Outline) : Type 0 where
 -- a coordinate is volatile for the bot
 abbrev pub IsVolatileFor : Act → Coord → Type 0
 IsVolatileFor a c = IsTrue (is_volatile_of (point c) a)
+
+-- a box holds each coordinate that is volatile for the bot
+abbrev pub IsHullFor : Act → Corners → Type 0
+IsHullFor a k = (c : Coord) → IsVolatileFor a c → IsTrue (is_within (span k) (point c))
 
 -- what the box says of these bots
 pub record IsOutlineOf (outline : Outline) (xs : List Act) : Type 0 where

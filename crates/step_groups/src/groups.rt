@@ -1,26 +1,24 @@
 //! The groups of a step.
-ghost use Rattle.std.specs.Prelude.{◌≡◌, ◌+◌, ◌≤◌, ◌<◌, ◌*◌, ℤ, length, [], ◌∷◌, All, IsTrue, IfErr, IfOk, OnErr, OnOk, Some, None};
+ghost use Rattle.std.specs.Prelude.{◌≡◌, ◌+◌, ◌≤◌, ◌*◌, ℤ, [], ◌∷◌, All, IsTrue, IfErr, IfOk, OnErr, OnOk, Some, None};
 ghost use Rattle.std.specs.List.{list_all};
-ghost use Rattle.vox_geom.specs.Space.{IsInSpace};
-ghost use Rattle.nano_spec.specs.Act.{acts};
 ghost use Rattle.nano_spec.specs.Group.{leaders, members};
-ghost use Rattle.nano_spec.specs.Rules.{broken};
 ghost use Rattle.nano_spec.specs.Work.{volatile_total};
 ghost use Rattle.step_groups.specs.Groups.{AreGroups};
-ghost use Rattle.step_groups.specs.Judging.{is_alone, start_of};
+ghost use Rattle.step_groups.specs.Judging.{is_alone};
+ghost use Rattle.step_groups.specs.Steps.{CanBeJudged, acts_of_step, broken_in};
 
 use crate::apart::are_apart;
-use crate::members::gather;
+use crate::members::list_groups;
 use crate::one_pass::judge_apart;
 use crate::pairs::judge_pairs;
-use crate::rules::{Step, judge_bots};
+use crate::rules::judge_bots;
+use crate::step::Step;
 use arrayvec::ArrayVec;
-use bot_crew::{Crew, MOST_BOTS};
-use nano_spec::{Broken, Command, Harmonics, Profile};
+use bot_crew::MOST_BOTS;
+use nano_spec::Broken;
 use std::marker::Model;
 use std::sync::ledger::Ledger;
 use vox_geom::{Region, Steps};
-use vox_planes::Planes;
 
 /// Bots that act together (docs/FORMATS.md, "Groups"), and the boxes that together hold what is volatile for them.
 /// The leader is the least bid. The members, the leader among them, are in rising order.
@@ -76,41 +74,20 @@ impl Groups {
     /// Judges a step by the rules that ask for no other state than the one at its start: for each bot whether its command is
     /// allowed and then the rules of single bots, and at last whether groups interfere. The groups are then those of the step;
     /// where a rule is broken there are none. A list of groups that is kept from step to step is not filled anew.
-    pub fn judge<L: Ledger>(
-        &mut self,
-        crew: &Crew,
-        planes: &Planes,
-        harmonics: Harmonics,
-        profile: Profile,
-        commands: &[Command],
-        step: u32,
-        steps: &mut Steps<L>,
-    ) -> Result<(), Broken>
-        requires lengths { length commands.now ≡ length crew.now }
-        requires within { All (λ b. IsInSpace planes.now.resolution b.pos) crew.now }
-        ensures broken { IfErr result
-            (λ b. (energy : ℤ) → broken (record (start_of planes.now harmonics profile crew.now) { energy = energy }) commands.now step ≡ Some b) }
-        ensures unbroken { OnOk result
-            ((energy : ℤ) → broken (record (start_of planes.now harmonics profile crew.now) { energy = energy }) commands.now step ≡ None) }
-        ensures groups { OnOk result (AreGroups planes.now.resolution (acts crew.now commands.now) (leaders (acts crew.now commands.now)) self.new) }
+    pub fn judge<L: Ledger>(&mut self, step: &Step, steps: &mut Steps<L>) -> Result<(), Broken>
+        requires { CanBeJudged step.now }
+        ensures broken { IfErr result (λ b. (energy : ℤ) → broken_in step.now energy ≡ Some b) }
+        ensures unbroken { OnOk result ((energy : ℤ) → broken_in step.now energy ≡ None) }
+        ensures groups { OnOk result (AreGroups step.now.planes.now.resolution (acts_of_step step.now) (leaders (acts_of_step step.now)) self.new) }
         ensures none { OnErr result (self.new ≡ []) }
-        ensures touches { steps.new ≤ steps.old + 2 * volatile_total planes.now (acts crew.now commands.now) }
+        ensures touches { steps.new ≤ steps.old + 2 * volatile_total step.now.planes.now (acts_of_step step.now) }
     {
-        let bots = crew.bots();
-        let judged = Step {
-            planes,
-            harmonics,
-            profile,
-            bots,
-            commands,
-            number: step,
-        };
         self.groups.clear();
-        if let Some(broken) = judge_bots(&judged, steps) {
+        if let Some(broken) = judge_bots(step, steps) {
             return Err(broken);
         }
-        gather(&mut self.groups, planes, bots, commands);
-        if let Some(broken) = judge_pairs(self.groups.as_slice(), step) {
+        list_groups(&mut self.groups, step.planes, step.bots, step.commands);
+        if let Some(broken) = judge_pairs(self.groups.as_slice(), step.number) {
             self.groups.clear();
             return Err(broken);
         }
@@ -120,70 +97,40 @@ impl Groups {
     /// Judges a step in which each command needs no other bot, so that each bot is a group of its own: the first rule that is
     /// broken. Mostly each bot is beside the box around those before it, or else boxes around what is volatile for the bots are
     /// apart: no group is made.
-    pub fn judge_lone<L: Ledger>(
-        &mut self,
-        crew: &Crew,
-        planes: &Planes,
-        harmonics: Harmonics,
-        profile: Profile,
-        commands: &[Command],
-        step: u32,
-        steps: &mut Steps<L>,
-    ) -> Option<Broken>
-        requires lengths { length commands.now ≡ length crew.now }
-        requires within { All (λ b. IsInSpace planes.now.resolution b.pos) crew.now }
-        requires lone { IsTrue (list_all is_alone commands.now) }
-        ensures value { (energy : ℤ) → result ≡ broken (record (start_of planes.now harmonics profile crew.now) { energy = energy }) commands.now step }
-        ensures leads { leaders (acts crew.now commands.now) ≡ acts crew.now commands.now }
-        ensures alone { All (λ a. members (acts crew.now commands.now) a ≡ a ∷ []) (acts crew.now commands.now) }
-        ensures touches { steps.new ≤ steps.old + 2 * volatile_total planes.now (acts crew.now commands.now) }
+    pub fn judge_lone<L: Ledger>(&mut self, step: &Step, steps: &mut Steps<L>) -> Option<Broken>
+        requires step { CanBeJudged step.now }
+        requires lone { IsTrue (list_all is_alone step.now.commands.now) }
+        ensures value { (energy : ℤ) → result ≡ broken_in step.now energy }
+        ensures leads { leaders (acts_of_step step.now) ≡ acts_of_step step.now }
+        ensures alone { All (λ a. members (acts_of_step step.now) a ≡ a ∷ []) (acts_of_step step.now) }
+        ensures touches { steps.new ≤ steps.old + 2 * volatile_total step.now.planes.now (acts_of_step step.now) }
     {
-        let bots = crew.bots();
-        let judged = Step {
-            planes,
-            harmonics,
-            profile,
-            bots,
-            commands,
-            number: step,
-        };
-        let apart = match judge_apart(&judged, steps) {
+        let apart = match judge_apart(step, steps) {
             Ok(apart) => apart,
             Err(broken) => return Some(broken),
         };
         if apart {
             return None;
         }
-        if are_apart(planes, bots, commands) {
+        if are_apart(step.planes, step.bots, step.commands) {
             return None;
         }
         self.groups.clear();
-        gather(&mut self.groups, planes, bots, commands);
-        judge_pairs(self.groups.as_slice(), step)
+        list_groups(&mut self.groups, step.planes, step.bots, step.commands);
+        judge_pairs(self.groups.as_slice(), step.number)
     }
 }
 
 /// Judges a step as [`Groups::judge`] does, and gives its groups.
-pub fn judge_groups<L: Ledger>(
-    crew: &Crew,
-    planes: &Planes,
-    harmonics: Harmonics,
-    profile: Profile,
-    commands: &[Command],
-    step: u32,
-    steps: &mut Steps<L>,
-) -> Result<Groups, Broken>
-    requires lengths { length commands.now ≡ length crew.now }
-    requires within { All (λ b. IsInSpace planes.now.resolution b.pos) crew.now }
-    ensures broken { IfErr result
-        (λ b. (energy : ℤ) → broken (record (start_of planes.now harmonics profile crew.now) { energy = energy }) commands.now step ≡ Some b) }
-    ensures unbroken { OnOk result
-        ((energy : ℤ) → broken (record (start_of planes.now harmonics profile crew.now) { energy = energy }) commands.now step ≡ None) }
-    ensures groups { IfOk result (λ g. AreGroups planes.now.resolution (acts crew.now commands.now) (leaders (acts crew.now commands.now)) g) }
-    ensures touches { steps.new ≤ steps.old + 2 * volatile_total planes.now (acts crew.now commands.now) }
+pub fn judge_groups<L: Ledger>(step: &Step, steps: &mut Steps<L>) -> Result<Groups, Broken>
+    requires { CanBeJudged step.now }
+    ensures broken { IfErr result (λ b. (energy : ℤ) → broken_in step.now energy ≡ Some b) }
+    ensures unbroken { OnOk result ((energy : ℤ) → broken_in step.now energy ≡ None) }
+    ensures groups { IfOk result (AreGroups step.now.planes.now.resolution (acts_of_step step.now) (leaders (acts_of_step step.now))) }
+    ensures touches { steps.new ≤ steps.old + 2 * volatile_total step.now.planes.now (acts_of_step step.now) }
 {
     let mut groups = Groups::new();
-    match groups.judge(crew, planes, harmonics, profile, commands, step, steps) {
+    match groups.judge(step, steps) {
         Ok(()) => Ok(groups),
         Err(broken) => Err(broken),
     }

@@ -12,6 +12,7 @@ mod partners;
 mod rules;
 mod shapes;
 mod single;
+mod step;
 mod volatile;
 
 pub use apart::all_act_alone;
@@ -20,6 +21,7 @@ pub use leading::leaders;
 pub use members::{acts_alone, has_mate};
 pub use partners::are_together;
 pub use single::{judge_edit, judge_move, judge_single};
+pub use step::Step;
 
 #[cfg(test)]
 mod tests;

@@ -150,7 +150,7 @@ fn push_group(
 }
 
 /// The groups of the bots, in rising order of their leaders, added to none.
-pub(crate) fn gather(
+pub(crate) fn list_groups(
     groups: &mut ArrayVec<Group, MOST_BOTS>,
     planes: &Planes,
     bots: &[Bot],

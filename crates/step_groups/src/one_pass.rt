@@ -1,21 +1,21 @@
 //! The judgement of bots each of which acts alone, and whether they are apart, in one pass: by one box around all that is
 //! volatile for the bots so far.
-ghost use Rattle.std.specs.Prelude.{◌≡◌, ◌+◌, ◌≤◌, ◌||◌, nat_lt, true, length, List, All, IfNone, IfOk, IsTrue, sum_by};
+ghost use Rattle.std.specs.Prelude.{◌≡◌, ◌+◌, ◌≤◌, ◌||◌, nat_lt, true, length, List, IfNone, IfOk, IsTrue, sum_by};
 ghost use Rattle.vox_geom.specs.declared.coordinate.Coord.{Coord as Coordinate};
 ghost use Rattle.vox_geom.specs.Point.{point};
 ghost use Rattle.vox_geom.specs.Region.{is_within, span};
 ghost use Rattle.vox_geom.specs.Space.{IsInSpace};
-ghost use Rattle.nano_spec.specs.declared.commands.Command.TheVariants.{Fill, LMove, SMove, Void};
-ghost use Rattle.nano_spec.specs.Act.{Act, acts};
+ghost use Rattle.nano_spec.specs.declared.commands.Command.TheVariants.{Fill, SMove, Void};
+ghost use Rattle.nano_spec.specs.Act.{Act};
 ghost use Rattle.nano_spec.specs.State.{State};
 ghost use Rattle.step_groups.specs.Apart.{AreAllApart};
-ghost use Rattle.step_groups.specs.Judging.{act, first_fault, judge_bot as judge_bot_of, judge_each, later_rules, rule_broken, start_of, touches_of};
-ghost use Rattle.step_groups.specs.Outlines.{LiesBetween, IsVolatileFor, TakesIn};
+ghost use Rattle.step_groups.specs.Judging.{act, first_fault, judge_bot as judge_bot_of, judge_each, later_rules, rule_broken, touches_of};
+ghost use Rattle.step_groups.specs.Outlines.{IsHullFor, IsVolatileFor, LiesBetween, TakesIn};
+ghost use Rattle.step_groups.specs.Steps.{CanBeJudged, CanJudge, acts_of_step, later_fault, start_of_step};
 
 use crate::boxes::around;
-use crate::rules::{
-    Step, breaks, broken_here, earlier, end_of_move, judge_later, judge_still, named_by, reached,
-};
+use crate::rules::{broken_here, end_of_move, hull_of_moves, judge_later, named_by};
+use crate::step::Step;
 use crate::volatile::own_hull;
 use nano_spec::{Bot, Broken, Command, Rule};
 use std::sync::ledger::Ledger;
@@ -73,84 +73,36 @@ fn take_in(outline: &mut Outline, hull: &Region)
     };
 }
 
-/// The first rule that a bot with `SMove` breaks. Where it breaks none its way is taken in.
+/// The box of the way of a bot with `SMove`, or the first rule that it breaks.
 #[inline(always)]
-fn judge_way<L: Ledger>(
+fn hull_of_move<L: Ledger>(
     planes: &Planes,
     step: u32,
     bot: Bot,
     d: Diff,
-    outline: &mut Outline,
-    steps: &mut Steps<L>,
-) -> Option<Broken>
-    requires { IsInSpace planes.now.resolution bot.pos }
-    ensures value { (s : State) (all : List Act) → result ≡ first_fault (record s { matrix = planes.now }) all step (act bot (SMove d)) later_rules }
-    ensures outline { IfNone result (TakesIn (IsVolatileFor (act bot (SMove d))) outline.old outline.new) }
-    ensures touches { steps.new ≤ steps.old + touches_of planes.now (act bot (SMove d)) }
-{
-    match end_of_move(planes, step, bot, d, steps) {
-        Ok(to) => {
-            take_in(outline, &Region::of(bot.pos, to));
-            None
-        }
-        Err(broken) => Some(broken),
-    }
-}
-
-/// The first rule that a bot with `Fill` or `Void` breaks. Where it breaks none its voxel is taken in.
-#[inline(always)]
-fn judge_named(
-    planes: &Planes,
-    step: u32,
-    bot: Bot,
-    d: Diff,
-    outline: &mut Outline,
-) -> Option<Broken>
-    requires { IsInSpace planes.now.resolution bot.pos }
-    ensures fill { (s : State) (all : List Act) → result ≡ first_fault (record s { matrix = planes.now }) all step (act bot (Fill d)) later_rules }
-    ensures void { (s : State) (all : List Act) → result ≡ first_fault (record s { matrix = planes.now }) all step (act bot (Void d)) later_rules }
-    ensures filled { IfNone result (TakesIn (IsVolatileFor (act bot (Fill d))) outline.old outline.new) }
-    ensures voided { IfNone result (TakesIn (IsVolatileFor (act bot (Void d))) outline.old outline.new) }
-{
-    match named_by(planes, step, bot, d) {
-        Ok(at) => {
-            take_in(outline, &Region::of(bot.pos, at));
-            None
-        }
-        Err(broken) => Some(broken),
-    }
-}
-
-/// A box around the ways of a bot with `LMove`, or the first rule that it breaks.
-#[inline(always)]
-fn judge_ways<L: Ledger>(
-    planes: &Planes,
-    step: u32,
-    bot: Bot,
-    d: Diff,
-    e: Diff,
     steps: &mut Steps<L>,
 ) -> Result<Region, Broken>
     requires { IsInSpace planes.now.resolution bot.pos }
     ensures value { (s : State) (all : List Act)
-        → rule_broken result ≡ first_fault (record s { matrix = planes.now }) all step (act bot (LMove d e)) later_rules }
-    ensures hull { IfOk result (λ k. (c : Coordinate) → IsVolatileFor (act bot (LMove d e)) c → IsTrue (is_within (span k) (point c))) }
-    ensures touches { steps.new ≤ steps.old + touches_of planes.now (act bot (LMove d e)) }
+        → rule_broken result ≡ first_fault (record s { matrix = planes.now }) all step (act bot (SMove d)) later_rules }
+    ensures hull { IfOk result (IsHullFor (act bot (SMove d))) }
+    ensures touches { steps.new ≤ steps.old + touches_of planes.now (act bot (SMove d)) }
 {
-    let Some(mid) = reached(planes, bot.pos, d) else {
-        return Err(breaks(step, bot, Rule::OutOfSpace, bot.pos));
-    };
-    let Some(to) = reached(planes, mid, e) else {
-        return Err(breaks(step, bot, Rule::OutOfSpace, bot.pos));
-    };
-    let first_way = Region::of(bot.pos, mid);
-    let second_way = Region::of(mid, to);
-    let first = planes.region_full(&first_way, steps);
-    let second = planes.region_full(&second_way, steps);
-    match earlier(first, second) {
-        None => Ok(around(&first_way, &second_way)),
-        Some(at) => Err(breaks(step, bot, Rule::Blocked, at)),
-    }
+    let to = end_of_move(planes, step, bot, d, steps)?;
+    Ok(Region::of(bot.pos, to))
+}
+
+/// A box around a bot with `Fill` or `Void` and the voxel that it names, or the first rule that it breaks.
+#[inline(always)]
+fn hull_of_edit(planes: &Planes, step: u32, bot: Bot, d: Diff) -> Result<Region, Broken>
+    requires { IsInSpace planes.now.resolution bot.pos }
+    ensures fill { (s : State) (all : List Act) → rule_broken result ≡ first_fault (record s { matrix = planes.now }) all step (act bot (Fill d)) later_rules }
+    ensures void { (s : State) (all : List Act) → rule_broken result ≡ first_fault (record s { matrix = planes.now }) all step (act bot (Void d)) later_rules }
+    ensures filled { IfOk result (IsHullFor (act bot (Fill d))) }
+    ensures voided { IfOk result (IsHullFor (act bot (Void d))) }
+{
+    let at = named_by(planes, step, bot, d)?;
+    Ok(Region::of(bot.pos, at))
 }
 
 /// A box around all that is volatile for a bot, or the first rule after the one on the profile that it breaks.
@@ -160,12 +112,9 @@ fn judge_other<L: Ledger>(
     command: &Command,
     steps: &mut Steps<L>,
 ) -> Result<Region, Broken>
-    requires within { IsInSpace step.now.planes.now.resolution bot.now.pos }
-    requires lengths { length step.now.commands.now ≡ length step.now.bots.now }
-    ensures value { (s : State)
-        → rule_broken result ≡ first_fault (record s { matrix = step.now.planes.now; harmonics = step.now.harmonics; bots = step.now.bots.now })
-        (acts step.now.bots.now step.now.commands.now) step.now.number (act bot.now command.now) later_rules }
-    ensures hull { IfOk result (λ k. (c : Coordinate) → IsVolatileFor (act bot.now command.now) c → IsTrue (is_within (span k) (point c))) }
+    requires { CanJudge step.now bot.now }
+    ensures value { rule_broken result ≡ later_fault step.now (act bot.now command.now) }
+    ensures hull { IfOk result (IsHullFor (act bot.now command.now)) }
     ensures touches { steps.new ≤ steps.old + touches_of step.now.planes.now (act bot.now command.now) }
 {
     if let Some(broken) = judge_later(step, bot, command, steps) {
@@ -174,53 +123,34 @@ fn judge_other<L: Ledger>(
     Ok(own_hull(step.planes, bot, command))
 }
 
-/// The first rule after the one on the profile that a bot breaks. Where it breaks none, what is volatile for it is taken in.
+/// The same, where the commands that most of many bots have are judged at once.
 #[inline(always)]
-fn judge_inside<L: Ledger>(
+fn judge_hull<L: Ledger>(
     step: &Step,
     bot: &Bot,
     command: &Command,
-    outline: &mut Outline,
     steps: &mut Steps<L>,
-) -> Option<Broken>
-    requires within { IsInSpace step.now.planes.now.resolution bot.now.pos }
-    requires lengths { length step.now.commands.now ≡ length step.now.bots.now }
-    ensures value { (s : State)
-        → result ≡ first_fault (record s { matrix = step.now.planes.now; harmonics = step.now.harmonics; bots = step.now.bots.now })
-        (acts step.now.bots.now step.now.commands.now) step.now.number (act bot.now command.now) later_rules }
-    ensures outline { IfNone result (TakesIn (IsVolatileFor (act bot.now command.now)) outline.old outline.new) }
+) -> Result<Region, Broken>
+    requires { CanJudge step.now bot.now }
+    ensures value { rule_broken result ≡ later_fault step.now (act bot.now command.now) }
+    ensures hull { IfOk result (IsHullFor (act bot.now command.now)) }
     ensures touches { steps.new ≤ steps.old + touches_of step.now.planes.now (act bot.now command.now) }
 {
     let planes = step.planes;
     let number = step.number;
     match command {
-        Command::Wait => {
-            take_in(outline, &Region::of(bot.pos, bot.pos));
-            judge_still(number, *bot)
-        }
-        Command::SMove(d) => judge_way(planes, number, *bot, d.diff(), outline, steps),
-        Command::LMove(d, e) => match judge_ways(planes, number, *bot, d.diff(), e.diff(), steps) {
-            Ok(hull) => {
-                take_in(outline, &hull);
-                None
-            }
-            Err(broken) => Some(broken),
-        },
-        Command::Fill(d) => judge_named(planes, number, *bot, d.diff(), outline),
-        Command::Void(d) => judge_named(planes, number, *bot, d.diff(), outline),
+        Command::Wait => Ok(Region::of(bot.pos, bot.pos)),
+        Command::SMove(d) => hull_of_move(planes, number, *bot, d.diff(), steps),
+        Command::LMove(d, e) => hull_of_moves(planes, number, *bot, d.diff(), e.diff(), steps),
+        Command::Fill(d) => hull_of_edit(planes, number, *bot, d.diff()),
+        Command::Void(d) => hull_of_edit(planes, number, *bot, d.diff()),
         Command::Halt
         | Command::Flip
         | Command::FusionP(_)
         | Command::FusionS(_)
         | Command::Fission(_, _)
         | Command::GFill(_, _)
-        | Command::GVoid(_, _) => match judge_other(step, bot, command, steps) {
-            Ok(hull) => {
-                take_in(outline, &hull);
-                None
-            }
-            Err(broken) => Some(broken),
-        },
+        | Command::GVoid(_, _) => judge_other(step, bot, command, steps),
     }
 }
 
@@ -233,17 +163,20 @@ fn judge_next<L: Ledger>(
     outline: &mut Outline,
     steps: &mut Steps<L>,
 ) -> Option<Broken>
-    requires within { IsInSpace step.now.planes.now.resolution bot.now.pos }
-    requires lengths { length step.now.commands.now ≡ length step.now.bots.now }
-    ensures value { result ≡ judge_bot_of (start_of step.now.planes.now step.now.harmonics step.now.profile step.now.bots.now)
-        (acts step.now.bots.now step.now.commands.now) step.now.number (act bot.now command.now) }
+    requires { CanJudge step.now bot.now }
+    ensures value { result ≡ judge_bot_of (start_of_step step.now) (acts_of_step step.now) step.now.number (act bot.now command.now) }
     ensures outline { IfNone result (TakesIn (IsVolatileFor (act bot.now command.now)) outline.old outline.new) }
     ensures touches { steps.new ≤ steps.old + touches_of step.now.planes.now (act bot.now command.now) }
 {
-    if step.profile.allows(*command) {
-        judge_inside(step, bot, command, outline, steps)
-    } else {
-        broken_here(step.number, *bot, Rule::Forbidden)
+    if !step.profile.allows(*command) {
+        return broken_here(step.number, *bot, Rule::Forbidden);
+    }
+    match judge_hull(step, bot, command, steps) {
+        Ok(hull) => {
+            take_in(outline, &hull);
+            None
+        }
+        Err(broken) => Some(broken),
     }
 }
 
@@ -251,12 +184,11 @@ fn judge_next<L: Ledger>(
 /// its own the loop has all registers.
 #[inline(never)]
 pub(crate) fn judge_apart<L: Ledger>(step: &Step, steps: &mut Steps<L>) -> Result<bool, Broken>
-    requires within { All (λ b. IsInSpace step.now.planes.now.resolution b.pos) step.now.bots.now }
-    requires lengths { length step.now.commands.now ≡ length step.now.bots.now }
-    ensures value { rule_broken result ≡ judge_each (start_of step.now.planes.now step.now.harmonics step.now.profile step.now.bots.now)
-        (acts step.now.bots.now step.now.commands.now) step.now.number (acts step.now.bots.now step.now.commands.now) }
-    ensures apart { IfOk result (λ apart. apart ≡ true → AreAllApart (acts step.now.bots.now step.now.commands.now)) }
-    ensures touches { steps.new ≤ steps.old + sum_by (touches_of step.now.planes.now) (acts step.now.bots.now step.now.commands.now) }
+    requires { CanBeJudged step.now }
+    ensures value { rule_broken result ≡ judge_each (start_of_step step.now)
+        (acts_of_step step.now) step.now.number (acts_of_step step.now) }
+    ensures apart { IfOk result (λ apart. apart ≡ true → AreAllApart (acts_of_step step.now)) }
+    ensures touches { steps.new ≤ steps.old + sum_by (touches_of step.now.planes.now) (acts_of_step step.now) }
 {
     let bots = step.bots;
     let commands = step.commands;

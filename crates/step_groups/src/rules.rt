@@ -1,33 +1,26 @@
 //! The rules that are judged for each bot.
-ghost use Rattle.std.specs.Prelude.{◌≡◌, ◌+◌, ◌≤◌, length, List, Some, IsTrue, IsFalse, IfOk, IfSome, IfNone, ℕ, Bool, cond, nat_le, All, sum_by};
+ghost use Rattle.std.specs.Prelude.{◌≡◌, ◌+◌, ◌≤◌, length, List, Some, IsTrue, IsFalse, IfOk, IfSome, IfNone, ℕ, Bool, cond, nat_le, sum_by};
 ghost use Rattle.vox_geom.specs.Space.{IsInSpace, in_space};
 ghost use Rattle.vox_geom.specs.Point.{point, plus};
 ghost use Rattle.nano_spec.specs.declared.commands.Command.TheVariants.{Halt, Wait, Flip, SMove, LMove, FusionP, FusionS, Fission as FissionOf, Fill, Void, GFill, GVoid};
-ghost use Rattle.nano_spec.specs.Act.{Act, acts};
+ghost use Rattle.nano_spec.specs.Act.{Act};
 ghost use Rattle.nano_spec.specs.Rules.{broken_by};
 ghost use Rattle.nano_spec.specs.State.{State, seed_list};
 ghost use Rattle.vox_geom.specs.Space.{is_before as is_before_of};
 ghost use Rattle.vox_planes.specs.Difference.{earlier as earlier_of};
-ghost use Rattle.step_groups.specs.Judging.{act, rule_broken, first_fault, judge_bot as judge_bot_of, later_rules, start_of, judge_each, touches_of};
+ghost use Rattle.step_groups.specs.Judging.{act, rule_broken, first_fault, judge_bot as judge_bot_of, later_rules, judge_each, touches_of};
+ghost use Rattle.step_groups.specs.Outlines.{IsHullFor};
+ghost use Rattle.step_groups.specs.Steps.{CanBeJudged, CanJudge, acts_of_step, later_fault, start_of_step};
 
+use crate::boxes::around;
 use crate::partners::has_partner;
 use crate::shapes::is_misshapen;
+use crate::step::Step;
 use bot_crew::seeds_of;
-use nano_spec::{Bot, Broken, Command, Harmonics, Profile, Rule};
+use nano_spec::{Bot, Broken, Command, Harmonics, Rule};
 use std::sync::ledger::Ledger;
 use vox_geom::{Coord, Diff, Region, Steps};
 use vox_planes::Planes;
-
-/// A step to be judged.
-#[derive(Clone, Copy)]
-pub(crate) struct Step<'a> {
-    pub(crate) planes: &'a Planes,
-    pub(crate) harmonics: Harmonics,
-    pub(crate) profile: Profile,
-    pub(crate) bots: &'a [Bot],
-    pub(crate) commands: &'a [Command],
-    pub(crate) number: u32,
-}
 
 /// The rule is broken at the coordinate, if there is one.
 fn broken_where(step: u32, bot: Bot, rule: Rule, at: Option<Coord>) -> Option<Broken>
@@ -169,6 +162,38 @@ pub(crate) fn earlier(a: Option<Coord>, b: Option<Coord>) -> Option<Coord>
     }
 }
 
+/// A box around the ways of a bot with `LMove`, or the first rule that it breaks.
+#[inline(always)]
+pub(crate) fn hull_of_moves<L: Ledger>(
+    planes: &Planes,
+    step: u32,
+    bot: Bot,
+    d: Diff,
+    e: Diff,
+    steps: &mut Steps<L>,
+) -> Result<Region, Broken>
+    requires { IsInSpace planes.now.resolution bot.pos }
+    ensures value { (s : State) (all : List Act)
+        → rule_broken result ≡ first_fault (record s { matrix = planes.now }) all step (act bot (LMove d e)) later_rules }
+    ensures hull { IfOk result (IsHullFor (act bot (LMove d e))) }
+    ensures touches { steps.new ≤ steps.old + touches_of planes.now (act bot (LMove d e)) }
+{
+    let Some(mid) = reached(planes, bot.pos, d) else {
+        return Err(breaks(step, bot, Rule::OutOfSpace, bot.pos));
+    };
+    let Some(to) = reached(planes, mid, e) else {
+        return Err(breaks(step, bot, Rule::OutOfSpace, bot.pos));
+    };
+    let first_way = Region::of(bot.pos, mid);
+    let second_way = Region::of(mid, to);
+    let first = planes.region_full(&first_way, steps);
+    let second = planes.region_full(&second_way, steps);
+    match earlier(first, second) {
+        None => Ok(around(&first_way, &second_way)),
+        Some(at) => Err(breaks(step, bot, Rule::Blocked, at)),
+    }
+}
+
 /// The first rule that a bot with `LMove` breaks.
 fn judge_lmove<L: Ledger>(
     planes: &Planes,
@@ -182,15 +207,10 @@ fn judge_lmove<L: Ledger>(
     ensures value { (s : State) (all : List Act) → result ≡ first_fault (record s { matrix = planes.now }) all step (act bot (LMove d e)) later_rules }
     ensures touches { steps.new ≤ steps.old + touches_of planes.now (act bot (LMove d e)) }
 {
-    let Some(mid) = reached(planes, bot.pos, d) else {
-        return broken_here(step, bot, Rule::OutOfSpace);
-    };
-    let Some(to) = reached(planes, mid, e) else {
-        return broken_here(step, bot, Rule::OutOfSpace);
-    };
-    let first = planes.region_full(&Region::of(bot.pos, mid), steps);
-    let second = planes.region_full(&Region::of(mid, to), steps);
-    broken_where(step, bot, Rule::Blocked, earlier(first, second))
+    match hull_of_moves(planes, step, bot, d, e, steps) {
+        Ok(_) => None,
+        Err(broken) => Some(broken),
+    }
 }
 
 /// Whether a fission with m asks for more seeds than the bot has.
@@ -259,13 +279,12 @@ fn judge_near(planes: &Planes, step: u32, bot: Bot, d: Diff) -> Option<Broken>
 
 /// The first rule that a bot with `FusionP` or `FusionS` breaks.
 fn judge_fusion(step: &Step, bot: &Bot, command: &Command, d: Diff) -> Option<Broken>
-    requires within { IsInSpace step.now.planes.now.resolution bot.now.pos }
-    requires lengths { length step.now.commands.now ≡ length step.now.bots.now }
+    requires { CanJudge step.now bot.now }
     ensures primary { (s : State) → command.now ≡ FusionP d
-        → result ≡ first_fault (record s { matrix = step.now.planes.now }) (acts step.now.bots.now step.now.commands.now) step.now.number
+        → result ≡ first_fault (record s { matrix = step.now.planes.now }) (acts_of_step step.now) step.now.number
         (act bot.now command.now) later_rules }
     ensures secondary { (s : State) → command.now ≡ FusionS d
-        → result ≡ first_fault (record s { matrix = step.now.planes.now }) (acts step.now.bots.now step.now.commands.now) step.now.number
+        → result ≡ first_fault (record s { matrix = step.now.planes.now }) (acts_of_step step.now) step.now.number
         (act bot.now command.now) later_rules }
 {
     let Some(_to) = reached(step.planes, bot.pos, d) else {
@@ -277,13 +296,12 @@ fn judge_fusion(step: &Step, bot: &Bot, command: &Command, d: Diff) -> Option<Br
 
 /// The first rule that a bot with a group command breaks.
 fn judge_group(step: &Step, bot: &Bot, command: &Command, d: Diff, f: Diff) -> Option<Broken>
-    requires within { IsInSpace step.now.planes.now.resolution bot.now.pos }
-    requires lengths { length step.now.commands.now ≡ length step.now.bots.now }
+    requires { CanJudge step.now bot.now }
     ensures fill { (s : State) → command.now ≡ GFill d f
-        → result ≡ first_fault (record s { matrix = step.now.planes.now }) (acts step.now.bots.now step.now.commands.now) step.now.number
+        → result ≡ first_fault (record s { matrix = step.now.planes.now }) (acts_of_step step.now) step.now.number
         (act bot.now command.now) later_rules }
     ensures void { (s : State) → command.now ≡ GVoid d f
-        → result ≡ first_fault (record s { matrix = step.now.planes.now }) (acts step.now.bots.now step.now.commands.now) step.now.number
+        → result ≡ first_fault (record s { matrix = step.now.planes.now }) (acts_of_step step.now) step.now.number
         (act bot.now command.now) later_rules }
 {
     let Some(near) = reached(step.planes, bot.pos, d) else {
@@ -307,11 +325,8 @@ pub(crate) fn judge_later<L: Ledger>(
     command: &Command,
     steps: &mut Steps<L>,
 ) -> Option<Broken>
-    requires within { IsInSpace step.now.planes.now.resolution bot.now.pos }
-    requires lengths { length step.now.commands.now ≡ length step.now.bots.now }
-    ensures value { (s : State)
-        → result ≡ first_fault (record s { matrix = step.now.planes.now; harmonics = step.now.harmonics; bots = step.now.bots.now })
-        (acts step.now.bots.now step.now.commands.now) step.now.number (act bot.now command.now) later_rules }
+    requires { CanJudge step.now bot.now }
+    ensures value { result ≡ later_fault step.now (act bot.now command.now) }
     ensures touches { steps.new ≤ steps.old + touches_of step.now.planes.now (act bot.now command.now) }
 {
     let planes = step.planes;
@@ -339,10 +354,9 @@ fn judge_bot<L: Ledger>(
     command: &Command,
     steps: &mut Steps<L>,
 ) -> Option<Broken>
-    requires within { IsInSpace step.now.planes.now.resolution bot.now.pos }
-    requires lengths { length step.now.commands.now ≡ length step.now.bots.now }
-    ensures value { result ≡ judge_bot_of (start_of step.now.planes.now step.now.harmonics step.now.profile step.now.bots.now)
-        (acts step.now.bots.now step.now.commands.now) step.now.number (act bot.now command.now) }
+    requires { CanJudge step.now bot.now }
+    ensures value { result ≡ judge_bot_of (start_of_step step.now)
+        (acts_of_step step.now) step.now.number (act bot.now command.now) }
     ensures touches { steps.new ≤ steps.old + touches_of step.now.planes.now (act bot.now command.now) }
 {
     if step.profile.allows(*command) {
@@ -354,11 +368,10 @@ fn judge_bot<L: Ledger>(
 
 /// The first rule that one of the bots breaks.
 pub(crate) fn judge_bots<L: Ledger>(step: &Step, steps: &mut Steps<L>) -> Option<Broken>
-    requires within { All (λ b. IsInSpace step.now.planes.now.resolution b.pos) step.now.bots.now }
-    requires lengths { length step.now.commands.now ≡ length step.now.bots.now }
-    ensures value { result ≡ judge_each (start_of step.now.planes.now step.now.harmonics step.now.profile step.now.bots.now)
-        (acts step.now.bots.now step.now.commands.now) step.now.number (acts step.now.bots.now step.now.commands.now) }
-    ensures touches { steps.new ≤ steps.old + sum_by (touches_of step.now.planes.now) (acts step.now.bots.now step.now.commands.now) }
+    requires { CanBeJudged step.now }
+    ensures value { result ≡ judge_each (start_of_step step.now)
+        (acts_of_step step.now) step.now.number (acts_of_step step.now) }
+    ensures touches { steps.new ≤ steps.old + sum_by (touches_of step.now.planes.now) (acts_of_step step.now) }
 {
     let bots = step.bots;
     let commands = step.commands;

@@ -9,42 +9,26 @@ ghost use Rattle.nano_spec.specs.Group.{leaders, members};
 ghost use Rattle.nano_spec.specs.Rules.{broken};
 ghost use Rattle.nano_spec.specs.Work.{volatile_total};
 ghost use Rattle.step_groups.specs.Judging.{edit_of, rule_broken, start_of};
+ghost use Rattle.step_groups.specs.Steps.{CanBeJudged, acts_of_step, broken_in};
 
-use crate::rules::{Step, breaks, end_of_move, judge_bots, named_by};
-use bot_crew::Crew;
-use nano_spec::{Bot, Broken, Command, Harmonics, Profile, Rule};
+use crate::rules::{breaks, end_of_move, judge_bots, named_by};
+use crate::step::Step;
+use nano_spec::{Bot, Broken, Command, Profile, Rule};
 use std::sync::ledger::Ledger;
 use vox_geom::{Coord, Long, Near, Steps};
 use vox_planes::Planes;
 
 /// The first rule that the command of a single bot breaks, as [`crate::judge_groups`] judges it. The bot is the one group of
 /// the step, and no list of groups is made.
-pub fn judge_single<L: Ledger>(
-    crew: &Crew,
-    planes: &Planes,
-    harmonics: Harmonics,
-    profile: Profile,
-    commands: &[Command],
-    step: u32,
-    steps: &mut Steps<L>,
-) -> Option<Broken>
-    requires one { length crew.now ≡ 1 }
-    requires lengths { length commands.now ≡ length crew.now }
-    requires within { All (λ b. IsInSpace planes.now.resolution b.pos) crew.now }
-    ensures value { (energy : ℤ) → result ≡ broken (record (start_of planes.now harmonics profile crew.now) { energy = energy }) commands.now step }
-    ensures leads { leaders (acts crew.now commands.now) ≡ acts crew.now commands.now }
-    ensures alone { All (λ a. members (acts crew.now commands.now) a ≡ a ∷ []) (acts crew.now commands.now) }
-    ensures touches { steps.new ≤ steps.old + 2 * volatile_total planes.now (acts crew.now commands.now) }
+pub fn judge_single<L: Ledger>(step: &Step, steps: &mut Steps<L>) -> Option<Broken>
+    requires one { length step.now.bots.now ≡ 1 }
+    requires step { CanBeJudged step.now }
+    ensures value { (energy : ℤ) → result ≡ broken_in step.now energy }
+    ensures leads { leaders (acts_of_step step.now) ≡ acts_of_step step.now }
+    ensures alone { All (λ a. members (acts_of_step step.now) a ≡ a ∷ []) (acts_of_step step.now) }
+    ensures touches { steps.new ≤ steps.old + 2 * volatile_total step.now.planes.now (acts_of_step step.now) }
 {
-    let judged = Step {
-        planes,
-        harmonics,
-        profile,
-        bots: crew.bots(),
-        commands,
-        number: step,
-    };
-    judge_bots(&judged, steps)
+    judge_bots(step, steps)
 }
 
 /// Where the only bot gets to by a straight move, or the first rule that the step breaks. The way is read once.

@@ -85,19 +85,34 @@ fn two_bots(rt: &impl Abort, to: Coord) -> Crew {
     crew
 }
 
+/// What steps have in common.
+#[derive(Clone, Copy)]
+struct Scene<'a> {
+    crew: &'a Crew,
+    planes: &'a Planes,
+    harmonics: Harmonics,
+    profile: Profile,
+}
+
 /// What a step of these commands breaks first.
 fn refusal<L: Ledger>(
     rt: &impl Abort,
-    crew: &Crew,
-    planes: &Planes,
-    harmonics: Harmonics,
-    profile: Profile,
+    scene: &Scene,
     commands: &[Command],
     steps: &mut Steps<L>,
 ) -> Option<Broken> {
-    assert!(rt; commands.len() == crew.bots().len());
-    assert!(rt; are_within(crew.bots(), planes.resolution()));
-    judge_groups(crew, planes, harmonics, profile, commands, 7, steps).err()
+    let bots = scene.crew.bots();
+    assert!(rt; commands.len() == bots.len());
+    assert!(rt; are_within(bots, scene.planes.resolution()));
+    let step = Step {
+        planes: scene.planes,
+        harmonics: scene.harmonics,
+        profile: scene.profile,
+        bots,
+        commands,
+        number: 7,
+    };
+    judge_groups(&step, steps).err()
 }
 
 fn broken(rule: Rule, at: Coord) -> Option<Broken> {
@@ -109,6 +124,10 @@ fn broken(rule: Rule, at: Coord) -> Option<Broken> {
     })
 }
 
+fn at_origin(rule: Rule) -> Option<Broken> {
+    broken(rule, at(0, 0, 0))
+}
+
 /// Steps of one bot at resolution 3, in which one voxel is full.
 fn of_one<L: Ledger>(rt: &impl Abort, blank: Blank, alloc: Global) -> Result<(), Memory>
     requires name { blank.name ≡ L.name }
@@ -118,62 +137,53 @@ fn of_one<L: Ledger>(rt: &impl Abort, blank: Blank, alloc: Global) -> Result<(),
     let mut steps: Steps<L> = Steps::new(blank);
     let mut planes = Planes::empty(alloc, 3)?;
     planes.set(at(1, 0, 1), true);
-    let full = Profile::full();
-    let low = Harmonics::Low;
-    let corner = one_bot(rt, full, at(0, 0, 0));
-    let beside = one_bot(rt, full, at(1, 0, 0));
-    let region = gfill(rt, by(0, 0, 1), by(0, 0, -1));
+    let corner = Scene {
+        crew: &one_bot(rt, Profile::full(), at(0, 0, 0)),
+        planes: &planes,
+        harmonics: Harmonics::Low,
+        profile: Profile::full(),
+    };
     let ahead = near(rt, by(0, 0, 1));
+    let ring = gfill(rt, by(1, 0, 1), by(0, 0, 1));
+    let region = gfill(rt, by(0, 0, 1), by(0, 0, -1));
     let table = [
         (Command::Fission(ahead, 38), None),
-        (
-            Command::Fission(ahead, 39),
-            broken(Rule::Seeds, at(0, 0, 0)),
-        ),
-        (go(rt, by(-1, 0, 0)), broken(Rule::OutOfSpace, at(0, 0, 0))),
-        (region, broken(Rule::InRegion, at(0, 0, 0))),
-        (Command::FusionP(ahead), broken(Rule::Partner, at(0, 0, 0))),
-        (
-            gfill(rt, by(1, 0, 1), by(0, 0, 1)),
-            broken(Rule::GroupShape, at(0, 0, 0)),
-        ),
+        (Command::Fission(ahead, 39), at_origin(Rule::Seeds)),
+        (go(rt, by(-1, 0, 0)), at_origin(Rule::OutOfSpace)),
+        (region, at_origin(Rule::InRegion)),
+        (Command::FusionP(ahead), at_origin(Rule::Partner)),
+        (ring, at_origin(Rule::GroupShape)),
     ];
     for (command, want) in table {
-        assert_eq!(rt;
-            refusal(rt, &corner, &planes, low, full, &[command], &mut steps),
-            want
-        );
+        assert_eq!(rt; refusal(rt, &corner, &[command], &mut steps), want);
     }
+    assert_stops(rt, &corner, &mut steps);
+    Ok(())
+}
+
+/// A bot is stopped by a full voxel, and halts only at the origin and under Low.
+fn assert_stops<L: Ledger>(rt: &impl Abort, corner: &Scene, steps: &mut Steps<L>) {
+    let beside = Scene {
+        crew: &one_bot(rt, corner.profile, at(1, 0, 0)),
+        ..*corner
+    };
+    let high = Scene {
+        harmonics: Harmonics::High,
+        ..*corner
+    };
     let along = go(rt, by(0, 0, 2));
     assert_eq!(rt;
-        refusal(rt, &beside, &planes, low, full, &[along], &mut steps),
+        refusal(rt, &beside, &[along], steps),
         broken(Rule::Blocked, at(1, 0, 1))
     );
     assert_eq!(rt;
-        refusal(
-            rt,
-            &beside,
-            &planes,
-            low,
-            full,
-            &[Command::Halt],
-            &mut steps
-        ),
+        refusal(rt, &beside, &[Command::Halt], steps),
         broken(Rule::HaltOrigin, at(1, 0, 0))
     );
     assert_eq!(rt;
-        refusal(
-            rt,
-            &corner,
-            &planes,
-            Harmonics::High,
-            full,
-            &[Command::Halt],
-            &mut steps
-        ),
-        broken(Rule::HaltLow, at(0, 0, 0))
+        refusal(rt, &high, &[Command::Halt], steps),
+        at_origin(Rule::HaltLow)
     );
-    Ok(())
 }
 
 #[test]
@@ -191,36 +201,27 @@ fn of_light<L: Ledger>(rt: &impl Abort, blank: Blank, alloc: Global) -> Result<(
     let mut steps: Steps<L> = Steps::new(blank);
     let planes = Planes::empty(alloc, 3)?;
     let light = Profile::light();
-    let crew = one_bot(rt, light, at(0, 0, 0));
+    let scene = Scene {
+        crew: &one_bot(rt, light, at(0, 0, 0)),
+        planes: &planes,
+        harmonics: Harmonics::Low,
+        profile: light,
+    };
     let ahead = near(rt, by(0, 0, 1));
     let table = [
         (
             Command::Void(near(rt, by(1, 0, 1))),
-            broken(Rule::Forbidden, at(0, 0, 0)),
+            at_origin(Rule::Forbidden),
         ),
         (
             gfill(rt, by(0, 0, 1), by(0, 0, -1)),
-            broken(Rule::Forbidden, at(0, 0, 0)),
+            at_origin(Rule::Forbidden),
         ),
         (Command::Fission(ahead, 18), None),
-        (
-            Command::Fission(ahead, 19),
-            broken(Rule::Seeds, at(0, 0, 0)),
-        ),
+        (Command::Fission(ahead, 19), at_origin(Rule::Seeds)),
     ];
     for (command, want) in table {
-        assert_eq!(rt;
-            refusal(
-                rt,
-                &crew,
-                &planes,
-                Harmonics::Low,
-                light,
-                &[command],
-                &mut steps
-            ),
-            want
-        );
+        assert_eq!(rt; refusal(rt, &scene, &[command], &mut steps), want);
     }
     Ok(())
 }
@@ -239,46 +240,29 @@ fn of_two<L: Ledger>(rt: &impl Abort, blank: Blank, alloc: Global) -> Result<(),
 {
     let mut steps: Steps<L> = Steps::new(blank);
     let planes = Planes::empty(alloc, 5)?;
-    let full = Profile::full();
-    let crew = two_bots(rt, at(0, 0, 1));
+    let scene = Scene {
+        crew: &two_bots(rt, at(0, 0, 1)),
+        planes: &planes,
+        harmonics: Harmonics::Low,
+        profile: Profile::full(),
+    };
     let ahead = go(rt, by(0, 0, 1));
     let back = go(rt, by(0, 0, -1));
     let aside = gfill(rt, by(1, 0, 0), by(0, 0, 2));
     let slanting = gfill(rt, by(1, 0, 1), by(0, 0, 2));
+    let there = fill(rt, by(1, 0, 0));
+    let same = fill(rt, by(1, 0, -1));
     let table = [
-        (
-            fill(rt, by(1, 0, 0)),
-            fill(rt, by(1, 0, -1)),
-            broken(Rule::Interference, at(1, 0, 0)),
-        ),
-        (ahead, back, broken(Rule::Interference, at(0, 0, 0))),
-        (
-            Command::Halt,
-            Command::Halt,
-            broken(Rule::HaltAlone, at(0, 0, 0)),
-        ),
-        (slanting, aside, broken(Rule::GroupShape, at(0, 0, 0))),
-        (
-            primary(rt),
-            Command::Wait,
-            broken(Rule::Partner, at(0, 0, 0)),
-        ),
+        (there, same, broken(Rule::Interference, at(1, 0, 0))),
+        (ahead, back, at_origin(Rule::Interference)),
+        (Command::Halt, Command::Halt, at_origin(Rule::HaltAlone)),
+        (slanting, aside, at_origin(Rule::GroupShape)),
+        (primary(rt), Command::Wait, at_origin(Rule::Partner)),
         (primary(rt), Command::FusionS(near(rt, by(0, 0, -1))), None),
         (Command::Flip, Command::Wait, None),
     ];
     for (first, second, want) in table {
-        assert_eq!(rt;
-            refusal(
-                rt,
-                &crew,
-                &planes,
-                Harmonics::Low,
-                full,
-                &[first, second],
-                &mut steps
-            ),
-            want
-        );
+        assert_eq!(rt; refusal(rt, &scene, &[first, second], &mut steps), want);
     }
     Ok(())
 }
@@ -300,17 +284,15 @@ fn is_judged<L: Ledger>(
 ) -> bool {
     assert!(rt; commands.len() == crew.bots().len());
     assert!(rt; are_within(crew.bots(), planes.resolution()));
-    groups
-        .judge(
-            crew,
-            planes,
-            Harmonics::Low,
-            Profile::full(),
-            commands,
-            1,
-            steps,
-        )
-        .is_ok()
+    let step = Step {
+        planes,
+        harmonics: Harmonics::Low,
+        profile: Profile::full(),
+        bots: crew.bots(),
+        commands,
+        number: 1,
+    };
+    groups.judge(&step, steps).is_ok()
 }
 
 /// Whether a step of one bot breaks no rule.
@@ -323,16 +305,15 @@ fn is_judged_single<L: Ledger>(
 ) -> bool {
     assert!(rt; crew.bots().len() == 1);
     assert!(rt; are_within(crew.bots(), planes.resolution()));
-    judge_single(
-        crew,
+    let step = Step {
         planes,
-        Harmonics::Low,
-        Profile::full(),
-        &[command],
-        1,
-        steps,
-    )
-    .is_none()
+        harmonics: Harmonics::Low,
+        profile: Profile::full(),
+        bots: crew.bots(),
+        commands: &[command],
+        number: 1,
+    };
+    judge_single(&step, steps).is_none()
 }
 
 /// The group of two bots that fill a row between them.

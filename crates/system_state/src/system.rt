@@ -27,7 +27,7 @@ mod parts;
 
 use crate::known::know_all;
 use crate::moves::{move_bots, target};
-use crate::turns::{Turn, Turns, gather, gather_lone, list_turns, turn_of};
+use crate::turns::{Turn, Turns, list_turns, turn_of};
 use crate::voxels::pay_turn;
 use alone::{cost_of_edit, cost_of_move};
 use bot_crew::{Crew, crew_is_ready, group_is_replaced};
@@ -35,7 +35,7 @@ use energy_sum::upkeep;
 use nano_spec::{Bot, Broken, Command, Harmonics, Profile, Rule};
 use std::marker::Model;
 use std::sync::ledger::Ledger;
-use step_groups::{all_act_alone, judge_single};
+use step_groups::{Step, all_act_alone};
 use step_order::groups_take_turns;
 use vox_geom::{Long, MOST_R, Near, Short, Steps};
 use vox_planes::Planes;
@@ -219,12 +219,20 @@ impl System {
         if commands.len() < count {
             return Some(self.trace_ends(commands.len(), step));
         }
+        let judged = Step {
+            planes: &self.matrix,
+            harmonics: self.harmonics,
+            profile: self.profile,
+            bots: self.crew.bots(),
+            commands,
+            number: step,
+        };
         if count == 1 {
-            self.judge_single(commands, step, turns, steps)
+            turns.judge_single(&judged, steps)
         } else if all_act_alone(commands) {
-            self.judge_lone(commands, step, turns, steps)
+            turns.judge_lone(&judged, steps)
         } else {
-            self.judge_several(commands, step, turns, steps)
+            turns.judge_several(&judged, steps)
         }
     }
 
@@ -247,89 +255,6 @@ impl System {
             bid: bot.bid,
             rule: Rule::TraceEnds,
             at: bot.pos,
-        }
-    }
-
-    /// Judges the step of a single bot.
-    fn judge_single<L: Ledger>(
-        &self,
-        commands: &[Command],
-        step: u32,
-        turns: &mut Turns,
-        steps: &mut Steps<L>,
-    ) -> Option<Broken>
-        requires one { length self.now.bots ≡ 1 }
-        requires commands { length commands.now ≡ length self.now.bots }
-        ensures value { result ≡ broken_of self.now commands.now step }
-        ensures turns { AreTurns (acts self.now.bots commands.now) (leaders (acts self.now.bots commands.now)) turns.new }
-        ensures touches { steps.new ≤ steps.old + 2 * volatile_total self.now.matrix (acts self.now.bots commands.now) }
-    {
-        turns.set_single(self.crew.bots()[0].bid);
-        judge_single(
-            &self.crew,
-            &self.matrix,
-            self.harmonics,
-            self.profile,
-            commands,
-            step,
-            steps,
-        )
-    }
-
-    /// Judges the step of bots each of which is a group of its own.
-    fn judge_lone<L: Ledger>(
-        &self,
-        commands: &[Command],
-        step: u32,
-        turns: &mut Turns,
-        steps: &mut Steps<L>,
-    ) -> Option<Broken>
-        requires lone { IsTrue (list_all is_alone commands.now) }
-        requires commands { length commands.now ≡ length self.now.bots }
-        ensures value { result ≡ broken_of self.now commands.now step }
-        ensures turns { AreTurns (acts self.now.bots commands.now) (leaders (acts self.now.bots commands.now)) turns.new }
-        ensures touches { steps.new ≤ steps.old + 2 * volatile_total self.now.matrix (acts self.now.bots commands.now) }
-    {
-        gather_lone(&mut turns.turns, self.crew.bots());
-        turns.groups.judge_lone(
-            &self.crew,
-            &self.matrix,
-            self.harmonics,
-            self.profile,
-            commands,
-            step,
-            steps,
-        )
-    }
-
-    /// Judges the step of several bots.
-    fn judge_several<L: Ledger>(
-        &self,
-        commands: &[Command],
-        step: u32,
-        turns: &mut Turns,
-        steps: &mut Steps<L>,
-    ) -> Option<Broken>
-        requires commands { length commands.now ≡ length self.now.bots }
-        ensures value { result ≡ broken_of self.now commands.now step }
-        ensures turns { IfNone result (AreTurns (acts self.now.bots commands.now) (leaders (acts self.now.bots commands.now)) turns.new) }
-        ensures touches { steps.new ≤ steps.old + 2 * volatile_total self.now.matrix (acts self.now.bots commands.now) }
-    {
-        let judged = turns.groups.judge(
-            &self.crew,
-            &self.matrix,
-            self.harmonics,
-            self.profile,
-            commands,
-            step,
-            steps,
-        );
-        match judged {
-            Ok(()) => {
-                gather(&mut turns.turns, turns.groups.list(), self.crew.bots());
-                None
-            }
-            Err(broken) => Some(broken),
         }
     }
 

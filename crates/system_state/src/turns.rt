@@ -1,20 +1,24 @@
 //! The turns of the groups of a step.
-ghost use Rattle.std.specs.Prelude.{◌≡◌, ◌+◌, ◌<◌, ◌≤◌, ℕ, [], ◌∷◌, List, All, AllPairs, IsPermutation, filter, length, map, slice_index_or, take};
+ghost use Rattle.std.specs.Prelude.{◌≡◌, ◌+◌, ◌*◌, ◌<◌, ◌≤◌, ℕ, ℤ, [], ◌∷◌, List, All, AllPairs, IfNone, IsPermutation, IsTrue, filter, length, map, slice_index_or, take};
 ghost use Rattle.arrayvec.specs.ArrayVec.{array_vec_len};
-ghost use Rattle.std.specs.List.{Contains};
+ghost use Rattle.std.specs.List.{Contains, list_all};
 ghost use Rattle.nano_spec.specs.declared.commands.Command.{Command};
 ghost use Rattle.nano_spec.specs.declared.system.Bot.{Bot as ActiveBot};
 ghost use Rattle.nano_spec.specs.Act.{acts};
 ghost use Rattle.nano_spec.specs.Group.{is_leader, leaders, members};
+ghost use Rattle.nano_spec.specs.Work.{volatile_total};
 ghost use Rattle.step_groups.specs.Groups.{AreGroups};
 ghost use Rattle.system_state.specs.Turns.{AreAllTurns, AreTurns, first_mate as first_mate_of, leader_of};
-ghost use Rattle.step_groups.specs.Judging.{act};
+ghost use Rattle.step_groups.specs.Judging.{act, is_alone};
+ghost use Rattle.step_groups.specs.Steps.{CanBeJudged, acts_of_step, broken_in};
 
 use arrayvec::ArrayVec;
 use bot_crew::MOST_BOTS;
-use nano_spec::{Bot, Command};
+use nano_spec::{Bot, Broken, Command};
 use std::marker::Model;
-use step_groups::{Group, Groups, acts_alone, are_together, has_mate};
+use std::sync::ledger::Ledger;
+use step_groups::{Group, Groups, Step, acts_alone, are_together, has_mate, judge_single};
+use vox_geom::Steps;
 
 /// The turn of one group of a step: the bid of its leader, the leader's place among the bots at the step's start, and the
 /// bid of its second member, 0 where the leader is alone.
@@ -28,7 +32,7 @@ pub struct Turn {
 /// The turns of a step, in rising order of their leaders until they are arranged. It is kept from step to step.
 #[derive(Drop)]
 pub struct Turns {
-    pub(crate) groups: Groups,
+    groups: Groups,
     pub(crate) turns: ArrayVec<Turn, MOST_BOTS>,
 }
 
@@ -71,6 +75,58 @@ impl Turns {
             place: 0,
             partner: 0,
         });
+    }
+
+    /// Judges the step of a single bot, whose turn is then the only one.
+    pub(crate) fn judge_single<L: Ledger>(
+        &mut self,
+        step: &Step,
+        steps: &mut Steps<L>,
+    ) -> Option<Broken>
+        requires one { length step.now.bots.now ≡ 1 }
+        requires step { CanBeJudged step.now }
+        ensures value { (energy : ℤ) → result ≡ broken_in step.now energy }
+        ensures turns { AreTurns (acts_of_step step.now) (leaders (acts_of_step step.now)) self.new }
+        ensures touches { steps.new ≤ steps.old + 2 * volatile_total step.now.planes.now (acts_of_step step.now) }
+    {
+        self.set_single(step.bots[0].bid);
+        judge_single(step, steps)
+    }
+
+    /// Judges the step of bots each of which is a group of its own, and lists their turns.
+    pub(crate) fn judge_lone<L: Ledger>(
+        &mut self,
+        step: &Step,
+        steps: &mut Steps<L>,
+    ) -> Option<Broken>
+        requires step { CanBeJudged step.now }
+        requires lone { IsTrue (list_all is_alone step.now.commands.now) }
+        ensures value { (energy : ℤ) → result ≡ broken_in step.now energy }
+        ensures turns { AreTurns (acts_of_step step.now) (leaders (acts_of_step step.now)) self.new }
+        ensures touches { steps.new ≤ steps.old + 2 * volatile_total step.now.planes.now (acts_of_step step.now) }
+    {
+        list_lone_turns(&mut self.turns, step.bots);
+        self.groups.judge_lone(step, steps)
+    }
+
+    /// Judges the step of several bots. Where no rule is broken the turns are those of its groups.
+    pub(crate) fn judge_several<L: Ledger>(
+        &mut self,
+        step: &Step,
+        steps: &mut Steps<L>,
+    ) -> Option<Broken>
+        requires { CanBeJudged step.now }
+        ensures value { (energy : ℤ) → result ≡ broken_in step.now energy }
+        ensures turns { IfNone result (AreTurns (acts_of_step step.now) (leaders (acts_of_step step.now)) self.new) }
+        ensures touches { steps.new ≤ steps.old + 2 * volatile_total step.now.planes.now (acts_of_step step.now) }
+    {
+        match self.groups.judge(step, steps) {
+            Ok(()) => {
+                list_group_turns(&mut self.turns, self.groups.list(), step.bots);
+                None
+            }
+            Err(broken) => Some(broken),
+        }
     }
 
     /// Puts the turns in the order of these leaders.
@@ -127,7 +183,7 @@ fn place_of(bots: &[Bot], bid: u8) -> u8
 }
 
 /// The turns of the groups of a step of these bots.
-pub(crate) fn gather(turns: &mut ArrayVec<Turn, MOST_BOTS>, groups: &[Group], bots: &[Bot])
+fn list_group_turns(turns: &mut ArrayVec<Turn, MOST_BOTS>, groups: &[Group], bots: &[Bot])
     requires bots { length bots.now ≤ 40 }
     requires groups { length groups.now ≤ 40 }
     requires rising { AllPairs (λ a b. a.bid < b.bid) bots.now }
@@ -146,7 +202,7 @@ pub(crate) fn gather(turns: &mut ArrayVec<Turn, MOST_BOTS>, groups: &[Group], bo
 }
 
 /// The turns of bots each of which is a group of its own.
-pub(crate) fn gather_lone(turns: &mut ArrayVec<Turn, MOST_BOTS>, bots: &[Bot])
+fn list_lone_turns(turns: &mut ArrayVec<Turn, MOST_BOTS>, bots: &[Bot])
     requires { length bots.now ≤ 40 }
     ensures { (commands : List Command) → length commands ≡ length bots.now → leaders (acts bots.now commands) ≡ acts bots.now commands
         → All (λ a. members (acts bots.now commands) a ≡ a ∷ []) (acts bots.now commands)

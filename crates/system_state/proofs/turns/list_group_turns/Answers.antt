@@ -5,7 +5,7 @@ use Rattle.step_order.proofs.Facts.{rising_is}
 use Rattle.system_state.specs.declared.turns.Turn.{Turn}
 use Rattle.system_state.specs.Turns.{AreTurns}
 use Rattle.system_state.proofs.Gathered.{as_many, one_turn_more, take_whole}
-use Rattle.system_state.proofs.turns.gather.Goals as goal
+use Rattle.system_state.proofs.turns.list_group_turns.Goals as goal
 
 pub loop-group-preserved : goal.loop-group-preserved
 loop-group-preserved c = record {

@@ -3,7 +3,7 @@ use Rattle.arrayvec.specs.ArrayVec.{array_vec_len}
 use Rattle.nano_spec.specs.Act.{acts}
 use Rattle.nano_spec.specs.Group.{is_leader}
 use Rattle.step_groups.specs.Groups.{AreGroups}
-use Rattle.step_groups.proofs.members.gather.Given as goal
+use Rattle.step_groups.proofs.members.list_groups.Given as goal
 
 abbrev pub invariant-loop-i : goal.invariant-loop-i
 invariant-loop-i l = record {

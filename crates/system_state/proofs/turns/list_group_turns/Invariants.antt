@@ -5,7 +5,7 @@ use Rattle.nano_spec.specs.Act.{acts}
 use Rattle.nano_spec.specs.Group.{leaders}
 use Rattle.step_groups.specs.Groups.{AreGroups}
 use Rattle.system_state.specs.Turns.{AreTurns}
-use Rattle.system_state.proofs.turns.gather.Given as goal
+use Rattle.system_state.proofs.turns.list_group_turns.Given as goal
 
 abbrev pub invariant-loop-group : goal.invariant-loop-group
 invariant-loop-group l = record {

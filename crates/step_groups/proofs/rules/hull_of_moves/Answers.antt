@@ -4,7 +4,7 @@ use Rattle.nano_spec.specs.declared.outcomes.Rule.TheVariants.{Blocked}
 use Rattle.step_groups.proofs.Touching.{counted, lmove_reads}
 use Rattle.step_groups.proofs.BlockedWays.{lmove, lmove_out}
 use Rattle.step_groups.proofs.Outlining.{ways_within}
-use Rattle.step_groups.proofs.one_pass.judge_ways.Goals as goal
+use Rattle.step_groups.proofs.rules.hull_of_moves.Goals as goal
 
 pub returns-in_default-reached-clause-value : goal.returns-in_default-reached-clause-value
 returns-in_default-reached-clause-value g c = λ s all.

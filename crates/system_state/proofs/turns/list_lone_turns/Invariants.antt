@@ -5,7 +5,7 @@ use Rattle.nano_spec.specs.declared.commands.Command.{Command}
 use Rattle.nano_spec.specs.Act.{acts}
 use Rattle.nano_spec.specs.Group.{members}
 use Rattle.system_state.specs.Turns.{AreTurns}
-use Rattle.system_state.proofs.turns.gather_lone.Given as goal
+use Rattle.system_state.proofs.turns.list_lone_turns.Given as goal
 
 abbrev pub invariant-loop-i : goal.invariant-loop-i
 invariant-loop-i l = record {

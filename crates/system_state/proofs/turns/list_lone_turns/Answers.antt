@@ -5,7 +5,7 @@ use Rattle.nano_spec.specs.Act.{Act, acts}
 use Rattle.system_state.specs.declared.turns.Turn.{Turn}
 use Rattle.system_state.specs.Turns.{AreTurns}
 use Rattle.system_state.proofs.Gathered.{acts_count, lone_turn_more, take_whole}
-use Rattle.system_state.proofs.turns.gather_lone.Goals as goal
+use Rattle.system_state.proofs.turns.list_lone_turns.Goals as goal
 
 -- what reading gives past the end
 abbrev blank : Bot
