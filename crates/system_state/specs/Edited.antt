@@ -1,5 +1,5 @@
 -- What a command makes full or void (docs/FORMATS.md, "Commands").
-use Rattle.std.specs.Prelude.{◌≡◌, ℕ, ◌≤◌, cond, [], ◌∷◌}
+use Rattle.std.specs.Prelude.{◌≡◌, ℕ, ◌≤◌, ℤ, pos, negsuc, Bool, cond, [], ◌∷◌}
 use Rattle.vox_geom.specs.Point.{point}
 use Rattle.vox_geom.specs.Region.{Span, between, size}
 use Rattle.vox_geom.specs.Space.{IsInSpace}
@@ -24,3 +24,7 @@ pub record IsEditedRegion (r : ℕ) (bot : Bot) (command : Command) (w : EditedR
   pub filled : filled (point bot.pos) command ≡ cond w.full (region_of w ∷ []) []
   pub voided : voided (point bot.pos) command ≡ cond w.full [] (region_of w ∷ [])
   pub small : size (region_of w) ≤ 29791
+
+-- what filling a voxel that was full or void, or else voiding it, costs beside the upkeep
+abbrev pub edit_cost : Bool → Bool → ℤ
+edit_cost full was_full = cond full (cond was_full (pos 6) (pos 12)) (cond was_full (negsuc 11) (pos 3))

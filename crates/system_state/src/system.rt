@@ -16,8 +16,9 @@ ghost use Rattle.nano_spec.specs.Step.{after, harmonics_after};
 ghost use Rattle.nano_spec.specs.Work.{volatile_total};
 ghost use Rattle.bot_crew.specs.Crew.{IsCrew, bot_of};
 ghost use Rattle.step_groups.specs.Judging.{is_alone, act, edit_of};
-ghost use Rattle.vox_planes.specs.Voxel.{IsWhole};
+ghost use Rattle.vox_planes.specs.Voxel.{IsWhole, with_voxel};
 ghost use Rattle.system_state.specs.Bounds.{IsPayable, IsWithin};
+ghost use Rattle.system_state.specs.Edited.{edit_cost};
 ghost use Rattle.system_state.specs.Effects.{MayTake, after_turn};
 ghost use Rattle.system_state.specs.Painting.{met_count};
 ghost use Rattle.system_state.specs.Turns.{AreAllTurns, AreTurns, FollowsOn, bots_after_some, leader_of};
@@ -37,7 +38,7 @@ use std::marker::Model;
 use std::sync::ledger::Ledger;
 use step_groups::{Step, all_act_alone};
 use step_order::groups_take_turns;
-use vox_geom::{Long, MOST_R, Near, Short, Steps};
+use vox_geom::{Coord, Long, MOST_R, Near, Short, Steps};
 use vox_planes::Planes;
 
 /// The other harmonics after a Flip.
@@ -162,7 +163,7 @@ impl System {
         ensures value { result.now ≡ self.now.matrix }
         ensures whole { IsWhole self.now.matrix }
     {
-        let _ = self.matrix.resolution();
+        self.know();
         &self.matrix
     }
 
@@ -172,10 +173,20 @@ impl System {
         ensures crew { IsCrew self.now.bots }
         ensures ready { IsReady self.now }
     {
+        self.know();
+        &self.crew
+    }
+
+    /// What the state keeps at all times: its matrix is whole, its bots are a crew, and it is ready for a step.
+    #[inline(always)]
+    fn know(&self)
+        ensures whole { IsWhole self.now.matrix }
+        ensures crew { IsCrew self.now.bots }
+        ensures ready { IsReady self.now }
+    {
         crew_is_ready();
         let _ = self.matrix.resolution();
         let _ = self.crew.bots();
-        &self.crew
     }
 
     /// The harmonics.
@@ -341,6 +352,17 @@ impl System {
         let resolution = self.matrix.resolution();
         let at = target(resolution, bot.pos, d.diff());
         let was_full = self.matrix.full_at(at, steps);
+        self.edit_voxel(at, full, was_full);
+    }
+
+    /// A voxel is made full or void, and what that costs beside the upkeep is paid.
+    #[inline(always)]
+    fn edit_voxel(&mut self, at: Coord, full: bool, was_full: bool)
+        requires at { IsInSpace self.old.matrix.resolution at }
+        requires payable { IsWithin 9000000000000000000 self.old.energy }
+        ensures value { self.new ≡ record self.old { matrix = with_voxel self.old.matrix at full; energy = self.old.energy +ℤ edit_cost full was_full } }
+        ensures within { (k : ℕ) → IsWithin k self.old.energy → IsWithin (k + 357492) self.new.energy }
+    {
         self.matrix.set(at, full);
         self.energy = paid(self.energy, cost_of_edit(full, was_full));
     }
@@ -377,10 +399,10 @@ impl System {
         know_all(commands);
         groups_take_turns();
         group_is_replaced();
-        let _ = self.crew();
+        self.know();
         self.pay_upkeep();
         for turn in turns.list() {
-            let _ = self.crew();
+            self.know();
             self.take_turn(*turn, &commands[usize::from(turn.place)], steps);
         }
     }
@@ -414,7 +436,7 @@ impl System {
         ensures arranged { map leader_of turns.new ≡ order.now }
         ensures touches { steps.new ≤ steps.old + volatile_total self.old.matrix (acts self.old.bots commands.now) }
     {
-        let _ = self.crew();
+        self.know();
         turns.arrange(order);
         self.take_turns(commands, turns, steps);
     }
@@ -432,7 +454,7 @@ impl System {
         know_all(commands);
         groups_take_turns();
         group_is_replaced();
-        let _ = self.crew();
+        self.know();
         let _ = crew.bots();
         let turn = turn_of(turns.list(), leader);
         let Some(bot) = crew.bot(leader) else {

@@ -29,6 +29,19 @@ pub struct Turn {
     pub partner: u8,
 }
 
+impl Turn {
+    /// The turn of a bot that is a group of its own.
+    fn alone(leader: u8, place: u8) -> Turn
+        ensures { result ≡ record { leader = leader; place = place; partner = 0 } }
+    {
+        Turn {
+            leader,
+            place,
+            partner: 0,
+        }
+    }
+}
+
 /// The turns of a step, in rising order of their leaders until they are arranged. It is kept from step to step.
 #[derive(Drop)]
 pub struct Turns {
@@ -70,11 +83,7 @@ impl Turns {
         ensures { self.new ≡ record { leader = bid; place = 0; partner = 0 } ∷ [] }
     {
         self.turns.clear();
-        self.turns.push(Turn {
-            leader: bid,
-            place: 0,
-            partner: 0,
-        });
+        self.turns.push(Turn::alone(bid, 0));
     }
 
     /// Judges the step of a single bot, whose turn is then the only one.
@@ -210,11 +219,7 @@ fn list_lone_turns(turns: &mut ArrayVec<Turn, MOST_BOTS>, bots: &[Bot])
 {
     turns.clear();
     for i in 0..bots.len() {
-        turns.push(Turn {
-            leader: bots[i].bid,
-            place: i as u8,
-            partner: 0,
-        });
+        turns.push(Turn::alone(bots[i].bid, i as u8));
     }
 }
 
@@ -247,11 +252,7 @@ fn push_turn(turns: &mut ArrayVec<Turn, MOST_BOTS>, bots: &[Bot], commands: &[Co
     let bot = &bots[i];
     let command = &commands[i];
     if acts_alone(command) {
-        turns.push(Turn {
-            leader: bot.bid,
-            place: i as u8,
-            partner: 0,
-        });
+        turns.push(Turn::alone(bot.bid, i as u8));
         return;
     }
     if has_mate(&bots[..i], &commands[..i], bot, command) {

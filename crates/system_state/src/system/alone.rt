@@ -1,5 +1,5 @@
-//! The step of the only bot by a command that needs no other, made at once: no turns are gathered.
-ghost use Rattle.std.specs.Prelude.{◌≡◌, ◌+◌, ◌*◌, ◌≤◌, pos, negsuc, ◌+ℤ◌, [], ◌∷◌, cond, length, IfOk, IfSome, IfNone};
+//! The step of the only bot by a command that needs no other, made at once: no turns are listed.
+ghost use Rattle.std.specs.Prelude.{◌≡◌, ◌+◌, ◌*◌, ◌≤◌, pos, ◌+ℤ◌, [], ◌∷◌, length, IfOk, IfSome, IfNone};
 ghost use Rattle.vox_geom.specs.declared.difference.Diff.{Diff as Difference};
 ghost use Rattle.vox_geom.specs.Difference.{mlen};
 ghost use Rattle.vox_geom.specs.Point.{point, plus};
@@ -14,6 +14,7 @@ ghost use Rattle.nano_spec.specs.Step.{after};
 ghost use Rattle.nano_spec.specs.Work.{volatile_total};
 ghost use Rattle.step_groups.specs.Judging.{edit_of, rule_broken};
 ghost use Rattle.system_state.specs.Bounds.{IsPayable, IsWithin};
+ghost use Rattle.system_state.specs.Edited.{edit_cost};
 
 use super::{System, paid};
 use nano_spec::{Bot, Broken};
@@ -29,7 +30,7 @@ impl System {
         ensures only { self.now.bots ≡ result ∷ [] }
         ensures within { IsInSpace self.now.matrix.resolution result.pos }
     {
-        let _ = self.crew();
+        self.know();
         self.crew.bots()[0]
     }
 
@@ -60,7 +61,7 @@ impl System {
         ensures stays { IfSome result (λ _. self.new ≡ self.old) }
         ensures touches { steps.new ≤ steps.old + 2 * volatile_total self.old.matrix (acts self.old.bots (SMove d ∷ [])) }
     {
-        let _ = self.matrix();
+        self.know();
         let bot = self.only_bot();
         match judge_move(&self.matrix, self.profile, bot, d, step, steps) {
             Ok(to) => {
@@ -94,15 +95,15 @@ impl System {
         ensures { (b : ActiveBot) (d : Difference) → self.old.bots ≡ b ∷ [] → point at ≡ plus (point b.pos) d
             → self.new ≡ after self.old (edit_of full d ∷ []) }
     {
-        self.pay(cost_of_edit(full, was_full));
-        self.set_voxel(at, full);
+        self.pay_upkeep();
+        self.edit_voxel(at, full, was_full);
     }
 }
 
 /// What filling a voxel, or else voiding it, costs beside the upkeep.
 #[inline(always)]
 pub(super) fn cost_of_edit(full: bool, was_full: bool) -> i64
-    ensures value { result ≡ cond full (cond was_full (pos 6) (pos 12)) (cond was_full (negsuc 11) (pos 3)) }
+    ensures value { result ≡ edit_cost full was_full }
     ensures small { IsWithin 357492 result }
 {
     if full {

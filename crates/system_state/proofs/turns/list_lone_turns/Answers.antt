@@ -1,4 +1,4 @@
-use Rattle.std.proofs.Common.{◌≡◌, ◌+◌, ◌∙◌, arith, ap, get_or, sym, subst, List, length, take}
+use Rattle.std.proofs.Common.{◌≡◌, ◌+◌, ◌∙◌, arith, ap, get_or, sym, subst, List, [], ◌∷◌, ◌++◌, length, take}
 use Rattle.std.proofs.lemmas.List.{get_or_default}
 use Rattle.nano_spec.specs.declared.system.Bot.{Bot}
 use Rattle.nano_spec.specs.Act.{Act, acts}
@@ -17,7 +17,7 @@ loop-i-preserved c = record {
       let bots = c.args.bots.now in
       let i = c.loop-i.i in
       let b = get_or bots i blank in
-      subst (λ (ts : List Turn). AreTurns (acts bots commands) (take (i + 1) (acts bots commands)) ts) (sym c.push.ensures.items)
+      subst (λ (ts : List Turn). AreTurns (acts bots commands) (take (i + 1) (acts bots commands)) ts) (sym (c.push.ensures.items ∙ ap (λ (t : Turn). c.loop-i.turns.items ++ t ∷ []) c.alone.ensures))
       (lone_turn_more bots commands c.loop-i.turns.items i b e c.loop-i-test.true (get_or_default bots i blank b c.loop-i-test.true) alone (c.loop-i.invariant.turns commands e alone));
   len = c.push.ensures.len ∙ ap (λ n. n + 1) c.loop-i.invariant.len;
 }

@@ -1,6 +1,7 @@
-use Rattle.std.proofs.Common.{get_or, sym, ◌∙◌}
+use Rattle.std.proofs.Common.{ap, get_or, sym, ◌∙◌, [], ◌∷◌, ◌++◌}
 use Rattle.std.proofs.lemmas.List.{get_or_default}
 use Rattle.nano_spec.specs.declared.system.Bot.{Bot}
+use Rattle.system_state.specs.declared.turns.Turn.{Turn}
 use Rattle.system_state.proofs.Listed.{alone_more, joined_more, no_turn_more}
 use Rattle.system_state.proofs.turns.push_turn.Goals as goal
 
@@ -13,7 +14,7 @@ returns-then-acts_alone-clause-turns c =
     let bots = c.args.bots.now in
     let i = c.args.i in
     alone_more bots c.args.commands.now i (get_or bots i blank) c.index-commands-i.result c.requires.i c.requires.lengths (get_or_default bots i blank (get_or bots i blank) c.requires.i) c.index-commands-i.is c.requires.rising
-    c.args.turns.now.items c.push.new.self.items c.push.ensures.items (sym c.acts_alone.ensures ∙ c.if-acts_alone.true)
+    c.args.turns.now.items c.push.new.self.items (c.push.ensures.items ∙ ap (λ (t : Turn). c.args.turns.now.items ++ t ∷ []) c.alone.ensures) (sym c.acts_alone.ensures ∙ c.if-acts_alone.true)
 
 pub returns-then-has_mate-clause-turns : goal.returns-then-has_mate-clause-turns
 returns-then-has_mate-clause-turns c =
