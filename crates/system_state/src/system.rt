@@ -281,6 +281,17 @@ impl System {
         self.energy = paid(self.energy, upkeep);
     }
 
+    /// What a turn costs is paid.
+    #[inline(always)]
+    fn pay(&mut self, price: i64)
+        requires payable { IsWithin 9000000000000000000 self.old.energy }
+        requires small { IsWithin 357492 price }
+        ensures value { self.new ≡ record self.old { energy = self.old.energy +ℤ price } }
+        ensures within { (k : ℕ) → IsWithin k self.old.energy → IsWithin (k + 357492) self.new.energy }
+    {
+        self.energy = paid(self.energy, price);
+    }
+
     /// The turn of a group, by the command of its leader. Waits, moves and edits of one voxel, which most commands of many bots
     /// are, are made at once.
     #[inline(always)]
@@ -319,10 +330,9 @@ impl System {
         ensures value { (partner : ℕ) → self.new ≡ after_turn self.old bot partner (SMove d) }
         ensures within { (k : ℕ) → IsWithin k self.old.energy → IsWithin (k + 357492) self.new.energy }
     {
-        let resolution = self.matrix.resolution();
-        self.crew
-            .move_to(bot.bid, target(resolution, bot.pos, d.diff()));
-        self.energy = paid(self.energy, cost_of_move(d));
+        let to = target(self.matrix.resolution(), bot.pos, d.diff());
+        self.move_to(bot.bid, to);
+        self.pay(cost_of_move(d));
     }
 
     /// The turn of a bot that makes two moves.
@@ -335,9 +345,9 @@ impl System {
     {
         let resolution = self.matrix.resolution();
         let middle = target(resolution, bot.pos, d.diff());
-        self.crew
-            .move_to(bot.bid, target(resolution, middle, e.diff()));
-        self.energy = paid(self.energy, cost_of_moves(d, e));
+        let to = target(resolution, middle, e.diff());
+        self.move_to(bot.bid, to);
+        self.pay(cost_of_moves(d, e));
     }
 
     /// The turn of a bot that fills a voxel, or else voids it.
@@ -363,8 +373,8 @@ impl System {
         ensures value { self.new ≡ record self.old { matrix = with_voxel self.old.matrix at full; energy = self.old.energy +ℤ edit_cost full was_full } }
         ensures within { (k : ℕ) → IsWithin k self.old.energy → IsWithin (k + 357492) self.new.energy }
     {
-        self.matrix.set(at, full);
-        self.energy = paid(self.energy, cost_of_edit(full, was_full));
+        self.set_voxel(at, full);
+        self.pay(cost_of_edit(full, was_full));
     }
 
     /// The turn of a group by any command of its leader.

@@ -7,7 +7,6 @@ ghost use Rattle.vox_geom.specs.Space.{IsInSpace};
 ghost use Rattle.nano_spec.specs.declared.commands.Command.TheVariants.{SMove};
 ghost use Rattle.nano_spec.specs.declared.system.Bot.{Bot as ActiveBot};
 ghost use Rattle.nano_spec.specs.Act.{acts};
-ghost use Rattle.nano_spec.specs.Energy.{upkeep as upkeep_of};
 ghost use Rattle.nano_spec.specs.Matrix.{is_full};
 ghost use Rattle.nano_spec.specs.Rules.{broken as broken_of};
 ghost use Rattle.nano_spec.specs.Step.{after};
@@ -16,7 +15,7 @@ ghost use Rattle.step_groups.specs.Judging.{edit_of, rule_broken};
 ghost use Rattle.system_state.specs.Bounds.{IsPayable, IsWithin};
 ghost use Rattle.system_state.specs.Edited.{edit_cost};
 
-use super::{System, paid};
+use super::System;
 use nano_spec::{Bot, Broken};
 use std::sync::ledger::Ledger;
 use step_groups::{judge_edit, judge_move};
@@ -32,17 +31,6 @@ impl System {
     {
         self.know();
         self.crew.bots()[0]
-    }
-
-    /// The upkeep of a step and a cost are paid.
-    #[inline(always)]
-    fn pay(&mut self, cost: i64)
-        requires payable { IsPayable self.old.energy }
-        requires small { IsWithin 2000000000 cost }
-        ensures { self.new ≡ record self.old { energy = (self.old.energy +ℤ upkeep_of self.old) +ℤ cost } }
-    {
-        self.pay_upkeep();
-        self.energy = paid(self.energy, cost);
     }
 
     /// The step of the only bot by a straight move: the rule that it breaks, or `None`, and then all effects and costs. The
@@ -65,6 +53,7 @@ impl System {
         let bot = self.only_bot();
         match judge_move(&self.matrix, self.profile, bot, d, step, steps) {
             Ok(to) => {
+                self.pay_upkeep();
                 self.pay(cost_of_move(d));
                 self.move_to(bot.bid, to);
                 None

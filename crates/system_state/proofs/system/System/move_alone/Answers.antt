@@ -15,7 +15,10 @@ returns-in-Ok-clause-moved g c =
     let b : Bot = c.only_bot-bot.result in
     let there : List Bot = moved b (point c.in-Ok.to) ∷ [] in
     let same : to_z w64 (of_z w64 c.cost_of_move.result) ≡ c.cost_of_move.result = search rules in
-    let payment : c.pay.new.self ≡ record s { energy = (s.energy +ℤ upkeep s) +ℤ pos (2 * mlen c.args.d) } = c.pay.ensures ∙ ap (λ z. record s { energy = (s.energy +ℤ upkeep s) +ℤ z }) (same ∙ c.cost_of_move.ensures.value) in
+    let payment : c.pay.new.self ≡ record s { energy = (s.energy +ℤ upkeep s) +ℤ pos (2 * mlen c.args.d) } =
+    c.pay.ensures.value
+    ∙ (ap (λ (t : State). record t { energy = t.energy +ℤ to_z w64 (of_z w64 c.cost_of_move.result) }) c.pay_upkeep.ensures.value
+    ∙ ap (λ z. record s { energy = (s.energy +ℤ upkeep s) +ℤ z }) (same ∙ c.cost_of_move.ensures.value)) in
     let gone : c.move_to.new.self ≡ record c.pay.new.self { bots = there } =
     moved_one (λ (bots : List Bot). c.move_to.new.self ≡ record c.pay.new.self { bots = bots }) c.pay.new.self.bots b c.in-Ok.to (ap (λ (t : State). t.bots) payment ∙ c.only_bot-bot.ensures.only) c.move_to.ensures.moved in
     gone ∙ (ap (λ (t : State). record t { bots = there }) payment ∙ moved_on s b c.args.d c.in-Ok.to c.only_bot-bot.ensures.only c.know.ensures.whole c.in-Ok.ensures.sum)

@@ -1,90 +1,97 @@
-use Rattle.std.proofs.Common.{rules, arith, ◌≡◌, ◌+◌, ◌*◌, ◌∙◌, ◌&&◌, true, refl, sym, ap, subst, List, pos, w64, to_z, of_z}
-use Rattle.std.specs.Prelude.{All, IsSome, IsTrue, Option, ◌+ℤ◌, ℤ}
+use Rattle.std.proofs.Common.{rules, ◌≡◌, ◌∙◌, ◌&&◌, true, refl, sym, ap, subst, [], ◌∷◌, w64, to_z, of_z}
+use Rattle.std.specs.Prelude.{IsSome, IsTrue, Option, ◌+ℤ◌, ℤ}
 use Rattle.vox_geom.specs.declared.coordinate.Coord.{Coord}
 use Rattle.vox_geom.specs.declared.difference.Diff.{Diff}
-use Rattle.vox_geom.specs.Difference.{mlen}
 use Rattle.vox_geom.specs.Point.{Point, point, plus}
 use Rattle.vox_geom.specs.Space.{IsInSpace, coordinate, in_space}
 use Rattle.nano_spec.specs.declared.commands.Command.TheVariants.{LMove}
 use Rattle.nano_spec.specs.declared.system.Bot.{Bot}
+use Rattle.nano_spec.specs.Bots.{moved}
 use Rattle.nano_spec.specs.State.{State}
+use Rattle.bot_crew.specs.Crew.{replaced}
+use Rattle.vox_planes.specs.Voxel.{IsWhole}
 use Rattle.step_order.proofs.Lists.{first, second}
 use Rattle.system_state.specs.Bounds.{IsWithin}
-use Rattle.system_state.specs.Effects.{IsFreeFor, MayTake, after_turn, bots_after_turn}
-use Rattle.system_state.proofs.Advancing.{within_wider}
-use Rattle.system_state.proofs.Bots.{turn_within}
-use Rattle.system_state.proofs.Still.{bots_moved_twice, moved_twice}
-use Rattle.system_state.proofs.Upkeep.{within_more}
+use Rattle.system_state.specs.Effects.{IsFreeFor, MayTake}
+use Rattle.system_state.proofs.Still.{bots_moved_twice, gone, moved_twice}
 use Rattle.system_state.proofs.system.System.take_moves.Goals as goal
 
 pub target-middle-requires-clause-from : goal.target-middle-requires-clause-from
 target-middle-requires-clause-from c =
-    let may : MayTake c.self.inside.matrix.resolution c.self.inside.crew c.args.bot 0 (LMove c.args.d c.args.e) = subst (λ (t : State). MayTake t.matrix.resolution t.bots c.args.bot 0 (LMove c.args.d c.args.e)) (sym c.self.view_is) (c.requires.may 0) in
-    subst (λ r. IsInSpace r c.args.bot.pos) (sym c.resolution-resolution.ensures.value) may.within
+    let s : State = c.args.self.now in
+    let may : MayTake s.matrix.resolution s.bots c.args.bot 0 (LMove c.args.d c.args.e) = c.requires.may 0 in
+    let same : c.resolution-resolution.result ≡ c.args.self.now.matrix.resolution = c.resolution-resolution.ensures.value ∙ ap (λ (t : State). t.matrix.resolution) c.self.view_is in
+    subst (λ r. IsInSpace r c.args.bot.pos) (sym same) may.within
 
 pub target-middle-requires-clause-within : goal.target-middle-requires-clause-within
 target-middle-requires-clause-within c =
-    let may : MayTake c.self.inside.matrix.resolution c.self.inside.crew c.args.bot 0 (LMove c.args.d c.args.e) = subst (λ (t : State). MayTake t.matrix.resolution t.bots c.args.bot 0 (LMove c.args.d c.args.e)) (sym c.self.view_is) (c.requires.may 0) in
-    let r = c.self.inside.matrix.resolution in
+    let s : State = c.args.self.now in
+    let may : MayTake s.matrix.resolution s.bots c.args.bot 0 (LMove c.args.d c.args.e) = c.requires.may 0 in
+    let same : c.resolution-resolution.result ≡ c.args.self.now.matrix.resolution = c.resolution-resolution.ensures.value ∙ ap (λ (t : State). t.matrix.resolution) c.self.view_is in
+    let r = s.matrix.resolution in
     let p : Point = point c.args.bot.pos in
-    subst (λ n. IsTrue (in_space n (plus p c.diff.result))) (sym c.resolution-resolution.ensures.value)
+    subst (λ n. IsTrue (in_space n (plus p c.diff.result))) (sym same)
     (subst (λ (d : Diff). IsTrue (in_space r (plus p d))) (sym c.diff.ensures.value)
     (first (in_space r (plus p c.args.d)) (in_space r (plus (plus p c.args.d) c.args.e) && true) may.stays))
 
-pub target-requires-clause-within : goal.target-requires-clause-within
-target-requires-clause-within c =
-    let may : MayTake c.self.inside.matrix.resolution c.self.inside.crew c.args.bot 0 (LMove c.args.d c.args.e) = subst (λ (t : State). MayTake t.matrix.resolution t.bots c.args.bot 0 (LMove c.args.d c.args.e)) (sym c.self.view_is) (c.requires.may 0) in
+pub target-to-requires-clause-within : goal.target-to-requires-clause-within
+target-to-requires-clause-within c =
+    let s : State = c.args.self.now in
+    let may : MayTake s.matrix.resolution s.bots c.args.bot 0 (LMove c.args.d c.args.e) = c.requires.may 0 in
+    let same : c.resolution-resolution.result ≡ c.args.self.now.matrix.resolution = c.resolution-resolution.ensures.value ∙ ap (λ (t : State). t.matrix.resolution) c.self.view_is in
     let middle : point c.target-middle.result ≡ plus (point c.args.bot.pos) c.args.d = c.target-middle.ensures.sum ∙ ap (plus (point c.args.bot.pos)) c.diff.ensures.value in
-    let r = c.self.inside.matrix.resolution in
+    let r = s.matrix.resolution in
     let p : Point = point c.args.bot.pos in
     let q : Point = plus (plus p c.args.d) c.args.e in
     let there : plus (point c.target-middle.result) c.diff-2.result ≡ q = λ i. plus (middle i) (c.diff-2.ensures.value i) in
-    subst (λ n. IsTrue (in_space n (plus (point c.target-middle.result) c.diff-2.result))) (sym c.resolution-resolution.ensures.value)
+    subst (λ n. IsTrue (in_space n (plus (point c.target-middle.result) c.diff-2.result))) (sym same)
     (subst (λ (w : Point). IsTrue (in_space r w)) (sym there)
     (first (in_space r q) true (second (in_space r (plus p c.args.d)) (in_space r q && true) may.stays)))
 
 pub move_to-requires-clause-active : goal.move_to-requires-clause-active
 move_to-requires-clause-active c =
-    let may : MayTake c.self.inside.matrix.resolution c.self.inside.crew c.args.bot 0 (LMove c.args.d c.args.e) = subst (λ (t : State). MayTake t.matrix.resolution t.bots c.args.bot 0 (LMove c.args.d c.args.e)) (sym c.self.view_is) (c.requires.may 0) in
+    let s : State = c.args.self.now in
+    let may : MayTake s.matrix.resolution s.bots c.args.bot 0 (LMove c.args.d c.args.e) = c.requires.may 0 in
     subst (λ (o : Option Bot). IsSome o) (sym may.active) refl
 
 pub move_to-requires-clause-free : goal.move_to-requires-clause-free
 move_to-requires-clause-free c =
-    let may : MayTake c.self.inside.matrix.resolution c.self.inside.crew c.args.bot 0 (LMove c.args.d c.args.e) = subst (λ (t : State). MayTake t.matrix.resolution t.bots c.args.bot 0 (LMove c.args.d c.args.e)) (sym c.self.view_is) (c.requires.may 0) in
+    let s : State = c.args.self.now in
+    let may : MayTake s.matrix.resolution s.bots c.args.bot 0 (LMove c.args.d c.args.e) = c.requires.may 0 in
     let middle : point c.target-middle.result ≡ plus (point c.args.bot.pos) c.args.d = c.target-middle.ensures.sum ∙ ap (plus (point c.args.bot.pos)) c.diff.ensures.value in
-    let there : plus (point c.target-middle.result) c.diff-2.result ≡ plus (plus (point c.args.bot.pos) c.args.d) c.args.e = λ i. plus (middle i) (c.diff-2.ensures.value i) in
-    subst (λ (to : Coord). IsFreeFor c.self.inside.crew c.args.bot to) (sym (c.target.ensures.value ∙ ap coordinate there)) may.needs
+    let sum : plus (point c.target-middle.result) c.diff-2.result ≡ plus (plus (point c.args.bot.pos) c.args.d) c.args.e = λ i. plus (middle i) (c.diff-2.ensures.value i) in
+    let there = c.target-to.ensures.value ∙ ap coordinate sum in
+    subst (λ (to : Coord). IsFreeFor s.bots c.args.bot to) (sym there) may.needs
 
-pub paid-self-inside-requires-clause-cost : goal.paid-self-inside-requires-clause-cost
-paid-self-inside-requires-clause-cost c =
-    let cost : to_z w64 (of_z w64 c.cost_of_moves.result) ≡ c.cost_of_moves.result = search rules in
-    subst (λ (z : ℤ). IsWithin 2000000000 z) (sym cost) (within_wider 357492 2000000000 c.cost_of_moves.result (omega arith) c.cost_of_moves.ensures.small)
+pub move_to-requires-clause-within : goal.move_to-requires-clause-within
+move_to-requires-clause-within c =
+    let same : c.resolution-resolution.result ≡ c.args.self.now.matrix.resolution = c.resolution-resolution.ensures.value ∙ ap (λ (t : State). t.matrix.resolution) c.self.view_is in
+    subst (λ r. IsInSpace r c.target-to.result) same c.target-to.ensures.stays
 
-pub invariant_of-self : goal.invariant_of-self
-invariant_of-self c =
-    let may : MayTake c.self.inside.matrix.resolution c.self.inside.crew c.args.bot 0 (LMove c.args.d c.args.e) = subst (λ (t : State). MayTake t.matrix.resolution t.bots c.args.bot 0 (LMove c.args.d c.args.e)) (sym c.self.view_is) (c.requires.may 0) in
-    subst (λ (bots : List Bot). All (λ b. IsInSpace c.self.inside.matrix.resolution b.pos) bots)
-    (sym (bots_moved_twice c.self.inside.crew c.move_to.new.self c.args.bot 0 c.args.d c.args.e c.diff.result c.diff-2.result c.target-middle.result c.target.result may.active c.diff.ensures.value c.diff-2.ensures.value c.target-middle.ensures.sum c.target.ensures.sum c.move_to.ensures.moved))
-    (turn_within c.self.inside.matrix.resolution c.self.inside.crew c.args.bot 0 (LMove c.args.d c.args.e) c.self.invariant may)
+pub pay-requires-clause-payable : goal.pay-requires-clause-payable
+pay-requires-clause-payable c =
+    let s : State = c.args.self.now in
+    let may : MayTake s.matrix.resolution s.bots c.args.bot 0 (LMove c.args.d c.args.e) = c.requires.may 0 in
+    subst (λ (t : State). IsWithin 9000000000000000000 t.energy) (sym (gone s c.move_to.new.self c.args.bot c.target-to.result may.active c.move_to.ensures.moved)) c.requires.payable
+
+pub pay-requires-clause-small : goal.pay-requires-clause-small
+pay-requires-clause-small c =
+    let same : to_z w64 (of_z w64 c.cost_of_moves.result) ≡ c.cost_of_moves.result = search rules in
+    subst (λ (z : ℤ). IsWithin 357492 z) (sym same) c.cost_of_moves.ensures.small
 
 pub returns-clause-value : goal.returns-clause-value
 returns-clause-value c = λ partner.
-    let may : MayTake c.self.inside.matrix.resolution c.self.inside.crew c.args.bot 0 (LMove c.args.d c.args.e) = subst (λ (t : State). MayTake t.matrix.resolution t.bots c.args.bot 0 (LMove c.args.d c.args.e)) (sym c.self.view_is) (c.requires.may 0) in
-    let same : to_z w64 (of_z w64 c.paid-self-inside.result) ≡ c.paid-self-inside.result = search rules in
-    let had : to_z w64 (of_z w64 c.self.inside.energy) ≡ c.self.inside.energy = search rules in
-    let cost : to_z w64 (of_z w64 c.cost_of_moves.result) ≡ c.cost_of_moves.result = search rules in
-    let energy : to_z w64 (of_z w64 c.paid-self-inside.result) ≡ c.self.inside.energy +ℤ pos (2 * (mlen c.args.d + 2 + mlen c.args.e)) =
-    same ∙ (c.paid-self-inside.ensures ∙ (λ i. had i +ℤ (cost ∙ c.cost_of_moves.ensures.value) i)) in
-    let bots : c.move_to.new.self ≡ bots_after_turn c.self.inside.crew c.args.bot partner (LMove c.args.d c.args.e) =
-    bots_moved_twice c.self.inside.crew c.move_to.new.self c.args.bot partner c.args.d c.args.e c.diff.result c.diff-2.result c.target-middle.result c.target.result may.active c.diff.ensures.value c.diff-2.ensures.value c.target-middle.ensures.sum c.target.ensures.sum c.move_to.ensures.moved in
-    let old : State = record { matrix = c.self.inside.matrix; harmonics = c.self.inside.harmonics; bots = c.self.inside.crew; energy = c.self.inside.energy; profile = c.self.inside.profile } in
-    subst (λ (t : State). record old { bots = c.move_to.new.self; energy = to_z w64 (of_z w64 c.paid-self-inside.result) } ≡ after_turn t c.args.bot partner (LMove c.args.d c.args.e)) c.self.view_is
-    (moved_twice old c.move_to.new.self (to_z w64 (of_z w64 c.paid-self-inside.result)) c.args.bot partner c.args.d c.args.e c.resolution-resolution.ensures.whole.voxels bots energy)
+    let s : State = c.args.self.now in
+    let may : MayTake s.matrix.resolution s.bots c.args.bot 0 (LMove c.args.d c.args.e) = c.requires.may 0 in
+    let same : to_z w64 (of_z w64 c.cost_of_moves.result) ≡ c.cost_of_moves.result = search rules in
+    let whole : IsWhole s.matrix = subst (λ (t : State). IsWhole t.matrix) c.self.view_is c.resolution-resolution.ensures.whole in
+    let bots = bots_moved_twice s.bots c.args.bot partner c.args.d c.args.e c.diff.result c.diff-2.result c.target-middle.result c.target-to.result c.diff.ensures.value c.diff-2.ensures.value c.target-middle.ensures.sum c.target-to.ensures.sum in
+    c.pay.ensures.value
+    ∙ (ap (λ (t : State). record t { energy = t.energy +ℤ to_z w64 (of_z w64 c.cost_of_moves.result) }) (gone s c.move_to.new.self c.args.bot c.target-to.result may.active c.move_to.ensures.moved)
+    ∙ moved_twice s (replaced s.bots (c.args.bot.bid ∷ []) (moved c.args.bot (point c.target-to.result) ∷ [])) (s.energy +ℤ to_z w64 (of_z w64 c.cost_of_moves.result)) c.args.bot partner c.args.d c.args.e whole.voxels bots (ap (λ z. s.energy +ℤ z) (same ∙ c.cost_of_moves.ensures.value)))
 
 pub returns-clause-within : goal.returns-clause-within
 returns-clause-within c = λ k h.
-    let same : to_z w64 (of_z w64 c.paid-self-inside.result) ≡ c.paid-self-inside.result = search rules in
-    let had : to_z w64 (of_z w64 c.self.inside.energy) ≡ c.self.inside.energy = search rules in
-    let cost : to_z w64 (of_z w64 c.cost_of_moves.result) ≡ c.cost_of_moves.result = search rules in
-    subst (λ (z : ℤ). IsWithin (k + 357492) z) (sym (same ∙ (c.paid-self-inside.ensures ∙ (λ i. had i +ℤ cost i))))
-    (within_more k 357492 c.self.inside.energy c.cost_of_moves.result (subst (λ (t : State). IsWithin k t.energy) (sym c.self.view_is) h) c.cost_of_moves.ensures.small)
+    let s : State = c.args.self.now in
+    let may : MayTake s.matrix.resolution s.bots c.args.bot 0 (LMove c.args.d c.args.e) = c.requires.may 0 in
+    c.pay.ensures.within k (subst (λ (t : State). IsWithin k t.energy) (sym (gone s c.move_to.new.self c.args.bot c.target-to.result may.active c.move_to.ensures.moved)) h)
