@@ -19,7 +19,7 @@ use Rattle.step_order.proofs.Facts.{Rising, rising_is}
 use Rattle.step_order.proofs.Lists.{In, filter_every, none_find}
 use Rattle.step_groups.specs.Apart.{AreAllApart, IsApartFrom}
 use Rattle.step_groups.specs.Boxes.{IsHull, in_boxes}
-use Rattle.step_groups.specs.Groups.{judge_with}
+use Rattle.step_groups.specs.Groups.{AreLone, judge_with}
 use Rattle.step_groups.specs.Judging.{is_alone}
 use Rattle.step_groups.proofs.Couples.{pairs_miss}
 use Rattle.step_groups.proofs.Joined.{in_all}
@@ -149,13 +149,15 @@ module _ (m : Matrix) (bots : List Bot) (commands : List Command) (lengths : len
   own_members : (a : Act) → In a (acts bots commands) → members (acts bots commands) a ≡ a ∷ []
   own_members a i = alone_members m (acts bots commands) up a i (alone_in bots commands a alone i)
 
-  -- each bot is a group of its own
-  pub lone_groups : All (λ a. members (acts bots commands) a ≡ a ∷ []) (acts bots commands)
+  lone_groups : All (λ a. members (acts bots commands) a ≡ a ∷ []) (acts bots commands)
   lone_groups = in_all (λ (a : Act). members (acts bots commands) a ≡ a ∷ []) (acts bots commands) own_members
 
-  -- each bot leads one
-  pub lone_leaders : leaders (acts bots commands) ≡ acts bots commands
+  lone_leaders : leaders (acts bots commands) ≡ acts bots commands
   lone_leaders = filter_every (is_leader (acts bots commands)) (acts bots commands) (λ a i. alone_leads m (acts bots commands) up a i (alone_in bots commands a alone i))
+
+  -- each bot is a group of its own
+  pub all_lone : AreLone (acts bots commands)
+  all_lone = record { leads = lone_leaders; alone = lone_groups }
 
   -- and none interferes with another where they are apart
   pub lone_pairs : (step : ℕ) → AreAllApart (acts bots commands) → first_value (judge_pairs m (acts bots commands) step (leaders (acts bots commands))) ≡ None

@@ -8,7 +8,7 @@ use Rattle.nano_spec.specs.declared.outcomes.Broken.{Broken}
 use Rattle.nano_spec.specs.declared.outcomes.Rule.TheVariants.{Interference}
 use Rattle.nano_spec.specs.Act.{Act, stays_in_space}
 use Rattle.nano_spec.specs.First.{first_value}
-use Rattle.nano_spec.specs.Group.{members}
+use Rattle.nano_spec.specs.Group.{leaders, members}
 use Rattle.nano_spec.specs.Matrix.{Matrix}
 use Rattle.nano_spec.specs.Rules.{broken_by, clash}
 use Rattle.nano_spec.specs.Volatile.{is_volatile, is_volatile_of}
@@ -56,3 +56,8 @@ judge_with m all step a more = first_value (map (λ b. broken_by step Interferen
 pub record AreJudged (r : ℕ) (all : List Act) : Type 0 where
   pub stays : All (λ a. IsTrue (stays_in_space r a)) all
   pub few : All (λ a. length (members all a) ≤ 8) all
+
+-- each of the bots is a group of its own
+pub record AreLone (all : List Act) : Type 0 where
+  pub leads : leaders all ≡ all
+  pub alone : All (λ a. members all a ≡ a ∷ []) all

@@ -1,5 +1,6 @@
 -- The rules of single bots, bot by bot (docs/FORMATS.md, "Rules").
-use Rattle.std.specs.Prelude.{ℕ, ◌*◌, ◌^◌, ◌==◌, Bool, true, false, ◌&&◌, ◌||◌, not, cond, pos, List, [], ◌∷◌, length, flat_map, count_by, Option, Some, None, Result, Ok, Err}
+use Rattle.std.specs.Prelude.{◌≡◌, ℕ, ◌*◌, ◌^◌, ◌==◌, Bool, true, false, ◌&&◌, ◌||◌, not, cond, pos, List, [], ◌∷◌, length, flat_map, count_by, Option, Some, None, Result}
+use Rattle.std.specs.Result.{result_err}
 use Rattle.std.specs.Option.{option_or}
 use Rattle.vox_geom.specs.declared.difference.Diff.{Diff}
 use Rattle.vox_geom.specs.Point.{Point, point, plus}
@@ -28,8 +29,7 @@ first_fault s all step a rules = first_value (judge_by rules s all step a)
 
 -- the rule that is broken, where one is
 abbrev pub rule_broken : {T : Type 0} → Result T Broken → Option Broken
-rule_broken (Ok value) = None
-rule_broken (Err broken) = Some broken
+rule_broken judged = result_err judged
 
 -- the command that fills the voxel at a difference, or else the one that voids it
 abbrev pub edit_of : Bool → Diff → Command
@@ -43,6 +43,10 @@ judge_bot s all step a = first_fault s all step a rules_of_bots
 -- the rules after the one on the profile
 abbrev pub later_rules : List Rule
 later_rules = HaltAlone ∷ HaltOrigin ∷ HaltLow ∷ OutOfSpace ∷ Blocked ∷ Seeds ∷ InRegion ∷ Partner ∷ GroupShape ∷ []
+
+-- the first rule after the one on the profile that a bot breaks, whatever the state is beside the matrix and whoever else acts
+abbrev pub IsLaterFault : Matrix → ℕ → Act → Option Broken → Type 0
+IsLaterFault m step a fault = (s : State) (all : List Act) → fault ≡ first_fault (record s { matrix = m }) all step a later_rules
 
 -- a state at the start of a step, as far as the rules read it: they do not ask for the energy
 abbrev pub start_of : Matrix → Harmonics → Profile → List Bot → State

@@ -1,9 +1,9 @@
 //! The groups of a step.
-ghost use Rattle.std.specs.Prelude.{◌≡◌, ◌+◌, ◌≤◌, ◌*◌, ℤ, [], ◌∷◌, All, IsTrue, IfErr, IfOk, OnErr, OnOk, Some, None};
+ghost use Rattle.std.specs.Prelude.{◌≡◌, ◌+◌, ◌≤◌, ◌*◌, ℤ, [], IsTrue, IfErr, IfOk, OnErr, OnOk, Some, None};
 ghost use Rattle.std.specs.List.{list_all};
-ghost use Rattle.nano_spec.specs.Group.{leaders, members};
+ghost use Rattle.nano_spec.specs.Group.{leaders};
 ghost use Rattle.nano_spec.specs.Work.{volatile_total};
-ghost use Rattle.step_groups.specs.Groups.{AreGroups};
+ghost use Rattle.step_groups.specs.Groups.{AreGroups, AreLone};
 ghost use Rattle.step_groups.specs.Judging.{is_alone};
 ghost use Rattle.step_groups.specs.Steps.{CanBeJudged, acts_of_step, broken_in};
 
@@ -101,8 +101,7 @@ impl Groups {
         requires step { CanBeJudged step.now }
         requires lone { IsTrue (list_all is_alone step.now.commands.now) }
         ensures value { (energy : ℤ) → result ≡ broken_in step.now energy }
-        ensures leads { leaders (acts_of_step step.now) ≡ acts_of_step step.now }
-        ensures alone { All (λ a. members (acts_of_step step.now) a ≡ a ∷ []) (acts_of_step step.now) }
+        ensures lone { AreLone (acts_of_step step.now) }
         ensures touches { steps.new ≤ steps.old + 2 * volatile_total step.now.planes.now (acts_of_step step.now) }
     {
         let apart = match judge_apart(step, steps) {

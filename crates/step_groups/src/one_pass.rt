@@ -1,15 +1,13 @@
 //! The judgement of bots each of which acts alone, and whether they are apart, in one pass: by one box around all that is
 //! volatile for the bots so far.
-ghost use Rattle.std.specs.Prelude.{◌≡◌, ◌+◌, ◌≤◌, ◌||◌, nat_lt, true, length, List, IfNone, IfOk, IsTrue, sum_by};
+ghost use Rattle.std.specs.Prelude.{◌≡◌, ◌+◌, ◌≤◌, ◌||◌, nat_lt, true, length, IfNone, IfOk, IsTrue, sum_by};
 ghost use Rattle.vox_geom.specs.declared.coordinate.Coord.{Coord as Coordinate};
 ghost use Rattle.vox_geom.specs.Point.{point};
 ghost use Rattle.vox_geom.specs.Region.{is_within, span};
 ghost use Rattle.vox_geom.specs.Space.{IsInSpace};
 ghost use Rattle.nano_spec.specs.declared.commands.Command.TheVariants.{Fill, SMove, Void};
-ghost use Rattle.nano_spec.specs.Act.{Act};
-ghost use Rattle.nano_spec.specs.State.{State};
 ghost use Rattle.step_groups.specs.Apart.{AreAllApart};
-ghost use Rattle.step_groups.specs.Judging.{act, first_fault, judge_bot as judge_bot_of, judge_each, later_rules, rule_broken, touches_of};
+ghost use Rattle.step_groups.specs.Judging.{IsLaterFault, act, judge_bot as judge_bot_of, judge_each, rule_broken, touches_of};
 ghost use Rattle.step_groups.specs.Outlines.{IsHullFor, IsVolatileFor, LiesBetween, TakesIn};
 ghost use Rattle.step_groups.specs.Steps.{CanBeJudged, CanJudge, acts_of_step, later_fault, start_of_step};
 
@@ -83,8 +81,7 @@ fn hull_of_move<L: Ledger>(
     steps: &mut Steps<L>,
 ) -> Result<Region, Broken>
     requires { IsInSpace planes.now.resolution bot.pos }
-    ensures value { (s : State) (all : List Act)
-        → rule_broken result ≡ first_fault (record s { matrix = planes.now }) all step (act bot (SMove d)) later_rules }
+    ensures value { IsLaterFault planes.now step (act bot (SMove d)) (rule_broken result) }
     ensures hull { IfOk result (IsHullFor (act bot (SMove d))) }
     ensures touches { steps.new ≤ steps.old + touches_of planes.now (act bot (SMove d)) }
 {
@@ -96,8 +93,8 @@ fn hull_of_move<L: Ledger>(
 #[inline(always)]
 fn hull_of_edit(planes: &Planes, step: u32, bot: Bot, d: Diff) -> Result<Region, Broken>
     requires { IsInSpace planes.now.resolution bot.pos }
-    ensures fill { (s : State) (all : List Act) → rule_broken result ≡ first_fault (record s { matrix = planes.now }) all step (act bot (Fill d)) later_rules }
-    ensures void { (s : State) (all : List Act) → rule_broken result ≡ first_fault (record s { matrix = planes.now }) all step (act bot (Void d)) later_rules }
+    ensures fill { IsLaterFault planes.now step (act bot (Fill d)) (rule_broken result) }
+    ensures void { IsLaterFault planes.now step (act bot (Void d)) (rule_broken result) }
     ensures filled { IfOk result (IsHullFor (act bot (Fill d))) }
     ensures voided { IfOk result (IsHullFor (act bot (Void d))) }
 {

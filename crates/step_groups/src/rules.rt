@@ -8,7 +8,7 @@ ghost use Rattle.nano_spec.specs.Rules.{broken_by};
 ghost use Rattle.nano_spec.specs.State.{State, seed_list};
 ghost use Rattle.vox_geom.specs.Space.{is_before as is_before_of};
 ghost use Rattle.vox_planes.specs.Difference.{earlier as earlier_of};
-ghost use Rattle.step_groups.specs.Judging.{act, rule_broken, first_fault, judge_bot as judge_bot_of, later_rules, judge_each, touches_of};
+ghost use Rattle.step_groups.specs.Judging.{IsLaterFault, act, rule_broken, first_fault, judge_bot as judge_bot_of, later_rules, judge_each, touches_of};
 ghost use Rattle.step_groups.specs.Outlines.{IsHullFor};
 ghost use Rattle.step_groups.specs.Steps.{CanBeJudged, CanJudge, acts_of_step, later_fault, start_of_step};
 
@@ -68,16 +68,16 @@ pub(crate) fn reached(planes: &Planes, from: Coord, d: Diff) -> Option<Coord>
 }
 
 /// The first rule that a bot with `Halt` breaks.
-fn judge_halt(step: u32, bots: &[Bot], harmonics: Harmonics, bot: Bot) -> Option<Broken>
-    ensures { (s : State) (all : List Act) → result ≡ first_fault (record s { bots = bots.now; harmonics = harmonics }) all step (act bot Halt) later_rules }
+fn judge_halt(step: &Step, bot: Bot) -> Option<Broken>
+    ensures { result ≡ later_fault step.now (act bot Halt) }
 {
     let origin = Coord { x: 0, y: 0, z: 0 };
-    if bots.len() > 1 {
-        broken_here(step, bot, Rule::HaltAlone)
+    if step.bots.len() > 1 {
+        broken_here(step.number, bot, Rule::HaltAlone)
     } else if bot.pos != origin {
-        broken_here(step, bot, Rule::HaltOrigin)
-    } else if harmonics == Harmonics::High {
-        broken_here(step, bot, Rule::HaltLow)
+        broken_here(step.number, bot, Rule::HaltOrigin)
+    } else if step.harmonics == Harmonics::High {
+        broken_here(step.number, bot, Rule::HaltLow)
     } else {
         None
     }
@@ -105,8 +105,7 @@ pub(crate) fn end_of_move<L: Ledger>(
     steps: &mut Steps<L>,
 ) -> Result<Coord, Broken>
     requires { IsInSpace planes.now.resolution bot.pos }
-    ensures value { (s : State) (all : List Act)
-        → rule_broken result ≡ first_fault (record s { matrix = planes.now }) all step (act bot (SMove d)) later_rules }
+    ensures value { IsLaterFault planes.now step (act bot (SMove d)) (rule_broken result) }
     ensures sum { IfOk result (λ to. point to ≡ plus (point bot.pos) d) }
     ensures within { IfOk result (λ to. IsInSpace planes.now.resolution to) }
     ensures touches { steps.new ≤ steps.old + touches_of planes.now (act bot (SMove d)) }
@@ -129,13 +128,10 @@ fn judge_smove<L: Ledger>(
     steps: &mut Steps<L>,
 ) -> Option<Broken>
     requires { IsInSpace planes.now.resolution bot.pos }
-    ensures value { (s : State) (all : List Act) → result ≡ first_fault (record s { matrix = planes.now }) all step (act bot (SMove d)) later_rules }
+    ensures value { IsLaterFault planes.now step (act bot (SMove d)) result }
     ensures touches { steps.new ≤ steps.old + touches_of planes.now (act bot (SMove d)) }
 {
-    match end_of_move(planes, step, bot, d, steps) {
-        Ok(_) => None,
-        Err(broken) => Some(broken),
-    }
+    end_of_move(planes, step, bot, d, steps).err()
 }
 
 /// Whether the one coordinate is before the other.
@@ -173,8 +169,7 @@ pub(crate) fn hull_of_moves<L: Ledger>(
     steps: &mut Steps<L>,
 ) -> Result<Region, Broken>
     requires { IsInSpace planes.now.resolution bot.pos }
-    ensures value { (s : State) (all : List Act)
-        → rule_broken result ≡ first_fault (record s { matrix = planes.now }) all step (act bot (LMove d e)) later_rules }
+    ensures value { IsLaterFault planes.now step (act bot (LMove d e)) (rule_broken result) }
     ensures hull { IfOk result (IsHullFor (act bot (LMove d e))) }
     ensures touches { steps.new ≤ steps.old + touches_of planes.now (act bot (LMove d e)) }
 {
@@ -204,13 +199,10 @@ fn judge_lmove<L: Ledger>(
     steps: &mut Steps<L>,
 ) -> Option<Broken>
     requires { IsInSpace planes.now.resolution bot.pos }
-    ensures value { (s : State) (all : List Act) → result ≡ first_fault (record s { matrix = planes.now }) all step (act bot (LMove d e)) later_rules }
+    ensures value { IsLaterFault planes.now step (act bot (LMove d e)) result }
     ensures touches { steps.new ≤ steps.old + touches_of planes.now (act bot (LMove d e)) }
 {
-    match hull_of_moves(planes, step, bot, d, e, steps) {
-        Ok(_) => None,
-        Err(broken) => Some(broken),
-    }
+    hull_of_moves(planes, step, bot, d, e, steps).err()
 }
 
 /// Whether a fission with m asks for more seeds than the bot has.
@@ -230,7 +222,7 @@ fn judge_fission<L: Ledger>(
     steps: &mut Steps<L>,
 ) -> Option<Broken>
     requires { IsInSpace planes.now.resolution bot.pos }
-    ensures value { (s : State) (all : List Act) → result ≡ first_fault (record s { matrix = planes.now }) all step (act bot (FissionOf d m)) later_rules }
+    ensures value { IsLaterFault planes.now step (act bot (FissionOf d m)) result }
     ensures touches { steps.new ≤ steps.old + touches_of planes.now (act bot (FissionOf d m)) }
 {
     let Some(to) = reached(planes, bot.pos, d) else {
@@ -254,8 +246,8 @@ pub(crate) fn judge_still(step: u32, bot: Bot) -> Option<Broken>
 #[inline(always)]
 pub(crate) fn named_by(planes: &Planes, step: u32, bot: Bot, d: Diff) -> Result<Coord, Broken>
     requires { IsInSpace planes.now.resolution bot.pos }
-    ensures fill { (s : State) (all : List Act) → rule_broken result ≡ first_fault (record s { matrix = planes.now }) all step (act bot (Fill d)) later_rules }
-    ensures void { (s : State) (all : List Act) → rule_broken result ≡ first_fault (record s { matrix = planes.now }) all step (act bot (Void d)) later_rules }
+    ensures fill { IsLaterFault planes.now step (act bot (Fill d)) (rule_broken result) }
+    ensures void { IsLaterFault planes.now step (act bot (Void d)) (rule_broken result) }
     ensures sum { IfOk result (λ at. point at ≡ plus (point bot.pos) d) }
     ensures within { IfOk result (λ at. IsInSpace planes.now.resolution at) }
 {
@@ -268,24 +260,17 @@ pub(crate) fn named_by(planes: &Planes, step: u32, bot: Bot, d: Diff) -> Result<
 /// The first rule that a bot with `Fill` or `Void` breaks.
 fn judge_near(planes: &Planes, step: u32, bot: Bot, d: Diff) -> Option<Broken>
     requires { IsInSpace planes.now.resolution bot.pos }
-    ensures fill { (s : State) (all : List Act) → result ≡ first_fault (record s { matrix = planes.now }) all step (act bot (Fill d)) later_rules }
-    ensures void { (s : State) (all : List Act) → result ≡ first_fault (record s { matrix = planes.now }) all step (act bot (Void d)) later_rules }
+    ensures fill { IsLaterFault planes.now step (act bot (Fill d)) result }
+    ensures void { IsLaterFault planes.now step (act bot (Void d)) result }
 {
-    match named_by(planes, step, bot, d) {
-        Ok(_) => None,
-        Err(broken) => Some(broken),
-    }
+    named_by(planes, step, bot, d).err()
 }
 
 /// The first rule that a bot with `FusionP` or `FusionS` breaks.
 fn judge_fusion(step: &Step, bot: &Bot, command: &Command, d: Diff) -> Option<Broken>
     requires { CanJudge step.now bot.now }
-    ensures primary { (s : State) → command.now ≡ FusionP d
-        → result ≡ first_fault (record s { matrix = step.now.planes.now }) (acts_of_step step.now) step.now.number
-        (act bot.now command.now) later_rules }
-    ensures secondary { (s : State) → command.now ≡ FusionS d
-        → result ≡ first_fault (record s { matrix = step.now.planes.now }) (acts_of_step step.now) step.now.number
-        (act bot.now command.now) later_rules }
+    ensures primary { command.now ≡ FusionP d → result ≡ later_fault step.now (act bot.now command.now) }
+    ensures secondary { command.now ≡ FusionS d → result ≡ later_fault step.now (act bot.now command.now) }
 {
     let Some(_to) = reached(step.planes, bot.pos, d) else {
         return broken_here(step.number, *bot, Rule::OutOfSpace);
@@ -297,12 +282,8 @@ fn judge_fusion(step: &Step, bot: &Bot, command: &Command, d: Diff) -> Option<Br
 /// The first rule that a bot with a group command breaks.
 fn judge_group(step: &Step, bot: &Bot, command: &Command, d: Diff, f: Diff) -> Option<Broken>
     requires { CanJudge step.now bot.now }
-    ensures fill { (s : State) → command.now ≡ GFill d f
-        → result ≡ first_fault (record s { matrix = step.now.planes.now }) (acts_of_step step.now) step.now.number
-        (act bot.now command.now) later_rules }
-    ensures void { (s : State) → command.now ≡ GVoid d f
-        → result ≡ first_fault (record s { matrix = step.now.planes.now }) (acts_of_step step.now) step.now.number
-        (act bot.now command.now) later_rules }
+    ensures fill { command.now ≡ GFill d f → result ≡ later_fault step.now (act bot.now command.now) }
+    ensures void { command.now ≡ GVoid d f → result ≡ later_fault step.now (act bot.now command.now) }
 {
     let Some(near) = reached(step.planes, bot.pos, d) else {
         return broken_here(step.number, *bot, Rule::OutOfSpace);
@@ -332,7 +313,7 @@ pub(crate) fn judge_later<L: Ledger>(
     let planes = step.planes;
     let number = step.number;
     match command {
-        Command::Halt => judge_halt(number, step.bots, step.harmonics, *bot),
+        Command::Halt => judge_halt(step, *bot),
         Command::Wait => judge_still(number, *bot),
         Command::Flip => judge_still(number, *bot),
         Command::SMove(d) => judge_smove(planes, number, *bot, d.diff(), steps),

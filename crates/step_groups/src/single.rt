@@ -1,13 +1,13 @@
 //! The step of a single bot.
-ghost use Rattle.std.specs.Prelude.{◌≡◌, ◌≤◌, ◌+◌, ◌*◌, ℤ, All, IfOk, length, [], ◌∷◌};
+ghost use Rattle.std.specs.Prelude.{◌≡◌, ◌≤◌, ◌+◌, ◌*◌, ℤ, IfOk, length, [], ◌∷◌};
 ghost use Rattle.vox_geom.specs.Point.{point, plus};
 ghost use Rattle.vox_geom.specs.Space.{IsInSpace};
 ghost use Rattle.nano_spec.specs.declared.commands.Command.TheVariants.{SMove};
 ghost use Rattle.nano_spec.specs.declared.system.Harmonics.{Harmonics as HarmonicsOf};
 ghost use Rattle.nano_spec.specs.Act.{acts};
-ghost use Rattle.nano_spec.specs.Group.{leaders, members};
 ghost use Rattle.nano_spec.specs.Rules.{broken};
 ghost use Rattle.nano_spec.specs.Work.{volatile_total};
+ghost use Rattle.step_groups.specs.Groups.{AreLone};
 ghost use Rattle.step_groups.specs.Judging.{edit_of, rule_broken, start_of};
 ghost use Rattle.step_groups.specs.Steps.{CanBeJudged, acts_of_step, broken_in};
 
@@ -24,8 +24,7 @@ pub fn judge_single<L: Ledger>(step: &Step, steps: &mut Steps<L>) -> Option<Brok
     requires one { length step.now.bots.now ≡ 1 }
     requires step { CanBeJudged step.now }
     ensures value { (energy : ℤ) → result ≡ broken_in step.now energy }
-    ensures leads { leaders (acts_of_step step.now) ≡ acts_of_step step.now }
-    ensures alone { All (λ a. members (acts_of_step step.now) a ≡ a ∷ []) (acts_of_step step.now) }
+    ensures lone { AreLone (acts_of_step step.now) }
     ensures touches { steps.new ≤ steps.old + 2 * volatile_total step.now.planes.now (acts_of_step step.now) }
 {
     judge_bots(step, steps)

@@ -1,13 +1,13 @@
 //! The turns of the groups of a step.
-ghost use Rattle.std.specs.Prelude.{◌≡◌, ◌+◌, ◌*◌, ◌<◌, ◌≤◌, ℕ, ℤ, [], ◌∷◌, List, All, AllPairs, IfNone, IsPermutation, IsTrue, filter, length, map, slice_index_or, take};
+ghost use Rattle.std.specs.Prelude.{◌≡◌, ◌+◌, ◌*◌, ◌<◌, ◌≤◌, ℕ, ℤ, [], ◌∷◌, List, AllPairs, IfNone, IsPermutation, IsTrue, filter, length, map, slice_index_or, take};
 ghost use Rattle.arrayvec.specs.ArrayVec.{array_vec_len};
 ghost use Rattle.std.specs.List.{Contains, list_all};
 ghost use Rattle.nano_spec.specs.declared.commands.Command.{Command};
 ghost use Rattle.nano_spec.specs.declared.system.Bot.{Bot as ActiveBot};
 ghost use Rattle.nano_spec.specs.Act.{acts};
-ghost use Rattle.nano_spec.specs.Group.{is_leader, leaders, members};
+ghost use Rattle.nano_spec.specs.Group.{is_leader, leaders};
 ghost use Rattle.nano_spec.specs.Work.{volatile_total};
-ghost use Rattle.step_groups.specs.Groups.{AreGroups};
+ghost use Rattle.step_groups.specs.Groups.{AreGroups, AreLone};
 ghost use Rattle.system_state.specs.Turns.{AreAllTurns, AreTurns, first_mate as first_mate_of, leader_of};
 ghost use Rattle.step_groups.specs.Judging.{act, is_alone};
 ghost use Rattle.step_groups.specs.Steps.{CanBeJudged, acts_of_step, broken_in};
@@ -213,8 +213,7 @@ fn list_group_turns(turns: &mut ArrayVec<Turn, MOST_BOTS>, groups: &[Group], bot
 /// The turns of bots each of which is a group of its own.
 fn list_lone_turns(turns: &mut ArrayVec<Turn, MOST_BOTS>, bots: &[Bot])
     requires { length bots.now ≤ 40 }
-    ensures { (commands : List Command) → length commands ≡ length bots.now → leaders (acts bots.now commands) ≡ acts bots.now commands
-        → All (λ a. members (acts bots.now commands) a ≡ a ∷ []) (acts bots.now commands)
+    ensures { (commands : List Command) → length commands ≡ length bots.now → AreLone (acts bots.now commands)
         → AreTurns (acts bots.now commands) (leaders (acts bots.now commands)) turns.new.items }
 {
     turns.clear();

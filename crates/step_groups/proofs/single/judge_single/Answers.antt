@@ -6,11 +6,11 @@ use Rattle.step_groups.proofs.single.judge_single.Goals as goal
 pub returns-clause-value : goal.returns-clause-value
 returns-clause-value g c = by_itself c.args.step.now.planes.now c.args.step.now.harmonics c.args.step.now.profile c.args.step.now.bots.now c.args.step.now.commands.now c.args.step.now.number c.judge_bots.result c.requires.one c.requires.step.lengths c.judge_bots.ensures.value
 
-pub returns-clause-leads : goal.returns-clause-leads
-returns-clause-leads g c = single_leads c.args.step.now.bots.now c.args.step.now.commands.now c.requires.one c.requires.step.lengths
-
-pub returns-clause-alone : goal.returns-clause-alone
-returns-clause-alone g c = single_group c.args.step.now.bots.now c.args.step.now.commands.now c.requires.one c.requires.step.lengths
+pub returns-clause-lone : goal.returns-clause-lone
+returns-clause-lone g c = record {
+  leads = single_leads c.args.step.now.bots.now c.args.step.now.commands.now c.requires.one c.requires.step.lengths;
+  alone = single_group c.args.step.now.bots.now c.args.step.now.commands.now c.requires.one c.requires.step.lengths;
+}
 
 pub returns-clause-touches : goal.returns-clause-touches
 returns-clause-touches g c = touched c.args.step.now.planes.now c.args.step.now.bots.now c.args.step.now.commands.now c.args.steps.now c.judge_bots.new.steps c.requires.step.lengths c.requires.step.crew.rising c.judge_bots.ensures.touches

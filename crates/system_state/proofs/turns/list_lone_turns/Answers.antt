@@ -23,8 +23,8 @@ loop-i-preserved c = record {
 }
 
 pub returns : goal.returns
-returns c = λ commands e leads alone.
+returns c = λ commands e lone.
     let all = acts c.args.bots.now commands in
-    subst (λ (xs : List Act). AreTurns all xs c.loop-i.turns.items) (sym leads)
+    subst (λ (xs : List Act). AreTurns all xs c.loop-i.turns.items) (sym lone.leads)
     (subst (λ (xs : List Act). AreTurns all xs c.loop-i.turns.items) (take_whole c.loop-i.i all (let n : length all ≡ length c.args.bots.now = acts_count c.args.bots.now commands e in let m = c.loop-i-test.false in omega arith))
-    (c.loop-i.invariant.turns commands e alone))
+    (c.loop-i.invariant.turns commands e lone.alone))

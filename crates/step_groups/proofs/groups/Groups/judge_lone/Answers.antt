@@ -5,7 +5,7 @@ use Rattle.step_groups.specs.Groups.{AreGroups, AreJudged}
 use Rattle.step_groups.specs.Steps.{acts_of_step, start_of_step}
 use Rattle.step_groups.specs.declared.groups.Group.{Group}
 use Rattle.step_groups.proofs.Few.{judged}
-use Rattle.step_groups.proofs.Lone.{lone_groups, lone_leaders, lone_pairs}
+use Rattle.step_groups.proofs.Lone.{all_lone, lone_pairs}
 use Rattle.step_groups.proofs.Sums.{touched}
 use Rattle.step_groups.proofs.Whole.{by_bot, by_pair}
 use Rattle.step_groups.proofs.groups.Groups.judge_lone.Goals as goal
@@ -13,11 +13,8 @@ use Rattle.step_groups.proofs.groups.Groups.judge_lone.Goals as goal
 pub returns-in-Err-clause-value : goal.returns-in-Err-clause-value
 returns-in-Err-clause-value g c = λ energy. sym (by_bot c.args.step.now (Some c.in-Err.broken) c.in-Err.broken c.requires.step.lengths c.in-Err.ensures.value refl energy)
 
-pub returns-in-Err-clause-leads : goal.returns-in-Err-clause-leads
-returns-in-Err-clause-leads g c = lone_leaders c.args.step.now.planes.now c.args.step.now.bots.now c.args.step.now.commands.now c.requires.step.lengths c.requires.step.crew.rising c.requires.lone
-
-pub returns-in-Err-clause-alone : goal.returns-in-Err-clause-alone
-returns-in-Err-clause-alone g c = lone_groups c.args.step.now.planes.now c.args.step.now.bots.now c.args.step.now.commands.now c.requires.step.lengths c.requires.step.crew.rising c.requires.lone
+pub returns-in-Err-clause-lone : goal.returns-in-Err-clause-lone
+returns-in-Err-clause-lone g c = all_lone c.args.step.now.planes.now c.args.step.now.bots.now c.args.step.now.commands.now c.requires.step.lengths c.requires.step.crew.rising c.requires.lone
 
 pub returns-in-Err-clause-touches : goal.returns-in-Err-clause-touches
 returns-in-Err-clause-touches g c = touched c.args.step.now.planes.now c.args.step.now.bots.now c.args.step.now.commands.now c.args.steps.now c.judge_apart.new.steps c.requires.step.lengths c.requires.step.crew.rising c.judge_apart.ensures.touches
@@ -32,11 +29,8 @@ returns-then-apart-clause-value g c =
     let none = lone_pairs c.args.step.now.planes.now c.args.step.now.bots.now c.args.step.now.commands.now c.requires.step.lengths c.requires.step.crew.rising c.requires.lone c.args.step.now.number (c.in-Ok.ensures.apart c.if-apart.true) in
     λ energy. sym (by_pair c.args.step.now None None None c.requires.step.lengths c.in-Ok.ensures.value refl (sym none) refl energy)
 
-pub returns-then-apart-clause-leads : goal.returns-then-apart-clause-leads
-returns-then-apart-clause-leads g c = lone_leaders c.args.step.now.planes.now c.args.step.now.bots.now c.args.step.now.commands.now c.requires.step.lengths c.requires.step.crew.rising c.requires.lone
-
-pub returns-then-apart-clause-alone : goal.returns-then-apart-clause-alone
-returns-then-apart-clause-alone g c = lone_groups c.args.step.now.planes.now c.args.step.now.bots.now c.args.step.now.commands.now c.requires.step.lengths c.requires.step.crew.rising c.requires.lone
+pub returns-then-apart-clause-lone : goal.returns-then-apart-clause-lone
+returns-then-apart-clause-lone g c = all_lone c.args.step.now.planes.now c.args.step.now.bots.now c.args.step.now.commands.now c.requires.step.lengths c.requires.step.crew.rising c.requires.lone
 
 pub returns-then-apart-clause-touches : goal.returns-then-apart-clause-touches
 returns-then-apart-clause-touches g c = touched c.args.step.now.planes.now c.args.step.now.bots.now c.args.step.now.commands.now c.args.steps.now c.judge_apart.new.steps c.requires.step.lengths c.requires.step.crew.rising c.judge_apart.ensures.touches
@@ -46,11 +40,8 @@ returns-then-are_apart-clause-value g c =
     let none = lone_pairs c.args.step.now.planes.now c.args.step.now.bots.now c.args.step.now.commands.now c.requires.step.lengths c.requires.step.crew.rising c.requires.lone c.args.step.now.number (c.are_apart.ensures c.if-are_apart.true) in
     λ energy. sym (by_pair c.args.step.now None None None c.requires.step.lengths c.in-Ok.ensures.value refl (sym none) refl energy)
 
-pub returns-then-are_apart-clause-leads : goal.returns-then-are_apart-clause-leads
-returns-then-are_apart-clause-leads g c = lone_leaders c.args.step.now.planes.now c.args.step.now.bots.now c.args.step.now.commands.now c.requires.step.lengths c.requires.step.crew.rising c.requires.lone
-
-pub returns-then-are_apart-clause-alone : goal.returns-then-are_apart-clause-alone
-returns-then-are_apart-clause-alone g c = lone_groups c.args.step.now.planes.now c.args.step.now.bots.now c.args.step.now.commands.now c.requires.step.lengths c.requires.step.crew.rising c.requires.lone
+pub returns-then-are_apart-clause-lone : goal.returns-then-are_apart-clause-lone
+returns-then-are_apart-clause-lone g c = all_lone c.args.step.now.planes.now c.args.step.now.bots.now c.args.step.now.commands.now c.requires.step.lengths c.requires.step.crew.rising c.requires.lone
 
 pub returns-then-are_apart-clause-touches : goal.returns-then-are_apart-clause-touches
 returns-then-are_apart-clause-touches g c = touched c.args.step.now.planes.now c.args.step.now.bots.now c.args.step.now.commands.now c.args.steps.now c.judge_apart.new.steps c.requires.step.lengths c.requires.step.crew.rising c.judge_apart.ensures.touches
@@ -65,11 +56,8 @@ returns-clause-value g c = λ energy.
     sym (by_pair c.args.step.now None c.judge_pairs.result c.judge_pairs.result c.requires.step.lengths c.in-Ok.ensures.value refl
     (c.judge_pairs.ensures m all (leaders all) (subst (λ (gs : List Group). AreGroups m.resolution all (leaders all) gs) (sym c.as_slice.ensures.value) c.list_groups.ensures)) refl energy)
 
-pub returns-clause-leads : goal.returns-clause-leads
-returns-clause-leads g c = lone_leaders c.args.step.now.planes.now c.args.step.now.bots.now c.args.step.now.commands.now c.requires.step.lengths c.requires.step.crew.rising c.requires.lone
-
-pub returns-clause-alone : goal.returns-clause-alone
-returns-clause-alone g c = lone_groups c.args.step.now.planes.now c.args.step.now.bots.now c.args.step.now.commands.now c.requires.step.lengths c.requires.step.crew.rising c.requires.lone
+pub returns-clause-lone : goal.returns-clause-lone
+returns-clause-lone g c = all_lone c.args.step.now.planes.now c.args.step.now.bots.now c.args.step.now.commands.now c.requires.step.lengths c.requires.step.crew.rising c.requires.lone
 
 pub returns-clause-touches : goal.returns-clause-touches
 returns-clause-touches g c = touched c.args.step.now.planes.now c.args.step.now.bots.now c.args.step.now.commands.now c.args.steps.now c.judge_apart.new.steps c.requires.step.lengths c.requires.step.crew.rising c.judge_apart.ensures.touches
