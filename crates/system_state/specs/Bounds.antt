@@ -1,5 +1,5 @@
 -- Within which energies a step can be paid.
-use Rattle.std.specs.Prelude.{ℕ, ℤ, pos, ◌+ℤ◌, ◌≤ℤ◌}
+use Rattle.std.specs.Prelude.{ℕ, ◌+◌, ℤ, pos, ◌+ℤ◌, ◌≤ℤ◌}
 
 -- the number is at most k either way
 pub record IsWithin (k : ℕ) (z : ℤ) : Type 0 where
@@ -9,3 +9,15 @@ pub record IsWithin (k : ℕ) (z : ℤ) : Type 0 where
 -- a step can be paid: the energy is at most 2 to the power of 62 either way
 abbrev pub IsPayable : ℤ → Type 0
 IsPayable energy = IsWithin 4611686018427387904 energy
+
+-- a turn can be paid
+abbrev pub IsTurnPayable : ℤ → Type 0
+IsTurnPayable energy = IsWithin 9000000000000000000 energy
+
+-- what a turn costs, either way: at most 12 for each voxel of the greatest region
+abbrev pub IsTurnCost : ℤ → Type 0
+IsTurnCost cost = IsWithin 357492 cost
+
+-- the one energy comes from the other by what a turn costs
+abbrev pub IsAfterTurn : ℤ → ℤ → Type 0
+IsAfterTurn old new = (k : ℕ) → IsWithin k old → IsWithin (k + 357492) new

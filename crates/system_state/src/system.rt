@@ -17,7 +17,7 @@ ghost use Rattle.nano_spec.specs.Work.{volatile_total};
 ghost use Rattle.bot_crew.specs.Crew.{IsCrew, bot_of};
 ghost use Rattle.step_groups.specs.Judging.{is_alone, act, edit_of};
 ghost use Rattle.vox_planes.specs.Voxel.{IsWhole, with_voxel};
-ghost use Rattle.system_state.specs.Bounds.{IsPayable, IsWithin};
+ghost use Rattle.system_state.specs.Bounds.{IsAfterTurn, IsPayable, IsTurnCost, IsTurnPayable, IsWithin};
 ghost use Rattle.system_state.specs.Edited.{edit_cost};
 ghost use Rattle.system_state.specs.Effects.{MayTake, after_turn};
 ghost use Rattle.system_state.specs.Painting.{met_count};
@@ -86,14 +86,14 @@ fn length_of(d: Short) -> u32
 #[inline(always)]
 fn cost_of_moves(d: Short, e: Short) -> i64
     ensures value { result ≡ pos (2 * (mlen d + 2 + mlen e)) }
-    ensures small { IsWithin 357492 result }
+    ensures small { IsTurnCost result }
 {
     2 * i64::from(length_of(d) + 2 + length_of(e))
 }
 
 /// The energy after a cost.
 fn paid(energy: i64, cost: i64) -> i64
-    requires energy { IsWithin 9000000000000000000 energy }
+    requires energy { IsTurnPayable energy }
     requires cost { IsWithin 2000000000 cost }
     ensures { result ≡ energy +ℤ cost }
 {
@@ -283,13 +283,13 @@ impl System {
 
     /// What a turn costs is paid.
     #[inline(always)]
-    fn pay(&mut self, price: i64)
-        requires payable { IsWithin 9000000000000000000 self.old.energy }
-        requires small { IsWithin 357492 price }
-        ensures value { self.new ≡ record self.old { energy = self.old.energy +ℤ price } }
-        ensures within { (k : ℕ) → IsWithin k self.old.energy → IsWithin (k + 357492) self.new.energy }
+    fn pay(&mut self, cost: i64)
+        requires payable { IsTurnPayable self.old.energy }
+        requires small { IsTurnCost cost }
+        ensures value { self.new ≡ record self.old { energy = self.old.energy +ℤ cost } }
+        ensures within { IsAfterTurn self.old.energy self.new.energy }
     {
-        self.energy = paid(self.energy, price);
+        self.energy = paid(self.energy, cost);
     }
 
     /// The turn of a group, by the command of its leader. Waits, moves and edits of one voxel, which most commands of many bots
@@ -297,9 +297,9 @@ impl System {
     #[inline(always)]
     fn take_turn<L: Ledger>(&mut self, turn: Turn, command: &Command, steps: &mut Steps<L>)
         requires may { IfSome (bot_of self.old.bots turn.leader) (λ bot. MayTake self.old.matrix.resolution self.old.bots bot turn.partner command.now) }
-        requires payable { IsWithin 9000000000000000000 self.old.energy }
+        requires payable { IsTurnPayable self.old.energy }
         ensures value { IfSome (bot_of self.old.bots turn.leader) (λ bot. self.new ≡ after_turn self.old bot turn.partner command.now) }
-        ensures within { (k : ℕ) → IsWithin k self.old.energy → IsWithin (k + 357492) self.new.energy }
+        ensures within { IsAfterTurn self.old.energy self.new.energy }
         ensures touches { IfSome (bot_of self.old.bots turn.leader) (λ bot. steps.new ≤ steps.old + met_count self.old.matrix bot command.now) }
     {
         let _ = self.matrix.resolution();
@@ -326,9 +326,9 @@ impl System {
     #[inline(always)]
     fn take_move(&mut self, bot: Bot, d: Long)
         requires may { (partner : ℕ) → MayTake self.old.matrix.resolution self.old.bots bot partner (SMove d) }
-        requires payable { IsWithin 9000000000000000000 self.old.energy }
+        requires payable { IsTurnPayable self.old.energy }
         ensures value { (partner : ℕ) → self.new ≡ after_turn self.old bot partner (SMove d) }
-        ensures within { (k : ℕ) → IsWithin k self.old.energy → IsWithin (k + 357492) self.new.energy }
+        ensures within { IsAfterTurn self.old.energy self.new.energy }
     {
         let to = target(self.matrix.resolution(), bot.pos, d.diff());
         self.move_to(bot.bid, to);
@@ -339,9 +339,9 @@ impl System {
     #[inline(always)]
     fn take_moves(&mut self, bot: Bot, d: Short, e: Short)
         requires may { (partner : ℕ) → MayTake self.old.matrix.resolution self.old.bots bot partner (LMove d e) }
-        requires payable { IsWithin 9000000000000000000 self.old.energy }
+        requires payable { IsTurnPayable self.old.energy }
         ensures value { (partner : ℕ) → self.new ≡ after_turn self.old bot partner (LMove d e) }
-        ensures within { (k : ℕ) → IsWithin k self.old.energy → IsWithin (k + 357492) self.new.energy }
+        ensures within { IsAfterTurn self.old.energy self.new.energy }
     {
         let resolution = self.matrix.resolution();
         let middle = target(resolution, bot.pos, d.diff());
@@ -354,9 +354,9 @@ impl System {
     #[inline(always)]
     fn take_edit<L: Ledger>(&mut self, bot: Bot, d: Near, full: bool, steps: &mut Steps<L>)
         requires may { (partner : ℕ) → MayTake self.old.matrix.resolution self.old.bots bot partner (edit_of full d) }
-        requires payable { IsWithin 9000000000000000000 self.old.energy }
+        requires payable { IsTurnPayable self.old.energy }
         ensures value { (partner : ℕ) → self.new ≡ after_turn self.old bot partner (edit_of full d) }
-        ensures within { (k : ℕ) → IsWithin k self.old.energy → IsWithin (k + 357492) self.new.energy }
+        ensures within { IsAfterTurn self.old.energy self.new.energy }
         ensures touches { steps.new ≤ steps.old + met_count self.old.matrix bot (edit_of full d) }
     {
         let resolution = self.matrix.resolution();
@@ -369,9 +369,9 @@ impl System {
     #[inline(always)]
     fn edit_voxel(&mut self, at: Coord, full: bool, was_full: bool)
         requires at { IsInSpace self.old.matrix.resolution at }
-        requires payable { IsWithin 9000000000000000000 self.old.energy }
+        requires payable { IsTurnPayable self.old.energy }
         ensures value { self.new ≡ record self.old { matrix = with_voxel self.old.matrix at full; energy = self.old.energy +ℤ edit_cost full was_full } }
-        ensures within { (k : ℕ) → IsWithin k self.old.energy → IsWithin (k + 357492) self.new.energy }
+        ensures within { IsAfterTurn self.old.energy self.new.energy }
     {
         self.set_voxel(at, full);
         self.pay(cost_of_edit(full, was_full));
@@ -386,16 +386,16 @@ impl System {
         steps: &mut Steps<L>,
     )
         requires may { MayTake self.old.matrix.resolution self.old.bots bot partner command.now }
-        requires payable { IsWithin 9000000000000000000 self.old.energy }
+        requires payable { IsTurnPayable self.old.energy }
         ensures value { self.new ≡ after_turn self.old bot partner command.now }
-        ensures within { (k : ℕ) → IsWithin k self.old.energy → IsWithin (k + 357492) self.new.energy }
+        ensures within { IsAfterTurn self.old.energy self.new.energy }
         ensures touches { steps.new ≤ steps.old + met_count self.old.matrix bot command.now }
     {
         let resolution = self.matrix.resolution();
         let cost = pay_turn(&mut self.matrix, bot, command, steps);
         move_bots(&mut self.crew, resolution, bot, partner, command);
         self.harmonics = harmonics_by(self.harmonics, command);
-        self.energy = paid(self.energy, cost);
+        self.pay(cost);
     }
 
     /// The groups take their turns, one after another: all effects and costs of a step that breaks no rule at its start.

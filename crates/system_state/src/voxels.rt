@@ -7,7 +7,7 @@ ghost use Rattle.nano_spec.specs.Energy.{group_cost};
 ghost use Rattle.nano_spec.specs.Matrix.{Matrix};
 ghost use Rattle.nano_spec.specs.Step.{matrix_after};
 ghost use Rattle.energy_sum.specs.Costs.{met_full_count, void_count};
-ghost use Rattle.system_state.specs.Bounds.{IsWithin};
+ghost use Rattle.system_state.specs.Bounds.{IsTurnCost};
 ghost use Rattle.system_state.specs.Edited.{region_of};
 ghost use Rattle.system_state.specs.Painting.{full_in, met_count, size_in, void_in, with_cells, with_span};
 ghost use Rattle.vox_planes.specs.Voxel.{IsWhole};
@@ -127,7 +127,7 @@ pub(crate) fn pay_turn<L: Ledger>(
     requires stays { IsTrue (stays_in_space matrix.old.resolution (act bot command.now)) }
     ensures matrix { matrix.new ≡ matrix_after matrix.old (act bot command.now ∷ []) }
     ensures cost { result ≡ group_cost matrix.old (point bot.pos) command.now }
-    ensures small { IsWithin 357492 result }
+    ensures small { IsTurnCost result }
     ensures touches { steps.new ≤ steps.old + met_count matrix.old bot command.now }
 {
     a_group_costs_little();

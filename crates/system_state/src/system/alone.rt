@@ -12,7 +12,7 @@ ghost use Rattle.nano_spec.specs.Rules.{broken as broken_of};
 ghost use Rattle.nano_spec.specs.Step.{after};
 ghost use Rattle.nano_spec.specs.Work.{volatile_total};
 ghost use Rattle.step_groups.specs.Judging.{edit_of, rule_broken};
-ghost use Rattle.system_state.specs.Bounds.{IsPayable, IsWithin};
+ghost use Rattle.system_state.specs.Bounds.{IsPayable, IsTurnCost};
 ghost use Rattle.system_state.specs.Edited.{edit_cost};
 
 use super::System;
@@ -93,7 +93,7 @@ impl System {
 #[inline(always)]
 pub(super) fn cost_of_edit(full: bool, was_full: bool) -> i64
     ensures value { result ≡ edit_cost full was_full }
-    ensures small { IsWithin 357492 result }
+    ensures small { IsTurnCost result }
 {
     if full {
         if was_full { 6 } else { 12 }
@@ -108,7 +108,7 @@ pub(super) fn cost_of_edit(full: bool, was_full: bool) -> i64
 #[inline(always)]
 pub(super) fn cost_of_move(d: Long) -> i64
     ensures value { result ≡ pos (2 * mlen d) }
-    ensures small { IsWithin 357492 result }
+    ensures small { IsTurnCost result }
 {
     2 * i64::from(d.diff().mlen())
 }
