@@ -1,18 +1,20 @@
 -- Voxels that follow one another in a row of a brick, and become void together.
-use Rattle.std.proofs.Common.{◌≡◌, ℕ, ◌+◌, ◌-◌, ◌/◌, ◌%◌, ◌<◌, ◌≤◌, inl, inr, refl, sym, ◌∙◌, ap, subst, arith, List, length, Option, Some, None}
+use Rattle.std.proofs.Common.{◌≡◌, ℕ, ◌+◌, ◌-◌, ◌/◌, ◌%◌, ◌<◌, ◌≤◌, inl, inr, refl, sym, ◌∙◌, ap, subst, arith, List, length, get_or, Option, Some, None}
 use Rattle.std.specs.Prelude.{slice_index_or}
 use Rattle.std.proofs.lemmas.Bool.{cases_lt}
 use Rattle.std.proofs.lemmas.List.{get_or_default}
 use Rattle.vox_geom.specs.declared.coordinate.Coord.{Coord}
 use Rattle.vox_geom.specs.Space.{IsInSpace}
 use Rattle.support_forest.specs.Directions.{Toward}
-use Rattle.support_forest.specs.Grid.{Grid, brick, slot_of, word_at}
-use Rattle.support_forest.specs.Stretches.{LieInRow, IsStretch, RowHangsNot, SideHangsNot, further}
+use Rattle.brick_arena.specs.Slots.{HasSlot, start_in_chunk, words_of}
+use Rattle.support_forest.specs.Grid.{Grid, IsStore, StandsAt, brick, side, slot_of, word_at, word_index}
+use Rattle.support_forest.specs.Placing.{IsIndexToward, IsWordToward}
+use Rattle.support_forest.specs.Stretches.{IsBrickRow, LieInRow, IsStretch, RowHangsNot, SideHangsNot, WordsHangNot, further}
 use Rattle.support_forest.specs.Taking.{HangsNot}
 use Rattle.support_forest.specs.Words.{AreExact}
-use Rattle.support_forest.proofs.Nearby.{same_slot}
-use Rattle.support_forest.proofs.Sides.{one_toward}
-use Rattle.support_forest.proofs.Writes.{reads_none}
+use Rattle.support_forest.proofs.Nearby.{same_slot, stands_beside}
+use Rattle.support_forest.proofs.Store.{index_below}
+use Rattle.support_forest.proofs.Writes.{reads_index, reads_none}
 
 -- ---- where a stretch begins
 
@@ -79,21 +81,40 @@ one_more_before gone end last most count c b g l m h x y z = record {
 pub row_space : (g : Grid) (c : Coord) (n k : ℕ) → LieInRow g c n → k < n → IsInSpace g.resolution (further c k)
 row_space g c n k h l = record { x = h.within.x; y = h.within.y; z = let m = h.last in omega arith }
 
+-- the voxels of a row lie in one brick
+row_brick : (c : Coord) (n k : ℕ) → c.z % 8 + n ≤ 8 → k < n → brick (further c k) ≡ brick c
+row_brick c n k r l = let z : (c.z + k) / 8 ≡ c.z / 8 = omega arith in λ j. record { x = c.x / 8; y = c.y / 8; z = z j }
+
 pub row_slot : (g : Grid) (c : Coord) (n k : ℕ) (own : Option ℕ) → LieInRow g c n → k < n → own ≡ slot_of g c → own ≡ slot_of g (further c k)
-row_slot g c n k own h l e =
-    let r = h.row in
-    let z : (c.z + k) / 8 ≡ c.z / 8 = omega arith in
-    let b : brick (further c k) ≡ brick c = λ j. record { x = c.x / 8; y = c.y / 8; z = z j } in
-    same_slot g c (further c k) own b e
+row_slot g c n k own h l e = same_slot g c (further c k) own (row_brick c n k h.row l) e
 
 pub row_void : (g : Grid) (c : Coord) (n toward : ℕ) → LieInRow g c n → None ≡ slot_of g c → RowHangsNot (word_at g) c n toward
 row_void g c n toward h e k l f = let z : 0 ≡ word_at g (further c k) = reads_none g (further c k) (row_space g c n k h l) (row_slot g c n k None h l e) in absurd (omega arith)
 
-pub hangs_more : (w : Coord → ℕ) (c : Coord) (k toward word : ℕ) → RowHangsNot w c k toward → word ≡ w (further c k) → HangsNot word toward → RowHangsNot w c (k + 1) toward
-hangs_more w c k toward word h e n j l = elim (cases_lt j k) [
-  | inl m ↦ h j m
-  | inr m ↦ let p : k ≡ j = omega arith in subst (λ (i : ℕ). HangsNot (w (further c i)) toward) p (subst (λ (v : ℕ). HangsNot v toward) e n)
-]
+row_index : (c : Coord) (n k index : ℕ) → c.z % 8 + n ≤ 8 → k < n → index ≡ word_index c → word_index (further c k) ≡ index + k
+unfolding word_index
+row_index c n k index r l e = omega arith
+
+-- the words of a row stand in the chunk that has its slot
+pub row_in_chunk : (g : Grid) (chunk : List ℕ) (slot index from n : ℕ) (c : Coord) → HasSlot g.bricks slot chunk → index ≡ word_index c → c.z % 8 + n ≤ 8 → from ≡ start_in_chunk slot + index → from + n ≤ length chunk
+unfolding word_index
+row_in_chunk g chunk slot index from n c h e r f = let full = h.full in omega arith
+
+-- what the words of the chunk say, those of the row do, which may lie beyond space
+pub row_in_slot : (g : Grid) (chunk : List ℕ) (slot index from n toward : ℕ) (c : Coord) → IsStore g → IsInSpace (side g.resolution) (brick c) → c.z % 8 + n ≤ 8 → slot_of g c ≡ Some slot → HasSlot g.bricks slot chunk → index ≡ word_index c → from ≡ start_in_chunk slot + index → WordsHangNot chunk from n toward → RowHangsNot (word_at g) c n toward
+row_in_slot g chunk slot index from n toward c s b r e h i f w k l =
+    let same : brick (further c k) ≡ brick c = row_brick c n k r l in
+    let at : word_index (further c k) ≡ index + k = row_index c n k index r l i in
+    let below : index + k < 512 = let p = index_below (further c k) in omega arith in
+    let stands : StandsAt g slot (index + k) (further c k) = record {
+      within = subst (λ (x : Coord). IsInSpace (side g.resolution) x) (sym same) b;
+      in_slot = sym (same_slot g c (further c k) (Some slot) same (sym e));
+      at_index = at;
+    } in
+    let place : from + k ≡ start_in_chunk slot + (index + k) = omega arith in
+    let read : word_at g (further c k) ≡ get_or (words_of g.bricks slot) (index + k) 0 = reads_index g (further c k) slot (index + k) (get_or (words_of g.bricks slot) (index + k) 0) s stands refl in
+    let here : get_or chunk (from + k) 0 ≡ get_or (words_of g.bricks slot) (index + k) 0 = ap (λ (j : ℕ). get_or chunk j 0) place ∙ h.each (index + k) below in
+    subst (λ (v : ℕ). HangsNot v toward) (here ∙ sym read) (w k l)
 
 -- ---- the words at a side
 
@@ -161,14 +182,26 @@ side_none g r c n d toward b h e space none k p l t f m =
     let z = h.within.z in
     none (record { x = p.x; y = p.y; z = c.z }) (side_back d k c p b.1 t) (subst (λ (i : ℕ). IsInSpace i (record { x = p.x; y = p.y; z = c.z })) (sym e) (record { x = s.x; y = s.y; z = z }))
 
-pub end_free : (w : Coord → ℕ) (c q : Coord) (d toward : ℕ) → Toward d c q → RowHangsNot w q 1 toward → SideHangsNot w c 1 d toward
-end_free w c q d toward t h k p l u =
+-- a side in the brick at hand
+pub side_in_slot : (g : Grid) (chunk : List ℕ) (slot index from n d toward : ℕ) (c : Coord) → (0 < d) × (d ≤ 4) → IsStore g → IsBrickRow g slot c n → HasSlot g.bricks slot chunk → IsIndexToward c d index → from ≡ start_in_chunk slot + index → WordsHangNot chunk from n toward → SideHangsNot (word_at g) c n d toward
+side_in_slot g chunk slot index from n d toward c r s b h t f w =
+    let at : StandsAt g slot index t.there = stands_beside g c d slot index b.row.within b.own t in
+    let z : t.there.z ≡ c.z = same_height d c t.there r.1 t.toward in
+    let o = b.row.row in
+    side_free (word_at g) c t.there n d toward r t.toward
+    (row_in_slot g chunk slot index from n toward t.there s at.within (omega arith) at.in_slot h (sym at.at_index) f w)
+
+pub side_in_chunk : (g : Grid) (chunk : List ℕ) (slot index from n d : ℕ) (c : Coord) → d ≤ 4 → IsBrickRow g slot c n → HasSlot g.bricks slot chunk → IsIndexToward c d index → from ≡ start_in_chunk slot + index → from + n ≤ length chunk
+side_in_chunk g chunk slot index from n d c r b h t f =
+    let z : t.there.z ≡ c.z = same_height d c t.there r t.toward in
+    let o = b.row.row in
+    row_in_chunk g chunk slot index from n t.there h (sym t.at_index) (omega arith) f
+
+pub end_free : (w : Coord → ℕ) (c : Coord) (d toward word : ℕ) → IsWordToward w c d word → HangsNot word toward → SideHangsNot w c 1 d toward
+end_free w c d toward word t h k p l u =
     let e : c.z + k ≡ c.z = omega arith in
     let b : further c k ≡ c = λ j. record { x = c.x; y = c.y; z = e j } in
-    let s : p ≡ q = one_toward d c p q (subst (λ (x : Coord). Toward d x p) b u) t in
-    let z : q.z ≡ q.z + 0 = omega arith in
-    let f : q ≡ further q 0 = λ j. record { x = q.x; y = q.y; z = z j } in
-    subst (λ (x : Coord). HangsNot (w x) toward) (sym (s ∙ f)) (h 0 (omega arith))
+    subst (λ (v : ℕ). HangsNot v toward) (sym (t.each p (subst (λ (x : Coord). Toward d x p) b u))) h
 
 pub far_free : (w : Coord → ℕ) (c : Coord) (n : ℕ) → 0 < n → SideHangsNot w (further c (n - 1)) 1 6 5 → (p : Coord) → p.x ≡ c.x → p.y ≡ c.y → p.z ≡ c.z + n → HangsNot (w p) 5
 unfolding Toward
@@ -194,7 +227,3 @@ stretch_in_row g gone end count c e s b full =
 pub first_of : (gone : List Coord) (end from count : ℕ) (d : Coord) → 0 < count → count ≤ end → end ≤ length gone → from ≡ count → slice_index_or gone (end - from) d ≡ slice_index_or gone (end - count) (slice_index_or gone (end - from) d)
 first_of gone end from count d s b l e =
     get_or_default gone (end - from) d (slice_index_or gone (end - from) d) (omega arith) ∙ ap (λ (k : ℕ). slice_index_or gone (end - k) (slice_index_or gone (end - from) d)) e
-
--- where two voxels lie in one brick they have one slot
-pub slot_with : (g : Grid) (c d : Coord) (own : ℕ) → d.x / 8 ≡ c.x / 8 → d.y / 8 ≡ c.y / 8 → d.z / 8 ≡ c.z / 8 → slot_of g c ≡ Some own → Some own ≡ slot_of g d
-slot_with g c d own x y z e = same_slot g c d (Some own) (λ j. record { x = x j; y = y j; z = z j }) (sym e)

@@ -1,10 +1,10 @@
 -- Voxels that follow one another along z in a row of a brick, and become void together.
-use Rattle.std.specs.Prelude.{◌≡◌, ◌≢◌, ℕ, ◌+◌, ◌*◌, ◌%◌, ◌<◌, ◌≤◌, ◌⊎◌, List, length, slice_index_or}
+use Rattle.std.specs.Prelude.{◌≡◌, ◌≢◌, ℕ, ◌+◌, ◌*◌, ◌%◌, ◌<◌, ◌≤◌, ◌⊎◌, List, Some, length, slice_index, slice_index_or}
 use Rattle.std.specs.List.{AllPairs, Contains}
 use Rattle.vox_geom.specs.declared.coordinate.Coord.{Coord}
 use Rattle.vox_geom.specs.Space.{IsInSpace}
 use Rattle.support_forest.specs.Directions.{Toward}
-use Rattle.support_forest.specs.Grid.{Grid, word_at}
+use Rattle.support_forest.specs.Grid.{Grid, slot_of, word_at}
 use Rattle.support_forest.specs.Losing.{CanRemove}
 use Rattle.support_forest.specs.Taking.{HangsNot}
 use Rattle.support_forest.specs.Words.{AreExact}
@@ -25,6 +25,17 @@ pub record IsStretch (gone : List Coord) (start n : ℕ) (c : Coord) : Type 0 wh
   pub within : start + n ≤ length gone
   pub row : c.z % 8 + n ≤ 8
   pub each : (k : ℕ) (d : Coord) → k < n → slice_index_or gone (start + k) d ≡ further c k
+
+-- so many voxels from this one on, one at least, are a row of the brick with the slot, and no voxel beyond space is full
+pub record IsBrickRow (g : Grid) (slot : ℕ) (c : Coord) (n : ℕ) : Type 0 where
+  pub some : 0 < n
+  pub own : slot_of g c ≡ Some slot
+  pub row : LieInRow g c n
+  pub space : (q : Coord) → 0 < word_at g q → IsInSpace g.resolution q
+
+-- none of so many words of the list from a place on says a parent in that direction
+abbrev pub WordsHangNot : List ℕ → ℕ → ℕ → ℕ → Type 0
+WordsHangNot words from n toward = (k : ℕ) → k < n → HangsNot (slice_index words (from + k)) toward
 
 -- none of the words of the row says a parent in that direction
 abbrev pub RowHangsNot : (Coord → ℕ) → Coord → ℕ → ℕ → Type 0

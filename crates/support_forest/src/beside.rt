@@ -50,7 +50,7 @@ fn upper(at: u16, index: u16, step: u16) -> Option<u16>
 /// The index of the word of the neighbour in a direction, where it lies in the same brick.
 #[tactic(auto, unfolding(crate::specs::Grid::word_index))]
 #[inline(always)]
-fn index_toward(c: Coord, index: u16, d: u8) -> Option<u16>
+pub fn index_toward(c: Coord, index: u16, d: u8) -> Option<u16>
     requires direction { (0 < d) × (d ≤ 6) }
     requires index { index ≡ word_index_of c }
     ensures { IfSome result (IsIndexToward c d) }
@@ -111,7 +111,7 @@ pub fn word_toward<L: Ledger>(
 /// The word of the neighbour in a direction, 0 where there is none. `chunk` has the words of the slot of the voxel's brick, from
 /// `start` on: where several words are read it is looked for once.
 #[inline(always)]
-fn word_near<L: Ledger>(
+pub fn word_near<L: Ledger>(
     cells: &Cells,
     c: Coord,
     slot: u32,

@@ -1,17 +1,19 @@
 //! Takes away voxels that follow one another along z in a row of a brick: their slots are looked up once.
 //!
 //! Where a neighbour has its parent among them all of them are listed: to try each alone would read the words beside it again.
-ghost use Rattle.std.specs.Prelude.{◌≡◌, ℕ, ◌+◌, ◌-◌, ◌*◌, ◌%◌, ◌<◌, ◌≤◌, IfOk, IfSome, Some, false, true, length, slice_index_or};
+ghost use Rattle.std.specs.Prelude.{◌≡◌, ℕ, ◌+◌, ◌-◌, ◌*◌, ◌%◌, ◌^◌, ◌<◌, ◌≤◌, IfOk, IfSome, Some, false, true, length, slice_index_or};
 ghost use Rattle.vox_geom.specs.Space.{IsInSpace};
 ghost use Rattle.vox_geom.specs.declared.coordinate.Coord.{Coord};
-ghost use Rattle.support_forest.specs.Grid.{Grid, slot_of, word_at};
-ghost use Rattle.support_forest.specs.Stretches.{AreCleared, LieInRow, IsStretch, RowHangsNot, RowIsFree, SideHangsNot, TakesMore, further};
-ghost use Rattle.support_forest.specs.Taking.{HangsNot};
+ghost use Rattle.brick_arena.specs.Slots.{HasSlot};
+ghost use Rattle.support_forest.specs.Grid.{Grid, word_at};
+ghost use Rattle.support_forest.specs.Stretches.{AreCleared, IsBrickRow, IsStretch, LieInRow, RowHangsNot, RowIsFree, SideHangsNot, TakesMore, WordsHangNot};
 ghost use Rattle.support_forest.specs.Words.{AreExact};
 
-use crate::cells::{BRICK_SIDE, Cells};
+use crate::beside::{index_toward, word_near};
+use crate::cells::{BRICK_SIDE, Cells, word_index};
 use crate::directions::neighbor;
 use crate::take::{hangs, take};
+use brick_arena::{Chunk, start_in_chunk};
 use std::alloc::AllocError;
 use std::sync::ledger::Ledger;
 use vox_geom::{Coord, Steps};
@@ -38,28 +40,23 @@ fn stretch_before(gone: &[Coord], end: usize) -> u16
     count
 }
 
-/// Whether no word of the row says a parent in that direction. All are looked at, so that they can be read at once.
+/// Whether no word of the chunk from one on says a parent in that direction. All are looked at, so that they can be read at once.
 #[inline(always)]
-fn row_hangs_not<L: Ledger>(
-    cells: &Cells,
-    slot: u32,
-    first: Coord,
+fn words_hang_not<L: Ledger>(
+    chunk: &Chunk,
+    from: usize,
     count: u16,
     toward: u32,
     steps: &mut Steps<L>,
 ) -> bool
-    requires row { LieInRow cells.now first count }
-    requires slot { slot_of cells.now first ≡ Some slot }
-    ensures none { result ≡ true → RowHangsNot (word_at cells.now) first count toward }
+    requires within { from + count ≤ length chunk.now }
+    requires fits { length chunk.now < 2 ^ 32 }
+    ensures none { result ≡ true → WordsHangNot chunk.now from count toward }
     ensures touches { steps.new ≤ steps.old + count }
 {
     let mut none = true;
     for k in 0..count {
-        let at = Coord {
-            z: first.z + k,
-            ..first
-        };
-        let word = cells.word_in(Some(slot), at, steps);
+        let word = chunk.word(from + usize::from(k), steps);
         if !hangs(word, toward) {
             continue;
         }
@@ -68,51 +65,35 @@ fn row_hangs_not<L: Ledger>(
     none
 }
 
-/// The slot of a voxel's brick, with that of the brick of `c` in hand: mostly they are one.
-#[inline(always)]
-fn slot_by(cells: &Cells, c: Coord, own: u32, at: Coord) -> Option<u32>
-    requires own { slot_of cells.now c ≡ Some own }
-    requires within { IsInSpace cells.now.resolution at }
-    ensures { result ≡ slot_of cells.now at }
-{
-    if at.x / BRICK_SIDE != c.x / BRICK_SIDE {
-        return cells.slot(at);
-    }
-    if at.y / BRICK_SIDE != c.y / BRICK_SIDE {
-        return cells.slot(at);
-    }
-    if at.z / BRICK_SIDE != c.z / BRICK_SIDE {
-        return cells.slot(at);
-    }
-    Some(own)
-}
-
 /// Whether no word of the row says a parent in that direction. A row of a brick without a slot is void.
 #[inline(always)]
 fn row_is_free<L: Ledger>(
     cells: &Cells,
-    slot: Option<u32>,
     first: Coord,
     count: u16,
     toward: u32,
     steps: &mut Steps<L>,
 ) -> bool
     requires row { LieInRow cells.now first count }
-    requires slot { slot ≡ slot_of cells.now first }
     ensures none { result ≡ true → RowHangsNot (word_at cells.now) first count toward }
     ensures touches { steps.new ≤ steps.old + count }
 {
-    match slot {
-        Some(slot) => row_hangs_not(cells, slot, first, count, toward, steps),
+    match cells.slot(first) {
+        Some(slot) => {
+            let from = start_in_chunk(slot) + usize::from(word_index(first));
+            words_hang_not(cells.chunk(slot), from, count, toward, steps)
+        }
         None => true,
     }
 }
 
-/// Whether no neighbour in the direction, to a side of the row, has its parent in a voxel of the row.
+/// Whether no neighbour in the direction, to a side of the row, has its parent in a voxel of the row. In the same brick no slot
+/// is looked up, and no bound of space: a word beyond it is 0.
 #[inline(always)]
 fn side_is_free<L: Ledger>(
     cells: &Cells,
     own: u32,
+    chunk: &Chunk,
     first: Coord,
     count: u16,
     d: u8,
@@ -120,44 +101,18 @@ fn side_is_free<L: Ledger>(
     steps: &mut Steps<L>,
 ) -> bool
     requires direction { (0 < d) × (d ≤ 4) }
-    requires own { slot_of cells.now first ≡ Some own }
-    requires row { LieInRow cells.now first count }
-    requires space { (q : Coord) → 0 < word_at cells.now q → IsInSpace cells.now.resolution q }
+    requires row { IsBrickRow cells.now own first count }
+    requires chunk { HasSlot cells.now.bricks own chunk.now }
     ensures none { result ≡ true → SideHangsNot (word_at cells.now) first count d toward }
     ensures touches { steps.new ≤ steps.old + count }
 {
-    match neighbor(first, d, cells.resolution()) {
-        Some(q) => row_is_free(
-            cells,
-            slot_by(cells, first, own, q),
-            q,
-            count,
-            toward,
-            steps,
-        ),
-        None => true,
+    let r = cells.resolution();
+    if let Some(i) = index_toward(first, word_index(first), d) {
+        let from = start_in_chunk(own) + usize::from(i);
+        return words_hang_not(chunk, from, count, toward, steps);
     }
-}
-
-/// Whether the neighbour in the direction, if there is one, has its parent elsewhere.
-#[inline(always)]
-fn end_is_free<L: Ledger>(
-    cells: &Cells,
-    own: u32,
-    c: Coord,
-    d: u8,
-    toward: u32,
-    steps: &mut Steps<L>,
-) -> bool
-    requires direction { (0 < d) × (d ≤ 6) }
-    requires own { slot_of cells.now c ≡ Some own }
-    requires within { IsInSpace cells.now.resolution c }
-    requires space { (q : Coord) → 0 < word_at cells.now q → IsInSpace cells.now.resolution q }
-    ensures none { result ≡ true → SideHangsNot (word_at cells.now) c 1 d toward }
-    ensures touches { steps.new ≤ steps.old + 1 }
-{
-    match neighbor(c, d, cells.resolution()) {
-        Some(q) => row_is_free(cells, slot_by(cells, c, own, q), q, 1, toward, steps),
+    match neighbor(first, d, r) {
+        Some(q) => row_is_free(cells, q, count, toward, steps),
         None => true,
     }
 }
@@ -171,10 +126,7 @@ fn is_free<L: Ledger>(
     count: u16,
     steps: &mut Steps<L>,
 ) -> bool
-    requires some { 0 < count }
-    requires own { slot_of cells.now first ≡ Some own }
-    requires row { LieInRow cells.now first count }
-    requires space { (q : Coord) → 0 < word_at cells.now q → IsInSpace cells.now.resolution q }
+    requires { IsBrickRow cells.now own first count }
     ensures free { result ≡ true → RowIsFree (word_at cells.now) first count }
     ensures touches { steps.new ≤ steps.old + 5 * count + 2 }
 {
@@ -182,25 +134,41 @@ fn is_free<L: Ledger>(
         z: first.z + (count - 1),
         ..first
     };
-    if !side_is_free(cells, own, first, count, 4, 3, steps) {
+    let _ = cells.resolution();
+    let chunk = cells.chunk(own);
+    let start = start_in_chunk(own);
+    if !side_is_free(cells, own, chunk, first, count, 4, 3, steps) {
         return false;
     }
-    if !side_is_free(cells, own, first, count, 3, 4, steps) {
+    if !side_is_free(cells, own, chunk, first, count, 3, 4, steps) {
         return false;
     }
-    if !side_is_free(cells, own, first, count, 1, 2, steps) {
+    if !side_is_free(cells, own, chunk, first, count, 1, 2, steps) {
         return false;
     }
-    if !side_is_free(cells, own, first, count, 2, 1, steps) {
+    if !side_is_free(cells, own, chunk, first, count, 2, 1, steps) {
         return false;
     }
-    if !row_is_free(cells, Some(own), first, count, 6, steps) {
+    let from = start + usize::from(word_index(first));
+    if !words_hang_not(chunk, from, count, 6, steps) {
         return false;
     }
-    if !end_is_free(cells, own, first, 5, 6, steps) {
+    if hangs(word_near(cells, first, own, chunk, start, 5, steps), 6) {
         return false;
     }
-    end_is_free(cells, own, last, 6, 5, steps)
+    !hangs(word_near(cells, last, own, chunk, start, 6, steps), 5)
+}
+
+/// The first voxel of a whole row, said so that the compiler knows where in its brick it lies.
+#[inline(always)]
+fn whole_row(first: Coord) -> Coord
+    requires { first.z % BRICK_SIDE + BRICK_SIDE ≤ BRICK_SIDE }
+    ensures { result ≡ first }
+{
+    Coord {
+        z: first.z / BRICK_SIDE * BRICK_SIDE,
+        ..first
+    }
 }
 
 /// Whether no neighbour has its parent in a voxel of the row, but for the next voxel of the row. A whole row is read by
@@ -212,19 +180,12 @@ fn are_free<L: Ledger>(
     count: u16,
     steps: &mut Steps<L>,
 ) -> bool
-    requires some { 0 < count }
-    requires own { slot_of cells.now first ≡ Some own }
-    requires row { LieInRow cells.now first count }
-    requires space { (q : Coord) → 0 < word_at cells.now q → IsInSpace cells.now.resolution q }
+    requires { IsBrickRow cells.now own first count }
     ensures free { result ≡ true → RowIsFree (word_at cells.now) first count }
     ensures touches { steps.new ≤ steps.old + 5 * count + 2 }
 {
     if count == BRICK_SIDE {
-        let start = Coord {
-            z: first.z / BRICK_SIDE * BRICK_SIDE,
-            ..first
-        };
-        return is_free(cells, own, start, BRICK_SIDE, steps);
+        return is_free(cells, own, whole_row(first), BRICK_SIDE, steps);
     }
     is_free(cells, own, first, count, steps)
 }
@@ -240,7 +201,7 @@ fn free_slot<L: Ledger>(
     requires some { 0 < count }
     requires row { LieInRow cells.now first count }
     requires space { (q : Coord) → 0 < word_at cells.now q → IsInSpace cells.now.resolution q }
-    ensures own { IfSome result (λ own. slot_of cells.now first ≡ Some own) }
+    ensures row { IfSome result (λ own. IsBrickRow cells.now own first count) }
     ensures free { IfSome result (λ _. RowIsFree (word_at cells.now) first count) }
     ensures touches { steps.new ≤ steps.old + 5 * count + 2 }
 {
@@ -252,9 +213,15 @@ fn free_slot<L: Ledger>(
 }
 
 /// Makes the voxels of a row void, from the last to the first.
-fn clear_row<L: Ledger>(cells: &mut Cells, own: u32, first: Coord, count: u16, steps: &mut Steps<L>)
-    requires own { slot_of cells.old first ≡ Some own }
-    requires row { LieInRow cells.old first count }
+#[inline(always)]
+fn clear_voxels<L: Ledger>(
+    cells: &mut Cells,
+    own: u32,
+    first: Coord,
+    count: u16,
+    steps: &mut Steps<L>,
+)
+    requires row { IsBrickRow cells.old own first count }
     requires exact { AreExact cells.old.resolution (word_at cells.old) }
     requires free { RowIsFree (word_at cells.old) first count }
     ensures { AreCleared cells.old cells.new first 0 count steps.old steps.new }
@@ -269,6 +236,19 @@ fn clear_row<L: Ledger>(cells: &mut Cells, own: u32, first: Coord, count: u16, s
         let word = cells.word_in(Some(own), at, steps);
         cells.write(own, at, word, 0, steps);
     }
+}
+
+/// Makes the voxels of a row void, from the last to the first. A whole row is written by steps that the compiler knows.
+fn clear_row<L: Ledger>(cells: &mut Cells, own: u32, first: Coord, count: u16, steps: &mut Steps<L>)
+    requires row { IsBrickRow cells.old own first count }
+    requires exact { AreExact cells.old.resolution (word_at cells.old) }
+    requires free { RowIsFree (word_at cells.old) first count }
+    ensures { AreCleared cells.old cells.new first 0 count steps.old steps.new }
+{
+    if count == BRICK_SIDE {
+        return clear_voxels(cells, own, whole_row(first), BRICK_SIDE, steps);
+    }
+    clear_voxels(cells, own, first, count, steps)
 }
 
 /// Lists the voxels from the last before `end` down to `start`.

@@ -3,21 +3,21 @@ use Rattle.support_forest.specs.Stretches.{AreCleared, further}
 use Rattle.support_forest.proofs.Clearing.{before_left, cleared_more}
 use Rattle.support_forest.proofs.Nearby.{slot_stays}
 use Rattle.support_forest.proofs.Stretches.{row_slot}
-use Rattle.support_forest.proofs.stretch.clear_row.Goals as goal
+use Rattle.support_forest.proofs.stretch.clear_voxels.Goals as goal
 
 pub word_in-word-requires-clause-slot : goal.word_in-word-requires-clause-slot
 word_in-word-requires-clause-slot g c =
     let i = c.loop-left.invariant in
     let w = i.within in
     slot_stays c.args.cells.now c.loop-left.cells (further c.args.first (c.loop-left.left - 1)) (Some c.args.own) i.table i.resolution
-    (row_slot c.args.cells.now c.args.first c.args.count (c.loop-left.left - 1) (Some c.args.own) c.requires.row (let t = c.loop-left-test.true in omega arith) (sym c.requires.own))
+    (row_slot c.args.cells.now c.args.first c.args.count (c.loop-left.left - 1) (Some c.args.own) c.requires.row.row (let t = c.loop-left-test.true in omega arith) (sym c.requires.row.own))
 
 pub write-requires-clause-slot : goal.write-requires-clause-slot
 write-requires-clause-slot g c =
     let i = c.loop-left.invariant in
     let w = i.within in
     sym (slot_stays c.args.cells.now c.loop-left.cells (further c.args.first (c.loop-left.left - 1)) (Some c.args.own) i.table i.resolution
-    (row_slot c.args.cells.now c.args.first c.args.count (c.loop-left.left - 1) (Some c.args.own) c.requires.row (let t = c.loop-left-test.true in omega arith) (sym c.requires.own)))
+    (row_slot c.args.cells.now c.args.first c.args.count (c.loop-left.left - 1) (Some c.args.own) c.requires.row.row (let t = c.loop-left-test.true in omega arith) (sym c.requires.row.own)))
 
 pub loop-left-preserved : goal.loop-left-preserved
 loop-left-preserved g c =

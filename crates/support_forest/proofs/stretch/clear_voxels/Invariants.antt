@@ -1,5 +1,5 @@
 use Rattle.support_forest.specs.Stretches.{AreCleared}
-use Rattle.support_forest.proofs.stretch.clear_row.Given as goal
+use Rattle.support_forest.proofs.stretch.clear_voxels.Given as goal
 
 abbrev pub invariant-loop-left : goal.invariant-loop-left
 invariant-loop-left g l = AreCleared l.initial.cells l.cells l.first l.left l.count l.initial.steps l.steps
