@@ -6,7 +6,8 @@ use Rattle.vox_geom.specs.Space.{IsInSpace}
 use Rattle.support_forest.specs.declared.beside.Beside.{Beside}
 use Rattle.support_forest.specs.Directions.{Toward, AreBeside}
 use Rattle.support_forest.specs.Grid.{Grid, StandsAt, brick, brick_number, side, slot_at, slot_of, word_index}
-use Rattle.support_forest.specs.Placing.{AreBesideWords, IsIndexToward}
+use Rattle.support_forest.specs.Placing.{AreBesideWords, IsIndexToward, StayAfter}
+use Rattle.support_forest.specs.Words.{IsWritten}
 use Rattle.support_forest.proofs.Store.{brick_inside, same_brick}
 
 -- what holds of each of the six words holds of a neighbour's
@@ -108,3 +109,52 @@ stands_beside g c d slot index i e t = record {
 -- where the table stays a brick keeps its slot
 pub slot_stays : (g h : Grid) (c : Coord) (own : Option ℕ) → h.table ≡ g.table → h.resolution ≡ g.resolution → own ≡ slot_of g c → own ≡ slot_of h c
 slot_stays g h c own t r e = e ∙ (ap (λ (n : ℕ). slot_at g.table (brick_number n c)) (sym r) ∙ ap (λ (l : List (Option ℕ)). slot_at l (brick_number h.resolution c)) (sym t))
+
+-- ---- the words of other neighbours
+
+-- a neighbour lies in one direction
+one_direction : (d k : ℕ) (a b : Coord) → Toward d a b → Toward k a b → d ≡ k
+unfolding Toward
+one_direction d k a b (inl h) (inl t) = omega arith
+one_direction d k a b (inl h) (inr (inl t)) = omega arith
+one_direction d k a b (inl h) (inr (inr (inl t))) = omega arith
+one_direction d k a b (inl h) (inr (inr (inr (inl t)))) = omega arith
+one_direction d k a b (inl h) (inr (inr (inr (inr (inl t))))) = omega arith
+one_direction d k a b (inl h) (inr (inr (inr (inr (inr (t)))))) = omega arith
+one_direction d k a b (inr (inl h)) (inl t) = omega arith
+one_direction d k a b (inr (inl h)) (inr (inl t)) = omega arith
+one_direction d k a b (inr (inl h)) (inr (inr (inl t))) = omega arith
+one_direction d k a b (inr (inl h)) (inr (inr (inr (inl t)))) = omega arith
+one_direction d k a b (inr (inl h)) (inr (inr (inr (inr (inl t))))) = omega arith
+one_direction d k a b (inr (inl h)) (inr (inr (inr (inr (inr (t)))))) = omega arith
+one_direction d k a b (inr (inr (inl h))) (inl t) = omega arith
+one_direction d k a b (inr (inr (inl h))) (inr (inl t)) = omega arith
+one_direction d k a b (inr (inr (inl h))) (inr (inr (inl t))) = omega arith
+one_direction d k a b (inr (inr (inl h))) (inr (inr (inr (inl t)))) = omega arith
+one_direction d k a b (inr (inr (inl h))) (inr (inr (inr (inr (inl t))))) = omega arith
+one_direction d k a b (inr (inr (inl h))) (inr (inr (inr (inr (inr (t)))))) = omega arith
+one_direction d k a b (inr (inr (inr (inl h)))) (inl t) = omega arith
+one_direction d k a b (inr (inr (inr (inl h)))) (inr (inl t)) = omega arith
+one_direction d k a b (inr (inr (inr (inl h)))) (inr (inr (inl t))) = omega arith
+one_direction d k a b (inr (inr (inr (inl h)))) (inr (inr (inr (inl t)))) = omega arith
+one_direction d k a b (inr (inr (inr (inl h)))) (inr (inr (inr (inr (inl t))))) = omega arith
+one_direction d k a b (inr (inr (inr (inl h)))) (inr (inr (inr (inr (inr (t)))))) = omega arith
+one_direction d k a b (inr (inr (inr (inr (inl h))))) (inl t) = omega arith
+one_direction d k a b (inr (inr (inr (inr (inl h))))) (inr (inl t)) = omega arith
+one_direction d k a b (inr (inr (inr (inr (inl h))))) (inr (inr (inl t))) = omega arith
+one_direction d k a b (inr (inr (inr (inr (inl h))))) (inr (inr (inr (inl t)))) = omega arith
+one_direction d k a b (inr (inr (inr (inr (inl h))))) (inr (inr (inr (inr (inl t))))) = omega arith
+one_direction d k a b (inr (inr (inr (inr (inl h))))) (inr (inr (inr (inr (inr (t)))))) = omega arith
+one_direction d k a b (inr (inr (inr (inr (inr (h)))))) (inl t) = omega arith
+one_direction d k a b (inr (inr (inr (inr (inr (h)))))) (inr (inl t)) = omega arith
+one_direction d k a b (inr (inr (inr (inr (inr (h)))))) (inr (inr (inl t))) = omega arith
+one_direction d k a b (inr (inr (inr (inr (inr (h)))))) (inr (inr (inr (inl t)))) = omega arith
+one_direction d k a b (inr (inr (inr (inr (inr (h)))))) (inr (inr (inr (inr (inl t))))) = omega arith
+one_direction d k a b (inr (inr (inr (inr (inr (h)))))) (inr (inr (inr (inr (inr (t)))))) = omega arith
+
+-- where a neighbour's word is written, those of the others stay
+pub stay_after : (w v : Coord → ℕ) (c q : Coord) (d word : ℕ) → Toward d c q → IsWritten w v q word → StayAfter w v c d
+stay_after w v c q d word t n k m l h = record {
+  each = λ p u. n.kept p (λ e. let s : d ≡ k = one_direction d k c q t (subst (λ (x : Coord). Toward k c x) e u) in absurd (omega arith)) ∙ h.each p u;
+  some = h.some;
+}

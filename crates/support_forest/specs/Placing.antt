@@ -22,6 +22,10 @@ pub record IsWordToward (w : Coord → ℕ) (c : Coord) (d word : ℕ) : Type 0 
   pub each : (q : Coord) → Toward d c q → w q ≡ word
   pub some : 0 < word → (q : Coord) × Toward d c q
 
+-- the words of the neighbours in later directions stay
+abbrev pub StayAfter : (Coord → ℕ) → (Coord → ℕ) → Coord → ℕ → Type 0
+StayAfter w v c d = (k word : ℕ) → d < k → IsWordToward w c k word → IsWordToward v c k word
+
 -- the neighbour in the direction lies in the same brick, and its word is at that index
 pub record IsIndexToward (c : Coord) (d index : ℕ) : Type 0 where
   pub there : Coord
