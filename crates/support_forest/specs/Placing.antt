@@ -1,7 +1,8 @@
 -- A voxel that becomes full beside others whose levels stay as they are.
-use Rattle.std.specs.Prelude.{◌≡◌, true, ℕ, ◌+◌, ◌*◌, ◌/◌, ◌<◌, ◌≤◌, ◌⊎◌, List, length}
+use Rattle.std.specs.Prelude.{◌≡◌, true, ℕ, ◌+◌, ◌*◌, ◌/◌, ◌<◌, ◌≤◌, ◌⊎◌, Bool, List, MatchBool, length}
 use Rattle.std.specs.List.{Contains}
 use Rattle.vox_geom.specs.declared.coordinate.Coord.{Coord}
+use Rattle.vox_geom.specs.Space.{IsInSpace}
 use Rattle.support_forest.specs.declared.beside.Beside.{Beside}
 use Rattle.support_forest.specs.declared.place.Around.{Around}
 use Rattle.support_forest.specs.Directions.{Toward}
@@ -59,6 +60,12 @@ pub record MayStand (b : Beside) : Type 0 where
   pub near : LeavesRoom b.near (b.under / 8)
   pub far : LeavesRoom b.far (b.under / 8)
 
+-- the words are exact, and the voxel is in space and void
+pub record CanPlace (g : Grid) (c : Coord) : Type 0 where
+  pub exact : AreExact g.resolution (word_at g)
+  pub within : IsInSpace g.resolution c
+  pub void : word_at g c ≡ 0
+
 -- the voxel became full, and the words are exact
 pub record HavePlaced (old new : Grid) (c : Coord) (before after : ℕ) : Type 0 where
   pub resolution : new.resolution ≡ old.resolution
@@ -66,6 +73,10 @@ pub record HavePlaced (old new : Grid) (c : Coord) (before after : ℕ) : Type 0
   pub full : 0 < word_at new c
   pub kept : (d : Coord) → (d ≡ c → ⊥) → word_at new d ≡ word_at old d
   pub cost : after ≤ before + 7
+
+-- the voxel became full, or all stays
+abbrev pub PlacesOrStays : Bool → Grid → Grid → Coord → ℕ → ℕ → Type 0
+PlacesOrStays done old new c before after = MatchBool done (HavePlaced old new c before after) ((new ≡ old) × (after ≤ before + 6))
 
 -- those of the voxels that change no other level became full, one after another, and the rest may still be added
 pub record ArePlaced (old new : Grid) (cells rest : List Coord) (before after : ℕ) : Type 0 where

@@ -1,5 +1,5 @@
 -- A voxel that becomes void while the levels of the others stay as they are.
-use Rattle.std.specs.Prelude.{◌≡◌, ℕ, ◌+◌, ◌*◌, ◌%◌, ◌≤◌, ◌⊎◌, List, length}
+use Rattle.std.specs.Prelude.{◌≡◌, ℕ, ◌+◌, ◌*◌, ◌%◌, ◌<◌, ◌≤◌, ◌⊎◌, Bool, List, MatchBool, length}
 use Rattle.std.specs.List.{Contains}
 use Rattle.vox_geom.specs.declared.coordinate.Coord.{Coord}
 use Rattle.support_forest.specs.declared.beside.Beside.{Beside}
@@ -20,6 +20,11 @@ pub record NoneHangs (b : Beside) : Type 0 where
   pub near : HangsNot b.near 6
   pub far : HangsNot b.far 5
 
+-- the words are exact, and the voxel is full
+pub record CanTake (g : Grid) (c : Coord) : Type 0 where
+  pub exact : AreExact g.resolution (word_at g)
+  pub full : 0 < word_at g c
+
 -- the voxel became void, and the words are exact
 pub record HaveTaken (old new : Grid) (c : Coord) (before after : ℕ) : Type 0 where
   pub resolution : new.resolution ≡ old.resolution
@@ -27,6 +32,10 @@ pub record HaveTaken (old new : Grid) (c : Coord) (before after : ℕ) : Type 0 
   pub gone : word_at new c ≡ 0
   pub kept : (d : Coord) → (d ≡ c → ⊥) → word_at new d ≡ word_at old d
   pub cost : after ≤ before + 8
+
+-- the voxel became void, or all stays
+abbrev pub TakesOrStays : Bool → Grid → Grid → Coord → ℕ → ℕ → Type 0
+TakesOrStays done old new c before after = MatchBool done (HaveTaken old new c before after) ((new ≡ old) × (after ≤ before + 6))
 
 -- those of the voxels on which no other hangs became void, one after another, and the rest may still be removed
 pub record AreTaken (old new : Grid) (gone rest : List Coord) (before after : ℕ) : Type 0 where

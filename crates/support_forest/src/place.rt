@@ -1,10 +1,8 @@
 //! Puts a voxel beside others whose levels stay as they are.
-ghost use Rattle.std.specs.Prelude.{◌≡◌, ℕ, ◌+◌, ◌<◌, ◌≤◌, IfOk, MatchBool, Some, true};
-ghost use Rattle.vox_geom.specs.Space.{IsInSpace};
+ghost use Rattle.std.specs.Prelude.{◌≡◌, ℕ, ◌+◌, ◌<◌, ◌≤◌, IfOk, Some, true};
 ghost use Rattle.vox_geom.specs.declared.coordinate.Coord.{Coord};
 ghost use Rattle.support_forest.specs.Grid.{slot_of, word_at};
-ghost use Rattle.support_forest.specs.Placing.{AreBesideWords, HavePlaced, IsAround, IsWordToward, LeavesRoom, MayLieUnder, MayStand};
-ghost use Rattle.support_forest.specs.Words.{AreExact};
+ghost use Rattle.support_forest.specs.Placing.{AreBesideWords, CanPlace, IsAround, IsWordToward, LeavesRoom, MayLieUnder, MayStand, PlacesOrStays};
 
 use crate::beside::{Beside, word_toward, words_beyond, words_in};
 use crate::cells::{Cells, word_index};
@@ -112,12 +110,9 @@ fn place_beside<L: Ledger>(
     beside: Beside,
     steps: &mut Steps<L>,
 ) -> Result<bool, AllocError>
-    requires exact { AreExact cells.old.resolution (word_at cells.old) }
-    requires within { IsInSpace cells.old.resolution c }
-    requires void { word_at cells.old c ≡ 0 }
+    requires can { CanPlace cells.old c }
     requires words { AreBesideWords (word_at cells.old) c beside }
-    ensures { IfOk result (λ done. (before : ℕ) → steps.old ≤ before + 6
-        → MatchBool done (HavePlaced cells.old cells.new c before steps.new) (cells.new ≡ cells.old × steps.new ≤ before + 6)) }
+    ensures { IfOk result (λ done. (before : ℕ) → steps.old ≤ before + 6 → PlacesOrStays done cells.old cells.new c before steps.new) }
 {
     let _ = cells.slot(c);
     let around = look_around(c, beside);
@@ -139,10 +134,8 @@ fn place_first<L: Ledger>(
     c: Coord,
     steps: &mut Steps<L>,
 ) -> Result<bool, AllocError>
-    requires exact { AreExact cells.old.resolution (word_at cells.old) }
-    requires within { IsInSpace cells.old.resolution c }
-    requires void { word_at cells.old c ≡ 0 }
-    ensures { IfOk result (λ done. MatchBool done (HavePlaced cells.old cells.new c steps.old steps.new) (cells.new ≡ cells.old × steps.new ≤ steps.old + 6)) }
+    requires { CanPlace cells.old c }
+    ensures { IfOk result (λ done. PlacesOrStays done cells.old cells.new c steps.old steps.new) }
 {
     let beside = words_beyond(cells, c, steps);
     place_beside(cells, c, beside, steps)
@@ -151,12 +144,10 @@ fn place_first<L: Ledger>(
 /// [`place`] on the floor, where a full voxel has level 0: that over it is the only one that can get another level.
 #[inline(always)]
 fn place_on_floor<L: Ledger>(cells: &mut Cells, c: Coord, slot: u32, steps: &mut Steps<L>) -> bool
-    requires exact { AreExact cells.old.resolution (word_at cells.old) }
-    requires within { IsInSpace cells.old.resolution c }
-    requires void { word_at cells.old c ≡ 0 }
+    requires can { CanPlace cells.old c }
     requires floor { c.y ≡ 0 }
     requires slot { slot_of cells.old c ≡ Some slot }
-    ensures { MatchBool result (HavePlaced cells.old cells.new c steps.old steps.new) (cells.new ≡ cells.old × steps.new ≤ steps.old + 6) }
+    ensures { PlacesOrStays result cells.old cells.new c steps.old steps.new }
 {
     let over = word_toward(cells, c, Some(slot), word_index(c), 4, steps);
     if !may_lie_under(over) {
@@ -174,11 +165,9 @@ fn place_in<L: Ledger>(
     slot: u32,
     steps: &mut Steps<L>,
 ) -> Result<bool, AllocError>
-    requires exact { AreExact cells.old.resolution (word_at cells.old) }
-    requires within { IsInSpace cells.old.resolution c }
-    requires void { word_at cells.old c ≡ 0 }
+    requires can { CanPlace cells.old c }
     requires slot { slot_of cells.old c ≡ Some slot }
-    ensures { IfOk result (λ done. MatchBool done (HavePlaced cells.old cells.new c steps.old steps.new) (cells.new ≡ cells.old × steps.new ≤ steps.old + 6)) }
+    ensures { IfOk result (λ done. PlacesOrStays done cells.old cells.new c steps.old steps.new) }
 {
     let _ = cells.slot(c);
     let beside = words_in(cells, c, slot, steps);
@@ -197,10 +186,8 @@ pub fn place<L: Ledger>(
     c: Coord,
     steps: &mut Steps<L>,
 ) -> Result<bool, AllocError>
-    requires exact { AreExact cells.old.resolution (word_at cells.old) }
-    requires within { IsInSpace cells.old.resolution c }
-    requires void { word_at cells.old c ≡ 0 }
-    ensures { IfOk result (λ done. MatchBool done (HavePlaced cells.old cells.new c steps.old steps.new) (cells.new ≡ cells.old × steps.new ≤ steps.old + 6)) }
+    requires { CanPlace cells.old c }
+    ensures { IfOk result (λ done. PlacesOrStays done cells.old cells.new c steps.old steps.new) }
 {
     let Some(slot) = cells.slot(c) else {
         return place_first(cells, c, steps);

@@ -2,8 +2,7 @@
 ghost use Rattle.std.specs.Prelude.{◌≡◌, ◌+◌, ◌<◌, ◌≤◌, MatchBool, Some, false};
 ghost use Rattle.vox_geom.specs.declared.coordinate.Coord.{Coord};
 ghost use Rattle.support_forest.specs.Grid.{slot_of, word_at};
-ghost use Rattle.support_forest.specs.Taking.{HangsNot, HaveTaken, NoneHangs};
-ghost use Rattle.support_forest.specs.Words.{AreExact};
+ghost use Rattle.support_forest.specs.Taking.{CanTake, HangsNot, NoneHangs, TakesOrStays};
 
 use crate::beside::{Beside, word_toward, words_in};
 use crate::cells::{Cells, word_index};
@@ -34,11 +33,10 @@ fn is_parent(beside: Beside) -> bool
 /// [`take`] on the floor, where each full voxel stands on the floor: that over it is the only one that can hang on it.
 #[inline(always)]
 fn take_from_floor<L: Ledger>(cells: &mut Cells, c: Coord, slot: u32, steps: &mut Steps<L>) -> bool
-    requires exact { AreExact cells.old.resolution (word_at cells.old) }
-    requires full { 0 < word_at cells.old c }
+    requires can { CanTake cells.old c }
     requires floor { c.y ≡ 0 }
     requires slot { slot_of cells.old c ≡ Some slot }
-    ensures { MatchBool result (HaveTaken cells.old cells.new c steps.old steps.new) (cells.new ≡ cells.old × steps.new ≤ steps.old + 6) }
+    ensures { TakesOrStays result cells.old cells.new c steps.old steps.new }
 {
     let over = word_toward(cells, c, Some(slot), word_index(c), 4, steps);
     if hangs(over, 3) {
@@ -51,9 +49,8 @@ fn take_from_floor<L: Ledger>(cells: &mut Cells, c: Coord, slot: u32, steps: &mu
 /// Makes a full voxel void, where it is no other's parent, and tells whether it did: otherwise all stays.
 #[inline(always)]
 pub fn take<L: Ledger>(cells: &mut Cells, c: Coord, steps: &mut Steps<L>) -> bool
-    requires exact { AreExact cells.old.resolution (word_at cells.old) }
-    requires full { 0 < word_at cells.old c }
-    ensures { MatchBool result (HaveTaken cells.old cells.new c steps.old steps.new) (cells.new ≡ cells.old × steps.new ≤ steps.old + 6) }
+    requires { CanTake cells.old c }
+    ensures { TakesOrStays result cells.old cells.new c steps.old steps.new }
 {
     let Some(slot) = cells.slot(c) else {
         return false;

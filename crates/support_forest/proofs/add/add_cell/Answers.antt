@@ -3,8 +3,8 @@ use Rattle.support_forest.specs.Placing.{HavePlaced}
 use Rattle.support_forest.proofs.Placing.{placed_added, when}
 use Rattle.support_forest.proofs.add.add_cell.Goals as goal
 
-pub place-requires-clause-within : goal.place-requires-clause-within
-place-requires-clause-within g c = c.requires.space _ (0, omega arith, refl)
+pub place-requires : goal.place-requires
+place-requires g c = record { exact = c.requires.exact; within = c.requires.space _ (0, omega arith, refl); void = c.requires.void _ (0, omega arith, refl) }
 
 pub returns-then-branch : goal.returns-then-branch
 returns-then-branch g c =

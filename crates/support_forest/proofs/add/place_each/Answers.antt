@@ -1,4 +1,4 @@
-use Rattle.std.proofs.Common.{◌≡◌, ◌+◌, ◌≤◌, get_or, arith}
+use Rattle.std.proofs.Common.{◌≡◌, ◌+◌, ◌≤◌, get_or, arith, rules}
 use Rattle.std.proofs.lemmas.List.{get_or_default}
 use Rattle.vox_geom.specs.declared.coordinate.Coord.{Coord}
 use Rattle.support_forest.specs.Placing.{HavePlaced}
@@ -9,8 +9,12 @@ use Rattle.support_forest.proofs.add.place_each.Goals as goal
 abbrev origin : Coord
 origin = record { x = 0; y = 0; z = 0 }
 
-pub place-requires-clause-within : goal.place-requires-clause-within
-place-requires-clause-within g c = placing_space _ _ _ _ _ _ _ _ c.requires.can c.loop-c.invariant c.loop-c-test.true (get_or_default _ _ _ _ c.loop-c-test.true)
+pub place-requires : goal.place-requires
+place-requires g c = record {
+  exact = search rules;
+  within = placing_space _ _ _ _ _ _ _ _ c.requires.can c.loop-c.invariant c.loop-c-test.true (get_or_default _ _ _ _ c.loop-c-test.true);
+  void = search rules;
+}
 
 pub loop-c-preserved-then-branch : goal.loop-c-preserved-then-branch
 loop-c-preserved-then-branch g c =

@@ -7,10 +7,10 @@ use Rattle.support_forest.proofs.place.place_in.Goals as goal
 pub overflow_add-beside : goal.overflow_add-beside
 overflow_add-beside g c =
     let cube = cube_small c.args.cells.now.resolution c.slot.ensures.store.few in
-    let low = under_small c.args.cells.now.resolution (word_at c.args.cells.now) c.args.c c.words_in-beside.result c.requires.exact cube c.words_in-beside.ensures.words (c.if-may_stand.ensures refl) in
+    let low = under_small c.args.cells.now.resolution (word_at c.args.cells.now) c.args.c c.words_in-beside.result c.requires.can.exact cube c.words_in-beside.ensures.words (c.if-may_stand.ensures refl) in
     omega arith
 
 pub returns-then-may_stand : goal.returns-then-may_stand
 returns-then-may_stand g c =
     placed_over c.args.cells.now c.write.new.self c.args.c c.words_in-beside.result c.args.steps.now c.words_in-beside.new.steps c.write.new.steps
-    c.requires.exact c.requires.within c.requires.void c.words_in-beside.ensures.words (c.if-may_stand.ensures refl) c.write.ensures.written c.write.ensures.resolution c.words_in-beside.ensures.touches c.write.ensures.touch
+    c.requires.can.exact c.requires.can.within c.requires.can.void c.words_in-beside.ensures.words (c.if-may_stand.ensures refl) c.write.ensures.written c.write.ensures.resolution c.words_in-beside.ensures.touches c.write.ensures.touch
