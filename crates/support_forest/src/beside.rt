@@ -99,7 +99,7 @@ pub fn word_toward<L: Ledger>(
     ensures word { IsWordToward (word_at cells.now) c d result }
     ensures touch { steps.new ≤ steps.old + 1 }
 {
-    let _ = cells.resolution();
+    cells.recall();
     if let Some(slot) = own {
         if let Some(i) = index_toward(c, index, d) {
             return cells.word_of(slot, i, steps);
@@ -129,7 +129,7 @@ pub fn word_near<L: Ledger>(
     ensures word { IsWordToward (word_at cells.now) c d result }
     ensures touch { steps.new ≤ steps.old + 1 }
 {
-    let _ = cells.resolution();
+    cells.recall();
     if let Some(i) = index_toward(c, word_index(c), d) {
         return chunk.word(start + usize::from(i), steps);
     }
@@ -164,7 +164,7 @@ pub fn words_in<L: Ledger>(cells: &Cells, c: Coord, slot: u32, steps: &mut Steps
     ensures words { AreBesideWords (word_at cells.now) c result }
     ensures touches { steps.new ≤ steps.old + 6 }
 {
-    let _ = cells.resolution();
+    cells.recall();
     let chunk = cells.chunk(slot);
     let start = start_in_chunk(slot);
     Beside {

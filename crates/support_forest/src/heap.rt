@@ -34,7 +34,7 @@ fn stack<L: Ledger>(
     requires slots { AreBrickSlots cells.old c own below }
     ensures { MatchBool result (HaveStacked cells.old cells.new c steps.old steps.new) (cells.new ≡ cells.old × steps.new ≤ steps.old + 7) }
 {
-    let _ = cells.resolution();
+    cells.recall();
     if c.y == 0 {
         cells.write(own, c, 0, 8, steps);
         return true;

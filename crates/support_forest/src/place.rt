@@ -114,7 +114,7 @@ fn place_beside<L: Ledger>(
     requires words { AreBesideWords (word_at cells.old) c beside }
     ensures { IfOk result (λ done. (before : ℕ) → steps.old ≤ before + 6 → PlacesOrStays done cells.old cells.new c before steps.new) }
 {
-    let _ = cells.slot(c);
+    cells.recall();
     let around = look_around(c, beside);
     if around.height == 0 {
         cells.fill(c, 1, steps)?;
@@ -169,7 +169,7 @@ fn place_in<L: Ledger>(
     requires slot { slot_of cells.old c ≡ Some slot }
     ensures { IfOk result (λ done. PlacesOrStays done cells.old cells.new c steps.old steps.new) }
 {
-    let _ = cells.slot(c);
+    cells.recall();
     let beside = words_in(cells, c, slot, steps);
     if may_stand(beside) {
         cells.write(slot, c, 0, 8 * (beside.under / 8) + 11, steps);

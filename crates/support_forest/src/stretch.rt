@@ -106,12 +106,12 @@ fn side_is_free<L: Ledger>(
     ensures none { result ≡ true → SideHangsNot (word_at cells.now) first count d toward }
     ensures touches { steps.new ≤ steps.old + count }
 {
-    let r = cells.resolution();
+    cells.recall();
     if let Some(i) = index_toward(first, word_index(first), d) {
         let from = start_in_chunk(own) + usize::from(i);
         return words_hang_not(chunk, from, count, toward, steps);
     }
-    match neighbor(first, d, r) {
+    match neighbor(first, d, cells.resolution()) {
         Some(q) => row_is_free(cells, q, count, toward, steps),
         None => true,
     }
@@ -134,7 +134,7 @@ fn is_free<L: Ledger>(
         z: first.z + (count - 1),
         ..first
     };
-    let _ = cells.resolution();
+    cells.recall();
     let chunk = cells.chunk(own);
     let start = start_in_chunk(own);
     if !side_is_free(cells, own, chunk, first, count, 4, 3, steps) {

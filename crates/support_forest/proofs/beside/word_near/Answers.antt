@@ -22,7 +22,7 @@ returns-in-Some-clause-word g c =
     let below : c.in-Some.i < 512 = let b = index_below t.there in let same = t.at_index in omega arith in
     let at : c.args.start + c.from.result ≡ c.args.start + c.in-Some.i = let f = c.from.ensures in omega arith in
     let read = c.word.ensures.value ∙ ap (λ k. get_or c.args.chunk.now k 0) at ∙ ap (λ k. get_or c.args.chunk.now (k + c.in-Some.i) 0) c.requires.start ∙ c.requires.chunk.each c.in-Some.i below in
-    let s = reads_index c.args.cells.now t.there c.args.slot c.in-Some.i c.word.result c.resolution.ensures.store
+    let s = reads_index c.args.cells.now t.there c.args.slot c.in-Some.i c.word.result c.recall.ensures.store
     (stands_beside c.args.cells.now c.args.c c.args.d c.args.slot c.in-Some.i c.requires.within c.requires.slot t) read in
     record {
       each = λ q k. ap (word_at c.args.cells.now) (one_toward c.args.d c.args.c q t.there k t.toward) ∙ s;

@@ -6,7 +6,7 @@ use Rattle.support_forest.proofs.Store.{index_below}
 use Rattle.support_forest.proofs.beside.word_toward.Goals as goal
 
 pub word_of-requires-clause-live : goal.word_of-requires-clause-live
-word_of-requires-clause-live g c = c.resolution.ensures.store.live _ c.in-Some.slot (sym c.requires.own ∙ c.in-Some.is)
+word_of-requires-clause-live g c = c.recall.ensures.store.live _ c.in-Some.slot (sym c.requires.own ∙ c.in-Some.is)
 
 pub word_of-requires-clause-index : goal.word_of-requires-clause-index
 word_of-requires-clause-index g c =

@@ -9,7 +9,7 @@ not_so true e = sym e
 not_so false e = refl
 
 pub chunk-chunk-requires : goal.chunk-chunk-requires
-chunk-chunk-requires g c = c.resolution.ensures.store.live _ c.args.own c.requires.own
+chunk-chunk-requires g c = c.recall.ensures.store.live _ c.args.own c.requires.own
 
 pub words_hang_not-requires-clause-within : goal.words_hang_not-requires-clause-within
 words_hang_not-requires-clause-within g c =
@@ -32,7 +32,7 @@ returns-clause-free g c t =
       left = c.side_is_free-3.ensures.none c.if-not-side_is_free-3.false;
       right = c.side_is_free-4.ensures.none c.if-not-side_is_free-4.false;
       own = row_in_slot c.args.cells.now c.chunk-chunk.result.now c.args.own c.word_index.result (c.start_in_chunk-start.result + c.from.result) c.args.count 6 c.args.first
-          c.resolution.ensures.store (brick_inside c.args.cells.now.resolution c.args.first c.requires.row.within) c.requires.row.row c.requires.own c.chunk-chunk.ensures c.word_index.ensures.value (omega arith) (c.words_hang_not.ensures.none c.if-not-words_hang_not.false);
+          c.recall.ensures.store (brick_inside c.args.cells.now.resolution c.args.first c.requires.row.within) c.requires.row.row c.requires.own c.chunk-chunk.ensures c.word_index.ensures.value (omega arith) (c.words_hang_not.ensures.none c.if-not-words_hang_not.false);
       near = end_free (word_at c.args.cells.now) c.args.first 5 6 c.word_near.result c.word_near.ensures.word (c.hangs.ensures c.if-hangs.false);
       far = far_free (word_at c.args.cells.now) c.args.first c.args.count c.requires.some (end_free (word_at c.args.cells.now) _ 6 5 c.word_near-2.result c.word_near-2.ensures.word (c.hangs-2.ensures (not_so c.hangs-2.result t)));
     }

@@ -15,13 +15,13 @@ returns-in-Some-clause-none g c t =
     let s = c.start_in_chunk.ensures in
     let e = c.from.ensures in
     side_in_slot c.args.cells.now c.args.chunk.now c.args.own c.in-Some.i (c.start_in_chunk.result + c.from.result) c.args.count c.args.d c.args.toward c.args.first
-    c.requires.direction c.resolution-r.ensures.store c.requires.row c.requires.chunk c.in-Some.ensures (omega arith) (c.words_hang_not.ensures.none t)
+    c.requires.direction c.recall.ensures.store c.requires.row c.requires.chunk c.in-Some.ensures (omega arith) (c.words_hang_not.ensures.none t)
 
 pub row_is_free-requires : goal.row_is_free-requires
-row_is_free-requires g c = record { row = side_row c.args.cells.now c.args.first c.in-Some-neighbor.q c.args.count c.args.d c.requires.direction c.requires.row.row c.in-Some-neighbor.ensures.0 (subst (λ (r : ℕ). IsInSpace r c.in-Some-neighbor.q) c.resolution-r.ensures.value c.in-Some-neighbor.ensures.1) }
+row_is_free-requires g c = record { row = side_row c.args.cells.now c.args.first c.in-Some-neighbor.q c.args.count c.args.d c.requires.direction c.requires.row.row c.in-Some-neighbor.ensures.0 (subst (λ (r : ℕ). IsInSpace r c.in-Some-neighbor.q) c.resolution.ensures.value c.in-Some-neighbor.ensures.1) }
 
 pub returns-in-Some-neighbor-clause-none : goal.returns-in-Some-neighbor-clause-none
 returns-in-Some-neighbor-clause-none g c t = side_free (word_at c.args.cells.now) c.args.first c.in-Some-neighbor.q c.args.count c.args.d c.args.toward c.requires.direction c.in-Some-neighbor.ensures.0 (c.row_is_free.ensures.none t)
 
 pub returns-in-None-clause-none : goal.returns-in-None-clause-none
-returns-in-None-clause-none g c t = side_none c.args.cells.now c.resolution-r.result c.args.first c.args.count c.args.d c.args.toward c.requires.direction c.requires.row.row c.resolution-r.ensures.value c.requires.row.space c.in-None.ensures
+returns-in-None-clause-none g c t = side_none c.args.cells.now c.resolution.result c.args.first c.args.count c.args.d c.args.toward c.requires.direction c.requires.row.row c.resolution.ensures.value c.requires.row.space c.in-None.ensures
