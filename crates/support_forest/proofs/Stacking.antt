@@ -18,8 +18,9 @@ use Rattle.vox_planes.specs.Voxel.{IsWhole}
 use Rattle.vox_planes.proofs.Voxels.{get_or-where, length-where}
 use Rattle.support_forest.specs.Directions.{Toward}
 use Rattle.support_forest.specs.Grid.{Grid, brick, brick_number, slot_at, slot_of, word_at}
-use Rattle.support_forest.specs.Heap.{AreBits, AreBrickSlots, CanStack, HaveStacked, AreHeapWords, IsHeaped, IsSeen}
+use Rattle.support_forest.specs.Heap.{AreBits, AreBrickSlots, CanStack, HaveStacked, AreHeapWords, IsHeaped, IsSeen, RowStands}
 use Rattle.support_forest.specs.Standing.{matrix_of}
+use Rattle.support_forest.specs.Stretches.{further}
 use Rattle.support_forest.specs.Waiting.{CanAdd, HaveAdded}
 use Rattle.support_forest.specs.Words.{height, AreExact, IsWritten}
 use Rattle.support_forest.proofs.Counts.{changed_most}
@@ -97,6 +98,30 @@ stacked_on_another old new c before mid after s n f k r t m a =
     (inr (under c, subst (λ (j : ℕ). Toward j c (under c)) digit (toward_under c n), omega arith, omega arith)))
     (omega arith) k r t (omega arith) a
 
+-- a voxel of a row that stands
+pub stacked_in_pile : (old new : Grid) (c : Coord) (n k word before after : ℕ) → CanStack old (further c k) → RowStands (word_at old) c n → k < n →
+    (c.y ≡ 0 → word ≡ 8) → (0 < c.y → word ≡ 8 * c.y + 11) → IsWritten (word_at old) (word_at new) (further c k) word →
+    new.resolution ≡ old.resolution → new.table ≡ old.table → after ≡ before + 1 → HaveStacked old new (further c k) before after
+stacked_in_pile old new c n k word before after s (inl y) l floor above w r t a =
+    stacked_on_floor old new (further c k) before after s y (subst (λ (v : ℕ). IsWritten (word_at old) (word_at new) (further c k) v) (floor y) w) r t a
+stacked_in_pile old new c n k word before after s (inr f) l floor above w r t a = elim (cases_lt 0 c.y) [
+  | inl y ↦ stacked_on_another old new (further c k) before before after s (λ e. let z : c.y ≡ 0 = e in omega arith) (λ e. let o = f k l in omega arith)
+      (subst (λ (v : ℕ). IsWritten (word_at old) (word_at new) (further c k) v) (above y) w) r t (omega arith) a
+  | inr y ↦ let z : c.y ≡ 0 = omega arith in
+      stacked_on_floor old new (further c k) before after s z (subst (λ (v : ℕ). IsWritten (word_at old) (word_at new) (further c k) v) (floor z) w) r t a
+]
+
+-- a row still stands where a voxel of it was written
+pub still_stands : (w v : Coord → ℕ) (c : Coord) (n k word : ℕ) → RowStands w c n → IsWritten w v (further c k) word → RowStands v c n
+still_stands w v c n k word (inl y) s = inl y
+still_stands w v c n k word (inr f) s = elim (cases_lt 0 c.y) [
+  | inl y ↦ inr (λ j l.
+      let o = f j l in
+      let e = s.kept (under (further c j)) (λ p. let h : c.y - 1 ≡ c.y = ap (λ (x : Coord). x.y) p in omega arith) in
+      omega arith)
+  | inr y ↦ inl (omega arith)
+]
+
 -- ---- slots in hand
 
 slot_kept : (old new : Grid) (c : Coord) → new.table ≡ old.table → new.resolution ≡ old.resolution → slot_of new c ≡ slot_of old c
@@ -141,6 +166,21 @@ zero_bit n (suc (suc (suc (suc (suc zero))))) z l = omega arith
 zero_bit n (suc (suc (suc (suc (suc (suc zero)))))) z l = omega arith
 zero_bit n (suc (suc (suc (suc (suc (suc (suc zero))))))) z l = omega arith
 zero_bit n (suc (suc (suc (suc (suc (suc (suc (suc k)))))))) z l = absurd (omega arith)
+
+one_bit : (n k : ℕ) → n % 256 ≡ 255 → k < 8 → n / 2 ^ k % 2 ≡ 0 → ⊥
+one_bit n zero z l = omega arith
+one_bit n (suc zero) z l = omega arith
+one_bit n (suc (suc zero)) z l = omega arith
+one_bit n (suc (suc (suc zero))) z l = omega arith
+one_bit n (suc (suc (suc (suc zero)))) z l = omega arith
+one_bit n (suc (suc (suc (suc (suc zero))))) z l = omega arith
+one_bit n (suc (suc (suc (suc (suc (suc zero)))))) z l = omega arith
+one_bit n (suc (suc (suc (suc (suc (suc (suc zero))))))) z l = omega arith
+one_bit n (suc (suc (suc (suc (suc (suc (suc (suc k)))))))) z l = absurd (omega arith)
+
+-- the voxels of a pile are full
+pub pile_full : (m : Matrix) (from count bits : ℕ) → AreBits m from count bits → count ≡ 8 → bits % 256 ≡ 255 → (k : ℕ) → k < 8 → IsTrue (voxel_at m (from + k))
+pile_full m from count bits b e f k l = full_bit m from count bits k b (omega arith) (one_bit bits k f l)
 
 pub bits_from : (m : Matrix) (from count bits k part place : ℕ) → AreBits m from count bits → k + part ≤ count → place ≡ from + k →
     AreBits m place part (bits / 2 ^ k)
@@ -373,7 +413,7 @@ module _ (m : Matrix) (mid new : Grid) (rest : List Coord) (before after : ℕ) 
       ext_get_or false made.voxels m.voxels (long ∙ sym whole.voxels) (λ k l. each k (subst (λ (n : ℕ). k < n) long l)) in
       ap (λ (n : ℕ). matrix_where n test) (a.resolution ∙ h.resolution) ∙ (λ i. record { resolution = m.resolution; voxels = same i })
 
-  pub touches_are : (start : ℕ) → before ≤ start + 8 * volume m.resolution → after ≤ start + 91 * volume m.resolution
+  pub touches_are : (start : ℕ) → before ≤ start + 9 * volume m.resolution → after ≤ start + 91 * volume m.resolution
   touches_are start b =
       let few = changed_most mid.resolution (word_at mid) (word_at new) in
       let side : mid.resolution * mid.resolution * mid.resolution ≡ volume m.resolution = ap volume h.resolution in

@@ -100,9 +100,9 @@ pub row_in_chunk : (g : Grid) (chunk : List ℕ) (slot index from n : ℕ) (c : 
 unfolding word_index
 row_in_chunk g chunk slot index from n c h e r f = let full = h.full in omega arith
 
--- what the words of the chunk say, those of the row do, which may lie beyond space
-pub row_in_slot : (g : Grid) (chunk : List ℕ) (slot index from n toward : ℕ) (c : Coord) → IsStore g → IsInSpace (side g.resolution) (brick c) → c.z % 8 + n ≤ 8 → slot_of g c ≡ Some slot → HasSlot g.bricks slot chunk → index ≡ word_index c → from ≡ start_in_chunk slot + index → WordsHangNot chunk from n toward → RowHangsNot (word_at g) c n toward
-row_in_slot g chunk slot index from n toward c s b r e h i f w k l =
+-- what holds of the words of the chunk holds of those of the row, which may lie beyond space
+pub row_in_slot : (g : Grid) (chunk : List ℕ) (slot index from n : ℕ) (c : Coord) (P : ℕ → Type 0) → IsStore g → IsInSpace (side g.resolution) (brick c) → c.z % 8 + n ≤ 8 → slot_of g c ≡ Some slot → HasSlot g.bricks slot chunk → index ≡ word_index c → from ≡ start_in_chunk slot + index → ((k : ℕ) → k < n → P (get_or chunk (from + k) 0)) → (k : ℕ) → k < n → P (word_at g (further c k))
+row_in_slot g chunk slot index from n c P s b r e h i f w k l =
     let same : brick (further c k) ≡ brick c = row_brick c n k r l in
     let at : word_index (further c k) ≡ index + k = row_index c n k index r l i in
     let below : index + k < 512 = let p = index_below (further c k) in omega arith in
@@ -114,7 +114,7 @@ row_in_slot g chunk slot index from n toward c s b r e h i f w k l =
     let place : from + k ≡ start_in_chunk slot + (index + k) = omega arith in
     let read : word_at g (further c k) ≡ get_or (words_of g.bricks slot) (index + k) 0 = reads_index g (further c k) slot (index + k) (get_or (words_of g.bricks slot) (index + k) 0) s stands refl in
     let here : get_or chunk (from + k) 0 ≡ get_or (words_of g.bricks slot) (index + k) 0 = ap (λ (j : ℕ). get_or chunk j 0) place ∙ h.each (index + k) below in
-    subst (λ (v : ℕ). HangsNot v toward) (here ∙ sym read) (w k l)
+    subst P (here ∙ sym read) (w k l)
 
 -- ---- the words at a side
 
@@ -189,7 +189,7 @@ side_in_slot g chunk slot index from n d toward c r s b h t f w =
     let z : t.there.z ≡ c.z = same_height d c t.there r.1 t.toward in
     let o = b.row.row in
     side_free (word_at g) c t.there n d toward r t.toward
-    (row_in_slot g chunk slot index from n toward t.there s at.within (omega arith) at.in_slot h (sym at.at_index) f w)
+    (row_in_slot g chunk slot index from n t.there (λ v. HangsNot v toward) s at.within (omega arith) at.in_slot h (sym at.at_index) f w)
 
 pub side_in_chunk : (g : Grid) (chunk : List ℕ) (slot index from n d : ℕ) (c : Coord) → d ≤ 4 → IsBrickRow g slot c n → HasSlot g.bricks slot chunk → IsIndexToward c d index → from ≡ start_in_chunk slot + index → from + n ≤ length chunk
 side_in_chunk g chunk slot index from n d c r b h t f =

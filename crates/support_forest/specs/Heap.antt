@@ -1,5 +1,5 @@
 -- Voxels of a whole matrix that have the level of their y: they stand on the floor or on one another.
-use Rattle.std.specs.Prelude.{◌≡◌, ◌≢◌, ℕ, ◌+◌, ◌<◌, ◌≤◌, ◌⊎◌, Option, Some, List, length, IsTrue}
+use Rattle.std.specs.Prelude.{◌≡◌, ◌≢◌, ℕ, ◌+◌, ◌%◌, ◌<◌, ◌≤◌, ◌⊎◌, Option, Some, List, length, IsTrue}
 use Rattle.std.specs.List.{AllPairs, Contains}
 use Rattle.vox_geom.specs.declared.coordinate.Coord.{Coord}
 use Rattle.vox_geom.specs.Space.{IsInSpace, place}
@@ -8,6 +8,7 @@ use Rattle.nano_spec.specs.Model.{bit}
 use Rattle.vox_planes.specs.Places.{voxel_at}
 use Rattle.support_forest.specs.Grid.{Grid, slot_of, word_at}
 use Rattle.support_forest.specs.Placing.{HavePlaced}
+use Rattle.support_forest.specs.Stretches.{further}
 use Rattle.support_forest.specs.Words.{height, AreExact}
 use Rattle.vox_geom.specs.Point.{below as under}
 
@@ -26,6 +27,16 @@ pub record CanStack (g : Grid) (c : Coord) : Type 0 where
 pub record AreBrickSlots (g : Grid) (c : Coord) (own : ℕ) (below : Option ℕ) : Type 0 where
   pub here : slot_of g c ≡ Some own
   pub there : 0 < c.y → below ≡ slot_of g (under c)
+
+-- each voxel of the row is on the floor, or there is a full one under it
+abbrev pub RowStands : (Coord → ℕ) → Coord → ℕ → Type 0
+RowStands w c n = (c.y ≡ 0) ⊎ ((k : ℕ) → k < n → 0 < w (under (further c k)))
+
+-- the voxels are a whole row of full ones, by their bits, and stand on the floor or on full ones
+pub record IsPile (w : Coord → ℕ) (c : Coord) (n bits : ℕ) : Type 0 where
+  pub whole : n ≡ 8
+  pub full : bits % 256 ≡ 255
+  pub stands : RowStands w c n
 
 -- the voxel became full and is one of the heap
 pub record HaveStacked (old new : Grid) (c : Coord) (before after : ℕ) : Type 0 where
@@ -49,6 +60,11 @@ pub record IsHeaped (m : Matrix) (g : Grid) (p : ℕ) (rest : List Coord) : Type
   pub listed : (c : Coord) → Contains rest c → IsSeen m p c × (word_at g c ≡ 0)
   pub differ : AllPairs ◌≢◌ rest
   pub few : length rest ≤ p
+
+-- some voxels before the place are listed, and the other full ones are in the heap
+pub record IsSomeHeap (m : Matrix) (g : Grid) (p : ℕ) : Type 0 where
+  pub rest : List Coord
+  pub is : IsHeaped m g p rest
 
 -- the lowest bits of a number are the voxels from a place on
 abbrev pub AreBits : Matrix → ℕ → ℕ → ℕ → Type 0

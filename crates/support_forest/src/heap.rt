@@ -1,17 +1,20 @@
 //! The full voxels of a whole matrix that have the level of their y: they stand on the floor or on one another.
-ghost use Rattle.std.specs.Prelude.{◌≡◌, ◌+◌, ◌*◌, ◌%◌, ◌<◌, ◌≤◌, ℕ, IfOk, MatchBool};
+ghost use Rattle.std.specs.Prelude.{◌≡◌, ◌+◌, ◌*◌, ◌%◌, ◌^◌, ◌<◌, ◌≤◌, ℕ, IfOk, IsTrue, List, MatchBool, Some, length, slice_index, true};
 ghost use Rattle.nano_spec.specs.Model.{volume};
 ghost use Rattle.vox_geom.specs.Space.{IsInSpace, place as place_of};
 ghost use Rattle.vox_geom.specs.declared.coordinate.Coord.{Coord as Coordinate};
 ghost use Rattle.support_forest.specs.Grid.{slot_of, word_at};
-ghost use Rattle.support_forest.specs.Heap.{AreBits, AreBrickSlots, CanStack, HaveStacked, IsHeaped};
+ghost use Rattle.support_forest.specs.Heap.{AreBits, AreBrickSlots, CanStack, HaveStacked, IsHeaped, IsPile, IsSomeHeap, RowStands};
 ghost use Rattle.support_forest.specs.Standing.{matrix_of};
+ghost use Rattle.support_forest.specs.Stretches.{LieInRow};
 ghost use Rattle.support_forest.specs.Words.{AreExact};
 ghost use Rattle.vox_geom.specs.Point.{below as under_of};
+ghost use Rattle.vox_planes.specs.Places.{voxel_at};
 
 use crate::add::add_cells;
-use crate::cells::{BRICK_SIDE, Cells};
+use crate::cells::{BRICK_SIDE, Cells, word_index};
 use crate::lists::Lists;
+use brick_arena::{Chunk, start_in_chunk};
 use std::alloc::{AllocError, Global};
 use std::sync::ledger::Ledger;
 use vox_geom::{Coord, Steps, place};
@@ -58,7 +61,120 @@ fn slot_under(cells: &Cells, c: Coord) -> Option<u32>
     cells.slot(Coord { y: c.y - 1, ..c })
 }
 
-/// Stacks the full ones of some voxels of a row in one brick, whose bits are the lowest of a word, or lists them.
+/// Whether no word of the chunk from one on is 0. All are looked at, so that they can be read at once.
+#[inline(always)]
+fn words_are_full<L: Ledger>(chunk: &Chunk, from: usize, count: u16, steps: &mut Steps<L>) -> bool
+    requires within { from + count ≤ length chunk.now }
+    requires fits { length chunk.now < 2 ^ 32 }
+    ensures full { result ≡ true → (k : ℕ) → k < count → 0 < slice_index chunk.now (from + k) }
+    ensures touches { steps.new ≤ steps.old + count }
+{
+    let mut full = true;
+    for k in 0..count {
+        if chunk.word(from + usize::from(k), steps) != 0 {
+            continue;
+        }
+        full = false;
+    }
+    full
+}
+
+/// Whether each voxel of the row stands on the floor or on a full one. `below` is the slot of the brick of the voxel under the
+/// first.
+#[inline(always)]
+fn row_stands<L: Ledger>(
+    cells: &Cells,
+    first: Coord,
+    count: u16,
+    below: Option<u32>,
+    steps: &mut Steps<L>,
+) -> bool
+    requires row { LieInRow cells.now first count }
+    requires below { 0 < first.y → below ≡ slot_of cells.now (under_of first) }
+    ensures stands { result ≡ true → RowStands (word_at cells.now) first count }
+    ensures touches { steps.new ≤ steps.old + count }
+{
+    cells.recall();
+    if first.y == 0 {
+        return true;
+    }
+    let under = Coord {
+        y: first.y - 1,
+        ..first
+    };
+    match below {
+        Some(slot) => {
+            let from = start_in_chunk(slot) + usize::from(word_index(under));
+            words_are_full(cells.chunk(slot), from, count, steps)
+        }
+        None => false,
+    }
+}
+
+/// Whether the voxels, whose bits are the lowest of a word, are a whole row of full ones that stand on the floor or on full ones.
+#[inline(always)]
+fn is_pile<L: Ledger>(
+    cells: &Cells,
+    first: Coord,
+    count: u16,
+    bits: u64,
+    below: Option<u32>,
+    steps: &mut Steps<L>,
+) -> bool
+    requires row { LieInRow cells.now first count }
+    requires below { 0 < first.y → below ≡ slot_of cells.now (under_of first) }
+    ensures pile { result ≡ true → IsPile (word_at cells.now) first count bits }
+    ensures touches { steps.new ≤ steps.old + count }
+{
+    if bits % 256 != 255 {
+        return false;
+    }
+    if count != BRICK_SIDE {
+        return false;
+    }
+    row_stands(cells, first, BRICK_SIDE, below, steps)
+}
+
+/// The word of a voxel that has the level of its y.
+#[inline(always)]
+fn heap_word(y: u16) -> u32
+    ensures floor { y ≡ 0 → result ≡ 8 }
+    ensures above { 0 < y → result ≡ 8 * y + 11 }
+{
+    if y == 0 { 8 } else { 8 * u32::from(y) + 11 }
+}
+
+/// Stacks a row of full voxels, each on the floor or on a full one. `own` is the slot of their brick.
+#[inline(always)]
+fn pile_row<L: Ledger>(
+    cells: &mut Cells,
+    planes: &Planes,
+    first: Coord,
+    count: u16,
+    own: u32,
+    steps: &mut Steps<L>,
+)
+    requires row { LieInRow cells.old first count }
+    requires own { slot_of cells.old first ≡ Some own }
+    requires full { (k : ℕ) → k < count → IsTrue (voxel_at planes.now (place_of planes.now.resolution first + k)) }
+    requires stands { RowStands (word_at cells.old) first count }
+    requires heap { IsSomeHeap planes.now cells.old (place_of planes.now.resolution first) }
+    ensures heaped { (rest : List Coordinate) → IsHeaped planes.now cells.old (place_of planes.now.resolution first) rest
+        → IsHeaped planes.now cells.new (place_of planes.now.resolution first + count) rest }
+    ensures touches { steps.new ≤ steps.old + count }
+{
+    let word = heap_word(first.y);
+    for k in 0..count {
+        let at = Coord {
+            z: first.z + k,
+            ..first
+        };
+        cells.write(own, at, 0, word, steps);
+    }
+}
+
+/// Stacks the full ones of some voxels of a row in one brick, whose bits are the lowest of a word, or lists them. Most rows of a
+/// model are whole and stand on whole ones.
 fn stack_part<L: Ledger>(
     cells: &mut Cells,
     planes: &Planes,
@@ -74,7 +190,7 @@ fn stack_part<L: Ledger>(
     requires bits { AreBits planes.now (place_of planes.now.resolution first) count bits }
     requires heaped { IsHeaped planes.now cells.old (place_of planes.now.resolution first) rest.old.items }
     ensures heaped { IfOk result (λ _. IsHeaped planes.now cells.new (place_of planes.now.resolution first + count) rest.new.items) }
-    ensures touches { IfOk result (λ _. steps.new ≤ steps.old + 7 * count) }
+    ensures touches { IfOk result (λ _. steps.new ≤ steps.old + 8 * count) }
 {
     let _ = planes.resolution();
     if bits % 256 == 0 {
@@ -82,6 +198,10 @@ fn stack_part<L: Ledger>(
     }
     let own = cells.take_slot(first)?;
     let below = slot_under(cells, first);
+    if is_pile(cells, first, count, bits, below, steps) {
+        pile_row(cells, planes, first, BRICK_SIDE, own, steps);
+        return Ok(());
+    }
     for k in 0..count {
         if (bits >> k) % 2 == 0 {
             continue;
@@ -112,7 +232,7 @@ fn stack_some<L: Ledger>(
     requires row { first.z + count ≤ planes.now.resolution }
     requires heaped { IsHeaped planes.now cells.old (place_of planes.now.resolution first) rest.old.items }
     ensures heaped { IfOk result (λ _. IsHeaped planes.now cells.new (place_of planes.now.resolution first + count) rest.new.items) }
-    ensures touches { IfOk result (λ _. steps.new ≤ steps.old + 8 * count) }
+    ensures touches { IfOk result (λ _. steps.new ≤ steps.old + 9 * count) }
 {
     let from = place(first, planes.resolution());
     let bits = planes.places(from, u32::from(count), steps);
@@ -147,7 +267,7 @@ fn stack_row<L: Ledger>(
     requires y { y < planes.now.resolution }
     requires heaped { IsHeaped planes.now cells.old ((x * planes.now.resolution + y) * planes.now.resolution) rest.old.items }
     ensures heaped { IfOk result (λ _. IsHeaped planes.now cells.new ((x * planes.now.resolution + y + 1) * planes.now.resolution) rest.new.items) }
-    ensures touches { IfOk result (λ _. steps.new ≤ steps.old + 8 * planes.now.resolution) }
+    ensures touches { IfOk result (λ _. steps.new ≤ steps.old + 9 * planes.now.resolution) }
 {
     let r = planes.resolution();
     let mut z = 0;
@@ -168,7 +288,7 @@ fn stack_all<L: Ledger>(
 ) -> Result<(), AllocError>
     requires { IsHeaped planes.now cells.old 0 rest.old.items }
     ensures heaped { IfOk result (λ _. IsHeaped planes.now cells.new (volume planes.now.resolution) rest.new.items) }
-    ensures touches { IfOk result (λ _. steps.new ≤ steps.old + 8 * volume planes.now.resolution) }
+    ensures touches { IfOk result (λ _. steps.new ≤ steps.old + 9 * volume planes.now.resolution) }
 {
     let r = u32::from(planes.resolution());
     for row in 0..r * r {

@@ -1,15 +1,42 @@
-use Rattle.std.proofs.Common.{◌≡◌, ◌+◌, ◌≤◌, ap, arith}
+use Rattle.std.proofs.Common.{◌≡◌, ℕ, ◌+◌, ◌≤◌, ◌∙◌, ap, arith, subst, sym}
 use Rattle.vox_geom.specs.declared.coordinate.Coord.{Coord}
-use Rattle.vox_geom.specs.Space.{place}
-use Rattle.support_forest.specs.Grid.{Grid}
-use Rattle.support_forest.specs.Heap.{HaveStacked}
+use Rattle.vox_geom.specs.Space.{IsInSpace, place}
+use Rattle.support_forest.specs.Grid.{Grid, word_at}
+use Rattle.support_forest.specs.Heap.{HaveStacked, RowStands}
 use Rattle.support_forest.proofs.Placing.{unless, when}
-use Rattle.support_forest.proofs.Stacking.{can_stack_along, full_bit, heaped_at, heaped_bit, heaped_blank, heaped_same, listed_along, slots_along, slots_kept, stacked_along}
+use Rattle.support_forest.proofs.Stacking.{can_stack_along, full_bit, heaped_at, heaped_bit, heaped_blank, heaped_same, listed_along, pile_full, slots_along, slots_kept, stacked_along}
 use Rattle.support_forest.proofs.heap.stack_part.Goals as goal
 
 pub returns-then-bits-eq0-clause-heaped : goal.returns-then-bits-eq0-clause-heaped
 returns-then-bits-eq0-clause-heaped g c = heaped_blank _ _ _ _ _ _ c.requires.bits (let few = c.requires.brick in omega arith) c.if-bits-eq0.true
     c.requires.heaped
+
+pub is_pile-requires-clause-row : goal.is_pile-requires-clause-row
+is_pile-requires-clause-row g c =
+    let r : c.take_slot.new.self.resolution ≡ c.args.planes.now.resolution = c.take_slot.ensures.resolution ∙ c.requires.heaped.resolution in
+    record { within = subst (λ (n : ℕ). IsInSpace n c.args.first) (sym r) c.requires.within; last = omega (arith, c.requires.row, r); row = c.requires.brick }
+
+pub pile_row-requires-clause-full : goal.pile_row-requires-clause-full
+pile_row-requires-clause-full g c =
+    let p = c.is_pile.ensures.pile c.if-is_pile.true in
+    pile_full c.args.planes.now (place c.args.planes.now.resolution c.args.first) c.args.count c.args.bits c.requires.bits p.whole p.full
+
+pub pile_row-requires-clause-stands : goal.pile_row-requires-clause-stands
+pile_row-requires-clause-stands g c =
+    let p = c.is_pile.ensures.pile c.if-is_pile.true in
+    subst (λ (n : ℕ). RowStands (word_at c.take_slot.new.self) c.args.first n) p.whole p.stands
+
+pub pile_row-requires-clause-heap : goal.pile_row-requires-clause-heap
+pile_row-requires-clause-heap g c = record {
+  rest = c.args.rest.now.items;
+  is = heaped_same _ _ _ _ _ c.take_slot.ensures.resolution c.in_ok-own.ensures.same c.requires.heaped;
+}
+
+pub returns-then-is_pile-clause-heaped : goal.returns-then-is_pile-clause-heaped
+returns-then-is_pile-clause-heaped g c =
+    let p = c.is_pile.ensures.pile c.if-is_pile.true in
+    let w = p.whole in
+    heaped_at _ _ _ _ _ (omega arith) (c.pile_row.ensures.heaped c.args.rest.now.items (heaped_same _ _ _ _ _ c.take_slot.ensures.resolution c.in_ok-own.ensures.same c.requires.heaped))
 
 pub loop-k-init : goal.loop-k-init
 loop-k-init g c = record {

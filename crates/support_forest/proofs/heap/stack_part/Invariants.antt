@@ -7,5 +7,5 @@ abbrev pub invariant-loop-k : goal.invariant-loop-k
 invariant-loop-k g l = record {
   heaped : IsHeaped l.planes l.cells (place l.planes.resolution l.first + l.k) l.rest.items;
   slots : AreBrickSlots l.cells l.first l.own l.below;
-  touches : l.steps ≤ l.initial.steps + 7 * l.k;
+  touches : l.steps ≤ l.fn.steps + l.count + 7 * l.k;
 }

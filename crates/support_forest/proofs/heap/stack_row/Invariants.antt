@@ -6,7 +6,7 @@ abbrev pub invariant-loop-z : goal.invariant-loop-z
 invariant-loop-z g l = record {
   within : l.z ≤ l.r;
   heaped : IsHeaped l.planes l.cells ((l.x * l.planes.resolution + l.y) * l.planes.resolution + l.z) l.rest.items;
-  touches : l.steps ≤ l.initial.steps + 8 * l.z;
+  touches : l.steps ≤ l.initial.steps + 9 * l.z;
 }
 
 abbrev pub decreases-loop-z : goal.decreases-loop-z

@@ -7,7 +7,7 @@ abbrev pub invariant-loop-k : goal.invariant-loop-k
 invariant-loop-k g l = record {
   few : l.k ≤ l.count;
   heaped : IsHeaped l.planes l.cells (place l.planes.resolution l.first + l.k) l.rest.items;
-  touches : l.steps ≤ l.initial.steps + 7 * l.k;
+  touches : l.steps ≤ l.initial.steps + 8 * l.k;
 }
 
 abbrev pub decreases-loop-k : goal.decreases-loop-k

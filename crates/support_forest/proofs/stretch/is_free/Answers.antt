@@ -1,5 +1,6 @@
 use Rattle.std.proofs.Common.{◌≡◌, ◌+◌, ◌-◌, Bool, Some, arith, false, not, refl, sym, true}
 use Rattle.support_forest.specs.Grid.{word_at}
+use Rattle.support_forest.specs.Taking.{HangsNot}
 use Rattle.support_forest.proofs.Store.{brick_inside}
 use Rattle.support_forest.proofs.Stretches.{end_free, far_free, row_in_chunk, row_in_slot, row_slot}
 use Rattle.support_forest.proofs.stretch.is_free.Goals as goal
@@ -31,7 +32,7 @@ returns-clause-free g c t =
       under = c.side_is_free-2.ensures.none c.if-not-side_is_free-2.false;
       left = c.side_is_free-3.ensures.none c.if-not-side_is_free-3.false;
       right = c.side_is_free-4.ensures.none c.if-not-side_is_free-4.false;
-      own = row_in_slot c.args.cells.now c.chunk-chunk.result.now c.args.own c.word_index.result (c.start_in_chunk-start.result + c.from.result) c.args.count 6 c.args.first
+      own = row_in_slot c.args.cells.now c.chunk-chunk.result.now c.args.own c.word_index.result (c.start_in_chunk-start.result + c.from.result) c.args.count c.args.first (λ v. HangsNot v 6)
           c.recall.ensures.store (brick_inside c.args.cells.now.resolution c.args.first c.requires.row.within) c.requires.row.row c.requires.own c.chunk-chunk.ensures c.word_index.ensures.value (omega arith) (c.words_hang_not.ensures.none c.if-not-words_hang_not.false);
       near = end_free (word_at c.args.cells.now) c.args.first 5 6 c.word_near.result c.word_near.ensures.word (c.hangs.ensures c.if-hangs.false);
       far = far_free (word_at c.args.cells.now) c.args.first c.args.count c.requires.some (end_free (word_at c.args.cells.now) _ 6 5 c.word_near-2.result c.word_near-2.ensures.word (c.hangs-2.ensures (not_so c.hangs-2.result t)));
