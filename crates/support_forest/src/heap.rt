@@ -173,6 +173,44 @@ fn pile_row<L: Ledger>(
     }
 }
 
+/// Stacks the full ones of some voxels of a row in one brick, whose bits are the lowest of a word, one after another, or lists
+/// them. `own` is the slot of the brick, and `below` that of the brick of the voxel under the first.
+fn stack_each<L: Ledger>(
+    cells: &mut Cells,
+    planes: &Planes,
+    first: Coord,
+    count: u16,
+    bits: u64,
+    own: u32,
+    below: Option<u32>,
+    rest: &mut Vec<Coord>,
+    steps: &mut Steps<L>,
+) -> Result<(), AllocError>
+    requires brick { first.z % 8 + count ≤ 8 }
+    requires within { IsInSpace planes.now.resolution first }
+    requires row { first.z + count ≤ planes.now.resolution }
+    requires bits { AreBits planes.now (place_of planes.now.resolution first) count bits }
+    requires slots { AreBrickSlots cells.old first own below }
+    requires heaped { IsHeaped planes.now cells.old (place_of planes.now.resolution first) rest.old.items }
+    ensures heaped { IfOk result (λ _. IsHeaped planes.now cells.new (place_of planes.now.resolution first + count) rest.new.items) }
+    ensures touches { IfOk result (λ _. steps.new ≤ steps.old + 7 * count) }
+{
+    for k in 0..count {
+        if (bits >> k) % 2 == 0 {
+            continue;
+        }
+        let at = Coord {
+            z: first.z + k,
+            ..first
+        };
+        if stack(cells, at, own, below, steps) {
+            continue;
+        }
+        rest.push(at)?;
+    }
+    Ok(())
+}
+
 /// Stacks the full ones of some voxels of a row in one brick, whose bits are the lowest of a word, or lists them. Most rows of a
 /// model are whole and stand on whole ones.
 fn stack_part<L: Ledger>(
@@ -202,20 +240,7 @@ fn stack_part<L: Ledger>(
         pile_row(cells, planes, first, BRICK_SIDE, own, steps);
         return Ok(());
     }
-    for k in 0..count {
-        if (bits >> k) % 2 == 0 {
-            continue;
-        }
-        let at = Coord {
-            z: first.z + k,
-            ..first
-        };
-        if stack(cells, at, own, below, steps) {
-            continue;
-        }
-        rest.push(at)?;
-    }
-    Ok(())
+    stack_each(cells, planes, first, count, bits, own, below, rest, steps)
 }
 
 /// Stacks the full ones of up to 64 voxels of a row, or lists them.
