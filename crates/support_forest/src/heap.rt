@@ -126,13 +126,10 @@ fn is_pile<L: Ledger>(
     ensures pile { result ≡ true → IsPile (word_at cells.now) first count bits }
     ensures touches { steps.new ≤ steps.old + count }
 {
-    if bits % 256 != 255 {
-        return false;
+    if bits % 256 == 255 && count == BRICK_SIDE {
+        return row_stands(cells, first, BRICK_SIDE, below, steps);
     }
-    if count != BRICK_SIDE {
-        return false;
-    }
-    row_stands(cells, first, BRICK_SIDE, below, steps)
+    false
 }
 
 /// The word of a voxel that has the level of its y.
