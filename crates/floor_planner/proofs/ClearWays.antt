@@ -1,16 +1,12 @@
 -- The ways above the floor.
-use Rattle.std.proofs.Common.{◌≡◌, ◌⊎◌, inr, ℕ, ◌*◌, ◌≤◌, sym, ◌∙◌, arith, mul-le-mul, false, ◌&&◌}
+use Rattle.std.proofs.Common.{◌≡◌, ◌⊎◌, inr, ℕ, ◌*◌, ◌≤◌, arith, mul-le-mul, false, ◌&&◌}
 use Rattle.std.specs.Prelude.{pos, IsTrue}
 use Rattle.std.proofs.lemmas.Bool.Decides.{nat_tests}
 use Rattle.vox_geom.specs.declared.coordinate.Coord.{Coord}
 use Rattle.vox_geom.specs.Region.{is_between}
-use Rattle.vox_geom.specs.Space.{IsInSpace}
-use Rattle.nano_spec.specs.declared.system.Harmonics.{Harmonics}
-use Rattle.nano_spec.specs.declared.system.Harmonics.TheVariants.{Low, High}
 use Rattle.nano_spec.specs.Matrix.{Matrix, is_full}
 use Rattle.step_order.proofs.Lists.{first, second}
-use Rattle.plan_tape.specs.Leg.{AreVoidTo, moves_to}
-use Rattle.plan_tape.specs.Progress.{IsHeld}
+use Rattle.plan_tape.specs.Leg.{AreVoidTo}
 use Rattle.plan_tape.proofs.ClearWays.{at_either}
 
 same : (a v : ℕ) → IsTrue (is_between (pos a) (pos a) (pos v)) → v ≡ a

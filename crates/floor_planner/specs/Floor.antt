@@ -1,7 +1,6 @@
 -- Models that lie on the floor, and what a sweep over it leaves.
-use Rattle.std.specs.Prelude.{◌≡◌, ℕ, ◌+◌, ◌*◌, ◌≤◌, Bool, false, ◌&&◌, ◌||◌, ◌==◌, nat_lt, pos, negsuc, length, IsTrue}
+use Rattle.std.specs.Prelude.{◌≡◌, ℕ, ◌+◌, ◌*◌, ◌≤◌, Bool, false, ◌&&◌, ◌||◌, ◌==◌, nat_lt, length, IsTrue}
 use Rattle.vox_geom.specs.declared.coordinate.Coord.{Coord}
-use Rattle.vox_geom.specs.declared.difference.Diff.{Diff}
 use Rattle.vox_geom.specs.Space.{IsInSpace}
 use Rattle.nano_spec.specs.declared.system.Harmonics.TheVariants.{High}
 use Rattle.nano_spec.specs.Matrix.{Matrix, empty, is_full, matrix_where}

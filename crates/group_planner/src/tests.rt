@@ -1,69 +1,10 @@
-//! Plans between models of a few voxels, and their rows and runs. Energies and steps were worked out by hand from the rules.
+//! Rows and runs of models, which were counted by hand.
 use super::*;
-use model_file::{ModelFault, legal, read_model};
-use plan_tape::Plan;
 use std::alloc::Global;
 use std::process::Abort;
 use std::test::Fail;
 use vox_geom::{Coord, Memory};
 use vox_planes::Planes;
-
-/// The model of resolution 3 without a full voxel, and the one with the voxel (1,0,1).
-const EMPTY: [u8; 5] = [3, 0, 0, 0, 0];
-
-const POST: [u8; 5] = [3, 0, 4, 0, 0];
-
-/// The model of resolution 5 without a full voxel, and the one with the voxels (1,0,1) to (1,0,3).
-const WIDE: [u8; 17] = [5, 0, 0, 0, 0, 0, 0, 0, 0, 0, 0, 0, 0, 0, 0, 0, 0];
-
-const BEAM: [u8; 17] = [5, 0, 0, 0, 28, 0, 0, 0, 0, 0, 0, 0, 0, 0, 0, 0, 0];
-
-/// The model of resolution 7 with the voxels (1,0,1), (1,0,2), (1,0,4) and (1,0,5), and the same at x = 2.
-const STRIPES: [u8; 44] = [
-    7, 0, 0, 0, 0, 0, 0, 0x6C, 0, 0, 0, 0, 0, 0xD8, 0, 0, 0, 0, 0, 0, 0, 0, 0, 0, 0, 0, 0, 0, 0, 0,
-    0, 0, 0, 0, 0, 0, 0, 0, 0, 0, 0, 0, 0, 0,
-];
-
-const BARE: [u8; 44] = [
-    7, 0, 0, 0, 0, 0, 0, 0, 0, 0, 0, 0, 0, 0, 0, 0, 0, 0, 0, 0, 0, 0, 0, 0, 0, 0, 0, 0, 0, 0, 0, 0,
-    0, 0, 0, 0, 0, 0, 0, 0, 0, 0, 0, 0,
-];
-
-/// The plan between the models of two files, if they are legal and of one resolution.
-fn planned(alloc: Global, source: &[u8], target: &[u8]) -> Result<Plan, ModelFault> {
-    let source = read_model(alloc, source)?;
-    let target = read_model(alloc, target)?;
-    legal(alloc, &source)?;
-    legal(alloc, &target)?;
-    if source.resolution() != target.resolution() {
-        return Err(ModelFault::NoByte);
-    }
-    let plan = plan_groups(alloc, &source, &target)?;
-    Ok(plan)
-}
-
-#[test]
-fn plans_pay_by_their_steps(rt: HostRuntime) -> Result<(), Fail> {
-    let cases: [(&[u8], &[u8], i64, u32, usize); 6] = [
-        (&POST, &POST, 101, 1, 1),
-        (&EMPTY, &POST, 7802, 11, 16),
-        (&POST, &EMPTY, 7778, 11, 16),
-        (&WIDE, &BEAM, 50058, 15, 24),
-        (&BARE, &STRIPES, 219126, 23, 40),
-        (&[1, 0], &[1, 0], 23, 1, 1),
-    ];
-    for (source, target, energy, steps, commands) in cases {
-        match planned(rt.alloc(), source, target) {
-            Ok(plan) => {
-                assert_eq!(rt; plan.energy, energy);
-                assert_eq!(rt; plan.steps, steps);
-                assert_eq!(rt; plan.commands.as_slice().len(), commands);
-            }
-            Err(fault) => assert_eq!(rt; fault.number(), 0),
-        }
-    }
-    Ok(())
-}
 
 /// Rows of 63 and of one voxel, and one more voxel in the first of them.
 fn counted(rt: &impl Abort, alloc: Global) -> Result<(), Memory> {

@@ -7,6 +7,3 @@ mod paint;
 mod plan;
 
 pub use plan::plan_layers;
-
-#[cfg(test)]
-mod tests;

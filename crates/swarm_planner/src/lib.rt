@@ -9,6 +9,3 @@ mod steps;
 mod strips;
 
 pub use plan::plan_swarm;
-
-#[cfg(test)]
-mod tests;

@@ -9,6 +9,3 @@ mod sweep;
 mod tiles;
 
 pub use plan::plan_void;
-
-#[cfg(test)]
-mod tests;

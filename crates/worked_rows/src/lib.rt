@@ -5,6 +5,8 @@
 #[cfg(test)]
 mod checks;
 #[cfg(test)]
+mod costs;
+#[cfg(test)]
 mod drip;
 #[cfg(test)]
 mod faults;

@@ -31,7 +31,7 @@ fn house(alloc: Global) -> Result<Vec<u8>, Fail> {
 }
 
 /// What is printed for the words, which answer this status.
-fn printed(
+pub fn printed(
     rt: &impl Abort,
     alloc: Global,
     depot: &mut MemoryDepot,
