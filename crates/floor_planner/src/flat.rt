@@ -1,27 +1,10 @@
 //! Whether a model lies on the floor.
-ghost use Rattle.std.specs.Prelude.{◌≡◌, ◌↔◌, ◌<◌, ◌&&◌, IsTrue, None, find};
-ghost use Rattle.vox_geom.specs.Point.{point};
-ghost use Rattle.vox_geom.specs.Region.{is_within, span};
-ghost use Rattle.vox_geom.specs.Space.{IsInSpace};
-ghost use Rattle.nano_spec.specs.Matrix.{all_of, is_full};
+ghost use Rattle.std.specs.Prelude.{IsTrue};
 ghost use Rattle.floor_planner.specs.Floor.{IsFlat};
 
-use std::marker::Brand;
-use std::sync::ledger::{Blank, Ledger};
-use vox_geom::{Coord, Region, Steps};
+use plan_tape::first_full;
+use vox_geom::{Coord, Region};
 use vox_planes::Planes;
-
-/// Whether the region is void, counted in a ledger of its own.
-fn is_void_in<L: Ledger>(model: &Planes, region: &Region, blank: Blank) -> bool
-    requires within { IsInSpace model.now.resolution region.now.high }
-    requires name { blank.name ≡ L.name }
-    requires parts { blank.parts ≡ L.parts }
-    requires some { 0 < L.parts }
-    ensures { IsTrue result ↔ (find (λ c. is_full model.now c && is_within (span region.now) (point c)) (all_of model.now) ≡ None) }
-{
-    let mut steps: Steps<L> = Steps::new(blank);
-    model.region_full(region, &mut steps).is_none()
-}
 
 /// Whether each full voxel lies on the floor.
 pub fn is_flat(model: &Planes) -> bool
@@ -41,5 +24,5 @@ pub fn is_flat(model: &Planes) -> bool
             z: most,
         },
     );
-    is_void_in::<Brand>(model, &above, Blank::new(1))
+    first_full(model, &above).is_none()
 }

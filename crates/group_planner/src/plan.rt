@@ -9,7 +9,6 @@ ghost use Rattle.group_planner.specs.Phases.{PairIsOpened, PairHasRebuilt, most_
 ghost use Rattle.group_planner.specs.Rows.{runs};
 
 use crate::opening::{gather, opened};
-use crate::pair::rear;
 use crate::sweep::{build, clear};
 use nano_spec::Command;
 use plan_tape::{Plan, Tape, lowest_difference};
@@ -57,8 +56,7 @@ fn closed(mut tape: Tape, target: &Planes) -> Result<Plan, Memory>
     ensures bytes { IfOk result (λ plan. length (spellings plan.commands) ≤ 4 * plan.steps + 4 * (runs tape.source + runs target.now)) }
 {
     let _ = target.resolution();
-    let _ = tape.matrix();
-    let _ = rear(&tape);
+    tape.know_whole();
     gather(&mut tape)?;
     tape.go(Coord { x: 0, y: 0, z: 0 })?;
     tape.flip()?;

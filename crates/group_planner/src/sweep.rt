@@ -141,7 +141,7 @@ fn go_and_write(
     ensures stamps { OnOk result (Stamps tape.old tape.new model.now full (is_in_line x y) (runs_of_row model.now x y)) }
     ensures climb { OnOk result (climb_to tape.new (y + 1) ≤ climb_to tape.old (y + 1) + (135 + 3 * runs_of_row model.now x y)) }
 {
-    let _ = rear(tape);
+    tape.know_whole();
     go_to_row(tape, x, y + 1)?;
     write_line(tape, model, full, x, y, first)
 }

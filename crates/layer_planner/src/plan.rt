@@ -57,7 +57,7 @@ fn closed(mut tape: Tape, target: &Planes) -> Result<Plan, Memory>
     ensures bytes { IfOk result (λ plan. length (spellings plan.commands) ≤ 8 * target.now.resolution * target.now.resolution * target.now.resolution + 200) }
 {
     let _ = target.resolution();
-    let _ = tape.matrix();
+    tape.know_whole();
     tape.go(Coord { x: 0, y: 0, z: 0 })?;
     tape.flip()?;
     tape.halt()?;

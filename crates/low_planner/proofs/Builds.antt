@@ -17,7 +17,8 @@ use Rattle.plan_tape.specs.Leg.{distance, moves_to}
 use Rattle.plan_tape.specs.Progress.{TapeState, spot, starting, IsVoidFrom}
 use Rattle.low_planner.specs.declared.sweep.Sweep.{Sweep}
 use Rattle.low_planner.specs.Build.{CanFill, CanGoAbove, IsBuilt, IsCarried, IsFinished, Works, above}
-use Rattle.low_planner.specs.Commands.{IsEmpty, IsPlain, full_count}
+use Rattle.low_planner.specs.Commands.{IsEmpty, IsPlain}
+use Rattle.plan_tape.specs.Parts.{full_count}
 use Rattle.low_planner.specs.Supported.{FirstUnsupported}
 use Rattle.low_planner.specs.Sweep.{BeginsPart, EndsSweep, TurnsBack, GoesOn, IsSweep, IsTrail, IsVisited, LosesVoxel, reach}
 use Rattle.low_planner.proofs.Beside.{adjacent_below, beside-sym}
@@ -36,7 +37,6 @@ length_all f zero a = refl
 length_all f (suc n) a = let e : length (map f (numbers_from (a + 1) n)) ≡ n = length_all f n (a + 1) in ap suc e
 
 pub full_most : (m : Matrix) → full_count m ≤ m.resolution * m.resolution * m.resolution
-unfolding full_count
 full_most m =
     let r = m.resolution in
     let most : count_by (is_full m) (coordinates r) ≤ length (coordinates r) = count_by-le-length (is_full m) (coordinates r) in

@@ -12,7 +12,7 @@ use Rattle.step_order.proofs.Voxels.{place_below}
 use Rattle.low_planner.specs.declared.sweep.Sweep.{Sweep}
 use Rattle.low_planner.specs.declared.sweep.Visit.{Visit}
 use Rattle.low_planner.specs.declared.sweep.Visit.TheVariants.{First, Onward, Back}
-use Rattle.low_planner.specs.Commands.{full_count}
+use Rattle.plan_tape.specs.Parts.{full_count}
 use Rattle.low_planner.specs.Sweep.{LosesVoxel, Visits, sweep_weight}
 use Rattle.plan_tape.proofs.LegalModels.{full_within}
 
@@ -51,7 +51,6 @@ change_at p q f (suc n) a k l m h =
 
 -- a voxel that is full no longer
 pub one_less : (old new : Matrix) (c : Coord) → LosesVoxel old new c → full_count new + 1 ≡ full_count old
-unfolding full_count
 one_less old new c h =
     let r = old.resolution in
     let within = full_within old c h.before in

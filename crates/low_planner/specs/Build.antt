@@ -11,7 +11,8 @@ use Rattle.nano_spec.specs.State.{origin}
 use Rattle.plan_tape.specs.Leg.{moves_to}
 use Rattle.plan_tape.specs.Progress.{AreAlike, TapeState, spot, IsVoidFrom}
 use Rattle.low_planner.specs.declared.sweep.Sweep.{Sweep}
-use Rattle.low_planner.specs.Commands.{IsEmpty, IsPlain, full_count}
+use Rattle.low_planner.specs.Commands.{IsEmpty, IsPlain}
+use Rattle.plan_tape.specs.Parts.{full_count}
 use Rattle.low_planner.specs.Sweep.{reach}
 
 -- the coordinate right above

@@ -1,9 +1,9 @@
--- The commands and the number of steps of a plan.
-use Rattle.std.specs.Prelude.{◌≡◌, ℕ, false, count_by, ⊤}
+-- The commands of a plan.
+use Rattle.std.specs.Prelude.{◌≡◌, false, ⊤}
 use Rattle.vox_geom.specs.declared.coordinate.Coord.{Coord}
 use Rattle.nano_spec.specs.declared.commands.Command.{Command}
 use Rattle.nano_spec.specs.declared.commands.Command.TheVariants.{Halt, Wait, Flip, SMove, LMove, FusionP, FusionS, Fission, Fill, Void, GFill, GVoid}
-use Rattle.nano_spec.specs.Matrix.{Matrix, is_full, all_of}
+use Rattle.nano_spec.specs.Matrix.{Matrix, is_full}
 
 -- the command is neither a Flip nor a Fission nor one of a group
 abbrev pub IsPlain : Command → Type 0
@@ -23,7 +23,3 @@ IsPlain (GVoid d f) = ⊥
 -- no voxel of the matrix is full
 abbrev pub IsEmpty : Matrix → Type 0
 IsEmpty m = (c : Coord) → is_full m c ≡ false
-
--- how many voxels of the matrix are full
-unfoldable pub full_count : Matrix → ℕ
-full_count m = count_by (is_full m) (all_of m)

@@ -8,7 +8,7 @@ use Rattle.plan_tape.specs.Leg.{distance}
 use Rattle.low_planner.specs.declared.sweep.Sweep.{Sweep}
 use Rattle.low_planner.specs.declared.sweep.Visit.{Visit}
 use Rattle.low_planner.specs.declared.sweep.Visit.TheVariants.{First, Onward, Back}
-use Rattle.low_planner.specs.Commands.{full_count}
+use Rattle.plan_tape.specs.Parts.{full_count}
 use Rattle.low_planner.specs.Supported.{IsSupported, rests}
 
 -- the two coordinates are adjacent within a layer

@@ -31,7 +31,7 @@ fn go_above(tape: &mut Tape, c: Coord) -> Result<(), Memory>
     requires { CanGoAbove tape.old c }
     ensures { OnOk result (Works tape.old tape.new (above c) tape.old.matrix (moves_to (spot tape.old.bots) (above c))) }
 {
-    let _ = tape.matrix();
+    tape.know_whole();
     go(tape, Coord { y: c.y + 1, ..c })
 }
 
@@ -40,7 +40,7 @@ fn fill(tape: &mut Tape, c: Coord) -> Result<(), Memory>
     requires { CanFill tape.old c }
     ensures { OnOk result (Works tape.old tape.new (above c) (with_voxel tape.old.matrix c true) (moves_to (spot tape.old.bots) (above c) + 1)) }
 {
-    let _ = tape.harmonics();
+    tape.know_ready();
     go_above(tape, c)?;
     tape.fill(Near::down())
 }

@@ -8,11 +8,9 @@ ghost use Rattle.low_planner.specs.Supported.{rests as rests_of};
 ghost use Rattle.low_planner.specs.Sweep.{AreAllSwept, AreSwept, AreBesideInLayer, IsNextFull, IsNextRow, IsPartStart, IsStartInRow, IsSweep, IsSweptRow, IsVoidRow, TakesVoxel, Visits};
 ghost use Rattle.vox_geom.specs.Point.{coord};
 
-use plan_tape::is_full;
+use plan_tape::{first_full, is_full};
 use std::alloc::Global;
-use std::marker::Brand;
-use std::sync::ledger::{Blank, Ledger};
-use vox_geom::{Coord, Memory, Region, Steps};
+use vox_geom::{Coord, Memory, Region};
 use vox_planes::Planes;
 
 /// What a sweep comes to next.
@@ -42,26 +40,13 @@ fn rests(target: &Planes, c: Coord) -> bool
     c.y == 0 || is_full(target, Coord { y: c.y - 1, ..c })
 }
 
-/// The first full voxel of a row, from a coordinate on, counted in a ledger of its own.
-fn next_full_in<L: Ledger>(planes: &Planes, from: Coord, blank: Blank) -> Option<Coord>
-    requires within { IsInSpace planes.now.resolution from }
-    requires name { blank.name ≡ L.name }
-    requires parts { blank.parts ≡ L.parts }
-    requires some { 0 < L.parts }
-    ensures { MatchOption result (IsVoidRow planes.now from) (IsNextFull planes.now from) }
-{
-    let mut steps: Steps<L> = Steps::new(blank);
-    let end = planes.resolution() - 1;
-    let row = Region::of(from, Coord { z: end, ..from });
-    planes.region_full(&row, &mut steps)
-}
-
 /// The first full voxel of a row, from a coordinate on.
 fn next_full(planes: &Planes, from: Coord) -> Option<Coord>
     requires { IsInSpace planes.now.resolution from }
     ensures { MatchOption result (IsVoidRow planes.now from) (IsNextFull planes.now from) }
 {
-    next_full_in::<Brand>(planes, from, Blank::new(1))
+    let end = planes.resolution() - 1;
+    first_full(planes, &Region::of(from, Coord { z: end, ..from }))
 }
 
 /// Where the next row begins.

@@ -27,7 +27,7 @@ use Rattle.nanobot_rows.specs.Planners.{IsGroupPlan, IsLayerPlan, IsLowPlan, IsS
 use Rattle.nanobot_app.specs.Plans.{IsRunOfPlan}
 use Rattle.nanobot_rows.specs.Reading.{AreBoth, AreModels, IsModelOf, IsSide, no_such_file, reply_of}
 use Rattle.nanobot_words.specs.Rows.{plan_group, plan_layer, plan_low, plan_swarm, plan_void}
-use Rattle.low_planner.specs.Commands.{full_count}
+use Rattle.plan_tape.specs.Parts.{full_count}
 use Rattle.low_planner.proofs.Builds.{full_most}
 use Rattle.nanobot_app.proofs.Lengths.{alone, few_commands, four_each, low_fits, swarm_fits, two_each, void_fits}
 use Rattle.nanobot_rows.proofs.Stored.{nothing_here}

@@ -12,7 +12,8 @@ use Rattle.nanobot_rows.specs.declared.report.Report.TheVariants.{Exercised}
 use Rattle.nanobot_rows.specs.declared.stop.Stop.{Stop}
 use Rattle.nanobot_rows.specs.declared.stop.Stop.TheVariants as stop
 use Rattle.nanobot_words.specs.Rows.{exercise}
-use Rattle.nanobot_rows.specs.Answer.{AnswerOf, Answers, Costs, full_count}
+use Rattle.plan_tape.specs.Parts.{full_count}
+use Rattle.nanobot_rows.specs.Answer.{AnswerOf, Answers, Costs}
 use Rattle.nanobot_rows.specs.Effects.{EndsStored, alone}
 use Rattle.nanobot_rows.specs.Planners.{IsGroupPlan, IsLayerPlan, PlanFacts}
 use Rattle.nanobot_rows.specs.Reading.{EndsUnstored, reply_of}

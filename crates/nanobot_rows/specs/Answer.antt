@@ -1,5 +1,5 @@
 -- What is answered to the words over known files: a status, a line and the files afterwards (docs/FORMATS.md, "Printed lines").
-use Rattle.std.specs.Prelude.{◌≡◌, ◌⊎◌, ℕ, ◌+◌, ℤ, nat_lt, ◌==◌, List, [], length, count_by, Option, Some, None, Result, Ok, Err, MatchOption, MatchBool}
+use Rattle.std.specs.Prelude.{◌≡◌, ◌⊎◌, ℕ, ◌+◌, ℤ, nat_lt, ◌==◌, List, [], length, Option, Some, None, Result, Ok, Err, MatchOption, MatchBool}
 use Rattle.std.specs.FinMap as finite
 use Rattle.vox_geom.specs.declared.coordinate.Coord.{Coord}
 use Rattle.nano_spec.specs.declared.commands.Command.{Command}
@@ -8,7 +8,7 @@ use Rattle.nano_spec.specs.declared.system.Profile.{Profile}
 use Rattle.nano_spec.specs.Cutting.{Decoding, NoTrace, CutAt, BadAt}
 use Rattle.nano_spec.specs.Forge.{forged}
 use Rattle.nano_spec.specs.Legal.{Legality, NotLegal}
-use Rattle.nano_spec.specs.Matrix.{Matrix, all_of, empty, is_full}
+use Rattle.nano_spec.specs.Matrix.{Matrix, empty}
 use Rattle.nano_spec.specs.Model.{NoModel, model, written}
 use Rattle.nano_spec.specs.Printing.{print}
 use Rattle.nano_spec.specs.Profile.{full_profile, light_profile}
@@ -19,6 +19,7 @@ use Rattle.vox_depot.specs.Files.{Files, content}
 use Rattle.group_planner.specs.Phases as group
 use Rattle.group_planner.specs.Rows.{rows, runs}
 use Rattle.low_planner.specs.Supported.{FirstUnsupported}
+use Rattle.plan_tape.specs.Parts.{full_count}
 use Rattle.step_debugger.specs.Session.{DebugLine}
 use Rattle.debug_script.specs.Script.{ScriptSays}
 use Rattle.debug_script.specs.Sessions.{PrintsFrom}
@@ -66,10 +67,6 @@ abbrev pub WithFile : Files → List ℕ → (List ℕ → Reply → Type 0) →
 WithFile files name p reply = MatchOption (content files name) (IsGone files reply) (λ bytes. p bytes reply)
 
 -- ---- models
-
--- how many voxels are full
-abbrev pub full_count : Matrix → ℕ
-full_count m = count_by (is_full m) (all_of m)
 
 -- the model, where it is legal
 abbrev pub Judged : Who → Files → Option NotLegal → (Reply → Type 0) → Reply → Type 0

@@ -11,6 +11,7 @@ use Rattle.nano_spec.specs.Spelling.{spellings}
 use Rattle.nano_spec.specs.Verdict.{VerdictOf}
 use Rattle.group_planner.specs.Phases as group
 use Rattle.low_planner.specs.Commands as low
+use Rattle.plan_tape.specs.Parts.{full_count}
 use Rattle.plan_tape.specs.Reaches.{HasAtMost}
 use Rattle.swarm_planner.specs.Strips.{width}
 use Rattle.void_planner.specs.Phases as void
@@ -53,7 +54,7 @@ pub record IsLowPlan (source target : Matrix) (commands : List Command) (energy 
   pub accepted : VerdictOf source target commands full_profile (verdict.Accepted energy steps)
   pub accepted_as_light : VerdictOf source target commands light_profile (verdict.Accepted energy steps)
   pub plain : All low.IsPlain commands
-  pub few_steps : steps ≤ 4 * low.full_count target + volume target.resolution + 200
+  pub few_steps : steps ≤ 4 * full_count target + volume target.resolution + 200
   pub halt_alone : low.IsEmpty target → commands ≡ Halt ∷ []
 
 -- a plan of the swarm planner: the definitions accept the commands from the empty model to the target under both profiles with this energy in

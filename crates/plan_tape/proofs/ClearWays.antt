@@ -9,7 +9,8 @@ use Rattle.nano_spec.specs.declared.system.Harmonics.{Harmonics}
 use Rattle.nano_spec.specs.declared.system.Harmonics.TheVariants.{Low, High}
 use Rattle.nano_spec.specs.Legal.{IsLegal}
 use Rattle.nano_spec.specs.Matrix.{Matrix, is_full}
-use Rattle.plan_tape.specs.Leg.{AreVoidTo, moves, moves_to}
+use Rattle.plan_tape.specs.Leg.{AreVoidTo, IsVoidAlong, moves, moves_to}
+use Rattle.plan_tape.specs.declared.axis.Axis.TheVariants.{X}
 use Rattle.plan_tape.specs.Progress.{IsHeld, IsVoidFrom}
 use Rattle.plan_tape.proofs.LegalModels.{void_at_border}
 
@@ -49,16 +50,19 @@ ways_between m a b v w = record {
   z = λ c t. void_between m b.y b.y c w w (at_either b.y b.y c.y (second_of_three (is_between (pos b.x) (pos b.x) (pos c.x)) _ _ t));
 }
 
+-- where the way along x is void, and all is void where x is 0, so are the ways to an end there
+ways_by_x : (m : Matrix) (a b : Coord) → b.x ≡ 0 → IsVoidAlong m X a b.x → ((c : Coord) → c.x ≡ 0 → is_full m c ≡ false) → AreVoidTo m a b
+ways_by_x m a b e along border = record { x = along; y = λ c t. at_zero c _ _ t; z = λ c t. at_zero c _ _ t }
+  where
+    at_zero : (c : Coord) (v w : Bool) → IsTrue (is_between (pos b.x) (pos b.x) (pos c.x) && v && w) → is_full m c ≡ false
+    at_zero c v w t = border c (between_zeros c.x (subst (λ n. IsTrue (is_between (pos n) (pos n) (pos c.x))) e (first_of_three (is_between (pos b.x) (pos b.x) (pos c.x)) v w t)))
+
+at_height : (y v : ℕ) → IsTrue (is_between (pos y) (pos y) (pos v)) → y ≤ v
+at_height y v t = grind (arith, nat_tests)
+
 -- where all is void from the height of the one end on, and where x is 0, so are the ways to an end there
 pub ways_to_border : (m : Matrix) (a b : Coord) → b.x ≡ 0 → IsVoidFrom m a.y → ((c : Coord) → c.x ≡ 0 → is_full m c ≡ false) → AreVoidTo m a b
-ways_to_border m a b e v border = record {
-  x = λ c t. void_between m a.y a.y c v v (at_either a.y a.y c.y (second_of_three (is_between (pos a.x) (pos b.x) (pos c.x)) _ _ t));
-  y = λ c t. border c (along c (first_of_three (is_between (pos b.x) (pos b.x) (pos c.x)) _ _ t));
-  z = λ c t. border c (along c (first_of_three (is_between (pos b.x) (pos b.x) (pos c.x)) _ _ t));
-}
-  where
-    along : (c : Coord) → IsTrue (is_between (pos b.x) (pos b.x) (pos c.x)) → c.x ≡ 0
-    along c t = between_zeros c.x (subst (λ n. IsTrue (is_between (pos n) (pos n) (pos c.x))) e t)
+ways_to_border m a b e v border = ways_by_x m a b e (λ c t. v c (at_height a.y c.y (second_of_three (is_between (pos a.x) (pos b.x) (pos c.x)) _ _ t))) border
 
 -- ---- how many moves
 
@@ -80,20 +84,13 @@ moves_most r a b l i j =
 
 -- ---- ways home
 
-at_height : (y v : ℕ) → IsTrue (is_between (pos y) (pos y) (pos v)) → y ≤ v
-at_height y v t = grind (arith, nat_tests)
-
 -- where all is void from the height of the one coordinate on, or it is at the border of x, the ways from there to the border and along it are void
 pub ways_home : (m : Matrix) (a b : Coord) → IsLegal m → IsVoidFrom m a.y ⊎ (a.x ≡ 0) → b.x ≡ 0 → AreVoidTo m a b
-ways_home m a b h from e = record {
-  x = λ c t. by from c t;
-  y = λ c t. void_at_border m h c (between_zeros c.x (subst (λ v. IsTrue (is_between (pos v) (pos v) (pos c.x))) e (first_of_three (is_between (pos b.x) (pos b.x) (pos c.x)) (is_between (pos a.y) (pos b.y) (pos c.y)) (is_between (pos a.z) (pos a.z) (pos c.z)) t)));
-  z = λ c t. void_at_border m h c (between_zeros c.x (subst (λ v. IsTrue (is_between (pos v) (pos v) (pos c.x))) e (first_of_three (is_between (pos b.x) (pos b.x) (pos c.x)) (is_between (pos b.y) (pos b.y) (pos c.y)) (is_between (pos a.z) (pos b.z) (pos c.z)) t)));
-}
+ways_home m a b h (inl void) e = ways_to_border m a b e void (void_at_border m h)
+ways_home m a b h (inr f) e = ways_by_x m a b e (λ c t. void_at_border m h c (at_zero c (first_of_three (is_between (pos a.x) (pos b.x) (pos c.x)) _ _ t))) (void_at_border m h)
   where
-    by : IsVoidFrom m a.y ⊎ (a.x ≡ 0) → (c : Coord) → IsTrue (is_between (pos a.x) (pos b.x) (pos c.x) && is_between (pos a.y) (pos a.y) (pos c.y) && is_between (pos a.z) (pos a.z) (pos c.z)) → is_full m c ≡ false
-    by (inl void) c t = void c (at_height a.y c.y (second_of_three (is_between (pos a.x) (pos b.x) (pos c.x)) (is_between (pos a.y) (pos a.y) (pos c.y)) (is_between (pos a.z) (pos a.z) (pos c.z)) t))
-    by (inr f) c t = void_at_border m h c (between_zeros c.x (let k : IsTrue (is_between (pos a.x) (pos b.x) (pos c.x)) = first_of_three (is_between (pos a.x) (pos b.x) (pos c.x)) (is_between (pos a.y) (pos a.y) (pos c.y)) (is_between (pos a.z) (pos a.z) (pos c.z)) t in subst (λ v. IsTrue (is_between (pos v) (pos 0) (pos c.x))) f (subst (λ v. IsTrue (is_between (pos a.x) (pos v) (pos c.x))) e k)))
+    at_zero : (c : Coord) → IsTrue (is_between (pos a.x) (pos b.x) (pos c.x)) → c.x ≡ 0
+    at_zero c t = between_zeros c.x (subst (λ v. IsTrue (is_between (pos v) (pos 0) (pos c.x))) f (subst (λ v. IsTrue (is_between (pos a.x) (pos v) (pos c.x))) e t))
 
 -- the same of a matrix and a coordinate that are given by equations
 pub ways_home_at : (m n : Matrix) (a b to : Coord) → m ≡ n → a ≡ b → IsLegal n → IsVoidFrom n b.y ⊎ (b.x ≡ 0) → to.x ≡ 0 → AreVoidTo m a to

@@ -15,7 +15,7 @@ pub use axis::{Axis, next_stop, towards};
 pub use difference::lowest_difference;
 pub use laws::seeds_bound_the_bots;
 pub use tape::{Plan, Tape};
-pub use voxels::is_full;
+pub use voxels::{first_full, is_full};
 
 #[cfg(test)]
 mod tests;

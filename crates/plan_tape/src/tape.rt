@@ -225,6 +225,13 @@ impl Tape {
         let _ = &self.source;
     }
 
+    /// The matrix has a voxel for each coordinate of a resolution of 1 to 400.
+    pub fn know_whole(&self)
+        ensures whole { IsWhole self.now.matrix }
+    {
+        let _ = self.matrix();
+    }
+
     /// The state is ready for a step.
     pub fn know_ready(&self)
         ensures ready { IsReady (state_of self.now) }

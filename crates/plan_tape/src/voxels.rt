@@ -1,11 +1,13 @@
 //! Voxels that are read by a counter of touches that nobody reads.
-ghost use Rattle.std.specs.Prelude.{◌≡◌, ◌<◌};
+ghost use Rattle.std.specs.Prelude.{◌≡◌, ◌<◌, ◌&&◌, find};
+ghost use Rattle.vox_geom.specs.Point.{point};
+ghost use Rattle.vox_geom.specs.Region.{is_within, span};
 ghost use Rattle.vox_geom.specs.Space.{IsInSpace};
-ghost use Rattle.nano_spec.specs.Matrix.{is_full as is_full_of};
+ghost use Rattle.nano_spec.specs.Matrix.{all_of, is_full as is_full_of};
 
 use std::marker::Brand;
 use std::sync::ledger::{Blank, Ledger};
-use vox_geom::{Coord, Steps};
+use vox_geom::{Coord, Region, Steps};
 use vox_planes::Planes;
 
 /// Whether the voxel is full, counted in a ledger of its own.
@@ -26,4 +28,24 @@ pub fn is_full(planes: &Planes, c: Coord) -> bool
     ensures { result ≡ is_full_of planes.now c }
 {
     is_full_in::<Brand>(planes, c, Blank::new(1))
+}
+
+/// The least full voxel of a region, counted in a ledger of its own.
+fn first_full_in<L: Ledger>(planes: &Planes, region: &Region, blank: Blank) -> Option<Coord>
+    requires within { IsInSpace planes.now.resolution region.now.high }
+    requires name { blank.name ≡ L.name }
+    requires parts { blank.parts ≡ L.parts }
+    requires some { 0 < L.parts }
+    ensures { result ≡ find (λ c. is_full_of planes.now c && is_within (span region.now) (point c)) (all_of planes.now) }
+{
+    let mut steps: Steps<L> = Steps::new(blank);
+    planes.region_full(region, &mut steps)
+}
+
+/// The least full voxel of a region, where nobody counts the touches: `None` exactly where the region is void.
+pub fn first_full(planes: &Planes, region: &Region) -> Option<Coord>
+    requires { IsInSpace planes.now.resolution region.now.high }
+    ensures { result ≡ find (λ c. is_full_of planes.now c && is_within (span region.now) (point c)) (all_of planes.now) }
+{
+    first_full_in::<Brand>(planes, region, Blank::new(1))
 }

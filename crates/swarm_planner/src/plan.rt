@@ -57,7 +57,7 @@ fn closed(mut tape: Tape, target: &Planes) -> Result<Plan, Memory>
 {
     seeds_bound_the_bots();
     let _ = target.resolution();
-    let _ = tape.matrix();
+    tape.know_whole();
     tape.go(Coord { x: 0, y: 0, z: 0 })?;
     tape.flip()?;
     tape.halt()?;

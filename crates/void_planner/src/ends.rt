@@ -138,7 +138,7 @@ pub fn closed(mut tape: Tape, most: u32) -> Result<Plan, Memory>
     ensures steps { IfOk result (λ plan. plan.steps ≤ most + 2) }
     ensures fissions { IfOk result (λ plan. count_by is_fission plan.commands ≡ fissions tape) }
 {
-    let _ = tape.matrix().resolution();
+    tape.know_whole();
     tape.go(Coord { x: 0, y: 0, z: 0 })?;
     tape.flip()?;
     tape.halt()?;

@@ -42,7 +42,7 @@ fn shift(tape: &mut Tape, axis: Axis, at: u16, next: u16) -> Result<(), Memory>
     ensures { OnOk result
         (FourGo tape.old tape.new (far_of tape.old.matrix.resolution) (far_of tape.old.matrix.resolution) (put axis (spot tape.old.bots) next) 1) }
 {
-    let _ = tape.matrix().resolution();
+    tape.know_whole();
     tape.move_all(&[
         Command::SMove(towards(axis, at, next)),
         Command::SMove(towards(axis, at, next)),
@@ -92,7 +92,7 @@ fn widen(tape: &mut Tape, at: u16, next: u16) -> Result<(), Memory>
     requires limit { tape.old.steps < 1073741824 }
     ensures { OnOk result (FourGo tape.old tape.new next 1 (spot tape.old.bots) 1) }
 {
-    let _ = tape.matrix().resolution();
+    tape.know_whole();
     tape.move_all(&[
         Command::Wait,
         Command::SMove(towards(Axis::X, at, next)),
@@ -111,7 +111,7 @@ fn deepen(tape: &mut Tape, at: u16, next: u16) -> Result<(), Memory>
     requires limit { tape.old.steps < 1073741824 }
     ensures { OnOk result (FourGo tape.old tape.new (far_of tape.old.matrix.resolution) next (spot tape.old.bots) 1) }
 {
-    let _ = tape.matrix().resolution();
+    tape.know_whole();
     tape.move_all(&[
         Command::Wait,
         Command::Wait,

@@ -1,8 +1,9 @@
 //! The plan.
-ghost use Rattle.std.specs.Prelude.{◌≡◌, ◌≢◌, ◌+◌, ◌<◌, ◌≤◌, ◌↔◌, [], ◌∷◌, IfOk, IsFalse, IsTrue, count_by};
+ghost use Rattle.std.specs.Prelude.{◌≡◌, ◌≢◌, ◌+◌, ◌<◌, ◌≤◌, ◌↔◌, [], ◌∷◌, IfOk, IsFalse, IsTrue};
 ghost use Rattle.nano_spec.specs.Legal.{IsLegal};
-ghost use Rattle.nano_spec.specs.Matrix.{Matrix as MatrixValue, all_of, empty, is_full};
+ghost use Rattle.nano_spec.specs.Matrix.{Matrix as MatrixValue, empty};
 ghost use Rattle.nano_spec.specs.Profile.{full_profile};
+ghost use Rattle.plan_tape.specs.Parts.{full_count};
 ghost use Rattle.plan_tape.specs.Progress.{IsAccepted};
 ghost use Rattle.void_planner.specs.Few.{HasAtMost};
 ghost use Rattle.void_planner.specs.Phases.{IsVoidModel, most_void_steps};
@@ -23,7 +24,7 @@ fn is_empty_in<L: Ledger>(planes: &Planes, blank: Blank) -> bool
     requires name { blank.name ≡ L.name }
     requires parts { blank.parts ≡ L.parts }
     requires some { 0 < L.parts }
-    ensures { IsTrue result ↔ (count_by (is_full planes.now) (all_of planes.now) ≡ 0) }
+    ensures { IsTrue result ↔ (full_count planes.now ≡ 0) }
 {
     let mut steps: Steps<L> = Steps::new(blank);
     planes.count(&mut steps) == 0

@@ -1,15 +1,9 @@
 //! The tiles of a layer.
-ghost use Rattle.std.specs.Prelude.{◌≡◌, ◌+◌, ◌*◌, ◌<◌, ◌≤◌, IsTrue, false};
-ghost use Rattle.vox_geom.specs.declared.coordinate.Coord.{Coord as Coordinate};
-ghost use Rattle.vox_geom.specs.Point.{point};
-ghost use Rattle.vox_geom.specs.Region.{is_within, span};
-ghost use Rattle.vox_geom.specs.Space.{IsInSpace};
-ghost use Rattle.nano_spec.specs.Matrix.{is_full};
+ghost use Rattle.std.specs.Prelude.{◌≡◌, ◌+◌, ◌*◌, ◌<◌, ◌≤◌, IsTrue};
 ghost use Rattle.void_planner.specs.Tiles.{IsVoidTile, far_of, place_of, tiles_of, turned as turned_of};
 
-use std::marker::Brand;
-use std::sync::ledger::{Blank, Ledger};
-use vox_geom::{Coord, MOST_R, Region, Steps};
+use plan_tape::first_full;
+use vox_geom::{Coord, MOST_R, Region};
 use vox_planes::Planes;
 
 /// The greatest number of voxels along a tile.
@@ -50,18 +44,6 @@ pub fn turned(n: u16, back: bool, k: u16) -> u16
     if back { n - 1 - k } else { k }
 }
 
-/// Whether the region is void, counted in a ledger of its own.
-fn is_void_in<L: Ledger>(planes: &Planes, region: &Region, blank: Blank) -> bool
-    requires within { IsInSpace planes.now.resolution region.now.high }
-    requires name { blank.name ≡ L.name }
-    requires parts { blank.parts ≡ L.parts }
-    requires some { 0 < L.parts }
-    ensures { IsTrue result → (c : Coordinate) → IsTrue (is_within (span region.now) (point c)) → is_full planes.now c ≡ false }
-{
-    let mut steps: Steps<L> = Steps::new(blank);
-    planes.region_full(region, &mut steps).is_none()
-}
-
 /// Whether the tile with this least corner is void.
 pub fn is_void(planes: &Planes, at: Coord) -> bool
     requires some { 2 ≤ planes.now.resolution }
@@ -76,5 +58,5 @@ pub fn is_void(planes: &Planes, at: Coord) -> bool
         y: at.y,
         z: at.z + far,
     };
-    is_void_in::<Brand>(planes, &Region::of(at, end), Blank::new(1))
+    first_full(planes, &Region::of(at, end)).is_none()
 }

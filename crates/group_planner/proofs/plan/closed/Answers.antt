@@ -25,7 +25,7 @@ gather-requires-clause-limit c =
 pub go-requires-clause-ways : goal.go-requires-clause-ways
 go-requires-clause-ways c =
     let j = c.in_ok-gather.ensures in
-    ways_home_at c.gather.new.tape.matrix c.args.target.now (spot c.gather.new.tape.bots) (coord 0 (rear c.args.tape).y 0) _ (j.matrix ∙ matrix_is c.args.tape c.args.target.now c.requires.rebuilt c.matrix.ensures.whole c.resolution.ensures.whole) j.there c.requires.legal (inr refl) refl
+    ways_home_at c.gather.new.tape.matrix c.args.target.now (spot c.gather.new.tape.bots) (coord 0 (rear c.args.tape).y 0) _ (j.matrix ∙ matrix_is c.args.tape c.args.target.now c.requires.rebuilt c.know_whole.ensures.whole c.resolution.ensures.whole) j.there c.requires.legal (inr refl) refl
 
 pub go-requires-clause-limit : goal.go-requires-clause-limit
 go-requires-clause-limit c =
@@ -39,7 +39,7 @@ go-requires-clause-limit c =
     omega (arith, steps, fits, home)
 
 pub flip-requires-clause-held : goal.flip-requires-clause-held
-flip-requires-clause-held c = λ l. grounded_at c.go.new.self.matrix c.args.target.now (c.in_ok-go.ensures.ok.matrix ∙ (c.in_ok-gather.ensures.matrix ∙ matrix_is c.args.tape c.args.target.now c.requires.rebuilt c.matrix.ensures.whole c.resolution.ensures.whole)) c.requires.legal
+flip-requires-clause-held c = λ l. grounded_at c.go.new.self.matrix c.args.target.now (c.in_ok-go.ensures.ok.matrix ∙ (c.in_ok-gather.ensures.matrix ∙ matrix_is c.args.tape c.args.target.now c.requires.rebuilt c.know_whole.ensures.whole c.resolution.ensures.whole)) c.requires.legal
 
 pub flip-requires-clause-limit : goal.flip-requires-clause-limit
 flip-requires-clause-limit c =

@@ -63,6 +63,9 @@ loop-visit-preserved-in-Continue-branch-4 c =
       most = inv.most;
     }
 
+pub loop-visit-smaller : goal.loop-visit-smaller
+loop-visit-smaller c = visit_lessens c.args.target.now c.loop-visit.sweep c.next.new.self c.in-Some.visit (rw c.in-Some.is at c.in_ok-visit.ensures.visits)
+
 pub go_above-requires : goal.go_above-requires
 go_above-requires c =
     let m = c.args.target.now in

@@ -1,4 +1,0 @@
-use Rattle.void_planner.proofs.tiles.is_void.Given as goal
-
-abbrev pub ghosts-is_void_in : goal.ghosts-is_void_in
-ghosts-is_void_in a = record { name = a.blank.name; parts = a.blank.parts }
