@@ -1,5 +1,5 @@
 //! The row `exercise`: both plans of a forged model, judged.
-ghost use Rattle.std.specs.Prelude.{◌≡◌, ◌≤◌, ℕ, IfOk, Option};
+ghost use Rattle.std.specs.Prelude.{◌≡◌, ◌≤◌, ℕ, IfOk, None, Option};
 ghost use Rattle.vox_depot.specs.Causes.{Rose};
 ghost use Rattle.vox_depot.specs.Files.{Files};
 ghost use Rattle.nano_spec.specs.Matrix.{empty};
@@ -8,8 +8,10 @@ ghost use Rattle.nano_spec.specs.declared.outcomes.Verdict.TheVariants.{Accepted
 ghost use Rattle.nano_spec.specs.Verdict.{VerdictOf};
 ghost use Rattle.nanobot_words.specs.Rows.{exercise as exercise_row};
 ghost use Rattle.nanobot_rows.specs.Answer.{AnswerOf};
+ghost use Rattle.nanobot_rows.specs.Effects.{EndsStored, IsFor};
 ghost use Rattle.nanobot_rows.specs.Reading.{EndsUnstored};
 
+use crate::effect::Effect;
 use crate::report::{Cost, Report};
 use crate::stop::Stop;
 use group_planner::plan_groups;
@@ -53,8 +55,8 @@ fn judge_plan<L: Ledger>(
     }
 }
 
-/// `exercise`: what the plans of the layer planner and of the group planner cost that make a forged model of nothing.
-pub fn exercise<L: Ledger>(
+/// The report on the plans of the layer planner and of the group planner that make a forged model of nothing.
+fn judge_plans<L: Ledger>(
     alloc: Global,
     number: u32,
     resolution: u16,
@@ -79,4 +81,19 @@ pub fn exercise<L: Ledger>(
         layer,
         group,
     })
+}
+
+/// `exercise`: what the plans of the layer planner and of the group planner cost that make a forged model of nothing.
+pub fn exercise<'a, L: Ledger>(
+    alloc: Global,
+    number: u32,
+    resolution: u16,
+    steps: &mut Steps<L>,
+) -> Result<Effect<'a>, Stop>
+    requires some { 1 ≤ resolution }
+    requires most { resolution ≤ MOST_R }
+    ensures finishes { (told : Option Files) (before now : ℕ) → EndsStored (AnswerOf (exercise_row number resolution)) told (Rose before now) result }
+    ensures named { IfOk result (IsFor None) }
+{
+    Effect::telling(judge_plans(alloc, number, resolution, steps))
 }

@@ -184,14 +184,56 @@ fn exercised_head(
     format!(in alloc; "exercise number {number} resolution {resolution} full {full} layer")
 }
 
-/// The line of a forged model and what its plans cost.
-fn exercised_line(alloc: Global, head: &str, layer: Cost, group: Cost) -> Result<String, AllocError>
+/// The line of a forged model and what its plans cost, by what stands before the costs.
+fn with_costs(alloc: Global, head: &str, layer: Cost, group: Cost) -> Result<String, AllocError>
     ensures { IfOk result (λ s. string_bytes s ≡ exercised_line_of head.now layer group) }
 {
     format!(in alloc;
         "{head} energy {} steps {} group energy {} steps {}\n",
         layer.energy, layer.steps, group.energy, group.steps
     )
+}
+
+/// The line of a forged model and what its plans cost.
+fn exercised_line(
+    alloc: Global,
+    number: u32,
+    resolution: u16,
+    full: u32,
+    layer: Cost,
+    group: Cost,
+) -> Result<String, AllocError>
+    ensures { IfOk result (λ s. string_bytes s ≡ exercised_line_of (exercised_head_of number resolution full) layer group) }
+{
+    let head = exercised_head(alloc, number, resolution, full)?;
+    with_costs(alloc, head.as_str(), layer, group)
+}
+
+/// The line of a plan.
+fn planned_line(
+    alloc: Global,
+    energy: i64,
+    steps: u32,
+    commands: u64,
+    bytes: u64,
+) -> Result<String, AllocError>
+    ensures { IfOk result (λ s. string_bytes s ≡ report_line (Report.Planned energy steps commands bytes)) }
+{
+    format!(in alloc; "plan energy {energy} steps {steps} commands {commands} bytes {bytes}\n")
+}
+
+/// The line of two models of different resolutions.
+fn resolutions_line(alloc: Global, source: u16, target: u16) -> Result<String, AllocError>
+    ensures { IfOk result (λ s. string_bytes s ≡ report_line (Report.Resolutions source target)) }
+{
+    format!(in alloc; "resolutions {source} {target}\n")
+}
+
+/// The line of a plan of the group planner that may be too long.
+fn group_long_line(alloc: Global, runs: u64, rows: u64) -> Result<String, AllocError>
+    ensures { IfOk result (λ s. string_bytes s ≡ report_line (Report.GroupLong runs rows)) }
+{
+    format!(in alloc; "group plan too long runs {runs} rows {rows}\n")
 }
 
 impl Report {
@@ -272,24 +314,16 @@ impl Report {
                 steps,
                 commands,
                 bytes,
-            } => {
-                format!(in alloc;
-                    "plan energy {energy} steps {steps} commands {commands} bytes {bytes}\n"
-                )
-            }
+            } => planned_line(alloc, *energy, *steps, *commands, *bytes),
             Report::Broken(broken) => broken_line(alloc, broken),
             Report::Model { who, fault } => model_line(alloc, *who, *fault),
-            Report::Resolutions { source, target } => {
-                format!(in alloc; "resolutions {source} {target}\n")
-            }
+            Report::Resolutions { source, target } => resolutions_line(alloc, *source, *target),
             Report::TraceBad { offset } => format!(in alloc; "trace bad at {offset}\n"),
             Report::TraceCut { offset } => format!(in alloc; "trace cut at {offset}\n"),
             Report::TraceLong { limit } => format!(in alloc; "trace longer than {limit}\n"),
             Report::Text(fault) => text_line(alloc, *fault),
             Report::TextLong { limit } => format!(in alloc; "text longer than {limit}\n"),
-            Report::GroupLong { runs, rows } => {
-                format!(in alloc; "group plan too long runs {runs} rows {rows}\n")
-            }
+            Report::GroupLong { runs, rows } => group_long_line(alloc, *runs, *rows),
             Report::Unsupported { at } => unsupported_line(alloc, *at),
             Report::Exercised {
                 number,
@@ -297,10 +331,7 @@ impl Report {
                 full,
                 layer,
                 group,
-            } => {
-                let head = exercised_head(alloc, *number, *resolution, *full)?;
-                exercised_line(alloc, head.as_str(), *layer, *group)
-            }
+            } => exercised_line(alloc, *number, *resolution, *full, *layer, *group),
         }
     }
 }

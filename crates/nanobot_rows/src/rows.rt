@@ -49,8 +49,8 @@ fn check<D: Depot, L: Ledger>(
     })
 }
 
-/// `run` and `run light`: the verdict of a trace from a source to a target, by a profile.
-fn run<D: Depot, L: Ledger>(
+/// The report on a trace from a source to a target, by a profile.
+fn judge_run<D: Depot, L: Ledger>(
     alloc: Global,
     depot: &mut D,
     source: Side<'_>,
@@ -74,6 +74,33 @@ fn run<D: Depot, L: Ledger>(
     every_run_has_work();
     let (source, target) = load_models(alloc, depot, source, target)?;
     run_trace(alloc, depot, trace, source, &target, profile, steps)
+}
+
+/// `run` and `run light`: the verdict of a trace from a source to a target, by a profile.
+fn run<'a, D: Depot, L: Ledger>(
+    alloc: Global,
+    depot: &mut D,
+    source: Side<'_>,
+    target: Side<'_>,
+    trace: &str,
+    profile: Profile,
+    steps: &mut Steps<L>,
+) -> Result<Effect<'a>, Stop>
+    requires source { (name : List ℕ) → side_of source ≡ Some name → D.may_fetch name }
+    requires target { (name : List ℕ) → side_of target ≡ Some name → D.may_fetch name }
+    requires trace { D.may_fetch trace.now }
+    requires some { side_of source ≡ None → side_of target ≡ None → ⊥ }
+    requires seeds { profile.seeds ≤ 39 }
+    ensures finishes { EndsStored (AnswerOfRun profile (side_of source.entry) (side_of target.entry) trace.now) (D.files depot.old)
+        (Rose (D.faults depot.old) (D.faults depot.new)) result }
+    ensures named { IfOk result (IsFor None) }
+    ensures files { D.files depot.new ≡ D.files depot.old }
+    ensures later { D.faults depot.old ≤ D.faults depot.new }
+    ensures within { (result ≡ Err Stop.Memory → ⊥)
+        → IsRunWithin profile (side_of source.entry) (side_of target.entry) trace.now (D.files depot.old) steps.old steps.new }
+{
+    let told = judge_run(alloc, depot, source, target, trace, profile, steps);
+    Effect::telling(told)
 }
 
 /// `asm`: the bytes of the commands that a text says.
@@ -157,18 +184,12 @@ pub fn answer<'a, D: Depot, L: Ledger>(
             source,
             target,
             trace,
-        } => {
-            let full = Profile::full();
-            Effect::telling(run(alloc, depot, source, target, trace, full, steps))
-        }
+        } => run(alloc, depot, source, target, trace, Profile::full(), steps),
         Row::Light {
             source,
             target,
             trace,
-        } => {
-            let light = Profile::light();
-            Effect::telling(run(alloc, depot, source, target, trace, light, steps))
-        }
+        } => run(alloc, depot, source, target, trace, Profile::light(), steps),
         Row::Asm { text, trace } => asm(alloc, depot, text, trace),
         Row::Dis { trace, text } => dis(alloc, depot, trace, text),
         Row::Make {
@@ -189,9 +210,7 @@ pub fn answer<'a, D: Depot, L: Ledger>(
         Row::PlanVoid { source, trace } => plan_void(alloc, depot, source, trace),
         Row::PlanLow { target, trace } => plan_low(alloc, depot, target, trace),
         Row::PlanSwarm { target, trace } => plan_swarm(alloc, depot, target, trace),
-        Row::Exercise { number, resolution } => {
-            Effect::telling(exercise(alloc, number, resolution, steps))
-        }
+        Row::Exercise { number, resolution } => exercise(alloc, number, resolution, steps),
         Row::Debug {
             source,
             trace,
