@@ -39,7 +39,7 @@ IsUnderway machine pending mark.Running = machine.spent ≡ false → length pen
 IsUnderway machine pending _ = Unit {0}
 
 -- steps are made no more, and one command more has come
-pub record IsPassed (old new : Mark) : Type 0 where
+pub record IsAfterEnd (old new : Mark) : Type 0 where
   pub pushes : (p : Progress) (command : Command) → p.mark ≡ mark_by old → Pushes p command (record p { mark = mark_by new })
   pub ended : new ≡ mark.Running → ⊥
 

@@ -7,7 +7,7 @@ ghost use Rattle.nano_spec.specs.Profile.{full_profile};
 ghost use Rattle.nano_spec.specs.Verdict.{VerdictOf};
 ghost use Rattle.run_progress.specs.Progress.{Finishes, Pushes, begun};
 ghost use Rattle.step_machine.specs.declared.runner.Mark.TheVariants as Mark;
-ghost use Rattle.step_machine.specs.Course.{IsPassed, LacksCommands, MakesEdits, MakesNoStep, course_of, searched_by};
+ghost use Rattle.step_machine.specs.Course.{IsAfterEnd, LacksCommands, MakesEdits, MakesNoStep, course_of, searched_by};
 ghost use Rattle.step_machine.specs.Edits.{is_edit};
 ghost use Rattle.step_machine.specs.Payment.{IsWithinWork, IsWithinWorkOfRun};
 ghost use Rattle.step_machine.specs.Stepped.{Stepped};
@@ -100,7 +100,7 @@ fn take<L: Ledger>(
 #[inline(never)]
 fn passed(mark: Mark) -> Mark
     requires ended { mark ≡ Mark.Running → ⊥ }
-    ensures { IsPassed mark result }
+    ensures { IsAfterEnd mark result }
 {
     match mark {
         Mark::Halted => Mark::Followed,
