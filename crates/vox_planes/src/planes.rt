@@ -25,18 +25,21 @@ const WORD_BITS: usize = 64;
 #[derive(Drop)]
 pub struct Planes {
     resolution: u16,
+    // How many words a layer takes: each index asks for it.
+    layer: usize,
     words: Vec<u64>,
 }
 
 impl Model for Planes {
     ghost use Rattle.nano_spec.specs.Matrix.{Matrix};
-    ghost use Rattle.vox_planes.specs.Layers.{IsLayered, layered};
+    ghost use Rattle.std.specs.Prelude.{◌≡◌};
+    ghost use Rattle.vox_planes.specs.Layers.{IsLayered, layer_words, layered};
 
     ghost Value = { Matrix };
 
     ghost view = { λ p. layered p.resolution p.words.items };
 
-    ghost invariant = { λ p. IsLayered p.resolution p.words.items };
+    ghost invariant = { λ p. IsLayered p.resolution p.words.items × (p.layer ≡ layer_words p.resolution) };
 }
 
 /// How many words a layer takes.
@@ -49,16 +52,17 @@ fn layer_words(r: u16) -> usize
     (side * side).div_ceil(WORD_BITS)
 }
 
-/// The index of a coordinate's bit through all words.
+/// The index of a coordinate's bit through all words, where a layer takes so many.
 #[inline(always)]
-fn bit_index(c: Coord, r: u16) -> usize
+fn bit_index(c: Coord, r: u16, layer: usize) -> usize
     requires resolution { r ≤ MOST_R }
+    requires layer { layer ≡ layer_words_of r }
     requires within { IsInSpace r c }
     ensures value { result ≡ bit_index_of r c }
     ensures below { result / 64 < r * layer_words_of r }
 {
-    let layer = usize::from(c.y) * layer_words(r) * WORD_BITS;
-    layer + usize::from(c.x) * usize::from(r) + usize::from(c.z)
+    let below = usize::from(c.y) * layer * WORD_BITS;
+    below + usize::from(c.x) * usize::from(r) + usize::from(c.z)
 }
 
 /// Whether the bit of this index is 1.
@@ -97,9 +101,11 @@ impl Planes {
         ensures resolution { IfOk result (λ p. p.resolution ≡ r) }
         ensures whole { IfOk result (λ p. IsWhole p) }
     {
-        let words = vec![in alloc; 0u64; usize::from(r) * layer_words(r)]?;
+        let layer = layer_words(r);
+        let words = vec![in alloc; 0u64; usize::from(r) * layer]?;
         Ok(Planes {
             resolution: r,
+            layer,
             words,
         })
     }
@@ -113,6 +119,7 @@ impl Planes {
         let words = Vec::from_slice(alloc, self.words.as_slice())?;
         Ok(Planes {
             resolution: self.resolution,
+            layer: self.layer,
             words,
         })
     }
@@ -133,7 +140,7 @@ impl Planes {
         ensures touches { steps.new ≡ steps.old + 1 }
     {
         steps.tick();
-        is_set(&self.words, bit_index(c, self.resolution))
+        is_set(&self.words, bit_index(c, self.resolution, self.layer))
     }
 
     /// Makes the voxel at the coordinate full or void. All other voxels stay.
@@ -146,7 +153,7 @@ impl Planes {
         ensures others { (d : Coordinate) → d ≢ c → is_full self.new d ≡ is_full self.old d }
         ensures whole { IsWhole self.new }
     {
-        let i = bit_index(c, self.resolution);
+        let i = bit_index(c, self.resolution, self.layer);
         set_bit(&mut self.words, i, full);
     }
 }

@@ -7,7 +7,7 @@ ghost use Rattle.vox_planes.specs.Bits.{AreClear, IsFirstBit};
 ghost use Rattle.vox_planes.specs.Layers.{is_set as is_set_of};
 ghost use Rattle.vox_planes.specs.Walk.{passes_in};
 
-use super::{Planes, WORD_BITS, bit_index, is_set, layer_words};
+use super::{Planes, WORD_BITS, bit_index, is_set};
 use std::sync::ledger::Ledger;
 use vox_geom::{Coord, Region, Steps};
 
@@ -23,7 +23,7 @@ impl Planes {
         let apart = usize::from(self.resolution);
         let low = b.low();
         let high = b.high();
-        let first = bit_index(low, self.resolution);
+        let first = bit_index(low, self.resolution, self.layer);
         let count = high.x - low.x + 1;
         let Some(n) = next_apart(&self.words, first, apart, count, steps) else {
             return None;
@@ -42,10 +42,10 @@ impl Planes {
         ensures value { result ≡ find (passes_in b.now (is_full self.now)) (all_of self.now) }
         ensures touches { steps.new ≤ steps.old + size (span b.now) }
     {
-        let apart = layer_words(self.resolution);
+        let apart = self.layer;
         let low = b.low();
         let high = b.high();
-        let first = bit_index(low, self.resolution);
+        let first = bit_index(low, self.resolution, self.layer);
         let count = high.y - low.y + 1;
         let Some(n) = next_above(&self.words, first, apart, count, steps) else {
             return None;

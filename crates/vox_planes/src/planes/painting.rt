@@ -32,7 +32,7 @@ impl Planes {
         ensures whole { IsWhole self.new }
         ensures touches { steps.new ≤ steps.old + (last + 1 - first.z) }
     {
-        let index = bit_index(first, self.resolution);
+        let index = bit_index(first, self.resolution, self.layer);
         let count = u32::from(last - first.z) + 1;
         set_bits(&mut self.words, index, count, full, steps)
     }

@@ -27,7 +27,7 @@ impl Planes {
         ensures whole { IsWhole self.new }
     {
         let c = Coord::of_place(from, self.resolution);
-        let index = bit_index(c, self.resolution);
+        let index = bit_index(c, self.resolution, self.layer);
         let count = part(u32::from(self.resolution - c.z), index, most);
         put_bits(&mut self.words, index, count, bits);
         count
@@ -76,7 +76,7 @@ impl Planes {
         while done < count {
             steps.tick();
             let c = Coord::of_place(from + done, self.resolution);
-            let index = bit_index(c, self.resolution);
+            let index = bit_index(c, self.resolution, self.layer);
             let some = part(u32::from(self.resolution - c.z), index, count - done);
             bits += bits_at(&self.words, index, some) << done;
             done += some;
@@ -96,7 +96,7 @@ impl Planes {
         ensures resolution { self.new.resolution ≡ self.old.resolution }
         ensures whole { IsWhole self.new }
     {
-        let index = bit_index(first, self.resolution);
+        let index = bit_index(first, self.resolution, self.layer);
         take_bits(&mut self.words, index, count, bits)
     }
 }

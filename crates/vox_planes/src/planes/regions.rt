@@ -30,7 +30,7 @@ impl Planes {
         ensures touches { steps.new ≤ steps.old + (last + 1 - first.z) }
         ensures touches_found { IfSome result (λ c. steps.new + first.z ≤ steps.old + (c.z + 1)) }
     {
-        let start = bit_index(first, self.resolution);
+        let start = bit_index(first, self.resolution, self.layer);
         let end = start + usize::from(last - first.z) + 1;
         let Some(i) = next_bit(&self.words, start, end, full, steps) else {
             return None;
@@ -121,7 +121,7 @@ impl Planes {
         ensures left { list.old.spare ≤ list.new.spare + (last + 1 - first.z) }
         ensures touches { steps.new ≤ steps.old + (last + 1 - first.z) }
     {
-        let start = bit_index(first, self.resolution) - usize::from(first.z);
+        let start = bit_index(first, self.resolution, self.layer) - usize::from(first.z);
         let mut z = first.z;
         while z <= last {
             steps.tick();

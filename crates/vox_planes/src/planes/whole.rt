@@ -10,7 +10,7 @@ ghost use Rattle.vox_planes.specs.Difference.{earlier as earlier_of, in_layer_di
 ghost use Rattle.vox_planes.specs.Heap.{IsHeap};
 ghost use Rattle.vox_planes.specs.Layers.{layer_words as layer_words_of};
 
-use super::{Planes, WORD_BITS, layer_words};
+use super::{Planes, WORD_BITS};
 use std::sync::ledger::Ledger;
 use vox_geom::{Coord, Steps};
 
@@ -41,7 +41,7 @@ impl Planes {
         ensures touches { steps.new ≤ steps.old + 2 * layer_words_of self.now.resolution }
     {
         let side = usize::from(self.resolution);
-        let count = layer_words(self.resolution);
+        let count = self.layer;
         let first = usize::from(y) * count;
         for i in 0..count {
             steps.tick();
@@ -77,7 +77,7 @@ impl Planes {
         ensures heap { result ≡ true → IsHeap self.now }
         ensures other { result ≡ false → IsHeap self.now → ⊥ }
     {
-        let layer = layer_words(self.resolution);
+        let layer = self.layer;
         for i in layer..self.words.len() {
             if self.words[i] & !self.words[i - layer] != 0 {
                 return false;

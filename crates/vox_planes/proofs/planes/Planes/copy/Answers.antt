@@ -5,4 +5,4 @@ use Rattle.vox_planes.proofs.planes.Planes.copy.Goals as goal
 
 pub returns-clause-whole : goal.returns-clause-whole
 returns-clause-whole c =
-    layered_whole _ _ (subst (λ (ws : List ℕ). IsLayered c.self.inside.resolution ws) (sym (c.in_ok-words.ensures.items ∙ c.as_slice.ensures.value)) c.self.invariant)
+    layered_whole _ _ (subst (λ (ws : List ℕ). IsLayered c.self.inside.resolution ws) (sym (c.in_ok-words.ensures.items ∙ c.as_slice.ensures.value)) c.self.invariant.0)

@@ -14,8 +14,8 @@ overflow_add-full g c =
     let word = get_or c.deref-word-items.result.now c.loop-word.word-index 0 in
     let range : word < 2 ^ 64 = omega (arith, c.type_inv.word-items c.loop-word.word-index) in
     let most = ones-le 64 word range in
-    let words = ap length c.deref-word-items.ensures.value ∙ c.self.invariant.whole in
-    let bound = words_bound c.self.inside.resolution (length c.deref-word-items.result.now) c.self.invariant.most words in
+    let words = ap length c.deref-word-items.ensures.value ∙ c.self.invariant.0.whole in
+    let bound = words_bound c.self.inside.resolution (length c.deref-word-items.result.now) c.self.invariant.0.most words in
     omega (arith, most, bound, c.loop-word.invariant.below)
 
 pub loop-word-preserved : goal.loop-word-preserved
@@ -35,11 +35,11 @@ returns-clause-value g c =
     let end : c.loop-word.word-index ≡ length items = omega arith in
     c.loop-word.invariant.sum
     ∙ ((λ i. bits_below (c.deref-word-items.ensures.value i) (64 * (end ∙ ap length c.deref-word-items.ensures.value) i))
-    ∙ (bits_all c.self.inside.resolution c.self.inside.words.items c.self.invariant
+    ∙ (bits_all c.self.inside.resolution c.self.inside.words.items c.self.invariant.0
     ∙ ap (λ (m : Matrix). count_by (is_full m) (all_of m)) c.self.view_is))
 
 pub returns-clause-touches : goal.returns-clause-touches
 returns-clause-touches g c =
     let end : c.loop-word.word-index ≡ length c.deref-word-items.result.now = omega arith in
-    let most = words_most c.self.inside.resolution c.loop-word.word-index c.self.invariant.some (end ∙ (ap length c.deref-word-items.ensures.value ∙ c.self.invariant.whole)) in
+    let most = words_most c.self.inside.resolution c.loop-word.word-index c.self.invariant.0.some (end ∙ (ap length c.deref-word-items.ensures.value ∙ c.self.invariant.0.whole)) in
     subst (λ (m : Matrix). c.loop-word.steps ≤ c.args.steps.now + volume m.resolution) c.self.view_is (omega (arith, most, c.loop-word.invariant.touches))

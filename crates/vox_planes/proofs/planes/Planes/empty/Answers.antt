@@ -8,15 +8,15 @@ zeros ws r n side words e f g h = e ∙ ap (λ k. replicate k 0) (f ∙ (λ i. g
 
 pub invariant_of-result : goal.invariant_of-result
 invariant_of-result c =
-    let e = zeros c.in_ok-words.words.items c.args.r _ c.from.result c.layer_words.result (c.in_ok-words.ensures.items_if_clones_equal (λ y h. h)) refl c.from.ensures c.layer_words.ensures in
-    subst (λ (ws : List ℕ). IsLayered c.args.r ws) (sym e) (IsLayered-zeros c.args.r c.requires.some c.requires.most)
+    let e = zeros c.in_ok-words.words.items c.args.r _ c.from.result c.layer_words-layer.result (c.in_ok-words.ensures.items_if_clones_equal (λ y h. h)) refl c.from.ensures c.layer_words-layer.ensures in
+    (subst (λ (ws : List ℕ). IsLayered c.args.r ws) (sym e) (IsLayered-zeros c.args.r c.requires.some c.requires.most), c.layer_words-layer.ensures)
 
 pub returns-clause-value : goal.returns-clause-value
 returns-clause-value c =
-    let e = zeros c.in_ok-words.words.items c.args.r _ c.from.result c.layer_words.result (c.in_ok-words.ensures.items_if_clones_equal (λ y h. h)) refl c.from.ensures c.layer_words.ensures in
+    let e = zeros c.in_ok-words.words.items c.args.r _ c.from.result c.layer_words-layer.result (c.in_ok-words.ensures.items_if_clones_equal (λ y h. h)) refl c.from.ensures c.layer_words-layer.ensures in
     ap (λ (ws : List ℕ). layered c.args.r ws) e ∙ layered-zeros c.args.r
 
 pub returns-clause-whole : goal.returns-clause-whole
 returns-clause-whole c =
-    let e = zeros c.in_ok-words.words.items c.args.r _ c.from.result c.layer_words.result (c.in_ok-words.ensures.items_if_clones_equal (λ y h. h)) refl c.from.ensures c.layer_words.ensures in
+    let e = zeros c.in_ok-words.words.items c.args.r _ c.from.result c.layer_words-layer.result (c.in_ok-words.ensures.items_if_clones_equal (λ y h. h)) refl c.from.ensures c.layer_words-layer.ensures in
     layered_whole _ _ (subst (λ (ws : List ℕ). IsLayered c.args.r ws) (sym e) (IsLayered-zeros c.args.r c.requires.some c.requires.most))

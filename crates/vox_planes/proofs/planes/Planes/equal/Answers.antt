@@ -24,6 +24,6 @@ pub returns-clause-touches : goal.returns-clause-touches
 returns-clause-touches g c =
     let rs : c.self.inside.resolution ≡ c.args.self.now.resolution = ap (λ (m : Matrix). m.resolution) c.self.view_is in
     let end : c.loop-y.y ≡ c.args.self.now.resolution = omega arith in
-    let most : c.args.self.now.resolution * layer_words c.args.self.now.resolution ≤ volume c.args.self.now.resolution = words_most c.args.self.now.resolution _ (omega (arith, c.self.invariant.some)) refl in
+    let most : c.args.self.now.resolution * layer_words c.args.self.now.resolution ≤ volume c.args.self.now.resolution = words_most c.args.self.now.resolution _ (omega (arith, c.self.invariant.0.some)) refl in
     let same : c.loop-y.y * layer_words c.args.self.now.resolution ≡ c.args.self.now.resolution * layer_words c.args.self.now.resolution = ap (λ n. n * layer_words c.args.self.now.resolution) end in
     omega (arith, c.loop-y.invariant.touches)

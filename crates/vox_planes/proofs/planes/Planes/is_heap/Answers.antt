@@ -17,14 +17,14 @@ stacked ws layer i w u above end ew eu fits lower_fits = record {
 }
 
 pub loop-i-init : goal.loop-i-init
-loop-i-init c = held_none c.self.inside.words.items c.layer_words-layer.result
+loop-i-init c = held_none c.self.inside.words.items c.self.inside.layer
 
 pub loop-i-preserved : goal.loop-i-preserved
 loop-i-preserved c =
     let ws = c.self.inside.words.items in
     let end : c.loop-i.i < length ws = omega (arith, c.loop-i-test.true, c.len-i-end.ensures) in
-    held_more ws c.layer_words-layer.result c.loop-i.i c.index.result.now c.index-in-loop-i.result.now
-    (stacked ws c.layer_words-layer.result c.loop-i.i c.index.result.now c.index-in-loop-i.result.now
+    held_more ws c.self.inside.layer c.loop-i.i c.index.result.now c.index-in-loop-i.result.now
+    (stacked ws c.self.inside.layer c.loop-i.i c.index.result.now c.index-in-loop-i.result.now
     c.loop-i.auto.i end c.index.ensures c.index-in-loop-i.ensures (omega arith) (omega arith))
     c.if-index-ne0.false c.loop-i.invariant
 
@@ -32,9 +32,9 @@ pub returns-then-index-ne0-clause-other : goal.returns-then-index-ne0-clause-oth
 returns-then-index-ne0-clause-other c = λ _ heap.
     let ws = c.self.inside.words.items in
     let end : c.loop-i.i < length ws = omega (arith, c.loop-i-test.true, c.len-i-end.ensures) in
-    none_lost c.self.inside.resolution ws c.self.invariant (subst IsHeap (sym c.self.view_is) heap)
-    c.layer_words-layer.result c.loop-i.i c.index.result.now c.index-in-loop-i.result.now c.layer_words-layer.ensures (omega (arith, c.self.invariant.whole))
-    (stacked ws c.layer_words-layer.result c.loop-i.i c.index.result.now c.index-in-loop-i.result.now
+    none_lost c.self.inside.resolution ws c.self.invariant.0 (subst IsHeap (sym c.self.view_is) heap)
+    c.self.inside.layer c.loop-i.i c.index.result.now c.index-in-loop-i.result.now c.self.invariant.1 (omega (arith, c.self.invariant.0.whole))
+    (stacked ws c.self.inside.layer c.loop-i.i c.index.result.now c.index-in-loop-i.result.now
     c.loop-i.auto.i end c.index.ensures c.index-in-loop-i.ensures (omega arith) (omega arith))
     (omega (arith, c.if-index-ne0.true))
 
@@ -42,5 +42,5 @@ pub returns-clause-heap : goal.returns-clause-heap
 returns-clause-heap c = λ _.
     let r = c.self.inside.resolution in
     let ws = c.self.inside.words.items in
-    let all : r * layer_words r ≤ c.loop-i.i = omega (arith, c.loop-i-test.false, c.len-i-end.ensures, c.self.invariant.whole) in
-    subst IsHeap c.self.view_is (is_heap-held r ws c.layer_words-layer.result c.loop-i.i c.layer_words-layer.ensures all c.loop-i.invariant)
+    let all : r * layer_words r ≤ c.loop-i.i = omega (arith, c.loop-i-test.false, c.len-i-end.ensures, c.self.invariant.0.whole) in
+    subst IsHeap c.self.view_is (is_heap-held r ws c.self.inside.layer c.loop-i.i c.self.invariant.1 all c.loop-i.invariant)

@@ -12,7 +12,7 @@ next_apart-requires-clause-within g c = λ n l.
     let start = c.bit_index-first.ensures.value ∙ ap (bit_index c.self.inside.resolution) c.low-low.ensures.value in
     let low = ap (λ (d : Coord). d.x) c.low-low.ensures.value in
     let high = ap (λ (d : Coord). d.x) c.high-high.ensures.value in
-    within_x c.self.inside.resolution c.self.inside.words.items c.args.self.now c.args.b.now c.self.view_is c.low-low.ensures.ordered space c.requires.y c.requires.z c.deref.result.now c.bit_index-first.result _ c.deref.ensures.value start c.from-apart.ensures c.self.invariant.whole n (omega (arith, low, high, c.low-low.ensures.ordered.x))
+    within_x c.self.inside.resolution c.self.inside.words.items c.args.self.now c.args.b.now c.self.view_is c.low-low.ensures.ordered space c.requires.y c.requires.z c.deref.result.now c.bit_index-first.result _ c.deref.ensures.value start c.from-apart.ensures c.self.invariant.0.whole n (omega (arith, low, high, c.low-low.ensures.ordered.x))
 
 pub returns-in_default-clause-value : goal.returns-in_default-clause-value
 returns-in_default-clause-value g c =

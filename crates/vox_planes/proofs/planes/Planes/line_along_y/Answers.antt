@@ -12,7 +12,7 @@ next_above-requires-clause-within g c = λ n l.
     let start = c.bit_index-first.ensures.value ∙ ap (bit_index c.self.inside.resolution) c.low-low.ensures.value in
     let low = ap (λ (d : Coord). d.y) c.low-low.ensures.value in
     let high = ap (λ (d : Coord). d.y) c.high-high.ensures.value in
-    within_y c.self.inside.resolution c.self.inside.words.items c.args.self.now c.args.b.now c.self.view_is c.low-low.ensures.ordered space c.requires.x c.requires.z c.deref.result.now c.bit_index-first.result _ c.deref.ensures.value start (ap (λ n. n * 64) c.layer_words-apart.ensures) c.self.invariant.whole n (omega (arith, low, high, c.low-low.ensures.ordered.y))
+    within_y c.self.inside.resolution c.self.inside.words.items c.args.self.now c.args.b.now c.self.view_is c.low-low.ensures.ordered space c.requires.x c.requires.z c.deref.result.now c.bit_index-first.result _ c.deref.ensures.value start (ap (λ n. n * 64) c.self.invariant.1) c.self.invariant.0.whole n (omega (arith, low, high, c.low-low.ensures.ordered.y))
 
 pub returns-in_default-clause-value : goal.returns-in_default-clause-value
 returns-in_default-clause-value g c =
@@ -21,7 +21,7 @@ returns-in_default-clause-value g c =
     let low = ap (λ (d : Coord). d.y) c.low-low.ensures.value in
     let high = ap (λ (d : Coord). d.y) c.high-high.ensures.value in
     none_y c.self.inside.resolution c.self.inside.words.items c.args.self.now c.args.b.now c.self.view_is c.low-low.ensures.ordered space c.requires.x c.requires.z
-    (all_as c.deref.result.now c.self.inside.words.items c.bit_index-first.result _ _ (layer_words c.self.inside.resolution * 64) _ _ c.deref.ensures.value start (ap (λ n. n * 64) c.layer_words-apart.ensures) (omega (arith, low, high, c.low-low.ensures.ordered.y)) c.in_default.ensures.none)
+    (all_as c.deref.result.now c.self.inside.words.items c.bit_index-first.result _ _ (layer_words c.self.inside.resolution * 64) _ _ c.deref.ensures.value start (ap (λ n. n * 64) c.self.invariant.1) (omega (arith, low, high, c.low-low.ensures.ordered.y)) c.in_default.ensures.none)
 
 pub returns-clause-value : goal.returns-clause-value
 returns-clause-value g c =
@@ -31,4 +31,4 @@ returns-clause-value g c =
     let high = ap (λ (d : Coord). d.y) c.high-high.ensures.value in
     ap (λ (d : Coord). Some (record { x = d.x; y = d.y + c.in-Some.n; z = d.z })) c.low-low.ensures.value
     ∙ found_y c.self.inside.resolution c.self.inside.words.items c.args.self.now c.args.b.now c.self.view_is c.low-low.ensures.ordered space c.requires.x c.requires.z c.in-Some.n (omega (arith, low, high, c.low-low.ensures.ordered.y, c.in-Some.ensures.below))
-    (first_as c.deref.result.now c.self.inside.words.items c.bit_index-first.result _ _ (layer_words c.self.inside.resolution * 64) c.in-Some.n c.deref.ensures.value start (ap (λ n. n * 64) c.layer_words-apart.ensures) c.in-Some.ensures.found)
+    (first_as c.deref.result.now c.self.inside.words.items c.bit_index-first.result _ _ (layer_words c.self.inside.resolution * 64) c.in-Some.n c.deref.ensures.value start (ap (λ n. n * 64) c.self.invariant.1) c.in-Some.ensures.found)

@@ -16,7 +16,7 @@ changed c =
     changed_by c.self.inside.resolution c.args.c c.self.inside.words.items c.deref_mut.result.now c.set_bit.new.words _ c.bit_index-i.result c.args.full c.deref_mut.ensures.value (sym (with_items_is c.self.inside.words c.set_bit.new.words length_is)) (c.set_bit.auto.words ∙ ap length c.deref_mut.ensures.value) c.bit_index-i.ensures.value c.set_bit.ensures.here c.set_bit.ensures.others
 
 pub invariant_of-self : goal.invariant_of-self
-invariant_of-self c = IsLayered-changed _ c.self.inside.words.items _ c.args.c c.args.full c.self.invariant (within c) (changed c)
+invariant_of-self c = (IsLayered-changed _ c.self.inside.words.items _ c.args.c c.args.full c.self.invariant.0 (within c) (changed c), c.self.invariant.1)
 
 pub returns-clause-value : goal.returns-clause-value
 returns-clause-value c =
@@ -32,4 +32,4 @@ returns-clause-others c = λ d n.
     ∙ ap (λ (m : Matrix). is_full m d) c.self.view_is
 
 pub returns-clause-whole : goal.returns-clause-whole
-returns-clause-whole c = layered_whole _ _ (IsLayered-changed _ c.self.inside.words.items _ c.args.c c.args.full c.self.invariant (within c) (changed c))
+returns-clause-whole c = layered_whole _ _ (IsLayered-changed _ c.self.inside.words.items _ c.args.c c.args.full c.self.invariant.0 (within c) (changed c))

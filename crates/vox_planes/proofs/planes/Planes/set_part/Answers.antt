@@ -33,7 +33,7 @@ row c =
     omega (arith, inside.z, c.part-count.ensures.row, c.from.ensures)
 
 pub invariant_of-self : goal.invariant_of-self
-invariant_of-self c = put_layered c.self.inside.resolution c.self.inside.words.items _ c.args.from c.part-count.result c.args.bits (within c) (row c) (put c) (size c) c.self.invariant
+invariant_of-self c = (put_layered c.self.inside.resolution c.self.inside.words.items _ c.args.from c.part-count.result c.args.bits (within c) (row c) (put c) (size c) c.self.invariant.0, c.self.invariant.1)
 
 pub returns-clause-places : goal.returns-clause-places
 returns-clause-places c = λ p.
@@ -41,4 +41,4 @@ returns-clause-places c = λ p.
     ∙ ap (λ (m : Matrix). cond (is_from c.args.from c.part-count.result p) (bit c.args.bits (p - c.args.from)) (voxel_at m p)) c.self.view_is
 
 pub returns-clause-whole : goal.returns-clause-whole
-returns-clause-whole c = layered_whole _ _ (put_layered c.self.inside.resolution c.self.inside.words.items _ c.args.from c.part-count.result c.args.bits (within c) (row c) (put c) (size c) c.self.invariant)
+returns-clause-whole c = layered_whole _ _ (put_layered c.self.inside.resolution c.self.inside.words.items _ c.args.from c.part-count.result c.args.bits (within c) (row c) (put c) (size c) c.self.invariant.0)

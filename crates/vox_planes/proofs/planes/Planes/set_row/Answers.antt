@@ -16,7 +16,7 @@ invariant_of-self g c =
     let within = subst (λ (n : ℕ). IsInSpace n c.args.first) same c.requires.within in
     let filled = filled_by c.self.inside.words.items c.deref_mut.result.now c.set_bits.new.words _ c.bit_index-index.result _ _ (c.args.last + 1 - c.args.first.z) c.args.full c.set_bits.result c.deref_mut.ensures.value (sym (with_items_is c.self.inside.words c.set_bits.new.words length_is)) c.bit_index-index.ensures.value (omega (arith, c.from-count.ensures, c.requires.order)) c.set_bits.ensures.here c.set_bits.ensures.others c.set_bits.ensures.count in
     let size = ap length (with_items_is c.self.inside.words c.set_bits.new.words length_is) ∙ (c.set_bits.auto.words ∙ ap length c.deref_mut.ensures.value) in
-    row_kept c.self.inside.resolution c.args.first c.args.last c.self.inside.words.items _ c.args.full c.set_bits.result within c.requires.order (omega (arith, same, c.requires.end)) filled size c.self.invariant
+    (row_kept c.self.inside.resolution c.args.first c.args.last c.self.inside.words.items _ c.args.full c.set_bits.result within c.requires.order (omega (arith, same, c.requires.end)) filled size c.self.invariant.0, c.self.invariant.1)
 
 pub returns-clause-painted : goal.returns-clause-painted
 returns-clause-painted g c =
@@ -34,4 +34,4 @@ returns-clause-whole g c =
     let within = subst (λ (n : ℕ). IsInSpace n c.args.first) same c.requires.within in
     let filled = filled_by c.self.inside.words.items c.deref_mut.result.now c.set_bits.new.words _ c.bit_index-index.result _ _ (c.args.last + 1 - c.args.first.z) c.args.full c.set_bits.result c.deref_mut.ensures.value (sym (with_items_is c.self.inside.words c.set_bits.new.words length_is)) c.bit_index-index.ensures.value (omega (arith, c.from-count.ensures, c.requires.order)) c.set_bits.ensures.here c.set_bits.ensures.others c.set_bits.ensures.count in
     let size = ap length (with_items_is c.self.inside.words c.set_bits.new.words length_is) ∙ (c.set_bits.auto.words ∙ ap length c.deref_mut.ensures.value) in
-    layered_whole _ _ (row_kept c.self.inside.resolution c.args.first c.args.last c.self.inside.words.items _ c.args.full c.set_bits.result within c.requires.order (omega (arith, same, c.requires.end)) filled size c.self.invariant)
+    layered_whole _ _ (row_kept c.self.inside.resolution c.args.first c.args.last c.self.inside.words.items _ c.args.full c.set_bits.result within c.requires.order (omega (arith, same, c.requires.end)) filled size c.self.invariant.0)

@@ -30,7 +30,7 @@ row : (c : goal.After-self-1) → c.args.first.z + c.args.count ≤ c.self.insid
 row c = subst (λ (n : ℕ). c.args.first.z + c.args.count ≤ n) (same c) c.requires.row
 
 pub invariant_of-self : goal.invariant_of-self
-invariant_of-self c = row_layered c.self.inside.resolution c.self.inside.words.items _ c.args.first c.args.count c.args.bits c.take_bits.result (within c) (row c) c.requires.few (taken c) (size c) c.self.invariant
+invariant_of-self c = (row_layered c.self.inside.resolution c.self.inside.words.items _ c.args.first c.args.count c.args.bits c.take_bits.result (within c) (row c) c.requires.few (taken c) (size c) c.self.invariant.0, c.self.invariant.1)
 
 pub returns-clause-was : goal.returns-clause-was
 returns-clause-was c = λ k l.
@@ -43,4 +43,4 @@ returns-clause-left c = λ d.
     ∙ ap (λ (m : Matrix). is_full m d && not (is_marked c.args.first c.args.count c.args.bits d)) c.self.view_is
 
 pub returns-clause-whole : goal.returns-clause-whole
-returns-clause-whole c = layered_whole _ _ (row_layered c.self.inside.resolution c.self.inside.words.items _ c.args.first c.args.count c.args.bits c.take_bits.result (within c) (row c) c.requires.few (taken c) (size c) c.self.invariant)
+returns-clause-whole c = layered_whole _ _ (row_layered c.self.inside.resolution c.self.inside.words.items _ c.args.first c.args.count c.args.bits c.take_bits.result (within c) (row c) c.requires.few (taken c) (size c) c.self.invariant.0)
