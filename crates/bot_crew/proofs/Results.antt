@@ -1,5 +1,5 @@
 -- What each call on a crew leaves.
-use Rattle.std.proofs.Common.{◌≡◌, ℕ, zero, suc, ◌+◌, ◌<◌, ◌≤◌, refl, sym, ◌∙◌, ap, subst, arith, inl, inr, ◌⊎◌, true, false, ◌||◌, not, ◌==◌, List, [], ◌∷◌, ◌++◌, length, take, drop, get_or, set}
+use Rattle.std.proofs.Common.{◌≡◌, ℕ, zero, suc, ◌+◌, ◌<◌, ◌≤◌, refl, sym, ◌∙◌, ap, subst, arith, inl, inr, ◌⊎◌, Bool, true, false, cond, ◌||◌, not, ◌==◌, List, [], ◌∷◌, ◌++◌, length, take, drop, get_or, set}
 use Rattle.std.specs.Prelude.{Some, None, IfSome, IsNone, IsSome, filter, nat_lt, slice_index}
 use Rattle.std.specs.List.{insert, remove, refill, list_any}
 use Rattle.std.proofs.lemmas.Bool.Decides.{nat_tests, Decides-eqb}
@@ -99,6 +99,34 @@ move_result bots old now bid i c e f crew place active free =
           subst (λ v. IsCrew v) (sym w) (move_crew bots crew bid i place a c nobody g),
           for_bot bots crew bid i place a (λ b. bots_moved bots bots i c ≡ replaced bots (bid ∷ []) (moved b (point c) ∷ [])) nobody (w ∙ move_is bots crew bid i place a c nobody g),
         )
+
+-- ---- the only bot
+
+same_bid : (n : ℕ) → (n == n) ≡ true
+same_bid n = grind (arith, nat_tests)
+
+only_active : (a : Bot) → IsActive (a ∷ []) a.bid
+only_active a = rw (same_bid a.bid) refl
+
+only_free : (a : Bot) (c : Coord) → IfSome (bot_at (a ∷ []) c) (λ b. b.bid ≡ a.bid)
+only_free a c = by (stands_at c a)
+  where
+    by : (s : Bool) → IfSome (cond s (Some a) None) (λ (b : Bot). b.bid ≡ a.bid)
+    by true = refl
+    by false = tt
+
+only_place : (a : Bot) → IsPlace (a ∷ []) a.bid 0
+only_place a = record { within = omega arith; before = λ k d l. absurd (omega (arith, l)); from = λ d l. omega arith }
+
+abbrev pub OnlyMoved : List Bot → List Bot → List Bot → Coord → Type 0
+OnlyMoved bots old now c = IsCrew (bots_moved bots now 0 c) × ((b : Bot) → old ≡ b ∷ [] → bots_moved bots now 0 c ≡ moved b (point c) ∷ [])
+
+pub only_moved : (bots old now : List Bot) (c : Coord) → bots ≡ old → now ≡ bots → IsCrew bots → length old ≡ 1 → OnlyMoved bots old now c
+only_moved bots [] now c e f crew one = absurd (omega (arith, one))
+only_moved bots (a ∷ b ∷ old) now c e f crew one = absurd (omega (arith, one))
+only_moved bots (a ∷ []) now c e f crew one =
+    let result : MoveResult bots (a ∷ []) now a.bid 0 c = move_result bots (a ∷ []) now a.bid 0 c e f crew (subst (λ v. IsPlace v a.bid 0) (sym e) (only_place a)) (only_active a) (only_free a c) in
+    (result.0, λ b is. (λ i. bots_moved (e i) ((f ∙ e) i) 0 c) ∙ ap (λ (v : List Bot). moved (get_or v 0 nobody) (point c) ∷ []) is)
 
 -- ---- a Fission
 

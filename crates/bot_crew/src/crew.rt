@@ -125,6 +125,15 @@ impl Crew {
         self.bots[place].pos = c;
     }
 
+    /// The only bot goes to a coordinate: no bid is looked for.
+    #[inline(always)]
+    pub fn move_only(&mut self, c: Coord)
+        requires { length self.old ≡ 1 }
+        ensures { (b : ActiveBot) → self.old ≡ b ∷ [] → self.new ≡ moved b (point c) ∷ [] }
+    {
+        self.bots[0].pos = c;
+    }
+
     /// The bot splits (docs/FORMATS.md, "Commands"): the new bot, at a coordinate at which none stands, has the least seed as its
     /// bid and the next m seeds; the bot keeps the rest of its seeds.
     pub fn fission(&mut self, bid: u8, c: Coord, m: u8)
