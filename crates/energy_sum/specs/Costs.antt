@@ -1,5 +1,5 @@
 -- What a command costs by the voxels that it meets (task description, section on commands; docs/FORMATS.md, "Commands").
-use Rattle.std.specs.Prelude.{ℕ, ◌+◌, ◌*◌, ℤ, pos, negsuc, ◌-ℤ◌, Bool, true, false, ◌&&◌, not, List, ◌++◌, count_by}
+use Rattle.std.specs.Prelude.{ℕ, ◌+◌, ◌*◌, ℤ, pos, negsuc, ◌-ℤ◌, Bool, true, false, cond, ◌&&◌, not, List, ◌++◌, count_by}
 use Rattle.std.specs.List.{list_any}
 use Rattle.vox_geom.specs.declared.coordinate.Coord.{Coord}
 use Rattle.vox_geom.specs.Difference.{mlen}
@@ -7,8 +7,14 @@ use Rattle.vox_geom.specs.Point.{Point, point}
 use Rattle.vox_geom.specs.Region.{Span, is_within}
 use Rattle.nano_spec.specs.declared.commands.Command.{Command}
 use Rattle.nano_spec.specs.declared.commands.Command.TheVariants.{Halt, Wait, Flip, SMove, LMove, FusionP, FusionS, Fission, Fill, Void, GFill, GVoid}
+use Rattle.nano_spec.specs.declared.system.Harmonics.{Harmonics}
 use Rattle.nano_spec.specs.Act.{filled, voided}
 use Rattle.nano_spec.specs.Matrix.{Matrix, is_full, all_of}
+use Rattle.nano_spec.specs.State.{is_high}
+
+-- the part of the upkeep of a step that the space costs, at a resolution and under these harmonics
+abbrev pub space_upkeep : ℕ → Harmonics → ℕ
+space_upkeep r harmonics = cond (is_high harmonics) 30 3 * (r * r * r)
 
 -- 12 for each void voxel that is filled, and 6 for each full one
 abbrev pub filling_cost : ℕ → ℕ → ℤ

@@ -1,9 +1,9 @@
 //! What steps and commands cost.
-ghost use Rattle.std.specs.Prelude.{◌≡◌, ◌≤◌, ◌*◌, IsFalse};
+ghost use Rattle.std.specs.Prelude.{◌≡◌, ◌≤◌, ◌+◌, ◌*◌, pos, IsFalse};
 ghost use Rattle.vox_geom.specs.Point.{Point};
 ghost use Rattle.nano_spec.specs.Energy.{group_cost, upkeep_of};
 ghost use Rattle.nano_spec.specs.Matrix.{Matrix};
-ghost use Rattle.energy_sum.specs.Costs.{cost_of, filling_cost, met_full_count, is_secondary, voiding_cost, void_count};
+ghost use Rattle.energy_sum.specs.Costs.{cost_of, filling_cost, met_full_count, is_secondary, space_upkeep as space_upkeep_of, voiding_cost, void_count};
 
 use nano_spec::{Command, Harmonics};
 use vox_geom::MOST_R;
@@ -19,17 +19,33 @@ fn volume(r: u16) -> u32
     side * side * side
 }
 
+/// What the space costs in the upkeep of a step at resolution r, under these harmonics.
+pub fn space_upkeep(r: u16, harmonics: Harmonics) -> u32
+    requires { r ≤ MOST_R }
+    ensures value { result ≡ space_upkeep_of r harmonics }
+    ensures most { result ≤ 1920000000 }
+{
+    let voxels = volume(r);
+    match harmonics {
+        Harmonics::Low => 3 * voxels,
+        Harmonics::High => 30 * voxels,
+    }
+}
+
+/// The upkeep of a step, by what the space costs in it and the number of bots at its start.
+#[inline(always)]
+pub fn upkeep_by(space: u32, bots: u8) -> i64
+    ensures { result ≡ pos (space + 20 * bots) }
+{
+    i64::from(space) + 20 * i64::from(bots)
+}
+
 /// The upkeep of a step at resolution r, by the harmonics and the number of bots at its start.
 pub fn upkeep(r: u16, harmonics: Harmonics, bots: u8) -> i64
     requires { r ≤ MOST_R }
     ensures { result ≡ upkeep_of r harmonics bots }
 {
-    let voxels = i64::from(volume(r));
-    let space = match harmonics {
-        Harmonics::Low => 3 * voxels,
-        Harmonics::High => 30 * voxels,
-    };
-    space + 20 * i64::from(bots)
+    upkeep_by(space_upkeep(r, harmonics), bots)
 }
 
 /// What it costs to fill voxels, of which so many were void and so many full.

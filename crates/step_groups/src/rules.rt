@@ -1,9 +1,11 @@
 //! The rules that are judged for each bot.
-ghost use Rattle.std.specs.Prelude.{◌≡◌, ◌+◌, ◌≤◌, length, List, Some, IsTrue, IsFalse, IfOk, IfSome, IfNone, ℕ, Bool, cond, nat_le, sum_by};
+ghost use Rattle.std.specs.Prelude.{◌≡◌, ◌+◌, ◌≤◌, ◌&&◌, length, List, None, Some, IsTrue, IsFalse, IfOk, IfSome, IfNone, ℕ, Bool, true, cond, find, nat_le, sum_by};
 ghost use Rattle.vox_geom.specs.Space.{IsInSpace, in_space};
 ghost use Rattle.vox_geom.specs.Point.{point, plus};
+ghost use Rattle.vox_geom.specs.Region.{corners, is_within, size, span};
 ghost use Rattle.nano_spec.specs.declared.commands.Command.TheVariants.{Halt, Wait, Flip, SMove, LMove, FusionP, FusionS, Fission as FissionOf, Fill, Void, GFill, GVoid};
 ghost use Rattle.nano_spec.specs.Act.{Act};
+ghost use Rattle.nano_spec.specs.Matrix.{all_of, is_full};
 ghost use Rattle.nano_spec.specs.Rules.{broken_by};
 ghost use Rattle.nano_spec.specs.State.{State, seed_list};
 ghost use Rattle.vox_geom.specs.Space.{is_before as is_before_of};
@@ -113,10 +115,41 @@ pub(crate) fn end_of_move<L: Ledger>(
     let Some(to) = reached(planes, bot.pos, d) else {
         return Err(breaks(step, bot, Rule::OutOfSpace, bot.pos));
     };
-    match planes.region_full(&Region::of(bot.pos, to), steps) {
+    let way = Region::of(bot.pos, to);
+    if is_clear_step(planes, bot.pos, to, d, &way, steps) {
+        return Ok(to);
+    }
+    match planes.region_full(&way, steps) {
         None => Ok(to),
         Some(at) => Err(breaks(step, bot, Rule::Blocked, at)),
     }
+}
+
+/// Whether a way is one by one coordinate whose two voxels are void: most moves are, and no row is searched for them.
+#[inline(always)]
+fn is_clear_step<L: Ledger>(
+    planes: &Planes,
+    from: Coord,
+    to: Coord,
+    d: Diff,
+    way: &Region,
+    steps: &mut Steps<L>,
+) -> bool
+    requires from { IsInSpace planes.now.resolution from }
+    requires to { IsInSpace planes.now.resolution to }
+    requires sum { point to ≡ plus (point from) d }
+    requires way { way.now ≡ corners from to }
+    ensures clear { result ≡ true
+        → find (λ c. is_full planes.now c && is_within (span way.now) (point c)) (all_of planes.now) ≡ None }
+    ensures touches { steps.new ≤ steps.old + size (span way.now) }
+{
+    if d.mlen() != 1 {
+        return false;
+    }
+    if planes.full_at(from, steps) {
+        return false;
+    }
+    !planes.full_at(to, steps)
 }
 
 /// The first rule that a bot with `SMove` breaks.

@@ -17,22 +17,6 @@ use Rattle.vox_planes.specs.Voxel.{IsWhole}
 use Rattle.system_state.proofs.OnlyBot.{cost_is, untouched}
 use Rattle.step_groups.specs.Judging.{act}
 
--- ---- the crew of one bot
-
-same_bid : (n : ℕ) → (n == n) ≡ true
-same_bid n = grind (arith, nat_tests)
-
--- what holds of the bots after the only one moved
-pub moved_one : (P : List Bot → Type 0) (bots : List Bot) (b : Bot) (c : Coord) → bots ≡ b ∷ [] → IfSome (bot_of bots b.bid) (λ (a : Bot). P (replaced bots (b.bid ∷ []) (moved a (point c) ∷ []))) → P (moved b (point c) ∷ [])
-moved_one P bots b c e h = by (b.bid == b.bid) (same_bid b.bid) (subst (λ (bs : List Bot). IfSome (bot_of bs b.bid) (λ (a : Bot). P (replaced bs (b.bid ∷ []) (moved a (point c) ∷ [])))) e h)
-  where
-    only : replaced (b ∷ []) (b.bid ∷ []) (moved b (point c) ∷ []) ≡ moved b (point c) ∷ []
-    only = rw (same_bid b.bid) refl
-
-    by : (same : Bool) → same ≡ true → IfSome (cond same (Some b) None) (λ (a : Bot). P (replaced (b ∷ []) (b.bid ∷ []) (moved a (point c) ∷ []))) → P (moved b (point c) ∷ [])
-    by true s h = subst P only h
-    by false s h = cc
-
 -- the state after the move
 pub moved_on : (s : State) (b : Bot) (d : Diff) (to : Coord) → s.bots ≡ b ∷ [] → IsWhole s.matrix → point to ≡ plus (point b.pos) d → record s { energy = (s.energy +ℤ upkeep s) +ℤ pos (2 * mlen d); bots = moved b (point to) ∷ [] } ≡ after s (SMove d ∷ [])
 moved_on s b d to only whole there =

@@ -1,5 +1,5 @@
 -- What holds of the state after a change of one part.
-use Rattle.std.proofs.Common.{◌≡◌, ℕ, sym, subst, inl, inr, List, [], ◌∷◌, get_or}
+use Rattle.std.proofs.Common.{◌≡◌, ℕ, zero, suc, ◌<◌, refl, sym, subst, arith, length, inl, inr, List, [], ◌∷◌, get_or}
 use Rattle.std.specs.Prelude.{All, Option, Some, None, IfSome, IsSome}
 use Rattle.vox_geom.specs.declared.coordinate.Coord.{Coord}
 use Rattle.vox_geom.specs.Point.{point}
@@ -22,3 +22,13 @@ moved_within r bots now bid c within there active is = by (bot_of bots bid) acti
     by None a e = cc
     by (Some b) a e = subst (λ (bs : List Bot). All (λ x. IsInSpace r x.pos) bs) (sym e)
         (λ k d l. all_replaced (λ (x : Bot). IsInSpace r x.pos) bots (bid ∷ []) (moved b (point c) ∷ []) (in_all r bots within) (only (moved b (point c)) there) (get_or (replaced bots (bid ∷ []) (moved b (point c) ∷ [])) k d) (place_in d (replaced bots (bid ∷ []) (moved b (point c) ∷ [])) k l))
+
+-- and after the only one moved
+pub only_within : (r : ℕ) (bots now : List Bot) (c : Coord) → length bots ≡ 1 → IsInSpace r c → ((b : Bot) → bots ≡ b ∷ [] → now ≡ moved b (point c) ∷ []) → All (λ b. IsInSpace r b.pos) now
+only_within r [] now c one there is = absurd (omega (arith, one))
+only_within r (a ∷ b ∷ bots) now c one there is = absurd (omega (arith, one))
+only_within r (a ∷ []) now c one there is = subst (λ (bs : List Bot). All (λ b. IsInSpace r b.pos) bs) (sym (is a refl)) (λ k d l. only k d l)
+  where
+    only : (k : ℕ) (d : Bot) → k < 1 → IsInSpace r (get_or (moved a (point c) ∷ []) k d).pos
+    only zero d l = there
+    only (suc k) d l = absurd (omega (arith, l))

@@ -8,7 +8,7 @@ ghost use Rattle.nano_spec.specs.declared.commands.Command.TheVariants.{LMove, S
 ghost use Rattle.nano_spec.specs.declared.system.Bot.{Bot as ActiveBot};
 ghost use Rattle.nano_spec.specs.Act.{acts};
 ghost use Rattle.nano_spec.specs.Group.{leaders};
-ghost use Rattle.nano_spec.specs.Energy.{upkeep as upkeep_of, upkeep_of as upkeep_at_of};
+ghost use Rattle.nano_spec.specs.Energy.{upkeep as upkeep_of};
 ghost use Rattle.nano_spec.specs.Rules.{broken as broken_of, judge_trace};
 ghost use Rattle.nano_spec.specs.Serial.{leader_bids};
 ghost use Rattle.nano_spec.specs.State.{IsReady, opening as opening_of};
@@ -32,13 +32,13 @@ use crate::turns::{Turn, Turns, list_turns, turn_of};
 use crate::voxels::pay_turn;
 use alone::{cost_of_edit, cost_of_move};
 use bot_crew::{Crew, crew_is_ready, group_is_replaced};
-use energy_sum::upkeep;
+use energy_sum::{space_upkeep, upkeep_by};
 use nano_spec::{Bot, Broken, Command, Harmonics, Profile, Rule};
 use std::marker::Model;
 use std::sync::ledger::Ledger;
 use step_groups::{Step, all_act_alone};
 use step_order::groups_take_turns;
-use vox_geom::{Coord, Long, MOST_R, Near, Short, Steps};
+use vox_geom::{Coord, Long, Near, Short, Steps};
 use vox_planes::Planes;
 
 /// The other harmonics after a Flip.
@@ -61,16 +61,16 @@ fn harmonics_by(harmonics: Harmonics, command: &Command) -> Harmonics
     }
 }
 
-/// The upkeep of a step, which is less than 2 to the power of 31.
-#[tactic(auto, using(crate::proofs::Upkeep::upkeep_most))]
-fn upkeep_at(resolution: u16, harmonics: Harmonics, bots: u8) -> i64
-    requires resolution { resolution ≤ MOST_R }
+/// The upkeep of a step, which is less than 2 to the power of 31, by what the space costs in it.
+#[inline(always)]
+fn upkeep_at(space: u32, bots: u8) -> i64
+    requires space { space ≤ 1920000000 }
     requires bots { bots ≤ 40 }
-    ensures value { result ≡ upkeep_at_of resolution harmonics bots }
+    ensures value { result ≡ pos (space + 20 * bots) }
     ensures low { pos 0 ≤ℤ result }
     ensures high { result ≤ℤ pos 2000000000 }
 {
-    upkeep(resolution, harmonics, bots)
+    upkeep_by(space, bots)
 }
 
 /// How long a short move is.
@@ -106,12 +106,15 @@ pub struct System {
     matrix: Planes,
     crew: Crew,
     harmonics: Harmonics,
+    // What the space costs in the upkeep of a step: only a Flip changes it.
+    space: u32,
     energy: i64,
     profile: Profile,
 }
 
 impl Model for System {
-    ghost use Rattle.std.specs.Prelude.{All};
+    ghost use Rattle.std.specs.Prelude.{◌≡◌, All};
+    ghost use Rattle.energy_sum.specs.Costs.{space_upkeep};
     ghost use Rattle.vox_geom.specs.Space.{IsInSpace};
     ghost use Rattle.nano_spec.specs.State.{State};
 
@@ -119,7 +122,7 @@ impl Model for System {
 
     ghost view = { λ s. record { matrix = s.matrix; harmonics = s.harmonics; bots = s.crew; energy = s.energy; profile = s.profile } };
 
-    ghost invariant = { λ s. All (λ b. IsInSpace s.matrix.resolution b.pos) s.crew };
+    ghost invariant = { λ s. All (λ b. IsInSpace s.matrix.resolution b.pos) s.crew × (s.space ≡ space_upkeep s.matrix.resolution s.harmonics) };
 }
 
 impl System {
@@ -128,11 +131,12 @@ impl System {
         requires { profile.seeds ≤ 39 }
         ensures { result ≡ opening_of source profile }
     {
-        let _ = source.resolution();
+        let space = space_upkeep(source.resolution(), Harmonics::Low);
         System {
             matrix: source,
             crew: Crew::opening(profile),
             harmonics: Harmonics::Low,
+            space,
             energy: 0,
             profile,
         }
@@ -149,10 +153,12 @@ impl System {
         requires { All (λ b. IsInSpace matrix.resolution b.pos) crew }
         ensures { result ≡ record { matrix = matrix; harmonics = harmonics; bots = crew; energy = energy; profile = profile } }
     {
+        let space = space_upkeep(matrix.resolution(), harmonics);
         System {
             matrix,
             crew,
             harmonics,
+            space,
             energy,
             profile,
         }
@@ -276,8 +282,8 @@ impl System {
         ensures value { self.new ≡ record self.old { energy = self.old.energy +ℤ upkeep_of self.old } }
         ensures within { IsWithin 4611686020427387904 self.new.energy }
     {
-        let resolution = self.matrix.resolution();
-        let upkeep = upkeep_at(resolution, self.harmonics, self.crew.count());
+        let _ = self.matrix.resolution();
+        let upkeep = upkeep_at(self.space, self.crew.count());
         self.energy = paid(self.energy, upkeep);
     }
 
@@ -395,6 +401,7 @@ impl System {
         let cost = pay_turn(&mut self.matrix, bot, command, steps);
         move_bots(&mut self.crew, resolution, bot, partner, command);
         self.harmonics = harmonics_by(self.harmonics, command);
+        self.space = space_upkeep(resolution, self.harmonics);
         self.pay(cost);
     }
 

@@ -55,7 +55,7 @@ impl System {
             Ok(to) => {
                 self.pay_upkeep();
                 self.pay(cost_of_move(d));
-                self.move_to(bot.bid, to);
+                self.move_only(to);
                 None
             }
             Err(broken) => Some(broken),

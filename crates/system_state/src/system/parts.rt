@@ -2,6 +2,7 @@
 ghost use Rattle.std.specs.Prelude.{◌≡◌, [], ◌∷◌, length, All, IfSome};
 ghost use Rattle.vox_geom.specs.Point.{point};
 ghost use Rattle.vox_geom.specs.Space.{IsInSpace};
+ghost use Rattle.nano_spec.specs.declared.system.Bot.{Bot as ActiveBot};
 ghost use Rattle.nano_spec.specs.Bots.{moved};
 ghost use Rattle.vox_planes.specs.Voxel.{IsWhole, with_voxel};
 ghost use Rattle.bot_crew.specs.Crew.{IsActive, bot_at, bot_of, replaced};
@@ -10,6 +11,7 @@ ghost use Rattle.system_state.specs.Painting.{with_cells};
 use super::System;
 use crate::voxels::set_cells;
 use bot_crew::Crew;
+use energy_sum::space_upkeep;
 use nano_spec::Harmonics;
 use vox_geom::Coord;
 
@@ -46,6 +48,7 @@ impl System {
         ensures { self.new ≡ record self.old { harmonics = harmonics } }
     {
         self.harmonics = harmonics;
+        self.space = space_upkeep(self.matrix.resolution(), harmonics);
     }
 
     /// Puts another energy in place.
@@ -65,6 +68,16 @@ impl System {
             (λ b. self.new ≡ record self.old { bots = replaced self.old.bots (bid ∷ []) (moved b (point c) ∷ []) }) }
     {
         self.crew.move_to(bid, c);
+    }
+
+    /// The only bot goes to a coordinate.
+    #[inline(always)]
+    pub(super) fn move_only(&mut self, c: Coord)
+        requires one { length self.old.bots ≡ 1 }
+        requires within { IsInSpace self.old.matrix.resolution c }
+        ensures { (b : ActiveBot) → self.old.bots ≡ b ∷ [] → self.new ≡ record self.old { bots = moved b (point c) ∷ [] } }
+    {
+        self.crew.move_only(c);
     }
 
     /// The last bot halts: no bot is left.

@@ -6,7 +6,7 @@ use Rattle.nano_spec.specs.declared.system.Bot.{Bot}
 use Rattle.nano_spec.specs.Bots.{moved}
 use Rattle.nano_spec.specs.Energy.{upkeep}
 use Rattle.nano_spec.specs.State.{State}
-use Rattle.system_state.proofs.OnlyMove.{moved_on, moved_one}
+use Rattle.system_state.proofs.OnlyMove.{moved_on}
 use Rattle.system_state.proofs.system.System.move_alone.Goals as goal
 
 pub returns-in-Ok-clause-moved : goal.returns-in-Ok-clause-moved
@@ -19,6 +19,6 @@ returns-in-Ok-clause-moved g c =
     c.pay.ensures.value
     ∙ (ap (λ (t : State). record t { energy = t.energy +ℤ to_z w64 (of_z w64 c.cost_of_move.result) }) c.pay_upkeep.ensures.value
     ∙ ap (λ z. record s { energy = (s.energy +ℤ upkeep s) +ℤ z }) (same ∙ c.cost_of_move.ensures.value)) in
-    let gone : c.move_to.new.self ≡ record c.pay.new.self { bots = there } =
-    moved_one (λ (bots : List Bot). c.move_to.new.self ≡ record c.pay.new.self { bots = bots }) c.pay.new.self.bots b c.in-Ok.to (ap (λ (t : State). t.bots) payment ∙ c.only_bot-bot.ensures.only) c.move_to.ensures.moved in
+    let gone : c.move_only.new.self ≡ record c.pay.new.self { bots = there } =
+    c.move_only.ensures b (ap (λ (t : State). t.bots) payment ∙ c.only_bot-bot.ensures.only) in
     gone ∙ (ap (λ (t : State). record t { bots = there }) payment ∙ moved_on s b c.args.d c.in-Ok.to c.only_bot-bot.ensures.only c.know.ensures.whole c.in-Ok.ensures.sum)

@@ -3,6 +3,7 @@ use Rattle.std.specs.Prelude.{All, ◌+ℤ◌, ℤ}
 use Rattle.nano_spec.specs.declared.system.Bot.{Bot}
 use Rattle.nano_spec.specs.Energy.{group_cost}
 use Rattle.nano_spec.specs.State.{State}
+use Rattle.energy_sum.specs.Costs.{space_upkeep}
 use Rattle.vox_geom.specs.Point.{point}
 use Rattle.vox_geom.specs.Space.{IsInSpace}
 use Rattle.system_state.specs.Bounds.{IsTurnCost, IsWithin}
@@ -14,8 +15,11 @@ pub invariant_of-self : goal.invariant_of-self
 invariant_of-self g c =
     let may : MayTake c.self.inside.matrix.resolution c.self.inside.crew c.args.bot c.args.partner c.args.command.now =
     subst (λ (t : State). MayTake t.matrix.resolution t.bots c.args.bot c.args.partner c.args.command.now) (sym c.self.view_is) c.requires.may in
-    subst (λ (bots : List Bot). All (λ b. IsInSpace c.pay_turn-cost.new.matrix.resolution b.pos) bots) (sym c.move_bots.ensures)
-    (subst (λ r. All (λ b. IsInSpace r b.pos) (bots_after_turn c.self.inside.crew c.args.bot c.args.partner c.args.command.now)) (sym (ap (λ m. m.resolution) c.pay_turn-cost.ensures.matrix)) (turn_within c.self.inside.matrix.resolution c.self.inside.crew c.args.bot c.args.partner c.args.command.now c.self.invariant may))
+    let same : c.self.inside.matrix.resolution ≡ c.pay_turn-cost.new.matrix.resolution = sym (ap (λ m. m.resolution) c.pay_turn-cost.ensures.matrix) in (
+      subst (λ (bots : List Bot). All (λ b. IsInSpace c.pay_turn-cost.new.matrix.resolution b.pos) bots) (sym c.move_bots.ensures)
+          (subst (λ r. All (λ b. IsInSpace r b.pos) (bots_after_turn c.self.inside.crew c.args.bot c.args.partner c.args.command.now)) same (turn_within c.self.inside.matrix.resolution c.self.inside.crew c.args.bot c.args.partner c.args.command.now c.self.invariant.0 may)),
+      c.space_upkeep-self-inside.ensures.value ∙ ap (λ r. space_upkeep r c.harmonics_by-self-inside.result) (c.resolution-resolution.ensures.value ∙ same),
+    )
 
 pub pay-requires-clause-small : goal.pay-requires-clause-small
 pay-requires-clause-small g c =

@@ -1,0 +1,12 @@
+use Rattle.std.proofs.Common.{◌≡◌, ◌∙◌, refl, sym, Bool, true, false, not}
+use Rattle.step_groups.proofs.ClearSteps.{clear_step}
+use Rattle.step_groups.proofs.rules.is_clear_step.Goals as goal
+
+void : (b : Bool) → not b ≡ true → b ≡ false
+void true t = cc
+void false t = refl
+
+pub returns-clause-clear : goal.returns-clause-clear
+returns-clause-clear g c = λ t.
+    clear_step c.args.from c.args.to c.args.d c.args.way.now c.requires.sum c.requires.way (sym c.mlen.ensures ∙ c.if-mlen-ne1.false) c.args.planes.now
+    (sym c.full_at.ensures.value ∙ c.if-full_at.false) (sym c.full_at-2.ensures.value ∙ void c.full_at-2.result t)
