@@ -1,7 +1,6 @@
 -- The step of the only bot by a straight move.
-use Rattle.std.proofs.Common.{◌≡◌, ℕ, ◌*◌, ◌==◌, refl, sym, subst, arith, List, [], ◌∷◌, Bool, true, false, cond}
-use Rattle.std.specs.Prelude.{pos, ◌+ℤ◌, IfSome, Some, None}
-use Rattle.std.proofs.lemmas.Bool.Decides.{nat_tests}
+use Rattle.std.proofs.Common.{◌≡◌, ◌*◌, refl, sym, subst, [], ◌∷◌}
+use Rattle.std.specs.Prelude.{pos, ◌+ℤ◌}
 use Rattle.vox_geom.specs.declared.coordinate.Coord.{Coord}
 use Rattle.vox_geom.specs.declared.difference.Diff.{Diff}
 use Rattle.vox_geom.specs.Difference.{mlen}
@@ -12,7 +11,6 @@ use Rattle.nano_spec.specs.Bots.{moved}
 use Rattle.nano_spec.specs.Energy.{upkeep}
 use Rattle.nano_spec.specs.State.{State}
 use Rattle.nano_spec.specs.Step.{after}
-use Rattle.bot_crew.specs.Crew.{bot_of, replaced}
 use Rattle.vox_planes.specs.Voxel.{IsWhole}
 use Rattle.system_state.proofs.OnlyBot.{cost_is, untouched}
 use Rattle.step_groups.specs.Judging.{act}

@@ -46,6 +46,7 @@ impl System {
         requires payable { IsPayable self.old.energy }
         ensures value { result ≡ broken_of self.old (SMove d ∷ []) step }
         ensures moved { IfNone result (self.new ≡ after self.old (SMove d ∷ [])) }
+        ensures one { IfNone result (length self.new.bots ≡ 1) }
         ensures stays { IfSome result (λ _. self.new ≡ self.old) }
         ensures touches { steps.new ≤ steps.old + 2 * volatile_total self.old.matrix (acts self.old.bots (SMove d ∷ [])) }
     {
@@ -81,8 +82,9 @@ impl System {
         requires payable { IsPayable self.old.energy }
         requires within { IsInSpace self.old.matrix.resolution at }
         requires was { was_full ≡ is_full self.old.matrix at }
-        ensures { (b : ActiveBot) (d : Difference) → self.old.bots ≡ b ∷ [] → point at ≡ plus (point b.pos) d
+        ensures value { (b : ActiveBot) (d : Difference) → self.old.bots ≡ b ∷ [] → point at ≡ plus (point b.pos) d
             → self.new ≡ after self.old (edit_of full d ∷ []) }
+        ensures bots { self.new.bots ≡ self.old.bots }
     {
         self.pay_upkeep();
         self.edit_voxel(at, full, was_full);
