@@ -1,5 +1,5 @@
 -- A way of one by one coordinate has its two ends and no other coordinate.
-use Rattle.std.proofs.Common.{◌≡◌, ◌⊎◌, inl, inr, ℕ, zero, suc, ◌+◌, ◌≤◌, refl, sym, ◌∙◌, ap, subst, arith, Bool, true, false, ◌&&◌, find, None, min, max, pos, negsuc}
+use Rattle.std.proofs.Common.{◌≡◌, ◌⊎◌, inl, inr, ℕ, zero, suc, ◌+◌, ◌*◌, ◌≤◌, refl, sym, ◌∙◌, ap, subst, arith, Bool, true, false, ◌&&◌, find, None, min, max, pos, negsuc}
 use Rattle.std.specs.Prelude.{ℤ, ◌+ℤ◌, IsTrue, unsigned_abs}
 use Rattle.std.proofs.lemmas.Bool.{cases_eq}
 use Rattle.std.proofs.lemmas.Bool.Decides.{nat_tests}
@@ -8,7 +8,7 @@ use Rattle.vox_geom.specs.declared.coordinate.Coord.{Coord}
 use Rattle.vox_geom.specs.declared.difference.Diff.{Diff}
 use Rattle.vox_geom.specs.Difference.{mlen}
 use Rattle.vox_geom.specs.Point.{Point, point, plus}
-use Rattle.vox_geom.specs.Region.{Corners, corners, is_between, is_within, span}
+use Rattle.vox_geom.specs.Region.{IsOrdered, corners, extent, is_between, is_within, size, span}
 use Rattle.nano_spec.specs.Matrix.{Matrix, is_full, all_of}
 use Rattle.step_order.proofs.Lists.{none_find}
 
@@ -111,18 +111,17 @@ three true true false h = cc
 three true false c h = cc
 three false b c h = cc
 
-module _ (from to : Coord) (d : Diff) (k : Corners) (sum : point to ≡ plus (point from) d) (way : k ≡ corners from to) (one : mlen d ≡ 1) where
+module _ (from to : Coord) (d : Diff) (sum : point to ≡ plus (point from) d) (one : mlen d ≡ 1) where
   -- a coordinate of the way is one of its ends
-  one_of_ends : (c : Coord) → is_within (span k) (point c) ≡ true → (c ≡ from) ⊎ (c ≡ to)
+  one_of_ends : (c : Coord) → is_within (span (corners from to)) (point c) ≡ true → (c ≡ from) ⊎ (c ≡ to)
   one_of_ends c t =
-      let h : is_within (span (corners from to)) (point c) ≡ true = subst (λ (l : Corners). is_within (span l) (point c) ≡ true) way t in
-      let p = three _ _ _ h in
+      let p = three _ _ _ t in
       at_an_end from to c (unsigned_abs d.dx) (unsigned_abs d.dy) (unsigned_abs d.dz)
       (along from.x to.x c.x d.dx (ap (λ (q : Point). q.x) sum) p.0) (along from.y to.y c.y d.dy (ap (λ (q : Point). q.y) sum) p.1) (along from.z to.z c.z d.dz (ap (λ (q : Point). q.z) sum) p.2) one
 
   -- where both ends are void the way is clear
-  pub clear_step : (m : Matrix) → is_full m from ≡ false → is_full m to ≡ false → find (λ c. is_full m c && is_within (span k) (point c)) (all_of m) ≡ None
-  clear_step m e f = none_find (λ c. is_full m c && is_within (span k) (point c)) (all_of m) (λ c i. by c (is_within (span k) (point c)) refl)
+  pub clear_step : (m : Matrix) → is_full m from ≡ false → is_full m to ≡ false → find (λ c. is_full m c && is_within (span (corners from to)) (point c)) (all_of m) ≡ None
+  clear_step m e f = none_find (λ c. is_full m c && is_within (span (corners from to)) (point c)) (all_of m) (λ c i. by c (is_within (span (corners from to)) (point c)) refl)
     where
       void : (c : Coord) → (c ≡ from) ⊎ (c ≡ to) → is_full m c ≡ false
       void c (inl s) = ap (is_full m) s ∙ e
@@ -132,6 +131,27 @@ module _ (from to : Coord) (d : Diff) (k : Corners) (sum : point to ≡ plus (po
       nothing true = refl
       nothing false = refl
 
-      by : (c : Coord) (t : Bool) → is_within (span k) (point c) ≡ t → (is_full m c && is_within (span k) (point c)) ≡ false
-      by c true t = ap (λ b. b && is_within (span k) (point c)) (void c (one_of_ends c t))
+      by : (c : Coord) (t : Bool) → is_within (span (corners from to)) (point c) ≡ t → (is_full m c && is_within (span (corners from to)) (point c)) ≡ false
+      by c true t = ap (λ b. b && is_within (span (corners from to)) (point c)) (void c (one_of_ends c t))
       by c false t = ap (λ b. is_full m c && b) t ∙ nothing (is_full m c)
+
+  -- it has two coordinates
+  pub step_size : 2 ≤ size (span (corners from to))
+  step_size = two _ _ _ (wide from.x to.x d.dx (ap (λ (q : Point). q.x) sum)) (wide from.y to.y d.dy (ap (λ (q : Point). q.y) sum)) (wide from.z to.z d.dz (ap (λ (q : Point). q.z) sum))
+    where
+      distance : (l h n : ℕ) → h ≡ l + n → extent (pos l) (pos h) ≡ n + 1
+      distance l h n e = omega (arith, ints, e)
+
+      wide : (a b : ℕ) (by : ℤ) → pos b ≡ pos a +ℤ by → extent (pos (min a b)) (pos (max a b)) ≡ unsigned_abs by + 1
+      wide a b by e = elim (apart a b by e) [ inl f ↦ distance (min a b) (max a b) (unsigned_abs by) (omega (arith, f)) | inr f ↦ distance (min a b) (max a b) (unsigned_abs by) (omega (arith, f)) ]
+
+      product : (i j l : ℕ) → i + j + l ≡ 1 → 2 ≤ (i + 1) * (j + 1) * (l + 1)
+      product (suc i) j l e = let a : i ≡ 0 = omega (arith, e) in let b : j ≡ 0 = omega (arith, e) in let c : l ≡ 0 = omega (arith, e) in rw (a, b, c) (omega arith)
+      product zero (suc j) l e = let b : j ≡ 0 = omega (arith, e) in let c : l ≡ 0 = omega (arith, e) in rw (b, c) (omega arith)
+      product zero zero l e = let c : l ≡ 1 = omega (arith, e) in rw c (omega arith)
+
+      two : (x y z : ℕ) → x ≡ unsigned_abs d.dx + 1 → y ≡ unsigned_abs d.dy + 1 → z ≡ unsigned_abs d.dz + 1 → 2 ≤ x * y * z
+      two x y z e f g = let p = product (unsigned_abs d.dx) (unsigned_abs d.dy) (unsigned_abs d.dz) one in subst (λ n. 2 ≤ n) (sym (λ i. e i * f i * g i)) p
+
+pub ordered_corners : (a b : Coord) → IsOrdered (corners a b)
+ordered_corners a b = record { x = omega arith; y = omega arith; z = omega arith }

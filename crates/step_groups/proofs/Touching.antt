@@ -71,11 +71,11 @@ two_reads m a k j old mid new alone h i n le lf =
 abbrev Covers : Corners → Span → Type 0
 Covers k s = (p : Point) → is_within (span k) p ≡ is_within s p
 
-pub smove_reads_twice : (m : Matrix) (bot : Bot) (d : Diff) (k : Corners) (to : Coord) (old half new : ℕ) → IsTrue (in_space m.resolution (plus (point bot.pos) d)) → point to ≡ plus (point bot.pos) d → Covers k (between (point bot.pos) (point to)) → half ≤ old + count_by (in_box k) (all_of m) → new ≤ half + count_by (in_box k) (all_of m) → new ≤ old + touches_of m (act bot (SMove d))
-smove_reads_twice m bot d k to old half new i e h le lf =
-    let on_way : (c : Coord) → IsTrue (in_box k c) → IsTrue (is_volatile_of (point c) (act bot (SMove d))) =
-    λ c t. either_left (is_within (between (point bot.pos) (plus (point bot.pos) d)) (point c)) false (sym (h (point c) ∙ ap (λ q. is_within (between (point bot.pos) q) (point c)) e) ∙ t) in
-    two_reads m (act bot (SMove d)) k k old half new refl (both_true (in_space m.resolution (plus (point bot.pos) d)) true i refl) on_way on_way le lf
+pub smove_reads_twice : (m : Matrix) (bot : Bot) (d : Diff) (k j : Corners) (to : Coord) (old half new : ℕ) → IsTrue (in_space m.resolution (plus (point bot.pos) d)) → point to ≡ plus (point bot.pos) d → Covers k (between (point bot.pos) (point to)) → Covers j (between (point bot.pos) (point to)) → half ≤ old + count_by (in_box k) (all_of m) → new ≤ half + count_by (in_box j) (all_of m) → new ≤ old + touches_of m (act bot (SMove d))
+smove_reads_twice m bot d k j to old half new i e h l le lf = two_reads m (act bot (SMove d)) k j old half new refl (both_true (in_space m.resolution (plus (point bot.pos) d)) true i refl) (on_way k h) (on_way j l) le lf
+  where
+    on_way : (w : Corners) → Covers w (between (point bot.pos) (point to)) → (c : Coord) → IsTrue (in_box w c) → IsTrue (is_volatile_of (point c) (act bot (SMove d)))
+    on_way w v c t = either_left (is_within (between (point bot.pos) (plus (point bot.pos) d)) (point c)) false (sym (v (point c) ∙ ap (λ q. is_within (between (point bot.pos) q) (point c)) e) ∙ t)
 
 pub fission_reads : (m : Matrix) (bot : Bot) (d : Diff) (n : ℕ) (k : Corners) (to : Coord) (old new : ℕ) → IsTrue (in_space m.resolution (plus (point bot.pos) d)) → point to ≡ plus (point bot.pos) d → Covers k (between (point to) (point to)) → new ≤ old + count_by (in_box k) (all_of m) → new ≤ old + touches_of m (act bot (Fission d n))
 fission_reads m bot d n k to old new i e h le =

@@ -115,11 +115,10 @@ pub(crate) fn end_of_move<L: Ledger>(
     let Some(to) = reached(planes, bot.pos, d) else {
         return Err(breaks(step, bot, Rule::OutOfSpace, bot.pos));
     };
-    let way = Region::of(bot.pos, to);
-    if is_clear_step(planes, bot.pos, to, d, &way, steps) {
+    if is_clear_step(planes, bot.pos, to, d, steps) {
         return Ok(to);
     }
-    match planes.region_full(&way, steps) {
+    match planes.region_full(&Region::of(bot.pos, to), steps) {
         None => Ok(to),
         Some(at) => Err(breaks(step, bot, Rule::Blocked, at)),
     }
@@ -132,16 +131,14 @@ fn is_clear_step<L: Ledger>(
     from: Coord,
     to: Coord,
     d: Diff,
-    way: &Region,
     steps: &mut Steps<L>,
 ) -> bool
     requires from { IsInSpace planes.now.resolution from }
     requires to { IsInSpace planes.now.resolution to }
     requires sum { point to ≡ plus (point from) d }
-    requires way { way.now ≡ corners from to }
     ensures clear { result ≡ true
-        → find (λ c. is_full planes.now c && is_within (span way.now) (point c)) (all_of planes.now) ≡ None }
-    ensures touches { steps.new ≤ steps.old + size (span way.now) }
+        → find (λ c. is_full planes.now c && is_within (span (corners from to)) (point c)) (all_of planes.now) ≡ None }
+    ensures touches { steps.new ≤ steps.old + size (span (corners from to)) }
 {
     if d.mlen() != 1 {
         return false;
