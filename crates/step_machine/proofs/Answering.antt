@@ -1,8 +1,9 @@
 -- The answers to a step: where it breaks a rule at its start, where it is not made after all, and where it is made.
-use Rattle.std.proofs.Common.{◌≡◌, ℕ, ◌+◌, ◌*◌, ◌≤◌, ◌<◌, refl, sym, subst, arith, List, [], Bool, true, false, length}
+use Rattle.std.proofs.Common.{◌≡◌, ℕ, ◌+◌, ◌*◌, ◌≤◌, ◌<◌, refl, sym, ap, subst, arith, List, [], Bool, true, false, length}
 use Rattle.std.specs.Prelude.{◌↔◌, Some, None, Ok, Err, MatchOption}
 use Rattle.nano_spec.specs.declared.commands.Command.{Command}
 use Rattle.nano_spec.specs.declared.outcomes.Broken.{Broken}
+use Rattle.nano_spec.specs.declared.system.Bot.{Bot}
 use Rattle.nano_spec.specs.declared.outcomes.Rule.{Rule}
 use Rattle.nano_spec.specs.declared.outcomes.Rule.TheVariants.{Ungrounded}
 use Rattle.nano_spec.specs.Act.{acts}
@@ -26,6 +27,10 @@ use Rattle.step_machine.proofs.Working.{acts_work, judged_touches}
 
 searched_all : (rule : Rule) (m : Matrix) → rule ≡ Ungrounded → searched_for rule m ≡ volume m.resolution
 searched_all rule m e = λ i. searched_for (e i) m
+
+-- where bots are left the run has not halted
+pub bots_left : (bots : List Bot) → length bots ≡ 1 → (false ≡ true ↔ bots ≡ [])
+bots_left bots one = ((λ h. cc), (λ e. let none = ap length e in absurd (omega (arith, none, one))))
 
 -- a machine's parts, which are not spent, and what is seen of them
 module _ (s : State) (commands : List Command) (steps : ℕ) (spent : Bool) (v : Situation) (e : seen s steps spent ≡ v) (stands : spent ≡ false) (began : ℕ) where

@@ -1,14 +1,19 @@
 -- What a call that makes a step answers and does.
-use Rattle.std.specs.Prelude.{◌≡◌, ℕ, ◌+◌, ◌↔◌, List, [], true, false, Result, Err, IfOk, IfErr}
+use Rattle.std.specs.Prelude.{◌≡◌, ℕ, ◌+◌, ◌↔◌, Bool, List, [], true, false, Result, Ok, Err, IfOk, IfErr}
 use Rattle.nano_spec.specs.declared.commands.Command.{Command}
 use Rattle.nano_spec.specs.declared.outcomes.Rule.TheVariants.{Ungrounded}
 use Rattle.nano_spec.specs.Next.{Breaks, Goes, Next}
-use Rattle.nano_spec.specs.State.{IsWellFormed}
+use Rattle.nano_spec.specs.State.{IsWellFormed, State}
 use Rattle.step_machine.specs.declared.machine.StepOk.{StepOk}
 use Rattle.step_machine.specs.declared.machine.StepFault.{StepFault}
 use Rattle.step_machine.specs.declared.machine.StepFault.TheVariants as fault
 use Rattle.step_machine.specs.Payment.{IsWithinWork}
 use Rattle.step_machine.specs.Situation.{IfBroken, Situation, searched_for}
+
+-- the answer to a step that was made, to a state in which bots are left, or else that of the fault
+abbrev pub answer_of : Bool → State → StepFault → Result StepOk StepFault
+answer_of true s fault = Ok (record { energy = s.energy; halted = false })
+answer_of false s fault = Err fault
 
 -- a machine is given the commands of a step: where it stood, where it stands then, its answer, and how often voxels were touched until
 -- the call began and until it ended

@@ -24,6 +24,7 @@ mod noted;
 use crate::MOST_CHANGED;
 use crate::order::take_turns;
 use crate::support::settle;
+pub(crate) use alone::Tried;
 use arrayvec::ArrayVec;
 use bot_crew::{Crew, MOST_BOTS};
 use energy_sum::a_step_changes_the_energy_by_little;
@@ -177,8 +178,16 @@ impl Machine {
         ensures memory { result ≡ Err StepFault.Memory → 1 ≤ count_by is_edit commands.now }
     {
         if commands.len() == 1 {
-            if let Some(answer) = self.step_alone(&commands[0], steps) {
-                return answer;
+            let mut fault = StepFault::Spent;
+            match self.step_alone(&commands[0], &mut fault, steps) {
+                Tried::Made => {
+                    return Ok(StepOk {
+                        energy: self.system.energy(),
+                        halted: false,
+                    });
+                }
+                Tried::Refused => return Err(fault),
+                Tried::Declined => {}
             }
         }
         self.make_step(commands, None, steps)

@@ -1,5 +1,5 @@
 //! Runs: a machine that takes the commands of a trace one by one.
-ghost use Rattle.std.specs.Prelude.{◌≡◌, ℕ, ◌+◌, ◌*◌, ◌<◌, ◌≤◌, false, true, [], ◌∷◌, ◌++◌, length, count_by, IfOk, IfErr, IfNone, IfSome, None, Some, Err};
+ghost use Rattle.std.specs.Prelude.{◌≡◌, ◌≢◌, ℕ, ◌+◌, ◌*◌, ◌<◌, ◌≤◌, false, true, [], ◌∷◌, ◌++◌, length, count_by, IfOk, IfErr, IfNone, IfSome, None, Some, Err};
 ghost use Rattle.nano_spec.specs.Grounded.{FirstUngrounded};
 ghost use Rattle.nano_spec.specs.Matrix.{Matrix};
 ghost use Rattle.nano_spec.specs.Model.{volume};
@@ -10,9 +10,9 @@ ghost use Rattle.step_machine.specs.declared.runner.Mark.TheVariants as Mark;
 ghost use Rattle.step_machine.specs.Course.{IsAfterEnd, LacksCommands, MakesEdits, MakesNoStep, course_of, searched_by};
 ghost use Rattle.step_machine.specs.Edits.{is_edit};
 ghost use Rattle.step_machine.specs.Payment.{IsWithinWork, IsWithinWorkOfRun};
-ghost use Rattle.step_machine.specs.Stepped.{Stepped};
+ghost use Rattle.step_machine.specs.Stepped.{Stepped, answer_of};
 
-use crate::machine::{Machine, StepFault, StepOk};
+use crate::machine::{Machine, StepFault, StepOk, Tried};
 use crate::pending::Pending;
 use nano_spec::{Broken, Command, Profile, Rule, Verdict};
 use run_progress::the_progress_is_the_verdict;
@@ -50,9 +50,8 @@ impl Model for Runner {
     ghost invariant = { λ r. IsUnderway r.machine r.pending r.mark };
 }
 
-/// One command more for the next step, which is made where each bot has one then: `None` where some bot still has none. The
-/// command of an only bot is kept only where its step is not made.
-#[inline(always)]
+/// One command more for the next step, which is made where each bot has one then: `None` where some bot still has none.
+#[inline(never)]
 fn take<L: Ledger>(
     machine: &mut Machine,
     pending: &mut Pending,
@@ -72,16 +71,6 @@ fn take<L: Ledger>(
     ensures untouched { IfNone result (steps.new ≡ steps.old) }
 {
     let _ = machine.crew();
-    if pending.as_slice().is_empty() {
-        match machine.step_alone(&command, steps) {
-            None => {}
-            Some(Ok(ok)) => return Some(Ok(ok)),
-            Some(Err(fault)) => {
-                pending.push(command);
-                return Some(Err(fault));
-            }
-        }
-    }
     pending.push(command);
     if pending.as_slice().len() < usize::from(machine.active()) {
         return None;
@@ -92,6 +81,42 @@ fn take<L: Ledger>(
             Some(Ok(ok))
         }
         Err(fault) => Some(Err(fault)),
+    }
+}
+
+/// The step of an only bot by a command that is frequent. The command is kept only where its step is refused.
+#[inline(always)]
+fn take_alone<L: Ledger>(
+    machine: &mut Machine,
+    pending: &mut Pending,
+    command: &Command,
+    fault: &mut StepFault,
+    steps: &mut Steps<L>,
+) -> Tried
+    requires steps { machine.old.steps < 1073741824 }
+    ensures full { result ≢ Tried.Declined → length pending.old + 1 ≡ length machine.old.state.bots }
+    ensures made { result ≡ Tried.Made
+        → Stepped machine.old machine.new (pending.old ++ command.now ∷ []) (answer_of true machine.new.state fault.new) steps.old steps.new }
+    ensures cleared { result ≡ Tried.Made → pending.new ≡ [] }
+    ensures left { result ≡ Tried.Made → length machine.new.state.bots ≡ 1 }
+    ensures refused { result ≡ Tried.Refused
+        → Stepped machine.old machine.new (pending.old ++ command.now ∷ []) (Err fault.new) steps.old steps.new }
+    ensures kept { result ≡ Tried.Refused → pending.new ≡ pending.old ++ command.now ∷ [] }
+    ensures memory { result ≡ Tried.Refused → fault.new ≡ StepFault.Memory → 1 ≤ count_by is_edit (pending.old ++ command.now ∷ []) }
+    ensures stays { result ≡ Tried.Declined → machine.new ≡ machine.old }
+    ensures waits { result ≡ Tried.Declined → pending.new ≡ pending.old }
+    ensures untouched { result ≡ Tried.Declined → steps.new ≡ steps.old }
+{
+    if !pending.as_slice().is_empty() {
+        return Tried::Declined;
+    }
+    match machine.step_alone(command, fault, steps) {
+        Tried::Made => Tried::Made,
+        Tried::Refused => {
+            pending.push(*command);
+            Tried::Refused
+        }
+        Tried::Declined => Tried::Declined,
     }
 }
 
@@ -136,6 +161,80 @@ impl Runner {
     /// some command fills or voids. No touch where it makes no step.
     #[inline(always)]
     pub fn push<L: Ledger>(&mut self, command: Command, steps: &mut Steps<L>) -> Result<(), Memory>
+        requires stands { self.old.spent ≡ false }
+        requires steps { self.old.progress.steps < 1073741824 }
+        ensures progress { IfOk result (λ _. Pushes self.old.progress command self.new.progress) }
+        ensures stands { IfOk result (λ _. self.new.spent ≡ false) }
+        ensures spent { IfErr result (λ _. self.new.spent ≡ true) }
+        ensures memory { IfErr result (λ _. MakesEdits self.old.progress command) }
+        ensures steps { self.new.progress.steps ≤ self.old.progress.steps + 1 }
+        ensures resolution { self.new.progress.state.matrix.resolution ≡ self.old.progress.state.matrix.resolution }
+        ensures lacks { IfOk result (λ _. LacksCommands self.new.progress) }
+        ensures untouched { MakesNoStep self.old.progress → steps.new ≡ steps.old }
+        ensures touches { IfOk result
+            (λ _. IsWithinWork self.old.progress.state (self.old.progress.pending ++ command ∷ []) (self.old.progress.steps + 1)
+            (steps.old + searched_by self.new.progress.mark self.old.progress.state.matrix) steps.new) }
+    {
+        match self.push_alone(&command, steps) {
+            Some(answer) => answer,
+            None => self.push_other(command, steps),
+        }
+    }
+
+    /// [`Runner::push`] of a command that an only bot takes at once: `None`, and nothing is changed, where that is not so.
+    #[inline(always)]
+    fn push_alone<L: Ledger>(
+        &mut self,
+        command: &Command,
+        steps: &mut Steps<L>,
+    ) -> Option<Result<(), Memory>>
+        requires stands { self.old.spent ≡ false }
+        requires steps { self.old.progress.steps < 1073741824 }
+        ensures progress { IfSome result (λ answer. IfOk answer (λ _. Pushes self.old.progress command.now self.new.progress)) }
+        ensures stands { IfSome result (λ answer. IfOk answer (λ _. self.new.spent ≡ false)) }
+        ensures spent { IfSome result (λ answer. IfErr answer (λ _. self.new.spent ≡ true)) }
+        ensures memory { IfSome result (λ answer. IfErr answer (λ _. MakesEdits self.old.progress command.now)) }
+        ensures steps { self.new.progress.steps ≤ self.old.progress.steps + 1 }
+        ensures resolution { self.new.progress.state.matrix.resolution ≡ self.old.progress.state.matrix.resolution }
+        ensures lacks { IfSome result (λ answer. IfOk answer (λ _. LacksCommands self.new.progress)) }
+        ensures makes { IfSome result (λ _. MakesNoStep self.old.progress → ⊥) }
+        ensures touches { IfSome result (λ answer. IfOk answer
+            (λ _. IsWithinWork self.old.progress.state (self.old.progress.pending ++ command.now ∷ []) (self.old.progress.steps + 1)
+            (steps.old + searched_by self.new.progress.mark self.old.progress.state.matrix) steps.new)) }
+        ensures stays { IfNone result (self.new ≡ self.old) }
+        ensures untouched { IfNone result (steps.new ≡ steps.old) }
+    {
+        match self.mark {
+            Mark::Running => {}
+            Mark::Refused(_) | Mark::Halted | Mark::Followed => return None,
+        }
+        let mut fault = StepFault::Spent;
+        match take_alone(
+            &mut self.machine,
+            &mut self.pending,
+            command,
+            &mut fault,
+            steps,
+        ) {
+            Tried::Made => Some(Ok(())),
+            Tried::Refused => match fault {
+                StepFault::Broken(broken) => {
+                    self.mark = Mark::Refused(broken);
+                    Some(Ok(()))
+                }
+                StepFault::Memory | StepFault::Spent => Some(Err(Memory)),
+            },
+            Tried::Declined => None,
+        }
+    }
+
+    /// [`Runner::push`] of any command.
+    #[inline(never)]
+    fn push_other<L: Ledger>(
+        &mut self,
+        command: Command,
+        steps: &mut Steps<L>,
+    ) -> Result<(), Memory>
         requires stands { self.old.spent ≡ false }
         requires steps { self.old.progress.steps < 1073741824 }
         ensures progress { IfOk result (λ _. Pushes self.old.progress command self.new.progress) }

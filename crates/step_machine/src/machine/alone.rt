@@ -1,17 +1,25 @@
 //! The step of the only bot by a command that needs no other, made at once: no turns and no changes are listed.
-ghost use Rattle.std.specs.Prelude.{◌≡◌, ◌<◌, [], ◌∷◌, false, true, length, IfNone, IfSome, Some, Err};
+ghost use Rattle.std.specs.Prelude.{◌≡◌, ◌≢◌, ◌<◌, [], ◌∷◌, false, true, length, None, Err};
 ghost use Rattle.nano_spec.specs.declared.commands.Command.TheVariants.{SMove};
 ghost use Rattle.nano_spec.specs.declared.system.Harmonics.TheVariants.{Low};
 ghost use Rattle.nano_spec.specs.Grounded.{FirstUngrounded};
 ghost use Rattle.step_groups.specs.Judging.{edit_of};
 ghost use Rattle.step_machine.specs.Edits.{is_edit};
-ghost use Rattle.step_machine.specs.Stepped.{Stepped};
+ghost use Rattle.step_machine.specs.Stepped.{Stepped, answer_of};
 
-use super::{Machine, StepFault, StepOk, know_step, made};
+use super::{Machine, StepFault, know_step};
 use crate::support::settle_one;
 use nano_spec::{Command, Harmonics};
 use std::sync::ledger::Ledger;
 use vox_geom::{Long, Near, Steps};
+
+/// What a try to make a step came to: it is made, or refused, or to be made as every other, and then nothing is changed.
+#[derive(Clone, Copy, PartialEq, Eq)]
+pub(crate) enum Tried {
+    Made,
+    Refused,
+    Declined,
+}
 
 impl Machine {
     /// Whether each full voxel is held up, where it has to be.
@@ -28,22 +36,29 @@ impl Machine {
 
     /// The step of the only bot by a straight move.
     #[inline(always)]
-    fn move_alone<L: Ledger>(&mut self, d: Long, steps: &mut Steps<L>) -> Result<StepOk, StepFault>
+    fn move_alone<L: Ledger>(
+        &mut self,
+        d: Long,
+        fault: &mut StepFault,
+        steps: &mut Steps<L>,
+    ) -> bool
         requires stands { self.old.spent ≡ false }
         requires one { length self.old.state.bots ≡ 1 }
         requires held { self.old.state.harmonics ≡ Low → FirstUngrounded self.old.state.matrix None }
         requires steps { self.old.steps < 1073741824 }
-        ensures stepped { Stepped self.old self.new (SMove d ∷ []) result steps.old steps.new }
-        ensures memory { result ≡ Err StepFault.Memory → is_edit (SMove d) ≡ true }
+        ensures stepped { Stepped self.old self.new (SMove d ∷ []) (answer_of result self.new.state fault.new) steps.old steps.new }
+        ensures memory { result ≡ false → fault.new ≡ StepFault.Memory → is_edit (SMove d) ≡ true }
+        ensures one { result ≡ true → length self.new.state.bots ≡ 1 }
     {
         let step = self.steps + 1;
         let _ = self.system.matrix();
         know_step(&self.system, &[Command::SMove(d)]);
         if let Some(broken) = self.system.move_alone(d, step, steps) {
-            return Err(StepFault::Broken(broken));
+            *fault = StepFault::Broken(broken);
+            return false;
         }
         self.steps = step;
-        Ok(made(&self.system))
+        true
     }
 
     /// The step of the only bot in which it fills a voxel, or else voids it: a call of its own, so that the rest of
@@ -53,55 +68,78 @@ impl Machine {
         &mut self,
         d: Near,
         full: bool,
+        fault: &mut StepFault,
         steps: &mut Steps<L>,
-    ) -> Result<StepOk, StepFault>
+    ) -> bool
         requires stands { self.old.spent ≡ false }
         requires one { length self.old.state.bots ≡ 1 }
         requires steps { self.old.steps < 1073741824 }
-        ensures stepped { Stepped self.old self.new (edit_of full d ∷ []) result steps.old steps.new }
+        ensures stepped { Stepped self.old self.new (edit_of full d ∷ []) (answer_of result self.new.state fault.new) steps.old steps.new }
+        ensures one { result ≡ true → length self.new.state.bots ≡ 1 }
     {
         let step = self.steps + 1;
         let commands = [edit(d, full)];
         know_step(&self.system, &commands);
         let at = match self.system.judge_edit(d, full, step) {
             Ok(at) => at,
-            Err(broken) => return Err(StepFault::Broken(broken)),
+            Err(broken) => {
+                *fault = StepFault::Broken(broken);
+                return false;
+            }
         };
         let forest = &mut self.forest;
         match settle_one(&self.system, &commands, d, at, full, step, forest, steps) {
             Ok(was) => self.system.edit_alone(at, full, was),
-            Err(fault) => {
+            Err(unsettled) => {
                 self.spent = true;
-                return Err(fault);
+                *fault = unsettled;
+                return false;
             }
         }
         self.steps = step;
-        Ok(made(&self.system))
+        true
     }
 
-    /// The step of the only bot by a command that is frequent. `None`, and nothing is changed, where the step is to be made
-    /// as every other.
+    /// The step of the only bot by a command that is frequent. `fault` is written only where the step is refused.
     #[inline(always)]
     pub(crate) fn step_alone<L: Ledger>(
         &mut self,
         command: &Command,
+        fault: &mut StepFault,
         steps: &mut Steps<L>,
-    ) -> Option<Result<StepOk, StepFault>>
+    ) -> Tried
         requires steps { self.old.steps < 1073741824 }
-        ensures stepped { IfSome result (λ answer. Stepped self.old self.new (command.now ∷ []) answer steps.old steps.new) }
-        ensures memory { result ≡ Some (Err StepFault.Memory) → is_edit command.now ≡ true }
-        ensures one { IfSome result (λ _. length self.old.state.bots ≡ 1) }
-        ensures stays { IfNone result (self.new ≡ self.old) }
-        ensures untouched { IfNone result (steps.new ≡ steps.old) }
+        ensures made { result ≡ Tried.Made → Stepped self.old self.new (command.now ∷ []) (answer_of true self.new.state fault.new) steps.old steps.new }
+        ensures refused { result ≡ Tried.Refused → Stepped self.old self.new (command.now ∷ []) (Err fault.new) steps.old steps.new }
+        ensures memory { result ≡ Tried.Refused → fault.new ≡ StepFault.Memory → is_edit command.now ≡ true }
+        ensures one { result ≢ Tried.Declined → length self.old.state.bots ≡ 1 }
+        ensures left { result ≡ Tried.Made → length self.new.state.bots ≡ 1 }
+        ensures stays { result ≡ Tried.Declined → self.new ≡ self.old }
+        ensures untouched { result ≡ Tried.Declined → steps.new ≡ steps.old }
     {
         if self.spent || self.active() != 1 || !self.is_held() {
-            return None;
+            return Tried::Declined;
         }
         match command {
-            Command::SMove(d) => Some(self.move_alone(*d, steps)),
-            Command::Fill(d) => Some(self.edit_alone(*d, true, steps)),
-            Command::Void(d) => Some(self.edit_alone(*d, false, steps)),
-            _ => None,
+            Command::SMove(d) => {
+                if self.move_alone(*d, fault, steps) {
+                    return Tried::Made;
+                }
+                Tried::Refused
+            }
+            Command::Fill(d) => {
+                if self.edit_alone(*d, true, fault, steps) {
+                    return Tried::Made;
+                }
+                Tried::Refused
+            }
+            Command::Void(d) => {
+                if self.edit_alone(*d, false, fault, steps) {
+                    return Tried::Made;
+                }
+                Tried::Refused
+            }
+            _ => Tried::Declined,
         }
     }
 }

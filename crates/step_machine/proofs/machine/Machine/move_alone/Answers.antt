@@ -1,4 +1,4 @@
-use Rattle.std.proofs.Common.{◌≡◌, ◌+◌, false, sym, ◌∙◌, ap, subst, arith, length, [], ◌∷◌}
+use Rattle.std.proofs.Common.{◌≡◌, ◌+◌, refl, false, sym, ◌∙◌, ap, subst, arith, length, [], ◌∷◌}
 use Rattle.std.specs.Prelude.{None, Err}
 use Rattle.nano_spec.specs.declared.commands.Command.TheVariants.{SMove}
 use Rattle.nano_spec.specs.declared.system.Harmonics.TheVariants.{Low}
@@ -8,7 +8,7 @@ use Rattle.step_machine.specs.declared.machine.StepFault.TheVariants as fault
 use Rattle.step_machine.specs.Settling.{IsSettled}
 use Rattle.step_machine.specs.Situation.{Situation}
 use Rattle.step_machine.specs.Stepped.{Stepped}
-use Rattle.step_machine.proofs.Answering.{broken_at_start, made}
+use Rattle.step_machine.proofs.Answering.{bots_left, broken_at_start, made}
 use Rattle.step_machine.proofs.Stepping.{formed_on, seen, sound_on}
 use Rattle.step_machine.proofs.Still.{still}
 use Rattle.step_machine.proofs.machine.Machine.move_alone.Given.{Over}
@@ -23,7 +23,7 @@ returns-in-Some-clause-stepped g c =
     (broken_at_start s (SMove c.args.d ∷ []) c.self.inside.steps c.self.inside.spent c.args.self.now c.self.view_is stands c.args.steps.now
     c.in-Some.broken c.move_alone.new.steps (sym c.move_alone.ensures.value ∙ c.in-Some.is) c.move_alone.ensures.touches (λ lacks. absurd (omega (arith, one, lacks))))
 
-settled : (g : Over) (c : goal.After-made g) → IsSettled c.self.inside.system (SMove c.args.d ∷ []) (c.self.inside.steps + 1) c.self.inside.forest c.move_alone.new.steps c.move_alone.new.steps
+settled : (g : Over) (c : goal.After-self-1 g) → IsSettled c.self.inside.system (SMove c.args.d ∷ []) (c.self.inside.steps + 1) c.self.inside.forest c.move_alone.new.steps c.move_alone.new.steps
 settled g c =
     let stands : c.self.inside.spent ≡ false = ap (λ (v : Situation). v.spent) c.self.view_is ∙ c.requires.stands in
     still c.self.inside.system c.args.d (ap (λ (v : Situation). length v.state.bots) c.self.view_is ∙ c.requires.one) c.matrix.ensures.whole (c.self.inside.steps + 1) c.self.inside.forest c.move_alone.new.steps
@@ -43,6 +43,6 @@ returns-clause-stepped g c =
     let h = settled g c in
     made s (SMove c.args.d ∷ []) c.self.inside.steps c.self.inside.spent c.args.self.now c.self.view_is (ap (λ (v : Situation). v.spent) c.self.view_is ∙ c.requires.stands) c.args.steps.now
     c.move_alone.new.steps (sym c.move_alone.ensures.value ∙ c.in_default.is) c.move_alone.ensures.touches
-    c.move_alone.new.self c.self.inside.forest c.made.result c.move_alone.new.steps c.move_alone.new.steps h c.in_default.ensures.moved c.made.ensures.energy c.made.ensures.halted
+    c.move_alone.new.self c.self.inside.forest (record { energy = c.move_alone.new.self.energy; halted = false }) c.move_alone.new.steps c.move_alone.new.steps h c.in_default.ensures.moved refl (bots_left c.move_alone.new.self.bots c.in_default.ensures.one)
     (formed_on s c.move_alone.new.self (SMove c.args.d ∷ []) (c.self.inside.steps + 1) c.know_step.ensures.well_formed h.goes c.in_default.ensures.moved)
     (omega arith)

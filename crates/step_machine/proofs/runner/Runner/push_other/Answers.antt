@@ -3,7 +3,7 @@ use Rattle.run_progress.specs.Progress.{Pushes}
 use Rattle.step_machine.specs.Course.{Course, course_of, mark_by, searched_by}
 use Rattle.step_machine.proofs.Running.{halted_mark, made, running_mark}
 use Rattle.step_machine.proofs.Weighing.{untouched_within}
-use Rattle.step_machine.proofs.runner.Runner.push.Goals as goal
+use Rattle.step_machine.proofs.runner.Runner.push_other.Goals as goal
 
 pub returns-in-Refused-clause-progress : goal.returns-in-Refused-clause-progress
 returns-in-Refused-clause-progress g c =
