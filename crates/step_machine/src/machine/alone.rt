@@ -1,6 +1,6 @@
 //! The step of the only bot by a command that needs no other, made at once: no turns and no changes are listed.
 ghost use Rattle.std.specs.Prelude.{◌≡◌, ◌≢◌, ◌<◌, [], ◌∷◌, false, true, length, None, Err};
-ghost use Rattle.nano_spec.specs.declared.commands.Command.TheVariants.{SMove};
+ghost use Rattle.nano_spec.specs.declared.commands.Command.TheVariants.{Fill, SMove, Void};
 ghost use Rattle.nano_spec.specs.declared.system.Harmonics.TheVariants.{Low};
 ghost use Rattle.nano_spec.specs.Grounded.{FirstUngrounded};
 ghost use Rattle.step_groups.specs.Judging.{edit_of};
@@ -61,9 +61,43 @@ impl Machine {
         true
     }
 
-    /// The step of the only bot in which it fills a voxel, or else voids it: a call of its own, so that the rest of
-    /// [`Machine::step_alone`] is small enough to be written out for its callers.
+    /// The step of the only bot in which it fills a voxel: a call of its own, so that the rest of [`Machine::step_alone`] is small
+    /// enough to be written out for its callers, and no register holds which of the two it is.
     #[inline(never)]
+    fn fill_alone<L: Ledger>(
+        &mut self,
+        d: Near,
+        fault: &mut StepFault,
+        steps: &mut Steps<L>,
+    ) -> bool
+        requires stands { self.old.spent ≡ false }
+        requires one { length self.old.state.bots ≡ 1 }
+        requires steps { self.old.steps < 1073741824 }
+        ensures stepped { Stepped self.old self.new (Fill d ∷ []) (answer_of result self.new.state fault.new) steps.old steps.new }
+        ensures one { result ≡ true → length self.new.state.bots ≡ 1 }
+    {
+        self.edit_alone(d, true, fault, steps)
+    }
+
+    /// The step of the only bot in which it voids a voxel.
+    #[inline(never)]
+    fn void_alone<L: Ledger>(
+        &mut self,
+        d: Near,
+        fault: &mut StepFault,
+        steps: &mut Steps<L>,
+    ) -> bool
+        requires stands { self.old.spent ≡ false }
+        requires one { length self.old.state.bots ≡ 1 }
+        requires steps { self.old.steps < 1073741824 }
+        ensures stepped { Stepped self.old self.new (Void d ∷ []) (answer_of result self.new.state fault.new) steps.old steps.new }
+        ensures one { result ≡ true → length self.new.state.bots ≡ 1 }
+    {
+        self.edit_alone(d, false, fault, steps)
+    }
+
+    /// The step of the only bot in which it fills a voxel, or else voids it.
+    #[inline(always)]
     fn edit_alone<L: Ledger>(
         &mut self,
         d: Near,
@@ -128,13 +162,13 @@ impl Machine {
                 Tried::Refused
             }
             Command::Fill(d) => {
-                if self.edit_alone(*d, true, fault, steps) {
+                if self.fill_alone(*d, fault, steps) {
                     return Tried::Made;
                 }
                 Tried::Refused
             }
             Command::Void(d) => {
-                if self.edit_alone(*d, false, fault, steps) {
+                if self.void_alone(*d, fault, steps) {
                     return Tried::Made;
                 }
                 Tried::Refused
