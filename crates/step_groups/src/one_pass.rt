@@ -85,7 +85,7 @@ fn hull_of_move<L: Ledger>(
     ensures hull { IfOk result (IsHullFor (act bot (SMove d))) }
     ensures touches { steps.new ≤ steps.old + touches_of planes.now (act bot (SMove d)) }
 {
-    let to = end_of_move(planes, step, bot, d, steps)?;
+    let to = end_of_move(planes, step, bot, d, false, steps)?;
     Ok(Region::of(bot.pos, to))
 }
 

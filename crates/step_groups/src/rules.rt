@@ -97,13 +97,15 @@ pub(crate) fn breaks(step: u32, bot: Bot, rule: Rule, at: Coord) -> Broken
     }
 }
 
-/// Where a bot with `SMove` gets to, or the first rule that it breaks.
+/// Where a bot with `SMove` gets to, or the first rule that it breaks. `by_ends`: whether the two voxels of a way by one are
+/// looked at before any box is made, which costs more where the caller makes a box of the way.
 #[inline(always)]
 pub(crate) fn end_of_move<L: Ledger>(
     planes: &Planes,
     step: u32,
     bot: Bot,
     d: Diff,
+    by_ends: bool,
     steps: &mut Steps<L>,
 ) -> Result<Coord, Broken>
     requires { IsInSpace planes.now.resolution bot.pos }
@@ -115,7 +117,7 @@ pub(crate) fn end_of_move<L: Ledger>(
     let Some(to) = reached(planes, bot.pos, d) else {
         return Err(breaks(step, bot, Rule::OutOfSpace, bot.pos));
     };
-    if is_clear_step(planes, bot.pos, to, d, steps) {
+    if is_clear_step(planes, bot.pos, to, d, by_ends, steps) {
         return Ok(to);
     }
     match planes.region_full(&Region::of(bot.pos, to), steps) {
@@ -124,13 +126,14 @@ pub(crate) fn end_of_move<L: Ledger>(
     }
 }
 
-/// Whether a way is one by one coordinate whose two voxels are void: most moves are, and no row is searched for them.
+/// Whether a way is one by one coordinate whose two voxels are void, where that is to be looked at.
 #[inline(always)]
 fn is_clear_step<L: Ledger>(
     planes: &Planes,
     from: Coord,
     to: Coord,
     d: Diff,
+    by_ends: bool,
     steps: &mut Steps<L>,
 ) -> bool
     requires from { IsInSpace planes.now.resolution from }
@@ -140,6 +143,9 @@ fn is_clear_step<L: Ledger>(
         → find (λ c. is_full planes.now c && is_within (span (corners from to)) (point c)) (all_of planes.now) ≡ None }
     ensures touches { steps.new ≤ steps.old + size (span (corners from to)) }
 {
+    if !by_ends {
+        return false;
+    }
     if d.mlen() != 1 {
         return false;
     }
@@ -161,7 +167,7 @@ fn judge_smove<L: Ledger>(
     ensures value { IsLaterFault planes.now step (act bot (SMove d)) result }
     ensures touches { steps.new ≤ steps.old + touches_of planes.now (act bot (SMove d)) }
 {
-    end_of_move(planes, step, bot, d, steps).err()
+    end_of_move(planes, step, bot, d, false, steps).err()
 }
 
 /// Whether the one coordinate is before the other.

@@ -51,7 +51,7 @@ impl Model for Runner {
 }
 
 /// One command more for the next step, which is made where each bot has one then: `None` where some bot still has none.
-#[inline(never)]
+#[inline(always)]
 fn take<L: Ledger>(
     machine: &mut Machine,
     pending: &mut Pending,
@@ -229,7 +229,7 @@ impl Runner {
     }
 
     /// [`Runner::push`] of any command.
-    #[inline(never)]
+    #[inline(always)]
     fn push_other<L: Ledger>(
         &mut self,
         command: Command,
