@@ -25,7 +25,7 @@ pub struct Beside {
 
 /// The index that is a step lower, where `at` is not the first of its brick.
 #[inline(always)]
-fn lower(at: u16, index: u16, step: u16) -> Option<u16>
+fn lower(at: u16, index: usize, step: usize) -> Option<usize>
     requires { 0 < at % 8 → step ≤ index }
     ensures { IfSome result (λ i. (0 < at % 8) × (i + step ≡ index)) }
 {
@@ -37,7 +37,7 @@ fn lower(at: u16, index: u16, step: u16) -> Option<u16>
 
 /// The index that is a step higher, where `at` is not the last of its brick.
 #[inline(always)]
-fn upper(at: u16, index: u16, step: u16) -> Option<u16>
+fn upper(at: u16, index: usize, step: usize) -> Option<usize>
     requires { at % 8 < 7 → index + step < 512 }
     ensures { IfSome result (λ i. (at % 8 < 7) × (i ≡ index + step)) }
 {
@@ -47,10 +47,11 @@ fn upper(at: u16, index: u16, step: u16) -> Option<u16>
     Some(index + step)
 }
 
-/// The index of the word of the neighbour in a direction, where it lies in the same brick.
+/// The index of the word of the neighbour in a direction, where it lies in the same brick. In the width of an address the step
+/// is a part of the read that follows.
 #[tactic(auto, unfolding(crate::specs::Grid::word_index))]
 #[inline(always)]
-pub fn index_toward(c: Coord, index: u16, d: u8) -> Option<u16>
+pub fn index_toward(c: Coord, index: usize, d: u8) -> Option<usize>
     requires direction { (0 < d) × (d ≤ 6) }
     requires index { index ≡ word_index_of c }
     ensures { IfSome result (IsIndexToward c d) }
@@ -101,8 +102,8 @@ pub fn word_toward<L: Ledger>(
 {
     cells.recall();
     if let Some(slot) = own {
-        if let Some(i) = index_toward(c, index, d) {
-            return cells.word_of(slot, i, steps);
+        if let Some(i) = index_toward(c, usize::from(index), d) {
+            return cells.word_of(slot, i as u16, steps);
         }
     }
     word_beyond(cells, c, d, steps)
@@ -130,8 +131,8 @@ pub fn word_near<L: Ledger>(
     ensures touch { steps.new ≤ steps.old + 1 }
 {
     cells.recall();
-    if let Some(i) = index_toward(c, word_index(c), d) {
-        return chunk.word(start + usize::from(i), steps);
+    if let Some(i) = index_toward(c, usize::from(word_index(c)), d) {
+        return chunk.word(start + i, steps);
     }
     word_beyond(cells, c, d, steps)
 }

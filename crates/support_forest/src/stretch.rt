@@ -107,8 +107,8 @@ fn side_is_free<L: Ledger>(
     ensures touches { steps.new ≤ steps.old + count }
 {
     cells.recall();
-    if let Some(i) = index_toward(first, word_index(first), d) {
-        let from = start_in_chunk(own) + usize::from(i);
+    if let Some(i) = index_toward(first, usize::from(word_index(first)), d) {
+        let from = start_in_chunk(own) + i;
         return words_hang_not(chunk, from, count, toward, steps);
     }
     match neighbor(first, d, cells.resolution()) {

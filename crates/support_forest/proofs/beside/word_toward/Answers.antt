@@ -5,6 +5,13 @@ use Rattle.support_forest.proofs.Sides.{one_toward}
 use Rattle.support_forest.proofs.Store.{index_below}
 use Rattle.support_forest.proofs.beside.word_toward.Goals as goal
 
+pub overflow_cast-i : goal.overflow_cast-i
+overflow_cast-i g c =
+    let t = c.in-Some-index_toward.ensures in
+    let below = index_below t.there in
+    let same = t.at_index in
+    omega arith
+
 pub word_of-requires-clause-live : goal.word_of-requires-clause-live
 word_of-requires-clause-live g c = c.recall.ensures.store.live _ c.in-Some.slot (sym c.requires.own ∙ c.in-Some.is)
 
