@@ -284,7 +284,7 @@ changed_since_taken old now new gone rest before steps p k =
       | inr s ↦ elim (cases_lt 0 (word_at new c)) [ inl g ↦ let z = k c g in absurd (omega (arith, s.0)) | inr g ↦ omega (arith, s.0) ]
     ]
 
-pub taken_and_removed : (old now new : Grid) (gone rest : List Coord) (before steps after : ℕ) → AreTaken old now gone rest before steps → HaveRemoved now new rest 50 steps after → HaveRemoved old new gone 56 before after
+pub taken_and_removed : (old now new : Grid) (gone rest : List Coord) (before steps after : ℕ) → AreTaken old now gone rest before steps → HaveRemoved now new rest 56 steps after → HaveRemoved old new gone 62 before after
 taken_and_removed old now new gone rest before steps after p h = record {
   resolution = h.resolution ∙ p.resolution;
   exact = h.exact;

@@ -78,7 +78,7 @@ taken_from_floor old new c over before mid after e y k n w r l t = taken_by old 
 
 -- ---- the only one
 
-pub taken_removed : (old new : Grid) (gone : List Coord) (c : Coord) (before after : ℕ) → length gone ≡ 1 → c ≡ slice_index_or gone 0 c → CanRemove old gone → HaveTaken old new c before after → HaveRemoved old new gone 56 before after
+pub taken_removed : (old new : Grid) (gone : List Coord) (c : Coord) (before after : ℕ) → length gone ≡ 1 → c ≡ slice_index_or gone 0 c → CanRemove old gone → HaveTaken old new c before after → HaveRemoved old new gone 62 before after
 taken_removed old new gone c before after l e a p = record {
   resolution = p.resolution;
   exact = p.exact;

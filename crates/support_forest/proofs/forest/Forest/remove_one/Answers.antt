@@ -7,7 +7,7 @@ pub remove_cell-requires : goal.remove_cell-requires
 remove_cell-requires g c = can_remove c.self.inside.cells (c.args.c ∷ []) (c.self.invariant c.if-self.false) (subst (λ (q : Standing). MayRemove q.matrix (c.args.c ∷ [])) (sym c.self.view_is) (c.requires (sym (ap (λ (q : Standing). q.spent) c.self.view_is) ∙ c.if-self.false)))
 
 pub returns-in-Ok-clause-value : goal.returns-in-Ok-clause-value
-returns-in-Ok-clause-value g c = subst (λ (q : Standing). AreRemoved q.matrix (matrix_of c.remove_cell.new.cells) (c.args.c ∷ [])) c.self.view_is (are_removed c.self.inside.cells c.remove_cell.new.cells (c.args.c ∷ []) 56 c.args.steps.now c.remove_cell.new.steps (c.self.invariant c.if-self.false) c.in-Ok.ensures)
+returns-in-Ok-clause-value g c = subst (λ (q : Standing). AreRemoved q.matrix (matrix_of c.remove_cell.new.cells) (c.args.c ∷ [])) c.self.view_is (are_removed c.self.inside.cells c.remove_cell.new.cells (c.args.c ∷ []) 62 c.args.steps.now c.remove_cell.new.steps (c.self.invariant c.if-self.false) c.in-Ok.ensures)
 
 pub returns-in-Ok-clause-touches : goal.returns-in-Ok-clause-touches
 returns-in-Ok-clause-touches g c = subst (λ (q : Standing). IsCheap q.matrix (matrix_of c.remove_cell.new.cells) (c.args.c ∷ []) 100 c.args.steps.now c.remove_cell.new.steps) c.self.view_is (removed_cheap c.self.inside.cells c.remove_cell.new.cells (c.args.c ∷ []) c.args.steps.now c.remove_cell.new.steps (c.self.invariant c.if-self.false) c.in-Ok.ensures)
