@@ -5,7 +5,7 @@ use Rattle.vox_geom.specs.declared.coordinate.Coord.{Coord}
 use Rattle.vox_geom.specs.Space.{IsInSpace}
 use Rattle.support_forest.specs.declared.beside.Beside.{Beside}
 use Rattle.support_forest.specs.declared.place.Around.{Around}
-use Rattle.support_forest.specs.Directions.{Toward}
+use Rattle.support_forest.specs.Directions.{Toward, AreBeside}
 use Rattle.support_forest.specs.Grid.{Grid, brick, word_at, word_index}
 use Rattle.support_forest.specs.Waiting.{CanAdd}
 use Rattle.support_forest.specs.Words.{height, AreExact, IsSound}
@@ -17,6 +17,12 @@ pub record IsAround (w : Coord → ℕ) (c : Coord) (a : Around) (d : ℕ) : Typ
   pub least : (k : ℕ) (q : Coord) → k < d → Toward k c q → 8 ≤ w q → (0 < a.height) × (a.height ≤ height w q + 1)
   pub highest : (k : ℕ) (q : Coord) → k < d → Toward k c q → 8 ≤ w q → height w q ≤ a.highest
   pub loose : (k : ℕ) (q : Coord) → k < d → Toward k c q → 0 < w q → w q < 8 → a.is_loose ≡ true
+
+-- the least that a voxel is offered, 0 where it is offered nothing
+pub record IsOffered (w : Coord → ℕ) (c : Coord) (a : Around) : Type 0 where
+  pub floor : c.y ≡ 0 → a.height ≡ 1
+  pub sound : (a.height ≡ 0) ⊎ IsSound w (record { at = c; height = a.height; toward = a.toward })
+  pub least : (q : Coord) → 8 ≤ w q → AreBeside c q → (0 < a.height) × (a.height ≤ height w q + 1)
 
 -- the word is that of the neighbour in the direction, 0 where there is none
 pub record IsWordToward (w : Coord → ℕ) (c : Coord) (d word : ℕ) : Type 0 where
@@ -42,6 +48,15 @@ pub record AreBesideWords (w : Coord → ℕ) (c : Coord) (b : Beside) : Type 0 
   pub over : IsWordToward w c 4 b.over
   pub near : IsWordToward w c 5 b.near
   pub far : IsWordToward w c 6 b.far
+
+-- none of the words has a height
+pub record AreLow (b : Beside) : Type 0 where
+  pub left : b.left < 8
+  pub right : b.right < 8
+  pub under : b.under < 8
+  pub over : b.over < 8
+  pub near : b.near < 8
+  pub far : b.far < 8
 
 -- the word is that of a void voxel, or of one with a height from the one given up to two above it
 abbrev pub LeavesRoom : ℕ → ℕ → Type 0
