@@ -1,51 +1,13 @@
-use Rattle.std.proofs.Common.{ℕ, ◌≡◌, ◌+◌, ◌-◌, arith, subst, sym}
+use Rattle.std.proofs.Common.{ℕ, arith, sym, subst}
 use Rattle.vox_geom.specs.Space.{IsInSpace}
-use Rattle.support_forest.specs.Spreading.{IsSpreading}
-use Rattle.support_forest.proofs.SettlingSteps.{can_go_on, can_spread_fewer, spreading_fewer}
+use Rattle.support_forest.proofs.SettlingSteps.{can_spread_fewer, spreading_fewer}
 use Rattle.support_forest.proofs.settle.spread.Goals as goal
 
-pub words_beside-beside-requires-clause-space : goal.words_beside-beside-requires-clause-space
-words_beside-beside-requires-clause-space g c = let s = c.requires.can.is in λ q f. subst (λ (r : ℕ). IsInSpace r q) (sym s.same.resolution) (s.settling.space q f)
+pub words_in-beside-requires-clause-space : goal.words_in-beside-requires-clause-space
+words_in-beside-requires-clause-space g c = let s = c.requires.can.is in λ q f. subst (λ (r : ℕ). IsInSpace r q) (sym s.same.resolution) (s.settling.space q f)
 
-pub spread_toward-requires-clause-word : goal.spread_toward-requires-clause-word
-spread_toward-requires-clause-word g c = c.words_beside-beside.ensures.words.left
-
-pub spread_toward-requires-clause-can : goal.spread_toward-requires-clause-can
-spread_toward-requires-clause-can g c = let t = c.words_beside-beside.ensures.touches in can_spread_fewer _ _ _ _ _ _ c.requires.can (omega arith)
-
-pub spread_toward-requires-2-clause-word : goal.spread_toward-requires-2-clause-word
-spread_toward-requires-2-clause-word g c = c.in_ok-spread_toward.ensures.further 2 _ (omega arith) c.words_beside-beside.ensures.words.right
-
-pub spread_toward-requires-2-clause-can : goal.spread_toward-requires-2-clause-can
-spread_toward-requires-2-clause-can g c = let t = c.words_beside-beside.ensures.touches in can_go_on _ _ _ _ _ _ _ _ _ (can_spread_fewer _ _ _ _ _ _ c.requires.can (omega arith)) c.in_ok-spread_toward.ensures.spreads
-
-pub spread_toward-requires-3-clause-word : goal.spread_toward-requires-3-clause-word
-spread_toward-requires-3-clause-word g c = c.in_ok-spread_toward-2.ensures.further 3 _ (omega arith) (c.in_ok-spread_toward.ensures.further 3 _ (omega arith) c.words_beside-beside.ensures.words.under)
-
-pub spread_toward-requires-3-clause-can : goal.spread_toward-requires-3-clause-can
-spread_toward-requires-3-clause-can g c = let t = c.words_beside-beside.ensures.touches in can_go_on _ _ _ _ _ _ _ _ _ (can_go_on _ _ _ _ _ _ _ _ _ (can_spread_fewer _ _ _ _ _ _ c.requires.can (omega arith)) c.in_ok-spread_toward.ensures.spreads) c.in_ok-spread_toward-2.ensures.spreads
-
-pub spread_toward-requires-4-clause-word : goal.spread_toward-requires-4-clause-word
-spread_toward-requires-4-clause-word g c = c.in_ok-spread_toward-3.ensures.further 4 _ (omega arith) (c.in_ok-spread_toward-2.ensures.further 4 _ (omega arith) (c.in_ok-spread_toward.ensures.further 4 _ (omega arith) c.words_beside-beside.ensures.words.over))
-
-pub spread_toward-requires-4-clause-can : goal.spread_toward-requires-4-clause-can
-spread_toward-requires-4-clause-can g c = let t = c.words_beside-beside.ensures.touches in can_go_on _ _ _ _ _ _ _ _ _ (can_go_on _ _ _ _ _ _ _ _ _ (can_go_on _ _ _ _ _ _ _ _ _ (can_spread_fewer _ _ _ _ _ _ c.requires.can (omega arith)) c.in_ok-spread_toward.ensures.spreads) c.in_ok-spread_toward-2.ensures.spreads) c.in_ok-spread_toward-3.ensures.spreads
-
-pub spread_toward-requires-5-clause-word : goal.spread_toward-requires-5-clause-word
-spread_toward-requires-5-clause-word g c = c.in_ok-spread_toward-4.ensures.further 5 _ (omega arith) (c.in_ok-spread_toward-3.ensures.further 5 _ (omega arith) (c.in_ok-spread_toward-2.ensures.further 5 _ (omega arith) (c.in_ok-spread_toward.ensures.further 5 _ (omega arith) c.words_beside-beside.ensures.words.near)))
-
-pub spread_toward-requires-5-clause-can : goal.spread_toward-requires-5-clause-can
-spread_toward-requires-5-clause-can g c = let t = c.words_beside-beside.ensures.touches in can_go_on _ _ _ _ _ _ _ _ _ (can_go_on _ _ _ _ _ _ _ _ _ (can_go_on _ _ _ _ _ _ _ _ _ (can_go_on _ _ _ _ _ _ _ _ _ (can_spread_fewer _ _ _ _ _ _ c.requires.can (omega arith)) c.in_ok-spread_toward.ensures.spreads) c.in_ok-spread_toward-2.ensures.spreads) c.in_ok-spread_toward-3.ensures.spreads) c.in_ok-spread_toward-4.ensures.spreads
-
-pub spread_toward-requires-6-clause-word : goal.spread_toward-requires-6-clause-word
-spread_toward-requires-6-clause-word g c = c.in_ok-spread_toward-5.ensures.further 6 _ (omega arith) (c.in_ok-spread_toward-4.ensures.further 6 _ (omega arith) (c.in_ok-spread_toward-3.ensures.further 6 _ (omega arith) (c.in_ok-spread_toward-2.ensures.further 6 _ (omega arith) (c.in_ok-spread_toward.ensures.further 6 _ (omega arith) c.words_beside-beside.ensures.words.far))))
-
-pub spread_toward-requires-6-clause-can : goal.spread_toward-requires-6-clause-can
-spread_toward-requires-6-clause-can g c = let t = c.words_beside-beside.ensures.touches in can_go_on _ _ _ _ _ _ _ _ _ (can_go_on _ _ _ _ _ _ _ _ _ (can_go_on _ _ _ _ _ _ _ _ _ (can_go_on _ _ _ _ _ _ _ _ _ (can_go_on _ _ _ _ _ _ _ _ _ (can_spread_fewer _ _ _ _ _ _ c.requires.can (omega arith)) c.in_ok-spread_toward.ensures.spreads) c.in_ok-spread_toward-2.ensures.spreads) c.in_ok-spread_toward-3.ensures.spreads) c.in_ok-spread_toward-4.ensures.spreads) c.in_ok-spread_toward-5.ensures.spreads
+pub spread_by-requires-clause-can : goal.spread_by-requires-clause-can
+spread_by-requires-clause-can g c = let t = c.words_in-beside.ensures.touches in can_spread_fewer _ _ _ _ _ _ c.requires.can (omega arith)
 
 pub returns : goal.returns
-returns g c = λ old start before limit s.
-    let t = c.words_beside-beside.ensures.touches in
-    let e : c.spread_toward-6.new.steps + 7 - 7 ≡ c.spread_toward-6.new.steps = omega arith in
-    subst (λ (n : ℕ). IsSpreading old c.spread_toward-6.new.cells start c.spread_toward-6.new.pending c.args.c 7 before n limit) e
-    (c.in_ok-spread_toward-6.ensures.spreads old start before limit (c.in_ok-spread_toward-5.ensures.spreads old start before limit (c.in_ok-spread_toward-4.ensures.spreads old start before limit (c.in_ok-spread_toward-3.ensures.spreads old start before limit (c.in_ok-spread_toward-2.ensures.spreads old start before limit (c.in_ok-spread_toward.ensures.spreads old start before limit (spreading_fewer _ _ _ _ _ _ _ _ _ _ s (omega arith))))))))
+returns g c = λ old start before limit s. let t = c.words_in-beside.ensures.touches in c.in_ok-spread_by.ensures old start before limit (spreading_fewer _ _ _ _ _ _ _ _ _ _ s (omega arith))

@@ -21,7 +21,7 @@ returns-in_ok-accept-clause-spreads g c = λ old start before limit s.
     let t = c.in-Some.ensures.0 in
     let here : IsInSpace c.args.cells.now.resolution c.in-Some.at = subst (λ (r : ℕ). IsInSpace r c.in-Some.at) c.resolution-r.ensures.value c.in-Some.ensures.1 in
     let within : IsInSpace old.resolution c.in-Some.at = subst (λ (r : ℕ). IsInSpace r c.in-Some.at) s.same.resolution here in
-    let m = c.accept.ensures.touch in
+    let m = c.in_ok-accept.ensures.touch in
     direction_offered _ _ _ _ _ _ _ _ _ _ _ _ _ s t (record { toward = c.opposite.ensures _ _ t; height = refl; within = within }) (inr (c.in_ok-accept.ensures.accepted (c.args.steps.now + c.args.d - 7) (c.accept.new.steps + (c.args.d + 1) - 7) (omega arith)))
 
 pub returns-then-not-improves-clause-spreads : goal.returns-then-not-improves-clause-spreads
