@@ -1,4 +1,4 @@
-use Rattle.std.proofs.Common.{ℕ, ◌≡◌, ◌+◌, ◌-◌, arith, subst, sym}
+use Rattle.std.proofs.Common.{ℕ, ◌≡◌, ◌+◌, ◌-◌, arith, subst}
 use Rattle.support_forest.specs.Spreading.{IsSpreading}
 use Rattle.support_forest.proofs.SettlingSteps.{can_go_on, can_spread_fewer, spreading_fewer}
 use Rattle.support_forest.proofs.settle.spread_by.Goals as goal
