@@ -272,16 +272,17 @@ are_taken old now gone i rest before steps a p e = record {
     in_gone : (c : Coord) → IsPast gone i c → Contains gone c
     in_gone c m = (m.0, m.2, m.3)
 
-changed_since_taken : (old now new : Grid) (gone rest : List Coord) (before steps : ℕ) → AreTaken old now gone rest before steps → ((c : Coord) → 0 < word_at new c → 0 < word_at now c) → changed now.resolution (word_at now) (word_at new) ≤ changed old.resolution (word_at old) (word_at new)
+-- a level that changed since some voxels became void changed
+pub changed_since : (old now new : Grid) → now.resolution ≡ old.resolution → ((c : Coord) → (word_at now c ≡ word_at old c) ⊎ (word_at now c ≡ 0)) → ((c : Coord) → 0 < word_at new c → 0 < word_at now c) → changed now.resolution (word_at now) (word_at new) ≤ changed old.resolution (word_at old) (word_at new)
 unfolding changed
-changed_since_taken old now new gone rest before steps p k =
-    subst (λ (r : ℕ). count_by (has_changed (word_at now) (word_at new)) (coordinates r) ≤ count_by (has_changed (word_at old) (word_at new)) (coordinates old.resolution)) (sym p.resolution)
+changed_since old now new e each k =
+    subst (λ (r : ℕ). count_by (has_changed (word_at now) (word_at new)) (coordinates r) ≤ count_by (has_changed (word_at old) (word_at new)) (coordinates old.resolution)) (sym e)
     (count_le (has_changed (word_at now) (word_at new)) (has_changed (word_at old) (word_at new)) (λ c h. differ (word_at old c / 8) (word_at new c / 8) (λ f. do_differ (word_at now c / 8) (word_at new c / 8) h (by c f))) (coordinates old.resolution))
   where
     by : (c : Coord) → word_at old c / 8 ≡ word_at new c / 8 → word_at now c / 8 ≡ word_at new c / 8
-    by c f = elim (p.each c) [
+    by c f = elim (each c) [
       | inl s ↦ omega arith
-      | inr s ↦ elim (cases_lt 0 (word_at new c)) [ inl g ↦ let z = k c g in absurd (omega (arith, s.0)) | inr g ↦ omega (arith, s.0) ]
+      | inr s ↦ elim (cases_lt 0 (word_at new c)) [ inl g ↦ let z = k c g in absurd (omega arith) | inr g ↦ omega arith ]
     ]
 
 pub taken_and_removed : (old now new : Grid) (gone rest : List Coord) (before steps after : ℕ) → AreTaken old now gone rest before steps → HaveRemoved now new rest 56 steps after → HaveRemoved old new gone 62 before after
@@ -291,7 +292,7 @@ taken_and_removed old now new gone rest before steps after p h = record {
   full = λ c f. let g = h.full c f in elim (p.each c) [ inl s ↦ omega arith | inr s ↦ absurd (omega (arith, s.0)) ];
   voided = λ c f. elim (p.taken c f) [ inl z ↦ void c z | inr g ↦ h.voided c g ];
   kept = λ c f. elim (p.each c) [ inl s ↦ elim (h.kept c (omega arith)) [ inl g ↦ inl g | inr g ↦ inr (p.listed c g) ] | inr s ↦ inr s.1 ];
-  cost = omega (arith, h.cost, p.cost, p.few, changed_since_taken old now new gone rest before steps p h.full);
+  cost = omega (arith, h.cost, p.cost, p.few, changed_since old now new p.resolution (λ c. elim (p.each c) [ inl f ↦ inl f | inr f ↦ inr f.0 ]) h.full);
 }
   where
     void : (c : Coord) → word_at now c ≡ 0 → word_at new c ≡ 0

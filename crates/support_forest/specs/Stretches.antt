@@ -1,5 +1,5 @@
 -- Voxels that follow one another along z in a row of a brick, and become void together.
-use Rattle.std.specs.Prelude.{◌≡◌, ◌≢◌, ℕ, ◌+◌, ◌*◌, ◌%◌, ◌<◌, ◌≤◌, ◌⊎◌, List, Some, length, slice_index, slice_index_or}
+use Rattle.std.specs.Prelude.{◌≡◌, ◌≢◌, ℕ, ◌+◌, ◌*◌, ◌/◌, ◌%◌, ◌<◌, ◌≤◌, ◌⊎◌, List, Some, length, slice_index, slice_index_or}
 use Rattle.std.specs.List.{AllPairs, Contains}
 use Rattle.vox_geom.specs.declared.coordinate.Coord.{Coord}
 use Rattle.vox_geom.specs.Space.{IsInSpace}
@@ -44,6 +44,23 @@ RowHangsNot w c n toward = (k : ℕ) → k < n → HangsNot (w (further c k)) to
 -- no neighbour in the direction has its parent in a voxel of the row
 abbrev pub SideHangsNot : (Coord → ℕ) → Coord → ℕ → ℕ → ℕ → Type 0
 SideHangsNot w c n d toward = (k : ℕ) (p : Coord) → k < n → Toward d (further c k) p → HangsNot (w p) toward
+
+-- the first voxel of the whole row of a brick in which the voxel lies
+abbrev pub row_start : Coord → Coord
+row_start c = record { x = c.x; y = c.y; z = c.z / 8 * 8 }
+
+-- no neighbour to a side of the row has its parent in a voxel of the row, and no voxel of the row in the next one
+pub record SidesAreFree (w : Coord → ℕ) (c : Coord) (n : ℕ) : Type 0 where
+  pub left : SideHangsNot w c n 1 2
+  pub right : SideHangsNot w c n 2 1
+  pub under : SideHangsNot w c n 3 4
+  pub over : SideHangsNot w c n 4 3
+  pub own : RowHangsNot w c n 6
+
+-- neither the voxel before the row has its parent in the first of the row, nor that behind it in the last
+pub record EndsAreFree (w : Coord → ℕ) (c : Coord) (n : ℕ) : Type 0 where
+  pub near : SideHangsNot w c 1 5 6
+  pub far : (p : Coord) → p.x ≡ c.x → p.y ≡ c.y → p.z ≡ c.z + n → HangsNot (w p) 5
 
 -- no neighbour has its parent in a voxel of the row, but for the next voxel of the row
 pub record RowIsFree (w : Coord → ℕ) (c : Coord) (n : ℕ) : Type 0 where

@@ -6,7 +6,7 @@ ghost use Rattle.vox_geom.specs.Space.{IsInSpace};
 ghost use Rattle.vox_geom.specs.declared.coordinate.Coord.{Coord};
 ghost use Rattle.brick_arena.specs.Slots.{HasSlot};
 ghost use Rattle.support_forest.specs.Grid.{Grid, word_at};
-ghost use Rattle.support_forest.specs.Stretches.{AreCleared, IsBrickRow, IsStretch, LieInRow, RowHangsNot, RowIsFree, SideHangsNot, TakesMore, WordsHangNot};
+ghost use Rattle.support_forest.specs.Stretches.{AreCleared, EndsAreFree, IsBrickRow, IsStretch, LieInRow, RowHangsNot, RowIsFree, SideHangsNot, SidesAreFree, TakesMore, WordsHangNot, row_start};
 ghost use Rattle.support_forest.specs.Words.{AreExact};
 
 use crate::beside::{index_toward, word_near};
@@ -117,6 +117,63 @@ fn side_is_free<L: Ledger>(
     }
 }
 
+/// Whether no neighbour to a side of the row has its parent in a voxel of the row, and no voxel of the row in the next one.
+#[inline(always)]
+fn sides_are_free<L: Ledger>(
+    cells: &Cells,
+    own: u32,
+    first: Coord,
+    count: u16,
+    steps: &mut Steps<L>,
+) -> bool
+    requires { IsBrickRow cells.now own first count }
+    ensures free { result ≡ true → SidesAreFree (word_at cells.now) first count }
+    ensures touches { steps.new ≤ steps.old + 5 * count }
+{
+    cells.recall();
+    let chunk = cells.chunk(own);
+    if !side_is_free(cells, own, chunk, first, count, 4, 3, steps) {
+        return false;
+    }
+    if !side_is_free(cells, own, chunk, first, count, 3, 4, steps) {
+        return false;
+    }
+    if !side_is_free(cells, own, chunk, first, count, 1, 2, steps) {
+        return false;
+    }
+    if !side_is_free(cells, own, chunk, first, count, 2, 1, steps) {
+        return false;
+    }
+    let from = start_in_chunk(own) + usize::from(word_index(first));
+    words_hang_not(chunk, from, count, 6, steps)
+}
+
+/// Whether neither the voxel before the row has its parent in the first of the row, nor that behind it in the last.
+#[inline(always)]
+fn ends_are_free<L: Ledger>(
+    cells: &Cells,
+    own: u32,
+    first: Coord,
+    count: u16,
+    steps: &mut Steps<L>,
+) -> bool
+    requires { IsBrickRow cells.now own first count }
+    ensures free { result ≡ true → EndsAreFree (word_at cells.now) first count }
+    ensures touches { steps.new ≤ steps.old + 2 }
+{
+    let last = Coord {
+        z: first.z + (count - 1),
+        ..first
+    };
+    cells.recall();
+    let chunk = cells.chunk(own);
+    let start = start_in_chunk(own);
+    if hangs(word_near(cells, first, own, chunk, start, 5, steps), 6) {
+        return false;
+    }
+    !hangs(word_near(cells, last, own, chunk, start, 6, steps), 5)
+}
+
 /// Whether no neighbour has its parent in a voxel of the row, but for the next voxel of the row.
 #[inline(always)]
 fn is_free<L: Ledger>(
@@ -130,33 +187,10 @@ fn is_free<L: Ledger>(
     ensures free { result ≡ true → RowIsFree (word_at cells.now) first count }
     ensures touches { steps.new ≤ steps.old + 5 * count + 2 }
 {
-    let last = Coord {
-        z: first.z + (count - 1),
-        ..first
-    };
-    cells.recall();
-    let chunk = cells.chunk(own);
-    let start = start_in_chunk(own);
-    if !side_is_free(cells, own, chunk, first, count, 4, 3, steps) {
+    if !sides_are_free(cells, own, first, count, steps) {
         return false;
     }
-    if !side_is_free(cells, own, chunk, first, count, 3, 4, steps) {
-        return false;
-    }
-    if !side_is_free(cells, own, chunk, first, count, 1, 2, steps) {
-        return false;
-    }
-    if !side_is_free(cells, own, chunk, first, count, 2, 1, steps) {
-        return false;
-    }
-    let from = start + usize::from(word_index(first));
-    if !words_hang_not(chunk, from, count, 6, steps) {
-        return false;
-    }
-    if hangs(word_near(cells, first, own, chunk, start, 5, steps), 6) {
-        return false;
-    }
-    !hangs(word_near(cells, last, own, chunk, start, 6, steps), 5)
+    ends_are_free(cells, own, first, count, steps)
 }
 
 /// The first voxel of a whole row, said so that the compiler knows where in its brick it lies.
@@ -188,6 +222,59 @@ fn are_free<L: Ledger>(
         return is_free(cells, own, whole_row(first), BRICK_SIDE, steps);
     }
     is_free(cells, own, first, count, steps)
+}
+
+/// The first voxel of the whole row of a brick in which the voxel lies.
+#[inline(always)]
+fn start_of_row(c: Coord) -> Coord
+    ensures { result ≡ row_start c }
+{
+    Coord {
+        z: c.z / BRICK_SIDE * BRICK_SIDE,
+        ..c
+    }
+}
+
+/// Whether nothing beside the whole row of the brick has its parent in that row, so that nothing beside these voxels of it
+/// has: a whole row is read by steps that the compiler knows.
+#[inline(always)]
+fn sides_of_all_are_free<L: Ledger>(
+    cells: &Cells,
+    own: u32,
+    first: Coord,
+    count: u16,
+    steps: &mut Steps<L>,
+) -> bool
+    requires { IsBrickRow cells.now own first count }
+    ensures free { result ≡ true → SidesAreFree (word_at cells.now) first count }
+    ensures touches { steps.new ≤ steps.old + 20 * count }
+{
+    cells.recall();
+    let start = start_of_row(first);
+    if count == 1 || start.z + BRICK_SIDE > cells.resolution() {
+        return false;
+    }
+    sides_are_free(cells, own, start, BRICK_SIDE, steps)
+}
+
+/// Whether no neighbour has its parent in a voxel of the row, but for the next voxel of the row. Most parts of rows lie in
+/// whole rows that are free.
+#[inline(always)]
+pub fn part_is_free<L: Ledger>(
+    cells: &Cells,
+    own: u32,
+    first: Coord,
+    count: u16,
+    steps: &mut Steps<L>,
+) -> bool
+    requires { IsBrickRow cells.now own first count }
+    ensures free { result ≡ true → RowIsFree (word_at cells.now) first count }
+    ensures touches { steps.new ≤ steps.old + 25 * count + 2 }
+{
+    if sides_of_all_are_free(cells, own, first, count, steps) {
+        return ends_are_free(cells, own, first, count, steps);
+    }
+    are_free(cells, own, first, count, steps)
 }
 
 /// The slot of the row, where no neighbour has its parent in one of its voxels, but for the next voxel of the row.
@@ -239,7 +326,13 @@ fn clear_voxels<L: Ledger>(
 }
 
 /// Makes the voxels of a row void, from the last to the first. A whole row is written by steps that the compiler knows.
-fn clear_row<L: Ledger>(cells: &mut Cells, own: u32, first: Coord, count: u16, steps: &mut Steps<L>)
+pub fn clear_row<L: Ledger>(
+    cells: &mut Cells,
+    own: u32,
+    first: Coord,
+    count: u16,
+    steps: &mut Steps<L>,
+)
     requires row { IsBrickRow cells.old own first count }
     requires exact { AreExact cells.old.resolution (word_at cells.old) }
     requires free { RowIsFree (word_at cells.old) first count }

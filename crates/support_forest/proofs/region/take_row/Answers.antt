@@ -1,0 +1,44 @@
+use Rattle.std.proofs.Common.{◌≡◌, ℕ, ◌+◌, ◌-◌, ◌%◌, ◌≤◌, arith, subst, sym}
+use Rattle.support_forest.specs.Grid.{word_at}
+use Rattle.support_forest.specs.Regions.{AreVoided, IsInRow}
+use Rattle.support_forest.specs.Words.{AreExact}
+use Rattle.support_forest.proofs.Voiding.{part_before_row, part_in_row, row_at, voided_already, whole_row_at}
+use Rattle.support_forest.proofs.region.take_row.Goals as goal
+
+pub loop-left-init : goal.loop-left-init
+loop-left-init g c = (c.requires.order, (omega arith, (omega arith, voided_already c.args.cells.now _ _ c.args.rest.now.items c.requires.exact (λ d h. absurd (omega arith)))))
+
+pub take_part-requires-clause-row : goal.take_part-requires-clause-row
+take_part-requires-clause-row g c =
+    let i = c.loop-left.invariant in
+    let t = c.loop-left-test.true in
+    let m = c.min-part.ensures in
+    let l : c.loop-left.left ≤ c.args.end = i.1.0 in
+    let e = c.requires.end in
+    part_in_row c.args.cells.now c.loop-left.cells c.args.first (c.loop-left.left - c.min-part.result) c.min-part.result c.args.end i.1.1.1.resolution c.requires.within (omega arith) c.requires.end (omega arith) (omega arith)
+
+pub loop-left-preserved : goal.loop-left-preserved
+loop-left-preserved g c =
+    let i = c.loop-left.invariant in
+    let t = c.loop-left-test.true in
+    let m = c.min-part.ensures in
+    let l : c.loop-left.left ≤ c.args.end = i.1.0 in
+    let n = c.loop-left.left - c.min-part.result in
+    let e : c.loop-left.left ≡ n + c.min-part.result = omega arith in (
+      omega arith,
+      (
+        omega arith,
+        (
+          omega (arith, i.1.1.0, c.in_ok-take_part.ensures.touches),
+          part_before_row c.args.cells.now c.loop-left.cells c.take_part.new.cells c.args.first n c.min-part.result c.args.end c.args.rest.now.items c.loop-left.rest.items c.take_part.new.rest.items (omega arith)
+              (subst (λ (k : ℕ). AreVoided c.args.cells.now c.loop-left.cells (IsInRow (row_at c.args.first k) (c.args.end - k)) (c.args.end - k) c.args.rest.now.items c.loop-left.rest.items) e i.1.1.1)
+              c.in_ok-take_part.ensures.voided,
+        ),
+      ),
+    )
+
+pub returns-clause-voided : goal.returns-clause-voided
+returns-clause-voided g c =
+    let i = c.loop-left.invariant in
+    let b = i.0 in
+    whole_row_at c.args.cells.now c.loop-left.cells c.args.first c.loop-left.left c.args.end c.args.rest.now.items c.loop-left.rest.items (omega (arith, b, c.loop-left-test.false)) i.1.1.1

@@ -1,0 +1,17 @@
+use Rattle.std.proofs.Common.{◌≡◌, ℕ, ◌+◌, ◌*◌, ◌/◌, ◌≤◌, ap, arith, subst, sym}
+use Rattle.vox_geom.specs.declared.coordinate.Coord.{Coord}
+use Rattle.support_forest.specs.Grid.{word_at}
+use Rattle.support_forest.specs.Stretches.{IsBrickRow, SidesAreFree, row_start}
+use Rattle.support_forest.proofs.Stretches.{part_free, whole_brick_row}
+use Rattle.support_forest.proofs.stretch.sides_of_all_are_free.Goals as goal
+
+pub sides_are_free-requires : goal.sides_are_free-requires
+sides_are_free-requires g c =
+    let e = c.start_of_row-start.ensures in
+    let z : c.start_of_row-start.result.z ≡ c.args.first.z / 8 * 8 = ap (λ (p : Coord). p.z) e in
+    let r = c.resolution.ensures.value in
+    let l : c.args.first.z / 8 * 8 + 8 ≤ c.args.cells.now.resolution = omega (arith, c.if-start-resolution.false) in
+    subst (λ (p : Coord). IsBrickRow c.args.cells.now c.args.own p 8) (sym e) (whole_brick_row c.args.cells.now c.args.own c.args.first c.args.count c.requires l)
+
+pub returns-clause-free : goal.returns-clause-free
+returns-clause-free g c t = part_free (word_at c.args.cells.now) c.args.first c.args.count c.requires.row.row (subst (λ (p : Coord). SidesAreFree (word_at c.args.cells.now) p 8) c.start_of_row-start.ensures (c.sides_are_free.ensures.free t))

@@ -1,0 +1,141 @@
+//! Takes away the full voxels of a region, row by row: only those of rows on which others hang are listed.
+ghost use Rattle.std.specs.Prelude.{◌≡◌, ◌+◌, ◌-◌, ◌*◌, ◌<◌, ◌≤◌, IfOk};
+ghost use Rattle.vox_geom.specs.Region.{size, span};
+ghost use Rattle.vox_geom.specs.Space.{IsInSpace};
+ghost use Rattle.vox_planes.specs.Walk.{wall_size};
+ghost use Rattle.support_forest.specs.Grid.{word_at};
+ghost use Rattle.support_forest.specs.Regions.{AreVoided, IsInRegion, IsInRow, IsInWall};
+ghost use Rattle.support_forest.specs.Stretches.{IsBrickRow, LieInRow};
+ghost use Rattle.support_forest.specs.Words.{AreExact};
+
+use crate::cells::{BRICK_SIDE, Cells};
+use crate::stretch::{clear_row, part_is_free};
+use std::alloc::AllocError;
+use std::sync::ledger::Ledger;
+use vox_geom::{Coord, Region, Steps};
+
+/// Lists the full voxels of a part of a row, which lies in the brick with this slot.
+fn list_part<L: Ledger>(
+    cells: &Cells,
+    own: u32,
+    first: Coord,
+    count: u16,
+    rest: &mut Vec<Coord>,
+    steps: &mut Steps<L>,
+) -> Result<(), AllocError>
+    requires row { IsBrickRow cells.now own first count }
+    requires exact { AreExact cells.now.resolution (word_at cells.now) }
+    ensures listed { IfOk result (λ _. AreVoided cells.now cells.now (IsInRow first count) count rest.old.items rest.new.items) }
+    ensures touches { IfOk result (λ _. steps.new ≤ steps.old + count) }
+{
+    let mut left = count;
+    while left > 0 {
+        left -= 1;
+        let at = Coord {
+            z: first.z + left,
+            ..first
+        };
+        if cells.word_in(Some(own), at, steps) == 0 {
+            continue;
+        }
+        rest.push(at)?;
+    }
+    Ok(())
+}
+
+/// The full voxels of a part of a row, which lies in one brick, become void, or are listed.
+#[inline(always)]
+fn take_part<L: Ledger>(
+    cells: &mut Cells,
+    first: Coord,
+    count: u16,
+    rest: &mut Vec<Coord>,
+    steps: &mut Steps<L>,
+) -> Result<(), AllocError>
+    requires some { 0 < count }
+    requires row { LieInRow cells.old first count }
+    requires exact { AreExact cells.old.resolution (word_at cells.old) }
+    ensures voided { IfOk result (λ _. AreVoided cells.old cells.new (IsInRow first count) count rest.old.items rest.new.items) }
+    ensures touches { IfOk result (λ _. steps.new ≤ steps.old + 30 * count) }
+{
+    let Some(own) = cells.slot(first) else {
+        return Ok(());
+    };
+    if part_is_free(cells, own, first, count, steps) {
+        clear_row(cells, own, first, count, steps);
+        return Ok(());
+    }
+    list_part(cells, own, first, count, rest, steps)
+}
+
+/// The full voxels of a row from one on, before `end`, become void, or are listed.
+fn take_row<L: Ledger>(
+    cells: &mut Cells,
+    first: Coord,
+    end: u16,
+    rest: &mut Vec<Coord>,
+    steps: &mut Steps<L>,
+) -> Result<(), AllocError>
+    requires within { IsInSpace cells.old.resolution first }
+    requires order { first.z ≤ end }
+    requires end { end ≤ cells.old.resolution }
+    requires exact { AreExact cells.old.resolution (word_at cells.old) }
+    ensures voided { IfOk result (λ _. AreVoided cells.old cells.new (IsInRow first (end - first.z)) (end - first.z) rest.old.items rest.new.items) }
+    ensures touches { IfOk result (λ _. steps.new ≤ steps.old + 30 * (end - first.z)) }
+{
+    let mut left = end;
+    while left > first.z {
+        let part = ((left - 1) % BRICK_SIDE + 1).min(left - first.z);
+        left -= part;
+        take_part(cells, Coord { z: left, ..first }, part, rest, steps)?;
+    }
+    Ok(())
+}
+
+/// The full voxels of a region among those with this x become void, or are listed.
+fn take_wall<L: Ledger>(
+    cells: &mut Cells,
+    b: &Region,
+    x: u16,
+    rest: &mut Vec<Coord>,
+    steps: &mut Steps<L>,
+) -> Result<(), AllocError>
+    requires within { IsInSpace cells.old.resolution b.now.high }
+    requires high { x ≤ b.now.high.x }
+    requires exact { AreExact cells.old.resolution (word_at cells.old) }
+    ensures voided { IfOk result (λ _. AreVoided cells.old cells.new (IsInWall b.now x b.now.low.y) (wall_size b.now) rest.old.items rest.new.items) }
+    ensures touches { IfOk result (λ _. steps.new ≤ steps.old + 30 * wall_size b.now) }
+{
+    cells.recall();
+    let low = b.low();
+    let high = b.high();
+    let mut y = high.y + 1;
+    while y > low.y {
+        y -= 1;
+        take_row(cells, Coord { x, y, z: low.z }, high.z + 1, rest, steps)?;
+    }
+    Ok(())
+}
+
+/// The full voxels of a region become void, or are listed: from the last on, so that what stands on a voxel goes before it.
+pub fn take_region<L: Ledger>(
+    cells: &mut Cells,
+    b: &Region,
+    rest: &mut Vec<Coord>,
+    steps: &mut Steps<L>,
+) -> Result<(), AllocError>
+    requires within { IsInSpace cells.old.resolution b.now.high }
+    requires exact { AreExact cells.old.resolution (word_at cells.old) }
+    ensures voided { IfOk result (λ _. AreVoided cells.old cells.new (IsInRegion b.now) (size (span b.now)) rest.old.items rest.new.items) }
+    ensures touches { IfOk result (λ _. steps.new ≤ steps.old + 30 * size (span b.now)) }
+{
+    cells.recall();
+    let low = b.low();
+    let high = b.high();
+    let mut x = high.x + 1;
+    while x > low.x {
+        x -= 1;
+        take_wall(cells, b, x, rest, steps)?;
+    }
+    Ok(())
+}
