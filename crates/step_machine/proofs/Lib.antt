@@ -4,6 +4,7 @@ pub mod Apart
 pub mod Cells
 pub mod Changed
 pub mod Judging
+pub mod OneRegion
 pub mod Opening
 pub mod Ordered
 pub mod Reaching

@@ -1,5 +1,5 @@
 -- The list of the voxels that a step changes: first those that it voids, and then those that it fills.
-use Rattle.std.proofs.Common.{◌≡◌, ℕ, ◌+◌, ◌≤◌, refl, sym, ◌∙◌, ap, inl, inr, arith, List, [], ◌∷◌, ◌++◌, Bool, true, false, cond, length, take, drop, subst}
+use Rattle.std.proofs.Common.{◌≡◌, ℕ, ◌+◌, ◌*◌, ◌≤◌, refl, sym, ◌∙◌, ap, inl, inr, arith, List, [], ◌∷◌, ◌++◌, Bool, true, false, cond, length, take, drop, subst}
 use Rattle.std.specs.Prelude.{None, Result, Ok, Err, IfOk, count_by}
 use Rattle.std.proofs.lemmas.List.Sums.{sum_by-cons}
 use Rattle.std.proofs.Math.Seq.{drop-append_seam, take-append_seam}
@@ -43,7 +43,7 @@ edit_by full b (GVoid d f) c h = refl
 edit_by true b k c h = cc
 edit_by false b k c h = cc
 
-counted : (bots : List Bot) (commands : List Command) (a : Act) → In a (acts bots commands) → is_edit a.command ≡ true → 1 ≤ count_by is_edit commands
+pub counted : (bots : List Bot) (commands : List Command) (a : Act) → In a (acts bots commands) → is_edit a.command ≡ true → 1 ≤ count_by is_edit commands
 counted [] commands a i h = absurd i
 counted (b ∷ bots) [] a i h = absurd i
 counted (b ∷ bots) (k ∷ commands) a (inl e) h =
@@ -83,7 +83,7 @@ module _ (s : State) (commands : List Command) (step : ℕ) (ready : IsReady s) 
 
   -- the forest is that of the step's state, and the touches are paid for, where it lost what is voided and gained what is filled
   pub is_refitted : (old between : Matrix) (forest : Standing) (front back : List Coord) (before listed middle after : ℕ) → old ≡ s.matrix → front ≡ edits_of s commands true → back ≡ edits_of s commands false
-      → listed ≤ before + volatile_total s.matrix (acts s.bots commands) → AreRemoved old between front → IsCheap old between front 100 listed middle
+      → listed ≤ before + 80 * volatile_total s.matrix (acts s.bots commands) → AreRemoved old between front → IsCheap old between front 100 listed middle
       → AreAdded between forest.matrix back → IsCheap between forest.matrix back 100 middle after → forest.spent ≡ false → IsRefitted s commands forest before after
   is_refitted old between forest front back before listed middle after e f g l lost lose won win stands =
       let new = refitted old between front back e f g lost forest.matrix won in

@@ -1,14 +1,17 @@
 -- What comes of a step that breaks no rule at its start, before its groups act.
-use Rattle.std.specs.Prelude.{◌≡◌, ℕ, ◌+◌, ◌*◌, ◌≤◌, Bool, List, [], ◌∷◌, false, length}
+use Rattle.std.specs.Prelude.{◌≡◌, ℕ, ◌+◌, ◌*◌, ◌≤◌, Bool, List, [], ◌∷◌, true, false, length}
 use Rattle.vox_geom.specs.declared.coordinate.Coord.{Coord}
 use Rattle.vox_geom.specs.declared.difference.Diff.{Diff}
 use Rattle.vox_geom.specs.Point.{point, plus}
+use Rattle.vox_geom.specs.Region.{Corners, IsOrdered, is_within, size, span}
 use Rattle.vox_geom.specs.Space.{IsInSpace}
 use Rattle.nano_spec.specs.declared.commands.Command.{Command}
 use Rattle.nano_spec.specs.declared.outcomes.Broken.{Broken}
 use Rattle.nano_spec.specs.declared.outcomes.Rule.TheVariants.{Ungrounded}
 use Rattle.nano_spec.specs.declared.system.Bot.{Bot}
-use Rattle.nano_spec.specs.Act.{acts}
+use Rattle.nano_spec.specs.Act.{Act, acts}
+use Rattle.nano_spec.specs.Group.{leaders}
+use Rattle.nano_spec.specs.Matrix.{Matrix}
 use Rattle.nano_spec.specs.Model.{volume}
 use Rattle.nano_spec.specs.Next.{Breaks, Goes, Next}
 use Rattle.nano_spec.specs.State.{State}
@@ -16,13 +19,14 @@ use Rattle.nano_spec.specs.Step.{after}
 use Rattle.nano_spec.specs.Work.{WorkOfActs, volatile_total}
 use Rattle.step_groups.specs.Judging.{edit_of}
 use Rattle.support_forest.specs.Standing.{Standing}
+use Rattle.step_machine.specs.Edits.{edit_count, is_edit, is_edited}
 use Rattle.step_machine.specs.declared.machine.StepFault.{StepFault}
 use Rattle.step_machine.specs.declared.machine.StepFault.TheVariants as fault
 
--- each touch is paid for by a hundredth of the step's work, in which each volatile coordinate still leaves 99
+-- each touch is paid for by a hundredth of the step's work, in which each volatile coordinate still leaves 20
 abbrev pub IsPaidBy : State → List Command → ℕ → ℕ → Type 0
 IsPaidBy s commands began ended =
-    (n : ℕ) → WorkOfActs s.matrix (acts s.bots commands) n → ended + 99 * volatile_total s.matrix (acts s.bots commands) ≤ began + 100 * n
+    (n : ℕ) → WorkOfActs s.matrix (acts s.bots commands) n → ended + 20 * volatile_total s.matrix (acts s.bots commands) ≤ began + 100 * n
 
 -- the step is one of the only bot, which fills the voxel at the coordinate, or else voids it
 pub record IsOneEdit (s : State) (commands : List Command) (d : Diff) (at : Coord) (full : Bool) : Type 0 where
@@ -30,6 +34,21 @@ pub record IsOneEdit (s : State) (commands : List Command) (d : Diff) (at : Coor
   pub command : commands ≡ edit_of full d ∷ []
   pub named : (b : Bot) → s.bots ≡ b ∷ [] → point at ≡ plus (point b.pos) d
   pub within : IsInSpace s.matrix.resolution at
+
+-- the region is what the act voids, and the act fills nothing
+pub record IsVoidedRegion (m : Matrix) (a : Act) (k : Corners) : Type 0 where
+  pub ordered : IsOrdered k
+  pub within : IsInSpace m.resolution k.high
+  pub covers : (c : Coord) → is_within (span k) (point c) ≡ is_edited true a c
+  pub fills : (c : Coord) → false ≡ is_edited false a c
+  pub count : size (span k) ≡ edit_count m true a
+  pub edits : is_edit a.command ≡ true
+
+-- the step has one group, which voids the region
+pub record IsOnlyRegion (s : State) (commands : List Command) (k : Corners) : Type 0 where
+  pub leader : Act
+  pub only : leaders (acts s.bots commands) ≡ leader ∷ []
+  pub voids : IsVoidedRegion s.matrix leader k
 
 -- the forest is that of the state to which the step goes
 pub record IsRefitted (s : State) (commands : List Command) (forest : Standing) (began ended : ℕ) : Type 0 where

@@ -68,7 +68,7 @@ fn list_change<L: Ledger>(
 }
 
 /// Whether the command voids something, or else whether it fills something.
-fn is_change(command: &Command, full: bool) -> bool
+pub(crate) fn is_change(command: &Command, full: bool) -> bool
     ensures { result ≡ is_change full command.now }
 {
     match command {

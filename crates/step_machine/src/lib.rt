@@ -4,6 +4,7 @@
 mod changes;
 mod laws;
 mod machine;
+mod one_region;
 mod order;
 mod pending;
 mod runner;

@@ -23,8 +23,7 @@ mod noted;
 
 use crate::MOST_CHANGED;
 use crate::order::take_turns;
-use crate::support::settle;
-pub(crate) use alone::Tried;
+use crate::support::settle_unlisted;
 use arrayvec::ArrayVec;
 use bot_crew::{Crew, MOST_BOTS};
 use energy_sum::a_step_changes_the_energy_by_little;
@@ -245,7 +244,7 @@ impl Machine {
         if let Some(broken) = self.system.judge(commands, step, &mut self.turns, steps) {
             return Err(StepFault::Broken(broken));
         }
-        match settle(
+        match settle_unlisted(
             &self.system,
             commands,
             step,
@@ -254,7 +253,7 @@ impl Machine {
             &mut self.forest,
             steps,
         ) {
-            Ok(_) => {}
+            Ok(()) => {}
             Err(fault) => {
                 self.spent = true;
                 return Err(fault);

@@ -8,11 +8,11 @@ ghost use Rattle.nano_spec.specs.Matrix.{is_full};
 ghost use Rattle.nano_spec.specs.Model.{volume};
 ghost use Rattle.nano_spec.specs.Rules.{broken as broken_of};
 ghost use Rattle.nano_spec.specs.State.{is_high};
-ghost use Rattle.nano_spec.specs.Step.{flipped};
+ghost use Rattle.nano_spec.specs.Step.{after, flipped};
 ghost use Rattle.nano_spec.specs.Work.{volatile_total};
 ghost use Rattle.support_forest.specs.Standing.{AreAdded, AreRemoved, IsCheap, MayAdd, MayRemove};
 ghost use Rattle.step_machine.specs.Edits.{edits_of, is_edit};
-ghost use Rattle.step_machine.specs.Settling.{IsOneEdit, IsRefitted, IsSettled, IsUnsettled};
+ghost use Rattle.step_machine.specs.Settling.{IsOneEdit, IsPaidBy, IsRefitted, IsSettled, IsUnsettled};
 ghost use Rattle.step_machine.specs.Undoing.{IsUndoneBy, matrix_before, without_filled};
 ghost use Rattle.system_state.specs.Turns.{AreTurns};
 ghost use Rattle.step_machine.specs.declared.TheConstants.{MOST_CHANGED};
@@ -20,6 +20,7 @@ ghost use Rattle.step_machine.specs.declared.TheConstants.{MOST_CHANGED};
 use crate::MOST_CHANGED;
 use crate::changes::list_changes;
 use crate::machine::StepFault;
+use crate::one_region::{only_region, refit_region};
 use nano_spec::{Broken, Command, Harmonics, Rule};
 use std::sync::ledger::Ledger;
 use support_forest::Forest;
@@ -158,6 +159,34 @@ fn refit<L: Ledger>(
     }
 }
 
+/// The same, where these voxels are listed only where they are more than one region's: a list of them is not asked for.
+fn refit_unlisted<L: Ledger>(
+    system: &System,
+    commands: &[Command],
+    turns: &Turns,
+    list: &mut ChangeList,
+    forest: &mut Forest,
+    steps: &mut Steps<L>,
+) -> Result<(), Memory>
+    requires judged { (step : ℕ) × (broken_of system.now commands.now step ≡ None) }
+    requires turns { AreTurns (acts system.now.bots commands.now) (leaders (acts system.now.bots commands.now)) turns.now }
+    requires commands { AreCommands commands.now }
+    requires room { MOST_CHANGED ≤ list.old.spare + length list.old.items }
+    requires stands { forest.old.spent ≡ false }
+    requires tied { forest.old.matrix ≡ system.now.matrix }
+    ensures refitted { IfOk result (λ _. IsRefitted system.now commands.now forest.new steps.old steps.new) }
+    ensures edits { IfErr result (λ _. 1 ≤ count_by is_edit commands.now) }
+    ensures room { MOST_CHANGED ≤ list.new.spare + length list.new.items }
+{
+    if let Some(region) = only_region(system, commands, turns) {
+        return refit_region(system, commands, &region, forest, steps);
+    }
+    match refit(system, commands, turns, list, forest, steps) {
+        Ok(_) => Ok(()),
+        Err(Memory) => Err(Memory),
+    }
+}
+
 /// One cell becomes full, or else void.
 #[inline(always)]
 fn change_cell<L: Ledger>(
@@ -238,6 +267,34 @@ pub(crate) fn refit_back<L: Ledger>(
     }
 }
 
+/// What comes of a step whose forest is that after it: no voxel may float in it under Low.
+fn settle_refitted<L: Ledger>(
+    system: &System,
+    commands: &[Command],
+    step: u32,
+    forest: &Forest,
+    steps: &mut Steps<L>,
+) -> Result<(), StepFault>
+    requires judged { broken_of system.now commands.now step ≡ None }
+    requires few { length commands.now ≤ length system.now.bots }
+    requires stands { forest.now.spent ≡ false }
+    requires matrix { forest.now.matrix ≡ (after system.now commands.now).matrix }
+    ensures settled { IfOk result (λ _. (before : ℕ) → IsPaidBy system.now commands.now before steps.old → IsSettled system.now commands.now step forest.now before steps.new) }
+    ensures unsettled { IfErr result (λ fault. (before : ℕ) → IsPaidBy system.now commands.now before steps.old → IsUnsettled system.now commands.now step fault before steps.new) }
+    ensures memory { result ≡ Err StepFault.Memory → ⊥ }
+{
+    let harmonics = harmonics_after(system.harmonics(), commands);
+    match ungrounded(forest, harmonics, steps) {
+        None => Ok(()),
+        Some(at) => Err(StepFault::Broken(Broken {
+            step,
+            bid: 0,
+            rule: Rule::Ungrounded,
+            at,
+        })),
+    }
+}
+
 /// What comes of a step that breaks no rule at its start, before its groups act: the forest after it, in which no voxel may
 /// float under Low, and a list of the voxels that change: first those that are voided, as many as the answer says, and then
 /// those that are filled.
@@ -268,15 +325,37 @@ pub(crate) fn settle<L: Ledger>(
         Ok(voided) => voided,
         Err(Memory) => return Err(StepFault::Memory),
     };
-    let harmonics = harmonics_after(system.harmonics(), commands);
-    match ungrounded(forest, harmonics, steps) {
-        None => Ok(voided),
-        Some(at) => Err(StepFault::Broken(Broken {
-            step,
-            bid: 0,
-            rule: Rule::Ungrounded,
-            at,
-        })),
+    match settle_refitted(system, commands, step, forest, steps) {
+        Ok(()) => Ok(voided),
+        Err(fault) => Err(fault),
+    }
+}
+
+/// The same, where no list is asked for.
+pub(crate) fn settle_unlisted<L: Ledger>(
+    system: &System,
+    commands: &[Command],
+    step: u32,
+    turns: &Turns,
+    list: &mut ChangeList,
+    forest: &mut Forest,
+    steps: &mut Steps<L>,
+) -> Result<(), StepFault>
+    requires judged { broken_of system.now commands.now step ≡ None }
+    requires turns { AreTurns (acts system.now.bots commands.now) (leaders (acts system.now.bots commands.now)) turns.now }
+    requires few { length commands.now ≤ length system.now.bots }
+    requires commands { AreCommands commands.now }
+    requires room { MOST_CHANGED ≤ list.old.spare + length list.old.items }
+    requires stands { forest.old.spent ≡ false }
+    requires tied { forest.old.matrix ≡ system.now.matrix }
+    ensures settled { IfOk result (λ _. IsSettled system.now commands.now step forest.new steps.old steps.new) }
+    ensures unsettled { IfErr result (λ fault. IsUnsettled system.now commands.now step fault steps.old steps.new) }
+    ensures memory { result ≡ Err StepFault.Memory → 1 ≤ count_by is_edit commands.now }
+    ensures room { MOST_CHANGED ≤ list.new.spare + length list.new.items }
+{
+    match refit_unlisted(system, commands, turns, list, forest, steps) {
+        Ok(()) => settle_refitted(system, commands, step, forest, steps),
+        Err(Memory) => Err(StepFault::Memory),
     }
 }
 

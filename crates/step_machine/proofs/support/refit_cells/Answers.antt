@@ -1,4 +1,4 @@
-use Rattle.std.proofs.Common.{true, false}
+use Rattle.std.proofs.Common.{arith, true, false}
 use Rattle.step_machine.proofs.Refitting.{edits_some, is_refitted, may_gain, may_lose}
 use Rattle.step_machine.proofs.support.refit_cells.Goals as goal
 
@@ -21,4 +21,4 @@ returns-in-Err-add-clause-edits g c =
 pub returns-in-Ok-add-clause-refitted : goal.returns-in-Ok-add-clause-refitted
 returns-in-Ok-add-clause-refitted g c = λ before listed.
     is_refitted c.args.system.now c.args.commands.now c.requires.judged.0 c.crew.ensures.ready c.requires.judged.1 c.args.forest.now.matrix c.remove.new.forest.matrix c.add.new.forest c.args.removed.now c.args.added.now before c.args.steps.now c.remove.new.steps c.add.new.steps
-    c.requires.tied c.requires.removed c.requires.added listed c.in-Ok.ensures.value c.in-Ok.ensures.touches c.in-Ok-add.ensures.value c.in-Ok-add.ensures.touches c.in-Ok-add.ensures.stands
+    c.requires.tied c.requires.removed c.requires.added (omega (arith, listed)) c.in-Ok.ensures.value c.in-Ok.ensures.touches c.in-Ok-add.ensures.value c.in-Ok-add.ensures.touches c.in-Ok-add.ensures.stands

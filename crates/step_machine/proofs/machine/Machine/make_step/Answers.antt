@@ -12,12 +12,12 @@ pub returns-in-Err-clause-stepped : goal.returns-in-Err-clause-stepped
 returns-in-Err-clause-stepped g c =
     not_settled c.self.inside.system c.args.commands.now c.self.inside.steps c.self.inside.spent c.args.self.now c.self.view_is c.if-self.false c.args.steps.now
     c.judge.new.steps (sym c.judge.ensures.value ∙ c.in_default.is) c.judge.ensures.touches
-    c.in-Err.fault c.settle.new.steps c.in-Err.ensures.unsettled
+    c.in-Err.fault c.settle_unlisted.new.steps c.in-Err.ensures.unsettled
 
 pub returns-clause-stepped : goal.returns-clause-stepped
 returns-clause-stepped g c =
     made c.self.inside.system c.args.commands.now c.self.inside.steps c.self.inside.spent c.args.self.now c.self.view_is c.if-self.false c.args.steps.now
     c.judge.new.steps (sym c.judge.ensures.value ∙ c.in_default.is) c.judge.ensures.touches
-    c.take_turns.new.system c.settle.new.forest c.made.result c.settle.new.steps c.take_turns.new.steps c.in-Ok.ensures.settled c.take_turns.ensures.value c.made.ensures.energy c.made.ensures.halted
+    c.take_turns.new.system c.settle_unlisted.new.forest c.made.result c.settle_unlisted.new.steps c.take_turns.new.steps c.in-Ok.ensures.settled c.take_turns.ensures.value c.made.ensures.energy c.made.ensures.halted
     (formed_on c.self.inside.system c.take_turns.new.system c.args.commands.now (c.self.inside.steps + 1) c.know_step.ensures.well_formed c.in-Ok.ensures.settled.goes c.take_turns.ensures.value)
     c.take_turns.ensures.touches

@@ -1,0 +1,71 @@
+//! A step whose bots are all of one group, which voids a region: nothing else changes, and no voxel is listed.
+ghost use Rattle.std.specs.Prelude.{◌≡◌, ℕ, ◌≤◌, IsTrue, IfOk, IfErr, IfSome, None, false, count_by};
+ghost use Rattle.vox_geom.specs.Space.{IsInSpace};
+ghost use Rattle.nano_spec.specs.Act.{acts, stays_in_space};
+ghost use Rattle.nano_spec.specs.Group.{leaders};
+ghost use Rattle.nano_spec.specs.Rules.{broken as broken_of};
+ghost use Rattle.step_groups.specs.Judging.{act};
+ghost use Rattle.system_state.specs.Turns.{AreTurns};
+ghost use Rattle.step_machine.specs.Edits.{is_edit};
+ghost use Rattle.step_machine.specs.Settling.{IsOnlyRegion, IsRefitted, IsVoidedRegion};
+
+use crate::changes::is_change;
+use nano_spec::{Bot, Command};
+use std::sync::ledger::Ledger;
+use support_forest::Forest;
+use system_state::{System, Turns, edited_region};
+use vox_geom::{Memory, Region, Steps};
+use vox_planes::Planes;
+
+/// The region that the command of a bot voids, where it voids one.
+fn voided_region(matrix: &Planes, bot: &Bot, command: &Command) -> Option<Region>
+    requires within { IsInSpace matrix.now.resolution bot.now.pos }
+    requires stays { IsTrue (stays_in_space matrix.now.resolution (act bot.now command.now)) }
+    ensures { IfSome result (IsVoidedRegion matrix.now (act bot.now command.now)) }
+{
+    if !is_change(command, true) {
+        return None;
+    }
+    let Some(work) = edited_region(matrix.resolution(), *bot, command) else {
+        return None;
+    };
+    Some(Region::of(work.near, work.far))
+}
+
+/// The region that the only group of a step voids, where there is one group and it voids one.
+pub(crate) fn only_region(system: &System, commands: &[Command], turns: &Turns) -> Option<Region>
+    requires judged { (step : ℕ) × (broken_of system.now commands.now step ≡ None) }
+    requires turns { AreTurns (acts system.now.bots commands.now) (leaders (acts system.now.bots commands.now)) turns.now }
+    ensures { IfSome result (IsOnlyRegion system.now commands.now) }
+{
+    let matrix = system.matrix();
+    let bots = system.crew().bots();
+    let list = turns.list();
+    if list.len() != 1 {
+        return None;
+    }
+    let place = usize::from(list[0].place);
+    voided_region(matrix, &bots[place], &commands[place])
+}
+
+/// The forest after the only group of a step voided a region. Memory may be refused.
+pub(crate) fn refit_region<L: Ledger>(
+    system: &System,
+    commands: &[Command],
+    b: &Region,
+    forest: &mut Forest,
+    steps: &mut Steps<L>,
+) -> Result<(), Memory>
+    requires judged { (step : ℕ) × (broken_of system.now commands.now step ≡ None) }
+    requires region { IsOnlyRegion system.now commands.now b.now }
+    requires stands { forest.old.spent ≡ false }
+    requires tied { forest.old.matrix ≡ system.now.matrix }
+    ensures refitted { IfOk result (λ _. IsRefitted system.now commands.now forest.new steps.old steps.new) }
+    ensures edits { IfErr result (λ _. 1 ≤ count_by is_edit commands.now) }
+{
+    let _ = system.crew();
+    match forest.remove_region(b, steps) {
+        Ok(()) => Ok(()),
+        Err(_) => Err(Memory),
+    }
+}
