@@ -9,7 +9,7 @@ use Rattle.support_forest.specs.Directions.{Toward}
 use Rattle.brick_arena.specs.Slots.{HasSlot, start_in_chunk, words_of}
 use Rattle.support_forest.specs.Grid.{Grid, IsStore, StandsAt, brick, side, slot_of, word_at, word_index}
 use Rattle.support_forest.specs.Placing.{IsIndexToward, IsWordToward}
-use Rattle.support_forest.specs.Stretches.{EndsAreFree, IsBrickRow, LieInRow, IsStretch, RowHangsNot, RowIsFree, SideHangsNot, SidesAreFree, WordsHangNot, further, row_start}
+use Rattle.support_forest.specs.Stretches.{EndsAreFree, IsBrickRow, LieInRow, IsStretch, RowHangsNot, RowIsFree, SideHangsNot, SidesAreFree, WordsHangNot, further, whole_row_start}
 use Rattle.support_forest.specs.Taking.{HangsNot}
 use Rattle.support_forest.specs.Words.{AreExact}
 use Rattle.support_forest.proofs.Nearby.{same_slot, stands_beside}
@@ -230,13 +230,13 @@ first_of gone end from count d s b l e =
 
 -- ---- a part of a whole row
 
-row_has : (c : Coord) (k : ℕ) → further c k ≡ further (row_start c) (c.z % 8 + k)
+row_has : (c : Coord) (k : ℕ) → further c k ≡ further (whole_row_start c) (c.z % 8 + k)
 row_has c k = let z : c.z + k ≡ c.z / 8 * 8 + (c.z % 8 + k) = omega arith in λ j. record { x = c.x; y = c.y; z = z j }
 
-part_side : (w : Coord → ℕ) (c : Coord) (n d toward : ℕ) → c.z % 8 + n ≤ 8 → SideHangsNot w (row_start c) 8 d toward → SideHangsNot w c n d toward
+part_side : (w : Coord → ℕ) (c : Coord) (n d toward : ℕ) → c.z % 8 + n ≤ 8 → SideHangsNot w (whole_row_start c) 8 d toward → SideHangsNot w c n d toward
 part_side w c n d toward r h k p l t = h (c.z % 8 + k) p (omega arith) (subst (λ (x : Coord). Toward d x p) (row_has c k) t)
 
-pub part_free : (w : Coord → ℕ) (c : Coord) (n : ℕ) → c.z % 8 + n ≤ 8 → SidesAreFree w (row_start c) 8 → SidesAreFree w c n
+pub part_free : (w : Coord → ℕ) (c : Coord) (n : ℕ) → c.z % 8 + n ≤ 8 → SidesAreFree w (whole_row_start c) 8 → SidesAreFree w c n
 part_free w c n r s = record {
   left = part_side w c n 1 2 r s.left;
   right = part_side w c n 2 1 r s.right;
@@ -245,13 +245,13 @@ part_free w c n r s = record {
   own = λ k l. subst (λ (x : Coord). HangsNot (w x) 6) (sym (row_has c k)) (s.own (c.z % 8 + k) (omega arith));
 }
 
-pub whole_brick_row : (g : Grid) (own : ℕ) (c : Coord) (n : ℕ) → IsBrickRow g own c n → c.z / 8 * 8 + 8 ≤ g.resolution → IsBrickRow g own (row_start c) 8
+pub whole_brick_row : (g : Grid) (own : ℕ) (c : Coord) (n : ℕ) → IsBrickRow g own c n → c.z / 8 * 8 + 8 ≤ g.resolution → IsBrickRow g own (whole_row_start c) 8
 whole_brick_row g own c n b l =
     let z : c.z / 8 * 8 / 8 ≡ c.z / 8 = omega arith in
-    let same : brick (row_start c) ≡ brick c = λ j. record { x = c.x / 8; y = c.y / 8; z = z j } in
+    let same : brick (whole_row_start c) ≡ brick c = λ j. record { x = c.x / 8; y = c.y / 8; z = z j } in
     record {
       some = omega arith;
-      own = sym (same_slot g c (row_start c) (Some own) same (sym b.own));
+      own = sym (same_slot g c (whole_row_start c) (Some own) same (sym b.own));
       row = record {
         within = record { x = b.row.within.x; y = b.row.within.y; z = omega arith };
         last = l;

@@ -46,8 +46,8 @@ abbrev pub SideHangsNot : (Coord → ℕ) → Coord → ℕ → ℕ → ℕ → 
 SideHangsNot w c n d toward = (k : ℕ) (p : Coord) → k < n → Toward d (further c k) p → HangsNot (w p) toward
 
 -- the first voxel of the whole row of a brick in which the voxel lies
-abbrev pub row_start : Coord → Coord
-row_start c = record { x = c.x; y = c.y; z = c.z / 8 * 8 }
+abbrev pub whole_row_start : Coord → Coord
+whole_row_start c = record { x = c.x; y = c.y; z = c.z / 8 * 8 }
 
 -- no neighbour to a side of the row has its parent in a voxel of the row, and no voxel of the row in the next one
 pub record SidesAreFree (w : Coord → ℕ) (c : Coord) (n : ℕ) : Type 0 where

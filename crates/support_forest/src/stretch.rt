@@ -6,7 +6,7 @@ ghost use Rattle.vox_geom.specs.Space.{IsInSpace};
 ghost use Rattle.vox_geom.specs.declared.coordinate.Coord.{Coord};
 ghost use Rattle.brick_arena.specs.Slots.{HasSlot};
 ghost use Rattle.support_forest.specs.Grid.{Grid, word_at};
-ghost use Rattle.support_forest.specs.Stretches.{AreCleared, EndsAreFree, IsBrickRow, IsStretch, LieInRow, RowHangsNot, RowIsFree, SideHangsNot, SidesAreFree, TakesMore, WordsHangNot, row_start};
+ghost use Rattle.support_forest.specs.Stretches.{AreCleared, EndsAreFree, IsBrickRow, IsStretch, LieInRow, RowHangsNot, RowIsFree, SideHangsNot, SidesAreFree, TakesMore, WordsHangNot, whole_row_start};
 ghost use Rattle.support_forest.specs.Words.{AreExact};
 
 use crate::beside::{index_toward, word_near};
@@ -227,7 +227,7 @@ fn are_free<L: Ledger>(
 /// The first voxel of the whole row of a brick in which the voxel lies.
 #[inline(always)]
 fn start_of_row(c: Coord) -> Coord
-    ensures { result ≡ row_start c }
+    ensures { result ≡ whole_row_start c }
 {
     Coord {
         z: c.z / BRICK_SIDE * BRICK_SIDE,
