@@ -159,7 +159,7 @@ fn refit<L: Ledger>(
     }
 }
 
-/// The same, where these voxels are listed only where they are more than one region's: a list of them is not asked for.
+/// The same, where no list is asked for: a region that is all that changes is not listed.
 fn refit_unlisted<L: Ledger>(
     system: &System,
     commands: &[Command],
