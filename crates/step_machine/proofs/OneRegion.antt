@@ -1,5 +1,5 @@
 -- A step with one group, which voids a region.
-use Rattle.std.proofs.Common.{◌≡◌, ℕ, ◌+◌, ◌*◌, ◌≤◌, refl, sym, ◌∙◌, ap, subst, inl, inr, arith, List, [], ◌∷◌, ◌++◌, Bool, true, false, ◌&&◌, length}
+use Rattle.std.proofs.Common.{◌≡◌, ℕ, ◌+◌, ◌*◌, ◌≤◌, refl, sym, ◌∙◌, ap, subst, inl, inr, arith, List, [], ◌∷◌, Bool, true, false, ◌&&◌, length}
 use Rattle.std.specs.Prelude.{IfSome, IsTrue, None, Option, Some, count_by, drop}
 use Rattle.std.specs.Bool.{beq}
 use Rattle.std.proofs.lemmas.List.{append-nil, drop_all}
@@ -117,7 +117,7 @@ module _ (s : State) (commands : List Command) (step : ℕ) (ready : IsReady s) 
   region_refitted old forest before after e v t stands =
       let n = small in
       let lost = lost_is forest.matrix (subst (λ (m : Matrix). IsVoided m forest.matrix (span k)) e v) in
-      is_refitted s commands step ready keeps old forest.matrix forest (edits_of s commands true) [] before (before + 80 * size (span k)) after after e refl (sym filled_none) (omega arith)
+      is_refitted s commands step ready keeps old forest.matrix forest (edits_of s commands true) [] before (before + 90 * size (span k)) after after e refl (sym filled_none) (omega arith)
       (subst (λ (m : Matrix). AreRemoved m forest.matrix (edits_of s commands true)) (sym e) lost)
       (λ first last a b. let u = t first last a b in omega arith)
       (won_none forest.matrix v.whole) (cheap_none forest.matrix forest.matrix after) stands

@@ -13,7 +13,7 @@ use Rattle.support_forest.specs.Stretches.{EndsAreFree, IsBrickRow, LieInRow, Is
 use Rattle.support_forest.specs.Taking.{HangsNot}
 use Rattle.support_forest.specs.Words.{AreExact}
 use Rattle.support_forest.proofs.Nearby.{same_slot, stands_beside}
-use Rattle.support_forest.proofs.Store.{index_below}
+use Rattle.support_forest.proofs.Store.{brick_inside, index_below}
 use Rattle.support_forest.proofs.Writes.{reads_index, reads_none}
 
 -- ---- where a stretch begins
@@ -230,7 +230,7 @@ first_of gone end from count d s b l e =
 
 -- ---- a part of a whole row
 
-row_has : (c : Coord) (k : ℕ) → further c k ≡ further (whole_row_start c) (c.z % 8 + k)
+pub row_has : (c : Coord) (k : ℕ) → further c k ≡ further (whole_row_start c) (c.z % 8 + k)
 row_has c k = let z : c.z + k ≡ c.z / 8 * 8 + (c.z % 8 + k) = omega arith in λ j. record { x = c.x; y = c.y; z = z j }
 
 part_side : (w : Coord → ℕ) (c : Coord) (n d toward : ℕ) → c.z % 8 + n ≤ 8 → SideHangsNot w (whole_row_start c) 8 d toward → SideHangsNot w c n d toward
@@ -245,13 +245,21 @@ part_free w c n r s = record {
   own = λ k l. subst (λ (x : Coord). HangsNot (w x) 6) (sym (row_has c k)) (s.own (c.z % 8 + k) (omega arith));
 }
 
+whole_row_brick : (c : Coord) → brick (whole_row_start c) ≡ brick c
+whole_row_brick c = let z : c.z / 8 * 8 / 8 ≡ c.z / 8 = omega arith in λ j. record { x = c.x / 8; y = c.y / 8; z = z j }
+
+-- what holds of the words of the whole row in the chunk holds of those of its voxels, which may lie beyond space
+pub whole_row_in_slot : (g : Grid) (chunk : List ℕ) (slot index from : ℕ) (c : Coord) (P : ℕ → Type 0) → IsStore g → IsInSpace g.resolution c → slot_of g c ≡ Some slot → HasSlot g.bricks slot chunk → index ≡ word_index (whole_row_start c) → from ≡ start_in_chunk slot + index → ((k : ℕ) → k < 8 → P (get_or chunk (from + k) 0)) → (k : ℕ) → k < 8 → P (word_at g (further (whole_row_start c) k))
+whole_row_in_slot g chunk slot index from c P s w e h i f v =
+    row_in_slot g chunk slot index from 8 (whole_row_start c) P s
+    (subst (λ (x : Coord). IsInSpace (side g.resolution) x) (sym (whole_row_brick c)) (brick_inside g.resolution c w)) (omega arith)
+    (sym (same_slot g c (whole_row_start c) (Some slot) (whole_row_brick c) (sym e))) h i f v
+
 pub whole_brick_row : (g : Grid) (own : ℕ) (c : Coord) (n : ℕ) → IsBrickRow g own c n → c.z / 8 * 8 + 8 ≤ g.resolution → IsBrickRow g own (whole_row_start c) 8
 whole_brick_row g own c n b l =
-    let z : c.z / 8 * 8 / 8 ≡ c.z / 8 = omega arith in
-    let same : brick (whole_row_start c) ≡ brick c = λ j. record { x = c.x / 8; y = c.y / 8; z = z j } in
     record {
       some = omega arith;
-      own = sym (same_slot g c (whole_row_start c) (Some own) same (sym b.own));
+      own = sym (same_slot g c (whole_row_start c) (Some own) (whole_row_brick c) (sym b.own));
       row = record {
         within = record { x = b.row.within.x; y = b.row.within.y; z = omega arith };
         last = l;

@@ -1,6 +1,6 @@
 -- The voxels of an area become void or are listed, part by part.
-use Rattle.std.proofs.Common.{◌≡◌, ◌≢◌, ℕ, ◌+◌, ◌-◌, ◌*◌, ◌%◌, ◌<◌, ◌≤◌, ◌⊎◌, inl, inr, refl, sym, ◌∙◌, ap, subst, arith, List, [], ◌∷◌, ◌++◌, length, length-append, None}
-use Rattle.std.specs.List.{AllPairs, Contains}
+use Rattle.std.proofs.Common.{◌≡◌, ℕ, ◌+◌, ◌-◌, ◌*◌, ◌%◌, ◌<◌, ◌≤◌, ◌⊎◌, inl, inr, refl, sym, ◌∙◌, ap, subst, arith, List, [], ◌∷◌, ◌++◌, length, length-append, None}
+use Rattle.std.specs.List.{Contains}
 use Rattle.std.proofs.lemmas.Bool.{cases_eq, cases_lt}
 use Rattle.std.proofs.lemmas.List.Elements.{Contains-append_left, Contains-push, Contains-push_cases}
 use Rattle.vox_geom.specs.declared.coordinate.Coord.{Coord}
@@ -11,10 +11,10 @@ use Rattle.vox_planes.proofs.Walks.{is_of, of_is}
 use Rattle.support_forest.specs.Grid.{Grid, slot_of, word_at}
 use Rattle.support_forest.specs.Losing.{CanRemove, HaveRemoved}
 use Rattle.support_forest.specs.Regions.{AreVoided, HaveVoided, IsInRegion, IsInRow, IsInWall, IsInWalls}
-use Rattle.support_forest.specs.Stretches.{AreCleared, LieInRow, further}
+use Rattle.support_forest.specs.Stretches.{AreCleared, LieInRow, further, whole_row_start}
 use Rattle.support_forest.specs.Words.{AreExact}
 use Rattle.support_forest.proofs.Each.{changed_since, differ_more, no_member, none_differ}
-use Rattle.support_forest.proofs.Stretches.{row_slot, row_space}
+use Rattle.support_forest.proofs.Stretches.{row_has, row_slot, row_space}
 use Rattle.support_forest.proofs.Writes.{reads_none}
 
 -- the voxels are void as they are
@@ -125,7 +125,7 @@ can_remove_rest old now area n rest more e p = record {
   full = λ c h. elim (p.listed c h) [ inl o ↦ absurd (no_member rest c e o) | inr o ↦ omega (arith, o.1, o.2) ];
 }
 
-pub voided_and_removed : (old now new : Grid) (area : Coord → Type 0) (n : ℕ) (rest more : List Coord) (before steps after : ℕ) → rest ≡ [] → AreVoided old now area n rest more → steps ≤ before + 30 * n → HaveRemoved now new more 50 steps after → HaveVoided old new area n before after
+pub voided_and_removed : (old now new : Grid) (area : Coord → Type 0) (n : ℕ) (rest more : List Coord) (before steps after : ℕ) → rest ≡ [] → AreVoided old now area n rest more → steps ≤ before + 40 * n → HaveRemoved now new more 50 steps after → HaveVoided old new area n before after
 voided_and_removed old now new area n rest more before steps after e p t h = record {
   resolution = h.resolution ∙ p.resolution;
   exact = h.exact;
@@ -188,7 +188,7 @@ wall_before_region old now new k x rest more most h p q =
     (one_more_of k.high.x x (wall_size k) h)
 
 -- steps that a row or a wall adds
-pub more_steps : (high y n before steps after : ℕ) → y ≤ high → steps ≤ before + 30 * ((high + 1 - (y + 1)) * n) → after ≤ steps + 30 * n → after ≤ before + 30 * ((high + 1 - y) * n)
+pub more_steps : (high y n before steps after : ℕ) → y ≤ high → steps ≤ before + 40 * ((high + 1 - (y + 1)) * n) → after ≤ steps + 40 * n → after ≤ before + 40 * ((high + 1 - y) * n)
 more_steps high y n before steps after h s t = let e = one_more_of high y n h in omega (arith, e)
 
 -- ---- the region
@@ -248,3 +248,9 @@ part_at old now first left n rest more e p =
 -- all of a row was looked at
 pub whole_row_at : (old now : Grid) (first : Coord) (left end : ℕ) (rest more : List Coord) → left ≡ first.z → AreVoided old now (IsInRow (row_at first left) (end - left)) (end - left) rest more → AreVoided old now (IsInRow first (end - first.z)) (end - first.z) rest more
 whole_row_at old now first left end rest more e p = subst (λ (k : ℕ). AreVoided old now (IsInRow (row_at first k) (end - k)) (end - k) rest more) e p
+
+-- a part of a row is void where the whole row is
+pub part_void : (g : Grid) (first c : Coord) (n : ℕ) → first.z % 8 + n ≤ 8 → ((k : ℕ) → k < 8 → word_at g (further (whole_row_start first) k) ≡ 0) → IsInRow first n c → word_at g c ≡ 0
+part_void g first c n r z h =
+    let k : c.z - first.z < n = omega arith in
+    ap (word_at g) (row_is first c n h ∙ row_has first (c.z - first.z)) ∙ z (first.z % 8 + (c.z - first.z)) (omega arith)

@@ -1,18 +1,52 @@
 //! Takes away the full voxels of a region, row by row: only those of rows on which others hang are listed.
-ghost use Rattle.std.specs.Prelude.{◌≡◌, ◌+◌, ◌-◌, ◌*◌, ◌<◌, ◌≤◌, IfOk};
+ghost use Rattle.std.specs.Prelude.{◌≡◌, ◌+◌, ◌-◌, ◌*◌, ◌^◌, ◌<◌, ◌≤◌, ℕ, IfOk, Some, length, slice_index, true};
 ghost use Rattle.vox_geom.specs.Region.{size, span};
 ghost use Rattle.vox_geom.specs.Space.{IsInSpace};
 ghost use Rattle.vox_planes.specs.Walk.{wall_size};
-ghost use Rattle.support_forest.specs.Grid.{word_at};
+ghost use Rattle.support_forest.specs.Grid.{slot_of, word_at};
 ghost use Rattle.support_forest.specs.Regions.{AreVoided, IsInRegion, IsInRow, IsInWall};
-ghost use Rattle.support_forest.specs.Stretches.{IsBrickRow, LieInRow};
+ghost use Rattle.support_forest.specs.Stretches.{IsBrickRow, LieInRow, further, whole_row_start};
 ghost use Rattle.support_forest.specs.Words.{AreExact};
 
-use crate::cells::{BRICK_SIDE, Cells};
-use crate::stretch::{clear_row, part_is_free};
+use crate::cells::{BRICK_SIDE, Cells, word_index};
+use crate::stretch::{clear_row, part_is_free, start_of_row};
+use brick_arena::{Chunk, start_in_chunk};
 use std::alloc::AllocError;
 use std::sync::ledger::Ledger;
 use vox_geom::{Coord, Region, Steps};
+
+/// Whether all words of the chunk from one on are 0. All are looked at, so that they can be read at once.
+#[inline(always)]
+fn words_are_void<L: Ledger>(chunk: &Chunk, from: usize, count: u16, steps: &mut Steps<L>) -> bool
+    requires within { from + count ≤ length chunk.now }
+    requires fits { length chunk.now < 2 ^ 32 }
+    ensures void { result ≡ true → (k : ℕ) → k < count → slice_index chunk.now (from + k) ≡ 0 }
+    ensures touches { steps.new ≤ steps.old + count }
+{
+    let mut void = true;
+    for k in 0..count {
+        if chunk.word(from + usize::from(k), steps) == 0 {
+            continue;
+        }
+        void = false;
+    }
+    void
+}
+
+/// Whether the whole row of a brick in which a voxel lies is void. `own` is the slot of the brick.
+#[inline(always)]
+fn row_is_void<L: Ledger>(cells: &Cells, own: u32, c: Coord, steps: &mut Steps<L>) -> bool
+    requires within { IsInSpace cells.now.resolution c }
+    requires own { slot_of cells.now c ≡ Some own }
+    ensures void { result ≡ true → (k : ℕ) → k < 8 → word_at cells.now (further (whole_row_start c) k) ≡ 0 }
+    ensures touches { steps.new ≤ steps.old + 8 }
+{
+    cells.recall();
+    let chunk = cells.chunk(own);
+    let start = start_of_row(c);
+    let from = start_in_chunk(own) + usize::from(word_index(start));
+    words_are_void(chunk, from, BRICK_SIDE, steps)
+}
 
 /// Lists the full voxels of a part of a row, which lies in the brick with this slot.
 fn list_part<L: Ledger>(
@@ -56,11 +90,14 @@ fn take_part<L: Ledger>(
     requires row { LieInRow cells.old first count }
     requires exact { AreExact cells.old.resolution (word_at cells.old) }
     ensures voided { IfOk result (λ _. AreVoided cells.old cells.new (IsInRow first count) count rest.old.items rest.new.items) }
-    ensures touches { IfOk result (λ _. steps.new ≤ steps.old + 30 * count) }
+    ensures touches { IfOk result (λ _. steps.new ≤ steps.old + 40 * count) }
 {
     let Some(own) = cells.slot(first) else {
         return Ok(());
     };
+    if row_is_void(cells, own, first, steps) {
+        return Ok(());
+    }
     if part_is_free(cells, own, first, count, steps) {
         clear_row(cells, own, first, count, steps);
         return Ok(());
@@ -81,7 +118,7 @@ fn take_row<L: Ledger>(
     requires end { end ≤ cells.old.resolution }
     requires exact { AreExact cells.old.resolution (word_at cells.old) }
     ensures voided { IfOk result (λ _. AreVoided cells.old cells.new (IsInRow first (end - first.z)) (end - first.z) rest.old.items rest.new.items) }
-    ensures touches { IfOk result (λ _. steps.new ≤ steps.old + 30 * (end - first.z)) }
+    ensures touches { IfOk result (λ _. steps.new ≤ steps.old + 40 * (end - first.z)) }
 {
     let mut left = end;
     while left > first.z {
@@ -104,7 +141,7 @@ fn take_wall<L: Ledger>(
     requires high { x ≤ b.now.high.x }
     requires exact { AreExact cells.old.resolution (word_at cells.old) }
     ensures voided { IfOk result (λ _. AreVoided cells.old cells.new (IsInWall b.now x b.now.low.y) (wall_size b.now) rest.old.items rest.new.items) }
-    ensures touches { IfOk result (λ _. steps.new ≤ steps.old + 30 * wall_size b.now) }
+    ensures touches { IfOk result (λ _. steps.new ≤ steps.old + 40 * wall_size b.now) }
 {
     cells.recall();
     let low = b.low();
@@ -127,7 +164,7 @@ pub fn take_region<L: Ledger>(
     requires within { IsInSpace cells.old.resolution b.now.high }
     requires exact { AreExact cells.old.resolution (word_at cells.old) }
     ensures voided { IfOk result (λ _. AreVoided cells.old cells.new (IsInRegion b.now) (size (span b.now)) rest.old.items rest.new.items) }
-    ensures touches { IfOk result (λ _. steps.new ≤ steps.old + 30 * size (span b.now)) }
+    ensures touches { IfOk result (λ _. steps.new ≤ steps.old + 40 * size (span b.now)) }
 {
     cells.recall();
     let low = b.low();

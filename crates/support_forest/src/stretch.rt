@@ -226,7 +226,7 @@ fn are_free<L: Ledger>(
 
 /// The first voxel of the whole row of a brick in which the voxel lies.
 #[inline(always)]
-fn start_of_row(c: Coord) -> Coord
+pub fn start_of_row(c: Coord) -> Coord
     ensures { result ≡ whole_row_start c }
 {
     Coord {

@@ -1,6 +1,5 @@
-use Rattle.std.proofs.Common.{◌≡◌, ℕ, ◌+◌, ◌-◌, ◌*◌, ◌<◌, ◌≤◌, ◌∙◌, ap, arith, subst, sym}
+use Rattle.std.proofs.Common.{◌≡◌, ℕ, ◌+◌, ◌-◌, ◌*◌, ◌<◌, ◌≤◌, ap, arith, subst, sym}
 use Rattle.vox_geom.specs.declared.coordinate.Coord.{Coord}
-use Rattle.vox_geom.specs.Region.{size, span}
 use Rattle.vox_planes.proofs.Walks.{size-walls}
 use Rattle.vox_planes.specs.Walk.{wall_size}
 use Rattle.support_forest.specs.Regions.{AreVoided, IsInRegion, IsInWalls}
@@ -16,7 +15,7 @@ loop-x-preserved g c =
     let m : c.loop-x.x ≤ k.high.x + 1 = i.1.0 in
     let x = c.loop-x.x - 1 in
     let e : c.loop-x.x ≡ x + 1 = omega arith in
-    let s : c.loop-x.steps ≤ c.args.steps.now + 30 * ((k.high.x + 1 - (x + 1)) * wall_size k) = subst (λ (n : ℕ). c.loop-x.steps ≤ c.args.steps.now + 30 * ((k.high.x + 1 - n) * wall_size k)) e i.1.1.0 in (
+    let s : c.loop-x.steps ≤ c.args.steps.now + 40 * ((k.high.x + 1 - (x + 1)) * wall_size k) = subst (λ (n : ℕ). c.loop-x.steps ≤ c.args.steps.now + 40 * ((k.high.x + 1 - n) * wall_size k)) e i.1.1.0 in (
       omega arith,
       (
         omega arith,
@@ -48,5 +47,5 @@ returns-clause-touches g c =
     let l : k.low.x ≤ c.loop-x.x = i.0 in
     let e : c.loop-x.x ≡ k.low.x = omega (arith, low, c.loop-x-test.false) in
     let w = size-walls k c.low-low.ensures.ordered in
-    let s : c.loop-x.steps ≤ c.args.steps.now + 30 * ((k.high.x + 1 - k.low.x) * wall_size k) = subst (λ (n : ℕ). c.loop-x.steps ≤ c.args.steps.now + 30 * ((k.high.x + 1 - n) * wall_size k)) e i.1.1.0 in
-    subst (λ (n : ℕ). c.loop-x.steps ≤ c.args.steps.now + 30 * n) (sym w) s
+    let s : c.loop-x.steps ≤ c.args.steps.now + 40 * ((k.high.x + 1 - k.low.x) * wall_size k) = subst (λ (n : ℕ). c.loop-x.steps ≤ c.args.steps.now + 40 * ((k.high.x + 1 - n) * wall_size k)) e i.1.1.0 in
+    subst (λ (n : ℕ). c.loop-x.steps ≤ c.args.steps.now + 40 * n) (sym w) s

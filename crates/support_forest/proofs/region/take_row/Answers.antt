@@ -1,7 +1,5 @@
-use Rattle.std.proofs.Common.{◌≡◌, ℕ, ◌+◌, ◌-◌, ◌%◌, ◌≤◌, arith, subst, sym}
-use Rattle.support_forest.specs.Grid.{word_at}
+use Rattle.std.proofs.Common.{◌≡◌, ℕ, ◌+◌, ◌-◌, ◌≤◌, arith, subst}
 use Rattle.support_forest.specs.Regions.{AreVoided, IsInRow}
-use Rattle.support_forest.specs.Words.{AreExact}
 use Rattle.support_forest.proofs.Voiding.{part_before_row, part_in_row, row_at, voided_already, whole_row_at}
 use Rattle.support_forest.proofs.region.take_row.Goals as goal
 

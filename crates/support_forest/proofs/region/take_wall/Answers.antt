@@ -2,7 +2,7 @@ use Rattle.std.proofs.Common.{◌≡◌, ℕ, ◌+◌, ◌-◌, ◌*◌, ◌<◌
 use Rattle.vox_geom.specs.declared.coordinate.Coord.{Coord}
 use Rattle.vox_planes.specs.Walk.{row_size}
 use Rattle.support_forest.specs.Regions.{AreVoided, IsInWall}
-use Rattle.support_forest.proofs.Voiding.{more_steps, row_before_wall, row_of_region, voided_already}
+use Rattle.support_forest.proofs.Voiding.{more_steps, row_before_wall, row_of_region}
 use Rattle.support_forest.proofs.region.take_wall.Goals as goal
 
 pub loop-y-preserved : goal.loop-y-preserved
@@ -16,8 +16,8 @@ loop-y-preserved g c =
     let e : c.loop-y.y ≡ y + 1 = omega arith in
     let z = ap (λ (p : Coord). p.z) c.low-low.ensures.value in
     let h = ap (λ (p : Coord). p.z) c.high-high.ensures.value in
-    let s : c.loop-y.steps ≤ c.args.steps.now + 30 * ((k.high.y + 1 - (y + 1)) * row_size k) = subst (λ (n : ℕ). c.loop-y.steps ≤ c.args.steps.now + 30 * ((k.high.y + 1 - n) * row_size k)) e i.1.1.0 in
-    let u : c.take_row.new.steps ≤ c.loop-y.steps + 30 * row_size k = omega (arith, z, h, c.in_ok-take_row.ensures.touches) in
+    let s : c.loop-y.steps ≤ c.args.steps.now + 40 * ((k.high.y + 1 - (y + 1)) * row_size k) = subst (λ (n : ℕ). c.loop-y.steps ≤ c.args.steps.now + 40 * ((k.high.y + 1 - n) * row_size k)) e i.1.1.0 in
+    let u : c.take_row.new.steps ≤ c.loop-y.steps + 40 * row_size k = omega (arith, z, h, c.in_ok-take_row.ensures.touches) in
     let o = c.low-low.ensures.ordered.z in (
       omega arith,
       (

@@ -1,4 +1,4 @@
-use Rattle.std.proofs.Common.{◌≡◌, ◌+◌, ◌-◌, Bool, Some, arith, false, not, refl, sym, true}
+use Rattle.std.proofs.Common.{◌≡◌, ◌-◌, Bool, Some, arith, false, not, refl, sym, true}
 use Rattle.support_forest.specs.Grid.{word_at}
 use Rattle.support_forest.proofs.Stretches.{end_free, far_free, row_slot}
 use Rattle.support_forest.proofs.stretch.ends_are_free.Goals as goal

@@ -1,4 +1,4 @@
-use Rattle.std.proofs.Common.{◌≡◌, ◌+◌, arith}
+use Rattle.std.proofs.Common.{◌+◌, arith}
 use Rattle.support_forest.specs.Taking.{HangsNot}
 use Rattle.support_forest.proofs.Store.{brick_inside}
 use Rattle.support_forest.proofs.Stretches.{row_in_chunk, row_in_slot}

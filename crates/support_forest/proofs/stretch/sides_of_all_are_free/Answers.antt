@@ -1,7 +1,7 @@
-use Rattle.std.proofs.Common.{◌≡◌, ℕ, ◌+◌, ◌*◌, ◌/◌, ◌≤◌, ap, arith, subst, sym}
+use Rattle.std.proofs.Common.{◌≡◌, ◌+◌, ◌*◌, ◌/◌, ◌≤◌, ap, arith, subst, sym}
 use Rattle.vox_geom.specs.declared.coordinate.Coord.{Coord}
 use Rattle.support_forest.specs.Grid.{word_at}
-use Rattle.support_forest.specs.Stretches.{IsBrickRow, SidesAreFree, whole_row_start}
+use Rattle.support_forest.specs.Stretches.{IsBrickRow, SidesAreFree}
 use Rattle.support_forest.proofs.Stretches.{part_free, whole_brick_row}
 use Rattle.support_forest.proofs.stretch.sides_of_all_are_free.Goals as goal
 
