@@ -85,6 +85,14 @@ impl Crew {
         self.bots.as_slice()
     }
 
+    /// Does nothing: it recalls what the bots keep.
+    #[inline(always)]
+    pub fn know(&self)
+        ensures crew { IsCrew self.now }
+    {
+        let _ = &self.bots;
+    }
+
     /// How many bots are active.
     pub fn count(&self) -> u8
         ensures value { result ≡ length self.now }

@@ -29,7 +29,7 @@ fn closed(mut tape: Tape, target: &Planes) -> Result<Plan, Memory>
     requires swept { IsSweptTo tape target.now target.now.resolution 0 }
     ensures accepted { IfOk result (λ plan. IsAccepted (empty target.now.resolution) target.now plan.commands full_profile plan.energy plan.steps) }
 {
-    let _ = target.resolution();
+    target.know();
     tape.go(Coord { x: 0, y: 0, z: 0 })?;
     tape.flip()?;
     tape.halt()?;

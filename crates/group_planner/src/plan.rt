@@ -39,7 +39,7 @@ fn rebuild(tape: &mut Tape, source: &Planes, target: &Planes, low: u16) -> Resul
     ensures source { OnOk result (tape.new.source ≡ source.now) }
     ensures rebuilt { OnOk result (PairHasRebuilt tape.new target.now) }
 {
-    let _ = source.resolution();
+    source.know();
     clear(tape, source, low)?;
     build(tape, target, low)?;
     Ok(())
@@ -55,7 +55,7 @@ fn closed(mut tape: Tape, target: &Planes) -> Result<Plan, Memory>
     ensures commands { IfOk result (λ plan. length plan.commands ≤ 2 * plan.steps) }
     ensures bytes { IfOk result (λ plan. length (spellings plan.commands) ≤ 4 * plan.steps + 4 * (runs tape.source + runs target.now)) }
 {
-    let _ = target.resolution();
+    target.know();
     tape.know_whole();
     gather(&mut tape)?;
     tape.go(Coord { x: 0, y: 0, z: 0 })?;

@@ -43,7 +43,7 @@ fn rebuild(tape: &mut Tape, nothing: &Planes, target: &Planes, low: u16) -> Resu
     ensures source { OnOk result (tape.new.source ≡ tape.old.source) }
     ensures rebuilt { OnOk result (IsRebuilt tape.new target.now) }
 {
-    let _ = target.resolution();
+    target.know();
     clear(tape, nothing, low)?;
     build(tape, target, low)?;
     Ok(())
@@ -56,7 +56,7 @@ fn closed(mut tape: Tape, target: &Planes) -> Result<Plan, Memory>
     ensures accepted { IfOk result (λ plan. IsAccepted tape.source target.now plan.commands full_profile plan.energy plan.steps) }
     ensures bytes { IfOk result (λ plan. length (spellings plan.commands) ≤ 8 * target.now.resolution * target.now.resolution * target.now.resolution + 200) }
 {
-    let _ = target.resolution();
+    target.know();
     tape.know_whole();
     tape.go(Coord { x: 0, y: 0, z: 0 })?;
     tape.flip()?;

@@ -53,7 +53,7 @@ pub fn build(tape: &mut Tape, sweep: &mut Sweep, target: &Planes) -> Result<(), 
     requires built { IsBuilt target.now sweep.old tape.old }
     ensures { OnOk result (IsFinished target.now tape.new) }
 {
-    let _ = target.resolution();
+    target.know();
     while let Some(visit) = sweep.next(target)? {
         match visit {
             Visit::First(c) => fill(tape, c)?,

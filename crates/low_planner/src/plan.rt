@@ -49,7 +49,7 @@ fn closed(mut tape: Tape, target: &Planes) -> Result<Plan, Memory>
     ensures steps { IfOk result (λ plan. plan.steps ≤ 4 * full_count target.now + target.now.resolution * target.now.resolution * target.now.resolution + 200) }
     ensures halt_alone { IsEmpty target.now → IfOk result (λ plan. plan.commands ≡ Command.Halt ∷ []) }
 {
-    let _ = target.resolution();
+    target.know();
     go(&mut tape, Coord { x: 0, y: 0, z: 0 })?;
     tape.halt()?;
     Ok(tape.finish())

@@ -41,7 +41,7 @@ pub fn advance(system: &mut System, turns: &mut Turns, commands: &[Command])
 {
     a_step_changes_the_energy_by_little();
     know_all(commands);
-    let _ = (system.matrix().resolution(), system.crew().count());
+    system.know();
     advance_in::<Brand>(system, turns, commands, Blank::new(1));
-    let _ = (system.matrix().resolution(), system.crew().count());
+    system.know();
 }

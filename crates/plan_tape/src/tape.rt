@@ -28,7 +28,7 @@ use crate::axis::{Axis, cost_of_way, moves_to, push_leg};
 use crate::costs::{charged, upkeep_of_steps};
 use crate::several::advance;
 use crate::voxels::is_full;
-use bot_crew::{Crew, crew_is_ready};
+use bot_crew::Crew;
 use nano_spec::{Command, CommandList, Harmonics, Profile};
 use std::alloc::Global;
 use std::marker::Model;
@@ -229,7 +229,7 @@ impl Tape {
     pub fn know_whole(&self)
         ensures whole { IsWhole self.now.matrix }
     {
-        let _ = self.matrix();
+        self.system.know();
     }
 
     /// The state is ready for a step.
@@ -237,10 +237,7 @@ impl Tape {
         ensures ready { IsReady (state_of self.now) }
         ensures held { IsHeld self.now.harmonics self.now.matrix }
     {
-        crew_is_ready();
-        let _ = self.matrix().resolution();
-        let _ = self.crew().bots();
-        let _ = self.harmonics();
+        self.system.know();
     }
 
     /// Each bot waits or makes a move along an axis. The ways are free, and lie apart.

@@ -116,7 +116,7 @@ impl Debugger {
         ensures { IsSomeAnd (middle_state self.now.commands self.now.session) (λ m. result.now ≡ m.bots) }
     {
         some_groups();
-        let _ = self.machine.crew();
+        self.machine.know();
         &self.middle
     }
 
@@ -128,7 +128,7 @@ impl Debugger {
         ensures touches { steps.new ≤ steps.old + 1 }
     {
         some_groups();
-        let _ = self.machine.crew();
+        self.machine.know();
         if self.begun.is_empty() {
             return self.machine.matrix().full_at(c, steps);
         }
@@ -180,7 +180,7 @@ impl Debugger {
         requires all { length (next_of self.now.commands self.now.session.point) ≡ length self.now.session.point.state.bots }
         ensures { IsPermutation (next_leaders self.now.commands self.now.session.point) result.items }
     {
-        let _ = self.machine.crew().bots();
+        self.machine.know();
         if self.begun.is_empty() {
             let count = self.machine.active();
             return self
@@ -286,7 +286,7 @@ impl Debugger {
         ensures differ { (bid : ℕ) → count_by (λ k. k == bid) (next_leaders self.now.commands self.now.session.point) ≤ 1 }
         ensures few { length self.now.session.begun + length result.items ≤ MOST_BOTS }
     {
-        let _ = self.machine.crew().bots();
+        self.machine.know();
         if self.begun.is_empty() {
             let count = self.machine.active();
             return self
@@ -311,7 +311,7 @@ impl Debugger {
         ensures { self.new ≡ record self.old { session = record self.old.session { begun = self.old.session.begun ++ leader ∷ [] } } }
     {
         groups_take_turns();
-        let _ = self.machine.crew();
+        self.machine.know();
         let count = self.machine.active();
         let next = next_commands(self.commands.as_slice(), self.taken, count);
         let system = self.machine.system();

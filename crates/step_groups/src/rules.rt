@@ -97,15 +97,14 @@ pub(crate) fn breaks(step: u32, bot: Bot, rule: Rule, at: Coord) -> Broken
     }
 }
 
-/// Where a bot with `SMove` gets to, or the first rule that it breaks. `by_ends`: whether the two voxels of a way by one are
-/// looked at before any box is made, which costs more where the caller makes a box of the way.
+/// Where a bot with `SMove` gets to, or the first rule that it breaks. Where most ways are by one, `tries_by_one` saves their search.
 #[inline(always)]
 pub(crate) fn end_of_move<L: Ledger>(
     planes: &Planes,
     step: u32,
     bot: Bot,
     d: Diff,
-    by_ends: bool,
+    tries_by_one: bool,
     steps: &mut Steps<L>,
 ) -> Result<Coord, Broken>
     requires { IsInSpace planes.now.resolution bot.pos }
@@ -117,7 +116,7 @@ pub(crate) fn end_of_move<L: Ledger>(
     let Some(to) = reached(planes, bot.pos, d) else {
         return Err(breaks(step, bot, Rule::OutOfSpace, bot.pos));
     };
-    if is_clear_step(planes, bot.pos, to, d, by_ends, steps) {
+    if is_clear_by_one(planes, bot.pos, to, d, tries_by_one, steps) {
         return Ok(to);
     }
     match planes.region_full(&Region::of(bot.pos, to), steps) {
@@ -126,14 +125,14 @@ pub(crate) fn end_of_move<L: Ledger>(
     }
 }
 
-/// Whether a way is one by one coordinate whose two voxels are void, where that is to be looked at.
+/// Whether a way is by one coordinate and its two voxels are void, where that is tried: then no row is searched.
 #[inline(always)]
-fn is_clear_step<L: Ledger>(
+fn is_clear_by_one<L: Ledger>(
     planes: &Planes,
     from: Coord,
     to: Coord,
     d: Diff,
-    by_ends: bool,
+    tried: bool,
     steps: &mut Steps<L>,
 ) -> bool
     requires from { IsInSpace planes.now.resolution from }
@@ -143,7 +142,7 @@ fn is_clear_step<L: Ledger>(
         → find (λ c. is_full planes.now c && is_within (span (corners from to)) (point c)) (all_of planes.now) ≡ None }
     ensures touches { steps.new ≤ steps.old + size (span (corners from to)) }
 {
-    if !by_ends {
+    if !tried {
         return false;
     }
     if d.mlen() != 1 {

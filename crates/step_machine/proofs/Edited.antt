@@ -142,7 +142,7 @@ module _ (s : State) (d : Diff) (at : Coord) (full : Bool) (commands : List Comm
     won_as : (now : List Coord) → now ≡ cond (full && not was) (at ∷ []) [] → now ≡ edits_of s commands false
     won_as now e = added_are was (at ∷ []) now found refl e
 
-    paid_for : (before listed : ℕ) → listed ≡ before + 1 → listed ≤ before + 90 * volatile_total s.matrix (acts s.bots commands)
+    paid_for : (before listed : ℕ) → listed ≡ before + 1 → listed ≤ before + 96 * volatile_total s.matrix (acts s.bots commands)
     paid_for before listed l = let v = one_volatile step ready keeps in omega (arith, v, l)
 
     -- the voxel may become full, or else void, where it is otherwise

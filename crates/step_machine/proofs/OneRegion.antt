@@ -117,7 +117,7 @@ module _ (s : State) (commands : List Command) (step : ℕ) (ready : IsReady s) 
   region_refitted old forest before after e v t stands =
       let n = small in
       let lost = lost_is forest.matrix (subst (λ (m : Matrix). IsVoided m forest.matrix (span k)) e v) in
-      is_refitted s commands step ready keeps old forest.matrix forest (edits_of s commands true) [] before (before + 90 * size (span k)) after after e refl (sym filled_none) (omega arith)
+      is_refitted s commands step ready keeps old forest.matrix forest (edits_of s commands true) [] before (before + 96 * size (span k)) after after e refl (sym filled_none) (omega arith)
       (subst (λ (m : Matrix). AreRemoved m forest.matrix (edits_of s commands true)) (sym e) lost)
       (λ first last a b. let u = t first last a b in omega arith)
       (won_none forest.matrix v.whole) (cheap_none forest.matrix forest.matrix after) stands

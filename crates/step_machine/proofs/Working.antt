@@ -112,10 +112,10 @@ module _ (s : State) (commands : List Command) (step : ℕ) (ready : IsReady s) 
       by c (inr i) = in_filter (differ_at s.matrix (matrix_after s.matrix (acts s.bots commands))) c (all_of s.matrix) (in_coordinates s.matrix.resolution c (cell_of s (acts s.bots commands) good false c i).0) (won_differs c i)
 
   -- the touches of the list, of what is removed and of what is added
-  pub refit_touches : (between new : Matrix) (front back : List Coord) (before listed middle after n : ℕ) → between ≡ without_voided s.matrix (acts s.bots commands) → new ≡ matrix_after s.matrix (acts s.bots commands) → front ≡ edits_of s commands true → back ≡ edits_of s commands false → listed ≤ before + 90 * volatile_total s.matrix (acts s.bots commands)
+  pub refit_touches : (between new : Matrix) (front back : List Coord) (before listed middle after n : ℕ) → between ≡ without_voided s.matrix (acts s.bots commands) → new ≡ matrix_after s.matrix (acts s.bots commands) → front ≡ edits_of s commands true → back ≡ edits_of s commands false → listed ≤ before + 96 * volatile_total s.matrix (acts s.bots commands)
       → ((first last : List (Option ℕ)) → Levels s.matrix first → Levels between last → middle ≤ listed + 100 * (length front + differing first last))
       → ((first last : List (Option ℕ)) → Levels between first → Levels new last → after ≤ middle + 100 * (length back + differing first last))
-      → WorkOfActs s.matrix (acts s.bots commands) n → after + 10 * volatile_total s.matrix (acts s.bots commands) ≤ before + 100 * n
+      → WorkOfActs s.matrix (acts s.bots commands) n → after + 4 * volatile_total s.matrix (acts s.bots commands) ≤ before + 100 * n
   refit_touches between new front back before listed middle after n b a f g l lose win w =
       let levels = w.0 in
       let lost = lose levels.before levels.between levels.before_are (subst (λ (m : Matrix). Levels m levels.between) (sym b) levels.between_are) in

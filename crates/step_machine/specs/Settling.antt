@@ -23,10 +23,10 @@ use Rattle.step_machine.specs.Edits.{edit_count, is_edit, is_edited}
 use Rattle.step_machine.specs.declared.machine.StepFault.{StepFault}
 use Rattle.step_machine.specs.declared.machine.StepFault.TheVariants as fault
 
--- each touch is paid for by a hundredth of the step's work, in which each volatile coordinate still leaves 10
+-- each touch is paid for by a hundredth of the step's work, in which each volatile coordinate still leaves 4
 abbrev pub IsPaidBy : State → List Command → ℕ → ℕ → Type 0
 IsPaidBy s commands began ended =
-    (n : ℕ) → WorkOfActs s.matrix (acts s.bots commands) n → ended + 10 * volatile_total s.matrix (acts s.bots commands) ≤ began + 100 * n
+    (n : ℕ) → WorkOfActs s.matrix (acts s.bots commands) n → ended + 4 * volatile_total s.matrix (acts s.bots commands) ≤ began + 100 * n
 
 -- the step is one of the only bot, which fills the voxel at the coordinate, or else voids it
 pub record IsOneEdit (s : State) (commands : List Command) (d : Diff) (at : Coord) (full : Bool) : Type 0 where

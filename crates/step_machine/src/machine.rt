@@ -24,6 +24,7 @@ mod noted;
 use crate::MOST_CHANGED;
 use crate::order::take_turns;
 use crate::support::settle_unlisted;
+pub(crate) use alone::Tried;
 use arrayvec::ArrayVec;
 use bot_crew::{Crew, MOST_BOTS};
 use energy_sum::a_step_changes_the_energy_by_little;
@@ -89,7 +90,7 @@ fn know_step(system: &System, commands: &[Command])
     a_step_changes_the_energy_by_little();
     stays_well_formed();
     know_all(commands);
-    let _ = (system.matrix().resolution(), system.crew().count());
+    system.know();
 }
 
 /// What a step answers that leads to the system's state.
@@ -120,7 +121,7 @@ impl Machine {
     {
         opening_is_ready();
         ready_and_well_formed();
-        let _ = source.resolution();
+        source.know();
         let forest = Forest::of(alloc, &source, steps)?;
         let changed = ChangeList::with_room(alloc, MOST_CHANGED)?;
         let system = System::opening(source, profile);
@@ -209,7 +210,7 @@ impl Machine {
         ensures serial { IfOk result (λ _. serial self.old.state commands.now order.now ≡ Some self.new.state) }
     {
         every_order();
-        let _ = self.crew();
+        self.know();
         self.make_step(commands, Some(order), steps)
     }
 
@@ -262,6 +263,15 @@ impl Machine {
         take_turns(&mut self.system, commands, &mut self.turns, order, steps);
         self.steps = step;
         Ok(made(&self.system))
+    }
+
+    /// Does nothing: it recalls what the state keeps. Its bots are a crew, and it is ready for a step.
+    #[inline(always)]
+    pub fn know(&self)
+        ensures crew { IsCrew self.now.state.bots }
+        ensures ready { IsReady self.now.state }
+    {
+        self.system.know();
     }
 
     /// How many bots are active.

@@ -70,7 +70,7 @@ fn take<L: Ledger>(
     ensures stays { IfNone result (machine.new ≡ machine.old) }
     ensures untouched { IfNone result (steps.new ≡ steps.old) }
 {
-    let _ = machine.crew();
+    machine.know();
     pending.push(command);
     if pending.as_slice().len() < usize::from(machine.active()) {
         return None;

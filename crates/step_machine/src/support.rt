@@ -42,7 +42,7 @@ fn remove<L: Ledger>(
     ensures touches { IfOk result (λ _. IsCheap forest.old.matrix forest.new.matrix cells.now 100 steps.old steps.new) }
     ensures some { IfErr result (λ _. 1 ≤ length cells.now) }
 {
-    let _ = forest.spent();
+    forest.know();
     if cells.is_empty() {
         return Ok(());
     }
@@ -62,7 +62,7 @@ fn add<L: Ledger>(forest: &mut Forest, cells: &[Coord], steps: &mut Steps<L>) ->
     ensures stands { IfOk result (λ _. forest.new.spent ≡ false) }
     ensures some { IfErr result (λ _. 1 ≤ length cells.now) }
 {
-    let _ = forest.spent();
+    forest.know();
     if !cells.is_empty() {
         return match forest.add(cells, steps) {
             Ok(()) => Ok(()),
@@ -90,7 +90,7 @@ fn list_edits<L: Ledger>(
     ensures room { MOST_CHANGED ≤ list.new.spare + length list.new.items }
     ensures touches { steps.new ≤ steps.old + volatile_total system.now.matrix (acts system.now.bots commands.now) }
 {
-    let _ = system.crew();
+    system.know();
     list.clear();
     list_changes(system, commands, turns, true, list, steps);
     let voided = list.as_slice().len();
@@ -119,7 +119,7 @@ fn refit_cells<L: Ledger>(
         → IsRefitted system.now commands.now forest.new before steps.new) }
     ensures edits { IfErr result (λ _. 1 ≤ count_by is_edit commands.now) }
 {
-    let _ = system.crew();
+    system.know();
     match remove(forest, removed, steps) {
         Ok(()) => {}
         Err(Memory) => return Err(Memory),
@@ -232,7 +232,7 @@ fn refit_one<L: Ledger>(
     ensures refitted { IfOk result (λ _. IsRefitted system.now commands.now forest.new steps.old steps.new) }
     ensures was { IfOk result (λ was. was ≡ is_full system.now.matrix at) }
 {
-    let _ = system.crew();
+    system.know();
     let was = system.matrix().full_at(at, steps);
     if was == full {
         return Ok(was);

@@ -99,7 +99,7 @@ pub(crate) fn settle_noted<L: Ledger>(
     ensures note { IfOk result (λ undo. IsNote system.now commands.now step undo) }
     ensures room { MOST_CHANGED ≤ list.new.spare + length list.new.items }
 {
-    let _ = (system.crew().count(), system.matrix().resolution());
+    system.know();
     let voided = settle(system, commands, step, turns, list, forest, steps)?;
     match note(alloc, system, step - 1, list.as_slice(), voided) {
         Ok(undo) => Ok(undo),

@@ -125,7 +125,7 @@ can_remove_rest old now area n rest more e p = record {
   full = λ c h. elim (p.listed c h) [ inl o ↦ absurd (no_member rest c e o) | inr o ↦ omega (arith, o.1, o.2) ];
 }
 
-pub voided_and_removed : (old now new : Grid) (area : Coord → Type 0) (n : ℕ) (rest more : List Coord) (before steps after : ℕ) → rest ≡ [] → AreVoided old now area n rest more → steps ≤ before + 40 * n → HaveRemoved now new more 50 steps after → HaveVoided old new area n before after
+pub voided_and_removed : (old now new : Grid) (area : Coord → Type 0) (n : ℕ) (rest more : List Coord) (before steps after : ℕ) → rest ≡ [] → AreVoided old now area n rest more → steps ≤ before + 40 * n → HaveRemoved now new more 56 steps after → HaveVoided old new area n before after
 voided_and_removed old now new area n rest more before steps after e p t h = record {
   resolution = h.resolution ∙ p.resolution;
   exact = h.exact;

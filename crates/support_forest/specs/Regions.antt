@@ -41,4 +41,4 @@ pub record HaveVoided (old new : Grid) (area : Coord → Type 0) (n before after
   pub full : (c : Coord) → 0 < word_at new c → 0 < word_at old c
   pub voided : (c : Coord) → area c → word_at new c ≡ 0
   pub kept : (c : Coord) → 0 < word_at old c → (0 < word_at new c) ⊎ area c
-  pub cost : after ≤ before + 90 * n + 68 * changed old.resolution (word_at old) (word_at new)
+  pub cost : after ≤ before + 96 * n + 68 * changed old.resolution (word_at old) (word_at new)

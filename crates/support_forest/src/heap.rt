@@ -227,7 +227,7 @@ fn stack_part<L: Ledger>(
     ensures heaped { IfOk result (λ _. IsHeaped planes.now cells.new (place_of planes.now.resolution first + count) rest.new.items) }
     ensures touches { IfOk result (λ _. steps.new ≤ steps.old + 8 * count) }
 {
-    let _ = planes.resolution();
+    planes.know();
     if bits % 256 == 0 {
         return Ok(());
     }
@@ -340,7 +340,7 @@ pub fn fill_cells<L: Ledger>(
     ensures matrix { IfOk result (λ _. matrix_of cells.new ≡ planes.now) }
     ensures touches { IfOk result (λ _. steps.new ≤ steps.old + 91 * volume planes.now.resolution) }
 {
-    let _ = planes.resolution();
+    planes.know();
     let mut rest = lists.take_rest(alloc);
     stack_all(cells, planes, &mut rest, steps)?;
     add_cells(alloc, cells, rest.as_slice(), lists, steps)?;

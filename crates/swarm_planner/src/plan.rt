@@ -23,7 +23,7 @@ fn opened(alloc: Global, nothing: Planes) -> Result<Tape, Memory>
     requires void { IsVoidFrom nothing 0 }
     ensures { IfOk result (λ t. SwarmIsOpened t nothing) }
 {
-    let _ = nothing.resolution();
+    nothing.know();
     let mut tape = Tape::start_as(alloc, nothing, Profile::light())?;
     tape.flip()?;
     tape.go(Coord { x: 1, y: 1, z: 0 })?;
@@ -38,7 +38,7 @@ fn erect(alloc: Global, tape: &mut Tape, target: &Planes) -> Result<(), Memory>
     ensures source { OnOk result (tape.new.source ≡ tape.old.source) }
     ensures erected { OnOk result (IsErected tape.new target.now) }
 {
-    let _ = target.resolution();
+    target.know();
     spread(alloc, tape)?;
     build(alloc, tape, target)?;
     gather(alloc, tape)?;
@@ -56,7 +56,7 @@ fn closed(mut tape: Tape, target: &Planes) -> Result<Plan, Memory>
         (λ plan. plan.steps ≤ 4 * width target.now.resolution * target.now.resolution * target.now.resolution + 8 * target.now.resolution + 2000) }
 {
     seeds_bound_the_bots();
-    let _ = target.resolution();
+    target.know();
     tape.know_whole();
     tape.go(Coord { x: 0, y: 0, z: 0 })?;
     tape.flip()?;
@@ -73,7 +73,7 @@ fn only_halt(alloc: Global, nothing: Planes) -> Result<Plan, Memory>
     ensures steps { IfOk result (λ plan. plan.steps ≡ 1) }
 {
     seeds_bound_the_bots();
-    let _ = nothing.resolution();
+    nothing.know();
     let mut tape = Tape::start_as(alloc, nothing, Profile::light())?;
     tape.halt()?;
     Ok(tape.finish())
@@ -90,8 +90,8 @@ fn planned(alloc: Global, nothing: Planes, target: &Planes) -> Result<Plan, Memo
     ensures steps { IfOk result
         (λ plan. plan.steps ≤ 4 * width target.now.resolution * target.now.resolution * target.now.resolution + 8 * target.now.resolution + 2000) }
 {
-    let _ = nothing.resolution();
-    let _ = target.resolution();
+    nothing.know();
+    target.know();
     let mut tape = opened(alloc, nothing)?;
     erect(alloc, &mut tape, target)?;
     closed(tape, target)

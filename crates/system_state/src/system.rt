@@ -183,16 +183,16 @@ impl System {
         &self.crew
     }
 
-    /// What the state keeps at all times: its matrix is whole, its bots are a crew, and it is ready for a step.
+    /// Does nothing: it recalls what the state keeps. Its matrix is whole, its bots are a crew, and it is ready for a step.
     #[inline(always)]
-    fn know(&self)
+    pub fn know(&self)
         ensures whole { IsWhole self.now.matrix }
         ensures crew { IsCrew self.now.bots }
         ensures ready { IsReady self.now }
     {
         crew_is_ready();
-        let _ = self.matrix.resolution();
-        let _ = self.crew.bots();
+        self.matrix.know();
+        self.crew.know();
     }
 
     /// The harmonics.
@@ -282,7 +282,7 @@ impl System {
         ensures value { self.new ≡ record self.old { energy = self.old.energy +ℤ upkeep_of self.old } }
         ensures within { IsWithin 4611686020427387904 self.new.energy }
     {
-        let _ = self.matrix.resolution();
+        self.matrix.know();
         let upkeep = upkeep_at(self.space, self.crew.count());
         self.energy = paid(self.energy, upkeep);
     }
@@ -308,7 +308,7 @@ impl System {
         ensures within { IsAfterTurn self.old.energy self.new.energy }
         ensures touches { IfSome (bot_of self.old.bots turn.leader) (λ bot. steps.new ≤ steps.old + met_count self.old.matrix bot command.now) }
     {
-        let _ = self.matrix.resolution();
+        self.matrix.know();
         let Some(bot) = self.crew.bot(turn.leader) else {
             return;
         };
@@ -472,7 +472,7 @@ impl System {
         groups_take_turns();
         group_is_replaced();
         self.know();
-        let _ = crew.bots();
+        crew.know();
         let turn = turn_of(turns.list(), leader);
         let Some(bot) = crew.bot(leader) else {
             return;

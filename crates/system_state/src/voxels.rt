@@ -49,7 +49,7 @@ fn change_region<L: Ledger>(matrix: &mut Planes, edited: EditedRegion, steps: &m
     ensures full { result.full ≡ full_in matrix.old (region_of edited) }
     ensures touches { steps.new ≤ steps.old + size_in matrix.old (region_of edited) }
 {
-    let _ = matrix.resolution();
+    matrix.know();
     let region = Region::of(edited.near, edited.far);
     let others = matrix.set_region(&region, edited.full, steps);
     met_by(region.size(), others, edited.full)

@@ -90,7 +90,7 @@ pub fn plan_void(alloc: Global, source: &Planes) -> Result<Plan, Memory>
     ensures few { IfOk result (λ plan. HasAtMost source.now full_profile plan.commands 4) }
     ensures halt_alone { source.now ≡ empty source.now.resolution → IfOk result (λ plan. plan.commands ≡ Command.Halt ∷ []) }
 {
-    let _ = source.resolution();
+    source.know();
     if is_empty(source) {
         return only_halt(alloc, source.copy(alloc)?);
     }

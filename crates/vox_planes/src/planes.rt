@@ -129,7 +129,16 @@ impl Planes {
         ensures value { result ≡ self.now.resolution }
         ensures whole { IsWhole self.now }
     {
+        self.know();
         self.resolution
+    }
+
+    /// Does nothing: it recalls what a matrix keeps.
+    #[inline(always)]
+    pub fn know(&self)
+        ensures whole { IsWhole self.now }
+    {
+        let _ = &self.resolution;
     }
 
     /// Whether the voxel at the coordinate is full: one touch.

@@ -51,7 +51,7 @@ impl Machine {
         ensures one { result ≡ true → length self.new.state.bots ≡ 1 }
     {
         let step = self.steps + 1;
-        let _ = self.system.matrix();
+        self.system.know();
         know_step(&self.system, &[Command::SMove(d)]);
         if let Some(broken) = self.system.move_alone(d, step, steps) {
             *fault = StepFault::Broken(broken);

@@ -39,7 +39,7 @@ impl Machine {
             return Err(StepFault::Spent);
         }
         let step = self.steps + 1;
-        let _ = self.system.crew();
+        self.system.know();
         know_step(&self.system, commands);
         if let Some(broken) = self.system.judge(commands, step, &mut self.turns, steps) {
             return Err(StepFault::Broken(broken));
@@ -81,7 +81,7 @@ impl Machine {
     {
         let filled = undo.filled.as_slice();
         let voided = undo.voided.as_slice();
-        let _ = self.system.matrix();
+        self.system.know();
         match refit_back(&mut self.forest, filled, voided, steps) {
             Ok(()) => {}
             Err(Memory) => {

@@ -1,5 +1,6 @@
 //! Regions made full or void, row by row, by whole words.
 ghost use Rattle.std.specs.Prelude.{◌≡◌, ℕ, ◌+◌, ◌-◌, ◌*◌, ◌%◌, ◌^◌, ◌<◌, ◌≤◌, IsFalse, length};
+ghost use Rattle.vox_geom.specs.declared.TheConstants.{MOST_R};
 ghost use Rattle.vox_geom.specs.Region.{size, span};
 ghost use Rattle.vox_geom.specs.Space.{IsInSpace};
 ghost use Rattle.vox_planes.specs.Bits.{others_of};
@@ -48,7 +49,7 @@ impl Planes {
         ensures whole { IsWhole self.new }
         ensures touches { steps.new ≤ steps.old + layer_size b.now }
     {
-        let _ = self.resolution();
+        self.know();
         let low = b.low();
         let high = b.high();
         let mut changed = 0;
@@ -68,8 +69,8 @@ impl Planes {
         ensures whole { IsWhole self.new }
         ensures touches { steps.new ≤ steps.old + size (span b.now) }
     {
-        let _ = self.resolution();
-        let _ = b.size();
+        self.know();
+        know_size(b);
         let low = b.low();
         let high = b.high();
         let mut changed = 0;
@@ -78,6 +79,15 @@ impl Planes {
         }
         changed
     }
+}
+
+/// Does nothing: it recalls that a region has few coordinates.
+#[inline(always)]
+fn know_size(b: &Region)
+    requires { IsInSpace MOST_R b.now.high }
+    ensures { size (span b.now) ≤ MOST_R * MOST_R * MOST_R }
+{
+    let _ = b.size();
 }
 
 /// Makes so many bits from an index on, which stand in one word, 1 or 0. How many changed.

@@ -41,7 +41,7 @@ impl Planes {
         ensures resolution { self.new.resolution ≡ self.old.resolution }
         ensures whole { IsWhole self.new }
     {
-        let _ = self.resolution();
+        self.know();
         let mut done = 0;
         while done < count {
             done += self.set_part(from + done, count - done, bits >> done);
@@ -56,7 +56,7 @@ impl Planes {
         ensures resolution { self.new.resolution ≡ self.old.resolution }
         ensures whole { IsWhole self.new }
     {
-        let _ = self.resolution();
+        self.know();
         let mut at = from;
         while at < end {
             at += self.set_part(at, (end - at).min(64), u64::MAX);

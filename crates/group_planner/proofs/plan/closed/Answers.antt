@@ -16,7 +16,7 @@ use Rattle.plan_tape.proofs.LegalModels.{grounded_at}
 pub gather-requires-clause-limit : goal.gather-requires-clause-limit
 gather-requires-clause-limit c =
     let s = c.args.tape.source in
-    let most = c.resolution.ensures.whole.most in
+    let most = c.know.ensures.whole.most in
     let e = c.requires.source in
     let steps = c.requires.rebuilt.steps_are in
     let fits = plan_fits s c.args.target.now (omega (arith, most, e)) (sym e) in
@@ -25,13 +25,13 @@ gather-requires-clause-limit c =
 pub go-requires-clause-ways : goal.go-requires-clause-ways
 go-requires-clause-ways c =
     let j = c.in_ok-gather.ensures in
-    ways_home_at c.gather.new.tape.matrix c.args.target.now (spot c.gather.new.tape.bots) (coord 0 (rear c.args.tape).y 0) _ (j.matrix ∙ matrix_is c.args.tape c.args.target.now c.requires.rebuilt c.know_whole.ensures.whole c.resolution.ensures.whole) j.there c.requires.legal (inr refl) refl
+    ways_home_at c.gather.new.tape.matrix c.args.target.now (spot c.gather.new.tape.bots) (coord 0 (rear c.args.tape).y 0) _ (j.matrix ∙ matrix_is c.args.tape c.args.target.now c.requires.rebuilt c.know_whole.ensures.whole c.know.ensures.whole) j.there c.requires.legal (inr refl) refl
 
 pub go-requires-clause-limit : goal.go-requires-clause-limit
 go-requires-clause-limit c =
     let s = c.args.tape.source in
     let t = c.args.target.now in
-    let most = c.resolution.ensures.whole.most in
+    let most = c.know.ensures.whole.most in
     let e = c.requires.source in
     let steps = c.requires.rebuilt.steps_are in
     let fits = plan_fits s t (omega (arith, most, e)) (sym e) in
@@ -39,13 +39,13 @@ go-requires-clause-limit c =
     omega (arith, steps, fits, home)
 
 pub flip-requires-clause-held : goal.flip-requires-clause-held
-flip-requires-clause-held c = λ l. grounded_at c.go.new.self.matrix c.args.target.now (c.in_ok-go.ensures.ok.matrix ∙ (c.in_ok-gather.ensures.matrix ∙ matrix_is c.args.tape c.args.target.now c.requires.rebuilt c.know_whole.ensures.whole c.resolution.ensures.whole)) c.requires.legal
+flip-requires-clause-held c = λ l. grounded_at c.go.new.self.matrix c.args.target.now (c.in_ok-go.ensures.ok.matrix ∙ (c.in_ok-gather.ensures.matrix ∙ matrix_is c.args.tape c.args.target.now c.requires.rebuilt c.know_whole.ensures.whole c.know.ensures.whole)) c.requires.legal
 
 pub flip-requires-clause-limit : goal.flip-requires-clause-limit
 flip-requires-clause-limit c =
     let s = c.args.tape.source in
     let t = c.args.target.now in
-    let most = c.resolution.ensures.whole.most in
+    let most = c.know.ensures.whole.most in
     let e = c.requires.source in
     let steps = c.requires.rebuilt.steps_are in
     let fits = plan_fits s t (omega (arith, most, e)) (sym e) in
@@ -57,7 +57,7 @@ pub halt-requires-clause-limit : goal.halt-requires-clause-limit
 halt-requires-clause-limit c =
     let s = c.args.tape.source in
     let t = c.args.target.now in
-    let most = c.resolution.ensures.whole.most in
+    let most = c.know.ensures.whole.most in
     let e = c.requires.source in
     let steps = c.requires.rebuilt.steps_are in
     let fits = plan_fits s t (omega (arith, most, e)) (sym e) in
@@ -79,7 +79,7 @@ returns-clause-accepted c =
 pub returns-clause-steps : goal.returns-clause-steps
 returns-clause-steps c =
     let t = c.args.target.now in
-    let most = c.resolution.ensures.whole.most in
+    let most = c.know.ensures.whole.most in
     let steps = c.requires.rebuilt.steps_are in
     let home = home_steps c.args.tape c.gather.new.tape _ t.resolution c.requires.rebuilt.pair c.requires.rebuilt.same most refl c.in_ok-gather.ensures in
     let go = c.in_ok-go.ensures.ok.steps in

@@ -16,7 +16,7 @@ clear-requires-clause-limit c =
     let same = ap (λ (m : Matrix). m.resolution) (c.requires.opened.matrix ∙ c.requires.source) in
     let top = top_climb a s c.requires.opened c.requires.source in
     let sum = ap (steps_below s) same ∙ model_sum s in
-    let fits = plan_fits s c.args.target.now c.resolution.ensures.whole.most c.requires.same in
+    let fits = plan_fits s c.args.target.now c.know.ensures.whole.most c.requires.same in
     omega (arith, same, top, sum, fits)
 
 pub build-requires-clause-limit : goal.build-requires-clause-limit
@@ -31,7 +31,7 @@ build-requires-clause-limit c =
     let top = top_climb a s c.requires.opened c.requires.source in
     let sum = ap (steps_below s) same ∙ model_sum s in
     let more = ap (steps_below t) (now ∙ (same ∙ sym c.requires.same)) ∙ model_sum t in
-    let fits = plan_fits s t c.resolution.ensures.whole.most c.requires.same in
+    let fits = plan_fits s t c.know.ensures.whole.most c.requires.same in
     let climb = p.climb in
     omega (arith, same, now, top, sum, more, fits, climb)
 

@@ -19,7 +19,7 @@ matrix_is t target k v w = alike_is_same t.matrix target v w (sym k.ready.same) 
 pub go-requires-clause-ways : goal.go-requires-clause-ways
 go-requires-clause-ways c =
     let k = c.requires.rebuilt in
-    let same = matrix_is c.args.tape c.args.target.now k c.know_whole.ensures.whole c.resolution.ensures.whole in
+    let same = matrix_is c.args.tape c.args.target.now k c.know_whole.ensures.whole c.know.ensures.whole in
     ways_home_at c.args.tape.matrix c.args.target.now (spot c.args.tape.bots) (spot c.args.tape.bots) _ same refl c.requires.target (inl (subst (λ (m : Matrix). IsVoidFrom m (spot c.args.tape.bots).y) same k.ready.here)) refl
 
 pub returns-clause-accepted : goal.returns-clause-accepted
@@ -32,12 +32,12 @@ returns-clause-accepted c =
     (c.finish.ensures.accepted c.args.target.now (λ q. ap (λ (m : Matrix). is_full m q) (h.matrix ∙ (f.matrix ∙ g.matrix)) ∙ c.requires.rebuilt.matrix q)))
 
 pub flip-requires-clause-held : goal.flip-requires-clause-held
-flip-requires-clause-held c = λ l. grounded_at c.go.new.self.matrix c.args.target.now (c.in_ok-go.ensures.ok.matrix ∙ matrix_is c.args.tape c.args.target.now c.requires.rebuilt c.know_whole.ensures.whole c.resolution.ensures.whole) c.requires.target
+flip-requires-clause-held c = λ l. grounded_at c.go.new.self.matrix c.args.target.now (c.in_ok-go.ensures.ok.matrix ∙ matrix_is c.args.tape c.args.target.now c.requires.rebuilt c.know_whole.ensures.whole c.know.ensures.whole) c.requires.target
 
 pub flip-requires-clause-limit : goal.flip-requires-clause-limit
 flip-requires-clause-limit c =
     let r = c.args.target.now.resolution in
-    let w = c.resolution.ensures.whole in
+    let w = c.know.ensures.whole in
     let g = c.in_ok-go.ensures.ok.steps in
     let k = c.requires.rebuilt.steps_are in
     let on = moves_on (spot c.args.tape.bots) (end c.args.target.now) (coord 0 0 0) in
@@ -46,7 +46,7 @@ flip-requires-clause-limit c =
 pub halt-requires-clause-limit : goal.halt-requires-clause-limit
 halt-requires-clause-limit c =
     let r = c.args.target.now.resolution in
-    let w = c.resolution.ensures.whole in
+    let w = c.know.ensures.whole in
     let f = c.in_ok-flip.ensures.ok.steps in
     let g = c.in_ok-go.ensures.ok.steps in
     let k = c.requires.rebuilt.steps_are in
@@ -56,7 +56,7 @@ halt-requires-clause-limit c =
 pub returns-clause-bytes : goal.returns-clause-bytes
 returns-clause-bytes c =
     let r = c.args.target.now.resolution in
-    let w = c.resolution.ensures.whole in
+    let w = c.know.ensures.whole in
     let h = c.in_ok-halt.ensures.ok.bytes_are in
     let f = c.in_ok-flip.ensures.ok.bytes_are in
     let g = c.in_ok-go.ensures.ok.bytes_are in

@@ -21,7 +21,7 @@ clear-requires-clause-ready c =
     let o = c.requires.opened in
     let r = c.args.tape.now.source.resolution in
     let same = ap (λ (m : Matrix). m.resolution) o.matrix in
-    let some = c.resolution.ensures.whole.some in
+    let some = c.know.ensures.whole.some in
     let wide = c.requires.same in
     let at : spot c.args.tape.now.bots ≡ coord 0 (r - 1) 0 = o.there in
     record {
@@ -80,7 +80,7 @@ build-requires-clause-limit c =
     let low = c.args.low in
     let start : moves_to (spot a.bots) (top a.matrix) ≡ 0 = ap (λ (s : Coord). moves_to s (top a.matrix)) (o.there ∙ ap (λ n. coord 0 (n - 1) 0) (sym er)) ∙ no_moves (top a.matrix) in
     let on = moves_on (spot b.bots) (coord 0 low 0) (coord 0 (low + 1) 0) in
-    let w = c.resolution.ensures.whole in
+    let w = c.know.ensures.whole in
     let shifted = sweep_steps_to b (coord 0 (low + 1) 0) in
     let most = spent (shifted + (b.matrix.resolution - 1) * layer_bytes b.matrix.resolution) (sweep_steps_to b (coord 0 low 0)) shifted (sweep_steps_to a (top a.matrix)) a.matrix.resolution b.matrix.resolution a.source.resolution c.args.target.now.resolution (omega arith) (omega arith) p.steps_are (let s = o.steps_are in omega arith) rb ra (sym c.requires.same) in
     omega (arith, most, total_fits c.args.target.now.resolution w.some w.most)

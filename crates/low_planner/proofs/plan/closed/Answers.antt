@@ -20,11 +20,11 @@ go-requires-clause-ways c =
     ways_to_border p.matrix (spot p.bots) origin refl h.here (λ d e. h.made d ∙ void_at_border m c.requires.legal d e)
 
 pub go-requires-clause-limit : goal.go-requires-clause-limit
-go-requires-clause-limit c = let steps = steps_home c.args.target.now c.args.tape c.resolution.ensures.whole.most c.requires.finished in omega arith
+go-requires-clause-limit c = let steps = steps_home c.args.target.now c.args.tape c.know.ensures.whole.most c.requires.finished in omega arith
 
 pub halt-requires-clause-limit : goal.halt-requires-clause-limit
 halt-requires-clause-limit c =
-    let steps = steps_home c.args.target.now c.args.tape c.resolution.ensures.whole.most c.requires.finished in
+    let steps = steps_home c.args.target.now c.args.tape c.know.ensures.whole.most c.requires.finished in
     let went = c.in_ok-go.ensures.works.steps in
     omega arith
 

@@ -15,4 +15,4 @@ pub returns : goal.returns
 returns g c =
     voided_and_removed c.args.cells.now c.take_region.new.cells c.remove_and_settle.new.cells (IsInRegion c.args.b.now) (size (span c.args.b.now)) c.take_rest-rest.result.items c.take_region.new.rest.items c.args.steps.now c.take_region.new.steps c.remove_and_settle.new.steps
     c.take_rest-rest.ensures c.in_ok-take_region.ensures.voided c.in_ok-take_region.ensures.touches
-    (subst (λ (xs : List Coord). HaveRemoved c.take_region.new.cells c.remove_and_settle.new.cells xs 50 c.take_region.new.steps c.remove_and_settle.new.steps) c.as_slice.ensures.value c.in_ok-remove_and_settle.ensures)
+    (subst (λ (xs : List Coord). HaveRemoved c.take_region.new.cells c.remove_and_settle.new.cells xs 56 c.take_region.new.steps c.remove_and_settle.new.steps) c.as_slice.ensures.value c.in_ok-remove_and_settle.ensures)

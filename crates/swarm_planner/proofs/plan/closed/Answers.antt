@@ -18,12 +18,12 @@ matrix_is t target k v w = alike_is_same t.matrix target v w (sym k.same) (λ c 
 pub go-requires-clause-ways : goal.go-requires-clause-ways
 go-requires-clause-ways c =
     let k = c.requires.erected in
-    ways_home_in c.args.tape.matrix c.args.target.now (spot c.args.tape.bots) (coord 0 0 0) (matrix_is c.args.tape c.args.target.now k c.know_whole.ensures.whole c.resolution.ensures.whole) c.requires.target k.depth refl
+    ways_home_in c.args.tape.matrix c.args.target.now (spot c.args.tape.bots) (coord 0 0 0) (matrix_is c.args.tape c.args.target.now k c.know_whole.ensures.whole c.know.ensures.whole) c.requires.target k.depth refl
 
 pub go-requires-clause-limit : goal.go-requires-clause-limit
 go-requires-clause-limit c =
     let k = c.requires.erected in
-    let w = c.resolution.ensures.whole in
+    let w = c.know.ensures.whole in
     let f = layers_fit c.args.target.now.resolution w.most in
     let s = k.steps_are in
     let d = k.depth in
@@ -31,12 +31,12 @@ go-requires-clause-limit c =
     omega (arith, f, s, d, m)
 
 pub flip-requires-clause-held : goal.flip-requires-clause-held
-flip-requires-clause-held c = λ l. grounded_at c.go.new.self.matrix c.args.target.now (c.in_ok-go.ensures.ok.matrix ∙ matrix_is c.args.tape c.args.target.now c.requires.erected c.know_whole.ensures.whole c.resolution.ensures.whole) c.requires.target
+flip-requires-clause-held c = λ l. grounded_at c.go.new.self.matrix c.args.target.now (c.in_ok-go.ensures.ok.matrix ∙ matrix_is c.args.tape c.args.target.now c.requires.erected c.know_whole.ensures.whole c.know.ensures.whole) c.requires.target
 
 pub flip-requires-clause-limit : goal.flip-requires-clause-limit
 flip-requires-clause-limit c =
     let k = c.requires.erected in
-    let w = c.resolution.ensures.whole in
+    let w = c.know.ensures.whole in
     let f = layers_fit c.args.target.now.resolution w.most in
     let s = k.steps_are in
     let d = k.depth in
@@ -47,7 +47,7 @@ flip-requires-clause-limit c =
 pub halt-requires-clause-limit : goal.halt-requires-clause-limit
 halt-requires-clause-limit c =
     let k = c.requires.erected in
-    let w = c.resolution.ensures.whole in
+    let w = c.know.ensures.whole in
     let f = layers_fit c.args.target.now.resolution w.most in
     let s = k.steps_are in
     let d = k.depth in
@@ -68,7 +68,7 @@ returns-clause-accepted c =
 pub returns-clause-steps : goal.returns-clause-steps
 returns-clause-steps c =
     let k = c.requires.erected in
-    let w = c.resolution.ensures.whole in
+    let w = c.know.ensures.whole in
     let t = total c.args.target.now.resolution w.some in
     let s = k.steps_are in
     let d = k.depth in

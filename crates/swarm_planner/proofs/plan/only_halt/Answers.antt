@@ -19,4 +19,4 @@ returns-clause-accepted c =
     (c.finish.ensures.accepted c.args.nothing (λ q. ap (λ (m : Matrix). is_full m q) matrix)))
 
 pub returns-clause-few : goal.returns-clause-few
-returns-clause-few c = c.seeds_bound_the_bots.ensures c.args.nothing light_profile c.finish.result.commands c.resolution.ensures.whole c.finish.ensures.are_commands
+returns-clause-few c = c.seeds_bound_the_bots.ensures c.args.nothing light_profile c.finish.result.commands c.know.ensures.whole c.finish.ensures.are_commands

@@ -24,7 +24,7 @@ returns c =
     let r = c.args.nothing.resolution in
     let size : c.go.new.self.matrix.resolution ≡ r = ap (λ (k : Matrix). k.resolution) matrix in
     let s = c.requires.some in
-    let most = c.resolution.ensures.whole.most in
+    let most = c.know.ensures.whole.most in
     let first : c.flip.new.self.bots ≡ first_bot light_profile ∷ [] = w.bots_are ∙ (ap (λ (x : TapeState). x.bots) e ∙ ap (λ k. first_bot k ∷ []) c.light.ensures) in
     let one : min 1 (last c.go.new.self.matrix.resolution) ≡ 1 = omega (arith, size, s) in
     let there : bots_at (first_bot light_profile ∷ []) (coord 1 1 0) ≡ record { bid = 1; pos = coord 1 1 0; seeds = seeds_after 1 } ∷ [] = refl in

@@ -26,7 +26,7 @@ returns-in-Some-clause-stepped g c =
 settled : (g : Over) (c : goal.After-self-1 g) → IsSettled c.self.inside.system (SMove c.args.d ∷ []) (c.self.inside.steps + 1) c.self.inside.forest c.move_alone.new.steps c.move_alone.new.steps
 settled g c =
     let stands : c.self.inside.spent ≡ false = ap (λ (v : Situation). v.spent) c.self.view_is ∙ c.requires.stands in
-    still c.self.inside.system c.args.d (ap (λ (v : Situation). length v.state.bots) c.self.view_is ∙ c.requires.one) c.matrix.ensures.whole (c.self.inside.steps + 1) c.self.inside.forest c.move_alone.new.steps
+    still c.self.inside.system c.args.d (ap (λ (v : Situation). length v.state.bots) c.self.view_is ∙ c.requires.one) c.know.ensures.whole (c.self.inside.steps + 1) c.self.inside.forest c.move_alone.new.steps
     (sym c.move_alone.ensures.value ∙ c.in_default.is)
     (subst (λ (v : Situation). v.state.harmonics ≡ Low → FirstUngrounded v.state.matrix None) (sym c.self.view_is) c.requires.held)
     (c.self.invariant.tied stands) (c.self.invariant.stands stands)

@@ -26,14 +26,14 @@ returns-clause-stepped g c =
 
 pub returns-clause-voxels : goal.returns-clause-voxels
 returns-clause-voxels g c =
-    note_holds c.self.inside.system c.args.commands.now (c.self.inside.steps + 1) c.crew.ensures.ready (sym c.judge.ensures.value ∙ c.in_default.is) c.take_turns.new.system c.in-Ok.undo c.take_turns.ensures.value c.in-Ok.ensures.note
+    note_holds c.self.inside.system c.args.commands.now (c.self.inside.steps + 1) c.know.ensures.ready (sym c.judge.ensures.value ∙ c.in_default.is) c.take_turns.new.system c.in-Ok.undo c.take_turns.ensures.value c.in-Ok.ensures.note
 
 pub returns-clause-before : goal.returns-clause-before
 returns-clause-before g c =
-    state_is_back c.self.inside.system c.args.commands.now (c.self.inside.steps + 1) c.crew.ensures.ready (sym c.judge.ensures.value ∙ c.in_default.is) c.take_turns.new.system c.in-Ok.undo c.take_turns.ensures.value c.in-Ok.ensures.note
+    state_is_back c.self.inside.system c.args.commands.now (c.self.inside.steps + 1) c.know.ensures.ready (sym c.judge.ensures.value ∙ c.in_default.is) c.take_turns.new.system c.in-Ok.undo c.take_turns.ensures.value c.in-Ok.ensures.note
     ∙ ap (λ (v : Situation). v.state) c.self.view_is
 
 pub returns-clause-undo : goal.returns-clause-undo
 returns-clause-undo g c =
-    note_may_undo c.self.inside.system c.args.commands.now (c.self.inside.steps + 1) c.crew.ensures.ready (sym c.judge.ensures.value ∙ c.in_default.is) c.take_turns.new.system c.in-Ok.undo c.take_turns.ensures.value c.in-Ok.ensures.note
+    note_may_undo c.self.inside.system c.args.commands.now (c.self.inside.steps + 1) c.know.ensures.ready (sym c.judge.ensures.value ∙ c.in_default.is) c.take_turns.new.system c.in-Ok.undo c.take_turns.ensures.value c.in-Ok.ensures.note
     c.self.inside.forest c.self.inside.changed c.self.inside.steps c.self.inside.spent c.args.self.now c.self.invariant c.self.view_is (c.in-Ok.ensures.note.steps)

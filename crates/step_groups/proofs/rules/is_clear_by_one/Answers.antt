@@ -1,6 +1,6 @@
 use Rattle.std.proofs.Common.{arith, ◌≡◌, ◌∙◌, refl, sym, Bool, true, false, not}
 use Rattle.step_groups.proofs.ClearSteps.{clear_step, step_size}
-use Rattle.step_groups.proofs.rules.is_clear_step.Goals as goal
+use Rattle.step_groups.proofs.rules.is_clear_by_one.Goals as goal
 
 void : (b : Bool) → not b ≡ true → b ≡ false
 void true t = cc
