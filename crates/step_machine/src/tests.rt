@@ -73,19 +73,74 @@ fn step<L: Ledger>(
     machine.step(commands, steps)
 }
 
-/// The level of a voxel.
-fn level<L: Ledger>(
+/// The step is accepted, and some bot is left: so much energy is spent after it.
+fn assert_goes<L: Ledger>(
+    rt: &impl Abort,
+    machine: &mut Machine,
+    commands: &[Command],
+    energy: i64,
+    steps: &mut Steps<L>,
+) {
+    let ok = StepOk {
+        energy,
+        halted: false,
+    };
+    assert_eq!(rt; step(rt, machine, commands, steps), Ok(ok));
+}
+
+/// The step is refused.
+fn assert_refused<L: Ledger>(
+    rt: &impl Abort,
+    machine: &mut Machine,
+    commands: &[Command],
+    fault: StepFault,
+    steps: &mut Steps<L>,
+) {
+    assert_eq!(rt; step(rt, machine, commands, steps), Err(fault));
+}
+
+/// The step is accepted.
+fn assert_made<L: Ledger>(
+    rt: &impl Abort,
+    machine: &mut Machine,
+    commands: &[Command],
+    steps: &mut Steps<L>,
+) {
+    assert!(rt; step(rt, machine, commands, steps).is_ok());
+}
+
+/// The level of a voxel, or that it has none.
+fn assert_level<L: Ledger>(
     rt: &impl Abort,
     machine: &Machine,
     c: Coord,
+    expected: Option<u32>,
     steps: &mut Steps<L>,
-) -> Option<u32> {
+) {
     let resolution = machine.matrix().resolution();
     assert!(rt; !machine.spent());
     assert!(rt; c.x < resolution);
     assert!(rt; c.y < resolution);
     assert!(rt; c.z < resolution);
-    machine.level(c, steps)
+    assert_eq!(rt; machine.level(c, steps), expected);
+}
+
+/// The rule of grounding is broken.
+fn ungrounded(step: u32, at: Coord) -> StepFault {
+    StepFault::Broken(Broken {
+        step,
+        bid: 0,
+        rule: Rule::Ungrounded,
+        at,
+    })
+}
+
+/// What a machine keeps that is spent after two fills.
+fn assert_kept<L: Ledger>(rt: &impl Abort, machine: &Machine, steps: &mut Steps<L>) {
+    assert_eq!(rt; machine.energy(), 448);
+    assert_eq!(rt; machine.harmonics(), Harmonics::Low);
+    assert_eq!(rt; machine.crew().count(), 1);
+    assert_eq!(rt; machine.matrix().count(steps), 2);
 }
 
 /// Under Low a bot fills two voxels, one on the other, and the lower one is voided.
@@ -98,48 +153,17 @@ fn posts<L: Ledger>(rt: &impl Abort, blank: Blank, alloc: Global) -> Result<(), 
     let empty = source(rt, alloc, 4, &[], &mut steps)?;
     let mut machine = Machine::start(alloc, empty, Profile::full(), &mut steps)?;
     let fill = [Command::Fill(near(rt, 1, 0, 0))];
-    assert_eq!(rt;
-        step(rt, &mut machine, &fill, &mut steps),
-        Ok(StepOk {
-            energy: 224,
-            halted: false
-        })
-    );
+    assert_goes(rt, &mut machine, &fill, 224, &mut steps);
     let fill = [Command::Fill(near(rt, 1, 1, 0))];
-    assert_eq!(rt;
-        step(rt, &mut machine, &fill, &mut steps),
-        Ok(StepOk {
-            energy: 448,
-            halted: false
-        })
-    );
-    assert_eq!(rt;
-        level(rt, &machine, Coord { x: 1, y: 1, z: 0 }, &mut steps),
-        Some(1)
-    );
-    assert_eq!(rt;
-        level(rt, &machine, Coord { x: 1, y: 2, z: 0 }, &mut steps),
-        None
-    );
+    assert_goes(rt, &mut machine, &fill, 448, &mut steps);
+    let upper = Coord { x: 1, y: 1, z: 0 };
+    assert_level(rt, &machine, upper, Some(1), &mut steps);
+    assert_level(rt, &machine, Coord { y: 2, ..upper }, None, &mut steps);
     let void = [Command::Void(near(rt, 1, 0, 0))];
-    let broken = Broken {
-        step: 3,
-        bid: 0,
-        rule: Rule::Ungrounded,
-        at: Coord { x: 1, y: 1, z: 0 },
-    };
-    assert_eq!(rt;
-        step(rt, &mut machine, &void, &mut steps),
-        Err(StepFault::Broken(broken))
-    );
-    assert_eq!(rt;
-        step(rt, &mut machine, &void, &mut steps),
-        Err(StepFault::Spent)
-    );
-    assert_eq!(rt; machine.energy(), 448);
-    assert_eq!(rt; machine.harmonics(), Harmonics::Low);
-    assert_eq!(rt; machine.crew().count(), 1);
-    assert_eq!(rt; machine.matrix().count(&mut steps), 2);
+    let fault = ungrounded(3, upper);
+    assert_refused(rt, &mut machine, &void, fault, &mut steps);
+    assert_refused(rt, &mut machine, &void, StepFault::Spent, &mut steps);
+    assert_kept(rt, &machine, &mut steps);
     Ok(())
 }
 
@@ -149,51 +173,79 @@ fn a_step_that_breaks_grounding_spends_the_machine(rt: HostRuntime) -> Result<()
     Ok(())
 }
 
-/// Eight bots take their places round a block: four by four, one side of it and the other.
-fn eight_bots<L: Ledger>(rt: &impl Abort, machine: &mut Machine, steps: &mut Steps<L>) {
-    let up = || Command::SMove(long(rt, 0, 1, 0));
-    let on = || Command::SMove(long(rt, 0, 0, 1));
+/// A move along y, or else along z.
+fn move_by_one(rt: &impl Abort, up: bool) -> Command {
+    let d = if up {
+        long(rt, 0, 1, 0)
+    } else {
+        long(rt, 0, 0, 1)
+    };
+    Command::SMove(d)
+}
+
+/// One bot becomes five, at their places round a block: four by four, one side of it and the other.
+fn five_bots<L: Ledger>(rt: &impl Abort, machine: &mut Machine, steps: &mut Steps<L>) {
     let split = [Command::Fission(near(rt, 1, 0, 0), 3)];
-    assert!(rt; step(rt, machine, &split, steps).is_ok());
-    let part = [on(), Command::SMove(long(rt, 3, 0, 0))];
-    assert!(rt; step(rt, machine, &part, steps).is_ok());
-    let rise = [Command::Fission(near(rt, 0, 1, 0), 1), on()];
-    assert!(rt; step(rt, machine, &rise, steps).is_ok());
+    assert_made(rt, machine, &split, steps);
+    let part = [move_by_one(rt, false), Command::SMove(long(rt, 3, 0, 0))];
+    assert_made(rt, machine, &part, steps);
+    let rise = [
+        Command::Fission(near(rt, 0, 1, 0), 1),
+        move_by_one(rt, false),
+    ];
+    assert_made(rt, machine, &rise, steps);
     let more = [
         Command::Fission(near(rt, 0, 0, 1), 0),
         Command::Fission(near(rt, 0, 1, 0), 1),
-        up(),
+        move_by_one(rt, true),
     ];
-    assert!(rt; step(rt, machine, &more, steps).is_ok());
+    assert_made(rt, machine, &more, steps);
+}
+
+/// Five bots become eight, which take their places.
+fn eight_bots<L: Ledger>(rt: &impl Abort, machine: &mut Machine, steps: &mut Steps<L>) {
     let five = [
         Command::Wait,
         Command::Fission(near(rt, 0, 0, 1), 0),
-        up(),
+        move_by_one(rt, true),
         Command::Fission(near(rt, 0, 0, 1), 0),
-        on(),
+        move_by_one(rt, false),
     ];
-    assert!(rt; step(rt, machine, &five, steps).is_ok());
+    assert_made(rt, machine, &five, steps);
     let seven = [
         Command::Wait,
         Command::Wait,
         Command::Fission(near(rt, 0, 0, 1), 0),
-        on(),
+        move_by_one(rt, false),
         Command::Wait,
-        on(),
+        move_by_one(rt, false),
         Command::Wait,
     ];
-    assert!(rt; step(rt, machine, &seven, steps).is_ok());
+    assert_made(rt, machine, &seven, steps);
     let last = [
         Command::Wait,
         Command::Wait,
         Command::Wait,
-        on(),
+        move_by_one(rt, false),
         Command::Wait,
         Command::Wait,
         Command::Wait,
         Command::Wait,
     ];
-    assert!(rt; step(rt, machine, &last, steps).is_ok());
+    assert_made(rt, machine, &last, steps);
+}
+
+/// A block of 3 by 3 by 3 on the floor, in the middle of a matrix of resolution 5.
+fn cube(alloc: Global) -> Result<Vec<Coord>, Memory> {
+    let mut full = Vec::new(alloc);
+    for x in 1..4 {
+        for y in 0..3 {
+            for z in 1..4 {
+                full.push(Coord { x, y, z }).map_err(|_| Memory)?;
+            }
+        }
+    }
+    Ok(full)
 }
 
 /// Eight bots void a block of 3 by 3 by 3 at once.
@@ -203,16 +255,9 @@ fn block<L: Ledger>(rt: &impl Abort, blank: Blank, alloc: Global) -> Result<(), 
     requires some { 0 < L.parts }
 {
     let mut steps: Steps<L> = Steps::new(blank);
-    let mut full = Vec::new(alloc);
-    for x in 1..4 {
-        for y in 0..3 {
-            for z in 1..4 {
-                full.push(Coord { x, y, z }).map_err(|_| Memory)?;
-            }
-        }
-    }
-    let block = source(rt, alloc, 5, &full, &mut steps)?;
+    let block = source(rt, alloc, 5, &cube(alloc)?, &mut steps)?;
     let mut machine = Machine::start(alloc, block, Profile::full(), &mut steps)?;
+    five_bots(rt, &mut machine, &mut steps);
     eight_bots(rt, &mut machine, &mut steps);
     let before = machine.energy();
     let void = [
@@ -227,13 +272,7 @@ fn block<L: Ledger>(rt: &impl Abort, blank: Blank, alloc: Global) -> Result<(), 
     ];
     assert!(rt; before >= 0);
     assert!(rt; before <= 1_000_000);
-    assert_eq!(rt;
-        step(rt, &mut machine, &void, &mut steps),
-        Ok(StepOk {
-            energy: before + 211,
-            halted: false
-        })
-    );
+    assert_goes(rt, &mut machine, &void, before + 211, &mut steps);
     assert_eq!(rt; machine.matrix().count(&mut steps), 0);
     assert!(rt; !machine.spent());
     assert_eq!(rt; machine.forest().floating(), 0);
@@ -246,18 +285,20 @@ fn eight_bots_void_a_block_at_once(rt: HostRuntime) -> Result<(), Fail> {
     Ok(())
 }
 
-/// The verdict of a trace from the empty matrix of resolution 3.
-fn verdict<L: Ledger>(
+/// A trace from the empty matrix of resolution 3 has this verdict.
+fn assert_verdict<L: Ledger>(
     rt: &impl Abort,
     alloc: Global,
     target: &[Coord],
     commands: &[Command],
+    expected: Verdict,
     steps: &mut Steps<L>,
-) -> Result<Verdict, Memory> {
+) -> Result<(), Memory> {
     let empty = source(rt, alloc, 3, &[], steps)?;
     let target = source(rt, alloc, 3, target, steps)?;
     assert!(rt; commands.len() < 1000);
-    judge(alloc, empty, &target, commands, steps)
+    assert_eq!(rt; judge(alloc, empty, &target, commands, steps)?, expected);
+    Ok(())
 }
 
 /// A bot fills the voxel (1,0,1) and comes home.
@@ -280,17 +321,13 @@ fn traces<L: Ledger>(rt: &impl Abort, blank: Blank, alloc: Global) -> Result<(),
         energy: 420,
         steps: 4,
     };
-    assert_eq!(rt;
-        verdict(rt, alloc, &filled, &trace[..4], &mut steps)?,
-        accepted
-    );
+    assert_verdict(rt, alloc, &filled, &trace[..4], accepted, &mut steps)?;
     let ends = refused(4, 1, Rule::TraceEnds, origin);
-    assert_eq!(rt; verdict(rt, alloc, &filled, &trace[..3], &mut steps)?, ends);
+    assert_verdict(rt, alloc, &filled, &trace[..3], ends, &mut steps)?;
     let after = refused(4, 0, Rule::AfterHalt, origin);
-    assert_eq!(rt; verdict(rt, alloc, &filled, &trace, &mut steps)?, after);
+    assert_verdict(rt, alloc, &filled, &trace, after, &mut steps)?;
     let wrong = refused(4, 0, Rule::WrongResult, filled[0]);
-    assert_eq!(rt; verdict(rt, alloc, &[], &trace[..4], &mut steps)?, wrong);
-    Ok(())
+    assert_verdict(rt, alloc, &[], &trace[..4], wrong, &mut steps)
 }
 
 #[test]
@@ -332,7 +369,7 @@ fn second_step<L: Ledger>(
     let empty = source(rt, alloc, 5, &[], steps)?;
     let mut machine = Machine::start(alloc, empty, Profile::full(), steps)?;
     let split = [Command::Fission(near(rt, 0, 0, 1), 0)];
-    assert!(rt; step(rt, &mut machine, &split, steps).is_ok());
+    assert_made(rt, &mut machine, &split, steps);
     assert!(rt; machine.active() == 2);
     assert!(rt; commands.len() == 2);
     assert!(rt; machine.steps_done() < 1000);
@@ -425,7 +462,7 @@ fn ring_levels<L: Ledger>(
         (Coord { x: 3, y: 1, z: 3 }, 1),
     ];
     for (c, expected) in levels.iter() {
-        assert_eq!(rt; level(rt, machine, *c, steps), Some(*expected));
+        assert_level(rt, machine, *c, Some(*expected), steps);
     }
 }
 
@@ -441,25 +478,14 @@ fn rings<L: Ledger>(rt: &impl Abort, blank: Blank, alloc: Global) -> Result<(), 
     let void = [Command::Void(near(rt, 1, 0, 1))];
     let mut machine = ring(rt, alloc, &posts, &mut steps)?;
     ring_levels(rt, &machine, 1, 2, &mut steps);
-    assert!(rt; step(rt, &mut machine, &void, &mut steps).is_ok());
+    assert_made(rt, &mut machine, &void, &mut steps);
     ring_levels(rt, &machine, 5, 4, &mut steps);
-    assert_eq!(rt; level(rt, &machine, posts[0], &mut steps), None);
+    assert_level(rt, &machine, posts[0], None, &mut steps);
     let mut machine = ring(rt, alloc, &posts[..1], &mut steps)?;
-    let broken = Broken {
-        step: 1,
-        bid: 0,
-        rule: Rule::Ungrounded,
-        at: Coord { x: 1, y: 1, z: 1 },
-    };
-    assert_eq!(rt;
-        step(rt, &mut machine, &void, &mut steps),
-        Err(StepFault::Broken(broken))
-    );
+    let fault = ungrounded(1, Coord { x: 1, y: 1, z: 1 });
+    assert_refused(rt, &mut machine, &void, fault, &mut steps);
     let wait = [Command::Wait];
-    assert_eq!(rt;
-        step(rt, &mut machine, &wait, &mut steps),
-        Err(StepFault::Spent)
-    );
+    assert_refused(rt, &mut machine, &wait, StepFault::Spent, &mut steps);
     Ok(())
 }
 

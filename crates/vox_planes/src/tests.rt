@@ -31,7 +31,7 @@ fn assert_listed<L: Ledger>(
 )
     requires { IsInSpace planes.now.resolution b.now.high }
 {
-    let _ = planes.resolution();
+    planes.know();
     list.clear();
     assert!(rt; b.size() <= list.spare());
     if full {
@@ -42,6 +42,59 @@ fn assert_listed<L: Ledger>(
     assert_eq!(rt; list.as_slice(), want);
 }
 
+/// The first full coordinate of a region is the expected one.
+fn assert_first<L: Ledger>(
+    rt: &impl Abort,
+    planes: &Planes,
+    b: &Region,
+    want: Option<Coord>,
+    steps: &mut Steps<L>,
+)
+    requires { IsInSpace planes.now.resolution b.now.high }
+{
+    assert_eq!(rt; planes.region_full(b, steps), want);
+}
+
+/// Two full voxels at resolution 3.
+fn two_voxels<L: Ledger>(
+    rt: &impl Abort,
+    alloc: Global,
+    steps: &mut Steps<L>,
+) -> Result<Planes, Memory>
+    ensures { IfOk result (λ p. p.resolution ≡ 3) }
+{
+    let mut planes = Planes::empty(alloc, 3)?;
+    assert_eq!(rt; planes.resolution(), 3);
+    assert_eq!(rt; planes.count(steps), 0);
+    planes.set(at(1, 0, 2), true);
+    planes.set(at(1, 1, 1), true);
+    planes.set(at(2, 1, 0), true);
+    planes.set(at(1, 1, 1), false);
+    assert!(rt; planes.full_at(at(1, 0, 2), steps));
+    assert!(rt; !planes.full_at(at(1, 1, 1), steps));
+    assert_eq!(rt; planes.count(steps), 2);
+    Ok(planes)
+}
+
+/// What lists of regions of the two voxels have.
+fn assert_lists<L: Ledger>(
+    rt: &impl Abort,
+    alloc: Global,
+    planes: &Planes,
+    steps: &mut Steps<L>,
+) -> Result<(), Memory>
+    requires { planes.now.resolution ≡ 3 }
+{
+    let mut list = ChangeList::with_room(alloc, 27)?;
+    let all = Region::of(at(0, 0, 0), at(2, 2, 2));
+    let full = [at(1, 0, 2), at(2, 1, 0)];
+    assert_listed(rt, planes, &mut list, true, &all, &full, steps);
+    let part = Region::of(at(1, 0, 1), at(1, 1, 2));
+    let void = [at(1, 0, 1), at(1, 1, 1), at(1, 1, 2)];
+    assert_listed(rt, planes, &mut list, false, &part, &void, steps);
+    Ok(())
+}
+
 /// Two full voxels at resolution 3, and a copy that differs.
 fn small<L: Ledger>(rt: &impl Abort, blank: Blank, alloc: Global) -> Result<(), Memory>
     requires name { blank.name ≡ L.name }
@@ -49,49 +102,18 @@ fn small<L: Ledger>(rt: &impl Abort, blank: Blank, alloc: Global) -> Result<(), 
     requires some { 0 < L.parts }
 {
     let mut steps: Steps<L> = Steps::new(blank);
-    let mut planes = Planes::empty(alloc, 3)?;
-    assert_eq!(rt; planes.resolution(), 3);
-    assert_eq!(rt; planes.count(&mut steps), 0);
-    planes.set(at(1, 0, 2), true);
-    planes.set(at(1, 1, 1), true);
-    planes.set(at(2, 1, 0), true);
-    planes.set(at(1, 1, 1), false);
-    assert!(rt; planes.full_at(at(1, 0, 2), &mut steps));
-    assert!(rt; !planes.full_at(at(1, 1, 1), &mut steps));
-    assert_eq!(rt; planes.count(&mut steps), 2);
-
+    let planes = two_voxels(rt, alloc, &mut steps)?;
     let right = Region::of(at(1, 0, 0), at(2, 1, 2));
-    assert_eq!(rt; planes.region_full(&right, &mut steps), Some(at(1, 0, 2)));
+    assert_first(rt, &planes, &right, Some(at(1, 0, 2)), &mut steps);
     let left = Region::of(at(0, 0, 0), at(0, 2, 2));
-    assert_eq!(rt; planes.region_full(&left, &mut steps), None);
+    assert_first(rt, &planes, &left, None, &mut steps);
     let along_x = Region::of(at(2, 0, 2), at(0, 0, 2));
-    assert_eq!(rt; planes.region_full(&along_x, &mut steps), Some(at(1, 0, 2)));
+    assert_first(rt, &planes, &along_x, Some(at(1, 0, 2)), &mut steps);
     let along_y = Region::of(at(2, 0, 0), at(2, 2, 0));
-    assert_eq!(rt; planes.region_full(&along_y, &mut steps), Some(at(2, 1, 0)));
+    assert_first(rt, &planes, &along_y, Some(at(2, 1, 0)), &mut steps);
     let beside = Region::of(at(2, 0, 1), at(2, 2, 1));
-    assert_eq!(rt; planes.region_full(&beside, &mut steps), None);
-
-    let mut list = ChangeList::with_room(alloc, 27)?;
-    let all = Region::of(at(0, 0, 0), at(2, 2, 2));
-    assert_listed(
-        rt,
-        &planes,
-        &mut list,
-        true,
-        &all,
-        &[at(1, 0, 2), at(2, 1, 0)],
-        &mut steps,
-    );
-    let part = Region::of(at(1, 0, 1), at(1, 1, 2));
-    assert_listed(
-        rt,
-        &planes,
-        &mut list,
-        false,
-        &part,
-        &[at(1, 0, 1), at(1, 1, 1), at(1, 1, 2)],
-        &mut steps,
-    );
+    assert_first(rt, &planes, &beside, None, &mut steps);
+    assert_lists(rt, alloc, &planes, &mut steps)?;
 
     let mut other = planes.copy(alloc)?;
     assert_eq!(rt; planes.equal(&other, &mut steps), None);
@@ -102,44 +124,55 @@ fn small<L: Ledger>(rt: &impl Abort, blank: Blank, alloc: Global) -> Result<(), 
 }
 
 /// A row of 70 voxels, whose bits stand in three words, and a voxel beside it.
-fn wide<L: Ledger>(rt: &impl Abort, blank: Blank, alloc: Global) -> Result<(), Memory>
-    requires name { blank.name ≡ L.name }
-    requires parts { blank.parts ≡ L.parts }
-    requires some { 0 < L.parts }
+fn wide_row<L: Ledger>(
+    rt: &impl Abort,
+    alloc: Global,
+    steps: &mut Steps<L>,
+) -> Result<Planes, Memory>
+    ensures { IfOk result (λ p. p.resolution ≡ 70) }
 {
-    let mut steps: Steps<L> = Steps::new(blank);
     let mut planes = Planes::empty(alloc, 70)?;
     planes.set(at(5, 3, 0), true);
     planes.set(at(5, 3, 63), true);
     planes.set(at(5, 3, 64), true);
     planes.set(at(5, 3, 69), true);
     planes.set(at(6, 0, 1), true);
-    assert_eq!(rt; planes.count(&mut steps), 5);
+    assert_eq!(rt; planes.count(steps), 5);
+    Ok(planes)
+}
 
-    let row = Region::of(at(5, 3, 69), at(5, 3, 1));
-    assert_eq!(rt; planes.region_full(&row, &mut steps), Some(at(5, 3, 63)));
-
+/// What lists of that row have, of all full voxels of `rows` and of the void ones of a part.
+fn assert_wide_lists<L: Ledger>(
+    rt: &impl Abort,
+    alloc: Global,
+    planes: &Planes,
+    rows: &Region,
+    steps: &mut Steps<L>,
+) -> Result<(), Memory>
+    requires resolution { planes.now.resolution ≡ 70 }
+    requires within { IsInSpace planes.now.resolution rows.now.high }
+{
     let mut list = ChangeList::with_room(alloc, 200)?;
-    let rows = Region::of(at(5, 3, 1), at(6, 3, 69));
-    assert_listed(
-        rt,
-        &planes,
-        &mut list,
-        true,
-        &rows,
-        &[at(5, 3, 63), at(5, 3, 64), at(5, 3, 69)],
-        &mut steps,
-    );
+    let full = [at(5, 3, 63), at(5, 3, 64), at(5, 3, 69)];
+    assert_listed(rt, planes, &mut list, true, rows, &full, steps);
     let part = Region::of(at(5, 3, 62), at(5, 3, 65));
-    assert_listed(
-        rt,
-        &planes,
-        &mut list,
-        false,
-        &part,
-        &[at(5, 3, 62), at(5, 3, 65)],
-        &mut steps,
-    );
+    let void = [at(5, 3, 62), at(5, 3, 65)];
+    assert_listed(rt, planes, &mut list, false, &part, &void, steps);
+    Ok(())
+}
+
+/// That row, a copy that differs, and regions of it that become full and void.
+fn wide<L: Ledger>(rt: &impl Abort, blank: Blank, alloc: Global) -> Result<(), Memory>
+    requires name { blank.name ≡ L.name }
+    requires parts { blank.parts ≡ L.parts }
+    requires some { 0 < L.parts }
+{
+    let mut steps: Steps<L> = Steps::new(blank);
+    let mut planes = wide_row(rt, alloc, &mut steps)?;
+    let row = Region::of(at(5, 3, 69), at(5, 3, 1));
+    assert_first(rt, &planes, &row, Some(at(5, 3, 63)), &mut steps);
+    let rows = Region::of(at(5, 3, 1), at(6, 3, 69));
+    assert_wide_lists(rt, alloc, &planes, &rows, &mut steps)?;
 
     let mut other = planes.copy(alloc)?;
     other.set(at(6, 0, 1), false);

@@ -6,4 +6,4 @@ use Rattle.step_machine.proofs.tests.second_step.Goals as goal
 
 pub step_in_order-made-requires-clause-order : goal.step_in_order-made-requires-clause-order
 step_in_order-made-requires-clause-order g c =
-    subst (λ (bids : List ℕ). IsPermutation (leader_bids (acts c.step.new.machine.state.bots c.args.commands.now)) bids) (sym c.as_slice.ensures.value) c.order_of-order.ensures
+    subst (λ (bids : List ℕ). IsPermutation (leader_bids (acts c.assert_made.new.machine.state.bots c.args.commands.now)) bids) (sym c.as_slice.ensures.value) c.order_of-order.ensures
