@@ -1,6 +1,6 @@
 -- What one more command changes of a runner.
-use Rattle.std.proofs.Common.{◌≡◌, ◌+◌, ◌==◌, refl, sym, ◌∙◌, ap, subst, eq-eqb, List, [], ◌∷◌, ◌++◌, Bool, true, false, length, length-append}
-use Rattle.std.specs.Prelude.{MatchBool, ◌↔◌}
+use Rattle.std.proofs.Common.{◌≡◌, ℕ, ◌+◌, ◌==◌, refl, sym, ◌∙◌, ap, subst, eq-eqb, List, [], ◌∷◌, ◌++◌, Bool, true, false, length, length-append}
+use Rattle.std.specs.Prelude.{MatchBool, ◌↔◌, Result, Ok}
 use Rattle.nano_spec.specs.declared.commands.Command.{Command}
 use Rattle.nano_spec.specs.declared.system.Bot.{Bot}
 use Rattle.nano_spec.specs.Next.{Goes, Next}
@@ -9,8 +9,11 @@ use Rattle.run_progress.specs.Progress as progress
 use Rattle.run_progress.specs.Progress.{Progress, Pushes, PushesAt, MakesStep, mark_of, with_command}
 use Rattle.step_machine.specs.declared.runner.Mark.{Mark}
 use Rattle.step_machine.specs.declared.runner.Mark.TheVariants as mark
+use Rattle.step_machine.specs.declared.machine.StepFault.{StepFault}
+use Rattle.step_machine.specs.declared.machine.StepOk.{StepOk}
 use Rattle.step_machine.specs.Course.{Course, course_of, mark_by}
 use Rattle.step_machine.specs.Situation.{Situation}
+use Rattle.step_machine.specs.Stepped.{Stepped}
 
 module _ (machine : Situation) (pending : List Command) (m : Mark) (v : Course) (seen : course_of machine pending m ≡ v) (runs : m ≡ mark.Running) where
   -- the last command of a step that is made
@@ -33,3 +36,15 @@ halted_mark (b ∷ bots) halted h e = let f = h.0 e in cc
 pub running_mark : (bots : List Bot) (halted : Bool) → (halted ≡ true ↔ bots ≡ []) → halted ≡ false → progress.Running ≡ mark_of bots
 running_mark [] halted h e = let f = h.1 refl in cc
 running_mark (b ∷ bots) halted h e = refl
+
+-- the answer of the step of a machine that stands where it stood, by the commands that waited and one more
+pub step_answered : (old now new : Situation) (before pending all : List Command) (command : Command) (answer : Result StepOk StepFault) (ok : StepOk) (halted : Bool) (began start ended : ℕ)
+    → now ≡ old → pending ≡ before → all ≡ pending ++ command ∷ [] → start ≡ began → answer ≡ Ok ok → ok.halted ≡ halted → Stepped now new all answer start ended
+    → Stepped old new (before ++ command ∷ []) (Ok (record { energy = new.state.energy; halted = halted })) began ended
+step_answered old now new before pending all command answer ok halted began start ended m p l s a h stepped =
+    let here : Stepped old new (before ++ command ∷ []) (Ok ok) began ended =
+    subst (λ (w : Situation). Stepped w new (before ++ command ∷ []) (Ok ok) began ended) m
+    (subst (λ (xs : List Command). Stepped now new xs (Ok ok) began ended) (l ∙ ap (λ (ks : List Command). ks ++ command ∷ []) p)
+    (subst (λ (r : Result StepOk StepFault). Stepped now new all r began ended) a
+    (subst (λ (n : ℕ). Stepped now new all answer n ended) s stepped))) in
+    subst (λ (r : Result StepOk StepFault). Stepped old new (before ++ command ∷ []) r began ended) (λ i. Ok (record { energy = here.energy i; halted = h i })) here

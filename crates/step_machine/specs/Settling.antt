@@ -10,6 +10,7 @@ use Rattle.nano_spec.specs.declared.outcomes.Broken.{Broken}
 use Rattle.nano_spec.specs.declared.outcomes.Rule.TheVariants.{Ungrounded}
 use Rattle.nano_spec.specs.declared.system.Bot.{Bot}
 use Rattle.nano_spec.specs.Act.{Act, acts}
+use Rattle.nano_spec.specs.Cutting.{AreCommands}
 use Rattle.nano_spec.specs.Group.{leaders}
 use Rattle.nano_spec.specs.Matrix.{Matrix}
 use Rattle.nano_spec.specs.Model.{volume}
@@ -18,8 +19,12 @@ use Rattle.nano_spec.specs.State.{State}
 use Rattle.nano_spec.specs.Step.{after}
 use Rattle.nano_spec.specs.Work.{WorkOfActs, volatile_total}
 use Rattle.step_groups.specs.Judging.{edit_of}
+use Rattle.system_state.specs.declared.turns.Turn.{Turn}
+use Rattle.system_state.specs.Turns.{AreTurns}
 use Rattle.support_forest.specs.Standing.{Standing}
+use Rattle.vox_planes.specs.Changes.{Changes}
 use Rattle.step_machine.specs.Edits.{edit_count, is_edit, is_edited}
+use Rattle.step_machine.specs.declared.TheConstants.{MOST_CHANGED}
 use Rattle.step_machine.specs.declared.machine.StepFault.{StepFault}
 use Rattle.step_machine.specs.declared.machine.StepFault.TheVariants as fault
 
@@ -27,6 +32,15 @@ use Rattle.step_machine.specs.declared.machine.StepFault.TheVariants as fault
 abbrev pub IsPaidBy : State → List Command → ℕ → ℕ → Type 0
 IsPaidBy s commands began ended =
     (n : ℕ) → WorkOfActs s.matrix (acts s.bots commands) n → ended + 4 * volatile_total s.matrix (acts s.bots commands) ≤ began + 100 * n
+
+-- what the groups of a step change may be listed and made: the turns are those of the leaders, the list has room for all that a step
+-- changes, and the forest is one of the state's matrix
+pub record IsPrepared (s : State) (all : List Command) (taken : List Turn) (list : Changes) (forest : Standing) : Type 0 where
+  pub commands : AreCommands all
+  pub turns : AreTurns (acts s.bots all) (leaders (acts s.bots all)) taken
+  pub room : MOST_CHANGED ≤ list.spare + length list.items
+  pub stands : forest.spent ≡ false
+  pub tied : forest.matrix ≡ s.matrix
 
 -- the step is one of the only bot, which fills the voxel at the coordinate, or else voids it
 pub record IsOneEdit (s : State) (commands : List Command) (d : Diff) (at : Coord) (full : Bool) : Type 0 where

@@ -13,6 +13,7 @@ ghost use Rattle.nano_spec.specs.Step.{after};
 ghost use Rattle.vox_geom.specs.Space.{IsInSpace};
 ghost use Rattle.vox_planes.specs.Voxel.{IsWhole};
 ghost use Rattle.bot_crew.specs.Crew.{IsCrew};
+ghost use Rattle.step_machine.specs.declared.machine.StepFault.TheVariants as fault;
 ghost use Rattle.step_machine.specs.Edits.{is_edit};
 ghost use Rattle.step_machine.specs.Situation.{IsEnergyBounded};
 ghost use Rattle.step_machine.specs.Stepped.{Stepped};
@@ -55,6 +56,14 @@ pub enum StepFault {
     Memory,
     /// An earlier step broke the rule of grounding, or was refused memory.
     Spent,
+}
+
+impl From<Memory> for StepFault {
+    ghost from_gives = { λ _ f. f ≡ fault.Memory };
+
+    fn from(_memory: Memory) -> StepFault {
+        StepFault::Memory
+    }
 }
 
 /// The machine. Contracts see the state of the system, how many steps were made, and whether the machine is spent.
@@ -223,7 +232,7 @@ impl Machine {
     }
 
     /// A step whose groups are applied in the order that is given, or else in rising order.
-    fn make_step<L: Ledger>(
+    pub(crate) fn make_step<L: Ledger>(
         &mut self,
         commands: &[Command],
         order: Option<&[u8]>,
@@ -265,11 +274,13 @@ impl Machine {
         Ok(made(&self.system))
     }
 
-    /// Does nothing: it recalls what the state keeps. Its bots are a crew, and it is ready for a step.
+    /// Does nothing: it recalls what the state keeps. Its bots are a crew, it is ready for a step, and its profile gives no more
+    /// seeds than there are bids.
     #[inline(always)]
     pub fn know(&self)
         ensures crew { IsCrew self.now.state.bots }
         ensures ready { IsReady self.now.state }
+        ensures seeds { self.now.state.profile.seeds ≤ 39 }
     {
         self.system.know();
     }
@@ -294,7 +305,7 @@ impl Machine {
         ensures value { result ≡ self.now.state.profile }
         ensures seeds { self.now.state.profile.seeds ≤ 39 }
     {
-        let _ = self.steps;
+        self.know();
         self.system.profile()
     }
 

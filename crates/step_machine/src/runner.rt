@@ -1,5 +1,5 @@
 //! Runs: a machine that takes the commands of a trace one by one.
-ghost use Rattle.std.specs.Prelude.{◌≡◌, ◌≢◌, ℕ, ◌+◌, ◌*◌, ◌<◌, ◌≤◌, false, true, [], ◌∷◌, ◌++◌, length, count_by, IfOk, IfErr, IfNone, IfSome, None, Some, Err};
+ghost use Rattle.std.specs.Prelude.{◌≡◌, ◌≢◌, ℕ, ◌+◌, ◌*◌, ◌<◌, ◌≤◌, false, true, [], ◌∷◌, ◌++◌, length, count_by, IfOk, IfErr, IfSome, None, Err};
 ghost use Rattle.nano_spec.specs.Grounded.{FirstUngrounded};
 ghost use Rattle.nano_spec.specs.Matrix.{Matrix};
 ghost use Rattle.nano_spec.specs.Model.{volume};
@@ -10,9 +10,9 @@ ghost use Rattle.step_machine.specs.declared.runner.Mark.TheVariants as Mark;
 ghost use Rattle.step_machine.specs.Course.{IsAfterEnd, LacksCommands, MakesEdits, MakesNoStep, course_of, searched_by};
 ghost use Rattle.step_machine.specs.Edits.{is_edit};
 ghost use Rattle.step_machine.specs.Payment.{IsWithinWork, IsWithinWorkOfRun};
-ghost use Rattle.step_machine.specs.Stepped.{Stepped, answer_of};
+ghost use Rattle.step_machine.specs.Stepped.{Stepped, answer_of, answer_to};
 
-use crate::machine::{Machine, StepFault, StepOk, Tried};
+use crate::machine::{Machine, StepFault, Tried};
 use crate::pending::Pending;
 use nano_spec::{Broken, Command, Profile, Rule, Verdict};
 use run_progress::the_progress_is_the_verdict;
@@ -29,6 +29,16 @@ enum Mark {
     Refused(Broken),
     Halted,
     Followed,
+}
+
+/// What one command more came to: it waits for those of other bots, or its step was made, after which some bot is left or none is,
+/// or its step was refused.
+#[derive(Clone, Copy, PartialEq, Eq)]
+enum Taken {
+    Waits,
+    Made,
+    Halted,
+    Refused,
 }
 
 /// A run that takes the commands of a trace one by one, and keeps none of them once their step is made. Contracts see
@@ -50,40 +60,6 @@ impl Model for Runner {
     ghost invariant = { λ r. IsUnderway r.machine r.pending r.mark };
 }
 
-/// One command more for the next step, which is made where each bot has one then: `None` where some bot still has none.
-#[inline(always)]
-fn take<L: Ledger>(
-    machine: &mut Machine,
-    pending: &mut Pending,
-    command: Command,
-    steps: &mut Steps<L>,
-) -> Option<Result<StepOk, StepFault>>
-    requires lacks { length pending.old < length machine.old.state.bots }
-    requires steps { machine.old.steps < 1073741824 }
-    ensures full { IfSome result (λ _. length pending.old + 1 ≡ length machine.old.state.bots) }
-    ensures stepped { IfSome result (λ answer. Stepped machine.old machine.new (pending.old ++ command ∷ []) answer steps.old steps.new) }
-    ensures cleared { IfSome result (λ answer. IfOk answer (λ _. pending.new ≡ [])) }
-    ensures kept { IfSome result (λ answer. IfErr answer (λ _. pending.new ≡ pending.old ++ command ∷ [])) }
-    ensures memory { result ≡ Some (Err StepFault.Memory) → 1 ≤ count_by is_edit (pending.old ++ command ∷ []) }
-    ensures lacks { IfNone result (length pending.old + 1 < length machine.old.state.bots) }
-    ensures joins { IfNone result (pending.new ≡ pending.old ++ command ∷ []) }
-    ensures stays { IfNone result (machine.new ≡ machine.old) }
-    ensures untouched { IfNone result (steps.new ≡ steps.old) }
-{
-    machine.know();
-    pending.push(command);
-    if pending.as_slice().len() < usize::from(machine.active()) {
-        return None;
-    }
-    match machine.step(pending.as_slice(), steps) {
-        Ok(ok) => {
-            pending.clear();
-            Some(Ok(ok))
-        }
-        Err(fault) => Some(Err(fault)),
-    }
-}
-
 /// The step of an only bot by a command that is frequent. The command is kept only where its step is refused.
 #[inline(always)]
 fn take_alone<L: Ledger>(
@@ -98,7 +74,6 @@ fn take_alone<L: Ledger>(
     ensures made { result ≡ Tried.Made
         → Stepped machine.old machine.new (pending.old ++ command.now ∷ []) (answer_of true machine.new.state fault.new) steps.old steps.new }
     ensures cleared { result ≡ Tried.Made → pending.new ≡ [] }
-    ensures left { result ≡ Tried.Made → length machine.new.state.bots ≡ 1 }
     ensures refused { result ≡ Tried.Refused
         → Stepped machine.old machine.new (pending.old ++ command.now ∷ []) (Err fault.new) steps.old steps.new }
     ensures kept { result ≡ Tried.Refused → pending.new ≡ pending.old ++ command.now ∷ [] }
@@ -117,6 +92,53 @@ fn take_alone<L: Ledger>(
             Tried::Refused
         }
         Tried::Declined => Tried::Declined,
+    }
+}
+
+/// One command more for the next step, which is made where each bot has one then. `fault` is written only where it is refused.
+#[inline(always)]
+fn take<L: Ledger>(
+    machine: &mut Machine,
+    pending: &mut Pending,
+    command: Command,
+    fault: &mut StepFault,
+    steps: &mut Steps<L>,
+) -> Taken
+    requires lacks { length pending.old < length machine.old.state.bots }
+    requires steps { machine.old.steps < 1073741824 }
+    ensures full { result ≢ Taken.Waits → length pending.old + 1 ≡ length machine.old.state.bots }
+    ensures stepped { IfSome (answer_to result machine.new.state fault.new)
+        (λ answer. Stepped machine.old machine.new (pending.old ++ command ∷ []) answer steps.old steps.new) }
+    ensures cleared { IfSome (answer_to result machine.new.state fault.new) (λ answer. IfOk answer (λ _. pending.new ≡ [])) }
+    ensures kept { result ≡ Taken.Refused → pending.new ≡ pending.old ++ command ∷ [] }
+    ensures memory { result ≡ Taken.Refused → fault.new ≡ StepFault.Memory → 1 ≤ count_by is_edit (pending.old ++ command ∷ []) }
+    ensures lacks { result ≡ Taken.Waits → length pending.old + 1 < length machine.old.state.bots }
+    ensures joins { result ≡ Taken.Waits → pending.new ≡ pending.old ++ command ∷ [] }
+    ensures stays { result ≡ Taken.Waits → machine.new ≡ machine.old }
+    ensures untouched { result ≡ Taken.Waits → steps.new ≡ steps.old }
+{
+    match take_alone(machine, pending, &command, fault, steps) {
+        Tried::Made => return Taken::Made,
+        Tried::Refused => return Taken::Refused,
+        Tried::Declined => {}
+    }
+    machine.know();
+    pending.push(command);
+    if pending.as_slice().len() < usize::from(machine.active()) {
+        return Taken::Waits;
+    }
+    match machine.make_step(pending.as_slice(), None, steps) {
+        Ok(ok) => {
+            pending.clear();
+            if ok.halted {
+                return Taken::Halted;
+            }
+            Taken::Made
+        }
+        Err(refusal) => {
+            *fault = refusal;
+            Taken::Refused
+        }
     }
 }
 
@@ -175,80 +197,6 @@ impl Runner {
             (λ _. IsWithinWork self.old.progress.state (self.old.progress.pending ++ command ∷ []) (self.old.progress.steps + 1)
             (steps.old + searched_by self.new.progress.mark self.old.progress.state.matrix) steps.new) }
     {
-        match self.push_alone(&command, steps) {
-            Some(answer) => answer,
-            None => self.push_other(command, steps),
-        }
-    }
-
-    /// [`Runner::push`] of a command that an only bot takes at once: `None`, and nothing is changed, where that is not so.
-    #[inline(always)]
-    fn push_alone<L: Ledger>(
-        &mut self,
-        command: &Command,
-        steps: &mut Steps<L>,
-    ) -> Option<Result<(), Memory>>
-        requires stands { self.old.spent ≡ false }
-        requires steps { self.old.progress.steps < 1073741824 }
-        ensures progress { IfSome result (λ answer. IfOk answer (λ _. Pushes self.old.progress command.now self.new.progress)) }
-        ensures stands { IfSome result (λ answer. IfOk answer (λ _. self.new.spent ≡ false)) }
-        ensures spent { IfSome result (λ answer. IfErr answer (λ _. self.new.spent ≡ true)) }
-        ensures memory { IfSome result (λ answer. IfErr answer (λ _. MakesEdits self.old.progress command.now)) }
-        ensures steps { self.new.progress.steps ≤ self.old.progress.steps + 1 }
-        ensures resolution { self.new.progress.state.matrix.resolution ≡ self.old.progress.state.matrix.resolution }
-        ensures lacks { IfSome result (λ answer. IfOk answer (λ _. LacksCommands self.new.progress)) }
-        ensures makes { IfSome result (λ _. MakesNoStep self.old.progress → ⊥) }
-        ensures touches { IfSome result (λ answer. IfOk answer
-            (λ _. IsWithinWork self.old.progress.state (self.old.progress.pending ++ command.now ∷ []) (self.old.progress.steps + 1)
-            (steps.old + searched_by self.new.progress.mark self.old.progress.state.matrix) steps.new)) }
-        ensures stays { IfNone result (self.new ≡ self.old) }
-        ensures untouched { IfNone result (steps.new ≡ steps.old) }
-    {
-        match self.mark {
-            Mark::Running => {}
-            Mark::Refused(_) | Mark::Halted | Mark::Followed => return None,
-        }
-        let mut fault = StepFault::Spent;
-        match take_alone(
-            &mut self.machine,
-            &mut self.pending,
-            command,
-            &mut fault,
-            steps,
-        ) {
-            Tried::Made => Some(Ok(())),
-            Tried::Refused => match fault {
-                StepFault::Broken(broken) => {
-                    self.mark = Mark::Refused(broken);
-                    Some(Ok(()))
-                }
-                StepFault::Memory | StepFault::Spent => Some(Err(Memory)),
-            },
-            Tried::Declined => None,
-        }
-    }
-
-    /// [`Runner::push`] of any command.
-    #[inline(always)]
-    fn push_other<L: Ledger>(
-        &mut self,
-        command: Command,
-        steps: &mut Steps<L>,
-    ) -> Result<(), Memory>
-        requires stands { self.old.spent ≡ false }
-        requires steps { self.old.progress.steps < 1073741824 }
-        ensures progress { IfOk result (λ _. Pushes self.old.progress command self.new.progress) }
-        ensures stands { IfOk result (λ _. self.new.spent ≡ false) }
-        ensures spent { IfErr result (λ _. self.new.spent ≡ true) }
-        ensures memory { IfErr result (λ _. MakesEdits self.old.progress command) }
-        ensures steps { self.new.progress.steps ≤ self.old.progress.steps + 1 }
-        ensures resolution { self.new.progress.state.matrix.resolution ≡ self.old.progress.state.matrix.resolution }
-        ensures lacks { IfOk result (λ _. LacksCommands self.new.progress) }
-        ensures untouched { MakesNoStep self.old.progress → steps.new ≡ steps.old }
-        ensures touches { IfOk result
-            (λ _. IsWithinWork self.old.progress.state (self.old.progress.pending ++ command ∷ []) (self.old.progress.steps + 1)
-            (steps.old + searched_by self.new.progress.mark self.old.progress.state.matrix) steps.new) }
-    {
         match self.mark {
             Mark::Running => {}
             Mark::Refused(_) | Mark::Halted | Mark::Followed => {
@@ -257,19 +205,27 @@ impl Runner {
                 return Ok(());
             }
         }
-        match take(&mut self.machine, &mut self.pending, command, steps) {
-            None => Ok(()),
-            Some(Ok(ok)) => {
-                if ok.halted {
-                    self.mark = Mark::Halted;
+        let mut fault = StepFault::Spent;
+        match take(
+            &mut self.machine,
+            &mut self.pending,
+            command,
+            &mut fault,
+            steps,
+        ) {
+            Taken::Waits => Ok(()),
+            Taken::Made => Ok(()),
+            Taken::Halted => {
+                self.mark = Mark::Halted;
+                Ok(())
+            }
+            Taken::Refused => match fault {
+                StepFault::Broken(broken) => {
+                    self.mark = Mark::Refused(broken);
+                    Ok(())
                 }
-                Ok(())
-            }
-            Some(Err(StepFault::Broken(broken))) => {
-                self.mark = Mark::Refused(broken);
-                Ok(())
-            }
-            Some(Err(_)) => Err(Memory),
+                StepFault::Memory | StepFault::Spent => Err(Memory),
+            },
         }
     }
 

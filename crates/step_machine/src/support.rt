@@ -12,7 +12,7 @@ ghost use Rattle.nano_spec.specs.Step.{after, flipped};
 ghost use Rattle.nano_spec.specs.Work.{volatile_total};
 ghost use Rattle.support_forest.specs.Standing.{AreAdded, AreRemoved, IsCheap, MayAdd, MayRemove};
 ghost use Rattle.step_machine.specs.Edits.{edits_of, is_edit};
-ghost use Rattle.step_machine.specs.Settling.{IsOneEdit, IsPaidBy, IsRefitted, IsSettled, IsUnsettled};
+ghost use Rattle.step_machine.specs.Settling.{IsOneEdit, IsPaidBy, IsPrepared, IsRefitted, IsSettled, IsUnsettled};
 ghost use Rattle.step_machine.specs.Undoing.{IsUndoneBy, matrix_before, without_filled};
 ghost use Rattle.system_state.specs.Turns.{AreTurns};
 ghost use Rattle.step_machine.specs.declared.TheConstants.{MOST_CHANGED};
@@ -120,14 +120,9 @@ fn refit_cells<L: Ledger>(
     ensures edits { IfErr result (λ _. 1 ≤ count_by is_edit commands.now) }
 {
     system.know();
-    match remove(forest, removed, steps) {
-        Ok(()) => {}
-        Err(Memory) => return Err(Memory),
-    }
-    match add(forest, added, steps) {
-        Ok(()) => Ok(()),
-        Err(Memory) => Err(Memory),
-    }
+    remove(forest, removed, steps)?;
+    add(forest, added, steps)?;
+    Ok(())
 }
 
 /// The same, where these voxels are still to be listed: first those that are voided, as many as the answer says.
@@ -140,11 +135,7 @@ fn refit<L: Ledger>(
     steps: &mut Steps<L>,
 ) -> Result<usize, Memory>
     requires judged { (step : ℕ) × (broken_of system.now commands.now step ≡ None) }
-    requires turns { AreTurns (acts system.now.bots commands.now) (leaders (acts system.now.bots commands.now)) turns.now }
-    requires commands { AreCommands commands.now }
-    requires room { MOST_CHANGED ≤ list.old.spare + length list.old.items }
-    requires stands { forest.old.spent ≡ false }
-    requires tied { forest.old.matrix ≡ system.now.matrix }
+    requires prepared { IsPrepared system.now commands.now turns.now list.old forest.old }
     ensures refitted { IfOk result (λ _. IsRefitted system.now commands.now forest.new steps.old steps.new) }
     ensures items { list.new.items ≡ edits_of system.now commands.now true ++ edits_of system.now commands.now false }
     ensures voided { IfOk result (λ voided. voided ≡ length (edits_of system.now commands.now true)) }
@@ -153,10 +144,8 @@ fn refit<L: Ledger>(
 {
     let voided = list_edits(system, commands, turns, list, steps);
     let (removed, added) = list.as_slice().split_at(voided);
-    match refit_cells(system, commands, removed, added, forest, steps) {
-        Ok(()) => Ok(voided),
-        Err(Memory) => Err(Memory),
-    }
+    refit_cells(system, commands, removed, added, forest, steps)?;
+    Ok(voided)
 }
 
 /// The same, where no list is asked for: a region that is all that changes is not listed.
@@ -169,11 +158,7 @@ fn refit_unlisted<L: Ledger>(
     steps: &mut Steps<L>,
 ) -> Result<(), Memory>
     requires judged { (step : ℕ) × (broken_of system.now commands.now step ≡ None) }
-    requires turns { AreTurns (acts system.now.bots commands.now) (leaders (acts system.now.bots commands.now)) turns.now }
-    requires commands { AreCommands commands.now }
-    requires room { MOST_CHANGED ≤ list.old.spare + length list.old.items }
-    requires stands { forest.old.spent ≡ false }
-    requires tied { forest.old.matrix ≡ system.now.matrix }
+    requires prepared { IsPrepared system.now commands.now turns.now list.old forest.old }
     ensures refitted { IfOk result (λ _. IsRefitted system.now commands.now forest.new steps.old steps.new) }
     ensures edits { IfErr result (λ _. 1 ≤ count_by is_edit commands.now) }
     ensures room { MOST_CHANGED ≤ list.new.spare + length list.new.items }
@@ -181,10 +166,8 @@ fn refit_unlisted<L: Ledger>(
     if let Some(region) = only_region(system, commands, turns) {
         return refit_region(system, commands, &region, forest, steps);
     }
-    match refit(system, commands, turns, list, forest, steps) {
-        Ok(_) => Ok(()),
-        Err(Memory) => Err(Memory),
-    }
+    refit(system, commands, turns, list, forest, steps)?;
+    Ok(())
 }
 
 /// One cell becomes full, or else void.
@@ -237,10 +220,8 @@ fn refit_one<L: Ledger>(
     if was == full {
         return Ok(was);
     }
-    match change_cell(forest, at, full, steps) {
-        Ok(()) => Ok(was),
-        Err(Memory) => Err(Memory),
-    }
+    change_cell(forest, at, full, steps)?;
+    Ok(was)
 }
 
 /// The forest before a step that is taken back: it loses what became full, and then gains what became void.
@@ -257,14 +238,9 @@ pub(crate) fn refit_back<L: Ledger>(
     ensures stands { IfOk result (λ _. forest.new.spent ≡ false) }
     ensures touches { IfOk result (λ _. IsUndoneBy forest.old.matrix filled.now voided.now steps.old steps.new) }
 {
-    match remove(forest, filled, steps) {
-        Ok(()) => {}
-        Err(Memory) => return Err(Memory),
-    }
-    match add(forest, voided, steps) {
-        Ok(()) => Ok(()),
-        Err(Memory) => Err(Memory),
-    }
+    remove(forest, filled, steps)?;
+    add(forest, voided, steps)?;
+    Ok(())
 }
 
 /// What comes of a step whose forest is that after it: no voxel may float in it under Low.
@@ -279,8 +255,10 @@ fn settle_refitted<L: Ledger>(
     requires few { length commands.now ≤ length system.now.bots }
     requires stands { forest.now.spent ≡ false }
     requires matrix { forest.now.matrix ≡ (after system.now commands.now).matrix }
-    ensures settled { IfOk result (λ _. (before : ℕ) → IsPaidBy system.now commands.now before steps.old → IsSettled system.now commands.now step forest.now before steps.new) }
-    ensures unsettled { IfErr result (λ fault. (before : ℕ) → IsPaidBy system.now commands.now before steps.old → IsUnsettled system.now commands.now step fault before steps.new) }
+    ensures settled { IfOk result
+        (λ _. (before : ℕ) → IsPaidBy system.now commands.now before steps.old → IsSettled system.now commands.now step forest.now before steps.new) }
+    ensures unsettled { IfErr result
+        (λ fault. (before : ℕ) → IsPaidBy system.now commands.now before steps.old → IsUnsettled system.now commands.now step fault before steps.new) }
     ensures memory { result ≡ Err StepFault.Memory → ⊥ }
 {
     let harmonics = harmonics_after(system.harmonics(), commands);
@@ -308,12 +286,8 @@ pub(crate) fn settle<L: Ledger>(
     steps: &mut Steps<L>,
 ) -> Result<usize, StepFault>
     requires judged { broken_of system.now commands.now step ≡ None }
-    requires turns { AreTurns (acts system.now.bots commands.now) (leaders (acts system.now.bots commands.now)) turns.now }
     requires few { length commands.now ≤ length system.now.bots }
-    requires commands { AreCommands commands.now }
-    requires room { MOST_CHANGED ≤ list.old.spare + length list.old.items }
-    requires stands { forest.old.spent ≡ false }
-    requires tied { forest.old.matrix ≡ system.now.matrix }
+    requires prepared { IsPrepared system.now commands.now turns.now list.old forest.old }
     ensures settled { IfOk result (λ _. IsSettled system.now commands.now step forest.new steps.old steps.new) }
     ensures unsettled { IfErr result (λ fault. IsUnsettled system.now commands.now step fault steps.old steps.new) }
     ensures memory { result ≡ Err StepFault.Memory → 1 ≤ count_by is_edit commands.now }
@@ -321,14 +295,9 @@ pub(crate) fn settle<L: Ledger>(
     ensures voided { IfOk result (λ voided. voided ≡ length (edits_of system.now commands.now true)) }
     ensures room { MOST_CHANGED ≤ list.new.spare + length list.new.items }
 {
-    let voided = match refit(system, commands, turns, list, forest, steps) {
-        Ok(voided) => voided,
-        Err(Memory) => return Err(StepFault::Memory),
-    };
-    match settle_refitted(system, commands, step, forest, steps) {
-        Ok(()) => Ok(voided),
-        Err(fault) => Err(fault),
-    }
+    let voided = refit(system, commands, turns, list, forest, steps)?;
+    settle_refitted(system, commands, step, forest, steps)?;
+    Ok(voided)
 }
 
 /// The same, where no list is asked for.
@@ -342,21 +311,16 @@ pub(crate) fn settle_unlisted<L: Ledger>(
     steps: &mut Steps<L>,
 ) -> Result<(), StepFault>
     requires judged { broken_of system.now commands.now step ≡ None }
-    requires turns { AreTurns (acts system.now.bots commands.now) (leaders (acts system.now.bots commands.now)) turns.now }
     requires few { length commands.now ≤ length system.now.bots }
-    requires commands { AreCommands commands.now }
-    requires room { MOST_CHANGED ≤ list.old.spare + length list.old.items }
-    requires stands { forest.old.spent ≡ false }
-    requires tied { forest.old.matrix ≡ system.now.matrix }
+    requires prepared { IsPrepared system.now commands.now turns.now list.old forest.old }
     ensures settled { IfOk result (λ _. IsSettled system.now commands.now step forest.new steps.old steps.new) }
     ensures unsettled { IfErr result (λ fault. IsUnsettled system.now commands.now step fault steps.old steps.new) }
     ensures memory { result ≡ Err StepFault.Memory → 1 ≤ count_by is_edit commands.now }
     ensures room { MOST_CHANGED ≤ list.new.spare + length list.new.items }
 {
-    match refit_unlisted(system, commands, turns, list, forest, steps) {
-        Ok(()) => settle_refitted(system, commands, step, forest, steps),
-        Err(Memory) => Err(StepFault::Memory),
-    }
+    refit_unlisted(system, commands, turns, list, forest, steps)?;
+    settle_refitted(system, commands, step, forest, steps)?;
+    Ok(())
 }
 
 /// The same for a step of the only bot that fills the voxel at the coordinate, or else voids it. The answer is whether that
@@ -380,10 +344,7 @@ pub(crate) fn settle_one<L: Ledger>(
     ensures unsettled { IfErr result (λ fault. IsUnsettled system.now commands.now step fault steps.old steps.new) }
     ensures was { IfOk result (λ was. was ≡ is_full system.now.matrix at) }
 {
-    let was = match refit_one(system, commands, d, at, full, forest, steps) {
-        Ok(was) => was,
-        Err(Memory) => return Err(StepFault::Memory),
-    };
+    let was = refit_one(system, commands, d, at, full, forest, steps)?;
     match ungrounded(forest, system.harmonics(), steps) {
         None => Ok(was),
         Some(at) => Err(StepFault::Broken(Broken {

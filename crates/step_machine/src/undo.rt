@@ -1,11 +1,7 @@
 //! Notes of steps, by which they are taken back.
-ghost use Rattle.std.specs.Prelude.{◌≡◌, ◌+◌, ◌≤◌, false, length, take, drop, IfOk, IfErr, None};
-ghost use Rattle.nano_spec.specs.Act.{acts};
-ghost use Rattle.nano_spec.specs.Cutting.{AreCommands};
-ghost use Rattle.nano_spec.specs.Group.{leaders};
+ghost use Rattle.std.specs.Prelude.{◌≡◌, ◌+◌, ◌≤◌, length, take, drop, IfOk, IfErr, None};
 ghost use Rattle.nano_spec.specs.Rules.{broken as broken_of};
-ghost use Rattle.system_state.specs.Turns.{AreTurns};
-ghost use Rattle.step_machine.specs.Settling.{IsSettled, IsUnsettled};
+ghost use Rattle.step_machine.specs.Settling.{IsPrepared, IsSettled, IsUnsettled};
 ghost use Rattle.step_machine.specs.Undoing.{IsNote};
 ghost use Rattle.step_machine.specs.declared.TheConstants.{MOST_CHANGED};
 
@@ -88,12 +84,8 @@ pub(crate) fn settle_noted<L: Ledger>(
 ) -> Result<Undo, StepFault>
     requires step { 1 ≤ step }
     requires judged { broken_of system.now commands.now step ≡ None }
-    requires turns { AreTurns (acts system.now.bots commands.now) (leaders (acts system.now.bots commands.now)) turns.now }
     requires few { length commands.now ≤ length system.now.bots }
-    requires commands { AreCommands commands.now }
-    requires room { MOST_CHANGED ≤ list.old.spare + length list.old.items }
-    requires stands { forest.old.spent ≡ false }
-    requires tied { forest.old.matrix ≡ system.now.matrix }
+    requires prepared { IsPrepared system.now commands.now turns.now list.old forest.old }
     ensures settled { IfOk result (λ _. IsSettled system.now commands.now step forest.new steps.old steps.new) }
     ensures unsettled { IfErr result (λ fault. IsUnsettled system.now commands.now step fault steps.old steps.new) }
     ensures note { IfOk result (λ undo. IsNote system.now commands.now step undo) }
@@ -101,8 +93,6 @@ pub(crate) fn settle_noted<L: Ledger>(
 {
     system.know();
     let voided = settle(system, commands, step, turns, list, forest, steps)?;
-    match note(alloc, system, step - 1, list.as_slice(), voided) {
-        Ok(undo) => Ok(undo),
-        Err(Memory) => Err(StepFault::Memory),
-    }
+    let undo = note(alloc, system, step - 1, list.as_slice(), voided)?;
+    Ok(undo)
 }

@@ -1,6 +1,6 @@
 //! The step of the only bot by a command that needs no other, made at once: no turns and no changes are listed.
 ghost use Rattle.std.specs.Prelude.{◌≡◌, ◌≢◌, ◌<◌, [], ◌∷◌, false, true, length, None, Err};
-ghost use Rattle.nano_spec.specs.declared.commands.Command.TheVariants.{Fill, SMove, Void};
+ghost use Rattle.nano_spec.specs.declared.commands.Command.TheVariants.{SMove};
 ghost use Rattle.nano_spec.specs.declared.system.Harmonics.TheVariants.{Low};
 ghost use Rattle.nano_spec.specs.Grounded.{FirstUngrounded};
 ghost use Rattle.step_groups.specs.Judging.{edit_of};
@@ -48,7 +48,6 @@ impl Machine {
         requires steps { self.old.steps < 1073741824 }
         ensures stepped { Stepped self.old self.new (SMove d ∷ []) (answer_of result self.new.state fault.new) steps.old steps.new }
         ensures memory { result ≡ false → fault.new ≡ StepFault.Memory → is_edit (SMove d) ≡ true }
-        ensures one { result ≡ true → length self.new.state.bots ≡ 1 }
     {
         let step = self.steps + 1;
         self.system.know();
@@ -61,10 +60,10 @@ impl Machine {
         true
     }
 
-    /// The step of the only bot in which it fills a voxel: a call of its own, so that the rest of [`Machine::step_alone`] is small
-    /// enough to be written out for its callers, and no register holds which of the two it is.
+    /// The step of the only bot in which it fills a voxel, or else voids it: a call of its own for each of the two, so that the rest
+    /// of [`Machine::step_alone`] is small enough to be written out for its callers, and no register holds which of them it is.
     #[inline(never)]
-    fn fill_alone<L: Ledger>(
+    fn edit_alone<const FULL: bool, L: Ledger>(
         &mut self,
         d: Near,
         fault: &mut StepFault,
@@ -73,48 +72,12 @@ impl Machine {
         requires stands { self.old.spent ≡ false }
         requires one { length self.old.state.bots ≡ 1 }
         requires steps { self.old.steps < 1073741824 }
-        ensures stepped { Stepped self.old self.new (Fill d ∷ []) (answer_of result self.new.state fault.new) steps.old steps.new }
-        ensures one { result ≡ true → length self.new.state.bots ≡ 1 }
-    {
-        self.edit_alone(d, true, fault, steps)
-    }
-
-    /// The step of the only bot in which it voids a voxel.
-    #[inline(never)]
-    fn void_alone<L: Ledger>(
-        &mut self,
-        d: Near,
-        fault: &mut StepFault,
-        steps: &mut Steps<L>,
-    ) -> bool
-        requires stands { self.old.spent ≡ false }
-        requires one { length self.old.state.bots ≡ 1 }
-        requires steps { self.old.steps < 1073741824 }
-        ensures stepped { Stepped self.old self.new (Void d ∷ []) (answer_of result self.new.state fault.new) steps.old steps.new }
-        ensures one { result ≡ true → length self.new.state.bots ≡ 1 }
-    {
-        self.edit_alone(d, false, fault, steps)
-    }
-
-    /// The step of the only bot in which it fills a voxel, or else voids it.
-    #[inline(always)]
-    fn edit_alone<L: Ledger>(
-        &mut self,
-        d: Near,
-        full: bool,
-        fault: &mut StepFault,
-        steps: &mut Steps<L>,
-    ) -> bool
-        requires stands { self.old.spent ≡ false }
-        requires one { length self.old.state.bots ≡ 1 }
-        requires steps { self.old.steps < 1073741824 }
-        ensures stepped { Stepped self.old self.new (edit_of full d ∷ []) (answer_of result self.new.state fault.new) steps.old steps.new }
-        ensures one { result ≡ true → length self.new.state.bots ≡ 1 }
+        ensures { Stepped self.old self.new (edit_of FULL d ∷ []) (answer_of result self.new.state fault.new) steps.old steps.new }
     {
         let step = self.steps + 1;
-        let commands = [edit(d, full)];
+        let commands = [edit(d, FULL)];
         know_step(&self.system, &commands);
-        let at = match self.system.judge_edit(d, full, step) {
+        let at = match self.system.judge_edit(d, FULL, step) {
             Ok(at) => at,
             Err(broken) => {
                 *fault = StepFault::Broken(broken);
@@ -122,8 +85,8 @@ impl Machine {
             }
         };
         let forest = &mut self.forest;
-        match settle_one(&self.system, &commands, d, at, full, step, forest, steps) {
-            Ok(was) => self.system.edit_alone(at, full, was),
+        match settle_one(&self.system, &commands, d, at, FULL, step, forest, steps) {
+            Ok(was) => self.system.edit_alone(at, FULL, was),
             Err(unsettled) => {
                 self.spent = true;
                 *fault = unsettled;
@@ -147,7 +110,6 @@ impl Machine {
         ensures refused { result ≡ Tried.Refused → Stepped self.old self.new (command.now ∷ []) (Err fault.new) steps.old steps.new }
         ensures memory { result ≡ Tried.Refused → fault.new ≡ StepFault.Memory → is_edit command.now ≡ true }
         ensures one { result ≢ Tried.Declined → length self.old.state.bots ≡ 1 }
-        ensures left { result ≡ Tried.Made → length self.new.state.bots ≡ 1 }
         ensures stays { result ≡ Tried.Declined → self.new ≡ self.old }
         ensures untouched { result ≡ Tried.Declined → steps.new ≡ steps.old }
     {
@@ -162,13 +124,13 @@ impl Machine {
                 Tried::Refused
             }
             Command::Fill(d) => {
-                if self.fill_alone(*d, fault, steps) {
+                if self.edit_alone::<true, L>(*d, fault, steps) {
                     return Tried::Made;
                 }
                 Tried::Refused
             }
             Command::Void(d) => {
-                if self.void_alone(*d, fault, steps) {
+                if self.edit_alone::<false, L>(*d, fault, steps) {
                     return Tried::Made;
                 }
                 Tried::Refused

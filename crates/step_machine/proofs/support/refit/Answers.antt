@@ -9,5 +9,5 @@ refit_cells-requires-clause-removed g c = front_of (edits_of c.args.system.now c
 pub refit_cells-requires-clause-added : goal.refit_cells-requires-clause-added
 refit_cells-requires-clause-added g c = back_of (edits_of c.args.system.now c.args.commands.now true) (edits_of c.args.system.now c.args.commands.now false) c.as_slice.result.now c.split_at.result.1.now c.list_edits-voided.result (c.as_slice.ensures ∙ c.list_edits-voided.ensures.items) c.list_edits-voided.ensures.voided c.split_at.ensures.back
 
-pub returns-in-Ok-clause-refitted : goal.returns-in-Ok-clause-refitted
-returns-in-Ok-clause-refitted g c = c.in-Ok.ensures.refitted c.args.steps.now c.list_edits-voided.ensures.touches
+pub returns-clause-refitted : goal.returns-clause-refitted
+returns-clause-refitted g c = c.in_ok-refit_cells.ensures.refitted c.args.steps.now c.list_edits-voided.ensures.touches

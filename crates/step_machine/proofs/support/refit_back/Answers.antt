@@ -9,20 +9,20 @@ use Rattle.step_machine.proofs.support.refit_back.Goals as goal
 
 pub add-requires-clause-cells : goal.add-requires-clause-cells
 add-requires-clause-cells g c =
-    subst (λ (m : Matrix). MayAdd m c.args.voided.now) (sym (removed_is c.args.forest.now.matrix c.remove.new.forest.matrix c.args.filled.now c.in-Ok.ensures.value)) c.requires.voided
+    subst (λ (m : Matrix). MayAdd m c.args.voided.now) (sym (removed_is c.args.forest.now.matrix c.remove.new.forest.matrix c.args.filled.now c.in_ok-remove.ensures.value)) c.requires.voided
 
-pub returns-in-Ok-add-clause-value : goal.returns-in-Ok-add-clause-value
-returns-in-Ok-add-clause-value g c =
-    added_is c.remove.new.forest.matrix c.add.new.forest.matrix c.args.voided.now c.in-Ok-add.ensures.value
-    ∙ ap (λ (m : Matrix). with_cells m c.args.voided.now true) (removed_is c.args.forest.now.matrix c.remove.new.forest.matrix c.args.filled.now c.in-Ok.ensures.value)
+pub returns-clause-value : goal.returns-clause-value
+returns-clause-value g c =
+    added_is c.remove.new.forest.matrix c.add.new.forest.matrix c.args.voided.now c.in_ok-add.ensures.value
+    ∙ ap (λ (m : Matrix). with_cells m c.args.voided.now true) (removed_is c.args.forest.now.matrix c.remove.new.forest.matrix c.args.filled.now c.in_ok-remove.ensures.value)
 
-pub returns-in-Ok-add-clause-touches : goal.returns-in-Ok-add-clause-touches
-returns-in-Ok-add-clause-touches g c =
-    let without = removed_is c.args.forest.now.matrix c.remove.new.forest.matrix c.args.filled.now c.in-Ok.ensures.value in
-    let back = added_is c.remove.new.forest.matrix c.add.new.forest.matrix c.args.voided.now c.in-Ok-add.ensures.value ∙ ap (λ (n : Matrix). with_cells n c.args.voided.now true) without in
+pub returns-clause-touches : goal.returns-clause-touches
+returns-clause-touches g c =
+    let without = removed_is c.args.forest.now.matrix c.remove.new.forest.matrix c.args.filled.now c.in_ok-remove.ensures.value in
+    let back = added_is c.remove.new.forest.matrix c.add.new.forest.matrix c.args.voided.now c.in_ok-add.ensures.value ∙ ap (λ (n : Matrix). with_cells n c.args.voided.now true) without in
     let first = levels_of_all c.args.forest.now.matrix in
     let middle = levels_of_all c.remove.new.forest.matrix in
     let last = levels_of_all c.add.new.forest.matrix in
-    let lost = c.in-Ok.ensures.touches first.0 middle.0 first.1 middle.1 in
-    let won = c.in-Ok-add.ensures.touches middle.0 last.0 middle.1 last.1 in
+    let lost = c.in_ok-remove.ensures.touches first.0 middle.0 first.1 middle.1 in
+    let won = c.in_ok-add.ensures.touches middle.0 last.0 middle.1 last.1 in
     (record { first = first.0; middle = middle.0; last = last.0; first_are = first.1; middle_are = subst (λ (n : Matrix). Levels n middle.0) without middle.1; last_are = subst (λ (n : Matrix). Levels n last.0) back last.1 }, omega (arith, lost, won))

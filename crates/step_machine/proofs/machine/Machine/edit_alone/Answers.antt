@@ -1,4 +1,4 @@
-use Rattle.std.proofs.Common.{◌≡◌, ℕ, ◌+◌, refl, false, sym, ◌∙◌, ap, subst, arith, length, List, [], ◌∷◌, pos}
+use Rattle.std.proofs.Common.{◌≡◌, ℕ, ◌+◌, refl, false, sym, ◌∙◌, ap, subst, arith, eqb, length, List, [], ◌∷◌, Bool, not, pos}
 use Rattle.std.specs.Prelude.{None, Err, ◌<ℤ◌, ◌+ℤ◌}
 use Rattle.std.proofs.lemmas.Int.{ints}
 use Rattle.nano_spec.specs.declared.commands.Command.{Command}
@@ -17,36 +17,40 @@ use Rattle.step_machine.proofs.Still.{only_bot}
 use Rattle.step_machine.proofs.machine.Machine.edit_alone.Given.{Over}
 use Rattle.step_machine.proofs.machine.Machine.edit_alone.Goals as goal
 
+-- whether it is filled, as the proof has the constant
+abbrev full_of : Over → Bool
+full_of g = not (eqb g.row.FULL 0)
+
 pub edit_alone-requires-clause-payable : goal.edit_alone-requires-clause-payable
 edit_alone-requires-clause-payable g c =
     let p = c.self.invariant.paid in
     let f = c.self.invariant.few in
     record { above = omega (arith, ints, p.above, f); below = omega (arith, ints, p.below, f) }
 
-pub returns-in-Err-clause-stepped : goal.returns-in-Err-clause-stepped
-returns-in-Err-clause-stepped g c =
+pub returns-in-Err : goal.returns-in-Err
+returns-in-Err g c =
     let s : State = c.self.inside.system in
-    let commands : List Command = edit_of c.args.full c.args.d ∷ [] in
+    let commands : List Command = edit_of (full_of g) c.args.d ∷ [] in
     let stands : c.self.inside.spent ≡ false = ap (λ (v : Situation). v.spent) c.self.view_is ∙ c.requires.stands in
     subst (λ (w : Situation). Stepped c.args.self.now w commands (Err (fault.Broken c.in-Err.broken)) c.args.steps.now c.args.steps.now) c.self.view_is
     (broken_at_start s commands c.self.inside.steps c.self.inside.spent c.args.self.now c.self.view_is stands c.args.steps.now
     c.in-Err.broken c.args.steps.now (sym c.judge_edit.ensures.value ∙ ap rule_broken c.in-Err.is) (omega arith) (λ lacks. refl))
 
-pub returns-in-Err-settle_one-clause-stepped : goal.returns-in-Err-settle_one-clause-stepped
-returns-in-Err-settle_one-clause-stepped g c =
+pub returns-in-Err-settle_one : goal.returns-in-Err-settle_one
+returns-in-Err-settle_one g c =
     let s : State = c.self.inside.system in
     let stands : c.self.inside.spent ≡ false = ap (λ (v : Situation). v.spent) c.self.view_is ∙ c.requires.stands in
-    not_settled s (edit_of c.args.full c.args.d ∷ []) c.self.inside.steps c.self.inside.spent c.args.self.now c.self.view_is stands c.args.steps.now
+    not_settled s (edit_of (full_of g) c.args.d ∷ []) c.self.inside.steps c.self.inside.spent c.args.self.now c.self.view_is stands c.args.steps.now
     c.args.steps.now (sym c.judge_edit.ensures.value ∙ ap rule_broken c.in-Ok.is) (omega arith) c.in-Err-settle_one.unsettled c.settle_one.new.steps
     (subst (λ (k : Command). IsUnsettled s (k ∷ []) (c.self.inside.steps + 1) c.in-Err-settle_one.unsettled c.args.steps.now c.settle_one.new.steps) c.edit.ensures c.in-Err-settle_one.ensures.unsettled)
 
-keeps : (g : Over) (c : goal.After-self-2-1 g) → broken c.self.inside.system (edit_of c.args.full c.args.d ∷ []) (c.self.inside.steps + 1) ≡ None
+keeps : (g : Over) (c : goal.After-self-2-1 g) → broken c.self.inside.system (edit_of (full_of g) c.args.d ∷ []) (c.self.inside.steps + 1) ≡ None
 keeps g c = sym c.judge_edit.ensures.value ∙ ap rule_broken c.in-Ok.is
 
-settled : (g : Over) (c : goal.After-self-2-1 g) → IsSettled c.self.inside.system (edit_of c.args.full c.args.d ∷ []) (c.self.inside.steps + 1) c.settle_one.new.forest c.args.steps.now c.settle_one.new.steps
+settled : (g : Over) (c : goal.After-self-2-1 g) → IsSettled c.self.inside.system (edit_of (full_of g) c.args.d ∷ []) (c.self.inside.steps + 1) c.settle_one.new.forest c.args.steps.now c.settle_one.new.steps
 settled g c = subst (λ (k : Command). IsSettled c.self.inside.system (k ∷ []) (c.self.inside.steps + 1) c.settle_one.new.forest c.args.steps.now c.settle_one.new.steps) c.edit.ensures c.in-Ok-settle_one.ensures.settled
 
-changed : (g : Over) (c : goal.After-self-2-1 g) → c.edit_alone.new.self ≡ after c.self.inside.system (edit_of c.args.full c.args.d ∷ [])
+changed : (g : Over) (c : goal.After-self-2-1 g) → c.edit_alone.new.self ≡ after c.self.inside.system (edit_of (full_of g) c.args.d ∷ [])
 changed g c =
     let o = only_bot c.self.inside.system.bots (ap (λ (v : Situation). length v.state.bots) c.self.view_is ∙ c.requires.one) in
     c.edit_alone.ensures.value o.0 c.args.d o.1 (c.in-Ok.ensures.named o.0 o.1)
@@ -60,13 +64,13 @@ invariant_of-self-2 g c =
     let h = settled g c in
     let rises = subst (λ (k : Command). (after s (k ∷ [])).energy <ℤ (s.energy +ℤ pos 3000000000)) c.edit.ensures c.know_step.ensures.rises in
     let falls = subst (λ (k : Command). s.energy <ℤ ((after s (k ∷ [])).energy +ℤ pos 3000000000)) c.edit.ensures c.know_step.ensures.falls in
-    sound_on s c.edit_alone.new.self (edit_of c.args.full c.args.d ∷ []) c.self.inside.forest c.settle_one.new.forest c.self.inside.changed c.self.inside.changed c.self.inside.steps c.self.inside.spent c.args.self.now c.self.invariant c.self.view_is c.requires.steps
+    sound_on s c.edit_alone.new.self (edit_of (full_of g) c.args.d ∷ []) c.self.inside.forest c.settle_one.new.forest c.self.inside.changed c.self.inside.changed c.self.inside.steps c.self.inside.spent c.args.self.now c.self.invariant c.self.view_is c.requires.steps
     (changed g c) h.stands h.tied c.self.invariant.room rises falls
 
-pub returns-clause-stepped : goal.returns-clause-stepped
-returns-clause-stepped g c =
+pub returns : goal.returns
+returns g c =
     let s : State = c.self.inside.system in
-    let commands : List Command = edit_of c.args.full c.args.d ∷ [] in
+    let commands : List Command = edit_of (full_of g) c.args.d ∷ [] in
     let h = settled g c in
     let formed = subst (λ (k : Command). (t : State) (step : ℕ) → IsWellFormed s → Next s (k ∷ []) step (Goes t) → IsWellFormed t) c.edit.ensures c.know_step.ensures.well_formed in
     made s commands c.self.inside.steps c.self.inside.spent c.args.self.now c.self.view_is (ap (λ (v : Situation). v.spent) c.self.view_is ∙ c.requires.stands) c.args.steps.now
@@ -74,6 +78,3 @@ returns-clause-stepped g c =
     c.edit_alone.new.self c.settle_one.new.forest (record { energy = c.edit_alone.new.self.energy; halted = false }) c.settle_one.new.steps c.settle_one.new.steps h (changed g c) refl (bots_left c.edit_alone.new.self.bots (one_left g c))
     (formed_on s c.edit_alone.new.self commands (c.self.inside.steps + 1) formed h.goes (changed g c))
     (omega arith)
-
-pub returns-clause-one : goal.returns-clause-one
-returns-clause-one g c = λ t. one_left g c

@@ -1,9 +1,9 @@
-use Rattle.std.proofs.Common.{◌∙◌, ◌+◌, ◌++◌, [], ◌∷◌, refl, ap, subst}
+use Rattle.std.proofs.Common.{◌∙◌, ◌+◌, ◌++◌, [], ◌∷◌, refl, ap, subst, true, false}
 use Rattle.run_progress.specs.Progress.{Pushes}
 use Rattle.step_machine.specs.Course.{Course, course_of, mark_by, searched_by}
 use Rattle.step_machine.proofs.Running.{halted_mark, made, running_mark}
 use Rattle.step_machine.proofs.Weighing.{untouched_within}
-use Rattle.step_machine.proofs.runner.Runner.push_other.Goals as goal
+use Rattle.step_machine.proofs.runner.Runner.push.Goals as goal
 
 pub returns-in-Refused-clause-progress : goal.returns-in-Refused-clause-progress
 returns-in-Refused-clause-progress g c =
@@ -15,23 +15,21 @@ returns-in-Refused-clause-touches g c =
     let p = c.args.self.now.progress in
     untouched_within p.state (p.pending ++ c.args.command ∷ []) (p.steps + 1) (searched_by (mark_by c.passed-mark.result) p.state.matrix) c.args.steps.now c.args.steps.now refl
 
-pub returns-in-None-clause-touches : goal.returns-in-None-clause-touches
-returns-in-None-clause-touches g c =
+pub returns-in-Waits-clause-touches : goal.returns-in-Waits-clause-touches
+returns-in-Waits-clause-touches g c =
     let p = c.args.self.now.progress in
-    untouched_within p.state (p.pending ++ c.args.command ∷ []) (p.steps + 1) (searched_by (mark_by c.self.inside.mark) p.state.matrix) c.args.steps.now c.take.new.steps c.in-None.ensures.untouched
+    untouched_within p.state (p.pending ++ c.args.command ∷ []) (p.steps + 1) (searched_by (mark_by c.self.inside.mark) p.state.matrix) c.args.steps.now c.take.new.steps (c.in-Waits.ensures.untouched refl)
 
-pub returns-then-ok-clause-progress : goal.returns-then-ok-clause-progress
-returns-then-ok-clause-progress g c =
-    let stepped = rw c.in-Some-Ok.field-0-is at c.in-Some-Ok.ensures.stepped in
-    let cleared = rw c.in-Some-Ok.field-0-is at c.in-Some-Ok.ensures.cleared in
+pub returns-in-Made-clause-progress : goal.returns-in-Made-clause-progress
+returns-in-Made-clause-progress g c =
+    let stepped = c.in-Made.ensures.stepped in
     made c.self.inside.machine c.self.inside.pending c.self.inside.mark c.args.self.now c.self.view_is c.in-Running.is
-    c.args.command c.take.new.machine.state _ c.in-Some-Ok.ensures.full stepped.goes
-    (λ i. record { state = c.take.new.machine.state; steps = stepped.counted i; pending = cleared i; mark = halted_mark c.take.new.machine.state.bots c.in-Some-Ok.ok.halted stepped.halted c.if-ok.true i })
+    c.args.command c.take.new.machine.state _ (c.in-Made.ensures.full (λ x. cc)) stepped.goes
+    (λ i. record { state = c.take.new.machine.state; steps = stepped.counted i; pending = c.in-Made.ensures.cleared i; mark = (ap mark_by c.in-Running.is ∙ running_mark c.take.new.machine.state.bots false stepped.halted refl) i })
 
-pub returns-else-ok-clause-progress : goal.returns-else-ok-clause-progress
-returns-else-ok-clause-progress g c =
-    let stepped = rw c.in-Some-Ok.field-0-is at c.in-Some-Ok.ensures.stepped in
-    let cleared = rw c.in-Some-Ok.field-0-is at c.in-Some-Ok.ensures.cleared in
+pub returns-in-Halted-clause-progress : goal.returns-in-Halted-clause-progress
+returns-in-Halted-clause-progress g c =
+    let stepped = c.in-Halted.ensures.stepped in
     made c.self.inside.machine c.self.inside.pending c.self.inside.mark c.args.self.now c.self.view_is c.in-Running.is
-    c.args.command c.take.new.machine.state _ c.in-Some-Ok.ensures.full stepped.goes
-    (λ i. record { state = c.take.new.machine.state; steps = stepped.counted i; pending = cleared i; mark = (ap mark_by c.in-Running.is ∙ running_mark c.take.new.machine.state.bots c.in-Some-Ok.ok.halted stepped.halted c.if-ok.false) i })
+    c.args.command c.take.new.machine.state _ (c.in-Halted.ensures.full (λ x. cc)) stepped.goes
+    (λ i. record { state = c.take.new.machine.state; steps = stepped.counted i; pending = c.in-Halted.ensures.cleared i; mark = halted_mark c.take.new.machine.state.bots true stepped.halted refl i })

@@ -1,0 +1,4 @@
+use Rattle.step_machine.proofs.support.settle_unlisted.Goals as goal
+
+pub returns-clause-settled : goal.returns-clause-settled
+returns-clause-settled g c = c.in_ok-settle_refitted.ensures.settled c.args.steps.now c.in_ok-refit_unlisted.ensures.refitted.touches
