@@ -70,18 +70,25 @@ fn tell_status(rt: &HostRuntime, status: Status) {
     }
 }
 
+/// Says why the words could not be had, and answers the exit status of that.
+fn without_words(rt: &HostRuntime, fault: NoWords) -> u8 {
+    match fault {
+        NoWords::Memory => {
+            tell_status(rt, Status::Memory);
+            Status::Memory.code()
+        }
+        NoWords::Other => {
+            tell(rt, "nanobot: the words could not be had");
+            NO_WORDS
+        }
+    }
+}
+
 fn main(rt: HostRuntime) -> ExitCode {
     let alloc = rt.alloc();
     let words = match words(&rt) {
         Ok(words) => words,
-        Err(NoWords::Memory) => {
-            tell_status(&rt, Status::Memory);
-            return ExitCode::from(Status::Memory.code());
-        }
-        Err(NoWords::Other) => {
-            tell(&rt, "nanobot: the words could not be had");
-            return ExitCode::from(NO_WORDS);
-        }
+        Err(fault) => return ExitCode::from(without_words(&rt, fault)),
     };
     let mut depot = HostDepot::new(&rt, alloc);
     let mut out = HostSink::new(rt.stdout());
