@@ -1,5 +1,4 @@
 -- What the code does with sets of seeds.
-use lib.Count.{ones}
 use Rattle.std.proofs.Common.{◌≡◌, ℕ, zero, suc, ◌+◌, ◌*◌, ◌-◌, ◌%◌, ◌^◌, ◌<◌, ◌≤◌, refl, sym, ◌∙◌, ap, subst, arith, inl, inr, ◌⊎◌, Bool, ◌||◌, ◌==◌, List, [], ◌∷◌, length, take, drop, bit_or, take-append-drop, w64}
 use Rattle.std.specs.Prelude.{filter, count_ones, max, slice_index}
 use Rattle.std.specs.Int.{bit_at, trailing_zeros}

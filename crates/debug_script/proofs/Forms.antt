@@ -1,12 +1,12 @@
 -- What the parts of a line say, by its word.
-use Rattle.std.proofs.Common.{◌≡◌, ◌<◌, ◌≤◌, ◌∙◌, ◌+◌, ℕ, zero, suc, Bool, true, false, cond, not, List, [], ◌∷◌, Option, Some, None, codes, decimal, find, refl, arith, sym, ap, subst, nat_lt}
+use Rattle.std.proofs.Common.{◌≡◌, ◌<◌, ◌≤◌, ◌∙◌, ℕ, zero, suc, Bool, true, false, cond, not, List, [], ◌∷◌, Option, Some, None, codes, decimal, find, refl, arith, sym, ap, subst, nat_lt}
 use Rattle.std.specs.Prelude.{◌&&◌, ◌||◌, ◌==◌, MatchBool, MatchOption, Result, Ok, Err, ⊤}
 use Rattle.std.specs.List.{list_any, onto_first, slice_split}
 use Rattle.std.specs.Str.{bytes_eq}
 use Rattle.std.proofs.lemmas.Bool.Decides.{nat_tests}
 use Rattle.std.proofs.lemmas.Slice.Eq.{bytes_eq-Decides}
 use Rattle.vox_geom.specs.declared.coordinate.Coord.{Coord}
-use Rattle.nano_spec.specs.Line.{Fault, NotAscii, UnknownWord, Shape, Range}
+use Rattle.nano_spec.specs.Line.{UnknownWord, Shape, Range}
 use Rattle.trace_text.specs.declared.fault.TextFault.{TextFault}
 use Rattle.trace_text.specs.declared.fault.TextFault.TheVariants as refusal
 use Rattle.step_debugger.specs.Session as session
@@ -15,7 +15,7 @@ use Rattle.debug_script.specs.declared.line.ScriptLine.TheVariants as code
 use Rattle.debug_script.specs.declared.word.ScriptWord.{ScriptWord}
 use Rattle.debug_script.specs.declared.word.ScriptWord.TheVariants as word
 use Rattle.debug_script.specs.Calls.{IsReadBy, all_words, script_letters}
-use Rattle.debug_script.specs.Script.{Back, Bots, Form, Group, HasFewDigits, IsForm, PartsSay, Step, Voxel, has_unknown_word, line_parts, parts_of, form_said}
+use Rattle.debug_script.specs.Script.{Back, Bots, Form, Group, HasFewDigits, IsForm, PartsSay, Step, Voxel, has_unknown_word, line_parts, parts_of}
 
 -- ---- a line has a part
 

@@ -10,7 +10,7 @@ use Rattle.debug_script.specs.declared.line.ScriptLine.{ScriptLine}
 use Rattle.debug_script.specs.declared.line.ScriptLine.TheVariants as code
 use Rattle.debug_script.specs.declared.word.ScriptWord.{ScriptWord}
 use Rattle.debug_script.specs.declared.word.ScriptWord.TheVariants as word
-use Rattle.debug_script.specs.Script.{PartsSay, LineSays, ScriptSays}
+use Rattle.debug_script.specs.Script.{ScriptSays}
 
 -- a line, by the definitions
 abbrev pub script_line_is : ScriptLine → session.DebugLine

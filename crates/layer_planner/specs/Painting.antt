@@ -43,7 +43,8 @@ bytes_to p c = bytes p + 2 * moves_to (spot p.bots) c
 abbrev pub sweep_steps_to : TapeState → Coord → ℕ
 sweep_steps_to p c = p.steps + 2 * moves_to (spot p.bots) c
 
--- the tape has painted the voxels of which the test says so; with the way to a coordinate it has so many bytes and steps more at most than it had with the way to another
+-- the tape has painted the voxels of which the test says so;
+-- with the way to a coordinate it has so many bytes and steps more at most than it had with the way to another
 pub record Paints (old new : TapeState) (goal : Matrix) (done : Coord → Bool) (first last : Coord) (most : ℕ) : Type 0 where
   pub source : new.source ≡ old.source
   pub resolution : new.matrix.resolution ≡ old.matrix.resolution

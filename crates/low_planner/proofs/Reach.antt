@@ -1,22 +1,17 @@
 -- How many moves a sweep takes, and that a bot has room above a voxel.
-use Rattle.std.proofs.Common.{◌≡◌, ◌⊎◌, inl, inr, ℕ, ◌+◌, ◌*◌, ◌<◌, ◌≤◌, refl, subst, arith, Bool, true, false, ◌&&◌, not}
+use Rattle.std.proofs.Common.{◌≡◌, ℕ, ◌+◌, ◌*◌, ◌<◌, ◌≤◌, refl, arith, Bool, true, false, ◌&&◌}
 use Rattle.std.specs.Prelude.{pos, IsTrue, nat_le, nat_lt}
 use Rattle.std.proofs.Math.Arith.{digits_lt}
 use Rattle.std.proofs.Math.Nat.{mul-le-mul_left}
 use Rattle.std.proofs.lemmas.Bool.Decides.{nat_tests}
 use Rattle.vox_geom.specs.declared.coordinate.Coord.{Coord}
-use Rattle.vox_geom.specs.Region.{is_between}
 use Rattle.vox_geom.specs.Space.{IsInSpace}
 use Rattle.nano_spec.specs.Legal.{IsLegal, in_legal_box}
-use Rattle.nano_spec.specs.Matrix.{Matrix, all_of, is_full}
-use Rattle.nano_spec.proofs.Opening.{legal_is}
-use Rattle.step_order.proofs.Lists.{find_none}
-use Rattle.step_order.proofs.Voxels.{in_coordinates}
-use Rattle.plan_tape.specs.Leg.{AreVoidTo, distance, moves_to}
+use Rattle.nano_spec.specs.Matrix.{Matrix, is_full}
+use Rattle.plan_tape.specs.Leg.{distance, moves_to}
 use Rattle.low_planner.specs.Build.{above}
 use Rattle.low_planner.specs.Sweep.{AreBesideInLayer, reach}
 use Rattle.low_planner.proofs.Beside.{beside_gap}
-use Rattle.plan_tape.specs.Progress.{IsVoidFrom}
 use Rattle.plan_tape.proofs.LegalModels.{full_within, legal_box}
 
 -- fifteen for each move are no more than the way, and what each of the three legs may lack of fifteen

@@ -1,5 +1,5 @@
 -- Searches in rows.
-use Rattle.std.proofs.Common.{◌≡◌, ℕ, ◌+◌, ◌-◌, ◌*◌, ◌<◌, ◌≤◌, ◌⊎◌, inl, inr, refl, sym, ◌∙◌, ap, subst, arith, Bool, true, false, ◌&&◌, ◌==◌, pos, min, max, find, Option, Some, None}
+use Rattle.std.proofs.Common.{◌≡◌, ℕ, ◌+◌, ◌-◌, ◌*◌, ◌<◌, ◌≤◌, ◌⊎◌, inl, inr, refl, sym, ◌∙◌, ap, subst, arith, Bool, true, false, ◌&&◌, ◌==◌, pos, find, Option, Some, None}
 use Rattle.std.specs.Prelude.{is_some, IsTrue, MatchOption, nat_le, nat_lt}
 use Rattle.std.proofs.lemmas.Bool.{cases_lt}
 use Rattle.std.proofs.lemmas.Bool.Decides.{nat_tests}
@@ -7,9 +7,8 @@ use native.Mathlib.Decide.{ℕ_discrete}
 use Rattle.vox_geom.specs.declared.coordinate.Coord.{Coord}
 use Rattle.vox_geom.specs.Least.{LeastOf}
 use Rattle.vox_geom.specs.Point.{point, coord}
-use Rattle.vox_geom.specs.Region.{Corners, corners, is_between, is_within, span}
+use Rattle.vox_geom.specs.Region.{Corners, corners, is_within, span}
 use Rattle.vox_geom.specs.Space.{IsInSpace, is_before}
-use Rattle.vox_geom.proofs.Firsts.{first_of}
 use Rattle.nano_spec.specs.Matrix.{Matrix, all_of, is_full}
 use Rattle.nano_spec.proofs.Grounding.{left, right}
 use Rattle.low_planner.specs.Supported.{rests}

@@ -1,7 +1,6 @@
 -- The tape of a bot that builds what a sweep visits.
 use Rattle.std.specs.Prelude.{◌≡◌, ◌⊎◌, ℕ, ◌+◌, ◌-◌, ◌*◌, ◌<◌, ◌≤◌, false, ◌&&◌, not, [], ◌∷◌, ◌++◌, IsTrue, All, length, List, pos, negsuc}
 use Rattle.vox_geom.specs.declared.coordinate.Coord.{Coord}
-use Rattle.vox_geom.specs.declared.difference.Diff.{Diff}
 use Rattle.vox_geom.specs.Point.{are_adjacent}
 use Rattle.vox_geom.specs.Space.{IsInSpace}
 use Rattle.nano_spec.specs.declared.system.Harmonics.TheVariants.{Low}

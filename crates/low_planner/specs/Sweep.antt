@@ -99,7 +99,8 @@ abbrev pub IsTrail : Coord → List Coord → Type 0
 IsTrail at [] = Unit {0}
 IsTrail at (a ∷ more) = (a ≡ at) × IsChain a more
 
--- the sweep of a matrix has come so far: what was visited is supported, and beside a voxel that was visited none of its layer is left, unless it is on the trail
+-- the sweep of a matrix has come so far: what was visited is supported,
+-- and beside a voxel that was visited none of its layer is left, unless it is on the trail
 pub record IsSweep (m : Matrix) (s : Sweep) : Type 0 where
   pub resolution : s.remaining.resolution ≡ m.resolution
   pub fewer : (c : Coord) → is_full m c ≡ false → is_full s.remaining c ≡ false

@@ -1,4 +1,5 @@
--- How the bytes of a trace are cut into commands, and which trace is refused (task description, section on trace files; the refusals are this project's own: docs/FORMATS.md, "Trace files").
+-- How the bytes of a trace are cut into commands, and which trace is refused (task description,
+-- section on trace files; the refusals are this project's own: docs/FORMATS.md, "Trace files").
 use Rattle.std.specs.Prelude.{◌≡◌, ◌≢◌, ℕ, ◌+◌, ◌≤◌, List, [], ◌++◌, length, Result, Ok, Err}
 use Rattle.std.specs.List.{AllByRecursion}
 use Rattle.nano_spec.specs.declared.commands.Command.{Command}

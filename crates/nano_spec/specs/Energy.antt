@@ -1,4 +1,5 @@
--- What a step costs (task description, sections on execution and on commands; that the Halt step pays its upkeep is this project's own: docs/FORMATS.md, "Commands").
+-- What a step costs (task description, sections on execution and on commands;
+-- that the Halt step pays its upkeep is this project's own: docs/FORMATS.md, "Commands").
 use Rattle.std.specs.Prelude.{ℕ, ◌+◌, ◌*◌, ℤ, pos, negsuc, ◌+ℤ◌, cond, List, [], ◌∷◌, length, map, filter}
 use Rattle.vox_geom.specs.Difference.{mlen}
 use Rattle.vox_geom.specs.Point.{Point, point, plus}

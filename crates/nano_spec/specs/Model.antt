@@ -1,4 +1,5 @@
--- What the bytes of a model file say, and how a model is written (task description, section on model files; the refusals, the wide form and its runs are this project's own: docs/FORMATS.md, "Model files").
+-- What the bytes of a model file say, and how a model is written (task description, section on model files;
+-- the refusals, the wide form and its runs are this project's own: docs/FORMATS.md, "Model files").
 use Rattle.std.specs.Prelude.{ℕ, ◌+◌, ◌*◌, ◌/◌, ◌%◌, ◌^◌, Bool, true, false, cond, ◌&&◌, ◌||◌, not, nat_le, nat_lt, ◌==◌, List, [], ◌∷◌, ◌++◌, length, slice_index, slice_index_or, map, flat_map, sum_by, Result, Ok, Err, replicate}
 use Rattle.vox_geom.specs.Space.{numbers_below}
 use Rattle.nano_spec.specs.Matrix.{Matrix}

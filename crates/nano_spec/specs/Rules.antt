@@ -1,4 +1,5 @@
--- The rules of a step and their order: the first that is broken is answered (task description, section on commands; the order is this project's own: docs/FORMATS.md, "Rules").
+-- The rules of a step and their order: the first that is broken is answered (task description, section on commands;
+-- the order is this project's own: docs/FORMATS.md, "Rules").
 use Rattle.std.specs.Prelude.{ℕ, ◌^◌, Bool, false, cond, ◌&&◌, ◌||◌, not, nat_lt, nat_le, ◌==◌, List, [], ◌∷◌, ◌++◌, length, map, flat_map, find, slice_get, Option, Some, None, option_map}
 use Rattle.std.specs.List.{list_any}
 use Rattle.vox_geom.specs.declared.coordinate.Coord.{Coord}

@@ -1,4 +1,5 @@
--- The state after a step: all effects at once (task description, section on execution; that two Flips cancel is this project's own: docs/FORMATS.md, "Commands").
+-- The state after a step: all effects at once (task description, section on execution;
+-- that two Flips cancel is this project's own: docs/FORMATS.md, "Commands").
 use Rattle.std.specs.Prelude.{◌%◌, ◌+ℤ◌, Bool, cond, ◌&&◌, ◌||◌, not, ◌==◌, List, count_by}
 use Rattle.std.specs.List.{list_any}
 use Rattle.vox_geom.specs.declared.coordinate.Coord.{Coord}

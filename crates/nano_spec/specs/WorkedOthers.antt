@@ -70,7 +70,8 @@ pub record WorkedWork : Type 0 where
   pub no_work : Work (empty 3) [] full_profile 0
   -- a Fission is refused for want of seeds: its two volatile coordinates
   pub work_of_a_refused_fission : Work (empty 3) (Fission (diff (pos 0) (pos 0) (pos 1)) 39 ∷ []) full_profile 2
-  -- a ring on two posts, of which one is voided: two volatile coordinates, one voxel that changes, and four whose levels change; then the Halt's one volatile coordinate
+  -- a ring on two posts, of which one is voided: two volatile coordinates, one voxel that changes,
+  -- and four whose levels change; then the Halt's one volatile coordinate
   pub work_of_a_ring : Work (voxels_at 5 (coord 1 0 1 ∷ ring)) (Void (diff (pos 1) (pos 0) (pos 1)) ∷ Halt ∷ []) full_profile 8
   -- a command that leaves space has no volatile coordinate
   pub work_of_a_command_out_of_space : Work (empty 3) (SMove (diff (below_zero 1) (pos 0) (pos 0)) ∷ []) full_profile 0

@@ -67,7 +67,8 @@ pub fn opening_is_ready()
     ensures { (m : Matrix) (profile : Profile) → 1 ≤ m.resolution → length m.voxels ≡ volume m.resolution → IsReady (opening m profile) }
 {}
 
-/// A ready state is well-formed where it is grounded and its bots stand in void voxels. A well-formed one is ready where its matrix is whole, its bots stand in space and their bids rise.
+/// A ready state is well-formed where it is grounded and its bots stand in void voxels.
+/// A well-formed one is ready where its matrix is whole, its bots stand in space and their bids rise.
 pub fn ready_and_well_formed()
     ensures well_formed { (s : State) → IsReady s → (s.harmonics ≡ Low → FirstUngrounded s.matrix None)
         → All (λ a. IsFalse (is_full s.matrix a.pos)) s.bots → IsWellFormed s }

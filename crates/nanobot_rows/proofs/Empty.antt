@@ -1,10 +1,8 @@
 -- The empty model is legal.
-use Rattle.std.proofs.Common.{◌≡◌, ℕ, zero, suc, refl, sym, subst, List, [], ◌∷◌, Bool, true, false, ◌&&◌, not, get_or, map}
-use Rattle.std.specs.Prelude.{Option, None, IsTrue, MatchOption, Some, find, option_map}
+use Rattle.std.proofs.Common.{◌≡◌, ℕ, zero, suc, refl, sym, subst, List, [], ◌∷◌, Bool, true, false, ◌&&◌, not}
+use Rattle.std.specs.Prelude.{Option, None, MatchOption, Some, find, option_map}
 use Rattle.vox_geom.specs.declared.coordinate.Coord.{Coord}
-use Rattle.vox_geom.specs.Space.{coordinates, place}
-use Rattle.nano_spec.specs.First.{FirstFailing}
-use Rattle.nano_spec.specs.Grounded.{FirstUngrounded, Grounded}
+use Rattle.nano_spec.specs.Grounded.{FirstUngrounded}
 use Rattle.nano_spec.specs.Legal.{Border, Floating, IsLegal, first_outside, in_legal_box}
 use Rattle.nano_spec.specs.Matrix.{Matrix, all_of, empty, is_full}
 use Rattle.nano_spec.proofs.EmptyModel.{empty_is_grounded, not_full}

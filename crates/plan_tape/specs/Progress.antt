@@ -3,7 +3,6 @@ use Rattle.std.specs.Prelude.{◌≡◌, ℕ, ◌+◌, ◌*◌, ◌≤◌, ℤ, 
 use Rattle.vox_geom.specs.declared.coordinate.Coord.{Coord}
 use Rattle.vox_geom.specs.declared.difference.Diff.{Diff}
 use Rattle.vox_geom.specs.Point.{point, plus, coord}
-use Rattle.vox_geom.specs.Region.{Span, is_within}
 use Rattle.vox_geom.specs.Space.{coordinate, IsInSpace, in_space}
 use Rattle.nano_spec.specs.declared.commands.Command.{Command}
 use Rattle.nano_spec.specs.declared.outcomes.Verdict.TheVariants.{Accepted}
@@ -39,13 +38,29 @@ state_of p = record { matrix = p.matrix; harmonics = p.harmonics; bots = p.bots;
 
 -- what is seen of the parts of a tape
 abbrev pub progress_of : Matrix → List Command → State → ℕ → TapeState
-progress_of source commands s steps =
-    record { source = source; commands = commands; matrix = s.matrix; harmonics = s.harmonics; bots = s.bots; energy = s.energy; profile = s.profile; steps = steps }
+progress_of source commands s steps = record {
+  source = source;
+  commands = commands;
+  matrix = s.matrix;
+  harmonics = s.harmonics;
+  bots = s.bots;
+  energy = s.energy;
+  profile = s.profile;
+  steps = steps;
+}
 
 -- the tape before the first command
 abbrev pub starting : Matrix → Profile → TapeState
-starting source profile =
-    record { source = source; commands = []; matrix = source; harmonics = Low; bots = first_bot profile ∷ []; energy = pos 0; profile = profile; steps = 0 }
+starting source profile = record {
+  source = source;
+  commands = [];
+  matrix = source;
+  harmonics = Low;
+  bots = first_bot profile ∷ [];
+  energy = pos 0;
+  profile = profile;
+  steps = 0;
+}
 
 -- how many bytes the spellings of the commands have together
 unfoldable pub bytes : TapeState → ℕ

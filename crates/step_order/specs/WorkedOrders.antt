@@ -25,7 +25,8 @@ second_bot = record { bid = 2; pos = coord 0 0 2; seeds = 0 }
 abbrev pub two_bots : State
 two_bots = record { matrix = empty 3; harmonics = Low; bots = worked_bot ∷ second_bot ∷ []; energy = pos 0; profile = full_profile }
 
--- the first fills (0,0,1), and the second goes there: the groups interfere. In the order of their bids the second meets a blocked way, and in the other it does not
+-- the first fills (0,0,1), and the second goes there: the groups interfere.
+-- In the order of their bids the second meets a blocked way, and in the other it does not
 abbrev pub into_one_place : List Command
 into_one_place = Fill (diff (pos 0) (pos 0) (pos 1)) ∷ SMove (diff (pos 0) (pos 0) (below_zero 1)) ∷ []
 

@@ -2,8 +2,7 @@
 use Rattle.std.proofs.Common.{◌≡◌, ℕ, zero, suc, ◌+◌, ◌-◌, ◌*◌, ◌<◌, ◌≤◌, refl, sym, ◌∙◌, ap, subst, arith, Bool, true, false, ◌&&◌, ◌||◌, not, ◌==◌, min, List, [], ◌∷◌, add-one}
 use Rattle.std.proofs.lemmas.Bool.Decides.{nat_tests}
 use Rattle.vox_geom.specs.declared.coordinate.Coord.{Coord}
-use Rattle.vox_geom.specs.Point.{point, coord}
-use Rattle.vox_geom.specs.Space.{IsInSpace, in_space}
+use Rattle.vox_geom.specs.Point.{coord}
 use Rattle.nano_spec.specs.Matrix.{Matrix, is_full}
 use Rattle.plan_tape.specs.Leg.{distance}
 use Rattle.plan_tape.specs.Progress.{TapeState, spot, IsVoidFrom}
@@ -11,7 +10,6 @@ use Rattle.swarm_planner.specs.Building.{Builds, CanFillLayer, Fills, IsRaised, 
 use Rattle.swarm_planner.specs.Crew.{MayLead, RowGoes, places}
 use Rattle.swarm_planner.specs.Strips.{count, held, last, next, bot_row, strip_row, width}
 use Rattle.swarm_planner.proofs.Filling.{is_below-is}
-use Rattle.nano_spec.proofs.Coordinates.{in_space-is}
 
 -- ---- which voxels are below a row
 

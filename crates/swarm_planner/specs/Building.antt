@@ -1,7 +1,6 @@
 -- What a part of the plan has built: some voxels that are full in the goal are full, and all others are as they were.
 use Rattle.std.specs.Prelude.{◌≡◌, ℕ, ◌+◌, ◌-◌, ◌*◌, ◌≤◌, ◌<◌, ◌==◌, Bool, false, ◌&&◌, ◌||◌, not, cond, nat_lt, zero, suc, min, pos, negsuc, List, [], ◌∷◌}
 use Rattle.vox_geom.specs.declared.coordinate.Coord.{Coord}
-use Rattle.vox_geom.specs.declared.difference.Diff.{Diff}
 use Rattle.nano_spec.specs.declared.commands.Command.{Command}
 use Rattle.nano_spec.specs.declared.commands.Command.TheVariants.{Fill, Wait}
 use Rattle.nano_spec.specs.declared.system.Bot.{Bot}

@@ -6,7 +6,6 @@ use Rattle.nano_spec.specs.declared.commands.Command.{Command}
 use Rattle.nano_spec.specs.declared.commands.Command.TheVariants.{SMove, Wait}
 use Rattle.nano_spec.specs.declared.system.Bot.{Bot}
 use Rattle.nano_spec.specs.declared.system.Harmonics.TheVariants.{High}
-use Rattle.nano_spec.specs.Matrix.{Matrix, is_full}
 use Rattle.nano_spec.specs.Profile.{light_profile}
 use Rattle.plan_tape.specs.declared.axis.Axis.{Axis}
 use Rattle.plan_tape.specs.declared.axis.Axis.TheVariants.{X, Y, Z}

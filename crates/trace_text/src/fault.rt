@@ -5,7 +5,8 @@ ghost use Rattle.trace_text.specs.Text.{fault_at, fault_of, text_fault_number};
 
 use vox_geom::Memory;
 
-/// Why a text was not read (docs/FORMATS.md, "Trace text"): what is wrong with its first faulty line, whose number is counted from 1. Where several hold of that line, the first of them here is told.
+/// Why a text was not read (docs/FORMATS.md, "Trace text"): what is wrong with its first faulty line, whose number is counted
+/// from 1. Where several hold of that line, the first of them here is told.
 #[derive(Clone, Copy, PartialEq, Eq, Debug)]
 pub enum TextFault {
     /// The line has a byte above 7F, be it in a comment.

@@ -11,11 +11,10 @@ use Rattle.nano_spec.specs.declared.system.Bot.{Bot}
 use Rattle.nano_spec.specs.declared.system.Profile.{Profile}
 use Rattle.nano_spec.specs.Act.{Act, acts}
 use Rattle.nano_spec.specs.Bots.{in_rising_order, successors, with_bot}
-use Rattle.nano_spec.specs.Grounded.{FirstUngrounded}
 use Rattle.nano_spec.specs.Matrix.{Matrix}
-use Rattle.nano_spec.specs.Next.{Breaks, Goes, Next, Outcome, Settles, settled}
+use Rattle.nano_spec.specs.Next.{Breaks, Goes, Next, Settles}
 use Rattle.nano_spec.specs.Rules.{broken}
-use Rattle.nano_spec.specs.State.{State, is_high}
+use Rattle.nano_spec.specs.State.{State}
 use Rattle.nano_spec.specs.Step.{after}
 use Rattle.plan_tape.specs.Leg.{IsLeg, Moves}
 use Rattle.plan_tape.specs.declared.axis.Axis.{Axis}

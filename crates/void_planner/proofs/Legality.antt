@@ -1,21 +1,18 @@
 -- Where a legal model is void.
-use Rattle.std.proofs.Common.{◌≡◌, ℕ, ◌+◌, ◌-◌, ◌<◌, ◌≤◌, refl, sym, ◌∙◌, ap, inl, inr, ◌⊎◌, arith, List, [], ◌∷◌, Bool, true, false, cond, ◌&&◌, not, nat_le, nat_lt}
-use Rattle.std.specs.Prelude.{IsTrue, None, count_by, pos}
+use Rattle.std.proofs.Common.{◌≡◌, ℕ, ◌+◌, ◌-◌, ◌<◌, ◌≤◌, refl, ◌∙◌, ap, inl, inr, ◌⊎◌, arith, List, [], ◌∷◌, Bool, true, false, cond, ◌&&◌, not, nat_le, nat_lt}
+use Rattle.std.specs.Prelude.{None, count_by, pos}
 use Rattle.std.proofs.lemmas.Bool.Decides.{nat_tests}
 use Rattle.std.proofs.lemmas.List.Sums.{sum_by-cons}
 use Rattle.vox_geom.specs.declared.coordinate.Coord.{Coord}
 use Rattle.vox_geom.specs.Region.{is_between}
-use Rattle.nano_spec.specs.First.{FirstFailing}
-use Rattle.nano_spec.specs.Grounded.{FirstUngrounded, Grounded}
-use Rattle.nano_spec.specs.Legal.{IsLegal, in_legal_box}
-use Rattle.nano_spec.specs.Matrix.{Matrix, all_of, empty, is_full}
-use Rattle.nano_spec.proofs.Opening.{legal_is}
-use Rattle.step_order.proofs.Lists.{In, find_none}
-use Rattle.step_order.proofs.Voxels.{full_where, in_coordinates}
+use Rattle.nano_spec.specs.Legal.{IsLegal}
+use Rattle.nano_spec.specs.Matrix.{Matrix, all_of, is_full}
+use Rattle.step_order.proofs.Lists.{In}
+use Rattle.step_order.proofs.Voxels.{in_coordinates}
 use Rattle.plan_tape.specs.Leg.{AreVoidTo}
 use Rattle.void_planner.specs.Phases.{IsVoidModel}
 use Rattle.vox_geom.specs.Point.{coord}
-use Rattle.plan_tape.specs.Progress.{IsVoidFrom, top}
+use Rattle.plan_tape.specs.Progress.{top}
 use Rattle.plan_tape.proofs.LegalModels.{outside_is_void, void_at_border, void_by_space}
 use Rattle.plan_tape.proofs.ClearWays.{between_zeros, first_of_three}
 

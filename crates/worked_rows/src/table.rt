@@ -16,8 +16,9 @@ pub type Row = (&'static str, &'static [u8], Status, &'static str);
 
 /// The files of the table by their names: `E3` and `E4` are empty models, `P3` has the voxel (1,0,1), `TOWER` the voxels (1,0,1) and
 /// (1,1,1), `E1` is of resolution 1, `WP` a wide model with the voxel (1,0,1), `WIDE` the empty one of resolution 400.
-/// Of resolution 5: `LINE` has the voxels (1,0,1), (1,0,2) and (1,0,3); `STEP` the voxels (1,0,1), (1,0,2) and (1,1,1); `RING` eight voxels at y = 1 round (2,1,2) on the post (1,0,1), `POSTS` the same on
-/// a second post (3,0,3) too, and `ARCH` those of `POSTS` without the first post; `HOOK` is an arch whose end (3,1,1) hangs down; `E5` is empty.
+/// Of resolution 5: `LINE` has the voxels (1,0,1), (1,0,2) and (1,0,3); `STEP` the voxels (1,0,1), (1,0,2) and (1,1,1); `RING` eight voxels at
+/// y = 1 round (2,1,2) on the post (1,0,1), `POSTS` the same on a second post (3,0,3) too, and `ARCH` those of `POSTS` without the
+/// first post; `HOOK` is an arch whose end (3,1,1) hangs down; `E5` is empty.
 pub const FILES: [(&str, &[u8]); 14] = [
     ("E1", &[0x01, 0x00]),
     ("E3", &[0x03, 0x00, 0x00, 0x00, 0x00]),

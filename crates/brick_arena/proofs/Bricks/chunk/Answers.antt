@@ -1,4 +1,4 @@
-use Rattle.std.proofs.Common.{◌<◌, ◌/◌, ◌∙◌, [], arith, length, sym}
+use Rattle.std.proofs.Common.{◌<◌, ◌/◌, ◌∙◌, [], arith, length}
 use Rattle.std.proofs.lemmas.List.{get_or_default}
 use Rattle.brick_arena.proofs.Standing.{has_slot, live_at}
 use Rattle.brick_arena.proofs.Bricks.chunk.Goals as goal

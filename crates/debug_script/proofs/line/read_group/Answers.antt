@@ -1,6 +1,6 @@
 use Rattle.std.proofs.Common.{arith}
 use Rattle.debug_script.specs.Script.{line_parts}
-use Rattle.debug_script.proofs.Forms.{group_in_range, group_too_high, group_too_low, has_shape_fault, no_group}
+use Rattle.debug_script.proofs.Forms.{group_in_range, group_too_high, group_too_low}
 use Rattle.debug_script.proofs.line.read_group.Goals as goal
 
 pub returns-then-leader-lt1 : goal.returns-then-leader-lt1

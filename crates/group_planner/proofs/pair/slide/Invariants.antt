@@ -1,4 +1,4 @@
-use Rattle.std.proofs.Common.{◌≡◌, ◌+◌, ◌-◌, ◌<◌, ◌≤◌}
+use Rattle.std.proofs.Common.{◌+◌, ◌-◌, ◌<◌, ◌≤◌}
 use Rattle.plan_tape.specs.declared.axis.Axis.TheVariants.{Z}
 use Rattle.plan_tape.specs.Leg.{moves, put}
 use Rattle.group_planner.specs.Pair.{PairGoes, front, rear}
