@@ -15,7 +15,7 @@ use Rattle.nano_spec.specs.Grounded.{FirstUngrounded}
 use Rattle.nano_spec.specs.Matrix.{Matrix, is_full}
 use Rattle.nano_spec.specs.Profile.{is_allowed}
 use Rattle.nano_spec.specs.Spelling.{spelling, spellings}
-use Rattle.nano_spec.specs.State.{State, origin, first_bot}
+use Rattle.nano_spec.specs.State.{State, opening, origin}
 use Rattle.nano_spec.specs.Step.{after}
 use Rattle.nano_spec.specs.Verdict.{VerdictOf}
 use Rattle.vox_planes.specs.Voxel.{IsWhole}
@@ -51,16 +51,7 @@ progress_of source commands s steps = record {
 
 -- the tape before the first command
 abbrev pub starting : Matrix → Profile → TapeState
-starting source profile = record {
-  source = source;
-  commands = [];
-  matrix = source;
-  harmonics = Low;
-  bots = first_bot profile ∷ [];
-  energy = pos 0;
-  profile = profile;
-  steps = 0;
-}
+starting source profile = progress_of source [] (opening source profile) 0
 
 -- how many bytes the spellings of the commands have together
 unfoldable pub bytes : TapeState → ℕ
