@@ -19,3 +19,4 @@ pub mod Working
 pub mod Taking
 pub mod Still
 pub mod Edited
+pub mod Ends

@@ -48,3 +48,13 @@ step_answered old now new before pending all command answer ok halted began star
     (subst (λ (r : Result StepOk StepFault). Stepped now new all r began ended) a
     (subst (λ (n : ℕ). Stepped now new all answer n ended) s stepped))) in
     subst (λ (r : Result StepOk StepFault). Stepped old new (before ++ command ∷ []) r began ended) (λ i. Ok (record { energy = here.energy i; halted = h i })) here
+
+-- the same of any answer
+pub step_moved : (old now new : Situation) (before pending all : List Command) (command : Command) (result answer : Result StepOk StepFault) (began start ended : ℕ)
+    → now ≡ old → pending ≡ before → all ≡ pending ++ command ∷ [] → start ≡ began → result ≡ answer → Stepped now new all result start ended
+    → Stepped old new (before ++ command ∷ []) answer began ended
+step_moved old now new before pending all command result answer began start ended m p l s a stepped =
+    subst (λ (w : Situation). Stepped w new (before ++ command ∷ []) answer began ended) m
+    (subst (λ (xs : List Command). Stepped now new xs answer began ended) (l ∙ ap (λ (ks : List Command). ks ++ command ∷ []) p)
+    (subst (λ (r : Result StepOk StepFault). Stepped now new all r began ended) a
+    (subst (λ (n : ℕ). Stepped now new all result n ended) s stepped)))

@@ -7,7 +7,7 @@ ghost use Rattle.nano_spec.specs.Profile.{full_profile};
 ghost use Rattle.nano_spec.specs.Verdict.{VerdictOf};
 ghost use Rattle.run_progress.specs.Progress.{Finishes, Pushes, begun};
 ghost use Rattle.step_machine.specs.declared.runner.Mark.TheVariants as Mark;
-ghost use Rattle.step_machine.specs.Course.{IsAfterEnd, LacksCommands, MakesEdits, MakesNoStep, course_of, searched_by};
+ghost use Rattle.step_machine.specs.Course.{IsAfterEnd, IsUnderway, LacksCommands, MakesEdits, MakesNoStep, course_of, searched_by, spent_by};
 ghost use Rattle.step_machine.specs.Edits.{is_edit};
 ghost use Rattle.step_machine.specs.Payment.{IsWithinWork, IsWithinWorkOfRun};
 ghost use Rattle.step_machine.specs.Stepped.{Stepped, answer_of, answer_to};
@@ -236,19 +236,36 @@ impl Runner {
         ensures value { Finishes target.now self.progress result }
         ensures touches { steps.new ≤ steps.old + 2 * volume target.now.resolution }
     {
-        let steps_done = self.machine.steps_done();
-        match &self.mark {
-            Mark::Running => trace_ends(&self.machine, &self.pending),
-            Mark::Refused(broken) => Verdict::Refused(*broken),
-            Mark::Halted => match self.machine.matrix().equal(target, steps) {
-                None => Verdict::Accepted {
-                    energy: self.machine.energy(),
-                    steps: steps_done,
-                },
-                Some(at) => refused(steps_done, 0, Rule::WrongResult, at),
+        ended(&self.machine, &self.pending, self.mark, target, steps)
+    }
+}
+
+/// The verdict of a run by its parts, where no further command comes. The runner is dropped at one place then, and not at each end.
+fn ended<L: Ledger>(
+    machine: &Machine,
+    pending: &Pending,
+    mark: Mark,
+    target: &Planes,
+    steps: &mut Steps<L>,
+) -> Verdict
+    requires stands { spent_by machine.now.spent mark ≡ false }
+    requires underway { IsUnderway machine.now pending.now mark }
+    requires resolution { machine.now.state.matrix.resolution ≡ target.now.resolution }
+    ensures value { Finishes target.now (course_of machine.now pending.now mark).progress result }
+    ensures touches { steps.new ≤ steps.old + 2 * volume target.now.resolution }
+{
+    let steps_done = machine.steps_done();
+    match mark {
+        Mark::Running => trace_ends(machine, pending),
+        Mark::Refused(broken) => Verdict::Refused(broken),
+        Mark::Halted => match machine.matrix().equal(target, steps) {
+            None => Verdict::Accepted {
+                energy: machine.energy(),
+                steps: steps_done,
             },
-            Mark::Followed => refused(steps_done, 0, Rule::AfterHalt, Coord { x: 0, y: 0, z: 0 }),
-        }
+            Some(at) => refused(steps_done, 0, Rule::WrongResult, at),
+        },
+        Mark::Followed => refused(steps_done, 0, Rule::AfterHalt, Coord { x: 0, y: 0, z: 0 }),
     }
 }
 
