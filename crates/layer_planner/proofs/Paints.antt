@@ -1,5 +1,5 @@
 -- Painting by parts.
-use Rattle.std.proofs.Common.{◌≡◌, ℕ, ◌+◌, ◌-◌, ◌*◌, ◌<◌, ◌≤◌, refl, sym, ◌∙◌, ap, arith, Bool, true, false, cond, ◌&&◌, ◌||◌, ◌==◌, nat_lt}
+use Rattle.std.proofs.Common.{◌≡◌, ℕ, ◌+◌, ◌*◌, ◌<◌, ◌≤◌, refl, sym, ◌∙◌, ap, arith, Bool, true, false, cond, ◌&&◌, ◌||◌, ◌==◌, nat_lt}
 use Rattle.std.specs.Prelude.{pos}
 use Rattle.std.proofs.lemmas.Bool.Decides.{nat_tests}
 use Rattle.vox_geom.specs.declared.coordinate.Coord.{Coord}
@@ -73,6 +73,14 @@ painted_set m goal c b i e = λ q. full_with m c b q i ∙ by q (voxel c.x c.y c
   where
     by : (q : Coord) (t : Bool) → voxel c.x c.y c.z q ≡ t → cond t b (is_full m q) ≡ cond t (is_full goal q) (is_full m q)
     by q true s = sym (ap (is_full goal) (voxel-is q c s) ∙ e)
+    by q false s = refl
+
+-- a voxel that is what the goal says already
+pub painted_yet : (m goal : Matrix) (c : Coord) → is_full m c ≡ is_full goal c → IsPartlyBuilt m m goal (voxel c.x c.y c.z)
+painted_yet m goal c e = λ q. by q (voxel c.x c.y c.z q) refl
+  where
+    by : (q : Coord) (t : Bool) → voxel c.x c.y c.z q ≡ t → is_full m q ≡ cond t (is_full goal q) (is_full m q)
+    by q true s = let there = voxel-is q c s in ap (is_full m) there ∙ (e ∙ sym (ap (is_full goal) there))
     by q false s = refl
 
 -- ---- parts
