@@ -1,6 +1,6 @@
 -- How many moves a sweep takes, and that a bot has room above a voxel.
 use Rattle.std.proofs.Common.{◌≡◌, ℕ, ◌+◌, ◌*◌, ◌<◌, ◌≤◌, refl, arith, Bool, true, false, ◌&&◌}
-use Rattle.std.specs.Prelude.{pos, IsTrue, nat_le, nat_lt}
+use Rattle.std.specs.Prelude.{IsTrue, nat_le, nat_lt}
 use Rattle.std.proofs.Math.Arith.{digits_lt}
 use Rattle.std.proofs.Math.Nat.{mul-le-mul_left}
 use Rattle.std.proofs.lemmas.Bool.Decides.{nat_tests}

@@ -1,5 +1,5 @@
 -- Searches in rows.
-use Rattle.std.proofs.Common.{◌≡◌, ℕ, ◌+◌, ◌-◌, ◌*◌, ◌<◌, ◌≤◌, ◌⊎◌, inl, inr, refl, sym, ◌∙◌, ap, subst, arith, Bool, true, false, ◌&&◌, ◌==◌, pos, find, Option, Some, None}
+use Rattle.std.proofs.Common.{◌≡◌, ℕ, ◌+◌, ◌-◌, ◌*◌, ◌<◌, ◌≤◌, ◌⊎◌, inl, inr, refl, sym, ◌∙◌, ap, subst, arith, Bool, true, false, ◌&&◌, ◌==◌, find, Option, Some, None}
 use Rattle.std.specs.Prelude.{is_some, IsTrue, MatchOption, nat_le, nat_lt}
 use Rattle.std.proofs.lemmas.Bool.{cases_lt}
 use Rattle.std.proofs.lemmas.Bool.Decides.{nat_tests}
@@ -203,3 +203,7 @@ row_most r from next h l = by h.forth
 pub found_none : {A : Type 0} (o : Option A) (P : Type 0) (Q : A → Type 0) → is_some o ≡ false → MatchOption o P Q → P
 found_none None P Q e h = h
 found_none (Some a) P Q e h = cc
+
+pub found_some : {A : Type 0} (o : Option A) (P : Type 0) (Q : A → Type 0) (S : Type 0) (R : A → Type 0) → is_some o ≡ true → ((a : A) → Q a → R a) → MatchOption o P Q → MatchOption o S R
+found_some None P Q S R e f h = cc
+found_some (Some a) P Q S R e f h = f a h

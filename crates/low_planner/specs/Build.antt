@@ -1,5 +1,5 @@
 -- The tape of a bot that builds what a sweep visits.
-use Rattle.std.specs.Prelude.{◌≡◌, ◌⊎◌, ℕ, ◌+◌, ◌-◌, ◌*◌, ◌<◌, ◌≤◌, false, ◌&&◌, not, [], ◌∷◌, ◌++◌, IsTrue, All, length, List, pos, negsuc}
+use Rattle.std.specs.Prelude.{◌≡◌, ◌⊎◌, ℕ, ◌+◌, ◌-◌, ◌*◌, ◌<◌, ◌≤◌, ◌&&◌, not, [], ◌∷◌, ◌++◌, IsTrue, All, length, List}
 use Rattle.vox_geom.specs.declared.coordinate.Coord.{Coord}
 use Rattle.vox_geom.specs.Point.{are_adjacent}
 use Rattle.vox_geom.specs.Space.{IsInSpace}

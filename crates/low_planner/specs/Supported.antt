@@ -1,6 +1,6 @@
 -- Which voxels of a layer are supported. A part is a largest set of full voxels of one layer that are connected within it;
 -- a part above the floor is supported where one of its voxels has a full voxel right below it.
-use Rattle.std.specs.Prelude.{◌-◌, Bool, false, ◌&&◌, ◌||◌, ◌==◌, List, [], ◌∷◌, Option, IsTrue}
+use Rattle.std.specs.Prelude.{Bool, false, ◌&&◌, ◌||◌, ◌==◌, List, [], ◌∷◌, Option, IsTrue}
 use Rattle.vox_geom.specs.declared.coordinate.Coord.{Coord}
 use Rattle.vox_geom.specs.Point.{are_adjacent, below}
 use Rattle.nano_spec.specs.First.{FirstFailing}

@@ -5,6 +5,12 @@ use Rattle.low_planner.proofs.sweep.Sweep.beside.Goals as goal
 use Rattle.low_planner.proofs.sweep.Sweep.beside.Goals.{else-z-gt0-via-then-z-gt0+else-is_left-2, else-z-gt0-via-else-z-gt0, else-x-gt0-via-then-x-gt0+else-is_left-4, else-x-gt0-via-else-x-gt0}
 use Rattle.vox_geom.specs.Point.{coord}
 
+pub returns-then-is_left : goal.returns-then-is_left
+returns-then-is_left c = (beside_by c.args.c (coord c.args.c.x c.args.c.y (c.args.c.z + 1)) refl (omega arith), sym c.if-is_left.ensures)
+
+pub returns-then-is_left-2 : goal.returns-then-is_left-2
+returns-then-is_left-2 c = (let some = c.if-z-gt0.true in (beside_by c.args.c (coord c.args.c.x c.args.c.y (c.args.c.z - 1)) refl (omega arith), sym c.if-is_left-2.ensures))
+
 pub returns-then-is_left-3 : goal.returns-then-is_left-3
 returns-then-is_left-3 c = (beside_by c.args.c (coord (c.args.c.x + 1) c.args.c.y c.args.c.z) refl (omega arith), sym c.if-is_left-3.ensures)
 
