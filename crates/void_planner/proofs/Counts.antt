@@ -1,7 +1,6 @@
 -- There are no more bots than the commands have made, and the first one.
 use Rattle.std.proofs.Common.{◌≡◌, ℕ, ◌+◌, ◌≤◌, refl, ◌∙◌, ap, arith, List, [], ◌∷◌, ◌++◌, Bool, true, false, cond, length, Option, Some, None, length-append}
 use Rattle.std.specs.Prelude.{count_by, flat_map, nat_lt, MatchOption}
-use Rattle.std.specs.Bool.{MatchBool}
 use Rattle.std.proofs.lemmas.List.Sums.{sum_by-append, sum_by-cons}
 use Rattle.vox_geom.specs.declared.coordinate.Coord.{Coord}
 use Rattle.nano_spec.specs.declared.commands.Command.{Command}

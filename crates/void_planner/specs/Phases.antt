@@ -1,5 +1,5 @@
 -- The tape after each phase of the plan.
-use Rattle.std.specs.Prelude.{◌≡◌, ℕ, ◌+◌, ◌-◌, ◌*◌, ◌≤◌, false}
+use Rattle.std.specs.Prelude.{◌≡◌, ℕ, ◌+◌, ◌*◌, ◌≤◌, false}
 use Rattle.vox_geom.specs.declared.coordinate.Coord.{Coord}
 use Rattle.nano_spec.specs.declared.system.Harmonics.TheVariants.{High}
 use Rattle.nano_spec.specs.Matrix.{Matrix, is_full}

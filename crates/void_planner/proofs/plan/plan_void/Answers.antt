@@ -1,11 +1,12 @@
-use Rattle.std.proofs.Common.{◌≡◌, ◌∙◌, ◌≤◌, sym, subst, Bool, true, false}
+use Rattle.std.proofs.Common.{◌≡◌, ◌∙◌, ◌≤◌, ℕ, sym, subst, arith, Bool, true, false}
 use Rattle.std.specs.Prelude.{IfOk}
 use Rattle.std.proofs.lemmas.Result.{IfOk-weaker}
 use Rattle.nano_spec.specs.Legal.{IsLegal}
 use Rattle.nano_spec.specs.Matrix.{Matrix, empty}
 use Rattle.nano_spec.specs.Profile.{full_profile}
 use Rattle.plan_tape.specs.Progress.{IsAccepted}
-use Rattle.void_planner.specs.Phases.{IsVoidModel}
+use Rattle.void_planner.specs.Few.{HasAtMost}
+use Rattle.void_planner.specs.Phases.{IsVoidModel, most_void_steps}
 use Rattle.void_planner.proofs.Legality.{has_room}
 use Rattle.void_planner.proofs.plan.plan_void.Goals as goal
 use Rattle.plan_tape.proofs.LegalModels.{empty_is_void}
@@ -31,3 +32,27 @@ returns-clause-accepted c =
 
 pub returns-clause-halt_alone : goal.returns-clause-halt_alone
 returns-clause-halt_alone c = λ same. absurd (not_both c.is_empty.result (c.is_empty.ensures.full (subst IsVoidModel (sym same) (empty_is_void c.args.source.now.resolution))) c.if-is_empty.false)
+
+pub only_halt-requires-clause-legal : goal.only_halt-requires-clause-legal
+only_halt-requires-clause-legal c = subst (λ (m : Matrix). IsLegal m) (sym c.in_ok-copy.ensures.value) c.requires
+
+pub only_halt-requires-clause-void : goal.only_halt-requires-clause-void
+only_halt-requires-clause-void c = subst IsVoidModel (sym c.in_ok-copy.ensures.value) (c.is_empty.ensures.void c.if-is_empty.true)
+
+one_step : (steps r : ℕ) → steps ≡ 1 → steps ≤ most_void_steps r
+one_step steps r e = omega arith
+
+pub returns-then-is_empty-clause-steps : goal.returns-then-is_empty-clause-steps
+returns-then-is_empty-clause-steps c = IfOk-weaker c.only_halt.result _ _ (λ plan e. one_step plan.steps c.args.source.now.resolution e) c.only_halt.ensures.steps
+
+pub returns-then-is_empty-clause-few : goal.returns-then-is_empty-clause-few
+returns-then-is_empty-clause-few c = subst (λ (m : Matrix). IfOk c.only_halt.result (λ plan. HasAtMost m full_profile plan.commands 4)) c.in_ok-copy.ensures.value c.only_halt.ensures.few
+
+pub returns-then-is_empty-clause-halt_alone : goal.returns-then-is_empty-clause-halt_alone
+returns-then-is_empty-clause-halt_alone c = λ _. c.only_halt.ensures.commands
+
+pub returns-clause-steps : goal.returns-clause-steps
+returns-clause-steps c = subst (λ (m : Matrix). IfOk c.with_four.result (λ plan. plan.steps ≤ most_void_steps m.resolution)) c.in_ok-copy-2.ensures.value c.with_four.ensures.steps
+
+pub returns-clause-few : goal.returns-clause-few
+returns-clause-few c = subst (λ (m : Matrix). IfOk c.with_four.result (λ plan. HasAtMost m full_profile plan.commands 4)) c.in_ok-copy-2.ensures.value c.with_four.ensures.few
