@@ -118,6 +118,22 @@ each_taken P n back h j l = subst P (twice n back j l) (h (turned n back j) (tur
 abbrev pub AreVoidTiles : Matrix → ℕ → Bool → ℕ → ℕ → ℕ → Type 0
 AreVoidTiles m r back x y k = (i : ℕ) → i < k → IsVoidTile m (far_of r) x y (place_of r (turned (tiles_of r) back i))
 
+-- one tile more
+pub tiles_more : (a b : Matrix) (r : ℕ) (back : Bool) (x y k : ℕ) → AreFewer b a → AreVoidTiles a r back x y k → IsVoidTile b (far_of r) x y (place_of r (turned (tiles_of r) back k)) → AreVoidTiles b r back x y (k + 1)
+tiles_more a b r back x y k fewer h t =
+    taken_more (λ i. IsVoidTile a (far_of r) x y (place_of r (turned (tiles_of r) back i))) (λ i. IsVoidTile b (far_of r) x y (place_of r (turned (tiles_of r) back i))) k
+    (λ i v c p q e f g. fewer c (v c p q e f g)) h t
+
+pub strip_on : (a b c : TapeState) (r : ℕ) (back : Bool) (x y k : ℕ) → Clears a b (coord x (y + 1) (edge r back)) (coord x (y + 1) (place_of r (turned (tiles_of r) back (k - 1)))) (4 * k) → Clears b c (coord x (y + 1) (place_of r (turned (tiles_of r) back k))) (coord x (y + 1) (place_of r (turned (tiles_of r) back k))) 1 → Clears a c (coord x (y + 1) (edge r back)) (coord x (y + 1) (place_of r (turned (tiles_of r) back (k + 1 - 1)))) (4 * (k + 1))
+strip_on a b c r back x y k p q =
+    let start = coord x (y + 1) (edge r back) in
+    let u = coord x (y + 1) (place_of r (turned (tiles_of r) back (k - 1))) in
+    let t = coord x (y + 1) (place_of r (turned (tiles_of r) back k)) in
+    let way : moves_to u t ≤ 3 = let n = next_turned r (tiles_of r) back k in omega arith in
+    let here : k ≡ k + 1 - 1 = omega arith in
+    subst (λ v. Clears a c start (coord x (y + 1) (place_of r (turned (tiles_of r) back v))) (4 * (k + 1))) here
+    (clears_more a b c start t t (4 * k + 3) 1 (4 * (k + 1)) (clears_to a b start u t (4 * k) 3 (4 * k + 3) p way (omega arith)) q (omega arith))
+
 pub strip_void : (m : Matrix) (r : ℕ) (back : Bool) (x y : ℕ) → AreVoidTiles m r back x y (tiles_of r) → IsVoidStrip m (far_of r) x y r
 strip_void m r back x y h = λ c u v w l.
     let n = in_tile r c.z l in

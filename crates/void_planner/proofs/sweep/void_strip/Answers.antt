@@ -1,11 +1,34 @@
-use Rattle.std.proofs.Common.{◌∙◌, ap, arith}
+use Rattle.std.proofs.Common.{◌≡◌, ◌+◌, ◌∙◌, ap, subst, arith}
 use Rattle.nano_spec.specs.Matrix.{Matrix}
-use Rattle.void_planner.specs.Tiles.{tiles_of}
-use Rattle.void_planner.proofs.Sweeps.{strip_void}
+use Rattle.void_planner.specs.Square.{Clears}
+use Rattle.void_planner.specs.Tiles.{IsVoidTile, far_of, place_of, tiles_of, turned}
+use Rattle.void_planner.proofs.Sweeps.{clears_on, strip_on, strip_void, tiles_more}
 use Rattle.void_planner.proofs.sweep.void_strip.Goals as goal
+use Rattle.vox_geom.specs.Point.{coord}
 
 pub returns-clause-void : goal.returns-clause-void
 returns-clause-void c =
     let n = c.tiles-count.ensures.value ∙ ap tiles_of (c.resolution-r.ensures.value ∙ ap (λ (m : Matrix). m.resolution) c.matrix.ensures.value) in
     let f = c.loop-k-test.false in
     strip_void c.loop-k.tape.matrix c.args.tape.now.matrix.resolution c.args.back c.args.x c.args.y (λ i l. c.loop-k.invariant.void i (omega (arith, n, l, f)))
+
+pub void_tile-requires-clause-ready : goal.void_tile-requires-clause-ready
+void_tile-requires-clause-ready c = clears_on c.args.tape.now c.loop-k.tape _ _ _ c.args.y c.requires.ready c.loop-k.invariant.clears
+
+pub loop-k-preserved : goal.loop-k-preserved
+loop-k-preserved c =
+    let a = c.args.tape.now in
+    let b = c.loop-k.tape in
+    let d = c.void_tile.new.tape in
+    let r = a.matrix.resolution in
+    let x = c.args.x in
+    let y = c.args.y in
+    let size = c.resolution-r.ensures.value ∙ ap (λ (m : Matrix). m.resolution) c.matrix.ensures.value in
+    let count = c.tiles-count.ensures.value ∙ ap tiles_of size in
+    let z : c.place.result ≡ place_of r (turned (tiles_of r) c.args.back c.loop-k.k) = c.place.ensures ∙ ((λ i. place_of (size i) c.turned.result) ∙ ap (place_of r) (c.turned.ensures ∙ ap (λ n. turned n c.args.back c.loop-k.k) count)) in
+    let e = c.in_ok-void_tile.ensures in
+    record {
+      clears = strip_on a b d r c.args.back x y c.loop-k.k c.loop-k.invariant.clears (subst (λ v. Clears b d (coord x (y + 1) v) (coord x (y + 1) v) 1) z e.clears);
+      void = tiles_more b.matrix d.matrix r c.args.back x y c.loop-k.k e.clears.fewer c.loop-k.invariant.void
+          (subst (λ v. IsVoidTile d.matrix (far_of r) x y v) z (subst (λ s. IsVoidTile d.matrix (far_of s) x y c.place.result) c.loop-k.invariant.clears.resolution e.void));
+    }
