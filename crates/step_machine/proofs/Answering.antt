@@ -117,3 +117,22 @@ module _ (s : State) (commands : List Command) (steps : ℕ) (spent : Bool) (v :
       touches = within_one s commands (steps + 1) began ended (λ n w. let t = h.touches n (acts_work s commands (steps + 1) n keeps w) in omega (arith, t, start, turns));
       touches_broken = tt;
     })
+
+-- a machine that was spent before the step
+pub already_spent : (s : Situation) (commands : List Command) (n : ℕ) → s.spent ≡ true → Stepped s s commands (Err fault.Spent) n n
+already_spent s commands n spent = record {
+  goes = tt;
+  counted = tt;
+  energy = tt;
+  halted = tt;
+  well_formed = tt;
+  breaks = tt;
+  stays = (refl, refl);
+  stands = tt;
+  ungrounded = tt;
+  memory = λ _. spent;
+  spent = (λ _. spent, λ _. refl);
+  stays_spent = λ e. e;
+  touches = tt;
+  touches_broken = tt;
+}

@@ -1,5 +1,5 @@
 -- What one more command changes of a runner.
-use Rattle.std.proofs.Common.{◌≡◌, ℕ, ◌+◌, ◌==◌, refl, sym, ◌∙◌, ap, subst, eq-eqb, List, [], ◌∷◌, ◌++◌, Bool, true, false, length, length-append}
+use Rattle.std.proofs.Common.{◌≡◌, ℕ, ◌+◌, ◌<◌, ◌==◌, arith, refl, sym, ◌∙◌, ap, subst, eq-eqb, List, [], ◌∷◌, ◌++◌, Bool, true, false, length, length-append}
 use Rattle.std.specs.Prelude.{MatchBool, ◌↔◌, Result, Ok}
 use Rattle.nano_spec.specs.declared.commands.Command.{Command}
 use Rattle.nano_spec.specs.declared.system.Bot.{Bot}
@@ -11,7 +11,7 @@ use Rattle.step_machine.specs.declared.runner.Mark.{Mark}
 use Rattle.step_machine.specs.declared.runner.Mark.TheVariants as mark
 use Rattle.step_machine.specs.declared.machine.StepFault.{StepFault}
 use Rattle.step_machine.specs.declared.machine.StepOk.{StepOk}
-use Rattle.step_machine.specs.Course.{Course, course_of, mark_by}
+use Rattle.step_machine.specs.Course.{Course, IsUnderway, course_of, mark_by}
 use Rattle.step_machine.specs.Situation.{Situation}
 use Rattle.step_machine.specs.Stepped.{Stepped}
 
@@ -58,3 +58,26 @@ step_moved old now new before pending all command result answer began start ende
     (subst (λ (xs : List Command). Stepped now new xs answer began ended) (l ∙ ap (λ (ks : List Command). ks ++ command ∷ []) p)
     (subst (λ (r : Result StepOk StepFault). Stepped now new all r began ended) a
     (subst (λ (n : ℕ). Stepped now new all result n ended) s stepped)))
+
+-- some bot has no command yet: where one command more waits, where a step was made that leaves some bot, and where no steps are made
+pub waits_on : (old new : Situation) (before after : List Command) (command : Command) (m : Mark) → new ≡ old → after ≡ before ++ command ∷ [] → length before + 1 < length old.state.bots → m ≡ mark.Running → IsUnderway new after m
+waits_on old new before after command m stays joins lacks runs =
+    let size : length after ≡ length before + 1 = ap length joins ∙ length-append before (command ∷ []) in
+    let bots : length new.state.bots ≡ length old.state.bots = ap (λ (v : Situation). length v.state.bots) stays in
+    let here : length after < length new.state.bots = omega (arith, size, bots, lacks) in
+    subst (λ (k : Mark). IsUnderway new after k) (sym runs) (λ _. here)
+
+pub made_on : (new : Situation) (after : List Command) (m : Mark) → after ≡ [] → (false ≡ true ↔ new.state.bots ≡ []) → m ≡ mark.Running → IsUnderway new after m
+made_on new after m none halted runs =
+    let here : length after < length new.state.bots = subst (λ (xs : List Command). length xs < length new.state.bots) (sym none) (some new.state.bots halted) in
+    subst (λ (k : Mark). IsUnderway new after k) (sym runs) (λ _. here)
+  where
+    some : (bots : List Bot) → (false ≡ true ↔ bots ≡ []) → 0 < length bots
+    some [] h = let f = h.1 refl in cc
+    some (b ∷ bots) h = omega arith
+
+pub ended_on : (machine : Situation) (pending : List Command) (m : Mark) → (m ≡ mark.Running → ⊥) → IsUnderway machine pending m
+ended_on machine pending mark.Running h = absurd (h refl)
+ended_on machine pending (mark.Refused b) h = tt
+ended_on machine pending mark.Halted h = tt
+ended_on machine pending mark.Followed h = tt

@@ -156,6 +156,20 @@ sound_on s t commands old new changed list steps spent v sound e few is stands t
   few = few_steps s steps spent v e few;
 }
 
+-- a machine that is spent is sound whatever its forest is
+pub sound_spent : (s : State) (old new : Standing) (changed list : Changes) (steps : ℕ) (spent : Bool) → IsConsistent s old changed steps spent → MOST_CHANGED ≤ list.spare + length list.items → IsConsistent s new list steps true
+sound_spent s old new changed list steps spent sound room = record {
+  stands = λ e. absurd (no_truth e);
+  tied = λ e. absurd (no_truth e);
+  room = room;
+  seeds = sound.seeds;
+  paid = sound.paid;
+  few = sound.few;
+}
+  where
+    no_truth : true ≡ false → ⊥
+    no_truth e = cc
+
 -- an accepted step keeps a state well-formed
 pub formed_on : (s t : State) (commands : List Command) (step : ℕ) → ((u : State) (step : ℕ) → IsWellFormed s → Next s commands step (Goes u) → IsWellFormed u) → Next s commands step (Goes (after s commands)) → t ≡ after s commands → IsWellFormed s → IsWellFormed t
 formed_on s t commands step keeps next is formed = subst (λ (u : State). IsWellFormed u) (sym is) (keeps (after s commands) step formed next)

@@ -1,7 +1,7 @@
-use Rattle.std.proofs.Common.{◌+◌, sym, ◌∙◌, ap}
+use Rattle.std.proofs.Common.{◌≡◌, ◌+◌, ◌≤◌, sym, ◌∙◌, ap, arith, length}
 use Rattle.step_machine.specs.Situation.{Situation}
-use Rattle.step_machine.proofs.Answering.{broken_at_start, made, not_settled}
-use Rattle.step_machine.proofs.Stepping.{formed_on}
+use Rattle.step_machine.proofs.Answering.{already_spent, broken_at_start, made, not_settled}
+use Rattle.step_machine.proofs.Stepping.{formed_on, sound_on, sound_spent}
 use Rattle.step_machine.proofs.Taking.{note_holds, note_may_undo, state_is_back}
 use Rattle.step_machine.proofs.machine.Machine.step_noted.Goals as goal
 
@@ -37,3 +37,38 @@ pub returns-clause-undo : goal.returns-clause-undo
 returns-clause-undo g c =
     note_may_undo c.self.inside.system c.args.commands.now (c.self.inside.steps + 1) c.know.ensures.ready (sym c.judge.ensures.value ∙ c.in_default.is) c.take_turns.new.system c.in-Ok.undo c.take_turns.ensures.value c.in-Ok.ensures.note
     c.self.inside.forest c.self.inside.changed c.self.inside.steps c.self.inside.spent c.args.self.now c.self.invariant c.self.view_is (c.in-Ok.ensures.note.steps)
+
+pub returns-then-self-clause-stepped : goal.returns-then-self-clause-stepped
+returns-then-self-clause-stepped g c = already_spent c.args.self.now c.args.commands.now c.args.steps.now (sym (ap (λ (v : Situation). v.spent) c.self.view_is) ∙ c.if-self.true)
+
+pub settle_noted-requires-clause-judged : goal.settle_noted-requires-clause-judged
+settle_noted-requires-clause-judged g c = sym c.judge.ensures.value ∙ c.in_default.is
+
+pub settle_noted-requires-clause-few : goal.settle_noted-requires-clause-few
+settle_noted-requires-clause-few g c =
+    let same : length c.args.commands.now ≡ length c.self.inside.system.bots = c.requires.commands ∙ ap (λ (v : Situation). length v.state.bots) (sym c.self.view_is) in
+    omega (arith, same)
+
+pub settle_noted-requires-clause-prepared : goal.settle_noted-requires-clause-prepared
+settle_noted-requires-clause-prepared g c = record {
+  commands = c.know_step.ensures.commands;
+  turns = c.in_default.ensures.turns;
+  room = c.self.invariant.room;
+  stands = c.self.invariant.stands c.if-self.false;
+  tied = c.self.invariant.tied c.if-self.false;
+}
+
+pub invariant_of-self-2 : goal.invariant_of-self-2
+invariant_of-self-2 g c =
+    let h = c.in-Ok.ensures.settled in
+    sound_on c.self.inside.system c.take_turns.new.system c.args.commands.now c.self.inside.forest c.settle_noted.new.forest c.self.inside.changed c.settle_noted.new.list c.self.inside.steps c.self.inside.spent c.args.self.now c.self.invariant c.self.view_is c.requires.steps
+    c.take_turns.ensures.value h.stands h.tied c.settle_noted.ensures.room c.know_step.ensures.rises c.know_step.ensures.falls
+
+pub invariant_of-self-in-Err : goal.invariant_of-self-in-Err
+invariant_of-self-in-Err g c = sound_spent c.self.inside.system c.self.inside.forest c.settle_noted.new.forest c.self.inside.changed c.settle_noted.new.list c.self.inside.steps c.self.inside.spent c.self.invariant c.settle_noted.ensures.room
+
+pub returns-clause-counted : goal.returns-clause-counted
+returns-clause-counted g c =
+    let steps = ap (λ (v : Situation). v.steps) c.self.view_is in
+    let noted = c.in-Ok.ensures.note.steps in
+    omega (arith, steps, noted)

@@ -1,7 +1,7 @@
 use Rattle.std.proofs.Common.{◌∙◌, ◌+◌, ◌++◌, [], ◌∷◌, refl, ap, subst, true, false}
 use Rattle.run_progress.specs.Progress.{Pushes}
 use Rattle.step_machine.specs.Course.{Course, course_of, mark_by, searched_by}
-use Rattle.step_machine.proofs.Running.{halted_mark, made, running_mark}
+use Rattle.step_machine.proofs.Running.{ended_on, halted_mark, made, made_on, running_mark, waits_on}
 use Rattle.step_machine.proofs.Weighing.{untouched_within}
 use Rattle.step_machine.proofs.runner.Runner.push.Goals as goal
 
@@ -33,3 +33,18 @@ returns-in-Halted-clause-progress g c =
     made c.self.inside.machine c.self.inside.pending c.self.inside.mark c.args.self.now c.self.view_is c.in-Running.is
     c.args.command c.take.new.machine.state _ (c.in-Halted.ensures.full (λ x. cc)) stepped.goes
     (λ i. record { state = c.take.new.machine.state; steps = stepped.counted i; pending = c.in-Halted.ensures.cleared i; mark = halted_mark c.take.new.machine.state.bots true stepped.halted refl i })
+
+pub invariant_of-self : goal.invariant_of-self
+invariant_of-self g c = ended_on c.self.inside.machine c.self.inside.pending c.passed-mark.result c.passed-mark.ensures.ended
+
+pub invariant_of-self-in-Waits : goal.invariant_of-self-in-Waits
+invariant_of-self-in-Waits g c = waits_on c.self.inside.machine c.take.new.machine c.self.inside.pending c.take.new.pending c.args.command c.self.inside.mark (c.in-Waits.ensures.stays refl) (c.in-Waits.ensures.joins refl) (c.in-Waits.ensures.lacks refl) c.in-Running.is
+
+pub invariant_of-self-in-Made : goal.invariant_of-self-in-Made
+invariant_of-self-in-Made g c = made_on c.take.new.machine c.take.new.pending c.self.inside.mark c.in-Made.ensures.cleared c.in-Made.ensures.stepped.halted c.in-Running.is
+
+pub invariant_of-self-in-Halted : goal.invariant_of-self-in-Halted
+invariant_of-self-in-Halted g c = tt
+
+pub invariant_of-self-in-Broken : goal.invariant_of-self-in-Broken
+invariant_of-self-in-Broken g c = tt
