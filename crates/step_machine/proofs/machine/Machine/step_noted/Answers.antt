@@ -1,4 +1,4 @@
-use Rattle.std.proofs.Common.{◌≡◌, ◌+◌, ◌≤◌, sym, ◌∙◌, ap, arith, length}
+use Rattle.std.proofs.Common.{◌≡◌, ◌+◌, sym, ◌∙◌, ap, arith, length}
 use Rattle.step_machine.specs.Situation.{Situation}
 use Rattle.step_machine.proofs.Answering.{already_spent, broken_at_start, made, not_settled}
 use Rattle.step_machine.proofs.Stepping.{formed_on, sound_on, sound_spent}

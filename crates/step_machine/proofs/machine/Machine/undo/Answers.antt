@@ -1,5 +1,7 @@
-use Rattle.std.proofs.Common.{◌≡◌, rules}
+use Rattle.std.proofs.Common.{◌≡◌, rules, ap, true}
 use Rattle.step_machine.specs.Undoing.{state_before}
+use Rattle.step_machine.specs.Situation.{Situation}
+use Rattle.step_machine.proofs.Stepping.{sound_spent}
 use Rattle.step_machine.proofs.Taking.{gain_slice, sound_back, touches_back, value_back}
 use Rattle.step_machine.proofs.machine.Machine.undo.Goals as goal
 
@@ -24,3 +26,9 @@ pub returns-clause-touches : goal.returns-clause-touches
 returns-clause-touches g c =
     touches_back c.self.inside.system c.args.undo.now c.self.inside.forest c.self.inside.changed c.self.inside.steps c.self.inside.spent c.args.self.now c.self.invariant c.self.view_is c.requires.stands c.requires.may
     c.as_slice-filled.result.now c.as_slice-voided.result.now c.args.steps.now c.refit_back.new.steps c.as_slice-filled.ensures c.as_slice-voided.ensures c.in-Ok.ensures.touches
+
+pub invariant_of-self : goal.invariant_of-self
+invariant_of-self g c = sound_spent c.self.inside.system c.self.inside.forest c.refit_back.new.forest c.self.inside.changed c.self.inside.changed c.self.inside.steps c.self.inside.spent c.self.invariant c.self.invariant.room
+
+pub returns-in-Err-clause-memory : goal.returns-in-Err-clause-memory
+returns-in-Err-clause-memory g c = ap (λ (v : Situation). record v { spent = true }) c.self.view_is
