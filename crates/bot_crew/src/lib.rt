@@ -8,6 +8,3 @@ mod seeds;
 pub use crew::{Crew, MOST_BOTS};
 pub use laws::{crew_is_ready, group_is_replaced};
 pub use seeds::seeds_of;
-
-#[cfg(test)]
-mod tests;

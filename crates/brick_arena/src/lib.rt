@@ -3,8 +3,6 @@
 
 mod chunk;
 mod chunks;
-#[cfg(test)]
-mod tests;
 
 ghost use Rattle.std.specs.Prelude.{◌≡◌, ◌+◌, ◌<◌, None, replicate, slice_index, slice_set, OnErr, IfOk};
 ghost use Rattle.std.specs.FinMap as map;

@@ -13,6 +13,3 @@ pub use line::ScriptLine;
 pub use print::print_session;
 pub use read::read_script;
 pub use report::broken_line;
-
-#[cfg(test)]
-mod tests;

@@ -3,8 +3,6 @@
 
 mod costs;
 mod laws;
-#[cfg(test)]
-mod tests;
 
 pub use costs::{command_cost, space_upkeep, upkeep, upkeep_by};
 pub use laws::{a_group_costs_little, a_step_changes_the_energy_by_little};

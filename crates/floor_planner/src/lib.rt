@@ -8,6 +8,3 @@ mod sweep;
 
 pub use flat::is_flat;
 pub use plan::plan_floor;
-
-#[cfg(test)]
-mod tests;

@@ -13,6 +13,3 @@ mod write;
 
 pub use count::{rows, runs};
 pub use plan::plan_groups;
-
-#[cfg(test)]
-mod tests;

@@ -12,6 +12,3 @@ mod sweep;
 pub use fault::LowFault;
 pub use laws::one_unsupported;
 pub use plan::plan_low;
-
-#[cfg(test)]
-mod tests;

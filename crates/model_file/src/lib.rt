@@ -20,6 +20,3 @@ pub use legality::legal;
 
 /// The first byte of the wide form.
 const WIDE_MARK: u8 = 0xFF;
-
-#[cfg(test)]
-mod tests;

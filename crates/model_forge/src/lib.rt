@@ -10,6 +10,3 @@ mod tower;
 mod walls;
 
 pub use walls::forge;
-
-#[cfg(test)]
-mod tests;

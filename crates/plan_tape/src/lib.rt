@@ -16,6 +16,3 @@ pub use difference::lowest_difference;
 pub use laws::seeds_bound_the_bots;
 pub use tape::{Plan, Tape};
 pub use voxels::{first_full, is_full};
-
-#[cfg(test)]
-mod tests;

@@ -10,6 +10,3 @@ mod steps;
 pub use debugger::Debugger;
 pub use fault::DebugFault;
 pub use laws::{back_restores, every_order_makes_the_step, one_answer};
-
-#[cfg(test)]
-mod tests;

@@ -22,6 +22,3 @@ pub use members::{acts_alone, has_mate};
 pub use partners::are_together;
 pub use single::{judge_edit, judge_move, judge_single};
 pub use step::Step;
-
-#[cfg(test)]
-mod tests;

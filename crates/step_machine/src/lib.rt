@@ -18,6 +18,3 @@ pub use undo::Undo;
 
 /// The most voxels that the groups of a step change: a group command changes 31 * 31 * 31 at most, and such a one takes 8 of 40 bots.
 pub(crate) const MOST_CHANGED: u32 = 148_955;
-
-#[cfg(test)]
-mod tests;

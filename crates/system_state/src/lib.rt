@@ -13,6 +13,3 @@ pub use edited::{EditedRegion, edited_region};
 pub use known::{know, know_all};
 pub use system::System;
 pub use turns::{Turn, Turns};
-
-#[cfg(test)]
-mod tests;

@@ -8,8 +8,6 @@ mod fault;
 mod laws;
 mod one;
 mod spelling;
-#[cfg(test)]
-mod tests;
 mod whole;
 
 pub use decoder::{Decoder, Fed};

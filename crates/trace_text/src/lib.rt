@@ -7,8 +7,6 @@ mod laws;
 mod line;
 mod parts;
 mod print;
-#[cfg(test)]
-mod tests;
 mod text;
 mod word;
 

@@ -7,8 +7,6 @@ mod host_depot;
 mod host_sink;
 mod memory_depot;
 mod memory_sink;
-#[cfg(test)]
-mod tests;
 mod whole;
 
 pub use depot::{Depot, FetchFault, Sink, SinkFault, StoreFault};

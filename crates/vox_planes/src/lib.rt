@@ -9,6 +9,3 @@ mod planes;
 
 pub use change_list::ChangeList;
 pub use planes::{Planes, earlier};
-
-#[cfg(test)]
-mod tests;

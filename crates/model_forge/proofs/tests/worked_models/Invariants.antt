@@ -1,4 +1,0 @@
-use Rattle.model_forge.proofs.tests.worked_models.Given as goal
-
-abbrev pub ghosts-worked : goal.ghosts-worked
-ghosts-worked _ a = record { name = a.blank.name; parts = a.blank.parts }

@@ -1,4 +1,0 @@
-use Rattle.step_machine.proofs.tests.a_trace_has_its_verdict.Given as goal
-
-abbrev pub ghosts-traces : goal.ghosts-traces
-ghosts-traces _ a = record { name = a.blank.name; parts = a.blank.parts }

@@ -1,4 +1,0 @@
-use Rattle.step_machine.proofs.tests.eight_bots_void_a_block_at_once.Given as goal
-
-abbrev pub ghosts-block : goal.ghosts-block
-ghosts-block _ a = record { name = a.blank.name; parts = a.blank.parts }

@@ -1,4 +1,0 @@
-use Rattle.vox_planes.proofs.tests.by_places.Given as goal
-
-abbrev pub ghosts-placed : goal.ghosts-placed
-ghosts-placed _ a = record { name = a.blank.name; parts = a.blank.parts }
