@@ -22,8 +22,8 @@
  * how many bytes it is. Where they are more than `room` the status is NANOBOT_TOO_SMALL, `*size` is the room that is
  * wanted, and the buffer is as it was. Behind what is given the buffer is as it was, too.
  *
- * To build and link: scripts/try_linked shows it; in short, `rt lib` in crates/nanobot_c makes out/libnanobot_c.a, which is
- * linked with the kit's c/liblibc_c.a.
+ * To build and link: `./prove` makes out/libnanobot.a, and a package has it as lib/libnanobot.a; it links by itself, as in
+ * `cc -Iinclude call.c out/libnanobot.a`. scripts/try_linked does so for C, Rust and Python.
  */
 #ifndef NANOBOT_H
 #define NANOBOT_H
@@ -31,6 +31,9 @@
 #include <stdbool.h>
 #include <stddef.h>
 #include <stdint.h>
+
+/* The version of this header and of the library that it came with. */
+#define NANOBOT_VERSION "0.9.0"
 
 #ifdef __cplusplus
 extern "C" {

@@ -9,10 +9,10 @@ folder=$(mktemp -d)
 trap 'rm -rf "$folder"' EXIT
 cd "$folder"
 count=${1:-10000}
-cc -std=c11 -D_POSIX_C_SOURCE=200809L -O2 -I"$top/include" -o often "$top/bench/linked/often.c" "$library" "$helper"
+cc -std=c11 -D_POSIX_C_SOURCE=200809L -O2 -I"$top/include" -o often "$top/bench/linked/often.c" "$library"
 "$top/nanobot" make 7 20 forged.mdl > /dev/null
 "$top/nanobot" plan layer - forged.mdl forged.nbt > /dev/null
-program=$top/crates/nanobot/out/nanobot
+program=$top/out/nanobot
 TIMEFORMAT="    the program: $count starts in %R s"
 for words in "- $top/examples/house.mdl $top/examples/house.nbt" '- forged.mdl forged.nbt'; do
     # shellcheck disable=SC2086
