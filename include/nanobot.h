@@ -5,18 +5,21 @@
  * that it passes what is said here, so a wrong pointer or length is as undefined as it is in C:
  *
  * - Each pointer points to so many readable bytes, or to so many writable ones of a buffer, for the whole call. It is never
- *   null, not even where the length is 0. Nothing else writes to the bytes or the buffer during the call, and the buffer
- *   overlaps nothing else that is passed.
+ *   null, not even where the length is 0: the compiled code relies on that, as Rust's slices do. An empty std::vector, a slice
+ *   of no bytes in Go and ctypes' None give a null pointer: pass NANOBOT_NONE there.
+ * - Nothing else writes to the bytes or the buffer during the call. The bytes that are read may overlap one another; the buffer,
+ *   `size`, `energy` and `steps` overlap nothing else that is passed. No length is more than PTRDIFF_MAX.
  * - `size`, `energy` and `steps` point to one number each.
  * - `malloc`, `realloc` and `free` of the program come from one allocator and align as the C library's do. No call is made
  *   from a signal handler, or from the forked child of a process with threads.
- * - There is stack for the call, as for a call of any library. No clause says how much.
+ * - There is stack for the call. No clause says how much; measured were @STACK@.
  *
  * Calls keep nothing between them, so threads may call at the same time. A call takes memory and frees it before it
  * returns. It returns for all bytes, junk too; time and memory are promised by no clause.
  *
  * A source or a target of length 0 is the empty model of the other's resolution, where the program has `-`; this is so of
  * nanobot_judge, nanobot_cost, nanobot_plan_layer and nanobot_plan_group. To the other calls it is a file of no bytes.
+ * NANOBOT_NONE is the pointer to pass with it.
  *
  * What is given is written to the front of the caller's buffer of `room` bytes, with no byte 0 behind it, and `*size` is
  * how many bytes it is. Where they are more than `room` the status is NANOBOT_TOO_SMALL, `*size` is the room that is
@@ -39,7 +42,10 @@
 extern "C" {
 #endif
 
-/* The statuses: those of the program, and 10. */
+/* What to pass with a length of 0, since no pointer may be null. */
+#define NANOBOT_NONE ((const uint8_t *)"")
+
+/* The statuses that can come: those of the program but 6 and 8, and 10. */
 enum {
     NANOBOT_DONE = 0,        /* the trace is accepted, the model is legal, the plan is made */
     NANOBOT_BROKEN = 1,      /* a rule is broken */
@@ -55,9 +61,9 @@ enum {
 /* Judges the trace from the source to the target, by the light profile or the full one, and gives the line that
  * `nanobot run S T B`, or `nanobot run light S T B`, prints, with its line feed. No line is longer than 200 bytes.
  *
- *     char line[200];
+ *     uint8_t line[200];
  *     size_t size;
- *     uint32_t status = nanobot_judge(none, 0, model, model_size, trace, trace_size, false, line, sizeof line, &size);
+ *     uint32_t status = nanobot_judge(NANOBOT_NONE, 0, model, model_size, trace, trace_size, false, line, sizeof line, &size);
  *     if (status != NANOBOT_MEMORY) fwrite(line, 1, size, stdout);     // ok energy 187750212 steps 784
  */
 uint32_t nanobot_judge(const uint8_t *source, size_t source_size, const uint8_t *target, size_t target_size,
@@ -68,7 +74,8 @@ uint32_t nanobot_judge(const uint8_t *source, size_t source_size, const uint8_t 
  *
  *     int64_t energy;
  *     uint32_t steps;
- *     if (nanobot_cost(none, 0, model, model_size, trace, trace_size, false, &energy, &steps) == NANOBOT_DONE)
+ *     if (nanobot_cost(NANOBOT_NONE, 0, model, model_size, trace, trace_size, false, &energy, &steps)
+ *         == NANOBOT_DONE)
  *         printf("%lld\n", (long long)energy);                         // 187750212
  */
 uint32_t nanobot_cost(const uint8_t *source, size_t source_size, const uint8_t *target, size_t target_size,
@@ -83,20 +90,22 @@ uint32_t nanobot_check(const uint8_t *model, size_t model_size, uint8_t *line, s
 
 /* The planners. Each gives the trace that the row of the program stores: nanobot_judge accepts it from the source to the
  * target, and of nanobot_plan_low and nanobot_plan_swarm by the light profile too. Where the status is another than 0 it
- * gives the line that the program prints. It plans anew at each call, so give it room at once where that can be told:
- * nanobot_plan_layer makes at most 8*r*r*r + 200 bytes at resolution r; for the others see docs/FORMATS.md.
+ * gives the line that the program prints. It plans anew at each call, so give it room at once where that can be told: the
+ * functions nanobot_ROW_room below have the most bytes that such a plan takes at resolution r, which follow from what is proved
+ * of its steps (docs/FORMATS.md) and from how many bytes its commands take. A group plan takes far fewer, as a rule: start with
+ * some megabytes there, and let the status tell.
  *
  * nanobot_plan_layer, one bot:
  *
  *     uint8_t plan[8 * 20 * 20 * 20 + 200];
- *     nanobot_plan_layer(none, 0, model, model_size, plan, sizeof plan, &size);      // size is 1377
+ *     nanobot_plan_layer(NANOBOT_NONE, 0, model, model_size, plan, sizeof plan, &size);      // size is 1377
  */
 uint32_t nanobot_plan_layer(const uint8_t *source, size_t source_size, const uint8_t *target, size_t target_size,
                             uint8_t *plan, size_t room, size_t *size);
 
 /* Two bots, which fill and void runs together.
  *
- *     nanobot_plan_group(model, model_size, none, 0, plan, sizeof plan, &size);      // takes the model down
+ *     nanobot_plan_group(model, model_size, NANOBOT_NONE, 0, plan, sizeof plan, &size);      // takes the model down
  */
 uint32_t nanobot_plan_group(const uint8_t *source, size_t source_size, const uint8_t *target, size_t target_size,
                             uint8_t *plan, size_t room, size_t *size);
@@ -119,6 +128,32 @@ uint32_t nanobot_plan_low(const uint8_t *target, size_t target_size, uint8_t *pl
  *     nanobot_plan_swarm(model, model_size, plan, sizeof plan, &size);
  */
 uint32_t nanobot_plan_swarm(const uint8_t *target, size_t target_size, uint8_t *plan, size_t room, size_t *size);
+
+/* The most bytes that a plan takes at resolution r, r being at most 400. */
+static inline uint64_t nanobot_layer_room(uint64_t r) { return 8 * r * r * r + 200; }
+
+/* A row has at most (r + 1) / 2 runs, and each model r * r rows. */
+static inline uint64_t nanobot_group_room(uint64_t r)
+{
+    return 36 * (2 * r * r * ((r + 1) / 2)) + 640 * (2 * r * r) + 800 * r + 1600;
+}
+
+/* Four bots, and a command takes at most four bytes. */
+static inline uint64_t nanobot_void_room(uint64_t r)
+{
+    uint64_t side = (r + 30) / 31;
+    return 16 * (8 * r * side * side + 8 * r + 200);
+}
+
+/* One bot, whose commands take at most two bytes; at most r * r * r voxels are full. */
+static inline uint64_t nanobot_low_room(uint64_t r) { return 2 * (5 * r * r * r + 200); }
+
+/* Twenty bots, whose commands take at most two bytes. */
+static inline uint64_t nanobot_swarm_room(uint64_t r)
+{
+    uint64_t strip = (r + 17) / 20;
+    return 40 * (4 * (strip < 1 ? 1 : strip) * r * r + 8 * r + 2000);
+}
 
 #ifdef __cplusplus
 }
