@@ -1,5 +1,5 @@
 //! A search from the floor, many voxels at a time, which takes all that it reaches out of a copy of the planes.
-ghost use Rattle.std.specs.Prelude.{◌≡◌, ◌%◌, ◌≤◌, ◌++◌, ◌∷◌, [], All, IfOk, false};
+ghost use Rattle.std.specs.Prelude.{◌≡◌, ◌<◌, ◌%◌, ◌≤◌, ◌++◌, ◌∷◌, [], All, IfOk, false};
 ghost use Rattle.vox_geom.specs.declared.coordinate.Coord.{Coord as Coordinate};
 ghost use Rattle.vox_geom.specs.Space.{IsInSpace};
 ghost use Rattle.nano_spec.specs.Grounded.{FirstUngrounded};
@@ -9,7 +9,9 @@ ghost use Rattle.model_file.specs.Flood.{IsAmong, IsBeside, IsFlood, IsStart, Ta
 
 use crate::least::least_full;
 use std::alloc::Global;
-use vox_geom::{Coord, MOST_R, Memory};
+use std::marker::Brand;
+use std::sync::ledger::{Blank, Ledger};
+use vox_geom::{Coord, MOST_R, Memory, Steps};
 use vox_planes::Planes;
 
 /// Voxels of one row: those, of 64 from a coordinate on, for which a bit is 1.
@@ -28,7 +30,12 @@ struct Flood {
 
 impl Flood {
     /// Takes those voxels of a stretch out that are there. None is there outside the matrix.
-    fn take(&mut self, first: Coord, bits: u64) -> Result<(), Memory>
+    fn take<L: Ledger>(
+        &mut self,
+        first: Coord,
+        bits: u64,
+        steps: &mut Steps<L>,
+    ) -> Result<(), Memory>
         requires { first.z % 64 ≡ 0 }
         ensures takes { IfOk result (λ _. TakesOut (IsAmong (record { first = first; bits = bits })) self.old self.new) }
         ensures gone { IfOk result (λ _. (d : Coordinate) → IsAmong (record { first = first; bits = bits }) d → is_full self.new.remaining d ≡ false) }
@@ -38,7 +45,7 @@ impl Flood {
             return Ok(());
         }
         let count = u32::from(r - first.z).min(64);
-        let taken = self.remaining.take_row(first, count, bits);
+        let taken = self.remaining.take_row(first, count, bits, steps);
         if taken == 0 {
             return Ok(());
         }
@@ -49,14 +56,19 @@ impl Flood {
     }
 
     /// Takes the voxels out that are beside those of a stretch.
-    fn take_around(&mut self, first: Coord, bits: u64) -> Result<(), Memory>
+    fn take_around<L: Ledger>(
+        &mut self,
+        first: Coord,
+        bits: u64,
+        steps: &mut Steps<L>,
+    ) -> Result<(), Memory>
         requires start { IsStart MOST_R (record { first = first; bits = bits }) }
         requires most { self.old.remaining.resolution ≤ MOST_R }
         ensures takes { IfOk result (λ _. TakesOut (IsBeside (record { first = first; bits = bits })) self.old self.new) }
         ensures gone { IfOk result (λ _. (d : Coordinate) → IsBeside (record { first = first; bits = bits }) d → is_full self.new.remaining d ≡ false) }
     {
         let Coord { x, y, z } = first;
-        self.take(Coord { x: x + 1, y, z }, bits)?;
+        self.take(Coord { x: x + 1, y, z }, bits, steps)?;
         self.take(
             Coord {
                 x: x.wrapping_sub(1),
@@ -64,8 +76,9 @@ impl Flood {
                 z,
             },
             bits,
+            steps,
         )?;
-        self.take(Coord { x, y: y + 1, z }, bits)?;
+        self.take(Coord { x, y: y + 1, z }, bits, steps)?;
         self.take(
             Coord {
                 x,
@@ -73,9 +86,10 @@ impl Flood {
                 z,
             },
             bits,
+            steps,
         )?;
-        self.take(first, (bits << 1) | (bits >> 1))?;
-        self.take(Coord { x, y, z: z + 64 }, bits >> 63)?;
+        self.take(first, (bits << 1) | (bits >> 1), steps)?;
+        self.take(Coord { x, y, z: z + 64 }, bits >> 63, steps)?;
         self.take(
             Coord {
                 x,
@@ -83,6 +97,7 @@ impl Flood {
                 z: z.wrapping_sub(64),
             },
             bits << 63,
+            steps,
         )?;
         Ok(())
     }
@@ -90,7 +105,12 @@ impl Flood {
     /// Looks around a stretch: it is found again, wider, where voxels beside it in its own word are there, and else all
     /// voxels beside it are taken out. Without the first, a search that comes into a word by one voxel would go on by
     /// single voxels.
-    fn look_around(&mut self, first: Coord, bits: u64) -> Result<(), Memory>
+    fn look_around<L: Ledger>(
+        &mut self,
+        first: Coord,
+        bits: u64,
+        steps: &mut Steps<L>,
+    ) -> Result<(), Memory>
         requires within { IsInSpace self.old.remaining.resolution first }
         requires each { first.z % 64 ≡ 0 }
         requires most { self.old.remaining.resolution ≤ MOST_R }
@@ -105,9 +125,9 @@ impl Flood {
         let count = u32::from(self.remaining.resolution() - first.z).min(64);
         let more = self
             .remaining
-            .take_row(first, count, (bits << 1) | (bits >> 1));
+            .take_row(first, count, (bits << 1) | (bits >> 1), steps);
         if more == 0 {
-            self.take_around(first, bits)?;
+            self.take_around(first, bits, steps)?;
             return Ok(());
         }
         match self.found.push(Stretch {
@@ -120,55 +140,71 @@ impl Flood {
     }
 
     /// Takes out the floor's voxels with this x.
-    fn take_floor_row(&mut self, x: u16) -> Result<(), Memory>
+    fn take_floor_row<L: Ledger>(&mut self, x: u16, steps: &mut Steps<L>) -> Result<(), Memory>
         ensures takes { IfOk result (λ _. TakesOut (λ d. d.y ≡ 0) self.old self.new) }
         ensures gone { IfOk result (λ _. (d : Coordinate) → d.x ≡ x → d.y ≡ 0 → is_full self.new.remaining d ≡ false) }
     {
         let words = self.remaining.resolution().div_ceil(64);
         for k in 0..words {
-            self.take(Coord { x, y: 0, z: 64 * k }, u64::MAX)?;
+            self.take(Coord { x, y: 0, z: 64 * k }, u64::MAX, steps)?;
         }
         Ok(())
     }
 
     /// Takes out the floor's voxels.
-    fn take_floor(&mut self) -> Result<(), Memory>
+    fn take_floor<L: Ledger>(&mut self, steps: &mut Steps<L>) -> Result<(), Memory>
         ensures takes { IfOk result (λ _. TakesOut (λ d. d.y ≡ 0) self.old self.new) }
         ensures gone { IfOk result (λ _. (d : Coordinate) → d.y ≡ 0 → is_full self.new.remaining d ≡ false) }
     {
         let r = self.remaining.resolution();
         for x in 0..r {
-            self.take_floor_row(x)?;
+            self.take_floor_row(x, steps)?;
         }
         Ok(())
     }
 
     /// Takes out all voxels that are reached from those that were found.
-    fn spread(&mut self) -> Result<(), Memory>
+    fn spread<L: Ledger>(&mut self, steps: &mut Steps<L>) -> Result<(), Memory>
         requires most { self.old.remaining.resolution ≤ MOST_R }
         requires starts { All (IsStart self.old.remaining.resolution) self.old.found.items }
         ensures reaches { IfOk result (λ _. (m : Matrix) → IsFlood m self.old → IsFlood m self.new) }
         ensures all { IfOk result (λ _. self.new.found.items ≡ []) }
     {
         while let Some(stretch) = self.found.pop() {
-            self.look_around(stretch.first, stretch.bits)?;
+            self.look_around(stretch.first, stretch.bits, steps)?;
         }
         Ok(())
     }
 }
 
-/// The least full voxel that is not grounded: `None` where each is grounded. A heap is not searched.
-pub fn first_ungrounded(alloc: Global, planes: &Planes) -> Result<Option<Coord>, Memory>
+/// The least full voxel that is not grounded, counted in a ledger of its own.
+fn first_ungrounded_in<L: Ledger>(
+    alloc: Global,
+    planes: &Planes,
+    blank: Blank,
+) -> Result<Option<Coord>, Memory>
+    requires name { blank.name ≡ L.name }
+    requires parts { blank.parts ≡ L.parts }
+    requires some { 0 < L.parts }
     ensures { IfOk result (λ at. FirstUngrounded planes.now at) }
 {
-    if planes.is_heap() {
+    let mut steps: Steps<L> = Steps::new(blank);
+    if planes.is_heap(&mut steps) {
         return Ok(None);
     }
     let mut flood = Flood {
         remaining: planes.copy(alloc)?,
         found: Vec::new(alloc),
     };
-    flood.take_floor()?;
-    flood.spread()?;
+    flood.take_floor(&mut steps)?;
+    flood.spread(&mut steps)?;
     Ok(least_full(&flood.remaining))
+}
+
+/// The least full voxel that is not grounded: `None` where each is grounded. A heap is not searched. By a counter of touches that
+/// nobody reads.
+pub fn first_ungrounded(alloc: Global, planes: &Planes) -> Result<Option<Coord>, Memory>
+    ensures { IfOk result (λ at. FirstUngrounded planes.now at) }
+{
+    first_ungrounded_in::<Brand>(alloc, planes, Blank::new(1))
 }

@@ -85,8 +85,14 @@ impl Planes {
     }
 
     /// Makes voxels of a row void: those of so many from a coordinate on for which a word has the bit 1. Which of them
-    /// were full, as the bits of a word. All other voxels stay.
-    pub fn take_row(&mut self, first: Coord, count: u32, bits: u64) -> u64
+    /// were full, as the bits of a word. All other voxels stay. At most as many touches as voxels.
+    pub fn take_row<L: Ledger>(
+        &mut self,
+        first: Coord,
+        count: u32,
+        bits: u64,
+        steps: &mut Steps<L>,
+    ) -> u64
         requires few { count ≤ 64 }
         requires within { IsInSpace self.old.resolution first }
         requires row { first.z + count ≤ self.old.resolution }
@@ -95,9 +101,10 @@ impl Planes {
         ensures left { (d : Coordinate) → is_full self.new d ≡ (is_full self.old d && not (is_marked first count bits d)) }
         ensures resolution { self.new.resolution ≡ self.old.resolution }
         ensures whole { IsWhole self.new }
+        ensures touches { steps.new ≤ steps.old + count }
     {
         let index = bit_index(first, self.resolution, self.layer);
-        take_bits(&mut self.words, index, count, bits)
+        take_bits(&mut self.words, index, count, bits, steps)
     }
 }
 
@@ -166,17 +173,25 @@ fn take_part(words: &mut [u64], index: usize, count: u32, bits: u64) -> u64
 }
 
 /// Makes bits 0: those of so many from an index on for which another word has the bit 1. Which of them were 1.
-fn take_bits(words: &mut [u64], index: usize, count: u32, bits: u64) -> u64
+fn take_bits<L: Ledger>(
+    words: &mut [u64],
+    index: usize,
+    count: u32,
+    bits: u64,
+    steps: &mut Steps<L>,
+) -> u64
     requires few { count ≤ 64 }
     requires within { index + count ≤ 64 * length words.old }
     requires small { index < 2 ^ 32 }
     ensures was { (k : ℕ) → k < count → bit result k ≡ (bit bits k && is_set_of words.old (index + k)) }
     ensures below { result < 2 ^ count }
     ensures left { (j : ℕ) → is_set_of words.new j ≡ (is_set_of words.old j && not (is_from index count j && bit bits (j - index))) }
+    ensures touches { steps.new ≤ steps.old + count }
 {
     let mut taken = 0;
     let mut done = 0;
     while done < count {
+        steps.tick();
         let at = index + done as usize;
         let some = part(count - done, at, count - done);
         taken += take_part(words, at, some, bits >> done) << done;

@@ -72,13 +72,16 @@ impl Planes {
         least
     }
 
-    /// Whether each full voxel is on the floor or stands on a full one. No touches are counted.
-    pub fn is_heap(&self) -> bool
+    /// Whether each full voxel is on the floor or stands on a full one. At most two touches for each voxel.
+    pub fn is_heap<L: Ledger>(&self, steps: &mut Steps<L>) -> bool
         ensures heap { result ≡ true → IsHeap self.now }
         ensures other { result ≡ false → IsHeap self.now → ⊥ }
+        ensures touches { steps.new ≤ steps.old + 2 * volume self.now.resolution }
     {
         let layer = self.layer;
         for i in layer..self.words.len() {
+            steps.tick();
+            steps.tick();
             if self.words[i] & !self.words[i - layer] != 0 {
                 return false;
             }

@@ -7,11 +7,12 @@ use Rattle.model_file.specs.Flood.{IsBeside, IsStart, TakesOut, full_of}
 use Rattle.model_file.proofs.Floods.{row_lighter, row_same, takes_none, takes_then}
 use Rattle.model_file.proofs.Spreads.{flood_more, flood_wider, found_starts}
 use Rattle.model_file.proofs.Stretches.{moved}
+use Rattle.model_file.proofs.flood.Flood.look_around.Given.{Over}
 use Rattle.model_file.proofs.flood.Flood.look_around.Goals as goal
 
 -- where nothing beside it is in its word, all that is beside it is taken by the other part
-both : (c : goal.In_ok-take_around) → TakesOut (IsBeside (record { first = c.args.first; bits = c.args.bits })) c.args.self.now c.take_around.new.self
-both c =
+both : (g : Over) (c : goal.In_ok-take_around g) → TakesOut (IsBeside (record { first = c.args.first; bits = c.args.bits })) c.args.self.now c.take_around.new.self
+both g c =
     let s : Stretch = record { first = c.args.first; bits = c.args.bits } in
     let mid : Flood = record { remaining = c.take_row-more.new.self; found = c.args.self.now.found } in
     let few : c.min-count.result ≤ 64 = omega (arith, c.min-count.ensures) in
@@ -21,16 +22,16 @@ both c =
     c.in_ok-take_around.ensures.takes
 
 pub returns-then-more-eq0-clause-reaches : goal.returns-then-more-eq0-clause-reaches
-returns-then-more-eq0-clause-reaches c = λ m s fl same held. flood_more m s c.args.self.now c.take_around.new.self (record { first = c.args.first; bits = c.args.bits }) fl same held (both c) c.in_ok-take_around.ensures.gone
+returns-then-more-eq0-clause-reaches g c = λ m s fl same held. flood_more m s c.args.self.now c.take_around.new.self (record { first = c.args.first; bits = c.args.bits }) fl same held (both g c) c.in_ok-take_around.ensures.gone
 
 pub returns-then-more-eq0-clause-starts : goal.returns-then-more-eq0-clause-starts
-returns-then-more-eq0-clause-starts c = λ h. found_starts (IsBeside (record { first = c.args.first; bits = c.args.bits })) c.args.self.now c.take_around.new.self h (both c)
+returns-then-more-eq0-clause-starts g c = λ h. found_starts (IsBeside (record { first = c.args.first; bits = c.args.bits })) c.args.self.now c.take_around.new.self h (both g c)
 
 pub returns-then-more-eq0-clause-weighs : goal.returns-then-more-eq0-clause-weighs
-returns-then-more-eq0-clause-weighs c = let t = both c in t.weighs
+returns-then-more-eq0-clause-weighs g c = let t = both g c in t.weighs
 
 pub returns-in-Ok-clause-reaches : goal.returns-in-Ok-clause-reaches
-returns-in-Ok-clause-reaches c =
+returns-in-Ok-clause-reaches g c =
     let p : Stretch = record { first = c.args.first; bits = c.args.bits } in
     let new : Flood = record { remaining = c.take_row-more.new.self; found = c.push.new.self } in
     let few : c.min-count.result ≤ 64 = omega (arith, c.min-count.ensures) in
@@ -41,7 +42,7 @@ returns-in-Ok-clause-reaches c =
     λ m s fl same held. flood_wider c.args.self.now new p c.min-count.result c.take_row-more.result c.take_row-more.ensures.resolution few c.take_row-more.ensures.was c.take_row-more.ensures.left c.take_row-more.ensures.below c.in-Ok.ensures.items m s start most fits.fits fl same held
 
 pub returns-in-Ok-clause-weighs : goal.returns-in-Ok-clause-weighs
-returns-in-Ok-clause-weighs c =
+returns-in-Ok-clause-weighs g c =
     let new : Flood = record { remaining = c.take_row-more.new.self; found = c.push.new.self } in
     let few : c.min-count.result ≤ 64 = omega (arith, c.min-count.ensures) in
     let less : full_of c.args.self.now.remaining.resolution c.take_row-more.new.self + 1 ≤ full_of c.args.self.now.remaining.resolution c.args.self.now.remaining =

@@ -6,7 +6,7 @@ use Rattle.model_file.proofs.Spreads.{flood_same}
 use Rattle.model_file.proofs.flood.Flood.spread.Goals as goal
 
 pub loop-stretch-preserved : goal.loop-stretch-preserved
-loop-stretch-preserved c =
+loop-stretch-preserved g c =
     let rest = All-pop (IsStart c.loop-stretch.self.remaining.resolution) c.loop-stretch.self.found.items c.pop.new.self.items c.pop.result c.pop.ensures.items c.loop-stretch.invariant.starts in
     let r = c.in_ok-look_around.ensures.resolution in
     record {
@@ -16,4 +16,4 @@ loop-stretch-preserved c =
     }
 
 pub returns-clause-reaches : goal.returns-clause-reaches
-returns-clause-reaches c = λ m h. flood_same m c.loop-stretch.self (record { remaining = c.loop-stretch.self.remaining; found = c.pop.new.self }) refl (sym (c.in_default.ensures.items ∙ append-nil c.pop.new.self.items)) (c.loop-stretch.invariant.reaches m h)
+returns-clause-reaches g c = λ m h. flood_same m c.loop-stretch.self (record { remaining = c.loop-stretch.self.remaining; found = c.pop.new.self }) refl (sym (c.in_default.ensures.items ∙ append-nil c.pop.new.self.items)) (c.loop-stretch.invariant.reaches m h)

@@ -5,14 +5,14 @@ use Rattle.model_file.proofs.Floods.{gone_row, row_same, takes_none, takes_row}
 use Rattle.model_file.proofs.flood.Flood.take.Goals as goal
 
 pub returns-then-taken-eq0-clause-takes : goal.returns-then-taken-eq0-clause-takes
-returns-then-taken-eq0-clause-takes c =
+returns-then-taken-eq0-clause-takes g c =
     let new : Flood = record { remaining = c.take_row-taken.new.self; found = c.args.self.now.found } in
     let few : c.min-count.result ≤ 64 = omega (arith, c.min-count.ensures) in
     takes_none (IsAmong (record { first = c.args.first; bits = c.args.bits })) c.args.self.now new c.take_row-taken.ensures.resolution
     (row_same c.args.self.now new c.args.first c.min-count.result c.args.bits c.take_row-taken.result c.take_row-taken.ensures.resolution few c.take_row-taken.ensures.was c.take_row-taken.ensures.left c.if-taken-eq0.true) refl
 
 pub returns-in-Ok-clause-takes : goal.returns-in-Ok-clause-takes
-returns-in-Ok-clause-takes c =
+returns-in-Ok-clause-takes g c =
     let new : Flood = record { remaining = c.take_row-taken.new.self; found = c.push.new.self } in
     let few : c.min-count.result ≤ 64 = omega (arith, c.min-count.ensures) in
     let r = c.resolution-r.ensures.value in
@@ -24,7 +24,7 @@ returns-in-Ok-clause-takes c =
     c.requires c.take_row-taken.ensures.below c.if-taken-eq0.false c.take_row-taken.type_inv c.in-Ok.ensures.items
 
 pub returns-in-Ok-clause-gone : goal.returns-in-Ok-clause-gone
-returns-in-Ok-clause-gone c =
+returns-in-Ok-clause-gone g c =
     let new : Flood = record { remaining = c.take_row-taken.new.self; found = c.push.new.self } in
     let few : c.min-count.result ≤ 64 = omega (arith, c.min-count.ensures) in
     let size : c.min-count.result ≡ min (c.args.self.now.remaining.resolution - c.args.first.z) 64 = omega (arith, c.min-count.ensures, c.from.ensures, c.resolution-r.ensures.value) in

@@ -6,14 +6,14 @@ use Rattle.model_file.proofs.Floods.{takes_around}
 use Rattle.model_file.proofs.flood.Flood.take_around.Goals as goal
 
 pub returns-clause-takes : goal.returns-clause-takes
-returns-clause-takes c =
+returns-clause-takes g c =
     let s : Stretch = record { first = c.args.first; bits = c.args.bits } in
     let fits = c.ranges.bits in
     takes_around c.args.self.now c.take.new.self c.take-2.new.self c.take-3.new.self c.take-4.new.self c.take-5.new.self c.take-6.new.self c.take-7.new.self s c.requires.start c.requires.most fits.fits
     c.in_ok-take.ensures.takes c.in_ok-take-2.ensures.takes c.in_ok-take-3.ensures.takes c.in_ok-take-4.ensures.takes c.in_ok-take-5.ensures.takes c.in_ok-take-6.ensures.takes c.in_ok-take-7.ensures.takes
 
 pub returns-clause-gone : goal.returns-clause-gone
-returns-clause-gone c =
+returns-clause-gone g c =
     let s : Stretch = record { first = c.args.first; bits = c.args.bits } in
     let fits = c.ranges.bits in
     let t2 = c.in_ok-take-2.ensures.takes in

@@ -5,7 +5,7 @@ use Rattle.model_file.specs.Flood.{TakesOut}
 use Rattle.model_file.proofs.flood.Flood.take_floor.Given as goal
 
 abbrev pub invariant-loop-x : goal.invariant-loop-x
-invariant-loop-x l = record {
+invariant-loop-x g l = record {
   takes : TakesOut (λ d. d.y ≡ 0) l.initial.self l.self;
   gone : (d : Coord) → d.x < l.x → d.y ≡ 0 → is_full l.self.remaining d ≡ false;
 }

@@ -9,17 +9,17 @@ use Rattle.model_file.specs.declared.flood.Flood.{Flood}
 use Rattle.model_file.specs.Flood.{IsStart}
 use Rattle.model_file.proofs.Heaps.{heap_is_grounded}
 use Rattle.model_file.proofs.Spreads.{flood_begun, found_starts, left_is_ungrounded}
-use Rattle.model_file.proofs.flood.first_ungrounded.Goals as goal
+use Rattle.model_file.proofs.flood.first_ungrounded_in.Goals as goal
 
 pub spread-requires-clause-starts : goal.spread-requires-clause-starts
-spread-requires-clause-starts c =
+spread-requires-clause-starts g c =
     let start : Flood = record { remaining = c.in_ok-copy.field-0; found = c.new.result } in
     let t = c.in_ok-take_floor.ensures.takes in
     subst (λ (n : ℕ). All (IsStart n) c.take_floor.new.self.found.items) (sym t.resolution)
     (found_starts (λ d. d.y ≡ 0) start c.take_floor.new.self (All-same (IsStart c.in_ok-copy.field-0.resolution) c.new.result.items [] c.new.ensures.items (All-nil (IsStart c.in_ok-copy.field-0.resolution))) t)
 
 pub returns : goal.returns
-returns c =
+returns g c =
     let start : Flood = record { remaining = c.in_ok-copy.field-0; found = c.new.result } in
     let m = c.args.planes.now in
     let begun = flood_begun m start c.take_floor.new.self c.in_ok-copy.ensures.value c.new.ensures.items c.in_ok-take_floor.ensures.takes c.in_ok-take_floor.ensures.gone in
@@ -30,4 +30,4 @@ returns c =
     (left_is_ungrounded m c.spread.new.self (is_full left) done c.in_ok-spread.ensures.all (λ d t. t) (λ d t. t))
 
 pub returns-then-is_heap : goal.returns-then-is_heap
-returns-then-is_heap c = heap_is_grounded c.args.planes.now (c.is_heap.ensures.heap c.if-is_heap.true)
+returns-then-is_heap g c = heap_is_grounded c.args.planes.now (c.is_heap.ensures.heap c.if-is_heap.true)
