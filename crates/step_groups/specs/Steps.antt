@@ -1,9 +1,13 @@
 -- The step that is judged (docs/FORMATS.md, "Rules").
-use Rattle.std.specs.Prelude.{◌≡◌, ℤ, List, length, Option, All}
+use Rattle.std.specs.Prelude.{◌≡◌, ℕ, ℤ, List, length, Option, All}
 use Rattle.vox_geom.specs.Space.{IsInSpace}
+use Rattle.nano_spec.specs.declared.commands.Command.{Command}
 use Rattle.nano_spec.specs.declared.outcomes.Broken.{Broken}
 use Rattle.nano_spec.specs.declared.system.Bot.{Bot}
+use Rattle.nano_spec.specs.declared.system.Harmonics.{Harmonics}
+use Rattle.nano_spec.specs.declared.system.Profile.{Profile}
 use Rattle.nano_spec.specs.Act.{Act, acts}
+use Rattle.nano_spec.specs.Matrix.{Matrix}
 use Rattle.nano_spec.specs.Rules.{broken}
 use Rattle.nano_spec.specs.State.{State}
 use Rattle.bot_crew.specs.Crew.{IsCrew}
@@ -33,6 +37,12 @@ start_of_step step = start_of step.planes.now step.harmonics step.profile step.b
 abbrev pub later_fault : Step → Act → Option Broken
 later_fault step a = first_fault (start_of_step step) (acts_of_step step) step.number a later_rules
 
+-- the first rule that a step of these parts breaks
+abbrev pub first_broken : Matrix → Harmonics → Profile → List Bot → List Command → ℕ → ℤ → Option Broken
+first_broken matrix harmonics profile bots commands step energy =
+    broken (record (start_of matrix harmonics profile bots) { energy = energy }) commands step
+
 -- the first rule that the step breaks, where the energy at its start is this one
 abbrev pub broken_in : Step → ℤ → Option Broken
-broken_in step energy = broken (record (start_of_step step) { energy = energy }) step.commands.now step.number
+broken_in step energy =
+    first_broken step.planes.now step.harmonics step.profile step.bots.now step.commands.now step.number energy

@@ -1,11 +1,13 @@
 //! The groups of a step.
-ghost use Rattle.std.specs.Prelude.{◌≡◌, ◌+◌, ◌≤◌, ◌*◌, ℤ, [], IsTrue, IfErr, IfOk, OnErr, OnOk, Some, None};
+ghost use Rattle.std.specs.Prelude.{◌≡◌, ◌+◌, ◌≤◌, ◌*◌, ℤ, [], All, IsTrue, IfErr, IfOk, OnErr, OnOk, Some, None, length};
 ghost use Rattle.std.specs.List.{list_all};
+ghost use Rattle.vox_geom.specs.Space.{IsInSpace};
+ghost use Rattle.nano_spec.specs.Act.{acts};
 ghost use Rattle.nano_spec.specs.Group.{leaders};
 ghost use Rattle.nano_spec.specs.Work.{volatile_total};
 ghost use Rattle.step_groups.specs.Groups.{AreGroups, AreLone};
 ghost use Rattle.step_groups.specs.Judging.{is_alone};
-ghost use Rattle.step_groups.specs.Steps.{CanBeJudged, acts_of_step, broken_in};
+ghost use Rattle.step_groups.specs.Steps.{CanBeJudged, acts_of_step, broken_in, first_broken};
 
 use crate::apart::are_apart;
 use crate::members::list_groups;
@@ -14,11 +16,12 @@ use crate::pairs::judge_pairs;
 use crate::rules::judge_bots;
 use crate::step::Step;
 use arrayvec::ArrayVec;
-use bot_crew::MOST_BOTS;
-use nano_spec::Broken;
+use bot_crew::{Crew, MOST_BOTS};
+use nano_spec::{Broken, Command, Harmonics, Profile};
 use std::marker::Model;
 use std::sync::ledger::Ledger;
 use vox_geom::{Region, Steps};
+use vox_planes::Planes;
 
 /// Bots that act together (docs/FORMATS.md, "Groups"), and the boxes that together hold what is volatile for them.
 /// The leader is the least bid. The members, the leader among them, are in rising order.
@@ -120,16 +123,36 @@ impl Groups {
     }
 }
 
-/// Judges a step as [`Groups::judge`] does, and gives its groups.
-pub fn judge_groups<L: Ledger>(step: &Step, steps: &mut Steps<L>) -> Result<Groups, Broken>
-    requires { CanBeJudged step.now }
-    ensures broken { IfErr result (λ b. (energy : ℤ) → broken_in step.now energy ≡ Some b) }
-    ensures unbroken { OnOk result ((energy : ℤ) → broken_in step.now energy ≡ None) }
-    ensures groups { IfOk result (AreGroups step.now.planes.now.resolution (acts_of_step step.now) (leaders (acts_of_step step.now))) }
-    ensures touches { steps.new ≤ steps.old + 2 * volatile_total step.now.planes.now (acts_of_step step.now) }
+/// Judges a step of a crew as [`Groups::judge`] does, and gives its groups. `step` is the number of the step, from 1 on.
+pub fn judge_groups<L: Ledger>(
+    crew: &Crew,
+    planes: &Planes,
+    harmonics: Harmonics,
+    profile: Profile,
+    commands: &[Command],
+    step: u32,
+    steps: &mut Steps<L>,
+) -> Result<Groups, Broken>
+    requires lengths { length commands.now ≡ length crew.now }
+    requires within { All (λ b. IsInSpace planes.now.resolution b.pos) crew.now }
+    ensures broken { IfErr result
+        (λ b. (energy : ℤ) → first_broken planes.now harmonics profile crew.now commands.now step energy ≡ Some b) }
+    ensures unbroken { OnOk result
+        ((energy : ℤ) → first_broken planes.now harmonics profile crew.now commands.now step energy ≡ None) }
+    ensures groups { IfOk result
+        (AreGroups planes.now.resolution (acts crew.now commands.now) (leaders (acts crew.now commands.now))) }
+    ensures touches { steps.new ≤ steps.old + 2 * volatile_total planes.now (acts crew.now commands.now) }
 {
+    let step = Step {
+        planes,
+        harmonics,
+        profile,
+        bots: crew.bots(),
+        commands,
+        number: step,
+    };
     let mut groups = Groups::new();
-    match groups.judge(step, steps) {
+    match groups.judge(&step, steps) {
         Ok(()) => Ok(groups),
         Err(broken) => Err(broken),
     }
