@@ -3,7 +3,7 @@ use crate::table::{Row, assert_rows};
 use nanobot_app::Status;
 use std::test::Fail;
 
-const CHECKED: [Row; 16] = [
+const CHECKED: [Row; 17] = [
     (
         "check B",
         &[0x03, 0x00, 0x00, 0x00, 0xF8],
@@ -54,6 +54,12 @@ const CHECKED: [Row; 16] = [
         &[0xFF],
         Status::Model,
         "model 8 WideHead have 1\n",
+    ),
+    (
+        "check B",
+        &[0xFF, 0x00],
+        Status::Model,
+        "model 8 WideHead have 2\n",
     ),
     (
         "check B",

@@ -59,8 +59,19 @@ fn assert_spared(rt: &impl Abort, depot: &MemoryDepot, line: &str) -> Result<(),
     Ok(())
 }
 
-/// Whether the words are done where the depot's call of this number fails: else they answer 5 and write nothing.
-fn is_done_without(rt: &impl Abort, alloc: Global, line: &str, call: u64) -> Result<bool, Fail> {
+/// What comes of words where a call of the depot fails.
+#[derive(Clone, Copy, PartialEq, Eq)]
+enum Without {
+    /// They are done: there was no such call.
+    Done,
+    /// They answer 5, write nothing, and leave the file `C` as it was, which is not there.
+    Spared,
+    /// They answer 5, write nothing, and the file `C` is there: it was the store that failed.
+    Stored,
+}
+
+/// What comes of the words where the depot's call of this number fails.
+fn answer_without(rt: &impl Abort, alloc: Global, line: &str, call: u64) -> Result<Without, Fail> {
     let words = words(alloc, line)?;
     let mut depot = files(alloc, &[call])?;
     let mut out = MemorySink::new(alloc, Vec::new(alloc));
@@ -68,22 +79,34 @@ fn is_done_without(rt: &impl Abort, alloc: Global, line: &str, call: u64) -> Res
     assert_spared(rt, &depot, line)?;
     if answered == Status::Depot {
         assert!(rt; out.bytes().is_empty(), "call {} at {}", call, line);
-        return Ok(false);
+        let stored = depot.file("C").is_some();
+        return Ok(if stored {
+            Without::Stored
+        } else {
+            Without::Spared
+        });
     }
     assert_eq!(rt; answered, Status::Done, "call {} at {}", call, line);
-    Ok(true)
+    Ok(Without::Done)
 }
 
+/// Each call on the depot fails in turn; only where the last one fails, which is the store, may the file be another.
 #[test]
 fn each_call_on_the_depot_fails_in_turn(rt: HostRuntime) -> Result<(), Fail> {
     for line in &ROWS {
-        let mut done = false;
+        let mut last = Without::Spared;
         for call in 0..16 {
-            if !done {
-                done = is_done_without(&rt, rt.alloc(), line, call)?;
+            if last != Without::Done {
+                let now = answer_without(&rt, rt.alloc(), line, call)?;
+                assert!(rt;
+                    last == Without::Spared || now == Without::Done,
+                    "at {}",
+                    line
+                );
+                last = now;
             }
         }
-        assert!(rt; done, "at {}", line);
+        assert!(rt; last == Without::Done, "at {}", line);
     }
     Ok(())
 }
@@ -106,15 +129,40 @@ fn told(
     Ok((out.bytes().to_vec(alloc)?, stored.to_vec(alloc)?))
 }
 
+/// Words that are refused, over the same files.
+const REFUSALS: [(&str, Status); 8] = [
+    ("run - TOWER B", Status::Broken),
+    ("ran - P3 B", Status::Words),
+    ("run P3 E4 B", Status::Model),
+    ("check S", Status::Model),
+    ("run - P3 T", Status::Trace),
+    ("asm B C", Status::Text),
+    ("debug E3 B T", Status::Text),
+    ("plan low - HOOK C", Status::Unsupported),
+];
+
 /// Where the line cannot be written, its first half is, and the file stands as it does else.
+fn assert_line_fails(
+    rt: &impl Abort,
+    alloc: Global,
+    line: &str,
+    status: Status,
+) -> Result<(), Fail> {
+    let (whole, stored) = told(rt, alloc, line, &[], status)?;
+    let (half, kept) = told(rt, alloc, line, &[0], Status::Sink)?;
+    assert_eq!(rt; half.as_slice(), &whole[..whole.len() / 2], "at {}", line);
+    assert_eq!(rt; kept.as_slice(), stored.as_slice(), "at {}", line);
+    Ok(())
+}
+
 #[test]
 fn each_line_fails(rt: HostRuntime) -> Result<(), Fail> {
     let alloc = rt.alloc();
     for line in &ROWS {
-        let (whole, stored) = told(&rt, alloc, line, &[], Status::Done)?;
-        let (half, kept) = told(&rt, alloc, line, &[0], Status::Sink)?;
-        assert_eq!(rt; half.as_slice(), &whole[..whole.len() / 2], "at {}", line);
-        assert_eq!(rt; kept.as_slice(), stored.as_slice(), "at {}", line);
+        assert_line_fails(&rt, alloc, line, Status::Done)?;
+    }
+    for (line, status) in &REFUSALS {
+        assert_line_fails(&rt, alloc, line, *status)?;
     }
     Ok(())
 }

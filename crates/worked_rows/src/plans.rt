@@ -59,26 +59,50 @@ fn accepted(alloc: Global, planned: &[u8]) -> Result<Vec<u8>, Fail> {
     Ok(line)
 }
 
-/// The number of steps in a plan's line: its fifth word.
-fn steps_of(planned: &[u8]) -> Option<u32> {
-    let line = str::from_utf8(planned).ok()?;
-    line.split(' ').nth(4)?.parse().ok()
+/// What a planner's bound is on.
+#[derive(Clone, Copy)]
+enum Most {
+    /// The bytes of the stored trace.
+    Bytes(u32),
+    Steps(u32),
 }
 
-/// A plan: the planner's word, the two models, the words of the runs that accept it, and the most steps that it may have.
-type Planned = (&'static str, &'static str, &'static [&'static str], u32);
+/// The number at a word of a plan's line, counted from 0.
+fn number_at(planned: &[u8], word: usize) -> Option<u32> {
+    let line = str::from_utf8(planned).ok()?;
+    line.trim_end().split(' ').nth(word)?.parse().ok()
+}
 
-/// The most steps of the plans of the house are those of the planners' bounds: it has 388 full voxels, 90 rows and 154 runs.
-const PLANS: [Planned; 9] = [
-    ("layer", "- HOUSE", &["run"], 64_200),
-    ("layer", "HOUSE -", &["run"], 64_200),
-    ("layer", "- WP", &["run"], u32::MAX),
-    ("group", "- HOUSE", &["run"], 20_032),
-    ("group", "HOUSE -", &["run"], 20_032),
-    ("group", "- WP", &["run"], u32::MAX),
-    ("void", "HOUSE -", &["run"], 520),
-    ("low", "- HOUSE", &["run", "run light"], 9_752),
-    ("swarm", "- HOUSE", &["run", "run light"], 3_760),
+/// Whether a plan, with its line and the trace that was stored, is within the bound; the line tells how many bytes are stored.
+fn is_within(planned: &[u8], stored: &[u8], most: Most) -> bool {
+    let bytes = stored.len() as u32;
+    let number = match most {
+        Most::Bytes(most) => bytes <= most,
+        Most::Steps(most) => number_at(planned, 4).is_some_and(|steps| steps <= most),
+    };
+    number && number_at(planned, 8) == Some(bytes)
+}
+
+/// A plan: the planner's word, the two models, the words of the runs that accept it, and its bound.
+type Planned = (&'static str, &'static str, &'static [&'static str], Most);
+
+/// The bounds of the plans are those of the planners: the house has 388 full voxels, 90 rows and 154 runs.
+const PLANS: [Planned; 10] = [
+    ("layer", "- HOUSE", &["run"], Most::Bytes(64_200)),
+    ("layer", "HOUSE -", &["run"], Most::Bytes(64_200)),
+    ("layer", "- HOOK", &["run"], Most::Bytes(1_200)),
+    ("layer", "- WP", &["run"], Most::Bytes(126_506_208)),
+    ("group", "- HOUSE", &["run"], Most::Steps(20_032)),
+    ("group", "HOUSE -", &["run"], Most::Steps(20_032)),
+    ("group", "- WP", &["run"], Most::Steps(50_768)),
+    ("void", "HOUSE -", &["run"], Most::Steps(520)),
+    ("low", "- HOUSE", &["run", "run light"], Most::Steps(9_752)),
+    (
+        "swarm",
+        "- HOUSE",
+        &["run", "run light"],
+        Most::Steps(3_760),
+    ),
 ];
 
 /// What is planned between two models is accepted by the runs, with the energy and the steps that were printed.
@@ -92,11 +116,8 @@ fn assert_planned(
     let line = format!(in alloc; "plan {planner} {models} B")?;
     let planned = printed(rt, alloc, depot, line.as_str(), Status::Done)?;
     let expected = accepted(alloc, &planned)?;
-    assert!(rt;
-        steps_of(&planned).is_some_and(|steps| steps <= most),
-        "at {}",
-        line
-    );
+    let stored = depot.file("B").unwrap_or(b"");
+    assert!(rt; is_within(&planned, stored, most), "at {}", line);
     for run in runs {
         let line = format!(in alloc; "{run} {models} B")?;
         let ran = printed(rt, alloc, depot, line.as_str(), Status::Done)?;
@@ -129,7 +150,7 @@ fn a_full_model_by_a_swarm(rt: HostRuntime) -> Result<(), Fail> {
         &rt,
         alloc,
         &mut depot,
-        &("swarm", "- FULL", &["run light"], 202_800),
+        &("swarm", "- FULL", &["run light"], Most::Steps(202_800)),
     )
 }
 

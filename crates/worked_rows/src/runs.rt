@@ -100,7 +100,13 @@ pub const ACCEPTED: [Row; 14] = [
 ];
 
 /// Runs that break a rule.
-pub const BROKEN: [Row; 20] = [
+pub const BROKEN: [Row; 21] = [
+    (
+        "run P3 - B",
+        &[0xFF],
+        Status::Broken,
+        "broken 14 WrongResult step 1 bid 0 at 1 0 1\n",
+    ),
     (
         "run E3 E3 B",
         &[],
@@ -226,7 +232,7 @@ pub const BROKEN: [Row; 20] = [
 ];
 
 /// Traces and words that are refused. A bad byte wins over a broken step.
-pub const REFUSED: [Row; 13] = [
+pub const REFUSED: [Row; 14] = [
     ("run E3 E3 B", &[0x04], Status::Trace, "trace bad at 0\n"),
     ("run E3 E3 B", &[0x03], Status::Trace, "trace bad at 0\n"),
     ("run E3 E3 B", &[0x14], Status::Trace, "trace cut at 0\n"),
@@ -248,6 +254,12 @@ pub const REFUSED: [Row; 13] = [
         &[0x03, 0x01, 0x00, 0x00, 0x00],
         Status::Model,
         "source 6 Border at 0 0 0\n",
+    ),
+    (
+        "run B B P3",
+        &[0x00],
+        Status::Model,
+        "source 2 Resolution 0\n",
     ),
     (
         "run - B B",

@@ -176,17 +176,23 @@ fn sessions_that_are_refused(rt: HostRuntime) -> Result<(), Fail> {
     assert_sessions(&rt, rt.alloc(), &REFUSED)
 }
 
-/// A script of a byte more than the limit.
-#[test]
-fn a_script_too_long(rt: HostRuntime) -> Result<(), Fail> {
-    let alloc = rt.alloc();
+/// A script of so many bytes, all of them `x`, is refused with this line.
+fn assert_long_script(rt: &impl Abort, alloc: Global, size: usize, line: &str) -> Result<(), Fail> {
     let words = words(alloc, "debug E3 B X")?;
     let mut depot = depot(alloc, &[])?;
     depot.put_file("B", FILL)?;
-    depot.put_file("X", &vec![in alloc; b'x'; 65_537]?)?;
+    depot.put_file("X", &vec![in alloc; b'x'; size]?)?;
     let mut out = MemorySink::new(alloc, Vec::new(alloc));
     let answered = answer(alloc, &words, &mut depot, &mut out);
-    assert_eq!(rt; out.bytes(), b"text longer than 65536\n".as_slice());
+    assert_eq!(rt; out.bytes(), line.as_bytes());
     assert_eq!(rt; answered, Status::Text);
     Ok(())
+}
+
+/// A script of exactly the limit is read, and one of a byte more is not.
+#[test]
+fn long_scripts(rt: HostRuntime) -> Result<(), Fail> {
+    let alloc = rt.alloc();
+    assert_long_script(&rt, alloc, 65_536, "text 2 UnknownWord line 1\n")?;
+    assert_long_script(&rt, alloc, 65_537, "text longer than 65536\n")
 }
