@@ -11,7 +11,7 @@ use nano_spec::{Command, Verdict};
 use std::alloc::Global;
 use std::marker::Brand;
 use std::sync::ledger::{Blank, Ledger};
-use step_machine::judge;
+use trace_judge::judge;
 use vox_geom::{Coord, Diff, MOST_R, Memory, Near, Steps};
 use vox_planes::Planes;
 

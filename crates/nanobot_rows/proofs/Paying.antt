@@ -14,8 +14,8 @@ use Rattle.nano_spec.specs.Spelling.{spelling, spellings}
 use Rattle.nano_spec.specs.Work.{Work}
 use Rattle.nano_spec.proofs.Traces.{one_spelling}
 use Rattle.run_progress.specs.Progress.{Progress, Pushes, begun}
-use Rattle.step_machine.specs.Course.{Course}
-use Rattle.step_machine.specs.Payment.{IsPaid, Touches}
+use Rattle.trace_judge.specs.Course.{Course}
+use Rattle.trace_judge.specs.Payment.{IsPaid, Touches}
 use Rattle.trace_codec.specs.Decoder.{AnswersPiece, DecoderState, HasTaken, decoder_after, fresh}
 use Rattle.trace_codec.specs.declared.decoder.Fed.TheVariants.{Got, All, Bad}
 use Rattle.vox_depot.specs.Files.{Files, IfTold, IsPiece, content}

@@ -10,7 +10,7 @@ use Rattle.nano_spec.specs.Matrix.{Matrix}
 use Rattle.nano_spec.specs.Spelling.{spelling}
 use Rattle.nano_spec.specs.Verdict.{VerdictOf}
 use Rattle.run_progress.specs.Progress.{Comes, Finishes, Progress, Pushes, begun, first, later}
-use Rattle.step_machine.specs.Course.{Course}
+use Rattle.trace_judge.specs.Course.{Course}
 use Rattle.trace_codec.specs.Decoder.{AnswersPiece, DecoderState, EndsTrace, HasTaken, decoder_after, fresh}
 use Rattle.trace_codec.specs.Whole.{Decodes}
 use Rattle.trace_codec.specs.declared.decoder.Fed.TheVariants.{Got, All, Bad}

@@ -4,7 +4,7 @@ use Rattle.std.specs.Prelude.{Result, Ok, Err, IfOk}
 use Rattle.std.proofs.Math.Seq.{take-add}
 use Rattle.std.proofs.lemmas.List.{take_all}
 use Rattle.nano_spec.specs.declared.commands.Command.{Command}
-use Rattle.step_machine.specs.Course.{Course}
+use Rattle.trace_judge.specs.Course.{Course}
 use Rattle.trace_codec.specs.Decoder.{AnswersPiece, DecoderState, decoder_after}
 use Rattle.trace_codec.specs.declared.decoder.Fed.{Fed}
 use Rattle.trace_codec.specs.declared.decoder.Fed.TheVariants.{Got, All, Bad}

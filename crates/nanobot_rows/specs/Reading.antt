@@ -12,7 +12,7 @@ use Rattle.nano_spec.specs.Verdict.{VerdictOf}
 use Rattle.model_file.specs.declared.fault.ModelFault.{ModelFault}
 use Rattle.model_file.specs.declared.fault.ModelFault.TheVariants as fault
 use Rattle.run_progress.specs.Progress.{Comes}
-use Rattle.step_machine.specs.Course.{Course}
+use Rattle.trace_judge.specs.Course.{Course}
 use Rattle.trace_codec.specs.Decoder.{DecoderState, HasTaken}
 use Rattle.trace_codec.specs.declared.fault.TraceFault.{TraceFault}
 use Rattle.trace_codec.specs.declared.fault.TraceFault.TheVariants as trace

@@ -4,8 +4,8 @@ use Rattle.nano_spec.specs.declared.commands.Command.{Command}
 use Rattle.nano_spec.specs.declared.system.Profile.{Profile}
 use Rattle.nano_spec.specs.Matrix.{Matrix}
 use Rattle.run_progress.specs.Progress.{Pushes}
-use Rattle.step_machine.specs.Course.{Course}
-use Rattle.step_machine.specs.Payment.{Touches}
+use Rattle.trace_judge.specs.Course.{Course}
+use Rattle.trace_judge.specs.Payment.{Touches}
 use Rattle.trace_codec.specs.declared.decoder.Fed.{Fed}
 use Rattle.trace_codec.specs.declared.decoder.Fed.TheVariants.{Got, All, Bad}
 use Rattle.nanobot_rows.specs.Reading.{HasRun, RunState}

@@ -6,7 +6,7 @@ use Rattle.nano_spec.specs.Cutting.{AreCommands, RestOf}
 use Rattle.nano_spec.specs.Matrix.{Matrix}
 use Rattle.nano_spec.specs.Profile.{full_profile, light_profile}
 use Rattle.nano_spec.specs.Spelling.{spellings}
-use Rattle.step_machine.specs.Payment.{IsPaid, IsWithinWorkOfRun}
+use Rattle.trace_judge.specs.Payment.{IsPaid, IsWithinWorkOfRun}
 use Rattle.trace_codec.specs.Decoder.{DecoderState, HasTaken}
 use Rattle.vox_depot.specs.Files.{Files, content}
 use Rattle.nanobot_rows.specs.Reading.{AreModels, RunState}

@@ -21,8 +21,8 @@ use nano_spec::{Verdict, one_verdict};
 use plan_tape::Plan;
 use std::alloc::Global;
 use std::sync::ledger::Ledger;
-use step_machine::judge;
 use system_state::know_all;
+use trace_judge::judge;
 use vox_geom::{MOST_R, Memory, Steps};
 use vox_planes::Planes;
 

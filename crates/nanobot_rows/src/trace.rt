@@ -12,7 +12,7 @@ use crate::trace_run::TraceRun;
 use nano_spec::Profile;
 use std::alloc::Global;
 use std::sync::ledger::Ledger;
-use step_machine::{every_run_has_work, the_work_pays};
+use trace_judge::{every_run_has_work, the_work_pays};
 use vox_depot::Depot;
 use vox_geom::Steps;
 use vox_planes::Planes;

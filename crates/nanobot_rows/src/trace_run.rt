@@ -15,8 +15,8 @@ use run_progress::the_progress_is_the_verdict;
 use std::alloc::Global;
 use std::marker::Model;
 use std::sync::ledger::Ledger;
-use step_machine::{Runner, the_work_pays};
 use trace_codec::{Decoder, Fed, TraceFault, pieces_decode};
+use trace_judge::{Runner, the_work_pays};
 use vox_geom::{Memory, Steps};
 use vox_planes::Planes;
 

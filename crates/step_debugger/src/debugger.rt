@@ -16,7 +16,7 @@ ghost use Rattle.step_debugger.specs.Touches.{IsTouchedBack};
 
 use crate::fault::DebugFault;
 use crate::middle::full_after;
-use crate::steps::{anew, append, next_commands, place_of, trace_ends};
+use crate::steps::{append, next_commands, place_of, renew, take_back, trace_ends};
 use arrayvec::ArrayVec;
 use bot_crew::{Crew, MOST_BOTS};
 use circular_buffer::HeapCircularBuffer;
@@ -217,8 +217,8 @@ impl Debugger {
                 if !self.machine.spent() {
                     return Err(DebugFault::Broken(broken));
                 }
-                match anew(self.alloc, &self.machine, steps) {
-                    Ok(machine) => self.machine = machine,
+                match renew(self.alloc, &mut self.machine, steps) {
+                    Ok(()) => {}
                     Err(Memory) => return Err(DebugFault::Memory),
                 }
                 self.begun.clear();
@@ -337,11 +337,10 @@ impl Debugger {
         let Some(undo) = self.history.pop_back() else {
             return Err(DebugFault::NoHistory);
         };
-        match self.machine.undo(&undo, steps) {
-            Ok(()) => {}
+        match take_back(&mut self.machine, undo, steps) {
+            Ok(count) => self.taken -= u32::from(count),
             Err(Memory) => return Err(DebugFault::Memory),
         }
-        self.taken -= u32::from(undo.crew.count());
         self.middle = self.machine.crew().copy();
         Ok(())
     }

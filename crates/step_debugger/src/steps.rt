@@ -1,15 +1,16 @@
 //! Parts of a step: its commands, and the order of its groups.
-ghost use Rattle.std.specs.Prelude.{◌≡◌, ◌+◌, ◌<◌, ◌≤◌, false, ◌==◌, ◌++◌, length, take, drop, slice_index, IfOk, IfNone, IfSome, Some};
+ghost use Rattle.std.specs.Prelude.{◌≡◌, ◌+◌, ◌<◌, ◌≤◌, false, true, ◌==◌, ◌++◌, length, take, drop, slice_index, IfOk, IfErr, IfNone, IfSome, Some};
 ghost use Rattle.std.specs.List.{list_any};
 ghost use Rattle.nano_spec.specs.Rules.{broken};
 ghost use Rattle.nano_spec.specs.State.{IsWellFormed};
+ghost use Rattle.step_machine.specs.Undoing.{IsUndoneBy, MayUndo, state_before};
 
 use arrayvec::ArrayVec;
 use bot_crew::MOST_BOTS;
 use nano_spec::{Broken, Command, Rule};
 use std::alloc::Global;
 use std::sync::ledger::Ledger;
-use step_machine::Machine;
+use step_machine::{Machine, Undo};
 use vox_geom::{Memory, Steps};
 
 /// The commands of the next step: one for each of so many bots, as far as there are any.
@@ -80,4 +81,36 @@ pub(crate) fn anew<L: Ledger>(
         machine.profile(),
         steps,
     )
+}
+
+/// The machine is made anew in its state. For want of memory it stays. In a function of its own a machine is dropped at one place.
+pub(crate) fn renew<L: Ledger>(
+    alloc: Global,
+    machine: &mut Machine,
+    steps: &mut Steps<L>,
+) -> Result<(), Memory>
+    requires { IsWellFormed machine.old.state }
+    ensures value { IfOk result (λ _. machine.new ≡ record machine.old { spent = false }) }
+    ensures stays { IfErr result (λ _. machine.new ≡ machine.old) }
+{
+    let made = anew(alloc, machine, steps)?;
+    *machine = made;
+    Ok(())
+}
+
+/// Takes the step of a note back. How many bots there were before it.
+pub(crate) fn take_back<L: Ledger>(
+    machine: &mut Machine,
+    undo: Undo,
+    steps: &mut Steps<L>,
+) -> Result<u8, Memory>
+    requires stands { machine.old.spent ≡ false }
+    requires may { MayUndo machine.old.state undo }
+    ensures count { IfOk result (λ n. n ≡ length undo.crew) }
+    ensures value { IfOk result (λ _. machine.new ≡ record { state = state_before machine.old.state undo; steps = undo.steps; spent = false }) }
+    ensures memory { IfErr result (λ _. machine.new ≡ record machine.old { spent = true }) }
+    ensures touches { IfOk result (λ _. IsUndoneBy machine.old.state.matrix undo.filled.items undo.voided.items steps.old steps.new) }
+{
+    machine.undo(&undo, steps)?;
+    Ok(undo.crew.count())
 }

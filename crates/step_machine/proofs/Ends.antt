@@ -6,7 +6,6 @@ use Rattle.step_machine.specs.declared.machine.StepFault.{StepFault}
 use Rattle.step_machine.specs.declared.machine.StepFault.TheVariants as fault
 use Rattle.step_machine.specs.declared.machine.StepOk.{StepOk}
 use Rattle.step_machine.specs.declared.machine.alone.Tried.TheVariants as tried
-use Rattle.step_machine.specs.declared.runner.Taken.TheVariants as taken
 
 pub declined_made : {A : Type 0} → tried.Declined ≡ tried.Made → A
 declined_made e = cc
@@ -25,25 +24,6 @@ refused_made e = cc
 
 pub refused_declined : {A : Type 0} → tried.Refused ≡ tried.Declined → A
 refused_declined e = cc
-
--- the same of what a run's command came to
-pub made_waits : {A : Type 0} → taken.Made ≡ taken.Waits → A
-made_waits e = cc
-
-pub halted_waits : {A : Type 0} → taken.Halted ≡ taken.Waits → A
-halted_waits e = cc
-
-pub refused_waits : {A : Type 0} → taken.Refused ≡ taken.Waits → A
-refused_waits e = cc
-
-pub waits_refused : {A : Type 0} → taken.Waits ≡ taken.Refused → A
-waits_refused e = cc
-
-pub made_not_refused : {A : Type 0} → taken.Made ≡ taken.Refused → A
-made_not_refused e = cc
-
-pub halted_refused : {A : Type 0} → taken.Halted ≡ taken.Refused → A
-halted_refused e = cc
 
 -- memory was not refused where the answer is another
 pub spent_memory : {A : Type 0} → ◌≡◌ {A = Result StepOk StepFault} (Err fault.Spent) (Err fault.Memory) → A

@@ -3,14 +3,12 @@ pub mod Answering
 pub mod Apart
 pub mod Cells
 pub mod Changed
-pub mod Judging
 pub mod OneRegion
 pub mod Opening
 pub mod Ordered
 pub mod Reaching
 pub mod Refitting
 pub mod Regions
-pub mod Running
 pub mod Sizes
 pub mod Stepping
 pub mod Turning

@@ -1,28 +1,23 @@
 -- What a call that makes a step answers and does.
-use Rattle.std.specs.Prelude.{◌≡◌, ℕ, ◌+◌, ◌↔◌, Bool, List, [], true, false, Option, None, Some, Result, Ok, Err, IfOk, IfErr}
+use Rattle.std.specs.Prelude.{◌≡◌, ℕ, ◌+◌, ◌*◌, ◌≤◌, ◌↔◌, Bool, List, [], true, false, Result, Ok, Err, IfOk, IfErr}
 use Rattle.nano_spec.specs.declared.commands.Command.{Command}
 use Rattle.nano_spec.specs.declared.outcomes.Rule.TheVariants.{Ungrounded}
 use Rattle.nano_spec.specs.Next.{Breaks, Goes, Next}
 use Rattle.nano_spec.specs.State.{IsWellFormed, State}
+use Rattle.nano_spec.specs.Work.{WorkOfStep}
 use Rattle.step_machine.specs.declared.machine.StepOk.{StepOk}
 use Rattle.step_machine.specs.declared.machine.StepFault.{StepFault}
 use Rattle.step_machine.specs.declared.machine.StepFault.TheVariants as fault
-use Rattle.step_machine.specs.declared.runner.Taken.{Taken}
-use Rattle.step_machine.specs.declared.runner.Taken.TheVariants as taken
-use Rattle.step_machine.specs.Payment.{IsWithinWork}
 use Rattle.step_machine.specs.Situation.{IfBroken, Situation, searched_for}
+
+-- the touches from began to ended are within the work of the step: at most a hundred for each unit of it
+abbrev pub IsWithinWork : State → List Command → ℕ → ℕ → ℕ → Type 0
+IsWithinWork s commands step began ended = (n : ℕ) × WorkOfStep s commands step n × (ended ≤ began + 100 * n)
 
 -- the answer to a step that was made, to a state in which bots are left, or else that of the fault
 abbrev pub answer_of : Bool → State → StepFault → Result StepOk StepFault
 answer_of true s fault = Ok (record { energy = s.energy; halted = false })
 answer_of false s fault = Err fault
-
--- what the step is answered that one command more makes, in this state then or by this fault, where it makes one
-abbrev pub answer_to : Taken → State → StepFault → Option (Result StepOk StepFault)
-answer_to taken.Waits s fault = None
-answer_to taken.Made s fault = Some (answer_of true s fault)
-answer_to taken.Halted s fault = Some (Ok (record { energy = s.energy; halted = true }))
-answer_to taken.Refused s fault = Some (answer_of false s fault)
 
 -- a machine is given the commands of a step: where it stood, where it stands then, its answer, and how often voxels were touched until
 -- the call began and until it ended

@@ -2,18 +2,13 @@
 #![tactic(auto)]
 
 mod changes;
-mod laws;
 mod machine;
 mod one_region;
 mod order;
-mod pending;
-mod runner;
 mod support;
 mod undo;
 
-pub use laws::{every_run_has_work, the_work_pays};
-pub use machine::{Machine, StepFault, StepOk};
-pub use runner::{Runner, judge};
+pub use machine::{Machine, StepFault, StepOk, Tried};
 pub use undo::Undo;
 
 /// The most voxels that the groups of a step change: a group command changes 31 * 31 * 31 at most, and such a one takes 8 of 40 bots.

@@ -25,7 +25,7 @@ mod noted;
 use crate::MOST_CHANGED;
 use crate::order::take_turns;
 use crate::support::settle_unlisted;
-pub(crate) use alone::Tried;
+pub use alone::Tried;
 use arrayvec::ArrayVec;
 use bot_crew::{Crew, MOST_BOTS};
 use energy_sum::a_step_changes_the_energy_by_little;
@@ -232,7 +232,7 @@ impl Machine {
     }
 
     /// A step whose groups are applied in the order that is given, or else in rising order.
-    pub(crate) fn make_step<L: Ledger>(
+    pub fn make_step<L: Ledger>(
         &mut self,
         commands: &[Command],
         order: Option<&[u8]>,

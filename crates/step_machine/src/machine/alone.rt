@@ -15,7 +15,7 @@ use vox_geom::{Long, Near, Steps};
 
 /// What a try to make a step came to: it is made, or refused, or to be made as every other, and then nothing is changed.
 #[derive(Clone, Copy, PartialEq, Eq)]
-pub(crate) enum Tried {
+pub enum Tried {
     Made,
     Refused,
     Declined,
@@ -99,7 +99,7 @@ impl Machine {
 
     /// The step of the only bot by a command that is frequent. `fault` is written only where the step is refused.
     #[inline(always)]
-    pub(crate) fn step_alone<L: Ledger>(
+    pub fn step_alone<L: Ledger>(
         &mut self,
         command: &Command,
         fault: &mut StepFault,

@@ -40,13 +40,13 @@ invariant_of-self-in-Err-Broken g c =
     let all = all_given c.self.inside.machine c.self.inside.history c.self.inside.commands c.self.inside.taken c.self.inside.begun.items c.self.inside.left.items c.self.inside.middle c.args.self.now c.self.view_is c.self.invariant c.requires.stands c.active-count.result c.next_commands-next.result.now count next c.requires.all in
     let some = some_bots c.self.inside.machine c.self.inside.history c.self.inside.commands c.self.inside.taken c.self.inside.begun.items c.self.inside.left.items c.self.inside.middle c.args.self.now c.self.view_is c.self.invariant c.requires.stands c.active-count.result c.next_commands-next.result.now count next c.requires.some in
     kept_anew c.self.inside.machine c.self.inside.history c.self.inside.commands c.self.inside.taken c.self.inside.begun.items c.self.inside.left.items c.self.inside.middle c.args.self.now c.self.view_is c.self.invariant c.requires.stands c.active-count.result c.next_commands-next.result.now count next all some c.step_noted.new.self c.in-Err-Broken.broken c.args.steps.now c.step_noted.new.steps (subst (λ (f : StepFault). Stepped c.self.inside.machine c.step_noted.new.self c.next_commands-next.result.now (Err f) c.args.steps.now c.step_noted.new.steps) c.in-Err-Broken.field-0-is c.in-Err-Broken.ensures.stepped)
-    (sym c.spent.ensures ∙ c.if-not-spent.false) c.in-Ok-anew.machine c.in-Ok-anew.ensures c.clear-in-Err-Broken.new.self.items c.clear-in-Err-Broken.ensures c.copy-self-inside-in-Err-Broken.result (c.copy-self-inside-in-Err-Broken.ensures ∙ c.crew-in-Err-Broken.ensures.value) c.crew-in-Err-Broken.ensures.ready
+    (sym c.spent.ensures ∙ c.if-not-spent.false) c.renew.new.machine c.in-Ok-renew.ensures.value c.clear-in-Err-Broken.new.self.items c.clear-in-Err-Broken.ensures c.copy-self-inside-in-Err-Broken.result (c.copy-self-inside-in-Err-Broken.ensures ∙ c.crew-in-Err-Broken.ensures.value) c.crew-in-Err-Broken.ensures.ready
 
-pub returns-in-Ok-anew-clause-session : goal.returns-in-Ok-anew-clause-session
-returns-in-Ok-anew-clause-session g c =
+pub returns-in-Ok-renew-clause-session : goal.returns-in-Ok-renew-clause-session
+returns-in-Ok-renew-clause-session g c =
     let count = c.active-count.ensures in
     let next = c.next_commands-next.ensures ∙ ap (λ (xs : List Command). take c.active-count.result (drop c.self.inside.taken xs)) c.as_slice.ensures in
     let all = all_given c.self.inside.machine c.self.inside.history c.self.inside.commands c.self.inside.taken c.self.inside.begun.items c.self.inside.left.items c.self.inside.middle c.args.self.now c.self.view_is c.self.invariant c.requires.stands c.active-count.result c.next_commands-next.result.now count next c.requires.all in
     let some = some_bots c.self.inside.machine c.self.inside.history c.self.inside.commands c.self.inside.taken c.self.inside.begun.items c.self.inside.left.items c.self.inside.middle c.args.self.now c.self.view_is c.self.invariant c.requires.stands c.active-count.result c.next_commands-next.result.now count next c.requires.some in
     session_ungrounded c.self.inside.machine c.self.inside.history c.self.inside.commands c.self.inside.taken c.self.inside.begun.items c.self.inside.left.items c.self.inside.middle c.args.self.now c.self.view_is c.self.invariant c.requires.stands c.active-count.result c.next_commands-next.result.now count next all some c.step_noted.new.self c.in-Err-Broken.broken c.args.steps.now c.step_noted.new.steps (subst (λ (f : StepFault). Stepped c.self.inside.machine c.step_noted.new.self c.next_commands-next.result.now (Err f) c.args.steps.now c.step_noted.new.steps) c.in-Err-Broken.field-0-is c.in-Err-Broken.ensures.stepped)
-    (sym c.spent.ensures ∙ c.if-not-spent.false) c.in-Ok-anew.machine c.in-Ok-anew.ensures c.clear-in-Err-Broken.new.self.items c.clear-in-Err-Broken.ensures
+    (sym c.spent.ensures ∙ c.if-not-spent.false) c.renew.new.machine c.in-Ok-renew.ensures.value c.clear-in-Err-Broken.new.self.items c.clear-in-Err-Broken.ensures

@@ -1,9 +1,9 @@
 use Rattle.std.proofs.Common.{◌∙◌, ◌+◌, ◌++◌, [], ◌∷◌, refl, ap, subst, true, false}
 use Rattle.run_progress.specs.Progress.{Pushes}
-use Rattle.step_machine.specs.Course.{Course, course_of, mark_by, searched_by}
-use Rattle.step_machine.proofs.Running.{ended_on, halted_mark, made, made_on, running_mark, waits_on}
-use Rattle.step_machine.proofs.Weighing.{untouched_within}
-use Rattle.step_machine.proofs.runner.Runner.push.Goals as goal
+use Rattle.trace_judge.specs.Course.{Course, course_of, mark_by, searched_by}
+use Rattle.trace_judge.proofs.Running.{ended_on, halted_mark, made, made_on, running_mark, waits_on}
+use Rattle.trace_judge.proofs.Works.{untouched_within}
+use Rattle.trace_judge.proofs.runner.Runner.push.Goals as goal
 
 pub returns-in-Refused-clause-progress : goal.returns-in-Refused-clause-progress
 returns-in-Refused-clause-progress g c =

@@ -2,9 +2,9 @@ use Rattle.std.proofs.Common.{◌≡◌, ◌∙◌, arith, ap}
 use Rattle.nano_spec.specs.Model.{volume}
 use Rattle.nano_spec.specs.Profile.{full_profile}
 use Rattle.run_progress.specs.Progress.{begun}
-use Rattle.step_machine.proofs.Judging.{judged_within, judging_begun, judging_on}
-use Rattle.step_machine.proofs.Weighing.{run_work}
-use Rattle.step_machine.proofs.runner.judge.Goals as goal
+use Rattle.trace_judge.proofs.Judging.{judged_within, judging_begun, judging_on}
+use Rattle.trace_judge.proofs.Works.{run_work}
+use Rattle.trace_judge.proofs.runner.judge.Goals as goal
 
 pub loop-command-init : goal.loop-command-init
 loop-command-init g c =

@@ -1,13 +1,19 @@
--- Where a runner stands.
-use Rattle.std.specs.Prelude.{◌≡◌, ◌≢◌, ℕ, ◌+◌, ◌<◌, ◌≤◌, Bool, false, List, [], ◌∷◌, ◌++◌, length, count_by}
+-- Where a runner stands, and what one command more comes to.
+use Rattle.std.specs.Prelude.{◌≡◌, ◌≢◌, ℕ, ◌+◌, ◌<◌, ◌≤◌, Bool, true, false, List, [], ◌∷◌, ◌++◌, length, count_by, Option, None, Some, Result, Ok}
 use Rattle.nano_spec.specs.declared.commands.Command.{Command}
 use Rattle.nano_spec.specs.Matrix.{Matrix}
+use Rattle.nano_spec.specs.State.{State}
 use Rattle.run_progress.specs.Progress as progress
 use Rattle.run_progress.specs.Progress.{Progress, Pushes}
-use Rattle.step_machine.specs.declared.runner.Mark.{Mark}
-use Rattle.step_machine.specs.declared.runner.Mark.TheVariants as mark
+use Rattle.step_machine.specs.declared.machine.StepFault.{StepFault}
+use Rattle.step_machine.specs.declared.machine.StepOk.{StepOk}
 use Rattle.step_machine.specs.Edits.{is_edit}
 use Rattle.step_machine.specs.Situation.{Situation, searched_for}
+use Rattle.step_machine.specs.Stepped.{answer_of}
+use Rattle.trace_judge.specs.declared.runner.Mark.{Mark}
+use Rattle.trace_judge.specs.declared.runner.Mark.TheVariants as mark
+use Rattle.trace_judge.specs.declared.taking.Taken.{Taken}
+use Rattle.trace_judge.specs.declared.taking.Taken.TheVariants as taken
 
 -- the progress, and whether the runner is spent
 pub record Course : Type 0 where
@@ -42,6 +48,13 @@ IsUnderway machine pending _ = Unit {0}
 pub record IsAfterEnd (old new : Mark) : Type 0 where
   pub pushes : (p : Progress) (command : Command) → p.mark ≡ mark_by old → Pushes p command (record p { mark = mark_by new })
   pub ended : new ≡ mark.Running → ⊥
+
+-- what the step is answered that one command more makes, in this state then or by this fault, where it makes one
+abbrev pub answer_to : Taken → State → StepFault → Option (Result StepOk StepFault)
+answer_to taken.Waits s fault = None
+answer_to taken.Made s fault = Some (answer_of true s fault)
+answer_to taken.Halted s fault = Some (Ok (record { energy = s.energy; halted = true }))
+answer_to taken.Refused s fault = Some (answer_of false s fault)
 
 -- one command more makes a step, in which some command fills or voids
 pub record MakesEdits (p : Progress) (command : Command) : Type 0 where

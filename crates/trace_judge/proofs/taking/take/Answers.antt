@@ -4,9 +4,9 @@ use Rattle.std.proofs.lemmas.Grind.{common_steps}
 use Rattle.nano_spec.specs.declared.commands.Command.{Command}
 use Rattle.step_machine.specs.declared.machine.StepFault.{StepFault}
 use Rattle.step_machine.specs.Edits.{is_edit}
-use Rattle.step_machine.proofs.Ends.{halted_refused, halted_waits, made_declined, made_not_refused, made_waits, refused_declined, refused_waits, waits_refused}
-use Rattle.step_machine.proofs.Running.{step_answered, step_moved}
-use Rattle.step_machine.proofs.runner.take.Goals as goal
+use Rattle.step_machine.proofs.Ends.{made_declined, refused_declined}
+use Rattle.trace_judge.proofs.Running.{halted_refused, halted_waits, made_not_refused, made_waits, refused_waits, step_answered, step_moved, waits_refused}
+use Rattle.trace_judge.proofs.taking.take.Goals as goal
 
 pub returns-in-Made : goal.returns-in-Made
 returns-in-Made g c = record {

@@ -1,5 +1,5 @@
-use Rattle.step_machine.proofs.Judging.{paid_at_first, paid_on, paid_within}
-use Rattle.step_machine.proofs.laws.the_work_pays.Goals as goal
+use Rattle.trace_judge.proofs.Judging.{paid_at_first, paid_on, paid_within}
+use Rattle.trace_judge.proofs.laws.the_work_pays.Goals as goal
 
 pub returns-clause-first : goal.returns-clause-first
 returns-clause-first c = paid_at_first

@@ -1,18 +1,14 @@
--- How often voxels are touched, beside the work of a step or of a run.
+-- How often voxels are touched, beside the work of a run.
 use Rattle.std.specs.Prelude.{◌≡◌, ℕ, ◌+◌, ◌*◌, ◌≤◌, List, [], ◌∷◌, ◌++◌}
 use Rattle.nano_spec.specs.declared.commands.Command.{Command}
 use Rattle.nano_spec.specs.declared.system.Profile.{Profile}
 use Rattle.nano_spec.specs.Matrix.{Matrix}
 use Rattle.nano_spec.specs.Model.{volume}
-use Rattle.nano_spec.specs.State.{State}
-use Rattle.nano_spec.specs.Work.{Work, WorkFrom, WorkOfStep}
+use Rattle.nano_spec.specs.Work.{Work, WorkFrom}
 use Rattle.run_progress.specs.Progress as progress
 use Rattle.run_progress.specs.Progress.{Progress}
-use Rattle.step_machine.specs.Course.{MakesNoStep, searched_by}
-
--- the touches from began to ended are within the work of the step: at most a hundred for each unit of it
-abbrev pub IsWithinWork : State → List Command → ℕ → ℕ → ℕ → Type 0
-IsWithinWork s commands step began ended = (n : ℕ) × WorkOfStep s commands step n × (ended ≤ began + 100 * n)
+use Rattle.step_machine.specs.Stepped.{IsWithinWork}
+use Rattle.trace_judge.specs.Course.{MakesNoStep, searched_by}
 
 -- the touches from began to ended are within the work of the run: at most a hundred for each unit of it and for each voxel
 abbrev pub IsWithinWorkOfRun : Matrix → List Command → Profile → ℕ → ℕ → Type 0

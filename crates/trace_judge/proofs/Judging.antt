@@ -18,10 +18,10 @@ use Rattle.nano_spec.specs.Work.{Work, WorkFrom, WorkOfStep, rests, stops, works
 use Rattle.nano_spec.proofs.Unique.{Next-unique}
 use Rattle.run_progress.specs.Progress as progress
 use Rattle.run_progress.specs.Progress.{Comes, begun, first, later, mark_of, Progress, Pushes, PushesAt, MakesStep, stepped, with_command}
-use Rattle.step_machine.specs.Course.{Course, searched_by}
-use Rattle.step_machine.specs.Payment.{IsPaid, LeftAt, Touches}
+use Rattle.trace_judge.specs.Course.{Course, searched_by}
+use Rattle.trace_judge.specs.Payment.{IsPaid, LeftAt, Touches}
 use Rattle.step_machine.specs.Situation.{searched_for}
-use Rattle.step_machine.proofs.Weighing.{within_each}
+use Rattle.trace_judge.proofs.Works.{within_each}
 
 -- ---- the work that is left
 

@@ -7,11 +7,12 @@ use Rattle.nano_spec.specs.Next.{Goes, Next}
 use Rattle.nano_spec.specs.State.{State}
 use Rattle.run_progress.specs.Progress as progress
 use Rattle.run_progress.specs.Progress.{Progress, Pushes, PushesAt, MakesStep, mark_of, with_command}
-use Rattle.step_machine.specs.declared.runner.Mark.{Mark}
-use Rattle.step_machine.specs.declared.runner.Mark.TheVariants as mark
+use Rattle.trace_judge.specs.declared.runner.Mark.{Mark}
+use Rattle.trace_judge.specs.declared.runner.Mark.TheVariants as mark
+use Rattle.trace_judge.specs.declared.taking.Taken.TheVariants as taken
 use Rattle.step_machine.specs.declared.machine.StepFault.{StepFault}
 use Rattle.step_machine.specs.declared.machine.StepOk.{StepOk}
-use Rattle.step_machine.specs.Course.{Course, IsUnderway, course_of, mark_by}
+use Rattle.trace_judge.specs.Course.{Course, IsUnderway, course_of, mark_by}
 use Rattle.step_machine.specs.Situation.{Situation}
 use Rattle.step_machine.specs.Stepped.{Stepped}
 
@@ -81,3 +82,22 @@ ended_on machine pending mark.Running h = absurd (h refl)
 ended_on machine pending (mark.Refused b) h = tt
 ended_on machine pending mark.Halted h = tt
 ended_on machine pending mark.Followed h = tt
+
+-- that an end of a call has one answer, by what a command came to
+pub made_waits : {A : Type 0} → taken.Made ≡ taken.Waits → A
+made_waits e = cc
+
+pub halted_waits : {A : Type 0} → taken.Halted ≡ taken.Waits → A
+halted_waits e = cc
+
+pub refused_waits : {A : Type 0} → taken.Refused ≡ taken.Waits → A
+refused_waits e = cc
+
+pub waits_refused : {A : Type 0} → taken.Waits ≡ taken.Refused → A
+waits_refused e = cc
+
+pub made_not_refused : {A : Type 0} → taken.Made ≡ taken.Refused → A
+made_not_refused e = cc
+
+pub halted_refused : {A : Type 0} → taken.Halted ≡ taken.Refused → A
+halted_refused e = cc

@@ -8,7 +8,7 @@ use Rattle.step_machine.specs.Edits.{is_edit}
 use Rattle.step_machine.specs.Situation.{Situation}
 use Rattle.step_machine.specs.Stepped.{Stepped}
 use Rattle.step_machine.proofs.Ends.{declined_made, declined_refused, made_declined, made_refused, refused_declined, refused_made}
-use Rattle.step_machine.proofs.runner.take_alone.Goals as goal
+use Rattle.trace_judge.proofs.taking.take_alone.Goals as goal
 
 none_waits : (pending seen : List Command) (empty : Bool) → seen ≡ pending → empty ≡ (length seen == 0) → empty ≡ true → pending ≡ []
 none_waits [] seen empty s e t = refl

@@ -1,5 +1,6 @@
-use Rattle.step_machine.proofs.Weighing.{levels_of_all, run_work, step_work}
-use Rattle.step_machine.proofs.laws.every_run_has_work.Goals as goal
+use Rattle.step_machine.proofs.Weighing.{levels_of_all, step_work}
+use Rattle.trace_judge.proofs.Works.{run_work}
+use Rattle.trace_judge.proofs.laws.every_run_has_work.Goals as goal
 
 pub returns-clause-levels : goal.returns-clause-levels
 returns-clause-levels c = levels_of_all

@@ -7,7 +7,7 @@ ghost use Rattle.nano_spec.specs.Model.{volume};
 ghost use Rattle.nano_spec.specs.State.{State};
 ghost use Rattle.nano_spec.specs.Work.{Levels, Work, WorkOfStep};
 ghost use Rattle.run_progress.specs.Progress.{Progress, Pushes, begun};
-ghost use Rattle.step_machine.specs.Payment.{IsPaid, Touches};
+ghost use Rattle.trace_judge.specs.Payment.{IsPaid, Touches};
 
 /// Every matrix has its levels, and so every step has a work, and every run.
 pub fn every_run_has_work()

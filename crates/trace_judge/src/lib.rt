@@ -1,0 +1,11 @@
+//! The judge of traces: a machine that takes the commands of a trace one by one, and the verdict of a whole one.
+#![tactic(auto)]
+
+mod ends;
+mod laws;
+mod pending;
+mod runner;
+mod taking;
+
+pub use laws::{every_run_has_work, the_work_pays};
+pub use runner::{Runner, judge};

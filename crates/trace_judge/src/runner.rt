@@ -1,0 +1,171 @@
+//! Runs: a machine that takes the commands of a trace one by one.
+ghost use Rattle.std.specs.Prelude.{◌≡◌, ◌+◌, ◌*◌, ◌<◌, ◌≤◌, false, true, ◌∷◌, [], ◌++◌, length, IfOk, IfErr, None};
+ghost use Rattle.nano_spec.specs.Grounded.{FirstUngrounded};
+ghost use Rattle.nano_spec.specs.Model.{volume};
+ghost use Rattle.nano_spec.specs.Profile.{full_profile};
+ghost use Rattle.nano_spec.specs.Verdict.{VerdictOf};
+ghost use Rattle.run_progress.specs.Progress.{Finishes, Pushes, begun};
+ghost use Rattle.step_machine.specs.Stepped.{IsWithinWork};
+ghost use Rattle.trace_judge.specs.declared.runner.Mark.TheVariants as Mark;
+ghost use Rattle.trace_judge.specs.Course.{IsAfterEnd, LacksCommands, MakesEdits, MakesNoStep, searched_by};
+ghost use Rattle.trace_judge.specs.Payment.{IsWithinWorkOfRun};
+
+use crate::ends::ended;
+use crate::pending::Pending;
+use crate::taking::{Taken, take};
+use nano_spec::{Broken, Command, Profile, Verdict};
+use run_progress::the_progress_is_the_verdict;
+use std::alloc::Global;
+use std::marker::Model;
+use std::sync::ledger::Ledger;
+use step_machine::{Machine, StepFault};
+use vox_geom::{Memory, Steps};
+use vox_planes::Planes;
+
+/// Where a run stands: it goes on, or a step was refused, or the last bot has halted, or a command came after that.
+#[derive(Clone, Copy, PartialEq, Eq, Debug)]
+pub(crate) enum Mark {
+    Running,
+    Refused(Broken),
+    Halted,
+    Followed,
+}
+
+/// A run that takes the commands of a trace one by one, and keeps none of them once their step is made. Contracts see
+/// its progress, and whether it is spent.
+#[derive(Drop)]
+pub struct Runner {
+    machine: Machine,
+    pending: Pending,
+    mark: Mark,
+}
+
+impl Model for Runner {
+    ghost use Rattle.trace_judge.specs.Course.{Course, IsUnderway, course_of};
+
+    ghost Value = { Course };
+
+    ghost view = { λ r. course_of r.machine r.pending r.mark };
+
+    ghost invariant = { λ r. IsUnderway r.machine r.pending r.mark };
+}
+
+/// The mark after a command where no steps are made any more. In a function of its own what a run asks at each command is one
+/// test.
+#[inline(never)]
+fn passed(mark: Mark) -> Mark
+    requires ended { mark ≡ Mark.Running → ⊥ }
+    ensures { IsAfterEnd mark result }
+{
+    match mark {
+        Mark::Halted => Mark::Followed,
+        Mark::Running | Mark::Refused(_) | Mark::Followed => mark,
+    }
+}
+
+impl Runner {
+    /// The run before its first command, over a source whose full voxels are grounded. At most 91 touches for each voxel.
+    pub fn start<L: Ledger>(
+        alloc: Global,
+        source: Planes,
+        profile: Profile,
+        steps: &mut Steps<L>,
+    ) -> Result<Runner, Memory>
+        requires grounded { FirstUngrounded source None }
+        requires seeds { profile.seeds ≤ 39 }
+        ensures progress { IfOk result (λ r. r.progress ≡ begun source profile) }
+        ensures stands { IfOk result (λ r. r.spent ≡ false) }
+        ensures lacks { IfOk result (λ r. LacksCommands r.progress) }
+        ensures touches { IfOk result (λ _. steps.new ≤ steps.old + 91 * volume source.resolution) }
+    {
+        let machine = Machine::start(alloc, source, profile, steps)?;
+        let pending = Pending::new(alloc)?;
+        Ok(Runner {
+            machine,
+            pending,
+            mark: Mark::Running,
+        })
+    }
+
+    /// What one more command changes. Memory spends the runner, and comes only where the command makes a step in which
+    /// some command fills or voids. No touch where it makes no step.
+    #[inline(always)]
+    pub fn push<L: Ledger>(&mut self, command: Command, steps: &mut Steps<L>) -> Result<(), Memory>
+        requires stands { self.old.spent ≡ false }
+        requires steps { self.old.progress.steps < 1073741824 }
+        ensures progress { IfOk result (λ _. Pushes self.old.progress command self.new.progress) }
+        ensures stands { IfOk result (λ _. self.new.spent ≡ false) }
+        ensures spent { IfErr result (λ _. self.new.spent ≡ true) }
+        ensures memory { IfErr result (λ _. MakesEdits self.old.progress command) }
+        ensures steps { self.new.progress.steps ≤ self.old.progress.steps + 1 }
+        ensures resolution { self.new.progress.state.matrix.resolution ≡ self.old.progress.state.matrix.resolution }
+        ensures lacks { IfOk result (λ _. LacksCommands self.new.progress) }
+        ensures untouched { MakesNoStep self.old.progress → steps.new ≡ steps.old }
+        ensures touches { IfOk result
+            (λ _. IsWithinWork self.old.progress.state (self.old.progress.pending ++ command ∷ []) (self.old.progress.steps + 1)
+            (steps.old + searched_by self.new.progress.mark self.old.progress.state.matrix) steps.new) }
+    {
+        match self.mark {
+            Mark::Running => {}
+            Mark::Refused(_) | Mark::Halted | Mark::Followed => {
+                let mark = passed(self.mark);
+                self.mark = mark;
+                return Ok(());
+            }
+        }
+        let mut fault = StepFault::Spent;
+        match take(
+            &mut self.machine,
+            &mut self.pending,
+            command,
+            &mut fault,
+            steps,
+        ) {
+            Taken::Waits => Ok(()),
+            Taken::Made => Ok(()),
+            Taken::Halted => {
+                self.mark = Mark::Halted;
+                Ok(())
+            }
+            Taken::Refused => match fault {
+                StepFault::Broken(broken) => {
+                    self.mark = Mark::Refused(broken);
+                    Ok(())
+                }
+                StepFault::Memory | StepFault::Spent => Err(Memory),
+            },
+        }
+    }
+
+    /// The verdict where no further command comes. At most two touches for each voxel.
+    pub fn finish<L: Ledger>(self, target: &Planes, steps: &mut Steps<L>) -> Verdict
+        requires stands { self.spent ≡ false }
+        requires resolution { self.progress.state.matrix.resolution ≡ target.now.resolution }
+        ensures value { Finishes target.now self.progress result }
+        ensures touches { steps.new ≤ steps.old + 2 * volume target.now.resolution }
+    {
+        ended(&self.machine, &self.pending, self.mark, target, steps)
+    }
+}
+
+/// The verdict of a trace that is to make the target of the source, by the full profile.
+pub fn judge<L: Ledger>(
+    alloc: Global,
+    source: Planes,
+    target: &Planes,
+    commands: &[Command],
+    steps: &mut Steps<L>,
+) -> Result<Verdict, Memory>
+    requires grounded { FirstUngrounded source None }
+    requires resolution { source.resolution ≡ target.now.resolution }
+    requires few { length commands.now ≤ 1073741824 }
+    ensures value { IfOk result (λ v. VerdictOf source target.now commands.now full_profile v) }
+    ensures touches { IfOk result (λ _. IsWithinWorkOfRun source commands.now full_profile steps.old steps.new) }
+{
+    the_progress_is_the_verdict();
+    let mut runner = Runner::start(alloc, source, Profile::full(), steps)?;
+    for command in commands {
+        runner.push(*command, steps)?;
+    }
+    Ok(runner.finish(target, steps))
+}
