@@ -1,0 +1,162 @@
+//! Spellings and traces of `trace_codec`: worked examples by all its calls, and a loop over pieces.
+ghost use Rattle.std.specs.Prelude.{◌≡◌, ◌+◌, ◌<◌, ◌≤◌, ◌^◌, ◌++◌, ℕ, List, OnOk, IfErr, length};
+ghost use Rattle.trace_codec.specs.Decoder.{HasTaken};
+ghost use Rattle.trace_codec.specs.Whole.{Decodes};
+
+use nano_spec::{Command, CommandList};
+use std::alloc::Global;
+use std::process::Abort;
+use std::test::Fail;
+use trace_codec::{
+    Decoder, Fed, One, TraceFault, decode_all, decode_one, encode_all, encode_one, pieces_decode,
+};
+use vox_geom::{Diff, Far, Long, Near, Short};
+
+fn near(dx: i16, dy: i16, dz: i16) -> Result<Near, Fail> {
+    Ok(Near::of(Diff { dx, dy, dz }).ok_or("not near")?)
+}
+
+fn far(dx: i16, dy: i16, dz: i16) -> Result<Far, Fail> {
+    Ok(Far::of(Diff { dx, dy, dz }).ok_or("not far")?)
+}
+
+fn short(dx: i16, dy: i16, dz: i16) -> Result<Short, Fail> {
+    Ok(Short::of(Diff { dx, dy, dz }).ok_or("not short")?)
+}
+
+fn long(dx: i16, dy: i16, dz: i16) -> Result<Long, Fail> {
+    Ok(Long::of(Diff { dx, dy, dz }).ok_or("not long")?)
+}
+
+/// The command is spelled by the bytes, and nothing less than all of them spells it.
+fn both_ways(rt: &impl Abort, command: Command, bytes: &[u8]) {
+    let encoded = encode_one(command);
+    assert_eq!(rt; encoded.as_slice(), bytes, "{command:?}");
+    let len = encoded.len() as u8;
+    assert_eq!(rt; decode_one(bytes), One::Got { command, len }, "{bytes:?}");
+    for cut in 0..bytes.len() {
+        assert_eq!(rt; decode_one(&bytes[..cut]), One::More, "{cut} of {bytes:?}");
+    }
+}
+
+#[test]
+fn spellings_both_ways(rt: HostRuntime) -> Result<(), Fail> {
+    both_ways(&rt, Command::Halt, &[0xFF]);
+    both_ways(&rt, Command::Wait, &[0xFE]);
+    both_ways(&rt, Command::Flip, &[0xFD]);
+    both_ways(&rt, Command::SMove(long(12, 0, 0)?), &[0x14, 0x1B]);
+    both_ways(&rt, Command::SMove(long(0, 0, -4)?), &[0x34, 0x0B]);
+    let lmove = Command::LMove(short(3, 0, 0)?, short(0, -5, 0)?);
+    both_ways(&rt, lmove, &[0x9C, 0x08]);
+    let lmove = Command::LMove(short(0, -2, 0)?, short(0, 0, 2)?);
+    both_ways(&rt, lmove, &[0xEC, 0x73]);
+    both_ways(&rt, Command::FusionP(near(-1, 1, 0)?), &[0x3F]);
+    both_ways(&rt, Command::FusionS(near(1, -1, 0)?), &[0x9E]);
+    both_ways(&rt, Command::Fission(near(0, 0, 1)?, 5), &[0x75, 0x05]);
+    both_ways(&rt, Command::Fill(near(0, -1, 0)?), &[0x53]);
+    both_ways(&rt, Command::Void(near(1, 0, 1)?), &[0xBA]);
+    let gfill = Command::GFill(near(0, -1, 0)?, far(10, -15, 20)?);
+    both_ways(&rt, gfill, &[0x51, 0x28, 0x0F, 0x32]);
+    let gvoid = Command::GVoid(near(1, 0, 0)?, far(5, 5, -5)?);
+    both_ways(&rt, gvoid, &[0xB0, 0x23, 0x23, 0x19]);
+    Ok(())
+}
+
+/// The commands of a trace, or why there are none, by all the ways to decode it.
+fn decoded(rt: &(impl Abort + AllocGlobal), trace: &[u8]) -> Result<CommandList, TraceFault> {
+    let whole = decode_all(rt.alloc(), trace);
+    same(rt, &whole, &decode_in_pieces(rt.alloc(), trace, 1));
+    same(rt, &whole, &decode_in_pieces(rt.alloc(), trace, 65_536));
+    whole
+}
+
+fn same(rt: &impl Abort, a: &Result<CommandList, TraceFault>, b: &Result<CommandList, TraceFault>) {
+    match (a, b) {
+        (Ok(a), Ok(b)) => assert_eq!(rt; a.as_slice(), b.as_slice()),
+        (Err(a), Err(b)) => assert_eq!(rt; *a, *b),
+        _ => panic!(rt; "only one was decoded"),
+    }
+}
+
+#[test]
+fn traces_in_any_pieces(rt: HostRuntime) -> Result<(), Fail> {
+    let trace = [
+        0x75, 0x00, 0xFE, 0x34, 0x11, 0xB9, 0x1E, 0x1E, 0x20, 0xB1, 0x1E, 0x1E, 0x1C, 0xFE, 0x34,
+        0x0D, 0x77, 0x66, 0xFF,
+    ];
+    let commands = [
+        Command::Fission(near(0, 0, 1)?, 0),
+        Command::Wait,
+        Command::SMove(long(0, 0, 2)?),
+        Command::GFill(near(1, 0, 1)?, far(0, 0, 2)?),
+        Command::GFill(near(1, 0, 0)?, far(0, 0, -2)?),
+        Command::Wait,
+        Command::SMove(long(0, 0, -2)?),
+        Command::FusionP(near(0, 0, 1)?),
+        Command::FusionS(near(0, 0, -1)?),
+        Command::Halt,
+    ];
+    let list = decoded(&rt, &trace).map_err(|_| "refused")?;
+    assert_eq!(rt; list.as_slice(), commands.as_slice());
+    let bytes = encode_all(rt.alloc(), &commands).map_err(|_| "no memory")?;
+    assert_eq!(rt; bytes.as_slice(), trace.as_slice());
+    refused(&rt, &[0x04], TraceFault::Bad { offset: 0 });
+    refused(&rt, &[0x03], TraceFault::Bad { offset: 0 });
+    refused(&rt, &[0x14], TraceFault::Cut { offset: 0 });
+    refused(&rt, &[0x77, 0x04], TraceFault::Bad { offset: 1 });
+    Ok(())
+}
+
+/// The trace is refused by this fault.
+fn refused(rt: &(impl Abort + AllocGlobal), trace: &[u8], fault: TraceFault) {
+    match decoded(rt, trace) {
+        Ok(_) => panic!(rt; "{trace:?} is decoded"),
+        Err(found) => assert_eq!(rt; found, fault, "{trace:?}"),
+    }
+}
+
+/// Takes a piece to its end, and adds its commands to the list.
+fn take_piece(
+    decoder: &mut Decoder,
+    commands: &mut CommandList,
+    piece: &[u8],
+) -> Result<(), TraceFault>
+    requires { decoder.old.offset + length decoder.old.held + length piece.now < 2 ^ 63 }
+    ensures ok { (bytes : List ℕ) → HasTaken bytes commands.old decoder.old →
+        OnOk result (HasTaken (bytes ++ piece.now) commands.new decoder.new) }
+    ensures err { (bytes more : List ℕ) → HasTaken bytes commands.old decoder.old →
+        IfErr result (λ fault. Decodes ((bytes ++ piece.now) ++ more) (Err fault)) }
+    ensures count { OnOk result (decoder.new.offset + length decoder.new.held
+        ≡ decoder.old.offset + length decoder.old.held + length piece.now) }
+{
+    pieces_decode();
+    let mut rest = piece;
+    loop {
+        match decoder.feed(rest) {
+            Fed::Got { command, used } => {
+                commands.push(command)?;
+                rest = &rest[used..];
+            }
+            Fed::All => return Ok(()),
+            Fed::Bad { offset } => return Err(TraceFault::Bad { offset }),
+        }
+    }
+}
+
+/// The commands of a trace that comes in pieces of this many bytes. It does not matter how many.
+fn decode_in_pieces(alloc: Global, trace: &[u8], size: usize) -> Result<CommandList, TraceFault>
+    requires { 1 ≤ size }
+    ensures { Decodes trace.now result }
+{
+    pieces_decode();
+    let mut decoder = Decoder::new();
+    let mut commands = CommandList::new(alloc);
+    let mut start = 0;
+    while start < trace.len() {
+        let end = start + size.min(trace.len() - start);
+        take_piece(&mut decoder, &mut commands, &trace[start..end])?;
+        start = end;
+    }
+    decoder.end()?;
+    Ok(commands)
+}

@@ -1,0 +1,56 @@
+//! Models of `model_forge` that are worked by hand. That a model is the definition's is proved; that a call succeeds where
+//! memory is there is shown here.
+ghost use Rattle.std.specs.Prelude.{◌≡◌, ◌<◌};
+
+use crate::voxels::at;
+use model_forge::forge;
+use std::alloc::Global;
+use std::marker::Brand;
+use std::process::Abort;
+use std::sync::ledger::{Blank, Ledger};
+use std::test::Fail;
+use vox_geom::{Coord, Memory, Steps};
+use vox_planes::Planes;
+
+/// The full voxels are these, which differ from one another.
+fn assert_full<L: Ledger>(rt: &impl Abort, planes: &Planes, want: &[Coord], steps: &mut Steps<L>) {
+    let r = planes.resolution();
+    assert_eq!(rt; planes.count(steps) as usize, want.len());
+    for c in want {
+        assert!(rt; c.x < r && c.y < r && c.z < r);
+        assert!(rt; planes.full_at(*c, steps));
+    }
+}
+
+/// The models of small resolutions.
+fn worked<L: Ledger>(rt: &impl Abort, blank: Blank, alloc: Global) -> Result<(), Memory>
+    requires name { blank.name ≡ L.name }
+    requires parts { blank.parts ≡ L.parts }
+    requires some { 0 < L.parts }
+{
+    let mut steps: Steps<L> = Steps::new(blank);
+    let two = forge(alloc, 0, 3)?;
+    assert_full(rt, &two, &[at(1, 0, 1), at(1, 1, 1)], &mut steps);
+    let none = forge(alloc, 1, 3)?;
+    assert_full(rt, &none, &[], &mut steps);
+    let three = forge(alloc, 0, 4)?;
+    let want = [at(1, 0, 1), at(2, 0, 1), at(2, 0, 2)];
+    assert_full(rt, &three, &want, &mut steps);
+    let least = forge(alloc, u32::MAX, 1)?;
+    assert_full(rt, &least, &[], &mut steps);
+    Ok(())
+}
+
+#[test]
+fn worked_models(rt: HostRuntime) -> Result<(), Fail> {
+    worked::<Brand>(&rt, Blank::new(1), rt.alloc())?;
+    Ok(())
+}
+
+/// The greatest number at the greatest resolution: 400 is more than six words to a row.
+#[test]
+fn the_greatest_model(rt: HostRuntime) -> Result<(), Fail> {
+    let planes = forge(rt.alloc(), u32::MAX, 400)?;
+    assert_eq!(rt; planes.resolution(), 400);
+    Ok(())
+}

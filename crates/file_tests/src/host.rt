@@ -1,0 +1,112 @@
+//! What the depot and the sink of `vox_depot` answer over real files.
+use crate::pieces::{fetched, pattern};
+use std::io::Write;
+use std::path::PathBuf;
+use std::process::Abort;
+use std::rt::Files;
+use std::test::Fail;
+use std::{env, fs, io, process};
+use vox_depot::{Depot, FetchFault, HostDepot, HostSink, Sink, SinkFault, StoreFault, load};
+
+// A path among the temporary files that no other test has.
+fn temporary(rt: &HostRuntime, name: &str) -> io::Result<PathBuf> {
+    let file = format!(in rt.alloc(); "vox_depot_{name}_{}", process::id(rt.process()))?;
+    Ok(env::temp_dir(rt)?.join(rt.alloc(), file.as_str())?)
+}
+
+// A file of 70,000 bytes, stored and fetched in pieces.
+fn check_pieces<R: Files + AllocGlobal + Abort>(rt: &R, name: &str) -> Result<(), Fail> {
+    let alloc = rt.alloc();
+    let content = pattern(alloc, 70_000)?;
+    let mut depot = HostDepot::new(rt, alloc);
+    assert_eq!(rt; depot.store(name, &content), Ok(()));
+    for (from, room, count) in [
+        (0, 65_536, 65_536),
+        (65_536, 65_536, 4_464),
+        (70_000, 65_536, 0),
+        (69_000, 65_536, 1_000),
+        (10, 20, 20),
+        (30, 0, 0),
+        (80_000, 20, 0),
+    ] {
+        let piece = fetched(alloc, &mut depot, name, from, room)?;
+        let piece = piece.ok().ok_or("a piece failed")?;
+        let rest = content.get(from as usize..).unwrap_or(&[]);
+        assert_eq!(rt; piece.len(), count, "from {from}");
+        assert!(rt; rest.starts_with(&piece), "from {from}");
+    }
+    let whole = load(alloc, &mut depot, name, u64::MAX);
+    assert!(rt; whole.ok().ok_or("the load failed")? == content);
+    Ok(())
+}
+
+// A file that becomes shorter while it is read fails, and is whole again for who begins anew.
+fn check_shrinking<R: Files + AllocGlobal + Abort>(rt: &R, name: &str) -> Result<(), Fail> {
+    let alloc = rt.alloc();
+    let mut depot = HostDepot::new(rt, alloc);
+    assert_eq!(rt; depot.store(name, b"a longer text"), Ok(()));
+    assert_eq!(rt; fetched(alloc, &mut depot, name, 0, 9)?.is_ok(), true);
+    fs::write(rt, name, "short")?;
+    let fault = fetched(alloc, &mut depot, name, 9, 9)?.err();
+    assert_eq!(rt; fault, Some(FetchFault::Failed));
+    let anew = fetched(alloc, &mut depot, name, 0, 9)?
+        .ok()
+        .ok_or("it failed")?;
+    assert!(rt; anew.as_slice() == b"short".as_slice());
+    Ok(())
+}
+
+#[test]
+fn host_depot_stores_and_fetches(rt: HostRuntime) -> Result<(), Fail> {
+    let alloc = rt.alloc();
+    let path = temporary(&rt, "depot")?;
+    let folder = env::temp_dir(&rt)?;
+    let mut depot = HostDepot::new(&rt, alloc);
+    for name in [path.as_str(), folder.as_str(), "a\0b", ""] {
+        let fault = fetched(alloc, &mut depot, name, 0, 9)?.err();
+        assert_eq!(rt; fault, Some(FetchFault::Failed), "at {name:?}");
+    }
+    assert_eq!(rt; depot.store(folder.as_str(), b"x"), Err(StoreFault));
+    check_pieces(&rt, path.as_str())?;
+    check_shrinking(&rt, path.as_str())?;
+    fs::remove_file(&rt, path.as_str())?;
+    Ok(())
+}
+
+// A writer that takes nothing.
+#[derive(Drop)]
+struct Stuck;
+
+impl Write for Stuck {
+    fn write(&mut self, _buf: &[u8]) -> io::Result<usize> {
+        Ok(0)
+    }
+
+    fn flush(&mut self) -> io::Result<()> {
+        Ok(())
+    }
+}
+
+#[test]
+fn host_sink_writes(rt: HostRuntime) -> Result<(), Fail> {
+    let path = temporary(&rt, "sink")?;
+    let name = path.as_str();
+    let mut sink = HostSink::new(fs::create(&rt, name)?);
+    assert_eq!(rt; sink.put(b"first "), Ok(()));
+    assert_eq!(rt; sink.put(b""), Ok(()));
+    assert_eq!(rt; sink.put(b"second"), Ok(()));
+    assert!(rt; fs::read(&rt, name)?.as_slice() == b"first second".as_slice());
+
+    // This one is open for reading alone.
+    let mut closed = HostSink::new(fs::open(&rt, name)?);
+    assert_eq!(rt; closed.put(b"third"), Err(SinkFault));
+    assert!(rt; fs::read(&rt, name)?.as_slice() == b"first second".as_slice());
+    fs::remove_file(&rt, name)?;
+
+    let mut stuck = HostSink::new(Stuck);
+    assert_eq!(rt; stuck.put(b"x"), Err(SinkFault));
+    assert_eq!(rt; stuck.put(b""), Ok(()));
+    let mut out = HostSink::new(rt.stdout());
+    assert_eq!(rt; out.put(b""), Ok(()));
+    Ok(())
+}

@@ -1,0 +1,179 @@
+//! A plan of two bots on a tape of `plan_tape`, whose energies were worked out by hand from the rules, and the lowest
+//! difference of two matrices.
+ghost use Rattle.std.specs.Prelude.{◌≡◌, ◌<◌, IfOk, IsTrue, None, OnOk};
+ghost use Rattle.nano_spec.specs.Grounded.{FirstUngrounded};
+ghost use Rattle.plan_tape.specs.Progress.{state_of};
+
+use crate::models::{at, model};
+use model_file::first_ungrounded;
+use nano_spec::{Command, Profile};
+use plan_tape::{Plan, Tape, lowest_difference};
+use std::alloc::Global;
+use std::marker::Brand;
+use std::process::Abort;
+use std::sync::ledger::{Blank, Ledger};
+use std::test::Fail;
+use system_state::{System, Turns};
+use vox_geom::{Coord, Diff, Long, Memory, Near, Steps};
+use vox_planes::Planes;
+
+fn near(rt: &impl Abort, dx: i16, dy: i16, dz: i16) -> Near {
+    Near::of(Diff { dx, dy, dz }).expect(rt, "near")
+}
+
+fn long(rt: &impl Abort, dx: i16, dy: i16, dz: i16) -> Long {
+    Long::of(Diff { dx, dy, dz }).expect(rt, "long")
+}
+
+/// Whether each full voxel is held up.
+fn is_grounded(alloc: Global, planes: &Planes) -> Result<bool, Memory>
+    ensures { IfOk result (λ held. IsTrue held → FirstUngrounded planes.now None) }
+{
+    Ok(first_ungrounded(alloc, planes)?.is_none())
+}
+
+/// A step of all bots whose conditions the test looks after: the system makes it first.
+fn step<L: Ledger>(
+    rt: &impl Abort,
+    alloc: Global,
+    tape: &mut Tape,
+    system: &mut System,
+    turns: &mut Turns,
+    commands: &[Command],
+    steps: &mut Steps<L>,
+) -> Result<(), Memory>
+    requires { system.old ≡ state_of tape.old }
+    ensures { OnOk result (system.new ≡ state_of tape.new) }
+{
+    let bots = usize::from(system.crew().count());
+    let energy = system.energy();
+    let done = tape.steps_done();
+    assert!(rt; bots >= 1);
+    assert!(rt; commands.len() == bots);
+    assert!(rt; energy >= 0);
+    assert!(rt; energy <= 1_000_000);
+    assert!(rt; done < 1000);
+    let broken = system.judge(commands, done + 1, turns, steps);
+    assert!(rt; broken.is_none());
+    system.advance(commands, turns, steps);
+    assert!(rt; is_grounded(alloc, system.matrix())?);
+    tape.step(commands)
+}
+
+/// The plan of a tape that all bots have left.
+fn finished(rt: &impl Abort, tape: Tape) -> Plan {
+    assert!(rt; tape.crew().count() == 0);
+    tape.finish()
+}
+
+/// A bot splits, both go out and come back, and they fuse again.
+fn of_two<L: Ledger>(rt: &impl Abort, alloc: Global, blank: Blank) -> Result<Plan, Memory>
+    requires name { blank.name ≡ L.name }
+    requires parts { blank.parts ≡ L.parts }
+    requires some { 0 < L.parts }
+{
+    let mut steps: Steps<L> = Steps::new(blank);
+    let source = Planes::empty(alloc, 3)?;
+    assert!(rt; is_grounded(alloc, &source)?);
+    let mut turns = Turns::new();
+    let mut system = System::opening(source.copy(alloc)?, Profile::full());
+    let mut tape = Tape::start(alloc, source)?;
+    let split = [Command::Fission(near(rt, 0, 0, 1), 0)];
+    step(
+        rt,
+        alloc,
+        &mut tape,
+        &mut system,
+        &mut turns,
+        &split,
+        &mut steps,
+    )?;
+    assert_eq!(rt; tape.energy(), 125);
+    let out = [
+        Command::SMove(long(rt, 2, 0, 0)),
+        Command::SMove(long(rt, 1, 0, 0)),
+    ];
+    step(
+        rt,
+        alloc,
+        &mut tape,
+        &mut system,
+        &mut turns,
+        &out,
+        &mut steps,
+    )?;
+    assert_eq!(rt; tape.energy(), 252);
+    assert_eq!(rt; tape.crew().at(at(1, 0, 1)), Some(2));
+    let back = [
+        Command::SMove(long(rt, -2, 0, 0)),
+        Command::SMove(long(rt, -1, 0, 0)),
+    ];
+    step(
+        rt,
+        alloc,
+        &mut tape,
+        &mut system,
+        &mut turns,
+        &back,
+        &mut steps,
+    )?;
+    let fuse = [
+        Command::FusionP(near(rt, 0, 0, 1)),
+        Command::FusionS(near(rt, 0, 0, -1)),
+    ];
+    step(
+        rt,
+        alloc,
+        &mut tape,
+        &mut system,
+        &mut turns,
+        &fuse,
+        &mut steps,
+    )?;
+    let halt = [Command::Halt];
+    step(
+        rt,
+        alloc,
+        &mut tape,
+        &mut system,
+        &mut turns,
+        &halt,
+        &mut steps,
+    )?;
+    Ok(finished(rt, tape))
+}
+
+#[test]
+fn two_bots_go_out_and_come_home(rt: HostRuntime) -> Result<(), Fail> {
+    let plan = of_two::<Brand>(&rt, rt.alloc(), Blank::new(1))?;
+    assert_eq!(rt; plan.energy, 577);
+    assert_eq!(rt; plan.steps, 5);
+    assert_eq!(rt; plan.commands.as_slice().len(), 8);
+    Ok(())
+}
+
+/// The lowest layer in which two matrices of resolution 3 differ.
+fn lowest(
+    rt: &impl Abort,
+    alloc: Global,
+    source: &[Coord],
+    target: &[Coord],
+) -> Result<Option<u16>, Memory> {
+    let source = model(alloc, 3, source)?;
+    let target = model(alloc, 3, target)?;
+    assert!(rt; source.resolution() == target.resolution());
+    Ok(lowest_difference(&source, &target))
+}
+
+#[test]
+fn the_lowest_difference_is_found(rt: HostRuntime) -> Result<(), Fail> {
+    let (foot, middle, head) = (at(1, 0, 1), at(1, 1, 1), at(1, 2, 1));
+    assert_eq!(rt; lowest(&rt, rt.alloc(), &[], &[])?, None);
+    assert_eq!(rt; lowest(&rt, rt.alloc(), &[foot], &[foot])?, None);
+    assert_eq!(rt; lowest(&rt, rt.alloc(), &[], &[foot, middle])?, Some(0));
+    assert_eq!(rt;
+        lowest(&rt, rt.alloc(), &[foot, middle], &[foot, head])?,
+        Some(1)
+    );
+    Ok(())
+}

@@ -1,0 +1,119 @@
+//! The groups of a step of two bots by `step_groups`, and a step of one bot.
+ghost use Rattle.std.specs.Prelude.{◌≡◌, ◌<◌};
+
+use crate::bots::{are_within, one_bot, two_bots};
+use crate::common::{at, far, near};
+use bot_crew::Crew;
+use nano_spec::{Command, Harmonics, Profile};
+use std::alloc::Global;
+use std::marker::Brand;
+use std::process::Abort;
+use std::sync::ledger::{Blank, Ledger};
+use std::test::Fail;
+use step_groups::{Groups, Step, judge_single};
+use vox_geom::{Memory, Region, Steps};
+use vox_planes::Planes;
+
+/// Whether a step of these commands breaks no rule; the groups are then those of the step.
+fn is_judged<L: Ledger>(
+    rt: &impl Abort,
+    groups: &mut Groups,
+    crew: &Crew,
+    planes: &Planes,
+    commands: &[Command],
+    steps: &mut Steps<L>,
+) -> bool {
+    assert!(rt; commands.len() == crew.bots().len());
+    assert!(rt; are_within(crew.bots(), planes.resolution()));
+    let step = Step {
+        planes,
+        harmonics: Harmonics::Low,
+        profile: Profile::full(),
+        bots: crew.bots(),
+        commands,
+        number: 1,
+    };
+    groups.judge(&step, steps).is_ok()
+}
+
+/// Whether a step of one bot breaks no rule.
+fn is_judged_single<L: Ledger>(
+    rt: &impl Abort,
+    crew: &Crew,
+    planes: &Planes,
+    command: Command,
+    steps: &mut Steps<L>,
+) -> bool {
+    assert!(rt; crew.bots().len() == 1);
+    assert!(rt; are_within(crew.bots(), planes.resolution()));
+    let step = Step {
+        planes,
+        harmonics: Harmonics::Low,
+        profile: Profile::full(),
+        bots: crew.bots(),
+        commands: &[command],
+        number: 1,
+    };
+    judge_single(&step, steps).is_none()
+}
+
+/// The group of two bots that fill a row between them.
+fn assert_filling(rt: &impl Abort, groups: &Groups) {
+    assert_eq!(rt; groups.list().len(), 1);
+    for group in groups.list() {
+        assert_eq!(rt; group.leader, 1);
+        assert_eq!(rt; group.members.as_slice(), [1, 2].as_slice());
+        let boxes = [
+            Region::of(at(0, 0, 0), at(0, 0, 0)),
+            Region::of(at(1, 0, 1), at(1, 0, 3)),
+            Region::of(at(0, 0, 3), at(0, 0, 3)),
+        ];
+        assert_eq!(rt; group.boxes.as_slice(), boxes.as_slice());
+    }
+}
+
+/// Two bots that fill a row between them are one group; apart they are two.
+fn of_groups<L: Ledger>(rt: &impl Abort, blank: Blank, alloc: Global) -> Result<(), Memory>
+    requires name { blank.name ≡ L.name }
+    requires parts { blank.parts ≡ L.parts }
+    requires some { 0 < L.parts }
+{
+    let mut steps: Steps<L> = Steps::new(blank);
+    let planes = Planes::empty(alloc, 5)?;
+    let crew = two_bots(rt, at(0, 0, 3));
+    let first = Command::GFill(near(rt, 1, 0, 1), far(rt, 0, 0, 2));
+    let second = Command::GFill(near(rt, 1, 0, 0), far(rt, 0, 0, -2));
+    let mut groups = Groups::new();
+    assert!(rt; groups.list().is_empty());
+    assert!(rt;
+        is_judged(
+            rt,
+            &mut groups,
+            &crew,
+            &planes,
+            &[first, second],
+            &mut steps
+        )
+    );
+    assert_filling(rt, &groups);
+    assert!(rt;
+        is_judged(
+            rt,
+            &mut groups,
+            &crew,
+            &planes,
+            &[Command::Wait, Command::Wait],
+            &mut steps
+        )
+    );
+    assert_eq!(rt; groups.list().len(), 2);
+    let single = one_bot(rt, Profile::full(), at(0, 0, 0));
+    assert!(rt; is_judged_single(rt, &single, &planes, Command::Halt, &mut steps));
+    Ok(())
+}
+
+#[test]
+fn bots_form_groups(rt: HostRuntime) -> Result<(), Fail> {
+    of_groups::<Brand>(&rt, Blank::new(1), rt.alloc())?;
+    Ok(())
+}

@@ -1,0 +1,33 @@
+//! Tests of the crates of a step: `bot_crew`, `energy_sum`, `step_groups`, `system_state`, `step_machine`, `step_debugger` and
+//! `debug_script`. There is no code here but tests: what the calls answer is proved, and that they succeed, and the worked
+//! examples, are shown here.
+#![tactic(auto)]
+
+#[cfg(test)]
+mod asserted;
+#[cfg(test)]
+mod block;
+#[cfg(test)]
+mod bots;
+#[cfg(test)]
+mod common;
+#[cfg(test)]
+mod crews;
+#[cfg(test)]
+mod debugger;
+#[cfg(test)]
+mod energies;
+#[cfg(test)]
+mod groups;
+#[cfg(test)]
+mod judging;
+#[cfg(test)]
+mod machine;
+#[cfg(test)]
+mod orders;
+#[cfg(test)]
+mod rules;
+#[cfg(test)]
+mod scripts;
+#[cfg(test)]
+mod states;

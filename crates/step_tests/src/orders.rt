@@ -1,0 +1,163 @@
+//! Steps of a machine of `step_machine` whose groups come in any order, and a step that is taken back.
+ghost use Rattle.std.specs.Prelude.{◌≡◌, ◌<◌, length, IfOk, IsPermutation};
+ghost use Rattle.nano_spec.specs.Act.{acts};
+ghost use Rattle.nano_spec.specs.Serial.{leader_bids};
+ghost use Rattle.nano_spec.specs.State.{IsWellFormed};
+
+use crate::asserted::assert_made;
+use crate::common::{empty, long, near};
+use arrayvec::ArrayVec;
+use bot_crew::MOST_BOTS;
+use nano_spec::{Command, Profile};
+use std::alloc::Global;
+use std::marker::Brand;
+use std::process::Abort;
+use std::sync::ledger::{Blank, Ledger};
+use std::test::Fail;
+use step_machine::Machine;
+use vox_geom::{Memory, Steps};
+
+/// The leaders of a step of the bots 1 and 2, in rising order or in falling order.
+fn order_of(
+    rt: &impl Abort,
+    machine: &Machine,
+    commands: &[Command],
+    falling: bool,
+) -> ArrayVec<u8, MOST_BOTS>
+    requires { length commands.now ≡ length machine.now.state.bots }
+    ensures { IsPermutation (leader_bids (acts machine.now.state.bots commands.now)) result.items }
+{
+    let rising = machine.leaders(commands);
+    assert!(rt; rising.as_slice() == [1, 2].as_slice());
+    if !falling {
+        return rising;
+    }
+    let mut order = rising;
+    order.as_mut_slice().reverse();
+    assert!(rt; order.as_slice() == [2, 1].as_slice());
+    order
+}
+
+/// Two bots, of which the second was just born beside the first, make a step whose groups are applied in rising order of
+/// their leaders, or in falling order.
+fn second_step<L: Ledger>(
+    rt: &impl Abort,
+    alloc: Global,
+    commands: &[Command],
+    falling: bool,
+    steps: &mut Steps<L>,
+) -> Result<Machine, Memory> {
+    let source = empty(alloc, 5)?;
+    let mut machine = Machine::start(alloc, source, Profile::full(), steps)?;
+    let split = [Command::Fission(near(rt, 0, 0, 1), 0)];
+    assert_made(rt, &mut machine, &split, steps);
+    assert!(rt; machine.active() == 2);
+    assert!(rt; commands.len() == 2);
+    assert!(rt; machine.steps_done() < 1000);
+    let order = order_of(rt, &machine, commands, falling);
+    let made = machine.step_in_order(commands, order.as_slice(), steps);
+    assert!(rt; made.is_ok());
+    Ok(machine)
+}
+
+/// A step of two bots in both orders of its groups ends in one state, with this energy.
+fn both_orders<L: Ledger>(
+    rt: &impl Abort,
+    alloc: Global,
+    commands: &[Command],
+    energy: i64,
+    steps: &mut Steps<L>,
+) -> Result<(), Memory> {
+    let rising = second_step(rt, alloc, commands, false, steps)?;
+    let falling = second_step(rt, alloc, commands, true, steps)?;
+    assert_eq!(rt; rising.crew().bots(), falling.crew().bots());
+    assert!(rt; rising.matrix().resolution() == falling.matrix().resolution());
+    assert_eq!(rt; rising.matrix().equal(falling.matrix(), steps), None);
+    assert_eq!(rt; rising.harmonics(), falling.harmonics());
+    assert_eq!(rt; rising.energy(), energy);
+    assert_eq!(rt; falling.energy(), energy);
+    Ok(())
+}
+
+/// One bot waits and the other moves; one splits and the other fills a voxel.
+fn orders<L: Ledger>(rt: &impl Abort, blank: Blank, alloc: Global) -> Result<(), Memory>
+    requires name { blank.name ≡ L.name }
+    requires parts { blank.parts ≡ L.parts }
+    requires some { 0 < L.parts }
+{
+    let mut steps: Steps<L> = Steps::new(blank);
+    let moves = [Command::Wait, Command::SMove(long(rt, 0, 0, 2))];
+    both_orders(rt, alloc, &moves, 838, &mut steps)?;
+    let changes = [
+        Command::Fission(near(rt, 0, 1, 0), 1),
+        Command::Fill(near(rt, 1, 0, 0)),
+    ];
+    both_orders(rt, alloc, &changes, 870, &mut steps)
+}
+
+#[test]
+fn both_orders_of_two_groups_end_in_one_state(rt: HostRuntime) -> Result<(), Fail> {
+    orders::<Brand>(&rt, Blank::new(1), rt.alloc())?;
+    Ok(())
+}
+
+/// A machine over an empty matrix.
+fn empty_machine<L: Ledger>(alloc: Global, steps: &mut Steps<L>) -> Result<Machine, Memory>
+    ensures { IfOk result (λ m. IsWellFormed m.state) }
+{
+    let source = empty(alloc, 4)?;
+    Machine::start(alloc, source, Profile::full(), steps)
+}
+
+/// The leaders of a step.
+fn leaders_of(machine: &Machine, commands: &[Command]) -> ArrayVec<u8, MOST_BOTS>
+    requires { length commands.now ≡ length machine.now.state.bots }
+    ensures { IsPermutation (leader_bids (acts machine.now.state.bots commands.now)) result.items }
+{
+    machine.leaders(commands)
+}
+
+/// A step of one bot that fills a voxel, and that is taken back.
+fn made_and_undone<L: Ledger>(
+    rt: &impl Abort,
+    machine: &mut Machine,
+    commands: &[Command],
+    steps: &mut Steps<L>,
+) -> Result<(), Memory>
+    requires { IsWellFormed machine.old.state }
+{
+    assert!(rt; machine.active() == 1);
+    assert!(rt; machine.steps_done() < 1000);
+    assert!(rt; commands.len() == 1);
+    let order = leaders_of(machine, commands);
+    match machine.step_noted(commands, order.as_slice(), steps) {
+        Err(_) => Err(Memory),
+        Ok((made, undo)) => {
+            assert_eq!(rt; made.energy, 224);
+            assert_eq!(rt; machine.matrix().count(steps), 1);
+            machine.undo(&undo, steps)
+        }
+    }
+}
+
+/// A bot fills a voxel, and the step is taken back.
+fn noted<L: Ledger>(rt: &impl Abort, blank: Blank, alloc: Global) -> Result<(), Memory>
+    requires name { blank.name ≡ L.name }
+    requires parts { blank.parts ≡ L.parts }
+    requires some { 0 < L.parts }
+{
+    let mut steps: Steps<L> = Steps::new(blank);
+    let mut machine = empty_machine(alloc, &mut steps)?;
+    let fill = [Command::Fill(near(rt, 1, 0, 0))];
+    made_and_undone(rt, &mut machine, &fill, &mut steps)?;
+    assert_eq!(rt; machine.energy(), 0);
+    assert_eq!(rt; machine.steps_done(), 0);
+    assert_eq!(rt; machine.matrix().count(&mut steps), 0);
+    Ok(())
+}
+
+#[test]
+fn a_noted_step_is_taken_back(rt: HostRuntime) -> Result<(), Fail> {
+    noted::<Brand>(&rt, Blank::new(1), rt.alloc())?;
+    Ok(())
+}

@@ -1,0 +1,211 @@
+//! Steps of one and of two bots: what each breaks first by `step_groups`.
+ghost use Rattle.std.specs.Prelude.{◌≡◌, ◌<◌};
+
+use crate::bots::{are_within, one_bot, two_bots};
+use crate::common::{at, far, long, near};
+use bot_crew::Crew;
+use nano_spec::{Broken, Command, Harmonics, Profile, Rule};
+use std::alloc::Global;
+use std::marker::Brand;
+use std::process::Abort;
+use std::sync::ledger::{Blank, Ledger};
+use std::test::Fail;
+use step_groups::{Step, judge_groups};
+use vox_geom::{Coord, Memory, Steps};
+use vox_planes::Planes;
+
+/// What steps have in common.
+#[derive(Clone, Copy)]
+struct Scene<'a> {
+    crew: &'a Crew,
+    planes: &'a Planes,
+    harmonics: Harmonics,
+    profile: Profile,
+}
+
+/// What a step of these commands breaks first.
+fn refusal<L: Ledger>(
+    rt: &impl Abort,
+    scene: &Scene,
+    commands: &[Command],
+    steps: &mut Steps<L>,
+) -> Option<Broken> {
+    let bots = scene.crew.bots();
+    assert!(rt; commands.len() == bots.len());
+    assert!(rt; are_within(bots, scene.planes.resolution()));
+    let step = Step {
+        planes: scene.planes,
+        harmonics: scene.harmonics,
+        profile: scene.profile,
+        bots,
+        commands,
+        number: 7,
+    };
+    judge_groups(&step, steps).err()
+}
+
+fn broken(rule: Rule, at: Coord) -> Option<Broken> {
+    Some(Broken {
+        step: 7,
+        bid: 1,
+        rule,
+        at,
+    })
+}
+
+fn at_origin(rule: Rule) -> Option<Broken> {
+    broken(rule, at(0, 0, 0))
+}
+
+/// Steps of one bot at resolution 3, in which one voxel is full.
+fn of_one<L: Ledger>(rt: &impl Abort, blank: Blank, alloc: Global) -> Result<(), Memory>
+    requires name { blank.name ≡ L.name }
+    requires parts { blank.parts ≡ L.parts }
+    requires some { 0 < L.parts }
+{
+    let mut steps: Steps<L> = Steps::new(blank);
+    let mut planes = Planes::empty(alloc, 3)?;
+    planes.set(at(1, 0, 1), true);
+    let corner = Scene {
+        crew: &one_bot(rt, Profile::full(), at(0, 0, 0)),
+        planes: &planes,
+        harmonics: Harmonics::Low,
+        profile: Profile::full(),
+    };
+    let ahead = near(rt, 0, 0, 1);
+    let ring = Command::GFill(near(rt, 1, 0, 1), far(rt, 0, 0, 1));
+    let region = Command::GFill(near(rt, 0, 0, 1), far(rt, 0, 0, -1));
+    let table = [
+        (Command::Fission(ahead, 38), None),
+        (Command::Fission(ahead, 39), at_origin(Rule::Seeds)),
+        (
+            Command::SMove(long(rt, -1, 0, 0)),
+            at_origin(Rule::OutOfSpace),
+        ),
+        (region, at_origin(Rule::InRegion)),
+        (Command::FusionP(ahead), at_origin(Rule::Partner)),
+        (ring, at_origin(Rule::GroupShape)),
+    ];
+    for (command, want) in table {
+        assert_eq!(rt; refusal(rt, &corner, &[command], &mut steps), want);
+    }
+    assert_stops(rt, &corner, &mut steps);
+    Ok(())
+}
+
+/// A bot is stopped by a full voxel, and halts only at the origin and under Low.
+fn assert_stops<L: Ledger>(rt: &impl Abort, corner: &Scene, steps: &mut Steps<L>) {
+    let beside = Scene {
+        crew: &one_bot(rt, corner.profile, at(1, 0, 0)),
+        ..*corner
+    };
+    let high = Scene {
+        harmonics: Harmonics::High,
+        ..*corner
+    };
+    let along = Command::SMove(long(rt, 0, 0, 2));
+    assert_eq!(rt;
+        refusal(rt, &beside, &[along], steps),
+        broken(Rule::Blocked, at(1, 0, 1))
+    );
+    assert_eq!(rt;
+        refusal(rt, &beside, &[Command::Halt], steps),
+        broken(Rule::HaltOrigin, at(1, 0, 0))
+    );
+    assert_eq!(rt;
+        refusal(rt, &high, &[Command::Halt], steps),
+        at_origin(Rule::HaltLow)
+    );
+}
+
+#[test]
+fn one_bot_breaks_rules(rt: HostRuntime) -> Result<(), Fail> {
+    of_one::<Brand>(&rt, Blank::new(1), rt.alloc())?;
+    Ok(())
+}
+
+/// Steps of one bot under the light profile.
+fn of_light<L: Ledger>(rt: &impl Abort, blank: Blank, alloc: Global) -> Result<(), Memory>
+    requires name { blank.name ≡ L.name }
+    requires parts { blank.parts ≡ L.parts }
+    requires some { 0 < L.parts }
+{
+    let mut steps: Steps<L> = Steps::new(blank);
+    let planes = Planes::empty(alloc, 3)?;
+    let light = Profile::light();
+    let scene = Scene {
+        crew: &one_bot(rt, light, at(0, 0, 0)),
+        planes: &planes,
+        harmonics: Harmonics::Low,
+        profile: light,
+    };
+    let ahead = near(rt, 0, 0, 1);
+    let table = [
+        (Command::Void(near(rt, 1, 0, 1)), at_origin(Rule::Forbidden)),
+        (
+            Command::GFill(near(rt, 0, 0, 1), far(rt, 0, 0, -1)),
+            at_origin(Rule::Forbidden),
+        ),
+        (Command::Fission(ahead, 18), None),
+        (Command::Fission(ahead, 19), at_origin(Rule::Seeds)),
+    ];
+    for (command, want) in table {
+        assert_eq!(rt; refusal(rt, &scene, &[command], &mut steps), want);
+    }
+    Ok(())
+}
+
+#[test]
+fn the_light_profile_forbids(rt: HostRuntime) -> Result<(), Fail> {
+    of_light::<Brand>(&rt, Blank::new(1), rt.alloc())?;
+    Ok(())
+}
+
+/// Steps of two bots.
+fn of_two<L: Ledger>(rt: &impl Abort, blank: Blank, alloc: Global) -> Result<(), Memory>
+    requires name { blank.name ≡ L.name }
+    requires parts { blank.parts ≡ L.parts }
+    requires some { 0 < L.parts }
+{
+    let mut steps: Steps<L> = Steps::new(blank);
+    let planes = Planes::empty(alloc, 5)?;
+    let scene = Scene {
+        crew: &two_bots(rt, at(0, 0, 1)),
+        planes: &planes,
+        harmonics: Harmonics::Low,
+        profile: Profile::full(),
+    };
+    let ahead = Command::SMove(long(rt, 0, 0, 1));
+    let back = Command::SMove(long(rt, 0, 0, -1));
+    let aside = Command::GFill(near(rt, 1, 0, 0), far(rt, 0, 0, 2));
+    let slanting = Command::GFill(near(rt, 1, 0, 1), far(rt, 0, 0, 2));
+    let there = Command::Fill(near(rt, 1, 0, 0));
+    let same = Command::Fill(near(rt, 1, 0, -1));
+    let table = [
+        (there, same, broken(Rule::Interference, at(1, 0, 0))),
+        (ahead, back, at_origin(Rule::Interference)),
+        (Command::Halt, Command::Halt, at_origin(Rule::HaltAlone)),
+        (slanting, aside, at_origin(Rule::GroupShape)),
+        (
+            Command::FusionP(near(rt, 0, 0, 1)),
+            Command::Wait,
+            at_origin(Rule::Partner),
+        ),
+        (
+            Command::FusionP(near(rt, 0, 0, 1)),
+            Command::FusionS(near(rt, 0, 0, -1)),
+            None,
+        ),
+        (Command::Flip, Command::Wait, None),
+    ];
+    for (first, second, want) in table {
+        assert_eq!(rt; refusal(rt, &scene, &[first, second], &mut steps), want);
+    }
+    Ok(())
+}
+
+#[test]
+fn two_bots_break_rules(rt: HostRuntime) -> Result<(), Fail> {
+    of_two::<Brand>(&rt, Blank::new(1), rt.alloc())?;
+    Ok(())
+}

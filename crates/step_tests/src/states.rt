@@ -1,0 +1,119 @@
+//! Steps of one and of two bots in a state of `system_state` at resolution 3: the first broken rule, and the energy after
+//! the turns.
+ghost use Rattle.std.specs.Prelude.{◌≡◌, ◌<◌};
+
+use crate::common::{long, near};
+use nano_spec::{Command, Profile, Rule};
+use std::alloc::Global;
+use std::marker::Brand;
+use std::process::Abort;
+use std::sync::ledger::{Blank, Ledger};
+use std::test::Fail;
+use system_state::{System, Turns};
+use vox_geom::{Memory, Steps};
+use vox_planes::Planes;
+
+/// Makes a step: the rule that it breaks, if it breaks one.
+fn step<L: Ledger>(
+    rt: &impl Abort,
+    system: &mut System,
+    turns: &mut Turns,
+    commands: &[Command],
+    steps: &mut Steps<L>,
+) -> Option<Rule> {
+    let energy = system.energy();
+    assert!(rt; energy >= 0);
+    assert!(rt; energy <= 1_000_000);
+    let bots = usize::from(system.crew().count());
+    assert!(rt; bots >= 1);
+    assert!(rt; commands.len() <= bots);
+    let broken = system.judge(commands, 1, turns, steps);
+    match broken {
+        None => {
+            system.advance(commands, turns, steps);
+            None
+        }
+        Some(broken) => Some(broken.rule),
+    }
+}
+
+/// One bot fills a voxel and comes home.
+fn of_one<L: Ledger>(rt: &impl Abort, blank: Blank, alloc: Global) -> Result<(), Memory>
+    requires name { blank.name ≡ L.name }
+    requires parts { blank.parts ≡ L.parts }
+    requires some { 0 < L.parts }
+{
+    let mut steps: Steps<L> = Steps::new(blank);
+    let mut turns = Turns::new();
+    let mut system = System::opening(Planes::empty(alloc, 3)?, Profile::full());
+    let out = Command::SMove(long(rt, -1, 0, 0));
+    let none: [Command; 0] = [];
+    assert_eq!(rt;
+        step(rt, &mut system, &mut turns, &[out], &mut steps),
+        Some(Rule::OutOfSpace)
+    );
+    assert_eq!(rt;
+        step(rt, &mut system, &mut turns, &none, &mut steps),
+        Some(Rule::TraceEnds)
+    );
+    let table = [
+        (Command::SMove(long(rt, 1, 0, 0)), 103),
+        (Command::Fill(near(rt, 0, 0, 1)), 216),
+        (Command::SMove(long(rt, -1, 0, 0)), 319),
+        (Command::Halt, 420),
+    ];
+    for (command, energy) in table {
+        assert_eq!(rt;
+            step(rt, &mut system, &mut turns, &[command], &mut steps),
+            None
+        );
+        assert_eq!(rt; system.energy(), energy);
+    }
+    assert_eq!(rt; system.crew().count(), 0);
+    assert_eq!(rt; system.matrix().count(&mut steps), 1);
+    Ok(())
+}
+
+#[test]
+fn one_bot_takes_its_turns(rt: HostRuntime) -> Result<(), Fail> {
+    of_one::<Brand>(&rt, Blank::new(1), rt.alloc())?;
+    Ok(())
+}
+
+/// A bot splits, two Flips cancel, and the two fuse again.
+fn of_two<L: Ledger>(rt: &impl Abort, blank: Blank, alloc: Global) -> Result<(), Memory>
+    requires name { blank.name ≡ L.name }
+    requires parts { blank.parts ≡ L.parts }
+    requires some { 0 < L.parts }
+{
+    let mut steps: Steps<L> = Steps::new(blank);
+    let mut turns = Turns::new();
+    let mut system = System::opening(Planes::empty(alloc, 3)?, Profile::full());
+    let split = Command::Fission(near(rt, 0, 0, 1), 0);
+    assert_eq!(rt;
+        step(rt, &mut system, &mut turns, &[split], &mut steps),
+        None
+    );
+    assert_eq!(rt; system.energy(), 125);
+    let flips = [Command::Flip, Command::Flip];
+    assert_eq!(rt; step(rt, &mut system, &mut turns, &flips, &mut steps), None);
+    assert_eq!(rt; system.energy(), 246);
+    let fuse = [
+        Command::FusionP(near(rt, 0, 0, 1)),
+        Command::FusionS(near(rt, 0, 0, -1)),
+    ];
+    assert_eq!(rt; step(rt, &mut system, &mut turns, &fuse, &mut steps), None);
+    assert_eq!(rt; system.energy(), 343);
+    assert_eq!(rt;
+        step(rt, &mut system, &mut turns, &[Command::Halt], &mut steps),
+        None
+    );
+    assert_eq!(rt; system.energy(), 444);
+    Ok(())
+}
+
+#[test]
+fn two_bots_take_their_turns(rt: HostRuntime) -> Result<(), Fail> {
+    of_two::<Brand>(&rt, Blank::new(1), rt.alloc())?;
+    Ok(())
+}

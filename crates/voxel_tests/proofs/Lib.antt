@@ -1,0 +1,2 @@
+mod LiveSlots
+mod OneOrTwo

@@ -1,0 +1,94 @@
+//! Edits of a forest of `support_forest` whose conditions a test looks after, by the words of the voxels.
+ghost use Rattle.std.specs.Prelude.{◌≡◌, false, IfOk};
+ghost use Rattle.vox_geom.specs.Space.{IsInSpace};
+ghost use Rattle.support_forest.specs.Standing.{Says};
+
+use std::process::Abort;
+use std::sync::ledger::Ledger;
+use support_forest::{Forest, ForestFault};
+use vox_geom::{Coord, Steps};
+
+/// The coordinate is in space.
+pub(crate) fn inside(rt: &impl Abort, c: Coord, r: u16)
+    ensures { IsInSpace r c }
+{
+    assert!(rt; c.x < r);
+    assert!(rt; c.y < r);
+    assert!(rt; c.z < r);
+}
+
+/// The word of a voxel in the arena, 0 where its brick has no slot.
+#[tactic(auto, unfolding(support_forest::specs::Grid::word_index))]
+pub(crate) fn word_of<L: Ledger>(forest: &Forest, c: Coord, steps: &mut Steps<L>) -> u32
+    requires stands { forest.now.spent ≡ false }
+    requires within { IsInSpace forest.now.matrix.resolution c }
+    ensures { Says forest.now.matrix c result }
+{
+    match forest.slot(c) {
+        Some(slot) => {
+            let index = 64 * (c.x % 8) + 8 * (c.y % 8) + c.z % 8;
+            forest.bricks().word(slot, index, steps)
+        }
+        None => 0,
+    }
+}
+
+/// Adds a voxel whose word says that it is void.
+#[tactic(auto, using(crate::proofs::OneOrTwo::may_add_one))]
+pub(crate) fn add_void<L: Ledger>(
+    rt: &impl Abort,
+    forest: &mut Forest,
+    c: Coord,
+    steps: &mut Steps<L>,
+) -> Result<(), ForestFault>
+    requires stands { forest.old.spent ≡ false }
+    requires within { IsInSpace forest.old.matrix.resolution c }
+    ensures stands { IfOk result (λ _. forest.new.spent ≡ false) }
+    ensures resolution { IfOk result (λ _. forest.new.matrix.resolution ≡ forest.old.matrix.resolution) }
+{
+    let word = word_of(forest, c, steps);
+    assert!(rt; word == 0);
+    forest.add_one(c, steps)
+}
+
+/// Adds two voxels whose words say that they are void.
+#[tactic(auto, using(crate::proofs::OneOrTwo::may_add_two))]
+pub(crate) fn add_two<L: Ledger>(
+    rt: &impl Abort,
+    forest: &mut Forest,
+    a: Coord,
+    b: Coord,
+    steps: &mut Steps<L>,
+) -> Result<(), ForestFault>
+    requires stands { forest.old.spent ≡ false }
+    requires a { IsInSpace forest.old.matrix.resolution a }
+    requires b { IsInSpace forest.old.matrix.resolution b }
+    ensures stands { IfOk result (λ _. forest.new.spent ≡ false) }
+    ensures resolution { IfOk result (λ _. forest.new.matrix.resolution ≡ forest.old.matrix.resolution) }
+{
+    let first = word_of(forest, a, steps);
+    let second = word_of(forest, b, steps);
+    assert!(rt; a != b);
+    assert!(rt; first == 0);
+    assert!(rt; second == 0);
+    let cells = [a, b];
+    forest.add(&cells, steps)
+}
+
+/// Removes a voxel whose word says that it is full.
+#[tactic(auto, using(crate::proofs::OneOrTwo::may_remove_one))]
+pub(crate) fn remove_full<L: Ledger>(
+    rt: &impl Abort,
+    forest: &mut Forest,
+    c: Coord,
+    steps: &mut Steps<L>,
+) -> Result<(), ForestFault>
+    requires stands { forest.old.spent ≡ false }
+    requires within { IsInSpace forest.old.matrix.resolution c }
+    ensures stands { IfOk result (λ _. forest.new.spent ≡ false) }
+    ensures resolution { IfOk result (λ _. forest.new.matrix.resolution ≡ forest.old.matrix.resolution) }
+{
+    let word = word_of(forest, c, steps);
+    assert!(rt; word != 0);
+    forest.remove_one(c, steps)
+}

@@ -1,0 +1,193 @@
+//! Planes of `vox_planes` with ample memory, at a small resolution and at one whose rows take more than a word.
+ghost use Rattle.std.specs.Prelude.{◌≡◌, ◌<◌, ◌≤◌, IfOk};
+ghost use Rattle.vox_geom.specs.Space.{IsInSpace};
+
+use crate::common::at;
+use std::alloc::Global;
+use std::marker::Brand;
+use std::process::Abort;
+use std::sync::ledger::{Blank, Ledger};
+use std::test::Fail;
+use vox_geom::{Coord, Memory, Region, Steps};
+use vox_planes::{ChangeList, Planes};
+
+/// The list of the full, or else the void, coordinates of a region is the expected one.
+fn assert_listed<L: Ledger>(
+    rt: &impl Abort,
+    planes: &Planes,
+    list: &mut ChangeList,
+    full: bool,
+    b: &Region,
+    want: &[Coord],
+    steps: &mut Steps<L>,
+)
+    requires { IsInSpace planes.now.resolution b.now.high }
+{
+    planes.know();
+    list.clear();
+    assert!(rt; b.size() <= list.spare());
+    if full {
+        planes.list_full(b, list, steps);
+    } else {
+        planes.list_void(b, list, steps);
+    }
+    assert_eq!(rt; list.as_slice(), want);
+}
+
+/// The first full coordinate of a region is the expected one.
+fn assert_first<L: Ledger>(
+    rt: &impl Abort,
+    planes: &Planes,
+    b: &Region,
+    want: Option<Coord>,
+    steps: &mut Steps<L>,
+)
+    requires { IsInSpace planes.now.resolution b.now.high }
+{
+    assert_eq!(rt; planes.region_full(b, steps), want);
+}
+
+/// Two full voxels at resolution 3.
+fn two_voxels<L: Ledger>(
+    rt: &impl Abort,
+    alloc: Global,
+    steps: &mut Steps<L>,
+) -> Result<Planes, Memory>
+    ensures { IfOk result (λ p. p.resolution ≡ 3) }
+{
+    let mut planes = Planes::empty(alloc, 3)?;
+    assert_eq!(rt; planes.resolution(), 3);
+    assert_eq!(rt; planes.count(steps), 0);
+    planes.set(at(1, 0, 2), true);
+    planes.set(at(1, 1, 1), true);
+    planes.set(at(2, 1, 0), true);
+    planes.set(at(1, 1, 1), false);
+    assert!(rt; planes.full_at(at(1, 0, 2), steps));
+    assert!(rt; !planes.full_at(at(1, 1, 1), steps));
+    assert_eq!(rt; planes.count(steps), 2);
+    Ok(planes)
+}
+
+/// What lists of regions of the two voxels have.
+fn assert_lists<L: Ledger>(
+    rt: &impl Abort,
+    alloc: Global,
+    planes: &Planes,
+    steps: &mut Steps<L>,
+) -> Result<(), Memory>
+    requires { planes.now.resolution ≡ 3 }
+{
+    let mut list = ChangeList::with_room(alloc, 27)?;
+    let all = Region::of(at(0, 0, 0), at(2, 2, 2));
+    let full = [at(1, 0, 2), at(2, 1, 0)];
+    assert_listed(rt, planes, &mut list, true, &all, &full, steps);
+    let part = Region::of(at(1, 0, 1), at(1, 1, 2));
+    let void = [at(1, 0, 1), at(1, 1, 1), at(1, 1, 2)];
+    assert_listed(rt, planes, &mut list, false, &part, &void, steps);
+    Ok(())
+}
+
+/// Two full voxels at resolution 3, and a copy that differs.
+fn small<L: Ledger>(rt: &impl Abort, blank: Blank, alloc: Global) -> Result<(), Memory>
+    requires name { blank.name ≡ L.name }
+    requires parts { blank.parts ≡ L.parts }
+    requires some { 0 < L.parts }
+{
+    let mut steps: Steps<L> = Steps::new(blank);
+    let planes = two_voxels(rt, alloc, &mut steps)?;
+    let right = Region::of(at(1, 0, 0), at(2, 1, 2));
+    assert_first(rt, &planes, &right, Some(at(1, 0, 2)), &mut steps);
+    let left = Region::of(at(0, 0, 0), at(0, 2, 2));
+    assert_first(rt, &planes, &left, None, &mut steps);
+    let along_x = Region::of(at(2, 0, 2), at(0, 0, 2));
+    assert_first(rt, &planes, &along_x, Some(at(1, 0, 2)), &mut steps);
+    let along_y = Region::of(at(2, 0, 0), at(2, 2, 0));
+    assert_first(rt, &planes, &along_y, Some(at(2, 1, 0)), &mut steps);
+    let beside = Region::of(at(2, 0, 1), at(2, 2, 1));
+    assert_first(rt, &planes, &beside, None, &mut steps);
+    assert_lists(rt, alloc, &planes, &mut steps)?;
+
+    let mut other = planes.copy(alloc)?;
+    assert_eq!(rt; planes.equal(&other, &mut steps), None);
+    other.set(at(2, 0, 0), true);
+    other.set(at(0, 2, 2), true);
+    assert_eq!(rt; planes.equal(&other, &mut steps), Some(at(0, 2, 2)));
+    Ok(())
+}
+
+/// A row of 70 voxels, whose bits stand in three words, and a voxel beside it.
+fn wide_row<L: Ledger>(
+    rt: &impl Abort,
+    alloc: Global,
+    steps: &mut Steps<L>,
+) -> Result<Planes, Memory>
+    ensures { IfOk result (λ p. p.resolution ≡ 70) }
+{
+    let mut planes = Planes::empty(alloc, 70)?;
+    planes.set(at(5, 3, 0), true);
+    planes.set(at(5, 3, 63), true);
+    planes.set(at(5, 3, 64), true);
+    planes.set(at(5, 3, 69), true);
+    planes.set(at(6, 0, 1), true);
+    assert_eq!(rt; planes.count(steps), 5);
+    Ok(planes)
+}
+
+/// What lists of that row have, of all full voxels of `rows` and of the void ones of a part.
+fn assert_wide_lists<L: Ledger>(
+    rt: &impl Abort,
+    alloc: Global,
+    planes: &Planes,
+    rows: &Region,
+    steps: &mut Steps<L>,
+) -> Result<(), Memory>
+    requires resolution { planes.now.resolution ≡ 70 }
+    requires within { IsInSpace planes.now.resolution rows.now.high }
+{
+    let mut list = ChangeList::with_room(alloc, 200)?;
+    let full = [at(5, 3, 63), at(5, 3, 64), at(5, 3, 69)];
+    assert_listed(rt, planes, &mut list, true, rows, &full, steps);
+    let part = Region::of(at(5, 3, 62), at(5, 3, 65));
+    let void = [at(5, 3, 62), at(5, 3, 65)];
+    assert_listed(rt, planes, &mut list, false, &part, &void, steps);
+    Ok(())
+}
+
+/// That row, a copy that differs, and regions of it that become full and void.
+fn wide<L: Ledger>(rt: &impl Abort, blank: Blank, alloc: Global) -> Result<(), Memory>
+    requires name { blank.name ≡ L.name }
+    requires parts { blank.parts ≡ L.parts }
+    requires some { 0 < L.parts }
+{
+    let mut steps: Steps<L> = Steps::new(blank);
+    let mut planes = wide_row(rt, alloc, &mut steps)?;
+    let row = Region::of(at(5, 3, 69), at(5, 3, 1));
+    assert_first(rt, &planes, &row, Some(at(5, 3, 63)), &mut steps);
+    let rows = Region::of(at(5, 3, 1), at(6, 3, 69));
+    assert_wide_lists(rt, alloc, &planes, &rows, &mut steps)?;
+
+    let mut other = planes.copy(alloc)?;
+    other.set(at(6, 0, 1), false);
+    assert_eq!(rt; planes.equal(&other, &mut steps), Some(at(6, 0, 1)));
+    other.set(at(5, 3, 69), false);
+    assert_eq!(rt; planes.equal(&other, &mut steps), Some(at(5, 3, 69)));
+
+    assert_eq!(rt; planes.set_region(&rows, true, &mut steps), 135);
+    assert_eq!(rt; planes.count(&mut steps), 140);
+    assert_eq!(rt; planes.set_region(&rows, false, &mut steps), 138);
+    assert!(rt; planes.full_at(at(5, 3, 0), &mut steps));
+    assert_eq!(rt; planes.count(&mut steps), 2);
+    Ok(())
+}
+
+#[test]
+fn three_to_a_row(rt: HostRuntime) -> Result<(), Fail> {
+    small::<Brand>(&rt, Blank::new(1), rt.alloc())?;
+    Ok(())
+}
+
+#[test]
+fn seventy_to_a_row(rt: HostRuntime) -> Result<(), Fail> {
+    wide::<Brand>(&rt, Blank::new(1), rt.alloc())?;
+    Ok(())
+}
