@@ -1,4 +1,4 @@
-//! Traces that `step_machine` judges.
+//! Traces that `trace_judge` judges.
 ghost use Rattle.std.specs.Prelude.{◌≡◌, ◌<◌};
 
 use crate::common::{at, empty, long, near, source};
@@ -8,7 +8,7 @@ use std::marker::Brand;
 use std::process::Abort;
 use std::sync::ledger::{Blank, Ledger};
 use std::test::Fail;
-use step_machine::judge;
+use trace_judge::judge;
 use vox_geom::{Coord, Memory, Steps};
 
 /// The verdict of a trace that breaks a rule.

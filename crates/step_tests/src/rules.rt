@@ -10,7 +10,7 @@ use std::marker::Brand;
 use std::process::Abort;
 use std::sync::ledger::{Blank, Ledger};
 use std::test::Fail;
-use step_groups::{Step, judge_groups};
+use step_groups::judge_groups;
 use vox_geom::{Coord, Memory, Steps};
 use vox_planes::Planes;
 
@@ -33,15 +33,16 @@ fn refusal<L: Ledger>(
     let bots = scene.crew.bots();
     assert!(rt; commands.len() == bots.len());
     assert!(rt; are_within(bots, scene.planes.resolution()));
-    let step = Step {
-        planes: scene.planes,
-        harmonics: scene.harmonics,
-        profile: scene.profile,
-        bots,
+    judge_groups(
+        scene.crew,
+        scene.planes,
+        scene.harmonics,
+        scene.profile,
         commands,
-        number: 7,
-    };
-    judge_groups(&step, steps).err()
+        7,
+        steps,
+    )
+    .err()
 }
 
 fn broken(rule: Rule, at: Coord) -> Option<Broken> {
