@@ -14,13 +14,6 @@ module _ (v : Slots) (s : ℕ) where
   pub get-insert_other : (words : List ℕ) (q : ℕ) → (q ≡ s → ⊥) → get (insert v s words) q ≡ get v q
   get-insert_other words q ne = get-insert nat_cmp_total v s words q ∙ ap (λ b. cond b (Some words) (get v q)) (unsigned_tied q s ∙ ne_eqb q s ne)
 
-  -- what was live stays so
-  pub live-insert : (words : List ℕ) (q : ℕ) → IsLive v q → IsLive (insert v s words) q
-  live-insert words q live = elim (cases_eq q s) [ inl e ↦ ap is_some (get-insert_here words q e) | inr ne ↦ ap is_some (get-insert_other words q ne) ∙ live ]
-
-  pub live-remove : (q : ℕ) → (q ≡ s → ⊥) → IsLive v q → IsLive (remove v s) q
-  live-remove q ne live = ap is_some (get-remove nat_cmp_total v s q ∙ ap (λ b. cond b None (get v q)) (unsigned_tied q s ∙ ne_eqb q s ne)) ∙ live
-
   -- a map that differs from v at s alone
   pub inserted : (w : Slots) (words : List ℕ) → get w s ≡ Some words → ((q : ℕ) → (q ≡ s → ⊥) → get w q ≡ get v q) → w ≡ insert v s words
   inserted w words here others = same_map nat_cmp_total nat_cmp-IsAntisymmetric w (insert v s words) (λ q. elim (cases_eq q s) [

@@ -6,26 +6,25 @@ ghost use Rattle.trace_codec.specs.Whole.{Decodes};
 use nano_spec::{Command, CommandList};
 use std::alloc::Global;
 use std::process::Abort;
-use std::test::Fail;
 use trace_codec::{
     Decoder, Fed, One, TraceFault, decode_all, decode_one, encode_all, encode_one, pieces_decode,
 };
 use vox_geom::{Diff, Far, Long, Near, Short};
 
-fn near(dx: i16, dy: i16, dz: i16) -> Result<Near, Fail> {
-    Ok(Near::of(Diff { dx, dy, dz }).ok_or("not near")?)
+fn near(rt: &impl Abort, dx: i16, dy: i16, dz: i16) -> Near {
+    Near::of(Diff { dx, dy, dz }).expect(rt, "near")
 }
 
-fn far(dx: i16, dy: i16, dz: i16) -> Result<Far, Fail> {
-    Ok(Far::of(Diff { dx, dy, dz }).ok_or("not far")?)
+fn far(rt: &impl Abort, dx: i16, dy: i16, dz: i16) -> Far {
+    Far::of(Diff { dx, dy, dz }).expect(rt, "far")
 }
 
-fn short(dx: i16, dy: i16, dz: i16) -> Result<Short, Fail> {
-    Ok(Short::of(Diff { dx, dy, dz }).ok_or("not short")?)
+fn short(rt: &impl Abort, dx: i16, dy: i16, dz: i16) -> Short {
+    Short::of(Diff { dx, dy, dz }).expect(rt, "short")
 }
 
-fn long(dx: i16, dy: i16, dz: i16) -> Result<Long, Fail> {
-    Ok(Long::of(Diff { dx, dy, dz }).ok_or("not long")?)
+fn long(rt: &impl Abort, dx: i16, dy: i16, dz: i16) -> Long {
+    Long::of(Diff { dx, dy, dz }).expect(rt, "long")
 }
 
 /// The command is spelled by the bytes, and nothing less than all of them spells it.
@@ -40,26 +39,25 @@ fn both_ways(rt: &impl Abort, command: Command, bytes: &[u8]) {
 }
 
 #[test]
-fn spellings_both_ways(rt: HostRuntime) -> Result<(), Fail> {
+fn spellings_both_ways(rt: HostRuntime) {
     both_ways(&rt, Command::Halt, &[0xFF]);
     both_ways(&rt, Command::Wait, &[0xFE]);
     both_ways(&rt, Command::Flip, &[0xFD]);
-    both_ways(&rt, Command::SMove(long(12, 0, 0)?), &[0x14, 0x1B]);
-    both_ways(&rt, Command::SMove(long(0, 0, -4)?), &[0x34, 0x0B]);
-    let lmove = Command::LMove(short(3, 0, 0)?, short(0, -5, 0)?);
+    both_ways(&rt, Command::SMove(long(&rt, 12, 0, 0)), &[0x14, 0x1B]);
+    both_ways(&rt, Command::SMove(long(&rt, 0, 0, -4)), &[0x34, 0x0B]);
+    let lmove = Command::LMove(short(&rt, 3, 0, 0), short(&rt, 0, -5, 0));
     both_ways(&rt, lmove, &[0x9C, 0x08]);
-    let lmove = Command::LMove(short(0, -2, 0)?, short(0, 0, 2)?);
+    let lmove = Command::LMove(short(&rt, 0, -2, 0), short(&rt, 0, 0, 2));
     both_ways(&rt, lmove, &[0xEC, 0x73]);
-    both_ways(&rt, Command::FusionP(near(-1, 1, 0)?), &[0x3F]);
-    both_ways(&rt, Command::FusionS(near(1, -1, 0)?), &[0x9E]);
-    both_ways(&rt, Command::Fission(near(0, 0, 1)?, 5), &[0x75, 0x05]);
-    both_ways(&rt, Command::Fill(near(0, -1, 0)?), &[0x53]);
-    both_ways(&rt, Command::Void(near(1, 0, 1)?), &[0xBA]);
-    let gfill = Command::GFill(near(0, -1, 0)?, far(10, -15, 20)?);
+    both_ways(&rt, Command::FusionP(near(&rt, -1, 1, 0)), &[0x3F]);
+    both_ways(&rt, Command::FusionS(near(&rt, 1, -1, 0)), &[0x9E]);
+    both_ways(&rt, Command::Fission(near(&rt, 0, 0, 1), 5), &[0x75, 0x05]);
+    both_ways(&rt, Command::Fill(near(&rt, 0, -1, 0)), &[0x53]);
+    both_ways(&rt, Command::Void(near(&rt, 1, 0, 1)), &[0xBA]);
+    let gfill = Command::GFill(near(&rt, 0, -1, 0), far(&rt, 10, -15, 20));
     both_ways(&rt, gfill, &[0x51, 0x28, 0x0F, 0x32]);
-    let gvoid = Command::GVoid(near(1, 0, 0)?, far(5, 5, -5)?);
+    let gvoid = Command::GVoid(near(&rt, 1, 0, 0), far(&rt, 5, 5, -5));
     both_ways(&rt, gvoid, &[0xB0, 0x23, 0x23, 0x19]);
-    Ok(())
 }
 
 /// The commands of a trace, or why there are none, by all the ways to decode it.
@@ -78,41 +76,53 @@ fn same(rt: &impl Abort, a: &Result<CommandList, TraceFault>, b: &Result<Command
     }
 }
 
-#[test]
-fn traces_in_any_pieces(rt: HostRuntime) -> Result<(), Fail> {
-    let trace = [
-        0x75, 0x00, 0xFE, 0x34, 0x11, 0xB9, 0x1E, 0x1E, 0x20, 0xB1, 0x1E, 0x1E, 0x1C, 0xFE, 0x34,
-        0x0D, 0x77, 0x66, 0xFF,
-    ];
-    let commands = [
-        Command::Fission(near(0, 0, 1)?, 0),
-        Command::Wait,
-        Command::SMove(long(0, 0, 2)?),
-        Command::GFill(near(1, 0, 1)?, far(0, 0, 2)?),
-        Command::GFill(near(1, 0, 0)?, far(0, 0, -2)?),
-        Command::Wait,
-        Command::SMove(long(0, 0, -2)?),
-        Command::FusionP(near(0, 0, 1)?),
-        Command::FusionS(near(0, 0, -1)?),
-        Command::Halt,
-    ];
-    let list = decoded(&rt, &trace).map_err(|_| "refused")?;
-    assert_eq!(rt; list.as_slice(), commands.as_slice());
-    let bytes = encode_all(rt.alloc(), &commands).map_err(|_| "no memory")?;
-    assert_eq!(rt; bytes.as_slice(), trace.as_slice());
-    refused(&rt, &[0x04], TraceFault::Bad { offset: 0 });
-    refused(&rt, &[0x03], TraceFault::Bad { offset: 0 });
-    refused(&rt, &[0x14], TraceFault::Cut { offset: 0 });
-    refused(&rt, &[0x77, 0x04], TraceFault::Bad { offset: 1 });
-    Ok(())
+/// The trace is these commands, by all the ways to decode it, and they are encoded as this trace.
+fn assert_trace(rt: &(impl Abort + AllocGlobal), trace: &[u8], commands: &[Command]) {
+    match decoded(rt, trace) {
+        Ok(list) => assert_eq!(rt; list.as_slice(), commands),
+        Err(_) => panic!(rt; "the trace is refused"),
+    }
+    match encode_all(rt.alloc(), commands) {
+        Ok(bytes) => assert_eq!(rt; bytes.as_slice(), trace),
+        Err(_) => panic!(rt; "no memory"),
+    }
 }
 
 /// The trace is refused by this fault.
 fn refused(rt: &(impl Abort + AllocGlobal), trace: &[u8], fault: TraceFault) {
     match decoded(rt, trace) {
-        Ok(_) => panic!(rt; "{trace:?} is decoded"),
-        Err(found) => assert_eq!(rt; found, fault, "{trace:?}"),
+        Ok(_) => panic!(rt; "the trace is decoded"),
+        Err(found) => assert_eq!(rt; found, fault),
     }
+}
+
+#[test]
+fn traces_in_any_pieces(rt: HostRuntime) {
+    let trace = [
+        0x75, 0x00, 0xFE, 0x34, 0x11, 0xB9, 0x1E, 0x1E, 0x20, 0xB1, 0x1E, 0x1E, 0x1C, 0xFE, 0x34,
+        0x0D, 0x77, 0x66, 0xFF,
+    ];
+    let commands = [
+        Command::Fission(near(&rt, 0, 0, 1), 0),
+        Command::Wait,
+        Command::SMove(long(&rt, 0, 0, 2)),
+        Command::GFill(near(&rt, 1, 0, 1), far(&rt, 0, 0, 2)),
+        Command::GFill(near(&rt, 1, 0, 0), far(&rt, 0, 0, -2)),
+        Command::Wait,
+        Command::SMove(long(&rt, 0, 0, -2)),
+        Command::FusionP(near(&rt, 0, 0, 1)),
+        Command::FusionS(near(&rt, 0, 0, -1)),
+        Command::Halt,
+    ];
+    assert_trace(&rt, &trace, &commands);
+}
+
+#[test]
+fn bytes_that_are_no_trace(rt: HostRuntime) {
+    refused(&rt, &[0x04], TraceFault::Bad { offset: 0 });
+    refused(&rt, &[0x03], TraceFault::Bad { offset: 0 });
+    refused(&rt, &[0x14], TraceFault::Cut { offset: 0 });
+    refused(&rt, &[0x77, 0x04], TraceFault::Bad { offset: 1 });
 }
 
 /// Takes a piece to its end, and adds its commands to the list.

@@ -1,5 +1,7 @@
 //! What the depot and the sink of `vox_depot` answer in memory.
 use crate::pieces::{fetched, pattern};
+use std::alloc::Global;
+use std::process::Abort;
 use std::test::Fail;
 use vox_depot::{
     Depot, FetchFault, LoadFault, MemoryDepot, MemorySink, Sink, SinkFault, StoreFault, load,
@@ -142,16 +144,44 @@ fn refused_memory_is_counted(rt: HostRuntime) -> Result<(), Fail> {
     Ok(())
 }
 
+/// At most so many bytes of the file are loaded, its first ones: of this size.
+fn assert_loaded(
+    rt: &impl Abort,
+    alloc: Global,
+    depot: &mut MemoryDepot,
+    content: &[u8],
+    most: u64,
+    size: usize,
+) {
+    match load(alloc, depot, "A", most) {
+        Ok(bytes) => {
+            assert!(rt; bytes.len() == size);
+            assert!(rt; content.starts_with(&bytes));
+        }
+        Err(fault) => assert_eq!(rt; Some(fault), None),
+    }
+}
+
+/// The load of a file fails so.
+fn assert_fault(
+    rt: &impl Abort,
+    alloc: Global,
+    depot: &mut MemoryDepot,
+    name: &str,
+    fault: LoadFault,
+) {
+    assert_eq!(rt; load(alloc, depot, name, u64::MAX).err(), Some(fault));
+}
+
 #[test]
 fn loads_whole_files(rt: HostRuntime) -> Result<(), Fail> {
     let alloc = rt.alloc();
     let content = pattern(alloc, 140_000)?;
     let mut depot = MemoryDepot::new(alloc, vec![in alloc; 1]?);
-    assert_eq!(rt; depot.put_file("A", &content), Ok(()));
+    assert!(rt; depot.put_file("A", &content).is_ok());
 
     // The second piece fails, then nothing does.
-    let fault = load(alloc, &mut depot, "A", u64::MAX).err();
-    assert_eq!(rt; fault, Some(LoadFault::Failed));
+    assert_fault(&rt, alloc, &mut depot, "A", LoadFault::Failed);
     for (most, size) in [
         (0, 0),
         (1, 1),
@@ -161,11 +191,8 @@ fn loads_whole_files(rt: HostRuntime) -> Result<(), Fail> {
         (140_001, 140_000),
         (u64::MAX, 140_000),
     ] {
-        let bytes = load(alloc, &mut depot, "A", most).ok().ok_or("no bytes")?;
-        assert_eq!(rt; bytes.len(), size, "at most {most}");
-        assert!(rt; content.starts_with(&bytes), "at most {most}");
+        assert_loaded(&rt, alloc, &mut depot, &content, most, size);
     }
-    let fault = load(alloc, &mut depot, "B", 1).err();
-    assert_eq!(rt; fault, Some(LoadFault::Missing));
+    assert_fault(&rt, alloc, &mut depot, "B", LoadFault::Missing);
     Ok(())
 }

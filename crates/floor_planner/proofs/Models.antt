@@ -1,21 +1,19 @@
 -- What is full in a legal model, in one that lies on the floor, and in the empty one.
-use Rattle.std.proofs.Common.{◌≡◌, ◌⊎◌, inl, inr, ℕ, ◌+◌, ◌<◌, ◌≤◌, refl, sym, ◌∙◌, ap, subst, arith, Bool, true, false, cond, ◌&&◌, ◌==◌, not, List, [], ◌∷◌, None, Some}
-use Rattle.std.specs.Prelude.{IsTrue, MatchOption, Option, find, option_map, pos}
+use Rattle.std.proofs.Common.{◌≡◌, ℕ, ◌+◌, ◌<◌, ◌≤◌, refl, sym, ◌∙◌, subst, arith, Bool, true, false, ◌&&◌, not, List, [], ◌∷◌, None}
+use Rattle.std.specs.Prelude.{IsTrue, find, pos}
 use Rattle.std.proofs.lemmas.Bool.Decides.{nat_tests}
 use Rattle.vox_geom.specs.declared.coordinate.Coord.{Coord}
-use Rattle.vox_geom.specs.Point.{Point, point, coord, same_point}
+use Rattle.vox_geom.specs.Point.{Point, point, coord}
 use Rattle.vox_geom.specs.Region.{Span, between, is_between, is_within}
 use Rattle.vox_geom.specs.Space.{IsInSpace}
 use Rattle.nano_spec.specs.First.{FirstFailing}
 use Rattle.nano_spec.specs.Grounded.{FirstUngrounded, Grounded}
-use Rattle.nano_spec.specs.Legal.{Border, Floating, IsLegal, in_legal_box}
+use Rattle.nano_spec.specs.Legal.{IsLegal, in_legal_box}
 use Rattle.nano_spec.specs.Matrix.{Matrix, all_of, empty, is_full, matrix_where}
 use Rattle.nano_spec.proofs.Coordinates.{in_space-is}
 use Rattle.nano_spec.proofs.Opening.{legal_is}
 use Rattle.step_order.proofs.Lists.{both, find_none, first, is_false, none_find, not_both, second}
 use Rattle.step_order.proofs.Voxels.{full_where, in_coordinates}
-use Rattle.vox_planes.specs.Voxel.{with_voxel}
-use Rattle.vox_planes.proofs.Voxels.{same_point-is, same_point-refl}
 use Rattle.floor_planner.specs.Floor.{IsFlat}
 
 pub full_in_space : (m : Matrix) (c : Coord) → is_full m c ≡ true → IsInSpace m.resolution c
@@ -82,55 +80,3 @@ pub empty_is_grounded : (m : Matrix) (r : ℕ) → m ≡ empty r → FirstUngrou
 empty_is_grounded m r e =
     subst (λ (n : Matrix). FirstUngrounded n None) (sym e)
     (all_hold (λ c. IsTrue (is_full (empty r) c) → Grounded (empty r) c) (all_of (empty r)) (λ c f. absurd (not_both f (empty_is_void r c))))
-
-pub empty_is_flat : (m : Matrix) (r : ℕ) → m ≡ empty r → IsFlat m
-empty_is_flat m r e = λ c f. absurd (not_both (sym (ap (λ n. is_full n c) e) ∙ f) (empty_is_void r c))
-
--- ---- a flat model that is made voxel by voxel
-
-grounded_at : (m : Matrix) (c : Coord) → c.y ≡ 0 → is_full m c ≡ true → Grounded m c
-grounded_at m c e f = (c ∷ [], both (same_point-refl c) (both f (floor c.y e)))
-  where
-    floor : (y : ℕ) → y ≡ 0 → (y == 0) ≡ true
-    floor y e = grind (arith, nat_tests)
-
-flat_is_grounded : (m : Matrix) → IsFlat m → FirstUngrounded m None
-flat_is_grounded m flat = all_hold (λ c. IsTrue (is_full m c) → Grounded m c) (all_of m) (λ c f. grounded_at m c (flat c f) f)
-
--- a flat model with no voxel outside the legal box is legal
-pub flat_is_legal : (m : Matrix) → IsFlat m → ((c : Coord) → is_full m c ≡ true → not (in_legal_box m.resolution c) ≡ false) → IsLegal m
-flat_is_legal m flat inside =
-    subst (λ o. MatchOption o ((at : Option Coord) × FirstUngrounded m at × (None ≡ option_map Floating at)) (λ c. None ≡ Some (Border c)))
-    (sym (none_find (λ c. is_full m c && not (in_legal_box m.resolution c)) (all_of m) (λ c i. is_false (is_full m c && not (in_legal_box m.resolution c)) (λ t. not_both (second (is_full m c) (not (in_legal_box m.resolution c)) t) (inside c (first (is_full m c) (not (in_legal_box m.resolution c)) t))))))
-    (None, flat_is_grounded m flat, refl)
-
-pub empty_is_legal : (m : Matrix) (r : ℕ) → m ≡ empty r → IsLegal m
-empty_is_legal m r e = flat_is_legal m (empty_is_flat m r e) (λ c f. absurd (not_both (sym (ap (λ n. is_full n c) e) ∙ f) (empty_is_void r c)))
-
--- a voxel that is full after another one was filled is that one, or was full before
-was_full : (m : Matrix) (at c : Coord) → is_full (with_voxel m at true) c ≡ true → (c ≡ at) ⊎ (is_full m c ≡ true)
-was_full m at c f = by (same_point (point c) (point at)) refl (full_passes m.resolution (λ d. cond (same_point (point d) (point at)) true (is_full m d)) c f)
-  where
-    by : (same : Bool) → same_point (point c) (point at) ≡ same → cond same true (is_full m c) ≡ true → (c ≡ at) ⊎ (is_full m c ≡ true)
-    by true e t = inl (same_point-is c at e)
-    by false e t = inr t
-
--- what holds of the full voxels of a model and of a voxel that is filled holds of all full voxels then
-full_all : (P : Coord → Type 0) (m : Matrix) (at : Coord) → ((c : Coord) → is_full m c ≡ true → P c) → P at → (c : Coord) → is_full (with_voxel m at true) c ≡ true → P c
-full_all P m at old new c f = by (was_full m at c f)
-  where
-    by : (c ≡ at) ⊎ (is_full m c ≡ true) → P c
-    by (inl e) = subst P (sym e) new
-    by (inr g) = old c g
-
-pub flat_put : (m n : Matrix) (x z : ℕ) → n ≡ with_voxel m (coord x 0 z) true → IsFlat m → IsFlat n
-flat_put m n x z e flat = subst IsFlat (sym e) (full_all (λ c. c.y ≡ 0) m (coord x 0 z) flat refl)
-
-inside_box : (r x z : ℕ) → 1 ≤ x → x + 1 < r → 1 ≤ z → z + 1 < r → not (in_legal_box r (coord x 0 z)) ≡ false
-inside_box r x z a b c d = grind (arith, nat_tests)
-
-pub legal_put : (m n : Matrix) (x z : ℕ) → n ≡ with_voxel m (coord x 0 z) true → 1 ≤ x → x + 1 < m.resolution → 1 ≤ z → z + 1 < m.resolution → IsFlat m → IsLegal m → IsLegal n
-legal_put m n x z e a b c d flat h =
-    subst IsLegal (sym e)
-    (flat_is_legal (with_voxel m (coord x 0 z) true) (flat_put m (with_voxel m (coord x 0 z) true) x z refl flat)
-    (full_all (λ c. not (in_legal_box m.resolution c) ≡ false) m (coord x 0 z) (λ c f. in_box m c h f) (inside_box m.resolution x z a b c d)))

@@ -6,7 +6,6 @@ pub mod Steps
 pub mod Written
 pub mod AfterMoves
 pub mod AfterSteps
-pub mod Voids
 pub mod Works
 pub mod Many
 pub mod ClearWays

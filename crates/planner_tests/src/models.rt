@@ -1,5 +1,5 @@
 //! Models of a few voxels, which several modules plan.
-ghost use Rattle.std.specs.Prelude.{◌≡◌, ◌≤◌, IfOk};
+ghost use Rattle.std.specs.Prelude.{◌≤◌};
 
 use std::alloc::Global;
 use vox_geom::{Coord, Memory};
@@ -11,9 +11,7 @@ pub(crate) fn at(x: u16, y: u16, z: u16) -> Coord {
 }
 
 /// Makes a voxel full, if it is in space.
-pub(crate) fn put(planes: &mut Planes, c: Coord)
-    ensures { planes.new.resolution ≡ planes.old.resolution }
-{
+pub(crate) fn put(planes: &mut Planes, c: Coord) {
     let r = planes.resolution();
     if c.x < r && c.y < r && c.z < r {
         planes.set(c, true);
@@ -24,7 +22,6 @@ pub(crate) fn put(planes: &mut Planes, c: Coord)
 pub(crate) fn model(alloc: Global, r: u16, full: &[Coord]) -> Result<Planes, Memory>
     requires some { 1 ≤ r }
     requires most { r ≤ 400 }
-    ensures { IfOk result (λ p. p.resolution ≡ r) }
 {
     let mut planes = Planes::empty(alloc, r)?;
     for c in full {

@@ -66,7 +66,82 @@ fn finished(rt: &impl Abort, tape: Tape) -> Plan {
     tape.finish()
 }
 
-/// A bot splits, both go out and come back, and they fuse again.
+/// The energy of the steps so far.
+fn assert_energy(rt: &impl Abort, tape: &Tape, energy: i64) {
+    assert!(rt; tape.energy() == energy);
+}
+
+/// The bot with this bid stands at a coordinate.
+fn assert_stands(rt: &impl Abort, tape: &Tape, c: Coord, bid: u8) {
+    assert_eq!(rt; tape.crew().at(c), Some(bid));
+}
+
+/// A bot splits, and both go out.
+fn go_out<L: Ledger>(
+    rt: &impl Abort,
+    alloc: Global,
+    tape: &mut Tape,
+    system: &mut System,
+    turns: &mut Turns,
+    steps: &mut Steps<L>,
+) -> Result<(), Memory>
+    requires { system.old ≡ state_of tape.old }
+    ensures { OnOk result (system.new ≡ state_of tape.new) }
+{
+    let split = [Command::Fission(near(rt, 0, 0, 1), 0)];
+    step(rt, alloc, tape, system, turns, &split, steps)?;
+    assert_energy(rt, tape, 125);
+    let out = [
+        Command::SMove(long(rt, 2, 0, 0)),
+        Command::SMove(long(rt, 1, 0, 0)),
+    ];
+    step(rt, alloc, tape, system, turns, &out, steps)?;
+    assert_energy(rt, tape, 252);
+    assert_stands(rt, tape, at(1, 0, 1), 2);
+    Ok(())
+}
+
+/// Both come back, and fuse, and the one that is left halts.
+fn come_home<L: Ledger>(
+    rt: &impl Abort,
+    alloc: Global,
+    tape: &mut Tape,
+    system: &mut System,
+    turns: &mut Turns,
+    steps: &mut Steps<L>,
+) -> Result<(), Memory>
+    requires { system.old ≡ state_of tape.old }
+{
+    let back = [
+        Command::SMove(long(rt, -2, 0, 0)),
+        Command::SMove(long(rt, -1, 0, 0)),
+    ];
+    step(rt, alloc, tape, system, turns, &back, steps)?;
+    let fuse = [
+        Command::FusionP(near(rt, 0, 0, 1)),
+        Command::FusionS(near(rt, 0, 0, -1)),
+    ];
+    step(rt, alloc, tape, system, turns, &fuse, steps)?;
+    step(rt, alloc, tape, system, turns, &[Command::Halt], steps)
+}
+
+/// A bot splits over a source, both go out and come back, and they fuse again.
+fn planned<L: Ledger>(
+    rt: &impl Abort,
+    alloc: Global,
+    source: Planes,
+    steps: &mut Steps<L>,
+) -> Result<Plan, Memory> {
+    let mut turns = Turns::new();
+    assert!(rt; is_grounded(alloc, &source)?);
+    let mut system = System::opening(source.copy(alloc)?, Profile::full());
+    let mut tape = Tape::start(alloc, source)?;
+    go_out(rt, alloc, &mut tape, &mut system, &mut turns, steps)?;
+    come_home(rt, alloc, &mut tape, &mut system, &mut turns, steps)?;
+    Ok(finished(rt, tape))
+}
+
+/// That plan at resolution 3.
 fn of_two<L: Ledger>(rt: &impl Abort, alloc: Global, blank: Blank) -> Result<Plan, Memory>
     requires name { blank.name ≡ L.name }
     requires parts { blank.parts ≡ L.parts }
@@ -74,106 +149,43 @@ fn of_two<L: Ledger>(rt: &impl Abort, alloc: Global, blank: Blank) -> Result<Pla
 {
     let mut steps: Steps<L> = Steps::new(blank);
     let source = Planes::empty(alloc, 3)?;
-    assert!(rt; is_grounded(alloc, &source)?);
-    let mut turns = Turns::new();
-    let mut system = System::opening(source.copy(alloc)?, Profile::full());
-    let mut tape = Tape::start(alloc, source)?;
-    let split = [Command::Fission(near(rt, 0, 0, 1), 0)];
-    step(
-        rt,
-        alloc,
-        &mut tape,
-        &mut system,
-        &mut turns,
-        &split,
-        &mut steps,
-    )?;
-    assert_eq!(rt; tape.energy(), 125);
-    let out = [
-        Command::SMove(long(rt, 2, 0, 0)),
-        Command::SMove(long(rt, 1, 0, 0)),
-    ];
-    step(
-        rt,
-        alloc,
-        &mut tape,
-        &mut system,
-        &mut turns,
-        &out,
-        &mut steps,
-    )?;
-    assert_eq!(rt; tape.energy(), 252);
-    assert_eq!(rt; tape.crew().at(at(1, 0, 1)), Some(2));
-    let back = [
-        Command::SMove(long(rt, -2, 0, 0)),
-        Command::SMove(long(rt, -1, 0, 0)),
-    ];
-    step(
-        rt,
-        alloc,
-        &mut tape,
-        &mut system,
-        &mut turns,
-        &back,
-        &mut steps,
-    )?;
-    let fuse = [
-        Command::FusionP(near(rt, 0, 0, 1)),
-        Command::FusionS(near(rt, 0, 0, -1)),
-    ];
-    step(
-        rt,
-        alloc,
-        &mut tape,
-        &mut system,
-        &mut turns,
-        &fuse,
-        &mut steps,
-    )?;
-    let halt = [Command::Halt];
-    step(
-        rt,
-        alloc,
-        &mut tape,
-        &mut system,
-        &mut turns,
-        &halt,
-        &mut steps,
-    )?;
-    Ok(finished(rt, tape))
+    planned(rt, alloc, source, &mut steps)
 }
 
 #[test]
 fn two_bots_go_out_and_come_home(rt: HostRuntime) -> Result<(), Fail> {
     let plan = of_two::<Brand>(&rt, rt.alloc(), Blank::new(1))?;
-    assert_eq!(rt; plan.energy, 577);
-    assert_eq!(rt; plan.steps, 5);
+    assert_eq!(rt; (plan.energy, plan.steps), (577, 5));
     assert_eq!(rt; plan.commands.as_slice().len(), 8);
     Ok(())
 }
 
 /// The lowest layer in which two matrices of resolution 3 differ.
-fn lowest(
+fn assert_lowest(
     rt: &impl Abort,
     alloc: Global,
     source: &[Coord],
     target: &[Coord],
-) -> Result<Option<u16>, Memory> {
+    lowest: Option<u16>,
+) -> Result<(), Memory> {
     let source = model(alloc, 3, source)?;
     let target = model(alloc, 3, target)?;
     assert!(rt; source.resolution() == target.resolution());
-    Ok(lowest_difference(&source, &target))
+    assert_eq!(rt; lowest_difference(&source, &target), lowest);
+    Ok(())
 }
 
 #[test]
 fn the_lowest_difference_is_found(rt: HostRuntime) -> Result<(), Fail> {
     let (foot, middle, head) = (at(1, 0, 1), at(1, 1, 1), at(1, 2, 1));
-    assert_eq!(rt; lowest(&rt, rt.alloc(), &[], &[])?, None);
-    assert_eq!(rt; lowest(&rt, rt.alloc(), &[foot], &[foot])?, None);
-    assert_eq!(rt; lowest(&rt, rt.alloc(), &[], &[foot, middle])?, Some(0));
-    assert_eq!(rt;
-        lowest(&rt, rt.alloc(), &[foot, middle], &[foot, head])?,
-        Some(1)
-    );
+    let rows: [(&[Coord], &[Coord], Option<u16>); 4] = [
+        (&[], &[], None),
+        (&[foot], &[foot], None),
+        (&[], &[foot, middle], Some(0)),
+        (&[foot, middle], &[foot, head], Some(1)),
+    ];
+    for (source, target, lowest) in rows {
+        assert_lowest(&rt, rt.alloc(), source, target, lowest)?;
+    }
     Ok(())
 }

@@ -1,5 +1,4 @@
 pub mod Between
-pub mod Empty
 pub mod Functional
 pub mod Grouping
 pub mod Making

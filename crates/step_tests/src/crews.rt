@@ -16,41 +16,68 @@ fn bot(bid: u8, pos: Coord, seeds: u64) -> Bot {
     Bot { bid, pos, seeds }
 }
 
+/// A bot gives `m` seeds to a new bot at a coordinate where nobody stands.
 fn split(rt: &impl Abort, crew: &mut Crew, bid: u8, c: Coord, m: u8) {
     let bot = crew.bot(bid).expect(rt, "the bot is active");
-    assert!(rt; seeds_of(bot) > m, "the bot has enough seeds");
-    assert!(rt; crew.at(c).is_none(), "nobody stands there");
+    assert!(rt; seeds_of(bot) > m);
+    assert!(rt; crew.at(c).is_none());
     crew.fission(bid, c, m);
 }
 
+/// One bot takes the other in.
 fn join(rt: &impl Abort, crew: &mut Crew, primary: u8, secondary: u8) {
-    assert!(rt; crew.bot(primary).is_some(), "the primary is active");
-    assert!(rt; crew.bot(secondary).is_some(), "the secondary is active");
+    assert!(rt; crew.bot(primary).is_some());
+    assert!(rt; crew.bot(secondary).is_some());
     assert!(rt; primary != secondary);
     crew.fusion(primary, secondary);
 }
 
+/// A bot moves to a coordinate where nobody stands.
+fn go(rt: &impl Abort, crew: &mut Crew, bid: u8, c: Coord) {
+    assert!(rt; crew.bot(bid).is_some());
+    assert!(rt; crew.at(c).is_none());
+    crew.move_to(bid, c);
+}
+
+/// The only bot halts.
+fn halt(rt: &impl Abort, crew: &mut Crew) {
+    assert!(rt; crew.count() == 1);
+    crew.halt();
+    assert!(rt; crew.count() == 0);
+}
+
+/// The bots are these, also in a copy.
+fn assert_bots(rt: &impl Abort, crew: &Crew, bots: &[Bot]) {
+    assert_eq!(rt; crew.bots(), bots);
+    assert_eq!(rt; crew.copy().bots(), bots);
+}
+
+/// The bot with this bid stands at a coordinate, or else nobody does.
+fn assert_stands(rt: &impl Abort, crew: &Crew, c: Coord, bid: Option<u8>) {
+    assert_eq!(rt; crew.at(c), bid);
+}
+
+/// The bot with a bid, or that there is none.
+fn assert_bot(rt: &impl Abort, crew: &Crew, bid: u8, bot: Option<Bot>) {
+    assert_eq!(rt; crew.bot(bid), bot);
+}
+
 #[test]
 fn all_seeds_go_and_come_back(rt: HostRuntime) {
-    let all = 0x01FF_FFFF_FFFC;
+    let all = bot(1, ORIGIN, 0x01FF_FFFF_FFFC);
     let mut crew = Crew::opening(Profile::full());
-    assert_eq!(rt; crew.bots(), [bot(1, ORIGIN, all)].as_slice());
+    assert_bots(&rt, &crew, &[all]);
     split(&rt, &mut crew, 1, BESIDE, 38);
     let two = [bot(1, ORIGIN, 0), bot(2, BESIDE, 0x01FF_FFFF_FFF8)];
-    assert_eq!(rt; crew.bots(), two.as_slice());
-    assert_eq!(rt; crew.copy().bots(), two.as_slice());
-    assert_eq!(rt; crew.at(BESIDE), Some(2));
-    assert!(rt; crew.bot(2).is_some());
-    assert!(rt; crew.at(CORNER).is_none());
-    crew.move_to(2, CORNER);
-    assert_eq!(rt; crew.at(BESIDE), None);
-    assert_eq!(rt; crew.at(CORNER), Some(2));
+    assert_bots(&rt, &crew, &two);
+    assert_stands(&rt, &crew, BESIDE, Some(2));
+    go(&rt, &mut crew, 2, CORNER);
+    assert_stands(&rt, &crew, BESIDE, None);
+    assert_stands(&rt, &crew, CORNER, Some(2));
     join(&rt, &mut crew, 1, 2);
-    assert_eq!(rt; crew.bot(1), Some(bot(1, ORIGIN, all)));
-    assert_eq!(rt; crew.bot(2), None);
-    assert_eq!(rt; crew.count(), 1);
-    crew.halt();
-    assert_eq!(rt; crew.count(), 0);
+    assert_bot(&rt, &crew, 1, Some(all));
+    assert_bot(&rt, &crew, 2, None);
+    halt(&rt, &mut crew);
 }
 
 #[test]
@@ -59,15 +86,11 @@ fn a_new_bot_stands_at_the_place_of_its_bid(rt: HostRuntime) {
     split(&rt, &mut crew, 1, BESIDE, 5);
     split(&rt, &mut crew, 1, ABOVE, 0);
     split(&rt, &mut crew, 2, CORNER, 1);
-    let four = [
-        bot(1, ORIGIN, 0x001F_FE00),
-        bot(2, BESIDE, 0b1110_0000),
-        bot(3, CORNER, 0b0001_0000),
-        bot(8, ABOVE, 0),
-    ];
-    assert_eq!(rt; crew.bots(), four.as_slice());
-    assert_eq!(rt; seeds_of(four[1]), 3);
+    let first = bot(1, ORIGIN, 0x001F_FE00);
+    let second = bot(2, BESIDE, 0b1110_0000);
+    let third = bot(3, CORNER, 0b0001_0000);
+    assert_bots(&rt, &crew, &[first, second, third, bot(8, ABOVE, 0)]);
+    assert_eq!(rt; seeds_of(second), 3);
     join(&rt, &mut crew, 8, 2);
-    let three = [four[0], four[2], bot(8, ABOVE, 0b1110_0100)];
-    assert_eq!(rt; crew.bots(), three.as_slice());
+    assert_bots(&rt, &crew, &[first, third, bot(8, ABOVE, 0b1110_0100)]);
 }

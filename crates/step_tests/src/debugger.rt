@@ -28,103 +28,106 @@ fn debugger<L: Ledger>(
     Debugger::start(alloc, source, Profile::full(), list, steps)
 }
 
-/// The next step of a debugger to which memory was not refused.
-fn step<L: Ledger>(
+/// The next step of a debugger to which memory was not refused comes to this.
+fn assert_step<L: Ledger>(
     rt: &impl Abort,
     debugger: &mut Debugger,
+    expected: Result<StepOk, DebugFault>,
     steps: &mut Steps<L>,
-) -> Result<StepOk, DebugFault> {
+) {
     assert!(rt; !debugger.spent());
-    debugger.step(steps)
+    assert_eq!(rt; debugger.step(steps), expected);
 }
 
-/// A group of the next step.
-fn group<L: Ledger>(
+/// A group of the next step comes to this.
+fn assert_group<L: Ledger>(
     rt: &impl Abort,
     debugger: &mut Debugger,
     leader: u8,
+    expected: Result<Option<StepOk>, DebugFault>,
     steps: &mut Steps<L>,
-) -> Result<Option<StepOk>, DebugFault> {
+) {
     assert!(rt; !debugger.spent());
-    debugger.group(leader, steps)
+    assert_eq!(rt; debugger.group(leader, steps), expected);
 }
 
-/// A way back.
-fn back<L: Ledger>(
+/// The way back comes to this.
+fn assert_back<L: Ledger>(
     rt: &impl Abort,
     debugger: &mut Debugger,
+    expected: Result<(), DebugFault>,
     steps: &mut Steps<L>,
-) -> Result<(), DebugFault> {
+) {
     assert!(rt; !debugger.spent());
-    debugger.back(steps)
+    assert_eq!(rt; debugger.back(steps), expected);
 }
 
-/// A bot after the begun groups.
-fn middle_bot(rt: &impl Abort, debugger: &Debugger, place: usize) -> Bot {
+/// The bot at a place of the crew after the begun groups.
+fn assert_middle_bot(rt: &impl Abort, debugger: &Debugger, place: usize, bot: Bot) {
     assert!(rt; !debugger.spent());
     let bots = debugger.middle_crew().bots();
     assert!(rt; place < bots.len());
-    bots[place]
+    assert_eq!(rt; bots[place], bot);
 }
 
 /// Whether a voxel is full after the begun groups.
-fn middle_full<L: Ledger>(
+fn assert_middle_full<L: Ledger>(
     rt: &impl Abort,
     debugger: &Debugger,
     c: Coord,
+    full: bool,
     steps: &mut Steps<L>,
-) -> bool {
+) {
     assert!(rt; !debugger.spent());
     let resolution = debugger.machine().matrix().resolution();
     assert!(rt; c.x < resolution);
     assert!(rt; c.y < resolution);
     assert!(rt; c.z < resolution);
-    debugger.middle_full(c, steps)
+    assert!(rt; debugger.middle_full(c, steps) == full);
 }
 
-/// The energy before the step that is begun.
-fn energy(rt: &impl Abort, debugger: &Debugger) -> i64 {
+/// The leaders of the begun groups, the energy before the step, and how many steps can be taken back.
+fn assert_stands(rt: &impl Abort, debugger: &Debugger, begun: &[u8], energy: i64, history: u16) {
     assert!(rt; !debugger.spent());
-    debugger.machine().energy()
+    assert_eq!(rt; debugger.begun(), begun);
+    assert_eq!(rt; debugger.machine().energy(), energy);
+    assert_eq!(rt; debugger.history(), history);
 }
 
 /// A bot has split. Then the one fills a voxel while the other moves: first the other's group is begun and dropped.
 fn begun_and_dropped<L: Ledger>(rt: &impl Abort, debugger: &mut Debugger, steps: &mut Steps<L>) {
-    let beside = at(1, 0, 0);
-    assert_eq!(rt; group(rt, debugger, 2, steps), Ok(None));
-    assert_eq!(rt; debugger.begun(), [2].as_slice());
+    assert_group(rt, debugger, 2, Ok(None), steps);
+    assert_stands(rt, debugger, &[2], 419, 1);
     let moved = Bot {
         bid: 2,
         pos: at(0, 0, 3),
         seeds: 0,
     };
-    assert_eq!(rt; middle_bot(rt, debugger, 1), moved);
-    assert!(rt; !middle_full(rt, debugger, beside, steps));
-    let fault = Err(DebugFault::NotLeader { leader: 3 });
-    assert_eq!(rt; group(rt, debugger, 3, steps), fault);
-    assert_eq!(rt; back(rt, debugger, steps), Ok(()));
-    assert!(rt; debugger.begun().is_empty());
-    assert_eq!(rt; energy(rt, debugger), 419);
+    assert_middle_bot(rt, debugger, 1, moved);
+    assert_middle_full(rt, debugger, at(1, 0, 0), false, steps);
+    let fault = DebugFault::NotLeader { leader: 3 };
+    assert_group(rt, debugger, 3, Err(fault), steps);
+    assert_back(rt, debugger, Ok(()), steps);
+    assert_stands(rt, debugger, &[], 419, 1);
 }
 
 /// Then the step is made group by group, and no command is left.
 fn made_by_groups<L: Ledger>(rt: &impl Abort, debugger: &mut Debugger, steps: &mut Steps<L>) {
-    let beside = at(1, 0, 0);
-    assert_eq!(rt; group(rt, debugger, 1, steps), Ok(None));
-    assert!(rt; middle_full(rt, debugger, beside, steps));
+    assert_group(rt, debugger, 1, Ok(None), steps);
+    assert_middle_full(rt, debugger, at(1, 0, 0), true, steps);
     let made = StepOk {
         energy: 850,
         halted: false,
     };
-    assert_eq!(rt; group(rt, debugger, 2, steps), Ok(Some(made)));
-    assert_eq!(rt; debugger.history(), 2);
+    assert_group(rt, debugger, 2, Ok(Some(made)), steps);
+    assert_stands(rt, debugger, &[], 850, 2);
     let ends = Broken {
         step: 3,
         bid: 1,
         rule: Rule::TraceEnds,
         at: at(0, 0, 0),
     };
-    assert_eq!(rt; step(rt, debugger, steps), Err(DebugFault::Broken(ends)));
+    assert_step(rt, debugger, Err(DebugFault::Broken(ends)), steps);
 }
 
 /// Forwards by a step and by groups, and back to the start.
@@ -144,17 +147,15 @@ fn walk<L: Ledger>(rt: &impl Abort, blank: Blank, alloc: Global) -> Result<(), M
         energy: 419,
         halted: false,
     };
-    assert_eq!(rt; step(rt, &mut debugger, &mut steps), Ok(split));
+    assert_step(rt, &mut debugger, Ok(split), &mut steps);
     begun_and_dropped(rt, &mut debugger, &mut steps);
     made_by_groups(rt, &mut debugger, &mut steps);
-    assert_eq!(rt; back(rt, &mut debugger, &mut steps), Ok(()));
-    assert_eq!(rt; energy(rt, &debugger), 419);
-    assert_eq!(rt; back(rt, &mut debugger, &mut steps), Ok(()));
-    assert_eq!(rt; energy(rt, &debugger), 0);
-    assert_eq!(rt;
-        back(rt, &mut debugger, &mut steps),
-        Err(DebugFault::NoHistory)
-    );
+    assert_back(rt, &mut debugger, Ok(()), &mut steps);
+    assert_stands(rt, &debugger, &[], 419, 1);
+    assert_back(rt, &mut debugger, Ok(()), &mut steps);
+    assert_stands(rt, &debugger, &[], 0, 0);
+    let none = Err(DebugFault::NoHistory);
+    assert_back(rt, &mut debugger, none, &mut steps);
     Ok(())
 }
 
@@ -181,11 +182,10 @@ fn floating<L: Ledger>(rt: &impl Abort, blank: Blank, alloc: Global) -> Result<(
         at: above,
     };
     let fault = DebugFault::Broken(broken);
-    assert_eq!(rt; step(rt, &mut debugger, &mut steps), Err(fault));
-    assert_eq!(rt; group(rt, &mut debugger, 1, &mut steps), Err(fault));
-    assert_eq!(rt; energy(rt, &debugger), 0);
-    assert!(rt; !middle_full(rt, &debugger, above, &mut steps));
-    assert_eq!(rt; debugger.history(), 0);
+    assert_step(rt, &mut debugger, Err(fault), &mut steps);
+    assert_group(rt, &mut debugger, 1, Err(fault), &mut steps);
+    assert_stands(rt, &debugger, &[], 0, 0);
+    assert_middle_full(rt, &debugger, above, false, &mut steps);
     Ok(())
 }
 

@@ -51,10 +51,15 @@ fn commands_cost_as_in_the_table(rt: HostRuntime) -> Result<(), Fail> {
 
 #[test]
 fn the_upkeep_is_by_space_and_bots(rt: HostRuntime) -> Result<(), Fail> {
-    assert_eq!(&rt; upkeep(3, Harmonics::Low, 1), 101);
-    assert_eq!(&rt; upkeep(3, Harmonics::Low, 2), 121);
-    assert_eq!(&rt; upkeep(4, Harmonics::High, 1), 1940);
-    assert_eq!(&rt; upkeep(250, Harmonics::Low, 1), 46_875_020);
-    assert_eq!(&rt; upkeep(400, Harmonics::Low, 1), 192_000_020);
+    let rows = [
+        (3, Harmonics::Low, 1, 101),
+        (3, Harmonics::Low, 2, 121),
+        (4, Harmonics::High, 1, 1940),
+        (250, Harmonics::Low, 1, 46_875_020),
+        (400, Harmonics::Low, 1, 192_000_020),
+    ];
+    for (resolution, harmonics, bots, cost) in rows {
+        assert_eq!(&rt; upkeep(resolution, harmonics, bots), cost);
+    }
     Ok(())
 }

@@ -10,19 +10,19 @@ use std::marker::Brand;
 use std::process::Abort;
 use std::sync::ledger::{Blank, Ledger};
 use std::test::Fail;
-use step_groups::{Groups, Step, judge_single};
+use step_groups::{Group, Groups, Step, judge_single};
 use vox_geom::{Memory, Region, Steps};
 use vox_planes::Planes;
 
-/// Whether a step of these commands breaks no rule; the groups are then those of the step.
-fn is_judged<L: Ledger>(
+/// A step of these commands breaks no rule; the groups are then those of the step.
+fn assert_judged<L: Ledger>(
     rt: &impl Abort,
     groups: &mut Groups,
     crew: &Crew,
     planes: &Planes,
     commands: &[Command],
     steps: &mut Steps<L>,
-) -> bool {
+) {
     assert!(rt; commands.len() == crew.bots().len());
     assert!(rt; are_within(crew.bots(), planes.resolution()));
     let step = Step {
@@ -33,17 +33,17 @@ fn is_judged<L: Ledger>(
         commands,
         number: 1,
     };
-    groups.judge(&step, steps).is_ok()
+    assert!(rt; groups.judge(&step, steps).is_ok());
 }
 
-/// Whether a step of one bot breaks no rule.
-fn is_judged_single<L: Ledger>(
+/// A step of one bot breaks no rule.
+fn assert_judged_single<L: Ledger>(
     rt: &impl Abort,
     crew: &Crew,
     planes: &Planes,
     command: Command,
     steps: &mut Steps<L>,
-) -> bool {
+) {
     assert!(rt; crew.bots().len() == 1);
     assert!(rt; are_within(crew.bots(), planes.resolution()));
     let step = Step {
@@ -54,21 +54,26 @@ fn is_judged_single<L: Ledger>(
         commands: &[command],
         number: 1,
     };
-    judge_single(&step, steps).is_none()
+    assert!(rt; judge_single(&step, steps).is_none());
+}
+
+/// The group has this leader, these members and these boxes.
+fn assert_group(rt: &impl Abort, group: &Group, leader: u8, members: &[u8], boxes: &[Region]) {
+    assert_eq!(rt; group.leader, leader);
+    assert_eq!(rt; group.members.as_slice(), members);
+    assert_eq!(rt; group.boxes.as_slice(), boxes);
 }
 
 /// The group of two bots that fill a row between them.
 fn assert_filling(rt: &impl Abort, groups: &Groups) {
-    assert_eq!(rt; groups.list().len(), 1);
+    let boxes = [
+        Region::of(at(0, 0, 0), at(0, 0, 0)),
+        Region::of(at(1, 0, 1), at(1, 0, 3)),
+        Region::of(at(0, 0, 3), at(0, 0, 3)),
+    ];
+    assert!(rt; groups.list().len() == 1);
     for group in groups.list() {
-        assert_eq!(rt; group.leader, 1);
-        assert_eq!(rt; group.members.as_slice(), [1, 2].as_slice());
-        let boxes = [
-            Region::of(at(0, 0, 0), at(0, 0, 0)),
-            Region::of(at(1, 0, 1), at(1, 0, 3)),
-            Region::of(at(0, 0, 3), at(0, 0, 3)),
-        ];
-        assert_eq!(rt; group.boxes.as_slice(), boxes.as_slice());
+        assert_group(rt, group, 1, &[1, 2], &boxes);
     }
 }
 
@@ -85,30 +90,14 @@ fn of_groups<L: Ledger>(rt: &impl Abort, blank: Blank, alloc: Global) -> Result<
     let second = Command::GFill(near(rt, 1, 0, 0), far(rt, 0, 0, -2));
     let mut groups = Groups::new();
     assert!(rt; groups.list().is_empty());
-    assert!(rt;
-        is_judged(
-            rt,
-            &mut groups,
-            &crew,
-            &planes,
-            &[first, second],
-            &mut steps
-        )
-    );
+    let fills = [first, second];
+    assert_judged(rt, &mut groups, &crew, &planes, &fills, &mut steps);
     assert_filling(rt, &groups);
-    assert!(rt;
-        is_judged(
-            rt,
-            &mut groups,
-            &crew,
-            &planes,
-            &[Command::Wait, Command::Wait],
-            &mut steps
-        )
-    );
-    assert_eq!(rt; groups.list().len(), 2);
+    let waits = [Command::Wait, Command::Wait];
+    assert_judged(rt, &mut groups, &crew, &planes, &waits, &mut steps);
+    assert!(rt; groups.list().len() == 2);
     let single = one_bot(rt, Profile::full(), at(0, 0, 0));
-    assert!(rt; is_judged_single(rt, &single, &planes, Command::Halt, &mut steps));
+    assert_judged_single(rt, &single, &planes, Command::Halt, &mut steps);
     Ok(())
 }
 

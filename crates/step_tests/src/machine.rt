@@ -14,10 +14,10 @@ use vox_geom::{Coord, Memory, Steps};
 
 /// What a machine keeps that is spent after two fills.
 fn assert_kept<L: Ledger>(rt: &impl Abort, machine: &Machine, steps: &mut Steps<L>) {
-    assert_eq!(rt; machine.energy(), 448);
-    assert_eq!(rt; machine.harmonics(), Harmonics::Low);
-    assert_eq!(rt; machine.crew().count(), 1);
-    assert_eq!(rt; machine.matrix().count(steps), 2);
+    assert!(rt; machine.energy() == 448);
+    assert!(rt; machine.harmonics() == Harmonics::Low);
+    assert!(rt; machine.crew().count() == 1);
+    assert!(rt; machine.matrix().count(steps) == 2);
 }
 
 /// Under Low a bot fills two voxels, one on the other, and the lower one is voided.

@@ -60,6 +60,22 @@ fn second_step<L: Ledger>(
     Ok(machine)
 }
 
+/// Two machines are in one state, with this energy.
+fn assert_same<L: Ledger>(
+    rt: &impl Abort,
+    one: &Machine,
+    other: &Machine,
+    energy: i64,
+    steps: &mut Steps<L>,
+) {
+    assert_eq!(rt; one.crew().bots(), other.crew().bots());
+    assert!(rt; one.matrix().resolution() == other.matrix().resolution());
+    assert!(rt; one.matrix().equal(other.matrix(), steps).is_none());
+    assert!(rt; one.harmonics() == other.harmonics());
+    assert!(rt; one.energy() == energy);
+    assert!(rt; other.energy() == energy);
+}
+
 /// A step of two bots in both orders of its groups ends in one state, with this energy.
 fn both_orders<L: Ledger>(
     rt: &impl Abort,
@@ -70,12 +86,7 @@ fn both_orders<L: Ledger>(
 ) -> Result<(), Memory> {
     let rising = second_step(rt, alloc, commands, false, steps)?;
     let falling = second_step(rt, alloc, commands, true, steps)?;
-    assert_eq!(rt; rising.crew().bots(), falling.crew().bots());
-    assert!(rt; rising.matrix().resolution() == falling.matrix().resolution());
-    assert_eq!(rt; rising.matrix().equal(falling.matrix(), steps), None);
-    assert_eq!(rt; rising.harmonics(), falling.harmonics());
-    assert_eq!(rt; rising.energy(), energy);
-    assert_eq!(rt; falling.energy(), energy);
+    assert_same(rt, &rising, &falling, energy, steps);
     Ok(())
 }
 
@@ -133,8 +144,8 @@ fn made_and_undone<L: Ledger>(
     match machine.step_noted(commands, order.as_slice(), steps) {
         Err(_) => Err(Memory),
         Ok((made, undo)) => {
-            assert_eq!(rt; made.energy, 224);
-            assert_eq!(rt; machine.matrix().count(steps), 1);
+            assert!(rt; made.energy == 224);
+            assert!(rt; machine.matrix().count(steps) == 1);
             machine.undo(&undo, steps)
         }
     }
@@ -150,9 +161,9 @@ fn noted<L: Ledger>(rt: &impl Abort, blank: Blank, alloc: Global) -> Result<(), 
     let mut machine = empty_machine(alloc, &mut steps)?;
     let fill = [Command::Fill(near(rt, 1, 0, 0))];
     made_and_undone(rt, &mut machine, &fill, &mut steps)?;
-    assert_eq!(rt; machine.energy(), 0);
-    assert_eq!(rt; machine.steps_done(), 0);
-    assert_eq!(rt; machine.matrix().count(&mut steps), 0);
+    assert!(rt; machine.energy() == 0);
+    assert!(rt; machine.steps_done() == 0);
+    assert!(rt; machine.matrix().count(&mut steps) == 0);
     Ok(())
 }
 

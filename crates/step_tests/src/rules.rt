@@ -23,17 +23,18 @@ struct Scene<'a> {
     profile: Profile,
 }
 
-/// What a step of these commands breaks first.
-fn refusal<L: Ledger>(
+/// A step of these commands breaks this first, or nothing.
+fn assert_judged<L: Ledger>(
     rt: &impl Abort,
     scene: &Scene,
     commands: &[Command],
+    expected: Option<Broken>,
     steps: &mut Steps<L>,
-) -> Option<Broken> {
+) {
     let bots = scene.crew.bots();
     assert!(rt; commands.len() == bots.len());
     assert!(rt; are_within(bots, scene.planes.resolution()));
-    judge_groups(
+    let judged = judge_groups(
         scene.crew,
         scene.planes,
         scene.harmonics,
@@ -41,8 +42,8 @@ fn refusal<L: Ledger>(
         commands,
         7,
         steps,
-    )
-    .err()
+    );
+    assert_eq!(rt; judged.err(), expected);
 }
 
 fn broken(rule: Rule, at: Coord) -> Option<Broken> {
@@ -88,7 +89,7 @@ fn of_one<L: Ledger>(rt: &impl Abort, blank: Blank, alloc: Global) -> Result<(),
         (ring, at_origin(Rule::GroupShape)),
     ];
     for (command, want) in table {
-        assert_eq!(rt; refusal(rt, &corner, &[command], &mut steps), want);
+        assert_judged(rt, &corner, &[command], want, &mut steps);
     }
     assert_stops(rt, &corner, &mut steps);
     Ok(())
@@ -105,18 +106,12 @@ fn assert_stops<L: Ledger>(rt: &impl Abort, corner: &Scene, steps: &mut Steps<L>
         ..*corner
     };
     let along = Command::SMove(long(rt, 0, 0, 2));
-    assert_eq!(rt;
-        refusal(rt, &beside, &[along], steps),
-        broken(Rule::Blocked, at(1, 0, 1))
-    );
-    assert_eq!(rt;
-        refusal(rt, &beside, &[Command::Halt], steps),
-        broken(Rule::HaltOrigin, at(1, 0, 0))
-    );
-    assert_eq!(rt;
-        refusal(rt, &high, &[Command::Halt], steps),
-        at_origin(Rule::HaltLow)
-    );
+    let blocked = broken(Rule::Blocked, at(1, 0, 1));
+    assert_judged(rt, &beside, &[along], blocked, steps);
+    let away = broken(Rule::HaltOrigin, at(1, 0, 0));
+    assert_judged(rt, &beside, &[Command::Halt], away, steps);
+    let under_high = at_origin(Rule::HaltLow);
+    assert_judged(rt, &high, &[Command::Halt], under_high, steps);
 }
 
 #[test]
@@ -151,7 +146,7 @@ fn of_light<L: Ledger>(rt: &impl Abort, blank: Blank, alloc: Global) -> Result<(
         (Command::Fission(ahead, 19), at_origin(Rule::Seeds)),
     ];
     for (command, want) in table {
-        assert_eq!(rt; refusal(rt, &scene, &[command], &mut steps), want);
+        assert_judged(rt, &scene, &[command], want, &mut steps);
     }
     Ok(())
 }
@@ -200,7 +195,7 @@ fn of_two<L: Ledger>(rt: &impl Abort, blank: Blank, alloc: Global) -> Result<(),
         (Command::Flip, Command::Wait, None),
     ];
     for (first, second, want) in table {
-        assert_eq!(rt; refusal(rt, &scene, &[first, second], &mut steps), want);
+        assert_judged(rt, &scene, &[first, second], want, &mut steps);
     }
     Ok(())
 }

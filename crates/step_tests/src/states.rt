@@ -37,6 +37,39 @@ fn step<L: Ledger>(
     }
 }
 
+/// The step is made, and so much energy is spent after it.
+fn assert_goes<L: Ledger>(
+    rt: &impl Abort,
+    system: &mut System,
+    turns: &mut Turns,
+    commands: &[Command],
+    energy: i64,
+    steps: &mut Steps<L>,
+) {
+    let broken = step(rt, system, turns, commands, steps);
+    assert_eq!(rt; broken, None);
+    assert_eq!(rt; system.energy(), energy);
+}
+
+/// The step breaks this rule.
+fn assert_breaks<L: Ledger>(
+    rt: &impl Abort,
+    system: &mut System,
+    turns: &mut Turns,
+    commands: &[Command],
+    rule: Rule,
+    steps: &mut Steps<L>,
+) {
+    let broken = step(rt, system, turns, commands, steps);
+    assert_eq!(rt; broken, Some(rule));
+}
+
+/// No bot is left, and so many voxels are full.
+fn assert_ended<L: Ledger>(rt: &impl Abort, system: &System, full: u32, steps: &mut Steps<L>) {
+    assert_eq!(rt; system.crew().count(), 0);
+    assert_eq!(rt; system.matrix().count(steps), full);
+}
+
 /// One bot fills a voxel and comes home.
 fn of_one<L: Ledger>(rt: &impl Abort, blank: Blank, alloc: Global) -> Result<(), Memory>
     requires name { blank.name ≡ L.name }
@@ -46,16 +79,11 @@ fn of_one<L: Ledger>(rt: &impl Abort, blank: Blank, alloc: Global) -> Result<(),
     let mut steps: Steps<L> = Steps::new(blank);
     let mut turns = Turns::new();
     let mut system = System::opening(Planes::empty(alloc, 3)?, Profile::full());
-    let out = Command::SMove(long(rt, -1, 0, 0));
-    let none: [Command; 0] = [];
-    assert_eq!(rt;
-        step(rt, &mut system, &mut turns, &[out], &mut steps),
-        Some(Rule::OutOfSpace)
-    );
-    assert_eq!(rt;
-        step(rt, &mut system, &mut turns, &none, &mut steps),
-        Some(Rule::TraceEnds)
-    );
+    let out = [Command::SMove(long(rt, -1, 0, 0))];
+    let rule = Rule::OutOfSpace;
+    assert_breaks(rt, &mut system, &mut turns, &out, rule, &mut steps);
+    let rule = Rule::TraceEnds;
+    assert_breaks(rt, &mut system, &mut turns, &[], rule, &mut steps);
     let table = [
         (Command::SMove(long(rt, 1, 0, 0)), 103),
         (Command::Fill(near(rt, 0, 0, 1)), 216),
@@ -63,14 +91,9 @@ fn of_one<L: Ledger>(rt: &impl Abort, blank: Blank, alloc: Global) -> Result<(),
         (Command::Halt, 420),
     ];
     for (command, energy) in table {
-        assert_eq!(rt;
-            step(rt, &mut system, &mut turns, &[command], &mut steps),
-            None
-        );
-        assert_eq!(rt; system.energy(), energy);
+        assert_goes(rt, &mut system, &mut turns, &[command], energy, &mut steps);
     }
-    assert_eq!(rt; system.crew().count(), 0);
-    assert_eq!(rt; system.matrix().count(&mut steps), 1);
+    assert_ended(rt, &system, 1, &mut steps);
     Ok(())
 }
 
@@ -89,26 +112,17 @@ fn of_two<L: Ledger>(rt: &impl Abort, blank: Blank, alloc: Global) -> Result<(),
     let mut steps: Steps<L> = Steps::new(blank);
     let mut turns = Turns::new();
     let mut system = System::opening(Planes::empty(alloc, 3)?, Profile::full());
-    let split = Command::Fission(near(rt, 0, 0, 1), 0);
-    assert_eq!(rt;
-        step(rt, &mut system, &mut turns, &[split], &mut steps),
-        None
-    );
-    assert_eq!(rt; system.energy(), 125);
+    let split = [Command::Fission(near(rt, 0, 0, 1), 0)];
+    assert_goes(rt, &mut system, &mut turns, &split, 125, &mut steps);
     let flips = [Command::Flip, Command::Flip];
-    assert_eq!(rt; step(rt, &mut system, &mut turns, &flips, &mut steps), None);
-    assert_eq!(rt; system.energy(), 246);
+    assert_goes(rt, &mut system, &mut turns, &flips, 246, &mut steps);
     let fuse = [
         Command::FusionP(near(rt, 0, 0, 1)),
         Command::FusionS(near(rt, 0, 0, -1)),
     ];
-    assert_eq!(rt; step(rt, &mut system, &mut turns, &fuse, &mut steps), None);
-    assert_eq!(rt; system.energy(), 343);
-    assert_eq!(rt;
-        step(rt, &mut system, &mut turns, &[Command::Halt], &mut steps),
-        None
-    );
-    assert_eq!(rt; system.energy(), 444);
+    assert_goes(rt, &mut system, &mut turns, &fuse, 343, &mut steps);
+    let halt = [Command::Halt];
+    assert_goes(rt, &mut system, &mut turns, &halt, 444, &mut steps);
     Ok(())
 }
 

@@ -1,8 +1,8 @@
 //! The forest of a whole matrix: the levels that `support_forest` gives it at once are those that it has voxel by voxel.
 ghost use Rattle.std.specs.Prelude.{◌≡◌, ◌<◌, false, IfOk};
 
-use crate::common::at;
-use crate::edits::{add_void, inside};
+use crate::common::{at, set};
+use crate::edits::{add_void, assert_floating, assert_level, inside};
 use std::alloc::Global;
 use std::marker::Brand;
 use std::process::Abort;
@@ -35,7 +35,7 @@ fn set_arm(rt: &impl Abort, planes: &mut Planes)
 {
     for (c, _) in arm() {
         inside(rt, c, 5);
-        planes.set(c, true);
+        set(planes, c, true);
     }
 }
 
@@ -64,7 +64,7 @@ fn assert_arm<L: Ledger>(rt: &impl Abort, forest: &Forest, steps: &mut Steps<L>)
 {
     for (c, level) in arm() {
         inside(rt, c, 5);
-        assert_eq!(rt; forest.level(c, steps), level);
+        assert_level(rt, forest, c, level, steps);
     }
 }
 
@@ -78,7 +78,8 @@ fn assert_same<L: Ledger>(rt: &impl Abort, one: &Forest, other: &Forest, steps: 
     for p in 0..125 {
         let c = Coord::of_place(p, 5);
         inside(rt, c, 5);
-        assert_eq!(rt; one.level(c, steps), other.level(c, steps));
+        let level = other.level(c, steps);
+        assert_level(rt, one, c, level, steps);
     }
 }
 
@@ -101,8 +102,7 @@ fn arm_at_once<L: Ledger>(rt: &impl Abort, blank: Blank, alloc: Global) -> Resul
     };
     add_arm(rt, &mut grown, &mut steps)?;
     assert_arm(rt, &whole, &mut steps);
-    assert_eq!(rt; whole.floating(), 1);
-    assert_eq!(rt; whole.first_floating(&mut steps), Some(at(4, 4, 4)));
+    assert_floating(rt, &whole, 1, Some(at(4, 4, 4)), &mut steps);
     assert_same(rt, &whole, &grown, &mut steps);
     Ok(())
 }

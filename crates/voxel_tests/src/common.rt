@@ -1,7 +1,9 @@
 //! What several modules need.
 ghost use Rattle.std.specs.Prelude.{◌≡◌};
+ghost use Rattle.vox_geom.specs.Space.{IsInSpace};
 
 use vox_geom::Coord;
+use vox_planes::Planes;
 
 /// The coordinate with these components.
 pub(crate) fn at(x: u16, y: u16, z: u16) -> Coord
@@ -10,4 +12,12 @@ pub(crate) fn at(x: u16, y: u16, z: u16) -> Coord
     ensures z { result.z ≡ z }
 {
     Coord { x, y, z }
+}
+
+/// Makes a voxel full, or else void.
+pub(crate) fn set(planes: &mut Planes, c: Coord, full: bool)
+    requires { IsInSpace planes.old.resolution c }
+    ensures { planes.new.resolution ≡ planes.old.resolution }
+{
+    planes.set(c, full);
 }

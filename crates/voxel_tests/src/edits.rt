@@ -33,6 +33,62 @@ pub(crate) fn word_of<L: Ledger>(forest: &Forest, c: Coord, steps: &mut Steps<L>
     }
 }
 
+/// The word of a voxel.
+pub(crate) fn assert_word<L: Ledger>(
+    rt: &impl Abort,
+    forest: &Forest,
+    c: Coord,
+    word: u32,
+    steps: &mut Steps<L>,
+)
+    requires stands { forest.now.spent ≡ false }
+    requires within { IsInSpace forest.now.matrix.resolution c }
+{
+    assert!(rt; word_of(forest, c, steps) == word);
+}
+
+/// The level of a voxel, or that it has none.
+pub(crate) fn assert_level<L: Ledger>(
+    rt: &impl Abort,
+    forest: &Forest,
+    c: Coord,
+    level: Option<u32>,
+    steps: &mut Steps<L>,
+)
+    requires stands { forest.now.spent ≡ false }
+    requires within { IsInSpace forest.now.matrix.resolution c }
+{
+    assert_eq!(rt; forest.level(c, steps), level);
+}
+
+/// The parent of a voxel.
+pub(crate) fn assert_parent<L: Ledger>(
+    rt: &impl Abort,
+    forest: &Forest,
+    c: Coord,
+    parent: Coord,
+    steps: &mut Steps<L>,
+)
+    requires stands { forest.now.spent ≡ false }
+    requires within { IsInSpace forest.now.matrix.resolution c }
+{
+    assert_eq!(rt; forest.parent(c, steps), Some(parent));
+}
+
+/// How many voxels float, and the least of them.
+pub(crate) fn assert_floating<L: Ledger>(
+    rt: &impl Abort,
+    forest: &Forest,
+    count: u32,
+    first: Option<Coord>,
+    steps: &mut Steps<L>,
+)
+    requires { forest.now.spent ≡ false }
+{
+    assert!(rt; forest.floating() == count);
+    assert_eq!(rt; forest.first_floating(steps), first);
+}
+
 /// Adds a voxel whose word says that it is void.
 #[tactic(auto, using(crate::proofs::OneOrTwo::may_add_one))]
 pub(crate) fn add_void<L: Ledger>(

@@ -1,8 +1,12 @@
 //! Levels of `support_forest` that edits change: that the calls succeed, which no clause says, and worked levels.
 ghost use Rattle.std.specs.Prelude.{◌≡◌, ◌<◌, false, IfOk};
+ghost use Rattle.vox_geom.specs.Space.{IsInSpace};
 
 use crate::common::at;
-use crate::edits::{add_two, add_void, inside, remove_full, word_of};
+use crate::edits::{
+    add_two, add_void, assert_floating, assert_level, assert_parent, assert_word, inside,
+    remove_full,
+};
 use std::alloc::Global;
 use std::marker::Brand;
 use std::process::Abort;
@@ -51,9 +55,28 @@ fn assert_levels<L: Ledger>(rt: &impl Abort, forest: &Forest, without: bool, ste
 {
     for (c, with_post, without_post) in ring() {
         inside(rt, c, 5);
-        let want = if without { without_post } else { with_post };
-        assert_eq!(rt; forest.level(c, steps), Some(want));
+        let level = if without { without_post } else { with_post };
+        assert_level(rt, forest, c, Some(level), steps);
     }
+}
+
+/// The posts go: first the one at (1, 0, 1), without which the ring keeps its levels by the other, and then that one.
+fn without_posts<L: Ledger>(
+    rt: &impl Abort,
+    forest: &mut Forest,
+    steps: &mut Steps<L>,
+) -> Result<(), ForestFault>
+    requires stands { forest.old.spent ≡ false }
+    requires resolution { forest.old.matrix.resolution ≡ 5 }
+{
+    remove_full(rt, forest, at(1, 0, 1), steps)?;
+    assert_levels(rt, forest, true, steps);
+    assert_parent(rt, forest, at(1, 1, 2), at(1, 1, 3), steps);
+    assert_floating(rt, forest, 0, None, steps);
+    remove_full(rt, forest, at(3, 0, 3), steps)?;
+    assert_floating(rt, forest, 8, Some(at(1, 1, 1)), steps);
+    assert_level(rt, forest, at(3, 1, 3), None, steps);
+    Ok(())
 }
 
 /// The ring keeps its levels by the other post, and floats without both.
@@ -69,15 +92,17 @@ fn ring_on_posts<L: Ledger>(rt: &impl Abort, blank: Blank, alloc: Global) -> Res
     add_ring(rt, &mut forest, &mut steps)?;
     add_void(rt, &mut forest, at(1, 0, 1), &mut steps)?;
     assert_levels(rt, &forest, false, &mut steps);
-    remove_full(rt, &mut forest, at(1, 0, 1), &mut steps)?;
-    assert_levels(rt, &forest, true, &mut steps);
-    assert_eq!(rt; forest.parent(at(1, 1, 2), &mut steps), Some(at(1, 1, 3)));
-    assert_eq!(rt; forest.floating(), 0);
-    remove_full(rt, &mut forest, at(3, 0, 3), &mut steps)?;
-    assert_eq!(rt; forest.floating(), 8);
-    assert_eq!(rt; forest.first_floating(&mut steps), Some(at(1, 1, 1)));
-    assert_eq!(rt; forest.level(at(3, 1, 3), &mut steps), None);
-    Ok(())
+    without_posts(rt, &mut forest, &mut steps)
+}
+
+/// Two voxels stand in two slots.
+fn assert_two_slots(rt: &impl Abort, forest: &Forest, one: Coord, other: Coord)
+    requires stands { forest.now.spent ≡ false }
+    requires one { IsInSpace forest.now.matrix.resolution one }
+    requires other { IsInSpace forest.now.matrix.resolution other }
+{
+    assert!(rt; forest.slot(one) != forest.slot(other));
+    assert!(rt; forest.bricks().live() == 2);
 }
 
 /// Two bricks have two slots, and their words say levels and parents.
@@ -91,19 +116,16 @@ fn two_bricks<L: Ledger>(rt: &impl Abort, blank: Blank, alloc: Global) -> Result
         return Err(ForestFault::Memory);
     };
     let (low, high) = (at(0, 0, 0), at(8, 1, 0));
-    assert_eq!(rt; forest.slot(low), None);
+    assert!(rt; forest.slot(low).is_none());
     add_two(rt, &mut forest, low, high, &mut steps)?;
-    assert!(rt; forest.slot(low) != forest.slot(high));
-    assert_eq!(rt; forest.bricks().live(), 2);
-    assert_eq!(rt; word_of(&forest, low, &mut steps), 8);
-    assert_eq!(rt; word_of(&forest, high, &mut steps), 1);
-    assert_eq!(rt; forest.floating(), 1);
-    assert_eq!(rt; forest.first_floating(&mut steps), Some(high));
+    assert_two_slots(rt, &forest, low, high);
+    assert_word(rt, &forest, low, 8, &mut steps);
+    assert_word(rt, &forest, high, 1, &mut steps);
+    assert_floating(rt, &forest, 1, Some(high), &mut steps);
     add_void(rt, &mut forest, at(8, 0, 0), &mut steps)?;
-    assert_eq!(rt; word_of(&forest, high, &mut steps), 19);
-    assert_eq!(rt; forest.parent(high, &mut steps), Some(at(8, 0, 0)));
-    assert_eq!(rt; forest.first_floating(&mut steps), None);
-    assert!(rt; !forest.spent());
+    assert_word(rt, &forest, high, 19, &mut steps);
+    assert_parent(rt, &forest, high, at(8, 0, 0), &mut steps);
+    assert_floating(rt, &forest, 0, None, &mut steps);
     Ok(())
 }
 

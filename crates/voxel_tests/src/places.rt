@@ -1,7 +1,9 @@
 //! Voxels of `vox_planes` by their places, planes whose voxels stand on one another, and lists of changes.
-ghost use Rattle.std.specs.Prelude.{◌≡◌, ◌<◌};
+ghost use Rattle.std.specs.Prelude.{◌≡◌, ◌+◌, ◌<◌, ◌≤◌};
+ghost use Rattle.nano_spec.specs.Model.{volume};
 
-use crate::common::at;
+use crate::common::{at, set};
+use crate::planes::{assert_count, assert_full};
 use std::alloc::Global;
 use std::marker::Brand;
 use std::process::Abort;
@@ -9,6 +11,21 @@ use std::sync::ledger::{Blank, Ledger};
 use std::test::Fail;
 use vox_geom::{Memory, Steps};
 use vox_planes::{ChangeList, Planes, earlier};
+
+/// The voxels from a place on, as the bits of a word.
+fn assert_places<L: Ledger>(
+    rt: &impl Abort,
+    planes: &Planes,
+    from: u32,
+    count: u32,
+    bits: u64,
+    steps: &mut Steps<L>,
+)
+    requires count { count ≤ 64 }
+    requires within { from + count ≤ volume planes.now.resolution }
+{
+    assert!(rt; planes.places(from, count, steps) == bits);
+}
 
 /// Voxels by their places, across the ends of rows and of a wall.
 fn placed<L: Ledger>(rt: &impl Abort, blank: Blank, alloc: Global) -> Result<(), Memory>
@@ -19,22 +36,18 @@ fn placed<L: Ledger>(rt: &impl Abort, blank: Blank, alloc: Global) -> Result<(),
     let mut steps: Steps<L> = Steps::new(blank);
     let mut planes = Planes::empty(alloc, 70)?;
     planes.set_places(68, 5, 0b10101);
-    assert!(rt; planes.full_at(at(0, 0, 68), &mut steps));
-    assert!(rt; planes.full_at(at(0, 1, 2), &mut steps));
-    assert_eq!(rt; planes.places(66, 64, &mut steps), 0b1010100);
+    assert_full(rt, &planes, at(0, 0, 68), true, &mut steps);
+    assert_full(rt, &planes, at(0, 1, 2), true, &mut steps);
+    assert_places(rt, &planes, 66, 64, 0b1010100, &mut steps);
 
     planes.fill_places(4760, 4905);
-    assert_eq!(rt; planes.count(&mut steps), 148);
-    assert_eq!(rt; planes.places(4757, 6, &mut steps), 0b111000);
-    assert_eq!(rt; planes.places(4900, 6, &mut steps), 0b011111);
+    assert_count(rt, &planes, 148, &mut steps);
+    assert_places(rt, &planes, 4757, 6, 0b111000, &mut steps);
+    assert_places(rt, &planes, 4900, 6, 0b011111, &mut steps);
 
-    planes.set(at(1, 0, 60), true);
-    assert_eq!(rt; planes.take_row(at(1, 0, 0), 64, !2), 0x1000_0000_0000_001D);
-    assert_eq!(rt; planes.places(4900, 64, &mut steps), 2);
-    assert_eq!(rt;
-        earlier(Some(at(1, 0, 0)), Some(at(0, 2, 3))),
-        Some(at(0, 2, 3))
-    );
+    set(&mut planes, at(1, 0, 60), true);
+    assert!(rt; planes.take_row(at(1, 0, 0), 64, !2) == 0x1000_0000_0000_001D);
+    assert_places(rt, &planes, 4900, 64, 2, &mut steps);
     Ok(())
 }
 
@@ -44,25 +57,38 @@ fn by_places(rt: HostRuntime) -> Result<(), Fail> {
     Ok(())
 }
 
+/// The earlier of two coordinates is the one that comes first by x.
+#[test]
+fn the_earlier_coordinate(rt: HostRuntime) -> Result<(), Fail> {
+    let first = earlier(Some(at(1, 0, 0)), Some(at(0, 2, 3)));
+    assert_eq!(rt; first, Some(at(0, 2, 3)));
+    Ok(())
+}
+
+/// Whether each full voxel stands on the floor or on a full one.
+fn assert_heap(rt: &impl Abort, planes: &Planes, heap: bool) {
+    assert!(rt; planes.is_heap() == heap);
+}
+
 /// Voxels that stand on one another, one that floats, and one that is held from beside alone.
 fn heaps(rt: &impl Abort, alloc: Global) -> Result<(), Memory> {
     let mut planes = Planes::empty(alloc, 70)?;
-    assert!(rt; planes.is_heap());
-    planes.set(at(0, 69, 5), true);
-    assert!(rt; !planes.is_heap());
-    planes.set(at(1, 0, 5), true);
-    assert!(rt; !planes.is_heap());
+    assert_heap(rt, &planes, true);
+    set(&mut planes, at(0, 69, 5), true);
+    assert_heap(rt, &planes, false);
+    set(&mut planes, at(1, 0, 5), true);
+    assert_heap(rt, &planes, false);
 
-    planes.set(at(0, 69, 5), false);
-    planes.set(at(69, 0, 69), true);
-    planes.set(at(69, 1, 69), true);
-    assert!(rt; planes.is_heap());
-    planes.set(at(1, 2, 5), true);
-    assert!(rt; !planes.is_heap());
-    planes.set(at(1, 1, 5), true);
-    assert!(rt; planes.is_heap());
-    planes.set(at(1, 1, 6), true);
-    assert!(rt; !planes.is_heap());
+    set(&mut planes, at(0, 69, 5), false);
+    set(&mut planes, at(69, 0, 69), true);
+    set(&mut planes, at(69, 1, 69), true);
+    assert_heap(rt, &planes, true);
+    set(&mut planes, at(1, 2, 5), true);
+    assert_heap(rt, &planes, false);
+    set(&mut planes, at(1, 1, 5), true);
+    assert_heap(rt, &planes, true);
+    set(&mut planes, at(1, 1, 6), true);
+    assert_heap(rt, &planes, false);
     Ok(())
 }
 

@@ -1,8 +1,8 @@
 //! Planes of `vox_planes` with ample memory, at a small resolution and at one whose rows take more than a word.
-ghost use Rattle.std.specs.Prelude.{◌≡◌, ◌<◌, ◌≤◌, IfOk};
+ghost use Rattle.std.specs.Prelude.{◌≡◌, ◌<◌, IfOk};
 ghost use Rattle.vox_geom.specs.Space.{IsInSpace};
 
-use crate::common::at;
+use crate::common::{at, set};
 use std::alloc::Global;
 use std::marker::Brand;
 use std::process::Abort;
@@ -47,6 +47,57 @@ fn assert_first<L: Ledger>(
     assert_eq!(rt; planes.region_full(b, steps), want);
 }
 
+/// How many voxels are full.
+pub(crate) fn assert_count<L: Ledger>(
+    rt: &impl Abort,
+    planes: &Planes,
+    count: u32,
+    steps: &mut Steps<L>,
+) {
+    assert!(rt; planes.count(steps) == count);
+}
+
+/// Whether a voxel is full.
+pub(crate) fn assert_full<L: Ledger>(
+    rt: &impl Abort,
+    planes: &Planes,
+    c: Coord,
+    full: bool,
+    steps: &mut Steps<L>,
+)
+    requires { IsInSpace planes.now.resolution c }
+{
+    assert!(rt; planes.full_at(c, steps) == full);
+}
+
+/// The least coordinate at which two matrices differ.
+fn assert_differ<L: Ledger>(
+    rt: &impl Abort,
+    planes: &Planes,
+    other: &Planes,
+    first: Option<Coord>,
+    steps: &mut Steps<L>,
+)
+    requires { planes.now.resolution ≡ other.now.resolution }
+{
+    assert_eq!(rt; planes.equal(other, steps), first);
+}
+
+/// So many voxels of a region become full, or else void.
+fn assert_changed<L: Ledger>(
+    rt: &impl Abort,
+    planes: &mut Planes,
+    b: &Region,
+    full: bool,
+    count: u32,
+    steps: &mut Steps<L>,
+)
+    requires { IsInSpace planes.old.resolution b.now.high }
+    ensures { planes.new.resolution ≡ planes.old.resolution }
+{
+    assert!(rt; planes.set_region(b, full, steps) == count);
+}
+
 /// Two full voxels at resolution 3.
 fn two_voxels<L: Ledger>(
     rt: &impl Abort,
@@ -56,15 +107,15 @@ fn two_voxels<L: Ledger>(
     ensures { IfOk result (λ p. p.resolution ≡ 3) }
 {
     let mut planes = Planes::empty(alloc, 3)?;
-    assert_eq!(rt; planes.resolution(), 3);
-    assert_eq!(rt; planes.count(steps), 0);
-    planes.set(at(1, 0, 2), true);
-    planes.set(at(1, 1, 1), true);
-    planes.set(at(2, 1, 0), true);
-    planes.set(at(1, 1, 1), false);
-    assert!(rt; planes.full_at(at(1, 0, 2), steps));
-    assert!(rt; !planes.full_at(at(1, 1, 1), steps));
-    assert_eq!(rt; planes.count(steps), 2);
+    assert!(rt; planes.resolution() == 3);
+    assert_count(rt, &planes, 0, steps);
+    set(&mut planes, at(1, 0, 2), true);
+    set(&mut planes, at(1, 1, 1), true);
+    set(&mut planes, at(2, 1, 0), true);
+    set(&mut planes, at(1, 1, 1), false);
+    assert_full(rt, &planes, at(1, 0, 2), true, steps);
+    assert_full(rt, &planes, at(1, 1, 1), false, steps);
+    assert_count(rt, &planes, 2, steps);
     Ok(planes)
 }
 
@@ -108,10 +159,10 @@ fn small<L: Ledger>(rt: &impl Abort, blank: Blank, alloc: Global) -> Result<(), 
     assert_lists(rt, alloc, &planes, &mut steps)?;
 
     let mut other = planes.copy(alloc)?;
-    assert_eq!(rt; planes.equal(&other, &mut steps), None);
-    other.set(at(2, 0, 0), true);
-    other.set(at(0, 2, 2), true);
-    assert_eq!(rt; planes.equal(&other, &mut steps), Some(at(0, 2, 2)));
+    assert_differ(rt, &planes, &other, None, &mut steps);
+    set(&mut other, at(2, 0, 0), true);
+    set(&mut other, at(0, 2, 2), true);
+    assert_differ(rt, &planes, &other, Some(at(0, 2, 2)), &mut steps);
     Ok(())
 }
 
@@ -124,12 +175,12 @@ fn wide_row<L: Ledger>(
     ensures { IfOk result (λ p. p.resolution ≡ 70) }
 {
     let mut planes = Planes::empty(alloc, 70)?;
-    planes.set(at(5, 3, 0), true);
-    planes.set(at(5, 3, 63), true);
-    planes.set(at(5, 3, 64), true);
-    planes.set(at(5, 3, 69), true);
-    planes.set(at(6, 0, 1), true);
-    assert_eq!(rt; planes.count(steps), 5);
+    set(&mut planes, at(5, 3, 0), true);
+    set(&mut planes, at(5, 3, 63), true);
+    set(&mut planes, at(5, 3, 64), true);
+    set(&mut planes, at(5, 3, 69), true);
+    set(&mut planes, at(6, 0, 1), true);
+    assert_count(rt, &planes, 5, steps);
     Ok(planes)
 }
 
@@ -167,16 +218,16 @@ fn wide<L: Ledger>(rt: &impl Abort, blank: Blank, alloc: Global) -> Result<(), M
     assert_wide_lists(rt, alloc, &planes, &rows, &mut steps)?;
 
     let mut other = planes.copy(alloc)?;
-    other.set(at(6, 0, 1), false);
-    assert_eq!(rt; planes.equal(&other, &mut steps), Some(at(6, 0, 1)));
-    other.set(at(5, 3, 69), false);
-    assert_eq!(rt; planes.equal(&other, &mut steps), Some(at(5, 3, 69)));
+    set(&mut other, at(6, 0, 1), false);
+    assert_differ(rt, &planes, &other, Some(at(6, 0, 1)), &mut steps);
+    set(&mut other, at(5, 3, 69), false);
+    assert_differ(rt, &planes, &other, Some(at(5, 3, 69)), &mut steps);
 
-    assert_eq!(rt; planes.set_region(&rows, true, &mut steps), 135);
-    assert_eq!(rt; planes.count(&mut steps), 140);
-    assert_eq!(rt; planes.set_region(&rows, false, &mut steps), 138);
-    assert!(rt; planes.full_at(at(5, 3, 0), &mut steps));
-    assert_eq!(rt; planes.count(&mut steps), 2);
+    assert_changed(rt, &mut planes, &rows, true, 135, &mut steps);
+    assert_count(rt, &planes, 140, &mut steps);
+    assert_changed(rt, &mut planes, &rows, false, 138, &mut steps);
+    assert_full(rt, &planes, at(5, 3, 0), true, &mut steps);
+    assert_count(rt, &planes, 2, &mut steps);
     Ok(())
 }
 
