@@ -34,6 +34,10 @@ pub record AcceptedRuns : Type 0 where
   pub a_fusion_gives_all_seeds_back : Accepts empty_3 empty_3 (hex "75 00 77 66 75 26 77 66 FF") (pos 545) 5
   -- the bot with the lesser bid is the secondary, and the other goes on: the steps cost 125, 97, 103 and 101
   pub the_lesser_bid_is_the_secondary : Accepts empty_3 empty_3 (hex "75 00 76 67 34 0E FF") (pos 426) 4
+  -- a group command fills full voxels for 6 each: the third step costs 433
+  pub two_bots_fill_a_full_line : Accepts a_line a_line (hex "75 00 FE 34 11 B9 1E 1E 20 B1 1E 1E 1C FE 34 0D 77 66 FF") (pos 2476) 6
+  -- a group command voids void voxels for 3 each: the third step costs 424
+  pub two_bots_void_a_void_line : Accepts empty_5 empty_5 (hex "75 00 FE 34 11 B8 1E 1E 20 B0 1E 1E 1C FE 34 0D 77 66 FF") (pos 2467) 6
 
 -- traces that are refused: the rule, the step, the bot and the coordinate
 pub record RefusedRuns : Type 0 where
@@ -85,6 +89,20 @@ pub record RefusedRuns : Type 0 where
   pub a_command_goes_by_bid : Refuses empty_3 empty_3 (hex "75 0A 85 00 B5 00 FE FE FE FF") HaltAlone 3 13 (coord 0 1 0)
   -- bot 2 was born with the seeds 3 to 12, so its first child is bot 3
   pub a_child_has_the_next_seeds : Refuses empty_3 empty_3 (hex "75 0A 85 00 B5 00 FE FE FF FE") HaltAlone 3 3 (coord 1 0 1)
+  -- no bot fuses with the secondary
+  pub a_secondary_has_no_primary : Refuses empty_3 empty_3 (hex "76") Partner 1 1 (coord 0 0 0)
+  -- the voxel to be filled is outside the matrix
+  pub a_fill_leaves_space : Refuses empty_3 empty_3 (hex "23 FF") OutOfSpace 1 1 (coord 0 0 0)
+  -- the voxel to be voided is outside the matrix
+  pub a_void_leaves_space : Refuses empty_3 empty_3 (hex "22 FF") OutOfSpace 1 1 (coord 0 0 0)
+  -- the bot would leave the matrix on the side away from the origin
+  pub a_move_leaves_space_on_the_far_side : Refuses empty_3 empty_3 (hex "14 12") OutOfSpace 1 1 (coord 0 0 0)
+  -- the far corner of the region to be voided is outside the matrix
+  pub a_voided_region_leaves_space : Refuses empty_3 empty_3 (hex "70 1E 1E 20") OutOfSpace 1 1 (coord 0 0 0)
+  -- the first leg of the move meets a full voxel, and the second does not
+  pub a_first_leg_is_blocked : Refuses one_voxel one_voxel (hex "14 10 7C 67") Blocked 2 1 (coord 1 0 1)
+  -- the members that void a region have to be at different corners too
+  pub both_voiding_members_are_at_one_corner : Refuses a_line empty_5 (hex "75 00 B8 1E 1E 20 B0 1E 1E 20") GroupShape 2 1 (coord 0 0 0)
 
 -- traces with the light profile
 pub record LightRuns : Type 0 where
@@ -100,3 +118,5 @@ pub record LightRuns : Type 0 where
   pub a_forbidden_command_is_answered_first : RefusesLight empty_3 empty_3 (hex "71 1E 1E 1D") Forbidden 1 1 (coord 0 0 0)
   -- the lesser bid comes first, although the other's command is forbidden
   pub a_forbidden_command_of_the_greater_bid : RefusesLight empty_3 empty_3 (hex "75 00 FF BA") HaltAlone 2 1 (coord 0 0 0)
+  -- GVoid is not allowed
+  pub a_voided_region_is_forbidden : RefusesLight empty_3 empty_3 (hex "70 1E 1E 1F") Forbidden 1 1 (coord 0 0 0)
