@@ -2,11 +2,11 @@
 use Rattle.std.proofs.Common.{refl, [], ◌∷◌, pos}
 use Rattle.std.specs.Fmt.{digits}
 use Rattle.std.specs.Prelude.{Some, None}
-use Rattle.nano_spec.specs.declared.commands.Command.TheVariants.{SMove, FusionP}
+use Rattle.nano_spec.specs.declared.commands.Command.TheVariants.{Wait, SMove, FusionP}
 use Rattle.nano_spec.specs.Legal.{Border, Floating}
 use Rattle.nano_spec.specs.Worked.{diff, voxels_at}
 use Rattle.nano_spec.specs.WorkedBytes.{WorkedSpellings, WorkedTraces, WorkedModels, WorkedTexts}
-use Rattle.nano_spec.proofs.Heads.{bad, cut}
+use Rattle.nano_spec.proofs.Heads.{bad, bad_whatever_follows, cut}
 use Rattle.nano_spec.proofs.Levels.{before, afterwards}
 use Rattle.nano_spec.proofs.Simulation.{legality_is}
 use Rattle.vox_geom.specs.Point.{coord}
@@ -25,6 +25,11 @@ worked_spellings = record {
   a_group_fill = (_, refl, refl);
   a_group_void = (_, refl, refl);
   without_differences = (_, refl, refl);
+  a_longest_move = (_, refl, refl);
+  a_longest_move_back = (_, refl, refl);
+  the_longest_legs = (_, refl, refl);
+  the_farthest_corner = (_, refl, refl);
+  the_greatest_fission = (_, refl, refl);
 }
 
 pub worked_traces : WorkedTraces
@@ -34,6 +39,10 @@ worked_traces = record {
   a_fill_at_a_corner = bad (0x03 ∷ []) [] 0 0x03 [] refl refl refl refl refl;
   a_bad_byte_after_a_command = bad (0x77 ∷ 0x04 ∷ []) (FusionP (diff (pos 0) (pos 0) (pos 1)) ∷ []) 1 0x04 [] refl refl refl refl refl;
   a_move_without_its_length = cut (0x14 ∷ []) [] 0 0x14 [] (SMove (diff (pos 12) (pos 0) (pos 0))) (0x1B ∷ []) refl refl refl refl refl (λ e. cc) refl;
+  a_move_of_length_0 = bad_whatever_follows (0x34 ∷ 0x0F ∷ []) [] 0 0x34 (0x0F ∷ []) refl refl refl (λ x. refl) refl;
+  a_leg_of_length_0 = bad_whatever_follows (0xFE ∷ 0x5C ∷ 0x56 ∷ []) (Wait ∷ []) 1 0x5C (0x56 ∷ []) refl refl refl (λ x. refl) refl;
+  a_region_of_no_extent = bad_whatever_follows (0x71 ∷ 0x1E ∷ 0x1E ∷ 0x1E ∷ []) [] 0 0x71 (0x1E ∷ 0x1E ∷ 0x1E ∷ []) refl refl refl (λ x. refl) refl;
+  too_far_a_corner = bad_whatever_follows (0x71 ∷ 0x3D ∷ 0x1E ∷ 0x1E ∷ []) [] 0 0x71 (0x3D ∷ 0x1E ∷ 0x1E ∷ []) refl refl refl (λ x. refl) refl;
 }
 
 pub worked_models : WorkedModels
@@ -71,6 +80,9 @@ worked_models = record {
   a_floating_voxel = legality_is 6 (voxels_at 3 (coord 1 1 1 ∷ [])) (Some (Floating (coord 1 1 1))) refl;
   a_level_by_the_nearer_post = before;
   a_level_by_the_other_post = afterwards;
+  a_wide_resolution_of_one_byte = refl;
+  no_runs = refl;
+  too_few_runs = refl;
 }
 
 pub worked_texts : WorkedTexts
@@ -102,4 +114,14 @@ worked_texts = record {
   a_negative_number = refl;
   not_ascii = refl;
   not_ascii_in_a_comment = refl;
+  a_digit_behind_a_word = refl;
+  the_greatest_byte = refl;
+  no_length = refl;
+  too_long_a_move = refl;
+  a_leg_of_no_length = refl;
+  too_long_a_leg = refl;
+  not_linear = refl;
+  no_near_difference = refl;
+  no_far_difference = refl;
+  too_far = refl;
 }

@@ -3,7 +3,7 @@ use Rattle.std.proofs.Common.{refl}
 use Rattle.nano_spec.specs.declared.outcomes.Rule.TheVariants.{TraceEnds, OutOfSpace, Seeds}
 use Rattle.nano_spec.specs.State.{seed_numbers}
 use Rattle.nano_spec.specs.Work.{stops}
-use Rattle.nano_spec.proofs.WorkDone.{work_of_a_ring}
+use Rattle.nano_spec.proofs.WorkDone.{work_of_a_refused_group, work_of_a_ring}
 use Rattle.nano_spec.specs.WorkedOthers.{WorkedForge, WorkedOrders, WorkedWork}
 use Rattle.vox_geom.specs.Point.{coord}
 
@@ -17,6 +17,8 @@ worked_forge = record {
   two_columns = refl;
   two_columns_written = refl;
   no_room = refl;
+  a_wrapped_number = refl;
+  a_number_of_1024 = refl;
 }
 
 pub worked_orders : WorkedOrders
@@ -35,4 +37,5 @@ worked_work = record {
   work_of_a_refused_fission = stops (record { step = 1; bid = 1; rule = Seeds; at = coord 0 0 0 }) refl refl refl;
   work_of_a_ring = work_of_a_ring;
   work_of_a_command_out_of_space = stops (record { step = 1; bid = 1; rule = OutOfSpace; at = coord 0 0 0 }) refl refl refl;
+  work_of_a_refused_group = work_of_a_refused_group;
 }

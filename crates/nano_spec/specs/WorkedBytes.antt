@@ -1,7 +1,7 @@
 -- Worked examples of spellings, traces, models, levels and texts.
 use Rattle.std.specs.Prelude.{◌≡◌, true, false, flat_map, pos, List, [], ◌∷◌, ◌++◌, Ok, Err, Some, None, codes, length}
 use Rattle.vox_geom.specs.declared.coordinate.Coord.{Coord}
-use Rattle.nano_spec.specs.declared.commands.Command.TheVariants.{Halt, SMove, Fission, Fill}
+use Rattle.nano_spec.specs.declared.commands.Command.TheVariants.{Halt, Wait, SMove, Fission, Fill}
 use Rattle.nano_spec.specs.Cutting.{Decoding, CutAt, BadAt}
 use Rattle.nano_spec.specs.Legal.{Legality, Border, Floating}
 use Rattle.nano_spec.specs.Level.{Level}
@@ -31,6 +31,16 @@ pub record WorkedSpellings : Type 0 where
   pub a_group_fill : Assembles "GFill <0,-1,0> <10,-15,20>" "51 28 0F 32"
   pub a_group_void : Assembles "GVoid <1,0,0> <5,5,-5>" "B0 23 23 19"
   pub without_differences : Assembles "Halt\nWait\nFlip" "FF FE FD"
+  -- the longest move
+  pub a_longest_move : Assembles "SMove <15,0,0>" "14 1E"
+  -- the longest move back
+  pub a_longest_move_back : Assembles "SMove <0,-15,0>" "24 00"
+  -- the longest legs
+  pub the_longest_legs : Assembles "LMove <5,0,0> <0,-5,0>" "9C 0A"
+  -- the farthest corner
+  pub the_farthest_corner : Assembles "GFill <0,0,1> <30,-30,0>" "71 3C 00 1E"
+  -- the greatest number of a Fission
+  pub the_greatest_fission : Assembles "Fission <0,0,1> 255" "75 FF"
 
 -- what the bytes of a trace say
 pub record WorkedTraces : Type 0 where
@@ -44,6 +54,14 @@ pub record WorkedTraces : Type 0 where
   pub a_bad_byte_after_a_command : Decoding (hex "77 04") (Err (BadAt 1))
   -- the second byte of a move is missing
   pub a_move_without_its_length : Decoding (hex "14") (Err (CutAt 0))
+  -- a move of length 0
+  pub a_move_of_length_0 : Decoding (hex "34 0F") (Err (BadAt 0))
+  -- a second leg of length 0
+  pub a_leg_of_length_0 : Decoding (hex "FE 5C 56") (Err (BadAt 1))
+  -- a far difference of 0
+  pub a_region_of_no_extent : Decoding (hex "71 1E 1E 1E") (Err (BadAt 0))
+  -- a component of 31
+  pub too_far_a_corner : Decoding (hex "71 3D 1E 1E") (Err (BadAt 0))
 
 -- what the bytes of a model say, whether it is legal, and levels
 pub record WorkedModels : Type 0 where
@@ -108,6 +126,12 @@ pub record WorkedModels : Type 0 where
   pub a_level_by_the_nearer_post : Level (voxels_at 5 (coord 1 0 1 ∷ ring)) (coord 1 1 1) (Some 1)
   -- the same without the nearer post
   pub a_level_by_the_other_post : Level (voxels_at 5 ring) (coord 1 1 1) (Some 5)
+  -- the second byte of the resolution is missing
+  pub a_wide_resolution_of_one_byte : model (hex "FF 00") ≡ Err (WideHead 2)
+  -- there is no run
+  pub no_runs : model (hex "FF 00 FB") ≡ Err (WideShort 0)
+  -- there is one run, and voxels are wanting
+  pub too_few_runs : model (hex "FF 00 FB 00 00 F6 1A") ≡ Err (WideShort 63002)
 
 -- how texts are printed and read
 pub record WorkedTexts : Type 0 where
@@ -168,3 +192,23 @@ pub record WorkedTexts : Type 0 where
   pub not_ascii : read (codes "Wait\n" ++ 0xC3 ∷ []) ≡ Err (record { fault = NotAscii; line = 2 })
   -- in a comment too
   pub not_ascii_in_a_comment : read (codes "Wait\n#" ++ 0xC3 ∷ []) ≡ Err (record { fault = NotAscii; line = 2 })
+  -- a word is letters alone
+  pub a_digit_behind_a_word : read (codes "Wait1") ≡ Err (record { fault = Shape; line = 1 })
+  -- 7F is ASCII
+  pub the_greatest_byte : read (codes "Wait#" ++ 0x7F ∷ []) ≡ Ok (Wait ∷ [])
+  -- a move has a length
+  pub no_length : read (codes "SMove <0,0,0>") ≡ Err (record { fault = Range; line = 1 })
+  -- its length is at most 15
+  pub too_long_a_move : read (codes "SMove <0,16,0>") ≡ Err (record { fault = Range; line = 1 })
+  -- a leg has a length
+  pub a_leg_of_no_length : read (codes "LMove <0,0,0> <1,0,0>") ≡ Err (record { fault = Range; line = 1 })
+  -- its length is at most 5
+  pub too_long_a_leg : read (codes "LMove <1,0,0> <0,0,-6>") ≡ Err (record { fault = Range; line = 1 })
+  -- a move is along one axis
+  pub not_linear : read (codes "SMove <1,1,0>") ≡ Err (record { fault = Range; line = 1 })
+  -- <0,0,0> is not near
+  pub no_near_difference : read (codes "Fill <0,0,0>") ≡ Err (record { fault = Range; line = 1 })
+  -- <0,0,0> is not far
+  pub no_far_difference : read (codes "GFill <0,0,1> <0,0,0>") ≡ Err (record { fault = Range; line = 1 })
+  -- a far difference has components of at most 30
+  pub too_far : read (codes "GVoid <0,0,1> <31,0,0>") ≡ Err (record { fault = Range; line = 1 })

@@ -1,14 +1,17 @@
--- Worked examples of the forge, of steps whose groups act one after another, and of work.
-use Rattle.std.specs.Prelude.{◌≡◌, pos, List, [], ◌∷◌, Some, None}
+-- Worked examples of the forge, of steps whose groups act one after another, of work, and of states.
+use Rattle.std.specs.Prelude.{◌≡◌, ℕ, pos, List, [], ◌∷◌, Some, None}
+use Rattle.vox_geom.specs.declared.coordinate.Coord.{Coord}
 use Rattle.nano_spec.specs.declared.commands.Command.{Command}
 use Rattle.nano_spec.specs.declared.commands.Command.TheVariants.{Halt, Wait, SMove, Fission, Fill, Void, GFill}
-use Rattle.nano_spec.specs.declared.system.Harmonics.TheVariants.{Low}
+use Rattle.nano_spec.specs.declared.system.Bot.{Bot}
+use Rattle.nano_spec.specs.declared.system.Harmonics.{Harmonics}
+use Rattle.nano_spec.specs.declared.system.Harmonics.TheVariants.{Low, High}
 use Rattle.nano_spec.specs.Forge.{forged, mixed}
-use Rattle.nano_spec.specs.Matrix.{empty}
+use Rattle.nano_spec.specs.Matrix.{Matrix, empty}
 use Rattle.nano_spec.specs.Model.{written}
 use Rattle.nano_spec.specs.Profile.{full_profile}
 use Rattle.nano_spec.specs.Serial.{serial}
-use Rattle.nano_spec.specs.State.{State}
+use Rattle.nano_spec.specs.State.{IsReady, IsWellFormed, State, seed_set}
 use Rattle.nano_spec.specs.Step.{after}
 use Rattle.nano_spec.specs.Work.{Work}
 use Rattle.nano_spec.specs.Worked.{diff, hex, voxels_at, below_zero}
@@ -34,6 +37,10 @@ pub record WorkedForge : Type 0 where
   pub two_columns_written : written (forged 0 4) ≡ hex "04 00 00 02 00 06 00 00 00"
   -- there is no room for a column
   pub no_room : forged 0 2 ≡ empty 2
+  -- mixed numbers are below 1024
+  pub a_wrapped_number : mixed 1000 1 1 ≡ 165
+  -- 1024 says the same as 0
+  pub a_number_of_1024 : forged 1024 3 ≡ forged 0 3
 
 -- two bots beside each other, at resolution 5
 abbrev pub with_two : State
@@ -75,3 +82,42 @@ pub record WorkedWork : Type 0 where
   pub work_of_a_ring : Work (voxels_at 5 (coord 1 0 1 ∷ ring)) (Void (diff (pos 1) (pos 0) (pos 1)) ∷ Halt ∷ []) full_profile 8
   -- a command that leaves space has no volatile coordinate
   pub work_of_a_command_out_of_space : Work (empty 3) (SMove (diff (below_zero 1) (pos 0) (pos 0)) ∷ []) full_profile 0
+  -- two bots would fill a line of two voxels from one corner: two volatile coordinates for the Fission, and then once four
+  -- for the whole group
+  pub work_of_a_refused_group : Work (empty 3)
+      (Fission (diff (pos 0) (pos 0) (pos 1)) 0 ∷ GFill (diff (pos 1) (pos 0) (pos 1)) (diff (pos 0) (pos 0) (pos 1))
+      ∷ GFill (diff (pos 1) (pos 0) (pos 0)) (diff (pos 0) (pos 0) (pos 1)) ∷ []) full_profile 6
+
+-- a bot with seeds
+abbrev pub seeded : ℕ → Coord → List ℕ → Bot
+seeded bid at seeds = record { bid = bid; pos = at; seeds = seed_set seeds }
+
+-- a state with a matrix and bots
+abbrev pub state_with : Harmonics → Matrix → List Bot → State
+state_with harmonics m bots = record { matrix = m; harmonics = harmonics; bots = bots; energy = pos 0; profile = full_profile }
+
+-- states that are well-formed or ready, and states that are not, each for one reason
+pub record WorkedStates : Type 0 where
+  -- a voxel floats, which High allows and Low does not
+  pub floating_under_high : IsWellFormed (state_with High (voxels_at 3 (coord 1 1 1 ∷ [])) (bot 1 0 0 0 ∷ []))
+  pub floating_under_low : IsWellFormed (state_with Low (voxels_at 3 (coord 1 1 1 ∷ [])) (bot 1 0 0 0 ∷ [])) → ⊥
+  -- two bots have the bid 2
+  pub one_bid_twice : IsWellFormed (state_with Low (empty 3) (bot 2 0 0 0 ∷ bot 2 0 0 1 ∷ [])) → ⊥
+  -- two bots stand at one coordinate
+  pub one_place_twice : IsWellFormed (state_with Low (empty 3) (bot 1 0 0 1 ∷ bot 2 0 0 1 ∷ [])) → ⊥
+  -- a bot stands in a full voxel
+  pub a_bot_in_a_voxel : IsWellFormed (state_with Low (voxels_at 3 (coord 1 0 1 ∷ [])) (bot 1 1 0 1 ∷ [])) → ⊥
+  -- both bots have the seed 5
+  pub one_seed_twice : IsWellFormed (state_with Low (empty 3) (seeded 1 (coord 0 0 0) (4 ∷ 5 ∷ []) ∷ seeded 2 (coord 0 0 1) (5 ∷ []) ∷ [])) → ⊥
+  -- the bid of an active bot is a seed
+  pub a_seed_is_active : IsWellFormed (state_with Low (empty 3) (seeded 1 (coord 0 0 0) (2 ∷ 3 ∷ []) ∷ bot 2 0 0 1 ∷ [])) → ⊥
+  -- the matrix has no voxels
+  pub no_voxels : IsReady (state_with Low (record { resolution = 3; voxels = [] }) (bot 1 0 0 0 ∷ [])) → ⊥
+  -- a bot stands outside the matrix
+  pub a_bot_outside : IsReady (state_with Low (empty 3) (bot 1 0 0 3 ∷ [])) → ⊥
+  -- the bots are not in the order of their bids
+  pub bids_that_fall : IsReady (state_with Low (empty 3) (bot 2 0 0 0 ∷ bot 1 0 0 1 ∷ [])) → ⊥
+  -- two bots stand at one coordinate, both have a seed, and the bid of an active bot is a seed
+  pub one_ready_place_twice : IsReady (state_with Low (empty 3) (bot 1 0 0 1 ∷ bot 2 0 0 1 ∷ [])) → ⊥
+  pub one_ready_seed_twice : IsReady (state_with Low (empty 3) (seeded 1 (coord 0 0 0) (4 ∷ 5 ∷ []) ∷ seeded 2 (coord 0 0 1) (5 ∷ []) ∷ [])) → ⊥
+  pub a_ready_seed_is_active : IsReady (state_with Low (empty 3) (seeded 1 (coord 0 0 0) (2 ∷ 3 ∷ []) ∷ bot 2 0 0 1 ∷ [])) → ⊥
