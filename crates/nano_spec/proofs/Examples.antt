@@ -2,13 +2,16 @@
 use Rattle.std.proofs.Common.{refl, [], ◌∷◌, pos}
 use Rattle.std.specs.Fmt.{digits}
 use Rattle.std.specs.Prelude.{Some, None}
-use Rattle.nano_spec.specs.declared.commands.Command.TheVariants.{Wait, SMove, FusionP}
+use Rattle.nano_spec.specs.declared.commands.Command.TheVariants.{Wait, SMove, FusionP, GFill}
 use Rattle.nano_spec.specs.Legal.{Border, Floating}
+use Rattle.nano_spec.specs.Matrix.{empty}
 use Rattle.nano_spec.specs.Worked.{diff, voxels_at}
 use Rattle.nano_spec.specs.WorkedBytes.{WorkedSpellings, WorkedTraces, WorkedModels, WorkedTexts}
 use Rattle.nano_spec.proofs.Heads.{bad, bad_whatever_follows, cut}
+use Rattle.nano_spec.proofs.Island.{floats}
 use Rattle.nano_spec.proofs.Levels.{before, afterwards}
 use Rattle.nano_spec.proofs.Simulation.{legality_is}
+use Rattle.nano_spec.proofs.WorkDone.{void_is}
 use Rattle.vox_geom.specs.Point.{coord}
 
 pub worked_spellings : WorkedSpellings
@@ -43,6 +46,9 @@ worked_traces = record {
   a_leg_of_length_0 = bad_whatever_follows (0xFE ∷ 0x5C ∷ 0x56 ∷ []) (Wait ∷ []) 1 0x5C (0x56 ∷ []) refl refl refl (λ x. refl) refl;
   a_region_of_no_extent = bad_whatever_follows (0x71 ∷ 0x1E ∷ 0x1E ∷ 0x1E ∷ []) [] 0 0x71 (0x1E ∷ 0x1E ∷ 0x1E ∷ []) refl refl refl (λ x. refl) refl;
   too_far_a_corner = bad_whatever_follows (0x71 ∷ 0x3D ∷ 0x1E ∷ 0x1E ∷ []) [] 0 0x71 (0x3D ∷ 0x1E ∷ 0x1E ∷ []) refl refl refl (λ x. refl) refl;
+  a_bad_byte_after_a_long_command = bad (0x14 ∷ 0x10 ∷ 0x04 ∷ []) (SMove (diff (pos 1) (pos 0) (pos 0)) ∷ []) 2 0x04 [] refl refl refl refl refl;
+  a_cut_after_a_long_command = cut (0x14 ∷ 0x10 ∷ 0x71 ∷ 0x1E ∷ 0x1E ∷ []) (SMove (diff (pos 1) (pos 0) (pos 0)) ∷ []) 2 0x71 (0x1E ∷ 0x1E ∷ []) (GFill (diff (pos 0) (pos 0) (pos 1)) (diff (pos 0) (pos 0) (pos 1))) (0x1F ∷ []) refl refl refl refl refl (λ e. cc) refl;
+  a_fission_of_255 = ((refl, tt), refl);
 }
 
 pub worked_models : WorkedModels
@@ -83,6 +89,9 @@ worked_models = record {
   a_wide_resolution_of_one_byte = refl;
   no_runs = refl;
   too_few_runs = refl;
+  four_bytes_after_the_runs = refl;
+  no_level_of_a_floating_voxel = floats (voxels_at 3 (coord 1 1 1 ∷ [])) (coord 1 1 1 ∷ []) (coord 1 1 1) refl refl;
+  no_level_of_a_void_voxel = void_is (empty 3) (coord 1 0 1) refl;
 }
 
 pub worked_texts : WorkedTexts
@@ -124,4 +133,10 @@ worked_texts = record {
   no_near_difference = refl;
   no_far_difference = refl;
   too_far = refl;
+  a_low_line_behind_a_word = refl;
+  another_letter_behind_a_word = refl;
+  a_vertical_tab = refl;
+  a_blank_behind_a_minus_sign = refl;
+  a_fission_that_is_not_near = refl;
+  all_words_printed = refl;
 }

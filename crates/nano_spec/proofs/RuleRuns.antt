@@ -40,4 +40,9 @@ meeting_groups = record {
   a_region_is_met = shown 4 refl refl refl refl refl refl refl;
   the_least_leader_is_answered = shown 4 refl refl refl refl refl refl refl;
   a_leader_meets_two_groups = shown 4 refl refl refl refl refl refl refl;
+  a_first_leg_meets_a_bot = shown 3 refl refl refl refl refl refl refl;
+  a_filling_bot_is_met = shown 3 refl refl refl refl refl refl refl;
+  a_voiding_bot_is_met = shown 3 refl refl refl refl refl refl refl;
+  a_parent_is_met = shown 3 refl refl refl refl refl refl refl;
+  a_filled_region_is_met = shown 4 refl refl refl refl refl refl refl;
 }

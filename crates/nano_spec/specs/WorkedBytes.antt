@@ -1,7 +1,7 @@
 -- Worked examples of spellings, traces, models, levels and texts.
 use Rattle.std.specs.Prelude.{◌≡◌, true, false, flat_map, pos, List, [], ◌∷◌, ◌++◌, Ok, Err, Some, None, codes, length}
 use Rattle.vox_geom.specs.declared.coordinate.Coord.{Coord}
-use Rattle.nano_spec.specs.declared.commands.Command.TheVariants.{Halt, Wait, SMove, Fission, Fill}
+use Rattle.nano_spec.specs.declared.commands.Command.TheVariants.{Halt, Wait, Flip, SMove, LMove, FusionP, FusionS, Fission, Fill, Void, GFill, GVoid}
 use Rattle.nano_spec.specs.Cutting.{Decoding, CutAt, BadAt}
 use Rattle.nano_spec.specs.Legal.{Legality, Border, Floating}
 use Rattle.nano_spec.specs.Level.{Level}
@@ -62,6 +62,12 @@ pub record WorkedTraces : Type 0 where
   pub a_region_of_no_extent : Decoding (hex "71 1E 1E 1E") (Err (BadAt 0))
   -- a component of 31
   pub too_far_a_corner : Decoding (hex "71 3D 1E 1E") (Err (BadAt 0))
+  -- the offset counts bytes
+  pub a_bad_byte_after_a_long_command : Decoding (hex "14 10 04") (Err (BadAt 2))
+  -- the offset is that of the command that is cut
+  pub a_cut_after_a_long_command : Decoding (hex "14 10 71 1E 1E") (Err (CutAt 2))
+  -- the greatest number of a Fission
+  pub a_fission_of_255 : Decoding (hex "75 FF") (Ok (Fission (diff (pos 0) (pos 0) (pos 1)) 255 ∷ []))
 
 -- what the bytes of a model say, whether it is legal, and levels
 pub record WorkedModels : Type 0 where
@@ -132,6 +138,12 @@ pub record WorkedModels : Type 0 where
   pub no_runs : model (hex "FF 00 FB") ≡ Err (WideShort 0)
   -- there is one run, and voxels are wanting
   pub too_few_runs : model (hex "FF 00 FB 00 00 F6 1A") ≡ Err (WideShort 63002)
+  -- the three runs have all voxels, and four bytes are left
+  pub four_bytes_after_the_runs : model (hex "FF 00 FB 00 00 F6 1A 00 00 00 01 00 F0 54 68 00 00 00 00") ≡ Err WideLong
+  -- a voxel that floats has no level
+  pub no_level_of_a_floating_voxel : Level (voxels_at 3 (coord 1 1 1 ∷ [])) (coord 1 1 1) None
+  -- a void voxel has none
+  pub no_level_of_a_void_voxel : Level (empty 3) (coord 1 0 1) None
 
 -- how texts are printed and read
 pub record WorkedTexts : Type 0 where
@@ -212,3 +224,20 @@ pub record WorkedTexts : Type 0 where
   pub no_far_difference : read (codes "GFill <0,0,1> <0,0,0>") ≡ Err (record { fault = Range; line = 1 })
   -- a far difference has components of at most 30
   pub too_far : read (codes "GVoid <0,0,1> <31,0,0>") ≡ Err (record { fault = Range; line = 1 })
+  -- and no other bytes are letters
+  pub a_low_line_behind_a_word : read (codes "Wait_") ≡ Err (record { fault = Shape; line = 1 })
+  -- a longer word is another one
+  pub another_letter_behind_a_word : read (codes "HaltZ") ≡ Err (record { fault = UnknownWord; line = 1 })
+  -- a vertical tab is no blank
+  pub a_vertical_tab : read (codes "Wait" ++ 0x0B ∷ []) ≡ Err (record { fault = Shape; line = 1 })
+  -- a minus sign stands at its number
+  pub a_blank_behind_a_minus_sign : read (codes "SMove <- 1,0,0>") ≡ Err (record { fault = Shape; line = 1 })
+  -- a Fission has a near difference
+  pub a_fission_that_is_not_near : read (codes "Fission <1,1,1> 0") ≡ Err (record { fault = Range; line = 1 })
+  -- how each command is printed
+  pub all_words_printed : print
+      (Halt ∷ Wait ∷ Flip ∷ SMove (diff (pos 0) (pos 0) (pos 15)) ∷ LMove (diff (pos 5) (pos 0) (pos 0)) (diff (pos 0) (below_zero 1) (pos 0))
+      ∷ FusionP (diff (pos 0) (pos 0) (pos 1)) ∷ FusionS (diff (pos 0) (pos 0) (below_zero 1)) ∷ Fission (diff (pos 0) (pos 1) (pos 0)) 120
+      ∷ Fill (diff (pos 1) (pos 0) (pos 1)) ∷ Void (diff (pos 1) (pos 0) (pos 0)) ∷ GFill (diff (pos 1) (pos 0) (pos 0)) (diff (pos 30) (pos 0) (below_zero 30))
+      ∷ GVoid (diff (pos 1) (pos 0) (pos 0)) (diff (pos 0) (pos 2) (pos 0)) ∷ [])
+      ≡ codes "Halt\nWait\nFlip\nSMove <0,0,15>\nLMove <5,0,0> <0,-1,0>\nFusionP <0,0,1>\nFusionS <0,0,-1>\nFission <0,1,0> 120\nFill <1,0,1>\nVoid <1,0,0>\nGFill <1,0,0> <30,0,-30>\nGVoid <1,0,0> <0,2,0>\n"

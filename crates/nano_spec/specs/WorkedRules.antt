@@ -64,3 +64,13 @@ pub record MeetingGroups : Type 0 where
   pub the_least_leader_is_answered : Refuses empty_3 empty_3 (hex "75 0A 85 00 B5 00 FE FE 14 0E 24 0E") Interference 3 1 (coord 0 0 0)
   -- bot 1 meets bot 2 at (0,0,1) and bot 3 at (0,0,0): the pair with the lesser other leader is answered
   pub a_leader_meets_two_groups : Refuses empty_3 empty_3 (hex "75 00 B5 00 FE 34 11 FE 14 0E") Interference 3 1 (coord 0 0 1)
+  -- the first leg of a move meets a bot that waits, and the second does not
+  pub a_first_leg_meets_a_bot : Refuses empty_3 empty_3 (hex "75 00 7C 67 FE") Interference 2 1 (coord 0 0 1)
+  -- a bot moves to one that fills a voxel
+  pub a_filling_bot_is_met : Refuses empty_3 empty_3 (hex "75 00 B3 34 0E") Interference 2 1 (coord 0 0 0)
+  -- a bot moves to one that voids a voxel
+  pub a_voiding_bot_is_met : Refuses empty_3 empty_3 (hex "75 00 B2 34 0E") Interference 2 1 (coord 0 0 0)
+  -- a bot moves to one that makes a bot
+  pub a_parent_is_met : Refuses empty_3 empty_3 (hex "75 01 B5 00 34 0E") Interference 2 1 (coord 0 0 0)
+  -- a bot moves into the region that a group fills
+  pub a_filled_region_is_met : Refuses empty_5 a_line (hex "75 01 B5 00 34 11 B9 1E 1E 20 B1 1E 1E 1C 34 10") Interference 3 1 (coord 1 0 1)
