@@ -92,6 +92,7 @@ worked_models = record {
   four_bytes_after_the_runs = refl;
   no_level_of_a_floating_voxel = floats (voxels_at 3 (coord 1 1 1 ∷ [])) (coord 1 1 1 ∷ []) (coord 1 1 1) refl refl;
   no_level_of_a_void_voxel = void_is (empty 3) (coord 1 0 1) refl;
+  a_hanging_voxel_is_grounded = legality_is 6 (voxels_at 5 (coord 1 0 1 ∷ coord 1 1 1 ∷ coord 1 2 1 ∷ coord 2 2 1 ∷ coord 2 1 1 ∷ [])) None refl;
 }
 
 pub worked_texts : WorkedTexts
@@ -139,4 +140,8 @@ worked_texts = record {
   a_blank_behind_a_minus_sign = refl;
   a_fission_that_is_not_near = refl;
   all_words_printed = refl;
+  the_first_and_last_letters = refl;
+  beside_the_letters = refl;
+  beside_the_digits = refl;
+  the_last_digit = refl;
 }

@@ -23,7 +23,7 @@ accepted_runs = record {
   the_lesser_bid_is_the_secondary = shown 5 refl refl refl refl refl refl refl;
   two_bots_fill_a_full_line = shown 7 refl refl refl refl refl refl refl;
   two_bots_void_a_void_line = shown 7 refl refl refl refl refl refl refl;
-  legs_of_different_lengths = shown 4 refl refl refl refl refl refl refl;
+  legs_of_different_lengths = shown 5 refl refl refl refl refl refl refl;
   a_fusion_gives_the_secondarys_seeds = shown 6 refl refl refl refl refl refl refl;
 }
 
@@ -68,6 +68,12 @@ refused_runs = record {
   the_least_difference = shown 2 refl refl refl refl refl refl refl;
   two_of_four_members_at_one_corner = shown 4 refl refl refl refl refl refl refl;
   a_bot_in_the_middle_of_its_region = shown 3 refl refl refl refl refl refl refl;
+  a_fusion_from_the_secondarys_side = shown 3 refl refl refl refl refl refl refl;
+  two_primaries_face_each_other = shown 3 refl refl refl refl refl refl refl;
+  two_secondaries_face_each_other = shown 3 refl refl refl refl refl refl refl;
+  two_lines_are_no_group = shown 4 refl refl refl refl refl refl refl;
+  two_voided_lines_are_no_group = shown 4 refl refl refl refl refl refl refl;
+  the_greatest_fission = shown 2 refl refl refl refl refl refl refl;
 }
 
 pub light_runs : LightRuns

@@ -1,5 +1,5 @@
 -- Worked examples of spellings, traces, models, levels and texts.
-use Rattle.std.specs.Prelude.{◌≡◌, true, false, flat_map, pos, List, [], ◌∷◌, ◌++◌, Ok, Err, Some, None, codes, length}
+use Rattle.std.specs.Prelude.{◌≡◌, true, false, map, flat_map, pos, List, [], ◌∷◌, ◌++◌, Ok, Err, Some, None, codes, length}
 use Rattle.vox_geom.specs.declared.coordinate.Coord.{Coord}
 use Rattle.nano_spec.specs.declared.commands.Command.TheVariants.{Halt, Wait, Flip, SMove, LMove, FusionP, FusionS, Fission, Fill, Void, GFill, GVoid}
 use Rattle.nano_spec.specs.Cutting.{Decoding, CutAt, BadAt}
@@ -144,6 +144,8 @@ pub record WorkedModels : Type 0 where
   pub no_level_of_a_floating_voxel : Level (voxels_at 3 (coord 1 1 1 ∷ [])) (coord 1 1 1) None
   -- a void voxel has none
   pub no_level_of_a_void_voxel : Level (empty 3) (coord 1 0 1) None
+  -- a path to the floor may rise: a voxel hangs from an arm of a post
+  pub a_hanging_voxel_is_grounded : Legality (voxels_at 5 (coord 1 0 1 ∷ coord 1 1 1 ∷ coord 1 2 1 ∷ coord 2 2 1 ∷ coord 2 1 1 ∷ [])) None
 
 -- how texts are printed and read
 pub record WorkedTexts : Type 0 where
@@ -241,3 +243,11 @@ pub record WorkedTexts : Type 0 where
       ∷ Fill (diff (pos 1) (pos 0) (pos 1)) ∷ Void (diff (pos 1) (pos 0) (pos 0)) ∷ GFill (diff (pos 1) (pos 0) (pos 0)) (diff (pos 30) (pos 0) (below_zero 30))
       ∷ GVoid (diff (pos 1) (pos 0) (pos 0)) (diff (pos 0) (pos 2) (pos 0)) ∷ [])
       ≡ codes "Halt\nWait\nFlip\nSMove <0,0,15>\nLMove <5,0,0> <0,-1,0>\nFusionP <0,0,1>\nFusionS <0,0,-1>\nFission <0,1,0> 120\nFill <1,0,1>\nVoid <1,0,0>\nGFill <1,0,0> <30,0,-30>\nGVoid <1,0,0> <0,2,0>\n"
+  -- A, Z, a and z are letters
+  pub the_first_and_last_letters : map (λ b. read (codes "Wait" ++ b ∷ [])) (codes "AZaz") ≡ Err (record { fault = UnknownWord; line = 1 }) ∷ Err (record { fault = UnknownWord; line = 1 }) ∷ Err (record { fault = UnknownWord; line = 1 }) ∷ Err (record { fault = UnknownWord; line = 1 }) ∷ []
+  -- the bytes beside them are none
+  pub beside_the_letters : map (λ b. read (codes "Wait" ++ b ∷ [])) (codes "@[`{") ≡ Err (record { fault = Shape; line = 1 }) ∷ Err (record { fault = Shape; line = 1 }) ∷ Err (record { fault = Shape; line = 1 }) ∷ Err (record { fault = Shape; line = 1 }) ∷ []
+  -- the bytes beside 0 and 9 are no digits
+  pub beside_the_digits : map (λ b. read (codes "SMove <" ++ b ∷ codes ",0,0>")) (codes "/:") ≡ Err (record { fault = Shape; line = 1 }) ∷ Err (record { fault = Shape; line = 1 }) ∷ []
+  -- 9 is a digit
+  pub the_last_digit : read (codes "SMove <9,0,0>") ≡ Ok (SMove (diff (pos 9) (pos 0) (pos 0)) ∷ [])

@@ -38,8 +38,8 @@ pub record AcceptedRuns : Type 0 where
   pub two_bots_fill_a_full_line : Accepts a_line a_line (hex "75 00 FE 34 11 B9 1E 1E 20 B1 1E 1E 1C FE 34 0D 77 66 FF") (pos 2476) 6
   -- a group command voids void voxels for 3 each: the third step costs 424
   pub two_bots_void_a_void_line : Accepts empty_5 empty_5 (hex "75 00 FE 34 11 B8 1E 1E 20 B0 1E 1E 1C FE 34 0D 77 66 FF") (pos 2467) 6
-  -- legs of 1 and 2: the steps cost 111, 111 and 101
-  pub legs_of_different_lengths : Accepts empty_3 empty_3 (hex "DC 76 7C 43 FF") (pos 323) 3
+  -- legs of 1 and 2, and back by two moves: the steps cost 111, 105, 103 and 101
+  pub legs_of_different_lengths : Accepts empty_3 empty_3 (hex "DC 76 34 0D 14 0E FF") (pos 420) 4
   -- the secondary has the seed 3, and after the fusion the bot has all 39 seeds again
   pub a_fusion_gives_the_secondarys_seeds : Accepts empty_3 empty_3 (hex "75 01 77 66 75 26 77 66 FF") (pos 545) 5
 
@@ -121,6 +121,18 @@ pub record RefusedRuns : Type 0 where
   pub two_of_four_members_at_one_corner : Refuses empty_3 empty_3 (hex "75 01 B5 00 B5 00 81 1F 1E 1F 81 1F 1E 1D 81 1D 1E 1D 39 1F 1E 1F") GroupShape 3 1 (coord 0 0 0)
   -- the bot stands in its region, at none of its corners
   pub a_bot_in_the_middle_of_its_region : Refuses empty_4 empty_4 (hex "34 10 61 1E 1E 21") InRegion 2 1 (coord 0 0 1)
+  -- the primary's difference does not lead to the secondary
+  pub a_fusion_from_the_secondarys_side : Refuses empty_3 empty_3 (hex "75 00 87 66") Partner 2 1 (coord 0 0 0)
+  -- two primaries are no partners
+  pub two_primaries_face_each_other : Refuses empty_3 empty_3 (hex "75 00 77 67") Partner 2 1 (coord 0 0 0)
+  -- two secondaries are no partners
+  pub two_secondaries_face_each_other : Refuses empty_3 empty_3 (hex "75 00 76 66") Partner 2 1 (coord 0 0 0)
+  -- two bots fill two lines, of which one is a part of the other
+  pub two_lines_are_no_group : Refuses empty_5 a_line (hex "75 00 FE 34 11 B9 1E 1E 20 B1 1E 1E 1D") GroupShape 3 1 (coord 0 0 0)
+  -- two bots void two such lines
+  pub two_voided_lines_are_no_group : Refuses a_line empty_5 (hex "75 00 FE 34 11 B8 1E 1E 20 B0 1E 1E 1D") GroupShape 3 1 (coord 0 0 0)
+  -- the greatest number of a Fission is a command, for which seeds are wanting
+  pub the_greatest_fission : Refuses empty_3 empty_3 (hex "75 FF") Seeds 1 1 (coord 0 0 0)
 
 -- traces with the light profile
 pub record LightRuns : Type 0 where
