@@ -3,11 +3,12 @@ use Rattle.std.proofs.Common.{refl, [], ◌∷◌, pos}
 use Rattle.std.specs.Fmt.{digits}
 use Rattle.std.specs.Prelude.{Some, None}
 use Rattle.nano_spec.specs.declared.commands.Command.TheVariants.{Wait, SMove, FusionP, GFill}
+use Rattle.nano_spec.specs.Grounded.{Grounded}
 use Rattle.nano_spec.specs.Legal.{Border, Floating}
 use Rattle.nano_spec.specs.Matrix.{empty}
 use Rattle.nano_spec.specs.Worked.{diff, voxels_at}
 use Rattle.nano_spec.specs.WorkedBytes.{WorkedSpellings, WorkedTraces, WorkedModels, WorkedTexts}
-use Rattle.nano_spec.proofs.Heads.{bad, bad_whatever_follows, cut}
+use Rattle.nano_spec.proofs.Heads.{bad, bad_whatever_follows, cut, too_wide}
 use Rattle.nano_spec.proofs.Island.{floats}
 use Rattle.nano_spec.proofs.Levels.{before, afterwards}
 use Rattle.nano_spec.proofs.Simulation.{legality_is}
@@ -49,7 +50,13 @@ worked_traces = record {
   a_bad_byte_after_a_long_command = bad (0x14 ∷ 0x10 ∷ 0x04 ∷ []) (SMove (diff (pos 1) (pos 0) (pos 0)) ∷ []) 2 0x04 [] refl refl refl refl refl;
   a_cut_after_a_long_command = cut (0x14 ∷ 0x10 ∷ 0x71 ∷ 0x1E ∷ 0x1E ∷ []) (SMove (diff (pos 1) (pos 0) (pos 0)) ∷ []) 2 0x71 (0x1E ∷ 0x1E ∷ []) (GFill (diff (pos 0) (pos 0) (pos 1)) (diff (pos 0) (pos 0) (pos 1))) (0x1F ∷ []) refl refl refl refl refl (λ e. cc) refl;
   a_fission_of_255 = ((refl, tt), refl);
+  a_cut_that_is_bad = bad_whatever_follows (0x71 ∷ 0x3D ∷ []) [] 0 0x71 (0x3D ∷ []) refl refl refl too_wide refl;
+  a_far_difference_is_cut = cut (0x71 ∷ 0x1E ∷ []) [] 0 0x71 (0x1E ∷ []) (GFill (diff (pos 0) (pos 0) (pos 1)) (diff (pos 0) (pos 0) (pos 1))) (0x1E ∷ 0x1F ∷ []) refl refl refl refl refl (λ e. cc) refl;
 }
+
+-- by its path alone, and by no lemma
+a_hanging_voxel : Grounded (voxels_at 5 (coord 1 0 1 ∷ coord 1 1 1 ∷ coord 1 2 1 ∷ coord 2 2 1 ∷ coord 2 1 1 ∷ [])) (coord 2 1 1)
+a_hanging_voxel = (coord 2 1 1 ∷ coord 2 2 1 ∷ coord 1 2 1 ∷ coord 1 1 1 ∷ coord 1 0 1 ∷ [], refl)
 
 pub worked_models : WorkedModels
 worked_models = record {
@@ -92,7 +99,7 @@ worked_models = record {
   four_bytes_after_the_runs = refl;
   no_level_of_a_floating_voxel = floats (voxels_at 3 (coord 1 1 1 ∷ [])) (coord 1 1 1 ∷ []) (coord 1 1 1) refl refl;
   no_level_of_a_void_voxel = void_is (empty 3) (coord 1 0 1) refl;
-  a_hanging_voxel_is_grounded = legality_is 6 (voxels_at 5 (coord 1 0 1 ∷ coord 1 1 1 ∷ coord 1 2 1 ∷ coord 2 2 1 ∷ coord 2 1 1 ∷ [])) None refl;
+  a_hanging_voxel_is_grounded = a_hanging_voxel;
 }
 
 pub worked_texts : WorkedTexts

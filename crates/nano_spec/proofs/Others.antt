@@ -3,7 +3,7 @@ use Rattle.std.proofs.Common.{refl}
 use Rattle.nano_spec.specs.declared.outcomes.Rule.TheVariants.{TraceEnds, OutOfSpace, Seeds}
 use Rattle.nano_spec.specs.State.{seed_numbers}
 use Rattle.nano_spec.specs.Work.{stops}
-use Rattle.nano_spec.proofs.WorkDone.{work_of_a_refused_group, work_of_a_ring, work_of_another_post}
+use Rattle.nano_spec.proofs.WorkDone.{work_of_a_floating_voxel, work_of_a_refused_group, work_of_a_ring, work_of_another_post}
 use Rattle.nano_spec.specs.WorkedOthers.{WorkedForge, WorkedNames, WorkedOrders, WorkedWork}
 use Rattle.vox_geom.specs.Point.{coord}
 
@@ -20,6 +20,7 @@ worked_forge = record {
   a_wrapped_number = refl;
   a_number_of_1024 = refl;
   lines_on_top = refl;
+  the_first_of_two_tallest = refl;
 }
 
 pub worked_orders : WorkedOrders
@@ -40,6 +41,7 @@ worked_work = record {
   work_of_a_command_out_of_space = stops (record { step = 1; bid = 1; rule = OutOfSpace; at = coord 0 0 0 }) refl refl refl;
   work_of_a_refused_group = work_of_a_refused_group;
   work_of_another_post = work_of_another_post;
+  work_of_a_floating_voxel = work_of_a_floating_voxel;
 }
 
 pub worked_names : WorkedNames

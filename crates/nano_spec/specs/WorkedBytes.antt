@@ -3,6 +3,7 @@ use Rattle.std.specs.Prelude.{◌≡◌, true, false, map, flat_map, pos, List, 
 use Rattle.vox_geom.specs.declared.coordinate.Coord.{Coord}
 use Rattle.nano_spec.specs.declared.commands.Command.TheVariants.{Halt, Wait, Flip, SMove, LMove, FusionP, FusionS, Fission, Fill, Void, GFill, GVoid}
 use Rattle.nano_spec.specs.Cutting.{Decoding, CutAt, BadAt}
+use Rattle.nano_spec.specs.Grounded.{Grounded}
 use Rattle.nano_spec.specs.Legal.{Legality, Border, Floating}
 use Rattle.nano_spec.specs.Level.{Level}
 use Rattle.nano_spec.specs.Matrix.{empty}
@@ -68,6 +69,10 @@ pub record WorkedTraces : Type 0 where
   pub a_cut_after_a_long_command : Decoding (hex "14 10 71 1E 1E") (Err (CutAt 2))
   -- the greatest number of a Fission
   pub a_fission_of_255 : Decoding (hex "75 FF") (Ok (Fission (diff (pos 0) (pos 0) (pos 1)) 255 ∷ []))
+  -- a far difference with a first component of 31 begins no command, also where its other bytes are missing
+  pub a_cut_that_is_bad : Decoding (hex "71 3D") (Err (BadAt 0))
+  -- one of 0 does
+  pub a_far_difference_is_cut : Decoding (hex "71 1E") (Err (CutAt 0))
 
 -- what the bytes of a model say, whether it is legal, and levels
 pub record WorkedModels : Type 0 where
@@ -145,7 +150,7 @@ pub record WorkedModels : Type 0 where
   -- a void voxel has none
   pub no_level_of_a_void_voxel : Level (empty 3) (coord 1 0 1) None
   -- a path to the floor may rise: a voxel hangs from an arm of a post
-  pub a_hanging_voxel_is_grounded : Legality (voxels_at 5 (coord 1 0 1 ∷ coord 1 1 1 ∷ coord 1 2 1 ∷ coord 2 2 1 ∷ coord 2 1 1 ∷ [])) None
+  pub a_hanging_voxel_is_grounded : Grounded (voxels_at 5 (coord 1 0 1 ∷ coord 1 1 1 ∷ coord 1 2 1 ∷ coord 2 2 1 ∷ coord 2 1 1 ∷ [])) (coord 2 1 1)
 
 -- how texts are printed and read
 pub record WorkedTexts : Type 0 where

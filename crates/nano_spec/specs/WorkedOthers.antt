@@ -49,6 +49,8 @@ pub record WorkedForge : Type 0 where
   pub a_number_of_1024 : forged 1024 3 ≡ forged 0 3
   -- three columns, of which one is 3 high: lines on its top layer
   pub lines_on_top : forged 1 5 ≡ voxels_at 5 (coord 1 0 3 ∷ coord 1 1 3 ∷ coord 1 2 3 ∷ coord 2 0 1 ∷ coord 2 2 1 ∷ coord 2 2 2 ∷ coord 2 2 3 ∷ coord 3 0 1 ∷ coord 3 2 3 ∷ [])
+  -- two columns are 4 high: the line z = 3 is that of the first of them, at x = 2
+  pub the_first_of_two_tallest : forged 2 5 ≡ voxels_at 5 (coord 1 0 2 ∷ coord 1 1 2 ∷ coord 1 3 3 ∷ coord 2 0 3 ∷ coord 2 1 3 ∷ coord 2 2 3 ∷ coord 2 3 1 ∷ coord 2 3 2 ∷ coord 2 3 3 ∷ coord 3 0 2 ∷ coord 3 1 2 ∷ coord 3 2 2 ∷ coord 3 3 2 ∷ coord 3 3 3 ∷ [])
 
 -- two bots beside each other, at resolution 5
 abbrev pub with_two : State
@@ -100,6 +102,9 @@ pub record WorkedWork : Type 0 where
   -- what is filled
   pub work_of_another_post : Work (voxels_at 4 (coord 1 0 1 ∷ coord 1 1 1 ∷ coord 1 1 2 ∷ []))
       (Fission (diff (pos 0) (pos 0) (pos 1)) 0 ∷ Void (diff (pos 1) (pos 0) (pos 1)) ∷ Fill (diff (pos 1) (pos 0) (pos 1)) ∷ []) full_profile 14
+  -- a post is voided and the voxel above it floats, so that the step is refused: its work is two volatile coordinates, one voxel that
+  -- changes, and two whose levels change
+  pub work_of_a_floating_voxel : Work (voxels_at 3 (coord 1 0 1 ∷ coord 1 1 1 ∷ [])) (Void (diff (pos 1) (pos 0) (pos 1)) ∷ []) full_profile 5
 
 -- a bot with seeds
 abbrev pub seeded : ℕ → Coord → List ℕ → Bot
