@@ -10,3 +10,4 @@ pub mod Returning
 pub mod Standing
 pub mod TouchedBack
 pub mod Trying
+pub mod Walks
