@@ -2,13 +2,17 @@
 use Rattle.std.proofs.Common.{refl, [], ◌∷◌, pos}
 use Rattle.std.specs.Fmt.{digits}
 use Rattle.std.specs.Prelude.{Some, None}
-use Rattle.nano_spec.specs.declared.commands.Command.TheVariants.{SMove, FusionP}
+use Rattle.nano_spec.specs.declared.commands.Command.TheVariants.{Wait, SMove, FusionP, GFill}
+use Rattle.nano_spec.specs.Grounded.{Grounded}
 use Rattle.nano_spec.specs.Legal.{Border, Floating}
+use Rattle.nano_spec.specs.Matrix.{empty}
 use Rattle.nano_spec.specs.Worked.{diff, voxels_at}
 use Rattle.nano_spec.specs.WorkedBytes.{WorkedSpellings, WorkedTraces, WorkedModels, WorkedTexts}
-use Rattle.nano_spec.proofs.Heads.{bad, cut}
+use Rattle.nano_spec.proofs.Heads.{bad, bad_whatever_follows, cut, too_wide}
+use Rattle.nano_spec.proofs.Island.{floats}
 use Rattle.nano_spec.proofs.Levels.{before, afterwards}
 use Rattle.nano_spec.proofs.Simulation.{legality_is}
+use Rattle.nano_spec.proofs.WorkDone.{void_is}
 use Rattle.vox_geom.specs.Point.{coord}
 
 pub worked_spellings : WorkedSpellings
@@ -25,6 +29,11 @@ worked_spellings = record {
   a_group_fill = (_, refl, refl);
   a_group_void = (_, refl, refl);
   without_differences = (_, refl, refl);
+  a_longest_move = (_, refl, refl);
+  a_longest_move_back = (_, refl, refl);
+  the_longest_legs = (_, refl, refl);
+  the_farthest_corner = (_, refl, refl);
+  the_greatest_fission = (_, refl, refl);
 }
 
 pub worked_traces : WorkedTraces
@@ -34,7 +43,20 @@ worked_traces = record {
   a_fill_at_a_corner = bad (0x03 ∷ []) [] 0 0x03 [] refl refl refl refl refl;
   a_bad_byte_after_a_command = bad (0x77 ∷ 0x04 ∷ []) (FusionP (diff (pos 0) (pos 0) (pos 1)) ∷ []) 1 0x04 [] refl refl refl refl refl;
   a_move_without_its_length = cut (0x14 ∷ []) [] 0 0x14 [] (SMove (diff (pos 12) (pos 0) (pos 0))) (0x1B ∷ []) refl refl refl refl refl (λ e. cc) refl;
+  a_move_of_length_0 = bad_whatever_follows (0x34 ∷ 0x0F ∷ []) [] 0 0x34 (0x0F ∷ []) refl refl refl (λ x. refl) refl;
+  a_leg_of_length_0 = bad_whatever_follows (0xFE ∷ 0x5C ∷ 0x56 ∷ []) (Wait ∷ []) 1 0x5C (0x56 ∷ []) refl refl refl (λ x. refl) refl;
+  a_region_of_no_extent = bad_whatever_follows (0x71 ∷ 0x1E ∷ 0x1E ∷ 0x1E ∷ []) [] 0 0x71 (0x1E ∷ 0x1E ∷ 0x1E ∷ []) refl refl refl (λ x. refl) refl;
+  too_far_a_corner = bad_whatever_follows (0x71 ∷ 0x3D ∷ 0x1E ∷ 0x1E ∷ []) [] 0 0x71 (0x3D ∷ 0x1E ∷ 0x1E ∷ []) refl refl refl (λ x. refl) refl;
+  a_bad_byte_after_a_long_command = bad (0x14 ∷ 0x10 ∷ 0x04 ∷ []) (SMove (diff (pos 1) (pos 0) (pos 0)) ∷ []) 2 0x04 [] refl refl refl refl refl;
+  a_cut_after_a_long_command = cut (0x14 ∷ 0x10 ∷ 0x71 ∷ 0x1E ∷ 0x1E ∷ []) (SMove (diff (pos 1) (pos 0) (pos 0)) ∷ []) 2 0x71 (0x1E ∷ 0x1E ∷ []) (GFill (diff (pos 0) (pos 0) (pos 1)) (diff (pos 0) (pos 0) (pos 1))) (0x1F ∷ []) refl refl refl refl refl (λ e. cc) refl;
+  a_fission_of_255 = ((refl, tt), refl);
+  a_cut_that_is_bad = bad_whatever_follows (0x71 ∷ 0x3D ∷ []) [] 0 0x71 (0x3D ∷ []) refl refl refl too_wide refl;
+  a_far_difference_is_cut = cut (0x71 ∷ 0x1E ∷ []) [] 0 0x71 (0x1E ∷ []) (GFill (diff (pos 0) (pos 0) (pos 1)) (diff (pos 0) (pos 0) (pos 1))) (0x1E ∷ 0x1F ∷ []) refl refl refl refl refl (λ e. cc) refl;
 }
+
+-- by its path alone, and by no lemma
+a_hanging_voxel : Grounded (voxels_at 5 (coord 1 0 1 ∷ coord 1 1 1 ∷ coord 1 2 1 ∷ coord 2 2 1 ∷ coord 2 1 1 ∷ [])) (coord 2 1 1)
+a_hanging_voxel = (coord 2 1 1 ∷ coord 2 2 1 ∷ coord 1 2 1 ∷ coord 1 1 1 ∷ coord 1 0 1 ∷ [], refl)
 
 pub worked_models : WorkedModels
 worked_models = record {
@@ -71,6 +93,13 @@ worked_models = record {
   a_floating_voxel = legality_is 6 (voxels_at 3 (coord 1 1 1 ∷ [])) (Some (Floating (coord 1 1 1))) refl;
   a_level_by_the_nearer_post = before;
   a_level_by_the_other_post = afterwards;
+  a_wide_resolution_of_one_byte = refl;
+  no_runs = refl;
+  too_few_runs = refl;
+  four_bytes_after_the_runs = refl;
+  no_level_of_a_floating_voxel = floats (voxels_at 3 (coord 1 1 1 ∷ [])) (coord 1 1 1 ∷ []) (coord 1 1 1) refl refl;
+  no_level_of_a_void_voxel = void_is (empty 3) (coord 1 0 1) refl;
+  a_hanging_voxel_is_grounded = a_hanging_voxel;
 }
 
 pub worked_texts : WorkedTexts
@@ -102,4 +131,24 @@ worked_texts = record {
   a_negative_number = refl;
   not_ascii = refl;
   not_ascii_in_a_comment = refl;
+  a_digit_behind_a_word = refl;
+  the_greatest_byte = refl;
+  no_length = refl;
+  too_long_a_move = refl;
+  a_leg_of_no_length = refl;
+  too_long_a_leg = refl;
+  not_linear = refl;
+  no_near_difference = refl;
+  no_far_difference = refl;
+  too_far = refl;
+  a_low_line_behind_a_word = refl;
+  another_letter_behind_a_word = refl;
+  a_vertical_tab = refl;
+  a_blank_behind_a_minus_sign = refl;
+  a_fission_that_is_not_near = refl;
+  all_words_printed = refl;
+  the_first_and_last_letters = refl;
+  beside_the_letters = refl;
+  beside_the_digits = refl;
+  the_last_digit = refl;
 }

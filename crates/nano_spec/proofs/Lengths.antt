@@ -1,5 +1,5 @@
 -- How many bytes a command has: 1 to 4.
-use Rattle.std.proofs.Common.{ℕ, ◌≤◌, arith, length}
+use Rattle.std.proofs.Common.{◌≤◌, arith, length}
 use Rattle.nano_spec.specs.declared.commands.Command.{Command}
 use Rattle.nano_spec.specs.declared.commands.Command.TheVariants.{Halt, Wait, Flip, SMove, LMove, FusionP, FusionS, Fission, Fill, Void, GFill, GVoid}
 use Rattle.nano_spec.specs.Spelling.{spelling}

@@ -21,6 +21,7 @@ pub mod Runs
 pub mod Seeds
 pub mod Showing
 pub mod Simulation
+pub mod States
 pub mod Steps
 pub mod Traces
 pub mod Unique

@@ -1,10 +1,10 @@
--- Worked examples of the forge, of steps whose groups act one after another, and of work, each by computing.
+-- Worked examples of the forge, of steps whose groups act one after another, of work and of names, each by computing.
 use Rattle.std.proofs.Common.{refl}
 use Rattle.nano_spec.specs.declared.outcomes.Rule.TheVariants.{TraceEnds, OutOfSpace, Seeds}
 use Rattle.nano_spec.specs.State.{seed_numbers}
 use Rattle.nano_spec.specs.Work.{stops}
-use Rattle.nano_spec.proofs.WorkDone.{work_of_a_ring}
-use Rattle.nano_spec.specs.WorkedOthers.{WorkedForge, WorkedOrders, WorkedWork}
+use Rattle.nano_spec.proofs.WorkDone.{work_of_a_floating_voxel, work_of_a_refused_group, work_of_a_ring, work_of_another_post}
+use Rattle.nano_spec.specs.WorkedOthers.{WorkedForge, WorkedNames, WorkedOrders, WorkedWork}
 use Rattle.vox_geom.specs.Point.{coord}
 
 pub worked_forge : WorkedForge
@@ -17,6 +17,10 @@ worked_forge = record {
   two_columns = refl;
   two_columns_written = refl;
   no_room = refl;
+  a_wrapped_number = refl;
+  a_number_of_1024 = refl;
+  lines_on_top = refl;
+  the_first_of_two_tallest = refl;
 }
 
 pub worked_orders : WorkedOrders
@@ -35,4 +39,16 @@ worked_work = record {
   work_of_a_refused_fission = stops (record { step = 1; bid = 1; rule = Seeds; at = coord 0 0 0 }) refl refl refl;
   work_of_a_ring = work_of_a_ring;
   work_of_a_command_out_of_space = stops (record { step = 1; bid = 1; rule = OutOfSpace; at = coord 0 0 0 }) refl refl refl;
+  work_of_a_refused_group = work_of_a_refused_group;
+  work_of_another_post = work_of_another_post;
+  work_of_a_floating_voxel = work_of_a_floating_voxel;
+}
+
+pub worked_names : WorkedNames
+worked_names = record {
+  rule_numbers = refl;
+  rule_names = refl;
+  full_allows = refl;
+  light_allows = refl;
+  only_one_is_allowed = refl;
 }

@@ -1,5 +1,5 @@
 -- What is printed is read back as the same commands.
-use Rattle.std.proofs.Common.{◌≡◌, ℕ, zero, suc, ◌+◌, ◌*◌, ◌-◌, ◌/◌, ◌%◌, ◌<◌, ◌≤◌, refl, sym, ◌∙◌, ap, subst, inl, inr, ◌⊎◌, arith, Bool, true, false, cond, ◌&&◌, ◌==◌, not, List, [], ◌∷◌, ◌++◌, map, take, ℤ, pos, negsuc}
+use Rattle.std.proofs.Common.{◌≡◌, ℕ, suc, ◌+◌, ◌*◌, ◌-◌, ◌/◌, ◌%◌, ◌<◌, ◌≤◌, refl, sym, ◌∙◌, ap, subst, inl, inr, ◌⊎◌, arith, Bool, true, false, cond, ◌&&◌, ◌==◌, not, List, [], ◌∷◌, ◌++◌, map, take, ℤ, pos, negsuc}
 use Rattle.std.specs.Prelude.{int_le, ◌||◌, Contains, IsFalse, IsTrue, Ok, Some, codes, decimal, flat_map, nat_le, nat_lt, unsigned_abs}
 use Rattle.std.specs.Fmt.{digits as fmt_digits, signed_decimal}
 use Rattle.std.specs.List.{onto_first, before_first, list_all, position_or_len, slice_split}

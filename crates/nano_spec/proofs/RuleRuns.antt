@@ -19,6 +19,9 @@ order_of_rules = record {
   a_bot_stands_in_its_region = shown 2 refl refl refl refl refl refl refl;
   a_bot_breaks_a_rule_where_groups_meet = shown 3 refl refl refl refl refl refl refl;
   a_command_follows_a_wrong_result = shown 2 refl refl refl refl refl refl refl;
+  a_secondary_leaves_space = shown 2 refl refl refl refl refl refl refl;
+  a_bot_stands_in_the_region_that_it_voids = shown 2 refl refl refl refl refl refl refl;
+  a_forbidden_command_out_of_space = shown 2 refl refl refl refl refl refl refl;
 }
 
 pub meeting_groups : MeetingGroups
@@ -36,4 +39,10 @@ meeting_groups = record {
   a_member_is_met_at_its_position = shown 4 refl refl refl refl refl refl refl;
   a_region_is_met = shown 4 refl refl refl refl refl refl refl;
   the_least_leader_is_answered = shown 4 refl refl refl refl refl refl refl;
+  a_leader_meets_two_groups = shown 4 refl refl refl refl refl refl refl;
+  a_first_leg_meets_a_bot = shown 3 refl refl refl refl refl refl refl;
+  a_filling_bot_is_met = shown 3 refl refl refl refl refl refl refl;
+  a_voiding_bot_is_met = shown 3 refl refl refl refl refl refl refl;
+  a_parent_is_met = shown 3 refl refl refl refl refl refl refl;
+  a_filled_region_is_met = shown 4 refl refl refl refl refl refl refl;
 }

@@ -21,6 +21,10 @@ accepted_runs = record {
   a_move_round_a_corner_and_back = shown 4 refl refl refl refl refl refl refl;
   a_fusion_gives_all_seeds_back = shown 6 refl refl refl refl refl refl refl;
   the_lesser_bid_is_the_secondary = shown 5 refl refl refl refl refl refl refl;
+  two_bots_fill_a_full_line = shown 7 refl refl refl refl refl refl refl;
+  two_bots_void_a_void_line = shown 7 refl refl refl refl refl refl refl;
+  legs_of_different_lengths = shown 5 refl refl refl refl refl refl refl;
+  a_fusion_gives_the_secondarys_seeds = shown 6 refl refl refl refl refl refl refl;
 }
 
 pub refused_runs : RefusedRuns
@@ -50,6 +54,26 @@ refused_runs = record {
   a_first_leg_leaves_space = shown 2 refl refl refl refl refl refl refl;
   a_command_goes_by_bid = shown 4 refl refl refl refl refl refl refl;
   a_child_has_the_next_seeds = shown 4 refl refl refl refl refl refl refl;
+  a_secondary_has_no_primary = shown 2 refl refl refl refl refl refl refl;
+  a_fill_leaves_space = shown 2 refl refl refl refl refl refl refl;
+  a_void_leaves_space = shown 2 refl refl refl refl refl refl refl;
+  a_move_leaves_space_on_the_far_side = shown 2 refl refl refl refl refl refl refl;
+  a_voided_region_leaves_space = shown 2 refl refl refl refl refl refl refl;
+  a_first_leg_is_blocked = shown 3 refl refl refl refl refl refl refl;
+  both_voiding_members_are_at_one_corner = shown 3 refl refl refl refl refl refl refl;
+  a_near_corner_leaves_space = shown 2 refl refl refl refl refl refl refl;
+  a_voided_near_corner_leaves_space = shown 2 refl refl refl refl refl refl refl;
+  a_halt_off_the_origin_along_y = shown 3 refl refl refl refl refl refl refl;
+  a_halt_off_the_origin_along_z = shown 3 refl refl refl refl refl refl refl;
+  the_least_difference = shown 2 refl refl refl refl refl refl refl;
+  two_of_four_members_at_one_corner = shown 4 refl refl refl refl refl refl refl;
+  a_bot_in_the_middle_of_its_region = shown 3 refl refl refl refl refl refl refl;
+  a_fusion_from_the_secondarys_side = shown 3 refl refl refl refl refl refl refl;
+  two_primaries_face_each_other = shown 3 refl refl refl refl refl refl refl;
+  two_secondaries_face_each_other = shown 3 refl refl refl refl refl refl refl;
+  two_lines_are_no_group = shown 4 refl refl refl refl refl refl refl;
+  two_voided_lines_are_no_group = shown 4 refl refl refl refl refl refl refl;
+  the_greatest_fission = shown 2 refl refl refl refl refl refl refl;
 }
 
 pub light_runs : LightRuns
@@ -61,4 +85,6 @@ light_runs = record {
   a_fission_asks_for_twenty_seeds = shown 2 refl refl refl refl refl refl refl;
   a_forbidden_command_is_answered_first = shown 2 refl refl refl refl refl refl refl;
   a_forbidden_command_of_the_greater_bid = shown 3 refl refl refl refl refl refl refl;
+  a_voided_region_is_forbidden = shown 2 refl refl refl refl refl refl refl;
+  the_light_profile_waits_flips_and_turns = shown 7 refl refl refl refl refl refl refl;
 }

@@ -1,8 +1,9 @@
 -- Worked examples of spellings, traces, models, levels and texts.
-use Rattle.std.specs.Prelude.{◌≡◌, true, false, flat_map, pos, List, [], ◌∷◌, ◌++◌, Ok, Err, Some, None, codes, length}
+use Rattle.std.specs.Prelude.{◌≡◌, true, false, map, flat_map, pos, List, [], ◌∷◌, ◌++◌, Ok, Err, Some, None, codes, length}
 use Rattle.vox_geom.specs.declared.coordinate.Coord.{Coord}
-use Rattle.nano_spec.specs.declared.commands.Command.TheVariants.{Halt, SMove, Fission, Fill}
+use Rattle.nano_spec.specs.declared.commands.Command.TheVariants.{Halt, Wait, Flip, SMove, LMove, FusionP, FusionS, Fission, Fill, Void, GFill, GVoid}
 use Rattle.nano_spec.specs.Cutting.{Decoding, CutAt, BadAt}
+use Rattle.nano_spec.specs.Grounded.{Grounded}
 use Rattle.nano_spec.specs.Legal.{Legality, Border, Floating}
 use Rattle.nano_spec.specs.Level.{Level}
 use Rattle.nano_spec.specs.Matrix.{empty}
@@ -31,6 +32,16 @@ pub record WorkedSpellings : Type 0 where
   pub a_group_fill : Assembles "GFill <0,-1,0> <10,-15,20>" "51 28 0F 32"
   pub a_group_void : Assembles "GVoid <1,0,0> <5,5,-5>" "B0 23 23 19"
   pub without_differences : Assembles "Halt\nWait\nFlip" "FF FE FD"
+  -- the longest move
+  pub a_longest_move : Assembles "SMove <15,0,0>" "14 1E"
+  -- the longest move back
+  pub a_longest_move_back : Assembles "SMove <0,-15,0>" "24 00"
+  -- the longest legs
+  pub the_longest_legs : Assembles "LMove <5,0,0> <0,-5,0>" "9C 0A"
+  -- the farthest corner
+  pub the_farthest_corner : Assembles "GFill <0,0,1> <30,-30,0>" "71 3C 00 1E"
+  -- the greatest number of a Fission
+  pub the_greatest_fission : Assembles "Fission <0,0,1> 255" "75 FF"
 
 -- what the bytes of a trace say
 pub record WorkedTraces : Type 0 where
@@ -44,6 +55,24 @@ pub record WorkedTraces : Type 0 where
   pub a_bad_byte_after_a_command : Decoding (hex "77 04") (Err (BadAt 1))
   -- the second byte of a move is missing
   pub a_move_without_its_length : Decoding (hex "14") (Err (CutAt 0))
+  -- a move of length 0
+  pub a_move_of_length_0 : Decoding (hex "34 0F") (Err (BadAt 0))
+  -- a second leg of length 0
+  pub a_leg_of_length_0 : Decoding (hex "FE 5C 56") (Err (BadAt 1))
+  -- a far difference of 0
+  pub a_region_of_no_extent : Decoding (hex "71 1E 1E 1E") (Err (BadAt 0))
+  -- a component of 31
+  pub too_far_a_corner : Decoding (hex "71 3D 1E 1E") (Err (BadAt 0))
+  -- the offset counts bytes
+  pub a_bad_byte_after_a_long_command : Decoding (hex "14 10 04") (Err (BadAt 2))
+  -- the offset is that of the command that is cut
+  pub a_cut_after_a_long_command : Decoding (hex "14 10 71 1E 1E") (Err (CutAt 2))
+  -- the greatest number of a Fission
+  pub a_fission_of_255 : Decoding (hex "75 FF") (Ok (Fission (diff (pos 0) (pos 0) (pos 1)) 255 ∷ []))
+  -- a far difference with a first component of 31 begins no command, also where its other bytes are missing
+  pub a_cut_that_is_bad : Decoding (hex "71 3D") (Err (BadAt 0))
+  -- one of 0 does
+  pub a_far_difference_is_cut : Decoding (hex "71 1E") (Err (CutAt 0))
 
 -- what the bytes of a model say, whether it is legal, and levels
 pub record WorkedModels : Type 0 where
@@ -108,6 +137,20 @@ pub record WorkedModels : Type 0 where
   pub a_level_by_the_nearer_post : Level (voxels_at 5 (coord 1 0 1 ∷ ring)) (coord 1 1 1) (Some 1)
   -- the same without the nearer post
   pub a_level_by_the_other_post : Level (voxels_at 5 ring) (coord 1 1 1) (Some 5)
+  -- the second byte of the resolution is missing
+  pub a_wide_resolution_of_one_byte : model (hex "FF 00") ≡ Err (WideHead 2)
+  -- there is no run
+  pub no_runs : model (hex "FF 00 FB") ≡ Err (WideShort 0)
+  -- there is one run, and voxels are wanting
+  pub too_few_runs : model (hex "FF 00 FB 00 00 F6 1A") ≡ Err (WideShort 63002)
+  -- the three runs have all voxels, and four bytes are left
+  pub four_bytes_after_the_runs : model (hex "FF 00 FB 00 00 F6 1A 00 00 00 01 00 F0 54 68 00 00 00 00") ≡ Err WideLong
+  -- a voxel that floats has no level
+  pub no_level_of_a_floating_voxel : Level (voxels_at 3 (coord 1 1 1 ∷ [])) (coord 1 1 1) None
+  -- a void voxel has none
+  pub no_level_of_a_void_voxel : Level (empty 3) (coord 1 0 1) None
+  -- a path to the floor may rise: a voxel hangs from an arm of a post
+  pub a_hanging_voxel_is_grounded : Grounded (voxels_at 5 (coord 1 0 1 ∷ coord 1 1 1 ∷ coord 1 2 1 ∷ coord 2 2 1 ∷ coord 2 1 1 ∷ [])) (coord 2 1 1)
 
 -- how texts are printed and read
 pub record WorkedTexts : Type 0 where
@@ -168,3 +211,48 @@ pub record WorkedTexts : Type 0 where
   pub not_ascii : read (codes "Wait\n" ++ 0xC3 ∷ []) ≡ Err (record { fault = NotAscii; line = 2 })
   -- in a comment too
   pub not_ascii_in_a_comment : read (codes "Wait\n#" ++ 0xC3 ∷ []) ≡ Err (record { fault = NotAscii; line = 2 })
+  -- a word is letters alone
+  pub a_digit_behind_a_word : read (codes "Wait1") ≡ Err (record { fault = Shape; line = 1 })
+  -- 7F is ASCII
+  pub the_greatest_byte : read (codes "Wait#" ++ 0x7F ∷ []) ≡ Ok (Wait ∷ [])
+  -- a move has a length
+  pub no_length : read (codes "SMove <0,0,0>") ≡ Err (record { fault = Range; line = 1 })
+  -- its length is at most 15
+  pub too_long_a_move : read (codes "SMove <0,16,0>") ≡ Err (record { fault = Range; line = 1 })
+  -- a leg has a length
+  pub a_leg_of_no_length : read (codes "LMove <0,0,0> <1,0,0>") ≡ Err (record { fault = Range; line = 1 })
+  -- its length is at most 5
+  pub too_long_a_leg : read (codes "LMove <1,0,0> <0,0,-6>") ≡ Err (record { fault = Range; line = 1 })
+  -- a move is along one axis
+  pub not_linear : read (codes "SMove <1,1,0>") ≡ Err (record { fault = Range; line = 1 })
+  -- <0,0,0> is not near
+  pub no_near_difference : read (codes "Fill <0,0,0>") ≡ Err (record { fault = Range; line = 1 })
+  -- <0,0,0> is not far
+  pub no_far_difference : read (codes "GFill <0,0,1> <0,0,0>") ≡ Err (record { fault = Range; line = 1 })
+  -- a far difference has components of at most 30
+  pub too_far : read (codes "GVoid <0,0,1> <31,0,0>") ≡ Err (record { fault = Range; line = 1 })
+  -- and no other bytes are letters
+  pub a_low_line_behind_a_word : read (codes "Wait_") ≡ Err (record { fault = Shape; line = 1 })
+  -- a longer word is another one
+  pub another_letter_behind_a_word : read (codes "HaltZ") ≡ Err (record { fault = UnknownWord; line = 1 })
+  -- a vertical tab is no blank
+  pub a_vertical_tab : read (codes "Wait" ++ 0x0B ∷ []) ≡ Err (record { fault = Shape; line = 1 })
+  -- a minus sign stands at its number
+  pub a_blank_behind_a_minus_sign : read (codes "SMove <- 1,0,0>") ≡ Err (record { fault = Shape; line = 1 })
+  -- a Fission has a near difference
+  pub a_fission_that_is_not_near : read (codes "Fission <1,1,1> 0") ≡ Err (record { fault = Range; line = 1 })
+  -- how each command is printed
+  pub all_words_printed : print
+      (Halt ∷ Wait ∷ Flip ∷ SMove (diff (pos 0) (pos 0) (pos 15)) ∷ LMove (diff (pos 5) (pos 0) (pos 0)) (diff (pos 0) (below_zero 1) (pos 0))
+      ∷ FusionP (diff (pos 0) (pos 0) (pos 1)) ∷ FusionS (diff (pos 0) (pos 0) (below_zero 1)) ∷ Fission (diff (pos 0) (pos 1) (pos 0)) 120
+      ∷ Fill (diff (pos 1) (pos 0) (pos 1)) ∷ Void (diff (pos 1) (pos 0) (pos 0)) ∷ GFill (diff (pos 1) (pos 0) (pos 0)) (diff (pos 30) (pos 0) (below_zero 30))
+      ∷ GVoid (diff (pos 1) (pos 0) (pos 0)) (diff (pos 0) (pos 2) (pos 0)) ∷ [])
+      ≡ codes "Halt\nWait\nFlip\nSMove <0,0,15>\nLMove <5,0,0> <0,-1,0>\nFusionP <0,0,1>\nFusionS <0,0,-1>\nFission <0,1,0> 120\nFill <1,0,1>\nVoid <1,0,0>\nGFill <1,0,0> <30,0,-30>\nGVoid <1,0,0> <0,2,0>\n"
+  -- A, Z, a and z are letters
+  pub the_first_and_last_letters : map (λ b. read (codes "Wait" ++ b ∷ [])) (codes "AZaz") ≡ Err (record { fault = UnknownWord; line = 1 }) ∷ Err (record { fault = UnknownWord; line = 1 }) ∷ Err (record { fault = UnknownWord; line = 1 }) ∷ Err (record { fault = UnknownWord; line = 1 }) ∷ []
+  -- the bytes beside them are none
+  pub beside_the_letters : map (λ b. read (codes "Wait" ++ b ∷ [])) (codes "@[`{") ≡ Err (record { fault = Shape; line = 1 }) ∷ Err (record { fault = Shape; line = 1 }) ∷ Err (record { fault = Shape; line = 1 }) ∷ Err (record { fault = Shape; line = 1 }) ∷ []
+  -- the bytes beside 0 and 9 are no digits
+  pub beside_the_digits : map (λ b. read (codes "SMove <" ++ b ∷ codes ",0,0>")) (codes "/:") ≡ Err (record { fault = Shape; line = 1 }) ∷ Err (record { fault = Shape; line = 1 }) ∷ []
+  -- 9 is a digit
+  pub the_last_digit : read (codes "SMove <9,0,0>") ≡ Ok (SMove (diff (pos 9) (pos 0) (pos 0)) ∷ [])

@@ -1,20 +1,29 @@
--- Worked examples of the forge, of steps whose groups act one after another, and of work.
-use Rattle.std.specs.Prelude.{◌≡◌, pos, List, [], ◌∷◌, Some, None}
+-- Worked examples of the forge, of steps whose groups act one after another, of work, of states, and of names.
+use Rattle.std.specs.Prelude.{◌≡◌, ℕ, ◌^◌, true, pos, List, [], ◌∷◌, ◌++◌, map, filter, flat_map, take, codes, Some, None}
+use Rattle.std.specs.List.{list_all}
+use Rattle.vox_geom.specs.declared.coordinate.Coord.{Coord}
 use Rattle.nano_spec.specs.declared.commands.Command.{Command}
-use Rattle.nano_spec.specs.declared.commands.Command.TheVariants.{Halt, Wait, SMove, Fission, Fill, Void, GFill}
-use Rattle.nano_spec.specs.declared.system.Harmonics.TheVariants.{Low}
+use Rattle.nano_spec.specs.declared.commands.Command.TheVariants.{Halt, Wait, Flip, SMove, LMove, FusionP, FusionS, Fission, Fill, Void, GFill, GVoid}
+use Rattle.nano_spec.specs.declared.outcomes.Rule.{Rule}
+use Rattle.nano_spec.specs.declared.outcomes.Rule.TheVariants.{TraceEnds, HaltAlone, HaltOrigin, HaltLow, OutOfSpace, Blocked, Seeds, InRegion, Partner, GroupShape, Interference, Ungrounded, AfterHalt, WrongResult, Forbidden}
+use Rattle.nano_spec.specs.declared.system.Bot.{Bot}
+use Rattle.nano_spec.specs.declared.system.Profile.{Profile}
+use Rattle.nano_spec.specs.declared.system.Harmonics.{Harmonics}
+use Rattle.nano_spec.specs.declared.system.Harmonics.TheVariants.{Low, High}
 use Rattle.nano_spec.specs.Forge.{forged, mixed}
-use Rattle.nano_spec.specs.Matrix.{empty}
+use Rattle.nano_spec.specs.Matrix.{Matrix, empty}
 use Rattle.nano_spec.specs.Model.{written}
-use Rattle.nano_spec.specs.Profile.{full_profile}
+use Rattle.nano_spec.specs.Profile.{full_profile, light_profile, is_allowed}
+use Rattle.nano_spec.specs.Rule.{rule_number, name_of}
 use Rattle.nano_spec.specs.Serial.{serial}
-use Rattle.nano_spec.specs.State.{State}
+use Rattle.nano_spec.specs.State.{IsReady, IsWellFormed, State, seed_set}
 use Rattle.nano_spec.specs.Step.{after}
 use Rattle.nano_spec.specs.Work.{Work}
 use Rattle.nano_spec.specs.Worked.{diff, hex, voxels_at, below_zero}
 use Rattle.nano_spec.specs.WorkedBytes.{ring}
 use Rattle.nano_spec.specs.WorkedStep.{bot}
 use Rattle.vox_geom.specs.Point.{coord}
+use Rattle.vox_geom.specs.Space.{numbers_below}
 
 -- forged models and their bytes
 pub record WorkedForge : Type 0 where
@@ -34,6 +43,14 @@ pub record WorkedForge : Type 0 where
   pub two_columns_written : written (forged 0 4) ≡ hex "04 00 00 02 00 06 00 00 00"
   -- there is no room for a column
   pub no_room : forged 0 2 ≡ empty 2
+  -- mixed numbers are below 1024
+  pub a_wrapped_number : mixed 1000 1 1 ≡ 165
+  -- 1024 says the same as 0
+  pub a_number_of_1024 : forged 1024 3 ≡ forged 0 3
+  -- three columns, of which one is 3 high: lines on its top layer
+  pub lines_on_top : forged 1 5 ≡ voxels_at 5 (coord 1 0 3 ∷ coord 1 1 3 ∷ coord 1 2 3 ∷ coord 2 0 1 ∷ coord 2 2 1 ∷ coord 2 2 2 ∷ coord 2 2 3 ∷ coord 3 0 1 ∷ coord 3 2 3 ∷ [])
+  -- two columns are 4 high: the line z = 3 is that of the first of them, at x = 2
+  pub the_first_of_two_tallest : forged 2 5 ≡ voxels_at 5 (coord 1 0 2 ∷ coord 1 1 2 ∷ coord 1 3 3 ∷ coord 2 0 3 ∷ coord 2 1 3 ∷ coord 2 2 3 ∷ coord 2 3 1 ∷ coord 2 3 2 ∷ coord 2 3 3 ∷ coord 3 0 2 ∷ coord 3 1 2 ∷ coord 3 2 2 ∷ coord 3 3 2 ∷ coord 3 3 3 ∷ [])
 
 -- two bots beside each other, at resolution 5
 abbrev pub with_two : State
@@ -75,3 +92,80 @@ pub record WorkedWork : Type 0 where
   pub work_of_a_ring : Work (voxels_at 5 (coord 1 0 1 ∷ ring)) (Void (diff (pos 1) (pos 0) (pos 1)) ∷ Halt ∷ []) full_profile 8
   -- a command that leaves space has no volatile coordinate
   pub work_of_a_command_out_of_space : Work (empty 3) (SMove (diff (below_zero 1) (pos 0) (pos 0)) ∷ []) full_profile 0
+  -- two bots would fill a line of two voxels from one corner: two volatile coordinates for the Fission, and then once four
+  -- for the whole group
+  pub work_of_a_refused_group : Work (empty 3)
+      (Fission (diff (pos 0) (pos 0) (pos 1)) 0 ∷ GFill (diff (pos 1) (pos 0) (pos 1)) (diff (pos 0) (pos 0) (pos 1))
+      ∷ GFill (diff (pos 1) (pos 0) (pos 0)) (diff (pos 0) (pos 0) (pos 1)) ∷ []) full_profile 6
+  -- two voxels above the floor on a post, which one bot voids while another bot fills a post below the other of them: two volatile
+  -- coordinates for the Fission, and then four, two voxels that change, three whose levels change by what is voided, and three by
+  -- what is filled
+  pub work_of_another_post : Work (voxels_at 4 (coord 1 0 1 ∷ coord 1 1 1 ∷ coord 1 1 2 ∷ []))
+      (Fission (diff (pos 0) (pos 0) (pos 1)) 0 ∷ Void (diff (pos 1) (pos 0) (pos 1)) ∷ Fill (diff (pos 1) (pos 0) (pos 1)) ∷ []) full_profile 14
+  -- a post is voided and the voxel above it floats, so that the step is refused: its work is two volatile coordinates, one voxel that
+  -- changes, and two whose levels change
+  pub work_of_a_floating_voxel : Work (voxels_at 3 (coord 1 0 1 ∷ coord 1 1 1 ∷ [])) (Void (diff (pos 1) (pos 0) (pos 1)) ∷ []) full_profile 5
+
+-- a bot with seeds
+abbrev pub seeded : ℕ → Coord → List ℕ → Bot
+seeded bid at seeds = record { bid = bid; pos = at; seeds = seed_set seeds }
+
+-- a state with a matrix and bots
+abbrev pub state_with : Harmonics → Matrix → List Bot → State
+state_with harmonics m bots = record { matrix = m; harmonics = harmonics; bots = bots; energy = pos 0; profile = full_profile }
+
+-- a voxel floats, which High allows
+abbrev pub FloatingUnderHigh : Type 0
+FloatingUnderHigh = IsWellFormed (state_with High (voxels_at 3 (coord 1 1 1 ∷ [])) (bot 1 0 0 0 ∷ []))
+
+-- states that are not well-formed or not ready, each for one reason
+pub record WorkedStates : Type 0 where
+  -- a voxel floats, which Low does not allow
+  pub floating_under_low : IsWellFormed (state_with Low (voxels_at 3 (coord 1 1 1 ∷ [])) (bot 1 0 0 0 ∷ [])) → ⊥
+  -- two bots have the bid 2
+  pub one_bid_twice : IsWellFormed (state_with Low (empty 3) (bot 2 0 0 0 ∷ bot 2 0 0 1 ∷ [])) → ⊥
+  -- two bots stand at one coordinate
+  pub one_place_twice : IsWellFormed (state_with Low (empty 3) (bot 1 0 0 1 ∷ bot 2 0 0 1 ∷ [])) → ⊥
+  -- a bot stands in a full voxel
+  pub a_bot_in_a_voxel : IsWellFormed (state_with Low (voxels_at 3 (coord 1 0 1 ∷ [])) (bot 1 1 0 1 ∷ [])) → ⊥
+  -- both bots have the seed 5
+  pub one_seed_twice : IsWellFormed (state_with Low (empty 3) (seeded 1 (coord 0 0 0) (4 ∷ 5 ∷ []) ∷ seeded 2 (coord 0 0 1) (5 ∷ []) ∷ [])) → ⊥
+  -- the bid of an active bot is a seed
+  pub a_seed_is_active : IsWellFormed (state_with Low (empty 3) (seeded 1 (coord 0 0 0) (2 ∷ 3 ∷ []) ∷ bot 2 0 0 1 ∷ [])) → ⊥
+  -- the matrix has no voxels
+  pub no_voxels : IsReady (state_with Low (record { resolution = 3; voxels = [] }) (bot 1 0 0 0 ∷ [])) → ⊥
+  -- a bot stands outside the matrix
+  pub a_bot_outside : IsReady (state_with Low (empty 3) (bot 1 0 0 3 ∷ [])) → ⊥
+  -- the bots are not in the order of their bids
+  pub bids_that_fall : IsReady (state_with Low (empty 3) (bot 2 0 0 0 ∷ bot 1 0 0 1 ∷ [])) → ⊥
+  -- two bots stand at one coordinate, both have a seed, and the bid of an active bot is a seed
+  pub one_ready_place_twice : IsReady (state_with Low (empty 3) (bot 1 0 0 1 ∷ bot 2 0 0 1 ∷ [])) → ⊥
+  pub one_ready_seed_twice : IsReady (state_with Low (empty 3) (seeded 1 (coord 0 0 0) (4 ∷ 5 ∷ []) ∷ seeded 2 (coord 0 0 1) (5 ∷ []) ∷ [])) → ⊥
+  pub a_ready_seed_is_active : IsReady (state_with Low (empty 3) (seeded 1 (coord 0 0 0) (2 ∷ 3 ∷ []) ∷ bot 2 0 0 1 ∷ [])) → ⊥
+
+-- all rules, in the order of their numbers
+abbrev pub all_rules : List Rule
+all_rules = TraceEnds ∷ HaltAlone ∷ HaltOrigin ∷ HaltLow ∷ OutOfSpace ∷ Blocked ∷ Seeds ∷ InRegion ∷ Partner ∷ GroupShape ∷ Interference ∷ Ungrounded ∷ AfterHalt
+    ∷ WrongResult ∷ Forbidden ∷ []
+
+-- a command of each word, in the order of the words
+abbrev pub all_commands : List Command
+all_commands = Halt ∷ Wait ∷ Flip ∷ SMove (diff (pos 1) (pos 0) (pos 0)) ∷ LMove (diff (pos 1) (pos 0) (pos 0)) (diff (pos 0) (pos 1) (pos 0))
+    ∷ FusionP (diff (pos 1) (pos 0) (pos 0)) ∷ FusionS (diff (pos 1) (pos 0) (pos 0)) ∷ Fission (diff (pos 1) (pos 0) (pos 0)) 0 ∷ Fill (diff (pos 1) (pos 0) (pos 0))
+    ∷ Void (diff (pos 1) (pos 0) (pos 0)) ∷ GFill (diff (pos 1) (pos 0) (pos 0)) (diff (pos 1) (pos 0) (pos 0))
+    ∷ GVoid (diff (pos 1) (pos 0) (pos 0)) (diff (pos 1) (pos 0) (pos 0)) ∷ []
+
+-- the profile without seeds that allows the command at one place alone
+abbrev pub allowing : ℕ → Profile
+allowing place = record { seeds = 0; allowed = 2 ^ place }
+
+-- the numbers and names of the rules, and which commands profiles allow
+pub record WorkedNames : Type 0 where
+  pub rule_numbers : map rule_number all_rules ≡ 1 ∷ 2 ∷ 3 ∷ 4 ∷ 5 ∷ 6 ∷ 7 ∷ 8 ∷ 9 ∷ 10 ∷ 11 ∷ 12 ∷ 13 ∷ 14 ∷ 15 ∷ []
+  pub rule_names : flat_map (λ r. name_of r ++ codes " ") all_rules
+      ≡ codes "TraceEnds HaltAlone HaltOrigin HaltLow OutOfSpace Blocked Seeds InRegion Partner GroupShape Interference Ungrounded AfterHalt WrongResult Forbidden "
+  -- the full profile allows all twelve, the light one the first nine
+  pub full_allows : list_all (is_allowed full_profile) all_commands ≡ true
+  pub light_allows : filter (is_allowed light_profile) all_commands ≡ take 9 all_commands
+  -- a profile that allows the k-th command alone
+  pub only_one_is_allowed : flat_map (λ k. filter (is_allowed (allowing k)) all_commands) (numbers_below 12) ≡ all_commands

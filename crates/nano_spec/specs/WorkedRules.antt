@@ -1,6 +1,6 @@
 -- Worked examples of runs in which more than one rule is broken, or in which groups interfere.
-use Rattle.nano_spec.specs.declared.outcomes.Rule.TheVariants.{TraceEnds, HaltAlone, HaltOrigin, OutOfSpace, Blocked, Seeds, InRegion, Partner, Interference, AfterHalt}
-use Rattle.nano_spec.specs.Worked.{Refuses, hex, empty_3, empty_4, empty_5, one_voxel, a_line}
+use Rattle.nano_spec.specs.declared.outcomes.Rule.TheVariants.{TraceEnds, HaltAlone, HaltOrigin, OutOfSpace, Blocked, Seeds, InRegion, Partner, Interference, AfterHalt, Forbidden}
+use Rattle.nano_spec.specs.Worked.{Refuses, RefusesLight, hex, empty_3, empty_4, empty_5, one_voxel, a_line}
 use Rattle.vox_geom.specs.Point.{coord}
 
 -- where more than one rule is broken
@@ -29,6 +29,12 @@ pub record OrderOfRules : Type 0 where
   pub a_bot_breaks_a_rule_where_groups_meet : Refuses empty_3 empty_3 (hex "75 00 34 10 B5 00") Seeds 2 2 (coord 0 0 1)
   -- a command follows the Halt, and the target has a voxel that was not filled
   pub a_command_follows_a_wrong_result : Refuses empty_3 one_voxel (hex "FF FE") AfterHalt 1 0 (coord 0 0 0)
+  -- there is no partner for the secondary
+  pub a_secondary_leaves_space : Refuses empty_3 empty_3 (hex "26") OutOfSpace 1 1 (coord 0 0 0)
+  -- the bot stands in the region that it voids, which wants two members
+  pub a_bot_stands_in_the_region_that_it_voids : Refuses empty_3 empty_3 (hex "70 1E 1E 1D") InRegion 1 1 (coord 0 0 0)
+  -- with the light profile Void is not allowed, and the voxel is outside the matrix
+  pub a_forbidden_command_out_of_space : RefusesLight empty_3 empty_3 (hex "22") Forbidden 1 1 (coord 0 0 0)
 
 -- where groups interfere
 pub record MeetingGroups : Type 0 where
@@ -56,3 +62,15 @@ pub record MeetingGroups : Type 0 where
   pub a_region_is_met : Refuses a_line empty_5 (hex "75 01 B5 00 34 11 B8 1E 1E 20 B0 1E 1E 1C 72") Interference 3 1 (coord 1 0 1)
   -- the bots 1 and 13 meet, and so do 2 and 3: the pair with the least leader is answered
   pub the_least_leader_is_answered : Refuses empty_3 empty_3 (hex "75 0A 85 00 B5 00 FE FE 14 0E 24 0E") Interference 3 1 (coord 0 0 0)
+  -- bot 1 meets bot 2 at (0,0,1) and bot 3 at (0,0,0): the pair with the lesser other leader is answered
+  pub a_leader_meets_two_groups : Refuses empty_3 empty_3 (hex "75 00 B5 00 FE 34 11 FE 14 0E") Interference 3 1 (coord 0 0 1)
+  -- the first leg of a move meets a bot that waits, and the second does not
+  pub a_first_leg_meets_a_bot : Refuses empty_3 empty_3 (hex "75 00 7C 67 FE") Interference 2 1 (coord 0 0 1)
+  -- a bot moves to one that fills a voxel
+  pub a_filling_bot_is_met : Refuses empty_3 empty_3 (hex "75 00 B3 34 0E") Interference 2 1 (coord 0 0 0)
+  -- a bot moves to one that voids a voxel
+  pub a_voiding_bot_is_met : Refuses empty_3 empty_3 (hex "75 00 B2 34 0E") Interference 2 1 (coord 0 0 0)
+  -- a bot moves to one that makes a bot
+  pub a_parent_is_met : Refuses empty_3 empty_3 (hex "75 01 B5 00 34 0E") Interference 2 1 (coord 0 0 0)
+  -- a bot moves into the region that a group fills
+  pub a_filled_region_is_met : Refuses empty_5 a_line (hex "75 01 B5 00 34 11 B9 1E 1E 20 B1 1E 1E 1C 34 10") Interference 3 1 (coord 1 0 1)

@@ -1,6 +1,6 @@
 -- Worked examples of runs: from the bytes of a source model, a target model and a trace to the verdict.
 use Rattle.std.specs.Prelude.{pos}
-use Rattle.nano_spec.specs.declared.outcomes.Rule.TheVariants.{TraceEnds, HaltAlone, HaltOrigin, HaltLow, OutOfSpace, Blocked, Seeds, Partner, GroupShape, Ungrounded, AfterHalt, WrongResult, Forbidden}
+use Rattle.nano_spec.specs.declared.outcomes.Rule.TheVariants.{TraceEnds, HaltAlone, HaltOrigin, HaltLow, OutOfSpace, Blocked, Seeds, InRegion, Partner, GroupShape, Ungrounded, AfterHalt, WrongResult, Forbidden}
 use Rattle.nano_spec.specs.Worked.{Accepts, Refuses, AcceptsLight, RefusesLight, hex, empty_1, empty_3, empty_4, empty_5, one_voxel, two_voxels, a_line, ring_on_a_post, ring_on_two_posts, ring_on_the_other_post}
 use Rattle.vox_geom.specs.Point.{coord}
 
@@ -34,6 +34,14 @@ pub record AcceptedRuns : Type 0 where
   pub a_fusion_gives_all_seeds_back : Accepts empty_3 empty_3 (hex "75 00 77 66 75 26 77 66 FF") (pos 545) 5
   -- the bot with the lesser bid is the secondary, and the other goes on: the steps cost 125, 97, 103 and 101
   pub the_lesser_bid_is_the_secondary : Accepts empty_3 empty_3 (hex "75 00 76 67 34 0E FF") (pos 426) 4
+  -- a group command fills full voxels for 6 each: the third step costs 433
+  pub two_bots_fill_a_full_line : Accepts a_line a_line (hex "75 00 FE 34 11 B9 1E 1E 20 B1 1E 1E 1C FE 34 0D 77 66 FF") (pos 2476) 6
+  -- a group command voids void voxels for 3 each: the third step costs 424
+  pub two_bots_void_a_void_line : Accepts empty_5 empty_5 (hex "75 00 FE 34 11 B8 1E 1E 20 B0 1E 1E 1C FE 34 0D 77 66 FF") (pos 2467) 6
+  -- legs of 1 and 2, and back by two moves: the steps cost 111, 105, 103 and 101
+  pub legs_of_different_lengths : Accepts empty_3 empty_3 (hex "DC 76 34 0D 14 0E FF") (pos 420) 4
+  -- the secondary has the seed 3, and after the fusion the bot has all 39 seeds again
+  pub a_fusion_gives_the_secondarys_seeds : Accepts empty_3 empty_3 (hex "75 01 77 66 75 26 77 66 FF") (pos 545) 5
 
 -- traces that are refused: the rule, the step, the bot and the coordinate
 pub record RefusedRuns : Type 0 where
@@ -85,6 +93,46 @@ pub record RefusedRuns : Type 0 where
   pub a_command_goes_by_bid : Refuses empty_3 empty_3 (hex "75 0A 85 00 B5 00 FE FE FE FF") HaltAlone 3 13 (coord 0 1 0)
   -- bot 2 was born with the seeds 3 to 12, so its first child is bot 3
   pub a_child_has_the_next_seeds : Refuses empty_3 empty_3 (hex "75 0A 85 00 B5 00 FE FE FF FE") HaltAlone 3 3 (coord 1 0 1)
+  -- no bot fuses with the secondary
+  pub a_secondary_has_no_primary : Refuses empty_3 empty_3 (hex "76") Partner 1 1 (coord 0 0 0)
+  -- the voxel to be filled is outside the matrix
+  pub a_fill_leaves_space : Refuses empty_3 empty_3 (hex "23 FF") OutOfSpace 1 1 (coord 0 0 0)
+  -- the voxel to be voided is outside the matrix
+  pub a_void_leaves_space : Refuses empty_3 empty_3 (hex "22 FF") OutOfSpace 1 1 (coord 0 0 0)
+  -- the bot would leave the matrix on the side away from the origin
+  pub a_move_leaves_space_on_the_far_side : Refuses empty_3 empty_3 (hex "14 12") OutOfSpace 1 1 (coord 0 0 0)
+  -- the far corner of the region to be voided is outside the matrix
+  pub a_voided_region_leaves_space : Refuses empty_3 empty_3 (hex "70 1E 1E 20") OutOfSpace 1 1 (coord 0 0 0)
+  -- the first leg of the move meets a full voxel, and the second does not
+  pub a_first_leg_is_blocked : Refuses one_voxel one_voxel (hex "14 10 7C 67") Blocked 2 1 (coord 1 0 1)
+  -- the members that void a region have to be at different corners too
+  pub both_voiding_members_are_at_one_corner : Refuses a_line empty_5 (hex "75 00 B8 1E 1E 20 B0 1E 1E 20") GroupShape 2 1 (coord 0 0 0)
+  -- the near corner of a region is outside the matrix, and the far corner is not
+  pub a_near_corner_leaves_space : Refuses empty_3 empty_3 (hex "29 1F 1E 1E") OutOfSpace 1 1 (coord 0 0 0)
+  -- the same for a region to be voided
+  pub a_voided_near_corner_leaves_space : Refuses empty_3 empty_3 (hex "28 1F 1E 1E") OutOfSpace 1 1 (coord 0 0 0)
+  -- the bot is above the origin
+  pub a_halt_off_the_origin_along_y : Refuses empty_3 empty_3 (hex "24 10 FF") HaltOrigin 2 1 (coord 0 1 0)
+  -- the bot is beside the origin
+  pub a_halt_off_the_origin_along_z : Refuses empty_3 empty_3 (hex "34 10 FF") HaltOrigin 2 1 (coord 0 0 1)
+  -- the target has two voxels that were not filled, and the least is answered
+  pub the_least_difference : Refuses empty_4 two_voxels (hex "FF") WrongResult 1 0 (coord 1 0 1)
+  -- of four members the first and the last are at one corner
+  pub two_of_four_members_at_one_corner : Refuses empty_3 empty_3 (hex "75 01 B5 00 B5 00 81 1F 1E 1F 81 1F 1E 1D 81 1D 1E 1D 39 1F 1E 1F") GroupShape 3 1 (coord 0 0 0)
+  -- the bot stands in its region, at none of its corners
+  pub a_bot_in_the_middle_of_its_region : Refuses empty_4 empty_4 (hex "34 10 61 1E 1E 21") InRegion 2 1 (coord 0 0 1)
+  -- the primary's difference does not lead to the secondary
+  pub a_fusion_from_the_secondarys_side : Refuses empty_3 empty_3 (hex "75 00 87 66") Partner 2 1 (coord 0 0 0)
+  -- two primaries are no partners
+  pub two_primaries_face_each_other : Refuses empty_3 empty_3 (hex "75 00 77 67") Partner 2 1 (coord 0 0 0)
+  -- two secondaries are no partners
+  pub two_secondaries_face_each_other : Refuses empty_3 empty_3 (hex "75 00 76 66") Partner 2 1 (coord 0 0 0)
+  -- two bots fill two lines, of which one is a part of the other
+  pub two_lines_are_no_group : Refuses empty_5 a_line (hex "75 00 FE 34 11 B9 1E 1E 20 B1 1E 1E 1D") GroupShape 3 1 (coord 0 0 0)
+  -- two bots void two such lines
+  pub two_voided_lines_are_no_group : Refuses a_line empty_5 (hex "75 00 FE 34 11 B8 1E 1E 20 B0 1E 1E 1D") GroupShape 3 1 (coord 0 0 0)
+  -- the greatest number of a Fission is a command, for which seeds are wanting
+  pub the_greatest_fission : Refuses empty_3 empty_3 (hex "75 FF") Seeds 1 1 (coord 0 0 0)
 
 -- traces with the light profile
 pub record LightRuns : Type 0 where
@@ -100,3 +148,7 @@ pub record LightRuns : Type 0 where
   pub a_forbidden_command_is_answered_first : RefusesLight empty_3 empty_3 (hex "71 1E 1E 1D") Forbidden 1 1 (coord 0 0 0)
   -- the lesser bid comes first, although the other's command is forbidden
   pub a_forbidden_command_of_the_greater_bid : RefusesLight empty_3 empty_3 (hex "75 00 FF BA") HaltAlone 2 1 (coord 0 0 0)
+  -- GVoid is not allowed
+  pub a_voided_region_is_forbidden : RefusesLight empty_3 empty_3 (hex "70 1E 1E 1F") Forbidden 1 1 (coord 0 0 0)
+  -- the other commands of the light profile: the steps cost 101, 101, 830, 109, 109 and 101
+  pub the_light_profile_waits_flips_and_turns : AcceptsLight empty_3 empty_3 (hex "FE FD FD 9C 66 6C 44 FF") (pos 1351) 6

@@ -27,7 +27,7 @@ ghost use Rattle.nano_spec.specs.State.{IsReady, IsWellFormed, State, opening};
 ghost use Rattle.nano_spec.specs.Verdict.{VerdictOf};
 ghost use Rattle.nano_spec.specs.Work.{Work};
 ghost use Rattle.nano_spec.specs.WorkedBytes.{WorkedSpellings, WorkedTraces, WorkedModels, WorkedTexts};
-ghost use Rattle.nano_spec.specs.WorkedOthers.{WorkedForge, WorkedOrders, WorkedWork};
+ghost use Rattle.nano_spec.specs.WorkedOthers.{FloatingUnderHigh, WorkedForge, WorkedNames, WorkedOrders, WorkedStates, WorkedWork};
 ghost use Rattle.nano_spec.specs.WorkedRules.{MeetingGroups, OrderOfRules};
 ghost use Rattle.nano_spec.specs.WorkedRuns.{AcceptedRuns, RefusedRuns, LightRuns};
 ghost use Rattle.nano_spec.specs.WorkedStep.{EightBotsVoidABlock, FlipsPayByTheirStart};
@@ -150,9 +150,12 @@ pub fn worked_bytes()
     ensures texts { WorkedTexts }
 {}
 
-/// Worked examples of the forge, of steps whose groups act one after another, and of work.
+/// Worked examples of the forge, of steps whose groups act one after another, of work, of states, and of names.
 pub fn worked_others()
     ensures forge { WorkedForge }
     ensures orders { WorkedOrders }
     ensures work { WorkedWork }
+    ensures states { WorkedStates }
+    ensures floating { FloatingUnderHigh }
+    ensures names { WorkedNames }
 {}

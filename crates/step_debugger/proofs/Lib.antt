@@ -9,3 +9,4 @@ pub mod Returning
 pub mod Standing
 pub mod TouchedBack
 pub mod Trying
+pub mod Walks

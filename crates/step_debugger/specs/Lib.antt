@@ -6,3 +6,4 @@ pub mod Orders
 pub mod Readiness
 pub mod Session
 pub mod Touches
+pub mod Worked

@@ -3,6 +3,7 @@ ghost use Rattle.std.specs.Prelude.{◌≡◌, ℕ, ℤ, ◌<◌, [], Bool, List
 ghost use Rattle.nano_spec.specs.declared.commands.Command.{Command as CommandOf};
 ghost use Rattle.nano_spec.specs.State.{IsReady};
 ghost use Rattle.step_debugger.specs.Orders.{BeginEach};
+ghost use Rattle.step_debugger.specs.Worked.{WorkedSessions};
 ghost use Rattle.step_debugger.specs.Session.{AnswersLine, Back, DebugLine, Made, DebugReport, Session, Step, is_returned, latest, most_past, next_leaders};
 
 /// A line of a session has one answer at most.
@@ -34,4 +35,9 @@ pub fn every_order_makes_the_step()
     ensures orders { (commands : List CommandOf) (first second : List ℕ) (s t u : Session) → IsReady s.point.state → s.begun ≡ []
         → IsPermutation (next_leaders commands s.point) first → IsPermutation (next_leaders commands s.point) second → BeginEach commands first s t
         → BeginEach commands second s u → t ≡ u }
+{}
+
+/// Worked examples of sessions.
+pub fn worked_sessions()
+    ensures { WorkedSessions }
 {}

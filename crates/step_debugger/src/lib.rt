@@ -9,4 +9,4 @@ mod steps;
 
 pub use debugger::Debugger;
 pub use fault::DebugFault;
-pub use laws::{back_restores, every_order_makes_the_step, one_answer};
+pub use laws::{back_restores, every_order_makes_the_step, one_answer, worked_sessions};
