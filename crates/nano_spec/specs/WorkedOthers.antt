@@ -111,37 +111,37 @@ abbrev pub seeded : ℕ → Coord → List ℕ → Bot
 seeded bid at seeds = record { bid = bid; pos = at; seeds = seed_set seeds }
 
 -- a state with a matrix and bots
-abbrev pub state_with : Harmonics → Matrix → List Bot → State
-state_with harmonics m bots = record { matrix = m; harmonics = harmonics; bots = bots; energy = pos 0; profile = full_profile }
+abbrev pub with_bots : Harmonics → Matrix → List Bot → State
+with_bots harmonics m bots = record { matrix = m; harmonics = harmonics; bots = bots; energy = pos 0; profile = full_profile }
 
 -- a voxel floats, which High allows
 abbrev pub FloatingUnderHigh : Type 0
-FloatingUnderHigh = IsWellFormed (state_with High (voxels_at 3 (coord 1 1 1 ∷ [])) (bot 1 0 0 0 ∷ []))
+FloatingUnderHigh = IsWellFormed (with_bots High (voxels_at 3 (coord 1 1 1 ∷ [])) (bot 1 0 0 0 ∷ []))
 
 -- states that are not well-formed or not ready, each for one reason
 pub record WorkedStates : Type 0 where
   -- a voxel floats, which Low does not allow
-  pub floating_under_low : IsWellFormed (state_with Low (voxels_at 3 (coord 1 1 1 ∷ [])) (bot 1 0 0 0 ∷ [])) → ⊥
+  pub floating_under_low : IsWellFormed (with_bots Low (voxels_at 3 (coord 1 1 1 ∷ [])) (bot 1 0 0 0 ∷ [])) → ⊥
   -- two bots have the bid 2
-  pub one_bid_twice : IsWellFormed (state_with Low (empty 3) (bot 2 0 0 0 ∷ bot 2 0 0 1 ∷ [])) → ⊥
+  pub one_bid_twice : IsWellFormed (with_bots Low (empty 3) (bot 2 0 0 0 ∷ bot 2 0 0 1 ∷ [])) → ⊥
   -- two bots stand at one coordinate
-  pub one_place_twice : IsWellFormed (state_with Low (empty 3) (bot 1 0 0 1 ∷ bot 2 0 0 1 ∷ [])) → ⊥
+  pub one_place_twice : IsWellFormed (with_bots Low (empty 3) (bot 1 0 0 1 ∷ bot 2 0 0 1 ∷ [])) → ⊥
   -- a bot stands in a full voxel
-  pub a_bot_in_a_voxel : IsWellFormed (state_with Low (voxels_at 3 (coord 1 0 1 ∷ [])) (bot 1 1 0 1 ∷ [])) → ⊥
+  pub a_bot_in_a_voxel : IsWellFormed (with_bots Low (voxels_at 3 (coord 1 0 1 ∷ [])) (bot 1 1 0 1 ∷ [])) → ⊥
   -- both bots have the seed 5
-  pub one_seed_twice : IsWellFormed (state_with Low (empty 3) (seeded 1 (coord 0 0 0) (4 ∷ 5 ∷ []) ∷ seeded 2 (coord 0 0 1) (5 ∷ []) ∷ [])) → ⊥
+  pub one_seed_twice : IsWellFormed (with_bots Low (empty 3) (seeded 1 (coord 0 0 0) (4 ∷ 5 ∷ []) ∷ seeded 2 (coord 0 0 1) (5 ∷ []) ∷ [])) → ⊥
   -- the bid of an active bot is a seed
-  pub a_seed_is_active : IsWellFormed (state_with Low (empty 3) (seeded 1 (coord 0 0 0) (2 ∷ 3 ∷ []) ∷ bot 2 0 0 1 ∷ [])) → ⊥
+  pub a_seed_is_active : IsWellFormed (with_bots Low (empty 3) (seeded 1 (coord 0 0 0) (2 ∷ 3 ∷ []) ∷ bot 2 0 0 1 ∷ [])) → ⊥
   -- the matrix has no voxels
-  pub no_voxels : IsReady (state_with Low (record { resolution = 3; voxels = [] }) (bot 1 0 0 0 ∷ [])) → ⊥
+  pub no_voxels : IsReady (with_bots Low (record { resolution = 3; voxels = [] }) (bot 1 0 0 0 ∷ [])) → ⊥
   -- a bot stands outside the matrix
-  pub a_bot_outside : IsReady (state_with Low (empty 3) (bot 1 0 0 3 ∷ [])) → ⊥
+  pub a_bot_outside : IsReady (with_bots Low (empty 3) (bot 1 0 0 3 ∷ [])) → ⊥
   -- the bots are not in the order of their bids
-  pub bids_that_fall : IsReady (state_with Low (empty 3) (bot 2 0 0 0 ∷ bot 1 0 0 1 ∷ [])) → ⊥
+  pub bids_that_fall : IsReady (with_bots Low (empty 3) (bot 2 0 0 0 ∷ bot 1 0 0 1 ∷ [])) → ⊥
   -- two bots stand at one coordinate, both have a seed, and the bid of an active bot is a seed
-  pub one_ready_place_twice : IsReady (state_with Low (empty 3) (bot 1 0 0 1 ∷ bot 2 0 0 1 ∷ [])) → ⊥
-  pub one_ready_seed_twice : IsReady (state_with Low (empty 3) (seeded 1 (coord 0 0 0) (4 ∷ 5 ∷ []) ∷ seeded 2 (coord 0 0 1) (5 ∷ []) ∷ [])) → ⊥
-  pub a_ready_seed_is_active : IsReady (state_with Low (empty 3) (seeded 1 (coord 0 0 0) (2 ∷ 3 ∷ []) ∷ bot 2 0 0 1 ∷ [])) → ⊥
+  pub one_ready_place_twice : IsReady (with_bots Low (empty 3) (bot 1 0 0 1 ∷ bot 2 0 0 1 ∷ [])) → ⊥
+  pub one_ready_seed_twice : IsReady (with_bots Low (empty 3) (seeded 1 (coord 0 0 0) (4 ∷ 5 ∷ []) ∷ seeded 2 (coord 0 0 1) (5 ∷ []) ∷ [])) → ⊥
+  pub a_ready_seed_is_active : IsReady (with_bots Low (empty 3) (seeded 1 (coord 0 0 0) (2 ∷ 3 ∷ []) ∷ bot 2 0 0 1 ∷ [])) → ⊥
 
 -- all rules, in the order of their numbers
 abbrev pub all_rules : List Rule
