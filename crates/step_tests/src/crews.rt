@@ -62,35 +62,44 @@ fn assert_bot(rt: &impl Abort, crew: &Crew, bid: u8, bot: Option<Bot>) {
     assert_eq!(rt; crew.bot(bid), bot);
 }
 
+/// All seeds of the only bot go to a new one, which moves, and come back.
+fn lend_all(rt: &impl Abort, crew: &mut Crew, all: Bot) {
+    assert_bots(rt, crew, &[all]);
+    split(rt, crew, 1, BESIDE, 38);
+    let two = [bot(1, ORIGIN, 0), bot(2, BESIDE, 0x01FF_FFFF_FFF8)];
+    assert_bots(rt, crew, &two);
+    assert_stands(rt, crew, BESIDE, Some(2));
+    go(rt, crew, 2, CORNER);
+    assert_stands(rt, crew, BESIDE, None);
+    assert_stands(rt, crew, CORNER, Some(2));
+    join(rt, crew, 1, 2);
+    assert_bot(rt, crew, 1, Some(all));
+    assert_bot(rt, crew, 2, None);
+    halt(rt, crew);
+}
+
 #[test]
 fn all_seeds_go_and_come_back(rt: HostRuntime) {
-    let all = bot(1, ORIGIN, 0x01FF_FFFF_FFFC);
     let mut crew = Crew::opening(Profile::full());
-    assert_bots(&rt, &crew, &[all]);
-    split(&rt, &mut crew, 1, BESIDE, 38);
-    let two = [bot(1, ORIGIN, 0), bot(2, BESIDE, 0x01FF_FFFF_FFF8)];
-    assert_bots(&rt, &crew, &two);
-    assert_stands(&rt, &crew, BESIDE, Some(2));
-    go(&rt, &mut crew, 2, CORNER);
-    assert_stands(&rt, &crew, BESIDE, None);
-    assert_stands(&rt, &crew, CORNER, Some(2));
-    join(&rt, &mut crew, 1, 2);
-    assert_bot(&rt, &crew, 1, Some(all));
-    assert_bot(&rt, &crew, 2, None);
-    halt(&rt, &mut crew);
+    lend_all(&rt, &mut crew, bot(1, ORIGIN, 0x01FF_FFFF_FFFC));
+}
+
+/// One bot becomes four, of which two join.
+fn grow(rt: &impl Abort, crew: &mut Crew) {
+    split(rt, crew, 1, BESIDE, 5);
+    split(rt, crew, 1, ABOVE, 0);
+    split(rt, crew, 2, CORNER, 1);
+    let first = bot(1, ORIGIN, 0x001F_FE00);
+    let second = bot(2, BESIDE, 0b1110_0000);
+    let third = bot(3, CORNER, 0b0001_0000);
+    assert_bots(rt, crew, &[first, second, third, bot(8, ABOVE, 0)]);
+    assert!(rt; seeds_of(second) == 3);
+    join(rt, crew, 8, 2);
+    assert_bots(rt, crew, &[first, third, bot(8, ABOVE, 0b1110_0100)]);
 }
 
 #[test]
 fn a_new_bot_stands_at_the_place_of_its_bid(rt: HostRuntime) {
     let mut crew = Crew::opening(Profile::light());
-    split(&rt, &mut crew, 1, BESIDE, 5);
-    split(&rt, &mut crew, 1, ABOVE, 0);
-    split(&rt, &mut crew, 2, CORNER, 1);
-    let first = bot(1, ORIGIN, 0x001F_FE00);
-    let second = bot(2, BESIDE, 0b1110_0000);
-    let third = bot(3, CORNER, 0b0001_0000);
-    assert_bots(&rt, &crew, &[first, second, third, bot(8, ABOVE, 0)]);
-    assert_eq!(rt; seeds_of(second), 3);
-    join(&rt, &mut crew, 8, 2);
-    assert_bots(&rt, &crew, &[first, third, bot(8, ABOVE, 0b1110_0100)]);
+    grow(&rt, &mut crew);
 }
