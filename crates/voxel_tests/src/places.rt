@@ -46,7 +46,7 @@ fn placed<L: Ledger>(rt: &impl Abort, blank: Blank, alloc: Global) -> Result<(),
     assert_places(rt, &planes, 4900, 6, 0b011111, &mut steps);
 
     set(&mut planes, at(1, 0, 60), true);
-    assert!(rt; planes.take_row(at(1, 0, 0), 64, !2) == 0x1000_0000_0000_001D);
+    assert!(rt; planes.take_row(at(1, 0, 0), 64, !2, &mut steps) == 0x1000_0000_0000_001D);
     assert_places(rt, &planes, 4900, 64, 2, &mut steps);
     Ok(())
 }
@@ -66,35 +66,40 @@ fn the_earlier_coordinate(rt: HostRuntime) -> Result<(), Fail> {
 }
 
 /// Whether each full voxel stands on the floor or on a full one.
-fn assert_heap(rt: &impl Abort, planes: &Planes, heap: bool) {
-    assert!(rt; planes.is_heap() == heap);
+fn assert_heap<L: Ledger>(rt: &impl Abort, planes: &Planes, heap: bool, steps: &mut Steps<L>) {
+    assert!(rt; planes.is_heap(steps) == heap);
 }
 
 /// Voxels that stand on one another, one that floats, and one that is held from beside alone.
-fn heaps(rt: &impl Abort, alloc: Global) -> Result<(), Memory> {
+fn heaps<L: Ledger>(rt: &impl Abort, blank: Blank, alloc: Global) -> Result<(), Memory>
+    requires name { blank.name ≡ L.name }
+    requires parts { blank.parts ≡ L.parts }
+    requires some { 0 < L.parts }
+{
+    let mut steps: Steps<L> = Steps::new(blank);
     let mut planes = Planes::empty(alloc, 70)?;
-    assert_heap(rt, &planes, true);
+    assert_heap(rt, &planes, true, &mut steps);
     set(&mut planes, at(0, 69, 5), true);
-    assert_heap(rt, &planes, false);
+    assert_heap(rt, &planes, false, &mut steps);
     set(&mut planes, at(1, 0, 5), true);
-    assert_heap(rt, &planes, false);
+    assert_heap(rt, &planes, false, &mut steps);
 
     set(&mut planes, at(0, 69, 5), false);
     set(&mut planes, at(69, 0, 69), true);
     set(&mut planes, at(69, 1, 69), true);
-    assert_heap(rt, &planes, true);
+    assert_heap(rt, &planes, true, &mut steps);
     set(&mut planes, at(1, 2, 5), true);
-    assert_heap(rt, &planes, false);
+    assert_heap(rt, &planes, false, &mut steps);
     set(&mut planes, at(1, 1, 5), true);
-    assert_heap(rt, &planes, true);
+    assert_heap(rt, &planes, true, &mut steps);
     set(&mut planes, at(1, 1, 6), true);
-    assert_heap(rt, &planes, false);
+    assert_heap(rt, &planes, false, &mut steps);
     Ok(())
 }
 
 #[test]
 fn stacked(rt: HostRuntime) -> Result<(), Fail> {
-    heaps(&rt, rt.alloc())?;
+    heaps::<Brand>(&rt, Blank::new(1), rt.alloc())?;
     Ok(())
 }
 

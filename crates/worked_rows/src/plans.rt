@@ -75,12 +75,11 @@ fn number_at(planned: &[u8], word: usize) -> Option<u32> {
 
 /// Whether a plan, with its line and the trace that was stored, is within the bound; the line tells how many bytes are stored.
 fn is_within(planned: &[u8], stored: &[u8], most: Most) -> bool {
-    let bytes = stored.len() as u32;
-    let number = match most {
-        Most::Bytes(most) => bytes <= most,
+    let within = match most {
+        Most::Bytes(most) => stored.len() <= most as usize,
         Most::Steps(most) => number_at(planned, 4).is_some_and(|steps| steps <= most),
     };
-    number && number_at(planned, 8) == Some(bytes)
+    within && number_at(planned, 8).is_some_and(|bytes| bytes as usize == stored.len())
 }
 
 /// A plan: the planner's word, the two models, the words of the runs that accept it, and its bound.
