@@ -1,3 +1,4 @@
+pub mod Examples
 pub mod Forms
 pub mod Levels
 pub mod Lines

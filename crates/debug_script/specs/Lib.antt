@@ -2,3 +2,4 @@ pub mod Calls
 pub mod Printing
 pub mod Script
 pub mod Sessions
+pub mod Worked

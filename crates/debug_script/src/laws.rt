@@ -1,4 +1,4 @@
-//! The laws of scripts.
+//! The laws of scripts, and worked examples of them.
 ghost use Rattle.std.specs.Prelude.{◌≡◌, ℕ, List, Result};
 ghost use Rattle.nano_spec.specs.declared.commands.Command.{Command};
 ghost use Rattle.nano_spec.specs.declared.system.Profile.{Profile};
@@ -7,6 +7,7 @@ ghost use Rattle.nano_spec.specs.Reading.{FaultyLine};
 ghost use Rattle.step_debugger.specs.Session.{DebugLine};
 ghost use Rattle.debug_script.specs.Script.{ScriptSays};
 ghost use Rattle.debug_script.specs.Sessions.{PrintsFrom};
+ghost use Rattle.debug_script.specs.Worked.{WorkedPrints, WorkedScripts};
 
 use step_debugger::one_answer;
 
@@ -22,3 +23,9 @@ pub fn one_text()
 {
     one_answer();
 }
+
+/// Worked examples of scripts, and of what their lines print.
+pub fn worked_scripts()
+    ensures scripts { WorkedScripts }
+    ensures prints { WorkedPrints }
+{}

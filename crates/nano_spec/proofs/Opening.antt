@@ -1,13 +1,12 @@
 -- The opening of a legal model is well-formed, and that of a whole model is ready.
 use Rattle.std.proofs.Common.{◌≡◌, ℕ, zero, suc, ◌+◌, ◌<◌, ◌≤◌, refl, ◌∙◌, length, arith, Bool, true, false, ◌&&◌, not, List, [], ◌∷◌, get_or}
-use Rattle.std.specs.Prelude.{IsTrue, IsFalse, Option, Some, None, find, option_map, MatchOption}
+use Rattle.std.specs.Prelude.{IsTrue, IsFalse, Some, None, find}
 use Rattle.std.specs.List.{list_all}
-use Rattle.vox_geom.specs.declared.coordinate.Coord.{Coord}
 use Rattle.vox_geom.specs.Space.{IsInSpace, numbers_from}
 use Rattle.nano_spec.specs.declared.system.Bot.{Bot}
 use Rattle.nano_spec.specs.declared.system.Profile.{Profile}
 use Rattle.nano_spec.specs.Grounded.{FirstUngrounded}
-use Rattle.nano_spec.specs.Legal.{Border, Floating, IsLegal, first_outside, in_legal_box}
+use Rattle.nano_spec.specs.Legal.{IsLegal, first_outside, in_legal_box, leaves_box, floats_inside, stands_inside}
 use Rattle.nano_spec.specs.Matrix.{Matrix, is_full, all_of}
 use Rattle.nano_spec.specs.Model.{volume}
 use Rattle.nano_spec.specs.State.{IsReady, IsWellFormed, opening, origin, first_bot, is_seed}
@@ -25,17 +24,11 @@ none_found test (x ∷ xs) e = by (test x) refl (none_found test xs)
         not_none g = cc
     by false f later = rw f (later (rw f at e))
 
-by_outside : (m : Matrix) (at : Option Coord) → first_outside m ≡ at → MatchOption at ((c : Option Coord) × FirstUngrounded m c × (None ≡ option_map Floating c)) (λ c. None ≡ Some (Border c)) → (first_outside m ≡ None) × FirstUngrounded m None
-by_outside m None e h = (e, grounded h.0 h.1 h.2)
-  where
-    grounded : (c : Option Coord) → FirstUngrounded m c → None ≡ option_map Floating c → FirstUngrounded m None
-    grounded None f g = f
-    grounded (Some c) f g = cc
-by_outside m (Some c) e h = cc
-
 -- a legal model has no voxel outside the legal box, and is grounded
 pub legal_is : (m : Matrix) → IsLegal m → (first_outside m ≡ None) × FirstUngrounded m None
-legal_is m h = by_outside m (first_outside m) refl h
+legal_is m (leaves_box c e f) = cc
+legal_is m (floats_inside c e u f) = cc
+legal_is m (stands_inside e u f) = (e, u)
 
 at_origin : (m : Matrix) (b : Bool) → is_full m origin ≡ b → first_outside m ≡ None → IsFalse (is_full m origin)
 at_origin m false e f = e

@@ -5,6 +5,7 @@ use Rattle.nano_spec.specs.State.{seed_numbers}
 use Rattle.nano_spec.specs.Work.{stops}
 use Rattle.nano_spec.proofs.WorkDone.{work_of_a_floating_voxel, work_of_a_refused_group, work_of_a_ring, work_of_another_post}
 use Rattle.nano_spec.specs.WorkedOthers.{WorkedForge, WorkedNames, WorkedOrders, WorkedWork}
+use Rattle.nano_spec.specs.Next.{breaks_at_start}
 use Rattle.vox_geom.specs.Point.{coord}
 
 pub worked_forge : WorkedForge
@@ -35,10 +36,10 @@ worked_orders = record {
 pub worked_work : WorkedWork
 unfolding seed_numbers
 worked_work = record {
-  no_work = stops (record { step = 1; bid = 1; rule = TraceEnds; at = coord 0 0 0 }) refl refl refl;
-  work_of_a_refused_fission = stops (record { step = 1; bid = 1; rule = Seeds; at = coord 0 0 0 }) refl refl refl;
+  no_work = stops (record { step = 1; bid = 1; rule = TraceEnds; at = coord 0 0 0 }) refl (breaks_at_start (record { step = 1; bid = 1; rule = TraceEnds; at = coord 0 0 0 }) refl refl) refl;
+  work_of_a_refused_fission = stops (record { step = 1; bid = 1; rule = Seeds; at = coord 0 0 0 }) refl (breaks_at_start (record { step = 1; bid = 1; rule = Seeds; at = coord 0 0 0 }) refl refl) refl;
   work_of_a_ring = work_of_a_ring;
-  work_of_a_command_out_of_space = stops (record { step = 1; bid = 1; rule = OutOfSpace; at = coord 0 0 0 }) refl refl refl;
+  work_of_a_command_out_of_space = stops (record { step = 1; bid = 1; rule = OutOfSpace; at = coord 0 0 0 }) refl (breaks_at_start (record { step = 1; bid = 1; rule = OutOfSpace; at = coord 0 0 0 }) refl refl) refl;
   work_of_a_refused_group = work_of_a_refused_group;
   work_of_another_post = work_of_another_post;
   work_of_a_floating_voxel = work_of_a_floating_voxel;

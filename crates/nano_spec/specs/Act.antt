@@ -1,6 +1,7 @@
 -- What a bot does in a step: the points and regions that its command names (task description, section on commands; docs/FORMATS.md, "Commands").
 use Rattle.std.specs.Prelude.{ℕ, Bool, true, false, List, [], ◌∷◌}
 use Rattle.std.specs.List.{list_all}
+use Rattle.vox_geom.specs.declared.difference.Diff.{Diff}
 use Rattle.vox_geom.specs.Point.{Point, point, plus}
 use Rattle.vox_geom.specs.Region.{Span, between, just}
 use Rattle.vox_geom.specs.Space.{in_space}
@@ -49,22 +50,26 @@ ways p (LMove d e) = between p (plus p d) ∷ between (plus p d) (plus (plus p d
 ways p (Fission d m) = just (plus p d) ∷ []
 ways p _ = []
 
--- the region of a group command
+-- the region of a group command of a bot at p, between both of its corners
+abbrev pub between_corners : Point → Diff → Diff → Span
+between_corners p d f = between (plus p d) (plus (plus p d) f)
+
+-- the region of a command that is a group command
 abbrev pub group_regions : Point → Command → List Span
-group_regions p (GFill d f) = between (plus p d) (plus (plus p d) f) ∷ []
-group_regions p (GVoid d f) = between (plus p d) (plus (plus p d) f) ∷ []
+group_regions p (GFill d f) = between_corners p d f ∷ []
+group_regions p (GVoid d f) = between_corners p d f ∷ []
 group_regions p _ = []
 
 -- what the command fills
 abbrev pub filled : Point → Command → List Span
 filled p (Fill d) = just (plus p d) ∷ []
-filled p (GFill d f) = between (plus p d) (plus (plus p d) f) ∷ []
+filled p (GFill d f) = between_corners p d f ∷ []
 filled p _ = []
 
 -- what the command voids
 abbrev pub voided : Point → Command → List Span
 voided p (Void d) = just (plus p d) ∷ []
-voided p (GVoid d f) = between (plus p d) (plus (plus p d) f) ∷ []
+voided p (GVoid d f) = between_corners p d f ∷ []
 voided p _ = []
 
 -- whether the command is a Halt

@@ -1,5 +1,5 @@
 -- The bots after a step (task description, section on commands; docs/FORMATS.md, "Commands").
-use Rattle.std.specs.Prelude.{ℕ, ◌+◌, cond, ◌||◌, nat_lt, ◌==◌, List, [], ◌∷◌, take, drop, slice_index, filter, flat_map, find, option_map, unwrap_or}
+use Rattle.std.specs.Prelude.{ℕ, ◌+◌, cond, ◌||◌, nat_lt, ◌==◌, List, [], ◌∷◌, take, drop, slice_index, filter, flat_map, find, Option, Some, None}
 use Rattle.vox_geom.specs.Point.{Point, point, plus}
 use Rattle.vox_geom.specs.Space.{coordinate}
 use Rattle.nano_spec.specs.declared.commands.Command.{Command}
@@ -26,12 +26,17 @@ abbrev pub fused : Bot → Bot → Bot
 fused bot other =
     record { bid = bot.bid; pos = bot.pos; seeds = seed_set (filter (λ k. is_seed bot.seeds k || is_seed other.seeds k || k == other.bid) seed_numbers) }
 
+-- the primary of a fusion after it, by its partner; without one it breaks a rule, and stays
+abbrev pub after_fusion : Bot → Option Act → Bot
+after_fusion bot None = bot
+after_fusion bot (Some partner) = fused bot partner.bot
+
 -- what becomes of a bot by its command: the bots in its place
 abbrev pub successors : List Act → Act → Command → List Bot
 successors all a Halt = []
 successors all a (SMove d) = moved a.bot (plus (point a.bot.pos) d) ∷ []
 successors all a (LMove d e) = moved a.bot (plus (plus (point a.bot.pos) d) e) ∷ []
-successors all a (FusionP d) = unwrap_or (option_map (λ b. fused a.bot b.bot) (find (is_pair a) all)) a.bot ∷ []
+successors all a (FusionP d) = after_fusion a.bot (find (is_pair a) all) ∷ []
 successors all a (FusionS d) = []
 successors all a (Fission d m) = parent a.bot m ∷ newborn a.bot (plus (point a.bot.pos) d) m ∷ []
 successors all a _ = a.bot ∷ []

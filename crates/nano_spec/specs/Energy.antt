@@ -3,11 +3,11 @@
 use Rattle.std.specs.Prelude.{ℕ, ◌+◌, ◌*◌, ℤ, pos, negsuc, ◌+ℤ◌, cond, List, [], ◌∷◌, length, map, filter}
 use Rattle.vox_geom.specs.Difference.{mlen}
 use Rattle.vox_geom.specs.Point.{Point, point, plus}
-use Rattle.vox_geom.specs.Region.{between, Span, just, is_within}
+use Rattle.vox_geom.specs.Region.{Span, just, is_within}
 use Rattle.nano_spec.specs.declared.commands.Command.{Command}
 use Rattle.nano_spec.specs.declared.commands.Command.TheVariants.{Halt, Wait, Flip, SMove, LMove, FusionP, FusionS, Fission, Fill, Void, GFill, GVoid}
 use Rattle.nano_spec.specs.declared.system.Harmonics.{Harmonics}
-use Rattle.nano_spec.specs.Act.{Act, position}
+use Rattle.nano_spec.specs.Act.{Act, position, between_corners}
 use Rattle.nano_spec.specs.Group.{leaders}
 use Rattle.nano_spec.specs.Matrix.{Matrix, is_full, all_of}
 use Rattle.nano_spec.specs.State.{State, is_high}
@@ -41,8 +41,8 @@ group_cost m p (FusionS d) = negsuc 23
 group_cost m p (Fission d n) = pos 24
 group_cost m p (Fill d) = filling m (just (plus p d))
 group_cost m p (Void d) = voiding m (just (plus p d))
-group_cost m p (GFill d f) = filling m (between (plus p d) (plus (plus p d) f))
-group_cost m p (GVoid d f) = voiding m (between (plus p d) (plus (plus p d) f))
+group_cost m p (GFill d f) = filling m (between_corners p d f)
+group_cost m p (GVoid d f) = voiding m (between_corners p d f)
 
 -- the upkeep of a step at a resolution, under these harmonics, with this number of bots
 abbrev pub upkeep_of : ℕ → Harmonics → ℕ → ℤ

@@ -2,10 +2,10 @@
 use Rattle.std.specs.Prelude.{Bool, false, ◌&&◌, ◌||◌, nat_le, ◌==◌, List, filter}
 use Rattle.std.specs.List.{list_all}
 use Rattle.vox_geom.specs.Point.{Point, plus, same_point}
-use Rattle.vox_geom.specs.Region.{between, same_region}
+use Rattle.vox_geom.specs.Region.{same_region}
 use Rattle.nano_spec.specs.declared.commands.Command.{Command}
 use Rattle.nano_spec.specs.declared.commands.Command.TheVariants.{FusionP, FusionS, GFill, GVoid}
-use Rattle.nano_spec.specs.Act.{Act, position}
+use Rattle.nano_spec.specs.Act.{Act, position, between_corners}
 
 -- whether a bot at p and a bot at q fuse: each one's difference leads to the other
 abbrev pub fuse : Point → Command → Point → Command → Bool
@@ -18,8 +18,8 @@ is_pair a b = fuse (position a) a.command (position b) b.command
 
 -- whether a bot at p and a bot at q have the same group command and the same region
 abbrev pub share_region : Point → Command → Point → Command → Bool
-share_region p (GFill d f) q (GFill e g) = same_region (between (plus p d) (plus (plus p d) f)) (between (plus q e) (plus (plus q e) g))
-share_region p (GVoid d f) q (GVoid e g) = same_region (between (plus p d) (plus (plus p d) f)) (between (plus q e) (plus (plus q e) g))
+share_region p (GFill d f) q (GFill e g) = same_region (between_corners p d f) (between_corners q e g)
+share_region p (GVoid d f) q (GVoid e g) = same_region (between_corners p d f) (between_corners q e g)
 share_region p _ q _ = false
 
 -- whether two bots are partners in a fusion

@@ -1,5 +1,5 @@
 -- When a model is legal (task description, section on models; docs/FORMATS.md, "Geometry").
-use Rattle.std.specs.Prelude.{◌≡◌, ℕ, ◌+◌, Bool, ◌&&◌, not, nat_le, nat_lt, Option, Some, None, option_map, find, MatchOption}
+use Rattle.std.specs.Prelude.{◌≡◌, ℕ, ◌+◌, Bool, ◌&&◌, not, nat_le, nat_lt, Option, Some, None, find}
 use Rattle.vox_geom.specs.declared.coordinate.Coord.{Coord}
 use Rattle.nano_spec.specs.Grounded.{FirstUngrounded}
 use Rattle.nano_spec.specs.Matrix.{Matrix, is_full, all_of}
@@ -17,12 +17,14 @@ in_legal_box r c = nat_le 1 c.x && nat_lt (c.x + 1) r && nat_lt (c.y + 1) r && n
 abbrev pub first_outside : Matrix → Option Coord
 first_outside m = find (λ c. is_full m c && not (in_legal_box m.resolution c)) (all_of m)
 
--- the model is legal by `None`, or else why not: a voxel outside the box comes first, and then the least that is not grounded
-abbrev pub Legality : Matrix → Option NotLegal → Type 0
-Legality m answer =
-    MatchOption (first_outside m)
-    ((at : Option Coord) × FirstUngrounded m at × (answer ≡ option_map Floating at))
-    (λ c. answer ≡ Some (Border c))
+-- whether a model is legal
+pub data Legality (m : Matrix) (answer : Option NotLegal) : Type 0 where
+  -- a full voxel is outside the legal box: the least of them is told
+  leaves_box : (c : Coord) → first_outside m ≡ Some c → answer ≡ Some (Border c) → Legality m answer
+  -- none is, but full voxels are not grounded: the least of them is told
+  floats_inside : (c : Coord) → first_outside m ≡ None → FirstUngrounded m (Some c) → answer ≡ Some (Floating c) → Legality m answer
+  -- none is, and each full voxel is grounded
+  stands_inside : first_outside m ≡ None → FirstUngrounded m None → answer ≡ None → Legality m answer
 
 -- the model is legal
 abbrev pub IsLegal : Matrix → Type 0

@@ -4,7 +4,7 @@ use Rattle.std.specs.Prelude.{ℕ, ◌^◌, Bool, false, cond, ◌&&◌, ◌||�
 use Rattle.std.specs.List.{list_any}
 use Rattle.vox_geom.specs.declared.coordinate.Coord.{Coord}
 use Rattle.vox_geom.specs.Point.{Point, point, plus, same_point}
-use Rattle.vox_geom.specs.Region.{dimension, is_within}
+use Rattle.vox_geom.specs.Region.{Span, dimension, is_within}
 use Rattle.nano_spec.specs.declared.commands.Command.{Command}
 use Rattle.nano_spec.specs.declared.commands.Command.TheVariants.{Fission, GFill, GVoid}
 use Rattle.nano_spec.specs.declared.outcomes.Broken.{Broken}
@@ -27,7 +27,7 @@ abbrev pub lacks_seeds : List ℕ → Command → Bool
 lacks_seeds seeds (Fission d m) = nat_le (length seeds) m
 lacks_seeds seeds _ = false
 
--- the corner of a group command that is next to its bot
+-- the corner of a group command at which its bot stands: the one that its near difference leads to
 abbrev pub corners_of : Point → Command → List Point
 corners_of p (GFill d f) = plus p d ∷ []
 corners_of p (GVoid d f) = plus p d ∷ []
@@ -38,12 +38,13 @@ abbrev pub repeats : List Point → Bool
 repeats [] = false
 repeats (p ∷ more) = list_any (same_point p) more || repeats more
 
--- whether the members of a group command are not as many as its region has corners, or two are at one corner
+-- whether the bots that fill or void a region together are not as many as it has corners, or two of them are at one corner
+abbrev pub fit_badly : List Act → Span → Bool
+fit_badly group region = not (length group == 2 ^ dimension region) || repeats (flat_map (λ b. corners_of (position b) b.command) group)
+
+-- whether the bot has a group command whose members do not fit its region
 abbrev pub is_misshapen : List Act → Act → Bool
-is_misshapen all a =
-    list_any
-    (λ s. not (length (members all a) == 2 ^ dimension s) || repeats (flat_map (λ b. corners_of (position b) b.command) (members all a)))
-    (group_regions (position a) a.command)
+is_misshapen all a = list_any (fit_badly (members all a)) (group_regions (position a) a.command)
 
 -- where a bot breaks a rule of single bots, if it does
 abbrev pub fault : State → List Act → Act → Rule → Option Coord

@@ -5,7 +5,7 @@ use Rattle.vox_geom.specs.Point.{Point, plus}
 use Rattle.vox_geom.specs.Region.{between, Span, just, is_within}
 use Rattle.nano_spec.specs.declared.commands.Command.{Command}
 use Rattle.nano_spec.specs.declared.commands.Command.TheVariants.{Halt, Wait, Flip, SMove, LMove, FusionP, FusionS, Fission, Fill, Void, GFill, GVoid}
-use Rattle.nano_spec.specs.Act.{Act, position}
+use Rattle.nano_spec.specs.Act.{Act, position, between_corners}
 use Rattle.nano_spec.specs.Group.{members}
 
 -- the regions that a bot at p with this command makes volatile
@@ -20,8 +20,8 @@ volatile_regions p (FusionS d) = just p ∷ []
 volatile_regions p (Fission d m) = just p ∷ just (plus p d) ∷ []
 volatile_regions p (Fill d) = just p ∷ just (plus p d) ∷ []
 volatile_regions p (Void d) = just p ∷ just (plus p d) ∷ []
-volatile_regions p (GFill d f) = just p ∷ between (plus p d) (plus (plus p d) f) ∷ []
-volatile_regions p (GVoid d f) = just p ∷ between (plus p d) (plus (plus p d) f) ∷ []
+volatile_regions p (GFill d f) = just p ∷ between_corners p d f ∷ []
+volatile_regions p (GVoid d f) = just p ∷ between_corners p d f ∷ []
 
 -- whether a point is volatile for one bot
 abbrev pub is_volatile_of : Point → Act → Bool

@@ -1,6 +1,6 @@
 -- How many commands and bytes an accepted trace has at most, where few bots are active at once.
 use Rattle.std.proofs.Common.{◌≡◌, ◌⊎◌, ◌∙◌, ℕ, suc, ◌+◌, ◌*◌, ◌/◌, ◌<◌, ◌≤◌, List, [], ◌∷◌, ◌++◌, false, cond, refl, sym, ap, subst, inl, inr, arith, length, take, drop, get_or, append_assoc, mul-le-mul}
-use Rattle.std.specs.Prelude.{ℤ, All, Option, Some, None, MatchOption, option_map, count_by}
+use Rattle.std.specs.Prelude.{ℤ, All, Option, Some, None, option_map, count_by}
 use Rattle.std.specs.List.{slice_get}
 use Rattle.std.proofs.lemmas.List.{length-append, length-take, take-append-drop}
 use Rattle.std.proofs.lemmas.List.Sums.{sum_by-cons}
@@ -8,7 +8,6 @@ use Rattle.std.proofs.lemmas.Option.{slice_get_cases}
 use Rattle.vox_geom.specs.declared.coordinate.Coord.{Coord}
 use Rattle.nano_spec.specs.declared.commands.Command.{Command}
 use Rattle.nano_spec.specs.declared.commands.Command.TheVariants.{Fill, Fission, Flip, FusionP, FusionS, GFill, GVoid, Halt, LMove, SMove, Void, Wait}
-use Rattle.nano_spec.specs.declared.outcomes.Broken.{Broken}
 use Rattle.nano_spec.specs.declared.outcomes.Rule.TheVariants.{TraceEnds}
 use Rattle.nano_spec.specs.declared.outcomes.Verdict.{Verdict}
 use Rattle.nano_spec.specs.declared.outcomes.Verdict.TheVariants.{Accepted}
@@ -18,11 +17,10 @@ use Rattle.nano_spec.specs.Act.{acts}
 use Rattle.nano_spec.specs.First.{first_value}
 use Rattle.nano_spec.specs.Group.{leaders}
 use Rattle.nano_spec.specs.Matrix.{Matrix}
-use Rattle.nano_spec.specs.Next.{Breaks, Goes, Next, Settles}
+use Rattle.nano_spec.specs.Next.{Goes, Next}
 use Rattle.nano_spec.specs.Rules.{judge_bots, judge_pairs}
 use Rattle.nano_spec.specs.Spelling.{spelling, spellings}
 use Rattle.nano_spec.specs.State.{State, opening}
-use Rattle.nano_spec.specs.Step.{after}
 use Rattle.nano_spec.specs.Verdict.{Run, VerdictOf, breaks, compared, ending, ends, first_difference, goes}
 use Rattle.plan_tape.specs.Reaches.{Reaches, starts, steps_on}
 use Rattle.low_planner.specs.Commands.{IsPlain}
@@ -33,18 +31,17 @@ use Rattle.void_planner.specs.Tiles.{tiles_of}
 use Rattle.void_planner.proofs.Counts.{few_at_most}
 use Rattle.nanobot_rows.specs.Answer.{run_limit}
 use Rattle.nano_spec.proofs.Lengths.{spelling_short}
+use Rattle.nano_spec.proofs.Accepted.{accepted_step}
 
 -- a step that is accepted has a command for each bot
 enough : (s t : State) (step : List Command) (k : ℕ) → Next s step k (Goes t) → length s.bots ≤ length step
 enough s t step k next = by (slice_get_cases s.bots (length step)).1
   where
-    differ : (b : Broken) → Goes t ≡ Breaks b → ⊥
-    differ b e = cc
-
     lacks : (bot : Bot) → slice_get s.bots (length step) ≡ Some bot → ⊥
     lacks bot e =
-        differ _ (subst (λ (o : Option Bot). MatchOption (first_value (option_map (λ (b : Bot). record { step = k; bid = b.bid; rule = TraceEnds; at = b.pos }) o ∷ (judge_bots s (acts s.bots step) k ++ judge_pairs s.matrix (acts s.bots step) k (leaders (acts s.bots step)))))
-        (Settles (after s step) k (Goes t)) (λ b. Goes t ≡ Breaks b)) e next)
+        let keeps = (accepted_step s t step k next).keeps in
+        let ends = ap (λ (o : Option Bot). first_value (option_map (λ (b : Bot). record { step = k; bid = b.bid; rule = TraceEnds; at = b.pos }) o ∷ (judge_bots s (acts s.bots step) k ++ judge_pairs s.matrix (acts s.bots step) k (leaders (acts s.bots step))))) e in
+        cc
 
     by : ((x : Bot) × (length step < length s.bots) × (slice_get s.bots (length step) ≡ Some x) × (get_or s.bots (length step) x ≡ x)) ⊎ ((length s.bots ≤ length step) × (slice_get s.bots (length step) ≡ None)) → length s.bots ≤ length step
     by (inl h) = absurd (lacks h.0 h.2)

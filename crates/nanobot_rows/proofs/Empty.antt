@@ -1,9 +1,8 @@
 -- The empty model is legal.
 use Rattle.std.proofs.Common.{◌≡◌, ℕ, zero, suc, refl, sym, subst, List, [], ◌∷◌, Bool, true, false, ◌&&◌, not}
-use Rattle.std.specs.Prelude.{Option, None, MatchOption, Some, find, option_map}
+use Rattle.std.specs.Prelude.{None, find}
 use Rattle.vox_geom.specs.declared.coordinate.Coord.{Coord}
-use Rattle.nano_spec.specs.Grounded.{FirstUngrounded}
-use Rattle.nano_spec.specs.Legal.{Border, Floating, IsLegal, first_outside, in_legal_box}
+use Rattle.nano_spec.specs.Legal.{IsLegal, first_outside, in_legal_box, stands_inside}
 use Rattle.nano_spec.specs.Matrix.{Matrix, all_of, empty, is_full}
 use Rattle.nano_spec.proofs.EmptyModel.{empty_is_grounded, not_full}
 
@@ -19,7 +18,7 @@ none_outside r = none_find (λ c. is_full (empty r) c && not (in_legal_box r c))
     by false b h = refl
 
 empty_is_legal : (r : ℕ) → IsLegal (empty r)
-empty_is_legal r = subst (λ (o : Option Coord). MatchOption o ((at : Option Coord) × FirstUngrounded (empty r) at × (None ≡ option_map Floating at)) (λ c. None ≡ Some (Border c))) (sym (none_outside r)) (None, empty_is_grounded (empty r) r refl, refl)
+empty_is_legal r = stands_inside (none_outside r) (empty_is_grounded (empty r) r refl) refl
 
 pub legal_where_empty : (m : Matrix) (r : ℕ) → m ≡ empty r → IsLegal m
 legal_where_empty m r e = subst IsLegal (sym e) (empty_is_legal r)

@@ -1,6 +1,7 @@
 pub mod Cut
 pub mod Debugged
 pub mod Empty
+pub mod Examples
 pub mod Exercised
 pub mod Loads
 pub mod Paying

@@ -5,3 +5,4 @@ pub mod Reading
 pub mod Report
 pub mod Taking
 pub mod Touching
+pub mod Worked

@@ -6,6 +6,7 @@ mod commands;
 mod debugging;
 mod effect;
 mod exercise;
+mod laws;
 mod models;
 mod plans;
 mod report;
@@ -16,6 +17,7 @@ mod trace;
 mod trace_run;
 
 pub use effect::{Effect, Message, NewFile};
+pub use laws::worked_reports;
 pub use report::{Cost, Report, Who};
 pub use rows::answer;
 pub use status::Status;

@@ -5,6 +5,6 @@ mod laws;
 mod row;
 mod words;
 
-pub use laws::one_row;
+pub use laws::{one_row, worked_words};
 pub use row::{Row, Side};
 pub use words::parse;

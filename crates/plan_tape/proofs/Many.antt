@@ -1,27 +1,24 @@
 -- A state that is reached has at most as many bots as there are numbers: those of the seeds, and of the first bot.
-use Rattle.std.proofs.Common.{◌≡◌, ℕ, suc, ◌+◌, ◌<◌, ◌≤◌, refl, sym, ◌∙◌, ap, subst, inl, inr, ◌⊎◌, arith, List, [], ◌∷◌, ◌++◌, Bool, true, false, length, drop, Option, Some, None}
-use Rattle.std.specs.Prelude.{MatchOption, flat_map}
-use Rattle.std.specs.Bool.{MatchBool}
+use Rattle.std.proofs.Common.{◌≡◌, ℕ, suc, ◌+◌, ◌<◌, ◌≤◌, refl, sym, ◌∙◌, ap, subst, inl, inr, ◌⊎◌, arith, List, [], ◌∷◌, ◌++◌, true, length, drop, None}
+use Rattle.std.specs.Prelude.{flat_map}
 use Rattle.std.specs.List.{AllByRecursion}
-use Rattle.vox_geom.specs.declared.coordinate.Coord.{Coord}
 use Rattle.vox_geom.specs.Space.{numbers_from}
 use Rattle.nano_spec.specs.declared.commands.Command.{Command}
-use Rattle.nano_spec.specs.declared.outcomes.Broken.{Broken}
 use Rattle.nano_spec.specs.declared.system.Bot.{Bot}
 use Rattle.nano_spec.specs.declared.system.Profile.{Profile}
 use Rattle.nano_spec.specs.Act.{Act, acts}
 use Rattle.nano_spec.specs.Bots.{successors}
 use Rattle.nano_spec.specs.Command.{IsCommand}
 use Rattle.nano_spec.specs.Cutting.{AreCommands}
-use Rattle.nano_spec.specs.Grounded.{FirstUngrounded}
 use Rattle.nano_spec.specs.Group.{is_pair}
 use Rattle.nano_spec.specs.Matrix.{Matrix}
-use Rattle.nano_spec.specs.Next.{Breaks, Goes, Next, Outcome, Settles, settled}
+use Rattle.nano_spec.specs.Next.{Goes, Next}
 use Rattle.nano_spec.specs.Rules.{broken}
-use Rattle.nano_spec.specs.State.{IsReady, State, first_bot, is_high, is_seed, seed_set}
+use Rattle.nano_spec.specs.State.{IsReady, State, first_bot, is_seed, seed_set}
 use Rattle.nano_spec.specs.Step.{after}
 use Rattle.nano_spec.proofs.Opening.{ready_opening}
 use Rattle.nano_spec.proofs.Seeds.{contains, none_above, none_below, numbers_rise, seed_is}
+use Rattle.nano_spec.proofs.Accepted.{accepted_step}
 use Rattle.vox_planes.specs.Voxel.{IsWhole}
 use Rattle.step_order.proofs.After.{ready_is}
 use Rattle.step_order.proofs.Crews.{Family, family, order_in, seeded}
@@ -105,30 +102,10 @@ record IsMade (n : ℕ) (s : State) : Type 0 where
   ready : IsReady s
   numbered : AreNumbered n s.bots
 
-pub same_state : (s t : State) → Goes s ≡ Goes t → s ≡ t
-same_state s t e = ap (λ (o : Outcome). state_in s o) e
-  where
-    state_in : State → Outcome → State
-    state_in u (Goes v) = v
-    state_in u (Breaks b) = u
-
-pub settled_is : (t s : State) (step : ℕ) → Settles s step (Goes t) → t ≡ s
-settled_is t s step = by (is_high s.harmonics)
-  where
-    at_last : (at : Option Coord) → Goes t ≡ settled s step at → t ≡ s
-    at_last None e = same_state t s e
-    at_last (Some c) e = cc
-
-    by : (b : Bool) → MatchBool b (Goes t ≡ Goes s) ((at : Option Coord) × FirstUngrounded s.matrix at × (Goes t ≡ settled s step at)) → t ≡ s
-    by true h = same_state t s h
-    by false h = at_last h.0 h.2
-
 stays_made : (n : ℕ) (s t : State) (commands : List Command) (step : ℕ) → AreCommands commands → IsMade n s → Next s commands step (Goes t) → IsMade n t
-stays_made n s t commands step are m next = by (broken s commands step) refl next
-  where
-    by : (o : Option Broken) → broken s commands step ≡ o → MatchOption o (Settles (after s commands) step (Goes t)) (λ b. Goes t ≡ Breaks b) → IsMade n t
-    by None e h = subst (IsMade n) (sym (settled_is t (after s commands) step h)) (record { ready = ready_is s commands step are m.ready e; numbered = numbered_after n s commands step m.ready e m.numbered })
-    by (Some b) e h = cc
+stays_made n s t commands step are m next =
+    let a = accepted_step s t commands step next in
+    subst (IsMade n) (sym a.is) (record { ready = ready_is s commands step are m.ready a.keeps; numbered = numbered_after n s commands step m.ready a.keeps m.numbered })
 
 -- ---- all steps
 

@@ -1,7 +1,6 @@
 -- One more step of the only bot, and many moves.
 use Rattle.std.proofs.Common.{◌≡◌, ℕ, zero, suc, ◌+◌, ◌*◌, ◌<◌, refl, sym, ◌∙◌, ap, subst, arith, List, [], ◌∷◌, ◌++◌, true, false, cond, length, length-append, append_assoc, append-nil, lit<, inl, inr}
-use Rattle.std.specs.Prelude.{ℤ, pos, negsuc, ◌+ℤ◌, ◌-ℤ◌, unsigned_abs, Option, None}
-use Rattle.std.specs.Bool.{MatchBool}
+use Rattle.std.specs.Prelude.{ℤ, pos, negsuc, ◌+ℤ◌, ◌-ℤ◌, unsigned_abs, None}
 use Rattle.std.proofs.lemmas.Grind.{flat_map-append}
 use Rattle.std.proofs.lemmas.Int.{ints}
 use Rattle.vox_geom.specs.declared.coordinate.Coord.{Coord}
@@ -14,15 +13,15 @@ use Rattle.nano_spec.specs.declared.commands.Command.{Command}
 use Rattle.nano_spec.specs.declared.commands.Command.TheVariants.{Halt, Flip, SMove, Fill, Void}
 use Rattle.nano_spec.specs.declared.system.Bot.{Bot}
 use Rattle.nano_spec.specs.declared.system.Harmonics.{Harmonics}
-use Rattle.nano_spec.specs.declared.system.Harmonics.TheVariants.{Low, High}
+use Rattle.nano_spec.specs.declared.system.Harmonics.TheVariants.{Low}
 use Rattle.nano_spec.specs.Bots.{bots_after}
 use Rattle.nano_spec.specs.Energy.{groups_cost, upkeep, upkeep_of}
 use Rattle.nano_spec.specs.Grounded.{FirstUngrounded}
 use Rattle.nano_spec.specs.Matrix.{Matrix, is_full}
-use Rattle.nano_spec.specs.Next.{Next, Goes, settled}
+use Rattle.nano_spec.specs.Next.{Next, Goes, accepts}
 use Rattle.nano_spec.specs.Rules.{broken}
 use Rattle.nano_spec.specs.Spelling.{spelling, spellings}
-use Rattle.nano_spec.specs.State.{State, is_high, origin}
+use Rattle.nano_spec.specs.State.{State, origin}
 use Rattle.nano_spec.specs.Step.{after, matrix_after, harmonics_after, flipped}
 use Rattle.step_order.proofs.Voxels.{in_space_is}
 use Rattle.vox_planes.specs.Voxel.{IsWhole, with_voxel}
@@ -38,15 +37,11 @@ use Rattle.step_order.specs.Unbroken.{IsVoid}
 
 -- ---- the step is accepted
 
-settles : (t : State) (step : ℕ) (k : Harmonics) → t.harmonics ≡ k → (t.harmonics ≡ Low → FirstUngrounded t.matrix None) → MatchBool (is_high k) (Goes t ≡ Goes t) ((at : Option Coord) × FirstUngrounded t.matrix at × (Goes t ≡ settled t step at))
-settles t step High e g = refl
-settles t step Low e g = (None, g e, refl)
-
 -- where no rule is broken, and the state after is grounded if its harmonics are Low, the step is accepted
 pub goes_on : (s t : State) (commands : List Command) (step : ℕ) → broken s commands step ≡ None → after s commands ≡ t → (t.harmonics ≡ Low → FirstUngrounded t.matrix None) → Next s commands step (Goes t)
 goes_on s t commands step b e g =
     subst (λ (u : State). Next s commands step (Goes u)) e
-    (rw b (settles (after s commands) step (after s commands).harmonics refl (subst (λ (u : State). u.harmonics ≡ Low → FirstUngrounded u.matrix None) (sym e) g)))
+    (accepts b (subst (λ (u : State). u.harmonics ≡ Low → FirstUngrounded u.matrix None) (sym e) g) refl)
 
 -- ---- one more step of the only bot
 

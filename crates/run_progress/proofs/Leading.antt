@@ -14,7 +14,7 @@ use Rattle.nano_spec.specs.declared.system.Profile.{Profile}
 use Rattle.nano_spec.specs.Act.{acts}
 use Rattle.nano_spec.specs.First.{first_value}
 use Rattle.nano_spec.specs.Matrix.{Matrix}
-use Rattle.nano_spec.specs.Next.{Next, Outcome, Goes, Breaks}
+use Rattle.nano_spec.specs.Next.{Next, Outcome, Goes, Breaks, breaks_at_start}
 use Rattle.nano_spec.specs.Rules.{broken, judge_trace, judge_bots, judge_pairs}
 use Rattle.nano_spec.specs.Group.{leaders}
 use Rattle.nano_spec.specs.State.{State, origin}
@@ -156,7 +156,7 @@ leads_from_the_opening {source} {profile} {commands} {p} target rest v (later be
 ends_within : (s : State) (commands : List Command) (step : ℕ) (b : Broken) → judge_trace s commands step ≡ Some b → Next s commands step (Breaks b)
 ends_within s commands step b e =
     let is : broken s commands step ≡ Some b = ap (λ o. first_value (o ∷ (judge_bots s (acts s.bots commands) step ++ judge_pairs s.matrix (acts s.bots commands) step (leaders (acts s.bots commands))))) e in
-    rw is refl
+    breaks_at_start b is refl
 
 all_taken : (n : ℕ) (xs : List Command) → length xs < n → take n (xs ++ []) ≡ xs
 all_taken n xs h = ap (take n) (append-nil xs) ∙ take_all n xs (omega arith)

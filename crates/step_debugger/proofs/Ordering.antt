@@ -3,18 +3,16 @@ use Rattle.std.proofs.Common.{◌≡◌, ℕ, ◌+◌, ◌≤◌, ◌==◌, refl
 use Rattle.std.specs.Prelude.{Option, Some, None, IsPermutation, MatchBool, MatchOption, count_by}
 use Rattle.std.proofs.lemmas.List.{length-map}
 use Rattle.std.proofs.lemmas.List.Sorted.{length_permutation}
-use Rattle.vox_geom.specs.declared.coordinate.Coord.{Coord}
 use Rattle.nano_spec.specs.declared.commands.Command.{Command}
 use Rattle.nano_spec.specs.declared.outcomes.Broken.{Broken}
 use Rattle.nano_spec.specs.declared.outcomes.Rule.TheVariants.{Ungrounded}
 use Rattle.nano_spec.specs.declared.system.Bot.{Bot}
 use Rattle.nano_spec.specs.Act.{Act, acts}
-use Rattle.nano_spec.specs.Grounded.{FirstUngrounded}
 use Rattle.nano_spec.specs.Group.{leaders}
-use Rattle.nano_spec.specs.Next.{Breaks, Goes, Next, Outcome, Settles, settled}
+use Rattle.nano_spec.specs.Next.{Breaks, Goes, Next, Outcome, accepts, breaks_at_start, leaves_floating, ungrounded_at}
 use Rattle.nano_spec.specs.Rules.{broken}
 use Rattle.nano_spec.specs.Serial.{leader_bids}
-use Rattle.nano_spec.specs.State.{IsReady, State, is_high}
+use Rattle.nano_spec.specs.State.{IsReady, State}
 use Rattle.nano_spec.specs.Step.{after}
 use Rattle.step_order.proofs.Facts.{bots_of, good_is, rising_is}
 use Rattle.step_order.proofs.Groups.{led}
@@ -30,18 +28,10 @@ use Rattle.step_debugger.proofs.Trying.{unless_active, unready_step}
 
 -- ---- a step that keeps the rules of its start breaks none but that of grounding
 
-settled_rule : (s : State) (step : ℕ) (high : Bool) (b : Broken) → MatchBool high (Breaks b ≡ Goes s) ((at : Option Coord) × FirstUngrounded s.matrix at × (Breaks b ≡ settled s step at)) → b.rule ≡ Ungrounded
-settled_rule s step true b h = cc
-settled_rule s step false b h = by h.0 h.2
-  where
-    by : (at : Option Coord) → Breaks b ≡ settled s step at → b.rule ≡ Ungrounded
-    by None e = cc
-    by (Some c) e = let same : b ≡ record { step = step; bid = 0; rule = Ungrounded; at = c } = cc in ap (λ (x : Broken). x.rule) same
-
 next_rule : (s : State) (commands : List Command) (step : ℕ) (b : Broken) → broken s commands step ≡ None → Next s commands step (Breaks b) → b.rule ≡ Ungrounded
-next_rule s commands step b e h =
-    settled_rule (after s commands) step (is_high (after s commands).harmonics) b
-    (subst (λ (o : Option Broken). MatchOption o (Settles (after s commands) step (Breaks b)) (λ w. Breaks b ≡ Breaks w)) e h)
+next_rule s commands step b keeps (breaks_at_start w f e) = cc
+next_rule s commands step b keeps (leaves_floating c f low u e) = let same : b ≡ ungrounded_at step c = cc in ap (λ (x : Broken). x.rule) same
+next_rule s commands step b keeps (accepts f u e) = cc
 
 -- ---- where nothing is begun
 

@@ -1,7 +1,7 @@
 -- The next step is judged, and its groups are put into an order.
 use Rattle.std.proofs.Common.{◌≡◌, ℕ, ◌+◌, ◌≤◌, ◌==◌, Bool, false, refl, sym, ◌∙◌, ap, subst, arith, List, [], ◌∷◌, ◌++◌, length, length-append}
 use Rattle.std.proofs.lemmas.List.{length-map}
-use Rattle.std.specs.Prelude.{Option, Some, IfSome, IsPermutation, MatchOption}
+use Rattle.std.specs.Prelude.{Some, IfSome, IsPermutation}
 use Rattle.std.proofs.lemmas.Bool.Decides.{nat_tests}
 use Rattle.std.proofs.lemmas.List.Sorted.{length_permutation}
 use Rattle.circular_buffer.specs.Buffer.{Buffer}
@@ -10,10 +10,9 @@ use Rattle.nano_spec.specs.declared.outcomes.Broken.{Broken}
 use Rattle.nano_spec.specs.declared.system.Bot.{Bot}
 use Rattle.nano_spec.specs.Act.{Act, acts}
 use Rattle.nano_spec.specs.Group.{leaders}
-use Rattle.nano_spec.specs.Next.{Breaks, Next, Settles}
+use Rattle.nano_spec.specs.Next.{Breaks, Next, breaks_at_start}
 use Rattle.nano_spec.specs.Rules.{broken}
 use Rattle.nano_spec.specs.Serial.{leader_bids}
-use Rattle.nano_spec.specs.Step.{after}
 use Rattle.step_machine.specs.Situation.{Situation}
 use Rattle.step_machine.specs.declared.undo.Undo.{Undo}
 use Rattle.step_machine.proofs.Stepping.{not_grounding}
@@ -38,7 +37,7 @@ ended_is [] s P e = (refl, refl)
 ended_is (b ∷ bots) s P e = cc
 
 broken_next : (s : Session) (commands : List Command) (b : Broken) → broken s.point.state (next_commands commands s.point) (s.point.steps + 1) ≡ Some b → Next s.point.state (next_commands commands s.point) (s.point.steps + 1) (Breaks b)
-broken_next s commands b e = subst (λ (o : Option Broken). MatchOption o (Settles (after s.point.state (next_commands commands s.point)) (s.point.steps + 1) (Breaks b)) (λ c. Breaks b ≡ Breaks c)) (sym e) refl
+broken_next s commands b e = breaks_at_start b e refl
 
 pub unready_step : (commands : List Command) (s : Session) (f : DebugFault) → IsUnready commands s.point f → IfSome (fault_report f) (AnswersLine commands Step s s)
 unready_step commands s fault.Ended h = ended_is s.point.state.bots s _ h

@@ -1,13 +1,13 @@
 -- Worked sessions, each line by what it asks.
 use Rattle.std.proofs.Common.{ℕ, zero, suc, refl, inl, inr, List, [], ◌∷◌, pos}
-use Rattle.std.specs.Prelude.{Some, None}
+use Rattle.std.specs.Prelude.{Some}
 use Rattle.vox_geom.specs.Point.{coord}
 use Rattle.nano_spec.specs.declared.commands.Command.{Command}
 use Rattle.nano_spec.specs.declared.commands.Command.TheVariants.{Halt}
 use Rattle.nano_spec.specs.declared.outcomes.Rule.TheVariants.{TraceEnds, Ungrounded}
 use Rattle.nano_spec.specs.Grounded.{FirstUngrounded}
 use Rattle.nano_spec.specs.Matrix.{empty}
-use Rattle.nano_spec.specs.Next.{Goes, Breaks}
+use Rattle.nano_spec.specs.Next.{Goes, Breaks, accepts, breaks_at_start, leaves_floating}
 use Rattle.nano_spec.specs.Profile.{full_profile}
 use Rattle.nano_spec.specs.State.{State, seed_numbers}
 use Rattle.nano_spec.specs.Step.{after}
@@ -55,7 +55,7 @@ unfolding seed_numbers
 worked_sessions = record {
   groups_begin_again_after_a_floating_voxel = (
     f1,
-    (Goes f1.point.state, (None, grounded_is 6 (empty 2) refl, refl), (refl, refl)),
+    (Goes f1.point.state, (accepts refl (λ low. grounded_is 6 (empty 2) refl) refl), (refl, refl)),
     (
       begun_1,
       (refl, refl),
@@ -64,7 +64,7 @@ worked_sessions = record {
         (refl, refl),
         (
           f1,
-          (Breaks (record { step = 2; bid = 0; rule = Ungrounded; at = coord 0 1 1 }), (Some (coord 0 1 1), floats_alone, refl), (refl, refl)),
+          (Breaks (record { step = 2; bid = 0; rule = Ungrounded; at = coord 0 1 1 }), (leaves_floating (coord 0 1 1) refl refl floats_alone refl), (refl, refl)),
           (begun_1, (refl, refl), tt),
         ),
       ),
@@ -72,7 +72,7 @@ worked_sessions = record {
   );
   what_is_begun_is_dropped = (
     f1,
-    (Goes f1.point.state, (None, grounded_is 6 (empty 2) refl, refl), (refl, refl)),
+    (Goes f1.point.state, (accepts refl (λ low. grounded_is 6 (empty 2) refl) refl), (refl, refl)),
     (
       begun_2,
       (refl, refl),
@@ -89,7 +89,7 @@ worked_sessions = record {
   );
   an_ended_run = (
     ended_1,
-    (Goes ended_1.point.state, (None, grounded_is 6 (empty 1) refl, refl), (refl, refl)),
+    (Goes ended_1.point.state, (accepts refl (λ low. grounded_is 6 (empty 1) refl) refl), (refl, refl)),
     (
       ended_1,
       (refl, refl),
@@ -102,7 +102,7 @@ worked_sessions = record {
   );
   an_ended_trace = (
     waited 0,
-    (Breaks (record { step = 1; bid = 1; rule = TraceEnds; at = coord 0 0 0 }), refl, (refl, refl)),
+    (Breaks (record { step = 1; bid = 1; rule = TraceEnds; at = coord 0 0 0 }), breaks_at_start (record { step = 1; bid = 1; rule = TraceEnds; at = coord 0 0 0 }) refl refl, (refl, refl)),
     (
       waited 0,
       (refl, refl),
@@ -112,22 +112,22 @@ worked_sessions = record {
   a_full_past = (refl, refl);
   six_steps_are_taken_back = (
     waited 1,
-    (Goes (waited 1).point.state, (None, grounded_is 6 (empty 1) refl, refl), (refl, refl)),
+    (Goes (waited 1).point.state, (accepts refl (λ low. grounded_is 6 (empty 1) refl) refl), (refl, refl)),
     (
       waited 2,
-      (Goes (waited 2).point.state, (None, grounded_is 6 (empty 1) refl, refl), (refl, refl)),
+      (Goes (waited 2).point.state, (accepts refl (λ low. grounded_is 6 (empty 1) refl) refl), (refl, refl)),
       (
         waited 3,
-        (Goes (waited 3).point.state, (None, grounded_is 6 (empty 1) refl, refl), (refl, refl)),
+        (Goes (waited 3).point.state, (accepts refl (λ low. grounded_is 6 (empty 1) refl) refl), (refl, refl)),
         (
           waited 4,
-          (Goes (waited 4).point.state, (None, grounded_is 6 (empty 1) refl, refl), (refl, refl)),
+          (Goes (waited 4).point.state, (accepts refl (λ low. grounded_is 6 (empty 1) refl) refl), (refl, refl)),
           (
             waited 5,
-            (Goes (waited 5).point.state, (None, grounded_is 6 (empty 1) refl, refl), (refl, refl)),
+            (Goes (waited 5).point.state, (accepts refl (λ low. grounded_is 6 (empty 1) refl) refl), (refl, refl)),
             (
               waited 6,
-              (Goes (waited 6).point.state, (None, grounded_is 6 (empty 1) refl, refl), (refl, refl)),
+              (Goes (waited 6).point.state, (accepts refl (λ low. grounded_is 6 (empty 1) refl) refl), (refl, refl)),
               (
                 waited 5,
                 record { earlier = (waited 5).past; last = (waited 5).point; past = refl; session = refl; report_is = refl },

@@ -1,6 +1,6 @@
 -- The answers to a step: where it breaks a rule at its start, where it is not made after all, and where it is made.
 use Rattle.std.proofs.Common.{◌≡◌, ℕ, ◌+◌, ◌*◌, ◌≤◌, ◌<◌, refl, sym, ap, subst, arith, List, [], Bool, true, false, length}
-use Rattle.std.specs.Prelude.{◌↔◌, Some, None, Ok, Err, MatchOption}
+use Rattle.std.specs.Prelude.{◌↔◌, Some, None, Ok, Err}
 use Rattle.nano_spec.specs.declared.commands.Command.{Command}
 use Rattle.nano_spec.specs.declared.outcomes.Broken.{Broken}
 use Rattle.nano_spec.specs.declared.system.Bot.{Bot}
@@ -9,7 +9,7 @@ use Rattle.nano_spec.specs.declared.outcomes.Rule.TheVariants.{Ungrounded}
 use Rattle.nano_spec.specs.Act.{acts}
 use Rattle.nano_spec.specs.Matrix.{Matrix}
 use Rattle.nano_spec.specs.Model.{volume}
-use Rattle.nano_spec.specs.Next.{Breaks, Goes, Next, Settles}
+use Rattle.nano_spec.specs.Next.{Goes, Next, breaks_at_start}
 use Rattle.nano_spec.specs.Rules.{broken}
 use Rattle.nano_spec.specs.State.{IsWellFormed, State}
 use Rattle.nano_spec.specs.Step.{after}
@@ -42,7 +42,7 @@ module _ (s : State) (commands : List Command) (steps : ℕ) (spent : Bool) (v :
     energy = tt;
     halted = tt;
     well_formed = tt;
-    breaks = (stands, subst (λ o. MatchOption o (Settles (after s commands) (steps + 1) (Breaks b)) (λ c. Breaks b ≡ Breaks c)) (sym f) refl);
+    breaks = (stands, breaks_at_start b f refl);
     stays = (refl, refl);
     stands = tt;
     ungrounded = ((λ h. cc), (λ h. absurd (not_grounding s commands (steps + 1) b f h)));

@@ -1,6 +1,6 @@
 -- What comes of a step.
 use Rattle.std.proofs.Common.{◌≡◌, ℕ, ◌+◌, ◌≤◌, ◌<◌, ◌%◌, ◌==◌, refl, sym, ◌∙◌, ap, subst, inl, inr, ◌⊎◌, arith, List, [], ◌∷◌, ◌++◌, Bool, true, false, cond, map, length}
-use Rattle.std.specs.Prelude.{ℤ, pos, ◌+ℤ◌, ◌<ℤ◌, Option, Some, None, count_by, option_map, slice_get, MatchBool, MatchOption}
+use Rattle.std.specs.Prelude.{ℤ, pos, ◌+ℤ◌, ◌<ℤ◌, Option, Some, None, count_by, option_map, slice_get, MatchBool}
 use Rattle.std.proofs.lemmas.Int.{ints}
 use Rattle.std.proofs.lemmas.List.Sums.{sum_by-cons}
 use Rattle.nano_spec.specs.declared.commands.Command.{Command}
@@ -9,13 +9,14 @@ use Rattle.nano_spec.specs.declared.outcomes.Rule.{Rule}
 use Rattle.nano_spec.specs.declared.outcomes.Rule.TheVariants.{Interference, Ungrounded, TraceEnds}
 use Rattle.nano_spec.specs.declared.system.Bot.{Bot}
 use Rattle.nano_spec.specs.declared.system.Harmonics.{Harmonics}
+use Rattle.nano_spec.specs.declared.system.Harmonics.TheVariants.{Low, High}
 use Rattle.vox_geom.specs.declared.coordinate.Coord.{Coord}
 use Rattle.nano_spec.specs.Act.{Act, acts, is_flip}
 use Rattle.nano_spec.specs.First.{first_value}
 use Rattle.nano_spec.specs.Grounded.{FirstUngrounded}
 use Rattle.nano_spec.specs.Group.{leaders}
 use Rattle.nano_spec.specs.Matrix.{Matrix}
-use Rattle.nano_spec.specs.Next.{Breaks, Goes, Next, Outcome, Settles, settled}
+use Rattle.nano_spec.specs.Next.{Breaks, Goes, Next, Outcome, accepts, leaves_floating, ungrounded_at}
 use Rattle.nano_spec.specs.Rules.{broken, broken_by, clash, fault, judge_bots, judge_pairs, judge_trace, rules_of_bots}
 use Rattle.nano_spec.specs.State.{IsWellFormed, State, is_high}
 use Rattle.nano_spec.specs.Step.{after, flipped}
@@ -42,9 +43,6 @@ harmonics_are s commands before after_them h e f = f ∙ ((λ i. cond (count_by 
 
 -- ---- what comes of the step, by the least voxel that is not held up
 
-next_is : (s : State) (commands : List Command) (step : ℕ) (outcome : Outcome) → broken s commands step ≡ None → Settles (after s commands) step outcome → Next s commands step outcome
-next_is s commands step outcome e h = subst (λ o. MatchOption o (Settles (after s commands) step outcome) (λ b. outcome ≡ Breaks b)) (sym e) h
-
 -- the harmonics and the matrix after the step, as the machine has them, and the voxel that it found
 pub record IsFound (s : State) (commands : List Command) (harmonics : Harmonics) (matrix : Matrix) (at : Option Coord) : Type 0 where
   pub harmonics_is : harmonics ≡ (after s commands).harmonics
@@ -56,22 +54,22 @@ found_after s commands h m at f =
     subst (λ (k : Harmonics). MatchBool (is_high k) (at ≡ None) (FirstUngrounded (after s commands).matrix at)) f.harmonics_is
     (subst (λ (n : Matrix). MatchBool (is_high h) (at ≡ None) (FirstUngrounded n at)) f.matrix_is f.found)
 
-pub breaks : (s : State) (commands : List Command) (step : ℕ) (h : Harmonics) (m : Matrix) (at : Option Coord) (c : Coord) → broken s commands step ≡ None → IsFound s commands h m at → at ≡ Some c → Next s commands step (Breaks (record { step = step; bid = 0; rule = Ungrounded; at = c }))
-breaks s commands step h m at c e f g = next_is s commands step _ e (by (is_high (after s commands).harmonics) found)
+pub breaks : (s : State) (commands : List Command) (step : ℕ) (h : Harmonics) (m : Matrix) (at : Option Coord) (c : Coord) → broken s commands step ≡ None → IsFound s commands h m at → at ≡ Some c → Next s commands step (Breaks (ungrounded_at step c))
+breaks s commands step h m at c e f g = by (after s commands).harmonics refl found
   where
     found : MatchBool (is_high (after s commands).harmonics) (Some c ≡ None) (FirstUngrounded (after s commands).matrix (Some c))
     found = subst (λ o. MatchBool (is_high (after s commands).harmonics) (o ≡ None) (FirstUngrounded (after s commands).matrix o)) g (found_after s commands h m at f)
 
-    by : (b : Bool) → MatchBool b (Some c ≡ None) (FirstUngrounded (after s commands).matrix (Some c)) → MatchBool b (Breaks (record { step = step; bid = 0; rule = Ungrounded; at = c }) ≡ Goes (after s commands)) ((o : Option Coord) × FirstUngrounded (after s commands).matrix o × (Breaks (record { step = step; bid = 0; rule = Ungrounded; at = c }) ≡ settled (after s commands) step o))
-    by true k = cc
-    by false k = (Some c, k, refl)
+    by : (k : Harmonics) → (after s commands).harmonics ≡ k → MatchBool (is_high k) (Some c ≡ None) (FirstUngrounded (after s commands).matrix (Some c)) → Next s commands step (Breaks (ungrounded_at step c))
+    by High i k = cc
+    by Low i k = leaves_floating c e i k refl
 
 pub goes : (s t : State) (commands : List Command) (step : ℕ) (h : Harmonics) (m : Matrix) (at : Option Coord) → broken s commands step ≡ None → IsFound s commands h m at → at ≡ None → t ≡ after s commands → Next s commands step (Goes t)
-goes s t commands step h m at e f g k = next_is s commands step (Goes t) e (by (is_high (after s commands).harmonics) (found_after s commands h m at f))
+goes s t commands step h m at e f g same = by (after s commands).harmonics refl (found_after s commands h m at f)
   where
-    by : (b : Bool) → MatchBool b (at ≡ None) (FirstUngrounded (after s commands).matrix at) → MatchBool b (Goes t ≡ Goes (after s commands)) ((o : Option Coord) × FirstUngrounded (after s commands).matrix o × (Goes t ≡ settled (after s commands) step o))
-    by true n = ap Goes k
-    by false n = (at, n, ap Goes k ∙ ap (settled (after s commands) step) (sym g))
+    by : (k : Harmonics) → (after s commands).harmonics ≡ k → MatchBool (is_high k) (at ≡ None) (FirstUngrounded (after s commands).matrix at) → Next s commands step (Goes t)
+    by High i n = accepts e (λ low. cc) (ap Goes same)
+    by Low i n = accepts e (λ low. subst (λ (o : Option Coord). FirstUngrounded (after s commands).matrix o) g n) (ap Goes same)
 
 -- ---- the rules that are judged at the start of a step are not that of grounding
 

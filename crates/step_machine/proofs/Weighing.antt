@@ -1,18 +1,19 @@
 -- Every matrix has its levels, and so every step its work and its outcome.
-use Rattle.std.proofs.Common.{◌≡◌, ℕ, ◌+◌, ◌*◌, ◌≤◌, refl, List, Bool, true, false}
-use Rattle.std.specs.Prelude.{Option, Some, None, MatchOption}
-use Rattle.std.specs.Bool.{MatchBool}
+use Rattle.std.proofs.Common.{◌≡◌, ℕ, ◌+◌, ◌*◌, ◌≤◌, refl, List}
+use Rattle.std.specs.Prelude.{Option, Some, None}
 use Rattle.vox_geom.specs.declared.coordinate.Coord.{Coord}
 use Rattle.nano_spec.specs.declared.commands.Command.{Command}
 use Rattle.nano_spec.specs.declared.outcomes.Broken.{Broken}
 use Rattle.nano_spec.specs.Act.{Act, acts}
 use Rattle.nano_spec.specs.Grounded.{FirstUngrounded}
 use Rattle.nano_spec.specs.Matrix.{Matrix, all_of}
-use Rattle.nano_spec.specs.Next.{Breaks, Goes, Next, Outcome, Settles, settled}
+use Rattle.nano_spec.specs.Next.{Breaks, Goes, Next, Outcome, accepts, breaks_at_start, leaves_floating, ungrounded_at}
 use Rattle.nano_spec.specs.Rules.{broken}
-use Rattle.nano_spec.specs.State.{State, is_high}
+use Rattle.nano_spec.specs.State.{State}
 use Rattle.nano_spec.specs.Step.{after, matrix_after}
 use Rattle.nano_spec.specs.Work.{Levels, WorkOfActs, WorkOfJudged, WorkOfStep, changed_count, differing, volatile_total, without_voided, work_by_rule}
+use Rattle.nano_spec.specs.declared.system.Harmonics.{Harmonics}
+use Rattle.nano_spec.specs.declared.system.Harmonics.TheVariants.{Low, High}
 use Rattle.step_machine.specs.Stepped.{IsWithinWork}
 use Rattle.step_machine.proofs.Reaching.{first_ungrounded, levels_of}
 
@@ -39,16 +40,17 @@ step_work s commands step = judged_work s (acts s.bots commands) (broken s comma
 
 -- ---- the outcome of a step
 
-settles_at : (t : State) (step : ℕ) (high : Bool) → (o : Outcome) × MatchBool high (o ≡ Goes t) ((at : Option Coord) × FirstUngrounded t.matrix at × (o ≡ settled t step at))
-settles_at t step true = (Goes t, refl)
-settles_at t step false = let f = first_ungrounded t.matrix in (settled t step f.0, (f.0, f.1, refl))
+settled_at : (s : State) (commands : List Command) (step : ℕ) → broken s commands step ≡ None → (h : Harmonics) → (after s commands).harmonics ≡ h → (at : Option Coord) → FirstUngrounded (after s commands).matrix at → (o : Outcome) × Next s commands step o
+settled_at s commands step keeps High e at u = (Goes (after s commands), accepts keeps (λ low. cc) refl)
+settled_at s commands step keeps Low e None u = (Goes (after s commands), accepts keeps (λ low. u) refl)
+settled_at s commands step keeps Low e (Some c) u = (Breaks (ungrounded_at step c), leaves_floating c keeps e u refl)
 
-next_at : (t : State) (step : ℕ) (b : Option Broken) → (o : Outcome) × MatchOption b (Settles t step o) (λ w. o ≡ Breaks w)
-next_at t step None = settles_at t step (is_high t.harmonics)
-next_at t step (Some b) = (Breaks b, refl)
+next_at : (s : State) (commands : List Command) (step : ℕ) (b : Option Broken) → broken s commands step ≡ b → (o : Outcome) × Next s commands step o
+next_at s commands step None e = let f = first_ungrounded (after s commands).matrix in settled_at s commands step e (after s commands).harmonics refl f.0 f.1
+next_at s commands step (Some b) e = (Breaks b, breaks_at_start b e refl)
 
 pub next_of : (s : State) (commands : List Command) (step : ℕ) → (o : Outcome) × Next s commands step o
-next_of s commands step = next_at (after s commands) step (broken s commands step)
+next_of s commands step = next_at s commands step (broken s commands step) refl
 
 -- what is within each work of a step is within one
 pub within_one : (s : State) (commands : List Command) (step began ended : ℕ) → ((n : ℕ) → WorkOfStep s commands step n → ended ≤ began + 100 * n) → IsWithinWork s commands step began ended

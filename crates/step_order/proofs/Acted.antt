@@ -1,6 +1,6 @@
 -- What bots have made that break no rule.
 use Rattle.std.proofs.Common.{◌≡◌, ℕ, zero, suc, ◌*◌, ◌%◌, ◌^◌, ◌<◌, refl, sym, ◌∙◌, ap, subst, inl, inr, ◌⊎◌, arith, List, [], ◌∷◌, Bool, true, false, cond, ◌&&◌, ◌||◌, not, ◌==◌, map, length, lit<, pow-suc}
-use Rattle.std.specs.Prelude.{Some, Option, IsTrue, count_by, find, option_map, unwrap_or}
+use Rattle.std.specs.Prelude.{Some, Option, IsTrue, count_by, find}
 use Rattle.std.specs.List.{AllByRecursion, list_any}
 use Rattle.std.proofs.lemmas.List.Concat.{flat_map_single}
 use Rattle.std.proofs.lemmas.List.Sums.{sum_by-cons}
@@ -12,7 +12,7 @@ use Rattle.nano_spec.specs.declared.commands.Command.TheVariants.{Halt, Wait, Fl
 use Rattle.nano_spec.specs.declared.system.Bot.{Bot}
 use Rattle.nano_spec.specs.declared.system.Harmonics.{Harmonics}
 use Rattle.nano_spec.specs.Act.{Act, filled, is_flip, position, voided}
-use Rattle.nano_spec.specs.Bots.{bots_after, fused, in_rising_order, moved, successors}
+use Rattle.nano_spec.specs.Bots.{bots_after, fused, in_rising_order, moved, successors, after_fusion}
 use Rattle.nano_spec.specs.Group.{fuse, is_pair}
 use Rattle.nano_spec.specs.Matrix.{Matrix, is_full}
 use Rattle.nano_spec.specs.State.{State}
@@ -210,7 +210,7 @@ module _ (all : List Act) (apart : AreApart all) (a b : Act) (j : In b all) (pai
   found_partner = find_only (is_pair a) b all j pair (λ x i t. apart.places x b i j (one_partner x a b (by_left (is_pair a x) (is_pair x a) t) (by_left (is_pair a b) (is_pair b a) pair)))
 
   primary_by : (k : Command) → fuse (position a) k (position b) b.command ≡ true → successors all a k ≡ fused a.bot b.bot ∷ []
-  primary_by (FusionP d) h = ap (λ (o : Option Act). unwrap_or (option_map (λ (x : Act). fused a.bot x.bot) o) a.bot ∷ []) found_partner
+  primary_by (FusionP d) h = ap (λ (o : Option Act). after_fusion a.bot o ∷ []) found_partner
   primary_by _ h = cc
 
   pub primary_becomes : successors all a a.command ≡ fused a.bot b.bot ∷ []

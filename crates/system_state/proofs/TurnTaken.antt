@@ -16,7 +16,7 @@ use Rattle.nano_spec.specs.declared.commands.Command.TheVariants.{Halt, Wait, Fl
 use Rattle.nano_spec.specs.declared.system.Bot.{Bot}
 use Rattle.nano_spec.specs.declared.system.Harmonics.{Harmonics}
 use Rattle.nano_spec.specs.Act.{Act, filled, is_flip, is_fusion, named_points, position, voided}
-use Rattle.nano_spec.specs.Bots.{fused, in_rising_order, moved, newborn, successors}
+use Rattle.nano_spec.specs.Bots.{fused, in_rising_order, moved, newborn, successors, after_fusion}
 use Rattle.nano_spec.specs.Command.{is_command}
 use Rattle.nano_spec.specs.Energy.{group_cost, groups_cost, total}
 use Rattle.nano_spec.specs.Group.{are_partners, are_together, fuse, is_pair, leaders, members, share_region}
@@ -358,7 +358,7 @@ module _ (s : State) (all : List Act) (good : IsGood s all) (l : Act) (leads : I
       finds = (λ i. cond (no_pair l i) (Some l) (cond (is_pair l b) (Some b) None)) ∙ ap (λ v. cond v (Some b) None) (pair_first b d e q)
 
       first_comes : successors (l ∷ b ∷ []) l l.command ≡ fused l.bot b.bot ∷ []
-      first_comes = ap (successors (l ∷ b ∷ []) l) e ∙ ap (λ (o : Option Act). unwrap_or (option_map (λ (x : Act). fused l.bot x.bot) o) l.bot ∷ []) finds
+      first_comes = ap (successors (l ∷ b ∷ []) l) e ∙ ap (λ (o : Option Act). after_fusion l.bot o ∷ []) finds
 
       second_comes : successors (l ∷ b ∷ []) b b.command ≡ []
       second_comes = gone b.command (pair_first b d e q)
@@ -382,7 +382,7 @@ module _ (s : State) (all : List Act) (good : IsGood s all) (l : Act) (leads : I
       second_comes = comes_of b.command (pair_second b d e q)
         where
           comes_of : (c : Command) → fuse (position b) c (position l) l.command ≡ true → successors (l ∷ b ∷ []) b c ≡ fused b.bot l.bot ∷ []
-          comes_of (FusionP f) k = ap (λ (v : Bool). unwrap_or (option_map (λ (x : Act). fused b.bot x.bot) (cond v (Some l) (cond (is_pair b b) (Some b) None))) b.bot ∷ []) (pair_second b d e q)
+          comes_of (FusionP f) k = ap (λ (v : Bool). after_fusion b.bot (cond v (Some l) (cond (is_pair b b) (Some b) None)) ∷ []) (pair_second b d e q)
           comes_of c k = cc
   couple_bots c e h b q m = cc
 

@@ -1,6 +1,6 @@
 -- Every run has a work; and what is within the work of a step.
-use Rattle.std.proofs.Common.{◌≡◌, ℕ, zero, suc, ◌+◌, ◌*◌, ◌≤◌, refl, ap, subst, arith, List, [], ◌∷◌, ◌++◌, length, take, drop}
-use Rattle.std.specs.Prelude.{MatchOption, Some, option_map, slice_get}
+use Rattle.std.proofs.Common.{◌≡◌, ℕ, zero, suc, ◌+◌, ◌*◌, ◌≤◌, refl, ap, arith, List, [], ◌∷◌, ◌++◌, length, take, drop}
+use Rattle.std.specs.Prelude.{Some, option_map, slice_get}
 use Rattle.std.proofs.lemmas.List.{length-drop}
 use Rattle.nano_spec.specs.declared.commands.Command.{Command}
 use Rattle.nano_spec.specs.declared.outcomes.Broken.{Broken}
@@ -11,12 +11,12 @@ use Rattle.nano_spec.specs.Act.{acts}
 use Rattle.nano_spec.specs.First.{first_value}
 use Rattle.nano_spec.specs.Group.{leaders}
 use Rattle.nano_spec.specs.Matrix.{Matrix}
-use Rattle.nano_spec.specs.Next.{Breaks, Goes, Next, Outcome, Settles}
+use Rattle.nano_spec.specs.Next.{Breaks, Goes, Next, Outcome}
 use Rattle.nano_spec.specs.Rules.{broken, judge_bots, judge_pairs}
 use Rattle.nano_spec.specs.State.{State, opening}
-use Rattle.nano_spec.specs.Step.{after}
 use Rattle.nano_spec.specs.Work.{Work, WorkFrom, WorkOfStep, rests, stops, works}
 use Rattle.nano_spec.proofs.Works.{judged_same}
+use Rattle.nano_spec.proofs.Accepted.{accepted_step}
 use Rattle.step_machine.specs.Stepped.{IsWithinWork}
 use Rattle.step_machine.proofs.Weighing.{next_of, step_work, within_one}
 
@@ -24,7 +24,7 @@ use Rattle.step_machine.proofs.Weighing.{next_of, step_work, within_one}
 
 -- a step without commands breaks a rule, where a bot is active
 no_step : (s : State) (commands : List Command) (step : ℕ) (t : State) (bot : Bot) (bots : List Bot) → s.bots ≡ bot ∷ bots → length commands ≡ 0 → Next s commands step (Goes t) → ⊥
-no_step s commands step t bot bots e l next = let f : Goes t ≡ Breaks b = subst (λ o. MatchOption o (Settles (after s commands) step (Goes t)) (λ w. Goes t ≡ Breaks w)) ends next in cc
+no_step s commands step t bot bots e l next = let keeps = (accepted_step s t commands step next).keeps in let breaks = ends in cc
   where
     b : Broken
     b = record { step = step; bid = bot.bid; rule = TraceEnds; at = bot.pos }

@@ -1,0 +1,76 @@
+-- Worked examples of what is told: statuses and lines, limits, and numbers that plans are bounded by (docs/FORMATS.md, "Printed lines").
+use Rattle.std.specs.Prelude.{◌≡◌, ◌×◌, ℕ, ◌*◌, ◌^◌, pos, negsuc, List, [], ◌∷◌, codes}
+use Rattle.vox_geom.specs.Point.{coord}
+use Rattle.nano_spec.specs.declared.outcomes.Rule.TheVariants.{HaltLow, Ungrounded, Forbidden}
+use Rattle.nano_spec.specs.Matrix.{empty}
+use Rattle.nano_spec.specs.Worked.{voxels_at}
+use Rattle.model_file.specs.declared.fault.ModelFault.TheVariants as fault
+use Rattle.trace_text.specs.declared.fault.TextFault.TheVariants as text
+use Rattle.group_planner.specs.Phases as group
+use Rattle.group_planner.specs.Rows.{rows, runs}
+use Rattle.plan_tape.specs.Parts.{full_count}
+use Rattle.swarm_planner.specs.Strips.{width}
+use Rattle.void_planner.specs.Phases as void
+use Rattle.nanobot_rows.specs.declared.report.Report.{Report}
+use Rattle.nanobot_rows.specs.declared.report.Report.TheVariants as report
+use Rattle.nanobot_rows.specs.declared.report.Who.TheVariants as who
+use Rattle.nanobot_rows.specs.Answer.{dis_limit, group_limit, run_limit, script_limit, text_limit}
+use Rattle.nanobot_rows.specs.Report.{code_of, report_line, status_of}
+
+-- the exit status and the line of a report
+abbrev pub told : Report → ℕ × List ℕ
+told r = (code_of (status_of r), report_line r)
+
+-- what each row tells where it is done, and each refusal
+pub record WorkedLines : Type 0 where
+  pub a_run : told (report.Accepted (pos 1077) 39) ≡ (0, codes "ok energy 1077 steps 39\n")
+  pub a_run_that_gains : told (report.Accepted (negsuc 11) 2) ≡ (0, codes "ok energy -12 steps 2\n")
+  pub a_model : told (report.Legal 20 388) ≡ (0, codes "legal resolution 20 full 388\n")
+  pub a_trace : told (report.Stored 4 6) ≡ (0, codes "commands 4 bytes 6\n")
+  pub a_forged_model : told (report.Forged 20 1150) ≡ (0, codes "model resolution 20 full 1150\n")
+  pub a_plan : told (report.Planned (pos 5000) 30 119 285) ≡ (0, codes "plan energy 5000 steps 30 commands 119 bytes 285\n")
+  pub an_exercise : told (report.Exercised 7 3 1 (record { energy = pos 900; steps = 8 }) (record { energy = pos 700; steps = 6 }))
+      ≡ (0, codes "exercise number 7 resolution 3 full 1 layer energy 900 steps 8 group energy 700 steps 6\n")
+  pub a_broken_rule : told (report.Broken (record { step = 783; bid = 1; rule = HaltLow; at = coord 0 0 10 })) ≡ (1, codes "broken 4 HaltLow step 783 bid 1 at 0 0 10\n")
+  pub a_floating_voxel : told (report.Broken (record { step = 2; bid = 0; rule = Ungrounded; at = coord 1 2 3 })) ≡ (1, codes "broken 12 Ungrounded step 2 bid 0 at 1 2 3\n")
+  pub a_forbidden_command : told (report.Broken (record { step = 1; bid = 40; rule = Forbidden; at = coord 0 0 0 })) ≡ (1, codes "broken 15 Forbidden step 1 bid 40 at 0 0 0\n")
+  pub no_byte : told (report.Model who.Model fault.NoByte) ≡ (3, codes "model 1 NoByte\n")
+  pub a_resolution : told (report.Model who.Source (fault.Resolution 251)) ≡ (3, codes "source 2 Resolution 251\n")
+  pub too_few_bytes : told (report.Model who.Target (fault.Short 5 4)) ≡ (3, codes "target 3 Short want 5 have 4\n")
+  pub too_many_bytes : told (report.Model who.Model (fault.Long 5)) ≡ (3, codes "model 4 Long want 5\n")
+  pub outside_the_box : told (report.Model who.Model (fault.Border (coord 0 1 2))) ≡ (3, codes "model 6 Border at 0 1 2\n")
+  pub a_floating_model : told (report.Model who.Source (fault.Floating (coord 1 1 12))) ≡ (3, codes "source 7 Floating at 1 1 12\n")
+  pub a_wide_head : told (report.Model who.Model (fault.WideHead 2)) ≡ (3, codes "model 8 WideHead have 2\n")
+  pub a_wide_resolution : told (report.Model who.Model (fault.WideResolution 401)) ≡ (3, codes "model 9 WideResolution 401\n")
+  pub a_wide_run : told (report.Model who.Model (fault.WideRun 1)) ≡ (3, codes "model 10 WideRun index 1\n")
+  pub too_few_wide_runs : told (report.Model who.Model (fault.WideShort 100)) ≡ (3, codes "model 11 WideShort have 100\n")
+  pub bytes_after_the_runs : told (report.Model who.Target fault.WideLong) ≡ (3, codes "target 12 WideLong\n")
+  pub two_resolutions : told (report.Resolutions 20 3) ≡ (3, codes "resolutions 20 3\n")
+  pub a_long_group_plan : told (report.GroupLong 300 20) ≡ (3, codes "group plan too long runs 300 rows 20\n")
+  pub a_bad_byte : told (report.TraceBad 17) ≡ (4, codes "trace bad at 17\n")
+  pub a_cut_command : told (report.TraceCut 0) ≡ (4, codes "trace cut at 0\n")
+  pub a_long_trace : told (report.TraceLong 50) ≡ (4, codes "trace longer than 50\n")
+  pub a_high_byte : told (report.Text (text.NotAscii 1)) ≡ (8, codes "text 1 NotAscii line 1\n")
+  pub a_word : told (report.Text (text.UnknownWord 10)) ≡ (8, codes "text 2 UnknownWord line 10\n")
+  pub a_shape : told (report.Text (text.Shape 2)) ≡ (8, codes "text 3 Shape line 2\n")
+  pub a_range : told (report.Text (text.Range 3)) ≡ (8, codes "text 4 Range line 3\n")
+  pub a_long_text : told (report.TextLong 60) ≡ (8, codes "text longer than 60\n")
+  pub an_unsupported_part : told (report.Unsupported (coord 1 20 3)) ≡ (9, codes "unsupported at 1 20 3\n")
+
+-- how many bytes of a file are read at most
+pub record WorkedLimits : Type 0 where
+  pub of_a_run : run_limit ≡ 2 ^ 30
+  pub of_a_printed_trace : dis_limit ≡ 50 * 1000 * 1000
+  pub of_a_text : text_limit ≡ 2 ^ 30
+  pub of_a_script : script_limit ≡ 2 ^ 16
+  pub of_a_group_plan : group_limit ≡ 2 ^ 30
+
+-- numbers that plans are bounded by
+pub record WorkedBounds : Type 0 where
+  pub strips : (width 3 ≡ 1) × (width 22 ≡ 1) × (width 23 ≡ 2) × (width 250 ≡ 13)
+  pub full_voxels : full_count (voxels_at 3 (coord 1 0 0 ∷ coord 1 0 2 ∷ coord 2 0 0 ∷ [])) ≡ 3
+  pub rows_of_voxels : rows (voxels_at 3 (coord 1 0 0 ∷ coord 1 0 2 ∷ coord 2 0 0 ∷ [])) ≡ 2
+  pub runs_of_voxels : runs (voxels_at 3 (coord 1 0 0 ∷ coord 1 0 2 ∷ coord 2 0 0 ∷ [])) ≡ 3
+  pub group_steps : group.most_group_steps (empty 3) (voxels_at 3 (coord 1 0 0 ∷ coord 1 0 2 ∷ coord 2 0 0 ∷ [])) ≡ 1344
+  pub group_bytes : group.most_bytes (voxels_at 3 (coord 1 0 0 ∷ coord 1 0 2 ∷ coord 2 0 0 ∷ [])) (empty 3) ≡ 5388
+  pub void_steps : (void.most_void_steps 31 ≡ 696) × (void.most_void_steps 32 ≡ 1480) × (void.most_void_steps 250 ≡ 164200)

@@ -1,0 +1,38 @@
+-- The worked examples of the table of words, by computing.
+use Rattle.std.proofs.Common.{refl}
+use Rattle.std.specs.Fmt.{digits}
+use Rattle.nanobot_words.specs.Worked.{WorkedFiles, WorkedWords}
+
+pub worked_words : WorkedWords
+unfolding digits
+worked_words = record {
+  a_check = refl;
+  a_run = refl;
+  a_run_from_nothing = refl;
+  a_light_run_to_nothing = refl;
+  a_text = refl;
+  a_trace = refl;
+  a_forged_model = refl;
+  a_layer_plan = refl;
+  a_group_plan = refl;
+  a_void_plan = refl;
+  a_low_plan = refl;
+  a_swarm_plan = refl;
+  an_exercise = refl;
+  a_session = refl;
+}
+
+pub worked_files : WorkedFiles
+worked_files = record {
+  a_run_reads = refl;
+  nothing_is_no_file = refl;
+  a_session_reads = refl;
+  a_plan_reads_its_models = refl;
+  a_plan_stores_its_trace = refl;
+  a_text_is_read = refl;
+  its_trace_is_stored = refl;
+  a_trace_is_read = refl;
+  its_text_is_stored = refl;
+  a_forged_model_is_stored = refl;
+  a_session_stores_nothing = refl;
+}

@@ -1,0 +1,8 @@
+use Rattle.nanobot_words.proofs.Examples.{worked_files, worked_words}
+use Rattle.nanobot_words.proofs.laws.worked_words.Goals as goal
+
+pub returns-clause-words : goal.returns-clause-words
+returns-clause-words c = worked_words
+
+pub returns-clause-files : goal.returns-clause-files
+returns-clause-files c = worked_files
