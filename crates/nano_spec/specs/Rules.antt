@@ -44,7 +44,7 @@ fit_badly group region = not (length group == 2 ^ dimension region) || repeats (
 
 -- whether the bot has a group command whose members do not fit its region
 abbrev pub is_misshapen : List Act → Act → Bool
-is_misshapen all a = list_any (fit_badly (members all a)) (group_regions (position a) a.command)
+is_misshapen all a = list_any (λ region. fit_badly (members all a) region) (group_regions (position a) a.command)
 
 -- where a bot breaks a rule of single bots, if it does
 abbrev pub fault : State → List Act → Act → Rule → Option Coord
