@@ -1,7 +1,10 @@
 -- That an end of a call has one answer: said once, where the search would find it anew in each clause of each end.
-use Rattle.std.proofs.Common.{◌≡◌}
-use Rattle.std.specs.Prelude.{Result, Ok, Err}
+use Rattle.std.proofs.Common.{◌≡◌, ℕ, List, [], ◌∷◌, false, true, ap, arith, get_or, length, subst, sym}
+use Rattle.std.specs.Prelude.{ℤ, Result, Ok, Err}
+use Rattle.nano_spec.specs.declared.commands.Command.{Command}
 use Rattle.nano_spec.specs.declared.outcomes.Broken.{Broken}
+use Rattle.step_machine.specs.Situation.{Situation}
+use Rattle.step_machine.specs.Stepped.{Stepped, answer_of}
 use Rattle.step_machine.specs.declared.machine.StepFault.{StepFault}
 use Rattle.step_machine.specs.declared.machine.StepFault.TheVariants as fault
 use Rattle.step_machine.specs.declared.machine.StepOk.{StepOk}
@@ -37,3 +40,15 @@ made_memory ok e = cc
 
 pub same_fault : (f g : StepFault) → ◌≡◌ {A = Result StepOk StepFault} (Err f) (Err g) → f ≡ g
 same_fault f g e = cc
+
+-- a list of one command is that command
+pub only_command : (commands : List Command) (command : Command) → length commands ≡ 1 → command ≡ get_or commands 0 command → commands ≡ command ∷ []
+only_command [] command l e = absurd (omega arith)
+only_command (k ∷ []) command l e = ap (λ (c : Command). c ∷ []) (sym e)
+only_command (k ∷ m ∷ more) command l e = absurd (omega arith)
+
+-- what the only bot's step has done, as the answer to the commands of a step
+pub made_alone : (old new : Situation) (commands : List Command) (command : Command) (energy : ℤ) (fault : StepFault) (began ended : ℕ) → commands ≡ command ∷ [] → energy ≡ new.state.energy → Stepped old new (command ∷ []) (answer_of true new.state fault) began ended → Stepped old new commands (Ok (record { energy = energy; halted = false })) began ended
+made_alone old new commands command energy fault began ended one paid made =
+    subst (λ (ks : List Command). Stepped old new ks (Ok (record { energy = energy; halted = false })) began ended) (sym one)
+    (subst (λ (z : ℤ). Stepped old new (command ∷ []) (Ok (record { energy = z; halted = false })) began ended) (sym paid) made)
