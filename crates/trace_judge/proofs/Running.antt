@@ -3,10 +3,9 @@ use Rattle.std.proofs.Common.{◌≡◌, ℕ, ◌+◌, ◌<◌, ◌==◌, arith,
 use Rattle.std.specs.Prelude.{MatchBool, ◌↔◌, Result, Ok}
 use Rattle.nano_spec.specs.declared.commands.Command.{Command}
 use Rattle.nano_spec.specs.declared.system.Bot.{Bot}
-use Rattle.nano_spec.specs.Next.{Goes, Next}
-use Rattle.nano_spec.specs.State.{State}
+use Rattle.nano_spec.specs.Next.{Next, Outcome}
 use Rattle.run_progress.specs.Progress as progress
-use Rattle.run_progress.specs.Progress.{Progress, Pushes, PushesAt, MakesStep, mark_of, with_command}
+use Rattle.run_progress.specs.Progress.{Progress, Pushes, PushesAt, MakesStep, mark_of, with_command, stepped}
 use Rattle.trace_judge.specs.declared.runner.Mark.{Mark}
 use Rattle.trace_judge.specs.declared.runner.Mark.TheVariants as mark
 use Rattle.trace_judge.specs.declared.taking.Taken.TheVariants as taken
@@ -17,14 +16,14 @@ use Rattle.step_machine.specs.Situation.{Situation}
 use Rattle.step_machine.specs.Stepped.{Stepped}
 
 module _ (machine : Situation) (pending : List Command) (m : Mark) (v : Course) (seen : course_of machine pending m ≡ v) (runs : m ≡ mark.Running) where
-  -- the last command of a step that is made
-  pub made : (command : Command) (t : State) (q : Progress) → length pending + 1 ≡ length machine.state.bots → Next machine.state (pending ++ command ∷ []) (machine.steps + 1) (Goes t) → q ≡ record { state = t; steps = machine.steps + 1; pending = []; mark = mark_of t.bots } → Pushes v.progress command q
-  made command t q l n f =
+  -- the last command of a step, by what comes of the step
+  pub made : (command : Command) (outcome : Outcome) (q : Progress) → length pending + 1 ≡ length machine.state.bots → Next machine.state (pending ++ command ∷ []) (machine.steps + 1) outcome → q ≡ stepped (with_command (course_of machine pending m).progress command) outcome → Pushes v.progress command q
+  made command outcome q l n f =
       subst (λ (w : Course). Pushes w.progress command q) seen
       (subst (λ (k : progress.Mark). PushesAt k (course_of machine pending m).progress command q) (sym (ap mark_by runs)) joins)
     where
       steps : MakesStep (with_command (course_of machine pending m).progress command) q
-      steps = (Goes t, n, f)
+      steps = (outcome, n, f)
 
       joins : MatchBool (length (pending ++ command ∷ []) == length machine.state.bots) (MakesStep (with_command (course_of machine pending m).progress command) q) (q ≡ with_command (course_of machine pending m).progress command)
       joins = subst (λ (b : Bool). MatchBool b (MakesStep (with_command (course_of machine pending m).progress command) q) (q ≡ with_command (course_of machine pending m).progress command)) (sym (eq-eqb (length (pending ++ command ∷ [])) (length machine.state.bots) (length-append pending (command ∷ []) ∙ l))) steps

@@ -1,5 +1,10 @@
-use Rattle.std.proofs.Common.{◌∙◌, ◌+◌, ◌++◌, [], ◌∷◌, refl, ap, subst, true, false}
+use Rattle.std.proofs.Common.{rules, ◌∙◌, ◌+◌, ◌++◌, [], ◌∷◌, refl, ap, subst, true, false}
+use Rattle.std.specs.Prelude.{Err}
+use Rattle.nano_spec.specs.Next.{Breaks, Goes}
+use Rattle.run_progress.specs.Progress as progress
 use Rattle.run_progress.specs.Progress.{Pushes}
+use Rattle.step_machine.specs.Stepped.{Stepped}
+use Rattle.step_machine.specs.declared.machine.StepFault.TheVariants as fault
 use Rattle.trace_judge.specs.Course.{Course, course_of, mark_by, searched_by}
 use Rattle.trace_judge.proofs.Running.{ended_on, halted_mark, made, made_on, running_mark, waits_on}
 use Rattle.trace_judge.proofs.Works.{untouched_within}
@@ -24,15 +29,22 @@ pub returns-in-Made-clause-progress : goal.returns-in-Made-clause-progress
 returns-in-Made-clause-progress g c =
     let stepped = c.in-Made.ensures.stepped in
     made c.self.inside.machine c.self.inside.pending c.self.inside.mark c.args.self.now c.self.view_is c.in-Running.is
-    c.args.command c.take.new.machine.state _ (c.in-Made.ensures.full (λ x. cc)) stepped.goes
+    c.args.command (Goes c.take.new.machine.state) _ (c.in-Made.ensures.full (λ x. cc)) stepped.goes
     (λ i. record { state = c.take.new.machine.state; steps = stepped.counted i; pending = c.in-Made.ensures.cleared i; mark = (ap mark_by c.in-Running.is ∙ running_mark c.take.new.machine.state.bots false stepped.halted refl) i })
 
 pub returns-in-Halted-clause-progress : goal.returns-in-Halted-clause-progress
 returns-in-Halted-clause-progress g c =
     let stepped = c.in-Halted.ensures.stepped in
     made c.self.inside.machine c.self.inside.pending c.self.inside.mark c.args.self.now c.self.view_is c.in-Running.is
-    c.args.command c.take.new.machine.state _ (c.in-Halted.ensures.full (λ x. cc)) stepped.goes
+    c.args.command (Goes c.take.new.machine.state) _ (c.in-Halted.ensures.full (λ x. cc)) stepped.goes
     (λ i. record { state = c.take.new.machine.state; steps = stepped.counted i; pending = c.in-Halted.ensures.cleared i; mark = halted_mark c.take.new.machine.state.bots true stepped.halted refl i })
+
+pub returns-in-Broken-clause-progress : goal.returns-in-Broken-clause-progress
+returns-in-Broken-clause-progress g c =
+    let stepped : Stepped c.self.inside.machine c.take.new.machine (c.self.inside.pending ++ c.args.command ∷ []) (Err (fault.Broken c.in-Broken.broken)) c.args.steps.now c.take.new.steps = search rules in
+    made c.self.inside.machine c.self.inside.pending c.self.inside.mark c.args.self.now c.self.view_is c.in-Running.is
+    c.args.command (Breaks c.in-Broken.broken) _ (c.in-Refused-take.ensures.full (λ x. cc)) stepped.breaks.1
+    (λ i. record { state = stepped.stays.0 i; steps = stepped.stays.1 i; pending = c.in-Refused-take.ensures.kept refl i; mark = progress.Refused c.in-Broken.broken })
 
 pub invariant_of-self : goal.invariant_of-self
 invariant_of-self g c = ended_on c.self.inside.machine c.self.inside.pending c.passed-mark.result c.passed-mark.ensures.ended
