@@ -27,7 +27,7 @@ panic = "abort"
 TOML
 (cd "$folder" && cargo build --release --offline --quiet)
 case ${1-} in
-run | group | layer | void | low | swarm) ;;
+run | group | layer | void | low | swarm | *-low) ;;
 *) set -- run "$@" ;;
 esac
 exec "$folder/target/release/unproved" "$@"

@@ -8,4 +8,4 @@ mod runner;
 mod taking;
 
 pub use laws::{every_run_has_work, the_work_pays};
-pub use runner::{Runner, judge};
+pub use runner::{Runner, judge, judge_by};

@@ -148,7 +148,31 @@ impl Runner {
     }
 }
 
-/// The verdict of a trace that is to make the target of the source, by the full profile.
+/// The verdict of a trace that is to make the target of the source, by a profile.
+pub fn judge_by<L: Ledger>(
+    alloc: Global,
+    source: Planes,
+    target: &Planes,
+    commands: &[Command],
+    profile: Profile,
+    steps: &mut Steps<L>,
+) -> Result<Verdict, Memory>
+    requires grounded { FirstUngrounded source None }
+    requires resolution { source.resolution ≡ target.now.resolution }
+    requires seeds { profile.seeds ≤ 39 }
+    requires few { length commands.now ≤ 1073741824 }
+    ensures value { IfOk result (λ v. VerdictOf source target.now commands.now profile v) }
+    ensures touches { IfOk result (λ _. IsWithinWorkOfRun source commands.now profile steps.old steps.new) }
+{
+    the_progress_is_the_verdict();
+    let mut runner = Runner::start(alloc, source, profile, steps)?;
+    for command in commands {
+        runner.push(*command, steps)?;
+    }
+    Ok(runner.finish(target, steps))
+}
+
+/// The same by the full profile.
 pub fn judge<L: Ledger>(
     alloc: Global,
     source: Planes,
@@ -162,10 +186,5 @@ pub fn judge<L: Ledger>(
     ensures value { IfOk result (λ v. VerdictOf source target.now commands.now full_profile v) }
     ensures touches { IfOk result (λ _. IsWithinWorkOfRun source commands.now full_profile steps.old steps.new) }
 {
-    the_progress_is_the_verdict();
-    let mut runner = Runner::start(alloc, source, Profile::full(), steps)?;
-    for command in commands {
-        runner.push(*command, steps)?;
-    }
-    Ok(runner.finish(target, steps))
+    judge_by(alloc, source, target, commands, Profile::full(), steps)
 }

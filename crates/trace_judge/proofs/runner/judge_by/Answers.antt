@@ -1,25 +1,23 @@
-use Rattle.std.proofs.Common.{◌≡◌, ◌∙◌, arith, ap}
+use Rattle.std.proofs.Common.{◌≡◌, arith, ap}
 use Rattle.nano_spec.specs.Model.{volume}
-use Rattle.nano_spec.specs.Profile.{full_profile}
-use Rattle.run_progress.specs.Progress.{begun}
 use Rattle.trace_judge.proofs.Judging.{judged_within, judging_begun, judging_on}
 use Rattle.trace_judge.proofs.Works.{run_work}
-use Rattle.trace_judge.proofs.runner.judge.Goals as goal
+use Rattle.trace_judge.proofs.runner.judge_by.Goals as goal
 
 pub loop-command-init : goal.loop-command-init
 loop-command-init g c =
-    judging_begun c.args.source full_profile c.args.commands.now c.in_ok-runner.runner c.start.new.steps (c.in_ok-runner.ensures.progress ∙ ap (begun c.args.source) c.full.ensures) c.in_ok-runner.ensures.stands
+    judging_begun c.args.source c.args.profile c.args.commands.now c.in_ok-runner.runner c.start.new.steps c.in_ok-runner.ensures.progress c.in_ok-runner.ensures.stands
 
 pub loop-command-preserved : goal.loop-command-preserved
 loop-command-preserved g c =
-    judging_on c.args.source full_profile c.args.commands.now c.loop-command.command-index c.loop-command.runner c.push.new.self c.command-item.result c.start.new.steps c.loop-command.steps c.push.new.steps
+    judging_on c.args.source c.args.profile c.args.commands.now c.loop-command.command-index c.loop-command.runner c.push.new.self c.command-item.result c.start.new.steps c.loop-command.steps c.push.new.steps
     c.loop-command-test.true c.command-item.is c.loop-command.invariant c.in_ok-push.ensures.progress c.push.ensures.steps c.push.ensures.resolution c.in_ok-push.ensures.stands
     (record { untouched = c.push.ensures.untouched; paid = c.in_ok-push.ensures.touches })
 
 pub returns-clause-touches : goal.returns-clause-touches
 returns-clause-touches g c =
-    let work = run_work c.args.source c.args.commands.now full_profile in
-    let within = judged_within c.args.source full_profile c.args.commands.now c.loop-command.command-index c.loop-command.runner c.start.new.steps c.loop-command.steps work.0 c.loop-command.invariant work.1 in
+    let work = run_work c.args.source c.args.commands.now c.args.profile in
+    let within = judged_within c.args.source c.args.profile c.args.commands.now c.loop-command.command-index c.loop-command.runner c.start.new.steps c.loop-command.steps work.0 c.loop-command.invariant work.1 in
     let first = c.in_ok-runner.ensures.touches in
     let last = c.finish.ensures.touches in
     let same : volume c.args.source.resolution ≡ volume c.args.target.now.resolution = ap volume c.requires.resolution in

@@ -1,0 +1,35 @@
+-- A proposal that is better than a plan may stand in its place.
+use Rattle.std.proofs.Common.{◌≡◌, ℕ, ◌≤◌, ◌<◌, arith, ap, subst, sym, List, length}
+use Rattle.std.specs.Prelude.{ℤ, ◌<ℤ◌, ◌≤ℤ◌, Option, Some, IfSome, count_by}
+use Rattle.std.proofs.lemmas.Int.{ints}
+use Rattle.nano_spec.specs.declared.commands.Command.{Command}
+use Rattle.nano_spec.specs.declared.system.Profile.{Profile}
+use Rattle.nano_spec.specs.Matrix.{Matrix}
+use Rattle.plan_tape.specs.declared.tape.Plan.{Plan}
+use Rattle.plan_tape.specs.Progress.{IsAccepted}
+use Rattle.void_planner.proofs.Counts.{few_at_most}
+use Rattle.plan_choice.specs.declared.bounds.Bounds.{Bounds}
+use Rattle.plan_choice.specs.declared.choice.Cost.{Cost}
+use Rattle.plan_choice.specs.Better.{IsWithin, MayStandFor}
+
+-- a plan may stand for itself
+pub stays : (source target : Matrix) (profile : Profile) (most : Bounds) (plan : Plan) → IsAccepted source target plan.commands profile plan.energy plan.steps → MayStandFor source target profile most plan plan
+stays source target profile most plan accepted = record {
+  accepted = accepted;
+  energy = omega (arith, ints);
+  steps = λ h. h;
+  commands = λ h. h;
+  bytes = λ h. h;
+  bots = λ h. h;
+}
+
+-- the proposal of this cost, where it was found better
+pub taken : (source target : Matrix) (profile : Profile) (most : Bounds) (plan : Plan) (proposal : List Command) (cost : Cost) (energy : ℤ) → energy ≡ cost.energy → IsAccepted source target proposal profile cost.energy cost.steps → IsWithin plan.energy most proposal cost.energy cost.steps → MayStandFor source target profile most plan (record { commands = proposal; energy = energy; steps = cost.steps })
+taken source target profile most plan proposal cost energy same accepted within = record {
+  accepted = subst (λ (z : ℤ). IsAccepted source target proposal profile z cost.steps) (sym same) accepted;
+  energy = let less = within.cheaper in omega (arith, ints, same, less);
+  steps = λ _. within.steps_are;
+  commands = λ _. within.commands_are;
+  bytes = λ _. within.bytes_are;
+  bots = λ _. few_at_most source profile proposal most.bots (let few = within.fissions_are in omega (arith, few));
+}

@@ -1,0 +1,152 @@
+//! A proposal is judged, and chosen where it is cheaper.
+ghost use Rattle.std.specs.Prelude.{◌≡◌, ◌⊎◌, ◌<◌, ◌≤◌, ℕ, ℤ, IfOk, IfSome, None, Ok, length};
+ghost use Rattle.nano_spec.specs.Grounded.{FirstUngrounded};
+ghost use Rattle.nano_spec.specs.Verdict.{VerdictOf};
+ghost use Rattle.plan_tape.specs.Progress.{IsAccepted};
+ghost use Rattle.plan_choice.specs.Better.{IsChosen, IsWithin, MayStandFor};
+
+use crate::bounds::{Bounds, MOST_COMMANDS, bytes_of, fissions_of};
+use nano_spec::{Command, CommandList, Profile, Verdict, one_verdict};
+use plan_tape::Plan;
+use std::alloc::Global;
+use std::marker::Brand;
+use std::sync::ledger::{Blank, Ledger};
+use trace_judge::judge_by;
+use vox_geom::{Memory, Steps};
+use vox_planes::Planes;
+
+/// What an accepted run costs.
+#[derive(Clone, Copy, PartialEq, Eq, Debug)]
+pub struct Cost {
+    pub energy: i64,
+    pub steps: u32,
+}
+
+/// The verdict of the commands by a profile, counted in a ledger of its own.
+fn judged_in<L: Ledger>(
+    alloc: Global,
+    source: &Planes,
+    target: &Planes,
+    profile: Profile,
+    commands: &[Command],
+    blank: Blank,
+) -> Result<Verdict, Memory>
+    requires grounded { FirstUngrounded source.now None }
+    requires resolution { source.now.resolution ≡ target.now.resolution }
+    requires seeds { profile.seeds ≤ 39 }
+    requires few { length commands.now ≤ 1073741824 }
+    requires name { blank.name ≡ L.name }
+    requires parts { blank.parts ≡ L.parts }
+    requires some { 0 < L.parts }
+    ensures { IfOk result (λ v. VerdictOf source.now target.now commands.now profile v) }
+{
+    let mut steps: Steps<L> = Steps::new(blank);
+    judge_by(
+        alloc,
+        source.copy(alloc)?,
+        target,
+        commands,
+        profile,
+        &mut steps,
+    )
+}
+
+/// The verdict of the commands by a profile, where nobody counts the touches.
+fn judged(
+    alloc: Global,
+    source: &Planes,
+    target: &Planes,
+    profile: Profile,
+    commands: &[Command],
+) -> Result<Verdict, Memory>
+    requires grounded { FirstUngrounded source.now None }
+    requires resolution { source.now.resolution ≡ target.now.resolution }
+    requires seeds { profile.seeds ≤ 39 }
+    requires few { length commands.now ≤ 1073741824 }
+    ensures { IfOk result (λ v. VerdictOf source.now target.now commands.now profile v) }
+{
+    judged_in::<Brand>(alloc, source, target, profile, commands, Blank::new(1))
+}
+
+/// What a proposal costs that is better than a plan: the definitions accept it with less energy and within the bounds. `None`
+/// only where it is not.
+pub fn improvement(
+    alloc: Global,
+    source: &Planes,
+    target: &Planes,
+    profile: Profile,
+    energy: i64,
+    proposal: &[Command],
+    most: Bounds,
+) -> Result<Option<Cost>, Memory>
+    requires grounded { FirstUngrounded source.now None }
+    requires resolution { source.now.resolution ≡ target.now.resolution }
+    requires seeds { profile.seeds ≤ 39 }
+    ensures accepted { IfOk result (λ o. IfSome o
+        (λ cost. IsAccepted source.now target.now proposal.now profile cost.energy cost.steps)) }
+    ensures within { IfOk result (λ o. IfSome o (λ cost. IsWithin energy most proposal.now cost.energy cost.steps)) }
+    ensures none { result ≡ Ok None → (paid : ℤ) (steps : ℕ)
+        → IsAccepted source.now target.now proposal.now profile paid steps
+        → IsWithin energy most proposal.now paid steps → ⊥ }
+{
+    one_verdict();
+    if proposal.len() > MOST_COMMANDS || proposal.len() as u64 > most.commands {
+        return Ok(None);
+    }
+    if bytes_of(proposal) > most.bytes || fissions_of(proposal) >= u32::from(most.bots) {
+        return Ok(None);
+    }
+    let verdict = judged(alloc, source, target, profile, proposal)?;
+    let Verdict::Accepted {
+        energy: paid,
+        steps,
+    } = verdict
+    else {
+        return Ok(None);
+    };
+    if paid >= energy || u64::from(steps) > most.steps {
+        return Ok(None);
+    }
+    Ok(Some(Cost {
+        energy: paid,
+        steps,
+    }))
+}
+
+/// The proposal as a plan, where the definitions accept it by the profile with less energy than the plan and within the bounds;
+/// else the plan.
+pub fn cheaper(
+    alloc: Global,
+    source: &Planes,
+    target: &Planes,
+    profile: Profile,
+    plan: Plan,
+    proposal: CommandList,
+    most: Bounds,
+) -> Result<Plan, Memory>
+    requires grounded { FirstUngrounded source.now None }
+    requires resolution { source.now.resolution ≡ target.now.resolution }
+    requires seeds { profile.seeds ≤ 39 }
+    requires accepted { IsAccepted source.now target.now plan.commands profile plan.energy plan.steps }
+    ensures stands { IfOk result (λ it. MayStandFor source.now target.now profile most plan it) }
+    ensures one { IfOk result (λ it. (it.commands ≡ plan.commands) ⊎ (it.commands ≡ proposal)) }
+    ensures chosen { IfOk result (λ it. IsChosen source.now target.now profile most plan proposal it) }
+{
+    let better = improvement(
+        alloc,
+        source,
+        target,
+        profile,
+        plan.energy,
+        proposal.as_slice(),
+        most,
+    )?;
+    let Some(cost) = better else {
+        return Ok(plan);
+    };
+    Ok(Plan {
+        commands: proposal,
+        energy: cost.energy,
+        steps: cost.steps,
+    })
+}

@@ -1,0 +1,139 @@
+//! Plans that are under High no longer than some voxel floats.
+ghost use Rattle.std.specs.Prelude.{◌≡◌, ◌<◌, ◌≤◌, None, IfOk, length};
+ghost use Rattle.nano_spec.specs.Grounded.{FirstUngrounded};
+ghost use Rattle.plan_tape.specs.Progress.{IsAccepted};
+ghost use Rattle.plan_choice.specs.Better.{MayStandFor};
+
+use crate::bounds::Bounds;
+use crate::choice::cheaper;
+use nano_spec::{Command, CommandList, Harmonics, Profile};
+use plan_tape::Plan;
+use std::alloc::Global;
+use std::marker::Brand;
+use std::sync::ledger::{Blank, Ledger};
+use step_machine::Machine;
+use vox_geom::{Memory, Steps};
+use vox_planes::Planes;
+
+/// The most steps of a run.
+const MOST_STEPS: u32 = 1_073_741_824;
+
+/// Commands in the making, and the harmonics after them.
+#[derive(Drop)]
+struct Draft {
+    commands: CommandList,
+    harmonics: Harmonics,
+}
+
+impl Draft {
+    /// A step of so many bots in which the first one changes the harmonics, where they are not the ones that are wanted.
+    fn set(&mut self, wanted: Harmonics, bots: u8) -> Result<(), Memory> {
+        if self.harmonics == wanted {
+            return Ok(());
+        }
+        self.commands.push(Command::Flip)?;
+        for _ in 1..bots {
+            self.commands.push(Command::Wait)?;
+        }
+        self.harmonics = wanted;
+        Ok(())
+    }
+
+    /// A step.
+    fn step(&mut self, commands: &[Command]) -> Result<(), Memory> {
+        for command in commands {
+            self.commands.push(*command)?;
+        }
+        Ok(())
+    }
+}
+
+/// Whether a step is a Flip of the only bot.
+fn is_flip(step: &[Command]) -> bool {
+    step.len() == 1 && step[0] == Command::Flip
+}
+
+/// The commands with Flips of their own, counted in a ledger of its own.
+fn lowered_in<L: Ledger>(
+    alloc: Global,
+    source: &Planes,
+    profile: Profile,
+    commands: &[Command],
+    blank: Blank,
+) -> Result<CommandList, Memory>
+    requires grounded { FirstUngrounded source.now None }
+    requires seeds { profile.seeds ≤ 39 }
+    requires name { blank.name ≡ L.name }
+    requires parts { blank.parts ≡ L.parts }
+    requires some { 0 < L.parts }
+{
+    let mut steps: Steps<L> = Steps::new(blank);
+    let mut machine = Machine::start(alloc, source.copy(alloc)?, profile, &mut steps)?;
+    let mut draft = Draft {
+        commands: CommandList::new(alloc),
+        harmonics: Harmonics::Low,
+    };
+    let mut rest = commands;
+    while !rest.is_empty() {
+        let bots = machine.active();
+        let count = rest.len().min(usize::from(bots));
+        if count == 0 || machine.steps_done() >= MOST_STEPS {
+            break;
+        }
+        let (step, later) = rest.split_at(count);
+        rest = later;
+        if machine.step(step, &mut steps).is_err() {
+            break;
+        }
+        let floats = machine.forest().floating() > 0;
+        if is_flip(step) {
+            continue;
+        }
+        if floats {
+            draft.set(Harmonics::High, bots)?;
+        }
+        draft.step(step)?;
+        if !floats {
+            draft.set(Harmonics::Low, machine.active())?;
+        }
+    }
+    Ok(draft.commands)
+}
+
+/// A plan's commands with other Flips: harmonics are High only while some full voxel is not grounded. It is a proposal: whether the
+/// definitions accept it, [`cheaper`] finds out.
+pub fn lowered(
+    alloc: Global,
+    source: &Planes,
+    profile: Profile,
+    commands: &[Command],
+) -> Result<CommandList, Memory>
+    requires grounded { FirstUngrounded source.now None }
+    requires seeds { profile.seeds ≤ 39 }
+{
+    lowered_in::<Brand>(alloc, source, profile, commands, Blank::new(1))
+}
+
+/// The plan with Flips of its own, where that is accepted with less energy and within the bounds; else the plan. A plan of one
+/// command, which is a Halt alone, stands.
+pub fn lower(
+    alloc: Global,
+    source: &Planes,
+    target: &Planes,
+    profile: Profile,
+    plan: Plan,
+    most: Bounds,
+) -> Result<Plan, Memory>
+    requires grounded { FirstUngrounded source.now None }
+    requires resolution { source.now.resolution ≡ target.now.resolution }
+    requires seeds { profile.seeds ≤ 39 }
+    requires accepted { IsAccepted source.now target.now plan.commands profile plan.energy plan.steps }
+    ensures stands { IfOk result (λ it. MayStandFor source.now target.now profile most plan it) }
+    ensures alone { length plan.commands ≡ 1 → IfOk result (λ it. it.commands ≡ plan.commands) }
+{
+    if plan.commands.as_slice().len() == 1 {
+        return Ok(plan);
+    }
+    let proposal = lowered(alloc, source, profile, plan.commands.as_slice())?;
+    cheaper(alloc, source, target, profile, plan, proposal, most)
+}

@@ -1,0 +1,13 @@
+//! Plans that are proposed and judged: a proposal takes a plan's place where the definitions accept it with less energy, and within
+//! the plan's bounds. Nothing has to be proved of how a proposal was found.
+#![tactic(auto)]
+
+mod bounds;
+mod choice;
+mod flips;
+mod plans;
+
+pub use bounds::Bounds;
+pub use choice::{Cost, cheaper, improvement};
+pub use flips::{lower, lowered};
+pub use plans::{plan_groups_low, plan_layers_low, plan_swarm_low, plan_void_low};

@@ -1,6 +1,0 @@
-use Rattle.nano_spec.specs.Profile.{full_profile}
-use Rattle.trace_judge.proofs.Judging.{IsJudging}
-use Rattle.trace_judge.proofs.runner.judge.Given as goal
-
-abbrev pub invariant-loop-command : goal.invariant-loop-command
-invariant-loop-command g l = IsJudging l.fn.source full_profile l.commands l.command-index l.runner l.initial.steps l.steps
