@@ -1,5 +1,5 @@
 -- The worked examples of scripts and of what they print, by computing.
-use Rattle.std.proofs.Common.{◌≡◌, ℕ, refl, List, [], ◌∷◌}
+use Rattle.std.proofs.Common.{◌≡◌, ℕ, arith, refl, List, [], ◌∷◌}
 use Rattle.std.specs.Prelude.{codes, Ok, Err}
 use Rattle.std.specs.Fmt.{digits}
 use Rattle.vox_geom.specs.Point.{coord}
@@ -27,7 +27,7 @@ worked_scripts = record {
       Ok (session.Group 40 ∷ session.Back ∷ session.Bots ∷ session.Voxel (coord 0 2 1) ∷ []),
       (
         Ok (session.Group 40),
-        (Group 40, record { parts_are = refl; short = refl }, refl),
+        (Group 40, record { parts_are = refl; short = omega arith }, refl),
         (
           Ok (session.Back ∷ session.Bots ∷ session.Voxel (coord 0 2 1) ∷ []),
           (
@@ -40,7 +40,7 @@ worked_scripts = record {
                 (Bots, record { parts_are = refl; short = tt }, refl),
                 (
                   Ok (session.Voxel (coord 0 2 1) ∷ []),
-                  (Ok (session.Voxel (coord 0 2 1)), (Voxel 0 2 1, record { parts_are = refl; short = (refl, refl, refl) }, refl), (Ok [], refl, refl)),
+                  (Ok (session.Voxel (coord 0 2 1)), (Voxel 0 2 1, record { parts_are = refl; short = (omega arith, omega arith, omega arith) }, refl), (Ok [], refl, refl)),
                   refl,
                 ),
               ),
@@ -59,16 +59,15 @@ worked_scripts = record {
   a_large_letter = (Ok session.Step, (Step, record { parts_are = refl; short = tt }, refl), (Err (record { fault = UnknownWord; line = 2 }), (Err UnknownWord, refl, refl), refl));
   an_empty_line = (Ok session.Step, (Step, record { parts_are = refl; short = tt }, refl), (Err (record { fault = UnknownWord; line = 2 }), (Err UnknownWord, refl, refl), refl));
   a_blank_behind_a_word = (Err Shape, (refl, no_form), refl);
-  group_0 = (Err Range, (Group 0, record { parts_are = refl; short = refl }, refl), refl);
-  group_41 = (Ok session.Back, (Back, record { parts_are = refl; short = tt }, refl), (Err (record { fault = Range; line = 2 }), (Err Range, (Group 41, record { parts_are = refl; short = refl }, refl), refl), refl));
-  x_past_the_matrix = (Err Range, (Voxel 3 0 0, record { parts_are = refl; short = (refl, refl, refl) }, refl), refl);
-  y_past_the_matrix = (Err Range, (Voxel 0 3 0, record { parts_are = refl; short = (refl, refl, refl) }, refl), refl);
-  z_past_the_matrix = (Err Range, (Voxel 0 0 3, record { parts_are = refl; short = (refl, refl, refl) }, refl), refl);
+  group_0 = (Err Range, (Group 0, record { parts_are = refl; short = omega arith }, refl), refl);
+  group_41 = (Ok session.Back, (Back, record { parts_are = refl; short = tt }, refl), (Err (record { fault = Range; line = 2 }), (Err Range, (Group 41, record { parts_are = refl; short = omega arith }, refl), refl), refl));
+  x_past_the_matrix = (Err Range, (Voxel 3 0 0, record { parts_are = refl; short = (omega arith, omega arith, omega arith) }, refl), refl);
+  y_past_the_matrix = (Err Range, (Voxel 0 3 0, record { parts_are = refl; short = (omega arith, omega arith, omega arith) }, refl), refl);
+  z_past_the_matrix = (Err Range, (Voxel 0 0 3, record { parts_are = refl; short = (omega arith, omega arith, omega arith) }, refl), refl);
 }
 
 pub worked_prints : WorkedPrints
-unfolding seed_numbers
-unfolding digits
+unfolding seed_numbers digits
 worked_prints = record {
   an_ended_run = refl;
   a_broken_rule = refl;

@@ -13,15 +13,13 @@ use crate::effect::Effect;
 use crate::models::load_models;
 use crate::report::Report;
 use crate::stop::Stop;
-use group_planner::{plan_groups, rows, runs};
-use layer_planner::plan_layers;
+use group_planner::{rows, runs};
 use low_planner::{LowFault, plan_low as low_plan};
 use nanobot_words::Side;
+use plan_choice::{plan_groups_low, plan_layers_low, plan_swarm_low, plan_void_low};
 use plan_tape::Plan;
 use std::alloc::Global;
-use swarm_planner::plan_swarm as swarm_plan;
 use trace_codec::encode_all;
-use void_planner::plan_void as void_plan;
 use vox_depot::Depot;
 use vox_geom::Memory;
 use vox_planes::Planes;
@@ -56,7 +54,7 @@ pub fn plan_layer<'a, D: Depot>(
     ensures later { D.faults depot.old ≤ D.faults depot.new }
 {
     let (source, target) = load_models(alloc, depot, source, target)?;
-    let plan = plan_layers(alloc, &source, &target)?;
+    let plan = plan_layers_low(alloc, &source, &target)?;
     let effect = keep_plan(alloc, &plan, trace)?;
     Ok(effect)
 }
@@ -97,7 +95,7 @@ pub fn plan_group<'a, D: Depot>(
     if let Some(report) = group_long(&source, &target) {
         return Err(Stop::Told(report));
     }
-    let plan = plan_groups(alloc, &source, &target)?;
+    let plan = plan_groups_low(alloc, &source, &target)?;
     let effect = keep_plan(alloc, &plan, trace)?;
     Ok(effect)
 }
@@ -116,7 +114,7 @@ pub fn plan_void<'a, D: Depot>(
     ensures later { D.faults depot.old ≤ D.faults depot.new }
 {
     let (source, nothing) = load_models(alloc, depot, Side::Named(source), Side::Empty)?;
-    let plan = void_plan(alloc, &source)?;
+    let plan = plan_void_low(alloc, &source)?;
     let effect = keep_plan(alloc, &plan, trace)?;
     Ok(effect)
 }
@@ -158,7 +156,7 @@ pub fn plan_swarm<'a, D: Depot>(
     ensures later { D.faults depot.old ≤ D.faults depot.new }
 {
     let (nothing, target) = load_models(alloc, depot, Side::Empty, Side::Named(target))?;
-    let plan = swarm_plan(alloc, &target)?;
+    let plan = plan_swarm_low(alloc, &target)?;
     let effect = keep_plan(alloc, &plan, trace)?;
     Ok(effect)
 }
