@@ -27,7 +27,7 @@ mod vox_planes;
 
 use group_planner::{plan_groups, rows, runs};
 use layer_planner::plan_layers;
-use plan_choice::{plan_groups_low, plan_layers_low, plan_swarm_low, plan_void_low};
+use plan_choice::{choose_group_plan, choose_layer_plan, choose_swarm_plan, choose_void_plan};
 use low_planner::plan_low;
 use model_file::{legal, read_model};
 use nano_spec::Profile;
@@ -146,10 +146,10 @@ fn plan(words: &[String]) {
         "layer" => plan_layers(Global, &source, &target).ok(),
         "void" => plan_void(Global, &source).ok(),
         "low" => plan_low(Global, &target).ok(),
-        "group-low" => plan_groups_low(Global, &source, &target).ok(),
-        "layer-low" => plan_layers_low(Global, &source, &target).ok(),
-        "void-low" => plan_void_low(Global, &source).ok(),
-        "swarm-low" => plan_swarm_low(Global, &target).ok(),
+        "group-low" => choose_group_plan(Global, &source, &target).ok(),
+        "layer-low" => choose_layer_plan(Global, &source, &target).ok(),
+        "void-low" => choose_void_plan(Global, &source).ok(),
+        "swarm-low" => choose_swarm_plan(Global, &target).ok(),
         _ => plan_swarm(Global, &target).ok(),
     };
     let plan = made.expect("a plan");

@@ -16,7 +16,7 @@ use crate::report::{Cost, Report};
 use crate::stop::Stop;
 use model_forge::forge;
 use nano_spec::{Verdict, one_verdict};
-use plan_choice::{plan_groups_low, plan_layers_low};
+use plan_choice::{choose_group_plan, choose_layer_plan};
 use plan_tape::Plan;
 use std::alloc::Global;
 use std::sync::ledger::Ledger;
@@ -67,10 +67,10 @@ fn judge_plans<L: Ledger>(
 {
     let target = forge(alloc, number, resolution)?;
     let nothing = Planes::empty(alloc, resolution)?;
-    let first = plan_layers_low(alloc, &nothing, &target)?;
+    let first = choose_layer_plan(alloc, &nothing, &target)?;
     know_all(first.commands.as_slice());
     let layer = judge_plan(alloc, &target, &first, steps)?;
-    let second = plan_groups_low(alloc, &nothing, &target)?;
+    let second = choose_group_plan(alloc, &nothing, &target)?;
     know_all(second.commands.as_slice());
     let group = judge_plan(alloc, &target, &second, steps)?;
     Ok(Report::Exercised {

@@ -16,7 +16,7 @@ use crate::stop::Stop;
 use group_planner::{rows, runs};
 use low_planner::{LowFault, plan_low as low_plan};
 use nanobot_words::Side;
-use plan_choice::{plan_groups_low, plan_layers_low, plan_swarm_low, plan_void_low};
+use plan_choice::{choose_group_plan, choose_layer_plan, choose_swarm_plan, choose_void_plan};
 use plan_tape::Plan;
 use std::alloc::Global;
 use trace_codec::encode_all;
@@ -54,7 +54,7 @@ pub fn plan_layer<'a, D: Depot>(
     ensures later { D.faults depot.old ≤ D.faults depot.new }
 {
     let (source, target) = load_models(alloc, depot, source, target)?;
-    let plan = plan_layers_low(alloc, &source, &target)?;
+    let plan = choose_layer_plan(alloc, &source, &target)?;
     let effect = keep_plan(alloc, &plan, trace)?;
     Ok(effect)
 }
@@ -95,7 +95,7 @@ pub fn plan_group<'a, D: Depot>(
     if let Some(report) = group_long(&source, &target) {
         return Err(Stop::Told(report));
     }
-    let plan = plan_groups_low(alloc, &source, &target)?;
+    let plan = choose_group_plan(alloc, &source, &target)?;
     let effect = keep_plan(alloc, &plan, trace)?;
     Ok(effect)
 }
@@ -114,7 +114,7 @@ pub fn plan_void<'a, D: Depot>(
     ensures later { D.faults depot.old ≤ D.faults depot.new }
 {
     let (source, nothing) = load_models(alloc, depot, Side::Named(source), Side::Empty)?;
-    let plan = plan_void_low(alloc, &source)?;
+    let plan = choose_void_plan(alloc, &source)?;
     let effect = keep_plan(alloc, &plan, trace)?;
     Ok(effect)
 }
@@ -156,7 +156,7 @@ pub fn plan_swarm<'a, D: Depot>(
     ensures later { D.faults depot.old ≤ D.faults depot.new }
 {
     let (nothing, target) = load_models(alloc, depot, Side::Empty, Side::Named(target))?;
-    let plan = plan_swarm_low(alloc, &target)?;
+    let plan = choose_swarm_plan(alloc, &target)?;
     let effect = keep_plan(alloc, &plan, trace)?;
     Ok(effect)
 }

@@ -10,4 +10,4 @@ mod plans;
 pub use bounds::Bounds;
 pub use choice::{Cost, cheaper, improvement};
 pub use flips::{lower, lowered};
-pub use plans::{plan_groups_low, plan_layers_low, plan_swarm_low, plan_void_low};
+pub use plans::{choose_group_plan, choose_layer_plan, choose_swarm_plan, choose_void_plan};

@@ -23,7 +23,7 @@ use vox_geom::Memory;
 use vox_planes::Planes;
 
 /// The plan of one bot that makes the target of the source.
-pub fn plan_layers_low(alloc: Global, source: &Planes, target: &Planes) -> Result<Plan, Memory>
+pub fn choose_layer_plan(alloc: Global, source: &Planes, target: &Planes) -> Result<Plan, Memory>
     requires source { IsLegal source.now }
     requires target { IsLegal target.now }
     requires same { source.now.resolution ≡ target.now.resolution }
@@ -39,7 +39,7 @@ pub fn plan_layers_low(alloc: Global, source: &Planes, target: &Planes) -> Resul
 }
 
 /// The plan of two bots that makes the target of the source.
-pub fn plan_groups_low(alloc: Global, source: &Planes, target: &Planes) -> Result<Plan, Memory>
+pub fn choose_group_plan(alloc: Global, source: &Planes, target: &Planes) -> Result<Plan, Memory>
     requires source { IsLegal source.now }
     requires target { IsLegal target.now }
     requires same { source.now.resolution ≡ target.now.resolution }
@@ -62,7 +62,7 @@ pub fn plan_groups_low(alloc: Global, source: &Planes, target: &Planes) -> Resul
 }
 
 /// The plan of four bots that makes the empty model of the source.
-pub fn plan_void_low(alloc: Global, source: &Planes) -> Result<Plan, Memory>
+pub fn choose_void_plan(alloc: Global, source: &Planes) -> Result<Plan, Memory>
     requires { IsLegal source.now }
     ensures accepted { IfOk result (λ plan. IsAccepted source.now (empty source.now.resolution) plan.commands full_profile plan.energy plan.steps) }
     ensures steps { IfOk result (λ plan. plan.steps ≤ most_void_steps source.now.resolution) }
@@ -80,7 +80,7 @@ pub fn plan_void_low(alloc: Global, source: &Planes) -> Result<Plan, Memory>
 }
 
 /// The plan of up to twenty bots that builds the target from nothing, under the light profile.
-pub fn plan_swarm_low(alloc: Global, target: &Planes) -> Result<Plan, Memory>
+pub fn choose_swarm_plan(alloc: Global, target: &Planes) -> Result<Plan, Memory>
     requires { IsLegal target.now }
     ensures light { IfOk result (λ plan. IsAccepted (empty target.now.resolution) target.now plan.commands light_profile plan.energy plan.steps) }
     ensures full { IfOk result (λ plan. IsAccepted (empty target.now.resolution) target.now plan.commands full_profile plan.energy plan.steps) }

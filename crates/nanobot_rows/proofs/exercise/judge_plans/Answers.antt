@@ -6,11 +6,11 @@ use Rattle.nanobot_rows.proofs.Empty.{legal_where_empty}
 use Rattle.nanobot_rows.proofs.Exercised.{costs_of, cubes, exercised}
 use Rattle.nanobot_rows.proofs.exercise.judge_plans.Goals as goal
 
-pub plan_layers_low-requires-clause-source : goal.plan_layers_low-requires-clause-source
-plan_layers_low-requires-clause-source g c = legal_where_empty c.in_ok-nothing.nothing c.args.resolution (c.in_ok-nothing.ensures {u = tt}).value
+pub choose_layer_plan-requires-clause-source : goal.choose_layer_plan-requires-clause-source
+choose_layer_plan-requires-clause-source g c = legal_where_empty c.in_ok-nothing.nothing c.args.resolution (c.in_ok-nothing.ensures {u = tt}).value
 
-pub plan_groups_low-requires-clause-source : goal.plan_groups_low-requires-clause-source
-plan_groups_low-requires-clause-source g c = legal_where_empty c.in_ok-nothing.nothing c.args.resolution (c.in_ok-nothing.ensures {u = tt}).value
+pub choose_group_plan-requires-clause-source : goal.choose_group_plan-requires-clause-source
+choose_group_plan-requires-clause-source g c = legal_where_empty c.in_ok-nothing.nothing c.args.resolution (c.in_ok-nothing.ensures {u = tt}).value
 
 pub returns : goal.returns
 returns g c =
