@@ -11,7 +11,7 @@ use Rattle.nano_spec.specs.Next.{Breaks, Goes, Next}
 use Rattle.nano_spec.specs.State.{IsReady, IsWellFormed, State}
 use Rattle.vox_geom.specs.Space.{IsInSpace}
 use Rattle.step_machine.specs.Situation.{Situation}
-use Rattle.step_machine.specs.Stepped.{Stepped}
+use Rattle.step_machine.specs.Stepped.{IsWithinWork, Stepped}
 use Rattle.step_machine.specs.Undoing.{MayUndo, state_before}
 use Rattle.step_machine.specs.declared.machine.StepOk.{StepOk}
 use Rattle.step_machine.specs.declared.machine.StepFault.TheVariants as fault
@@ -19,6 +19,7 @@ use Rattle.step_machine.specs.declared.undo.Undo.{Undo}
 use Rattle.step_debugger.specs.Session.{Made, Moment, Refused, Session, TriesStep, dropped, latest, made, most_past, next_commands, none_left, refused}
 use Rattle.step_debugger.specs.Debugging.{Debugging, debugging_of, point_before, point_of, points_of}
 use Rattle.step_debugger.specs.Kept.{Begin, Fit, IsKept, LeadTo, LeadsTo}
+use Rattle.step_debugger.specs.Touches.{IsWithinWorkOf}
 use Rattle.step_debugger.proofs.Notes.{lead_drop, lead_more, points_latest, points_more}
 use Rattle.step_debugger.proofs.Returning.{fit}
 
@@ -123,6 +124,9 @@ module _ (v : Situation) (notes : Buffer Undo) (commands : List Command) (taken 
 
         session_is : (now : List ℕ) → now ≡ [] → (debugging_of w rest.items commands (taken + n) now).session ≡ made (debugging_of v notes.items commands taken begun).session w.state
         session_is now f = λ i. record { point = record { state = w.state; steps = stepped.counted i; taken = taken + count i }; past = past_is i; begun = f i }
+
+        pub step_within : IsWithinWorkOf 100 d.commands d.session.point began ended
+        step_within = subst (λ (x : Debugging). IsWithinWorkOf 100 x.commands x.session.point began ended) e (subst (λ (xs : List Command). IsWithinWork v.state xs (v.steps + 1) began ended) next_here stepped.touches)
 
         pub session_made : (now : List ℕ) → now ≡ [] → TriesStep d.commands d.session (debugging_of w rest.items commands (taken + n) now).session (Made w.steps ok.energy ok.halted)
         session_made now f = subst (λ (x : Debugging). TriesStep x.commands x.session (debugging_of w rest.items commands (taken + n) now).session (Made w.steps ok.energy ok.halted)) e (

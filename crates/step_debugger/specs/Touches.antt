@@ -1,8 +1,14 @@
--- How often voxels are touched while a step is taken back.
-use Rattle.std.specs.Prelude.{ℕ, ◌+◌, ◌*◌, ◌≤◌, ◌&&◌}
+-- How often voxels are touched while a step is made or taken back.
+use Rattle.std.specs.Prelude.{ℕ, ◌+◌, ◌*◌, ◌≤◌, ◌&&◌, List}
+use Rattle.nano_spec.specs.declared.commands.Command.{Command}
 use Rattle.nano_spec.specs.Matrix.{Matrix, is_full, matrix_where}
-use Rattle.nano_spec.specs.Work.{changed_count}
+use Rattle.nano_spec.specs.Work.{WorkOfStep, changed_count}
 use Rattle.step_machine.specs.Undoing.{LevelsThrough, levels_moved}
+use Rattle.step_debugger.specs.Session.{Moment, next_commands}
+
+-- the touches from began to ended are at most so many for each unit of the work of the next step
+abbrev pub IsWithinWorkOf : ℕ → List Command → Moment → ℕ → ℕ → Type 0
+IsWithinWorkOf most commands p began ended = (n : ℕ) × WorkOfStep p.state (next_commands commands p) (p.steps + 1) n × (ended ≤ began + most * n)
 
 -- what is full in both matrices
 abbrev pub common : Matrix → Matrix → Matrix

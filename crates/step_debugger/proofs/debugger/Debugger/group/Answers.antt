@@ -1,6 +1,7 @@
 use Rattle.std.proofs.Common.{◌≡◌, ℕ, ◌<◌, sym, ◌∙◌, ap, subst, arith, List, length, get_or}
 use Rattle.step_debugger.specs.Debugging.{Debugging}
 use Rattle.step_debugger.proofs.Grouping.{group_begun_at, is_last_is, is_not_last, last_err, last_ok, list_unfound, may_begin_is, may_not_begin, no_leader}
+use Rattle.step_debugger.proofs.TouchedOn.{begun_within, made_within}
 use Rattle.step_debugger.proofs.debugger.Debugger.group.Goals as goal
 
 pub returns-in_default-place_of-clause-session : goal.returns-in_default-place_of-clause-session
@@ -38,3 +39,13 @@ returns-in-Err-clause-session g c =
     let last = is_last_is c.args.self.now.commands c.args.self.now.session c.left-left.result.items c.left-left.ensures.leaders c.left-left.ensures.differ (let some = found.0 in let few = c.if-as_slice-gt1.false in omega (arith, same, some, few)) in
     last_err c.args.self.now.commands c.args.self.now.session c.args.leader c.in_ok-ready.ensures.some keeps
     c.make.new.self.session c.in-Err.fault c.in-Err.ensures.session may last
+
+pub returns-then-as_slice-gt1-clause-touches : goal.returns-then-as_slice-gt1-clause-touches
+returns-then-as_slice-gt1-clause-touches g c =
+    let keeps = sym c.judge.ensures.value ∙ c.in_default.is in
+    begun_within c.args.self.now.commands c.args.self.now.session.point keeps c.args.steps.now c.judge.new.steps c.judge.ensures.touches
+
+pub returns-in-Ok-clause-touches : goal.returns-in-Ok-clause-touches
+returns-in-Ok-clause-touches g c =
+    let keeps = sym c.judge.ensures.value ∙ c.in_default.is in
+    made_within c.args.self.now.commands c.args.self.now.session.point keeps c.args.steps.now c.judge.new.steps c.judge.ensures.touches c.make.new.steps c.in-Ok.ensures.touches
