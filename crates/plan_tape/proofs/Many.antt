@@ -112,7 +112,7 @@ same_state s t e = ap (λ (o : Outcome). state_in s o) e
     state_in u (Goes v) = v
     state_in u (Breaks b) = u
 
-pub settled_is : (t s : State) (step : ℕ) → Settles s step (Goes t) → t ≡ s
+settled_is : (t s : State) (step : ℕ) → Settles s step (Goes t) → t ≡ s
 settled_is t s step = by (is_high s.harmonics)
   where
     at_last : (at : Option Coord) → Goes t ≡ settled s step at → t ≡ s
@@ -122,6 +122,14 @@ settled_is t s step = by (is_high s.harmonics)
     by : (b : Bool) → MatchBool b (Goes t ≡ Goes s) ((at : Option Coord) × FirstUngrounded s.matrix at × (Goes t ≡ settled s step at)) → t ≡ s
     by true h = same_state t s h
     by false h = at_last h.0 h.2
+
+-- an accepted step leads to the state after it
+pub goes_after : (s t : State) (commands : List Command) (step : ℕ) → Next s commands step (Goes t) → t ≡ after s commands
+goes_after s t commands step = by (broken s commands step)
+  where
+    by : (o : Option Broken) → MatchOption o (Settles (after s commands) step (Goes t)) (λ b. Goes t ≡ Breaks b) → t ≡ after s commands
+    by None h = settled_is t (after s commands) step h
+    by (Some b) h = cc
 
 stays_made : (n : ℕ) (s t : State) (commands : List Command) (step : ℕ) → AreCommands commands → IsMade n s → Next s commands step (Goes t) → IsMade n t
 stays_made n s t commands step are m next = by (broken s commands step) refl next

@@ -1,27 +1,24 @@
 -- There are no more bots than the commands have made, and the first one.
-use Rattle.std.proofs.Common.{◌≡◌, ℕ, ◌+◌, ◌≤◌, refl, ◌∙◌, ap, arith, List, [], ◌∷◌, ◌++◌, Bool, true, false, cond, length, Option, Some, None, length-append}
-use Rattle.std.specs.Prelude.{count_by, flat_map, nat_lt, MatchOption}
+use Rattle.std.proofs.Common.{◌≡◌, ℕ, ◌+◌, ◌≤◌, refl, ◌∙◌, ap, arith, List, [], ◌∷◌, ◌++◌, Bool, true, false, cond, length, length-append}
+use Rattle.std.specs.Prelude.{count_by, flat_map, nat_lt}
 use Rattle.std.proofs.lemmas.List.Sums.{sum_by-append, sum_by-cons}
 use Rattle.vox_geom.specs.declared.coordinate.Coord.{Coord}
 use Rattle.nano_spec.specs.declared.commands.Command.{Command}
 use Rattle.nano_spec.specs.declared.commands.Command.TheVariants.{Halt, Wait, Flip, SMove, LMove, FusionP, FusionS, Fission, Fill, Void, GFill, GVoid}
-use Rattle.nano_spec.specs.declared.outcomes.Broken.{Broken}
 use Rattle.nano_spec.specs.declared.system.Bot.{Bot}
 use Rattle.nano_spec.specs.declared.system.Profile.{Profile}
 use Rattle.nano_spec.specs.Act.{Act, acts}
 use Rattle.nano_spec.specs.Bots.{in_rising_order, successors, with_bot}
 use Rattle.nano_spec.specs.Matrix.{Matrix}
-use Rattle.nano_spec.specs.Next.{Breaks, Goes, Next, Settles}
-use Rattle.nano_spec.specs.Rules.{broken}
 use Rattle.nano_spec.specs.State.{State}
 use Rattle.nano_spec.specs.Step.{after}
 use Rattle.plan_tape.specs.Leg.{IsLeg, Moves}
 use Rattle.plan_tape.specs.declared.axis.Axis.{Axis}
 use Rattle.plan_tape.specs.declared.axis.Axis.TheVariants.{X, Y, Z}
+use Rattle.plan_tape.specs.Fissions.{fissions, is_fission}
 use Rattle.plan_tape.specs.Progress.{TapeState, spot}
-use Rattle.plan_tape.specs.Reaches.{Reaches, starts, steps_on}
-use Rattle.void_planner.specs.Few.{HasAtMost, fissions, is_fission}
-use Rattle.plan_tape.proofs.Many.{settled_is}
+use Rattle.plan_tape.specs.Reaches.{HasAtMost, Reaches, starts, steps_on}
+use Rattle.plan_tape.proofs.Many.{goes_after}
 
 -- ---- one step
 
@@ -65,15 +62,6 @@ few_in_all all (b ∷ bots) (k ∷ commands) =
 
 few_after : (s : State) (commands : List Command) → length (after s commands).bots ≤ length s.bots + count_by is_fission commands
 few_after s commands = let h = few_in_all (acts s.bots commands) s.bots commands in let o = order_length (flat_map (λ a. successors (acts s.bots commands) a a.command) (acts s.bots commands)) in omega arith
-
--- ---- the state of an accepted step
-
-goes_after : (s t : State) (commands : List Command) (step : ℕ) → Next s commands step (Goes t) → t ≡ after s commands
-goes_after s t commands step = by (broken s commands step)
-  where
-    by : (o : Option Broken) → MatchOption o (Settles (after s commands) step (Goes t)) (λ b. Goes t ≡ Breaks b) → t ≡ after s commands
-    by None h = settled_is t (after s commands) step h
-    by (Some b) h = cc
 
 -- ---- all steps
 
