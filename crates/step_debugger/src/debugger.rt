@@ -13,7 +13,7 @@ ghost use Rattle.step_debugger.specs.Calls.{back_report, group_report, step_repo
 ghost use Rattle.step_debugger.specs.Debugging.{situation_of};
 ghost use Rattle.step_debugger.specs.Readiness.{IsUnready};
 ghost use Rattle.step_debugger.specs.Session.{AnswersLine, Back, Group, Step, middle_state, TriesStep as StepsOf, next_commands as next_of, next_leaders, opened};
-ghost use Rattle.step_debugger.specs.Touches.{IsTouchedBack, IsWithinWorkOf};
+ghost use Rattle.step_debugger.specs.Touches.{IfRefused, IsRefusedWithin, IsTouchedBack, IsWithinWorkOf};
 
 use crate::fault::DebugFault;
 use crate::middle::full_after;
@@ -152,6 +152,7 @@ impl Debugger {
         ensures commands { self.new.commands ≡ self.old.commands }
         ensures spent { result ≡ Err DebugFault.Memory ↔ self.new.spent ≡ true }
         ensures touches { IfOk result (λ _. IsWithinWorkOf 100 self.old.commands self.old.session.point steps.old steps.new) }
+        ensures touches_refused { IfRefused result (λ b. IsRefusedWithin 100 self.old.commands self.old.session.point b steps.old steps.new) }
     {
         self.ready()?;
         let order = self.order();
@@ -205,6 +206,7 @@ impl Debugger {
         ensures commands { self.new.commands ≡ self.old.commands }
         ensures spent { result ≡ Err DebugFault.Memory ↔ self.new.spent ≡ true }
         ensures touches { IfOk result (λ _. IsWithinWorkOf 100 self.old.commands self.old.session.point steps.old steps.new) }
+        ensures touches_refused { IfRefused result (λ b. IsRefusedWithin 100 self.old.commands self.old.session.point b steps.old steps.new) }
     {
         let count = self.machine.active();
         let next = next_commands(self.commands.as_slice(), self.taken, count);
@@ -245,6 +247,7 @@ impl Debugger {
         ensures commands { self.new.commands ≡ self.old.commands }
         ensures spent { result ≡ Err DebugFault.Memory ↔ self.new.spent ≡ true }
         ensures touches { IfOk result (λ _. IsWithinWorkOf 102 self.old.commands self.old.session.point steps.old steps.new) }
+        ensures touches_refused { IfRefused result (λ b. IsRefusedWithin 102 self.old.commands self.old.session.point b steps.old steps.new) }
     {
         self.ready()?;
         let mut turns = Turns::new();
