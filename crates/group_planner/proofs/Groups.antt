@@ -1,6 +1,6 @@
 -- Steps in which both of the pair fill or void the voxels below them and between.
 use Rattle.std.proofs.Common.{◌≡◌, ℕ, ◌+◌, ◌-◌, ◌*◌, ◌^◌, ◌<◌, ◌≤◌, refl, sym, ◌∙◌, ap, subst, arith, Bool, true, false, ◌&&◌, ◌||◌, List, [], ◌∷◌, length, lit≤}
-use Rattle.std.specs.Prelude.{IsTrue, IsFalse, ℤ, pos, ◌-ℤ◌, flat_map}
+use Rattle.std.specs.Prelude.{IsTrue, IsFalse, ℤ, pos, ◌-ℤ◌, count_by, flat_map}
 use Rattle.std.proofs.lemmas.Bool.Decides.{nat_tests}
 use Rattle.vox_geom.specs.declared.coordinate.Coord.{Coord}
 use Rattle.vox_geom.specs.Point.{Point, point, plus, same_number, coord, down}
@@ -16,10 +16,11 @@ use Rattle.step_order.specs.Acting.{with_region}
 use Rattle.step_order.specs.Unbroken.{AreOneGroup, IsCornered, MayJoin}
 use Rattle.step_order.proofs.Voxels.{in_space_is}
 use Rattle.plan_tape.specs.Crowd.{AllStep, CanPaintAll}
+use Rattle.plan_tape.specs.Fissions.{is_fission}
 use Rattle.plan_tape.specs.Progress.{TapeState, spot, state_of}
 use Rattle.group_planner.specs.Pair.{AreSet, IsPair, Sets, front, in_part, rear, second_spot}
 use Rattle.group_planner.specs.Writing.{ahead, all_below}
-use Rattle.group_planner.proofs.Pairs.{all_allowed, both_bots, spends}
+use Rattle.group_planner.proofs.Pairs.{all_allowed, both_bots, spends, still_one}
 use Rattle.group_planner.proofs.Written.{across, below, set_region, still_free}
 
 -- ---- the region below both bots
@@ -80,6 +81,10 @@ together false z = record { allowed = refl; joins = λ r s p h. h; corner = λ p
 few : (full : Bool) (y z : ℤ) → length (spellings (all_below full y ∷ all_below full z ∷ [])) ≤ 4 + 4 * 1
 few true y z = lit≤ tt
 few false y z = lit≤ tt
+
+unsplit : (full : Bool) (y z : ℤ) → count_by is_fission (all_below full y ∷ all_below full z ∷ []) ≡ 0
+unsplit true y z = refl
+unsplit false y z = refl
 
 -- a bot at one end, whose command leads to the other
 cornered : (r x y a b : ℕ) (c : Coord) (s : Span) → c.x ≡ x → c.y ≡ y → c.z ≡ a → 1 ≤ y → x < r → y < r → a < r → b < r → IsTrue (same_region (region x (y - 1) a b) s) → IsFalse (is_within s (point c)) → IsCornered r s (point c) (plus (point c) down) (plus (plus (point c) down) (ahead (pos b -ℤ pos a)))
@@ -168,6 +173,7 @@ module _ (p : TapeState) (full : Bool) (k l : Command) (first last : ℕ) (h : I
         set = all;
         pair = record {
           two = ap length s.bots_are ∙ h.two;
+          one_split = still_one p q k l h s.added (subst (λ (c : Command). count_by is_fission (c ∷ l ∷ []) ≡ 0) (sym ek) (subst (λ (c : Command). count_by is_fission (all_below full (pos last -ℤ pos first) ∷ c ∷ []) ≡ 0) (sym er) (unsplit full (pos last -ℤ pos first) (pos first -ℤ pos last))));
           high = s.harmonics ∙ h.high;
           full = s.profile ∙ h.full;
           in_row = rw (same, rear_is, front_is) h.in_row;

@@ -20,11 +20,13 @@ use Rattle.nano_spec.specs.Step.{after}
 use Rattle.step_order.specs.Acting.{leaves_voxels}
 use Rattle.step_order.specs.Unbroken.{AreFree, IsFreeWay}
 use Rattle.step_order.proofs.Voxels.{in_space_is}
+use Rattle.plan_tape.specs.Fissions.{fissions}
 use Rattle.plan_tape.specs.Progress.{TapeState, spot, state_of, IsVoidFrom}
+use Rattle.plan_tape.proofs.Fissions.{fissions_more}
 use Rattle.group_planner.specs.Pair.{IsPair, front, rear, second_spot}
 use Rattle.group_planner.specs.Phases.{PairJoins, Splits, first_at}
 use Rattle.group_planner.specs.Writing.{AreCalm, CalmStep, ahead}
-use Rattle.group_planner.proofs.Pairs.{all_allowed, both_bots, front_within, rear_within, void_way}
+use Rattle.group_planner.proofs.Pairs.{all_allowed, both_bots, front_within, rear_within, still_one, void_way}
 
 same : (n : ℕ) → pos n +ℤ pos 0 ≡ pos n
 same n = omega (arith, ints)
@@ -76,8 +78,8 @@ module _ (p : TapeState) (d : Diff) (e : d ≡ ahead (pos 1)) (alone : p.bots �
   pub split_stays : AllByRecursion (λ x. IsTrue (leaves_voxels x.command)) (acts p.bots (Fission d 0 ∷ []))
   split_stays = subst (λ (bots : List Bot). AllByRecursion (λ x. IsTrue (leaves_voxels x.command)) (acts bots (Fission d 0 ∷ []))) (sym alone) (refl, tt)
 
-  pub has_split : (q : TapeState) → p.harmonics ≡ High → CalmStep p q (Fission d 0 ∷ []) → (after (state_of p) (Fission d 0 ∷ [])).matrix ≡ p.matrix → Splits p q
-  has_split q high s m =
+  pub has_split : (q : TapeState) → fissions p ≡ 0 → p.harmonics ≡ High → CalmStep p q (Fission d 0 ∷ []) → (after (state_of p) (Fission d 0 ∷ [])).matrix ≡ p.matrix → Splits p q
+  has_split q none high s m =
       let bots : q.bots ≡ parent (bot_at (spot p.bots)) 0 ∷ newborn (bot_at (spot p.bots)) (plus (point (spot p.bots)) d) 0 ∷ [] = s.bots_are ∙ (ap (λ (bs : List Bot). bots_after (acts bs (Fission d 0 ∷ []))) alone ∙ two_bots) in
       let rear_is : rear q ≡ spot p.bots = ap spot bots in
       let front_is : front q ≡ beside = ap second_spot bots ∙ ap coordinate leads in
@@ -88,6 +90,7 @@ module _ (p : TapeState) (d : Diff) (e : d ≡ ahead (pos 1)) (alone : p.bots �
         matrix = matrix;
         pair = record {
           two = ap length bots;
+          one_split = let more = fissions_more p q (Fission d 0 ∷ []) 1 s.added refl in omega (arith, more, none);
           high = s.harmonics ∙ high;
           full = s.profile ∙ full;
           in_row = rw (matrix, rear_is, front_is) (record { x = within.x; y = within.y; z = room; same_x = refl; same_y = refl; order = omega arith });
@@ -180,6 +183,7 @@ module _ (p : TapeState) (d e : Diff) (ed : d ≡ ahead (pos 1)) (ee : e ≡ ahe
         profile = s.profile ∙ h.full;
         harmonics = s.harmonics ∙ h.high;
         alone = ap length bots;
+        one_split = still_one p q (FusionP d) (FusionS e) h s.added refl;
         there = ap spot bots ∙ (stays_there (find (is_pair (first_act a)) all) a (λ (c : Act). fused a c.bot) (λ c. refl) ∙ sym t.rear_is);
         steps_are = omega (arith, s.steps);
         spends = let steps = s.steps in let few = s.bytes_are in record { commands_are = omega (arith, added, steps); bytes_are = omega (arith, steps, few) };

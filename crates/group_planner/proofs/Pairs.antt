@@ -1,6 +1,6 @@
 -- Steps of the pair in which each bot waits or moves.
-use Rattle.std.proofs.Common.{◌≡◌, ℕ, ◌+◌, ◌*◌, ◌<◌, ◌≤◌, refl, sym, ◌∙◌, ap, subst, arith, inl, inr, List, [], ◌∷◌, Bool, true, false, ◌&&◌, length, length-append, lit≤}
-use Rattle.std.specs.Prelude.{◌⊎◌, pos, ◌-ℤ◌, IsTrue}
+use Rattle.std.proofs.Common.{◌≡◌, ℕ, ◌+◌, ◌*◌, ◌<◌, ◌≤◌, refl, sym, ◌∙◌, ap, subst, arith, inl, inr, List, [], ◌∷◌, ◌++◌, Bool, true, false, ◌&&◌, length, length-append, lit≤}
+use Rattle.std.specs.Prelude.{◌⊎◌, pos, ◌-ℤ◌, IsTrue, count_by}
 use Rattle.std.specs.List.{AllByRecursion}
 use Rattle.std.proofs.lemmas.Int.{ints}
 use Rattle.std.proofs.lemmas.Bool.Decides.{nat_tests}
@@ -24,8 +24,10 @@ use Rattle.step_order.proofs.Voxels.{in_space_is}
 use Rattle.plan_tape.specs.declared.axis.Axis.{Axis}
 use Rattle.plan_tape.specs.declared.axis.Axis.TheVariants.{X, Y, Z}
 use Rattle.plan_tape.specs.Crowd.{AllStep, AreWaysApart, CanGo, CanMoveAll, MayGo, bots_gone}
+use Rattle.plan_tape.specs.Fissions.{fissions, is_fission}
 use Rattle.plan_tape.specs.Leg.{along, component_of, put}
 use Rattle.plan_tape.specs.Progress.{TapeState, spot, IsVoidFrom}
+use Rattle.plan_tape.proofs.Fissions.{fissions_more}
 use Rattle.plan_tape.proofs.Legs.{plus-along, put-component_of}
 use Rattle.group_planner.specs.Pair.{AreInRow, PairGoes, IsPair, Spends, front, rear, second_spot}
 
@@ -70,6 +72,10 @@ spends p q k l m bots n s h =
     let bytes = s.bytes_are in
     record { commands_are = omega (arith, added, steps); bytes_are = omega (arith, bytes, steps, h) }
 
+-- a step in which no bot splits leaves the number of Fissions
+pub still_one : (p q : TapeState) (k l : Command) → IsPair p → q.commands ≡ p.commands ++ k ∷ l ∷ [] → count_by is_fission (k ∷ l ∷ []) ≡ 0 → fissions q ≡ 1
+still_one p q k l h added none = let more = fissions_more p q (k ∷ l ∷ []) 0 added none in let one = h.one_split in omega (arith, more, one)
+
 pub there : (p : TapeState) (k l : Command) (a b : Coord) → IsPair p → goal_of (point (rear p)) k ≡ point a → goal_of (point (front p)) l ≡ point b → (spot (bots_gone p.bots (k ∷ l ∷ [])) ≡ a) × (second_spot (bots_gone p.bots (k ∷ l ∷ [])) ≡ b) × (length (bots_gone p.bots (k ∷ l ∷ [])) ≡ 2)
 there p k l a b h ea eb =
     let t = both_bots p.bots h.two in (
@@ -79,8 +85,8 @@ there p k l a b h ea eb =
     )
 
 -- the pair after a step in which each waits or moves
-pub moved_pair : (p q : TapeState) (k l : Command) (a b : Coord) → IsPair p → AllStep p q (k ∷ l ∷ []) p.matrix p.harmonics (bots_gone p.bots (k ∷ l ∷ [])) → goal_of (point (rear p)) k ≡ point a → goal_of (point (front p)) l ≡ point b → AreInRow p.matrix.resolution a b → IsVoidFrom p.matrix a.y → length (spellings (k ∷ l ∷ [])) ≤ 4 → PairGoes p q a b 1
-moved_pair p q k l a b h s ea eb row free few =
+pub moved_pair : (p q : TapeState) (k l : Command) (a b : Coord) → IsPair p → AllStep p q (k ∷ l ∷ []) p.matrix p.harmonics (bots_gone p.bots (k ∷ l ∷ [])) → goal_of (point (rear p)) k ≡ point a → goal_of (point (front p)) l ≡ point b → AreInRow p.matrix.resolution a b → IsVoidFrom p.matrix a.y → length (spellings (k ∷ l ∷ [])) ≤ 4 → count_by is_fission (k ∷ l ∷ []) ≡ 0 → PairGoes p q a b 1
+moved_pair p q k l a b h s ea eb row free few none =
     let at = there p k l a b h ea eb in
     let rear_is : rear q ≡ a = ap spot s.bots_are ∙ at.0 in
     let front_is : front q ≡ b = ap second_spot s.bots_are ∙ at.1 in
@@ -89,6 +95,7 @@ moved_pair p q k l a b h s ea eb row free few =
       matrix = s.matrix;
       pair = record {
         two = ap length s.bots_are ∙ at.2;
+        one_split = still_one p q k l h s.added none;
         high = s.harmonics ∙ h.high;
         full = s.profile ∙ h.full;
         in_row = rw (s.matrix, rear_is, front_is) row;
@@ -191,7 +198,7 @@ module _ (p : TapeState) (axis : Axis) (at next : ℕ) (d e : Diff) (h : IsPair 
       (both_apart r axis (rear p) (front p) next flat h.in_row)))
 
   pub both_moved : (q : TapeState) → AllStep p q (SMove d ∷ SMove e ∷ []) p.matrix p.harmonics (bots_gone p.bots (SMove d ∷ SMove e ∷ [])) → PairGoes p q (put axis (rear p) next) (put axis (front p) next) 1
-  both_moved q s = moved_pair p q (SMove d) (SMove e) (put axis (rear p) next) (put axis (front p) next) h s rear_led front_led there_in_row free (lit≤ tt)
+  both_moved q s = moved_pair p q (SMove d) (SMove e) (put axis (rear p) next) (put axis (front p) next) h s rear_led front_led there_in_row free (lit≤ tt) refl
 
 -- ---- one bot along z
 
@@ -212,7 +219,7 @@ module _ (p : TapeState) (at next : ℕ) (d : Diff) (h : IsPair p) (here : (fron
       (apart_z (rear p) (rear p) (front p) b order past order past))
 
   pub front_moved : (q : TapeState) → AllStep p q (Wait ∷ SMove d ∷ []) p.matrix p.harmonics (bots_gone p.bots (Wait ∷ SMove d ∷ [])) → PairGoes p q (rear p) (put Z (front p) next) 1
-  front_moved q s = moved_pair p q Wait (SMove d) (rear p) (put Z (front p) next) h s refl ahead_led ahead_in_row h.free (lit≤ tt)
+  front_moved q s = moved_pair p q Wait (SMove d) (rear p) (put Z (front p) next) h s refl ahead_led ahead_in_row h.free (lit≤ tt) refl
 
 module _ (p : TapeState) (at next : ℕ) (d : Diff) (h : IsPair p) (here : (rear p).z ≡ at) (before : next < (front p).z) (ed : d ≡ along Z (pos next -ℤ pos at)) where
   behind_led : plus (point (rear p)) d ≡ point (put Z (rear p) next)
@@ -231,7 +238,7 @@ module _ (p : TapeState) (at next : ℕ) (d : Diff) (h : IsPair p) (here : (rear
       (apart_z (rear p) a (front p) (front p) order order before before))
 
   pub rear_moved : (q : TapeState) → AllStep p q (SMove d ∷ Wait ∷ []) p.matrix p.harmonics (bots_gone p.bots (SMove d ∷ Wait ∷ [])) → PairGoes p q (put Z (rear p) next) (front p) 1
-  rear_moved q s = moved_pair p q (SMove d) Wait (put Z (rear p) next) (front p) h s behind_led refl behind_in_row h.free (lit≤ tt)
+  rear_moved q s = moved_pair p q (SMove d) Wait (put Z (rear p) next) (front p) h s behind_led refl behind_in_row h.free (lit≤ tt) refl
 
 -- ---- both along z
 
@@ -258,4 +265,4 @@ module _ (p : TapeState) (behind rear_next ahead front_next : ℕ) (d e : Diff) 
       (apart_z (rear p) a (front p) b h.in_row.order (omega (arith, rear_here, past)) (omega (arith, front_here, clear)) order)))
 
   pub slid : (q : TapeState) → AllStep p q (SMove d ∷ SMove e ∷ []) p.matrix p.harmonics (bots_gone p.bots (SMove d ∷ SMove e ∷ [])) → PairGoes p q (put Z (rear p) rear_next) (put Z (front p) front_next) 1
-  slid q s = moved_pair p q (SMove d) (SMove e) (put Z (rear p) rear_next) (put Z (front p) front_next) h s slid_rear slid_front slid_in_row h.free (lit≤ tt)
+  slid q s = moved_pair p q (SMove d) (SMove e) (put Z (rear p) rear_next) (put Z (front p) front_next) h s slid_rear slid_front slid_in_row h.free (lit≤ tt) refl

@@ -1,6 +1,6 @@
 -- Steps in which one of the pair writes the voxel below it, and the other waits.
 use Rattle.std.proofs.Common.{◌≡◌, ℕ, ◌+◌, ◌-◌, ◌<◌, ◌≤◌, refl, sym, ◌∙◌, ap, subst, arith, Bool, true, false, cond, not, ◌&&◌, ◌||◌, List, [], ◌∷◌, length, lit≤, inr}
-use Rattle.std.specs.Prelude.{IsTrue, IsFalse}
+use Rattle.std.specs.Prelude.{IsTrue, IsFalse, count_by}
 use Rattle.std.specs.List.{AllByRecursion, list_any}
 use Rattle.vox_geom.specs.declared.coordinate.Coord.{Coord}
 use Rattle.vox_geom.specs.Point.{Point, point, plus, coord, down}
@@ -21,10 +21,11 @@ use Rattle.step_order.specs.Apart.{LieApart}
 use Rattle.step_order.specs.Unbroken.{AreFree, MayAct}
 use Rattle.step_order.proofs.Voxels.{in_space_is}
 use Rattle.plan_tape.specs.Crowd.{AllStep, bots_gone}
+use Rattle.plan_tape.specs.Fissions.{is_fission}
 use Rattle.plan_tape.specs.Progress.{TapeState, spot, state_of}
 use Rattle.group_planner.specs.Pair.{AreSet, IsPair, Sets, front, in_part, rear, second_spot}
 use Rattle.group_planner.specs.Writing.{AreCalm, CalmStep, one_below}
-use Rattle.group_planner.proofs.Pairs.{all_allowed, apart_z, both_bots, front_within, rear_within, spends, there}
+use Rattle.group_planner.proofs.Pairs.{all_allowed, apart_z, both_bots, front_within, rear_within, spends, still_one, there}
 use Rattle.group_planner.proofs.Written.{below, set_by, still_free}
 
 -- what is so of both commands that write the voxel below
@@ -37,6 +38,8 @@ record Writer (k : Command) (full : Bool) : Type 0 where
   volatile : (p : Point) → volatile_regions p k ≡ just p ∷ just (plus p down) ∷ []
   few_first : length (spellings (k ∷ Wait ∷ [])) ≤ 4
   few_last : length (spellings (Wait ∷ k ∷ [])) ≤ 4
+  unsplit_first : count_by is_fission (k ∷ Wait ∷ []) ≡ 0
+  unsplit_last : count_by is_fission (Wait ∷ k ∷ []) ≡ 0
   marks : (p c : Point) (old : Bool) → ((list_any (λ s. is_within s c) (filled p k) || false) || (old && not (list_any (λ s. is_within s c) (voided p k) || false))) ≡ cond (is_within (just (plus p down)) c) full old
 
 fills : (t old : Bool) → (((t || false) || false) || (old && not (false || false))) ≡ cond t true old
@@ -51,8 +54,8 @@ voids false true = refl
 voids false false = refl
 
 writer : (full : Bool) → Writer (one_below full) full
-writer true = record { allowed = refl; may = λ s all a h. h; stays = refl; goal = λ p. refl; calm = refl; volatile = λ p. refl; few_first = lit≤ tt; few_last = lit≤ tt; marks = λ p c old. fills (is_within (just (plus p down)) c) old }
-writer false = record { allowed = refl; may = λ s all a h. h; stays = refl; goal = λ p. refl; calm = refl; volatile = λ p. refl; few_first = lit≤ tt; few_last = lit≤ tt; marks = λ p c old. voids (is_within (just (plus p down)) c) old }
+writer true = record { allowed = refl; may = λ s all a h. h; stays = refl; goal = λ p. refl; calm = refl; volatile = λ p. refl; few_first = lit≤ tt; few_last = lit≤ tt; unsplit_first = refl; unsplit_last = refl; marks = λ p c old. fills (is_within (just (plus p down)) c) old }
+writer false = record { allowed = refl; may = λ s all a h. h; stays = refl; goal = λ p. refl; calm = refl; volatile = λ p. refl; few_first = lit≤ tt; few_last = lit≤ tt; unsplit_first = refl; unsplit_last = refl; marks = λ p c old. voids (is_within (just (plus p down)) c) old }
 
 -- the voxel below is in space
 below_within : (r : ℕ) (a : Coord) → IsInSpace r a → 1 ≤ a.y → IsTrue (in_space r (plus (point a) down))
@@ -131,8 +134,8 @@ module _ (p : TapeState) (k : Command) (full : Bool) (e : k ≡ one_below full) 
       subst (λ x. AreSet n p.matrix (in_part x ((rear p).y - 1) c.z (c.z + 1)) full) ex (subst (λ v. AreSet n p.matrix (in_part c.x (v - 1) c.z (c.z + 1)) full) ey here)
 
   -- the pair after either step
-  pub wrote_one : (q : TapeState) (l r : Command) (z : ℕ) → AllStep p q (l ∷ r ∷ []) q.matrix p.harmonics (bots_gone p.bots (l ∷ r ∷ [])) → goal_of (point (rear p)) l ≡ point (rear p) → goal_of (point (front p)) r ≡ point (front p) → length (spellings (l ∷ r ∷ [])) ≤ 4 → q.matrix.resolution ≡ p.matrix.resolution → AreSet q.matrix p.matrix (in_part (rear p).x ((rear p).y - 1) z (z + 1)) full → Sets p q (rear p).x ((rear p).y - 1) z (z + 1) full (rear p) (front p) 1 0
-  wrote_one q l r z s el er few res set =
+  pub wrote_one : (q : TapeState) (l r : Command) (z : ℕ) → AllStep p q (l ∷ r ∷ []) q.matrix p.harmonics (bots_gone p.bots (l ∷ r ∷ [])) → goal_of (point (rear p)) l ≡ point (rear p) → goal_of (point (front p)) r ≡ point (front p) → length (spellings (l ∷ r ∷ [])) ≤ 4 → count_by is_fission (l ∷ r ∷ []) ≡ 0 → q.matrix.resolution ≡ p.matrix.resolution → AreSet q.matrix p.matrix (in_part (rear p).x ((rear p).y - 1) z (z + 1)) full → Sets p q (rear p).x ((rear p).y - 1) z (z + 1) full (rear p) (front p) 1 0
+  wrote_one q l r z s el er few none res set =
       let at = there p l r (rear p) (front p) h el er in
       let rear_is : rear q ≡ rear p = ap spot s.bots_are ∙ at.0 in
       let front_is : front q ≡ front p = ap second_spot s.bots_are ∙ at.1 in
@@ -142,6 +145,7 @@ module _ (p : TapeState) (k : Command) (full : Bool) (e : k ≡ one_below full) 
         set = set;
         pair = record {
           two = ap length s.bots_are ∙ at.2;
+          one_split = still_one p q l r h s.added none;
           high = s.harmonics ∙ h.high;
           full = s.profile ∙ h.full;
           in_row = rw (res, rear_is, front_is) h.in_row;
@@ -165,7 +169,7 @@ module _ (p : TapeState) (k : Command) (full : Bool) (e : k ≡ one_below full) 
       let t = both_bots p.bots h.two in
       let w = how in
       let same = ap (λ (m : Matrix). m.resolution) s.matrix in
-      wrote_one q k Wait (rear p).z (calm_bots q k Wait s e) (w.goal (point (rear p))) refl w.few_first same
+      wrote_one q k Wait (rear p).z (calm_bots q k Wait s e) (w.goal (point (rear p))) refl w.few_first w.unsplit_first same
       (set_below q.matrix (rear p) refl refl (rear_within p.matrix.resolution (rear p) (front p) h.in_row) same (λ d i.
       ap (λ (m : Matrix). is_full m d) s.matrix
       ∙ (v d i
@@ -178,7 +182,7 @@ module _ (p : TapeState) (k : Command) (full : Bool) (e : k ≡ one_below full) 
       let t = both_bots p.bots h.two in
       let w = how in
       let same = ap (λ (m : Matrix). m.resolution) s.matrix in
-      wrote_one q Wait k (front p).z (calm_bots q Wait k s e) refl (w.goal (point (front p))) w.few_last same
+      wrote_one q Wait k (front p).z (calm_bots q Wait k s e) refl (w.goal (point (front p))) w.few_last w.unsplit_last same
       (set_below q.matrix (front p) h.in_row.same_x h.in_row.same_y (front_within p.matrix.resolution (rear p) (front p) h.in_row) same (λ d i.
       ap (λ (m : Matrix). is_full m d) s.matrix
       ∙ (v d i

@@ -7,6 +7,7 @@ use Rattle.nano_spec.specs.Matrix.{Matrix, is_full}
 use Rattle.nano_spec.specs.Profile.{full_profile}
 use Rattle.nano_spec.specs.State.{origin}
 use Rattle.plan_tape.specs.declared.axis.Axis.TheVariants.{Z}
+use Rattle.plan_tape.specs.Fissions.{fissions}
 use Rattle.plan_tape.specs.Leg.{IsOnward, moves, put}
 use Rattle.plan_tape.specs.Progress.{TapeState, bytes, spot, IsVoidFrom}
 
@@ -32,9 +33,10 @@ pub record AreInRow (r : ℕ) (a b : Coord) : Type 0 where
   pub same_y : b.y ≡ a.y
   pub order : a.z < b.z
 
--- there are two bots, in one row, under High, and all is void from their height on
+-- there are two bots, made by one Fission, in one row, under High, and all is void from their height on
 pub record IsPair (p : TapeState) : Type 0 where
   pub two : length p.bots ≡ 2
+  pub one_split : fissions p ≡ 1
   pub high : p.harmonics ≡ High
   pub full : p.profile ≡ full_profile
   pub in_row : AreInRow p.matrix.resolution (rear p) (front p)

@@ -6,6 +6,7 @@ use Rattle.nano_spec.specs.declared.system.Harmonics.TheVariants.{High}
 use Rattle.nano_spec.specs.Matrix.{Matrix}
 use Rattle.nano_spec.specs.Profile.{full_profile}
 use Rattle.nano_spec.specs.State.{first_bot}
+use Rattle.plan_tape.specs.Fissions.{fissions}
 use Rattle.plan_tape.specs.Progress.{AreAlike, TapeState, bots_at, bytes, spot}
 use Rattle.group_planner.specs.Pair.{IsPair, Spends, rear}
 use Rattle.group_planner.specs.Rows.{rows, runs}
@@ -15,7 +16,7 @@ use Rattle.vox_geom.specs.Point.{coord}
 abbrev pub first_at : Coord → List Bot
 first_at c = bots_at (first_bot full_profile ∷ []) c
 
--- the only bot has become two
+-- the only bot there ever was has become two
 pub record Splits (old new : TapeState) : Type 0 where
   pub source : new.source ≡ old.source
   pub matrix : new.matrix ≡ old.matrix
@@ -31,6 +32,7 @@ pub record PairJoins (old new : TapeState) (c : Coord) (steps : ℕ) : Type 0 wh
   pub profile : new.profile ≡ full_profile
   pub harmonics : new.harmonics ≡ High
   pub alone : length new.bots ≡ 1
+  pub one_split : fissions new ≡ 1
   pub there : spot new.bots ≡ c
   pub steps_are : new.steps ≤ old.steps + steps
   pub spends : Spends old new 0

@@ -4,6 +4,7 @@ ghost use Rattle.vox_geom.specs.Space.{IsInSpace};
 ghost use Rattle.nano_spec.specs.declared.system.Harmonics.TheVariants.{High};
 ghost use Rattle.nano_spec.specs.Legal.{IsLegal};
 ghost use Rattle.nano_spec.specs.Profile.{full_profile};
+ghost use Rattle.plan_tape.specs.Fissions.{fissions};
 ghost use Rattle.plan_tape.specs.Leg.{moves};
 ghost use Rattle.plan_tape.specs.Progress.{spot, IsVoidFrom};
 ghost use Rattle.group_planner.specs.Pair.{IsPair, front as front_of, rear as rear_of};
@@ -51,6 +52,7 @@ fn last() -> Near
 /// The only bot makes another one, next to it along z.
 fn split(tape: &mut Tape) -> Result<(), Memory>
     requires alone { tape.old.bots ≡ first_at (spot tape.old.bots) }
+    requires unsplit { fissions tape.old ≡ 0 }
     requires high { tape.old.harmonics ≡ High }
     requires full { tape.old.profile ≡ full_profile }
     requires within { IsInSpace tape.old.matrix.resolution (spot tape.old.bots) }

@@ -5,6 +5,7 @@ ghost use Rattle.nano_spec.specs.Profile.{full_profile};
 ghost use Rattle.nano_spec.specs.Spelling.{spellings};
 ghost use Rattle.plan_tape.specs.Progress.{IsAccepted};
 ghost use Rattle.plan_tape.specs.Lowest.{IsLowest};
+ghost use Rattle.plan_tape.specs.Reaches.{HasAtMost};
 ghost use Rattle.group_planner.specs.Phases.{PairIsOpened, PairHasRebuilt, most_bytes, most_group_steps, plan_steps};
 ghost use Rattle.group_planner.specs.Rows.{runs};
 
@@ -22,6 +23,7 @@ fn only_halt(alloc: Global, source: Planes) -> Result<Plan, Memory>
     ensures accepted { IfOk result (λ plan. IsAccepted source source plan.commands full_profile plan.energy plan.steps) }
     ensures commands { IfOk result (λ plan. plan.commands ≡ Command.Halt ∷ []) }
     ensures steps { IfOk result (λ plan. plan.steps ≡ 1) }
+    ensures few { IfOk result (λ plan. HasAtMost source full_profile plan.commands 2) }
 {
     let mut tape = Tape::start(alloc, source)?;
     tape.halt()?;
@@ -54,6 +56,7 @@ fn closed(mut tape: Tape, target: &Planes) -> Result<Plan, Memory>
     ensures steps { IfOk result (λ plan. plan.steps ≤ plan_steps tape.source target.now + 120) }
     ensures commands { IfOk result (λ plan. length plan.commands ≤ 2 * plan.steps) }
     ensures bytes { IfOk result (λ plan. length (spellings plan.commands) ≤ 4 * plan.steps + 4 * (runs tape.source + runs target.now)) }
+    ensures few { IfOk result (λ plan. HasAtMost tape.source full_profile plan.commands 2) }
 {
     target.know();
     tape.know_whole();
@@ -64,8 +67,8 @@ fn closed(mut tape: Tape, target: &Planes) -> Result<Plan, Memory>
     Ok(tape.finish())
 }
 
-/// A plan that makes the target of the source, by two bots. Both models are legal. With the runs and rows of both together
-/// it has at most 8 * runs + 160 * rows + 200 * r + 400 steps at resolution r, twice as many commands, and
+/// A plan that makes the target of the source, by two bots: at no time are more active. Both models are legal. With the runs
+/// and rows of both together it has at most 8 * runs + 160 * rows + 200 * r + 400 steps at resolution r, twice as many commands, and
 /// 36 * runs + 640 * rows + 800 * r + 1600 bytes. Where both models are the same, the commands are a Halt alone.
 pub fn plan_groups(alloc: Global, source: &Planes, target: &Planes) -> Result<Plan, Memory>
     requires source { IsLegal source.now }
@@ -75,6 +78,7 @@ pub fn plan_groups(alloc: Global, source: &Planes, target: &Planes) -> Result<Pl
     ensures steps { IfOk result (λ plan. plan.steps ≤ most_group_steps source.now target.now) }
     ensures commands { IfOk result (λ plan. length plan.commands ≤ 2 * most_group_steps source.now target.now) }
     ensures bytes { IfOk result (λ plan. length (spellings plan.commands) ≤ most_bytes source.now target.now) }
+    ensures few { IfOk result (λ plan. HasAtMost source.now full_profile plan.commands 2) }
     ensures halt_alone { source.now ≡ target.now → IfOk result (λ plan. plan.commands ≡ Command.Halt ∷ []) }
 {
     let Some(low) = lowest_difference(source, target) else {

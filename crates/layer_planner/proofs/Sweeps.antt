@@ -9,12 +9,14 @@ use Rattle.nano_spec.specs.declared.commands.Command.{Command}
 use Rattle.nano_spec.specs.Matrix.{Matrix, is_full}
 use Rattle.nano_spec.specs.Spelling.{spelling}
 use Rattle.vox_planes.specs.Voxel.{with_voxel}
+use Rattle.plan_tape.specs.Fissions.{is_fission}
 use Rattle.plan_tape.specs.Leg.{Moves, moves_to}
 use Rattle.plan_tape.specs.Progress.{TapeState, Writes, beside, spot}
 use Rattle.layer_planner.specs.Painting.{CanPaint, IsPartlyBuilt, Paints, layer_bytes}
 use Rattle.plan_tape.specs.Parts.{voxel}
 use Rattle.layer_planner.proofs.Paints.{painted_set, voxel-is}
 use Rattle.plan_tape.proofs.ClearWays.{no_moves}
+use Rattle.plan_tape.proofs.Fissions.{moves_make_none, write_makes_none}
 
 -- ---- a voxel that is written from above
 
@@ -34,8 +36,8 @@ not_there y q c l e = by (voxel c.x c.y c.z q) refl
     by false f = f
     by true f = let g = ap (λ (d : Coord). d.y) (voxel-is q c f) in absurd (omega arith)
 
-pub wrote : (a b c : TapeState) (goal : Matrix) (k : Command) (v : Bool) (cost : ℤ) (x y z : ℕ) → CanPaint a goal y → x < a.matrix.resolution → z < a.matrix.resolution → Moves a b (coord x (y + 1) z) → Writes b c k (with_voxel b.matrix (beside b down) v) b.harmonics b.bots cost → length (spelling k) ≡ 1 → is_full goal (coord x y z) ≡ v → Paints a c goal (voxel x y z) (coord x (y + 1) z) (coord x (y + 1) z) 1
-wrote a b c goal k v cost x y z ready hx hz m w s e =
+pub wrote : (a b c : TapeState) (goal : Matrix) (k : Command) (v : Bool) (cost : ℤ) (x y z : ℕ) → CanPaint a goal y → x < a.matrix.resolution → z < a.matrix.resolution → Moves a b (coord x (y + 1) z) → Writes b c k (with_voxel b.matrix (beside b down) v) b.harmonics b.bots cost → length (spelling k) ≡ 1 → is_fission k ≡ false → is_full goal (coord x y z) ≡ v → Paints a c goal (voxel x y z) (coord x (y + 1) z) (coord x (y + 1) z) 1
+wrote a b c goal k v cost x y z ready hx hz m w s n e =
     let sweep = ready.sweep in
     let stands : spot b.bots ≡ coord x (y + 1) z = m.there in
     let stays : spot c.bots ≡ coord x (y + 1) z = ap spot w.bots_are ∙ stands in
@@ -51,6 +53,7 @@ wrote a b c goal k v cost x y z ready hx hz m w s e =
       painted = painted;
       ready = record {
         alone = ap length w.bots_are ∙ m.alone;
+        unsplit = write_makes_none b c k w.commands n ∙ (moves_make_none a b (coord x (y + 1) z) m ∙ sweep.unsplit);
         high = w.harmonics ∙ (m.harmonics ∙ sweep.high);
         full = w.profile ∙ (m.profile ∙ sweep.full);
         same = sweep.same ∙ sym er;

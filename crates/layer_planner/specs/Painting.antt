@@ -5,6 +5,7 @@ use Rattle.vox_geom.specs.Space.{IsInSpace}
 use Rattle.nano_spec.specs.declared.system.Harmonics.TheVariants.{High}
 use Rattle.nano_spec.specs.Matrix.{Matrix, is_full}
 use Rattle.nano_spec.specs.Profile.{full_profile}
+use Rattle.plan_tape.specs.Fissions.{fissions}
 use Rattle.plan_tape.specs.Leg.{moves_to}
 use Rattle.plan_tape.specs.Progress.{TapeState, bytes, spot, IsVoidFrom}
 
@@ -20,9 +21,10 @@ row_bytes r = 4 * r + 2
 abbrev pub layer_bytes : ℕ → ℕ
 layer_bytes r = r * row_bytes r + r + 2
 
--- the only bot is in space, under High, and all is void from its height on
+-- the only bot there ever was is in space, under High, and all is void from its height on
 pub record CanSweep (p : TapeState) (goal : Matrix) : Type 0 where
   pub alone : length p.bots ≡ 1
+  pub unsplit : fissions p ≡ 0
   pub high : p.harmonics ≡ High
   pub full : p.profile ≡ full_profile
   pub same : goal.resolution ≡ p.matrix.resolution

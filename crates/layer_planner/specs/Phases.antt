@@ -4,6 +4,7 @@ use Rattle.vox_geom.specs.declared.coordinate.Coord.{Coord}
 use Rattle.nano_spec.specs.declared.system.Harmonics.TheVariants.{High}
 use Rattle.nano_spec.specs.Matrix.{Matrix}
 use Rattle.nano_spec.specs.Profile.{full_profile}
+use Rattle.plan_tape.specs.Fissions.{fissions}
 use Rattle.plan_tape.specs.Progress.{AreAlike, TapeState, bytes, spot, top}
 use Rattle.layer_planner.specs.Painting.{CanSweep, bytes_to, layer_bytes, sweep_steps_to}
 use Rattle.vox_geom.specs.Point.{coord}
@@ -12,12 +13,13 @@ use Rattle.vox_geom.specs.Point.{coord}
 abbrev pub end : Matrix → Coord
 end m = coord 0 m.resolution 0
 
--- under High, nothing is changed, and the only bot is at the top above the origin
+-- under High, nothing is changed, and the only bot there ever was is at the top above the origin
 pub record IsOpened (t : TapeState) : Type 0 where
   pub matrix : t.matrix ≡ t.source
   pub high : t.harmonics ≡ High
   pub full : t.profile ≡ full_profile
   pub alone : length t.bots ≡ 1
+  pub unsplit : fissions t ≡ 0
   pub there : spot t.bots ≡ top t.source
   pub bytes_are : bytes t ≤ t.source.resolution + 1
   pub steps_are : t.steps ≤ t.source.resolution + 1

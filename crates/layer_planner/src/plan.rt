@@ -5,6 +5,7 @@ ghost use Rattle.nano_spec.specs.Profile.{full_profile};
 ghost use Rattle.nano_spec.specs.Spelling.{spellings};
 ghost use Rattle.plan_tape.specs.Progress.{IsAccepted, IsVoidFrom};
 ghost use Rattle.plan_tape.specs.Lowest.{IsLowest};
+ghost use Rattle.plan_tape.specs.Reaches.{HasAtMost};
 ghost use Rattle.layer_planner.specs.Phases.{IsOpened, IsRebuilt};
 
 use crate::paint::{build, clear};
@@ -55,6 +56,7 @@ fn closed(mut tape: Tape, target: &Planes) -> Result<Plan, Memory>
     requires target { IsLegal target.now }
     ensures accepted { IfOk result (λ plan. IsAccepted tape.source target.now plan.commands full_profile plan.energy plan.steps) }
     ensures bytes { IfOk result (λ plan. length (spellings plan.commands) ≤ 8 * target.now.resolution * target.now.resolution * target.now.resolution + 200) }
+    ensures few { IfOk result (λ plan. HasAtMost tape.source full_profile plan.commands 1) }
 {
     target.know();
     tape.know_whole();
@@ -69,6 +71,7 @@ fn only_halt(alloc: Global, source: Planes) -> Result<Plan, Memory>
     requires legal { IsLegal source }
     ensures accepted { IfOk result (λ plan. IsAccepted source source plan.commands full_profile plan.energy plan.steps) }
     ensures commands { IfOk result (λ plan. plan.commands ≡ Command.Halt ∷ []) }
+    ensures few { IfOk result (λ plan. HasAtMost source full_profile plan.commands 1) }
 {
     let mut tape = Tape::start(alloc, source)?;
     tape.halt()?;
@@ -76,14 +79,15 @@ fn only_halt(alloc: Global, source: Planes) -> Result<Plan, Memory>
 }
 
 /// A plan that makes the target of the source, by one bot. Both models are legal. Its commands are spelled in at most
-/// 8 * r * r * r + 200 bytes at resolution r; where both models are the same, they are a Halt alone. Layers below the lowest
-/// one in which the models differ are left alone.
+/// 8 * r * r * r + 200 bytes at resolution r, and at no time is more than one bot active; where both models are the same, they
+/// are a Halt alone. Layers below the lowest one in which the models differ are left alone.
 pub fn plan_layers(alloc: Global, source: &Planes, target: &Planes) -> Result<Plan, Memory>
     requires source { IsLegal source.now }
     requires target { IsLegal target.now }
     requires same { source.now.resolution ≡ target.now.resolution }
     ensures accepted { IfOk result (λ plan. IsAccepted source.now target.now plan.commands full_profile plan.energy plan.steps) }
     ensures bytes { IfOk result (λ plan. length (spellings plan.commands) ≤ 8 * source.now.resolution * source.now.resolution * source.now.resolution + 200) }
+    ensures few { IfOk result (λ plan. HasAtMost source.now full_profile plan.commands 1) }
     ensures halt_alone { source.now ≡ target.now → IfOk result (λ plan. plan.commands ≡ Command.Halt ∷ []) }
 {
     let Some(low) = lowest_difference(source, target) else {

@@ -1,4 +1,5 @@
 pub mod Beside
+pub mod Alone
 pub mod Builds
 pub mod Counts
 pub mod Grounds

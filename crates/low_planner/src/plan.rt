@@ -4,6 +4,7 @@ ghost use Rattle.nano_spec.specs.Legal.{IsLegal};
 ghost use Rattle.nano_spec.specs.Matrix.{empty};
 ghost use Rattle.nano_spec.specs.Profile.{full_profile, light_profile};
 ghost use Rattle.plan_tape.specs.Progress.{IsAccepted, starting};
+ghost use Rattle.plan_tape.specs.Reaches.{HasAtMost};
 ghost use Rattle.low_planner.specs.Build.{IsFinished};
 ghost use Rattle.low_planner.specs.Commands.{IsEmpty, IsPlain};
 ghost use Rattle.plan_tape.specs.Parts.{full_count};
@@ -56,7 +57,7 @@ fn closed(mut tape: Tape, target: &Planes) -> Result<Plan, Memory>
 }
 
 /// A plan that builds the target, by one bot under Low all the time. The target is legal. Its commands have no Flip and no
-/// Fission, and at most 4 * full + r * r * r + 200 steps at resolution r, where full is the number of full voxels; where the
+/// Fission, so at no time is more than one bot active, and at most 4 * full + r * r * r + 200 steps at resolution r, where full is the number of full voxels; where the
 /// target is empty, they are a Halt alone. There is none exactly where some part is unsupported.
 pub fn plan_low(alloc: Global, target: &Planes) -> Result<Plan, LowFault>
     requires { IsLegal target.now }
@@ -66,6 +67,7 @@ pub fn plan_low(alloc: Global, target: &Planes) -> Result<Plan, LowFault>
     ensures accepted_in_full { IfOk result (λ plan. IsAccepted (empty target.now.resolution) target.now plan.commands full_profile plan.energy plan.steps) }
     ensures plain { IfOk result (λ plan. All IsPlain plan.commands) }
     ensures steps { IfOk result (λ plan. plan.steps ≤ 4 * full_count target.now + target.now.resolution * target.now.resolution * target.now.resolution + 200) }
+    ensures few { IfOk result (λ plan. HasAtMost (empty target.now.resolution) light_profile plan.commands 1) }
     ensures halt_alone { IsEmpty target.now → IfOk result (λ plan. plan.commands ≡ Command.Halt ∷ []) }
 {
     full_accepts_what_light_accepts();

@@ -1,51 +1,26 @@
 -- How many commands and bytes an accepted trace has at most, where few bots are active at once.
-use Rattle.std.proofs.Common.{◌≡◌, ◌⊎◌, ◌∙◌, ℕ, suc, ◌+◌, ◌*◌, ◌/◌, ◌<◌, ◌≤◌, List, [], ◌∷◌, ◌++◌, false, cond, refl, sym, ap, subst, inl, inr, arith, length, take, drop, get_or, append_assoc, mul-le-mul}
-use Rattle.std.specs.Prelude.{ℤ, All, Option, Some, None, option_map, count_by}
-use Rattle.std.specs.List.{slice_get}
+use Rattle.std.proofs.Common.{◌≡◌, ◌∙◌, ℕ, suc, ◌+◌, ◌*◌, ◌/◌, ◌≤◌, List, [], ◌∷◌, ◌++◌, refl, sym, ap, subst, arith, length, take, drop, append_assoc, mul-le-mul}
+use Rattle.std.specs.Prelude.{ℤ, All, Option, Some, None}
 use Rattle.std.proofs.lemmas.List.{length-append, length-take, take-append-drop}
-use Rattle.std.proofs.lemmas.List.Sums.{sum_by-cons}
-use Rattle.std.proofs.lemmas.Option.{slice_get_cases}
 use Rattle.vox_geom.specs.declared.coordinate.Coord.{Coord}
 use Rattle.nano_spec.specs.declared.commands.Command.{Command}
 use Rattle.nano_spec.specs.declared.commands.Command.TheVariants.{Fill, Fission, Flip, FusionP, FusionS, GFill, GVoid, Halt, LMove, SMove, Void, Wait}
-use Rattle.nano_spec.specs.declared.outcomes.Rule.TheVariants.{TraceEnds}
 use Rattle.nano_spec.specs.declared.outcomes.Verdict.{Verdict}
 use Rattle.nano_spec.specs.declared.outcomes.Verdict.TheVariants.{Accepted}
-use Rattle.nano_spec.specs.declared.system.Bot.{Bot}
 use Rattle.nano_spec.specs.declared.system.Profile.{Profile}
-use Rattle.nano_spec.specs.Act.{acts}
-use Rattle.nano_spec.specs.First.{first_value}
-use Rattle.nano_spec.specs.Group.{leaders}
 use Rattle.nano_spec.specs.Matrix.{Matrix}
-use Rattle.nano_spec.specs.Next.{Goes, Next}
-use Rattle.nano_spec.specs.Rules.{judge_bots, judge_pairs}
 use Rattle.nano_spec.specs.Spelling.{spelling, spellings}
 use Rattle.nano_spec.specs.State.{State, opening}
 use Rattle.nano_spec.specs.Verdict.{Run, VerdictOf, breaks, compared, ending, ends, first_difference, goes}
-use Rattle.plan_tape.specs.Reaches.{Reaches, starts, steps_on}
 use Rattle.low_planner.specs.Commands.{IsPlain}
-use Rattle.void_planner.specs.Few.{HasAtMost, is_fission}
+use Rattle.plan_tape.specs.Reaches.{HasAtMost, Reaches, starts, steps_on}
 use Rattle.swarm_planner.specs.Strips.{width}
 use Rattle.void_planner.specs.Phases.{most_void_steps}
 use Rattle.void_planner.specs.Tiles.{tiles_of}
-use Rattle.void_planner.proofs.Counts.{few_at_most}
+use Rattle.plan_tape.proofs.Reached.{enough}
+use Rattle.low_planner.proofs.Alone.{plain_more}
 use Rattle.nanobot_rows.specs.Answer.{run_limit}
 use Rattle.nano_spec.proofs.Lengths.{spelling_short}
-use Rattle.nano_spec.proofs.Accepted.{accepted_step}
-
--- a step that is accepted has a command for each bot
-enough : (s t : State) (step : List Command) (k : ℕ) → Next s step k (Goes t) → length s.bots ≤ length step
-enough s t step k next = by (slice_get_cases s.bots (length step)).1
-  where
-    lacks : (bot : Bot) → slice_get s.bots (length step) ≡ Some bot → ⊥
-    lacks bot e =
-        let keeps = (accepted_step s t step k next).keeps in
-        let ends = ap (λ (o : Option Bot). first_value (option_map (λ (b : Bot). record { step = k; bid = b.bid; rule = TraceEnds; at = b.pos }) o ∷ (judge_bots s (acts s.bots step) k ++ judge_pairs s.matrix (acts s.bots step) k (leaders (acts s.bots step))))) e in
-        cc
-
-    by : ((x : Bot) × (length step < length s.bots) × (slice_get s.bots (length step) ≡ Some x) × (get_or s.bots (length step) x ≡ x)) ⊎ ((length s.bots ≤ length step) × (slice_get s.bots (length step) ≡ None)) → length s.bots ≤ length step
-    by (inl h) = absurd (lacks h.0 h.2)
-    by (inr h) = h.0
 
 -- ---- commands
 
@@ -106,9 +81,6 @@ two (Void d) h = omega arith
 two (GFill d f) h = absurd h
 two (GVoid d f) h = absurd h
 
-plain_more : (c : Command) (more : List Command) → All IsPlain (c ∷ more) → All IsPlain more
-plain_more c more h k d l = h (suc k) d (omega (arith, l))
-
 pub two_each : (commands : List Command) → All IsPlain commands → length (spellings commands) ≤ 2 * length commands
 two_each [] h = omega arith
 two_each (c ∷ more) h =
@@ -116,33 +88,6 @@ two_each (c ∷ more) h =
     let one = two c (h 0 c (omega arith)) in
     let rest = two_each more (plain_more c more h) in
     omega (arith, sum, one, rest)
-
--- ---- no Fission, one bot
-
-no_fission : (c : Command) → IsPlain c → is_fission c ≡ false
-no_fission Halt h = refl
-no_fission Wait h = refl
-no_fission Flip h = refl
-no_fission (SMove d) h = refl
-no_fission (LMove d e) h = refl
-no_fission (FusionP d) h = refl
-no_fission (FusionS d) h = refl
-no_fission (Fission d m) h = absurd h
-no_fission (Fill d) h = refl
-no_fission (Void d) h = refl
-no_fission (GFill d f) h = refl
-no_fission (GVoid d f) h = refl
-
-none_made : (commands : List Command) → All IsPlain commands → count_by is_fission commands ≡ 0
-none_made [] h = refl
-none_made (c ∷ more) h =
-    let s = sum_by-cons (λ x. cond {A = ℕ} (is_fission x) 1 0) c more in
-    let e : cond {A = ℕ} (is_fission c) 1 0 ≡ 0 = ap (λ x. cond {A = ℕ} x 1 0) (no_fission c (h 0 c (omega arith))) in
-    let r = none_made more (plain_more c more h) in
-    omega (arith, s, e, r)
-
-pub alone : (source : Matrix) (profile : Profile) (commands : List Command) → All IsPlain commands → HasAtMost source profile commands 1
-alone source profile commands h = few_at_most source profile commands 1 (let e = none_made commands h in omega (arith, e))
 
 -- ---- within the limit of a run
 

@@ -29,7 +29,7 @@ use Rattle.nanobot_rows.specs.Reading.{AreBoth, AreModels, IsModelOf, IsSide, no
 use Rattle.nanobot_words.specs.Rows.{plan_group, plan_layer, plan_low, plan_swarm, plan_void}
 use Rattle.plan_tape.specs.Parts.{full_count}
 use Rattle.low_planner.proofs.Builds.{full_most}
-use Rattle.nanobot_app.proofs.Lengths.{alone, few_commands, four_each, low_fits, swarm_fits, two_each, void_fits}
+use Rattle.nanobot_app.proofs.Lengths.{few_commands, four_each, low_fits, swarm_fits, two_each, void_fits}
 use Rattle.nanobot_rows.proofs.Stored.{nothing_here}
 use Rattle.nanobot_app.proofs.Headlines.{done_models, longer_not}
 use Rattle.nanobot_rows.proofs.Loads.{not_longer}
@@ -182,7 +182,7 @@ module _ (law : MostLaw) where
       let plan = g.3 in
       let same : m.0.resolution ≡ m.1.resolution = ap (λ (x : Matrix). x.resolution) (nothing_here files target m.0 m.1 m.2) in
       let most : m.1.resolution ≤ 400 = subst (λ (r : ℕ). r ≤ 400) same (most_of_models files None (Some target) m.0 m.1 m.2) in
-      let few = few_commands m.0 m.1 full_profile g.0 1 (alone m.0 full_profile g.0 plan.plain) g.1 g.2 plan.accepted in
+      let few = few_commands m.0 m.1 light_profile g.0 1 plan.few_bots g.1 g.2 plan.accepted_as_light in
       let size = low_fits (volume m.1.resolution) (full_count m.1) g.2 (length g.0) (length (spellings g.0)) (cube m.1.resolution most) (full_most m.1) plan.few_steps few (two_each g.0 plan.plain) in
       run_of_plan None (Some target) trace files (none_is trace) (λ e. other (some_is target trace e)) profile m.0 m.1 g.0 g.1 g.2 reply m.2 plan.are_commands (accepts m.0 m.1 g.0 g.1 g.2 plan) size g.4
 

@@ -20,12 +20,14 @@ use Rattle.void_planner.specs.Phases as void
 abbrev pub PlanFacts : Type 1
 PlanFacts = Matrix → Matrix → List Command → ℤ → ℕ → Type 0
 
--- a plan of the layer planner: the definitions accept the commands from the one model to the other with this energy in so many steps, and
--- their spellings have at most 8 bytes for each voxel and 200 more; where both models are the same, it is a Halt alone
+-- a plan of the layer planner: the definitions accept the commands from the one model to the other with this energy in so many steps, their
+-- spellings have at most 8 bytes for each voxel and 200 more, and at most one bot is active at once; where both models are the same, it is a
+-- Halt alone
 pub record IsLayerPlan (source target : Matrix) (commands : List Command) (energy : ℤ) (steps : ℕ) : Type 0 where
   pub are_commands : AreCommands commands
   pub accepted : VerdictOf source target commands full_profile (verdict.Accepted energy steps)
   pub bytes : length (spellings commands) ≤ 8 * volume source.resolution + 200
+  pub few_bots : HasAtMost source full_profile commands 1
   pub halt_alone : source ≡ target → commands ≡ Halt ∷ []
 
 -- a plan of the void planner: the definitions accept the commands from the source to the empty model with this energy in so many steps, of
@@ -38,23 +40,27 @@ pub record IsVoidPlan (source target : Matrix) (commands : List Command) (energy
   pub halt_alone : source ≡ target → commands ≡ Halt ∷ []
 
 -- a plan of the group planner: the definitions accept the commands from the one model to the other with this energy in so many steps, and
--- steps, commands and bytes are few, by the runs and rows of both models; where both models are the same, it is a Halt alone
+-- steps, commands and bytes are few, by the runs and rows of both models, and at most two bots are active at once; where both models are the
+-- same, it is a Halt alone
 pub record IsGroupPlan (source target : Matrix) (commands : List Command) (energy : ℤ) (steps : ℕ) : Type 0 where
   pub are_commands : AreCommands commands
   pub accepted : VerdictOf source target commands full_profile (verdict.Accepted energy steps)
   pub few_steps : steps ≤ group.most_group_steps source target
   pub few_commands : length commands ≤ 2 * group.most_group_steps source target
   pub few_bytes : length (spellings commands) ≤ group.most_bytes source target
+  pub few_bots : HasAtMost source full_profile commands 2
   pub halt_alone : source ≡ target → commands ≡ Halt ∷ []
 
 -- a plan of the low planner: the definitions accept the commands from the empty model to the target under both profiles with this energy in
--- so many steps, of which there are few, and none is a Flip or a Fission; where the target is empty, it is a Halt alone
+-- so many steps, of which there are few, none is a Flip or a Fission, and at most one bot is active at once; where the target is empty, it is
+-- a Halt alone
 pub record IsLowPlan (source target : Matrix) (commands : List Command) (energy : ℤ) (steps : ℕ) : Type 0 where
   pub are_commands : AreCommands commands
   pub accepted : VerdictOf source target commands full_profile (verdict.Accepted energy steps)
   pub accepted_as_light : VerdictOf source target commands light_profile (verdict.Accepted energy steps)
   pub plain : All low.IsPlain commands
   pub few_steps : steps ≤ 4 * full_count target + volume target.resolution + 200
+  pub few_bots : HasAtMost source light_profile commands 1
   pub halt_alone : low.IsEmpty target → commands ≡ Halt ∷ []
 
 -- a plan of the swarm planner: the definitions accept the commands from the empty model to the target under both profiles with this energy in

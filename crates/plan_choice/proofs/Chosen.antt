@@ -7,7 +7,7 @@ use Rattle.nano_spec.specs.declared.system.Profile.{Profile}
 use Rattle.nano_spec.specs.Matrix.{Matrix}
 use Rattle.plan_tape.specs.declared.tape.Plan.{Plan}
 use Rattle.plan_tape.specs.Progress.{IsAccepted}
-use Rattle.void_planner.proofs.Counts.{few_at_most}
+use Rattle.plan_tape.proofs.Fissions.{few_at_most}
 use Rattle.plan_choice.specs.declared.bounds.Bounds.{Bounds}
 use Rattle.plan_choice.specs.declared.choice.Cost.{Cost}
 use Rattle.plan_choice.specs.Better.{IsWithin, MayStandFor}

@@ -8,7 +8,7 @@ use Rattle.plan_tape.specs.declared.tape.Plan.{Plan}
 use Rattle.plan_tape.specs.Progress.{IsAccepted}
 use Rattle.plan_tape.specs.Reaches.{HasAtMost}
 use Rattle.plan_choice.specs.declared.bounds.Bounds.{Bounds}
-use Rattle.void_planner.specs.Few.{is_fission}
+use Rattle.plan_tape.specs.Fissions.{is_fission}
 
 -- the commands are no more than a run may have, cost less than that, and keep to the bounds, the bots by counting Fissions
 pub record IsWithin (than : ℤ) (most : Bounds) (commands : List Command) (energy : ℤ) (steps : ℕ) : Type 0 where

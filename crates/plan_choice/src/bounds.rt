@@ -1,7 +1,7 @@
 //! What is counted in commands, and compared with bounds.
 ghost use Rattle.std.specs.Prelude.{◌≡◌, ◌≤◌, count_by, length};
 ghost use Rattle.nano_spec.specs.Spelling.{spellings};
-ghost use Rattle.void_planner.specs.Few.{is_fission};
+ghost use Rattle.plan_tape.specs.Fissions.{is_fission};
 
 use nano_spec::Command;
 use trace_codec::encode_one;

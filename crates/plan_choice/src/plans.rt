@@ -7,7 +7,7 @@ ghost use Rattle.nano_spec.specs.Spelling.{spellings};
 ghost use Rattle.group_planner.specs.Phases.{most_bytes, most_group_steps};
 ghost use Rattle.plan_tape.specs.Progress.{IsAccepted};
 ghost use Rattle.swarm_planner.specs.Strips.{width};
-ghost use Rattle.void_planner.specs.Few.{HasAtMost};
+ghost use Rattle.plan_tape.specs.Reaches.{HasAtMost};
 ghost use Rattle.void_planner.specs.Phases.{most_void_steps};
 
 use crate::bounds::Bounds;
@@ -29,12 +29,14 @@ pub fn choose_layer_plan(alloc: Global, source: &Planes, target: &Planes) -> Res
     requires same { source.now.resolution ≡ target.now.resolution }
     ensures accepted { IfOk result (λ plan. IsAccepted source.now target.now plan.commands full_profile plan.energy plan.steps) }
     ensures bytes { IfOk result (λ plan. length (spellings plan.commands) ≤ 8 * source.now.resolution * source.now.resolution * source.now.resolution + 200) }
+    ensures few { IfOk result (λ plan. HasAtMost source.now full_profile plan.commands 1) }
     ensures halt_alone { source.now ≡ target.now → IfOk result (λ plan. plan.commands ≡ Command.Halt ∷ []) }
 {
     let plan = plan_layers(alloc, source, target)?;
     let r = u64::from(source.resolution());
     let mut most = Bounds::none();
     most.bytes = 8 * r * r * r + 200;
+    most.bots = 1;
     lower(alloc, source, target, Profile::full(), plan, most)
 }
 
@@ -47,6 +49,7 @@ pub fn choose_group_plan(alloc: Global, source: &Planes, target: &Planes) -> Res
     ensures steps { IfOk result (λ plan. plan.steps ≤ most_group_steps source.now target.now) }
     ensures commands { IfOk result (λ plan. length plan.commands ≤ 2 * most_group_steps source.now target.now) }
     ensures bytes { IfOk result (λ plan. length (spellings plan.commands) ≤ most_bytes source.now target.now) }
+    ensures few { IfOk result (λ plan. HasAtMost source.now full_profile plan.commands 2) }
     ensures halt_alone { source.now ≡ target.now → IfOk result (λ plan. plan.commands ≡ Command.Halt ∷ []) }
 {
     let plan = plan_groups(alloc, source, target)?;
@@ -58,6 +61,7 @@ pub fn choose_group_plan(alloc: Global, source: &Planes, target: &Planes) -> Res
     most.steps = steps;
     most.commands = 2 * steps;
     most.bytes = 36 * runs + 640 * rows + 800 * r + 1600;
+    most.bots = 2;
     lower(alloc, source, target, Profile::full(), plan, most)
 }
 

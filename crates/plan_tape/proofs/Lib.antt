@@ -8,6 +8,8 @@ pub mod AfterMoves
 pub mod AfterSteps
 pub mod Works
 pub mod Many
+pub mod Fissions
+pub mod Reached
 pub mod ClearWays
 pub mod LegalModels
 pub mod Parts

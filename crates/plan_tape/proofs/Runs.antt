@@ -23,7 +23,7 @@ one_more target s t step rest done v (bot ∷ bots) e h l n r =
     goes {bot = bot} {bots = bots} {t = t} e (subst (λ (k : List Command). Next s k (done + 1) (Goes t)) (sym first) n) (subst (λ (k : List Command). Run target t k (done + 1) v) (sym later) r)
 
 -- what comes of the rest of the commands from the state that was reached comes of all of them
-run_of : {source : Matrix} {profile : Profile} {commands : List Command} {s : State} {steps : ℕ} (target : Matrix) (rest : List Command) (v : Verdict) → Reaches source profile commands s steps → Run target s rest steps v → VerdictOf source target (commands ++ rest) profile v
+pub run_of : {source : Matrix} {profile : Profile} {commands : List Command} {s : State} {steps : ℕ} (target : Matrix) (rest : List Command) (v : Verdict) → Reaches source profile commands s steps → Run target s rest steps v → VerdictOf source target (commands ++ rest) profile v
 run_of target rest v (starts e f g) r = rw (e, ← f, ← g) r
 run_of {source} target rest v (steps_on {t = t} s before step done h some l n e g) r =
     rw (e, append_assoc) (run_of target (step ++ rest) v h (one_more target s t step rest done v s.bots refl some l n (rw g at r)))

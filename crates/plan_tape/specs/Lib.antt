@@ -2,5 +2,6 @@ pub mod Crowd
 pub mod Leg
 pub mod Progress
 pub mod Reaches
+pub mod Fissions
 pub mod Lowest
 pub mod Parts

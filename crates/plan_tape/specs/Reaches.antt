@@ -1,10 +1,14 @@
 -- The state that commands reach from the opening of a source, every step accepted (docs/FORMATS.md, "Rules").
-use Rattle.std.specs.Prelude.{◌≡◌, ℕ, ◌+◌, ◌<◌, ◌≤◌, List, [], ◌++◌, length}
+use Rattle.std.specs.Prelude.{◌≡◌, ◌⊎◌, ℕ, ◌+◌, ◌<◌, ◌≤◌, ℤ, List, [], ◌++◌, length, take, None}
 use Rattle.nano_spec.specs.declared.commands.Command.{Command}
+use Rattle.nano_spec.specs.declared.outcomes.Broken.{Broken}
+use Rattle.nano_spec.specs.declared.outcomes.Verdict.{Verdict}
+use Rattle.nano_spec.specs.declared.outcomes.Verdict.TheVariants.{Refused}
 use Rattle.nano_spec.specs.declared.system.Profile.{Profile}
 use Rattle.nano_spec.specs.Matrix.{Matrix}
-use Rattle.nano_spec.specs.Next.{Next, Goes}
+use Rattle.nano_spec.specs.Next.{Next, Goes, Breaks}
 use Rattle.nano_spec.specs.State.{State, opening}
+use Rattle.nano_spec.specs.Verdict.{ending, first_difference}
 
 -- the commands make so many steps from the opening of the source, each accepted, and the state is the one after them
 pub data Reaches (source : Matrix) (profile : Profile) : List Command → State → ℕ → Type 0 where
@@ -17,3 +21,26 @@ pub data Reaches (source : Matrix) (profile : Profile) : List Command → State 
 abbrev pub HasAtMost : Matrix → Profile → List Command → ℕ → Type 0
 HasAtMost source profile commands n = (before rest : List Command) (s : State) (steps : ℕ) → commands ≡ before ++ rest
     → Reaches source profile before s steps → length s.bots ≤ n
+
+-- the commands reach a state without bots, with this energy in so many steps, whose matrix differs nowhere from the target
+pub record ReachesTarget (source target : Matrix) (profile : Profile) (commands : List Command) (energy : ℤ) (steps : ℕ) : Type 0 where
+  pub last : State
+  pub reaches : Reaches source profile commands last steps
+  pub no_bot : last.bots ≡ []
+  pub energy_is : last.energy ≡ energy
+  pub same : first_difference last.matrix target ≡ None
+
+-- at a state, after so many steps, the verdict falls: no bot is left, or the next commands break a rule
+abbrev pub FallsAt : Matrix → State → List Command → ℕ → Verdict → Type 0
+FallsAt target s rest done verdict = ((s.bots ≡ []) × (verdict ≡ ending target s rest done))
+    ⊎ ((b : Broken) × Next s (take (length s.bots) rest) (done + 1) (Breaks b) × (verdict ≡ Refused b))
+
+-- a first part of the commands reaches the state at which the verdict falls
+pub record IsDecided (source target : Matrix) (profile : Profile) (commands : List Command) (verdict : Verdict) : Type 0 where
+  pub before : List Command
+  pub rest : List Command
+  pub joined : commands ≡ before ++ rest
+  pub last : State
+  pub done : ℕ
+  pub reaches : Reaches source profile before last done
+  pub falls : FallsAt target last rest done verdict

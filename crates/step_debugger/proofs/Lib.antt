@@ -8,5 +8,6 @@ pub mod Restoring
 pub mod Returning
 pub mod Standing
 pub mod TouchedBack
+pub mod TouchedOn
 pub mod Trying
 pub mod Walks

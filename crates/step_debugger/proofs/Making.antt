@@ -1,5 +1,5 @@
 -- The next step is tried.
-use Rattle.std.proofs.Common.{◌≡◌, ℕ, ◌+◌, ◌-◌, ◌≤◌, refl, sym, ◌∙◌, ap, subst, arith, List, [], ◌∷◌, ◌++◌, Bool, true, false, length, take, drop, length-drop, length-take}
+use Rattle.std.proofs.Common.{◌≡◌, ℕ, ◌+◌, ◌-◌, ◌*◌, ◌≤◌, refl, sym, ◌∙◌, ap, subst, arith, List, [], ◌∷◌, ◌++◌, Bool, true, false, length, take, drop, length-drop, length-take}
 use Rattle.std.specs.Prelude.{◌↔◌, All, Ok, Err}
 use Rattle.circular_buffer.specs.Buffer.{Buffer, keep_last}
 use Rattle.nano_spec.specs.declared.commands.Command.{Command}
@@ -7,11 +7,12 @@ use Rattle.nano_spec.specs.declared.outcomes.Broken.{Broken}
 use Rattle.nano_spec.specs.declared.outcomes.Rule.{Rule}
 use Rattle.nano_spec.specs.declared.outcomes.Rule.TheVariants.{Ungrounded}
 use Rattle.nano_spec.specs.declared.system.Bot.{Bot}
+use Rattle.nano_spec.specs.Model.{volume}
 use Rattle.nano_spec.specs.Next.{Breaks, Goes, Next}
 use Rattle.nano_spec.specs.State.{IsReady, IsWellFormed, State}
 use Rattle.vox_geom.specs.Space.{IsInSpace}
-use Rattle.step_machine.specs.Situation.{Situation}
-use Rattle.step_machine.specs.Stepped.{Stepped}
+use Rattle.step_machine.specs.Situation.{Situation, searched_for}
+use Rattle.step_machine.specs.Stepped.{IsWithinWork, Stepped}
 use Rattle.step_machine.specs.Undoing.{MayUndo, state_before}
 use Rattle.step_machine.specs.declared.machine.StepOk.{StepOk}
 use Rattle.step_machine.specs.declared.machine.StepFault.TheVariants as fault
@@ -19,6 +20,7 @@ use Rattle.step_machine.specs.declared.undo.Undo.{Undo}
 use Rattle.step_debugger.specs.Session.{Made, Moment, Refused, Session, TriesStep, dropped, latest, made, most_past, next_commands, none_left, refused}
 use Rattle.step_debugger.specs.Debugging.{Debugging, debugging_of, point_before, point_of, points_of}
 use Rattle.step_debugger.specs.Kept.{Begin, Fit, IsKept, LeadTo, LeadsTo}
+use Rattle.step_debugger.specs.Touches.{IsRefusedWithin, IsWithinWorkOf}
 use Rattle.step_debugger.proofs.Notes.{lead_drop, lead_more, points_latest, points_more}
 use Rattle.step_debugger.proofs.Returning.{fit}
 
@@ -124,6 +126,9 @@ module _ (v : Situation) (notes : Buffer Undo) (commands : List Command) (taken 
         session_is : (now : List ℕ) → now ≡ [] → (debugging_of w rest.items commands (taken + n) now).session ≡ made (debugging_of v notes.items commands taken begun).session w.state
         session_is now f = λ i. record { point = record { state = w.state; steps = stepped.counted i; taken = taken + count i }; past = past_is i; begun = f i }
 
+        pub step_within : IsWithinWorkOf 100 d.commands d.session.point began ended
+        step_within = subst (λ (x : Debugging). IsWithinWorkOf 100 x.commands x.session.point began ended) e (subst (λ (xs : List Command). IsWithinWork v.state xs (v.steps + 1) began ended) next_here stepped.touches)
+
         pub session_made : (now : List ℕ) → now ≡ [] → TriesStep d.commands d.session (debugging_of w rest.items commands (taken + n) now).session (Made w.steps ok.energy ok.halted)
         session_made now f = subst (λ (x : Debugging). TriesStep x.commands x.session (debugging_of w rest.items commands (taken + n) now).session (Made w.steps ok.energy ok.halted)) e (
           Goes w.state,
@@ -138,6 +143,21 @@ module _ (v : Situation) (notes : Buffer Undo) (commands : List Command) (taken 
 
         breaks : Next v.state (next_commands commands (point_of v taken)) (v.steps + 1) (Breaks b)
         breaks = subst (λ (xs : List Command). Next v.state xs (v.steps + 1) (Breaks b)) next_here stepped.breaks.1
+
+        -- the touches of a step that is refused
+        touched : IsWithinWorkOf 100 commands (point_of v taken) (began + searched_for b.rule v.state.matrix) ended
+        touched = subst (λ (xs : List Command). IsWithinWork v.state xs (v.steps + 1) (began + searched_for b.rule v.state.matrix) ended) next_here stepped.touches_broken
+
+        pub refused_within : IsRefusedWithin 100 d.commands d.session.point b began ended
+        refused_within = let paid = touched.2 in subst (λ (x : Debugging). IsRefusedWithin 100 x.commands x.session.point b began ended) e (touched.0, touched.1, omega (arith, paid))
+
+        -- and after it of a machine that is made anew
+        pub anew_within : w.spent ≡ true → (last : ℕ) → last ≤ ended + 91 * volume w.state.matrix.resolution → IsRefusedWithin 100 d.commands d.session.point b began last
+        anew_within spent last anew =
+            let paid = touched.2 in
+            let searched : searched_for b.rule v.state.matrix ≡ volume v.state.matrix.resolution = ap (λ (r : Rule). searched_for r v.state.matrix) (stepped.ungrounded.0 spent) in
+            let size : volume w.state.matrix.resolution ≡ volume v.state.matrix.resolution = ap (λ (s : State). volume s.matrix.resolution) stepped.stays.0 in
+            subst (λ (x : Debugging). IsRefusedWithin 100 x.commands x.session.point b began last) e (touched.0, touched.1, omega (arith, paid, anew, searched, size))
 
         -- by a rule that is judged at its start
         session_stays : (debugging_of w notes.items commands taken begun).session ≡ (debugging_of v notes.items commands taken begun).session

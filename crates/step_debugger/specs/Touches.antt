@@ -1,8 +1,28 @@
--- How often voxels are touched while a step is taken back.
-use Rattle.std.specs.Prelude.{ℕ, ◌+◌, ◌*◌, ◌≤◌, ◌&&◌}
+-- How often voxels are touched while a step is made or taken back.
+use Rattle.std.specs.Prelude.{ℕ, ◌+◌, ◌*◌, ◌≤◌, ◌&&◌, List, Result, Err}
+use Rattle.nano_spec.specs.declared.commands.Command.{Command}
+use Rattle.nano_spec.specs.declared.outcomes.Broken.{Broken}
 use Rattle.nano_spec.specs.Matrix.{Matrix, is_full, matrix_where}
-use Rattle.nano_spec.specs.Work.{changed_count}
+use Rattle.nano_spec.specs.Work.{WorkOfStep, changed_count}
+use Rattle.step_machine.specs.Situation.{searched_for}
 use Rattle.step_machine.specs.Undoing.{LevelsThrough, levels_moved}
+use Rattle.step_debugger.specs.declared.fault.DebugFault.{DebugFault}
+use Rattle.step_debugger.specs.declared.fault.DebugFault.TheVariants as fault
+use Rattle.step_debugger.specs.Session.{Moment, next_commands}
+
+-- the touches from began to ended are at most so many for each unit of the work of the next step
+abbrev pub IsWithinWorkOf : ℕ → List Command → Moment → ℕ → ℕ → Type 0
+IsWithinWorkOf most commands p began ended = (n : ℕ) × WorkOfStep p.state (next_commands commands p) (p.steps + 1) n × (ended ≤ began + most * n)
+
+-- they are so where the step is refused too, but for 92 at each voxel where it breaks the rule of grounding: those of a search, and of a machine
+-- that is made anew
+abbrev pub IsRefusedWithin : ℕ → List Command → Moment → Broken → ℕ → ℕ → Type 0
+IsRefusedWithin most commands p b began ended = IsWithinWorkOf most commands p (began + 92 * searched_for b.rule p.state.matrix) ended
+
+-- where the next step is refused, P holds of the rule that it breaks
+abbrev pub IfRefused : {T : Type 0} → Result T DebugFault → (Broken → Type 0) → Type 0
+IfRefused (Err (fault.Broken b)) P = P b
+IfRefused _ P = Unit {0}
 
 -- what is full in both matrices
 abbrev pub common : Matrix → Matrix → Matrix

@@ -1,18 +1,19 @@
 //! The debugger.
-ghost use Rattle.std.specs.Prelude.{◌≡◌, ℕ, ◌+◌, ◌<◌, ◌≤◌, ◌↔◌, ◌==◌, ◌++◌, ◌∷◌, [], false, true, length, count_by, slice_index, IfOk, IfErr, IfNone, IfSome, IsSomeAnd, OnOk, IsFalse, IsPermutation, None, Err};
+ghost use Rattle.std.specs.Prelude.{◌≡◌, ℕ, ◌+◌, ◌*◌, ◌<◌, ◌≤◌, ◌↔◌, ◌==◌, ◌++◌, ◌∷◌, [], false, true, length, count_by, slice_index, IfOk, IfErr, IfNone, IfSome, IsSomeAnd, OnOk, IsFalse, IsPermutation, None, Err};
 ghost use Rattle.nano_spec.specs.Act.{acts};
 ghost use Rattle.nano_spec.specs.Group.{leaders};
 ghost use Rattle.nano_spec.specs.Grounded.{FirstUngrounded};
 ghost use Rattle.nano_spec.specs.Matrix.{is_full};
 ghost use Rattle.nano_spec.specs.Rules.{broken};
 ghost use Rattle.nano_spec.specs.State.{origin};
+ghost use Rattle.nano_spec.specs.Work.{volatile_total};
 ghost use Rattle.system_state.specs.Turns.{AreTurns};
 ghost use Rattle.vox_geom.specs.Space.{IsInSpace};
 ghost use Rattle.step_debugger.specs.Calls.{back_report, group_report, step_report};
 ghost use Rattle.step_debugger.specs.Debugging.{situation_of};
 ghost use Rattle.step_debugger.specs.Readiness.{IsUnready};
 ghost use Rattle.step_debugger.specs.Session.{AnswersLine, Back, Group, Step, middle_state, TriesStep as StepsOf, next_commands as next_of, next_leaders, opened};
-ghost use Rattle.step_debugger.specs.Touches.{IsTouchedBack};
+ghost use Rattle.step_debugger.specs.Touches.{IfRefused, IsRefusedWithin, IsTouchedBack, IsWithinWorkOf};
 
 use crate::fault::DebugFault;
 use crate::middle::full_after;
@@ -150,6 +151,8 @@ impl Debugger {
         ensures session { IfSome (step_report self.new.session.point.steps result) (AnswersLine self.old.commands Step self.old.session self.new.session) }
         ensures commands { self.new.commands ≡ self.old.commands }
         ensures spent { result ≡ Err DebugFault.Memory ↔ self.new.spent ≡ true }
+        ensures touches { IfOk result (λ _. IsWithinWorkOf 100 self.old.commands self.old.session.point steps.old steps.new) }
+        ensures touches_refused { IfRefused result (λ b. IsRefusedWithin 100 self.old.commands self.old.session.point b steps.old steps.new) }
     {
         self.ready()?;
         let order = self.order();
@@ -202,6 +205,8 @@ impl Debugger {
         ensures session { IfSome (step_report self.new.session.point.steps result) (StepsOf self.old.commands self.old.session self.new.session) }
         ensures commands { self.new.commands ≡ self.old.commands }
         ensures spent { result ≡ Err DebugFault.Memory ↔ self.new.spent ≡ true }
+        ensures touches { IfOk result (λ _. IsWithinWorkOf 100 self.old.commands self.old.session.point steps.old steps.new) }
+        ensures touches_refused { IfRefused result (λ b. IsRefusedWithin 100 self.old.commands self.old.session.point b steps.old steps.new) }
     {
         let count = self.machine.active();
         let next = next_commands(self.commands.as_slice(), self.taken, count);
@@ -241,6 +246,8 @@ impl Debugger {
             (AnswersLine self.old.commands (Group leader) self.old.session self.new.session) }
         ensures commands { self.new.commands ≡ self.old.commands }
         ensures spent { result ≡ Err DebugFault.Memory ↔ self.new.spent ≡ true }
+        ensures touches { IfOk result (λ _. IsWithinWorkOf 102 self.old.commands self.old.session.point steps.old steps.new) }
+        ensures touches_refused { IfRefused result (λ b. IsRefusedWithin 102 self.old.commands self.old.session.point b steps.old steps.new) }
     {
         self.ready()?;
         let mut turns = Turns::new();
@@ -271,6 +278,8 @@ impl Debugger {
         ensures turns { IfNone result
             (AreTurns (acts self.now.session.point.state.bots (next_of self.now.commands self.now.session.point))
             (leaders (acts self.now.session.point.state.bots (next_of self.now.commands self.now.session.point))) turns.new) }
+        ensures touches { steps.new ≤ steps.old + 2 * volatile_total self.now.session.point.state.matrix
+            (acts self.now.session.point.state.bots (next_of self.now.commands self.now.session.point)) }
     {
         let count = self.machine.active();
         let next = next_commands(self.commands.as_slice(), self.taken, count);

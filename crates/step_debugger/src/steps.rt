@@ -1,6 +1,7 @@
 //! Parts of a step: its commands, and the order of its groups.
-ghost use Rattle.std.specs.Prelude.{◌≡◌, ◌+◌, ◌<◌, ◌≤◌, false, true, ◌==◌, ◌++◌, length, take, drop, slice_index, IfOk, IfErr, IfNone, IfSome, Some};
+ghost use Rattle.std.specs.Prelude.{◌≡◌, ◌+◌, ◌*◌, ◌<◌, ◌≤◌, false, true, ◌==◌, ◌++◌, length, take, drop, slice_index, IfOk, IfErr, IfNone, IfSome, Some};
 ghost use Rattle.std.specs.List.{list_any};
+ghost use Rattle.nano_spec.specs.Model.{volume};
 ghost use Rattle.nano_spec.specs.Rules.{broken};
 ghost use Rattle.nano_spec.specs.State.{IsWellFormed};
 ghost use Rattle.step_machine.specs.Undoing.{IsUndoneBy, MayUndo, state_before};
@@ -68,7 +69,8 @@ pub(crate) fn anew<L: Ledger>(
     steps: &mut Steps<L>,
 ) -> Result<Machine, Memory>
     requires { IsWellFormed machine.now.state }
-    ensures { IfOk result (λ m. m ≡ record machine.now { spent = false }) }
+    ensures value { IfOk result (λ m. m ≡ record machine.now { spent = false }) }
+    ensures touches { IfOk result (λ _. steps.new ≤ steps.old + 91 * volume machine.now.state.matrix.resolution) }
 {
     let matrix = machine.matrix().copy(alloc)?;
     Machine::at(
@@ -92,6 +94,7 @@ pub(crate) fn renew<L: Ledger>(
     requires { IsWellFormed machine.old.state }
     ensures value { IfOk result (λ _. machine.new ≡ record machine.old { spent = false }) }
     ensures stays { IfErr result (λ _. machine.new ≡ machine.old) }
+    ensures touches { IfOk result (λ _. steps.new ≤ steps.old + 91 * volume machine.old.state.matrix.resolution) }
 {
     let made = anew(alloc, machine, steps)?;
     *machine = made;

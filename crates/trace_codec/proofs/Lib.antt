@@ -4,3 +4,4 @@ pub mod Pieces
 pub mod TakenBytes
 pub mod Unique
 pub mod WholeTraces
+pub mod Feeding

@@ -1,4 +1,5 @@
 pub mod Decoder
 pub mod FarFront
 pub mod One
+pub mod Pieces
 pub mod Whole

@@ -1,15 +1,17 @@
 //! Laws of the codec, each the contract of a function that does nothing.
-ghost use Rattle.std.specs.Prelude.{◌≡◌, ◌≢◌, ℕ, List, [], ◌∷◌, ◌++◌, Result, take};
+ghost use Rattle.std.specs.Prelude.{◌≡◌, ◌≢◌, ℕ, List, [], ◌∷◌, ◌++◌, Result, flat_map, take};
 ghost use Rattle.nano_spec.specs.declared.commands.Command.{Command};
 ghost use Rattle.nano_spec.specs.Cutting.{BadAt, Cutting, Decoding};
 ghost use Rattle.trace_codec.specs.declared.decoder.Fed.TheVariants as fed;
 ghost use Rattle.trace_codec.specs.declared.fault.TraceFault.{TraceFault};
 ghost use Rattle.trace_codec.specs.declared.fault.TraceFault.TheVariants as fault;
 ghost use Rattle.trace_codec.specs.Decoder.{AnswersPiece, DecoderState, EndsTrace, HasTaken, decoder_after, fresh};
+ghost use Rattle.trace_codec.specs.Pieces.{Feeds};
 ghost use Rattle.trace_codec.specs.Whole.{Decodes};
 
 /// A decoder cuts a trace as a whole is cut, in whatever pieces it comes. What it has taken stands to what it has given
-/// as `HasTaken` says at the start and after each answer, until it refuses the trace or the trace ends.
+/// as `HasTaken` says at the start, after each answer, and after any list of pieces, until it refuses the trace or the trace
+/// ends.
 pub fn pieces_decode()
     ensures start { HasTaken [] [] fresh }
     ensures got { (bytes piece : List ℕ) (commands : List Command) (decoder : DecoderState) (command : Command) (used : ℕ) →
@@ -18,6 +20,8 @@ pub fn pieces_decode()
     ensures all { (bytes piece : List ℕ) (commands : List Command) (decoder : DecoderState) →
         HasTaken bytes commands decoder → AnswersPiece decoder piece fed.All →
         HasTaken (bytes ++ piece) commands (decoder_after decoder piece fed.All) }
+    ensures pieces { (pieces : List (List ℕ)) (commands : List Command) (decoder : DecoderState) →
+        Feeds pieces commands decoder → HasTaken (flat_map (λ piece. piece) pieces) commands decoder }
 
     // Whatever bytes follow.
     ensures bad { (bytes piece more : List ℕ) (commands : List Command) (decoder : DecoderState) (offset : ℕ) →

@@ -25,7 +25,7 @@ use Rattle.plan_tape.specs.Crowd.{AllStep, CanPaintAll}
 use Rattle.plan_tape.specs.Progress.{TapeState, spot, state_of}
 use Rattle.void_planner.specs.Square.{CanStand, FourVoid, bot_with, four}
 use Rattle.void_planner.specs.Tiles.{tile}
-use Rattle.void_planner.proofs.Counts.{fissions_more}
+use Rattle.plan_tape.proofs.Fissions.{fissions_more}
 use Rattle.void_planner.proofs.Regions.{region_fewer}
 
 abbrev act : Bot → Command → Act

@@ -26,10 +26,10 @@ use Rattle.plan_tape.specs.declared.axis.Axis.TheVariants.{X, Y, Z}
 use Rattle.plan_tape.specs.Crowd.{AllStep, AreWaysApart, CanGo, CanMoveAll, bots_gone, way}
 use Rattle.plan_tape.specs.Leg.{along, component_of, put}
 use Rattle.plan_tape.specs.Progress.{TapeState, spot, IsVoidFrom}
-use Rattle.void_planner.specs.Few.{is_fission}
+use Rattle.plan_tape.specs.Fissions.{is_fission}
 use Rattle.void_planner.specs.Square.{CanStand, FourGo, IsRectangle, bot_with, four}
 use Rattle.void_planner.specs.Tiles.{far_of}
-use Rattle.void_planner.proofs.Counts.{fissions_more}
+use Rattle.plan_tape.proofs.Fissions.{fissions_more}
 
 -- ---- one bot
 

@@ -1,5 +1,4 @@
 pub mod Corners
-pub mod Counts
 pub mod Fours
 pub mod Legality
 pub mod Openings

@@ -25,9 +25,9 @@ use Rattle.step_order.specs.Unbroken.{AreFree, IsFreeWay}
 use Rattle.step_order.proofs.Voxels.{in_space_is}
 use Rattle.plan_tape.specs.Crowd.{AllStep, bots_fused, bots_split}
 use Rattle.plan_tape.specs.Progress.{TapeState, state_of}
-use Rattle.void_planner.specs.Few.{is_fission}
+use Rattle.plan_tape.specs.Fissions.{is_fission}
 use Rattle.void_planner.specs.Square.{Becomes, CanStand, bot_with, four, one, two}
-use Rattle.void_planner.proofs.Counts.{fissions_more}
+use Rattle.plan_tape.proofs.Fissions.{fissions_more}
 use Rattle.void_planner.proofs.Fours.{void_between}
 
 -- ---- what a step makes

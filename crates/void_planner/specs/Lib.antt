@@ -1,4 +1,3 @@
-pub mod Few
 pub mod Phases
 pub mod Square
 pub mod Tiles

@@ -4,7 +4,7 @@ ghost use Rattle.nano_spec.specs.Legal.{IsLegal};
 ghost use Rattle.nano_spec.specs.Matrix.{Matrix as MatrixValue};
 ghost use Rattle.nano_spec.specs.Profile.{full_profile};
 ghost use Rattle.plan_tape.specs.Progress.{IsAccepted, spot, IsVoidFrom};
-ghost use Rattle.void_planner.specs.Few.{fissions, is_fission};
+ghost use Rattle.plan_tape.specs.Fissions.{fissions, is_fission};
 ghost use Rattle.void_planner.specs.Phases.{IsGathered, IsRisen, IsSpread, IsVoidModel};
 ghost use Rattle.void_planner.specs.Square.{Becomes, CanStand, IsRectangle, four, one, steps_to, two};
 ghost use Rattle.void_planner.specs.Tiles.{far_of};

@@ -5,7 +5,7 @@ ghost use Rattle.nano_spec.specs.Matrix.{Matrix as MatrixValue, empty};
 ghost use Rattle.nano_spec.specs.Profile.{full_profile};
 ghost use Rattle.plan_tape.specs.Parts.{full_count};
 ghost use Rattle.plan_tape.specs.Progress.{IsAccepted};
-ghost use Rattle.void_planner.specs.Few.{HasAtMost};
+ghost use Rattle.plan_tape.specs.Reaches.{HasAtMost};
 ghost use Rattle.void_planner.specs.Phases.{IsVoidModel, most_void_steps};
 
 use crate::ends::{closed, gather, rise, spread};

@@ -55,3 +55,9 @@ may_add_two m a b v w n i j s t e f = record {
   within = λ d h. elim (two a b d h) [ inl x ↦ subst (λ (y : Coord). IsInSpace m.resolution y) x i | inr x ↦ subst (λ (y : Coord). IsInSpace m.resolution y) x j ];
   void = λ d h. elim (two a b d h) [ inl x ↦ subst (λ (y : Coord). IsFalse (is_full m y)) x (void_word m a v s e) | inr x ↦ subst (λ (y : Coord). IsFalse (is_full m y)) x (void_word m b w t f) ];
 }
+
+pub may_remove_two : (m : Matrix) (a b : Coord) (v w : ℕ) → (a ≡ b → ⊥) → Says m a v → Says m b w → (v ≡ 0 → ⊥) → (w ≡ 0 → ⊥) → MayRemove m (a ∷ b ∷ [])
+may_remove_two m a b v w n s t k l = record {
+  differ = two_apart a b n;
+  full = λ d h. elim (two a b d h) [ inl x ↦ subst (λ (y : Coord). IsTrue (is_full m y)) x (full_word m a v s k) | inr x ↦ subst (λ (y : Coord). IsTrue (is_full m y)) x (full_word m b w t l) ];
+}

@@ -148,3 +148,27 @@ pub(crate) fn remove_full<L: Ledger>(
     assert!(rt; word != 0);
     forest.remove_one(c, steps)
 }
+
+/// Removes two voxels whose words say that they are full.
+#[tactic(auto, using(crate::proofs::OneOrTwo::may_remove_two))]
+pub(crate) fn remove_two<L: Ledger>(
+    rt: &impl Abort,
+    forest: &mut Forest,
+    a: Coord,
+    b: Coord,
+    steps: &mut Steps<L>,
+) -> Result<(), ForestFault>
+    requires stands { forest.old.spent ≡ false }
+    requires a { IsInSpace forest.old.matrix.resolution a }
+    requires b { IsInSpace forest.old.matrix.resolution b }
+    ensures stands { IfOk result (λ _. forest.new.spent ≡ false) }
+    ensures resolution { IfOk result (λ _. forest.new.matrix.resolution ≡ forest.old.matrix.resolution) }
+{
+    let first = word_of(forest, a, steps);
+    let second = word_of(forest, b, steps);
+    assert!(rt; a != b);
+    assert!(rt; first != 0);
+    assert!(rt; second != 0);
+    let cells = [a, b];
+    forest.remove(&cells, steps)
+}

@@ -5,7 +5,7 @@ ghost use Rattle.vox_geom.specs.Space.{IsInSpace};
 use crate::common::at;
 use crate::edits::{
     add_two, add_void, assert_floating, assert_level, assert_parent, assert_word, inside,
-    remove_full,
+    remove_full, remove_two,
 };
 use std::alloc::Global;
 use std::marker::Brand;
@@ -95,6 +95,64 @@ fn ring_on_posts<L: Ledger>(rt: &impl Abort, blank: Blank, alloc: Global) -> Res
     without_posts(rt, &mut forest, &mut steps)
 }
 
+/// The ring without its post at (1, 0, 1) and its voxel at (2, 1, 3): a chain from the other post on, with each voxel's level.
+fn chain() -> [(Coord, u32); 8] {
+    [
+        (at(3, 0, 3), 0),
+        (at(3, 1, 3), 1),
+        (at(3, 1, 2), 2),
+        (at(3, 1, 1), 3),
+        (at(2, 1, 1), 4),
+        (at(1, 1, 1), 5),
+        (at(1, 1, 2), 6),
+        (at(1, 1, 3), 7),
+    ]
+}
+
+/// Each voxel of the chain has its level.
+fn assert_chain<L: Ledger>(rt: &impl Abort, forest: &Forest, steps: &mut Steps<L>)
+    requires stands { forest.now.spent ≡ false }
+    requires resolution { forest.now.matrix.resolution ≡ 5 }
+{
+    for (c, level) in chain() {
+        inside(rt, c, 5);
+        assert_level(rt, forest, c, Some(level), steps);
+    }
+}
+
+/// Voxels go two at once: first those without which the ring is a chain, and then the other post and the end of the chain.
+fn without_pairs<L: Ledger>(
+    rt: &impl Abort,
+    forest: &mut Forest,
+    steps: &mut Steps<L>,
+) -> Result<(), ForestFault>
+    requires stands { forest.old.spent ≡ false }
+    requires resolution { forest.old.matrix.resolution ≡ 5 }
+{
+    remove_two(rt, forest, at(1, 0, 1), at(2, 1, 3), steps)?;
+    assert_chain(rt, forest, steps);
+    assert_level(rt, forest, at(2, 1, 3), None, steps);
+    assert_floating(rt, forest, 0, None, steps);
+    remove_two(rt, forest, at(3, 0, 3), at(1, 1, 3), steps)?;
+    assert_floating(rt, forest, 6, Some(at(1, 1, 1)), steps);
+    Ok(())
+}
+
+/// The ring on both posts, from which voxels go two at once.
+fn pairs_go<L: Ledger>(rt: &impl Abort, blank: Blank, alloc: Global) -> Result<(), ForestFault>
+    requires name { blank.name ≡ L.name }
+    requires parts { blank.parts ≡ L.parts }
+    requires some { 0 < L.parts }
+{
+    let mut steps: Steps<L> = Steps::new(blank);
+    let Ok(mut forest) = Forest::empty(alloc, 5) else {
+        return Err(ForestFault::Memory);
+    };
+    add_ring(rt, &mut forest, &mut steps)?;
+    add_void(rt, &mut forest, at(1, 0, 1), &mut steps)?;
+    without_pairs(rt, &mut forest, &mut steps)
+}
+
 /// Two voxels stand in two slots.
 fn assert_two_slots(rt: &impl Abort, forest: &Forest, one: Coord, other: Coord)
     requires stands { forest.now.spent ≡ false }
@@ -132,6 +190,12 @@ fn two_bricks<L: Ledger>(rt: &impl Abort, blank: Blank, alloc: Global) -> Result
 #[test]
 fn a_ring_hangs_on_its_other_post(rt: HostRuntime) -> Result<(), Fail> {
     ring_on_posts::<Brand>(&rt, Blank::new(1), rt.alloc())?;
+    Ok(())
+}
+
+#[test]
+fn two_voxels_go_at_once(rt: HostRuntime) -> Result<(), Fail> {
+    pairs_go::<Brand>(&rt, Blank::new(1), rt.alloc())?;
     Ok(())
 }
 

@@ -1,11 +1,13 @@
 use Rattle.std.proofs.Common.{◌≡◌, ◌-◌, refl, sym, ◌∙◌, ap, subst, length, inr, arith}
 use Rattle.vox_geom.specs.declared.coordinate.Coord.{Coord}
+use Rattle.nano_spec.specs.declared.commands.Command.TheVariants.{Flip}
 use Rattle.nano_spec.specs.Matrix.{Matrix}
 use Rattle.nano_spec.specs.Profile.{full_profile}
 use Rattle.plan_tape.specs.Leg.{moves_to}
 use Rattle.plan_tape.specs.Progress.{TapeState, spot, IsVoidFrom}
 use Rattle.plan_tape.proofs.Bytes.{bytes-starting}
 use Rattle.plan_tape.proofs.ClearWays.{ways_home_at}
+use Rattle.plan_tape.proofs.Fissions.{fissions_none, moves_make_none, write_makes_none}
 use Rattle.group_planner.proofs.Closing.{legs_length, push_length, up_moves}
 use Rattle.group_planner.proofs.opening.opened.Goals as goal
 use Rattle.vox_geom.specs.Point.{coord}
@@ -25,6 +27,12 @@ split-requires-clause-free c =
     let matrix : c.go.new.self.matrix ≡ c.args.source = m.matrix ∙ (w.matrix ∙ ap (λ (t : TapeState). t.matrix) e) in
     let high = ap (λ (q : Coord). q.y) m.there ∙ ap (λ r. r - 1) c.resolution-r.ensures.value in
     subst (λ (k : Matrix). IsVoidFrom k (spot c.go.new.self.bots).y) (sym matrix) (subst (λ y. IsVoidFrom c.args.source y) (sym high) (void_at_top c.args.source c.requires.legal))
+
+pub split-requires-clause-unsplit : goal.split-requires-clause-unsplit
+split-requires-clause-unsplit c =
+    let a = c.flip.new.self in
+    moves_make_none a c.go.new.self (coord 0 (c.resolution-r.result - 1) 0) c.in_ok-go.ensures.ok
+    ∙ (write_makes_none c.in_ok-tape.tape a Flip c.in_ok-flip.ensures.ok.commands refl ∙ fissions_none c.in_ok-tape.tape (ap (λ (t : TapeState). t.commands) c.in_ok-tape.ensures))
 
 pub returns-clause-opened : goal.returns-clause-opened
 returns-clause-opened c =

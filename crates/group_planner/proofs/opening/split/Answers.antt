@@ -13,4 +13,4 @@ returns c =
     let p = c.args.tape.now in
     let k = Fission c.next.result 0 ∷ [] in
     let still = c.bots_act.ensures.still (state_of p) k c.know_ready.ensures.ready (split_stays p c.next.result c.next.ensures c.requires.alone c.requires.full c.requires.room c.requires.within c.requires.free) in
-    on_ok_weaker c.step_calmly.result (λ s. has_split p c.next.result c.next.ensures c.requires.alone c.requires.full c.requires.room c.requires.within c.requires.free c.step_calmly.new.tape c.requires.high s still) c.step_calmly.ensures
+    on_ok_weaker c.step_calmly.result (λ s. has_split p c.next.result c.next.ensures c.requires.alone c.requires.full c.requires.room c.requires.within c.requires.free c.step_calmly.new.tape c.requires.unsplit c.requires.high s still) c.step_calmly.ensures

@@ -1,10 +1,13 @@
 use Rattle.std.proofs.Common.{◌+◌, refl, sym, ◌∙◌, ap, subst, inr, arith, length}
+use Rattle.nano_spec.specs.declared.commands.Command.TheVariants.{Flip, Halt}
 use Rattle.nano_spec.specs.declared.system.Profile.{Profile}
 use Rattle.nano_spec.specs.Matrix.{Matrix, is_full}
+use Rattle.nano_spec.specs.Profile.{full_profile}
 use Rattle.plan_tape.specs.Leg.{moves_to}
 use Rattle.plan_tape.specs.Progress.{IsAccepted, spot}
 use Rattle.plan_tape.proofs.Bytes.{bytes_of}
 use Rattle.plan_tape.proofs.ClearWays.{ways_home_at}
+use Rattle.plan_tape.proofs.Fissions.{few_at_most, fissions_is, moves_make_none, write_makes_none}
 use Rattle.group_planner.specs.Pair.{rear}
 use Rattle.group_planner.specs.Rows.{runs}
 use Rattle.group_planner.proofs.Closing.{legs_length, plan_fits, push_length}
@@ -111,3 +114,12 @@ returns-clause-bytes c =
     let all = c.finish.ensures.steps in
     let list = bytes_of c.halt.new.self c.finish.result.commands c.finish.ensures.commands in
     omega (arith, few, all, list)
+
+pub returns-clause-few : goal.returns-clause-few
+returns-clause-few c =
+    let one =
+    fissions_is c.halt.new.self c.finish.result.commands c.finish.ensures.commands
+    ∙ (write_makes_none c.flip.new.self c.halt.new.self Halt c.in_ok-halt.ensures.ok.commands refl
+    ∙ (write_makes_none c.go.new.self c.flip.new.self Flip c.in_ok-flip.ensures.ok.commands refl
+    ∙ (moves_make_none c.gather.new.tape c.go.new.self (coord 0 0 0) c.in_ok-go.ensures.ok ∙ c.in_ok-gather.ensures.one_split))) in
+    few_at_most c.args.tape.source full_profile c.finish.result.commands 2 (omega (arith, one))

@@ -31,7 +31,7 @@ returns-then-is_wanted c =
     let wanted : is_full c.args.goal.now (coord c.args.x c.args.y c.args.z) ≡ true = sym c.is_full-is_wanted.ensures ∙ c.if-is_wanted.true in
     on_ok_weaker c.fill.result
     (λ (w : Writes b c.fill.new.self (Fill c.down.result) (with_voxel b.matrix (beside b c.down.result) true) b.harmonics b.bots _).
-    wrote c.args.tape.now b c.fill.new.self c.args.goal.now (Fill down) true _ c.args.x c.args.y c.args.z c.requires.ready c.requires.x c.requires.z c.in_ok-go.ensures.ok (rw c.down.ensures at w) refl wanted)
+    wrote c.args.tape.now b c.fill.new.self c.args.goal.now (Fill down) true _ c.args.x c.args.y c.args.z c.requires.ready c.requires.x c.requires.z c.in_ok-go.ensures.ok (rw c.down.ensures at w) refl refl wanted)
     c.fill.ensures.ok
 
 pub returns-else-is_wanted : goal.returns-else-is_wanted
@@ -40,5 +40,5 @@ returns-else-is_wanted c =
     let wanted : is_full c.args.goal.now (coord c.args.x c.args.y c.args.z) ≡ false = sym c.is_full-is_wanted.ensures ∙ c.if-is_wanted.false in
     on_ok_weaker c.void.result
     (λ (w : Writes b c.void.new.self (Void c.down-else-is_wanted.result) (with_voxel b.matrix (beside b c.down-else-is_wanted.result) false) b.harmonics b.bots _).
-    wrote c.args.tape.now b c.void.new.self c.args.goal.now (Void down) false _ c.args.x c.args.y c.args.z c.requires.ready c.requires.x c.requires.z c.in_ok-go.ensures.ok (rw c.down-else-is_wanted.ensures at w) refl wanted)
+    wrote c.args.tape.now b c.void.new.self c.args.goal.now (Void down) false _ c.args.x c.args.y c.args.z c.requires.ready c.requires.x c.requires.z c.in_ok-go.ensures.ok (rw c.down-else-is_wanted.ensures at w) refl refl wanted)
     c.void.ensures.ok

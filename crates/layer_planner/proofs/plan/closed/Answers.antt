@@ -1,12 +1,15 @@
 use Rattle.std.proofs.Common.{◌≡◌, refl, sym, ◌∙◌, ap, subst, inl, arith}
+use Rattle.nano_spec.specs.declared.commands.Command.TheVariants.{Flip, Halt}
 use Rattle.nano_spec.specs.declared.system.Profile.{Profile}
 use Rattle.nano_spec.specs.Matrix.{Matrix, is_full}
+use Rattle.nano_spec.specs.Profile.{full_profile}
 use Rattle.vox_planes.specs.Voxel.{IsWhole}
 use Rattle.plan_tape.specs.Progress.{IsAccepted, TapeState, spot, IsVoidFrom}
 use Rattle.layer_planner.specs.Phases.{IsRebuilt, end}
 use Rattle.layer_planner.proofs.Bounds.{total, total_fits, way_down}
 use Rattle.plan_tape.proofs.Bytes.{bytes_of}
 use Rattle.plan_tape.proofs.ClearWays.{ways_home_at}
+use Rattle.plan_tape.proofs.Fissions.{few_at_most, fissions_is, moves_make_none, write_makes_none}
 use Rattle.layer_planner.proofs.plan.closed.Goals as goal
 use Rattle.vox_geom.specs.Point.{coord}
 use Rattle.plan_tape.proofs.ClearWays.{moves_on}
@@ -64,3 +67,12 @@ returns-clause-bytes c =
     let on = moves_on (spot c.args.tape.bots) (end c.args.target.now) (coord 0 0 0) in
     let all = bytes_of c.halt.new.self c.finish.result.commands c.finish.ensures.commands in
     omega (arith, total r w.some, way_down r w.some)
+
+pub returns-clause-few : goal.returns-clause-few
+returns-clause-few c =
+    let none =
+    fissions_is c.halt.new.self c.finish.result.commands c.finish.ensures.commands
+    ∙ (write_makes_none c.flip.new.self c.halt.new.self Halt c.in_ok-halt.ensures.ok.commands refl
+    ∙ (write_makes_none c.go.new.self c.flip.new.self Flip c.in_ok-flip.ensures.ok.commands refl
+    ∙ (moves_make_none c.args.tape c.go.new.self (coord 0 0 0) c.in_ok-go.ensures.ok ∙ c.requires.rebuilt.ready.unsplit))) in
+    few_at_most c.args.tape.source full_profile c.finish.result.commands 1 (omega (arith, none))

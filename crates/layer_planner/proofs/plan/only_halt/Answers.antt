@@ -1,7 +1,12 @@
-use Rattle.std.proofs.Common.{◌≡◌, ◌∙◌, ap, subst}
+use Rattle.std.proofs.Common.{◌≡◌, sym, ◌∙◌, ap, subst, List, [], ◌∷◌, ◌++◌, lit≤}
+use Rattle.nano_spec.specs.declared.commands.Command.{Command}
+use Rattle.nano_spec.specs.declared.commands.Command.TheVariants.{Halt}
 use Rattle.nano_spec.specs.declared.system.Profile.{Profile}
 use Rattle.nano_spec.specs.Matrix.{Matrix, is_full}
+use Rattle.nano_spec.specs.Profile.{full_profile}
 use Rattle.plan_tape.specs.Progress.{IsAccepted, TapeState}
+use Rattle.plan_tape.specs.Reaches.{HasAtMost}
+use Rattle.plan_tape.proofs.Fissions.{few_at_most}
 use Rattle.layer_planner.proofs.plan.only_halt.Goals as goal
 
 pub returns-clause-accepted : goal.returns-clause-accepted
@@ -12,3 +17,9 @@ returns-clause-accepted c =
     subst (λ (k : Profile). IsAccepted c.args.source c.args.source c.finish.result.commands k c.finish.result.energy c.finish.result.steps) (h.profile ∙ ap (λ (x : TapeState). x.profile) e)
     (subst (λ (m : Matrix). IsAccepted m c.args.source c.finish.result.commands c.halt.new.self.profile c.finish.result.energy c.finish.result.steps) (h.source ∙ ap (λ (x : TapeState). x.source) e)
     (c.finish.ensures.accepted c.args.source (λ q. ap (λ (m : Matrix). is_full m q) matrix)))
+
+pub returns-clause-few : goal.returns-clause-few
+returns-clause-few c =
+    let h = c.in_ok-halt.ensures.ok in
+    let all : c.finish.result.commands ≡ Halt ∷ [] = c.finish.ensures.commands ∙ (h.commands ∙ ap (λ (x : TapeState). x.commands ++ Halt ∷ []) c.in_ok-tape.ensures) in
+    subst (λ (k : List Command). HasAtMost c.args.source full_profile k 1) (sym all) (few_at_most c.args.source full_profile (Halt ∷ []) 1 (lit≤ tt))

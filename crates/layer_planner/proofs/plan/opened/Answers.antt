@@ -1,4 +1,5 @@
 use Rattle.std.proofs.Common.{◌≡◌, ◌*◌, ◌-◌, ◌≤◌, refl, sym, ◌∙◌, ap, length, inr, arith}
+use Rattle.nano_spec.specs.declared.commands.Command.TheVariants.{Flip}
 use Rattle.nano_spec.specs.Matrix.{Matrix}
 use Rattle.nano_spec.specs.Profile.{full_profile}
 use Rattle.nano_spec.specs.Step.{flipped}
@@ -7,6 +8,7 @@ use Rattle.plan_tape.specs.Progress.{TapeState, spot}
 use Rattle.layer_planner.proofs.Bounds.{way_up}
 use Rattle.plan_tape.proofs.Bytes.{bytes-starting}
 use Rattle.plan_tape.proofs.ClearWays.{ways_home_at}
+use Rattle.plan_tape.proofs.Fissions.{fissions_none, moves_make_none, write_makes_none}
 use Rattle.layer_planner.proofs.plan.opened.Goals as goal
 use Rattle.vox_geom.specs.Point.{coord}
 
@@ -36,6 +38,7 @@ returns-clause-opened c =
       high = m.harmonics ∙ (w.harmonics ∙ ap (λ (x : TapeState). flipped x.harmonics) e);
       full = m.profile ∙ (w.profile ∙ ap (λ (x : TapeState). x.profile) e);
       alone = m.alone;
+      unsplit = moves_make_none t c.go.new.self to m ∙ (write_makes_none c.in_ok-tape.tape t Flip w.commands refl ∙ fissions_none c.in_ok-tape.tape (ap (λ (x : TapeState). x.commands) e));
       there = m.there ∙ ap (λ n. coord 0 (n - 1) 0) (c.resolution-r.ensures.value ∙ sym same);
       bytes_are = let one = w.bytes_are in let more = m.bytes_are in omega arith;
       steps_are = let one = w.steps in let more = m.steps in omega arith;

@@ -26,6 +26,7 @@ clear-requires-clause-ready c =
     let at : spot c.args.tape.now.bots ≡ coord 0 (r - 1) 0 = o.there in
     record {
       alone = o.alone;
+      unsplit = o.unsplit;
       high = o.high;
       full = o.full;
       same = c.requires.size ∙ sym same;

@@ -27,6 +27,7 @@ returns g c =
       are_commands = subst AreCommands c.as_slice.ensures c.know_all.ensures;
       accepted = these.accepted;
       bytes = cubes nothing.resolution _ these.bytes;
+      few_bots = these.few;
       halt_alone = these.halt_alone;
     } in
     let group_plan : IsGroupPlan nothing target second.commands second.energy second.steps = record {
@@ -35,6 +36,7 @@ returns g c =
       few_steps = those.steps;
       few_commands = those.commands;
       few_bytes = those.bytes;
+      few_bots = those.few;
       halt_alone = those.halt_alone;
     } in
     record {

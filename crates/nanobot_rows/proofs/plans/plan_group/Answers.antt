@@ -29,6 +29,7 @@ returns-clause-finishes g c =
       few_steps = these.steps;
       few_commands = these.commands;
       few_bytes = these.bytes;
+      few_bots = these.few;
       halt_alone = these.halt_alone;
     })
     (c.in_ok-effect.ensures {u = tt}) files))

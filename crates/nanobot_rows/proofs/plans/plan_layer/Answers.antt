@@ -27,6 +27,7 @@ returns-clause-finishes g c =
       are_commands = are;
       accepted = these.accepted;
       bytes = cubes s.resolution (length (spellings plan.commands)) these.bytes;
+      few_bots = these.few;
       halt_alone = these.halt_alone;
     })
     (c.in_ok-effect.ensures {u = tt}) files)

@@ -33,6 +33,7 @@ returns-clause-finishes g c =
             accepted_as_light = these.accepted;
             plain = these.plain;
             few_steps = these.steps;
+            few_bots = these.few;
             halt_alone = these.halt_alone;
           }))
           (c.in_ok-effect.ensures {u = tt}) files,

@@ -1,5 +1,5 @@
 use Rattle.std.proofs.Common.{◌≡◌, ◌≤◌, take, count_by}
-use Rattle.void_planner.specs.Few.{is_fission}
+use Rattle.plan_tape.specs.Fissions.{is_fission}
 use Rattle.plan_choice.proofs.bounds.fissions_of.Given as goal
 
 abbrev pub invariant-loop-command : goal.invariant-loop-command

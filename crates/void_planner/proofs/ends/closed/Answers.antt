@@ -5,7 +5,7 @@ use Rattle.nano_spec.specs.Matrix.{Matrix, is_full}
 use Rattle.std.specs.Prelude.{None}
 use Rattle.plan_tape.specs.Progress.{IsAccepted}
 use Rattle.nano_spec.specs.declared.commands.Command.TheVariants.{Flip, Halt}
-use Rattle.void_planner.proofs.Counts.{fissions_is, moves_make_none, write_makes_none}
+use Rattle.plan_tape.proofs.Fissions.{fissions_is, moves_make_none, write_makes_none}
 use Rattle.void_planner.proofs.Openings.{void_all_over}
 use Rattle.void_planner.proofs.ends.closed.Goals as goal
 use Rattle.vox_geom.specs.Point.{coord}

@@ -4,7 +4,7 @@ use Rattle.nano_spec.specs.Matrix.{Matrix}
 use Rattle.plan_tape.specs.Leg.{AreVoidTo}
 use Rattle.plan_tape.specs.Progress.{TapeState, spot}
 use Rattle.nano_spec.specs.declared.commands.Command.TheVariants.{Flip}
-use Rattle.void_planner.proofs.Counts.{fissions_none, moves_make_none, write_makes_none}
+use Rattle.plan_tape.proofs.Fissions.{fissions_none, moves_make_none, write_makes_none}
 use Rattle.void_planner.proofs.Legality.{way_up}
 use Rattle.void_planner.proofs.ends.rise.Goals as goal
 use Rattle.vox_geom.specs.Point.{coord}

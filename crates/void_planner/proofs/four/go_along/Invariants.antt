@@ -1,7 +1,7 @@
 use Rattle.std.proofs.Common.{◌≡◌, ◌+◌}
 use Rattle.plan_tape.specs.Leg.{component_of, moves, put}
 use Rattle.plan_tape.specs.Progress.{spot}
-use Rattle.void_planner.specs.Few.{fissions}
+use Rattle.plan_tape.specs.Fissions.{fissions}
 use Rattle.void_planner.specs.Square.{IsRectangle}
 use Rattle.void_planner.specs.Tiles.{far_of}
 use Rattle.void_planner.proofs.four.go_along.Given as goal

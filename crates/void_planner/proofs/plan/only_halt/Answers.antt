@@ -5,8 +5,8 @@ use Rattle.plan_tape.specs.Progress.{IsAccepted, TapeState}
 use Rattle.nano_spec.specs.declared.commands.Command.{Command}
 use Rattle.nano_spec.specs.declared.commands.Command.TheVariants.{Halt}
 use Rattle.nano_spec.specs.Profile.{full_profile}
-use Rattle.void_planner.specs.Few.{HasAtMost}
-use Rattle.void_planner.proofs.Counts.{few_at_most}
+use Rattle.plan_tape.specs.Reaches.{HasAtMost}
+use Rattle.plan_tape.proofs.Fissions.{few_at_most}
 use Rattle.void_planner.proofs.plan.only_halt.Goals as goal
 
 pub returns-clause-accepted : goal.returns-clause-accepted

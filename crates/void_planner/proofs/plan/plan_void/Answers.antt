@@ -5,7 +5,7 @@ use Rattle.nano_spec.specs.Legal.{IsLegal}
 use Rattle.nano_spec.specs.Matrix.{Matrix, empty}
 use Rattle.nano_spec.specs.Profile.{full_profile}
 use Rattle.plan_tape.specs.Progress.{IsAccepted}
-use Rattle.void_planner.specs.Few.{HasAtMost}
+use Rattle.plan_tape.specs.Reaches.{HasAtMost}
 use Rattle.void_planner.specs.Phases.{IsVoidModel, most_void_steps}
 use Rattle.void_planner.proofs.Legality.{has_room}
 use Rattle.void_planner.proofs.plan.plan_void.Goals as goal

@@ -3,7 +3,7 @@ use Rattle.std.specs.Prelude.{Err}
 use Rattle.nano_spec.specs.declared.commands.Command.{Command}
 use Rattle.step_machine.specs.Stepped.{Stepped}
 use Rattle.step_machine.specs.declared.machine.StepFault.{StepFault}
-use Rattle.step_debugger.proofs.Making.{all_given, kept_anew, kept_made, session_made, session_refused, session_ungrounded, some_bots}
+use Rattle.step_debugger.proofs.Making.{all_given, anew_within, kept_anew, kept_made, refused_within, session_made, session_refused, session_ungrounded, some_bots, step_within}
 use Rattle.step_debugger.proofs.debugger.Debugger.make.Goals as goal
 
 pub invariant_of-self : goal.invariant_of-self
@@ -14,6 +14,15 @@ invariant_of-self g c =
     let some = some_bots c.self.inside.machine c.self.inside.history c.self.inside.commands c.self.inside.taken c.self.inside.begun.items c.self.inside.left.items c.self.inside.middle c.args.self.now c.self.view_is c.self.invariant c.requires.stands c.from.result c.next_commands-next.result.now count next c.requires.some in
     kept_made c.self.inside.machine c.self.inside.history c.self.inside.commands c.self.inside.taken c.self.inside.begun.items c.self.inside.left.items c.self.inside.middle c.args.self.now c.self.view_is c.self.invariant c.requires.stands c.from.result c.next_commands-next.result.now count next all some c.step_noted.new.self c.in-Ok.undo c.in-Ok.ok c.args.steps.now c.step_noted.new.steps c.in-Ok.ensures.stepped c.in-Ok.ensures.before c.in-Ok.ensures.counted c.in-Ok.ensures.undo
     c.push_back.new.self c.push_back.ensures.items c.clear.new.self.items c.clear.ensures c.copy-self-inside.result (c.copy-self-inside.ensures ∙ c.crew.ensures.value) c.crew.ensures.ready
+
+pub returns-in-Ok-clause-touches : goal.returns-in-Ok-clause-touches
+returns-in-Ok-clause-touches g c =
+    let count = c.from.ensures ∙ c.active-count.ensures in
+    let next = c.next_commands-next.ensures ∙ ((λ i. take (sym c.from.ensures i) (drop c.self.inside.taken (c.as_slice.ensures i)))) in
+    let all = all_given c.self.inside.machine c.self.inside.history c.self.inside.commands c.self.inside.taken c.self.inside.begun.items c.self.inside.left.items c.self.inside.middle c.args.self.now c.self.view_is c.self.invariant c.requires.stands c.from.result c.next_commands-next.result.now count next c.requires.all in
+    let some = some_bots c.self.inside.machine c.self.inside.history c.self.inside.commands c.self.inside.taken c.self.inside.begun.items c.self.inside.left.items c.self.inside.middle c.args.self.now c.self.view_is c.self.invariant c.requires.stands c.from.result c.next_commands-next.result.now count next c.requires.some in
+    step_within c.self.inside.machine c.self.inside.history c.self.inside.commands c.self.inside.taken c.self.inside.begun.items c.self.inside.left.items c.self.inside.middle c.args.self.now c.self.view_is c.self.invariant c.requires.stands c.from.result c.next_commands-next.result.now count next all some c.step_noted.new.self c.in-Ok.undo c.in-Ok.ok c.args.steps.now c.step_noted.new.steps c.in-Ok.ensures.stepped c.in-Ok.ensures.before c.in-Ok.ensures.counted c.in-Ok.ensures.undo
+    c.push_back.new.self c.push_back.ensures.items
 
 pub returns-in-Ok-clause-session : goal.returns-in-Ok-clause-session
 returns-in-Ok-clause-session g c =
@@ -50,3 +59,20 @@ returns-in-Ok-renew-clause-session g c =
     let some = some_bots c.self.inside.machine c.self.inside.history c.self.inside.commands c.self.inside.taken c.self.inside.begun.items c.self.inside.left.items c.self.inside.middle c.args.self.now c.self.view_is c.self.invariant c.requires.stands c.active-count.result c.next_commands-next.result.now count next c.requires.some in
     session_ungrounded c.self.inside.machine c.self.inside.history c.self.inside.commands c.self.inside.taken c.self.inside.begun.items c.self.inside.left.items c.self.inside.middle c.args.self.now c.self.view_is c.self.invariant c.requires.stands c.active-count.result c.next_commands-next.result.now count next all some c.step_noted.new.self c.in-Err-Broken.broken c.args.steps.now c.step_noted.new.steps (subst (λ (f : StepFault). Stepped c.self.inside.machine c.step_noted.new.self c.next_commands-next.result.now (Err f) c.args.steps.now c.step_noted.new.steps) c.in-Err-Broken.field-0-is c.in-Err-Broken.ensures.stepped)
     (sym c.spent.ensures ∙ c.if-not-spent.false) c.renew.new.machine c.in-Ok-renew.ensures.value c.clear-in-Err-Broken.new.self.items c.clear-in-Err-Broken.ensures
+
+pub returns-then-not-spent-clause-touches_refused : goal.returns-then-not-spent-clause-touches_refused
+returns-then-not-spent-clause-touches_refused g c =
+    let count = c.active-count.ensures in
+    let next = c.next_commands-next.ensures ∙ ap (λ (xs : List Command). take c.active-count.result (drop c.self.inside.taken xs)) c.as_slice.ensures in
+    let all = all_given c.self.inside.machine c.self.inside.history c.self.inside.commands c.self.inside.taken c.self.inside.begun.items c.self.inside.left.items c.self.inside.middle c.args.self.now c.self.view_is c.self.invariant c.requires.stands c.active-count.result c.next_commands-next.result.now count next c.requires.all in
+    let some = some_bots c.self.inside.machine c.self.inside.history c.self.inside.commands c.self.inside.taken c.self.inside.begun.items c.self.inside.left.items c.self.inside.middle c.args.self.now c.self.view_is c.self.invariant c.requires.stands c.active-count.result c.next_commands-next.result.now count next c.requires.some in
+    refused_within c.self.inside.machine c.self.inside.history c.self.inside.commands c.self.inside.taken c.self.inside.begun.items c.self.inside.left.items c.self.inside.middle c.args.self.now c.self.view_is c.self.invariant c.requires.stands c.active-count.result c.next_commands-next.result.now count next all some c.step_noted.new.self c.in-Err-Broken.broken c.args.steps.now c.step_noted.new.steps (subst (λ (f : StepFault). Stepped c.self.inside.machine c.step_noted.new.self c.next_commands-next.result.now (Err f) c.args.steps.now c.step_noted.new.steps) c.in-Err-Broken.field-0-is c.in-Err-Broken.ensures.stepped)
+
+pub returns-in-Ok-renew-clause-touches_refused : goal.returns-in-Ok-renew-clause-touches_refused
+returns-in-Ok-renew-clause-touches_refused g c =
+    let count = c.active-count.ensures in
+    let next = c.next_commands-next.ensures ∙ ap (λ (xs : List Command). take c.active-count.result (drop c.self.inside.taken xs)) c.as_slice.ensures in
+    let all = all_given c.self.inside.machine c.self.inside.history c.self.inside.commands c.self.inside.taken c.self.inside.begun.items c.self.inside.left.items c.self.inside.middle c.args.self.now c.self.view_is c.self.invariant c.requires.stands c.active-count.result c.next_commands-next.result.now count next c.requires.all in
+    let some = some_bots c.self.inside.machine c.self.inside.history c.self.inside.commands c.self.inside.taken c.self.inside.begun.items c.self.inside.left.items c.self.inside.middle c.args.self.now c.self.view_is c.self.invariant c.requires.stands c.active-count.result c.next_commands-next.result.now count next c.requires.some in
+    anew_within c.self.inside.machine c.self.inside.history c.self.inside.commands c.self.inside.taken c.self.inside.begun.items c.self.inside.left.items c.self.inside.middle c.args.self.now c.self.view_is c.self.invariant c.requires.stands c.active-count.result c.next_commands-next.result.now count next all some c.step_noted.new.self c.in-Err-Broken.broken c.args.steps.now c.step_noted.new.steps (subst (λ (f : StepFault). Stepped c.self.inside.machine c.step_noted.new.self c.next_commands-next.result.now (Err f) c.args.steps.now c.step_noted.new.steps) c.in-Err-Broken.field-0-is c.in-Err-Broken.ensures.stepped)
+    (sym c.spent.ensures ∙ c.if-not-spent.false) c.renew.new.steps c.in-Ok-renew.ensures.touches

@@ -1,5 +1,4 @@
--- How many bots are active at once.
-pub use Rattle.plan_tape.specs.Reaches.{HasAtMost}
+-- The commands that make a bot (docs/FORMATS.md, "Commands").
 use Rattle.std.specs.Prelude.{ℕ, Bool, true, false, count_by}
 use Rattle.nano_spec.specs.declared.commands.Command.{Command}
 use Rattle.nano_spec.specs.declared.commands.Command.TheVariants.{Fission}

@@ -16,9 +16,9 @@ use Rattle.nano_spec.proofs.Accepted.{accepted_step}
 use Rattle.plan_tape.specs.Leg.{IsLeg, Moves}
 use Rattle.plan_tape.specs.declared.axis.Axis.{Axis}
 use Rattle.plan_tape.specs.declared.axis.Axis.TheVariants.{X, Y, Z}
+use Rattle.plan_tape.specs.Fissions.{fissions, is_fission}
 use Rattle.plan_tape.specs.Progress.{TapeState, spot}
-use Rattle.plan_tape.specs.Reaches.{Reaches, starts, steps_on}
-use Rattle.void_planner.specs.Few.{HasAtMost, fissions, is_fission}
+use Rattle.plan_tape.specs.Reaches.{HasAtMost, Reaches, starts, steps_on}
 
 -- ---- one step
 
