@@ -1,7 +1,9 @@
-//! Tests of the crates that plan: `plan_tape`, `floor_planner`, `group_planner` and `low_planner`. There is no code here but
+//! Tests of the crates that plan: `plan_tape`, `floor_planner`, `group_planner`, `low_planner` and `plan_choice`. There is no code here but
 //! tests: what the calls answer is proved, and that they succeed, and the worked examples, are shown here.
 #![tactic(auto)]
 
+#[cfg(test)]
+mod choices;
 #[cfg(test)]
 mod floor;
 #[cfg(test)]
