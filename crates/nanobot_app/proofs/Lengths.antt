@@ -35,7 +35,7 @@ use Rattle.nanobot_rows.specs.Answer.{run_limit}
 use Rattle.nano_spec.proofs.Lengths.{spelling_short}
 
 -- a step that is accepted has a command for each bot
-enough : (s t : State) (step : List Command) (k : ℕ) → Next s step k (Goes t) → length s.bots ≤ length step
+pub enough : (s t : State) (step : List Command) (k : ℕ) → Next s step k (Goes t) → length s.bots ≤ length step
 enough s t step k next = by (slice_get_cases s.bots (length step)).1
   where
     differ : (b : Broken) → Goes t ≡ Breaks b → ⊥

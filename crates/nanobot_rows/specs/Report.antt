@@ -1,5 +1,5 @@
 -- What is told of a call: the status and the line of each report (this project's own: docs/FORMATS.md, "Printed lines").
-use Rattle.std.specs.Prelude.{ℕ, List, [], ◌∷◌, codes, decimal}
+use Rattle.std.specs.Prelude.{ℕ, ℤ, List, [], ◌∷◌, codes, decimal}
 use Rattle.std.specs.Fmt.{signed_decimal}
 use Rattle.std.specs.List.{concat}
 use Rattle.vox_geom.specs.declared.coordinate.Coord.{Coord}
@@ -105,9 +105,13 @@ text_line text.Memory = codes "text 5 Memory\n"
 abbrev pub words_line : List ℕ
 words_line = codes "words not understood\n"
 
+-- the line of an accepted run
+abbrev pub accepted_line : ℤ → ℕ → List ℕ
+accepted_line energy steps = concat (codes "ok energy " ∷ signed_decimal energy ∷ codes " steps " ∷ decimal steps ∷ codes "\n" ∷ [])
+
 -- the line of a report
 abbrev pub report_line : Report → List ℕ
-report_line (report.Accepted energy steps) = concat (codes "ok energy " ∷ signed_decimal energy ∷ codes " steps " ∷ decimal steps ∷ codes "\n" ∷ [])
+report_line (report.Accepted energy steps) = accepted_line energy steps
 report_line (report.Legal resolution full) = concat (codes "legal resolution " ∷ decimal resolution ∷ codes " full " ∷ decimal full ∷ codes "\n" ∷ [])
 report_line (report.Stored commands bytes) = concat (codes "commands " ∷ decimal commands ∷ codes " bytes " ∷ decimal bytes ∷ codes "\n" ∷ [])
 report_line (report.Forged resolution full) = concat (codes "model resolution " ∷ decimal resolution ∷ codes " full " ∷ decimal full ∷ codes "\n" ∷ [])

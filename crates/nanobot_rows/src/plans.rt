@@ -54,6 +54,7 @@ pub fn plan_layer<'a, D: Depot>(
     ensures named { IfOk result (IsFor (Some trace.now)) }
     ensures files { D.files depot.new ≡ D.files depot.old }
     ensures later { D.faults depot.old ≤ D.faults depot.new }
+    ensures stores { D.failed_stores depot.new ≡ D.failed_stores depot.old }
 {
     let (source, target) = load_models(alloc, depot, source, target)?;
     let plan = plan_layers(alloc, &source, &target)?;
@@ -92,6 +93,7 @@ pub fn plan_group<'a, D: Depot>(
     ensures named { IfOk result (IsFor (Some trace.now)) }
     ensures files { D.files depot.new ≡ D.files depot.old }
     ensures later { D.faults depot.old ≤ D.faults depot.new }
+    ensures stores { D.failed_stores depot.new ≡ D.failed_stores depot.old }
 {
     let (source, target) = load_models(alloc, depot, source, target)?;
     if let Some(report) = group_long(&source, &target) {
@@ -114,6 +116,7 @@ pub fn plan_void<'a, D: Depot>(
     ensures named { IfOk result (IsFor (Some trace.now)) }
     ensures files { D.files depot.new ≡ D.files depot.old }
     ensures later { D.faults depot.old ≤ D.faults depot.new }
+    ensures stores { D.failed_stores depot.new ≡ D.failed_stores depot.old }
 {
     let (source, nothing) = load_models(alloc, depot, Side::Named(source), Side::Empty)?;
     let plan = void_plan(alloc, &source)?;
@@ -133,6 +136,7 @@ pub fn plan_low<'a, D: Depot>(
     ensures named { IfOk result (IsFor (Some trace.now)) }
     ensures files { D.files depot.new ≡ D.files depot.old }
     ensures later { D.faults depot.old ≤ D.faults depot.new }
+    ensures stores { D.failed_stores depot.new ≡ D.failed_stores depot.old }
 {
     let (nothing, target) = load_models(alloc, depot, Side::Empty, Side::Named(target))?;
     let plan = match low_plan(alloc, &target) {
@@ -156,6 +160,7 @@ pub fn plan_swarm<'a, D: Depot>(
     ensures named { IfOk result (IsFor (Some trace.now)) }
     ensures files { D.files depot.new ≡ D.files depot.old }
     ensures later { D.faults depot.old ≤ D.faults depot.new }
+    ensures stores { D.failed_stores depot.new ≡ D.failed_stores depot.old }
 {
     let (nothing, target) = load_models(alloc, depot, Side::Empty, Side::Named(target))?;
     let plan = swarm_plan(alloc, &target)?;
