@@ -24,11 +24,11 @@ use Rattle.nanobot_rows.specs.Answer.{Answer, AnswerOf, AnswerOfRun, AskNoPlan, 
 use Rattle.nanobot_app.specs.Headline.{IsCost, IsDoneWith, MachineTakes, TakesBytes}
 use Rattle.nanobot_app.specs.Outcome.{DepotRose, IsAnswer, CallOutcome, Outside, SinkRose}
 use Rattle.nanobot_rows.specs.Reading.{AreBoth, AreModels, IsModelOf, IsSide, no_such_file, reply_of}
-use Rattle.nanobot_rows.specs.Report.{accepted_line, no_model, not_legal, of_verdict, status_of}
+use Rattle.nanobot_rows.specs.Report.{accepted_line, no_model, not_legal, status_of}
 use Rattle.nanobot_words.specs.Rows.{Row, run, MakesPlans, IsRow, IsRunOf}
 use Rattle.nanobot_rows.proofs.Loads.{not_longer}
 use Rattle.nanobot_app.proofs.Determined.{AnswerLaw, RowLaw, StatusLaw, complete}
-use Rattle.nanobot_rows.proofs.Replies.{models_given}
+use Rattle.nanobot_rows.proofs.Replies.{models_given, verdict_reply}
 use Rattle.nanobot_rows.proofs.Told.{if_some, weaker}
 
 -- ---- what a run that takes its trace answers
@@ -100,7 +100,7 @@ done_models files source target p reply done h =
     (m.0, m.1, record { source_side = a.0; target_side = b.0; source_is = a.1; target_is = b.1; both = m.2 }, m.3)
 
 -- a verdict that is told with status 0
-accepted : (files : Files) (v : Verdict) (reply : Reply) → reply ≡ reply_of files (of_verdict v) → reply.status ≡ is.Done → (energy : ℤ) × (steps : ℕ) × (v ≡ verdict.Accepted energy steps)
+accepted : (files : Files) (v : Verdict) (reply : Reply) → reply ≡ verdict_reply files v → reply.status ≡ is.Done → (energy : ℤ) × (steps : ℕ) × (v ≡ verdict.Accepted energy steps)
 accepted files (verdict.Accepted energy steps) reply e done = (energy, steps, refl)
 accepted files (verdict.Refused broken) reply e done = absurd (let no = other files (report.Broken broken) reply e done in cc)
 
@@ -114,7 +114,7 @@ module _ (files : Files) (source target : Matrix) (reply : Reply) (done : reply.
   done_run : (bytes : List ℕ) (commands : List Command) → length bytes ≤ run_limit → Decoding bytes (Ok commands) → OfRun full_profile files source target commands reply → Found bytes
   done_run bytes commands fits cutting h =
       let a = accepted files h.0 reply h.2 done in
-      (a.0, a.1, (fits, (commands, cutting, subst (λ (v : Verdict). VerdictOf source target commands full_profile v) a.2 h.1)), h.2 ∙ ap (λ (v : Verdict). reply_of files (of_verdict v)) a.2)
+      (a.0, a.1, (fits, (commands, cutting, subst (λ (v : Verdict). VerdictOf source target commands full_profile v) a.2 h.1)), h.2 ∙ ap (λ (v : Verdict). verdict_reply files v) a.2)
 
   done_decoding : (bytes : List ℕ) (d : Result (List Command) NoTrace) → length bytes ≤ run_limit → Decoding bytes d → OfDecoding files d (OfRun full_profile files source target) reply → Found bytes
   done_decoding bytes (Ok commands) fits decoding h = done_run bytes commands fits decoding h
