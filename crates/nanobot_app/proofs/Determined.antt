@@ -1,5 +1,5 @@
 -- The answer to the words is one only, and what follows from it.
-use Rattle.std.proofs.Common.{◌≡◌, ◌⊎◌, ◌==◌, ℕ, ◌+◌, List, [], ◌∷◌, Option, Some, None, Bool, true, false, refl, sym, ap, ◌∙◌, subst, inl, inr, nat_lt, length}
+use Rattle.std.proofs.Common.{◌≡◌, ◌⊎◌, ◌==◌, ℕ, ◌+◌, List, [], Option, Some, None, Bool, true, false, refl, sym, ap, ◌∙◌, subst, inl, inr, nat_lt, length}
 use Rattle.std.specs.Prelude.{Result, Ok, Err, MatchOption, MatchBool, IfSome, IsSomeAnd}
 use Rattle.std.specs.Io.KnownBytes.{append_known}
 use Rattle.vox_geom.specs.declared.coordinate.Coord.{Coord}
@@ -29,8 +29,9 @@ use Rattle.nanobot_rows.specs.Answer.{Answer, AnswerOf, AnswerOfRun, AskNoPlan, 
 use Rattle.nanobot_rows.specs.Planners.{IsGroupPlan, IsLayerPlan, IsLowPlan, IsSwarmPlan, IsVoidPlan, PlanFacts}
 use Rattle.nanobot_app.specs.Outcome.{DepotRose, IsAnswer, LacksFile, CallOutcome, Outside, SinkRose}
 use Rattle.nanobot_rows.specs.Reading.{no_such_file, reply_of}
-use Rattle.nanobot_rows.specs.Report.{faulty_text, not_legal, no_model, of_verdict}
+use Rattle.nanobot_rows.specs.Report.{faulty_text, not_legal, no_model}
 use Rattle.nanobot_words.specs.Rows.{Row, asm, check, debug, dis, exercise, light, make, plan_group, plan_layer, plan_low, plan_swarm, plan_void, run, IsRow, MakesPlans}
+use Rattle.nanobot_rows.proofs.Replies.{verdict_reply}
 use Rattle.nanobot_rows.proofs.Told.{if_some}
 
 -- ---- at most one reply, or one part of it
@@ -109,7 +110,7 @@ module _ {A : Type 0} (part : Reply → A) (laws : Laws) where
     both_once (Some a) (Some b) p f r s h k = choice_once (a.resolution == b.resolution) (p a b) (λ r. r ≡ reply_of files (report.Resolutions a.resolution b.resolution)) (f a b) (same_reply (reply_of files (report.Resolutions a.resolution b.resolution))) r s h k
 
     run_once : (profile : Profile) (source target : Matrix) (commands : List Command) → Once (OfRun profile files source target commands)
-    run_once profile source target commands r s h k = ap part (h.2 ∙ (ap (λ (v : Verdict). reply_of files (of_verdict v)) (laws.verdicts source target commands profile h.0 k.0 h.1 k.1) ∙ sym k.2))
+    run_once profile source target commands r s h k = ap part (h.2 ∙ (ap (λ (v : Verdict). verdict_reply files v) (laws.verdicts source target commands profile h.0 k.0 h.1 k.1) ∙ sym k.2))
 
     decoded_once : (d : Result (List Command) NoTrace) (p : List Command → Reply → Type 0) → ((commands : List Command) → Once (p commands)) → Once (OfDecoding files d p)
     decoded_once (Ok commands) p f = f commands

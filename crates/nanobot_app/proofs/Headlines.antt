@@ -1,8 +1,9 @@
 -- A run answers 0 exactly where the machine of the definitions takes the whole trace.
-use Rattle.std.proofs.Common.{◌≡◌, ◌⊎◌, ◌==◌, ℕ, ◌≤◌, List, Option, Some, None, Bool, true, false, refl, sym, ap, ◌∙◌, subst, inl, inr, arith, nat_lt, length}
+use Rattle.std.proofs.Common.{◌≡◌, ◌⊎◌, ◌↔◌, ◌==◌, ℕ, ◌≤◌, List, Option, Some, None, Bool, true, false, refl, sym, ap, ◌∙◌, subst, inl, inr, arith, nat_lt, length}
 use Rattle.std.specs.Prelude.{ℤ, Result, Ok, Err, MatchOption, MatchBool, IfSome, IsSomeAnd}
 use Rattle.std.specs.Io.KnownBytes.{append_known}
 use Rattle.std.proofs.lemmas.Bool.Decides.{nat_tests}
+use Rattle.std.proofs.lemmas.List.{append_cancel_left}
 use Rattle.nano_spec.specs.declared.commands.Command.{Command}
 use Rattle.nano_spec.specs.declared.outcomes.Verdict.{Verdict}
 use Rattle.nano_spec.specs.declared.outcomes.Verdict.TheVariants as verdict
@@ -19,16 +20,16 @@ use Rattle.nanobot_rows.specs.declared.report.Who.{Who}
 use Rattle.nanobot_rows.specs.declared.report.Who.TheVariants as who
 use Rattle.nanobot_rows.specs.declared.status.Status.{Status}
 use Rattle.nanobot_rows.specs.declared.status.Status.TheVariants as is
-use Rattle.nanobot_rows.specs.Answer.{Answer, AnswerOf, AskNoPlan, Judged, OfBytes, OfDecoding, OfRun, OfTrace, Reply, WithBoth, WithFile, WithModel, WithModels, WithSide, run_limit}
-use Rattle.nanobot_app.specs.Headline.{IsDoneWith, MachineTakes, TakesBytes}
+use Rattle.nanobot_rows.specs.Answer.{Answer, AnswerOf, AnswerOfRun, AskNoPlan, Judged, OfBytes, OfDecoding, OfRun, OfTrace, Reply, WithBoth, WithFile, WithModel, WithModels, WithSide, run_limit}
+use Rattle.nanobot_app.specs.Headline.{IsCost, IsDoneWith, MachineTakes, TakesBytes}
 use Rattle.nanobot_app.specs.Outcome.{DepotRose, IsAnswer, CallOutcome, Outside, SinkRose}
 use Rattle.nanobot_rows.specs.Reading.{AreBoth, AreModels, IsModelOf, IsSide, no_such_file, reply_of}
-use Rattle.nanobot_rows.specs.Report.{no_model, not_legal, of_verdict, status_of}
-use Rattle.nanobot_words.specs.Rows.{Row, run, MakesPlans, IsRow}
+use Rattle.nanobot_rows.specs.Report.{accepted_line, no_model, not_legal, status_of}
+use Rattle.nanobot_words.specs.Rows.{Row, run, MakesPlans, IsRow, IsRunOf}
 use Rattle.nanobot_rows.proofs.Loads.{not_longer}
 use Rattle.nanobot_app.proofs.Determined.{AnswerLaw, RowLaw, StatusLaw, complete}
-use Rattle.nanobot_rows.proofs.Replies.{models_given}
-use Rattle.nanobot_rows.proofs.Told.{if_some}
+use Rattle.nanobot_rows.proofs.Replies.{models_given, verdict_reply}
+use Rattle.nanobot_rows.proofs.Told.{if_some, weaker}
 
 -- ---- what a run that takes its trace answers
 
@@ -99,7 +100,7 @@ done_models files source target p reply done h =
     (m.0, m.1, record { source_side = a.0; target_side = b.0; source_is = a.1; target_is = b.1; both = m.2 }, m.3)
 
 -- a verdict that is told with status 0
-accepted : (files : Files) (v : Verdict) (reply : Reply) → reply ≡ reply_of files (of_verdict v) → reply.status ≡ is.Done → (energy : ℤ) × (steps : ℕ) × (v ≡ verdict.Accepted energy steps)
+accepted : (files : Files) (v : Verdict) (reply : Reply) → reply ≡ verdict_reply files v → reply.status ≡ is.Done → (energy : ℤ) × (steps : ℕ) × (v ≡ verdict.Accepted energy steps)
 accepted files (verdict.Accepted energy steps) reply e done = (energy, steps, refl)
 accepted files (verdict.Refused broken) reply e done = absurd (let no = other files (report.Broken broken) reply e done in cc)
 
@@ -113,7 +114,7 @@ module _ (files : Files) (source target : Matrix) (reply : Reply) (done : reply.
   done_run : (bytes : List ℕ) (commands : List Command) → length bytes ≤ run_limit → Decoding bytes (Ok commands) → OfRun full_profile files source target commands reply → Found bytes
   done_run bytes commands fits cutting h =
       let a = accepted files h.0 reply h.2 done in
-      (a.0, a.1, (fits, (commands, cutting, subst (λ (v : Verdict). VerdictOf source target commands full_profile v) a.2 h.1)), h.2 ∙ ap (λ (v : Verdict). reply_of files (of_verdict v)) a.2)
+      (a.0, a.1, (fits, (commands, cutting, subst (λ (v : Verdict). VerdictOf source target commands full_profile v) a.2 h.1)), h.2 ∙ ap (λ (v : Verdict). verdict_reply files v) a.2)
 
   done_decoding : (bytes : List ℕ) (d : Result (List Command) NoTrace) → length bytes ≤ run_limit → Decoding bytes d → OfDecoding files d (OfRun full_profile files source target) reply → Found bytes
   done_decoding bytes (Ok commands) fits decoding h = done_run bytes commands fits decoding h
@@ -133,7 +134,7 @@ module _ (files : Files) (source target : Matrix) (reply : Reply) (done : reply.
       by None h = absurd (not_gone files reply h done)
       by (Some bytes) h = let f = of_bytes bytes (nat_lt run_limit (length bytes)) refl h in (f.0, f.1, f.2, f.3)
 
-takes_done : (files : Files) (source target : Option (List ℕ)) (trace : List ℕ) (reply : Reply) → reply.status ≡ is.Done → AnswerOf (run source target trace) files reply
+pub takes_done : (files : Files) (source target : Option (List ℕ)) (trace : List ℕ) (reply : Reply) → reply.status ≡ is.Done → AnswerOf (run source target trace) files reply
     → (energy : ℤ) × (steps : ℕ) × MachineTakes files source target trace energy steps × (reply ≡ reply_of files (report.Accepted energy steps))
 takes_done files source target trace reply done h =
     let m = done_models files source target _ reply done h in
@@ -149,9 +150,22 @@ of_the_row one words row files reply is_row (inr h) = subst (λ (r : Row). Answe
 run_is_no_plan : RowLaw → (words : List (List ℕ)) (source target : Option (List ℕ)) (trace : List ℕ) → IsRow words (run source target trace) → AskNoPlan words
 run_is_no_plan one words source target trace is row other plan = subst MakesPlans (one words row (run source target trace) other is) plan
 
+-- the row of a run
+pub row_of_run : (words : List (List ℕ)) (source target : Option (List ℕ)) (trace : List ℕ) → IsRunOf words source target trace → IsRow words (run source target trace)
+row_of_run words source target trace is = record { written = is.written; named = is.named; of_table = is.of_table }
+
 -- ---- both halves of the headline
 
-module _ {stores : List ℕ → Type 0} (one : RowLaw) (statuses : StatusLaw) (law : AnswerLaw) (words : List (List ℕ)) (old new : Outside) (result : Status) (o : CallOutcome (Answer words) stores old new result) (source target : Option (List ℕ)) (trace : List ℕ) (is_row : IsRow words (run source target trace)) where
+abbrev pub SmallLaw : Type 0
+SmallLaw = (files : Files) (source target : Option (List ℕ)) (trace : List ℕ) (energy : ℤ) (steps : ℕ) → MachineTakes files source target trace energy steps → IsCost energy steps
+
+abbrev pub ApartLaw : Type 0
+ApartLaw = (energy energy' : ℤ) (steps steps' : ℕ) → IsCost energy steps → IsCost energy' steps' → accepted_line energy steps ≡ accepted_line energy' steps' → (energy ≡ energy') × (steps ≡ steps')
+
+module _ {stores : List ℕ → Type 0} (one : RowLaw) (statuses : StatusLaw) (law : AnswerLaw) (small : SmallLaw) (words : List (List ℕ)) (old new : Outside) (result : Status) (o : CallOutcome (Answer words) stores old new result) (source target : Option (List ℕ)) (trace : List ℕ) (of_run : IsRunOf words source target trace) where
+  is_row : IsRow words (run source target trace)
+  is_row = row_of_run words source target trace of_run
+
   stood : (files : Files) → old.files ≡ Some files → IsAnswer result → (reply : Reply) × Answer words files reply × (new.files ≡ Some reply.after) × ((reply.status ≡ result) × (new.written ≡ append_known old.written reply.line))
   stood files told a = subst (λ t. IfSome t (λ files. (reply : Reply) × Answer words files reply × (new.files ≡ Some reply.after) × ((reply.status ≡ result) × (new.written ≡ append_known old.written reply.line)))) told (o.answer a)
 
@@ -161,17 +175,43 @@ module _ {stores : List ℕ → Type 0} (one : RowLaw) (statuses : StatusLaw) (l
       let answer : Answer words files reply = inr (run source target trace, is_row, answers_taken files source target trace energy steps takes) in
       let all = complete statuses words old new result o no_depot no_sink in
       let here = subst (λ t. IfSome t (λ files. (reply : Reply) → Answer words files reply → (result ≡ reply.status) ⊎ (result ≡ is.Memory))) told all in
-      done_with files told energy steps reply answer (here reply answer))
+      done_with files told energy steps reply (small files source target trace energy steps takes) answer (here reply answer))
     where
-      done_with : (files : Files) → old.files ≡ Some files → (energy : ℤ) (steps : ℕ) (reply : Reply) → Answer words files (reply_of files (report.Accepted energy steps)) → (result ≡ is.Done) ⊎ (result ≡ is.Memory) → IsDoneWith result old.written new.written energy steps
-      done_with files told energy steps reply answer (inr m) = absurd (no_memory m)
-      done_with files told energy steps reply answer (inl done) =
+      done_with : (files : Files) → old.files ≡ Some files → (energy : ℤ) (steps : ℕ) (reply : Reply) → IsCost energy steps → Answer words files (reply_of files (report.Accepted energy steps)) → (result ≡ is.Done) ⊎ (result ≡ is.Memory) → IsDoneWith result old.written new.written energy steps
+      done_with files told energy steps reply cost answer (inr m) = absurd (no_memory m)
+      done_with files told energy steps reply cost answer (inl done) =
           let s = stood files told (subst IsAnswer (sym done) tt) in
           let same = law words files s.0 (reply_of files (report.Accepted energy steps)) (run_is_no_plan one words source target trace is_row) s.1 answer in
-          (done, s.3.1 ∙ ap (λ (r : Reply). append_known old.written r.line) same)
+          (done, cost, s.3.1 ∙ ap (λ (r : Reply). append_known old.written r.line) same)
 
   pub headline_only : result ≡ is.Done → IfSome old.files (λ files. (energy : ℤ) × (steps : ℕ) × MachineTakes files source target trace energy steps × IsDoneWith result old.written new.written energy steps)
   headline_only done = if_some old.files (λ files told.
       let s = stood files told (subst IsAnswer (sym done) tt) in
       let t = takes_done files source target trace s.0 (s.3.0 ∙ done) (of_the_row one words (run source target trace) files s.0 is_row s.1) in
-      (t.0, t.1, t.2, (done, s.3.1 ∙ ap (λ (r : Reply). append_known old.written r.line) t.3)))
+      (t.0, t.1, t.2, (done, small files source target trace t.0 t.1 t.2, s.3.1 ∙ ap (λ (r : Reply). append_known old.written r.line) t.3)))
+
+  -- what was answered, whatever it is
+  pub refusal : IsAnswer result → IfSome old.files (λ files. (reply : Reply) × AnswerOfRun full_profile source target trace files reply × (result ≡ reply.status) × (new.written ≡ append_known old.written reply.line) × (new.files ≡ Some reply.after))
+  refusal a = weaker old.files (λ files s. (s.0, of_the_row one words (run source target trace) files s.0 is_row s.1, sym s.3.0, s.3.1, s.2)) (o.answer a)
+
+  -- both halves, where what is written is told: the line has one energy and one number of steps
+  pub headline : ApartLaw → (DepotRose old new → ⊥) → (SinkRose old new → ⊥) → (result ≡ is.Memory → ⊥)
+      → IfSome old.files (λ files. IfSome old.written (λ before. (energy : ℤ) (steps : ℕ) → MachineTakes files source target trace energy steps ↔ IsDoneWith result (Some before) new.written energy steps))
+  headline apart no_depot no_sink no_memory = if_some old.files (λ files told. if_some old.written (λ before known energy steps. (
+    (λ takes. subst (λ (w : Option (List ℕ)). IsDoneWith result w new.written energy steps) known (told_where files told energy steps takes)),
+    (λ done. only files told before known energy steps done),
+  )))
+    where
+      told_where : (files : Files) → old.files ≡ Some files → (energy : ℤ) (steps : ℕ) → MachineTakes files source target trace energy steps → IsDoneWith result old.written new.written energy steps
+      told_where files told = subst (λ t. IfSome t (λ files. (energy : ℤ) (steps : ℕ) → MachineTakes files source target trace energy steps → IsDoneWith result old.written new.written energy steps)) told (headline_where no_depot no_sink no_memory)
+
+      some_same : (xs ys : List ℕ) → Some xs ≡ Some ys → xs ≡ ys
+      some_same xs ys e = cc
+
+      only : (files : Files) → old.files ≡ Some files → (before : List ℕ) → old.written ≡ Some before → (energy : ℤ) (steps : ℕ) → IsDoneWith result (Some before) new.written energy steps → MachineTakes files source target trace energy steps
+      only files told before known energy steps done =
+          let found = subst (λ t. IfSome t (λ files. (energy : ℤ) × (steps : ℕ) × MachineTakes files source target trace energy steps × IsDoneWith result old.written new.written energy steps)) told (headline_only done.0) in
+          let written : append_known (Some before) (accepted_line found.0 found.1) ≡ append_known (Some before) (accepted_line energy steps) =
+          ap (λ w. append_known w (accepted_line found.0 found.1)) (sym known) ∙ (sym found.3.2 ∙ done.2) in
+          let same = apart found.0 energy found.1 steps found.3.1 done.1 (append_cancel_left before _ _ (some_same _ _ written)) in
+          subst (λ (k : ℕ). MachineTakes files source target trace energy k) same.1 (subst (λ (e : ℤ). MachineTakes files source target trace e found.1) same.0 found.2)

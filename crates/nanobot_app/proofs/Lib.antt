@@ -1,5 +1,6 @@
 pub mod Determined
 pub mod Headlines
 pub mod Lengths
+pub mod Numbers
 pub mod Outcomes
 pub mod Plans

@@ -2,6 +2,7 @@
 use Rattle.std.proofs.Common.{◌≡◌, ◌⊎◌, ℕ, ◌≤◌, List, [], Option, Some, None, refl, sym, ap, ◌∙◌, subst, inl, inr, take}
 use Rattle.std.specs.Prelude.{IfSome, IsSomeAnd}
 use Rattle.std.specs.Io.KnownBytes.{append_known}
+use Rattle.vox_depot.specs.Causes.{Rose}
 use Rattle.vox_depot.specs.Files.{Files, others}
 use Rattle.nanobot_rows.specs.declared.effect.Effect.{Effect}
 use Rattle.nanobot_rows.specs.declared.effect.Message.{Message}
@@ -13,7 +14,7 @@ use Rattle.nanobot_rows.specs.declared.status.Status.{Status}
 use Rattle.nanobot_rows.specs.declared.status.Status.TheVariants as is
 use Rattle.nanobot_rows.specs.Answer.{Answer, AnswerOf, Answers, with_file}
 use Rattle.nanobot_rows.specs.Effects.{IsFor, IsUnstored, bytes_by, files_with, reply_by, status_by, told_with}
-use Rattle.nanobot_app.specs.Outcome.{DepotRose, Finished, IsAnswer, LacksFile, CallOutcome, Outside, Printed, RowStores, SinkRose, SparesOthers, StoredBy, Told}
+use Rattle.nanobot_app.specs.Outcome.{DepotRose, Finished, IsAnswer, LacksFile, CallOutcome, Outside, Printed, RowStores, SinkRose, SparesOthers, StoreFailed, StoredBy, Told}
 use Rattle.nanobot_rows.specs.Reading.{reply_of}
 use Rattle.nanobot_rows.specs.Report.{report_line, status_of}
 use Rattle.nanobot_words.specs.Rows.{IsRow, Row}
@@ -116,13 +117,13 @@ module _ {answers : Answers} {stores : List ℕ → Type 0} (old new : Outside) 
 
 -- an effect is finished, after files were read
 pub outcome_finished : {answers : Answers} (stored : Option (List ℕ)) (effect : Effect) (old mid new : Outside) (result : Status) → IfSome old.files (λ files. answers files (reply_by files effect)) → IsFor stored effect → mid.files ≡ old.files → old.depot_faults ≤ mid.depot_faults
-    → mid.written ≡ old.written → mid.sink_faults ≡ old.sink_faults → Finished effect mid new result → CallOutcome answers (λ name. stored ≡ Some name) old new result
-outcome_finished {answers} stored effect old mid new result answer for files faults written sink finished = by finished.cases
+    → mid.failed_stores ≡ old.failed_stores → mid.written ≡ old.written → mid.sink_faults ≡ old.sink_faults → Finished effect mid new result → CallOutcome answers (λ name. stored ≡ Some name) old new result
+outcome_finished {answers} stored effect old mid new result answer for files faults stores written sink finished = by finished.cases
   where
-    spared : DepotRose old new → (o : Option NewFile) → IfSome o (λ file. (stored ≡ Some file.name.now) × (status_by effect.message ≡ is.Done)) → IsUnstored o mid.files new.files → SparesOthers answers (λ name. stored ≡ Some name) old new
-    spared rose None named lost = inl (lost ∙ files)
-    spared rose (Some file) named lost = inr (record {
-      rose = rose;
+    spared : StoreFailed old new → (o : Option NewFile) → IfSome o (λ file. (stored ≡ Some file.name.now) × (status_by effect.message ≡ is.Done)) → IsUnstored o mid.files new.files → SparesOthers answers (λ name. stored ≡ Some name) old new
+    spared failed None named lost = inl (lost ∙ files)
+    spared failed (Some file) named lost = inr (record {
+      failed = failed;
       done = weaker old.files (λ files told. (reply_by files effect, told, named.1)) answer;
       name = file.name.now;
       stored = named.0;
@@ -136,12 +137,13 @@ outcome_finished {answers} stored effect old mid new result answer for files fau
     kept (Some fs) (Some file) now e h = (with_file fs file.name.now file.bytes.items, h, e)
 
     by : ((result ≡ is.Memory) × (new.files ≡ mid.files) × (new.written ≡ mid.written))
-        ⊎ (((result ≡ is.Depot) × DepotRose mid new × (new.written ≡ mid.written) × IsUnstored effect.file mid.files new.files)
+        ⊎ (((result ≡ is.Depot) × DepotRose mid new × StoreFailed mid new × (new.written ≡ mid.written) × IsUnstored effect.file mid.files new.files)
         ⊎ ((new.files ≡ told_with mid.files effect.file) × Printed (status_by effect.message) (bytes_by effect.message) mid.written new.written mid.sink_faults new.sink_faults result)) → CallOutcome answers (λ name. stored ≡ Some name) old new result
     by (inl none) = outcome_memory old new result none.0 (none.1 ∙ files) (none.2 ∙ written)
     by (inr (inl lost)) =
         let rose : DepotRose old new = rose_since old.depot_faults mid.depot_faults new.depot_faults faults lost.1 in
-        outcome_lost old new result lost.0 rose (lost.2 ∙ written) (spared rose effect.file for lost.3)
+        let failed : StoreFailed old new = subst (λ n. Rose n new.failed_stores) stores lost.2 in
+        outcome_lost old new result lost.0 rose (lost.3 ∙ written) (spared failed effect.file for lost.4)
     by (inr (inr done)) =
         outcome_printed old new (status_by effect.message) result (bytes_by effect.message) (is_message effect.message)
         (kept old.files effect.file new.files (done.0 ∙ ap (λ t. told_with t effect.file) files) answer)
@@ -169,7 +171,7 @@ outcome_of_row words row old new result written o = record {
     spared : SparesOthers (AnswerOf row) (RowStores row) old new → SparesOthers (Answer words) (StoredBy words) old new
     spared (inl same) = inl same
     spared (inr lost) = inr (record {
-      rose = lost.rose;
+      failed = lost.failed;
       done = weaker old.files (λ files d. (d.0, inr (row, written, d.1), d.2)) lost.done;
       name = lost.name;
       stored = (row, written, lost.stored);

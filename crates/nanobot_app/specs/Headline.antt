@@ -1,5 +1,5 @@
 -- The sentence that the top call carries, over known files: what it means that a run takes its whole trace.
-use Rattle.std.specs.Prelude.{◌≡◌, ℕ, ◌≤◌, ℤ, List, length, Option, IsSomeAnd}
+use Rattle.std.specs.Prelude.{◌≡◌, ℕ, ◌^◌, ◌<◌, ◌≤◌, ℤ, unsigned_abs, List, length, Option, IsSomeAnd}
 use Rattle.std.specs.Io.KnownBytes.{append_known}
 use Rattle.nano_spec.specs.declared.commands.Command.{Command}
 use Rattle.nano_spec.specs.declared.outcomes.Verdict.TheVariants.{Accepted}
@@ -11,9 +11,8 @@ use Rattle.vox_depot.specs.Files.{Files, content}
 use Rattle.nanobot_rows.specs.declared.status.Status.{Status}
 use Rattle.nanobot_rows.specs.declared.status.Status.TheVariants as is
 use Rattle.nanobot_rows.specs.Answer.{run_limit}
-use Rattle.nanobot_rows.specs.declared.report.Report.TheVariants as report
 use Rattle.nanobot_rows.specs.Reading.{AreModels}
-use Rattle.nanobot_rows.specs.Report.{report_line}
+use Rattle.nanobot_rows.specs.Report.{accepted_line}
 
 -- the machine of the definitions takes the whole trace from the one model to the other, to a halt, with this energy in so many steps
 abbrev pub TakesBytes : Matrix → Matrix → List ℕ → ℤ → ℕ → Type 0
@@ -28,6 +27,10 @@ pub record MachineTakes (files : Files) (source target : Option (List ℕ)) (tra
   pub models : AreModels source target files from to
   pub taken : IsSomeAnd (content files trace) (λ bytes. TakesBytes from to bytes energy steps)
 
--- it answers 0 and prints the energy and the number of steps
+-- the numbers are small enough for an `i64` and a `u32`
+abbrev pub IsCost : ℤ → ℕ → Type 0
+IsCost energy steps = (unsigned_abs energy < 2 ^ 63) × (steps < 2 ^ 32)
+
+-- it answers 0 and prints the energy and the number of steps, which are small
 abbrev pub IsDoneWith : Status → Option (List ℕ) → Option (List ℕ) → ℤ → ℕ → Type 0
-IsDoneWith result before now energy steps = (result ≡ is.Done) × (now ≡ append_known before (report_line (report.Accepted energy steps)))
+IsDoneWith result before now energy steps = (result ≡ is.Done) × IsCost energy steps × (now ≡ append_known before (accepted_line energy steps))

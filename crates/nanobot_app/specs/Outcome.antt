@@ -12,16 +12,22 @@ use Rattle.nanobot_rows.specs.Effects.{IsUnstored, bytes_by, status_by, told_wit
 use Rattle.nanobot_rows.specs.Report.{report_line, status_of}
 use Rattle.nanobot_words.specs.Rows.{Row, IsRow, stores_of}
 
--- the depot's files and faults, and the sink's bytes and faults
+-- the depot's files, faults and failed stores, and the sink's bytes and faults
 pub record Outside : Type 0 where
   pub files : Option Files
   pub depot_faults : ℕ
+  pub failed_stores : ℕ
   pub written : Option (List ℕ)
   pub sink_faults : ℕ
 
-abbrev pub outside : {D O : Type 0} → (D → Option Files) → (D → ℕ) → (O → Option (List ℕ)) → (O → ℕ) → D → O → Outside
-outside files depot_faults written sink_faults depot out =
-    record { files = files depot; depot_faults = depot_faults depot; written = written out; sink_faults = sink_faults out }
+abbrev pub outside : {D O : Type 0} → (D → Option Files) → (D → ℕ) → (D → ℕ) → (O → Option (List ℕ)) → (O → ℕ) → D → O → Outside
+outside files depot_faults failed_stores written sink_faults depot out = record {
+  files = files depot;
+  depot_faults = depot_faults depot;
+  failed_stores = failed_stores depot;
+  written = written out;
+  sink_faults = sink_faults out;
+}
 
 -- a status that is no fault of the outside and no want of memory
 abbrev pub IsAnswer : Status → Type 0
@@ -37,6 +43,10 @@ AnswerStands answers old new p = IfSome old.files (λ files. (reply : Reply) × 
 abbrev pub DepotRose : Outside → Outside → Type 0
 DepotRose old new = Rose old.depot_faults new.depot_faults
 
+-- a store of the depot failed
+abbrev pub StoreFailed : Outside → Outside → Type 0
+StoreFailed old new = Rose old.failed_stores new.failed_stores
+
 abbrev pub SinkRose : Outside → Outside → Type 0
 SinkRose old new = Rose old.sink_faults new.sink_faults
 
@@ -48,9 +58,9 @@ LacksFile answers old = IsSomeAnd old.files (λ files. answers files (record { s
 abbrev pub CanBeDone : Answers → Outside → Type 0
 CanBeDone answers old = IfSome old.files (λ files. (reply : Reply) × answers files reply × (reply.status ≡ is.Done))
 
--- a file could not be stored: the depot failed where the call can be done, and all files but the one that is stored then are as they were
+-- a file could not be stored: its store failed where the call can be done, and all files but the one that is stored then are as they were
 pub record LosesFile (answers : Answers) (stores : List ℕ → Type 0) (old new : Outside) : Type 0 where
-  pub rose : DepotRose old new
+  pub failed : StoreFailed old new
   pub done : CanBeDone answers old
   pub name : List ℕ
   pub stored : stores name
@@ -95,7 +105,7 @@ RowStores row name = stores_of row ≡ Some name
 -- what was done of an effect: nothing for want of memory; or the file was not stored; or it was, and the line was put
 pub record Finished (effect : Effect) (old new : Outside) (result : Status) : Type 0 where
   pub cases : ((result ≡ is.Memory) × (new.files ≡ old.files) × (new.written ≡ old.written))
-      ⊎ (((result ≡ is.Depot) × DepotRose old new × (new.written ≡ old.written) × IsUnstored effect.file old.files new.files)
+      ⊎ (((result ≡ is.Depot) × DepotRose old new × StoreFailed old new × (new.written ≡ old.written) × IsUnstored effect.file old.files new.files)
       ⊎
       ((new.files ≡ told_with old.files effect.file)
       × Printed (status_by effect.message) (bytes_by effect.message) old.written new.written old.sink_faults new.sink_faults result))

@@ -1,16 +1,20 @@
 //! The laws of the answers.
-ghost use Rattle.std.specs.Prelude.{◌≡◌, ◌≢◌, ℕ, List, Option, Some, None};
+ghost use Rattle.std.specs.Prelude.{◌≡◌, ◌≢◌, ℕ, ℤ, List, Option, Some, None};
 ghost use Rattle.nano_spec.specs.Profile.{full_profile, light_profile};
 ghost use Rattle.vox_depot.specs.Files.{Files};
 ghost use Rattle.nanobot_rows.specs.Answer.{Answer, AnswerOf, AskNoPlan, Reply};
+ghost use Rattle.nanobot_rows.specs.Report.{accepted_line};
+ghost use Rattle.nanobot_app.specs.Headline.{IsCost, MachineTakes};
 ghost use Rattle.nanobot_app.specs.Plans.{IsRunOfPlan};
 ghost use Rattle.nanobot_words.specs.Rows.{plan_group, plan_layer, plan_low, plan_swarm, plan_void};
 ghost use Rattle.nanobot_rows.specs.declared.status.Status.TheVariants as status;
 
 use debug_script::{one_script, one_text};
+use energy_sum::a_step_changes_the_energy_by_little;
 use low_planner::one_unsupported;
 use nano_spec::{a_model_is_whole, one_decoding, one_legality, one_verdict};
 use nanobot_words::one_row;
+use plan_tape::seeds_bound_the_bots;
 
 /// Words have one status at most over the same files; where they ask for no plans, they have one answer at most.
 pub fn one_answer()
@@ -24,6 +28,18 @@ pub fn one_answer()
     one_row();
     one_script();
     one_text();
+}
+
+/// The energy and the number of steps of a run that is taken are small, and no two such pairs are printed alike.
+pub fn costs_are_told_apart()
+    ensures small { (files : Files) (source target : Option (List ℕ)) (trace : List ℕ) (energy : ℤ) (count : ℕ)
+        → MachineTakes files source target trace energy count → IsCost energy count }
+    ensures apart { (energy energy' : ℤ) (count count' : ℕ) → IsCost energy count → IsCost energy' count'
+        → accepted_line energy count ≡ accepted_line energy' count' → (energy ≡ energy') × (count ≡ count') }
+{
+    a_step_changes_the_energy_by_little();
+    seeds_bound_the_bots();
+    a_model_is_whole();
 }
 
 /// A plan that was stored under a name of its own is accepted by `run` over the files that it left, with the energy and

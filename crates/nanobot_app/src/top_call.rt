@@ -1,15 +1,17 @@
 //! The top call.
-ghost use Rattle.std.specs.Prelude.{◌≡◌, ◌⊎◌, ◌≤◌, ℕ, ℤ, List, Option, Some, [], All, IfSome, IsSomeAnd};
+ghost use Rattle.std.specs.Io.KnownBytes.{append_known};
+ghost use Rattle.std.specs.Prelude.{◌≡◌, ◌⊎◌, ◌↔◌, ◌≤◌, ℕ, ℤ, List, Option, Some, [], All, IfSome, IsSomeAnd};
+ghost use Rattle.nano_spec.specs.Profile.{full_profile};
 ghost use Rattle.vox_depot.specs.Causes.{Rose};
-ghost use Rattle.nanobot_rows.specs.Answer.{Answer, AnswerOf, Reply};
+ghost use Rattle.nanobot_rows.specs.Answer.{Answer, AnswerOf, AnswerOfRun, Reply};
 ghost use Rattle.nanobot_rows.specs.Effects.{MayKeep, bytes_by};
 ghost use Rattle.nanobot_app.specs.Headline.{IsDoneWith, MachineTakes};
 ghost use Rattle.nanobot_words.specs.Parsing.{row_of};
 ghost use Rattle.nanobot_app.specs.Outcome.{Delivered, DeliveredPart, Finished, IsAnswer, CallOutcome, SparesOthers, AnswerStands, Printed, RowStores, StoredBy, Told, outside};
-ghost use Rattle.nanobot_words.specs.Rows.{IsInNoRow, IsOfTable, IsRow, MayRead, MayStore, Row as RowOf, reads_of, run as run_of, stores_of, texts};
+ghost use Rattle.nanobot_words.specs.Rows.{IsInNoRow, IsOfTable, IsRow, IsRunOf, MayRead, MayStore, Row as RowOf, reads_of, stores_of, texts};
 ghost use Rattle.nanobot_rows.specs.Touching.{IsRowWithin};
 
-use crate::laws::one_answer;
+use crate::laws::{costs_are_told_apart, one_answer};
 use nanobot_rows::{Effect, Message, Report, Status, Stop, answer};
 use nanobot_words::{Row, one_row, parse};
 use std::alloc::Global;
@@ -47,8 +49,8 @@ fn store_and_print<D: Depot, O: Sink>(
     requires may_store { MayKeep D.may_store effect.now.file }
     requires bytes { bytes.now ≡ bytes_by effect.now.message }
     ensures finished { Finished effect.now
-        (outside D.files D.faults O.written O.faults depot.old out.old)
-        (outside D.files D.faults O.written O.faults depot.new out.new) result }
+        (outside D.files D.faults D.failed_stores O.written O.faults depot.old out.old)
+        (outside D.files D.faults D.failed_stores O.written O.faults depot.new out.new) result }
     ensures later { D.faults depot.old ≤ D.faults depot.new }
 {
     if effect.keep(depot).is_err() {
@@ -67,8 +69,8 @@ fn finish<D: Depot, O: Sink>(
 ) -> Status
     requires { MayKeep D.may_store effect.now.file }
     ensures finished { Finished effect.now
-        (outside D.files D.faults O.written O.faults depot.old out.old)
-        (outside D.files D.faults O.written O.faults depot.new out.new) result }
+        (outside D.files D.faults D.failed_stores O.written O.faults depot.old out.old)
+        (outside D.files D.faults D.failed_stores O.written O.faults depot.new out.new) result }
     ensures later { D.faults depot.old ≤ D.faults depot.new }
 {
     match &effect.message {
@@ -94,8 +96,8 @@ fn run_row<D: Depot, O: Sink, L: Ledger>(
     requires may_store { (name : List ℕ) → stores_of (row_of row) ≡ Some name → D.may_store name }
     requires of_table { IsOfTable (row_of row) }
     ensures outcome { CallOutcome (AnswerOf (row_of row.entry)) (RowStores (row_of row.entry))
-        (outside D.files D.faults O.written O.faults depot.old out.old)
-        (outside D.files D.faults O.written O.faults depot.new out.new) result }
+        (outside D.files D.faults D.failed_stores O.written O.faults depot.old out.old)
+        (outside D.files D.faults D.failed_stores O.written O.faults depot.new out.new) result }
     ensures words { result ≡ Status.Words → ⊥ }
     ensures within { (result ≡ Status.Memory → ⊥) → IsRowWithin (row_of row.entry) (D.files depot.old) steps.old steps.new }
 {
@@ -118,8 +120,8 @@ fn run<D: Depot, O: Sink, L: Ledger>(
     requires may_fetch { MayRead D.may_fetch (texts words.now) }
     requires may_store { MayStore D.may_store (texts words.now) }
     ensures outcome { CallOutcome (Answer (texts words.now)) (StoredBy (texts words.now))
-        (outside D.files D.faults O.written O.faults depot.old out.old)
-        (outside D.files D.faults O.written O.faults depot.new out.new) result }
+        (outside D.files D.faults D.failed_stores O.written O.faults depot.old out.old)
+        (outside D.files D.faults D.failed_stores O.written O.faults depot.new out.new) result }
     ensures words { result ≡ Status.Words → IsInNoRow (texts words.now) }
     ensures in_no_row { IsInNoRow (texts words.now) → (result ≡ Status.Words) ⊎ (result ≡ Status.Sink) }
     ensures within { (row : RowOf) → IsRow (texts words.now) row → (result ≡ Status.Memory → ⊥) → IsRowWithin row (D.files depot.old) steps.old steps.new }
@@ -146,24 +148,34 @@ pub fn drive<D: Depot, O: Sink, L: Ledger>(
 
     // `run S T B` answers 0 and prints energy E and step count K exactly when the specification's machine, which judges
     // all grounding afresh after every step, takes the whole trace B from model S to a halt at the origin in model T with
-    // energy E in K steps: where files are told it does so where the machine takes the trace, if no count rose and memory
-    // was there, and only then. Otherwise it prints the definition's refusal: the clause `answer`.
-    ensures headline_where { (source target : Option (List ℕ)) (trace : List ℕ) → IsRow (texts words.now) (run_of source target trace)
+    // energy E in K steps: where files and what is written are told, no count rose, and memory was there.
+    ensures headline { (source target : Option (List ℕ)) (trace : List ℕ) → IsRunOf (texts words.now) source target trace
+        → (Rose (D.faults depot.old) (D.faults depot.new) → ⊥) → (Rose (O.faults out.old) (O.faults out.new) → ⊥) → (result ≡ Status.Memory → ⊥)
+        → IfSome (D.files depot.old) (λ files. IfSome (O.written out.old) (λ before. (energy : ℤ) (count : ℕ)
+        → MachineTakes files source target trace energy count ↔ IsDoneWith result (Some before) (O.written out.new) energy count)) }
+
+    // Where nothing is told of what is written it still answers 0, and where counts rose it still does so only then.
+    ensures headline_where { (source target : Option (List ℕ)) (trace : List ℕ) → IsRunOf (texts words.now) source target trace
         → (Rose (D.faults depot.old) (D.faults depot.new) → ⊥) → (Rose (O.faults out.old) (O.faults out.new) → ⊥) → (result ≡ Status.Memory → ⊥)
         → IfSome (D.files depot.old) (λ files. (energy : ℤ) (count : ℕ) → MachineTakes files source target trace energy count
         → IsDoneWith result (O.written out.old) (O.written out.new) energy count) }
-    ensures headline_only { (source target : Option (List ℕ)) (trace : List ℕ) → IsRow (texts words.now) (run_of source target trace)
+    ensures headline_only { (source target : Option (List ℕ)) (trace : List ℕ) → IsRunOf (texts words.now) source target trace
         → result ≡ Status.Done
         → IfSome (D.files depot.old) (λ files. (energy : ℤ) × (count : ℕ) × MachineTakes files source target trace energy count
         × IsDoneWith result (O.written out.old) (O.written out.new) energy count) }
 
+    // Otherwise it prints the definition's refusal: the first bad file or byte, or the first step, bot and rule broken.
+    ensures refusal { (source target : Option (List ℕ)) (trace : List ℕ) → IsRunOf (texts words.now) source target trace → IsAnswer result
+        → IfSome (D.files depot.old) (λ files. (reply : Reply) × AnswerOfRun full_profile source target trace files reply
+        × (result ≡ reply.status) × (O.written out.new ≡ append_known (O.written out.old) reply.line) × (D.files depot.new ≡ Some reply.after)) }
+
     // A status other than 5, 6 and 7 is the answer's, with its whole line written and its files stored. `run light S T B`
     // is answered as `run S T B` is, with the verdict of the light profile in place of the full one.
     ensures answer { IsAnswer result → AnswerStands (Answer (texts words.now))
-        (outside D.files D.faults O.written O.faults depot.old out.old)
-        (outside D.files D.faults O.written O.faults depot.new out.new)
-        (Delivered result (outside D.files D.faults O.written O.faults depot.old out.old)
-        (outside D.files D.faults O.written O.faults depot.new out.new)) }
+        (outside D.files D.faults D.failed_stores O.written O.faults depot.old out.old)
+        (outside D.files D.faults D.failed_stores O.written O.faults depot.new out.new)
+        (Delivered result (outside D.files D.faults D.failed_stores O.written O.faults depot.old out.old)
+        (outside D.files D.faults D.failed_stores O.written O.faults depot.new out.new)) }
 
     // Where files are told and no count rose, it is the answer's status or 7.
     ensures complete { (Rose (D.faults depot.old) (D.faults depot.new) → ⊥) → (Rose (O.faults out.old) (O.faults out.new) → ⊥)
@@ -180,13 +192,13 @@ pub fn drive<D: Depot, O: Sink, L: Ledger>(
     // What stands after a fault and after want of memory.
     ensures nothing_written { result ≡ Status.Depot → O.written out.new ≡ O.written out.old }
     ensures others_stay { result ≡ Status.Depot → SparesOthers (Answer (texts words.now)) (StoredBy (texts words.now))
-        (outside D.files D.faults O.written O.faults depot.old out.old)
-        (outside D.files D.faults O.written O.faults depot.new out.new) }
+        (outside D.files D.faults D.failed_stores O.written O.faults depot.old out.old)
+        (outside D.files D.faults D.failed_stores O.written O.faults depot.new out.new) }
     ensures part_written { result ≡ Status.Sink → AnswerStands (Answer (texts words.now))
-        (outside D.files D.faults O.written O.faults depot.old out.old)
-        (outside D.files D.faults O.written O.faults depot.new out.new)
-        (DeliveredPart (outside D.files D.faults O.written O.faults depot.old out.old)
-        (outside D.files D.faults O.written O.faults depot.new out.new)) }
+        (outside D.files D.faults D.failed_stores O.written O.faults depot.old out.old)
+        (outside D.files D.faults D.failed_stores O.written O.faults depot.new out.new)
+        (DeliveredPart (outside D.files D.faults D.failed_stores O.written O.faults depot.old out.old)
+        (outside D.files D.faults D.failed_stores O.written O.faults depot.new out.new)) }
     ensures memory_files { result ≡ Status.Memory → D.files depot.new ≡ D.files depot.old }
     ensures memory_line { result ≡ Status.Memory → O.written out.new ≡ O.written out.old }
 
@@ -195,5 +207,6 @@ pub fn drive<D: Depot, O: Sink, L: Ledger>(
 {
     one_row();
     one_answer();
+    costs_are_told_apart();
     run(alloc, words, depot, out, steps)
 }

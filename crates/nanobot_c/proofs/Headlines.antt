@@ -1,19 +1,18 @@
 -- A run is told as done exactly where the machine of the definitions takes the whole trace.
-use Rattle.std.proofs.Common.{◌≡◌, ℕ, zero, suc, List, [], ◌∷◌, Option, Some, None, refl, sym, ap, ◌∙◌, subst, inr, arith, Bool, false, All}
+use Rattle.std.proofs.Common.{◌≡◌, ◌↔◌, ℕ, zero, suc, ◌^◌, ◌<◌, List, [], ◌∷◌, refl, sym, ap, ◌∙◌, subst, inr, arith, Bool, false, All, FitsSigned, w64}
 use Rattle.std.specs.Prelude.{ℤ}
 use Rattle.vox_depot.specs.Files.{Files}
 use Rattle.nanobot_rows.specs.declared.report.Report.TheVariants as report
 use Rattle.nanobot_rows.specs.declared.status.Status.{Status}
 use Rattle.nanobot_rows.specs.declared.status.Status.TheVariants as is
-use Rattle.nanobot_rows.specs.Answer.{Answer, AnswerOf, Reply}
+use Rattle.nanobot_rows.specs.Answer.{AnswerOf, Reply}
 use Rattle.nanobot_rows.specs.Reading.{reply_of}
-use Rattle.nanobot_rows.specs.Report.{code_of, report_line}
+use Rattle.nanobot_rows.specs.Report.{accepted_line, code_of}
 use Rattle.nanobot_words.specs.Rows.{IsName, IsRow, MakesPlans, Row, run, with_side, row_words}
-use Rattle.nanobot_app.specs.Outcome.{CallOutcome, Outside}
 use Rattle.nanobot_app.proofs.Determined.{AnswerLaw, RowLaw, StatusLaw}
-use Rattle.nanobot_app.proofs.Headlines as app
-use Rattle.nanobot_app.proofs.Headlines.{answers_taken}
-use Rattle.nanobot_c.specs.Calls.{GaveDone, GaveLineOf, HasModel, PrintAlike, TakesAll, ToldCostOf}
+use Rattle.nanobot_app.proofs.Headlines.{SmallLaw, answers_taken, takes_done}
+use Rattle.nanobot_app.proofs.Numbers.{cost_fits, line_apart}
+use Rattle.nanobot_c.specs.Calls.{GaveDone, GaveLineOf, HasModel, TakesAll, ToldCostOf}
 use Rattle.nanobot_c.specs.Given.{Gave, IsDone, IsMemory}
 use Rattle.nanobot_c.specs.Lent.{lent, run_row, source_name, source_side, target_name, target_side, trace_name}
 use Rattle.nanobot_c.proofs.Given.{gave_done}
@@ -64,28 +63,11 @@ module _ (one : RowLaw) (statuses : StatusLaw) (law : AnswerLaw) (source target 
       law words files reply (reply_of files (report.Accepted energy count)) (λ other is plan. subst MakesPlans (one words other row is is_row) plan)
       (inr (row, is_row, answer)) (inr (row, is_row, answers_taken files (source_side source) (target_side target) trace_name energy count takes))
 
-  abbrev outside : List ℕ → Files → Outside
-  outside written now = record { files = Some now; depot_faults = 0; written = Some written; sink_faults = 0 }
-
-  outcome : (reply : Reply) → AnswerOf row files reply → reply.status ≡ is.Done → CallOutcome (Answer words) (λ _. ⊥) (outside [] files) (outside reply.line reply.after) is.Done
-  outcome reply answer done = record {
-    answer = λ _. (reply, inr (row, is_row, answer), refl, (done, refl));
-    depot = λ e. let no : is.Done ≡ is.Depot = e in absurd (cc);
-    sink = λ e. let no : is.Done ≡ is.Sink = e in absurd (cc);
-    after_depot = λ e. let no : is.Done ≡ is.Depot = e in absurd (cc);
-    after_sink = λ e. let no : is.Done ≡ is.Sink = e in absurd (cc);
-    after_memory = λ e. let no : is.Done ≡ is.Memory = e in absurd (cc);
-  }
-
-  abbrev bytes_or_none : Option (List ℕ) → List ℕ
-  bytes_or_none None = []
-  bytes_or_none (Some bytes) = bytes
-
   -- where the answer is done, the machine takes the trace, and the line is that of its energy and its steps
-  pub answer_only : (reply : Reply) → AnswerOf row files reply → reply.status ≡ is.Done → (energy : ℤ) × (count : ℕ) × TakesAll source target trace energy count × (reply.line ≡ report_line (report.Accepted energy count))
+  pub answer_only : (reply : Reply) → AnswerOf row files reply → reply.status ≡ is.Done → (energy : ℤ) × (count : ℕ) × TakesAll source target trace energy count × (reply.line ≡ accepted_line energy count)
   answer_only reply answer done =
-      let found = app.headline_only one statuses law words (outside [] files) (outside reply.line reply.after) is.Done (outcome reply answer done) (source_side source) (target_side target) trace_name is_row refl in
-      (found.0, found.1, found.2, ap bytes_or_none found.3.1)
+      let found = takes_done files (source_side source) (target_side target) trace_name reply done answer in
+      (found.0, found.1, found.2, ap (λ (r : Reply). r.line) found.3)
 
 module _ (one : RowLaw) (statuses : StatusLaw) (law : AnswerLaw) (light : Bool) (source target trace : List ℕ) (has : HasModel source target) (full : light ≡ false) where
   module _ (old new : List ℕ) (size result : ℕ) (told : GaveLineOf (run_row light source target) (lent source target trace) old new size result) where
@@ -103,7 +85,7 @@ module _ (one : RowLaw) (statuses : StatusLaw) (law : AnswerLaw) (light : Bool) 
           found.0,
           found.1,
           found.2,
-          subst (λ (s : Status). Gave (code_of s) (report_line (report.Accepted found.0 found.1)) old new size result) is
+          subst (λ (s : Status). Gave (code_of s) (accepted_line found.0 found.1) old new size result) is
               (subst (λ b. Gave (code_of given.0.status) b old new size result) found.3 given.2),
         )
 
@@ -111,16 +93,27 @@ module _ (one : RowLaw) (statuses : StatusLaw) (law : AnswerLaw) (light : Bool) 
     cost : ToldCostOf (run_row false source target) (lent source target trace) energy count result
     cost = subst (λ (b : Bool). ToldCostOf (run_row b source target) (lent source target trace) energy count result) full told
 
-    pub cost_where : (e : ℤ) (k : ℕ) → TakesAll source target trace e k → IsDone result × PrintAlike energy count e k
-    cost_where e k takes =
-        let same = answer_where one statuses law source target trace has e k cost.0 takes cost.1 in
-        let done : IsDone result = cost.2 ∙ ap (λ (r : Reply). code_of r.status) same in
-        (done, sym (ap (λ (r : Reply). r.line) (cost.3 done)) ∙ ap (λ (r : Reply). r.line) same)
+    -- it is told as done with these numbers exactly where the machine takes the trace with them
+    pub cost_is : SmallLaw → FitsSigned w64 energy → count < 2 ^ 64 → (e : ℤ) (k : ℕ) → TakesAll source target trace e k ↔ (IsDone result × (energy ≡ e) × (count ≡ k))
+    cost_is small fits few e k = ((λ takes. told_where takes), (λ h. only h.0 h.1 h.2))
+      where
+        same_numbers : (e : ℤ) (k : ℕ) → TakesAll source target trace e k → accepted_line energy count ≡ accepted_line e k → (energy ≡ e) × (count ≡ k)
+        same_numbers e k takes line =
+            let cost_of = cost_fits e k (small (lent source target trace) (source_side source) (target_side target) trace_name e k takes) in
+            line_apart energy e count k fits cost_of.0 few cost_of.1 line
 
-    pub cost_only : IsDone result → (e : ℤ) × (k : ℕ) × TakesAll source target trace e k × PrintAlike energy count e k
-    cost_only done =
-        let found = answer_only one statuses law source target trace has cost.0 cost.1 (ap (λ (r : Reply). r.status) (cost.3 done)) in
-        (found.0, found.1, found.2, sym (ap (λ (r : Reply). r.line) (cost.3 done)) ∙ found.3)
+        told_where : TakesAll source target trace e k → IsDone result × (energy ≡ e) × (count ≡ k)
+        told_where takes =
+            let same = answer_where one statuses law source target trace has e k cost.0 takes cost.1 in
+            let done : IsDone result = cost.2 ∙ ap (λ (r : Reply). code_of r.status) same in
+            let are = same_numbers e k takes (sym (ap (λ (r : Reply). r.line) (cost.3 done)) ∙ ap (λ (r : Reply). r.line) same) in
+            (done, are.0, are.1)
+
+        only : IsDone result → energy ≡ e → count ≡ k → TakesAll source target trace e k
+        only done same_energy same_count =
+            let found = answer_only one statuses law source target trace has cost.0 cost.1 (ap (λ (r : Reply). r.status) (cost.3 done)) in
+            let are = same_numbers found.0 found.1 found.2 (sym (ap (λ (r : Reply). r.line) (cost.3 done)) ∙ found.3) in
+            subst (λ (n : ℕ). TakesAll source target trace e n) (sym are.1 ∙ same_count) (subst (λ (z : ℤ). TakesAll source target trace z found.1) (sym are.0 ∙ same_energy) found.2)
 
 -- done is not want of memory
 pub done_not_memory : (result : ℕ) → IsDone result → IsMemory result → ⊥

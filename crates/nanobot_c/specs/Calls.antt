@@ -7,7 +7,7 @@ use Rattle.nanobot_rows.specs.declared.status.Status.{Status}
 use Rattle.nanobot_rows.specs.declared.status.Status.TheVariants as is
 use Rattle.nanobot_rows.specs.Answer.{AnswerOf, Reply}
 use Rattle.nanobot_rows.specs.Reading.{reply_of}
-use Rattle.nanobot_rows.specs.Report.{code_of, report_line}
+use Rattle.nanobot_rows.specs.Report.{accepted_line, code_of}
 use Rattle.nanobot_app.specs.Headline.{MachineTakes}
 use Rattle.nanobot_words.specs.Rows.{HasName, Row, stores_of}
 use Rattle.nanobot_c.specs.Given.{Gave, IsDone, IsMemory, file_or_line}
@@ -54,11 +54,7 @@ TakesAll source target trace energy count = MachineTakes (lent source target tra
 
 -- the line of an accepted run was given
 abbrev pub GaveDone : ℤ → ℕ → List ℕ → List ℕ → ℕ → ℕ → Type 0
-GaveDone energy count old new size result = Gave (code_of is.Done) (report_line (Accepted energy count)) old new size result
-
--- both energies and both numbers of steps are printed alike
-abbrev pub PrintAlike : ℤ → ℕ → ℤ → ℕ → Type 0
-PrintAlike energy count energy' count' = report_line (Accepted energy count) ≡ report_line (Accepted energy' count')
+GaveDone energy count old new size result = Gave (code_of is.Done) (accepted_line energy count) old new size result
 
 -- an answer of the row has this status; where it is 0, it is the line of this energy and this number of steps
 abbrev pub ToldCostOf : Row → Files → ℤ → ℕ → ℕ → Type 0

@@ -1,17 +1,17 @@
 //! Traces that are judged, and models that are checked.
-ghost use Rattle.std.specs.Prelude.{◌≡◌, ℕ, ℤ, pos, [], false, None, IfOk, IfErr, MatchBool};
+ghost use Rattle.std.specs.Prelude.{◌≡◌, ◌↔◌, ℕ, ℤ, pos, [], false, None, IfOk, IfErr, MatchBool};
 ghost use Rattle.nanobot_rows.specs.declared.status.Status.TheVariants as is;
 ghost use Rattle.nanobot_rows.specs.Effects.{status_by};
 ghost use Rattle.nanobot_rows.specs.Report.{code_of};
 ghost use Rattle.nanobot_words.specs.Parsing.{row_of};
 ghost use Rattle.nanobot_words.specs.Rows.{IsOfTable, check as check_row, stores_of};
-ghost use Rattle.nanobot_c.specs.Calls.{CostOf, GaveDone, GaveLineOf, HasModel, HasNoModel, IsRefused, PrintAlike, TakesAll, ToldCostOf};
+ghost use Rattle.nanobot_c.specs.Calls.{CostOf, GaveDone, GaveLineOf, HasModel, HasNoModel, IsRefused, TakesAll, ToldCostOf};
 ghost use Rattle.nanobot_c.specs.Given.{GaveNoRow, IsDone, IsMemory};
 ghost use Rattle.nanobot_c.specs.Lent.{lent_files, lent, run_row as run_row_of, source_name};
 
 use crate::call::{ask, call, code, give_no_row};
 use crate::lent::{Lent, side};
-use nanobot_app::one_answer;
+use nanobot_app::{costs_are_told_apart, one_answer};
 use nanobot_rows::{Message, Report, Status, Stop};
 use nanobot_words::{Row, one_row};
 use std::alloc::Global;
@@ -131,11 +131,10 @@ pub extern "C" fn nanobot_cost(
     energy: &mut i64,
     steps: &mut u32,
 ) -> u32
-    // The headline as for `nanobot_judge`. The numbers are those that the line of the run has.
-    ensures headline_where { light ≡ false → (IsMemory result → ⊥) → (e : ℤ) (count : ℕ) → TakesAll source.now target.now trace.now e count
-        → IsDone result × PrintAlike energy.new steps.new e count }
-    ensures headline_only { light ≡ false → IsDone result
-        → (e : ℤ) × (count : ℕ) × TakesAll source.now target.now trace.now e count × PrintAlike energy.new steps.new e count }
+    // With the full profile it answers 0 and tells this energy and step count exactly when the specification's machine takes the
+    // whole trace with them.
+    ensures headline { light ≡ false → (IsMemory result → ⊥) → (e : ℤ) (count : ℕ)
+        → TakesAll source.now target.now trace.now e count ↔ (IsDone result × (energy.new ≡ e) × (steps.new ≡ count)) }
 
     // With both profiles it has the status and the numbers of the whole answer of the row.
     ensures answer { HasModel source.now target.now → (IsMemory result → ⊥)
@@ -145,6 +144,7 @@ pub extern "C" fn nanobot_cost(
 {
     one_row();
     one_answer();
+    costs_are_told_apart();
     *energy = 0;
     *steps = 0;
     if !has_model(source, target) {

@@ -68,6 +68,8 @@ impl<'a> Depot for LentFiles<'a> {
 
     ghost faults = { λ d. d.faults };
 
+    ghost failed_stores = { λ d. d.faults };
+
     ghost may_fetch = { λ _. ⊤ };
 
     ghost may_store = { λ _. ⊤ };

@@ -4,7 +4,6 @@ use Rattle.std.specs.Prelude.{Option, Result, Ok, Err, MatchBool, IfSome}
 use Rattle.std.proofs.lemmas.Bool.Decides.{nat_tests}
 use Rattle.std.proofs.lemmas.List.{length-append, length-take, take_all}
 use Rattle.nano_spec.specs.declared.commands.Command.{Command}
-use Rattle.nano_spec.specs.declared.commands.Command.TheVariants.{Halt, Wait, Flip, SMove, LMove, FusionP, FusionS, Fission, Fill, Void, GFill, GVoid}
 use Rattle.nano_spec.specs.Spelling.{spelling, spellings}
 use Rattle.nano_spec.specs.Cutting.{BadAt, CutAt, Cutting, Decoding, NoTrace}
 use Rattle.nano_spec.specs.Line as line

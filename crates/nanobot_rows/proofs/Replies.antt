@@ -1,9 +1,11 @@
 -- The answers of the rows, by what was found in the files.
-use Rattle.std.proofs.Common.{◌≡◌, ℕ, ◌≤◌, ◌==◌, List, length, refl, sym, ap, subst, inl, inr, arith, Bool, true, false, nat_lt}
+use Rattle.std.proofs.Common.{◌≡◌, ℕ, ◌≤◌, ◌==◌, List, length, refl, sym, ap, subst, inl, inr, arith, Bool, true, false, nat_lt, ◌∙◌}
 use Rattle.std.specs.Prelude.{Option, Some, None, Result, Ok, Err, MatchOption, MatchBool, IfOk, IfSome, IsSomeAnd}
 use Rattle.std.proofs.lemmas.Bool.Decides.{nat_tests}
 use Rattle.nano_spec.specs.declared.commands.Command.{Command}
 use Rattle.nano_spec.specs.declared.system.Profile.{Profile}
+use Rattle.nano_spec.specs.declared.outcomes.Verdict.{Verdict}
+use Rattle.nano_spec.specs.declared.outcomes.Verdict.TheVariants as verdict
 use Rattle.nano_spec.specs.Cutting.{Decoding, NoTrace, BadAt, CutAt}
 use Rattle.nano_spec.specs.Legal.{IsLegal}
 use Rattle.nano_spec.specs.Matrix.{Matrix}
@@ -18,6 +20,7 @@ use Rattle.nanobot_rows.specs.declared.stop.Stop.TheVariants as stop
 use Rattle.nanobot_rows.specs.declared.report.Who.TheVariants as who
 use Rattle.nanobot_rows.specs.Answer.{AnswerOfRun, Answers, run_limit, OfBytes, OfDecoding, OfRun, OfTrace, Reply, WithBoth, WithFile, WithModel, WithModels, WithSide}
 use Rattle.nanobot_rows.specs.Reading.{AreBoth, AreModels, AreUnlike, EndsUnstored, IsModelOf, IsSide, Lacks, LacksModels, LacksSide, OnBytes, OnCommands, OnDecoding, OnFile, OnTrace, Reads, RefusesBytes, RefusesFile, RefusesModels, RefusesSide, by_both, by_source, by_target, no_such_file, lacks_source, lacks_target, reply_of, tells_nothing}
+use Rattle.nanobot_rows.specs.Report.{of_verdict, verdict_line, verdict_status}
 use Rattle.nanobot_rows.proofs.Told.{if_some, weaker}
 
 -- ---- counts of faults
@@ -110,9 +113,17 @@ module _ (files : Files) (source target : Option (List ℕ)) (p : Matrix → Mat
 
 -- ---- a trace
 
+-- the reply of a verdict, and that of its report
+abbrev pub verdict_reply : Files → Verdict → Reply
+verdict_reply files v = record { status = verdict_status v; line = verdict_line v; after = files }
+
+verdict_told : (files : Files) (v : Verdict) → verdict_reply files v ≡ reply_of files (of_verdict v)
+verdict_told files (verdict.Accepted energy steps) = refl
+verdict_told files (verdict.Refused broken) = refl
+
 module _ (limit : ℕ) (profile : Profile) (files : Files) (source target : Matrix) where
   of_commands : (commands : List Command) (told : Report) → OnCommands profile source target commands told → OfRun profile files source target commands (reply_of files told)
-  of_commands commands told h = (h.0, h.1, ap (reply_of files) h.2)
+  of_commands commands told h = (h.0, h.1, ap (reply_of files) h.2 ∙ sym (verdict_told files h.0))
 
   of_decoding : (decoding : Result (List Command) NoTrace) (told : Report) → OnDecoding profile source target decoding told → OfDecoding files decoding (OfRun profile files source target) (reply_of files told)
   of_decoding (Ok commands) told h = of_commands commands told h

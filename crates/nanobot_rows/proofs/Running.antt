@@ -1,5 +1,5 @@
 -- A run whose trace comes in pieces.
-use Rattle.std.proofs.Common.{◌≡◌, ℕ, ◌+◌, ◌≤◌, refl, sym, ap, subst, arith, List, [], ◌∷◌, ◌++◌, Bool, true, false, length, take, append_assoc, append-nil, length-append}
+use Rattle.std.proofs.Common.{◌≡◌, ℕ, ◌≤◌, refl, sym, ap, subst, arith, List, [], ◌∷◌, ◌++◌, Bool, true, false, length, take, append_assoc, append-nil, length-append}
 use Rattle.std.specs.Prelude.{Ok, Err, MatchBool, IsFalse}
 use Rattle.std.proofs.lemmas.List.{length-take}
 use Rattle.nano_spec.specs.declared.commands.Command.{Command}

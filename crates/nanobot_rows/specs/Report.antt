@@ -1,5 +1,5 @@
 -- What is told of a call: the status and the line of each report (this project's own: docs/FORMATS.md, "Printed lines").
-use Rattle.std.specs.Prelude.{ℕ, List, [], ◌∷◌, codes, decimal}
+use Rattle.std.specs.Prelude.{ℕ, ℤ, List, [], ◌∷◌, codes, decimal}
 use Rattle.std.specs.Fmt.{signed_decimal}
 use Rattle.std.specs.List.{concat}
 use Rattle.vox_geom.specs.declared.coordinate.Coord.{Coord}
@@ -105,9 +105,35 @@ text_line text.Memory = codes "text 5 Memory\n"
 abbrev pub words_line : List ℕ
 words_line = codes "words not understood\n"
 
+-- the line of an accepted run
+abbrev pub accepted_line : ℤ → ℕ → List ℕ
+accepted_line energy steps = concat (codes "ok energy " ∷ signed_decimal energy ∷ codes " steps " ∷ decimal steps ∷ codes "\n" ∷ [])
+
+-- the line of two models of different resolutions
+abbrev pub resolutions_line : ℕ → ℕ → List ℕ
+resolutions_line source target = concat (codes "resolutions " ∷ decimal source ∷ codes " " ∷ decimal target ∷ codes "\n" ∷ [])
+
+-- the line of a trace that is refused from the offset on: it is no command there, or ends within one
+abbrev pub trace_line : NoTrace → List ℕ
+trace_line (BadAt offset) = concat (codes "trace bad at " ∷ decimal offset ∷ codes "\n" ∷ [])
+trace_line (CutAt offset) = concat (codes "trace cut at " ∷ decimal offset ∷ codes "\n" ∷ [])
+
+-- the line of a trace with more bytes than that
+abbrev pub trace_long_line : ℕ → List ℕ
+trace_long_line limit = concat (codes "trace longer than " ∷ decimal limit ∷ codes "\n" ∷ [])
+
+-- the status and the line of a verdict
+abbrev pub verdict_status : Verdict → Status
+verdict_status (verdict.Accepted energy steps) = is.Done
+verdict_status (verdict.Refused broken) = is.Broken
+
+abbrev pub verdict_line : Verdict → List ℕ
+verdict_line (verdict.Accepted energy steps) = accepted_line energy steps
+verdict_line (verdict.Refused broken) = broken_line broken
+
 -- the line of a report
 abbrev pub report_line : Report → List ℕ
-report_line (report.Accepted energy steps) = concat (codes "ok energy " ∷ signed_decimal energy ∷ codes " steps " ∷ decimal steps ∷ codes "\n" ∷ [])
+report_line (report.Accepted energy steps) = accepted_line energy steps
 report_line (report.Legal resolution full) = concat (codes "legal resolution " ∷ decimal resolution ∷ codes " full " ∷ decimal full ∷ codes "\n" ∷ [])
 report_line (report.Stored commands bytes) = concat (codes "commands " ∷ decimal commands ∷ codes " bytes " ∷ decimal bytes ∷ codes "\n" ∷ [])
 report_line (report.Forged resolution full) = concat (codes "model resolution " ∷ decimal resolution ∷ codes " full " ∷ decimal full ∷ codes "\n" ∷ [])
@@ -116,10 +142,10 @@ report_line (report.Planned energy steps commands bytes) = concat
     ∷ decimal bytes ∷ codes "\n" ∷ [])
 report_line (report.Broken broken) = broken_line broken
 report_line (report.Model who fault) = model_line who fault
-report_line (report.Resolutions source target) = concat (codes "resolutions " ∷ decimal source ∷ codes " " ∷ decimal target ∷ codes "\n" ∷ [])
-report_line (report.TraceBad offset) = concat (codes "trace bad at " ∷ decimal offset ∷ codes "\n" ∷ [])
-report_line (report.TraceCut offset) = concat (codes "trace cut at " ∷ decimal offset ∷ codes "\n" ∷ [])
-report_line (report.TraceLong limit) = concat (codes "trace longer than " ∷ decimal limit ∷ codes "\n" ∷ [])
+report_line (report.Resolutions source target) = resolutions_line source target
+report_line (report.TraceBad offset) = trace_line (BadAt offset)
+report_line (report.TraceCut offset) = trace_line (CutAt offset)
+report_line (report.TraceLong limit) = trace_long_line limit
 report_line (report.Text fault) = text_line fault
 report_line (report.TextLong limit) = concat (codes "text longer than " ∷ decimal limit ∷ codes "\n" ∷ [])
 report_line (report.GroupLong runs rows) = concat (codes "group plan too long runs " ∷ decimal runs ∷ codes " rows " ∷ decimal rows ∷ codes "\n" ∷ [])

@@ -24,6 +24,7 @@ pub fn load_text<D: Depot>(alloc: Global, depot: &mut D, name: &str) -> Result<C
         (RefusesText name.now) (Lacks name.now) result }
     ensures files { D.files depot.new ≡ D.files depot.old }
     ensures later { D.faults depot.old ≤ D.faults depot.new }
+    ensures stores { D.failed_stores depot.new ≡ D.failed_stores depot.old }
 {
     let bytes = load(alloc, depot, name, TEXT_LIMIT + 1)?;
     if bytes.len() as u64 > TEXT_LIMIT {
@@ -43,6 +44,7 @@ pub fn load_trace<D: Depot>(alloc: Global, depot: &mut D, name: &str) -> Result<
     ensures few { IfOk result (λ commands. length commands ≤ 50000000) }
     ensures files { D.files depot.new ≡ D.files depot.old }
     ensures later { D.faults depot.old ≤ D.faults depot.new }
+    ensures stores { D.failed_stores depot.new ≡ D.failed_stores depot.old }
 {
     let bytes = load(alloc, depot, name, TRACE_LIMIT + 1)?;
     if bytes.len() as u64 > TRACE_LIMIT {

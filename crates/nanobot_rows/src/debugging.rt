@@ -32,6 +32,7 @@ fn load_script<D: Depot>(
         (λ files script. IsScriptOf files name.now resolution script.items) (RefusesScript name.now resolution) (Lacks name.now) result }
     ensures files { D.files depot.new ≡ D.files depot.old }
     ensures later { D.faults depot.old ≤ D.faults depot.new }
+    ensures stores { D.failed_stores depot.new ≡ D.failed_stores depot.old }
 {
     let bytes = load(alloc, depot, name, SCRIPT_LIMIT + 1)?;
     if bytes.len() as u64 > SCRIPT_LIMIT {
@@ -62,6 +63,7 @@ pub fn debug<'a, D: Depot, L: Ledger>(
     ensures named { IfOk result (IsFor None) }
     ensures files { D.files depot.new ≡ D.files depot.old }
     ensures later { D.faults depot.old ≤ D.faults depot.new }
+    ensures stores { D.failed_stores depot.new ≡ D.failed_stores depot.old }
 {
     let planes = load_model(alloc, depot, source, Who::Source)?;
     let commands = load_trace(alloc, depot, trace)?;

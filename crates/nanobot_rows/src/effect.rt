@@ -71,6 +71,7 @@ impl<'a> Effect<'a> {
         ensures kept { OnOk result (D.files depot.new ≡ told_with (D.files depot.old) self.now.file) }
         ensures lost { OnErr result (IsUnstored self.now.file (D.files depot.old) (D.files depot.new)) }
         ensures failed { OnErr result (Rose (D.faults depot.old) (D.faults depot.new)) }
+        ensures failed_store { OnErr result (Rose (D.failed_stores depot.old) (D.failed_stores depot.new)) }
         ensures later { D.faults depot.old ≤ D.faults depot.new }
     {
         match &self.file {

@@ -29,6 +29,7 @@ pub fn load_model<D: Depot>(
         (RefusesFile who name.now) (Lacks name.now) result }
     ensures files { D.files depot.new ≡ D.files depot.old }
     ensures later { D.faults depot.old ≤ D.faults depot.new }
+    ensures stores { D.failed_stores depot.new ≡ D.failed_stores depot.old }
     ensures legal { IfOk result IsLegal }
 {
     let bytes = load(alloc, depot, name, MOST_BYTES)?;
@@ -54,6 +55,7 @@ fn load_side<D: Depot>(
         (RefusesSide who (side_of side.entry)) (LacksSide (side_of side.entry)) result }
     ensures files { D.files depot.new ≡ D.files depot.old }
     ensures later { D.faults depot.old ≤ D.faults depot.new }
+    ensures stores { D.failed_stores depot.new ≡ D.failed_stores depot.old }
     ensures named { IfOk result (λ loaded. loaded ≡ None → side_of side.entry ≡ None) }
     ensures legal { IfOk result (λ loaded. IfSome loaded IsLegal) }
 {
@@ -116,6 +118,7 @@ pub fn load_models<D: Depot>(
         (RefusesModels (side_of source.entry) (side_of target.entry)) (LacksModels (side_of source.entry) (side_of target.entry)) result }
     ensures files { D.files depot.new ≡ D.files depot.old }
     ensures later { D.faults depot.old ≤ D.faults depot.new }
+    ensures stores { D.failed_stores depot.new ≡ D.failed_stores depot.old }
     ensures resolutions { IfOk result (λ models. models.0.resolution ≡ models.1.resolution) }
     ensures source { IfOk result (λ models. IsLegal models.0) }
     ensures target { IfOk result (λ models. IsLegal models.1) }

@@ -52,6 +52,7 @@ pub fn plan_layer<'a, D: Depot>(
     ensures named { IfOk result (IsFor (Some trace.now)) }
     ensures files { D.files depot.new ≡ D.files depot.old }
     ensures later { D.faults depot.old ≤ D.faults depot.new }
+    ensures stores { D.failed_stores depot.new ≡ D.failed_stores depot.old }
 {
     let (source, target) = load_models(alloc, depot, source, target)?;
     let plan = choose_layer_plan(alloc, &source, &target)?;
@@ -90,6 +91,7 @@ pub fn plan_group<'a, D: Depot>(
     ensures named { IfOk result (IsFor (Some trace.now)) }
     ensures files { D.files depot.new ≡ D.files depot.old }
     ensures later { D.faults depot.old ≤ D.faults depot.new }
+    ensures stores { D.failed_stores depot.new ≡ D.failed_stores depot.old }
 {
     let (source, target) = load_models(alloc, depot, source, target)?;
     if let Some(report) = group_long(&source, &target) {
@@ -112,6 +114,7 @@ pub fn plan_void<'a, D: Depot>(
     ensures named { IfOk result (IsFor (Some trace.now)) }
     ensures files { D.files depot.new ≡ D.files depot.old }
     ensures later { D.faults depot.old ≤ D.faults depot.new }
+    ensures stores { D.failed_stores depot.new ≡ D.failed_stores depot.old }
 {
     let (source, nothing) = load_models(alloc, depot, Side::Named(source), Side::Empty)?;
     let plan = choose_void_plan(alloc, &source)?;
@@ -131,6 +134,7 @@ pub fn plan_low<'a, D: Depot>(
     ensures named { IfOk result (IsFor (Some trace.now)) }
     ensures files { D.files depot.new ≡ D.files depot.old }
     ensures later { D.faults depot.old ≤ D.faults depot.new }
+    ensures stores { D.failed_stores depot.new ≡ D.failed_stores depot.old }
 {
     let (nothing, target) = load_models(alloc, depot, Side::Empty, Side::Named(target))?;
     let plan = match low_plan(alloc, &target) {
@@ -154,6 +158,7 @@ pub fn plan_swarm<'a, D: Depot>(
     ensures named { IfOk result (IsFor (Some trace.now)) }
     ensures files { D.files depot.new ≡ D.files depot.old }
     ensures later { D.faults depot.old ≤ D.faults depot.new }
+    ensures stores { D.failed_stores depot.new ≡ D.failed_stores depot.old }
 {
     let (nothing, target) = load_models(alloc, depot, Side::Empty, Side::Named(target))?;
     let plan = choose_swarm_plan(alloc, &target)?;

@@ -41,6 +41,7 @@ fn check<D: Depot, L: Ledger>(
     ensures ends { EndsUnstored (AnswerOf (check_row model.now)) (D.files depot.old) (Rose (D.faults depot.old) (D.faults depot.new)) result }
     ensures files { D.files depot.new ≡ D.files depot.old }
     ensures later { D.faults depot.old ≤ D.faults depot.new }
+    ensures stores { D.failed_stores depot.new ≡ D.failed_stores depot.old }
 {
     let planes = load_model(alloc, depot, model, Who::Model)?;
     Ok(Report::Legal {
@@ -68,6 +69,7 @@ fn judge_run<D: Depot, L: Ledger>(
         (Rose (D.faults depot.old) (D.faults depot.new)) result }
     ensures files { D.files depot.new ≡ D.files depot.old }
     ensures later { D.faults depot.old ≤ D.faults depot.new }
+    ensures stores { D.failed_stores depot.new ≡ D.failed_stores depot.old }
     ensures within { (result ≡ Err Stop.Memory → ⊥)
         → IsRunWithin profile (side_of source.entry) (side_of target.entry) trace.now (D.files depot.old) steps.old steps.new }
 {
@@ -96,6 +98,7 @@ fn run<'a, D: Depot, L: Ledger>(
     ensures named { IfOk result (IsFor None) }
     ensures files { D.files depot.new ≡ D.files depot.old }
     ensures later { D.faults depot.old ≤ D.faults depot.new }
+    ensures stores { D.failed_stores depot.new ≡ D.failed_stores depot.old }
     ensures within { (result ≡ Err Stop.Memory → ⊥)
         → IsRunWithin profile (side_of source.entry) (side_of target.entry) trace.now (D.files depot.old) steps.old steps.new }
 {
@@ -115,6 +118,7 @@ fn asm<'a, D: Depot>(
     ensures named { IfOk result (IsFor (Some trace.now)) }
     ensures files { D.files depot.new ≡ D.files depot.old }
     ensures later { D.faults depot.old ≤ D.faults depot.new }
+    ensures stores { D.failed_stores depot.new ≡ D.failed_stores depot.old }
 {
     let commands = load_text(alloc, depot, text)?;
     let bytes = encode_all(alloc, commands.as_slice())?;
@@ -134,6 +138,7 @@ fn dis<'a, D: Depot>(
     ensures named { IfOk result (IsFor (Some text.now)) }
     ensures files { D.files depot.new ≡ D.files depot.old }
     ensures later { D.faults depot.old ≤ D.faults depot.new }
+    ensures stores { D.failed_stores depot.new ≡ D.failed_stores depot.old }
 {
     let commands = load_trace(alloc, depot, trace)?;
     let bytes = print_trace(alloc, commands.as_slice())?;
@@ -176,6 +181,7 @@ pub fn answer<'a, D: Depot, L: Ledger>(
     ensures named { IfOk result (IsFor (stores_of (row_of row.entry))) }
     ensures files { D.files depot.new ≡ D.files depot.old }
     ensures later { D.faults depot.old ≤ D.faults depot.new }
+    ensures stores { D.failed_stores depot.new ≡ D.failed_stores depot.old }
     ensures within { (result ≡ Err Stop.Memory → ⊥) → IsRowWithin (row_of row.entry) (D.files depot.old) steps.old steps.new }
 {
     match row {

@@ -41,6 +41,7 @@ pub fn run_trace<D: Depot, L: Ledger>(
         (OnFile run_limit profile source target.now name.now) tells_nothing (Lacks name.now) result }
     ensures files { D.files depot.new ≡ D.files depot.old }
     ensures later { D.faults depot.old ≤ D.faults depot.new }
+    ensures stores { D.failed_stores depot.new ≡ D.failed_stores depot.old }
     ensures within { (result ≡ Err Stop.Memory → ⊥) → IsWithinFile profile source (D.files depot.old) name.now steps.old steps.new }
 {
     the_work_pays();

@@ -1,5 +1,5 @@
 -- The row of the words is one.
-use Rattle.std.proofs.Common.{◌≡◌, ℕ, List, [], ◌∷◌, Option, Some, None, cond, codes, decimal, refl, arith, sym, ◌∙◌, subst}
+use Rattle.std.proofs.Common.{◌≡◌, ℕ, List, [], ◌∷◌, Option, cond, codes, decimal, refl, arith, sym, ◌∙◌, subst}
 use Rattle.std.specs.Str.{bytes_eq}
 use Rattle.std.specs.Prelude.{All, IsFalse, IsTrue}
 use Rattle.std.proofs.lemmas.Fmt.{decimal_injective}

@@ -23,10 +23,14 @@ abbrev pub side_word : Option (List ℕ) → List ℕ
 side_word None = codes "-"
 side_word (Some name) = name
 
+-- the words of a run
+abbrev pub run_words : Option (List ℕ) → Option (List ℕ) → List ℕ → List (List ℕ)
+run_words source target trace = codes "run" ∷ side_word source ∷ side_word target ∷ trace ∷ []
+
 -- the words of a row
 abbrev pub row_words : Row → List (List ℕ)
 row_words (check model) = codes "check" ∷ model ∷ []
-row_words (run source target trace) = codes "run" ∷ side_word source ∷ side_word target ∷ trace ∷ []
+row_words (run source target trace) = run_words source target trace
 row_words (light source target trace) = codes "run" ∷ codes "light" ∷ side_word source ∷ side_word target ∷ trace ∷ []
 row_words (asm text trace) = codes "asm" ∷ text ∷ trace ∷ []
 row_words (dis trace text) = codes "dis" ∷ trace ∷ text ∷ []
@@ -130,6 +134,12 @@ pub record AreOperands (x y z : List ℕ) (source target : Option (List ℕ)) (t
 -- five words are two given ones, and then written as this source, this target and this trace
 pub record AreWith (words : List (List ℕ)) (first second : List ℕ) (source target : Option (List ℕ)) (trace : List ℕ) : Type 0 where
   pub written : words ≡ first ∷ second ∷ side_word source ∷ side_word target ∷ trace ∷ []
+  pub named : All IsName (with_side source (with_side target (trace ∷ [])))
+  pub of_table : HasName source target
+
+-- the words are written as the run of a trace from a source to a target
+pub record IsRunOf (words : List (List ℕ)) (source target : Option (List ℕ)) (trace : List ℕ) : Type 0 where
+  pub written : words ≡ run_words source target trace
   pub named : All IsName (with_side source (with_side target (trace ∷ [])))
   pub of_table : HasName source target
 

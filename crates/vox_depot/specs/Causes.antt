@@ -1,7 +1,8 @@
 -- Counts of faults, and when one rose.
+use Rattle.std.specs.Coded.{Coded, code_by, coded×, coded_ℕ}
 use Rattle.vox_depot.specs.declared.depot.FetchFault.{FetchFault}
 use Rattle.vox_depot.specs.declared.depot.FetchFault.TheVariants.{Missing, Failed}
-use Rattle.std.specs.Prelude.{Bool, true, false, Result, Ok, Err, ℕ, ◌+◌, ◌-◌, ◌^◌, ◌<◌, ◌≤◌, min}
+use Rattle.std.specs.Prelude.{refl, Bool, true, false, Result, Ok, Err, ℕ, ◌+◌, ◌-◌, ◌^◌, ◌<◌, ◌≤◌, min}
 
 -- the count is higher than before, or stands at the end of its type
 abbrev pub Rose : ℕ → ℕ → Type 0
@@ -20,3 +21,11 @@ abbrev pub is_failed : Result ℕ FetchFault → Bool
 is_failed (Ok n) = false
 is_failed (Err Missing) = false
 is_failed (Err Failed) = true
+
+-- how often a depot has failed, and how often to store
+pub record DepotFaults : Type 0 where
+  pub faults : ℕ
+  pub failed_stores : ℕ
+
+abbrev pub depot_faults_code : Coded DepotFaults
+depot_faults_code = code_by (ℕ × ℕ) (coded× coded_ℕ coded_ℕ) (λ m. (m.faults, m.failed_stores)) (λ p. record { faults = p.0; failed_stores = p.1 }) (λ _. refl)

@@ -13,7 +13,7 @@ pub enum FetchFault {
     Failed,
 }
 
-/// The depot failed to store, and its count of faults rose. The file of that name is unknown now.
+/// The depot failed to store, and its counts of faults and of failed stores rose. The file of that name is unknown now.
 #[derive(Clone, Copy, Debug, PartialEq, Eq)]
 pub struct StoreFault;
 
@@ -28,6 +28,9 @@ pub trait Depot {
 
     /// How often it has failed. The count stays at the end of `u64`.
     ghost faults: { Self → ℕ };
+
+    /// How often it has failed to store. No fetch changes this count, which stays at the end of `u64`.
+    ghost failed_stores: { Self → ℕ };
 
     /// The names that may be fetched. No call changes them.
     ghost may_fetch: { List ℕ → Type 0 };
@@ -45,7 +48,8 @@ pub trait Depot {
         ensures missing { IsErrOf result FetchFault.Missing → IsMissing (files self.old) name.now }
         ensures failed { IsErrOf result FetchFault.Failed → Rose (faults self.old) (faults self.new) }
         ensures files { files self.new ≡ files self.old }
-        ensures later { faults self.old ≤ faults self.new };
+        ensures later { faults self.old ≤ faults self.new }
+        ensures stores { failed_stores self.new ≡ failed_stores self.old };
 
     /// Makes these bytes the whole file of that name.
     fn store(&mut self, name: &str, bytes: &[u8]) -> Result<(), StoreFault>
@@ -53,7 +57,9 @@ pub trait Depot {
         ensures stored { OnOk result (files self.new ≡ stored (files self.old) name.now bytes.now) }
         ensures others { OnErr result (others (files self.new) name.now ≡ others (files self.old) name.now) }
         ensures failed { OnErr result (Rose (faults self.old) (faults self.new)) }
-        ensures later { faults self.old ≤ faults self.new };
+        ensures lost { OnErr result (Rose (failed_stores self.old) (failed_stores self.new)) }
+        ensures later { faults self.old ≤ faults self.new }
+        ensures stores { failed_stores self.old ≤ failed_stores self.new };
 }
 
 /// Where bytes are written.

@@ -25,7 +25,8 @@ struct Opened<F: Drop> {
 /// The files of the system, by their paths. They tell no content, and each name is granted. A fetch from
 /// the start opens the file anew, and it stays open as long as each fetch goes on where the last one ended.
 /// A file that has become shorter since then fails at its new end; other changes by others go unseen.
-/// Contracts see how often the depot has failed: want of memory counts, and a file that is not there too.
+/// Contracts see how often the depot has failed, and how often to store: want of memory counts, and a file that is
+/// not there too.
 /// A store that fails may have written some first bytes.
 #[derive(Drop)]
 pub struct HostDepot<'a, R: Files> {
@@ -33,26 +34,30 @@ pub struct HostDepot<'a, R: Files> {
     alloc: Global,
     last: Option<Opened<R::File>>,
     faults: u64,
+    failed_stores: u64,
 }
 
 impl<'a, R: Files> Model for HostDepot<'a, R> {
-    ghost use Rattle.std.specs.Prelude.{ℕ};
+    ghost use Rattle.vox_depot.specs.Causes.{DepotFaults, depot_faults_code};
 
-    ghost Value = { ℕ };
+    ghost Value = { DepotFaults };
 
-    ghost view = { λ d. d.faults };
+    ghost coded = { depot_faults_code };
+
+    ghost view = { λ d. record { faults = d.faults; failed_stores = d.failed_stores } };
 }
 
 impl<'a, R: Files> HostDepot<'a, R> {
     /// A depot over the files of the system, which has not failed yet.
     pub fn new(rt: &'a R, alloc: Global) -> HostDepot<'a, R>
-        ensures { result ≡ 0 }
+        ensures { result ≡ record { faults = 0; failed_stores = 0 } }
     {
         HostDepot {
             rt,
             alloc,
             last: None,
             faults: 0,
+            failed_stores: 0,
         }
     }
 }
@@ -126,7 +131,9 @@ impl<'a, R: Files> HostDepot<'a, R> {
 impl<'a, R: Files> Depot for HostDepot<'a, R> {
     ghost files = { λ _. None };
 
-    ghost faults = { λ d. d };
+    ghost faults = { λ d. d.faults };
+
+    ghost failed_stores = { λ d. d.failed_stores };
 
     ghost may_fetch = { λ _. ⊤ };
 
@@ -135,9 +142,10 @@ impl<'a, R: Files> Depot for HostDepot<'a, R> {
     fn fetch(&mut self, name: &str, from: u64, buf: &mut [u8]) -> Result<usize, FetchFault>
         ensures bound { IfOk result (λ n. n ≤ length buf.new) }
         ensures never_missing { IsErrOf result FetchFault.Missing → ⊥ }
-        ensures failed { IsErrOf result FetchFault.Failed → Rose self.old self.new }
-        ensures later { self.old ≤ self.new }
-        ensures faults { self.new ≡ (if is_failed result then next_count self.old else self.old) }
+        ensures failed { IsErrOf result FetchFault.Failed → Rose self.old.faults self.new.faults }
+        ensures later { self.old.faults ≤ self.new.faults }
+        ensures stores { self.new.failed_stores ≡ self.old.failed_stores }
+        ensures faults { self.new.faults ≡ (if is_failed result then next_count self.old.faults else self.old.faults) }
     {
         match self.read_at(name, from, buf) {
             Ok(count) => Ok(count),
@@ -149,14 +157,19 @@ impl<'a, R: Files> Depot for HostDepot<'a, R> {
     }
 
     fn store(&mut self, name: &str, bytes: &[u8]) -> Result<(), StoreFault>
-        ensures failed { OnErr result (Rose self.old self.new) }
-        ensures later { self.old ≤ self.new }
-        ensures faults { self.new ≡ (if is_err result then next_count self.old else self.old) }
+        ensures failed { OnErr result (Rose self.old.faults self.new.faults) }
+        ensures lost { OnErr result (Rose self.old.failed_stores self.new.failed_stores) }
+        ensures later { self.old.faults ≤ self.new.faults }
+        ensures stores { self.old.failed_stores ≤ self.new.failed_stores }
+        ensures faults { self.new.faults ≡ (if is_err result then next_count self.old.faults else self.old.faults) }
+        ensures failed_stores { self.new.failed_stores
+            ≡ (if is_err result then next_count self.old.failed_stores else self.old.failed_stores) }
     {
         // The file that is open may be this one.
         self.last = None;
         if fs::write(self.rt, name, bytes).is_err() {
             self.faults = self.faults.saturating_add(1);
+            self.failed_stores = self.failed_stores.saturating_add(1);
             return Err(StoreFault);
         }
         Ok(())

@@ -20,6 +20,7 @@ pub struct MemoryDepot {
     fails: Vec<u64>,
     calls: u64,
     faults: u64,
+    failed_stores: u64,
     starved: u64,
 }
 
@@ -36,6 +37,7 @@ impl Model for MemoryDepot {
       fails = d.fails.items;
       calls = d.calls;
       faults = d.faults;
+      failed_stores = d.failed_stores;
       starved = d.starved;
     } };
 
@@ -90,6 +92,7 @@ impl MemoryDepot {
         ensures fails { result.fails ≡ fails.items }
         ensures calls { result.calls ≡ 0 }
         ensures faults { result.faults ≡ 0 }
+        ensures failed_stores { result.failed_stores ≡ 0 }
         ensures starved { result.starved ≡ 0 }
     {
         MemoryDepot {
@@ -98,6 +101,7 @@ impl MemoryDepot {
             fails,
             calls: 0,
             faults: 0,
+            failed_stores: 0,
             starved: 0,
         }
     }
@@ -154,6 +158,8 @@ impl Depot for MemoryDepot {
 
     ghost faults = { λ d. d.faults };
 
+    ghost failed_stores = { λ d. d.failed_stores };
+
     ghost may_fetch = { λ _. ⊤ };
 
     ghost may_store = { λ _. ⊤ };
@@ -178,6 +184,7 @@ impl Depot for MemoryDepot {
         ensures calls { self.new.calls ≡ next_count self.old.calls }
         ensures faults { self.new.faults
             ≡ (if is_failed result then next_count self.old.faults else self.old.faults) }
+        ensures stores { self.new.failed_stores ≡ self.old.failed_stores }
         ensures starved { self.new.starved ≡ self.old.starved }
         ensures failed { IsErrOf result FetchFault.Failed → Rose self.old.faults self.new.faults }
         ensures later { self.old.faults ≤ self.new.faults }
@@ -209,14 +216,20 @@ impl Depot for MemoryDepot {
         ensures calls { self.new.calls ≡ next_count self.old.calls }
         ensures faults { self.new.faults
             ≡ (if is_err result then next_count self.old.faults else self.old.faults) }
+        ensures failed_stores { self.new.failed_stores
+            ≡ (if is_err result then next_count self.old.failed_stores else self.old.failed_stores) }
         ensures failed { OnErr result (Rose self.old.faults self.new.faults) }
+        ensures lost { OnErr result (Rose self.old.failed_stores self.new.failed_stores) }
         ensures later { self.old.faults ≤ self.new.faults }
+        ensures stores { self.old.failed_stores ≤ self.new.failed_stores }
     {
         if self.begin_call() {
+            self.failed_stores = self.failed_stores.saturating_add(1);
             return Err(StoreFault);
         }
         if put(self.alloc, &mut self.files, name, bytes).is_err() {
             self.faults = self.faults.saturating_add(1);
+            self.failed_stores = self.failed_stores.saturating_add(1);
             self.starved = self.starved.saturating_add(1);
             return Err(StoreFault);
         }

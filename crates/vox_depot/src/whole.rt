@@ -56,6 +56,7 @@ pub fn load<D: Depot>(
     ensures failed { IsErrOf result LoadFault.Failed → Rose (D.faults depot.old) (D.faults depot.new) }
     ensures files { D.files depot.new ≡ D.files depot.old }
     ensures later { D.faults depot.old ≤ D.faults depot.new }
+    ensures stores { D.failed_stores depot.new ≡ D.failed_stores depot.old }
 {
     let mut bytes = Vec::new(alloc);
     let mut buf = [0u8; PIECE];

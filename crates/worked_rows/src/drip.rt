@@ -21,6 +21,8 @@ impl Depot for DripDepot {
 
     ghost faults = { λ d. d.files.faults };
 
+    ghost failed_stores = { λ d. d.files.failed_stores };
+
     ghost may_fetch = { λ _. ⊤ };
 
     ghost may_store = { λ _. ⊤ };

@@ -99,6 +99,8 @@ impl Depot for Endless {
 
     ghost faults = { λ _. 0 };
 
+    ghost failed_stores = { λ _. 0 };
+
     ghost may_fetch = { λ _. ⊤ };
 
     ghost may_store = { λ _. ⊤ };

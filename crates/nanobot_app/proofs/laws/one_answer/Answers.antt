@@ -1,4 +1,4 @@
-use Rattle.nanobot_app.proofs.Determined.{Laws, answer_once, status_once}
+use Rattle.nanobot_app.proofs.Determined.{answer_once, status_once}
 use Rattle.nanobot_app.proofs.laws.one_answer.Goals as goal
 
 pub returns-clause-status : goal.returns-clause-status

@@ -26,6 +26,7 @@ pieces-preserved g c =
       stands = fed.stands;
       files = search rules;
       later = omega (arith, c.in_ok-count.ensures.later, c.pieces.invariant.later);
+      stores = search rules;
       paying = paying_next _ _ c.args.source c.args.profile _ c.pieces.run c.start.new.steps c.pieces.steps c.pieces.invariant.paying _ _ c.feed.new.self c.feed.new.steps piece c.in_ok-count.ensures.bound
           (λ bytes paid. fed.paid c.args.source c.args.profile bytes c.start.new.steps c.pieces.invariant.resolution paid);
     }

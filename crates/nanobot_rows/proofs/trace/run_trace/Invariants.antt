@@ -12,6 +12,7 @@ invariant-pieces g l = record {
   stands : l.run.run.spent ≡ false;
   files : g.D.Depot.files l.depot ≡ g.D.Depot.files l.fn.depot;
   later : g.D.Depot.faults l.fn.depot ≤ g.D.Depot.faults l.depot;
+  stores : g.D.Depot.failed_stores l.depot ≡ g.D.Depot.failed_stores l.fn.depot;
   paying : IsPaying (g.D.Depot.files l.fn.depot) l.name l.fn.source l.fn.profile l.at l.run l.initial.steps l.steps;
 }
 

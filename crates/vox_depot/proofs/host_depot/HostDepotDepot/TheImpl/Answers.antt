@@ -11,6 +11,7 @@ fetch-tells g c = record {
   failed = search rules;
   files = refl;
   later = search rules;
+  stores = search rules;
 }
 
 pub store-tells : goal.store-tells
@@ -18,5 +19,7 @@ store-tells g c = record {
   stored = if_ok c.result _ (λ n. refl);
   others = on_err c.result refl;
   failed = search rules;
+  lost = search rules;
   later = search rules;
+  stores = search rules;
 }
