@@ -1,3 +1,4 @@
+pub mod Bounds
 pub mod Pair
 pub mod Phases
 pub mod Rows

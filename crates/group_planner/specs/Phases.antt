@@ -58,11 +58,3 @@ pub record PairHasRebuilt (t : TapeState) (target : Matrix) : Type 0 where
   pub steps_are : t.steps ≤ plan_steps t.source target
   pub commands_are : length t.commands ≤ 2 * t.steps
   pub bytes_are : bytes t ≤ 4 * t.steps + 4 * (runs t.source + runs target)
-
--- the steps of the plan between two models, at most
-abbrev pub most_group_steps : Matrix → Matrix → ℕ
-most_group_steps source target = 8 * (runs source + runs target) + 160 * (rows source + rows target) + 200 * source.resolution + 400
-
--- the bytes of its commands' spellings, at most
-abbrev pub most_bytes : Matrix → Matrix → ℕ
-most_bytes source target = 36 * (runs source + runs target) + 640 * (rows source + rows target) + 800 * source.resolution + 1600

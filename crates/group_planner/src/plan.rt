@@ -6,7 +6,8 @@ ghost use Rattle.nano_spec.specs.Spelling.{spellings};
 ghost use Rattle.plan_tape.specs.Progress.{IsAccepted};
 ghost use Rattle.plan_tape.specs.Lowest.{IsLowest};
 ghost use Rattle.plan_tape.specs.Reaches.{HasAtMost};
-ghost use Rattle.group_planner.specs.Phases.{PairIsOpened, PairHasRebuilt, most_bytes, most_group_steps, plan_steps};
+ghost use Rattle.group_planner.specs.Phases.{PairIsOpened, PairHasRebuilt, plan_steps};
+ghost use Rattle.group_planner.specs.Bounds.{most_bytes, most_group_steps};
 ghost use Rattle.group_planner.specs.Rows.{runs};
 
 use crate::opening::{gather, opened};

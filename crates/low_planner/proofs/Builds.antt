@@ -9,7 +9,7 @@ use Rattle.std.proofs.Math.Nat.{mul-le-mul}
 use Rattle.vox_geom.specs.declared.coordinate.Coord.{Coord}
 use Rattle.vox_geom.specs.Space.{IsInSpace, coordinate_at, coordinates, numbers_from}
 use Rattle.nano_spec.specs.Legal.{IsLegal}
-use Rattle.nano_spec.specs.Matrix.{Matrix, empty, is_full}
+use Rattle.nano_spec.specs.Matrix.{Matrix, empty, is_full, full_count}
 use Rattle.nano_spec.specs.Profile.{light_profile}
 use Rattle.nano_spec.specs.State.{origin}
 use Rattle.vox_planes.specs.Voxel.{with_voxel}
@@ -18,7 +18,6 @@ use Rattle.plan_tape.specs.Progress.{TapeState, spot, starting, IsVoidFrom}
 use Rattle.low_planner.specs.declared.sweep.Sweep.{Sweep}
 use Rattle.low_planner.specs.Build.{CanFill, CanGoAbove, IsBuilt, IsCarried, IsFinished, Works, above}
 use Rattle.low_planner.specs.Commands.{IsEmpty, IsPlain}
-use Rattle.plan_tape.specs.Parts.{full_count}
 use Rattle.low_planner.specs.Supported.{FirstUnsupported}
 use Rattle.low_planner.specs.Sweep.{BeginsPart, EndsSweep, TurnsBack, GoesOn, IsSweep, IsTrail, IsVisited, LosesVoxel, reach}
 use Rattle.low_planner.proofs.Beside.{adjacent_below, beside-sym}

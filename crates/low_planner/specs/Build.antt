@@ -4,14 +4,13 @@ use Rattle.vox_geom.specs.declared.coordinate.Coord.{Coord}
 use Rattle.vox_geom.specs.Point.{are_adjacent}
 use Rattle.vox_geom.specs.Space.{IsInSpace}
 use Rattle.nano_spec.specs.declared.system.Harmonics.TheVariants.{Low}
-use Rattle.nano_spec.specs.Matrix.{Matrix, empty, is_full}
+use Rattle.nano_spec.specs.Matrix.{Matrix, empty, is_full, full_count}
 use Rattle.nano_spec.specs.Profile.{light_profile}
 use Rattle.nano_spec.specs.State.{origin}
 use Rattle.plan_tape.specs.Leg.{moves_to}
 use Rattle.plan_tape.specs.Progress.{AreAlike, TapeState, spot, IsVoidFrom}
 use Rattle.low_planner.specs.declared.sweep.Sweep.{Sweep}
 use Rattle.low_planner.specs.Commands.{IsEmpty, IsPlain}
-use Rattle.plan_tape.specs.Parts.{full_count}
 use Rattle.low_planner.specs.Sweep.{reach}
 
 -- the coordinate right above

@@ -3,12 +3,11 @@ use Rattle.std.specs.Prelude.{◌≡◌, ◌≢◌, ℕ, ◌+◌, ◌*◌, ◌<�
 use Rattle.vox_geom.specs.declared.coordinate.Coord.{Coord}
 use Rattle.vox_geom.specs.Point.{are_adjacent}
 use Rattle.vox_geom.specs.Space.{IsInSpace}
-use Rattle.nano_spec.specs.Matrix.{Matrix, is_full}
+use Rattle.nano_spec.specs.Matrix.{Matrix, is_full, full_count}
 use Rattle.plan_tape.specs.Leg.{distance}
 use Rattle.low_planner.specs.declared.sweep.Sweep.{Sweep}
 use Rattle.low_planner.specs.declared.sweep.Visit.{Visit}
 use Rattle.low_planner.specs.declared.sweep.Visit.TheVariants.{First, Onward, Back}
-use Rattle.plan_tape.specs.Parts.{full_count}
 use Rattle.low_planner.specs.Supported.{IsSupported, rests}
 
 -- the two coordinates are adjacent within a layer

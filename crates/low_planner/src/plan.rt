@@ -1,13 +1,12 @@
 //! The plan.
 ghost use Rattle.std.specs.Prelude.{◌≡◌, ◌+◌, ◌*◌, ◌≤◌, ◌∷◌, [], All, IfErr, IfOk, None};
 ghost use Rattle.nano_spec.specs.Legal.{IsLegal};
-ghost use Rattle.nano_spec.specs.Matrix.{empty};
+ghost use Rattle.nano_spec.specs.Matrix.{empty, full_count};
 ghost use Rattle.nano_spec.specs.Profile.{full_profile, light_profile};
 ghost use Rattle.plan_tape.specs.Progress.{IsAccepted, starting};
 ghost use Rattle.plan_tape.specs.Reaches.{HasAtMost};
 ghost use Rattle.low_planner.specs.Build.{IsFinished};
 ghost use Rattle.low_planner.specs.Commands.{IsEmpty, IsPlain};
-ghost use Rattle.plan_tape.specs.Parts.{full_count};
 ghost use Rattle.low_planner.specs.Fault.{HasCause};
 ghost use Rattle.low_planner.specs.Supported.{FirstUnsupported};
 

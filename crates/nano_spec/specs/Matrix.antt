@@ -1,5 +1,5 @@
 -- A matrix: which of its voxels are full (task description, section on the matrix; docs/FORMATS.md, "Geometry").
-use Rattle.std.specs.Prelude.{ℕ, Bool, false, ◌&&◌, ◌||◌, not, List, slice_index_or, map}
+use Rattle.std.specs.Prelude.{ℕ, Bool, false, ◌&&◌, ◌||◌, not, List, slice_index_or, map, count_by}
 use Rattle.vox_geom.specs.declared.coordinate.Coord.{Coord}
 use Rattle.vox_geom.specs.Point.{point}
 use Rattle.vox_geom.specs.Space.{in_space, place, coordinates}
@@ -28,3 +28,7 @@ matrix_where r test = record { resolution = r; voxels = map test (coordinates r)
 -- the matrix of a resolution in which every voxel is void
 abbrev pub empty : ℕ → Matrix
 empty r = matrix_where r (λ _. false)
+
+-- how many voxels of the matrix are full
+abbrev pub full_count : Matrix → ℕ
+full_count m = count_by (is_full m) (all_of m)

@@ -13,7 +13,7 @@ use Rattle.nano_spec.specs.Model.{NoModel, model}
 use Rattle.nano_spec.specs.Profile.{full_profile, light_profile}
 use Rattle.nano_spec.specs.Reading.{FaultyLine, read}
 use Rattle.nano_spec.specs.Verdict.{VerdictOf}
-use Rattle.group_planner.specs.Phases.{most_bytes}
+use Rattle.group_planner.specs.Bounds.{most_bytes}
 use Rattle.group_planner.specs.Rows.{rows, runs}
 use Rattle.low_planner.specs.Supported.{FirstUnsupported}
 use Rattle.step_debugger.specs.Session.{DebugLine}

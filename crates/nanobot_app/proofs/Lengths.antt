@@ -14,9 +14,8 @@ use Rattle.nano_spec.specs.State.{State, opening}
 use Rattle.nano_spec.specs.Verdict.{Run, VerdictOf, breaks, compared, ending, ends, first_difference, goes}
 use Rattle.low_planner.specs.Commands.{IsPlain}
 use Rattle.plan_tape.specs.Reaches.{HasAtMost, Reaches, starts, steps_on}
-use Rattle.swarm_planner.specs.Strips.{width}
-use Rattle.void_planner.specs.Phases.{most_void_steps}
-use Rattle.void_planner.specs.Tiles.{tiles_of}
+use Rattle.swarm_planner.specs.Bounds.{width}
+use Rattle.void_planner.specs.Bounds.{most_void_steps, tiles_of}
 use Rattle.plan_tape.proofs.Reached.{enough}
 use Rattle.low_planner.proofs.Alone.{plain_more}
 use Rattle.nanobot_rows.specs.Answer.{run_limit}

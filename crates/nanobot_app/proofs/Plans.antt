@@ -12,12 +12,12 @@ use Rattle.nano_spec.specs.declared.system.Profile.{Profile}
 use Rattle.nano_spec.specs.declared.outcomes.Verdict.TheVariants.{Accepted}
 use Rattle.nano_spec.specs.Cutting.{AreCommands, Decoding, NoTrace}
 use Rattle.nano_spec.specs.Legal.{IsLegal}
-use Rattle.nano_spec.specs.Matrix.{Matrix}
+use Rattle.nano_spec.specs.Matrix.{Matrix, full_count}
 use Rattle.nano_spec.specs.Model.{model, volume}
 use Rattle.nano_spec.specs.Profile.{full_profile, light_profile}
 use Rattle.nano_spec.specs.Spelling.{spellings}
 use Rattle.nano_spec.specs.Verdict.{VerdictOf}
-use Rattle.group_planner.specs.Phases.{most_bytes}
+use Rattle.group_planner.specs.Bounds.{most_bytes}
 use Rattle.group_planner.specs.Rows.{rows, runs}
 use Rattle.vox_depot.specs.Files.{Files, content}
 use Rattle.nanobot_rows.specs.declared.report.Report.TheVariants as report
@@ -27,7 +27,6 @@ use Rattle.nanobot_rows.specs.Planners.{IsGroupPlan, IsLayerPlan, IsLowPlan, IsS
 use Rattle.nanobot_app.specs.Plans.{IsRunOfPlan}
 use Rattle.nanobot_rows.specs.Reading.{AreBoth, AreModels, IsModelOf, IsSide, no_such_file, reply_of}
 use Rattle.nanobot_words.specs.Rows.{plan_group, plan_layer, plan_low, plan_swarm, plan_void}
-use Rattle.plan_tape.specs.Parts.{full_count}
 use Rattle.low_planner.proofs.Builds.{full_most}
 use Rattle.nanobot_app.proofs.Lengths.{few_commands, four_each, low_fits, swarm_fits, two_each, void_fits}
 use Rattle.nanobot_rows.proofs.Stored.{nothing_here}

@@ -3,7 +3,7 @@ use Rattle.std.proofs.Common.{◌≡◌, ◌∙◌, ◌+◌, ◌*◌, ◌≤◌,
 use Rattle.std.specs.Prelude.{ℤ, Option, Result, Ok, Err, IfSome}
 use Rattle.nano_spec.specs.declared.commands.Command.{Command}
 use Rattle.nano_spec.specs.Forge.{forged}
-use Rattle.nano_spec.specs.Matrix.{Matrix, empty}
+use Rattle.nano_spec.specs.Matrix.{Matrix, empty, full_count}
 use Rattle.nano_spec.specs.Model.{volume}
 use Rattle.vox_depot.specs.Files.{Files}
 use Rattle.nanobot_rows.specs.declared.report.Cost.{Cost}
@@ -12,7 +12,6 @@ use Rattle.nanobot_rows.specs.declared.report.Report.TheVariants.{Exercised}
 use Rattle.nanobot_rows.specs.declared.stop.Stop.{Stop}
 use Rattle.nanobot_rows.specs.declared.stop.Stop.TheVariants as stop
 use Rattle.nanobot_words.specs.Rows.{exercise}
-use Rattle.plan_tape.specs.Parts.{full_count}
 use Rattle.nanobot_rows.specs.Answer.{AnswerOf, Answers, Costs}
 use Rattle.nanobot_rows.specs.Effects.{EndsStored, alone}
 use Rattle.nanobot_rows.specs.Planners.{IsGroupPlan, IsLayerPlan, PlanFacts}

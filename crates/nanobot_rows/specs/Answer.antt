@@ -8,7 +8,7 @@ use Rattle.nano_spec.specs.declared.system.Profile.{Profile}
 use Rattle.nano_spec.specs.Cutting.{Decoding, NoTrace}
 use Rattle.nano_spec.specs.Forge.{forged}
 use Rattle.nano_spec.specs.Legal.{Legality, NotLegal}
-use Rattle.nano_spec.specs.Matrix.{Matrix, empty}
+use Rattle.nano_spec.specs.Matrix.{Matrix, empty, full_count}
 use Rattle.nano_spec.specs.Model.{NoModel, model, written}
 use Rattle.nano_spec.specs.Printing.{print}
 use Rattle.nano_spec.specs.Profile.{full_profile, light_profile}
@@ -16,10 +16,9 @@ use Rattle.nano_spec.specs.Reading.{FaultyLine, read}
 use Rattle.nano_spec.specs.Spelling.{spellings}
 use Rattle.nano_spec.specs.Verdict.{VerdictOf}
 use Rattle.vox_depot.specs.Files.{Files, content}
-use Rattle.group_planner.specs.Phases as group
+use Rattle.group_planner.specs.Bounds as group
 use Rattle.group_planner.specs.Rows.{rows, runs}
 use Rattle.low_planner.specs.Supported.{FirstUnsupported}
-use Rattle.plan_tape.specs.Parts.{full_count}
 use Rattle.step_debugger.specs.Session.{DebugLine}
 use Rattle.debug_script.specs.Script.{ScriptSays}
 use Rattle.debug_script.specs.Sessions.{PrintsFrom}

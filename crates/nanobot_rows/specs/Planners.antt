@@ -4,17 +4,16 @@ use Rattle.nano_spec.specs.declared.commands.Command.{Command}
 use Rattle.nano_spec.specs.declared.commands.Command.TheVariants.{Halt}
 use Rattle.nano_spec.specs.declared.outcomes.Verdict.TheVariants as verdict
 use Rattle.nano_spec.specs.Cutting.{AreCommands}
-use Rattle.nano_spec.specs.Matrix.{Matrix}
+use Rattle.nano_spec.specs.Matrix.{Matrix, full_count}
 use Rattle.nano_spec.specs.Model.{volume}
 use Rattle.nano_spec.specs.Profile.{full_profile, light_profile}
 use Rattle.nano_spec.specs.Spelling.{spellings}
 use Rattle.nano_spec.specs.Verdict.{VerdictOf}
-use Rattle.group_planner.specs.Phases as group
+use Rattle.group_planner.specs.Bounds as group
 use Rattle.low_planner.specs.Commands as low
-use Rattle.plan_tape.specs.Parts.{full_count}
 use Rattle.plan_tape.specs.Reaches.{HasAtMost}
-use Rattle.swarm_planner.specs.Strips.{width}
-use Rattle.void_planner.specs.Phases as void
+use Rattle.swarm_planner.specs.Bounds.{width}
+use Rattle.void_planner.specs.Bounds as void
 
 -- what is so of a planner's commands from the one model to the other, with their energy and their steps
 abbrev pub PlanFacts : Type 1

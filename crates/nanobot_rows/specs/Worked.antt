@@ -2,15 +2,14 @@
 use Rattle.std.specs.Prelude.{◌≡◌, ◌×◌, ℕ, ◌*◌, ◌^◌, pos, negsuc, List, [], ◌∷◌, codes}
 use Rattle.vox_geom.specs.Point.{coord}
 use Rattle.nano_spec.specs.declared.outcomes.Rule.TheVariants.{HaltLow, Ungrounded, Forbidden}
-use Rattle.nano_spec.specs.Matrix.{empty}
+use Rattle.nano_spec.specs.Matrix.{empty, full_count}
 use Rattle.nano_spec.specs.Worked.{voxels_at}
 use Rattle.model_file.specs.declared.fault.ModelFault.TheVariants as fault
 use Rattle.trace_text.specs.declared.fault.TextFault.TheVariants as text
-use Rattle.group_planner.specs.Phases as group
+use Rattle.group_planner.specs.Bounds as group
 use Rattle.group_planner.specs.Rows.{rows, runs}
-use Rattle.plan_tape.specs.Parts.{full_count}
-use Rattle.swarm_planner.specs.Strips.{width}
-use Rattle.void_planner.specs.Phases as void
+use Rattle.swarm_planner.specs.Bounds.{width}
+use Rattle.void_planner.specs.Bounds as void
 use Rattle.nanobot_rows.specs.declared.report.Report.{Report}
 use Rattle.nanobot_rows.specs.declared.report.Report.TheVariants as report
 use Rattle.nanobot_rows.specs.declared.report.Who.TheVariants as who

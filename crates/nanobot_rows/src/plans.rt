@@ -1,6 +1,6 @@
 //! The rows that store the trace of a plan.
 ghost use Rattle.std.specs.Prelude.{◌≡◌, ◌+◌, ◌<◌, ◌≤◌, ℕ, IfOk, List, MatchOption, Option, Some, None};
-ghost use Rattle.group_planner.specs.Phases.{most_bytes};
+ghost use Rattle.group_planner.specs.Bounds.{most_bytes};
 ghost use Rattle.group_planner.specs.Rows.{rows as rows_of, runs as runs_of};
 ghost use Rattle.vox_depot.specs.Causes.{Rose};
 ghost use Rattle.nanobot_words.specs.Parsing.{side_of};

@@ -4,11 +4,11 @@ ghost use Rattle.nano_spec.specs.Legal.{IsLegal};
 ghost use Rattle.nano_spec.specs.Matrix.{empty};
 ghost use Rattle.nano_spec.specs.Profile.{full_profile, light_profile};
 ghost use Rattle.nano_spec.specs.Spelling.{spellings};
-ghost use Rattle.group_planner.specs.Phases.{most_bytes, most_group_steps};
+ghost use Rattle.group_planner.specs.Bounds.{most_bytes, most_group_steps};
 ghost use Rattle.plan_tape.specs.Progress.{IsAccepted};
-ghost use Rattle.swarm_planner.specs.Strips.{width};
+ghost use Rattle.swarm_planner.specs.Bounds.{width};
 ghost use Rattle.plan_tape.specs.Reaches.{HasAtMost};
-ghost use Rattle.void_planner.specs.Phases.{most_void_steps};
+ghost use Rattle.void_planner.specs.Bounds.{most_void_steps};
 
 use crate::bounds::Bounds;
 use crate::flips::lower;

@@ -1,7 +1,6 @@
 -- Parts of a matrix: a voxel, rows and layers; and how many voxels are full.
-use Rattle.std.specs.Prelude.{ℕ, Bool, ◌&&◌, ◌==◌, count_by, nat_le, nat_lt}
+use Rattle.std.specs.Prelude.{ℕ, Bool, ◌&&◌, ◌==◌, nat_le, nat_lt}
 use Rattle.vox_geom.specs.declared.coordinate.Coord.{Coord}
-use Rattle.nano_spec.specs.Matrix.{Matrix, all_of, is_full}
 
 -- the voxel of x, y and z
 abbrev pub voxel : ℕ → ℕ → ℕ → Coord → Bool
@@ -30,7 +29,3 @@ from_layer y c = nat_le y c.y
 -- the layers below that of y
 abbrev pub below_layer : ℕ → Coord → Bool
 below_layer y c = nat_lt c.y y
-
--- how many voxels of the matrix are full
-abbrev pub full_count : Matrix → ℕ
-full_count m = count_by (is_full m) (all_of m)

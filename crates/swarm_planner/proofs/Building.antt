@@ -8,7 +8,8 @@ use Rattle.plan_tape.specs.Leg.{distance}
 use Rattle.plan_tape.specs.Progress.{TapeState, spot, IsVoidFrom}
 use Rattle.swarm_planner.specs.Building.{Builds, CanFillLayer, Fills, IsRaised, are_wanted, cell, in_line, in_lines, is_below, is_column, is_under, is_wanted, line, line_steps, in_first_lines}
 use Rattle.swarm_planner.specs.Crew.{MayLead, RowGoes, places}
-use Rattle.swarm_planner.specs.Strips.{count, held, last, next, bot_row, strip_row, width}
+use Rattle.swarm_planner.specs.Strips.{count, held, last, next, bot_row, strip_row}
+use Rattle.swarm_planner.specs.Bounds.{width}
 use Rattle.swarm_planner.proofs.Filling.{is_below-is}
 
 -- ---- which voxels are below a row

@@ -8,7 +8,8 @@ use Rattle.nano_spec.specs.Legal.{IsLegal}
 use Rattle.nano_spec.specs.Matrix.{Matrix, is_full}
 use Rattle.plan_tape.specs.Progress.{AreAlike, IsVoidFrom}
 use Rattle.swarm_planner.specs.Building.{IsRaised, in_line, in_lines, is_column, layers}
-use Rattle.swarm_planner.specs.Strips.{count, last, width}
+use Rattle.swarm_planner.specs.Strips.{count, last}
+use Rattle.swarm_planner.specs.Bounds.{width}
 use Rattle.swarm_planner.proofs.Legality.{full_in_box}
 
 same : (a b : ℕ) → a ≡ b → (a == b) ≡ true

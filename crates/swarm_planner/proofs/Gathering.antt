@@ -8,7 +8,8 @@ use Rattle.plan_tape.specs.Leg.{gap}
 use Rattle.plan_tape.specs.Progress.{TapeState, spot, IsVoidFrom}
 use Rattle.swarm_planner.specs.Crew.{CrewGoes, InRow, IsSwarm, MayLead, RowGoes, places}
 use Rattle.swarm_planner.specs.Lineup.{AreLined, Gathers, InLine, HasGathered, Regroups, free_column, without_last, last_column, sent}
-use Rattle.swarm_planner.specs.Strips.{count, held, last, next, bot_row, strip_row, width}
+use Rattle.swarm_planner.specs.Strips.{count, held, last, next, bot_row, strip_row}
+use Rattle.swarm_planner.specs.Bounds.{width}
 use Rattle.swarm_planner.proofs.Lines.{fused-sent}
 use Rattle.swarm_planner.proofs.Rows.{length-places, length-row, narrow}
 use Rattle.swarm_planner.proofs.Sending.{line_of, places_on, row_lined}

@@ -8,7 +8,8 @@ use Rattle.plan_tape.specs.declared.axis.Axis.{Axis}
 use Rattle.plan_tape.specs.Crowd.{AllStep, CanMoveAll, bots_gone}
 use Rattle.plan_tape.specs.Leg.{component_of, gap}
 use Rattle.plan_tape.specs.Progress.{TapeState, spot, IsVoidFrom}
-use Rattle.swarm_planner.specs.Strips.{last, bot_row as row_at, strip_row, width}
+use Rattle.swarm_planner.specs.Strips.{last, bot_row as row_at, strip_row}
+use Rattle.swarm_planner.specs.Bounds.{width}
 use Rattle.swarm_planner.specs.Crew.{AreAlong, AreLed, AreNear, CrewGoes, InRow, IsSwarm, MayLead, RowGoes, led, places, row_led}
 use Rattle.swarm_planner.proofs.Leading.{all_can, gone_there, led_length, places-placed, ways_apart}
 use Rattle.swarm_planner.proofs.Rows.{led_row, length_of_row, near_by, row_led-is, spot_of_row}

@@ -9,7 +9,8 @@ use Rattle.swarm_planner.specs.Building.{Builds, CanBuild, swarm_layer_steps, la
 use Rattle.swarm_planner.specs.Crew.{MayLead, places}
 use Rattle.swarm_planner.specs.Lineup.{HasGathered, IsSpreadOver, SpreadsOver}
 use Rattle.swarm_planner.specs.Phases.{IsErected, phase_steps}
-use Rattle.swarm_planner.specs.Strips.{count, last, bot_row, strip_row, width}
+use Rattle.swarm_planner.specs.Strips.{count, last, bot_row, strip_row}
+use Rattle.swarm_planner.specs.Bounds.{width}
 use Rattle.swarm_planner.proofs.Covering.{built_is}
 use Rattle.swarm_planner.proofs.Rows.{narrow, spot_of_row}
 use Rattle.swarm_planner.proofs.Splitting.{places-lined_up}

@@ -9,7 +9,8 @@ use Rattle.plan_tape.specs.declared.axis.Axis.{Axis}
 use Rattle.plan_tape.specs.declared.axis.Axis.TheVariants.{X, Y, Z}
 use Rattle.plan_tape.specs.Leg.{component_of, gap}
 use Rattle.plan_tape.specs.Progress.{spot}
-use Rattle.swarm_planner.specs.Strips.{count, held, last, next, bot_row, strip_row, width}
+use Rattle.swarm_planner.specs.Strips.{count, held, last, next, bot_row, strip_row}
+use Rattle.swarm_planner.specs.Bounds.{width}
 use Rattle.swarm_planner.specs.Crew.{AreAlong, AreLed, AreNear, MayLead, lead, led, places, row_led}
 
 -- ---- how many strips there are, and how wide

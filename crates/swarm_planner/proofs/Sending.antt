@@ -8,7 +8,8 @@ use Rattle.plan_tape.specs.Leg.{IsOnward, gap}
 use Rattle.plan_tape.specs.Progress.{TapeState, spot, IsVoidFrom}
 use Rattle.swarm_planner.specs.Crew.{CrewGoes, IsSwarm, placed, places}
 use Rattle.swarm_planner.specs.Lineup.{AreLined, InLine, IsSpreadOver, Regroups, SpreadsOver, free_column, last_column, lined_up, sent, split}
-use Rattle.swarm_planner.specs.Strips.{count, held, last, next, bot_row, width}
+use Rattle.swarm_planner.specs.Strips.{count, held, last, next, bot_row}
+use Rattle.swarm_planner.specs.Bounds.{width}
 use Rattle.swarm_planner.proofs.Lines.{length-sent, sent-sent, sent_lined, sent_more, sent_there, split_lined}
 use Rattle.swarm_planner.proofs.Rows.{length-places, length-row}
 use Rattle.swarm_planner.proofs.Splitting.{places-lined_up}

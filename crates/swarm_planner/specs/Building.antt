@@ -1,5 +1,5 @@
 -- What a part of the plan has built: some voxels that are full in the goal are full, and all others are as they were.
-use Rattle.std.specs.Prelude.{◌≡◌, ℕ, ◌+◌, ◌-◌, ◌*◌, ◌≤◌, ◌<◌, ◌==◌, Bool, false, ◌&&◌, ◌||◌, not, cond, nat_lt, zero, suc, min, pos, negsuc, List, [], ◌∷◌}
+use Rattle.std.specs.Prelude.{◌≡◌, ℕ, ◌+◌, ◌-◌, ◌*◌, ◌≤◌, ◌<◌, ◌==◌, Bool, false, ◌&&◌, ◌||◌, not, cond, nat_lt, zero, suc, min, List, [], ◌∷◌}
 use Rattle.vox_geom.specs.declared.coordinate.Coord.{Coord}
 use Rattle.nano_spec.specs.declared.commands.Command.{Command}
 use Rattle.nano_spec.specs.declared.commands.Command.TheVariants.{Fill, Wait}
@@ -8,7 +8,8 @@ use Rattle.nano_spec.specs.Matrix.{Matrix, is_full}
 use Rattle.plan_tape.specs.Leg.{distance}
 use Rattle.plan_tape.specs.Progress.{TapeState, spot, IsVoidFrom}
 use Rattle.swarm_planner.specs.Crew.{InRow, IsSwarm, places}
-use Rattle.swarm_planner.specs.Strips.{count, last, width}
+use Rattle.swarm_planner.specs.Strips.{count, last}
+use Rattle.swarm_planner.specs.Bounds.{width}
 use Rattle.vox_geom.specs.Point.{down, below}
 
 -- ---- one step of fills

@@ -1,5 +1,5 @@
 -- Where the bots of a crew stand, and steps of them all (docs/FORMATS.md, "Commands").
-use Rattle.std.specs.Prelude.{◌≡◌, ℕ, ◌+◌, ◌≤◌, ◌<◌, ◌==◌, pos, ◌-ℤ◌, cond, max, false, List, [], ◌∷◌, map}
+use Rattle.std.specs.Prelude.{◌≡◌, ℕ, ◌+◌, ◌≤◌, ◌<◌, ◌==◌, pos, ◌-ℤ◌, cond, max, List, [], ◌∷◌, map}
 use Rattle.vox_geom.specs.declared.coordinate.Coord.{Coord}
 use Rattle.vox_geom.specs.Space.{IsInSpace}
 use Rattle.nano_spec.specs.declared.commands.Command.{Command}
@@ -11,7 +11,8 @@ use Rattle.plan_tape.specs.declared.axis.Axis.{Axis}
 use Rattle.plan_tape.specs.declared.axis.Axis.TheVariants.{X, Y, Z}
 use Rattle.plan_tape.specs.Leg.{along, component_of, gap}
 use Rattle.plan_tape.specs.Progress.{TapeState, spot}
-use Rattle.swarm_planner.specs.Strips.{held, next, strip_row, width}
+use Rattle.swarm_planner.specs.Strips.{held, next, strip_row}
+use Rattle.swarm_planner.specs.Bounds.{width}
 
 -- where the bots stand
 abbrev pub places : List Bot → List Coord

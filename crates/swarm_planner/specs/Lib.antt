@@ -1,3 +1,4 @@
+pub mod Bounds
 pub mod Building
 pub mod Crew
 pub mod Lineup

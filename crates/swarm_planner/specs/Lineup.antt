@@ -9,7 +9,8 @@ use Rattle.nano_spec.specs.declared.system.Bot.{Bot}
 use Rattle.nano_spec.specs.State.{seed_set}
 use Rattle.plan_tape.specs.Progress.{TapeState, spot, IsVoidFrom}
 use Rattle.swarm_planner.specs.Crew.{IsSwarm, places}
-use Rattle.swarm_planner.specs.Strips.{last, bot_row, width}
+use Rattle.swarm_planner.specs.Strips.{last, bot_row}
+use Rattle.swarm_planner.specs.Bounds.{width}
 use Rattle.vox_geom.specs.Point.{coord}
 
 -- ---- places

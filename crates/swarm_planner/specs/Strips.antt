@@ -1,10 +1,7 @@
 -- The strips of columns, one for each bot, and the row that the bots stand in.
-use Rattle.std.specs.Prelude.{ℕ, zero, suc, ◌+◌, ◌-◌, ◌/◌, max, min, List, [], ◌∷◌}
+use Rattle.std.specs.Prelude.{ℕ, zero, suc, ◌+◌, ◌-◌, ◌/◌, min, List, [], ◌∷◌}
 use Rattle.vox_geom.specs.declared.coordinate.Coord.{Coord}
-
--- how many columns the widest strip has
-abbrev pub width : ℕ → ℕ
-width r = max 1 ((r + 17) / 20)
+use Rattle.swarm_planner.specs.Bounds.{width}
 
 -- how many strips the columns from 1 to r - 2 make
 abbrev pub count : ℕ → ℕ

@@ -4,7 +4,8 @@ ghost use Rattle.plan_tape.specs.Leg.{component_of, distance, gap, put};
 ghost use Rattle.plan_tape.specs.Progress.{spot, IsVoidFrom};
 ghost use Rattle.swarm_planner.specs.Building.{Builds, CanBuild, CanFillLayer, are_wanted, cell, swarm_layer_steps, layers, line, line_steps, in_first_lines, crew_steps_to};
 ghost use Rattle.swarm_planner.specs.Crew.{InRow, IsSwarm, MayLead, RowGoes};
-ghost use Rattle.swarm_planner.specs.Strips.{strip_row, width};
+ghost use Rattle.swarm_planner.specs.Strips.{strip_row};
+ghost use Rattle.swarm_planner.specs.Bounds.{width};
 ghost use Rattle.vox_geom.specs.Point.{coord};
 
 use crate::steps::{component, fill_below, is_wanted, move_row, with_component};

@@ -7,7 +7,7 @@ ghost use Rattle.vox_planes.specs.Voxel.{IsWhole};
 ghost use Rattle.plan_tape.specs.Progress.{IsAccepted, IsVoidFrom};
 ghost use Rattle.plan_tape.specs.Reaches.{HasAtMost};
 ghost use Rattle.swarm_planner.specs.Phases.{IsErected, SwarmIsOpened};
-ghost use Rattle.swarm_planner.specs.Strips.{width};
+ghost use Rattle.swarm_planner.specs.Bounds.{width};
 
 use crate::crew::{gather, spread};
 use crate::paint::build;

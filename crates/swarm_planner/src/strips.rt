@@ -1,6 +1,7 @@
 //! The strips of columns, one for each bot.
 ghost use Rattle.std.specs.Prelude.{◌≡◌, ◌≤◌};
-ghost use Rattle.swarm_planner.specs.Strips.{count as count_of, width as width_of};
+ghost use Rattle.swarm_planner.specs.Strips.{count as count_of};
+ghost use Rattle.swarm_planner.specs.Bounds.{width as width_of};
 
 use vox_geom::MOST_R;
 

@@ -6,9 +6,9 @@ use Rattle.nano_spec.specs.Legal.{IsLegal}
 use Rattle.nano_spec.specs.Matrix.{Matrix}
 use Rattle.plan_tape.specs.Progress.{TapeState, spot, IsVoidFrom, top}
 use Rattle.plan_tape.specs.Leg.{moves_to}
-use Rattle.void_planner.specs.Phases.{IsGathered, IsRisen, IsSpread, IsVoidModel, most_void_steps}
+use Rattle.void_planner.specs.Phases.{IsGathered, IsRisen, IsSpread, IsVoidModel}
+use Rattle.void_planner.specs.Bounds.{most_void_steps, tiles_of}
 use Rattle.void_planner.specs.Square.{Becomes, CanStand, Clears, IsRectangle, four, voiding_steps, steps_to}
-use Rattle.void_planner.specs.Tiles.{tiles_of}
 use Rattle.vox_geom.specs.Point.{coord}
 use Rattle.plan_tape.proofs.LegalModels.{void_at_top}
 use Rattle.plan_tape.proofs.ClearWays.{no_moves}

@@ -6,7 +6,8 @@ use Rattle.step_order.specs.Acting.{with_region}
 use Rattle.plan_tape.specs.Leg.{moves, moves_to}
 use Rattle.plan_tape.specs.Progress.{TapeState, spot, IsVoidFrom}
 use Rattle.void_planner.specs.Square.{AreFewer, CanVoidLayers, Clears, FourGo, FourVoid, IsRectangle, voiding_steps, steps_to, strip_steps}
-use Rattle.void_planner.specs.Tiles.{IsVoidBefore, IsVoidStrip, IsVoidTile, edge, far_of, place_of, tile, tiles_of, turned}
+use Rattle.void_planner.specs.Tiles.{IsVoidBefore, IsVoidStrip, IsVoidTile, edge, far_of, place_of, tile, turned}
+use Rattle.void_planner.specs.Bounds.{tiles_of}
 use Rattle.void_planner.proofs.Regions.{region_fewer, tile_void}
 use Rattle.vox_geom.specs.Point.{coord}
 use Rattle.plan_tape.proofs.LegalModels.{void_by_space}

@@ -1,3 +1,4 @@
+pub mod Bounds
 pub mod Phases
 pub mod Square
 pub mod Tiles

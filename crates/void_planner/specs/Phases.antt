@@ -7,7 +7,7 @@ use Rattle.nano_spec.specs.Profile.{full_profile}
 use Rattle.plan_tape.specs.Leg.{moves_to}
 use Rattle.plan_tape.specs.Progress.{TapeState, spot, IsVoidFrom, top}
 use Rattle.void_planner.specs.Square.{IsRectangle, one}
-use Rattle.void_planner.specs.Tiles.{far_of, tiles_of}
+use Rattle.void_planner.specs.Tiles.{far_of}
 use Rattle.vox_geom.specs.Point.{coord}
 
 -- no voxel is full
@@ -36,7 +36,3 @@ pub record IsGathered (t : TapeState) (most : ℕ) : Type 0 where
   pub full : t.profile ≡ full_profile
   pub bots_are : t.bots ≡ one (spot t.bots)
   pub steps_are : t.steps + moves_to (spot t.bots) (coord 0 0 0) ≤ most
-
--- how many steps a plan takes at most at a resolution
-abbrev pub most_void_steps : ℕ → ℕ
-most_void_steps r = 8 * r * (tiles_of r * tiles_of r) + 8 * r + 200

@@ -9,7 +9,8 @@ use Rattle.nano_spec.specs.Profile.{full_profile}
 use Rattle.plan_tape.specs.Leg.{moves_to}
 use Rattle.plan_tape.specs.Progress.{TapeState, spot, IsVoidFrom}
 use Rattle.plan_tape.specs.Fissions.{fissions}
-use Rattle.void_planner.specs.Tiles.{far_of, tiles_of}
+use Rattle.void_planner.specs.Tiles.{far_of}
+use Rattle.void_planner.specs.Bounds.{tiles_of}
 use Rattle.vox_geom.specs.Point.{coord}
 
 -- a bot by its parts

@@ -4,14 +4,11 @@ use Rattle.vox_geom.specs.declared.coordinate.Coord.{Coord}
 use Rattle.vox_geom.specs.Point.{point, coord}
 use Rattle.vox_geom.specs.Region.{Span, between}
 use Rattle.nano_spec.specs.Matrix.{Matrix, is_full}
+use Rattle.void_planner.specs.Bounds.{tiles_of}
 
 -- how far the corners of a tile are from each other along x and along z
 abbrev pub far_of : ℕ → ℕ
 far_of r = min 30 (r - 1)
-
--- how many tiles a layer has along x, and along z
-abbrev pub tiles_of : ℕ → ℕ
-tiles_of r = (r + 30) / 31
 
 -- where the k-th tile begins along x or z
 abbrev pub place_of : ℕ → ℕ → ℕ

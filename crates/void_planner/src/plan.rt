@@ -1,12 +1,12 @@
 //! The plan.
 ghost use Rattle.std.specs.Prelude.{◌≡◌, ◌≢◌, ◌+◌, ◌<◌, ◌≤◌, ◌↔◌, [], ◌∷◌, IfOk, IsFalse, IsTrue};
 ghost use Rattle.nano_spec.specs.Legal.{IsLegal};
-ghost use Rattle.nano_spec.specs.Matrix.{Matrix as MatrixValue, empty};
+ghost use Rattle.nano_spec.specs.Matrix.{Matrix as MatrixValue, empty, full_count};
 ghost use Rattle.nano_spec.specs.Profile.{full_profile};
-ghost use Rattle.plan_tape.specs.Parts.{full_count};
 ghost use Rattle.plan_tape.specs.Progress.{IsAccepted};
 ghost use Rattle.plan_tape.specs.Reaches.{HasAtMost};
-ghost use Rattle.void_planner.specs.Phases.{IsVoidModel, most_void_steps};
+ghost use Rattle.void_planner.specs.Phases.{IsVoidModel};
+ghost use Rattle.void_planner.specs.Bounds.{most_void_steps};
 
 use crate::ends::{closed, gather, rise, spread};
 use crate::sweep::void_all;

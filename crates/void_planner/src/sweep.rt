@@ -1,7 +1,8 @@
 //! Tiles, strips and layers that are made void, from one layer above.
 ghost use Rattle.std.specs.Prelude.{◌≡◌, ◌+◌, ◌-◌, ◌*◌, ◌<◌, ◌≤◌, IfOk, OnOk, not};
 ghost use Rattle.void_planner.specs.Square.{CanVoidLayers, Clears, IsRectangle, voiding_steps, steps_to, strip_steps};
-ghost use Rattle.void_planner.specs.Tiles.{IsVoidBefore, IsVoidStrip, IsVoidTile, edge, far_of, tiles_of};
+ghost use Rattle.void_planner.specs.Tiles.{IsVoidBefore, IsVoidStrip, IsVoidTile, edge, far_of};
+ghost use Rattle.void_planner.specs.Bounds.{tiles_of};
 ghost use Rattle.vox_geom.specs.Point.{coord};
 ghost use Rattle.plan_tape.specs.Progress.{IsVoidFrom};
 

@@ -1,6 +1,7 @@
 //! The tiles of a layer.
 ghost use Rattle.std.specs.Prelude.{◌≡◌, ◌+◌, ◌*◌, ◌<◌, ◌≤◌, IsTrue};
-ghost use Rattle.void_planner.specs.Tiles.{IsVoidTile, far_of, place_of, tiles_of, turned as turned_of};
+ghost use Rattle.void_planner.specs.Tiles.{IsVoidTile, far_of, place_of, turned as turned_of};
+ghost use Rattle.void_planner.specs.Bounds.{tiles_of};
 
 use plan_tape::first_full;
 use vox_geom::{Coord, MOST_R, Region};

@@ -1,5 +1,5 @@
 use Rattle.std.proofs.Common.{◌≡◌, ◌≤◌, rules, Err}
-use Rattle.group_planner.specs.Phases.{most_bytes}
+use Rattle.group_planner.specs.Bounds.{most_bytes}
 use Rattle.nanobot_rows.specs.Answer.{OfGroupPlan, group_limit}
 use Rattle.nanobot_rows.specs.Planners.{IsGroupPlan}
 use Rattle.nanobot_rows.specs.Effects.{reply_by}

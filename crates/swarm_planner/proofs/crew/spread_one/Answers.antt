@@ -2,7 +2,8 @@ use Rattle.std.proofs.Common.{◌≡◌, ℕ, suc, ◌+◌, ◌-◌, ◌<◌, �
 use Rattle.std.proofs.lemmas.Result.{on_ok_weaker}
 use Rattle.plan_tape.specs.Leg.{gap}
 use Rattle.plan_tape.specs.Progress.{TapeState}
-use Rattle.swarm_planner.specs.Strips.{count, width}
+use Rattle.swarm_planner.specs.Strips.{count}
+use Rattle.swarm_planner.specs.Bounds.{width}
 use Rattle.swarm_planner.specs.Crew.{CrewGoes, places}
 use Rattle.swarm_planner.specs.Lineup.{IsSpreadOver, SpreadsOver, last_column, lined_up, sent}
 use Rattle.swarm_planner.proofs.Rows.{few, narrow}

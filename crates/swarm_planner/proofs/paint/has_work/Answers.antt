@@ -1,5 +1,6 @@
 use Rattle.std.proofs.Common.{◌≡◌, ◌+◌, ◌-◌, ◌≤◌, ◌<◌, true, false, sym, ◌∙◌, ap, arith}
-use Rattle.swarm_planner.specs.Strips.{count, last, bot_row, width}
+use Rattle.swarm_planner.specs.Strips.{count, last, bot_row}
+use Rattle.swarm_planner.specs.Bounds.{width}
 use Rattle.swarm_planner.specs.Building.{are_wanted}
 use Rattle.swarm_planner.proofs.Building.{none_left, wanted_by, wanted_here, wanted_later}
 use Rattle.swarm_planner.proofs.Rows.{few, narrow}

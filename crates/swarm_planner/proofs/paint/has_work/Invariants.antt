@@ -1,5 +1,6 @@
 use Rattle.std.proofs.Common.{◌≡◌, ◌+◌, ◌-◌, ◌*◌, ◌≤◌}
-use Rattle.swarm_planner.specs.Strips.{count, last, bot_row, strip_row, width}
+use Rattle.swarm_planner.specs.Strips.{count, last, bot_row, strip_row}
+use Rattle.swarm_planner.specs.Bounds.{width}
 use Rattle.swarm_planner.specs.Building.{are_wanted}
 use Rattle.swarm_planner.proofs.paint.has_work.Given as goal
 use Rattle.vox_geom.specs.Point.{coord}

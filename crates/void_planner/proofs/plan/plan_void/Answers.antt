@@ -6,7 +6,8 @@ use Rattle.nano_spec.specs.Matrix.{Matrix, empty}
 use Rattle.nano_spec.specs.Profile.{full_profile}
 use Rattle.plan_tape.specs.Progress.{IsAccepted}
 use Rattle.plan_tape.specs.Reaches.{HasAtMost}
-use Rattle.void_planner.specs.Phases.{IsVoidModel, most_void_steps}
+use Rattle.void_planner.specs.Phases.{IsVoidModel}
+use Rattle.void_planner.specs.Bounds.{most_void_steps}
 use Rattle.void_planner.proofs.Legality.{has_room}
 use Rattle.void_planner.proofs.plan.plan_void.Goals as goal
 use Rattle.plan_tape.proofs.LegalModels.{empty_is_void}

@@ -6,7 +6,8 @@ use Rattle.nano_spec.specs.Profile.{full_profile}
 use Rattle.plan_tape.specs.declared.tape.Plan.{Plan}
 use Rattle.plan_tape.specs.Progress.{IsAccepted}
 use Rattle.plan_tape.specs.Fissions.{fissions, is_fission}
-use Rattle.void_planner.specs.Phases.{IsVoidModel, most_void_steps}
+use Rattle.void_planner.specs.Phases.{IsVoidModel}
+use Rattle.void_planner.specs.Bounds.{most_void_steps}
 use Rattle.plan_tape.proofs.Fissions.{few_at_most}
 use Rattle.void_planner.proofs.Openings.{all_steps, gathered_within}
 use Rattle.void_planner.proofs.plan.with_four.Goals as goal

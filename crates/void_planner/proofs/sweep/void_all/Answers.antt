@@ -1,6 +1,7 @@
 use Rattle.std.proofs.Common.{◌-◌, ◌+◌, ◌*◌, ◌<◌, not, sym, subst, arith}
 use Rattle.void_planner.specs.Square.{Clears, steps_to, strip_steps}
-use Rattle.void_planner.specs.Tiles.{IsVoidBefore, edge, tiles_of}
+use Rattle.void_planner.specs.Tiles.{IsVoidBefore, edge}
+use Rattle.void_planner.specs.Bounds.{tiles_of}
 use Rattle.void_planner.proofs.Sweeps.{layers_all, layers_limit, layers_on, void_more}
 use Rattle.void_planner.proofs.sweep.void_all.Goals as goal
 use Rattle.vox_geom.specs.Point.{coord}

@@ -1,7 +1,8 @@
 use Rattle.std.proofs.Common.{◌≡◌, ◌+◌, ◌*◌, ◌<◌, ◌∙◌, not, sym, ap, subst, arith}
 use Rattle.nano_spec.specs.Matrix.{Matrix}
 use Rattle.void_planner.specs.Square.{Clears, steps_to}
-use Rattle.void_planner.specs.Tiles.{IsVoidStrip, edge, far_of, place_of, tiles_of, turned}
+use Rattle.void_planner.specs.Tiles.{IsVoidStrip, edge, far_of, place_of, turned}
+use Rattle.void_planner.specs.Bounds.{tiles_of}
 use Rattle.void_planner.proofs.Sweeps.{layer_limit, layer_on, layer_void, strips_more}
 use Rattle.void_planner.proofs.sweep.void_layer.Goals as goal
 use Rattle.vox_geom.specs.Point.{coord}

@@ -1,7 +1,8 @@
 use Rattle.std.proofs.Common.{◌≡◌, ◌+◌, ◌∙◌, ap, subst, arith}
 use Rattle.nano_spec.specs.Matrix.{Matrix}
 use Rattle.void_planner.specs.Square.{Clears}
-use Rattle.void_planner.specs.Tiles.{IsVoidTile, far_of, place_of, tiles_of, turned}
+use Rattle.void_planner.specs.Tiles.{IsVoidTile, far_of, place_of, turned}
+use Rattle.void_planner.specs.Bounds.{tiles_of}
 use Rattle.void_planner.proofs.Sweeps.{clears_on, strip_on, strip_void, tiles_more}
 use Rattle.void_planner.proofs.sweep.void_strip.Goals as goal
 use Rattle.vox_geom.specs.Point.{coord}

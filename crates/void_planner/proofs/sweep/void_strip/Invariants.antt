@@ -1,6 +1,7 @@
 use Rattle.std.proofs.Common.{◌+◌, ◌-◌, ◌*◌}
 use Rattle.void_planner.specs.Square.{Clears}
-use Rattle.void_planner.specs.Tiles.{edge, place_of, tiles_of, turned}
+use Rattle.void_planner.specs.Tiles.{edge, place_of, turned}
+use Rattle.void_planner.specs.Bounds.{tiles_of}
 use Rattle.void_planner.proofs.Sweeps.{AreVoidTiles}
 use Rattle.void_planner.proofs.sweep.void_strip.Given as goal
 use Rattle.vox_geom.specs.Point.{coord}
