@@ -9,8 +9,8 @@ use Rattle.plan_tape.specs.declared.tape.Plan.{Plan}
 use Rattle.plan_tape.specs.Progress.{IsAccepted}
 use Rattle.plan_tape.proofs.Fissions.{few_at_most}
 use Rattle.plan_choice.specs.declared.bounds.Bounds.{Bounds}
-use Rattle.plan_choice.specs.declared.choice.Cost.{Cost}
-use Rattle.plan_choice.specs.Better.{IsWithin, MayStandFor}
+use Rattle.plan_choice.specs.declared.choice.Price.{Price}
+use Rattle.plan_choice.specs.Better.{IsBetter, MayStandFor}
 
 -- a plan may stand for itself
 pub stays : (source target : Matrix) (profile : Profile) (most : Bounds) (plan : Plan) → IsAccepted source target plan.commands profile plan.energy plan.steps → MayStandFor source target profile most plan plan
@@ -24,7 +24,7 @@ stays source target profile most plan accepted = record {
 }
 
 -- the proposal of this cost, where it was found better
-pub taken : (source target : Matrix) (profile : Profile) (most : Bounds) (plan : Plan) (proposal : List Command) (cost : Cost) (energy : ℤ) → energy ≡ cost.energy → IsAccepted source target proposal profile cost.energy cost.steps → IsWithin plan.energy most proposal cost.energy cost.steps → MayStandFor source target profile most plan (record { commands = proposal; energy = energy; steps = cost.steps })
+pub taken : (source target : Matrix) (profile : Profile) (most : Bounds) (plan : Plan) (proposal : List Command) (cost : Price) (energy : ℤ) → energy ≡ cost.energy → IsAccepted source target proposal profile cost.energy cost.steps → IsBetter plan.energy most proposal cost.energy cost.steps → MayStandFor source target profile most plan (record { commands = proposal; energy = energy; steps = cost.steps })
 taken source target profile most plan proposal cost energy same accepted within = record {
   accepted = subst (λ (z : ℤ). IsAccepted source target proposal profile z cost.steps) (sym same) accepted;
   energy = let less = within.cheaper in omega (arith, ints, same, less);

@@ -11,7 +11,7 @@ use Rattle.plan_choice.specs.declared.bounds.Bounds.{Bounds}
 use Rattle.plan_tape.specs.Fissions.{is_fission}
 
 -- the commands are no more than a run may have, cost less than that, and keep to the bounds, the bots by counting Fissions
-pub record IsWithin (than : ℤ) (most : Bounds) (commands : List Command) (energy : ℤ) (steps : ℕ) : Type 0 where
+pub record IsBetter (than : ℤ) (most : Bounds) (commands : List Command) (energy : ℤ) (steps : ℕ) : Type 0 where
   pub run : length commands ≤ 1073741824
   pub cheaper : energy <ℤ than
   pub steps_are : steps ≤ most.steps
@@ -31,4 +31,4 @@ pub record MayStandFor (source target : Matrix) (profile : Profile) (most : Boun
 -- the proposal is taken wherever the definitions accept it with less energy and within the bounds
 abbrev pub IsChosen : Matrix → Matrix → Profile → Bounds → Plan → List Command → Plan → Type 0
 IsChosen source target profile most plan proposal it = (energy : ℤ) (steps : ℕ) → IsAccepted source target proposal profile energy steps
-    → IsWithin plan.energy most proposal energy steps → it.commands ≡ proposal
+    → IsBetter plan.energy most proposal energy steps → it.commands ≡ proposal

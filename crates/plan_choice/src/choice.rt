@@ -3,7 +3,7 @@ ghost use Rattle.std.specs.Prelude.{◌≡◌, ◌⊎◌, ◌<◌, ◌≤◌, �
 ghost use Rattle.nano_spec.specs.Grounded.{FirstUngrounded};
 ghost use Rattle.nano_spec.specs.Verdict.{VerdictOf};
 ghost use Rattle.plan_tape.specs.Progress.{IsAccepted};
-ghost use Rattle.plan_choice.specs.Better.{IsChosen, IsWithin, MayStandFor};
+ghost use Rattle.plan_choice.specs.Better.{IsChosen, IsBetter, MayStandFor};
 
 use crate::bounds::{Bounds, MOST_COMMANDS, bytes_of, fissions_of};
 use nano_spec::{Command, CommandList, Profile, Verdict, one_verdict};
@@ -17,7 +17,7 @@ use vox_planes::Planes;
 
 /// What an accepted run costs.
 #[derive(Clone, Copy, PartialEq, Eq, Debug)]
-pub struct Cost {
+pub struct Price {
     pub energy: i64,
     pub steps: u32,
 }
@@ -78,16 +78,16 @@ pub fn improvement(
     energy: i64,
     proposal: &[Command],
     most: Bounds,
-) -> Result<Option<Cost>, Memory>
+) -> Result<Option<Price>, Memory>
     requires grounded { FirstUngrounded source.now None }
     requires resolution { source.now.resolution ≡ target.now.resolution }
     requires seeds { profile.seeds ≤ 39 }
     ensures accepted { IfOk result (λ o. IfSome o
         (λ cost. IsAccepted source.now target.now proposal.now profile cost.energy cost.steps)) }
-    ensures within { IfOk result (λ o. IfSome o (λ cost. IsWithin energy most proposal.now cost.energy cost.steps)) }
+    ensures within { IfOk result (λ o. IfSome o (λ cost. IsBetter energy most proposal.now cost.energy cost.steps)) }
     ensures none { result ≡ Ok None → (paid : ℤ) (steps : ℕ)
         → IsAccepted source.now target.now proposal.now profile paid steps
-        → IsWithin energy most proposal.now paid steps → ⊥ }
+        → IsBetter energy most proposal.now paid steps → ⊥ }
 {
     one_verdict();
     if proposal.len() > MOST_COMMANDS || proposal.len() as u64 > most.commands {
@@ -107,7 +107,7 @@ pub fn improvement(
     if paid >= energy || u64::from(steps) > most.steps {
         return Ok(None);
     }
-    Ok(Some(Cost {
+    Ok(Some(Price {
         energy: paid,
         steps,
     }))

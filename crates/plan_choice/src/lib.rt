@@ -8,6 +8,6 @@ mod flips;
 mod plans;
 
 pub use bounds::Bounds;
-pub use choice::{Cost, cheaper, improvement};
+pub use choice::{Price, cheaper, improvement};
 pub use flips::{lower, lowered};
 pub use plans::{choose_group_plan, choose_layer_plan, choose_swarm_plan, choose_void_plan};
