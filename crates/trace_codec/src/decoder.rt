@@ -52,7 +52,7 @@ impl Decoder {
         }
     }
 
-    /// TakesPiece the next bytes of the trace, up to the end of a command. The bytes of a trace are fewer than 2^63.
+    /// Takes the next bytes of the trace, up to the end of a command. The bytes of a trace are fewer than 2^63.
     #[inline(always)]
     pub fn feed(&mut self, piece: &[u8]) -> Fed
         requires { self.old.offset + length self.old.held + length piece.now < 2 ^ 63 }
@@ -103,7 +103,7 @@ impl Decoder {
         }
     }
 
-    /// TakesPiece what the held bytes and the piece begin with.
+    /// Takes what the held bytes and the piece begin with.
     #[inline(always)]
     fn take(&mut self, front: One, piece: &[u8]) -> Fed
         requires works { IsFalse self.old.failed }
