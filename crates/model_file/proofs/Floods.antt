@@ -140,12 +140,12 @@ was_marked true now true f e n = refl
 was_marked true now false f e n = cc
 was_marked false now marked f e n = cc
 
-both_true : (a b : Bool) → (a && b) ≡ true → (a ≡ true) × (b ≡ true)
+pub both_true : (a b : Bool) → (a && b) ≡ true → (a ≡ true) × (b ≡ true)
 both_true true b h = (refl, h)
 both_true false b h = cc
 
 -- a bit of a word that has so many bits
-below_count : (n count k : ℕ) → n < 2 ^ count → bit n k ≡ true → k < count
+pub below_count : (n count k : ℕ) → n < 2 ^ count → bit n k ≡ true → k < count
 below_count n count k l b = by (cases_lt k count)
   where
     by : ((k < count) ⊎ (count ≤ k)) → k < count
@@ -153,7 +153,7 @@ below_count n count k l b = by (cases_lt k count)
     by (inr h) = let z : bit n k ≡ false = ap (λ d. d == 1) (bit_at_above n count k l h) in cc
 
 -- the coordinate of a row at a component
-its_place : (first d : Coord) → d.x ≡ first.x → d.y ≡ first.y → first.z ≤ d.z → at first (first.z + (d.z - first.z)) ≡ d
+pub its_place : (first d : Coord) → d.x ≡ first.x → d.y ≡ first.y → first.z ≤ d.z → at first (first.z + (d.z - first.z)) ≡ d
 its_place first d x y l = λ i. record { x = x' i; y = y' i; z = z' i }
   where
     x' : first.x ≡ d.x
@@ -300,7 +300,7 @@ takes_wider near far a b wider h = record {
 
 -- ---- what is not there
 
-void_by : (m : Matrix) (d : Coord) → (IsInSpace m.resolution d → ⊥) → is_full m d ≡ false
+pub void_by : (m : Matrix) (d : Coord) → (IsInSpace m.resolution d → ⊥) → is_full m d ≡ false
 void_by m d out = by (is_full m d) refl
   where
     by : (f : Bool) → is_full m d ≡ f → f ≡ false

@@ -7,3 +7,4 @@ pub mod Rewritten
 pub mod Stretches
 pub mod Octets
 pub mod Heaps
+pub mod Beginnings

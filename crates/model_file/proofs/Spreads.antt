@@ -1,10 +1,8 @@
 -- How a search from the floor goes on, and what it has found at its end.
-use Rattle.std.proofs.Common.{◌≡◌, ℕ, zero, suc, not, ◌&&◌, bit_or, max, ◌+◌, ◌-◌, ◌*◌, ◌%◌, ◌^◌, ◌<◌, ◌≤◌, refl, sym, ◌∙◌, ap, subst, arith, Bool, true, false, ◌==◌, List, [], ◌∷◌, ◌++◌, length, inl, inr}
+use Rattle.std.proofs.Common.{◌≡◌, ℕ, zero, suc, not, ◌&&◌, bit_or, max, ◌+◌, ◌-◌, ◌%◌, ◌^◌, ◌<◌, ◌≤◌, refl, sym, ◌∙◌, ap, subst, arith, Bool, true, false, ◌==◌, List, [], ◌∷◌, ◌++◌, length, inl, inr}
 use Rattle.std.specs.Prelude.{IsTrue, ◌⊎◌, All, Contains, find, Option, Some, None, cond}
 use Rattle.std.specs.Int.{bit_at}
-use Rattle.std.proofs.lemmas.Bool.{cases_lt}
-use Rattle.std.proofs.lemmas.Nat.Bits.{bit_at-lt, bit_at_ones, bit_at_or}
-use native.Mathlib.Decide.{ℕ_discrete}
+use Rattle.std.proofs.lemmas.Nat.Bits.{bit_at-lt, bit_at_or}
 use Rattle.std.proofs.lemmas.List.{length-append}
 use Rattle.std.proofs.lemmas.Bool.Decides.{nat_tests}
 use Rattle.std.proofs.lemmas.List.Elements.{All-contains, All-contains_itself, All-weaker}
@@ -24,14 +22,14 @@ use Rattle.model_file.specs.declared.flood.Flood.{Flood}
 use Rattle.model_file.specs.declared.flood.Stretch.{Stretch}
 use Rattle.vox_geom.proofs.Adjacent.{adjacent-sym}
 use Rattle.model_file.proofs.Stretches.{is_one, moved, near_moved, one_of}
-use Rattle.model_file.proofs.Floods.{fewer_in_row, full_within, row_asked, row_taken, row_was, has_cases, has_last, has_more, has_same, self_same, takes_then, takes_wider}
+use Rattle.model_file.proofs.Floods.{fewer_in_row, full_within, row_asked, row_taken, row_was, has_cases, has_last, has_more, has_same, self_same}
 use Rattle.model_file.specs.Flood.{HasFound, IsAmong, IsBeside, IsFlood, IsStart, IsTaken, TakesOut, full_of, weight}
 
-contrary : {A : Type 0} (b : Bool) → IsTrue b → b ≡ false → A
+pub contrary : {A : Type 0} (b : Bool) → IsTrue b → b ≡ false → A
 contrary b t f = cc
 
 -- what is left was there before
-still : (a b : Bool) → (a ≡ false → b ≡ false) → IsTrue b → IsTrue a
+pub still : (a b : Bool) → (a ≡ false → b ≡ false) → IsTrue b → IsTrue a
 still true b h t = refl
 still false b h t = contrary b t (h refl)
 
@@ -183,26 +181,8 @@ module _ (popped new : Flood) (p : Stretch) (count more : ℕ) (r : new.remainin
           of (inl h) = has_more popped new (record { first = p.first; bits = bit_or p.bits more }) items a h
           of (inr h) = has_last popped new (record { first = p.first; bits = bit_or p.bits more }) items a (widened a h)
 
-in_none : (f : Flood) (d : Coord) → f.found.items ≡ [] → HasFound f d → ⊥
+pub in_none : (f : Flood) (d : Coord) → f.found.items ≡ [] → HasFound f d → ⊥
 in_none f d e h = let l : length f.found.items ≡ 0 = ap length e in let k = h.is_found in omega (arith, k.1)
-
--- the floor was taken
-pub flood_begun : (m : Matrix) (a b : Flood) → a.remaining ≡ m → a.found.items ≡ [] → TakesOut (λ d. d.y ≡ 0) a b → ((d : Coord) → d.y ≡ 0 → is_full b.remaining d ≡ false) → IsFlood m b
-flood_begun m a b same none t gone = record {
-  resolution = t.resolution ∙ ap (λ (l : Matrix). l.resolution) same;
-  fewer = λ d f. t.fewer d (ap (λ (l : Matrix). is_full l d) same ∙ f);
-  grounded = λ d k. on_floor m d k.before (t.taken d (taken d k)).0;
-  found = λ d k. found d (t.found d k);
-  looked = λ d e k n f. (t.taken d (taken d k)).1;
-  floor = gone;
-}
-  where
-    taken : (d : Coord) → IsTaken m b.remaining d → IsTaken a.remaining b.remaining d
-    taken d k = record { before = ap (λ (l : Matrix). is_full l d) same ∙ k.before; after = k.after }
-
-    found : (d : Coord) → (HasFound a d ⊎ IsTaken a.remaining b.remaining d) → IsTaken m b.remaining d
-    found d (inl k) = absurd (in_none a d none k)
-    found d (inr k) = record { before = sym (ap (λ (l : Matrix). is_full l d) same) ∙ k.before; after = k.after }
 
 -- ---- the end
 
@@ -265,29 +245,3 @@ weight_falls near s popped new p same items t =
     let more : length s.found.items ≡ length popped.found.items + 1 = ap length items ∙ length-append popped.found.items (p ∷ []) in
     let weighs : weight new ≤ weight popped = t.weighs in
     omega arith
-
--- ---- the floor
-
-all_ones : (k : ℕ) → k < 64 → bit (2 ^ 64 - 1) k ≡ true
-all_ones k l = ap (λ d. d == 1) (bit_at_ones 64 k l)
-
--- one more stretch of a row of the floor was taken
-pub row_more : (a b c : Flood) (x k : ℕ) → TakesOut (λ d. d.y ≡ 0) a b → ((d : Coord) → d.x ≡ x → d.y ≡ 0 → d.z < 64 * k → is_full b.remaining d ≡ false) → TakesOut (IsAmong (record { first = record { x = x; y = 0; z = 64 * k }; bits = 2 ^ 64 - 1 })) b c → ((d : Coord) → IsAmong (record { first = record { x = x; y = 0; z = 64 * k }; bits = 2 ^ 64 - 1 }) d → is_full c.remaining d ≡ false) →
-    TakesOut (λ d. d.y ≡ 0) a c × ((d : Coord) → d.x ≡ x → d.y ≡ 0 → d.z < 64 * (k + 1) → is_full c.remaining d ≡ false)
-row_more a b c x k t before u here = (
-  takes_then (λ d. d.y ≡ 0) a b c t (takes_wider (IsAmong (record { first = record { x = x; y = 0; z = 64 * k }; bits = 2 ^ 64 - 1 })) (λ d. d.y ≡ 0) b c (λ d f s. s.y) u),
-  λ d ex ey l. by d ex ey l (cases_lt d.z (64 * k)),
-)
-  where
-    by : (d : Coord) → d.x ≡ x → d.y ≡ 0 → d.z < 64 * (k + 1) → ((d.z < 64 * k) ⊎ (64 * k ≤ d.z)) → is_full c.remaining d ≡ false
-    by d ex ey l (inl m) = u.fewer d (before d ex ey m)
-    by d ex ey l (inr m) = here d (record { x = ex; y = ey; from = m; to = omega arith; here = all_ones (d.z - 64 * k) (omega arith) })
-
--- one more row of the floor was taken
-pub floor_more : (a b c : Flood) (x : ℕ) → TakesOut (λ d. d.y ≡ 0) a b → ((d : Coord) → d.x < x → d.y ≡ 0 → is_full b.remaining d ≡ false) → TakesOut (λ d. d.y ≡ 0) b c → ((d : Coord) → d.x ≡ x → d.y ≡ 0 → is_full c.remaining d ≡ false) →
-    TakesOut (λ d. d.y ≡ 0) a c × ((d : Coord) → d.x < x + 1 → d.y ≡ 0 → is_full c.remaining d ≡ false)
-floor_more a b c x t before u here = (takes_then (λ d. d.y ≡ 0) a b c t u, λ d l e. by d l e (ℕ_discrete d.x x))
-  where
-    by : (d : Coord) → d.x < x + 1 → d.y ≡ 0 → Dec (d.x ≡ x) → is_full c.remaining d ≡ false
-    by d l e (yes s) = here d s e
-    by d l e (no n) = u.fewer d (before d (omega arith) e)

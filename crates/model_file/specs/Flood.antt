@@ -71,3 +71,26 @@ pub record IsFlood (m : Matrix) (f : Flood) : Type 0 where
   pub found : (c : Coord) → HasFound f c → IsTaken m f.remaining c
   pub looked : (a b : Coord) → IsTaken m f.remaining a → IsTrue (are_adjacent a b) → IsTrue (is_full f.remaining b) → HasFound f a
   pub floor : (c : Coord) → c.y ≡ 0 → is_full f.remaining c ≡ false
+
+-- what is left is a part of the matrix, and what was taken out of it is grounded
+pub record IsBegun (m : Matrix) (f : Flood) : Type 0 where
+  pub resolution : f.remaining.resolution ≡ m.resolution
+  pub fewer : (c : Coord) → is_full m c ≡ false → is_full f.remaining c ≡ false
+  pub grounded : (c : Coord) → IsTaken m f.remaining c → Grounded m c
+
+-- the coordinate is one of 64 of a row from a first one on
+pub record IsNextTo (first c : Coord) : Type 0 where
+  pub x : c.x ≡ first.x
+  pub y : c.y ≡ first.y
+  pub from : first.z ≤ c.z
+  pub to : c.z < first.z + 64
+
+-- of the coordinates of a stretch those have the bit 1 that were taken out
+pub record AreOut (m left : Matrix) (first : Coord) (bits : ℕ) : Type 0 where
+  pub out : (c : Coord) → IsAmong (record { first = first; bits = bits }) c → IsTaken m left c
+  pub all : (c : Coord) → IsNextTo first c → IsTaken m left c → IsAmong (record { first = first; bits = bits }) c
+
+-- the search looked around those voxels of an area that were out: what it took is grounded, and nothing beside them is left
+pub record LooksAround (m : Matrix) (area : Coord → Type 0) (old new : Flood) : Type 0 where
+  pub takes : TakesOut (Grounded m) old new
+  pub bare : (c d : Coord) → area c → IsTaken m old.remaining c → IsTrue (are_adjacent c d) → is_full new.remaining d ≡ false

@@ -5,7 +5,7 @@ ghost use Rattle.vox_geom.specs.Space.{IsInSpace};
 ghost use Rattle.nano_spec.specs.Grounded.{FirstUngrounded};
 ghost use Rattle.nano_spec.specs.Matrix.{Matrix, is_full};
 ghost use Rattle.model_file.specs.declared.flood.Flood.{Flood as FloodModel};
-ghost use Rattle.model_file.specs.Flood.{IsAmong, IsBeside, IsFlood, IsStart, TakesOut, weight};
+ghost use Rattle.model_file.specs.Flood.{AreOut, IsAmong, IsBegun, IsBeside, IsFlood, IsNextTo, IsStart, LooksAround, TakesOut, weight};
 
 use crate::least::least_full;
 use std::alloc::Global;
@@ -139,26 +139,134 @@ impl Flood {
         }
     }
 
-    /// Takes out the floor's voxels with this x.
-    fn take_floor_row<L: Ledger>(&mut self, x: u16, steps: &mut Steps<L>) -> Result<(), Memory>
-        ensures takes { IfOk result (λ _. TakesOut (λ d. d.y ≡ 0) self.old self.new) }
-        ensures gone { IfOk result (λ _. (d : Coordinate) → d.x ≡ x → d.y ≡ 0 → is_full self.new.remaining d ≡ false) }
+    /// Whether voxels of a stretch are left.
+    fn is_left<L: Ledger>(&self, first: Coord, bits: u64, steps: &mut Steps<L>) -> bool
+        ensures { result ≡ false → (d : Coordinate) → IsAmong (record { first = first; bits = bits }) d → is_full self.now.remaining d ≡ false }
     {
-        let words = self.remaining.resolution().div_ceil(64);
+        let r = self.remaining.resolution();
+        if bits == 0 {
+            return false;
+        }
+        if r <= first.x || r <= first.y || r <= first.z {
+            return false;
+        }
+        let count = u32::from(r - first.z).min(64);
+        self.remaining.peek_row(first, count, bits, steps) != 0
+    }
+
+    /// Whether voxels beside those of a stretch are left.
+    fn is_left_around<L: Ledger>(&self, first: Coord, bits: u64, steps: &mut Steps<L>) -> bool
+        requires { IsStart MOST_R (record { first = first; bits = bits }) }
+        ensures { result ≡ false → (d : Coordinate) → IsBeside (record { first = first; bits = bits }) d → is_full self.now.remaining d ≡ false }
+    {
+        let Coord { x, y, z } = first;
+        let left = x.wrapping_sub(1);
+        let under = y.wrapping_sub(1);
+        let before = z.wrapping_sub(64);
+        if self.is_left(Coord { x: x + 1, y, z }, bits, steps) {
+            return true;
+        }
+        if self.is_left(Coord { x: left, y, z }, bits, steps) {
+            return true;
+        }
+        if self.is_left(Coord { x, y: y + 1, z }, bits, steps) {
+            return true;
+        }
+        if self.is_left(Coord { x, y: under, z }, bits, steps) {
+            return true;
+        }
+        if self.is_left(first, (bits << 1) | (bits >> 1), steps) {
+            return true;
+        }
+        if self.is_left(Coord { x, y, z: z + 64 }, bits >> 63, steps) {
+            return true;
+        }
+        self.is_left(Coord { x, y, z: before }, bits << 63, steps)
+    }
+
+    /// Which voxels of a stretch are out, as its bits.
+    fn out_of<L: Ledger>(&self, planes: &Planes, first: Coord, steps: &mut Steps<L>) -> u64
+        requires within { IsInSpace planes.now.resolution first }
+        requires begun { IsBegun planes.now self.now }
+        ensures { AreOut planes.now self.now.remaining first result }
+    {
+        let count = u32::from(planes.resolution() - first.z).min(64);
+        let own = self.remaining.peek_row(first, count, u64::MAX, steps);
+        planes.peek_row(first, count, !own, steps)
+    }
+
+    /// Takes out the voxels that are beside those of a stretch that are out already.
+    fn take_beside<L: Ledger>(
+        &mut self,
+        planes: &Planes,
+        first: Coord,
+        steps: &mut Steps<L>,
+    ) -> Result<(), Memory>
+        requires within { IsInSpace planes.now.resolution first }
+        requires most { planes.now.resolution ≤ MOST_R }
+        requires each { first.z % 64 ≡ 0 }
+        requires begun { IsBegun planes.now self.old }
+        ensures { IfOk result (λ _. LooksAround planes.now (IsNextTo first) self.old self.new) }
+    {
+        let out = self.out_of(planes, first, steps);
+        if !self.is_left_around(first, out, steps) {
+            return Ok(());
+        }
+        self.take_around(first, out, steps)?;
+        Ok(())
+    }
+
+    /// Takes out the voxels that are beside those of a row that are out already.
+    fn take_beside_row<L: Ledger>(
+        &mut self,
+        planes: &Planes,
+        x: u16,
+        y: u16,
+        steps: &mut Steps<L>,
+    ) -> Result<(), Memory>
+        requires x { x < planes.now.resolution }
+        requires y { y < planes.now.resolution }
+        requires most { planes.now.resolution ≤ MOST_R }
+        requires begun { IsBegun planes.now self.old }
+        ensures { IfOk result (λ _. LooksAround planes.now (λ d. (d.x ≡ x) × (d.y ≡ y)) self.old self.new) }
+    {
+        let words = planes.resolution().div_ceil(64);
         for k in 0..words {
-            self.take(Coord { x, y: 0, z: 64 * k }, u64::MAX, steps)?;
+            self.take_beside(planes, Coord { x, y, z: 64 * k }, steps)?;
         }
         Ok(())
     }
 
-    /// Takes out the floor's voxels.
-    fn take_floor<L: Ledger>(&mut self, steps: &mut Steps<L>) -> Result<(), Memory>
-        ensures takes { IfOk result (λ _. TakesOut (λ d. d.y ≡ 0) self.old self.new) }
-        ensures gone { IfOk result (λ _. (d : Coordinate) → d.y ≡ 0 → is_full self.new.remaining d ≡ false) }
+    /// Takes out the voxels that are beside those of a layer that are out already.
+    fn take_beside_layer<L: Ledger>(
+        &mut self,
+        planes: &Planes,
+        y: u16,
+        steps: &mut Steps<L>,
+    ) -> Result<(), Memory>
+        requires y { y < planes.now.resolution }
+        requires most { planes.now.resolution ≤ MOST_R }
+        requires begun { IsBegun planes.now self.old }
+        ensures { IfOk result (λ _. LooksAround planes.now (λ d. d.y ≡ y) self.old self.new) }
     {
-        let r = self.remaining.resolution();
-        for x in 0..r {
-            self.take_floor_row(x, steps)?;
+        for x in 0..planes.resolution() {
+            self.take_beside_row(planes, x, y, steps)?;
+        }
+        Ok(())
+    }
+
+    /// Takes out the voxels that are beside those that are out already.
+    fn take_beside_all<L: Ledger>(
+        &mut self,
+        planes: &Planes,
+        steps: &mut Steps<L>,
+    ) -> Result<(), Memory>
+        requires most { planes.now.resolution ≤ MOST_R }
+        requires begun { IsBegun planes.now self.old }
+        ensures { IfOk result (λ _. LooksAround planes.now (λ _. Unit {0}) self.old self.new) }
+    {
+        for y in 0..planes.resolution() {
+            self.take_beside_layer(planes, y, steps)?;
         }
         Ok(())
     }
@@ -177,7 +285,8 @@ impl Flood {
     }
 }
 
-/// The least full voxel that is not grounded, counted in a ledger of its own.
+/// The least full voxel that is not grounded, counted in a ledger of its own. The search begins beside what stands on the floor or on
+/// one another from the floor up: that is out by one pass over the words.
 fn first_ungrounded_in<L: Ledger>(
     alloc: Global,
     planes: &Planes,
@@ -196,7 +305,8 @@ fn first_ungrounded_in<L: Ledger>(
         remaining: planes.copy(alloc)?,
         found: Vec::new(alloc),
     };
-    flood.take_floor(&mut steps)?;
+    flood.remaining.drop_heap(planes, &mut steps);
+    flood.take_beside_all(planes, &mut steps)?;
     flood.spread(&mut steps)?;
     Ok(least_full(&flood.remaining))
 }

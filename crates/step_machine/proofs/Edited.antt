@@ -1,7 +1,7 @@
 -- The step of the only bot by filling or voiding a voxel: which cells change.
 use Rattle.std.proofs.Common.{◌≡◌, ℕ, ◌+◌, ◌*◌, ◌≤◌, refl, sym, ◌∙◌, ap, subst, arith, List, [], ◌∷◌, Bool, true, false, ◌&&◌, ◌||◌, not, cond, length, append-nil, filter}
 use Rattle.std.specs.Bool.{beq}
-use Rattle.std.specs.Prelude.{None, IsTrue, MatchBool, count_by}
+use Rattle.std.specs.Prelude.{Option, None, IsTrue, MatchBool, count_by}
 use Rattle.std.proofs.lemmas.List.Sums.{length-filter, sum_by-cons}
 use Rattle.vox_geom.specs.declared.coordinate.Coord.{Coord}
 use Rattle.vox_geom.specs.declared.difference.Diff.{Diff}
@@ -25,7 +25,12 @@ use Rattle.system_state.proofs.OnlyBot.{within_just}
 use Rattle.system_state.proofs.Single.{only_one}
 use Rattle.step_machine.specs.Edits.{cells_of, cells_of_all, edit_count, edits_of, edits_total}
 use Rattle.support_forest.specs.Standing.{AreAdded, AreRemoved, IsCheap, MayAdd, MayRemove, Standing}
-use Rattle.step_machine.specs.Settling.{IsRefitted}
+use Rattle.nano_spec.specs.declared.system.Harmonics.{Harmonics}
+use Rattle.nano_spec.specs.declared.system.Harmonics.TheVariants.{High, Low}
+use Rattle.nano_spec.specs.Grounded.{FirstUngrounded}
+use Rattle.nano_spec.specs.State.{is_high}
+use Rattle.step_machine.specs.Settling.{IsRefitted, IsSettled}
+use Rattle.step_machine.proofs.Stepping.{goes}
 use Rattle.step_machine.proofs.Refitting.{cheap_none, is_refitted, lost_none, may_gain, may_lose, won_none}
 use Rattle.step_machine.proofs.Still.{only_bot}
 use Rattle.step_machine.proofs.Working.{edits_are_volatile}
@@ -142,7 +147,7 @@ module _ (s : State) (d : Diff) (at : Coord) (full : Bool) (commands : List Comm
     won_as : (now : List Coord) → now ≡ cond (full && not was) (at ∷ []) [] → now ≡ edits_of s commands false
     won_as now e = added_are was (at ∷ []) now found refl e
 
-    paid_for : (before listed : ℕ) → listed ≡ before + 1 → listed ≤ before + 96 * volatile_total s.matrix (acts s.bots commands)
+    paid_for : (before listed : ℕ) → listed ≤ before + 10 → listed ≤ before + 96 * volatile_total s.matrix (acts s.bots commands)
     paid_for before listed l = let v = one_volatile step ready keeps in omega (arith, v, l)
 
     -- the voxel may become full, or else void, where it is otherwise
@@ -157,7 +162,7 @@ module _ (s : State) (d : Diff) (at : Coord) (full : Bool) (commands : List Comm
             let part = part_void full was (at ∷ []) other e in
             may_lose s commands step ready keeps old (at ∷ []) tied (lost_as (at ∷ []) part.0)
 
-    module _ (forest : Standing) (before listed after : ℕ) (stands : forest.spent ≡ false) (once : listed ≡ before + 1) where
+    module _ (forest : Standing) (before listed after : ℕ) (stands : forest.spent ≡ false) (once : listed ≤ before + 10) where
       -- and then the forest is that of the step's state
       pub changed_refitted : beq was full ≡ false → MatchBool full (AreAdded old forest.matrix (at ∷ [])) (AreRemoved old forest.matrix (at ∷ [])) → IsCheap old forest.matrix (at ∷ []) 100 listed after → IsRefitted s commands forest before after
       changed_refitted other changed cheap = by full refl changed
@@ -180,3 +185,16 @@ module _ (s : State) (d : Diff) (at : Coord) (full : Bool) (commands : List Comm
           let whole_too = subst (λ (n : Matrix). length n.voxels ≡ volume n.resolution) (sym kept) whole in
           is_refitted s commands step ready keeps m m forest [] [] before listed listed after (kept ∙ tied) (lost_as [] part.0) (won_as [] part.1) (paid_for before listed once)
           (lost_none m whole_too) (cheap_none m m listed) (won_none m whole_too) (λ first last f l. let c = cheap_none m m listed first last f l in omega (arith, c, end)) stands
+
+  -- the forest is that of the step's state, and each voxel in it is held up where it has to be
+  pub settled_by : (step : ℕ) → broken s commands step ≡ None → (forest : Standing) (before after : ℕ) → IsRefitted s commands forest before after → (s.harmonics ≡ Low → FirstUngrounded forest.matrix None) → IsSettled s commands step forest before after
+  settled_by step keeps forest before ended r held = record {
+    goes = goes s _ commands step s.harmonics forest.matrix None keeps (record { harmonics_is = harmonics_stay; matrix_is = r.matrix; found = found s.harmonics refl }) refl refl;
+    tied = r.matrix;
+    stands = r.stands;
+    touches = r.touches;
+  }
+    where
+      found : (h : Harmonics) → s.harmonics ≡ h → MatchBool (is_high h) ((let at : Option Coord = None in at) ≡ None) (FirstUngrounded forest.matrix None)
+      found High e = refl
+      found Low e = held e

@@ -17,4 +17,5 @@ pub mod Working
 pub mod Taking
 pub mod Still
 pub mod Edited
+pub mod Declining
 pub mod Ends

@@ -1,5 +1,5 @@
 -- What comes of a step that breaks no rule at its start, before its groups act.
-use Rattle.std.specs.Prelude.{◌≡◌, ℕ, ◌+◌, ◌*◌, ◌≤◌, Bool, List, [], ◌∷◌, true, false, length}
+use Rattle.std.specs.Prelude.{◌≡◌, ◌⊎◌, ℕ, ◌+◌, ◌*◌, ◌≤◌, Bool, List, [], ◌∷◌, None, true, false, length}
 use Rattle.vox_geom.specs.declared.coordinate.Coord.{Coord}
 use Rattle.vox_geom.specs.declared.difference.Diff.{Diff}
 use Rattle.vox_geom.specs.Point.{point, plus}
@@ -15,6 +15,7 @@ use Rattle.nano_spec.specs.Group.{leaders}
 use Rattle.nano_spec.specs.Matrix.{Matrix}
 use Rattle.nano_spec.specs.Model.{volume}
 use Rattle.nano_spec.specs.Next.{Breaks, Goes, Next}
+use Rattle.nano_spec.specs.Rules.{broken}
 use Rattle.nano_spec.specs.State.{State}
 use Rattle.nano_spec.specs.Step.{after}
 use Rattle.nano_spec.specs.Work.{WorkOfActs, volatile_total}
@@ -88,3 +89,7 @@ abbrev pub IsUnsettled : State → List Command → ℕ → StepFault → ℕ �
 IsUnsettled s commands step (fault.Broken b) began ended = IsFloating s commands step b began ended
 IsUnsettled s commands step fault.Memory began ended = Unit {0}
 IsUnsettled s commands step fault.Spent began ended = ⊥
+
+-- a try to make a step at once, that was declined, touched no voxel, or only a few where no rule is broken that is judged at the start
+abbrev pub IsDeclined : State → List Command → ℕ → ℕ → ℕ → Type 0
+IsDeclined s commands step began ended = (ended ≡ began) ⊎ ((broken s commands step ≡ None) × (ended ≤ began + 9))

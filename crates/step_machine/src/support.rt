@@ -1,5 +1,6 @@
 //! How the full voxels are held up.
-ghost use Rattle.std.specs.Prelude.{◌≡◌, ℕ, ◌+◌, ◌*◌, ◌≤◌, ◌%◌, ◌==◌, [], ◌∷◌, ◌++◌, true, false, length, count_by, cond, IfOk, IfErr, IfNone, MatchBool, None, Err};
+ghost use Rattle.std.specs.Prelude.{◌≡◌, ℕ, ◌+◌, ◌*◌, ◌≤◌, ◌%◌, ◌==◌, [], ◌∷◌, ◌++◌, true, false, length, count_by, cond, IfOk, IfErr, IfSome, IfNone, MatchBool, None, Err};
+ghost use Rattle.nano_spec.specs.declared.system.Harmonics.TheVariants.{Low};
 ghost use Rattle.nano_spec.specs.Act.{acts, is_flip};
 ghost use Rattle.nano_spec.specs.Cutting.{AreCommands};
 ghost use Rattle.nano_spec.specs.Grounded.{FirstUngrounded};
@@ -197,7 +198,8 @@ fn change_cell<L: Ledger>(
     }
 }
 
-/// The forest after the only bot filled the voxel at the coordinate, or else voided it, and whether that was full.
+/// The forest after the only bot filled the voxel at the coordinate, or else voided it, and whether that was full. A few touches may
+/// have been made for the step before.
 #[inline(always)]
 fn refit_one<L: Ledger>(
     system: &System,
@@ -212,7 +214,7 @@ fn refit_one<L: Ledger>(
     requires edit { IsOneEdit system.now commands.now d at full }
     requires stands { forest.old.spent ≡ false }
     requires tied { forest.old.matrix ≡ system.now.matrix }
-    ensures refitted { IfOk result (λ _. IsRefitted system.now commands.now forest.new steps.old steps.new) }
+    ensures refitted { IfOk result (λ _. (before : ℕ) → steps.old ≤ before + 9 → IsRefitted system.now commands.now forest.new before steps.new) }
     ensures was { IfOk result (λ was. was ≡ is_full system.now.matrix at) }
 {
     system.know();
@@ -222,6 +224,62 @@ fn refit_one<L: Ledger>(
     }
     change_cell(forest, at, full, steps)?;
     Ok(was)
+}
+
+/// One cell becomes full, or else void, where no other level changes by it: whether it did. Otherwise all stays.
+#[inline(always)]
+fn change_at_once<L: Ledger>(
+    forest: &mut Forest,
+    cell: Coord,
+    full: bool,
+    steps: &mut Steps<L>,
+) -> bool
+    requires stands { forest.old.spent ≡ false }
+    requires cell { MatchBool full (MayAdd forest.old.matrix (cell ∷ [])) (MayRemove forest.old.matrix (cell ∷ [])) }
+    ensures value { result ≡ true
+        → MatchBool full (AreAdded forest.old.matrix forest.new.matrix (cell ∷ [])) (AreRemoved forest.old.matrix forest.new.matrix (cell ∷ [])) }
+    ensures held { result ≡ true → FirstUngrounded forest.old.matrix None → FirstUngrounded forest.new.matrix None }
+    ensures stays { result ≡ false → forest.new ≡ forest.old }
+    ensures stands { forest.new.spent ≡ false }
+    ensures touches { steps.new ≤ steps.old + 8 }
+{
+    if full {
+        return forest.stand(cell, steps);
+    }
+    forest.clear(cell, steps)
+}
+
+/// [`settle_one`] where no other level changes, and each voxel is held up as before, `None` where others do: then all stays.
+#[inline(always)]
+pub(crate) fn settle_at_once<L: Ledger>(
+    system: &System,
+    commands: &[Command],
+    d: Near,
+    at: Coord,
+    full: bool,
+    step: u32,
+    forest: &mut Forest,
+    steps: &mut Steps<L>,
+) -> Option<bool>
+    requires judged { broken_of system.now commands.now step ≡ None }
+    requires edit { IsOneEdit system.now commands.now d at full }
+    requires stands { forest.old.spent ≡ false }
+    requires tied { forest.old.matrix ≡ system.now.matrix }
+    requires held { system.now.harmonics ≡ Low → FirstUngrounded system.now.matrix None }
+    ensures settled { IfSome result (λ _. IsSettled system.now commands.now step forest.new steps.old steps.new) }
+    ensures was { IfSome result (λ was. was ≡ is_full system.now.matrix at) }
+    ensures stays { IfNone result (forest.new ≡ forest.old) }
+    ensures touches { IfNone result (steps.new ≤ steps.old + 9) }
+{
+    system.know();
+    let was = system.matrix().full_at(at, steps);
+    if was == full {
+        return Some(was);
+    }
+    if change_at_once(forest, at, full, steps) {
+        return Some(was);
+    }
+    None
 }
 
 /// The forest before a step that is taken back: it loses what became full, and then gains what became void.
@@ -324,7 +382,7 @@ pub(crate) fn settle_unlisted<L: Ledger>(
 }
 
 /// The same for a step of the only bot that fills the voxel at the coordinate, or else voids it. The answer is whether that
-/// was full.
+/// was full. A few touches may have been made for the step before.
 #[inline(always)]
 pub(crate) fn settle_one<L: Ledger>(
     system: &System,
@@ -340,8 +398,8 @@ pub(crate) fn settle_one<L: Ledger>(
     requires edit { IsOneEdit system.now commands.now d at full }
     requires stands { forest.old.spent ≡ false }
     requires tied { forest.old.matrix ≡ system.now.matrix }
-    ensures settled { IfOk result (λ _. IsSettled system.now commands.now step forest.new steps.old steps.new) }
-    ensures unsettled { IfErr result (λ fault. IsUnsettled system.now commands.now step fault steps.old steps.new) }
+    ensures settled { IfOk result (λ _. (before : ℕ) → steps.old ≤ before + 9 → IsSettled system.now commands.now step forest.new before steps.new) }
+    ensures unsettled { IfErr result (λ fault. (before : ℕ) → steps.old ≤ before + 9 → IsUnsettled system.now commands.now step fault before steps.new) }
     ensures was { IfOk result (λ was. was ≡ is_full system.now.matrix at) }
 {
     let was = refit_one(system, commands, d, at, full, forest, steps)?;

@@ -7,11 +7,11 @@ use Rattle.support_forest.specs.Directions.{Toward}
 use Rattle.support_forest.specs.Grid.{Grid, word_at}
 use Rattle.support_forest.specs.Losing.{CanRemove}
 use Rattle.support_forest.specs.Stretches.{AreCleared, IsPast, IsStretch, IsTaking, RowIsFree, TakesMore, further}
-use Rattle.support_forest.specs.Taking.{HaveTaken}
+use Rattle.support_forest.specs.Taking.{HaveTaken, IsNoParent}
 use Rattle.support_forest.specs.Words.{AreExact, IsWritten}
 use Rattle.support_forest.proofs.Each.{before_last, taking_listed, taking_taken}
 use Rattle.support_forest.proofs.Settling.{same_or_not}
-use Rattle.support_forest.proofs.Taking.{IsNoParent, exact_without}
+use Rattle.support_forest.proofs.Taking.{exact_without}
 
 -- ---- voxels of a row become void
 

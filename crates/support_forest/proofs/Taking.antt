@@ -8,16 +8,12 @@ use Rattle.support_forest.specs.Directions.{Toward}
 use Rattle.support_forest.specs.Grid.{Grid, word_at}
 use Rattle.support_forest.specs.Losing.{CanRemove, HaveRemoved}
 use Rattle.support_forest.specs.Placing.{AreBesideWords, IsWordToward}
-use Rattle.support_forest.specs.Taking.{HangsNot, HaveTaken, NoneHangs}
+use Rattle.support_forest.specs.Taking.{HangsNot, HaveTaken, IsNoParent, NoneHangs}
 use Rattle.support_forest.specs.Words.{AreExact, IsWritten}
 use Rattle.support_forest.proofs.Placing.{only_one}
 use Rattle.support_forest.proofs.Settling.{same_or_not}
 
--- no voxel has its parent there
-abbrev pub IsNoParent : (Coord → ℕ) → Coord → Type 0
-IsNoParent w c = (q : Coord) → 8 ≤ w q → Toward (w q % 8) q c → ⊥
-
-none_hangs : (w : Coord → ℕ) (c : Coord) (b : Beside) → AreBesideWords w c b → NoneHangs b → IsNoParent w c
+pub none_hangs : (w : Coord → ℕ) (c : Coord) (b : Beside) → AreBesideWords w c b → NoneHangs b → IsNoParent w c
 unfolding Toward
 none_hangs w c b k n q h t = by t
   where
@@ -55,8 +51,8 @@ taken_by old new c before after e n w r t = record {
   cost = t;
 }
 
-pub taken : (old new : Grid) (c : Coord) (b : Beside) (before mid next after : ℕ) → AreExact old.resolution (word_at old) → AreBesideWords (word_at old) c b → NoneHangs b → IsWritten (word_at old) (word_at new) c 0 → new.resolution ≡ old.resolution → mid ≤ before + 6 → next ≤ mid + 1 → after ≡ next + 1 → HaveTaken old new c before after
-taken old new c b before mid next after e k n w r l m t = taken_by old new c before after e (none_hangs (word_at old) c b k n) w r (omega arith)
+pub taken : (old new : Grid) (c : Coord) (before mid next after : ℕ) → AreExact old.resolution (word_at old) → IsNoParent (word_at old) c → IsWritten (word_at old) (word_at new) c 0 → new.resolution ≡ old.resolution → mid ≤ before + 6 → next ≤ mid + 1 → after ≡ next + 1 → HaveTaken old new c before after
+taken old new c before mid next after e n w r l m t = taken_by old new c before after e n w r (omega arith)
 
 -- ---- the voxel is on the floor
 

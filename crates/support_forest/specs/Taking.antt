@@ -3,6 +3,7 @@ use Rattle.std.specs.Prelude.{◌≡◌, ℕ, ◌+◌, ◌*◌, ◌%◌, ◌<◌
 use Rattle.std.specs.List.{Contains}
 use Rattle.vox_geom.specs.declared.coordinate.Coord.{Coord}
 use Rattle.support_forest.specs.declared.beside.Beside.{Beside}
+use Rattle.support_forest.specs.Directions.{Toward}
 use Rattle.support_forest.specs.Grid.{Grid, word_at}
 use Rattle.support_forest.specs.Losing.{CanRemove}
 use Rattle.support_forest.specs.Words.{AreExact}
@@ -19,6 +20,10 @@ pub record NoneHangs (b : Beside) : Type 0 where
   pub over : HangsNot b.over 3
   pub near : HangsNot b.near 6
   pub far : HangsNot b.far 5
+
+-- no voxel has its parent there
+abbrev pub IsNoParent : (Coord → ℕ) → Coord → Type 0
+IsNoParent w c = (q : Coord) → 8 ≤ w q → Toward (w q % 8) q c → ⊥
 
 -- the words are exact, and the voxel is full
 pub record CanTake (g : Grid) (c : Coord) : Type 0 where

@@ -4,8 +4,9 @@ ghost use Rattle.vox_geom.specs.declared.coordinate.Coord.{Coord};
 ghost use Rattle.support_forest.specs.Grid.{slot_of, word_at};
 ghost use Rattle.support_forest.specs.Placing.{AreBesideWords, CanPlace, IsAround, IsWordToward, LeavesRoom, MayLieUnder, MayStand, PlacesOrStays};
 
-use crate::beside::{Beside, word_toward, words_beyond, words_in};
+use crate::beside::{Beside, word_near, word_toward, words_beyond, words_in};
 use crate::cells::{Cells, word_index};
+use brick_arena::start_in_chunk;
 use std::alloc::AllocError;
 use std::sync::ledger::Ledger;
 use vox_geom::{Coord, Steps};
@@ -147,7 +148,8 @@ fn place_on_floor<L: Ledger>(cells: &mut Cells, c: Coord, slot: u32, steps: &mut
     requires can { CanPlace cells.old c }
     requires floor { c.y ≡ 0 }
     requires slot { slot_of cells.old c ≡ Some slot }
-    ensures { PlacesOrStays result cells.old cells.new c steps.old steps.new }
+    ensures placed { PlacesOrStays result cells.old cells.new c steps.old steps.new }
+    ensures held { result ≡ true → 8 ≤ word_at cells.new c }
 {
     let over = word_toward(cells, c, Some(slot), word_index(c), 4, steps);
     if !may_lie_under(over) {
@@ -196,4 +198,62 @@ pub fn place<L: Ledger>(
         return Ok(place_on_floor(cells, c, slot, steps));
     }
     place_in(cells, c, slot, steps)
+}
+
+/// [`stand`] above the floor, where the voxel's brick has this slot. Each word beside the voxel is judged as it is read, so that none is
+/// kept.
+#[inline(always)]
+fn stand_in<L: Ledger>(cells: &mut Cells, c: Coord, slot: u32, steps: &mut Steps<L>) -> bool
+    requires can { CanPlace cells.old c }
+    requires slot { slot_of cells.old c ≡ Some slot }
+    ensures placed { PlacesOrStays result cells.old cells.new c steps.old steps.new }
+    ensures held { result ≡ true → 8 ≤ word_at cells.new c }
+{
+    cells.recall();
+    let chunk = cells.chunk(slot);
+    let start = start_in_chunk(slot);
+    let under = word_near(cells, c, slot, chunk, start, 3, steps);
+    let height = under / 8;
+    if height == 0 {
+        return false;
+    }
+    let left = word_near(cells, c, slot, chunk, start, 1, steps);
+    if !leaves_room(left, height) {
+        return false;
+    }
+    let right = word_near(cells, c, slot, chunk, start, 2, steps);
+    if !leaves_room(right, height) {
+        return false;
+    }
+    let over = word_near(cells, c, slot, chunk, start, 4, steps);
+    if !leaves_room(over, height) {
+        return false;
+    }
+    let near = word_near(cells, c, slot, chunk, start, 5, steps);
+    if !leaves_room(near, height) {
+        return false;
+    }
+    let far = word_near(cells, c, slot, chunk, start, 6, steps);
+    if !leaves_room(far, height) {
+        return false;
+    }
+    cells.write(slot, c, 0, 8 * height + 11, steps);
+    true
+}
+
+/// Makes a void voxel full that stands on the floor or on the one under it, where no other level changes by it, and tells whether it
+/// did: otherwise all stays.
+#[inline(always)]
+pub fn stand<L: Ledger>(cells: &mut Cells, c: Coord, steps: &mut Steps<L>) -> bool
+    requires { CanPlace cells.old c }
+    ensures placed { PlacesOrStays result cells.old cells.new c steps.old steps.new }
+    ensures held { result ≡ true → 8 ≤ word_at cells.new c }
+{
+    let Some(slot) = cells.slot(c) else {
+        return false;
+    };
+    if c.y == 0 {
+        return place_on_floor(cells, c, slot, steps);
+    }
+    stand_in(cells, c, slot, steps)
 }

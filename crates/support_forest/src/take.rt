@@ -1,11 +1,13 @@
 //! Takes away a voxel on which no other hangs.
-ghost use Rattle.std.specs.Prelude.{◌≡◌, ◌+◌, ◌<◌, ◌≤◌, MatchBool, Some, false};
+ghost use Rattle.std.specs.Prelude.{◌≡◌, ◌+◌, ◌<◌, ◌≤◌, Some, false};
+ghost use Rattle.vox_geom.specs.Space.{IsInSpace};
 ghost use Rattle.vox_geom.specs.declared.coordinate.Coord.{Coord};
 ghost use Rattle.support_forest.specs.Grid.{slot_of, word_at};
-ghost use Rattle.support_forest.specs.Taking.{CanTake, HangsNot, NoneHangs, TakesOrStays};
+ghost use Rattle.support_forest.specs.Taking.{CanTake, HangsNot, IsNoParent, TakesOrStays};
 
-use crate::beside::{Beside, word_toward, words_in};
+use crate::beside::{word_near, word_toward};
 use crate::cells::{Cells, word_index};
+use brick_arena::start_in_chunk;
 use std::sync::ledger::Ledger;
 use vox_geom::{Coord, Steps};
 
@@ -17,17 +19,41 @@ pub fn hangs(word: u32, toward: u32) -> bool
     word % 8 == toward && word != 1
 }
 
-/// Whether a neighbour has its parent in the voxel between these words.
+/// Whether a neighbour has its parent in a voxel whose brick has this slot. Each word beside the voxel is judged as it is read, so
+/// that none is kept.
 #[inline(always)]
-fn is_parent(beside: Beside) -> bool
-    ensures { result ≡ false → NoneHangs beside }
+fn is_parent<L: Ledger>(cells: &Cells, c: Coord, slot: u32, steps: &mut Steps<L>) -> bool
+    requires within { IsInSpace cells.now.resolution c }
+    requires slot { slot_of cells.now c ≡ Some slot }
+    requires space { (q : Coord) → 0 < word_at cells.now q → IsInSpace cells.now.resolution q }
+    ensures parent { result ≡ false → IsNoParent (word_at cells.now) c }
+    ensures touches { steps.new ≤ steps.old + 6 }
 {
-    hangs(beside.left, 2)
-        || hangs(beside.right, 1)
-        || hangs(beside.under, 4)
-        || hangs(beside.over, 3)
-        || hangs(beside.near, 6)
-        || hangs(beside.far, 5)
+    cells.recall();
+    let chunk = cells.chunk(slot);
+    let start = start_in_chunk(slot);
+    let over = word_near(cells, c, slot, chunk, start, 4, steps);
+    if hangs(over, 3) {
+        return true;
+    }
+    let left = word_near(cells, c, slot, chunk, start, 1, steps);
+    if hangs(left, 2) {
+        return true;
+    }
+    let right = word_near(cells, c, slot, chunk, start, 2, steps);
+    if hangs(right, 1) {
+        return true;
+    }
+    let under = word_near(cells, c, slot, chunk, start, 3, steps);
+    if hangs(under, 4) {
+        return true;
+    }
+    let near = word_near(cells, c, slot, chunk, start, 5, steps);
+    if hangs(near, 6) {
+        return true;
+    }
+    let far = word_near(cells, c, slot, chunk, start, 6, steps);
+    hangs(far, 5)
 }
 
 /// [`take`] on the floor, where each full voxel stands on the floor: that over it is the only one that can hang on it.
@@ -58,7 +84,7 @@ pub fn take<L: Ledger>(cells: &mut Cells, c: Coord, steps: &mut Steps<L>) -> boo
     if c.y == 0 {
         return take_from_floor(cells, c, slot, steps);
     }
-    if is_parent(words_in(cells, c, slot, steps)) {
+    if is_parent(cells, c, slot, steps) {
         return false;
     }
     let word = cells.word_in(Some(slot), c, steps);

@@ -47,7 +47,7 @@ lost_bit w u fits small some =
     let values = lost_value (bit_at w k) (bit_at u k) (bit_at-lt w k) both in
     (k, z.0, ap (λ d. d == 1) values.0, ap (λ d. d == 1) values.1)
 
-word_bit : (ws : List ℕ) (i k : ℕ) → k < 64 → is_set ws (i * 64 + k) ≡ bit (get_or ws i 0) k
+pub word_bit : (ws : List ℕ) (i k : ℕ) → k < 64 → is_set ws (i * 64 + k) ≡ bit (get_or ws i 0) k
 unfolding is_set
 word_bit ws i k l =
     let d : (i * 64 + k) / 64 ≡ i = omega arith in
@@ -87,7 +87,7 @@ first_part : (a b : Bool) → IsTrue (a && b) → IsTrue a
 first_part true b h = refl
 first_part false b h = h
 
-one_down : (y n : ℕ) → 0 < y → y * n ≡ (y - 1) * n + n
+pub one_down : (y n : ℕ) → 0 < y → y * n ≡ (y - 1) * n + n
 one_down zero n l = absurd (omega arith)
 one_down (suc y) n l = let less : suc y - 1 ≡ y = omega arith in suc-mul y n ∙ ap (λ v. v * n + n) (sym less)
 

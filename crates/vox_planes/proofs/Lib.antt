@@ -8,6 +8,7 @@ pub mod Walks
 pub mod Placed
 pub mod Chunks
 pub mod TakenBits
+pub mod Stacks
 pub mod Lines
 pub mod Painting
 pub mod Filled

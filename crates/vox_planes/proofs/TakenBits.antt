@@ -24,13 +24,13 @@ use Rattle.vox_planes.proofs.Voxels.{is_full-layered}
 both_ones : (x y : ℕ) → x < 2 → y < 2 → (min x y == 1) ≡ ((x == 1) && (y == 1))
 both_ones x y l m = grind (arith, nat_tests)
 
-and_bit : (a b k : ℕ) → bit (bit_and a b) k ≡ (bit a k && bit b k)
+pub and_bit : (a b k : ℕ) → bit (bit_and a b) k ≡ (bit a k && bit b k)
 and_bit a b k = ap (λ d. d == 1) (bit_at_and a b k) ∙ both_ones (bit_at a k) (bit_at b k) (bit_at-lt a k) (bit_at-lt b k)
 
 other_one : (x : ℕ) → x < 2 → (1 - x == 1) ≡ not (x == 1)
 other_one x l = grind (arith, nat_tests)
 
-not_bit : (b k : ℕ) → b < 2 ^ 64 → k < 64 → bit (bit_not w64 b) k ≡ not (bit b k)
+pub not_bit : (b k : ℕ) → b < 2 ^ 64 → k < 64 → bit (bit_not w64 b) k ≡ not (bit b k)
 not_bit b k l m = ap (λ d. d == 1) (bit_at_not w64 b k l m) ∙ other_one (bit_at b k) (bit_at-lt b k)
 
 turned : (a b : Bool) → (a && b) ≡ (b && a)
@@ -78,6 +78,19 @@ taken_none words index bits = record {
   was = record { bits = λ j l. absurd (omega arith); below = omega arith };
   left = λ j. sym (kept (is_set words j) (bit bits (j - index))) ∙ ap (λ b. is_set words j && not (b && bit bits (j - index))) (sym (none_of_these index 0 j (λ k l e. absurd (omega arith))));
 }
+
+-- one part more of the marked bits was read
+pub peeked_more : (words : List ℕ) (index done count bits part taken both : ℕ) → HasBits taken done (λ k. bit bits k && is_set words (index + k)) → done + count ≤ 64 →
+    ((k : ℕ) → k < count → bit part k ≡ (bit (bits / 2 ^ done) k && is_set words (index + done + k))) → part < 2 ^ count →
+    both ≡ taken + part * 2 ^ done % 2 ^ 64 → HasBits both (done + count) (λ k. bit bits k && is_set words (index + k))
+peeked_more words index done count bits part taken both h few full below e =
+    bits_joined taken part both done count (λ k. bit bits k && is_set words (index + k)) h below (λ k l. full k l ∙ (λ i. again k i && ap (is_set words) (there k) i)) few e
+  where
+    again : (k : ℕ) → bit (bits / 2 ^ done) k ≡ bit bits (done + k)
+    again k = ap (λ d. d == 1) (shifted_bit bits done k)
+
+    there : (k : ℕ) → index + done + k ≡ index + (done + k)
+    there k = omega arith
 
 pub taken_more : (old mid new : List ℕ) (index done count bits part taken both : ℕ) → AreTaken old mid index done bits taken → done + count ≤ 64 →
     ((k : ℕ) → k < count → bit part k ≡ (bit (bits / 2 ^ done) k && is_set mid (index + done + k))) → part < 2 ^ count →
@@ -173,6 +186,15 @@ module _ (r : ℕ) (old new : List ℕ) (first : Coord) (count bits taken : ℕ)
     whole = same ∙ w.whole;
     unused = λ y i l m n. h.left (y * layer_words r * 64 + i) ∙ ap (λ b. b && not (is_from (bit_index r first) count (y * layer_words r * 64 + i) && bit bits (y * layer_words r * 64 + i - bit_index r first))) (w.unused y i l m n);
   }
+
+-- the marked bits that were read of a row are its full voxels
+pub row_peeked : (r : ℕ) (ws : List ℕ) (first : Coord) (count bits found : ℕ) → IsInSpace r first → first.z + count ≤ r →
+    ((k : ℕ) → k < count → bit found k ≡ (bit bits k && is_set ws (bit_index r first + k))) →
+    (k : ℕ) → k < count → bit found k ≡ (bit bits k && is_full (layered r ws) (at first (first.z + k)))
+row_peeked r ws first count bits found within row h k l =
+    let on : bit_index r (at first (first.z + k)) ≡ bit_index r first + k = omega arith in
+    let here : IsInSpace r (at first (first.z + k)) = record { x = within.x; y = within.y; z = omega arith } in
+    h k l ∙ ap (λ b. bit bits k && b) (ap (is_set ws) (sym on) ∙ sym (is_full-layered r ws (at first (first.z + k)) here))
 
 -- what `take_bits` says, read from the words as they were to those that are kept
 pub taken_by : (r : ℕ) (first : Coord) (old old' new new' : List ℕ) (i count bits taken : ℕ) → old' ≡ old → new ≡ new' → i ≡ bit_index r first → taken < 2 ^ count → ((k : ℕ) → k < count → bit taken k ≡ (bit bits k && is_set old' (i + k))) → ((j : ℕ) → is_set new j ≡ (is_set old' j && not (is_from i count j && bit bits (j - i)))) → AreTaken old new' (bit_index r first) count bits taken

@@ -1,14 +1,16 @@
 //! The step of the only bot by a command that needs no other, made at once: no turns and no changes are listed.
-ghost use Rattle.std.specs.Prelude.{◌≡◌, ◌≢◌, ◌<◌, [], ◌∷◌, false, true, length, None, Err};
+ghost use Rattle.std.specs.Prelude.{◌≡◌, ◌≢◌, ℕ, ◌+◌, ◌<◌, [], ◌∷◌, false, true, length, None, Err};
 ghost use Rattle.nano_spec.specs.declared.commands.Command.TheVariants.{SMove};
 ghost use Rattle.nano_spec.specs.declared.system.Harmonics.TheVariants.{Low};
 ghost use Rattle.nano_spec.specs.Grounded.{FirstUngrounded};
 ghost use Rattle.step_groups.specs.Judging.{edit_of};
 ghost use Rattle.step_machine.specs.Edits.{is_edit};
+ghost use Rattle.step_machine.specs.Settling.{IsDeclined};
 ghost use Rattle.step_machine.specs.Stepped.{Stepped, answer_of};
+ghost use Rattle.step_machine.specs.declared.machine.StepFault.{StepFault as Fault};
 
 use super::{Machine, StepFault, know_step};
-use crate::support::settle_one;
+use crate::support::{settle_at_once, settle_one};
 use nano_spec::{Command, Harmonics};
 use std::sync::ledger::Ledger;
 use vox_geom::{Long, Near, Steps};
@@ -60,10 +62,37 @@ impl Machine {
         true
     }
 
-    /// The step of the only bot in which it fills a voxel, or else voids it: a call of its own for each of the two, so that the rest
-    /// of [`Machine::step_alone`] is small enough to be written out for its callers, and no register holds which of them it is.
+    /// The step of the only bot in which it fills a voxel, or else voids it, where no rule is broken and no other level changes:
+    /// whether it was made. Otherwise all stays.
+    #[inline(always)]
+    fn edit_at_once<const FULL: bool, L: Ledger>(&mut self, d: Near, steps: &mut Steps<L>) -> bool
+        requires stands { self.old.spent ≡ false }
+        requires one { length self.old.state.bots ≡ 1 }
+        requires held { self.old.state.harmonics ≡ Low → FirstUngrounded self.old.state.matrix None }
+        requires steps { self.old.steps < 1073741824 }
+        ensures made { result ≡ true → (fault : Fault) → Stepped self.old self.new (edit_of FULL d ∷ []) (answer_of true self.new.state fault) steps.old steps.new }
+        ensures stays { result ≡ false → self.new ≡ self.old }
+        ensures declined { result ≡ false → IsDeclined self.old.state (edit_of FULL d ∷ []) (self.old.steps + 1) steps.old steps.new }
+    {
+        let step = self.steps + 1;
+        let commands = [edit(d, FULL)];
+        know_step(&self.system, &commands);
+        let Ok(at) = self.system.judge_edit(d, FULL, step) else {
+            return false;
+        };
+        let forest = &mut self.forest;
+        match settle_at_once(&self.system, &commands, d, at, FULL, step, forest, steps) {
+            Some(was) => self.system.edit_alone(at, FULL, was),
+            None => return false,
+        }
+        self.steps = step;
+        true
+    }
+
+    /// The step of the only bot in which it fills a voxel, or else voids it, after a try at once: a call of its own for each of the two,
+    /// so that the rest is small enough to be written out for its callers, and no register holds which of them it is.
     #[inline(never)]
-    fn edit_alone<const FULL: bool, L: Ledger>(
+    fn edit_and_settle<const FULL: bool, L: Ledger>(
         &mut self,
         d: Near,
         fault: &mut StepFault,
@@ -72,7 +101,8 @@ impl Machine {
         requires stands { self.old.spent ≡ false }
         requires one { length self.old.state.bots ≡ 1 }
         requires steps { self.old.steps < 1073741824 }
-        ensures { Stepped self.old self.new (edit_of FULL d ∷ []) (answer_of result self.new.state fault.new) steps.old steps.new }
+        ensures { (began : ℕ) → IsDeclined self.old.state (edit_of FULL d ∷ []) (self.old.steps + 1) began steps.old
+            → Stepped self.old self.new (edit_of FULL d ∷ []) (answer_of result self.new.state fault.new) began steps.new }
     {
         let step = self.steps + 1;
         let commands = [edit(d, FULL)];
@@ -95,6 +125,27 @@ impl Machine {
         }
         self.steps = step;
         true
+    }
+
+    /// The step of the only bot in which it fills a voxel, or else voids it. Most such steps change no other level, and are made at
+    /// once.
+    #[inline(always)]
+    fn edit_alone<const FULL: bool, L: Ledger>(
+        &mut self,
+        d: Near,
+        fault: &mut StepFault,
+        steps: &mut Steps<L>,
+    ) -> bool
+        requires stands { self.old.spent ≡ false }
+        requires one { length self.old.state.bots ≡ 1 }
+        requires held { self.old.state.harmonics ≡ Low → FirstUngrounded self.old.state.matrix None }
+        requires steps { self.old.steps < 1073741824 }
+        ensures { Stepped self.old self.new (edit_of FULL d ∷ []) (answer_of result self.new.state fault.new) steps.old steps.new }
+    {
+        if self.edit_at_once::<FULL, L>(d, steps) {
+            return true;
+        }
+        self.edit_and_settle::<FULL, L>(d, fault, steps)
     }
 
     /// The step of the only bot by a command that is frequent. `fault` is written only where the step is refused.

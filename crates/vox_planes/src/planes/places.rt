@@ -106,6 +106,26 @@ impl Planes {
         let index = bit_index(first, self.resolution, self.layer);
         take_bits(&mut self.words, index, count, bits, steps)
     }
+
+    /// Which voxels of a row are full, as the bits of a word: those of so many from a coordinate on for which a word has the bit 1.
+    /// At most as many touches as voxels.
+    pub fn peek_row<L: Ledger>(
+        &self,
+        first: Coord,
+        count: u32,
+        bits: u64,
+        steps: &mut Steps<L>,
+    ) -> u64
+        requires few { count ≤ 64 }
+        requires within { IsInSpace self.now.resolution first }
+        requires row { first.z + count ≤ self.now.resolution }
+        ensures full { (k : ℕ) → k < count → bit result k ≡ (bit bits k && is_full self.now (in_row first (first.z + k))) }
+        ensures below { result < 2 ^ count }
+        ensures touches { steps.new ≤ steps.old + count }
+    {
+        let index = bit_index(first, self.resolution, self.layer);
+        peek_bits(&self.words, index, count, bits, steps)
+    }
 }
 
 /// How many of so many bits from an index on lie in a row that has only some left, and in one word.
@@ -198,4 +218,43 @@ fn take_bits<L: Ledger>(
         done += some;
     }
     taken
+}
+
+/// Which bits are 1 that stand in one word: those of so many from an index on for which another word has the bit 1.
+#[inline(always)]
+fn peek_part(words: &[u64], index: usize, count: u32, bits: u64) -> u64
+    requires within { index < 64 * length words.now }
+    requires some { 1 ≤ count }
+    requires word { index % 64 + count ≤ 64 }
+    ensures full { (k : ℕ) → k < count → bit result k ≡ (bit bits k && is_set_of words.now (index + k)) }
+    ensures below { result < 2 ^ count }
+{
+    bits_at(words, index, count) & bits
+}
+
+/// Which bits are 1: those of so many from an index on for which another word has the bit 1.
+fn peek_bits<L: Ledger>(
+    words: &[u64],
+    index: usize,
+    count: u32,
+    bits: u64,
+    steps: &mut Steps<L>,
+) -> u64
+    requires few { count ≤ 64 }
+    requires within { index + count ≤ 64 * length words.now }
+    requires small { index < 2 ^ 32 }
+    ensures full { (k : ℕ) → k < count → bit result k ≡ (bit bits k && is_set_of words.now (index + k)) }
+    ensures below { result < 2 ^ count }
+    ensures touches { steps.new ≤ steps.old + count }
+{
+    let mut found = 0;
+    let mut done = 0;
+    while done < count {
+        steps.tick();
+        let at = index + done as usize;
+        let some = part(count - done, at, count - done);
+        found += peek_part(words, at, some, bits >> done) << done;
+        done += some;
+    }
+    found
 }

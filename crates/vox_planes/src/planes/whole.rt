@@ -1,14 +1,15 @@
 //! Counts and comparisons of whole planes.
-ghost use Rattle.std.specs.Prelude.{◌≡◌, ◌+◌, ◌*◌, ◌<◌, ◌≤◌, ◌||◌, ℕ, Bool, true, false, count_by};
+ghost use Rattle.std.specs.Prelude.{◌≡◌, ◌+◌, ◌*◌, ◌<◌, ◌≤◌, ◌&&◌, ◌||◌, ℕ, Bool, true, false, not, count_by, length};
 ghost use Rattle.vox_geom.specs.declared.coordinate.Coord.{Coord as Coordinate};
 ghost use Rattle.vox_geom.specs.Least.{LeastOf};
 ghost use Rattle.vox_geom.specs.Space.{is_before as is_before_of};
 ghost use Rattle.nano_spec.specs.Matrix.{all_of, is_full};
-ghost use Rattle.nano_spec.specs.Model.{volume};
+ghost use Rattle.nano_spec.specs.Model.{bit, volume};
 ghost use Rattle.nano_spec.specs.Verdict.{first_difference};
 ghost use Rattle.vox_planes.specs.Difference.{earlier as earlier_of, in_layer_differ};
-ghost use Rattle.vox_planes.specs.Heap.{IsHeap};
-ghost use Rattle.vox_planes.specs.Layers.{layer_words as layer_words_of};
+ghost use Rattle.vox_planes.specs.Heap.{IsHeap, goes, is_stacked};
+ghost use Rattle.vox_planes.specs.Layers.{is_set as is_set_of, layer_words as layer_words_of};
+ghost use Rattle.vox_planes.specs.Voxel.{IsWhole};
 
 use super::{Planes, WORD_BITS};
 use std::sync::ledger::Ledger;
@@ -87,6 +88,50 @@ impl Planes {
             }
         }
         true
+    }
+
+    /// Makes those voxels void that stand on the floor, or on one another from the floor up, in the matrix that is given: this one is
+    /// a copy of it. At most four touches for each voxel.
+    pub fn drop_heap<L: Ledger>(&mut self, full: &Planes, steps: &mut Steps<L>)
+        requires { self.old ≡ full.now }
+        ensures left { (c : Coordinate) → is_full self.new c ≡ (is_full full.now c && not (is_stacked full.now c)) }
+        ensures resolution { self.new.resolution ≡ full.now.resolution }
+        ensures whole { IsWhole self.new }
+        ensures touches { steps.new ≤ steps.old + 4 * volume full.now.resolution }
+    {
+        drop_stacked(&mut self.words, &full.words, self.layer, steps);
+    }
+}
+
+/// The bits of the word at an index that are of the lowest layer, or over a bit that was 1 and has gone.
+#[inline(always)]
+fn going<L: Ledger>(full: &[u64], left: &[u64], layer: usize, i: usize, steps: &mut Steps<L>) -> u64
+    requires full { i < length full.now }
+    requires left { i < length left.now }
+    ensures bits { (k : ℕ) → k < 64 → bit result k ≡ goes full.now left.now layer (i * 64 + k) }
+    ensures touches { steps.new ≤ steps.old + 2 }
+{
+    if i < layer {
+        return u64::MAX;
+    }
+    steps.tick();
+    steps.tick();
+    full[i - layer] & !left[i - layer]
+}
+
+/// Makes the bits 0 that stand on the lowest layer, or on one another from there up, in the full words.
+fn drop_stacked<L: Ledger>(left: &mut [u64], full: &[u64], layer: usize, steps: &mut Steps<L>)
+    requires some { 1 ≤ layer }
+    requires same { length left.old ≡ length full.now }
+    ensures left { (j : ℕ) → j < length full.now * 64 → is_set_of left.new j ≡ (is_set_of left.old j && not (goes full.now left.new layer j)) }
+    ensures touches { steps.new ≤ steps.old + 4 * length full.now }
+{
+    for i in 0..full.len() {
+        let gone = going(full, left, layer, i, steps);
+        steps.tick();
+        steps.tick();
+        let word = &mut left[i];
+        *word &= !gone;
     }
 }
 

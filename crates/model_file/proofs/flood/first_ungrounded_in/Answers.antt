@@ -1,28 +1,36 @@
-use Rattle.std.proofs.Common.{◌≡◌, ℕ, Option, sym, subst, All, []}
+use Rattle.std.proofs.Common.{ℕ, Option, sym, subst, All, []}
 use Rattle.std.proofs.lemmas.List.Elements.{All-same, All-nil}
 use Rattle.vox_geom.specs.declared.coordinate.Coord.{Coord}
 use Rattle.vox_geom.specs.Least.{LeastOf}
 use Rattle.vox_geom.proofs.Firsts.{first_is}
-use Rattle.nano_spec.specs.Grounded.{FirstUngrounded}
+use Rattle.nano_spec.specs.Grounded.{FirstUngrounded, Grounded}
 use Rattle.nano_spec.specs.Matrix.{is_full}
 use Rattle.model_file.specs.declared.flood.Flood.{Flood}
 use Rattle.model_file.specs.Flood.{IsStart}
+use Rattle.model_file.proofs.Beginnings.{begun_dropped, floor_dropped, flood_begun}
 use Rattle.model_file.proofs.Heaps.{heap_is_grounded}
-use Rattle.model_file.proofs.Spreads.{flood_begun, found_starts, left_is_ungrounded}
+use Rattle.model_file.proofs.Spreads.{found_starts, left_is_ungrounded}
 use Rattle.model_file.proofs.flood.first_ungrounded_in.Goals as goal
+
+pub take_beside_all-requires-clause-begun : goal.take_beside_all-requires-clause-begun
+take_beside_all-requires-clause-begun g c =
+    let start : Flood = record { remaining = c.drop_heap.new.self; found = c.new.result } in
+    begun_dropped c.args.planes.now start c.drop_heap.ensures.left c.drop_heap.ensures.resolution
 
 pub spread-requires-clause-starts : goal.spread-requires-clause-starts
 spread-requires-clause-starts g c =
-    let start : Flood = record { remaining = c.in_ok-copy.field-0; found = c.new.result } in
-    let t = c.in_ok-take_floor.ensures.takes in
-    subst (λ (n : ℕ). All (IsStart n) c.take_floor.new.self.found.items) (sym t.resolution)
-    (found_starts (λ d. d.y ≡ 0) start c.take_floor.new.self (All-same (IsStart c.in_ok-copy.field-0.resolution) c.new.result.items [] c.new.ensures.items (All-nil (IsStart c.in_ok-copy.field-0.resolution))) t)
+    let start : Flood = record { remaining = c.drop_heap.new.self; found = c.new.result } in
+    let looks = c.in_ok-take_beside_all.ensures in
+    let t = looks.takes in
+    subst (λ (n : ℕ). All (IsStart n) c.take_beside_all.new.self.found.items) (sym t.resolution)
+    (found_starts (Grounded c.args.planes.now) start c.take_beside_all.new.self (All-same (IsStart c.drop_heap.new.self.resolution) c.new.result.items [] c.new.ensures.items (All-nil (IsStart c.drop_heap.new.self.resolution))) t)
 
 pub returns : goal.returns
 returns g c =
-    let start : Flood = record { remaining = c.in_ok-copy.field-0; found = c.new.result } in
+    let start : Flood = record { remaining = c.drop_heap.new.self; found = c.new.result } in
     let m = c.args.planes.now in
-    let begun = flood_begun m start c.take_floor.new.self c.in_ok-copy.ensures.value c.new.ensures.items c.in_ok-take_floor.ensures.takes c.in_ok-take_floor.ensures.gone in
+    let begun = flood_begun m start c.take_beside_all.new.self c.new.ensures.items (begun_dropped m start c.drop_heap.ensures.left c.drop_heap.ensures.resolution)
+    (floor_dropped m start c.drop_heap.ensures.left) c.in_ok-take_beside_all.ensures in
     let done = c.in_ok-spread.ensures.reaches m begun in
     let left = c.spread.new.self.remaining in
     let least = subst (λ (r : ℕ). LeastOf r (is_full left) c.least_full.result) done.resolution c.least_full.ensures in

@@ -1,0 +1,56 @@
+use Rattle.std.proofs.Common.{◌+◌, ◌≤◌, arith, refl}
+use Rattle.support_forest.specs.declared.beside.Beside.{Beside}
+use Rattle.support_forest.specs.Grid.{word_at}
+use Rattle.support_forest.specs.Placing.{AreBesideWords, MayStand}
+use Rattle.support_forest.proofs.Depth.{cube_small}
+use Rattle.support_forest.proofs.Placing.{placed_over, under_small}
+use Rattle.support_forest.proofs.place.stand_in.Goals as goal
+
+pub chunk-chunk-requires : goal.chunk-chunk-requires
+chunk-chunk-requires g c = c.recall.ensures.store.live _ c.args.slot c.requires.slot
+
+pub overflow_add-height : goal.overflow_add-height
+overflow_add-height g c =
+    let cube = cube_small c.args.cells.now.resolution c.recall.ensures.few in
+    let beside : Beside = record { left = c.word_near-left.result; right = c.word_near-right.result; under = c.word_near-under.result; over = c.word_near-over.result; near = c.word_near-near.result; far = c.word_near-far.result } in
+    let words : AreBesideWords (word_at c.args.cells.now) c.args.c beside = record {
+      left = c.word_near-left.ensures.word;
+      right = c.word_near-right.ensures.word;
+      under = c.word_near-under.ensures.word;
+      over = c.word_near-over.ensures.word;
+      near = c.word_near-near.ensures.word;
+      far = c.word_near-far.ensures.word;
+    } in
+    let stands : MayStand beside = record {
+      under = omega (arith, c.if-height-eq0.false);
+      left = c.if-not-leaves_room.ensures refl;
+      right = c.if-not-leaves_room-2.ensures refl;
+      over = c.if-not-leaves_room-3.ensures refl;
+      near = c.if-not-leaves_room-4.ensures refl;
+      far = c.if-not-leaves_room-5.ensures refl;
+    } in
+    let low = under_small c.args.cells.now.resolution (word_at c.args.cells.now) c.args.c beside c.requires.can.exact cube words stands in
+    omega arith
+
+pub returns-clause-placed : goal.returns-clause-placed
+returns-clause-placed g c =
+    let beside : Beside = record { left = c.word_near-left.result; right = c.word_near-right.result; under = c.word_near-under.result; over = c.word_near-over.result; near = c.word_near-near.result; far = c.word_near-far.result } in
+    let words : AreBesideWords (word_at c.args.cells.now) c.args.c beside = record {
+      left = c.word_near-left.ensures.word;
+      right = c.word_near-right.ensures.word;
+      under = c.word_near-under.ensures.word;
+      over = c.word_near-over.ensures.word;
+      near = c.word_near-near.ensures.word;
+      far = c.word_near-far.ensures.word;
+    } in
+    let stands : MayStand beside = record {
+      under = omega (arith, c.if-height-eq0.false);
+      left = c.if-not-leaves_room.ensures refl;
+      right = c.if-not-leaves_room-2.ensures refl;
+      over = c.if-not-leaves_room-3.ensures refl;
+      near = c.if-not-leaves_room-4.ensures refl;
+      far = c.if-not-leaves_room-5.ensures refl;
+    } in
+    let touches : c.word_near-far.new.steps ≤ c.args.steps.now + 6 = omega (arith, c.word_near-under.ensures.touch, c.word_near-left.ensures.touch, c.word_near-right.ensures.touch, c.word_near-over.ensures.touch, c.word_near-near.ensures.touch, c.word_near-far.ensures.touch) in
+    placed_over c.args.cells.now c.write.new.self c.args.c beside c.args.steps.now c.word_near-far.new.steps c.write.new.steps
+    c.requires.can.exact c.requires.can.within c.requires.can.void words stands c.write.ensures.written c.write.ensures.resolution touches c.write.ensures.touch
