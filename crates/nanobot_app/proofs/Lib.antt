@@ -1,6 +1,8 @@
+pub mod Decodings
 pub mod Determined
 pub mod Headlines
 pub mod Lengths
 pub mod Numbers
 pub mod Outcomes
 pub mod Plans
+pub mod SomeAnswer

@@ -6,7 +6,7 @@ ghost use Rattle.nanobot_rows.specs.Answer.{Answer, AnswerOf, AskNoPlan, Reply};
 ghost use Rattle.nanobot_rows.specs.Report.{accepted_line};
 ghost use Rattle.nanobot_app.specs.Headline.{IsCost, MachineTakes};
 ghost use Rattle.nanobot_app.specs.Plans.{IsRunOfPlan};
-ghost use Rattle.nanobot_words.specs.Rows.{plan_group, plan_layer, plan_low, plan_swarm, plan_void};
+ghost use Rattle.nanobot_words.specs.Rows.{HasName, IsInNoRow, asm, check, dis, light, make, plan_group, plan_layer, plan_low, plan_swarm, plan_void, run};
 ghost use Rattle.nanobot_rows.specs.declared.status.Status.TheVariants as status;
 
 use debug_script::{one_script, one_text};
@@ -29,6 +29,19 @@ pub fn one_answer()
     one_script();
     one_text();
 }
+
+/// Words that are in no row have an answer over all files, and so has each row that makes no plans and walks no trace.
+pub fn some_answer()
+    ensures no_row { (words : List (List ℕ)) (files : Files) → IsInNoRow words → (reply : Reply) × Answer words files reply }
+    ensures check { (model : List ℕ) (files : Files) → (reply : Reply) × AnswerOf (check model) files reply }
+    ensures run { (source target : Option (List ℕ)) (trace : List ℕ) (files : Files) → HasName source target
+        → (reply : Reply) × AnswerOf (run source target trace) files reply }
+    ensures light { (source target : Option (List ℕ)) (trace : List ℕ) (files : Files) → HasName source target
+        → (reply : Reply) × AnswerOf (light source target trace) files reply }
+    ensures asm { (text trace : List ℕ) (files : Files) → (reply : Reply) × AnswerOf (asm text trace) files reply }
+    ensures dis { (trace text : List ℕ) (files : Files) → (reply : Reply) × AnswerOf (dis trace text) files reply }
+    ensures make { (number resolution : ℕ) (model : List ℕ) (files : Files) → (reply : Reply) × AnswerOf (make number resolution model) files reply }
+{}
 
 /// The energy and the number of steps of a run that is taken are small, and no two such pairs are printed alike.
 pub fn costs_are_told_apart()

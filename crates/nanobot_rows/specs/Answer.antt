@@ -42,12 +42,12 @@ abbrev pub Answers : Type 1
 Answers = Files → Reply → Type 0
 
 -- this status and this line, and the files as they were
-abbrev pub RepliesWith : Status → List ℕ → Files → Reply → Type 0
-RepliesWith status line files reply = reply ≡ record { status = status; line = line; after = files }
+abbrev pub IsReply : Status → List ℕ → Files → Reply → Type 0
+IsReply status line files reply = reply ≡ record { status = status; line = line; after = files }
 
 -- this report, and the files as they were
 abbrev pub Tells : Report → Files → Reply → Type 0
-Tells report files reply = RepliesWith (status_of report) (report_line report) files reply
+Tells report files reply = IsReply (status_of report) (report_line report) files reply
 
 -- the files, of which that of the name now has these bytes
 abbrev pub with_file : Files → List ℕ → List ℕ → Files
@@ -59,11 +59,11 @@ Stores report name bytes files reply = reply ≡ record { status = status_of rep
 
 -- the words are in no row of the table
 abbrev pub IsNoRow : Files → Reply → Type 0
-IsNoRow files reply = RepliesWith is.Words words_line files reply
+IsNoRow files reply = IsReply is.Words words_line files reply
 
 -- a file is not there: no line
 abbrev pub IsGone : Files → Reply → Type 0
-IsGone files reply = RepliesWith is.Depot [] files reply
+IsGone files reply = IsReply is.Depot [] files reply
 
 -- p of the bytes of a file
 abbrev pub WithFile : Files → List ℕ → (List ℕ → Reply → Type 0) → Reply → Type 0
@@ -74,11 +74,11 @@ WithFile files name p reply = MatchOption (content files name) (IsGone files rep
 -- the model, where it is legal
 abbrev pub Judged : Who → Files → Option NotLegal → (Reply → Type 0) → Reply → Type 0
 Judged who files None p = p
-Judged who files (Some why) p = RepliesWith is.Model (model_line who (not_legal why)) files
+Judged who files (Some why) p = IsReply is.Model (model_line who (not_legal why)) files
 
 -- p of the model that the bytes say, where they do and it is legal
 abbrev pub OfBytes : Who → Files → Result Matrix NoModel → (Matrix → Reply → Type 0) → Reply → Type 0
-OfBytes who files (Err why) p reply = RepliesWith is.Model (model_line who (no_model why)) files reply
+OfBytes who files (Err why) p reply = IsReply is.Model (model_line who (no_model why)) files reply
 OfBytes who files (Ok m) p reply = (legality : Option NotLegal) × Legality m legality × Judged who files legality (p m) reply
 
 -- p of the legal model of a file
@@ -95,7 +95,7 @@ abbrev pub WithBoth : Files → Option Matrix → Option Matrix → (Matrix → 
 WithBoth files None None p reply = ⊥
 WithBoth files (Some s) None p reply = p s (empty s.resolution) reply
 WithBoth files None (Some t) p reply = p (empty t.resolution) t reply
-WithBoth files (Some s) (Some t) p reply = MatchBool (s.resolution == t.resolution) (p s t reply) (RepliesWith is.Model (resolutions_line s.resolution t.resolution) files reply)
+WithBoth files (Some s) (Some t) p reply = MatchBool (s.resolution == t.resolution) (p s t reply) (IsReply is.Model (resolutions_line s.resolution t.resolution) files reply)
 
 -- p of the models of a source and a target: what has no file is the empty model of the other's resolution
 abbrev pub WithModels : Files → Option (List ℕ) → Option (List ℕ) → (Matrix → Matrix → Reply → Type 0) → Reply → Type 0
@@ -106,13 +106,13 @@ WithModels files source target p = WithSide who.Source files source (λ s. WithS
 -- p of the commands of the bytes
 abbrev pub OfDecoding : Files → Result (List Command) NoTrace → (List Command → Reply → Type 0) → Reply → Type 0
 OfDecoding files (Ok commands) p = p commands
-OfDecoding files (Err why) p = RepliesWith is.Trace (trace_line why) files
+OfDecoding files (Err why) p = IsReply is.Trace (trace_line why) files
 
 -- the same of bytes that may be too many
 abbrev pub OfTrace : ℕ → Files → List ℕ → (List Command → Reply → Type 0) → Reply → Type 0
 OfTrace limit files bytes p reply =
     MatchBool (nat_lt limit (length bytes))
-    (RepliesWith is.Trace (trace_long_line limit) files reply)
+    (IsReply is.Trace (trace_long_line limit) files reply)
     ((decoding : Result (List Command) NoTrace) × Decoding bytes decoding × OfDecoding files decoding p reply)
 
 -- ---- texts
@@ -135,7 +135,7 @@ OfText files bytes p reply = MatchBool (nat_lt text_limit (length bytes)) (Tells
 -- the verdict of the commands
 abbrev pub OfRun : Profile → Files → Matrix → Matrix → List Command → Reply → Type 0
 OfRun profile files source target commands reply = (verdict : Verdict) × VerdictOf source target commands profile verdict
-    × RepliesWith (verdict_status verdict) (verdict_line verdict) files reply
+    × IsReply (verdict_status verdict) (verdict_line verdict) files reply
 
 -- ---- plans
 
@@ -197,7 +197,7 @@ OfScript r files bytes p reply =
 -- the lines of a session over the commands from the source on
 abbrev pub OfSession : Files → Matrix → List Command → List DebugLine → Reply → Type 0
 OfSession files source commands script reply =
-    (text : List ℕ) × PrintsFrom source full_profile commands script text × RepliesWith is.Done text files reply
+    (text : List ℕ) × PrintsFrom source full_profile commands script text × IsReply is.Done text files reply
 
 -- ---- the rows
 

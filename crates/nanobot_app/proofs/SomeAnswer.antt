@@ -1,0 +1,150 @@
+-- Some reply is an answer: models have a legality, bytes a decoding, and commands a verdict.
+use Rattle.std.proofs.Common.{◌≡◌, ◌==◌, ℕ, zero, suc, ◌+◌, ◌≤◌, Bool, true, false, List, [], ◌∷◌, refl, ap, arith, length, take, drop, nat_lt}
+use Rattle.std.specs.Prelude.{Option, Some, None, Result, Ok, Err, MatchBool, MatchOption, option_map}
+use Rattle.std.proofs.lemmas.List.{length-drop, length-take}
+use Rattle.vox_geom.specs.declared.coordinate.Coord.{Coord}
+use Rattle.nano_spec.specs.declared.commands.Command.{Command}
+use Rattle.nano_spec.specs.declared.outcomes.Verdict.{Verdict}
+use Rattle.nano_spec.specs.declared.outcomes.Verdict.TheVariants.{Refused}
+use Rattle.nano_spec.specs.declared.system.Bot.{Bot}
+use Rattle.nano_spec.specs.declared.system.Profile.{Profile}
+use Rattle.nano_spec.specs.Cutting.{BadAt, CutAt, Decoding, NoTrace}
+use Rattle.nano_spec.specs.Grounded.{FirstUngrounded}
+use Rattle.nano_spec.specs.Legal.{Border, Floating, Legality, NotLegal, first_outside}
+use Rattle.nano_spec.specs.Matrix.{Matrix, empty}
+use Rattle.nano_spec.specs.Model.{NoModel, model}
+use Rattle.nano_spec.specs.Next.{Breaks, Goes, Next, Outcome}
+use Rattle.nano_spec.specs.Reading.{FaultyLine, read}
+use Rattle.nano_spec.specs.State.{State, opening}
+use Rattle.nano_spec.specs.Verdict.{Run, VerdictOf, breaks, ending, ends, goes}
+use Rattle.step_machine.proofs.Reaching.{first_ungrounded}
+use Rattle.step_machine.proofs.Weighing.{next_of}
+use Rattle.vox_depot.specs.Files.{Files, content}
+use Rattle.nanobot_rows.specs.declared.report.Report.TheVariants as report
+use Rattle.nanobot_rows.specs.declared.report.Who.{Who}
+use Rattle.nanobot_rows.specs.declared.report.Who.TheVariants as who
+use Rattle.nanobot_rows.specs.Answer.{AnswerOf, AnswerOfRun, Judged, OfBytes, OfDecoding, OfReading, OfRun, OfText, OfTrace, Reply, WithBoth, WithFile, WithModel, WithModels, dis_limit, run_limit, text_limit}
+use Rattle.nanobot_rows.specs.Reading.{no_such_file, reply_of}
+use Rattle.nanobot_rows.specs.Report.{faulty_text, no_model, not_legal}
+use Rattle.nanobot_words.specs.Rows.{HasName, asm, check, dis}
+use Rattle.nanobot_rows.proofs.Replies.{verdict_reply}
+use Rattle.nanobot_app.proofs.Decodings.{decoding_of}
+use Rattle.nanobot_app.proofs.Lengths.{enough}
+
+-- ---- a model has a legality
+
+legality_of : (m : Matrix) → (answer : Option NotLegal) × Legality m answer
+legality_of m = by (first_outside m)
+  where
+    by : (o : Option Coord) → (answer : Option NotLegal) × MatchOption o ((at : Option Coord) × FirstUngrounded m at × (answer ≡ option_map Floating at)) (λ c. answer ≡ Some (Border c))
+    by None = let f = first_ungrounded m in (option_map Floating f.0, (f.0, f.1, refl))
+    by (Some c) = (Some (Border c), refl)
+
+-- ---- commands have a verdict
+
+module _ (target : Matrix) where
+  abbrev HasVerdict : State → List Command → ℕ → Type 0
+  HasVerdict s commands steps = (v : Verdict) × Run target s commands steps v
+
+  by_bots : (s : State) (commands : List Command) (steps : ℕ) (all : List Bot) → s.bots ≡ all
+      → ((bot : Bot) (bots : List Bot) → s.bots ≡ bot ∷ bots → (t : State) → Next s (take (length s.bots) commands) (steps + 1) (Goes t) → HasVerdict t (drop (length s.bots) commands) (steps + 1)) → HasVerdict s commands steps
+  by_bots s commands steps [] e later = (ending target s commands steps, ends e refl)
+  by_bots s commands steps (bot ∷ bots) e later = let o = next_of s (take (length s.bots) commands) (steps + 1) in by o.0 o.1
+    where
+      by : (o : Outcome) → Next s (take (length s.bots) commands) (steps + 1) o → HasVerdict s commands steps
+      by (Goes t) next = let more = later bot bots e t next in (more.0, goes {bot = bot} {bots = bots} {t = t} e next more.1)
+      by (Breaks b) next = (Refused b, breaks {bot = bot} {bots = bots} {b = b} e next refl)
+
+  no_step : (s t : State) (commands : List Command) (step : ℕ) (bot : Bot) (bots : List Bot) → s.bots ≡ bot ∷ bots → length commands ≤ 0 → Next s (take (length s.bots) commands) step (Goes t) → ⊥
+  no_step s t commands step bot bots e none next =
+      let there : length s.bots ≡ suc (length bots) = ap length e in
+      let all = enough s t (take (length s.bots) commands) step next in
+      let taken = length-take (length s.bots) commands in
+      omega (arith, there, all, taken, none)
+
+  fewer : (s : State) (commands : List Command) (most : ℕ) (bot : Bot) (bots : List Bot) → s.bots ≡ bot ∷ bots → length commands ≤ suc most → length (drop (length s.bots) commands) ≤ most
+  fewer s commands most bot bots e few =
+      let there : length s.bots ≡ suc (length bots) = ap length e in
+      let left = length-drop (length s.bots) commands in
+      omega (arith, there, left, few)
+
+  verdict_from : (most : ℕ) (s : State) (commands : List Command) (steps : ℕ) → length commands ≤ most → HasVerdict s commands steps
+  verdict_from zero s commands steps few = by_bots s commands steps s.bots refl (λ bot bots e t next. absurd (no_step s t commands (steps + 1) bot bots e few next))
+  verdict_from (suc most) s commands steps few = by_bots s commands steps s.bots refl (λ bot bots e t next. verdict_from most t (drop (length s.bots) commands) (steps + 1) (fewer s commands most bot bots e few))
+
+verdict_of : (source target : Matrix) (commands : List Command) (profile : Profile) → (v : Verdict) × VerdictOf source target commands profile v
+verdict_of source target commands profile = verdict_from target (length commands) (opening source profile) commands 0 (omega arith)
+
+-- ---- the rows
+
+abbrev IsAnswered : (Reply → Type 0) → Type 0
+IsAnswered p = (reply : Reply) × p reply
+
+module _ (files : Files) where
+  with_file : (name : List ℕ) (p : List ℕ → Reply → Type 0) → ((bytes : List ℕ) → IsAnswered (p bytes)) → IsAnswered (WithFile files name p)
+  with_file name p f = by (content files name)
+    where
+      by : (o : Option (List ℕ)) → IsAnswered (λ reply. MatchOption o (reply ≡ no_such_file files) (λ bytes. p bytes reply))
+      by None = (no_such_file files, refl)
+      by (Some bytes) = f bytes
+
+  judged : (w : Who) (m : Matrix) (p : Matrix → Reply → Type 0) → IsAnswered (p m) → (answer : Option NotLegal) → Legality m answer → IsAnswered (λ reply. (a : Option NotLegal) × Legality m a × Judged w files a (p m) reply)
+  judged w m p f None l = (f.0, (None, l, f.1))
+  judged w m p f (Some why) l = (reply_of files (report.Model w (not_legal why)), (Some why, l, refl))
+
+  of_bytes : (w : Who) (said : Result Matrix NoModel) (p : Matrix → Reply → Type 0) → ((m : Matrix) → IsAnswered (p m)) → IsAnswered (OfBytes w files said p)
+  of_bytes w (Err why) p f = (reply_of files (report.Model w (no_model why)), refl)
+  of_bytes w (Ok m) p f = let l = legality_of m in judged w m p (f m) l.0 l.1
+
+  with_model : (w : Who) (name : List ℕ) (p : Matrix → Reply → Type 0) → ((m : Matrix) → IsAnswered (p m)) → IsAnswered (WithModel w files name p)
+  with_model w name p f = with_file name (λ bytes. OfBytes w files (model bytes) p) (λ bytes. of_bytes w (model bytes) p f)
+
+  choice : (t : Bool) (p q : Reply → Type 0) → IsAnswered p → IsAnswered q → IsAnswered (λ reply. MatchBool t (p reply) (q reply))
+  choice true p q f g = f
+  choice false p q f g = g
+
+  with_both : (a b : Matrix) (p : Matrix → Matrix → Reply → Type 0) → IsAnswered (p a b) → IsAnswered (WithBoth files (Some a) (Some b) p)
+  with_both a b p f = choice (a.resolution == b.resolution) (p a b) (λ reply. reply ≡ reply_of files (report.Resolutions a.resolution b.resolution)) f (reply_of files (report.Resolutions a.resolution b.resolution), refl)
+
+  with_models : (source target : Option (List ℕ)) (p : Matrix → Matrix → Reply → Type 0) → HasName source target → ((s t : Matrix) → IsAnswered (p s t)) → IsAnswered (WithModels files source target p)
+  with_models None None p has f = absurd has
+  with_models (Some source) None p has f = with_model who.Source source (λ m. p m (empty m.resolution)) (λ m. f m (empty m.resolution))
+  with_models None (Some target) p has f = with_model who.Target target (λ m. p (empty m.resolution) m) (λ m. f (empty m.resolution) m)
+  with_models (Some source) (Some target) p has f =
+      with_model who.Source source (λ a. WithModel who.Target files target (λ b. WithBoth files (Some a) (Some b) p)) (λ a. with_model who.Target target (λ b. WithBoth files (Some a) (Some b) p) (λ b. with_both a b p (f a b)))
+
+  decoded : (bytes : List ℕ) (p : List Command → Reply → Type 0) → ((commands : List Command) → IsAnswered (p commands)) → (d : Result (List Command) NoTrace) → Decoding bytes d
+      → IsAnswered (λ reply. (e : Result (List Command) NoTrace) × Decoding bytes e × OfDecoding files e p reply)
+  decoded bytes p f (Ok commands) h = let r = f commands in (r.0, (Ok commands, h, r.1))
+  decoded bytes p f (Err (BadAt offset)) h = (reply_of files (report.TraceBad offset), (Err (BadAt offset), h, refl))
+  decoded bytes p f (Err (CutAt offset)) h = (reply_of files (report.TraceCut offset), (Err (CutAt offset), h, refl))
+
+  of_trace : (limit : ℕ) (bytes : List ℕ) (p : List Command → Reply → Type 0) → ((commands : List Command) → IsAnswered (p commands)) → IsAnswered (OfTrace limit files bytes p)
+  of_trace limit bytes p f =
+      let d = decoding_of bytes in
+      choice (nat_lt limit (length bytes)) (λ reply. reply ≡ reply_of files (report.TraceLong limit)) (λ reply. (e : Result (List Command) NoTrace) × Decoding bytes e × OfDecoding files e p reply)
+      (reply_of files (report.TraceLong limit), refl) (decoded bytes p f d.0 d.1)
+
+  of_reading : (said : Result (List Command) FaultyLine) (p : List Command → Reply → Type 0) → ((commands : List Command) → IsAnswered (p commands)) → IsAnswered (OfReading files said p)
+  of_reading (Ok commands) p f = f commands
+  of_reading (Err faulty) p f = (reply_of files (faulty_text faulty), refl)
+
+  of_text : (bytes : List ℕ) (p : List Command → Reply → Type 0) → ((commands : List Command) → IsAnswered (p commands)) → IsAnswered (OfText files bytes p)
+  of_text bytes p f =
+      choice (nat_lt text_limit (length bytes)) (λ reply. reply ≡ reply_of files (report.TextLong text_limit)) (OfReading files (read bytes) p)
+      (reply_of files (report.TextLong text_limit), refl) (of_reading (read bytes) p f)
+
+  of_run : (profile : Profile) (source target : Matrix) (commands : List Command) → IsAnswered (OfRun profile files source target commands)
+  of_run profile source target commands = let v = verdict_of source target commands profile in (verdict_reply files v.0, (v.0, v.1, refl))
+
+  pub run_answered : (profile : Profile) (source target : Option (List ℕ)) (trace : List ℕ) → HasName source target → IsAnswered (AnswerOfRun profile source target trace files)
+  run_answered profile source target trace has = with_models source target _ has (λ s t. with_file trace _ (λ bytes. of_trace run_limit bytes _ (of_run profile s t)))
+
+  pub check_answered : (name : List ℕ) → IsAnswered (AnswerOf (check name) files)
+  check_answered name = with_model who.Model name _ (λ m. (_, refl))
+
+  pub asm_answered : (text trace : List ℕ) → IsAnswered (AnswerOf (asm text trace) files)
+  asm_answered text trace = with_file text _ (λ bytes. of_text bytes _ (λ commands. (_, refl)))
+
+  pub dis_answered : (trace text : List ℕ) → IsAnswered (AnswerOf (dis trace text) files)
+  dis_answered trace text = with_file trace _ (λ bytes. of_trace dis_limit bytes _ (λ commands. (_, refl)))

@@ -1,0 +1,25 @@
+use Rattle.std.proofs.Common.{inl, refl}
+use Rattle.nano_spec.specs.Profile.{full_profile, light_profile}
+use Rattle.nanobot_app.proofs.SomeAnswer.{asm_answered, check_answered, dis_answered, run_answered}
+use Rattle.nanobot_app.proofs.laws.some_answer.Goals as goal
+
+pub returns-clause-no_row : goal.returns-clause-no_row
+returns-clause-no_row c = λ words files none. (_, inl (none, refl))
+
+pub returns-clause-check : goal.returns-clause-check
+returns-clause-check c = λ model files. check_answered files model
+
+pub returns-clause-run : goal.returns-clause-run
+returns-clause-run c = λ source target trace files has. run_answered files full_profile source target trace has
+
+pub returns-clause-light : goal.returns-clause-light
+returns-clause-light c = λ source target trace files has. run_answered files light_profile source target trace has
+
+pub returns-clause-asm : goal.returns-clause-asm
+returns-clause-asm c = λ text trace files. asm_answered files text trace
+
+pub returns-clause-dis : goal.returns-clause-dis
+returns-clause-dis c = λ trace text files. dis_answered files trace text
+
+pub returns-clause-make : goal.returns-clause-make
+returns-clause-make c = λ number resolution model files. (_, refl)
