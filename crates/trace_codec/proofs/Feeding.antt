@@ -5,11 +5,11 @@ use Rattle.std.proofs.lemmas.List.{append-nil, append_assoc, take-append-drop}
 use Rattle.nano_spec.specs.declared.commands.Command.{Command}
 use Rattle.trace_codec.specs.declared.decoder.Fed.TheVariants as fed
 use Rattle.trace_codec.specs.Decoder.{DecoderState, HasTaken, decoder_after}
-use Rattle.trace_codec.specs.Pieces.{Feeds, Takes, all, first, got, later, nothing_left}
+use Rattle.trace_codec.specs.Pieces.{Feeds, TakesPiece, all, first, got, later, nothing_left}
 use Rattle.trace_codec.proofs.TakenBytes.{taken_all, taken_got, taken_nothing}
 
 -- a piece more
-piece_taken : (bytes piece : List ℕ) (commands more : List Command) (decoder last : DecoderState) → HasTaken bytes commands decoder → Takes decoder piece more last → HasTaken (bytes ++ piece) (commands ++ more) last
+piece_taken : (bytes piece : List ℕ) (commands more : List Command) (decoder last : DecoderState) → HasTaken bytes commands decoder → TakesPiece decoder piece more last → HasTaken (bytes ++ piece) (commands ++ more) last
 piece_taken bytes piece commands more decoder last h (nothing_left e f g) =
     subst (λ (d : DecoderState). HasTaken (bytes ++ piece) (commands ++ more) d) (sym g)
     (subst (λ (b : List ℕ). HasTaken b (commands ++ more) decoder) (sym (append-nil bytes) ∙ ap (λ (p : List ℕ). bytes ++ p) (sym e))
