@@ -1,6 +1,6 @@
 -- Some reply is an answer: models have a legality, bytes a decoding, and commands a verdict.
 use Rattle.std.proofs.Common.{◌≡◌, ◌==◌, ℕ, zero, suc, ◌+◌, ◌≤◌, Bool, true, false, List, [], ◌∷◌, refl, ap, arith, length, take, drop, nat_lt}
-use Rattle.std.specs.Prelude.{Option, Some, None, Result, Ok, Err, MatchBool, MatchOption, option_map}
+use Rattle.std.specs.Prelude.{Option, Some, None, Result, Ok, Err, MatchBool, MatchOption}
 use Rattle.std.proofs.lemmas.List.{length-drop, length-take}
 use Rattle.vox_geom.specs.declared.coordinate.Coord.{Coord}
 use Rattle.nano_spec.specs.declared.commands.Command.{Command}
@@ -10,7 +10,7 @@ use Rattle.nano_spec.specs.declared.system.Bot.{Bot}
 use Rattle.nano_spec.specs.declared.system.Profile.{Profile}
 use Rattle.nano_spec.specs.Cutting.{BadAt, CutAt, Decoding, NoTrace}
 use Rattle.nano_spec.specs.Grounded.{FirstUngrounded}
-use Rattle.nano_spec.specs.Legal.{Border, Floating, Legality, NotLegal, first_outside}
+use Rattle.nano_spec.specs.Legal.{Border, Floating, Legality, NotLegal, first_outside, floats_inside, leaves_box, stands_inside}
 use Rattle.nano_spec.specs.Matrix.{Matrix, empty}
 use Rattle.nano_spec.specs.Model.{NoModel, model}
 use Rattle.nano_spec.specs.Next.{Breaks, Goes, Next, Outcome}
@@ -29,16 +29,20 @@ use Rattle.nanobot_rows.specs.Report.{faulty_text, no_model, not_legal}
 use Rattle.nanobot_words.specs.Rows.{HasName, asm, check, dis}
 use Rattle.nanobot_rows.proofs.Replies.{verdict_reply}
 use Rattle.nanobot_app.proofs.Decodings.{decoding_of}
-use Rattle.nanobot_app.proofs.Lengths.{enough}
+use Rattle.plan_tape.proofs.Reached.{enough}
 
 -- ---- a model has a legality
 
 legality_of : (m : Matrix) → (answer : Option NotLegal) × Legality m answer
-legality_of m = by (first_outside m)
+legality_of m = by (first_outside m) refl
   where
-    by : (o : Option Coord) → (answer : Option NotLegal) × MatchOption o ((at : Option Coord) × FirstUngrounded m at × (answer ≡ option_map Floating at)) (λ c. answer ≡ Some (Border c))
-    by None = let f = first_ungrounded m in (option_map Floating f.0, (f.0, f.1, refl))
-    by (Some c) = (Some (Border c), refl)
+    inside : first_outside m ≡ None → (at : Option Coord) → FirstUngrounded m at → (answer : Option NotLegal) × Legality m answer
+    inside e None u = (None, stands_inside e u refl)
+    inside e (Some c) u = (Some (Floating c), floats_inside c e u refl)
+
+    by : (o : Option Coord) → first_outside m ≡ o → (answer : Option NotLegal) × Legality m answer
+    by None e = let f = first_ungrounded m in inside e f.0 f.1
+    by (Some c) e = (Some (Border c), leaves_box c e refl)
 
 -- ---- commands have a verdict
 
