@@ -13,7 +13,7 @@ use Rattle.nano_spec.specs.Matrix.{Matrix, all_of, differ_at}
 use Rattle.nano_spec.specs.Next.{Next, Goes, Breaks}
 use Rattle.nano_spec.specs.State.{State, opening, origin}
 
--- the least coordinate at which two matrices differ
+-- the least coordinate at which two matrices of one resolution differ
 abbrev pub first_difference : Matrix → Matrix → Option Coord
 first_difference m target = find (differ_at m target) (all_of m)
 
@@ -41,6 +41,6 @@ pub data Run (target : Matrix) : State → List Command → ℕ → Verdict → 
       → Next s (take (length s.bots) commands) (steps + 1) (Goes t) → Run target t (drop (length s.bots) commands) (steps + 1) verdict
       → Run target s commands steps verdict
 
--- the verdict of a trace that is to make the target of the source
+-- the verdict of a trace that is to make the target of the source, which are of one resolution
 abbrev pub VerdictOf : Matrix → Matrix → List Command → Profile → Verdict → Type 0
 VerdictOf source target commands profile verdict = Run target (opening source profile) commands 0 verdict
