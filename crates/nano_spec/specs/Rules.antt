@@ -27,7 +27,7 @@ abbrev pub lacks_seeds : List ℕ → Command → Bool
 lacks_seeds seeds (Fission d m) = nat_le (length seeds) m
 lacks_seeds seeds _ = false
 
--- the corner of a group command at which its bot stands: the one that its near difference leads to
+-- the corner of a group command that its bot is near to: the one that its near difference leads to
 abbrev pub corners_of : Point → Command → List Point
 corners_of p (GFill d f) = plus p d ∷ []
 corners_of p (GVoid d f) = plus p d ∷ []
