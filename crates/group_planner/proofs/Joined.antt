@@ -1,6 +1,6 @@
 -- One bot becomes two, and two become one.
 use Rattle.std.proofs.Common.{◌≡◌, ℕ, ◌+◌, ◌<◌, refl, sym, ◌∙◌, ap, subst, arith, Bool, true, false, ◌&&◌, ◌||◌, List, [], ◌∷◌, length, length-append, lit<, inl, nat_lt}
-use Rattle.std.specs.Prelude.{IsTrue, IsFalse, pos, negsuc, ◌+ℤ◌, Option, Some, None, option_map, unwrap_or, slice_index, find}
+use Rattle.std.specs.Prelude.{IsTrue, IsFalse, pos, negsuc, ◌+ℤ◌, Option, Some, None, slice_index, find}
 use Rattle.std.specs.List.{AllByRecursion}
 use Rattle.std.proofs.lemmas.Int.{ints}
 use Rattle.std.proofs.lemmas.Bool.Decides.{nat_tests}
@@ -12,7 +12,7 @@ use Rattle.nano_spec.specs.declared.commands.Command.TheVariants.{Fission, Fusio
 use Rattle.nano_spec.specs.declared.system.Bot.{Bot}
 use Rattle.nano_spec.specs.declared.system.Harmonics.TheVariants.{High}
 use Rattle.nano_spec.specs.Act.{Act, acts, is_flip}
-use Rattle.nano_spec.specs.Bots.{bots_after, fused, newborn, parent}
+use Rattle.nano_spec.specs.Bots.{bots_after, newborn, parent, after_fusion}
 use Rattle.nano_spec.specs.Group.{are_partners, is_pair}
 use Rattle.nano_spec.specs.Profile.{full_profile}
 use Rattle.nano_spec.specs.State.{first_bot, seed_list, seed_numbers}
@@ -117,9 +117,9 @@ or_right true v e = refl
 or_right false v e = e
 
 -- what fuses stands where the primary stood
-stays_there : (o : Option Act) (b : Bot) (f : Act → Bot) → ((c : Act) → (f c).pos ≡ b.pos) → (unwrap_or (option_map f o) b).pos ≡ b.pos
-stays_there None b f h = refl
-stays_there (Some c) b f h = h c
+stays_there : (bot : Bot) (partner : Option Act) → (after_fusion bot partner).pos ≡ bot.pos
+stays_there bot None = refl
+stays_there bot (Some partner) = refl
 
 module _ (p : TapeState) (d e : Diff) (ed : d ≡ ahead (pos 1)) (ee : e ≡ ahead (negsuc 0)) (h : IsPair p) (beside : (front p).z ≡ (rear p).z + 1) where
   front_is_next : front p ≡ coord (rear p).x (rear p).y ((rear p).z + 1)
@@ -184,7 +184,7 @@ module _ (p : TapeState) (d e : Diff) (ed : d ≡ ahead (pos 1)) (ee : e ≡ ahe
         harmonics = s.harmonics ∙ h.high;
         alone = ap length bots;
         one_split = still_one p q (FusionP d) (FusionS e) h s.added refl;
-        there = ap spot bots ∙ (stays_there (find (is_pair (first_act a)) all) a (λ (c : Act). fused a c.bot) (λ c. refl) ∙ sym t.rear_is);
+        there = ap spot bots ∙ (stays_there a (find (is_pair (first_act a)) all) ∙ sym t.rear_is);
         steps_are = omega (arith, s.steps);
         spends = let steps = s.steps in let few = s.bytes_are in record { commands_are = omega (arith, added, steps); bytes_are = omega (arith, steps, few) };
       }
