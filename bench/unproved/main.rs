@@ -27,7 +27,7 @@ mod vox_planes;
 
 use group_planner::{plan_groups, rows, runs};
 use layer_planner::plan_layers;
-use plan_choice::{choose_group_plan, choose_layer_plan, choose_swarm_plan, choose_void_plan};
+use plan_choice::{choose_group_plan, choose_layer_plan, choose_low_plan, choose_swarm_plan, choose_void_plan};
 use low_planner::plan_low;
 use model_file::{legal, read_model};
 use nano_spec::Profile;
@@ -148,6 +148,7 @@ fn plan(words: &[String]) {
         "low" => plan_low(Global, &target).ok(),
         "group-low" => choose_group_plan(Global, &source, &target).ok(),
         "layer-low" => choose_layer_plan(Global, &source, &target).ok(),
+        "low-low" => choose_low_plan(Global, &target).ok(),
         "void-low" => choose_void_plan(Global, &source).ok(),
         "swarm-low" => choose_swarm_plan(Global, &target).ok(),
         _ => plan_swarm(Global, &target).ok(),

@@ -14,7 +14,7 @@ use crate::models::load_models;
 use crate::report::Report;
 use crate::stop::Stop;
 use group_planner::{rows, runs};
-use low_planner::{LowFault, plan_low as low_plan};
+use low_planner::LowFault;
 use nanobot_words::Side;
 use plan_choice::{choose_group_plan, choose_layer_plan, choose_swarm_plan, choose_void_plan};
 use plan_tape::Plan;
@@ -137,7 +137,7 @@ pub fn plan_low<'a, D: Depot>(
     ensures stores { D.failed_stores depot.new ≡ D.failed_stores depot.old }
 {
     let (nothing, target) = load_models(alloc, depot, Side::Empty, Side::Named(target))?;
-    let plan = match low_plan(alloc, &target) {
+    let plan = match plan_choice::choose_low_plan(alloc, &target) {
         Ok(plan) => plan,
         Err(LowFault::Unsupported { at }) => return Err(Stop::Told(Report::Unsupported { at })),
         Err(LowFault::Memory) => return Err(Stop::Memory),

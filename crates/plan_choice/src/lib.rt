@@ -2,12 +2,21 @@
 //! the plan's bounds. Nothing has to be proved of how a proposal was found.
 #![tactic(auto)]
 
+mod alone;
 mod bounds;
+mod builder;
 mod choice;
 mod flips;
+mod plain;
 mod plans;
+mod ways;
 
+pub use alone::{attach, attach_low};
 pub use bounds::Bounds;
+pub use builder::attached;
 pub use choice::{Price, cheaper, improvement};
 pub use flips::{lower, lowered};
-pub use plans::{choose_group_plan, choose_layer_plan, choose_swarm_plan, choose_void_plan};
+pub use plans::{
+    choose_group_plan, choose_layer_plan, choose_low_plan, choose_swarm_plan, choose_void_plan,
+};
+pub use ways::backwards;

@@ -1,19 +1,24 @@
 //! The planners' plans under Low wherever that can be. Each call promises what the planner's own does.
-ghost use Rattle.std.specs.Prelude.{◌≡◌, ◌+◌, ◌*◌, ◌≤◌, [], ◌∷◌, IfOk, length};
+ghost use Rattle.std.specs.Prelude.{◌≡◌, ◌+◌, ◌*◌, ◌≤◌, [], ◌∷◌, All, IfErr, IfOk, None, length};
 ghost use Rattle.nano_spec.specs.Legal.{IsLegal};
-ghost use Rattle.nano_spec.specs.Matrix.{empty};
 ghost use Rattle.nano_spec.specs.Profile.{full_profile, light_profile};
 ghost use Rattle.nano_spec.specs.Spelling.{spellings};
 ghost use Rattle.group_planner.specs.Bounds.{most_bytes, most_group_steps};
+ghost use Rattle.low_planner.specs.Commands.{IsEmpty, IsPlain};
+ghost use Rattle.low_planner.specs.Fault.{HasCause};
+ghost use Rattle.low_planner.specs.Supported.{FirstUnsupported};
+ghost use Rattle.nano_spec.specs.Matrix.{empty, full_count};
 ghost use Rattle.plan_tape.specs.Progress.{IsAccepted};
 ghost use Rattle.swarm_planner.specs.Bounds.{width};
 ghost use Rattle.plan_tape.specs.Reaches.{HasAtMost};
 ghost use Rattle.void_planner.specs.Bounds.{most_void_steps};
 
+use crate::alone::{attach, attach_low};
 use crate::bounds::Bounds;
 use crate::flips::lower;
 use group_planner::{plan_groups, rows, runs};
 use layer_planner::plan_layers;
+use low_planner::{LowFault, plan_low};
 use nano_spec::{Command, Profile, full_accepts_what_light_accepts};
 use plan_tape::Plan;
 use std::alloc::Global;
@@ -37,7 +42,10 @@ pub fn choose_layer_plan(alloc: Global, source: &Planes, target: &Planes) -> Res
     let mut most = Bounds::none();
     most.bytes = 8 * r * r * r + 200;
     most.bots = 1;
-    lower(alloc, source, target, Profile::full(), plan, most)
+    let profile = Profile::full();
+    let plan = lower(alloc, source, target, profile, plan, most)?;
+    let plan = attach(alloc, source, target, profile, plan, most)?;
+    Ok(plan)
 }
 
 /// The plan of two bots that makes the target of the source.
@@ -102,4 +110,25 @@ pub fn choose_swarm_plan(alloc: Global, target: &Planes) -> Result<Plan, Memory>
     most.steps = 4 * width * r * r + 8 * r + 2000;
     most.bots = 20;
     lower(alloc, &nothing, target, Profile::light(), plan, most)
+}
+
+/// The plan of one bot that builds the target from nothing, under Low all the time.
+pub fn choose_low_plan(alloc: Global, target: &Planes) -> Result<Plan, LowFault>
+    requires { IsLegal target.now }
+    ensures unsupported { IfErr result (HasCause target.now) }
+    ensures supported { IfOk result (λ _. FirstUnsupported target.now None) }
+    ensures accepted { IfOk result (λ plan. IsAccepted (empty target.now.resolution) target.now plan.commands light_profile plan.energy plan.steps) }
+    ensures accepted_in_full { IfOk result (λ plan. IsAccepted (empty target.now.resolution) target.now plan.commands full_profile plan.energy plan.steps) }
+    ensures plain { IfOk result (λ plan. All IsPlain plan.commands) }
+    ensures steps { IfOk result (λ plan. plan.steps ≤ 4 * full_count target.now + target.now.resolution * target.now.resolution * target.now.resolution + 200) }
+    ensures few { IfOk result (λ plan. HasAtMost (empty target.now.resolution) light_profile plan.commands 1) }
+    ensures halt_alone { IsEmpty target.now → IfOk result (λ plan. plan.commands ≡ Command.Halt ∷ []) }
+{
+    full_accepts_what_light_accepts();
+    let plan = plan_low(alloc, target)?;
+    let mut most = Bounds::none();
+    most.steps = u64::from(plan.steps);
+    most.bots = 1;
+    let plan = attach_low(alloc, target, plan, most)?;
+    Ok(plan)
 }

@@ -1,11 +1,15 @@
-//! Plans that their proposals make cheaper. Energies and steps were worked out by hand from the rules: at resolution 3 a step
-//! costs 729 less under Low, and the two Flips of a planner are gone where nothing floats.
+//! Plans that their proposals make cheaper. Energies and steps were worked out by hand from the rules: at resolution 3 a step of
+//! one bot costs 101 under Low and 729 more under High; a proposal has no Flips where nothing floats.
 ghost use Rattle.std.specs.Prelude.{IfOk};
 ghost use Rattle.nano_spec.specs.Legal.{IsLegal};
 
-use crate::models::{at, model};
+use crate::models::{at, model, put};
+use low_planner::LowFault;
 use model_file::legal;
-use plan_choice::{choose_group_plan, choose_layer_plan, choose_swarm_plan, choose_void_plan};
+use plan_choice::{
+    attached, backwards, choose_group_plan, choose_layer_plan, choose_low_plan, choose_swarm_plan,
+    choose_void_plan,
+};
 use plan_tape::Plan;
 use std::alloc::Global;
 use std::process::Abort;
@@ -41,8 +45,18 @@ fn one_and_two(
     requires target { IsLegal target.now }
 {
     assert!(rt; source.resolution() == target.resolution());
-    costs(rt, &choose_layer_plan(alloc, source, target)?, layer.0, layer.1);
-    costs(rt, &choose_group_plan(alloc, source, target)?, group.0, group.1);
+    costs(
+        rt,
+        &choose_layer_plan(alloc, source, target)?,
+        layer.0,
+        layer.1,
+    );
+    costs(
+        rt,
+        &choose_group_plan(alloc, source, target)?,
+        group.0,
+        group.1,
+    );
     Ok(())
 }
 
@@ -61,24 +75,107 @@ fn up_and_down(
     Ok(())
 }
 
-/// A post of one voxel at resolution 3.
+/// The plan of one bot under Low all the time, or the number of the refusal in place of the steps.
+fn low(
+    rt: &impl Abort,
+    alloc: Global,
+    model: &Planes,
+    energy: i64,
+    steps: u32,
+) -> Result<(), Memory>
+    requires { IsLegal model.now }
+{
+    match choose_low_plan(alloc, model) {
+        Ok(plan) => costs(rt, &plan, energy, steps),
+        Err(LowFault::Memory) => return Err(Memory),
+        Err(fault) => assert_eq!(rt; (0, u32::from(fault.number())), (energy, steps)),
+    }
+    Ok(())
+}
+
+/// A post of one voxel at resolution 3. One bot: up, a double move, a Fill, and back.
 #[test]
 fn nothing_floats_over_a_post(rt: HostRuntime) -> Result<(), Fail> {
     let alloc = rt.alloc();
     let post = checked(alloc, model(alloc, 3, &[at(1, 0, 1)])?)?;
     let nothing = checked(alloc, model(alloc, 3, &[])?)?;
-    one_and_two(&rt, alloc, &nothing, &post, (937, 9), (1039, 9))?;
+    one_and_two(&rt, alloc, &nothing, &post, (638, 6), (1039, 9))?;
     up_and_down(&rt, alloc, &post, (832, 8), (1815, 13))?;
+    low(&rt, alloc, &post, 638, 6)?;
     Ok(())
 }
 
-/// A post of two voxels at resolution 5, and beside its head a voxel that is filled before that.
+/// The same post taken down.
 #[test]
-fn harmonics_are_high_while_an_arm_floats(rt: HostRuntime) -> Result<(), Fail> {
+fn a_post_is_taken_down_backwards(rt: HostRuntime) -> Result<(), Fail> {
     let alloc = rt.alloc();
-    let arm = checked(alloc, model(alloc, 5, &[at(2, 0, 1), at(2, 1, 1), at(1, 1, 1)])?)?;
+    let post = checked(alloc, model(alloc, 3, &[at(1, 0, 1)])?)?;
+    let nothing = checked(alloc, model(alloc, 3, &[])?)?;
+    assert!(&rt; post.resolution() == nothing.resolution());
+    costs(&rt, &choose_layer_plan(alloc, &post, &nothing)?, 614, 6);
+    Ok(())
+}
+
+/// A post of two voxels at resolution 5, and beside its head a voxel that is filled after it.
+#[test]
+fn an_arm_is_filled_once_it_is_attached(rt: HostRuntime) -> Result<(), Fail> {
+    let alloc = rt.alloc();
+    let arm = checked(
+        alloc,
+        model(alloc, 5, &[at(2, 0, 1), at(2, 1, 1), at(1, 1, 1)])?,
+    )?;
     let nothing = checked(alloc, model(alloc, 5, &[])?)?;
     assert!(&rt; arm.resolution() == nothing.resolution());
-    costs(&rt, &choose_layer_plan(alloc, &nothing, &arm)?, 19_892, 16);
+    costs(&rt, &choose_layer_plan(alloc, &nothing, &arm)?, 4014, 10);
+    low(&rt, alloc, &arm, 4014, 10)?;
+    Ok(())
+}
+
+/// A post at resolution 5 of whose head an arm leads to a voxel that hangs from it.
+fn hanging(alloc: Global) -> Result<Planes, Memory>
+    ensures { IfOk result IsLegal }
+{
+    let post = [at(1, 0, 1), at(1, 1, 1), at(1, 2, 1)];
+    let mut planes = model(alloc, 5, &post)?;
+    for c in [at(2, 2, 1), at(3, 2, 1), at(3, 1, 1)] {
+        put(&mut planes, c);
+    }
+    checked(alloc, planes)
+}
+
+/// Six steps are made under High, from the Fill of what hangs to the Fill that joins it.
+#[test]
+fn harmonics_are_high_while_a_voxel_hangs(rt: HostRuntime) -> Result<(), Fail> {
+    let alloc = rt.alloc();
+    let model = hanging(alloc)?;
+    let nothing = checked(alloc, Planes::empty(alloc, 5)?)?;
+    assert!(&rt; model.resolution() == nothing.resolution());
+    costs(
+        &rt,
+        &choose_layer_plan(alloc, &nothing, &model)?,
+        26_674,
+        16,
+    );
+    costs(
+        &rt,
+        &choose_layer_plan(alloc, &model, &nothing)?,
+        26_530,
+        16,
+    );
+    low(&rt, alloc, &model, 0, 1)?;
+    Ok(())
+}
+
+/// What hangs is not attached, so there is no proposal without Flips.
+#[test]
+fn what_hangs_takes_a_flip(rt: HostRuntime) -> Result<(), Fail> {
+    let alloc = rt.alloc();
+    let model = hanging(alloc)?;
+    assert!(&rt; attached(alloc, &model, false, 100)?.is_none());
+    assert!(&rt; attached(alloc, &model, true, 1)?.is_none());
+    if let Some(commands) = attached(alloc, &model, true, 100)? {
+        assert_eq!(&rt; commands.as_slice().len(), 16);
+        assert_eq!(&rt; backwards(alloc, commands.as_slice())?.as_slice().len(), 16);
+    }
     Ok(())
 }

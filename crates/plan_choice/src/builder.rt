@@ -1,0 +1,325 @@
+//! Models that one bot builds layer by layer from above, up to five voxels at each stop: a voxel is filled once it is attached,
+//! that is on the floor or beside a full one, so that all is grounded after each step. What is proposed here is judged.
+use crate::ways::{difference, move_by, next_end};
+use nano_spec::{Command, CommandList};
+use plan_tape::is_full;
+use std::alloc::Global;
+use vox_geom::{Coord, Diff, Memory, Near};
+use vox_planes::Planes;
+
+/// More moves than any way has.
+const MOST_MOVES: u32 = 100;
+
+/// How often a lane is gone along before the next one.
+const MOST_SWEEPS: u32 = 16;
+
+/// How often the lanes of a layer are gone through.
+const MOST_PASSES: u32 = 64;
+
+/// The full voxels of a layer: how many, and the least and greatest x and z of them.
+#[derive(Clone, Copy)]
+struct Extent {
+    count: u32,
+    low: Coord,
+    high: Coord,
+}
+
+/// Whether the voxel is full; beyond the matrix none is.
+fn is_full_at(planes: &Planes, c: Coord) -> bool {
+    let r = planes.resolution();
+    c.x < r && c.y < r && c.z < r && is_full(planes, c)
+}
+
+/// The component so far from another one.
+fn moved(at: u16, by: i16) -> u16 {
+    if by < 0 {
+        at.wrapping_sub(by.unsigned_abs())
+    } else {
+        at.wrapping_add(by.unsigned_abs())
+    }
+}
+
+/// The coordinate so far beside another one.
+fn beside(c: Coord, dx: i16, dz: i16) -> Coord {
+    Coord {
+        x: moved(c.x, dx),
+        y: c.y,
+        z: moved(c.z, dz),
+    }
+}
+
+/// The full voxels of a layer.
+fn extent_of(target: &Planes, y: u16) -> Extent {
+    let r = u32::from(target.resolution());
+    let mut extent = Extent {
+        count: 0,
+        low: Coord {
+            x: u16::MAX,
+            y,
+            z: u16::MAX,
+        },
+        high: Coord { x: 0, y, z: 0 },
+    };
+    for place in 0..r * r {
+        let (x, z) = ((place / r) as u16, (place % r) as u16);
+        if is_full_at(target, Coord { x, y, z }) {
+            extent.count = extent.count.saturating_add(1);
+            extent.low = Coord {
+                x: extent.low.x.min(x),
+                y,
+                z: extent.low.z.min(z),
+            };
+            extent.high = Coord {
+                x: extent.high.x.max(x),
+                y,
+                z: extent.high.z.max(z),
+            };
+        }
+    }
+    extent
+}
+
+/// Whether a component is no farther from the first than from the second.
+fn is_nearer(at: u16, low: u16, high: u16) -> bool {
+    2 * u32::from(at) <= u32::from(low) + u32::from(high)
+}
+
+/// A bot that builds: what it filled, where it is, its commands, how many voxels of the layer are left, and whether it went under
+/// High.
+#[derive(Drop)]
+struct Builder {
+    made: Planes,
+    at: Coord,
+    commands: CommandList,
+    left: u32,
+    high: bool,
+}
+
+impl Builder {
+    /// Before the first command.
+    fn begin(alloc: Global, target: &Planes) -> Result<Builder, Memory> {
+        Ok(Builder {
+            made: Planes::empty(alloc, target.resolution())?,
+            at: Coord { x: 0, y: 0, z: 0 },
+            commands: CommandList::new(alloc),
+            left: 0,
+            high: false,
+        })
+    }
+
+    /// Goes there.
+    fn go(&mut self, to: Coord) -> Result<(), Memory> {
+        for _ in 0..MOST_MOVES {
+            if self.at == to {
+                break;
+            }
+            let next = next_end(self.at, to);
+            if let Some(command) = move_by(difference(self.at, next)) {
+                self.commands.push(command)?;
+            }
+            self.at = next;
+        }
+        Ok(())
+    }
+
+    /// Goes under High, to stay there.
+    fn raise(&mut self) -> Result<(), Memory> {
+        if !self.high {
+            self.commands.push(Command::Flip)?;
+            self.high = true;
+        }
+        Ok(())
+    }
+
+    /// Whether the target has the voxel, and it is not filled yet.
+    fn is_wanted(&self, target: &Planes, c: Coord) -> bool {
+        is_full_at(target, c) && !is_full_at(&self.made, c)
+    }
+
+    /// Whether the voxel is on the floor or beside a full one.
+    fn is_attached(&self, c: Coord) -> bool {
+        c.y == 0
+            || is_full_at(&self.made, Coord { y: c.y - 1, ..c })
+            || is_full_at(&self.made, beside(c, -1, 0))
+            || is_full_at(&self.made, beside(c, 1, 0))
+            || is_full_at(&self.made, beside(c, 0, -1))
+            || is_full_at(&self.made, beside(c, 0, 1))
+    }
+
+    /// Whether the voxel may be filled now.
+    fn may_fill(&self, target: &Planes, c: Coord, float: bool) -> bool {
+        self.is_wanted(target, c) && (float || self.is_attached(c))
+    }
+
+    /// The next voxel that may be filled from above this one, on a way along z.
+    fn next_below(&self, target: &Planes, c: Coord, on: i16, float: bool) -> Option<Coord> {
+        for (dx, dz) in [(0, on.wrapping_neg()), (-1, 0), (1, 0), (0, 0), (0, on)] {
+            let it = beside(c, dx, dz);
+            if self.may_fill(target, it, float) {
+                return Some(it);
+            }
+        }
+        None
+    }
+
+    /// Whether there is more to fill from above this voxel than what the next stop fills as well.
+    fn is_worth_it(&self, target: &Planes, c: Coord, on: i16, float: bool) -> bool {
+        self.may_fill(target, beside(c, 0, on.wrapping_neg()), float)
+            || self.is_wanted(target, beside(c, -1, 0))
+            || self.is_wanted(target, beside(c, 1, 0))
+    }
+
+    /// Fills a voxel that is near.
+    fn fill(&mut self, c: Coord) -> Result<(), Memory> {
+        let r = self.made.resolution();
+        if let Some(near) = Near::of(difference(self.at, c)) {
+            self.commands.push(Command::Fill(near))?;
+        }
+        if c.x < r && c.y < r && c.z < r {
+            self.made.set(c, true);
+        }
+        self.left = self.left.saturating_sub(1);
+        Ok(())
+    }
+
+    /// Fills what may be filled from above this voxel.
+    fn stop(&mut self, target: &Planes, c: Coord, on: i16, float: bool) -> Result<(), Memory> {
+        for _ in 0..5 {
+            let Some(it) = self.next_below(target, c, on, float) else {
+                break;
+            };
+            self.go(Coord {
+                y: c.y.saturating_add(1),
+                ..c
+            })?;
+            self.fill(it)?;
+        }
+        Ok(())
+    }
+
+    /// Goes along a lane, from its nearer end.
+    fn sweep(
+        &mut self,
+        target: &Planes,
+        extent: &Extent,
+        x: u16,
+        float: bool,
+    ) -> Result<(), Memory> {
+        let length = extent.high.z.saturating_sub(extent.low.z);
+        let rises = is_nearer(self.at.z, extent.low.z, extent.high.z);
+        let on = if rises { 1 } else { -1 };
+        for k in 0..=length {
+            let z = if rises {
+                extent.low.z.saturating_add(k)
+            } else {
+                extent.high.z.saturating_sub(k)
+            };
+            let c = Coord {
+                x,
+                y: extent.low.y,
+                z,
+            };
+            if k == length || self.is_worth_it(target, c, on, float) {
+                self.stop(target, c, on, float)?;
+            }
+        }
+        Ok(())
+    }
+
+    /// Goes along a lane, to and fro, until nothing more is filled.
+    fn lane(
+        &mut self,
+        target: &Planes,
+        extent: &Extent,
+        x: u16,
+        float: bool,
+    ) -> Result<(), Memory> {
+        for _ in 0..MOST_SWEEPS {
+            let before = self.left;
+            self.sweep(target, extent, x, float)?;
+            if self.left == before {
+                break;
+            }
+        }
+        Ok(())
+    }
+
+    /// Goes through all lanes, which are three columns wide, from the nearer side.
+    fn pass(&mut self, target: &Planes, extent: &Extent, float: bool) -> Result<(), Memory> {
+        let (low, high) = (extent.low.x, extent.high.x);
+        let lanes = high.saturating_sub(low) / 3 + 1;
+        let rises = is_nearer(self.at.x, low, high);
+        for k in 0..lanes {
+            let number = if rises { k } else { lanes - 1 - k };
+            let first = u32::from(low) + 3 * u32::from(number);
+            let middle = (first + u32::from(high).min(first + 2)) / 2;
+            let x = middle.min(u32::from(high)) as u16;
+            self.lane(target, extent, x, float)?;
+            if self.left == 0 {
+                break;
+            }
+        }
+        Ok(())
+    }
+
+    /// Fills what is attached of a layer, or becomes so.
+    fn attach(&mut self, target: &Planes, extent: &Extent) -> Result<(), Memory> {
+        for _ in 0..MOST_PASSES {
+            let before = self.left;
+            self.pass(target, extent, false)?;
+            if self.left == 0 || self.left == before {
+                break;
+            }
+        }
+        Ok(())
+    }
+
+    /// Builds all layers, with what hangs under High: not where that is not allowed, nor by more commands than that.
+    fn build(&mut self, target: &Planes, may_rise: bool, most: u64) -> Result<bool, Memory> {
+        for y in 0..target.resolution() {
+            let extent = extent_of(target, y);
+            self.left = extent.count;
+            if self.left > 0 {
+                self.attach(target, &extent)?;
+            }
+            if self.left > 0 && !may_rise {
+                return Ok(false);
+            }
+            if self.left > 0 {
+                self.raise()?;
+                self.pass(target, &extent, true)?;
+            }
+            if self.commands.as_slice().len() as u64 > most {
+                return Ok(false);
+            }
+        }
+        Ok(true)
+    }
+
+    /// The commands, once the bot is home.
+    fn finish(mut self) -> Result<CommandList, Memory> {
+        let y = self.at.y;
+        self.go(Coord { x: 0, y, z: 0 })?;
+        self.go(Coord { x: 0, y: 0, z: 0 })?;
+        if self.high {
+            self.commands.push(Command::Flip)?;
+        }
+        self.commands.push(Command::Halt)?;
+        Ok(self.commands)
+    }
+}
+
+/// The commands of one bot that builds the target, and stays under High from the first layer on that has a part that hangs.
+/// There are none where High is not allowed and something hangs, or where there are more than `most`.
+pub fn attached(
+    alloc: Global,
+    target: &Planes,
+    may_rise: bool,
+    most: u64,
+) -> Result<Option<CommandList>, Memory> {
+    let mut builder = Builder::begin(alloc, target)?;
+    if !builder.build(target, may_rise, most)? {
+        return Ok(None);
+    }
+    Ok(Some(builder.finish()?))
+}

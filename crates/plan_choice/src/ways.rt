@@ -1,0 +1,115 @@
+//! Moves of one bot on its way, and the same backwards.
+use nano_spec::{Command, CommandList};
+use plan_tape::next_stop;
+use std::alloc::Global;
+use vox_geom::{Coord, Diff, Long, Memory, Short};
+
+/// The most that one leg of a double move goes.
+const SHORT: u16 = 5;
+
+/// More than any two components lie apart.
+const APART: u16 = 1023;
+
+/// What leads from one component to another.
+fn gap(from: u16, to: u16) -> i16 {
+    if from < to {
+        (to - from).min(APART) as i16
+    } else {
+        -((from - to).min(APART) as i16)
+    }
+}
+
+/// What leads from one coordinate to another.
+pub(crate) fn difference(from: Coord, to: Coord) -> Diff {
+    Diff {
+        dx: gap(from.x, to.x),
+        dy: gap(from.y, to.y),
+        dz: gap(from.z, to.z),
+    }
+}
+
+/// Where a leg of a double move ends.
+fn short_stop(at: u16, to: u16) -> u16 {
+    to.max(at.saturating_sub(SHORT))
+        .min(at.saturating_add(SHORT))
+}
+
+/// Where the next move on the way ends: along y first, then along x and z, by a double move where that ends one of both.
+pub(crate) fn next_end(at: Coord, to: Coord) -> Coord {
+    if at.y != to.y {
+        return Coord {
+            y: next_stop(at.y, to.y),
+            ..at
+        };
+    }
+    let both = Coord {
+        x: short_stop(at.x, to.x),
+        y: at.y,
+        z: short_stop(at.z, to.z),
+    };
+    if both.x == to.x || both.z == to.z {
+        if at.x != to.x && at.z != to.z {
+            return both;
+        }
+    }
+    if at.x != to.x {
+        return Coord {
+            x: next_stop(at.x, to.x),
+            ..at
+        };
+    }
+    if at.z != to.z {
+        return Coord {
+            z: next_stop(at.z, to.z),
+            ..at
+        };
+    }
+    to
+}
+
+/// The move by a difference: none where it is neither along one axis nor along x and z.
+pub(crate) fn move_by(d: Diff) -> Option<Command> {
+    if d.dx == 0 || d.dz == 0 {
+        return Some(Command::SMove(Long::of(d)?));
+    }
+    let along_x = Short::of(Diff { dz: 0, ..d })?;
+    let along_z = Short::of(Diff { dx: 0, ..d })?;
+    Some(Command::LMove(along_x, along_z))
+}
+
+/// The difference that leads back.
+fn opposite(d: Diff) -> Diff {
+    Diff {
+        dx: d.dx.wrapping_neg(),
+        dy: d.dy.wrapping_neg(),
+        dz: d.dz.wrapping_neg(),
+    }
+}
+
+/// The command of one bot that undoes another one: none for a Halt.
+fn undoing(command: Command) -> Option<Command> {
+    match command {
+        Command::SMove(d) => Some(Command::SMove(Long::of(opposite(d.diff()))?)),
+        Command::LMove(d, e) => Some(Command::LMove(
+            Short::of(opposite(e.diff()))?,
+            Short::of(opposite(d.diff()))?,
+        )),
+        Command::Fill(d) => Some(Command::Void(d)),
+        Command::Void(d) => Some(Command::Fill(d)),
+        Command::Flip => Some(Command::Flip),
+        _ => None,
+    }
+}
+
+/// One bot's commands backwards, each undone: they take down what was built.
+pub fn backwards(alloc: Global, commands: &[Command]) -> Result<CommandList, Memory> {
+    let mut back = CommandList::new(alloc);
+    let count = commands.len();
+    for i in 0..count {
+        if let Some(command) = undoing(commands[count - 1 - i]) {
+            back.push(command)?;
+        }
+    }
+    back.push(Command::Halt)?;
+    Ok(back)
+}
