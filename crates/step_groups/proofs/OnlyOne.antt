@@ -1,10 +1,15 @@
 -- The step of the only bot, of which one rule is judged after another.
-use Rattle.std.proofs.Common.{◌≡◌, ℕ, ◌+◌, ◌*◌, ◌<◌, ◌≤◌, refl, ap, sym, ◌∙◌, arith, List, [], ◌∷◌, not, map, Bool, true, false, Option, rules}
-use Rattle.std.specs.Prelude.{ℤ, AllPairs}
+use Rattle.std.proofs.Common.{◌≡◌, ℕ, ◌+◌, ◌-◌, ◌*◌, ◌<◌, ◌≤◌, refl, ap, sym, ◌∙◌, arith, List, [], ◌∷◌, not, map, Bool, true, false, Option, rules}
+use Rattle.std.specs.Prelude.{ℤ, AllPairs, IsTrue}
 use Rattle.std.proofs.lemmas.List.Sums.{sum_by-cons}
 use Rattle.vox_geom.specs.declared.difference.Diff.{Diff}
 use Rattle.nano_spec.specs.declared.commands.Command.{Command}
-use Rattle.nano_spec.specs.declared.commands.Command.TheVariants.{Fill, Void}
+use Rattle.vox_geom.specs.declared.coordinate.Coord.{Coord}
+use Rattle.vox_geom.specs.Point.{Point, point, plus}
+use Rattle.vox_geom.specs.Region.{between, corners, is_within, size, span}
+use Rattle.vox_geom.specs.Space.{IsInSpace, in_space}
+use Rattle.vox_geom.proofs.Covers.{covers}
+use Rattle.nano_spec.specs.declared.commands.Command.TheVariants.{Fill, SMove, Void}
 use Rattle.nano_spec.specs.declared.outcomes.Broken.{Broken}
 use Rattle.nano_spec.specs.declared.outcomes.Rule.TheVariants.{Forbidden}
 use Rattle.nano_spec.specs.declared.system.Bot.{Bot}
@@ -19,6 +24,8 @@ use Rattle.nano_spec.specs.Work.{volatile_total}
 use Rattle.step_groups.specs.Judging.{act, edit_of, first_fault, later_rules, start_of, touches_of}
 use Rattle.step_groups.proofs.Sums.{touched}
 use Rattle.step_groups.proofs.BlockedWays.{skip}
+use Rattle.step_groups.proofs.ClearSteps.{ordered_corners}
+use Rattle.step_groups.proofs.Touching.{counted, smove_reads_twice}
 use Rattle.step_groups.proofs.Whole.{by_itself, none_after}
 
 -- of a command that the profile allows the later rules decide
@@ -38,6 +45,17 @@ pub read_once : (m : Matrix) (b : Bot) (k : Command) (before after : ℕ) → af
 read_once m b k before after le =
     let e = sum_by-cons (touches_of m) (act b k) [] in
     touched m (b ∷ []) (k ∷ []) before after refl (one_rises b) (omega (arith, e, le))
+
+-- a way that is read once has no more coordinates than are volatile
+pub read_half : (m : Matrix) (b : Bot) (d : Diff) (to : Coord) (before after : ℕ) → IsTrue (in_space m.resolution (plus (point b.pos) d)) → point to ≡ plus (point b.pos) d → IsInSpace m.resolution b.pos → IsInSpace m.resolution to →
+    after ≤ before + size (span (corners b.pos to)) → after ≤ before + volatile_total m (acts (b ∷ []) (SMove d ∷ []))
+read_half m b d to before after inside sum from within le =
+    let way : (p : Point) → is_within (span (corners b.pos to)) p ≡ is_within (between (point b.pos) (point to)) p = λ p. covers (corners b.pos to) b.pos to p refl in
+    let once = counted m (corners b.pos to) b.pos to before after refl (ordered_corners b.pos to) from within le in
+    let again = counted m (corners b.pos to) b.pos to after (after + (after - before)) refl (ordered_corners b.pos to) from within (omega arith) in
+    let twice = smove_reads_twice m b d (corners b.pos to) (corners b.pos to) to before after (after + (after - before)) inside sum way way once again in
+    let most = read_once m b (SMove d) before (after + (after - before)) twice in
+    omega (arith, most)
 
 -- what holds of filling and of voiding
 pub by_kind : (P : Command → Type 0) (d : Diff) (full : Bool) → P (Fill d) → P (Void d) → P (edit_of full d)

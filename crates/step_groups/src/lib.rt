@@ -20,5 +20,5 @@ pub use groups::{Group, Groups, judge_groups};
 pub use leading::leaders;
 pub use members::{acts_alone, has_mate};
 pub use partners::are_together;
-pub use single::{judge_edit, judge_move, judge_single};
+pub use single::{judge_edit, judge_move, judge_single, moves_by_one};
 pub use step::Step;

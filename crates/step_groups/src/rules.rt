@@ -127,7 +127,7 @@ pub(crate) fn end_of_move<L: Ledger>(
 
 /// Whether a way is by one coordinate and its two voxels are void, where that is tried: then no row is searched.
 #[inline(always)]
-fn is_clear_by_one<L: Ledger>(
+pub(crate) fn is_clear_by_one<L: Ledger>(
     planes: &Planes,
     from: Coord,
     to: Coord,

@@ -1,5 +1,5 @@
 //! The step of a single bot.
-ghost use Rattle.std.specs.Prelude.{◌≡◌, ◌≤◌, ◌+◌, ◌*◌, ℤ, IfOk, length, [], ◌∷◌};
+ghost use Rattle.std.specs.Prelude.{◌≡◌, ◌≤◌, ◌+◌, ◌*◌, ℕ, ℤ, IfOk, IfSome, None, length, [], ◌∷◌};
 ghost use Rattle.vox_geom.specs.Point.{point, plus};
 ghost use Rattle.vox_geom.specs.Space.{IsInSpace};
 ghost use Rattle.nano_spec.specs.declared.commands.Command.TheVariants.{SMove};
@@ -11,7 +11,7 @@ ghost use Rattle.step_groups.specs.Groups.{AreLone};
 ghost use Rattle.step_groups.specs.Judging.{edit_of, rule_broken, start_of};
 ghost use Rattle.step_groups.specs.Steps.{CanBeJudged, acts_of_step, broken_in};
 
-use crate::rules::{breaks, end_of_move, judge_bots, named_by};
+use crate::rules::{breaks, end_of_move, is_clear_by_one, judge_bots, named_by, reached};
 use crate::step::Step;
 use nano_spec::{Bot, Broken, Command, Profile, Rule};
 use std::sync::ledger::Ledger;
@@ -52,6 +52,37 @@ pub fn judge_move<L: Ledger>(
     } else {
         Err(breaks(step, bot, Rule::Forbidden, bot.pos))
     }
+}
+
+/// Where the only bot gets to by a straight move by one that breaks no rule, `None` where that is to be judged.
+#[inline(always)]
+pub fn moves_by_one<L: Ledger>(
+    planes: &Planes,
+    profile: Profile,
+    bot: Bot,
+    d: Long,
+    steps: &mut Steps<L>,
+) -> Option<Coord>
+    requires within { IsInSpace planes.now.resolution bot.pos }
+    ensures keeps { IfSome result (λ _. (harmonics : HarmonicsOf) (energy : ℤ) (step : ℕ)
+        → None ≡ broken (record (start_of planes.now harmonics profile (bot ∷ [])) { energy = energy }) (SMove d ∷ []) step) }
+    ensures sum { IfSome result (λ to. point to ≡ plus (point bot.pos) d) }
+    ensures stays { IfSome result (λ to. IsInSpace planes.now.resolution to) }
+    ensures touches { steps.new ≤ steps.old + volatile_total planes.now (acts (bot ∷ []) (SMove d ∷ [])) }
+{
+    if d.diff().mlen() != 1 {
+        return None;
+    }
+    if !profile.allows(Command::SMove(d)) {
+        return None;
+    }
+    let Some(to) = reached(planes, bot.pos, d.diff()) else {
+        return None;
+    };
+    if is_clear_by_one(planes, bot.pos, to, d.diff(), true, steps) {
+        return Some(to);
+    }
+    None
 }
 
 /// Which voxel the only bot fills, or else voids, or the first rule that the step breaks. No voxel is read.

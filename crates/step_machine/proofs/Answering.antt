@@ -35,7 +35,7 @@ bots_left bots one = ((λ h. cc), (λ e. let none = ap length e in absurd (omega
 -- a machine's parts, which are not spent, and what is seen of them
 module _ (s : State) (commands : List Command) (steps : ℕ) (spent : Bool) (v : Situation) (e : seen s steps spent ≡ v) (stands : spent ≡ false) (began : ℕ) where
   -- a rule is broken that is judged at the start
-  pub broken_at_start : (b : Broken) (ended : ℕ) → broken s commands (steps + 1) ≡ Some b → ended ≤ began + 2 * volatile_total s.matrix (acts s.bots commands) → (length commands < length s.bots → ended ≡ began) → Stepped v (seen s steps spent) commands (Err (fault.Broken b)) began ended
+  pub broken_at_start : (b : Broken) (ended : ℕ) → broken s commands (steps + 1) ≡ Some b → ended ≤ began + 3 * volatile_total s.matrix (acts s.bots commands) → (length commands < length s.bots → ended ≡ began) → Stepped v (seen s steps spent) commands (Err (fault.Broken b)) began ended
   broken_at_start b ended f touches ends = subst (λ (w : Situation). Stepped w (seen s steps spent) commands (Err (fault.Broken b)) began ended) e (record {
     goes = tt;
     counted = tt;
@@ -53,7 +53,7 @@ module _ (s : State) (commands : List Command) (steps : ℕ) (spent : Bool) (v :
     touches_broken = within_one s commands (steps + 1) (began + searched_for b.rule s.matrix) ended (λ n w. let t = judged_touches s commands (steps + 1) b began ended n f touches ends w in omega (arith, t));
   })
 
-  module _ (judged : ℕ) (keeps : broken s commands (steps + 1) ≡ None) (start : judged ≤ began + 2 * volatile_total s.matrix (acts s.bots commands)) where
+  module _ (judged : ℕ) (keeps : broken s commands (steps + 1) ≡ None) (start : judged ≤ began + 3 * volatile_total s.matrix (acts s.bots commands)) where
     -- memory is refused
     pub no_memory : (ended : ℕ) → Stepped v (seen s steps true) commands (Err fault.Memory) began ended
     no_memory ended = subst (λ (w : Situation). Stepped w (seen s steps true) commands (Err fault.Memory) began ended) e (record {

@@ -190,7 +190,7 @@ is_end AfterHalt = inr (λ e. cc)
 is_end WrongResult = inr (λ e. cc)
 is_end Forbidden = inr (λ e. cc)
 
-pub judged_touches : (s : State) (commands : List Command) (step : ℕ) (b : Broken) (before after n : ℕ) → broken s commands step ≡ Some b → after ≤ before + 2 * volatile_total s.matrix (acts s.bots commands) → (length commands < length s.bots → after ≡ before) → WorkOfStep s commands step n → after ≤ before + 100 * n
+pub judged_touches : (s : State) (commands : List Command) (step : ℕ) (b : Broken) (before after n : ℕ) → broken s commands step ≡ Some b → after ≤ before + 3 * volatile_total s.matrix (acts s.bots commands) → (length commands < length s.bots → after ≡ before) → WorkOfStep s commands step n → after ≤ before + 100 * n
 judged_touches s commands step b before after n e touches ends w = by (is_end b.rule)
   where
     work : n ≡ work_by_rule s.matrix (acts s.bots commands) b.rule

@@ -1,8 +1,10 @@
 //! The step of the only bot by a command that needs no other, made at once: no turns and no changes are listed.
-ghost use Rattle.std.specs.Prelude.{◌≡◌, ◌≢◌, ℕ, ◌+◌, ◌<◌, [], ◌∷◌, false, true, length, None, Err};
+ghost use Rattle.std.specs.Prelude.{◌≡◌, ◌≢◌, ℕ, ◌+◌, ◌<◌, ◌≤◌, [], ◌∷◌, false, true, length, None, Err};
 ghost use Rattle.nano_spec.specs.declared.commands.Command.TheVariants.{SMove};
 ghost use Rattle.nano_spec.specs.declared.system.Harmonics.TheVariants.{Low};
+ghost use Rattle.nano_spec.specs.Act.{acts};
 ghost use Rattle.nano_spec.specs.Grounded.{FirstUngrounded};
+ghost use Rattle.nano_spec.specs.Work.{volatile_total};
 ghost use Rattle.step_groups.specs.Judging.{edit_of};
 ghost use Rattle.step_machine.specs.Edits.{is_edit};
 ghost use Rattle.step_machine.specs.Settling.{IsDeclined};
@@ -36,7 +38,7 @@ impl Machine {
         }
     }
 
-    /// The step of the only bot by a straight move.
+    /// The step of the only bot by a straight move. Most are by one and break no rule, and are made at once.
     #[inline(always)]
     fn move_alone<L: Ledger>(
         &mut self,
@@ -49,6 +51,44 @@ impl Machine {
         requires held { self.old.state.harmonics ≡ Low → FirstUngrounded self.old.state.matrix None }
         requires steps { self.old.steps < 1073741824 }
         ensures stepped { Stepped self.old self.new (SMove d ∷ []) (answer_of result self.new.state fault.new) steps.old steps.new }
+        ensures memory { result ≡ false → fault.new ≡ StepFault.Memory → is_edit (SMove d) ≡ true }
+    {
+        if self.move_by_one(d, steps) {
+            return true;
+        }
+        self.move_far(d, fault, steps)
+    }
+
+    /// The step of the only bot by a straight move by one that breaks no rule: whether it was made. Otherwise all stays.
+    #[inline(always)]
+    fn move_by_one<L: Ledger>(&mut self, d: Long, steps: &mut Steps<L>) -> bool
+        requires stands { self.old.spent ≡ false }
+        requires one { length self.old.state.bots ≡ 1 }
+        requires held { self.old.state.harmonics ≡ Low → FirstUngrounded self.old.state.matrix None }
+        requires steps { self.old.steps < 1073741824 }
+        ensures made { result ≡ true → (fault : Fault) → Stepped self.old self.new (SMove d ∷ []) (answer_of true self.new.state fault) steps.old steps.new }
+        ensures stays { result ≡ false → self.new ≡ self.old }
+        ensures touches { steps.new ≤ steps.old + volatile_total self.old.state.matrix (acts self.old.state.bots (SMove d ∷ [])) }
+    {
+        let step = self.steps + 1;
+        self.system.know();
+        know_step(&self.system, &[Command::SMove(d)]);
+        if !self.system.move_by_one(d, steps) {
+            return false;
+        }
+        self.steps = step;
+        true
+    }
+
+    /// The step of the only bot by a straight move, after a try by one.
+    #[inline(never)]
+    fn move_far<L: Ledger>(&mut self, d: Long, fault: &mut StepFault, steps: &mut Steps<L>) -> bool
+        requires stands { self.old.spent ≡ false }
+        requires one { length self.old.state.bots ≡ 1 }
+        requires held { self.old.state.harmonics ≡ Low → FirstUngrounded self.old.state.matrix None }
+        requires steps { self.old.steps < 1073741824 }
+        ensures stepped { (began : ℕ) → steps.old ≤ began + volatile_total self.old.state.matrix (acts self.old.state.bots (SMove d ∷ []))
+            → Stepped self.old self.new (SMove d ∷ []) (answer_of result self.new.state fault.new) began steps.new }
         ensures memory { result ≡ false → fault.new ≡ StepFault.Memory → is_edit (SMove d) ≡ true }
     {
         let step = self.steps + 1;

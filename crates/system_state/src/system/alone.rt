@@ -1,5 +1,5 @@
 //! The step of the only bot by a command that needs no other, made at once: no turns are listed.
-ghost use Rattle.std.specs.Prelude.{◌≡◌, ◌+◌, ◌*◌, ◌≤◌, pos, ◌+ℤ◌, [], ◌∷◌, length, IfOk, IfSome, IfNone};
+ghost use Rattle.std.specs.Prelude.{◌≡◌, ℕ, ◌+◌, ◌*◌, ◌≤◌, pos, ◌+ℤ◌, [], ◌∷◌, length, true, false, None, IfOk, IfSome, IfNone};
 ghost use Rattle.vox_geom.specs.declared.difference.Diff.{Diff as Difference};
 ghost use Rattle.vox_geom.specs.Difference.{mlen};
 ghost use Rattle.vox_geom.specs.Point.{point, plus};
@@ -18,7 +18,7 @@ ghost use Rattle.system_state.specs.Edited.{edit_cost};
 use super::System;
 use nano_spec::{Bot, Broken};
 use std::sync::ledger::Ledger;
-use step_groups::{judge_edit, judge_move};
+use step_groups::{judge_edit, judge_move, moves_by_one};
 use vox_geom::{Coord, Long, Near, Steps};
 
 impl System {
@@ -31,6 +31,29 @@ impl System {
     {
         self.know();
         self.crew.bots()[0]
+    }
+
+    /// The step of the only bot by a straight move by one that breaks no rule, with all effects and costs: whether it was made. Otherwise
+    /// all stays. The rule of grounding is not judged.
+    #[inline(always)]
+    pub fn move_by_one<L: Ledger>(&mut self, d: Long, steps: &mut Steps<L>) -> bool
+        requires one { length self.old.bots ≡ 1 }
+        requires payable { IsPayable self.old.energy }
+        ensures keeps { result ≡ true → (step : ℕ) → broken_of self.old (SMove d ∷ []) step ≡ None }
+        ensures moved { result ≡ true → self.new ≡ after self.old (SMove d ∷ []) }
+        ensures one { result ≡ true → length self.new.bots ≡ 1 }
+        ensures stays { result ≡ false → self.new ≡ self.old }
+        ensures touches { steps.new ≤ steps.old + volatile_total self.old.matrix (acts self.old.bots (SMove d ∷ [])) }
+    {
+        self.know();
+        let bot = self.only_bot();
+        let Some(to) = moves_by_one(&self.matrix, self.profile, bot, d, steps) else {
+            return false;
+        };
+        self.pay_upkeep();
+        self.pay(cost_of_move(d));
+        self.move_only(to);
+        true
     }
 
     /// The step of the only bot by a straight move: the rule that it breaks, or `None`, and then all effects and costs. The

@@ -8,18 +8,18 @@ use Rattle.step_machine.proofs.machine.Machine.step_noted.Goals as goal
 pub returns-in-Some-clause-stepped : goal.returns-in-Some-clause-stepped
 returns-in-Some-clause-stepped g c =
     broken_at_start c.self.inside.system c.args.commands.now c.self.inside.steps c.self.inside.spent c.args.self.now c.self.view_is c.if-self.false c.args.steps.now
-    c.in-Some.broken c.judge.new.steps (sym c.judge.ensures.value ∙ c.in-Some.is) c.judge.ensures.touches c.judge.ensures.ends
+    c.in-Some.broken c.judge.new.steps (sym c.judge.ensures.value ∙ c.in-Some.is) (omega (arith, c.judge.ensures.touches)) c.judge.ensures.ends
 
 pub returns-in-Err-clause-stepped : goal.returns-in-Err-clause-stepped
 returns-in-Err-clause-stepped g c =
     not_settled c.self.inside.system c.args.commands.now c.self.inside.steps c.self.inside.spent c.args.self.now c.self.view_is c.if-self.false c.args.steps.now
-    c.judge.new.steps (sym c.judge.ensures.value ∙ c.in_default.is) c.judge.ensures.touches
+    c.judge.new.steps (sym c.judge.ensures.value ∙ c.in_default.is) (omega (arith, c.judge.ensures.touches))
     c.in-Err.fault c.settle_noted.new.steps c.in-Err.ensures.unsettled
 
 pub returns-clause-stepped : goal.returns-clause-stepped
 returns-clause-stepped g c =
     made c.self.inside.system c.args.commands.now c.self.inside.steps c.self.inside.spent c.args.self.now c.self.view_is c.if-self.false c.args.steps.now
-    c.judge.new.steps (sym c.judge.ensures.value ∙ c.in_default.is) c.judge.ensures.touches
+    c.judge.new.steps (sym c.judge.ensures.value ∙ c.in_default.is) (omega (arith, c.judge.ensures.touches))
     c.take_turns.new.system c.settle_noted.new.forest c.made.result c.settle_noted.new.steps c.take_turns.new.steps c.in-Ok.ensures.settled c.take_turns.ensures.value c.made.ensures.energy c.made.ensures.halted
     (formed_on c.self.inside.system c.take_turns.new.system c.args.commands.now (c.self.inside.steps + 1) c.know_step.ensures.well_formed c.in-Ok.ensures.settled.goes c.take_turns.ensures.value)
     c.take_turns.ensures.touches
