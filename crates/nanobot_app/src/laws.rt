@@ -40,7 +40,8 @@ pub fn some_answer()
         → (reply : Reply) × AnswerOf (light source target trace) files reply }
     ensures asm { (text trace : List ℕ) (files : Files) → (reply : Reply) × AnswerOf (asm text trace) files reply }
     ensures dis { (trace text : List ℕ) (files : Files) → (reply : Reply) × AnswerOf (dis trace text) files reply }
-    ensures make { (number resolution : ℕ) (model : List ℕ) (files : Files) → (reply : Reply) × AnswerOf (make number resolution model) files reply }
+    ensures make { (number resolution : ℕ) (model : List ℕ) (files : Files)
+        → (reply : Reply) × AnswerOf (make number resolution model) files reply }
 {}
 
 /// The energy and the number of steps of a run that is taken are small, and no two such pairs are printed alike.

@@ -149,25 +149,32 @@ pub fn drive<D: Depot, O: Sink, L: Ledger>(
     // `run S T B` answers 0 and prints energy E and step count K exactly when the specification's machine, which judges
     // all grounding afresh after every step, takes the whole trace B from model S to a halt at the origin in model T with
     // energy E in K steps: where files and what is written are told, no count rose, and memory was there.
-    ensures headline { (source target : Option (List ℕ)) (trace : List ℕ) → IsRunOf (texts words.now) source target trace
-        → (Rose (D.faults depot.old) (D.faults depot.new) → ⊥) → (Rose (O.faults out.old) (O.faults out.new) → ⊥) → (result ≡ Status.Memory → ⊥)
+    ensures headline { (source target : Option (List ℕ)) (trace : List ℕ)
+        → IsRunOf (texts words.now) source target trace → (Rose (D.faults depot.old) (D.faults depot.new) → ⊥)
+        → (Rose (O.faults out.old) (O.faults out.new) → ⊥) → (result ≡ Status.Memory → ⊥)
         → IfSome (D.files depot.old) (λ files. IfSome (O.written out.old) (λ before. (energy : ℤ) (count : ℕ)
-        → MachineTakes files source target trace energy count ↔ IsDoneWith result (Some before) (O.written out.new) energy count)) }
+        → MachineTakes files source target trace energy count
+        ↔ IsDoneWith result (Some before) (O.written out.new) energy count)) }
 
     // Where nothing is told of what is written it still answers 0, and where counts rose it still does so only then.
-    ensures headline_where { (source target : Option (List ℕ)) (trace : List ℕ) → IsRunOf (texts words.now) source target trace
-        → (Rose (D.faults depot.old) (D.faults depot.new) → ⊥) → (Rose (O.faults out.old) (O.faults out.new) → ⊥) → (result ≡ Status.Memory → ⊥)
-        → IfSome (D.files depot.old) (λ files. (energy : ℤ) (count : ℕ) → MachineTakes files source target trace energy count
+    ensures headline_where { (source target : Option (List ℕ)) (trace : List ℕ)
+        → IsRunOf (texts words.now) source target trace → (Rose (D.faults depot.old) (D.faults depot.new) → ⊥)
+        → (Rose (O.faults out.old) (O.faults out.new) → ⊥) → (result ≡ Status.Memory → ⊥)
+        → IfSome (D.files depot.old) (λ files. (energy : ℤ) (count : ℕ)
+        → MachineTakes files source target trace energy count
         → IsDoneWith result (O.written out.old) (O.written out.new) energy count) }
-    ensures headline_only { (source target : Option (List ℕ)) (trace : List ℕ) → IsRunOf (texts words.now) source target trace
-        → result ≡ Status.Done
-        → IfSome (D.files depot.old) (λ files. (energy : ℤ) × (count : ℕ) × MachineTakes files source target trace energy count
+    ensures headline_only { (source target : Option (List ℕ)) (trace : List ℕ)
+        → IsRunOf (texts words.now) source target trace → result ≡ Status.Done
+        → IfSome (D.files depot.old) (λ files. (energy : ℤ) × (count : ℕ)
+        × MachineTakes files source target trace energy count
         × IsDoneWith result (O.written out.old) (O.written out.new) energy count) }
 
     // Otherwise it prints the definition's refusal: the first bad file or byte, or the first step, bot and rule broken.
-    ensures refusal { (source target : Option (List ℕ)) (trace : List ℕ) → IsRunOf (texts words.now) source target trace → IsAnswer result
-        → IfSome (D.files depot.old) (λ files. (reply : Reply) × AnswerOfRun full_profile source target trace files reply
-        × (result ≡ reply.status) × (O.written out.new ≡ append_known (O.written out.old) reply.line) × (D.files depot.new ≡ Some reply.after)) }
+    ensures refusal { (source target : Option (List ℕ)) (trace : List ℕ)
+        → IsRunOf (texts words.now) source target trace → IsAnswer result
+        → IfSome (D.files depot.old) (λ files. (reply : Reply)
+        × AnswerOfRun full_profile source target trace files reply × (result ≡ reply.status)
+        × (O.written out.new ≡ append_known (O.written out.old) reply.line) × (D.files depot.new ≡ Some reply.after)) }
 
     // A status other than 5, 6 and 7 is the answer's, with its whole line written and its files stored. `run light S T B`
     // is answered as `run S T B` is, with the verdict of the light profile in place of the full one.

@@ -131,8 +131,8 @@ pub extern "C" fn nanobot_cost(
     energy: &mut i64,
     steps: &mut u32,
 ) -> u32
-    // With the full profile it answers 0 and tells this energy and step count exactly when the specification's machine takes the
-    // whole trace with them.
+    // With the full profile it answers 0 and tells this energy and step count exactly when the specification's machine
+    // takes the whole trace with them.
     ensures headline { light ≡ false → (IsMemory result → ⊥) → (e : ℤ) (count : ℕ)
         → TakesAll source.now target.now trace.now e count ↔ (IsDone result × (energy.new ≡ e) × (steps.new ≡ count)) }
 
