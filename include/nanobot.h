@@ -104,14 +104,14 @@ uint32_t nanobot_check(const uint8_t *model, size_t model_size, uint8_t *line, s
 uint32_t nanobot_plan_layer(const uint8_t *source, size_t source_size, const uint8_t *target, size_t target_size,
                             uint8_t *plan, size_t room, size_t *size);
 
-/* Two bots, which fill and void runs together.
+/* At most two bots, which fill and void runs together.
  *
  *     nanobot_plan_group(model, model_size, NANOBOT_NONE, 0, plan, sizeof plan, &size);      // takes the model down
  */
 uint32_t nanobot_plan_group(const uint8_t *source, size_t source_size, const uint8_t *target, size_t target_size,
                             uint8_t *plan, size_t room, size_t *size);
 
-/* Four bots, which take the source down.
+/* At most four bots, which take the source down.
  *
  *     nanobot_plan_void(model, model_size, plan, sizeof plan, &size);
  */
