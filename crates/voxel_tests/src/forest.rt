@@ -4,8 +4,8 @@ ghost use Rattle.vox_geom.specs.Space.{IsInSpace};
 
 use crate::common::at;
 use crate::edits::{
-    add_two, add_void, assert_floating, assert_level, assert_parent, assert_word, inside,
-    remove_full,
+    add_two, add_void, assert_floating, assert_level, assert_parent, assert_word, clear_full,
+    inside, remove_full, stand_void,
 };
 use std::alloc::Global;
 use std::marker::Brand;
@@ -95,6 +95,44 @@ fn ring_on_posts<L: Ledger>(rt: &impl Abort, blank: Blank, alloc: Global) -> Res
     without_posts(rt, &mut forest, &mut steps)
 }
 
+/// On a voxel of the floor another stands at once, but none beside that; and it is cleared at once when nothing hangs on it.
+fn one_on_another<L: Ledger>(
+    rt: &impl Abort,
+    forest: &mut Forest,
+    steps: &mut Steps<L>,
+) -> Result<(), ForestFault>
+    requires stands { forest.old.spent ≡ false }
+    requires resolution { forest.old.matrix.resolution ≡ 5 }
+{
+    assert!(rt; !stand_void(rt, forest, at(1, 0, 1), steps));
+    add_void(rt, forest, at(1, 0, 1), steps)?;
+    assert!(rt; stand_void(rt, forest, at(1, 1, 1), steps));
+    assert_level(rt, forest, at(1, 1, 1), Some(1), steps);
+    assert!(rt; !stand_void(rt, forest, at(2, 1, 1), steps));
+    assert!(rt; !clear_full(rt, forest, at(1, 0, 1), steps));
+    assert!(rt; clear_full(rt, forest, at(1, 1, 1), steps));
+    assert!(rt; clear_full(rt, forest, at(1, 0, 1), steps));
+    assert_floating(rt, forest, 0, None, steps);
+    Ok(())
+}
+
+/// Voxels come and go at once.
+fn voxels_at_once<L: Ledger>(
+    rt: &impl Abort,
+    blank: Blank,
+    alloc: Global,
+) -> Result<(), ForestFault>
+    requires name { blank.name ≡ L.name }
+    requires parts { blank.parts ≡ L.parts }
+    requires some { 0 < L.parts }
+{
+    let mut steps: Steps<L> = Steps::new(blank);
+    let Ok(mut forest) = Forest::empty(alloc, 5) else {
+        return Err(ForestFault::Memory);
+    };
+    one_on_another(rt, &mut forest, &mut steps)
+}
+
 /// Two voxels stand in two slots.
 fn assert_two_slots(rt: &impl Abort, forest: &Forest, one: Coord, other: Coord)
     requires stands { forest.now.spent ≡ false }
@@ -138,5 +176,11 @@ fn a_ring_hangs_on_its_other_post(rt: HostRuntime) -> Result<(), Fail> {
 #[test]
 fn two_bricks_have_two_slots(rt: HostRuntime) -> Result<(), Fail> {
     two_bricks::<Brand>(&rt, Blank::new(1), rt.alloc())?;
+    Ok(())
+}
+
+#[test]
+fn a_voxel_stands_and_is_cleared_at_once(rt: HostRuntime) -> Result<(), Fail> {
+    voxels_at_once::<Brand>(&rt, Blank::new(1), rt.alloc())?;
     Ok(())
 }
