@@ -214,7 +214,8 @@ fn refit_one<L: Ledger>(
     requires edit { IsOneEdit system.now commands.now d at full }
     requires stands { forest.old.spent ≡ false }
     requires tied { forest.old.matrix ≡ system.now.matrix }
-    ensures refitted { IfOk result (λ _. (before : ℕ) → steps.old ≤ before + 9 → IsRefitted system.now commands.now forest.new before steps.new) }
+    ensures refitted { IfOk result
+        (λ _. (before : ℕ) → steps.old ≤ before + 9 → IsRefitted system.now commands.now forest.new before steps.new) }
     ensures was { IfOk result (λ was. was ≡ is_full system.now.matrix at) }
 {
     system.know();
@@ -398,8 +399,10 @@ pub(crate) fn settle_one<L: Ledger>(
     requires edit { IsOneEdit system.now commands.now d at full }
     requires stands { forest.old.spent ≡ false }
     requires tied { forest.old.matrix ≡ system.now.matrix }
-    ensures settled { IfOk result (λ _. (before : ℕ) → steps.old ≤ before + 9 → IsSettled system.now commands.now step forest.new before steps.new) }
-    ensures unsettled { IfErr result (λ fault. (before : ℕ) → steps.old ≤ before + 9 → IsUnsettled system.now commands.now step fault before steps.new) }
+    ensures settled { IfOk result
+        (λ _. (before : ℕ) → steps.old ≤ before + 9 → IsSettled system.now commands.now step forest.new before steps.new) }
+    ensures unsettled { IfErr result
+        (λ fault. (before : ℕ) → steps.old ≤ before + 9 → IsUnsettled system.now commands.now step fault before steps.new) }
     ensures was { IfOk result (λ was. was ≡ is_full system.now.matrix at) }
 {
     let was = refit_one(system, commands, d, at, full, forest, steps)?;

@@ -107,6 +107,48 @@ pub(crate) fn add_void<L: Ledger>(
     forest.add_one(c, steps)
 }
 
+/// Tries to add a voxel at once whose word says that it is void: whether it was added.
+#[tactic(auto, using(crate::proofs::OneOrTwo::may_add_one))]
+pub(crate) fn stand_void<L: Ledger>(
+    rt: &impl Abort,
+    forest: &mut Forest,
+    c: Coord,
+    steps: &mut Steps<L>,
+) -> bool
+    requires stands { forest.old.spent ≡ false }
+    requires within { IsInSpace forest.old.matrix.resolution c }
+    ensures stands { forest.new.spent ≡ false }
+    ensures resolution { forest.new.matrix.resolution ≡ forest.old.matrix.resolution }
+{
+    let word = word_of(forest, c, steps);
+    assert!(rt; word == 0);
+    if forest.stand(c, steps) {
+        return true;
+    }
+    false
+}
+
+/// Tries to remove a voxel at once whose word says that it is full: whether it was removed.
+#[tactic(auto, using(crate::proofs::OneOrTwo::may_remove_one))]
+pub(crate) fn clear_full<L: Ledger>(
+    rt: &impl Abort,
+    forest: &mut Forest,
+    c: Coord,
+    steps: &mut Steps<L>,
+) -> bool
+    requires stands { forest.old.spent ≡ false }
+    requires within { IsInSpace forest.old.matrix.resolution c }
+    ensures stands { forest.new.spent ≡ false }
+    ensures resolution { forest.new.matrix.resolution ≡ forest.old.matrix.resolution }
+{
+    let word = word_of(forest, c, steps);
+    assert!(rt; word != 0);
+    if forest.clear(c, steps) {
+        return true;
+    }
+    false
+}
+
 /// Adds two voxels whose words say that they are void.
 #[tactic(auto, using(crate::proofs::OneOrTwo::may_add_two))]
 pub(crate) fn add_two<L: Ledger>(

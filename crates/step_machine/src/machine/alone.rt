@@ -66,7 +66,8 @@ impl Machine {
         requires one { length self.old.state.bots ≡ 1 }
         requires held { self.old.state.harmonics ≡ Low → FirstUngrounded self.old.state.matrix None }
         requires steps { self.old.steps < 1073741824 }
-        ensures made { result ≡ true → (fault : Fault) → Stepped self.old self.new (SMove d ∷ []) (answer_of true self.new.state fault) steps.old steps.new }
+        ensures made { result ≡ true → (fault : Fault)
+            → Stepped self.old self.new (SMove d ∷ []) (answer_of true self.new.state fault) steps.old steps.new }
         ensures stays { result ≡ false → self.new ≡ self.old }
         ensures touches { steps.new ≤ steps.old + volatile_total self.old.state.matrix (acts self.old.state.bots (SMove d ∷ [])) }
     {
@@ -110,7 +111,8 @@ impl Machine {
         requires one { length self.old.state.bots ≡ 1 }
         requires held { self.old.state.harmonics ≡ Low → FirstUngrounded self.old.state.matrix None }
         requires steps { self.old.steps < 1073741824 }
-        ensures made { result ≡ true → (fault : Fault) → Stepped self.old self.new (edit_of FULL d ∷ []) (answer_of true self.new.state fault) steps.old steps.new }
+        ensures made { result ≡ true → (fault : Fault)
+            → Stepped self.old self.new (edit_of FULL d ∷ []) (answer_of true self.new.state fault) steps.old steps.new }
         ensures stays { result ≡ false → self.new ≡ self.old }
         ensures declined { result ≡ false → IsDeclined self.old.state (edit_of FULL d ∷ []) (self.old.steps + 1) steps.old steps.new }
     {
@@ -129,8 +131,8 @@ impl Machine {
         true
     }
 
-    /// The step of the only bot in which it fills a voxel, or else voids it, after a try at once: a call of its own for each of the two,
-    /// so that the rest is small enough to be written out for its callers, and no register holds which of them it is.
+    /// The step of the only bot in which it fills a voxel, or else voids it, after a try at once: a call of its own for each of
+    /// the two, so that the rest is small enough to be written out for its callers, and no register holds which of them it is.
     #[inline(never)]
     fn edit_and_settle<const FULL: bool, L: Ledger>(
         &mut self,
@@ -167,8 +169,8 @@ impl Machine {
         true
     }
 
-    /// The step of the only bot in which it fills a voxel, or else voids it. Most such steps change no other level, and are made at
-    /// once.
+    /// The step of the only bot in which it fills a voxel, or else voids it. Most such steps change no other level, and are
+    /// made at once.
     #[inline(always)]
     fn edit_alone<const FULL: bool, L: Ledger>(
         &mut self,
