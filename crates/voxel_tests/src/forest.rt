@@ -4,13 +4,8 @@ ghost use Rattle.vox_geom.specs.Space.{IsInSpace};
 
 use crate::common::at;
 use crate::edits::{
-<<<<<<< HEAD
-    add_two, add_void, assert_floating, assert_level, assert_parent, assert_word, inside,
-    remove_full, remove_two,
-=======
     add_two, add_void, assert_floating, assert_level, assert_parent, assert_word, clear_full,
-    inside, remove_full, stand_void,
->>>>>>> 3168c1abb7c10f68a0b22a3aaeab2470e6b19dff
+    inside, remove_full, remove_two, stand_void,
 };
 use std::alloc::Global;
 use std::marker::Brand;
@@ -100,7 +95,6 @@ fn ring_on_posts<L: Ledger>(rt: &impl Abort, blank: Blank, alloc: Global) -> Res
     without_posts(rt, &mut forest, &mut steps)
 }
 
-<<<<<<< HEAD
 /// The ring without its post at (1, 0, 1) and its voxel at (2, 1, 3): a chain from the other post on, with each voxel's level.
 fn chain() -> [(Coord, u32); 8] {
     [
@@ -128,10 +122,6 @@ fn assert_chain<L: Ledger>(rt: &impl Abort, forest: &Forest, steps: &mut Steps<L
 
 /// Voxels go two at once: first those without which the ring is a chain, and then the other post and the end of the chain.
 fn without_pairs<L: Ledger>(
-=======
-/// On a voxel of the floor another stands at once, but none beside that; and it is cleared at once when nothing hangs on it.
-fn one_on_another<L: Ledger>(
->>>>>>> 3168c1abb7c10f68a0b22a3aaeab2470e6b19dff
     rt: &impl Abort,
     forest: &mut Forest,
     steps: &mut Steps<L>,
@@ -139,7 +129,6 @@ fn one_on_another<L: Ledger>(
     requires stands { forest.old.spent ≡ false }
     requires resolution { forest.old.matrix.resolution ≡ 5 }
 {
-<<<<<<< HEAD
     remove_two(rt, forest, at(1, 0, 1), at(2, 1, 3), steps)?;
     assert_chain(rt, forest, steps);
     assert_level(rt, forest, at(2, 1, 3), None, steps);
@@ -151,7 +140,28 @@ fn one_on_another<L: Ledger>(
 
 /// The ring on both posts, from which voxels go two at once.
 fn pairs_go<L: Ledger>(rt: &impl Abort, blank: Blank, alloc: Global) -> Result<(), ForestFault>
-=======
+    requires name { blank.name ≡ L.name }
+    requires parts { blank.parts ≡ L.parts }
+    requires some { 0 < L.parts }
+{
+    let mut steps: Steps<L> = Steps::new(blank);
+    let Ok(mut forest) = Forest::empty(alloc, 5) else {
+        return Err(ForestFault::Memory);
+    };
+    add_ring(rt, &mut forest, &mut steps)?;
+    add_void(rt, &mut forest, at(1, 0, 1), &mut steps)?;
+    without_pairs(rt, &mut forest, &mut steps)
+}
+
+/// On a voxel of the floor another stands at once, but none beside that; and it is cleared at once when nothing hangs on it.
+fn one_on_another<L: Ledger>(
+    rt: &impl Abort,
+    forest: &mut Forest,
+    steps: &mut Steps<L>,
+) -> Result<(), ForestFault>
+    requires stands { forest.old.spent ≡ false }
+    requires resolution { forest.old.matrix.resolution ≡ 5 }
+{
     assert!(rt; !stand_void(rt, forest, at(1, 0, 1), steps));
     add_void(rt, forest, at(1, 0, 1), steps)?;
     assert!(rt; stand_void(rt, forest, at(1, 1, 1), steps));
@@ -170,7 +180,6 @@ fn voxels_at_once<L: Ledger>(
     blank: Blank,
     alloc: Global,
 ) -> Result<(), ForestFault>
->>>>>>> 3168c1abb7c10f68a0b22a3aaeab2470e6b19dff
     requires name { blank.name ≡ L.name }
     requires parts { blank.parts ≡ L.parts }
     requires some { 0 < L.parts }
@@ -179,13 +188,7 @@ fn voxels_at_once<L: Ledger>(
     let Ok(mut forest) = Forest::empty(alloc, 5) else {
         return Err(ForestFault::Memory);
     };
-<<<<<<< HEAD
-    add_ring(rt, &mut forest, &mut steps)?;
-    add_void(rt, &mut forest, at(1, 0, 1), &mut steps)?;
-    without_pairs(rt, &mut forest, &mut steps)
-=======
     one_on_another(rt, &mut forest, &mut steps)
->>>>>>> 3168c1abb7c10f68a0b22a3aaeab2470e6b19dff
 }
 
 /// Two voxels stand in two slots.
