@@ -80,7 +80,11 @@ pub fn attach(
     let Some(commands) = alone(alloc, source, target, room)? else {
         return Ok(plan);
     };
-    let proposal = lowered(alloc, source, profile, commands.as_slice())?;
+    let proposal = if are_plain(commands.as_slice()) {
+        commands
+    } else {
+        lowered(alloc, source, profile, commands.as_slice())?
+    };
     cheaper(alloc, source, target, profile, plan, proposal, most)
 }
 

@@ -1,8 +1,8 @@
 //! Models that one bot builds layer by layer from above, up to five voxels at each stop: a voxel is filled once it is attached,
 //! that is on the floor or beside a full one, so that all is grounded after each step. What is proposed here is judged.
+use crate::extent::{Extent, extent_of_layer, is_full_at};
 use crate::ways::{difference, move_by, next_end};
 use nano_spec::{Command, CommandList};
-use plan_tape::is_full;
 use std::alloc::Global;
 use vox_geom::{Coord, Diff, Memory, Near};
 use vox_planes::Planes;
@@ -15,20 +15,6 @@ const MOST_SWEEPS: u32 = 16;
 
 /// How often the lanes of a layer are gone through.
 const MOST_PASSES: u32 = 64;
-
-/// The full voxels of a layer: how many, and the least and greatest x and z of them.
-#[derive(Clone, Copy)]
-struct Extent {
-    count: u32,
-    low: Coord,
-    high: Coord,
-}
-
-/// Whether the voxel is full; beyond the matrix none is.
-fn is_full_at(planes: &Planes, c: Coord) -> bool {
-    let r = planes.resolution();
-    c.x < r && c.y < r && c.z < r && is_full(planes, c)
-}
 
 /// The component so far from another one.
 fn moved(at: u16, by: i16) -> u16 {
@@ -46,37 +32,6 @@ fn beside(c: Coord, dx: i16, dz: i16) -> Coord {
         y: c.y,
         z: moved(c.z, dz),
     }
-}
-
-/// The full voxels of a layer.
-fn extent_of(target: &Planes, y: u16) -> Extent {
-    let r = u32::from(target.resolution());
-    let mut extent = Extent {
-        count: 0,
-        low: Coord {
-            x: u16::MAX,
-            y,
-            z: u16::MAX,
-        },
-        high: Coord { x: 0, y, z: 0 },
-    };
-    for place in 0..r * r {
-        let (x, z) = ((place / r) as u16, (place % r) as u16);
-        if is_full_at(target, Coord { x, y, z }) {
-            extent.count = extent.count.saturating_add(1);
-            extent.low = Coord {
-                x: extent.low.x.min(x),
-                y,
-                z: extent.low.z.min(z),
-            };
-            extent.high = Coord {
-                x: extent.high.x.max(x),
-                y,
-                z: extent.high.z.max(z),
-            };
-        }
-    }
-    extent
 }
 
 /// Whether a component is no farther from the first than from the second.
@@ -277,7 +232,7 @@ impl Builder {
     /// Builds all layers, with what hangs under High: not where that is not allowed, nor by more commands than that.
     fn build(&mut self, target: &Planes, may_rise: bool, most: u64) -> Result<bool, Memory> {
         for y in 0..target.resolution() {
-            let extent = extent_of(target, y);
+            let extent = extent_of_layer(target, y);
             self.left = extent.count;
             if self.left > 0 {
                 self.attach(target, &extent)?;

@@ -6,9 +6,12 @@ mod alone;
 mod bounds;
 mod builder;
 mod choice;
+mod extent;
 mod flips;
+mod four;
 mod plain;
 mod plans;
+mod slabs;
 mod ways;
 
 pub use alone::{attach, attach_low};
@@ -16,6 +19,7 @@ pub use bounds::Bounds;
 pub use builder::attached;
 pub use choice::{Price, cheaper, improvement};
 pub use flips::{lower, lowered};
+pub use four::by_slabs;
 pub use plans::{
     choose_group_plan, choose_layer_plan, choose_low_plan, choose_swarm_plan, choose_void_plan,
 };

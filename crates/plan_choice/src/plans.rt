@@ -16,6 +16,7 @@ ghost use Rattle.void_planner.specs.Bounds.{most_void_steps};
 use crate::alone::{attach, attach_low};
 use crate::bounds::Bounds;
 use crate::flips::lower;
+use crate::four::by_slabs;
 use group_planner::{plan_groups, rows, runs};
 use layer_planner::plan_layers;
 use low_planner::{LowFault, plan_low};
@@ -88,7 +89,10 @@ pub fn choose_void_plan(alloc: Global, source: &Planes) -> Result<Plan, Memory>
     let mut most = Bounds::none();
     most.steps = 8 * r * (tiles * tiles) + 8 * r + 200;
     most.bots = 4;
-    lower(alloc, source, &nothing, Profile::full(), plan, most)
+    let profile = Profile::full();
+    let plan = lower(alloc, source, &nothing, profile, plan, most)?;
+    let plan = by_slabs(alloc, source, &nothing, plan, most)?;
+    Ok(plan)
 }
 
 /// The plan of up to twenty bots that builds the target from nothing, under the light profile.

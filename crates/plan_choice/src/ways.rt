@@ -1,6 +1,6 @@
 //! Moves of one bot on its way, and the same backwards.
 use nano_spec::{Command, CommandList};
-use plan_tape::next_stop;
+use plan_tape::{Axis, next_stop};
 use std::alloc::Global;
 use vox_geom::{Coord, Diff, Long, Memory, Short};
 
@@ -11,7 +11,7 @@ const SHORT: u16 = 5;
 const APART: u16 = 1023;
 
 /// What leads from one component to another.
-fn gap(from: u16, to: u16) -> i16 {
+pub(crate) fn gap(from: u16, to: u16) -> i16 {
     if from < to {
         (to - from).min(APART) as i16
     } else {
@@ -25,6 +25,25 @@ pub(crate) fn difference(from: Coord, to: Coord) -> Diff {
         dx: gap(from.x, to.x),
         dy: gap(from.y, to.y),
         dz: gap(from.z, to.z),
+    }
+}
+
+/// The move along an axis from one component to another, or a Wait where none is so long.
+pub(crate) fn along(axis: Axis, from: u16, to: u16) -> Command {
+    let by = gap(from, to);
+    let none = Diff {
+        dx: 0,
+        dy: 0,
+        dz: 0,
+    };
+    let d = match axis {
+        Axis::X => Diff { dx: by, ..none },
+        Axis::Y => Diff { dy: by, ..none },
+        Axis::Z => Diff { dz: by, ..none },
+    };
+    match Long::of(d) {
+        Some(long) => Command::SMove(long),
+        None => Command::Wait,
     }
 }
 

@@ -100,7 +100,7 @@ fn nothing_floats_over_a_post(rt: HostRuntime) -> Result<(), Fail> {
     let post = checked(alloc, model(alloc, 3, &[at(1, 0, 1)])?)?;
     let nothing = checked(alloc, model(alloc, 3, &[])?)?;
     one_and_two(&rt, alloc, &nothing, &post, (638, 6), (1039, 9))?;
-    up_and_down(&rt, alloc, &post, (832, 8), (1815, 13))?;
+    up_and_down(&rt, alloc, &post, (832, 8), (1381, 12))?;
     low(&rt, alloc, &post, 638, 6)?;
     Ok(())
 }

@@ -1,0 +1,83 @@
+//! Between which columns and rows the full voxels of a layer lie, or of a whole model.
+use plan_tape::is_full;
+use vox_geom::Coord;
+use vox_planes::Planes;
+
+/// Full voxels: how many, and the least and greatest components of them.
+#[derive(Clone, Copy)]
+pub(crate) struct Extent {
+    pub(crate) count: u32,
+    pub(crate) low: Coord,
+    pub(crate) high: Coord,
+}
+
+impl Extent {
+    /// The extent of no voxel.
+    fn none() -> Extent {
+        let end = u16::MAX;
+        Extent {
+            count: 0,
+            low: Coord {
+                x: end,
+                y: end,
+                z: end,
+            },
+            high: Coord { x: 0, y: 0, z: 0 },
+        }
+    }
+
+    /// The extent of these voxels and of those.
+    fn with(self, more: Extent) -> Extent {
+        let (a, b) = (self.low, more.low);
+        let (c, d) = (self.high, more.high);
+        Extent {
+            count: self.count.saturating_add(more.count),
+            low: Coord {
+                x: a.x.min(b.x),
+                y: a.y.min(b.y),
+                z: a.z.min(b.z),
+            },
+            high: Coord {
+                x: c.x.max(d.x),
+                y: c.y.max(d.y),
+                z: c.z.max(d.z),
+            },
+        }
+    }
+}
+
+/// Whether the voxel is full; beyond the matrix none is.
+pub(crate) fn is_full_at(planes: &Planes, c: Coord) -> bool {
+    let r = planes.resolution();
+    c.x < r && c.y < r && c.z < r && is_full(planes, c)
+}
+
+/// The full voxels of a layer.
+pub(crate) fn extent_of_layer(planes: &Planes, y: u16) -> Extent {
+    let r = u32::from(planes.resolution());
+    let mut extent = Extent::none();
+    for place in 0..r * r {
+        let c = Coord {
+            x: (place / r) as u16,
+            y,
+            z: (place % r) as u16,
+        };
+        if is_full_at(planes, c) {
+            extent = extent.with(Extent {
+                count: 1,
+                low: c,
+                high: c,
+            });
+        }
+    }
+    extent
+}
+
+/// The full voxels of a model.
+pub(crate) fn extent_of(planes: &Planes) -> Extent {
+    let mut extent = Extent::none();
+    for y in 0..planes.resolution() {
+        extent = extent.with(extent_of_layer(planes, y));
+    }
+    extent
+}
