@@ -30,7 +30,7 @@ untouched_at T most commands p fault.Memory began = tt
 pub judged_within : (commands : List Command) (p : Moment) (b : Broken) (began ended : ℕ) → broken p.state (next_commands commands p) (p.steps + 1) ≡ Some b → length (next_commands commands p) ≡ length p.state.bots → ended ≤ began + 2 * volatile_total p.state.matrix (acts p.state.bots (next_commands commands p)) → IsRefusedWithin 102 commands p b began ended
 judged_within commands p b began ended breaks all judged =
     let work = step_work p.state (next_commands commands p) (p.steps + 1) in
-    let few = judged_touches p.state (next_commands commands p) (p.steps + 1) b began ended work.0 breaks judged (λ l. absurd (omega (arith, all, l))) work.1 in
+    let few = judged_touches p.state (next_commands commands p) (p.steps + 1) b began ended work.0 breaks (omega (arith, judged)) (λ l. absurd (omega (arith, all, l))) work.1 in
     (work.0, work.1, omega (arith, few))
 
 module _ (commands : List Command) (p : Moment) (keeps : broken p.state (next_commands commands p) (p.steps + 1) ≡ None) (began middle : ℕ) (judged : middle ≤ began + 2 * volatile_total p.state.matrix (acts p.state.bots (next_commands commands p))) where
