@@ -51,9 +51,7 @@ worked_limits = record {
 }
 
 pub worked_bounds : WorkedBounds
-unfolding full_before
-
-unfolding sum_below
+unfolding full_before sum_below
 worked_bounds = record {
   strips = (refl, refl, refl, refl);
   full_voxels = refl;

@@ -18,7 +18,8 @@ use Rattle.nanobot_rows.specs.declared.report.Who.{Who}
 use Rattle.nanobot_rows.specs.declared.stop.Stop.{Stop}
 use Rattle.nanobot_rows.specs.declared.stop.Stop.TheVariants as stop
 use Rattle.nanobot_rows.specs.declared.report.Who.TheVariants as who
-use Rattle.nanobot_rows.specs.Answer.{AnswerOfRun, Answers, run_limit, OfBytes, OfDecoding, OfRun, OfTrace, Reply, WithBoth, WithFile, WithModel, WithModels, WithSide}
+use Rattle.nanobot_words.specs.Rows.{check}
+use Rattle.nanobot_rows.specs.Answer.{AnswerOf, AnswerOfRun, Answers, run_limit, OfBytes, OfDecoding, OfRun, OfTrace, Reply, WithBoth, WithFile, WithModel, WithModels, WithSide}
 use Rattle.nanobot_rows.specs.Reading.{AreBoth, AreModels, AreUnlike, EndsUnstored, IsModelOf, IsSide, Lacks, LacksModels, LacksSide, OnBytes, OnCommands, OnDecoding, OnFile, OnTrace, Reads, RefusesBytes, RefusesFile, RefusesModels, RefusesSide, by_both, by_source, by_target, no_such_file, lacks_source, lacks_target, reply_of, tells_nothing}
 use Rattle.nanobot_rows.specs.Report.{of_verdict, verdict_line, verdict_status}
 use Rattle.nanobot_rows.proofs.Told.{if_some, weaker}
@@ -208,6 +209,14 @@ module _ (told : Option Files) (source target : Option (List ℕ)) where
       pub both_ends : (rose : Type 0) (r : Result (Matrix × Matrix) Stop) → IfOk r (λ models. AreBoth a b models.0 models.1) → ((report : Report) → r ≡ Err (stop.Told report) → AreUnlike a b report) → (r ≡ Err stop.Depot → ⊥) → ReadsModels rose r
       both_ends rose (Ok models) are unlike depot = both_read models.0 models.1 are
       both_ends rose (Err s) are unlike depot = both_stop rose s (λ report e. unlike report (ap (λ (x : Stop). Err x) e)) (λ e. depot (ap (λ (x : Stop). Err x) e))
+
+-- ---- `check`
+
+pub check_stops : (told : Option Files) (name : List ℕ) (rose : Type 0) (s : Stop)
+    → Reads {A = Matrix} told rose (λ files m. IsModelOf files name m) (RefusesFile who.Model name) (Lacks name) (Err s) → EndsUnstored (AnswerOf (check name)) told rose (Err s)
+check_stops told name rose s reads =
+    stops Report (λ files r. AnswerOf (check name) files (reply_of files r)) (AnswerOf (check name)) told rose rose (λ files m. IsModelOf files name m) (RefusesFile who.Model name) (Lacks name) s
+    reads (λ h. h) (if_some told (λ files _. ((λ r h. model_refused who.Model files name _ r h), (λ h. model_lacks who.Model files name _ h))))
 
 -- ---- `run`
 
