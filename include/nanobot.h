@@ -99,7 +99,7 @@ uint32_t nanobot_check(const uint8_t *model, size_t model_size, uint8_t *line, s
  * nanobot_plan_layer, one bot:
  *
  *     uint8_t plan[8 * 20 * 20 * 20 + 200];
- *     nanobot_plan_layer(NANOBOT_NONE, 0, model, model_size, plan, sizeof plan, &size);      // size is 1377
+ *     nanobot_plan_layer(NANOBOT_NONE, 0, model, model_size, plan, sizeof plan, &size);      // size is 755
  */
 uint32_t nanobot_plan_layer(const uint8_t *source, size_t source_size, const uint8_t *target, size_t target_size,
                             uint8_t *plan, size_t room, size_t *size);
