@@ -1,4 +1,5 @@
-//! What plans of a few voxels cost. Energies and steps were worked out by hand from the rules.
+//! What plans of a few voxels cost, each the planner's own or a cheaper proposal. Energies and steps were summed up from the
+//! commands by the rules.
 use crate::plans::printed;
 use crate::table::{Row, assert_rows, depot};
 use nanobot_app::Status;
@@ -29,19 +30,19 @@ const COSTS: [Row; 12] = [
         "plan layer E3 P3 B",
         &[],
         Status::Done,
-        "plan energy 7700 steps 11 commands 11 bytes 18\n",
+        "plan energy 638 steps 6 commands 6 bytes 10\n",
     ),
     (
         "plan layer P3 E3 B",
         &[],
         Status::Done,
-        "plan energy 7676 steps 11 commands 11 bytes 18\n",
+        "plan energy 614 steps 6 commands 6 bytes 10\n",
     ),
     (
         "plan layer STEP B B",
         &TURN,
         Status::Done,
-        "plan energy 42288 steps 13 commands 13 bytes 21\n",
+        "plan energy 4373 steps 11 commands 11 bytes 19\n",
     ),
     (
         "plan group E1 E1 B",
@@ -53,43 +54,43 @@ const COSTS: [Row; 12] = [
         "plan group E3 P3 B",
         &[],
         Status::Done,
-        "plan energy 7802 steps 11 commands 16 bytes 25\n",
+        "plan energy 1039 steps 9 commands 14 bytes 23\n",
     ),
     (
         "plan group P3 E3 B",
         &[],
         Status::Done,
-        "plan energy 7778 steps 11 commands 16 bytes 25\n",
+        "plan energy 1015 steps 9 commands 14 bytes 23\n",
     ),
     (
         "plan group E5 LINE B",
         &[],
         Status::Done,
-        "plan energy 50058 steps 15 commands 24 bytes 43\n",
+        "plan energy 5393 steps 13 commands 22 bytes 41\n",
     ),
     (
         "plan group - B B",
         &STRIPES,
         Status::Done,
-        "plan energy 219126 steps 23 commands 40 bytes 83\n",
+        "plan energy 22547 steps 21 commands 38 bytes 81\n",
     ),
     (
         "plan void P3 - B",
         &[],
         Status::Done,
-        "plan energy 11494 steps 15 commands 38 bytes 67\n",
+        "plan energy 1381 steps 12 commands 20 bytes 41\n",
     ),
     (
         "plan swarm - P3 B",
         &[],
         Status::Done,
-        "plan energy 6866 steps 10 commands 10 bytes 16\n",
+        "plan energy 832 steps 8 commands 8 bytes 14\n",
     ),
     (
         "plan swarm - B B",
         &TWO_POSTS,
         Status::Done,
-        "plan energy 23872 steps 14 commands 20 bytes 31\n",
+        "plan energy 2712 steps 12 commands 18 bytes 29\n",
     ),
 ];
 
@@ -115,7 +116,7 @@ fn tiles_are_taken_to_and_fro(rt: HostRuntime) -> Result<(), Fail> {
     let mut depot = depot(alloc, &[])?;
     depot.put_file("FOUR", &four_voxels(alloc)?)?;
     let planned = printed(&rt, alloc, &mut depot, "plan void FOUR - B", Status::Done)?;
-    let line = b"plan energy 54158334 steps 30 commands 89 bytes 185\n".as_slice();
+    let line = b"plan energy 5005296 steps 26 commands 68 bytes 149\n".as_slice();
     assert_eq!(rt; planned.as_slice(), line);
     Ok(())
 }
