@@ -1,5 +1,5 @@
 -- The worked examples of scripts and of what they print, by computing.
-use Rattle.std.proofs.Common.{◌≡◌, ℕ, arith, refl, List, [], ◌∷◌}
+use Rattle.std.proofs.Common.{arith, refl, [], ◌∷◌}
 use Rattle.std.specs.Prelude.{codes, Ok, Err}
 use Rattle.std.specs.Fmt.{digits}
 use Rattle.vox_geom.specs.Point.{coord}

@@ -1,19 +1,15 @@
 -- What the parts of a line say, by its word.
-use Rattle.std.proofs.Common.{◌≡◌, ◌<◌, ◌≤◌, ◌∙◌, ℕ, zero, suc, Bool, true, false, cond, not, List, [], ◌∷◌, Option, Some, None, codes, decimal, find, refl, arith, sym, ap, subst, nat_lt}
-use Rattle.std.specs.Prelude.{◌&&◌, ◌||◌, ◌==◌, MatchBool, MatchOption, Result, Ok, Err, ⊤}
+use Rattle.std.proofs.Common.{◌≡◌, ◌<◌, ◌≤◌, ◌∙◌, ℕ, Bool, true, false, cond, not, List, [], ◌∷◌, Option, Some, None, codes, decimal, find, refl, arith, sym, ap, subst, nat_lt}
+use Rattle.std.specs.Prelude.{◌&&◌, ◌||◌, ◌==◌, Ok, Err, ⊤}
 use Rattle.std.specs.List.{list_any, onto_first, slice_split}
 use Rattle.std.specs.Str.{bytes_eq}
 use Rattle.std.proofs.lemmas.Bool.Decides.{nat_tests}
 use Rattle.std.proofs.lemmas.Slice.Eq.{bytes_eq-Decides}
 use Rattle.vox_geom.specs.declared.coordinate.Coord.{Coord}
-use Rattle.nano_spec.specs.Line.{UnknownWord, Shape, Range}
-use Rattle.trace_text.specs.declared.fault.TextFault.{TextFault}
-use Rattle.trace_text.specs.declared.fault.TextFault.TheVariants as refusal
+use Rattle.trace_text.specs.declared.fault.TextRefusal.TheVariants as refusal
 use Rattle.step_debugger.specs.Session as session
-use Rattle.debug_script.specs.declared.line.ScriptLine.{ScriptLine}
 use Rattle.debug_script.specs.declared.line.ScriptLine.TheVariants as code
 use Rattle.debug_script.specs.declared.word.ScriptWord.{ScriptWord}
-use Rattle.debug_script.specs.declared.word.ScriptWord.TheVariants as word
 use Rattle.debug_script.specs.Calls.{IsReadBy, all_words, script_letters}
 use Rattle.debug_script.specs.Script.{Back, Bots, Form, Group, HasFewDigits, IsForm, PartsSay, Step, Voxel, has_unknown_word, line_parts, parts_of}
 
@@ -131,7 +127,7 @@ module _ (r number : ℕ) (ps : List (List ℕ)) (n : ℕ) (few : HasFewDigits n
   group_form = record { parts_are = ap (λ (qs : List (List ℕ)). codes "group" ∷ qs) are; short = few }
 
   out : (nat_lt 0 n && nat_lt n 41) ≡ false → IsReadBy (PartsSay r (codes "group" ∷ ps)) number (Err (refusal.Range number))
-  out e = (Range, (Group n, group_form, ap (λ b. cond b (Some (session.Group n)) None) e), refl)
+  out e = ((Group n, group_form, ap (λ b. cond b (Some (session.Group n)) None) e), refl)
 
   pub group_too_low : n < 1 → IsReadBy (PartsSay r (codes "group" ∷ ps)) number (Err (refusal.Range number))
   group_too_low l = out (ap (λ b. b && nat_lt n 41) (not_below 0 n (omega arith)))
@@ -152,7 +148,7 @@ module _ (r number : ℕ) (ps : List (List ℕ)) (x y z : ℕ) (fx : HasFewDigit
   at = record { x = x; y = y; z = z }
 
   outside : (nat_lt x r && nat_lt y r && nat_lt z r) ≡ false → IsReadBy (PartsSay r (codes "voxel" ∷ ps)) number (Err (refusal.Range number))
-  outside e = (Range, (Voxel x y z, voxel_form, ap (λ b. cond b (Some (session.Voxel at)) None) e), refl)
+  outside e = ((Voxel x y z, voxel_form, ap (λ b. cond b (Some (session.Voxel at)) None) e), refl)
 
   pub x_too_high : r ≤ x → IsReadBy (PartsSay r (codes "voxel" ∷ ps)) number (Err (refusal.Range number))
   x_too_high l = outside (ap (λ b. b && nat_lt y r && nat_lt z r) (not_below x r l))
@@ -171,7 +167,7 @@ module _ (r number : ℕ) (ps : List (List ℕ)) (x y z : ℕ) (fx : HasFewDigit
 -- ---- words
 
 pub has_shape_fault : (r number : ℕ) (line : List (List ℕ)) → has_unknown_word line ≡ false → ((f : Form) → IsForm line f → ⊥) → IsReadBy (PartsSay r line) number (Err (refusal.Shape number))
-has_shape_fault r number line known none = (Shape, (known, none), refl)
+has_shape_fault r number line known none = ((known, none), refl)
 
 pub has_word_fault : (r number : ℕ) (line : List (List ℕ)) → has_unknown_word line ≡ true → IsReadBy (PartsSay r line) number (Err (refusal.UnknownWord number))
-has_word_fault r number line unknown = (UnknownWord, unknown, refl)
+has_word_fault r number line unknown = (unknown, refl)

@@ -1,5 +1,5 @@
 -- Voxels outside of the matrix.
-use Rattle.std.proofs.Common.{◌≡◌, List, [], ◌∷◌, true, false, not, Bool, None}
+use Rattle.std.proofs.Common.{◌≡◌, List, [], ◌∷◌, false, None}
 use Rattle.std.specs.Prelude.{IsTrue, ◌&&◌, ◌==◌, slice_index_or}
 use Rattle.vox_geom.specs.declared.coordinate.Coord.{Coord}
 use Rattle.vox_geom.specs.Point.{point, same_point}

@@ -1,12 +1,12 @@
 -- A script that is read line by line.
-use Rattle.std.proofs.Common.{◌≡◌, ◌<◌, ◌≤◌, ◌∙◌, ℕ, ◌+◌, List, [], ◌∷◌, ◌++◌, length, map, refl, arith, sym, ap, subst}
+use Rattle.std.proofs.Common.{◌≡◌, ◌<◌, ◌≤◌, ◌∙◌, ℕ, ◌+◌, List, [], ◌∷◌, ◌++◌, length, refl, arith, sym, ap, subst}
 use Rattle.std.specs.Prelude.{Result, Ok, Err, Vec}
 use Rattle.std.proofs.lemmas.List.{map-append}
-use Rattle.nano_spec.specs.Line as line
 use Rattle.nano_spec.specs.Line.{Fault}
 use Rattle.nano_spec.specs.Reading.{FaultyLine, lines}
-use Rattle.trace_text.specs.Text.{fault_at}
-use Rattle.trace_text.specs.declared.fault.TextFault.{TextFault}
+use Rattle.trace_text.specs.Text.{faulty_line}
+use Rattle.trace_text.specs.declared.fault.TextFault.TheVariants.{Refused}
+use Rattle.trace_text.specs.declared.fault.TextRefusal.{TextRefusal}
 use Rattle.step_debugger.specs.Session.{DebugLine}
 use Rattle.debug_script.specs.Calls.{IsReadBy, ReadsScript, script_line_is, lines_are}
 use Rattle.debug_script.specs.Script.{LineSays, LinesSay, ScriptSays, with_first_line}
@@ -50,14 +50,10 @@ module _ (r : ℕ) (bytes : List ℕ) (script : List ScriptLine) (left : List �
   faulty_at : (fault : Fault) → LineSays r first (Err fault) → ScriptSays r bytes (Err (record { fault = fault; line = number + 1 }))
   faulty_at fault says = subst (ScriptSays r bytes) (all_err (lines_are script) (record { fault = fault; line = number + 1 })) (so_far.goes_on (Err (record { fault = fault; line = number + 1 })) (subst (λ (ls : List (List ℕ)). LinesSay r (number + 1) ls (Err (record { fault = fault; line = number + 1 }))) (sym cut) (Err fault, says, refl)))
 
-  reads_at : (Y : Type 0) (fault : Fault) → ScriptSays r bytes (Err (record { fault = fault; line = number + 1 })) → ReadsScript {Y = Y} r bytes (Err (fault_at fault (number + 1)))
-  reads_at Y line.NotAscii h = h
-  reads_at Y line.UnknownWord h = h
-  reads_at Y line.Shape h = h
-  reads_at Y line.Range h = h
-
-  pub line_refused : (Y : Type 0) (refusal : TextFault) → IsReadBy (LineSays r first) (number + 1) (Err refusal) → ReadsScript {Y = Y} r bytes (Err refusal)
-  line_refused Y refusal says = subst (λ (x : TextFault). ReadsScript {Y = Y} r bytes (Err x)) (sym says.2) (reads_at Y says.0 (faulty_at says.0 says.1))
+  pub line_refused : (Y : Type 0) (refusal : TextRefusal) → IsReadBy (LineSays r first) (number + 1) (Err refusal) → ReadsScript {Y = Y} r bytes (Err (Refused refusal))
+  line_refused Y refusal says =
+      subst (λ (n : ℕ). ScriptSays r bytes (Err (record { fault = (faulty_line refusal).fault; line = n }))) (sym says.1)
+      (faulty_at (faulty_line refusal).fault says.0)
 
 pub all_read : {Y : Type 0} (r : ℕ) (bytes : List ℕ) (script : Vec ScriptLine Y) (left : List ℕ) (number : ℕ) → IsReading r bytes script.items left number → length left ≡ 0 → ReadsScript {Y = Y} r bytes (Ok script)
 all_read r bytes script left number so_far none =

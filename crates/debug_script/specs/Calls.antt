@@ -1,10 +1,10 @@
 -- What the types of the code stand for in the definitions.
 use Rattle.std.specs.Prelude.{◌≡◌, ℕ, List, [], ◌∷◌, codes, map, ⊤, Result, Ok, Err, Vec}
-use Rattle.nano_spec.specs.Line as line
 use Rattle.nano_spec.specs.Line.{Fault}
 use Rattle.trace_text.specs.declared.fault.TextFault.{TextFault}
-use Rattle.trace_text.specs.declared.fault.TextFault.TheVariants as text_fault
-use Rattle.trace_text.specs.Text.{fault_at}
+use Rattle.trace_text.specs.declared.fault.TextFault.TheVariants.{Memory, Refused}
+use Rattle.trace_text.specs.declared.fault.TextRefusal.{TextRefusal}
+use Rattle.trace_text.specs.Text.{faulty_line}
 use Rattle.step_debugger.specs.Session as session
 use Rattle.debug_script.specs.declared.line.ScriptLine.{ScriptLine}
 use Rattle.debug_script.specs.declared.line.ScriptLine.TheVariants as code
@@ -35,15 +35,12 @@ script_letters word.Bots = codes "bots"
 script_letters word.Voxel = codes "voxel"
 
 -- a line of this number was read as the definition says, where P says what it says
-abbrev pub IsReadBy : (Result session.DebugLine Fault → Type 0) → ℕ → Result ScriptLine TextFault → Type 0
+abbrev pub IsReadBy : (Result session.DebugLine Fault → Type 0) → ℕ → Result ScriptLine TextRefusal → Type 0
 IsReadBy P number (Ok what) = P (Ok (script_line_is what))
-IsReadBy P number (Err refusal) = (fault : Fault) × P (Err fault) × (refusal ≡ fault_at fault number)
+IsReadBy P number (Err refusal) = P (Err (faulty_line refusal).fault) × ((faulty_line refusal).line ≡ number)
 
 -- a script was read as the definition says, unless there was no memory
 abbrev pub ReadsScript : {Y : Type 0} → ℕ → List ℕ → Result (Vec ScriptLine Y) TextFault → Type 0
 ReadsScript r bytes (Ok script) = ScriptSays r bytes (Ok (lines_are script.items))
-ReadsScript r bytes (Err (text_fault.NotAscii n)) = ScriptSays r bytes (Err (record { fault = line.NotAscii; line = n }))
-ReadsScript r bytes (Err (text_fault.UnknownWord n)) = ScriptSays r bytes (Err (record { fault = line.UnknownWord; line = n }))
-ReadsScript r bytes (Err (text_fault.Shape n)) = ScriptSays r bytes (Err (record { fault = line.Shape; line = n }))
-ReadsScript r bytes (Err (text_fault.Range n)) = ScriptSays r bytes (Err (record { fault = line.Range; line = n }))
-ReadsScript r bytes (Err text_fault.Memory) = ⊤
+ReadsScript r bytes (Err (Refused refusal)) = ScriptSays r bytes (Err (faulty_line refusal))
+ReadsScript r bytes (Err Memory) = ⊤

@@ -1,5 +1,5 @@
 -- How the reports of a session are printed (docs/FORMATS.md, "Sessions").
-use Rattle.std.specs.Prelude.{ℕ, Bool, true, false, List, [], ◌∷◌, flat_map, length, codes, decimal, Option, Some, None}
+use Rattle.std.specs.Prelude.{ℕ, Bool, true, false, List, [], ◌∷◌, flat_map, length, codes, decimal, Some, None}
 use Rattle.std.specs.Fmt.{signed_decimal}
 use Rattle.std.specs.List.{concat}
 use Rattle.vox_geom.specs.declared.coordinate.Coord.{Coord}

@@ -1,9 +1,8 @@
 -- Worked examples of scripts and of what their lines print (docs/FORMATS.md, "Sessions").
-use Rattle.std.specs.Prelude.{◌≡◌, ℕ, pos, true, false, List, [], ◌∷◌, codes, Some, None, Ok, Err}
+use Rattle.std.specs.Prelude.{◌≡◌, pos, true, false, [], ◌∷◌, codes, Some, None, Ok, Err}
 use Rattle.vox_geom.specs.Point.{coord}
 use Rattle.nano_spec.specs.declared.outcomes.Rule.TheVariants.{GroupShape}
 use Rattle.nano_spec.specs.Line.{NotAscii, UnknownWord, Shape, Range}
-use Rattle.nano_spec.specs.Reading.{FaultyLine}
 use Rattle.nano_spec.specs.State.{seed_set}
 use Rattle.step_debugger.specs.Session as session
 use Rattle.debug_script.specs.Printing.{printed_report}

@@ -6,7 +6,7 @@ ghost use Rattle.debug_script.specs.Script.{HasFewDigits, LineSays, PartsSay, li
 
 use crate::word::ScriptWord;
 use itoa::Buffer;
-use trace_text::TextFault;
+use trace_text::TextRefusal;
 use vox_geom::Coord;
 
 /// A line of a script.
@@ -73,15 +73,15 @@ fn number(part: &[u8]) -> Option<u32>
 }
 
 /// The line of a word that stands alone.
-fn read_word(word: ScriptWord, number: u32) -> Result<ScriptLine, TextFault>
+fn read_word(word: ScriptWord, number: u32) -> Result<ScriptLine, TextRefusal>
     ensures { (r : ℕ) → IsReadBy (PartsSay r (script_letters word ∷ [])) number result }
 {
     match word {
         ScriptWord::Step => Ok(ScriptLine::Step),
         ScriptWord::Back => Ok(ScriptLine::Back),
         ScriptWord::Bots => Ok(ScriptLine::Bots),
-        ScriptWord::Group => Err(TextFault::Shape { line: number }),
-        ScriptWord::Voxel => Err(TextFault::Shape { line: number }),
+        ScriptWord::Group => Err(TextRefusal::Shape { line: number }),
+        ScriptWord::Voxel => Err(TextRefusal::Shape { line: number }),
     }
 }
 
@@ -109,17 +109,17 @@ fn first_number(rest: &[u8]) -> Option<(u32, &[u8])>
 }
 
 /// The line of the word `group` and what follows it.
-fn read_group(rest: &[u8], number: u32) -> Result<ScriptLine, TextFault>
+fn read_group(rest: &[u8], number: u32) -> Result<ScriptLine, TextRefusal>
     ensures { (r : ℕ) → IsReadBy (PartsSay r (codes "group" ∷ line_parts rest.now)) number result }
 {
     let Some(leader) = one_number(rest) else {
-        return Err(TextFault::Shape { line: number });
+        return Err(TextRefusal::Shape { line: number });
     };
     if leader < 1 {
-        return Err(TextFault::Range { line: number });
+        return Err(TextRefusal::Range { line: number });
     }
     if leader > 40 {
-        return Err(TextFault::Range { line: number });
+        return Err(TextRefusal::Range { line: number });
     }
     Ok(ScriptLine::Group {
         leader: leader as u8,
@@ -139,21 +139,21 @@ fn three_numbers(rest: &[u8]) -> Option<(u32, u32, u32)>
 }
 
 /// The line of the word `voxel` and what follows it.
-fn read_voxel(rest: &[u8], number: u32, resolution: u16) -> Result<ScriptLine, TextFault>
+fn read_voxel(rest: &[u8], number: u32, resolution: u16) -> Result<ScriptLine, TextRefusal>
     ensures { IsReadBy (PartsSay resolution (codes "voxel" ∷ line_parts rest.now)) number result }
 {
     let Some((x, y, z)) = three_numbers(rest) else {
-        return Err(TextFault::Shape { line: number });
+        return Err(TextRefusal::Shape { line: number });
     };
     let most = u32::from(resolution);
     if x >= most {
-        return Err(TextFault::Range { line: number });
+        return Err(TextRefusal::Range { line: number });
     }
     if y >= most {
-        return Err(TextFault::Range { line: number });
+        return Err(TextRefusal::Range { line: number });
     }
     if z >= most {
-        return Err(TextFault::Range { line: number });
+        return Err(TextRefusal::Range { line: number });
     }
     let at = Coord {
         x: x as u16,
@@ -169,25 +169,25 @@ fn read_numbers(
     rest: &[u8],
     number: u32,
     resolution: u16,
-) -> Result<ScriptLine, TextFault>
+) -> Result<ScriptLine, TextRefusal>
     ensures { IsReadBy (PartsSay resolution (script_letters word ∷ line_parts rest.now)) number result }
 {
     match word {
         ScriptWord::Group => read_group(rest, number),
         ScriptWord::Voxel => read_voxel(rest, number, resolution),
-        ScriptWord::Step => Err(TextFault::Shape { line: number }),
-        ScriptWord::Back => Err(TextFault::Shape { line: number }),
-        ScriptWord::Bots => Err(TextFault::Shape { line: number }),
+        ScriptWord::Step => Err(TextRefusal::Shape { line: number }),
+        ScriptWord::Back => Err(TextRefusal::Shape { line: number }),
+        ScriptWord::Bots => Err(TextRefusal::Shape { line: number }),
     }
 }
 
 /// What the parts of a line of this number say.
-fn read_parts(line: &[u8], number: u32, resolution: u16) -> Result<ScriptLine, TextFault>
+fn read_parts(line: &[u8], number: u32, resolution: u16) -> Result<ScriptLine, TextRefusal>
     ensures { IsReadBy (PartsSay resolution (line_parts line.now)) number result }
 {
     let (first, rest) = cut_part(line);
     let Some(word) = ScriptWord::of(first) else {
-        return Err(TextFault::UnknownWord { line: number });
+        return Err(TextRefusal::UnknownWord { line: number });
     };
     match rest {
         None => read_word(word, number),
@@ -196,11 +196,15 @@ fn read_parts(line: &[u8], number: u32, resolution: u16) -> Result<ScriptLine, T
 }
 
 /// What the line of this number says, which has no line feed.
-pub(crate) fn read_line(line: &[u8], number: u32, resolution: u16) -> Result<ScriptLine, TextFault>
+pub(crate) fn read_line(
+    line: &[u8],
+    number: u32,
+    resolution: u16,
+) -> Result<ScriptLine, TextRefusal>
     ensures { IsReadBy (LineSays resolution line.now) number result }
 {
     if !line.is_ascii() {
-        return Err(TextFault::NotAscii { line: number });
+        return Err(TextRefusal::NotAscii { line: number });
     }
     read_parts(line, number, resolution)
 }

@@ -7,7 +7,7 @@ use nano_spec::{Command, CommandList};
 use std::alloc::Global;
 use std::process::Abort;
 use trace_codec::{
-    Decoder, Fed, One, TraceFault, decode_all, decode_one, encode_all, encode_one, pieces_decode,
+    Decoder, Fed, One, TraceFault, TraceRefusal, decode_all, decode_one, encode_all, encode_one, pieces_decode,
 };
 use vox_geom::{Diff, Far, Long, Near, Short};
 
@@ -88,11 +88,11 @@ fn assert_trace(rt: &(impl Abort + AllocGlobal), trace: &[u8], commands: &[Comma
     }
 }
 
-/// The trace is refused by this fault.
-fn refused(rt: &(impl Abort + AllocGlobal), trace: &[u8], fault: TraceFault) {
+/// The trace is refused for this reason.
+fn refused(rt: &(impl Abort + AllocGlobal), trace: &[u8], refusal: TraceRefusal) {
     match decoded(rt, trace) {
         Ok(_) => panic!(rt; "the trace is decoded"),
-        Err(found) => assert_eq!(rt; found, fault),
+        Err(fault) => assert_eq!(rt; fault, TraceFault::Refused(refusal)),
     }
 }
 
@@ -119,10 +119,10 @@ fn traces_in_any_pieces(rt: HostRuntime) {
 
 #[test]
 fn bytes_that_are_no_trace(rt: HostRuntime) {
-    refused(&rt, &[0x04], TraceFault::Bad { offset: 0 });
-    refused(&rt, &[0x03], TraceFault::Bad { offset: 0 });
-    refused(&rt, &[0x14], TraceFault::Cut { offset: 0 });
-    refused(&rt, &[0x77, 0x04], TraceFault::Bad { offset: 1 });
+    refused(&rt, &[0x04], TraceRefusal::Bad { offset: 0 });
+    refused(&rt, &[0x03], TraceRefusal::Bad { offset: 0 });
+    refused(&rt, &[0x14], TraceRefusal::Cut { offset: 0 });
+    refused(&rt, &[0x77, 0x04], TraceRefusal::Bad { offset: 1 });
 }
 
 /// Takes a piece to its end, and adds its commands to the list.
@@ -148,7 +148,7 @@ fn take_piece(
                 rest = &rest[used..];
             }
             Fed::All => return Ok(()),
-            Fed::Bad { offset } => return Err(TraceFault::Bad { offset }),
+            Fed::Bad { offset } => return Err(TraceFault::Refused(TraceRefusal::Bad { offset })),
         }
     }
 }

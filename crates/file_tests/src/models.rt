@@ -1,6 +1,6 @@
 //! Model files of a few bytes: what `model_file` reads, judges and writes again.
 use crate::voxels::{at, put};
-use model_file::{ModelFault, first_ungrounded, legal, read_model, write_model};
+use model_file::{ModelFault, ModelRefusal, first_ungrounded, legal, read_model, write_model};
 use std::alloc::Global;
 use std::test::Fail;
 use vox_geom::{Coord, Memory};
@@ -37,7 +37,7 @@ fn legal_models_are_written_as_they_were_read(rt: HostRuntime) -> Result<(), Fai
     for (bytes, want) in cases {
         match rewritten(rt.alloc(), bytes) {
             Ok(again) => assert_eq!(rt; again.as_slice(), want),
-            Err(fault) => assert_eq!(rt; fault.number(), 0),
+            Err(fault) => assert_eq!(rt; Some(fault), None),
         }
     }
     Ok(())
@@ -45,56 +45,56 @@ fn legal_models_are_written_as_they_were_read(rt: HostRuntime) -> Result<(), Fai
 
 #[test]
 fn other_bytes_are_refused(rt: HostRuntime) -> Result<(), Fail> {
-    let cases: [(&[u8], ModelFault, u8); 14] = [
-        (&[], ModelFault::NoByte, 1),
-        (&[0], ModelFault::Resolution { r: 0 }, 2),
-        (&[251], ModelFault::Resolution { r: 251 }, 2),
-        (&[3, 0, 0, 0], ModelFault::Short { want: 5, have: 4 }, 3),
-        (&[3, 0, 0, 0, 0, 0], ModelFault::Long { want: 5 }, 4),
+    let cases: [(&[u8], ModelRefusal, u8); 14] = [
+        (&[], ModelRefusal::NoByte, 1),
+        (&[0], ModelRefusal::Resolution { r: 0 }, 2),
+        (&[251], ModelRefusal::Resolution { r: 251 }, 2),
+        (&[3, 0, 0, 0], ModelRefusal::Short { want: 5, have: 4 }, 3),
+        (&[3, 0, 0, 0, 0, 0], ModelRefusal::Long { want: 5 }, 4),
         (
             &[3, 1, 0, 0, 0],
-            ModelFault::Border {
+            ModelRefusal::Border {
                 at: Coord { x: 0, y: 0, z: 0 },
             },
             6,
         ),
         (
             &[3, 0, 0x20, 0, 0],
-            ModelFault::Floating {
+            ModelRefusal::Floating {
                 at: Coord { x: 1, y: 1, z: 1 },
             },
             7,
         ),
-        (&[0xFF], ModelFault::WideHead { have: 1 }, 8),
-        (&[0xFF, 0, 250], ModelFault::WideResolution { r: 250 }, 9),
-        (&[0xFF, 1, 0x91], ModelFault::WideResolution { r: 401 }, 9),
+        (&[0xFF], ModelRefusal::WideHead { have: 1 }, 8),
+        (&[0xFF, 0, 250], ModelRefusal::WideResolution { r: 250 }, 9),
+        (&[0xFF, 1, 0x91], ModelRefusal::WideResolution { r: 401 }, 9),
         (
             &[0xFF, 0, 251, 0, 0, 0xF6, 0x1A, 0, 0, 0, 0],
-            ModelFault::WideRun { index: 1 },
+            ModelRefusal::WideRun { index: 1 },
             10,
         ),
         (
             &[0xFF, 0, 251, 0, 0xF1, 0x4A, 0x84],
-            ModelFault::WideRun { index: 0 },
+            ModelRefusal::WideRun { index: 0 },
             10,
         ),
         (
             &[0xFF, 0, 251, 0, 0, 0xF6, 0x1A, 0],
-            ModelFault::WideShort { have: 63002 },
+            ModelRefusal::WideShort { have: 63002 },
             11,
         ),
         (
             &[
                 0xFF, 0, 251, 0, 0, 0xF6, 0x1A, 0, 0, 0, 1, 0, 0xF0, 0x54, 0x68, 0,
             ],
-            ModelFault::WideLong,
+            ModelRefusal::WideLong,
             12,
         ),
     ];
     for (bytes, want, number) in cases {
         match rewritten(rt.alloc(), bytes) {
             Ok(again) => assert!(rt; again.is_empty()),
-            Err(fault) => assert_eq!(rt; fault, want),
+            Err(fault) => assert_eq!(rt; fault, ModelFault::Refused(want)),
         }
         assert_eq!(rt; want.number(), number);
     }
@@ -108,7 +108,7 @@ fn the_greatest_first_form(rt: HostRuntime) -> Result<(), Fail> {
     bytes[0] = 250;
     match rewritten(rt.alloc(), bytes.as_slice()) {
         Ok(again) => assert!(rt; again == bytes),
-        Err(fault) => assert_eq!(rt; fault.number(), 0),
+        Err(fault) => assert_eq!(rt; Some(fault), None),
     }
     Ok(())
 }

@@ -1,6 +1,6 @@
 //! Texts of traces that `trace_text` reads, prints and refuses.
 use std::test::Fail;
-use trace_text::{TextFault, print_trace, read_text};
+use trace_text::{TextFault, TextRefusal, print_trace, read_text};
 
 /// What hand-written text is printed as, once it is read.
 const TEXTS: [(&[u8], &[u8]); 5] = [
@@ -31,23 +31,23 @@ fn texts_that_are_read(rt: HostRuntime) -> Result<(), Fail> {
 }
 
 /// The first faulty line of a text, and the number of the refusal.
-const FAULTS: [(&[u8], TextFault, u8); 8] = [
-    (b"Jump", TextFault::UnknownWord { line: 1 }, 2),
-    (b"\n<1,0,0>", TextFault::UnknownWord { line: 2 }, 2),
-    (b"Fill <0,0>", TextFault::Shape { line: 1 }, 3),
-    (b"SMove <0001,0,0>", TextFault::Shape { line: 1 }, 3),
-    (b"Fill\r <0,0,1>", TextFault::Shape { line: 1 }, 3),
-    (b"Fill <1,1,1> 1", TextFault::Shape { line: 1 }, 3),
-    (b"Fission <0,0,1> 256", TextFault::Range { line: 1 }, 4),
-    (b"Wait\n#\xC3", TextFault::NotAscii { line: 2 }, 1),
+const FAULTS: [(&[u8], TextRefusal, u8); 8] = [
+    (b"Jump", TextRefusal::UnknownWord { line: 1 }, 2),
+    (b"\n<1,0,0>", TextRefusal::UnknownWord { line: 2 }, 2),
+    (b"Fill <0,0>", TextRefusal::Shape { line: 1 }, 3),
+    (b"SMove <0001,0,0>", TextRefusal::Shape { line: 1 }, 3),
+    (b"Fill\r <0,0,1>", TextRefusal::Shape { line: 1 }, 3),
+    (b"Fill <1,1,1> 1", TextRefusal::Shape { line: 1 }, 3),
+    (b"Fission <0,0,1> 256", TextRefusal::Range { line: 1 }, 4),
+    (b"Wait\n#\xC3", TextRefusal::NotAscii { line: 2 }, 1),
 ];
 
 #[test]
 fn texts_that_are_refused(rt: HostRuntime) -> Result<(), Fail> {
-    for (text, fault, number) in &FAULTS {
-        let refusal = read_text(rt.alloc(), text).err();
-        assert_eq!(&rt; refusal, Some(*fault));
-        assert_eq!(&rt; fault.number(), *number);
+    for (text, refusal, number) in &FAULTS {
+        let fault = read_text(rt.alloc(), text).err();
+        assert_eq!(&rt; fault, Some(TextFault::Refused(*refusal)));
+        assert_eq!(&rt; refusal.number(), *number);
     }
     Ok(())
 }

@@ -1,55 +1,62 @@
 -- What is answered to the bytes of a model, and to the question whether it is legal (docs/FORMATS.md, "Model files", "Refusals").
-use Rattle.std.specs.Prelude.{◌≡◌, ℕ, Result, Ok, Err, Some, None, ⊤}
+use Rattle.std.specs.Prelude.{◌≡◌, ◌⊎◌, ℕ, Result, Ok, Err, Some, None, ⊤}
+use mathlib.Core.Logic.{inl, inr}
 use Rattle.nano_spec.specs.Legal as legal
-use Rattle.nano_spec.specs.Legal.{Legality}
+use Rattle.nano_spec.specs.Legal.{Legality, NotLegal}
 use Rattle.nano_spec.specs.Matrix.{Matrix}
 use Rattle.nano_spec.specs.Model as spec
+use Rattle.nano_spec.specs.Model.{NoModel}
 use Rattle.model_file.specs.declared.fault.ModelFault.{ModelFault}
-use Rattle.model_file.specs.declared.fault.ModelFault.TheVariants.{NoByte, Resolution, Short, Long, Memory, Border, Floating, WideHead, WideResolution, WideRun, WideShort, WideLong}
+use Rattle.model_file.specs.declared.fault.ModelFault.TheVariants.{Memory, Refused}
+use Rattle.model_file.specs.declared.fault.ModelRefusal.{ModelRefusal}
+use Rattle.model_file.specs.declared.fault.ModelRefusal.TheVariants.{NoByte, Resolution, Short, Long, Border, Floating, WideHead, WideResolution, WideRun, WideShort, WideLong}
 
 -- the number by which a refusal is printed
-abbrev pub model_fault_number : ModelFault → ℕ
-model_fault_number NoByte = 1
-model_fault_number (Resolution r) = 2
-model_fault_number (Short want have) = 3
-model_fault_number (Long want) = 4
-model_fault_number Memory = 5
-model_fault_number (Border at) = 6
-model_fault_number (Floating at) = 7
-model_fault_number (WideHead have) = 8
-model_fault_number (WideResolution r) = 9
-model_fault_number (WideRun index) = 10
-model_fault_number (WideShort have) = 11
-model_fault_number WideLong = 12
+abbrev pub model_refusal_number : ModelRefusal → ℕ
+model_refusal_number NoByte = 1
+model_refusal_number (Resolution r) = 2
+model_refusal_number (Short want have) = 3
+model_refusal_number (Long want) = 4
+model_refusal_number (Border at) = 6
+model_refusal_number (Floating at) = 7
+model_refusal_number (WideHead have) = 8
+model_refusal_number (WideResolution r) = 9
+model_refusal_number (WideRun index) = 10
+model_refusal_number (WideShort have) = 11
+model_refusal_number WideLong = 12
+
+-- why bytes are no model, or why a model is not legal, by the definitions
+abbrev pub why_refused : ModelRefusal → NoModel ⊎ NotLegal
+why_refused NoByte = inl spec.NoByte
+why_refused (Resolution r) = inl (spec.Resolution r)
+why_refused (Short want have) = inl (spec.Short want have)
+why_refused (Long want) = inl (spec.Long want)
+why_refused (Border at) = inr (legal.Border at)
+why_refused (Floating at) = inr (legal.Floating at)
+why_refused (WideHead have) = inl (spec.WideHead have)
+why_refused (WideResolution r) = inl (spec.WideResolution r)
+why_refused (WideRun index) = inl (spec.WideRun index)
+why_refused (WideShort have) = inl (spec.WideShort have)
+why_refused WideLong = inl spec.WideLong
+
+-- the bytes say no model for this reason, and the reason is none by which a model is not legal
+abbrev pub SaysNone : Result Matrix NoModel → NoModel ⊎ NotLegal → Type 0
+SaysNone said (inl why) = said ≡ Err why
+SaysNone said (inr why) = ⊥
+
+-- the model is not legal for this reason, and the reason is none by which bytes are no model
+abbrev pub IsNotLegal : Matrix → NoModel ⊎ NotLegal → Type 0
+IsNotLegal m (inl why) = ⊥
+IsNotLegal m (inr why) = Legality m (Some why)
 
 -- the answer is what the bytes say, unless there was no memory
-abbrev pub ReadsModel : Result Matrix spec.NoModel → Result Matrix ModelFault → Type 0
+abbrev pub ReadsModel : Result Matrix NoModel → Result Matrix ModelFault → Type 0
 ReadsModel said (Ok m) = said ≡ Ok m
-ReadsModel said (Err NoByte) = said ≡ Err spec.NoByte
-ReadsModel said (Err (Resolution r)) = said ≡ Err (spec.Resolution r)
-ReadsModel said (Err (Short want have)) = said ≡ Err (spec.Short want have)
-ReadsModel said (Err (Long want)) = said ≡ Err (spec.Long want)
+ReadsModel said (Err (Refused refusal)) = SaysNone said (why_refused refusal)
 ReadsModel said (Err Memory) = ⊤
-ReadsModel said (Err (Border at)) = ⊥
-ReadsModel said (Err (Floating at)) = ⊥
-ReadsModel said (Err (WideHead have)) = said ≡ Err (spec.WideHead have)
-ReadsModel said (Err (WideResolution r)) = said ≡ Err (spec.WideResolution r)
-ReadsModel said (Err (WideRun index)) = said ≡ Err (spec.WideRun index)
-ReadsModel said (Err (WideShort have)) = said ≡ Err (spec.WideShort have)
-ReadsModel said (Err WideLong) = said ≡ Err spec.WideLong
 
 -- the answer is whether the model is legal, and if not why, unless there was no memory
 abbrev pub Judges : Matrix → Result (Unit {0}) ModelFault → Type 0
 Judges m (Ok done) = Legality m None
-Judges m (Err NoByte) = ⊥
-Judges m (Err (Resolution r)) = ⊥
-Judges m (Err (Short want have)) = ⊥
-Judges m (Err (Long want)) = ⊥
+Judges m (Err (Refused refusal)) = IsNotLegal m (why_refused refusal)
 Judges m (Err Memory) = ⊤
-Judges m (Err (Border at)) = Legality m (Some (legal.Border at))
-Judges m (Err (Floating at)) = Legality m (Some (legal.Floating at))
-Judges m (Err (WideHead have)) = ⊥
-Judges m (Err (WideResolution r)) = ⊥
-Judges m (Err (WideRun index)) = ⊥
-Judges m (Err (WideShort have)) = ⊥
-Judges m (Err WideLong) = ⊥

@@ -1,13 +1,13 @@
 //! Why bytes are no model, and why a model is not legal.
 ghost use Rattle.std.specs.Prelude.{◌≡◌};
-ghost use Rattle.model_file.specs.declared.fault.ModelFault.TheVariants.{Memory};
-ghost use Rattle.model_file.specs.Fault.{model_fault_number};
+ghost use Rattle.model_file.specs.declared.fault.ModelFault.TheVariants.{Memory, Refused};
+ghost use Rattle.model_file.specs.Fault.{model_refusal_number};
 
 use vox_geom::{Coord, Memory};
 
-/// Why a model was refused (docs/FORMATS.md, "Model files", "Refusals").
+/// Why bytes are no model, or why a model is not legal (docs/FORMATS.md, "Model files", "Refusals").
 #[derive(Clone, Copy, PartialEq, Eq, Debug)]
-pub enum ModelFault {
+pub enum ModelRefusal {
     /// There is no byte.
     NoByte,
     /// The first byte is no resolution.
@@ -16,8 +16,6 @@ pub enum ModelFault {
     Short { want: u32, have: u32 },
     /// There are more bytes than the resolution wants.
     Long { want: u32 },
-    /// There was no memory.
-    Memory,
     /// The least full voxel outside the legal box.
     Border { at: Coord },
     /// The least full voxel that is not grounded.
@@ -34,25 +32,41 @@ pub enum ModelFault {
     WideLong,
 }
 
-impl ModelFault {
+/// Why there is no answer that a model is one, or is legal.
+#[derive(Clone, Copy, PartialEq, Eq, Debug)]
+pub enum ModelFault {
+    /// The model was refused.
+    Refused(ModelRefusal),
+    /// There was no memory.
+    Memory,
+}
+
+impl ModelRefusal {
     /// The number by which the refusal is printed.
     pub fn number(self) -> u8
-        ensures { result ≡ model_fault_number self }
+        ensures { result ≡ model_refusal_number self }
     {
         match self {
-            ModelFault::NoByte => 1,
-            ModelFault::Resolution { .. } => 2,
-            ModelFault::Short { .. } => 3,
-            ModelFault::Long { .. } => 4,
-            ModelFault::Memory => 5,
-            ModelFault::Border { .. } => 6,
-            ModelFault::Floating { .. } => 7,
-            ModelFault::WideHead { .. } => 8,
-            ModelFault::WideResolution { .. } => 9,
-            ModelFault::WideRun { .. } => 10,
-            ModelFault::WideShort { .. } => 11,
-            ModelFault::WideLong => 12,
+            ModelRefusal::NoByte => 1,
+            ModelRefusal::Resolution { .. } => 2,
+            ModelRefusal::Short { .. } => 3,
+            ModelRefusal::Long { .. } => 4,
+            ModelRefusal::Border { .. } => 6,
+            ModelRefusal::Floating { .. } => 7,
+            ModelRefusal::WideHead { .. } => 8,
+            ModelRefusal::WideResolution { .. } => 9,
+            ModelRefusal::WideRun { .. } => 10,
+            ModelRefusal::WideShort { .. } => 11,
+            ModelRefusal::WideLong => 12,
         }
+    }
+}
+
+impl From<ModelRefusal> for ModelFault {
+    ghost from_gives = { λ refusal fault. fault ≡ Refused refusal };
+
+    fn from(refusal: ModelRefusal) -> ModelFault {
+        ModelFault::Refused(refusal)
     }
 }
 

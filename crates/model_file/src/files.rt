@@ -4,7 +4,7 @@ ghost use Rattle.nano_spec.specs.Model.{model, written};
 ghost use Rattle.model_file.specs.Fault.{ReadsModel};
 
 use crate::WIDE_MARK;
-use crate::fault::ModelFault;
+use crate::fault::{ModelFault, ModelRefusal};
 use crate::first_form::{FIRST_FORM_MOST_R, read_first, write_first};
 use crate::wide_form::{read_wide, write_wide};
 use std::alloc::Global;
@@ -18,7 +18,7 @@ pub fn read_model(alloc: Global, bytes: &[u8]) -> Result<Planes, ModelFault>
     ensures { ReadsModel (model bytes.now) result }
 {
     if bytes.is_empty() {
-        return Err(ModelFault::NoByte);
+        return Err(ModelFault::Refused(ModelRefusal::NoByte));
     }
     if bytes[0] == WIDE_MARK {
         return read_wide(alloc, &bytes[1..]);

@@ -7,7 +7,7 @@ ghost use Rattle.model_file.specs.Words.{IsWordOf};
 ghost use Rattle.vox_planes.specs.Places.{voxel_at};
 ghost use Rattle.vox_planes.specs.Voxel.{IsWhole};
 
-use crate::fault::ModelFault;
+use crate::fault::{ModelFault, ModelRefusal};
 use std::alloc::Global;
 use std::sync::ledger::Ledger;
 use vox_geom::{MOST_R, Memory, Steps};
@@ -87,17 +87,17 @@ pub fn read_first(alloc: Global, r: u8, bytes: &[u8]) -> Result<Planes, ModelFau
     ensures { ReadsModel (first_form r bytes.now) result }
 {
     if r == 0 || r > FIRST_FORM_MOST_R {
-        return Err(ModelFault::Resolution { r });
+        return Err(ModelFault::Refused(ModelRefusal::Resolution { r }));
     }
     let want = wanted(u16::from(r));
     if bytes.len() < want as usize {
-        return Err(ModelFault::Short {
+        return Err(ModelFault::Refused(ModelRefusal::Short {
             want,
             have: bytes.len() as u32,
-        });
+        }));
     }
     if bytes.len() > want as usize {
-        return Err(ModelFault::Long { want });
+        return Err(ModelFault::Refused(ModelRefusal::Long { want }));
     }
     let mut planes = Planes::empty(alloc, u16::from(r))?;
     set_voxels(&mut planes, bytes);

@@ -11,7 +11,7 @@ mod least;
 mod legality;
 mod wide_form;
 
-pub use fault::ModelFault;
+pub use fault::{ModelFault, ModelRefusal};
 pub use files::{read_model, write_model};
 pub use flood::first_ungrounded;
 pub use laws::reading_and_writing;

@@ -8,7 +8,7 @@ ghost use Rattle.model_file.specs.Fault.{ReadsModel};
 ghost use Rattle.model_file.specs.Runs.{FillsRuns, with_runs};
 
 use crate::WIDE_MARK;
-use crate::fault::ModelFault;
+use crate::fault::{ModelFault, ModelRefusal};
 use crate::first_form::volume;
 use std::alloc::Global;
 use std::sync::ledger::Ledger;
@@ -44,7 +44,7 @@ fn fill_run(planes: &mut Planes, from: u32, end: u32, full: bool)
 }
 
 /// Fills the full runs of an empty matrix.
-fn fill_runs(planes: &mut Planes, bytes: &[u8]) -> Result<(), ModelFault>
+fn fill_runs(planes: &mut Planes, bytes: &[u8]) -> Result<(), ModelRefusal>
     requires { planes.old ≡ empty_of planes.old.resolution }
     ensures { FillsRuns planes.old.resolution bytes.now planes.new result }
 {
@@ -55,14 +55,14 @@ fn fill_runs(planes: &mut Planes, bytes: &[u8]) -> Result<(), ModelFault>
     let mut full = false;
     while sum < places {
         if bytes.len() - at < 4 {
-            return Err(ModelFault::WideShort { have: sum });
+            return Err(ModelRefusal::WideShort { have: sum });
         }
         let run = number_at(bytes, at);
         if run == 0 && index > 0 {
-            return Err(ModelFault::WideRun { index });
+            return Err(ModelRefusal::WideRun { index });
         }
         if places - sum < run {
-            return Err(ModelFault::WideRun { index });
+            return Err(ModelRefusal::WideRun { index });
         }
         let end = sum + run;
         fill_run(planes, sum, end, full);
@@ -72,7 +72,7 @@ fn fill_runs(planes: &mut Planes, bytes: &[u8]) -> Result<(), ModelFault>
         full = !full;
     }
     if at < bytes.len() {
-        return Err(ModelFault::WideLong);
+        return Err(ModelRefusal::WideLong);
     }
     Ok(())
 }
@@ -82,18 +82,18 @@ pub fn read_wide(alloc: Global, bytes: &[u8]) -> Result<Planes, ModelFault>
     ensures { ReadsModel (wide_form bytes.now) result }
 {
     if bytes.len() < 2 {
-        return Err(ModelFault::WideHead {
+        return Err(ModelFault::Refused(ModelRefusal::WideHead {
             have: 1 + bytes.len() as u32,
-        });
+        }));
     }
     let r = u16::from(bytes[0]) * 256 + u16::from(bytes[1]);
     if r < WIDE_FORM_LEAST_R || r > MOST_R {
-        return Err(ModelFault::WideResolution { r });
+        return Err(ModelFault::Refused(ModelRefusal::WideResolution { r }));
     }
     let mut planes = Planes::empty(alloc, r)?;
     match fill_runs(&mut planes, &bytes[2..]) {
         Ok(()) => Ok(planes),
-        Err(fault) => Err(fault),
+        Err(refusal) => Err(ModelFault::Refused(refusal)),
     }
 }
 

@@ -3,38 +3,28 @@ use Rattle.std.specs.Prelude.{ℕ, List, codes}
 use Rattle.nano_spec.specs.declared.outcomes.Rule.{Rule}
 use Rattle.nano_spec.specs.declared.outcomes.Rule.TheVariants.{TraceEnds, HaltAlone, HaltOrigin, HaltLow, OutOfSpace, Blocked, Seeds, InRegion, Partner, GroupShape, Interference, Ungrounded, AfterHalt, WrongResult, Forbidden}
 
+-- each rule with its number and its name, as both are printed
+abbrev pub numbered : Rule → ℕ × List ℕ
+numbered TraceEnds = (1, codes "TraceEnds")
+numbered HaltAlone = (2, codes "HaltAlone")
+numbered HaltOrigin = (3, codes "HaltOrigin")
+numbered HaltLow = (4, codes "HaltLow")
+numbered OutOfSpace = (5, codes "OutOfSpace")
+numbered Blocked = (6, codes "Blocked")
+numbered Seeds = (7, codes "Seeds")
+numbered InRegion = (8, codes "InRegion")
+numbered Partner = (9, codes "Partner")
+numbered GroupShape = (10, codes "GroupShape")
+numbered Interference = (11, codes "Interference")
+numbered Ungrounded = (12, codes "Ungrounded")
+numbered AfterHalt = (13, codes "AfterHalt")
+numbered WrongResult = (14, codes "WrongResult")
+numbered Forbidden = (15, codes "Forbidden")
+
 -- the number of a rule
 abbrev pub rule_number : Rule → ℕ
-rule_number TraceEnds = 1
-rule_number HaltAlone = 2
-rule_number HaltOrigin = 3
-rule_number HaltLow = 4
-rule_number OutOfSpace = 5
-rule_number Blocked = 6
-rule_number Seeds = 7
-rule_number InRegion = 8
-rule_number Partner = 9
-rule_number GroupShape = 10
-rule_number Interference = 11
-rule_number Ungrounded = 12
-rule_number AfterHalt = 13
-rule_number WrongResult = 14
-rule_number Forbidden = 15
+rule_number rule = (numbered rule).0
 
--- the name of a rule, as it is printed
+-- the name of a rule
 abbrev pub name_of : Rule → List ℕ
-name_of TraceEnds = codes "TraceEnds"
-name_of HaltAlone = codes "HaltAlone"
-name_of HaltOrigin = codes "HaltOrigin"
-name_of HaltLow = codes "HaltLow"
-name_of OutOfSpace = codes "OutOfSpace"
-name_of Blocked = codes "Blocked"
-name_of Seeds = codes "Seeds"
-name_of InRegion = codes "InRegion"
-name_of Partner = codes "Partner"
-name_of GroupShape = codes "GroupShape"
-name_of Interference = codes "Interference"
-name_of Ungrounded = codes "Ungrounded"
-name_of AfterHalt = codes "AfterHalt"
-name_of WrongResult = codes "WrongResult"
-name_of Forbidden = codes "Forbidden"
+name_of rule = (numbered rule).1

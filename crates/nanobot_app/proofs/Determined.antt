@@ -29,7 +29,7 @@ use Rattle.nanobot_rows.specs.Answer.{Answer, AnswerOf, AnswerOfRun, AskNoPlan, 
 use Rattle.nanobot_rows.specs.Planners.{IsGroupPlan, IsLayerPlan, IsLowPlan, IsSwarmPlan, IsVoidPlan, PlanFacts}
 use Rattle.nanobot_app.specs.Outcome.{DepotRose, IsAnswer, LacksFile, CallOutcome, Outside, SinkRose}
 use Rattle.nanobot_rows.specs.Reading.{no_such_file, reply_of}
-use Rattle.nanobot_rows.specs.Report.{faulty_text, not_legal, no_model}
+use Rattle.nanobot_rows.specs.Lines.{no_model_line, not_legal_line, text_line}
 use Rattle.nanobot_words.specs.Rows.{Row, asm, check, debug, dis, exercise, light, make, plan_group, plan_layer, plan_low, plan_swarm, plan_void, run, IsRow, MakesPlans}
 use Rattle.nanobot_rows.proofs.Replies.{verdict_reply}
 use Rattle.nanobot_rows.proofs.Told.{if_some}
@@ -75,6 +75,10 @@ module _ {A : Type 0} (part : Reply → A) (laws : Laws) where
   same_reply x r s h k = ap part (h ∙ sym k)
 
   module _ (files : Files) where
+    -- the reply with this status and this line
+    abbrev says : Status → List ℕ → Reply
+    says status line = record { status = status; line = line; after = files }
+
     file_once : (name : List ℕ) (p : List ℕ → Reply → Type 0) → ((bytes : List ℕ) → Once (p bytes)) → Once (WithFile files name p)
     file_once name p f = by (content files name)
       where
@@ -84,10 +88,10 @@ module _ {A : Type 0} (part : Reply → A) (laws : Laws) where
 
     judged_once : (w : Who) (a : Option NotLegal) (p : Reply → Type 0) → Once p → Once (Judged w files a p)
     judged_once w None p f = f
-    judged_once w (Some why) p f = same_reply (reply_of files (report.Model w (not_legal why)))
+    judged_once w (Some why) p f = same_reply (says is.Model (not_legal_line w why))
 
     bytes_once : (w : Who) (said : Result Matrix NoModel) (p : Matrix → Reply → Type 0) → ((m : Matrix) → Once (p m)) → Once (OfBytes w files said p)
-    bytes_once w (Err why) p f r s h k = same_reply (reply_of files (report.Model w (no_model why))) r s h k
+    bytes_once w (Err why) p f r s h k = same_reply (says is.Model (no_model_line w why)) r s h k
     bytes_once w (Ok m) p f r s h k =
         let same = laws.legality m h.0 k.0 h.1 k.1 in
         judged_once w k.0 (p m) (f m) r s (subst (λ (a : Option NotLegal). Judged w files a (p m) r) same h.2) k.2
@@ -129,7 +133,7 @@ module _ {A : Type 0} (part : Reply → A) (laws : Laws) where
 
     reading_once : (d : Result (List Command) FaultyLine) (p : List Command → Reply → Type 0) → ((commands : List Command) → Once (p commands)) → Once (OfReading files d p)
     reading_once (Ok commands) p f = f commands
-    reading_once (Err faulty) p f = same_reply (reply_of files (faulty_text faulty))
+    reading_once (Err faulty) p f = same_reply (says is.Text (text_line faulty.fault faulty.line))
 
     text_once : (bytes : List ℕ) (p : List Command → Reply → Type 0) → ((commands : List Command) → Once (p commands)) → Once (OfText files bytes p)
     text_once bytes p f =
@@ -138,7 +142,7 @@ module _ {A : Type 0} (part : Reply → A) (laws : Laws) where
 
     lines_once : (said : Result (List DebugLine) FaultyLine) (p : List DebugLine → Reply → Type 0) → ((lines : List DebugLine) → Once (p lines)) → Once (OfLines files said p)
     lines_once (Ok lines) p f = f lines
-    lines_once (Err faulty) p f = same_reply (reply_of files (faulty_text faulty))
+    lines_once (Err faulty) p f = same_reply (says is.Text (text_line faulty.fault faulty.line))
 
     said_once : (r : ℕ) (bytes : List ℕ) (p : List DebugLine → Reply → Type 0) → ((lines : List DebugLine) → Once (p lines)) → Once (λ x. (said : Result (List DebugLine) FaultyLine) × ScriptSays r bytes said × OfLines files said p x)
     said_once r bytes p f x y h k =
@@ -150,12 +154,8 @@ module _ {A : Type 0} (part : Reply → A) (laws : Laws) where
         choice_once (nat_lt script_limit (length bytes)) (λ x. x ≡ reply_of files (report.TextLong script_limit)) (λ x. (said : Result (List DebugLine) FaultyLine) × ScriptSays r bytes said × OfLines files said p x)
         (same_reply (reply_of files (report.TextLong script_limit))) (said_once r bytes p f)
 
-    -- the reply of a session
-    abbrev done_with : List ℕ → Reply
-    done_with text = record { status = is.Done; line = text; after = files }
-
     session_once : (source : Matrix) (commands : List Command) (script : List DebugLine) → Once (OfSession files source commands script)
-    session_once source commands script x y h k = ap part (h.2 ∙ (ap done_with (laws.sessions source full_profile commands script h.0 k.0 h.1 k.1) ∙ sym k.2))
+    session_once source commands script x y h k = ap part (h.2 ∙ (ap (says is.Done) (laws.sessions source full_profile commands script h.0 k.0 h.1 k.1) ∙ sym k.2))
 
     models_once : (source target : Option (List ℕ)) (p : Matrix → Matrix → Reply → Type 0) → ((s t : Matrix) → Once (p s t)) → Once (WithModels files source target p)
     models_once source target p f = side_once who.Source source _ (λ a. side_once who.Target target _ (λ b. both_once a b p f))

@@ -23,12 +23,14 @@ use Rattle.nanobot_rows.specs.declared.status.Status.TheVariants as is
 use Rattle.nanobot_rows.specs.Answer.{Answer, AnswerOf, AnswerOfRun, AskNoPlan, Judged, OfBytes, OfDecoding, OfRun, OfTrace, Reply, WithBoth, WithFile, WithModel, WithModels, WithSide, run_limit}
 use Rattle.nanobot_app.specs.Headline.{IsCost, IsDoneWith, MachineTakes, TakesBytes}
 use Rattle.nanobot_app.specs.Outcome.{DepotRose, IsAnswer, CallOutcome, Outside, SinkRose}
-use Rattle.nanobot_rows.specs.Reading.{AreBoth, AreModels, IsModelOf, IsSide, no_such_file, reply_of}
-use Rattle.nanobot_rows.specs.Report.{accepted_line, no_model, not_legal, status_of}
-use Rattle.nanobot_words.specs.Rows.{Row, run, MakesPlans, IsRow, IsRunOf}
+use Rattle.nanobot_rows.specs.Models.{AreModels, IsModelOf}
+use Rattle.nanobot_rows.specs.Reading.{AreBoth, HasSide, no_such_file, reply_of}
+use Rattle.nanobot_rows.specs.Lines.{accepted_line}
+use Rattle.nanobot_rows.specs.Report.{status_of}
+use Rattle.nanobot_words.specs.Rows.{HasName, Row, run, MakesPlans, IsRow, IsRunOf}
 use Rattle.nanobot_rows.proofs.Loads.{not_longer}
 use Rattle.nanobot_app.proofs.Determined.{AnswerLaw, RowLaw, StatusLaw, complete}
-use Rattle.nanobot_rows.proofs.Replies.{models_given, verdict_reply}
+use Rattle.nanobot_rows.proofs.Replies.{models_given, models_of, verdict_reply}
 use Rattle.nanobot_rows.proofs.Told.{if_some, weaker}
 
 -- ---- what a run that takes its trace answers
@@ -49,11 +51,14 @@ taken files source target trace energy steps h = by (content files trace) h
 
 pub answers_taken : (files : Files) (source target : Option (List ℕ)) (trace : List ℕ) (energy : ℤ) (steps : ℕ) → MachineTakes files source target trace energy steps → AnswerOf (run source target trace) files (reply_of files (report.Accepted energy steps))
 answers_taken files source target trace energy steps t =
-    models_given files source target _ t.from t.to _ t.models (taken files t.from t.to trace energy steps t.taken)
+    models_given files source target _ t.named t.from t.to _ t.models (taken files t.from t.to trace energy steps t.taken)
 
 -- ---- what was answered with status 0
 
 -- a reply of another status
+not_model : (reply : Reply) → reply.status ≡ is.Model → reply.status ≡ is.Done → ⊥
+not_model reply e f = let no : is.Model ≡ is.Done = sym e ∙ f in cc
+
 other : (files : Files) (r : Report) (reply : Reply) → reply ≡ reply_of files r → reply.status ≡ is.Done → status_of r ≡ is.Done
 other files r reply e f = sym (ap (λ (x : Reply). x.status) e) ∙ f
 
@@ -65,17 +70,17 @@ done_model w files name p reply done h = by (content files name) h
   where
     of_legality : (bytes : List ℕ) (m : Matrix) (a : Option NotLegal) → model bytes ≡ Ok m → Legality m a → Judged w files a (p m) reply → (n : Matrix) × ((model bytes ≡ Ok n) × Legality n None) × p n reply
     of_legality bytes m None e l j = (m, (e, l), j)
-    of_legality bytes m (Some why) e l j = absurd (let no = other files (report.Model w (not_legal why)) reply j done in cc)
+    of_legality bytes m (Some why) e l j = absurd (not_model reply (ap (λ (x : Reply). x.status) j) done)
 
     of_bytes : (bytes : List ℕ) (said : Result Matrix NoModel) → model bytes ≡ said → OfBytes w files said p reply → (m : Matrix) × ((model bytes ≡ Ok m) × Legality m None) × p m reply
-    of_bytes bytes (Err why) e h = absurd (let no = other files (report.Model w (no_model why)) reply h done in cc)
+    of_bytes bytes (Err why) e h = absurd (not_model reply (ap (λ (x : Reply). x.status) h) done)
     of_bytes bytes (Ok m) e h = of_legality bytes m h.0 e h.1 h.2
 
     by : (o : Option (List ℕ)) → MatchOption o (reply ≡ no_such_file files) (λ bytes. OfBytes w files (model bytes) p reply) → (m : Matrix) × IsSomeAnd o (λ bytes. (model bytes ≡ Ok m) × Legality m None) × p m reply
     by None h = absurd (not_gone files reply h done)
     by (Some bytes) h = of_bytes bytes (model bytes) refl h
 
-done_side : (w : Who) (files : Files) (name : Option (List ℕ)) (p : Option Matrix → Reply → Type 0) (reply : Reply) → reply.status ≡ is.Done → WithSide w files name p reply → (a : Option Matrix) × IsSide name files a × p a reply
+done_side : (w : Who) (files : Files) (name : Option (List ℕ)) (p : Option Matrix → Reply → Type 0) (reply : Reply) → reply.status ≡ is.Done → WithSide w files name p reply → (a : Option Matrix) × HasSide name files a × p a reply
 done_side w files None p reply done h = (None, tt, h)
 done_side w files (Some name) p reply done h = let m = done_model w files name (λ m. p (Some m)) reply done h in (Some m.0, m.1, m.2)
 
@@ -92,12 +97,18 @@ done_both files (Some a) (Some b) p reply done h = by (a.resolution == b.resolut
     by true e h = (a, b, (refl, refl, same_number a.resolution b.resolution e), h)
     by false e h = absurd (let no = other files (report.Resolutions a.resolution b.resolution) reply h done in cc)
 
+-- of a source and a target that are answered so one has a file
+pub named_of : (files : Files) (source target : Option (List ℕ)) (p : Matrix → Matrix → Reply → Type 0) (reply : Reply) → WithModels files source target p reply → HasName source target
+named_of files None None p reply h = h
+named_of files None (Some b) p reply h = tt
+named_of files (Some a) target p reply h = tt
+
 pub done_models : (files : Files) (source target : Option (List ℕ)) (p : Matrix → Matrix → Reply → Type 0) (reply : Reply) → reply.status ≡ is.Done → WithModels files source target p reply → (s : Matrix) × (t : Matrix) × AreModels source target files s t × p s t reply
 done_models files source target p reply done h =
     let a = done_side who.Source files source _ reply done h in
     let b = done_side who.Target files target _ reply done a.2 in
     let m = done_both files a.0 b.0 p reply done b.2 in
-    (m.0, m.1, record { source_side = a.0; target_side = b.0; source_is = a.1; target_is = b.1; both = m.2 }, m.3)
+    (m.0, m.1, models_of files source target a.0 b.0 m.0 m.1 a.1 b.1 m.2, m.3)
 
 -- a verdict that is told with status 0
 accepted : (files : Files) (v : Verdict) (reply : Reply) → reply ≡ verdict_reply files v → reply.status ≡ is.Done → (energy : ℤ) × (steps : ℕ) × (v ≡ verdict.Accepted energy steps)
@@ -139,7 +150,7 @@ pub takes_done : (files : Files) (source target : Option (List ℕ)) (trace : Li
 takes_done files source target trace reply done h =
     let m = done_models files source target _ reply done h in
     let t = done_trace files m.0 m.1 reply done trace m.3 in
-    (t.0, t.1, record { from = m.0; to = m.1; models = m.2; taken = t.2 }, t.3)
+    (t.0, t.1, record { named = named_of files source target _ reply h; from = m.0; to = m.1; models = m.2; taken = t.2 }, t.3)
 
 -- the row of the words answers
 of_the_row : RowLaw → (words : List (List ℕ)) (row : Row) (files : Files) (reply : Reply) → IsRow words row → Answer words files reply → AnswerOf row files reply

@@ -28,8 +28,9 @@ use Rattle.plan_tape.specs.Progress.{IsBounded}
 use Rattle.plan_tape.specs.Reaches.{HasAtMost, Reaches, starts, steps_on}
 use Rattle.vox_depot.specs.Files.{Files, content}
 use Rattle.nanobot_rows.specs.Answer.{run_limit}
-use Rattle.nanobot_rows.specs.Reading.{AreBoth, IsModelOf, IsSide}
-use Rattle.nanobot_rows.specs.Report.{accepted_line}
+use Rattle.nanobot_rows.specs.Models.{AreModels, IsModelOf}
+use Rattle.nanobot_words.specs.Rows.{HasName}
+use Rattle.nanobot_rows.specs.Lines.{accepted_line}
 use Rattle.nanobot_rows.proofs.Loads.{few_commands}
 use Rattle.nanobot_app.specs.Headline.{IsCost, MachineTakes, TakesBytes}
 use Rattle.plan_tape.proofs.Reached.{enough}
@@ -182,22 +183,17 @@ module _ (laws : CostLaws) (files : Files) where
       by None h = absurd h
       by (Some bytes) h = record { some = laws.some bytes m h.0; most = laws.most bytes m h.0; whole = laws.whole bytes m h.0 }
 
-  side_has : (name : Option (List ℕ)) (m : Matrix) → IsSide name files (Some m) → HasVoxels m
-  side_has None m is = absurd is
-  side_has (Some name) m is = model_has name m is
-
-  source_has : (source target : Option (List ℕ)) (a b : Option Matrix) (s t : Matrix) → IsSide source files a → IsSide target files b → AreBoth a b s t → HasVoxels s
-  source_has source target None None s t is are both = absurd both
-  source_has source target (Some a) None s t is are both = subst HasVoxels (sym both.0) (side_has source a is)
-  source_has source target None (Some b) s t is are both = let h = side_has target b are in subst HasVoxels (sym both.0) (empty_has b.resolution h.some h.most)
-  source_has source target (Some a) (Some b) s t is are both = subst HasVoxels (sym both.0) (side_has source a is)
+  source_has : (source target : Option (List ℕ)) (s t : Matrix) → HasName source target → AreModels source target files s t → HasVoxels s
+  source_has (Some name) target s t named m = model_has name s m.source_is
+  source_has None (Some name) s t named m = let h = model_has name t m.target_is in subst HasVoxels (sym m.source_is) (empty_has t.resolution h.some h.most)
+  source_has None None s t named m = absurd named
 
   -- the energy and the number of steps of a run that takes its whole trace
   pub run_is_small : (source target : Option (List ℕ)) (trace : List ℕ) (energy : ℤ) (steps : ℕ) → MachineTakes files source target trace energy steps → IsCost energy steps
   run_is_small source target trace energy steps t = by (content files trace) t.taken
     where
       has : HasVoxels t.from
-      has = source_has source target t.models.source_side t.models.target_side t.from t.to t.models.source_is t.models.target_is t.models.both
+      has = source_has source target t.from t.to t.named t.models
 
       by : (o : Option (List ℕ)) → IsSomeAnd o (λ bytes. TakesBytes t.from t.to bytes energy steps) → IsCost energy steps
       by None h = absurd h

@@ -25,7 +25,6 @@ use Rattle.nanobot_rows.specs.declared.report.Who.{Who}
 use Rattle.nanobot_rows.specs.declared.report.Who.TheVariants as who
 use Rattle.nanobot_rows.specs.Answer.{AnswerOf, AnswerOfRun, Judged, OfBytes, OfDecoding, OfReading, OfRun, OfText, OfTrace, Reply, WithBoth, WithFile, WithModel, WithModels, dis_limit, run_limit, text_limit}
 use Rattle.nanobot_rows.specs.Reading.{no_such_file, reply_of}
-use Rattle.nanobot_rows.specs.Report.{faulty_text, no_model, not_legal}
 use Rattle.nanobot_words.specs.Rows.{HasName, asm, check, dis}
 use Rattle.nanobot_rows.proofs.Replies.{verdict_reply}
 use Rattle.nanobot_app.proofs.Decodings.{decoding_of}
@@ -94,10 +93,10 @@ module _ (files : Files) where
 
   judged : (w : Who) (m : Matrix) (p : Matrix → Reply → Type 0) → IsAnswered (p m) → (answer : Option NotLegal) → Legality m answer → IsAnswered (λ reply. (a : Option NotLegal) × Legality m a × Judged w files a (p m) reply)
   judged w m p f None l = (f.0, (None, l, f.1))
-  judged w m p f (Some why) l = (reply_of files (report.Model w (not_legal why)), (Some why, l, refl))
+  judged w m p f (Some why) l = (_, (Some why, l, refl))
 
   of_bytes : (w : Who) (said : Result Matrix NoModel) (p : Matrix → Reply → Type 0) → ((m : Matrix) → IsAnswered (p m)) → IsAnswered (OfBytes w files said p)
-  of_bytes w (Err why) p f = (reply_of files (report.Model w (no_model why)), refl)
+  of_bytes w (Err why) p f = (_, refl)
   of_bytes w (Ok m) p f = let l = legality_of m in judged w m p (f m) l.0 l.1
 
   with_model : (w : Who) (name : List ℕ) (p : Matrix → Reply → Type 0) → ((m : Matrix) → IsAnswered (p m)) → IsAnswered (WithModel w files name p)
@@ -131,7 +130,7 @@ module _ (files : Files) where
 
   of_reading : (said : Result (List Command) FaultyLine) (p : List Command → Reply → Type 0) → ((commands : List Command) → IsAnswered (p commands)) → IsAnswered (OfReading files said p)
   of_reading (Ok commands) p f = f commands
-  of_reading (Err faulty) p f = (reply_of files (faulty_text faulty), refl)
+  of_reading (Err faulty) p f = (_, refl)
 
   of_text : (bytes : List ℕ) (p : List Command → Reply → Type 0) → ((commands : List Command) → IsAnswered (p commands)) → IsAnswered (OfText files bytes p)
   of_text bytes p f =

@@ -3,7 +3,7 @@ ghost use Rattle.std.specs.Prelude.{◌≡◌, ◌≢◌, ℕ, ℤ, List, Option
 ghost use Rattle.nano_spec.specs.Profile.{full_profile, light_profile};
 ghost use Rattle.vox_depot.specs.Files.{Files};
 ghost use Rattle.nanobot_rows.specs.Answer.{Answer, AnswerOf, AskNoPlan, Reply};
-ghost use Rattle.nanobot_rows.specs.Report.{accepted_line};
+ghost use Rattle.nanobot_rows.specs.Lines.{accepted_line};
 ghost use Rattle.nanobot_app.specs.Headline.{IsCost, MachineTakes};
 ghost use Rattle.nanobot_app.specs.Plans.{IsRunOfPlan};
 ghost use Rattle.nanobot_words.specs.Rows.{HasName, IsInNoRow, asm, check, dis, light, make, plan_group, plan_layer, plan_low, plan_swarm, plan_void, run};

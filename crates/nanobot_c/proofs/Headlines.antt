@@ -7,7 +7,8 @@ use Rattle.nanobot_rows.specs.declared.status.Status.{Status}
 use Rattle.nanobot_rows.specs.declared.status.Status.TheVariants as is
 use Rattle.nanobot_rows.specs.Answer.{AnswerOf, Reply}
 use Rattle.nanobot_rows.specs.Reading.{reply_of}
-use Rattle.nanobot_rows.specs.Report.{accepted_line, code_of}
+use Rattle.nanobot_rows.specs.Lines.{accepted_line}
+use Rattle.nanobot_rows.specs.Report.{code_of}
 use Rattle.nanobot_words.specs.Rows.{IsName, IsRow, MakesPlans, Row, run, with_side, row_words}
 use Rattle.nanobot_app.proofs.Determined.{AnswerLaw, RowLaw, StatusLaw}
 use Rattle.nanobot_app.proofs.Headlines.{SmallLaw, answers_taken, takes_done}

@@ -1,7 +1,8 @@
 -- What a call gives into the caller's buffer.
 use Rattle.std.specs.Prelude.{◌≡◌, ◌⊎◌, ℕ, ◌≤◌, ◌<◌, List, ◌++◌, drop, length, Option, Some, None}
 use Rattle.nanobot_rows.specs.declared.status.Status.TheVariants as is
-use Rattle.nanobot_rows.specs.Report.{code_of, words_line}
+use Rattle.nanobot_rows.specs.Lines.{words_line}
+use Rattle.nanobot_rows.specs.Report.{code_of}
 use Rattle.nanobot_c.specs.declared.call.TheConstants.{TOO_SMALL}
 
 -- the status is 0

@@ -18,9 +18,10 @@ use Rattle.nanobot_rows.specs.declared.stop.Stop.{Stop}
 use Rattle.nanobot_words.specs.Rows.{debug}
 use Rattle.nanobot_rows.specs.Answer.{AnswerOf, Answers, OfLines, OfScript, OfSession, OfTrace, Reply, WithFile, dis_limit, script_limit}
 use Rattle.nanobot_rows.specs.Effects.{EndsStored, reply_by}
-use Rattle.nanobot_rows.specs.Reading.{IsModelOf, IsScriptOf, IsTraceOf, Lacks, Reads, RefusesFile, RefusesLines, RefusesScript, RefusesTrace, reply_of}
+use Rattle.nanobot_rows.specs.Models.{IsModelOf}
+use Rattle.nanobot_rows.specs.Reading.{IsScriptOf, IsTraceOf, Lacks, Reads, RefusesFile, RefusesLines, RefusesScript, RefusesTrace, reply_of}
 use Rattle.nanobot_rows.proofs.Loads.{not_longer}
-use Rattle.nanobot_rows.proofs.Replies.{both_told, model_given, model_lacks, model_refused, rose_since, stops}
+use Rattle.nanobot_rows.proofs.Replies.{both_told, model_given, model_lacks, model_refused, reply_told, rose_since, stops}
 use Rattle.nanobot_rows.proofs.Stored.{file_lacks, of_file, trace_given, trace_refused}
 use Rattle.nanobot_rows.proofs.Told.{if_some, weaker}
 
@@ -38,7 +39,7 @@ module _ (files : Files) (name : List ℕ) (r : ℕ) (p : List DebugLine → Rep
       by : (bytes : List ℕ) (b : Bool) → MatchBool b (told ≡ report.TextLong script_limit) (RefusesLines r bytes told)
           → MatchBool b (reply_of files told ≡ reply_of files (report.TextLong script_limit)) ((said : Result (List DebugLine) FaultyLine) × ScriptSays r bytes said × OfLines files said p (reply_of files told))
       by bytes true e = ap (reply_of files) e
-      by bytes false w = (Err w.0, w.1, ap (reply_of files) w.2)
+      by bytes false w = (Err w.0, w.1, reply_told files told _ _ w.2)
 
 -- ---- `debug`
 

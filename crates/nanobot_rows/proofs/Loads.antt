@@ -6,24 +6,27 @@ use Rattle.std.proofs.lemmas.List.{length-append, length-take, take_all}
 use Rattle.nano_spec.specs.declared.commands.Command.{Command}
 use Rattle.nano_spec.specs.Spelling.{spelling, spellings}
 use Rattle.nano_spec.specs.Cutting.{BadAt, CutAt, Cutting, Decoding, NoTrace}
-use Rattle.nano_spec.specs.Line as line
 use Rattle.nano_spec.specs.Reading.{FaultyLine, read}
 use Rattle.trace_codec.specs.declared.fault.TraceFault.{TraceFault}
 use Rattle.trace_codec.specs.declared.fault.TraceFault.TheVariants as trace
+use Rattle.trace_codec.specs.declared.fault.TraceRefusal.TheVariants.{Bad, Cut}
 use Rattle.trace_codec.specs.Whole.{Decodes}
 use Rattle.trace_text.specs.declared.fault.TextFault.{TextFault}
 use Rattle.trace_text.specs.declared.fault.TextFault.TheVariants as text
+use Rattle.trace_text.specs.declared.fault.TextRefusal.{TextRefusal}
 use Rattle.trace_text.specs.Text as said
+use Rattle.trace_text.specs.Text.{faulty_line}
 use Rattle.vox_depot.specs.Files.{Files, IfTold}
 use Rattle.nanobot_rows.specs.declared.report.Report.{Report}
-use Rattle.nanobot_rows.specs.declared.report.Report.TheVariants.{TextLong, TraceLong}
+use Rattle.nanobot_rows.specs.declared.report.Report.TheVariants.{Text, TextLong, TraceBad, TraceCut, TraceLong}
 use Rattle.debug_script.specs.Calls as script
 use Rattle.debug_script.specs.Calls.{lines_are}
 use Rattle.debug_script.specs.Script.{ScriptSays}
 use Rattle.debug_script.specs.declared.line.ScriptLine.{ScriptLine}
 use Rattle.nanobot_rows.specs.Answer.{dis_limit, script_limit, text_limit}
-use Rattle.nanobot_rows.specs.Reading.{IsScriptOf, IsTextOf, IsTraceOf, Lacks, Reads, RefusesDecoding, RefusesLines, RefusesReading, RefusesScript, RefusesText, RefusesTrace, of_text, of_trace}
-use Rattle.nanobot_rows.specs.Report.{faulty_text, no_trace}
+use Rattle.nanobot_rows.specs.Reading.{IsTold, IsScriptOf, IsTextOf, IsTraceOf, Lacks, Reads, RefusesDecoding, RefusesLines, RefusesReading, RefusesScript, RefusesText, RefusesTrace, of_text, of_trace}
+use Rattle.nanobot_rows.specs.declared.status.Status.TheVariants as is
+use Rattle.nanobot_rows.specs.Lines.{trace_line}
 use Rattle.nanobot_rows.proofs.Told.{told_weaker}
 use Rattle.nano_spec.proofs.Lengths.{spelling_some}
 
@@ -62,16 +65,13 @@ module _ (told : Option Files) (name v : List ℕ) (most : ℕ) (one_more : most
     pub text_found : (commands : List Command) → read v ≡ Ok commands → IfSome told (λ files. IsTextOf files name commands)
     text_found commands e = told_weaker told name _ _ (λ file h. (h.0, ap read h.1 ∙ e)) (is_whole told name v text_limit most one_more loaded fits)
 
-    refused : (faulty : FaultyLine) → read v ≡ Err faulty → IfSome told (λ files. RefusesText name files (faulty_text faulty))
-    refused faulty e = told_weaker told name _ _ (λ file h.
-        subst (λ b. MatchBool b (faulty_text faulty ≡ TextLong text_limit) (RefusesReading (read file) (faulty_text faulty))) (sym (not_longer text_limit (length file) h.0))
-        (subst (λ (r : Result (List Command) FaultyLine). RefusesReading r (faulty_text faulty)) (sym (ap read h.1 ∙ e)) refl)) (is_whole told name v text_limit most one_more loaded fits)
+    refused : (refusal : TextRefusal) → read v ≡ Err (faulty_line refusal) → IfSome told (λ files. RefusesText name files (Text refusal))
+    refused refusal e = told_weaker told name _ _ (λ file h.
+        subst (λ b. MatchBool b (Text refusal ≡ TextLong text_limit) (RefusesReading (read file) (Text refusal))) (sym (not_longer text_limit (length file) h.0))
+        (subst (λ (r : Result (List Command) FaultyLine). RefusesReading r (Text refusal)) (sym (ap read h.1 ∙ e)) (refl, refl))) (is_whole told name v text_limit most one_more loaded fits)
 
     pub text_refused : (rose : Type 0) (f : TextFault) → said.ReadsText v (Err f) → Reads {A = List Command} told rose (λ files commands. IsTextOf files name commands) (RefusesText name) (Lacks name) (Err (of_text f))
-    text_refused rose (text.NotAscii n) h = refused (record { fault = line.NotAscii; line = n }) h
-    text_refused rose (text.UnknownWord n) h = refused (record { fault = line.UnknownWord; line = n }) h
-    text_refused rose (text.Shape n) h = refused (record { fault = line.Shape; line = n }) h
-    text_refused rose (text.Range n) h = refused (record { fault = line.Range; line = n }) h
+    text_refused rose (text.Refused refusal) h = refused refusal h
     text_refused rose text.Memory h = tt
 
 -- ---- scripts
@@ -84,16 +84,13 @@ module _ (told : Option Files) (name v : List ℕ) (r most : ℕ) (one_more : mo
     pub script_found : (script : List ScriptLine) → ScriptSays r v (Ok (lines_are script)) → IfSome told (λ files. IsScriptOf files name r script)
     script_found script h = told_weaker told name _ _ (λ file g. (g.0, subst (λ (bytes : List ℕ). ScriptSays r bytes (Ok (lines_are script))) (sym g.1) h)) (is_whole told name v script_limit most one_more loaded fits)
 
-    faulty : (e : FaultyLine) → ScriptSays r v (Err e) → IfSome told (λ files. RefusesScript name r files (faulty_text e))
-    faulty e h = told_weaker told name _ _ (λ file g.
-        subst (λ b. MatchBool b (faulty_text e ≡ TextLong script_limit) (RefusesLines r file (faulty_text e))) (sym (not_longer script_limit (length file) g.0))
-        (e, subst (λ (bytes : List ℕ). ScriptSays r bytes (Err e)) (sym g.1) h, refl)) (is_whole told name v script_limit most one_more loaded fits)
+    faulty : (refusal : TextRefusal) → ScriptSays r v (Err (faulty_line refusal)) → IfSome told (λ files. RefusesScript name r files (Text refusal))
+    faulty refusal h = told_weaker told name _ _ (λ file g.
+        subst (λ b. MatchBool b (Text refusal ≡ TextLong script_limit) (RefusesLines r file (Text refusal))) (sym (not_longer script_limit (length file) g.0))
+        (faulty_line refusal, subst (λ (bytes : List ℕ). ScriptSays r bytes (Err (faulty_line refusal))) (sym g.1) h, (refl, refl))) (is_whole told name v script_limit most one_more loaded fits)
 
     pub script_refused : (rose : Type 0) (f : TextFault) → script.ReadsScript {Y = Global} r v (Err f) → Reads {A = List ScriptLine} told rose (λ files lines. IsScriptOf files name r lines) (RefusesScript name r) (Lacks name) (Err (of_text f))
-    script_refused rose (text.NotAscii n) h = faulty (record { fault = line.NotAscii; line = n }) h
-    script_refused rose (text.UnknownWord n) h = faulty (record { fault = line.UnknownWord; line = n }) h
-    script_refused rose (text.Shape n) h = faulty (record { fault = line.Shape; line = n }) h
-    script_refused rose (text.Range n) h = faulty (record { fault = line.Range; line = n }) h
+    script_refused rose (text.Refused refusal) h = faulty refusal h
     script_refused rose text.Memory h = tt
 
 -- ---- traces
@@ -106,14 +103,14 @@ module _ (told : Option Files) (name v : List ℕ) (most : ℕ) (one_more : most
     pub trace_found : (commands : List Command) → Cutting v commands → IfSome told (λ files. IsTraceOf files name commands)
     trace_found commands cutting = told_weaker told name _ _ (λ file h. (h.0, subst (λ (bytes : List ℕ). Cutting bytes commands) (sym h.1) cutting)) (is_whole told name v dis_limit most one_more loaded fits)
 
-    no_cutting : (why : NoTrace) → Decoding v (Err why) → IfSome told (λ files. RefusesTrace name files (no_trace why))
-    no_cutting why decoding = told_weaker told name _ _ (λ file h.
-        subst (λ b. MatchBool b (no_trace why ≡ TraceLong dis_limit) (RefusesDecoding file (no_trace why))) (sym (not_longer dis_limit (length file) h.0))
-        (why, subst (λ (bytes : List ℕ). Decoding bytes (Err why)) (sym h.1) decoding, refl)) (is_whole told name v dis_limit most one_more loaded fits)
+    no_cutting : (why : NoTrace) (r : Report) → IsTold r is.Trace (trace_line why) → Decoding v (Err why) → IfSome told (λ files. RefusesTrace name files r)
+    no_cutting why r e decoding = told_weaker told name _ _ (λ file h.
+        subst (λ b. MatchBool b (r ≡ TraceLong dis_limit) (RefusesDecoding file r)) (sym (not_longer dis_limit (length file) h.0))
+        (why, subst (λ (bytes : List ℕ). Decoding bytes (Err why)) (sym h.1) decoding, e)) (is_whole told name v dis_limit most one_more loaded fits)
 
     pub trace_refused : (rose : Type 0) (f : TraceFault) → Decodes v (Err f) → Reads {A = List Command} told rose (λ files commands. IsTraceOf files name commands) (RefusesTrace name) (Lacks name) (Err (of_trace f))
-    trace_refused rose (trace.Bad offset) h = no_cutting (BadAt offset) h
-    trace_refused rose (trace.Cut offset) h = no_cutting (CutAt offset) h
+    trace_refused rose (trace.Refused (Bad offset)) h = no_cutting (BadAt offset) (TraceBad offset) (refl, refl) h
+    trace_refused rose (trace.Refused (Cut offset)) h = no_cutting (CutAt offset) (TraceCut offset) (refl, refl) h
     trace_refused rose trace.Memory h = tt
 
 -- ---- how many commands there are

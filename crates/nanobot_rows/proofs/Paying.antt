@@ -7,7 +7,8 @@ use Rattle.nano_spec.specs.declared.commands.Command.{Command}
 use Rattle.nano_spec.specs.declared.system.Profile.{Profile}
 use Rattle.nano_spec.specs.Cutting.{AreCommands}
 use Rattle.nano_spec.specs.Legal.{IsLegal}
-use Rattle.nano_spec.specs.Matrix.{Matrix}
+use Rattle.nano_spec.specs.Matrix.{Matrix, empty}
+use Rattle.nanobot_words.specs.Rows.{HasName}
 use Rattle.nano_spec.specs.Model.{model, volume}
 use Rattle.nano_spec.specs.Spelling.{spelling, spellings}
 use Rattle.nano_spec.specs.Work.{Work}
@@ -18,7 +19,8 @@ use Rattle.trace_judge.specs.Payment.{IsPaid, Touches}
 use Rattle.trace_codec.specs.Decoder.{AnswersPiece, DecoderState, HasTaken, decoder_after, fresh}
 use Rattle.trace_codec.specs.declared.decoder.Fed.TheVariants.{Got, All, Bad}
 use Rattle.vox_depot.specs.Files.{Files, IfTold, IsPiece, content}
-use Rattle.nanobot_rows.specs.Reading.{AreBoth, AreModels, IsModelOf, IsSide, RunState}
+use Rattle.nanobot_rows.specs.Models.{AreModels, IsModelOf}
+use Rattle.nanobot_rows.specs.Reading.{RunState}
 use Rattle.nanobot_rows.specs.Touching.{AreInFront, BeginWith, HasGiven, HasPaid, IsRunWithin, IsWithinFile}
 use Rattle.nanobot_rows.proofs.Running.{AllLaw, GotLaw}
 use Rattle.nanobot_rows.proofs.Tracing.{from_told, piece_has}
@@ -159,34 +161,21 @@ model_once files name m n h k = by (content files name) h k
     by None h k = absurd h
     by (Some bytes) h k = let a = h.0 in let b = k.0 in cc
 
-side_once : (files : Files) (name : Option (List ℕ)) (a b : Option Matrix) → IsSide name files a → IsSide name files b → a ≡ b
-side_once files None None None h k = refl
-side_once files None None (Some b) h k = absurd k
-side_once files None (Some a) b h k = absurd h
-side_once files (Some name) None b h k = absurd h
-side_once files (Some name) (Some a) None h k = absurd k
-side_once files (Some name) (Some a) (Some b) h k = ap (λ (m : Matrix). Some m) (model_once files name a b h k)
-
-source_once : (a b : Option Matrix) (s t u v : Matrix) → AreBoth a b s t → AreBoth a b u v → s ≡ u
-source_once None None s t u v h k = absurd h
-source_once (Some a) None s t u v h k = h.0 ∙ sym k.0
-source_once None (Some b) s t u v h k = h.0 ∙ sym k.0
-source_once (Some a) (Some b) s t u v h k = h.0 ∙ sym k.0
-
-models_once : (files : Files) (source target : Option (List ℕ)) (s t u v : Matrix) → AreModels source target files s t → AreModels source target files u v → s ≡ u
-models_once files source target s t u v h k =
-    let first = side_once files source h.source_side k.source_side h.source_is k.source_is in
-    let second = side_once files target h.target_side k.target_side h.target_is k.target_is in
-    source_once k.source_side k.target_side s t u v (subst (λ (x : Option Matrix). AreBoth x k.target_side s t) first (subst (λ (x : Option Matrix). AreBoth h.source_side x s t) second h.both)) k.both
+-- the source is one only, where the source or the target has a file
+models_once : (files : Files) (source target : Option (List ℕ)) (s t u v : Matrix) → HasName source target → AreModels source target files s t → AreModels source target files u v → s ≡ u
+models_once files (Some name) target s t u v named h k = model_once files name s u h.source_is k.source_is
+models_once files None (Some name) s t u v named h k =
+    h.source_is ∙ (ap (λ (m : Matrix). empty m.resolution) (model_once files name t v h.target_is k.target_is) ∙ sym k.source_is)
+models_once files None None s t u v named h k = absurd named
 
 told_is : (told : Option Files) (P : Files → Type 0) (files : Files) → told ≡ Some files → IfSome told P → P files
 told_is told P files e h = subst (λ (o : Option Files). IfSome o P) e h
 
 module _ (profile : Profile) (told : Option Files) (source target : Option (List ℕ)) (trace : List ℕ) where
-  pub run_within : (s t : Matrix) (later : Option Files) (before now : ℕ) → IfSome told (λ files. AreModels source target files s t) → later ≡ told → IsWithinFile profile s later trace before now → IsRunWithin profile source target trace told before now
-  run_within s t later before now found same w = λ files from to e these.
+  pub run_within : HasName source target → (s t : Matrix) (later : Option Files) (before now : ℕ) → IfSome told (λ files. AreModels source target files s t) → later ≡ told → IsWithinFile profile s later trace before now → IsRunWithin profile source target trace told before now
+  run_within named s t later before now found same w = λ files from to e these.
       let here : IsWithinFile profile s told trace before now = subst (λ (o : Option Files). IsWithinFile profile s o trace before now) same w in
-      subst (λ (m : Matrix). IsWithinFile profile m told trace before now) (models_once files source target s t from to (told_is told (λ files. AreModels source target files s t) files e found) these) here
+      subst (λ (m : Matrix). IsWithinFile profile m told trace before now) (models_once files source target s t from to named (told_is told (λ files. AreModels source target files s t) files e found) these) here
 
   pub run_untouched : (works : WorkLaw) (before now : ℕ) → now ≡ before → IsRunWithin profile source target trace told before now
   run_untouched works before now same = λ files from to e these others bytes t c.

@@ -8,7 +8,7 @@ use Rattle.nano_spec.specs.declared.outcomes.Verdict.{Verdict}
 use Rattle.nano_spec.specs.declared.outcomes.Verdict.TheVariants as verdict
 use Rattle.nano_spec.specs.Cutting.{Decoding, NoTrace, BadAt, CutAt}
 use Rattle.nano_spec.specs.Legal.{IsLegal}
-use Rattle.nano_spec.specs.Matrix.{Matrix}
+use Rattle.nano_spec.specs.Matrix.{Matrix, empty}
 use Rattle.nano_spec.specs.Model.{NoModel, model}
 use Rattle.vox_depot.specs.Causes.{Rose}
 use Rattle.vox_depot.specs.Files.{Files, content}
@@ -18,10 +18,13 @@ use Rattle.nanobot_rows.specs.declared.report.Who.{Who}
 use Rattle.nanobot_rows.specs.declared.stop.Stop.{Stop}
 use Rattle.nanobot_rows.specs.declared.stop.Stop.TheVariants as stop
 use Rattle.nanobot_rows.specs.declared.report.Who.TheVariants as who
-use Rattle.nanobot_words.specs.Rows.{check}
+use Rattle.nanobot_words.specs.Rows.{HasName, check}
 use Rattle.nanobot_rows.specs.Answer.{AnswerOf, AnswerOfRun, Answers, run_limit, OfBytes, OfDecoding, OfRun, OfTrace, Reply, WithBoth, WithFile, WithModel, WithModels, WithSide}
-use Rattle.nanobot_rows.specs.Reading.{AreBoth, AreModels, AreUnlike, EndsUnstored, IsModelOf, IsSide, Lacks, LacksModels, LacksSide, OnBytes, OnCommands, OnDecoding, OnFile, OnTrace, Reads, RefusesBytes, RefusesFile, RefusesModels, RefusesSide, by_both, by_source, by_target, no_such_file, lacks_source, lacks_target, reply_of, tells_nothing}
-use Rattle.nanobot_rows.specs.Report.{of_verdict, verdict_line, verdict_status}
+use Rattle.nanobot_rows.specs.Models.{AreModels, IsModelOf, IsSide}
+use Rattle.nanobot_rows.specs.Reading.{AreBoth, AreUnlike, EndsUnstored, HasSide, IsTold, Lacks, LacksModels, LacksSide, OnBytes, OnCommands, OnDecoding, OnFile, OnTrace, Reads, RefusesBytes, RefusesFile, RefusesModels, RefusesSide, by_both, by_source, by_target, no_such_file, lacks_source, lacks_target, reply_of, tells_nothing}
+use Rattle.nanobot_rows.specs.declared.status.Status.{Status}
+use Rattle.nanobot_rows.specs.Lines.{verdict_line, verdict_status}
+use Rattle.nanobot_rows.specs.Report.{of_verdict}
 use Rattle.nanobot_rows.proofs.Told.{if_some, weaker}
 
 -- ---- counts of faults
@@ -31,6 +34,12 @@ rose_later a b c h l = omega (arith, h)
 
 pub rose_since : (a b c : ℕ) → a ≤ b → Rose b c → Rose a c
 rose_since a b c l h = omega (arith, h)
+
+-- ---- what a report tells
+
+-- the reply of a report with this status and this line
+pub reply_told : (files : Files) (r : Report) (status : Status) (line : List ℕ) → IsTold r status line → reply_of files r ≡ record { status = status; line = line; after = files }
+reply_told files r status line e = λ i. record { status = e.0 i; line = e.1 i; after = files }
 
 -- ---- one model
 
@@ -46,8 +55,8 @@ module _ (who : Who) (files : Files) (name : List ℕ) (p : Matrix → Reply →
   model_refused told h = by (content files name) h
     where
       of_bytes : (r : Result Matrix NoModel) → RefusesBytes who r told → OfBytes who files r p (reply_of files told)
-      of_bytes (Err why) e = ap (reply_of files) e
-      of_bytes (Ok m) refuses = (Some refuses.0, refuses.1, ap (reply_of files) refuses.2)
+      of_bytes (Err why) e = reply_told files told _ _ e
+      of_bytes (Ok m) refuses = (Some refuses.0, refuses.1, reply_told files told _ _ refuses.2)
 
       by : (o : Option (List ℕ)) → IsSomeAnd o (λ bytes. RefusesBytes who (model bytes) told) → MatchOption o (reply_of files told ≡ no_such_file files) (λ bytes. OfBytes who files (model bytes) p (reply_of files told))
       by None h = absurd h
@@ -59,7 +68,7 @@ module _ (who : Who) (files : Files) (name : List ℕ) (p : Matrix → Reply →
 -- ---- a source or a target
 
 module _ (who : Who) (files : Files) (p : Option Matrix → Reply → Type 0) where
-  pub side_given : (name : Option (List ℕ)) (side : Option Matrix) (reply : Reply) → IsSide name files side → p side reply → WithSide who files name p reply
+  pub side_given : (name : Option (List ℕ)) (side : Option Matrix) (reply : Reply) → HasSide name files side → p side reply → WithSide who files name p reply
   side_given None None reply is h = h
   side_given None (Some m) reply is h = absurd is
   side_given (Some name) None reply is h = absurd is
@@ -99,9 +108,60 @@ module _ (files : Files) (p : Matrix → Matrix → Reply → Type 0) where
 
 -- ---- the models of a source and a target
 
+-- what a source or a target of this model has in its file
+abbrev side_with : Option (List ℕ) → Matrix → Option Matrix
+side_with None m = None
+side_with (Some name) m = Some m
+
+has_side : (files : Files) (name : Option (List ℕ)) (m other : Matrix) → IsSide files name m other → HasSide name files (side_with name m)
+has_side files None m other is = tt
+has_side files (Some name) m other is = is
+
+are_both : (files : Files) (source target : Option (List ℕ)) (s t : Matrix) → HasName source target → AreModels source target files s t → AreBoth (side_with source s) (side_with target t) s t
+are_both files None None s t named m = named
+are_both files (Some a) None s t named m = (refl, m.target_is)
+are_both files None (Some b) s t named m = (m.source_is, refl)
+are_both files (Some a) (Some b) s t named m = (refl, refl, m.alike)
+
+-- the models of two sides that were found
+pub models_of : (files : Files) (source target : Option (List ℕ)) (a b : Option Matrix) (s t : Matrix) → HasSide source files a → HasSide target files b → AreBoth a b s t → AreModels source target files s t
+models_of files None None None None s t h k are = absurd are
+models_of files None None None (Some m) s t h k are = absurd k
+models_of files None None (Some m) b s t h k are = absurd h
+models_of files None (Some y) (Some m) b s t h k are = absurd h
+models_of files None (Some y) None None s t h k are = absurd k
+models_of files None (Some y) None (Some m) s t h k are = record {
+  source_is = are.0 ∙ ap (λ (x : Matrix). empty x.resolution) (sym are.1);
+  target_is = subst (λ (x : Matrix). IsModelOf files y x) (sym are.1) k;
+  alike = ap (λ (x : Matrix). x.resolution) are.0 ∙ ap (λ (x : Matrix). x.resolution) (sym are.1);
+}
+models_of files (Some x) None None b s t h k are = absurd h
+models_of files (Some x) None (Some m) (Some n) s t h k are = absurd k
+models_of files (Some x) None (Some m) None s t h k are = record {
+  source_is = subst (λ (y : Matrix). IsModelOf files x y) (sym are.0) h;
+  target_is = are.1 ∙ ap (λ (y : Matrix). empty y.resolution) (sym are.0);
+  alike = ap (λ (y : Matrix). y.resolution) are.0 ∙ ap (λ (y : Matrix). y.resolution) (sym are.1);
+}
+models_of files (Some x) (Some y) None b s t h k are = absurd h
+models_of files (Some x) (Some y) (Some m) None s t h k are = absurd k
+models_of files (Some x) (Some y) (Some m) (Some n) s t h k are = record {
+  source_is = subst (λ (z : Matrix). IsModelOf files x z) (sym are.0) h;
+  target_is = subst (λ (z : Matrix). IsModelOf files y z) (sym are.1) k;
+  alike = ap (λ (z : Matrix). z.resolution) are.0 ∙ (are.2 ∙ ap (λ (z : Matrix). z.resolution) (sym are.1));
+}
+
+-- of two names that are not both missing one is there
+pub one_named : (source target : Option (List ℕ)) → (source ≡ None → target ≡ None → ⊥) → HasName source target
+one_named None None h = h refl refl
+one_named None (Some b) h = tt
+one_named (Some a) target h = tt
+
 module _ (files : Files) (source target : Option (List ℕ)) (p : Matrix → Matrix → Reply → Type 0) where
-  pub models_given : (s t : Matrix) (reply : Reply) → AreModels source target files s t → p s t reply → WithModels files source target p reply
-  models_given s t reply m h = side_given who.Source files _ source m.source_side reply m.source_is (side_given who.Target files _ target m.target_side reply m.target_is (both_given files p m.source_side m.target_side s t reply m.both h))
+  pub models_given : HasName source target → (s t : Matrix) (reply : Reply) → AreModels source target files s t → p s t reply → WithModels files source target p reply
+  models_given named s t reply m h =
+      side_given who.Source files _ source (side_with source s) reply (has_side files source s t m.source_is)
+      (side_given who.Target files _ target (side_with target t) reply (has_side files target t s m.target_is)
+      (both_given files p (side_with source s) (side_with target t) s t reply (are_both files source target s t named m) h))
 
   pub models_refused : (told : Report) → RefusesModels source target files told → WithModels files source target p (reply_of files told)
   models_refused told (by_source refuses) = side_refused who.Source files _ source told refuses
@@ -184,26 +244,26 @@ module _ (told : Option Files) (source target : Option (List ℕ)) where
   abbrev pub ReadsModels : Type 0 → Result (Matrix × Matrix) Stop → Type 0
   ReadsModels rose result = Reads told rose AreOf (RefusesModels source target) (LacksModels source target) result
 
-  pub source_stops : (rose : Type 0) (s : Stop) → Reads {A = Option Matrix} told rose (IsSide source) (RefusesSide who.Source source) (LacksSide source) (Err s) → ReadsModels rose (Err s)
-  source_stops rose s reads = stops_as (Matrix × Matrix) told rose rose (IsSide source) AreOf (RefusesSide who.Source source) (RefusesModels source target) (LacksSide source) (LacksModels source target) s reads (λ h. h) (if_some told (λ files _. ((λ r h. by_source h), (λ h. lacks_source h))))
+  pub source_stops : (rose : Type 0) (s : Stop) → Reads {A = Option Matrix} told rose (HasSide source) (RefusesSide who.Source source) (LacksSide source) (Err s) → ReadsModels rose (Err s)
+  source_stops rose s reads = stops_as (Matrix × Matrix) told rose rose (HasSide source) AreOf (RefusesSide who.Source source) (RefusesModels source target) (LacksSide source) (LacksModels source target) s reads (λ h. h) (if_some told (λ files _. ((λ r h. by_source h), (λ h. lacks_source h))))
 
-  module _ (a : Option Matrix) (first : IfSome told (λ files. IsSide source files a)) where
+  module _ (a : Option Matrix) (first : IfSome told (λ files. HasSide source files a)) where
     pub target_stops : (later : Option Files) (before between now : ℕ) (s : Stop) → later ≡ told → before ≤ between
-        → Reads {A = Option Matrix} later (Rose between now) (IsSide target) (RefusesSide who.Target target) (LacksSide target) (Err s) → ReadsModels (Rose before now) (Err s)
+        → Reads {A = Option Matrix} later (Rose between now) (HasSide target) (RefusesSide who.Target target) (LacksSide target) (Err s) → ReadsModels (Rose before now) (Err s)
     target_stops later before between now s same l reads =
-        stops_as (Matrix × Matrix) told (Rose between now) (Rose before now) (IsSide target) AreOf (RefusesSide who.Target target) (RefusesModels source target) (LacksSide target) (LacksModels source target) s
-        (subst (λ (o : Option Files). Reads {A = Option Matrix} o (Rose between now) (IsSide target) (RefusesSide who.Target target) (LacksSide target) (Err s)) same reads)
+        stops_as (Matrix × Matrix) told (Rose between now) (Rose before now) (HasSide target) AreOf (RefusesSide who.Target target) (RefusesModels source target) (LacksSide target) (LacksModels source target) s
+        (subst (λ (o : Option Files). Reads {A = Option Matrix} o (Rose between now) (HasSide target) (RefusesSide who.Target target) (LacksSide target) (Err s)) same reads)
         (rose_since before between now l)
         (weaker told (λ files is. ((λ r h. by_target a is h), (λ h. lacks_target a is h))) first)
 
-    module _ (b : Option Matrix) (second : IfSome told (λ files. IsSide target files b)) where
+    module _ (b : Option Matrix) (second : IfSome told (λ files. HasSide target files b)) where
       both_stop : (rose : Type 0) (s : Stop) → ((r : Report) → s ≡ stop.Told r → AreUnlike a b r) → (s ≡ stop.Depot → ⊥) → ReadsModels rose (Err s)
       both_stop rose (stop.Told r) unlike depot = weaker told (λ files is. by_both a b is.0 is.1 (unlike r refl)) (both_told _ _ told first second)
       both_stop rose stop.Depot unlike depot = absurd (depot refl)
       both_stop rose stop.Memory unlike depot = tt
 
       both_read : (s t : Matrix) → AreBoth a b s t → IfSome told (λ files. AreModels source target files s t)
-      both_read s t are = weaker told (λ files is. record { source_side = a; target_side = b; source_is = is.0; target_is = is.1; both = are }) (both_told _ _ told first second)
+      both_read s t are = weaker told (λ files is. models_of files source target a b s t is.0 is.1 are) (both_told _ _ told first second)
 
       -- what both models come to
       pub both_ends : (rose : Type 0) (r : Result (Matrix × Matrix) Stop) → IfOk r (λ models. AreBoth a b models.0 models.1) → ((report : Report) → r ≡ Err (stop.Told report) → AreUnlike a b report) → (r ≡ Err stop.Depot → ⊥) → ReadsModels rose r
@@ -228,13 +288,13 @@ module _ (profile : Profile) (told : Option Files) (source target : Option (List
       reads (λ h. h) (if_some told (λ files _. ((λ r h. models_refused files source target _ r h), (λ h. models_lack files source target _ h))))
 
   -- the trace
-  pub run_ends : (later : Option Files) (before between now : ℕ) (s t : Matrix) (r : Result Report Stop) → IfSome told (λ files. AreModels source target files s t) → later ≡ told → before ≤ between
+  pub run_ends : HasName source target → (later : Option Files) (before between now : ℕ) (s t : Matrix) (r : Result Report Stop) → IfSome told (λ files. AreModels source target files s t) → later ≡ told → before ≤ between
       → Reads later (Rose between now) (OnFile run_limit profile s t trace) tells_nothing (Lacks trace) r → EndsUnstored (AnswerOfRun profile source target trace) told (Rose before now) r
-  run_ends later before between now s t (Ok r) found same l reads =
+  run_ends named later before between now s t (Ok r) found same l reads =
       let here = subst (λ (o : Option Files). IfSome o (λ files. OnFile run_limit profile s t trace files r)) same reads in
-      weaker told (λ files is. models_given files source target _ s t _ is.0 (trace_given run_limit profile files s t trace r is.1)) (both_told _ _ told found here)
-  run_ends later before between now s t (Err x) found same l reads =
+      weaker told (λ files is. models_given files source target _ named s t _ is.0 (trace_given run_limit profile files s t trace r is.1)) (both_told _ _ told found here)
+  run_ends named later before between now s t (Err x) found same l reads =
       stops Report (λ files r. AnswerOfRun profile source target trace files (reply_of files r)) (AnswerOfRun profile source target trace) told (Rose between now) (Rose before now) (OnFile run_limit profile s t trace) tells_nothing (Lacks trace) x
       (subst (λ (o : Option Files). Reads o (Rose between now) (OnFile run_limit profile s t trace) tells_nothing (Lacks trace) (Err x)) same reads)
       (rose_since before between now l)
-      (weaker told (λ files is. ((λ r h. absurd h), (λ h. models_given files source target _ s t _ is (trace_lacks run_limit profile files s t trace h)))) found)
+      (weaker told (λ files is. ((λ r h. absurd h), (λ h. models_given files source target _ named s t _ is (trace_lacks run_limit profile files s t trace h)))) found)

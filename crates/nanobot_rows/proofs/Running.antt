@@ -14,8 +14,9 @@ use Rattle.trace_judge.specs.Course.{Course}
 use Rattle.trace_codec.specs.Decoder.{AnswersPiece, DecoderState, EndsTrace, HasTaken, decoder_after, fresh}
 use Rattle.trace_codec.specs.Whole.{Decodes}
 use Rattle.trace_codec.specs.declared.decoder.Fed.TheVariants.{Got, All, Bad}
-use Rattle.trace_codec.specs.declared.fault.TraceFault.{TraceFault}
-use Rattle.trace_codec.specs.declared.fault.TraceFault.TheVariants as fault
+use Rattle.trace_codec.specs.declared.fault.TraceFault.TheVariants.{Refused}
+use Rattle.trace_codec.specs.declared.fault.TraceRefusal.{TraceRefusal}
+use Rattle.trace_codec.specs.declared.fault.TraceRefusal.TheVariants as refusal
 use Rattle.nanobot_rows.specs.declared.report.Report.TheVariants.{TraceBad, TraceCut}
 use Rattle.nanobot_rows.specs.Reading.{AreBad, HasRun, OnBytes, RunState, RunStands}
 use Rattle.nanobot_rows.specs.Report.{of_verdict}
@@ -85,18 +86,18 @@ abbrev pub WholeLaw : Type 0
 WholeLaw = (bytes : List ℕ) (commands : List Command) (decoder : DecoderState) → HasTaken bytes commands decoder → EndsTrace {A = Unit {0}} decoder (Ok tt) → Decodes bytes (Ok commands)
 
 abbrev pub CutLaw : Type 0
-CutLaw = (bytes : List ℕ) (commands : List Command) (decoder : DecoderState) (fault : TraceFault) → HasTaken bytes commands decoder → EndsTrace {A = Unit {0}} decoder (Err fault) → Decodes bytes (Err fault)
+CutLaw = (bytes : List ℕ) (commands : List Command) (decoder : DecoderState) (refusal : TraceRefusal) → HasTaken bytes commands decoder → EndsTrace {A = Unit {0}} decoder (Err refusal) → Decodes bytes (Err (Refused refusal))
 
 module _ (source target : Matrix) (profile : Profile) (bytes : List ℕ) (s : RunState) (run : HasRun source profile bytes s) where
-  pub ends_bad : (offset : ℕ) → EndsTrace {A = Unit {0}} s.decoder (Err (fault.Bad offset)) → OnBytes profile source target bytes (TraceBad offset)
+  pub ends_bad : (offset : ℕ) → EndsTrace {A = Unit {0}} s.decoder (Err (refusal.Bad offset)) → OnBytes profile source target bytes (TraceBad offset)
   ends_bad offset ends =
       let bad = subst (λ t. MatchBool t (AreBad bytes s.decoder.offset) (RunStands source profile bytes s)) ends.0 run in
       (Err (BadAt offset), subst (λ (n : ℕ). Decoding bytes (Err (BadAt n))) (sym ends.1) (subst (λ (b : List ℕ). Decoding b (Err (BadAt s.decoder.offset))) (append-nil bytes) (bad [])), refl)
 
-  pub ends_cut : (law : CutLaw) (offset : ℕ) → EndsTrace {A = Unit {0}} s.decoder (Err (fault.Cut offset)) → OnBytes profile source target bytes (TraceCut offset)
+  pub ends_cut : (law : CutLaw) (offset : ℕ) → EndsTrace {A = Unit {0}} s.decoder (Err (refusal.Cut offset)) → OnBytes profile source target bytes (TraceCut offset)
   ends_cut law offset ends =
       let st = stands_of source profile bytes s ends.0 run in
-      (Err (CutAt offset), law bytes st.commands s.decoder (fault.Cut offset) st.taken ends, refl)
+      (Err (CutAt offset), law bytes st.commands s.decoder (refusal.Cut offset) st.taken ends, refl)
 
   pub ends_run : (law : WholeLaw) (verdicts : (commands : List Command) (p : Progress) (v : Verdict) → Comes source profile commands p → Finishes target p v → VerdictOf source target commands profile v)
       (v : Verdict) → EndsTrace {A = Unit {0}} s.decoder (Ok tt) → Finishes target s.run.progress v → OnBytes profile source target bytes (of_verdict v)

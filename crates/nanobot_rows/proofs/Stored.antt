@@ -2,7 +2,7 @@
 use Rattle.std.proofs.Common.{◌≡◌, ℕ, ◌+◌, ◌≤◌, List, length, refl, sym, ap, ◌∙◌, subst, Bool, true, false, nat_lt}
 use Rattle.std.specs.Prelude.{ℤ, Option, Some, None, Result, Ok, Err, MatchOption, MatchBool, IfSome, IsSomeAnd}
 use Rattle.nano_spec.specs.declared.commands.Command.{Command}
-use Rattle.nano_spec.specs.Cutting.{AreCommands, BadAt, CutAt, Cutting, Decoding, NoTrace}
+use Rattle.nano_spec.specs.Cutting.{AreCommands, Cutting, Decoding, NoTrace}
 use Rattle.nano_spec.specs.Matrix.{Matrix, empty}
 use Rattle.nano_spec.specs.Printing.{print}
 use Rattle.nano_spec.specs.Reading.{FaultyLine, read}
@@ -16,14 +16,17 @@ use Rattle.nanobot_rows.specs.declared.effect.NewFile.{NewFile}
 use Rattle.nanobot_rows.specs.declared.report.Report.{Report}
 use Rattle.nanobot_rows.specs.declared.report.Report.TheVariants as report
 use Rattle.nanobot_rows.specs.declared.stop.Stop.{Stop}
-use Rattle.nanobot_rows.specs.Answer.{AnswerOf, Answers, OfDecoding, OfGroupPlan, OfPlan, OfReading, OfText, OfTrace, Reply, Stores, Tells, WithFile, WithModels, dis_limit, group_limit, text_limit, with_file}
+use Rattle.nanobot_rows.specs.Answer.{AnswerOf, Answers, OfDecoding, OfGroupPlan, OfPlan, OfReading, OfText, OfTrace, Reply, IsReply, Stores, WithFile, WithModels, dis_limit, group_limit, text_limit, with_file}
 use Rattle.nanobot_rows.specs.Planners.{IsGroupPlan, PlanFacts}
 use Rattle.nanobot_rows.specs.Effects.{EndsStored, KeepsPlan, bytes_by, files_with, reply_by, status_by}
-use Rattle.nanobot_rows.specs.Reading.{AreBoth, AreModels, IsSide, IsTextOf, IsTraceOf, Lacks, LacksModels, Reads, RefusesDecoding, RefusesModels, RefusesReading, RefusesText, RefusesTrace, no_such_file, reply_of}
-use Rattle.nanobot_rows.specs.Report.{report_line, no_trace, status_of}
-use Rattle.nanobot_words.specs.Rows.{dis}
+use Rattle.nanobot_rows.specs.declared.status.Status.TheVariants as is
+use Rattle.nanobot_rows.specs.Lines.{group_long_line, stored_line, trace_line}
+use Rattle.nanobot_rows.specs.Models.{AreModels}
+use Rattle.nanobot_rows.specs.Reading.{IsTold, IsTextOf, IsTraceOf, Lacks, LacksModels, Reads, RefusesDecoding, RefusesModels, RefusesReading, RefusesText, RefusesTrace, no_such_file, reply_of}
+use Rattle.nanobot_rows.specs.Report.{report_line}
+use Rattle.nanobot_words.specs.Rows.{HasName, dis}
 use Rattle.nanobot_rows.proofs.Loads.{not_longer}
-use Rattle.nanobot_rows.proofs.Replies.{ReadsModels, models_given, models_lack, models_refused, stops}
+use Rattle.nanobot_rows.proofs.Replies.{ReadsModels, models_given, reply_told, models_lack, models_refused, stops}
 use Rattle.nanobot_rows.proofs.Told.{if_some, weaker}
 
 -- a file that is not there
@@ -50,7 +53,7 @@ module _ (files : Files) (name : List ℕ) (p : List Command → Reply → Type 
       by : (b : Bool) (r : Result (List Command) FaultyLine) → MatchBool b (told ≡ report.TextLong text_limit) (RefusesReading r told) → MatchBool b (reply_of files told ≡ reply_of files (report.TextLong text_limit)) (OfReading files r p (reply_of files told))
       by true r e = ap (reply_of files) e
       by false (Ok commands) e = absurd e
-      by false (Err faulty) e = ap (reply_of files) e
+      by false (Err faulty) e = reply_told files told _ _ e
 
   pub trace_given : (commands : List Command) (reply : Reply) → IsTraceOf files name commands → p commands reply → WithFile files name (λ bytes. OfTrace dis_limit files bytes p) reply
   trace_given commands reply is h = of_file files name (λ bytes. (length bytes ≤ dis_limit) × Cutting bytes commands) (λ bytes. OfTrace dis_limit files bytes p) reply (λ bytes g.
@@ -60,9 +63,8 @@ module _ (files : Files) (name : List ℕ) (p : List Command → Reply → Type 
   pub trace_refused : (told : Report) → RefusesTrace name files told → WithFile files name (λ bytes. OfTrace dis_limit files bytes p) (reply_of files told)
   trace_refused told refuses = of_file files name (λ bytes. MatchBool (nat_lt dis_limit (length bytes)) (told ≡ report.TraceLong dis_limit) (RefusesDecoding bytes told)) (λ bytes. OfTrace dis_limit files bytes p) (reply_of files told) (λ bytes g. by bytes (nat_lt dis_limit (length bytes)) g) refuses
     where
-      none : (bytes : List ℕ) (why : NoTrace) → Decoding bytes (Err why) → told ≡ no_trace why → (d : Result (List Command) NoTrace) × Decoding bytes d × OfDecoding files d p (reply_of files told)
-      none bytes (BadAt offset) decoding e = (Err (BadAt offset), decoding, ap (reply_of files) e)
-      none bytes (CutAt offset) decoding e = (Err (CutAt offset), decoding, ap (reply_of files) e)
+      none : (bytes : List ℕ) (why : NoTrace) → Decoding bytes (Err why) → IsTold told is.Trace (trace_line why) → (d : Result (List Command) NoTrace) × Decoding bytes d × OfDecoding files d p (reply_of files told)
+      none bytes why decoding e = (Err why, decoding, reply_told files told _ _ e)
 
       by : (bytes : List ℕ) (b : Bool) → MatchBool b (told ≡ report.TraceLong dis_limit) (RefusesDecoding bytes told)
           → MatchBool b (reply_of files told ≡ reply_of files (report.TraceLong dis_limit)) ((d : Result (List Command) NoTrace) × Decoding bytes d × OfDecoding files d p (reply_of files told))
@@ -72,13 +74,13 @@ module _ (files : Files) (name : List ℕ) (p : List Command → Reply → Type 
 -- ---- `dis`
 
 -- what is told with a file that is stored
-stored_reply : (files : Files) (effect : Effect) (told : Report) (file : NewFile) (name bytes : List ℕ) → effect ≡ record { message = message.Line told; file = Some file } → file.name.now ≡ name → file.bytes.items ≡ bytes → Stores told name bytes files (reply_by files effect)
-stored_reply files effect told file name bytes e en eb = ap (reply_by files) e ∙ (λ i. record { status = status_of told; line = report_line told; after = with_file files (en i) (eb i) })
+stored_reply : (files : Files) (effect : Effect) (commands size : ℕ) (file : NewFile) (name bytes : List ℕ) → effect ≡ record { message = message.Line (report.Stored commands size); file = Some file } → file.name.now ≡ name → file.bytes.items ≡ bytes → Stores (stored_line commands size) name bytes files (reply_by files effect)
+stored_reply files effect commands size file name bytes e en eb = ap (reply_by files) e ∙ (λ i. record { status = is.Done; line = stored_line commands size; after = with_file files (en i) (eb i) })
 
 module _ (told : Option Files) (trace text : List ℕ) where
   -- what the commands come to
   abbrev Prints : Files → List Command → Reply → Type 0
-  Prints files commands = Stores (report.Stored (length commands) (length (print commands))) text (print commands) files
+  Prints files commands = Stores (stored_line (length commands) (length (print commands))) text (print commands) files
 
   pub dis_stops : (rose : Type 0) (s : Stop) → Reads {A = List Command} told rose (λ files commands. IsTraceOf files trace commands) (RefusesTrace trace) (Lacks trace) (Err s) → EndsStored (AnswerOf (dis trace text)) told rose (Err s)
   dis_stops rose s reads =
@@ -88,7 +90,7 @@ module _ (told : Option Files) (trace text : List ℕ) where
   pub dis_ends : (commands : List Command) (effect : Effect) (counts : Report) (file : NewFile) → IfSome told (λ files. IsTraceOf files trace commands) → effect ≡ record { message = message.Line counts; file = Some file } → counts ≡ report.Stored (length commands) (length file.bytes.items)
       → file.name.now ≡ text → file.bytes.items ≡ print commands → IfSome told (λ files. AnswerOf (dis trace text) files (reply_by files effect))
   dis_ends commands effect counts file found e ec en eb = weaker told (λ files is. trace_given files trace (Prints files) commands (reply_by files effect) is
-      (stored_reply files effect (report.Stored (length commands) (length (print commands))) file text (print commands)
+      (stored_reply files effect (length commands) (length (print commands)) file text (print commands)
       (e ∙ (λ i. record { message = message.Line ((ec ∙ ap (λ xs. report.Stored (length commands) (length xs)) eb) i); file = Some file })) en eb)) found
 
 -- ---- plans
@@ -101,14 +103,14 @@ plan_kept Is s t name commands energy steps effect is keeps files = (commands, e
     planned : Report
     planned = report.Planned energy steps (length commands) (length (spellings commands))
 
-    by : (o : Option NewFile) → IsSomeAnd o (λ file. (file.name.now ≡ name) × (file.bytes.items ≡ spellings commands)) → Stores planned name (spellings commands) files (record { status = status_by effect.message; line = bytes_by effect.message; after = files_with files o })
+    by : (o : Option NewFile) → IsSomeAnd o (λ file. (file.name.now ≡ name) × (file.bytes.items ≡ spellings commands)) → Stores (report_line planned) name (spellings commands) files (record { status = status_by effect.message; line = bytes_by effect.message; after = files_with files o })
     by None h = absurd h
     by (Some file) h = λ i. record { status = status_by (keeps.told i); line = bytes_by (keeps.told i); after = with_file files (h.0 i) (h.1 i) }
 
 -- a plan of the group planner that is within the limit
 pub group_kept : (files : Files) (name : List ℕ) (s t : Matrix) (reply : Reply) → most_bytes s t ≤ group_limit → OfPlan IsGroupPlan name files s t reply → OfGroupPlan name files s t reply
 group_kept files name s t reply fits plan =
-    subst (λ (b : Bool). MatchBool b (Tells (report.GroupLong (runs s + runs t) (rows s + rows t)) files reply) (OfPlan IsGroupPlan name files s t reply)) (sym (not_longer group_limit (most_bytes s t) fits)) plan
+    subst (λ (b : Bool). MatchBool b (IsReply is.Model (group_long_line (runs s + runs t) (rows s + rows t)) files reply) (OfPlan IsGroupPlan name files s t reply)) (sym (not_longer group_limit (most_bytes s t) fits)) plan
 
 -- an answer of a source and a target
 module _ (told : Option Files) (source target : Option (List ℕ)) (p : Files → Matrix → Matrix → Reply → Type 0) where
@@ -121,27 +123,18 @@ module _ (told : Option Files) (source target : Option (List ℕ)) (p : Files �
       stops Effect (λ files effect. OfModels files (reply_by files effect)) OfModels told rose rose (λ files (models : Matrix × Matrix). AreModels source target files models.0 models.1) (RefusesModels source target) (LacksModels source target) s
       reads (λ h. h) (if_some told (λ files _. ((λ r h. models_refused files source target _ r h), (λ h. models_lack files source target _ h))))
 
-  -- what they come to
-  pub models_end : (s t : Matrix) (effect : Effect) → IfSome told (λ files. AreModels source target files s t) → ((files : Files) → AreModels source target files s t → p files s t (reply_by files effect)) → IfSome told (λ files. OfModels files (reply_by files effect))
-  models_end s t effect found h = weaker told (λ files is. models_given files source target (p files) s t (reply_by files effect) is (h files is)) found
+  module _ (named : HasName source target) where
+    -- what they come to
+    pub models_end : (s t : Matrix) (effect : Effect) → IfSome told (λ files. AreModels source target files s t) → ((files : Files) → AreModels source target files s t → p files s t (reply_by files effect)) → IfSome told (λ files. OfModels files (reply_by files effect))
+    models_end s t effect found h = weaker told (λ files is. models_given files source target (p files) named s t (reply_by files effect) is (h files is)) found
 
-  -- they are refused
-  pub models_tell : (s t : Matrix) (r : Report) → IfSome told (λ files. AreModels source target files s t) → ((files : Files) → p files s t (reply_of files r)) → IfSome told (λ files. OfModels files (reply_of files r))
-  models_tell s t r found h = weaker told (λ files is. models_given files source target (p files) s t (reply_of files r) is (h files)) found
+    -- they are refused
+    pub models_tell : (s t : Matrix) (r : Report) → IfSome told (λ files. AreModels source target files s t) → ((files : Files) → p files s t (reply_of files r)) → IfSome told (λ files. OfModels files (reply_of files r))
+    models_tell s t r found h = weaker told (λ files is. models_given files source target (p files) named s t (reply_of files r) is (h files)) found
 
 -- what has no file is the empty model
 pub nothing_there : (files : Files) (name : List ℕ) (s t : Matrix) → AreModels (Some name) None files s t → t ≡ empty s.resolution
-nothing_there files name s t m = by m.source_side m.target_side m.source_is m.target_is m.both
-  where
-    by : (a b : Option Matrix) → IsSide (Some name) files a → IsSide None files b → AreBoth a b s t → t ≡ empty s.resolution
-    by None b h k are = absurd h
-    by (Some a) (Some b) h k are = absurd k
-    by (Some a) None h k are = are.1 ∙ ap (λ (m : Matrix). empty m.resolution) (sym are.0)
+nothing_there files name s t m = m.target_is
 
 pub nothing_here : (files : Files) (name : List ℕ) (s t : Matrix) → AreModels None (Some name) files s t → s ≡ empty t.resolution
-nothing_here files name s t m = by m.source_side m.target_side m.source_is m.target_is m.both
-  where
-    by : (a b : Option Matrix) → IsSide None files a → IsSide (Some name) files b → AreBoth a b s t → s ≡ empty t.resolution
-    by a None h k are = absurd k
-    by (Some a) (Some b) h k are = absurd h
-    by None (Some b) h k are = are.0 ∙ ap (λ (m : Matrix). empty m.resolution) (sym are.1)
+nothing_here files name s t m = m.source_is

@@ -1,19 +1,19 @@
 -- What is found where files are told.
-use Rattle.std.proofs.Common.{◌≡◌, ℕ, List, refl, sym, ◌∙◌, ap, subst, take}
+use Rattle.std.proofs.Common.{◌≡◌, ◌⊎◌, inl, inr, ℕ, List, refl, sym, ◌∙◌, ap, subst, take}
 use Rattle.std.specs.Prelude.{Option, Some, None, Result, Ok, Err, IfSome, IsSomeAnd}
-use Rattle.nano_spec.specs.Legal.{IsLegal, Legality, NotLegal}
-use Rattle.nano_spec.specs.Legal as legal
+use Rattle.nano_spec.specs.Legal.{IsLegal, NotLegal}
 use Rattle.nano_spec.specs.Matrix.{Matrix}
-use Rattle.nano_spec.specs.Model as m
 use Rattle.nano_spec.specs.Model.{NoModel, model}
 use Rattle.model_file.specs.declared.fault.ModelFault.{ModelFault}
-use Rattle.model_file.specs.declared.fault.ModelFault.TheVariants as fault
-use Rattle.model_file.specs.Fault as file
+use Rattle.model_file.specs.declared.fault.ModelFault.TheVariants.{Memory, Refused}
+use Rattle.model_file.specs.Fault.{IsNotLegal, Judges, ReadsModel, SaysNone, why_refused}
 use Rattle.vox_depot.specs.Files.{Files, IfTold, content}
+use Rattle.nanobot_rows.specs.declared.report.Report.{Report}
 use Rattle.nanobot_rows.specs.declared.report.Report.TheVariants.{Model}
 use Rattle.nanobot_rows.specs.declared.report.Who.{Who}
-use Rattle.nanobot_rows.specs.Reading.{IsModelOf, Lacks, Reads, RefusesBytes, RefusesFile, of_fault}
-use Rattle.nanobot_rows.specs.Report.{no_model, not_legal}
+use Rattle.nanobot_rows.specs.Models.{IsModelOf}
+use Rattle.nanobot_rows.specs.Reading.{Lacks, Reads, RefusesBytes, RefusesFile, of_fault}
+use Rattle.nanobot_rows.specs.Report.{refused_line}
 use Rattle.nanobot_rows.proofs.Cut.{cut_is}
 
 pub if_some : {A : Type 0} {P : A → Type 0} (o : Option A) → ((x : A) → o ≡ Some x → P x) → IfSome o P
@@ -40,39 +40,23 @@ module _ (told : Option Files) (name v : List ℕ) (loaded : IfTold told name (�
   pub found : (p : Matrix) → model v ≡ Ok p → IsLegal p → IfSome told (λ files. IsModelOf files name p)
   found p e h = told_weaker told name _ _ (λ file s. (s ∙ e, h)) says
 
-  -- bytes that are no model
-  none_is : (who : Who) (why : NoModel) → model v ≡ Err why → IfSome told (λ files. RefusesFile who name files (Model who (no_model why)))
-  none_is who why e = told_weaker told name _ _ (λ file s. subst (λ (r : Result Matrix NoModel). RefusesBytes who r (Model who (no_model why))) (sym (s ∙ e)) refl) says
-
-  -- a model that is not legal
-  unlawful : (who : Who) (p : Matrix) (why : NotLegal) → model v ≡ Ok p → Legality p (Some why) → IfSome told (λ files. RefusesFile who name files (Model who (not_legal why)))
-  unlawful who p why e h = told_weaker told name _ _ (λ file s. subst (λ (r : Result Matrix NoModel). RefusesBytes who r (Model who (not_legal why))) (sym (s ∙ e)) (why, h, refl)) says
+  -- what the file says is told of: bytes that are no model, or a model that is not legal
+  refused : (who : Who) (said : Result Matrix NoModel) (r : Report) → model v ≡ said → RefusesBytes who said r → IfSome told (λ files. RefusesFile who name files r)
+  refused who said r e h = told_weaker told name _ _ (λ file s. subst (λ (x : Result Matrix NoModel). RefusesBytes who x r) (sym (s ∙ e)) h) says
 
   module _ (rose : Type 0) (who : Who) where
-    pub not_read : (f : ModelFault) → file.ReadsModel (model v) (Err f) → Reads {A = Matrix} told rose (λ files p. IsModelOf files name p) (RefusesFile who name) (Lacks name) (Err (of_fault who f))
-    not_read fault.NoByte h = none_is who m.NoByte h
-    not_read (fault.Resolution r) h = none_is who (m.Resolution r) h
-    not_read (fault.Short want have) h = none_is who (m.Short want have) h
-    not_read (fault.Long want) h = none_is who (m.Long want) h
-    not_read fault.Memory h = tt
-    not_read (fault.Border at) h = absurd h
-    not_read (fault.Floating at) h = absurd h
-    not_read (fault.WideHead have) h = none_is who (m.WideHead have) h
-    not_read (fault.WideResolution r) h = none_is who (m.WideResolution r) h
-    not_read (fault.WideRun index) h = none_is who (m.WideRun index) h
-    not_read (fault.WideShort have) h = none_is who (m.WideShort have) h
-    not_read fault.WideLong h = none_is who m.WideLong h
+    pub not_read : (f : ModelFault) → ReadsModel (model v) (Err f) → Reads {A = Matrix} told rose (λ files p. IsModelOf files name p) (RefusesFile who name) (Lacks name) (Err (of_fault who f))
+    not_read Memory h = tt
+    not_read (Refused refusal) h = by (why_refused refusal) refl h
+      where
+        by : (why : NoModel ⊎ NotLegal) → why_refused refusal ≡ why → SaysNone (model v) why → IfSome told (λ files. RefusesFile who name files (Model who refusal))
+        by (inl why) e h = refused who (Err why) (Model who refusal) h (refl, ap (refused_line who) e)
+        by (inr why) e h = absurd h
 
-    pub not_lawful : (p : Matrix) (f : ModelFault) → model v ≡ Ok p → file.Judges p (Err f) → Reads {A = Matrix} told rose (λ files p. IsModelOf files name p) (RefusesFile who name) (Lacks name) (Err (of_fault who f))
-    not_lawful p (fault.Border at) e h = unlawful who p (legal.Border at) e h
-    not_lawful p (fault.Floating at) e h = unlawful who p (legal.Floating at) e h
-    not_lawful p fault.Memory e h = tt
-    not_lawful p fault.NoByte e h = absurd h
-    not_lawful p (fault.Resolution r) e h = absurd h
-    not_lawful p (fault.Short want have) e h = absurd h
-    not_lawful p (fault.Long want) e h = absurd h
-    not_lawful p (fault.WideHead have) e h = absurd h
-    not_lawful p (fault.WideResolution r) e h = absurd h
-    not_lawful p (fault.WideRun index) e h = absurd h
-    not_lawful p (fault.WideShort have) e h = absurd h
-    not_lawful p fault.WideLong e h = absurd h
+    pub not_lawful : (p : Matrix) (f : ModelFault) → model v ≡ Ok p → Judges p (Err f) → Reads {A = Matrix} told rose (λ files p. IsModelOf files name p) (RefusesFile who name) (Lacks name) (Err (of_fault who f))
+    not_lawful p Memory said h = tt
+    not_lawful p (Refused refusal) said h = by (why_refused refusal) refl h
+      where
+        by : (why : NoModel ⊎ NotLegal) → why_refused refusal ≡ why → IsNotLegal p why → IfSome told (λ files. RefusesFile who name files (Model who refusal))
+        by (inl why) e h = absurd h
+        by (inr why) e h = refused who (Ok p) (Model who refusal) said (why, h, (refl, ap (refused_line who) e))

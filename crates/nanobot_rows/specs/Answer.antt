@@ -23,14 +23,12 @@ use Rattle.step_debugger.specs.Session.{DebugLine}
 use Rattle.debug_script.specs.Script.{ScriptSays}
 use Rattle.debug_script.specs.Sessions.{PrintsFrom}
 use Rattle.nanobot_rows.specs.declared.report.Cost.{Cost}
-use Rattle.nanobot_rows.specs.declared.report.Report.{Report}
-use Rattle.nanobot_rows.specs.declared.report.Report.TheVariants.{Exercised, Forged, GroupLong, Legal, Planned, Stored, TextLong, Unsupported}
 use Rattle.nanobot_rows.specs.declared.report.Who.{Who}
 use Rattle.nanobot_rows.specs.declared.report.Who.TheVariants as who
 use Rattle.nanobot_rows.specs.declared.status.Status.{Status}
 use Rattle.nanobot_rows.specs.declared.status.Status.TheVariants as is
 use Rattle.nanobot_rows.specs.Planners.{IsGroupPlan, IsLayerPlan, IsLowPlan, IsSwarmPlan, IsVoidPlan, PlanFacts}
-use Rattle.nanobot_rows.specs.Report.{faulty_text, model_line, report_line, resolutions_line, no_model, not_legal, status_of, trace_line, trace_long_line, verdict_line, verdict_status, words_line}
+use Rattle.nanobot_rows.specs.Lines.{exercised_head, exercised_line, forged_line, group_long_line, legal_line, no_model_line, not_legal_line, planned_line, resolutions_line, stored_line, text_line, text_long_line, trace_line, trace_long_line, unsupported_line, verdict_line, verdict_status, words_line}
 use Rattle.nanobot_words.specs.Rows.{Row, asm, check, debug, dis, exercise, light, make, plan_group, plan_layer, plan_low, plan_swarm, plan_void, run, IsRow, IsInNoRow, MakesPlans}
 
 pub record Reply : Type 0 where
@@ -45,17 +43,13 @@ Answers = Files → Reply → Type 0
 abbrev pub IsReply : Status → List ℕ → Files → Reply → Type 0
 IsReply status line files reply = reply ≡ record { status = status; line = line; after = files }
 
--- this report, and the files as they were
-abbrev pub Tells : Report → Files → Reply → Type 0
-Tells report files reply = IsReply (status_of report) (report_line report) files reply
-
 -- the files, of which that of the name now has these bytes
 abbrev pub with_file : Files → List ℕ → List ℕ → Files
 with_file files name bytes = finite.insert files name bytes
 
--- this report, and the file of the name now has these bytes
-abbrev pub Stores : Report → List ℕ → List ℕ → Files → Reply → Type 0
-Stores report name bytes files reply = reply ≡ record { status = status_of report; line = report_line report; after = with_file files name bytes }
+-- it is done, with this line, and the file of the name now has these bytes
+abbrev pub Stores : List ℕ → List ℕ → List ℕ → Files → Reply → Type 0
+Stores line name bytes files reply = reply ≡ record { status = is.Done; line = line; after = with_file files name bytes }
 
 -- the words are in no row of the table
 abbrev pub IsNoRow : Files → Reply → Type 0
@@ -74,11 +68,11 @@ WithFile files name p reply = MatchOption (content files name) (IsGone files rep
 -- the model, where it is legal
 abbrev pub Judged : Who → Files → Option NotLegal → (Reply → Type 0) → Reply → Type 0
 Judged who files None p = p
-Judged who files (Some why) p = IsReply is.Model (model_line who (not_legal why)) files
+Judged who files (Some why) p = IsReply is.Model (not_legal_line who why) files
 
 -- p of the model that the bytes say, where they do and it is legal
 abbrev pub OfBytes : Who → Files → Result Matrix NoModel → (Matrix → Reply → Type 0) → Reply → Type 0
-OfBytes who files (Err why) p reply = IsReply is.Model (model_line who (no_model why)) files reply
+OfBytes who files (Err why) p reply = IsReply is.Model (no_model_line who why) files reply
 OfBytes who files (Ok m) p reply = (legality : Option NotLegal) × Legality m legality × Judged who files legality (p m) reply
 
 -- p of the legal model of a file
@@ -120,7 +114,7 @@ OfTrace limit files bytes p reply =
 -- p of the commands that the text says
 abbrev pub OfReading : Files → Result (List Command) FaultyLine → (List Command → Reply → Type 0) → Reply → Type 0
 OfReading files (Ok commands) p = p commands
-OfReading files (Err faulty) p = Tells (faulty_text faulty) files
+OfReading files (Err faulty) p = IsReply is.Text (text_line faulty.fault faulty.line) files
 
 -- the most bytes of a text
 abbrev pub text_limit : ℕ
@@ -128,7 +122,7 @@ text_limit = 1073741824
 
 -- the same of a text that may be too long
 abbrev pub OfText : Files → List ℕ → (List Command → Reply → Type 0) → Reply → Type 0
-OfText files bytes p reply = MatchBool (nat_lt text_limit (length bytes)) (Tells (TextLong text_limit) files reply) (OfReading files (read bytes) p reply)
+OfText files bytes p reply = MatchBool (nat_lt text_limit (length bytes)) (IsReply is.Text (text_long_line text_limit) files reply) (OfReading files (read bytes) p reply)
 
 -- ---- runs
 
@@ -143,7 +137,7 @@ OfRun profile files source target commands reply = (verdict : Verdict) × Verdic
 abbrev pub OfPlan : PlanFacts → List ℕ → Files → Matrix → Matrix → Reply → Type 0
 OfPlan Is name files source target reply =
     (commands : List Command) × (energy : ℤ) × (steps : ℕ) × Is source target commands energy steps
-    × Stores (Planned energy steps (length commands) (length (spellings commands))) name (spellings commands) files reply
+    × Stores (planned_line energy steps (length commands) (length (spellings commands))) name (spellings commands) files reply
 
 -- the most bytes of a plan of the group planner
 abbrev pub group_limit : ℕ
@@ -153,13 +147,13 @@ group_limit = 1073741824
 abbrev pub OfGroupPlan : List ℕ → Files → Matrix → Matrix → Reply → Type 0
 OfGroupPlan name files source target reply =
     MatchBool (nat_lt group_limit (group.most_bytes source target))
-    (Tells (GroupLong (runs source + runs target) (rows source + rows target)) files reply)
+    (IsReply is.Model (group_long_line (runs source + runs target) (rows source + rows target)) files reply)
     (OfPlan IsGroupPlan name files source target reply)
 
 -- what is so of the reply, where each part is supported
 abbrev pub WhereSupported : Files → Option Coord → (Reply → Type 0) → Reply → Type 0
 WhereSupported files None p = p
-WhereSupported files (Some at) p = Tells (Unsupported at) files
+WhereSupported files (Some at) p = IsReply is.Unsupported (unsupported_line at) files
 
 -- a plan of the low planner, where each part of the target is supported
 abbrev pub OfLowPlan : List ℕ → Files → Matrix → Matrix → Reply → Type 0
@@ -174,7 +168,7 @@ Costs Is target cost = (commands : List Command) × Is (empty target.resolution)
 abbrev pub OfExercise : ℕ → ℕ → Matrix → Answers
 OfExercise number resolution target files reply =
     (layer : Cost) × (group : Cost) × Costs IsLayerPlan target layer × Costs IsGroupPlan target group
-    × Tells (Exercised number resolution (full_count target) layer group) files reply
+    × IsReply is.Done (exercised_line (exercised_head number resolution (full_count target)) layer group) files reply
 
 -- ---- sessions
 
@@ -185,13 +179,13 @@ script_limit = 65536
 -- p of the lines of a script, which may have a faulty one
 abbrev pub OfLines : Files → Result (List DebugLine) FaultyLine → (List DebugLine → Reply → Type 0) → Reply → Type 0
 OfLines files (Ok lines) p = p lines
-OfLines files (Err faulty) p = Tells (faulty_text faulty) files
+OfLines files (Err faulty) p = IsReply is.Text (text_line faulty.fault faulty.line) files
 
 -- the same of a script that may be too long, over a source of a resolution
 abbrev pub OfScript : ℕ → Files → List ℕ → (List DebugLine → Reply → Type 0) → Reply → Type 0
 OfScript r files bytes p reply =
     MatchBool (nat_lt script_limit (length bytes))
-    (Tells (TextLong script_limit) files reply)
+    (IsReply is.Text (text_long_line script_limit) files reply)
     ((said : Result (List DebugLine) FaultyLine) × ScriptSays r bytes said × OfLines files said p reply)
 
 -- the lines of a session over the commands from the source on
@@ -217,18 +211,18 @@ AnswerOfRun profile source target trace files =
     OfTrace run_limit files bytes (OfRun profile files s t)))
 
 abbrev pub AnswerOf : Row → Answers
-AnswerOf (check name) files = WithModel who.Model files name (λ m. Tells (Legal m.resolution (full_count m)) files)
+AnswerOf (check name) files = WithModel who.Model files name (λ m. IsReply is.Done (legal_line m.resolution (full_count m)) files)
 AnswerOf (run source target trace) files = AnswerOfRun full_profile source target trace files
 AnswerOf (light source target trace) files = AnswerOfRun light_profile source target trace files
 AnswerOf (asm text trace) files =
     WithFile files text (λ bytes.
     OfText files bytes (λ commands.
-    Stores (Stored (length commands) (length (spellings commands))) trace (spellings commands) files))
+    Stores (stored_line (length commands) (length (spellings commands))) trace (spellings commands) files))
 AnswerOf (dis trace text) files =
     WithFile files trace (λ bytes.
     OfTrace dis_limit files bytes (λ commands.
-    Stores (Stored (length commands) (length (print commands))) text (print commands) files))
-AnswerOf (make number resolution name) files = Stores (Forged resolution (full_count (forged number resolution))) name
+    Stores (stored_line (length commands) (length (print commands))) text (print commands) files))
+AnswerOf (make number resolution name) files = Stores (forged_line resolution (full_count (forged number resolution))) name
     (written (forged number resolution)) files
 AnswerOf (plan_layer source target trace) files = WithModels files source target (OfPlan IsLayerPlan trace files)
 AnswerOf (plan_group source target trace) files = WithModels files source target (OfGroupPlan trace files)

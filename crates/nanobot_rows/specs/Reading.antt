@@ -4,7 +4,7 @@ use Rattle.nano_spec.specs.declared.commands.Command.{Command}
 use Rattle.nano_spec.specs.declared.outcomes.Verdict.{Verdict}
 use Rattle.nano_spec.specs.declared.system.Profile.{Profile}
 use Rattle.nano_spec.specs.Cutting.{Cutting, Decoding, NoTrace, CutAt, BadAt}
-use Rattle.nano_spec.specs.Legal.{IsLegal, Legality, NotLegal}
+use Rattle.nano_spec.specs.Legal.{Legality, NotLegal}
 use Rattle.nano_spec.specs.Matrix.{Matrix, empty}
 use Rattle.nano_spec.specs.Model.{NoModel, model}
 use Rattle.nano_spec.specs.Reading.{FaultyLine, read}
@@ -16,6 +16,7 @@ use Rattle.trace_judge.specs.Course.{Course}
 use Rattle.trace_codec.specs.Decoder.{DecoderState, HasTaken}
 use Rattle.trace_codec.specs.declared.fault.TraceFault.{TraceFault}
 use Rattle.trace_codec.specs.declared.fault.TraceFault.TheVariants as trace
+use Rattle.trace_codec.specs.declared.fault.TraceRefusal.TheVariants.{Bad, Cut}
 use Rattle.trace_text.specs.declared.fault.TextFault.{TextFault}
 use Rattle.trace_text.specs.declared.fault.TextFault.TheVariants as text
 use Rattle.vox_depot.specs.Files.{Files, content}
@@ -29,19 +30,22 @@ use Rattle.nanobot_rows.specs.declared.report.Who.{Who}
 use Rattle.nanobot_rows.specs.declared.report.Who.TheVariants as who
 use Rattle.nanobot_rows.specs.declared.stop.Stop.{Stop}
 use Rattle.nanobot_rows.specs.declared.stop.Stop.TheVariants as stop
+use Rattle.nanobot_rows.specs.declared.status.Status.{Status}
 use Rattle.nanobot_rows.specs.declared.status.Status.TheVariants as is
 use Rattle.debug_script.specs.Calls.{lines_are}
 use Rattle.debug_script.specs.Script.{ScriptSays}
 use Rattle.debug_script.specs.declared.line.ScriptLine.{ScriptLine}
 use Rattle.nanobot_rows.specs.Answer.{Answers, Reply, dis_limit, script_limit, text_limit}
-use Rattle.nanobot_rows.specs.Report.{faulty_text, report_line, no_model, no_trace, not_legal, of_verdict, status_of}
+use Rattle.nanobot_rows.specs.Lines.{no_model_line, not_legal_line, text_line, trace_line}
+use Rattle.nanobot_rows.specs.Models.{IsModelOf}
+use Rattle.nanobot_rows.specs.Report.{report_line, of_verdict, status_of}
 
 -- ---- why a call stops
 
 -- a model that was refused, or want of memory
 abbrev pub of_fault : Who → ModelFault → Stop
+of_fault who (fault.Refused refusal) = stop.Told (Model who refusal)
 of_fault who fault.Memory = stop.Memory
-of_fault who f = stop.Told (Model who f)
 
 -- a file that was not loaded
 abbrev pub of_load : LoadFault → Stop
@@ -56,13 +60,13 @@ of_fetch fetch.Failed = stop.Depot
 
 -- a text that was refused, or want of memory
 abbrev pub of_text : TextFault → Stop
+of_text (text.Refused refusal) = stop.Told (Text refusal)
 of_text text.Memory = stop.Memory
-of_text f = stop.Told (Text f)
 
 -- a trace that was refused, or want of memory
 abbrev pub of_trace : TraceFault → Stop
-of_trace (trace.Bad offset) = stop.Told (TraceBad offset)
-of_trace (trace.Cut offset) = stop.Told (TraceCut offset)
+of_trace (trace.Refused (Bad offset)) = stop.Told (TraceBad offset)
+of_trace (trace.Refused (Cut offset)) = stop.Told (TraceCut offset)
 of_trace trace.Memory = stop.Memory
 
 -- what a call that reads files comes to: where files are told, P of its value, or R of the report that ends it; a stop without a report comes
@@ -73,16 +77,16 @@ Reads told rose P R M (Err (stop.Told report)) = IfSome told (λ files. R files 
 Reads told rose P R M (Err stop.Depot) = rose ⊎ IsSomeAnd told M
 Reads told rose P R M (Err stop.Memory) = ⊤
 
--- ---- models
+-- the report has this status and this line
+abbrev pub IsTold : Report → Status → List ℕ → Type 0
+IsTold report status line = (status_of report ≡ status) × (report_line report ≡ line)
 
--- the file of the name has the bytes of this legal model
-abbrev pub IsModelOf : Files → List ℕ → Matrix → Type 0
-IsModelOf files name m = IsSomeAnd (content files name) (λ bytes. (model bytes ≡ Ok m) × IsLegal m)
+-- ---- models
 
 -- the report on what bytes say that is no legal model
 abbrev pub RefusesBytes : Who → Result Matrix NoModel → Report → Type 0
-RefusesBytes who (Err why) report = report ≡ Model who (no_model why)
-RefusesBytes who (Ok m) report = (why : NotLegal) × Legality m (Some why) × (report ≡ Model who (not_legal why))
+RefusesBytes who (Err why) report = IsTold report is.Model (no_model_line who why)
+RefusesBytes who (Ok m) report = (why : NotLegal) × Legality m (Some why) × IsTold report is.Model (not_legal_line who why)
 
 abbrev pub RefusesFile : Who → List ℕ → Files → Report → Type 0
 RefusesFile who name files report = IsSomeAnd (content files name) (λ bytes. RefusesBytes who (model bytes) report)
@@ -91,12 +95,12 @@ RefusesFile who name files report = IsSomeAnd (content files name) (λ bytes. Re
 abbrev pub Lacks : List ℕ → Files → Type 0
 Lacks name files = content files name ≡ None
 
--- the same of a source or a target, which may have no file
-abbrev pub IsSide : Option (List ℕ) → Files → Option Matrix → Type 0
-IsSide None files None = ⊤
-IsSide None files (Some m) = ⊥
-IsSide (Some name) files None = ⊥
-IsSide (Some name) files (Some m) = IsModelOf files name m
+-- what a source or a target has in its file, if it has one
+abbrev pub HasSide : Option (List ℕ) → Files → Option Matrix → Type 0
+HasSide None files None = ⊤
+HasSide None files (Some m) = ⊥
+HasSide (Some name) files None = ⊥
+HasSide (Some name) files (Some m) = IsModelOf files name m
 
 abbrev pub RefusesSide : Who → Option (List ℕ) → Files → Report → Type 0
 RefusesSide who None files report = ⊥
@@ -118,25 +122,16 @@ abbrev pub AreUnlike : Option Matrix → Option Matrix → Report → Type 0
 AreUnlike (Some a) (Some b) report = (a.resolution ≢ b.resolution) × (report ≡ Resolutions a.resolution b.resolution)
 AreUnlike a b report = ⊥
 
--- the legal models of a source and a target
-pub record AreModels (source target : Option (List ℕ)) (files : Files) (s t : Matrix) : Type 0 where
-  -- what the files of the source and the target have; `-` has no file
-  pub source_side : Option Matrix
-  pub target_side : Option Matrix
-  pub source_is : IsSide source files source_side
-  pub target_is : IsSide target files target_side
-  pub both : AreBoth source_side target_side s t
-
 -- the report on a source and a target that are no such models: the source is refused, or else the target, or else their resolutions differ
 pub data RefusesModels (source target : Option (List ℕ)) (files : Files) (report : Report) : Type 0 where
   by_source : RefusesSide who.Source source files report → RefusesModels source target files report
-  by_target : (s : Option Matrix) → IsSide source files s → RefusesSide who.Target target files report → RefusesModels source target files report
-  by_both : (s t : Option Matrix) → IsSide source files s → IsSide target files t → AreUnlike s t report → RefusesModels source target files report
+  by_target : (s : Option Matrix) → HasSide source files s → RefusesSide who.Target target files report → RefusesModels source target files report
+  by_both : (s t : Option Matrix) → HasSide source files s → HasSide target files t → AreUnlike s t report → RefusesModels source target files report
 
 -- there is no file of the source, or else none of the target
 pub data LacksModels (source target : Option (List ℕ)) (files : Files) : Type 0 where
   lacks_source : LacksSide source files → LacksModels source target files
-  lacks_target : (s : Option Matrix) → IsSide source files s → LacksSide target files → LacksModels source target files
+  lacks_target : (s : Option Matrix) → HasSide source files s → LacksSide target files → LacksModels source target files
 
 -- ---- commands
 
@@ -147,7 +142,7 @@ IsTextOf files name commands = IsSomeAnd (content files name) (λ bytes. (length
 -- the report on what a text says that says no commands
 abbrev pub RefusesReading : Result (List Command) FaultyLine → Report → Type 0
 RefusesReading (Ok commands) report = ⊥
-RefusesReading (Err faulty) report = report ≡ faulty_text faulty
+RefusesReading (Err faulty) report = IsTold report is.Text (text_line faulty.fault faulty.line)
 
 abbrev pub RefusesText : List ℕ → Files → Report → Type 0
 RefusesText name files report = IsSomeAnd (content files name)
@@ -159,7 +154,7 @@ IsTraceOf files name commands = IsSomeAnd (content files name) (λ bytes. (lengt
 
 -- the report on bytes that are no trace
 abbrev pub RefusesDecoding : List ℕ → Report → Type 0
-RefusesDecoding bytes report = (why : NoTrace) × Decoding bytes (Err why) × (report ≡ no_trace why)
+RefusesDecoding bytes report = (why : NoTrace) × Decoding bytes (Err why) × IsTold report is.Trace (trace_line why)
 
 abbrev pub RefusesTrace : List ℕ → Files → Report → Type 0
 RefusesTrace name files report = IsSomeAnd (content files name)
@@ -171,7 +166,7 @@ IsScriptOf files name r script = IsSomeAnd (content files name) (λ bytes. (leng
 
 -- the report on what a script says that has a faulty line
 abbrev pub RefusesLines : ℕ → List ℕ → Report → Type 0
-RefusesLines r bytes report = (faulty : FaultyLine) × ScriptSays r bytes (Err faulty) × (report ≡ faulty_text faulty)
+RefusesLines r bytes report = (faulty : FaultyLine) × ScriptSays r bytes (Err faulty) × IsTold report is.Text (text_line faulty.fault faulty.line)
 
 abbrev pub RefusesScript : List ℕ → ℕ → Files → Report → Type 0
 RefusesScript name r files report = IsSomeAnd (content files name)

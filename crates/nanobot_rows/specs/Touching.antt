@@ -9,7 +9,8 @@ use Rattle.nano_spec.specs.Spelling.{spellings}
 use Rattle.trace_judge.specs.Payment.{IsPaid, IsWithinWorkOfRun}
 use Rattle.trace_codec.specs.Decoder.{DecoderState, HasTaken}
 use Rattle.vox_depot.specs.Files.{Files, content}
-use Rattle.nanobot_rows.specs.Reading.{AreModels, RunState}
+use Rattle.nanobot_rows.specs.Models.{AreModels}
+use Rattle.nanobot_rows.specs.Reading.{RunState}
 use Rattle.nanobot_words.specs.Rows.{Row, light, run}
 
 -- ---- the bound

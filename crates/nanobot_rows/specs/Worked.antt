@@ -4,8 +4,8 @@ use Rattle.vox_geom.specs.Point.{coord}
 use Rattle.nano_spec.specs.declared.outcomes.Rule.TheVariants.{HaltLow, Ungrounded, Forbidden}
 use Rattle.nano_spec.specs.Matrix.{empty, full_count}
 use Rattle.nano_spec.specs.Worked.{voxels_at}
-use Rattle.model_file.specs.declared.fault.ModelFault.TheVariants as fault
-use Rattle.trace_text.specs.declared.fault.TextFault.TheVariants as text
+use Rattle.model_file.specs.declared.fault.ModelRefusal.TheVariants as model
+use Rattle.trace_text.specs.declared.fault.TextRefusal.TheVariants as text
 use Rattle.group_planner.specs.Bounds as group
 use Rattle.group_planner.specs.Rows.{rows, runs}
 use Rattle.swarm_planner.specs.Bounds.{width}
@@ -33,17 +33,17 @@ pub record WorkedLines : Type 0 where
   pub a_broken_rule : told (report.Broken (record { step = 783; bid = 1; rule = HaltLow; at = coord 0 0 10 })) ≡ (1, codes "broken 4 HaltLow step 783 bid 1 at 0 0 10\n")
   pub a_floating_voxel : told (report.Broken (record { step = 2; bid = 0; rule = Ungrounded; at = coord 1 2 3 })) ≡ (1, codes "broken 12 Ungrounded step 2 bid 0 at 1 2 3\n")
   pub a_forbidden_command : told (report.Broken (record { step = 1; bid = 40; rule = Forbidden; at = coord 0 0 0 })) ≡ (1, codes "broken 15 Forbidden step 1 bid 40 at 0 0 0\n")
-  pub no_byte : told (report.Model who.Model fault.NoByte) ≡ (3, codes "model 1 NoByte\n")
-  pub a_resolution : told (report.Model who.Source (fault.Resolution 251)) ≡ (3, codes "source 2 Resolution 251\n")
-  pub too_few_bytes : told (report.Model who.Target (fault.Short 5 4)) ≡ (3, codes "target 3 Short want 5 have 4\n")
-  pub too_many_bytes : told (report.Model who.Model (fault.Long 5)) ≡ (3, codes "model 4 Long want 5\n")
-  pub outside_the_box : told (report.Model who.Model (fault.Border (coord 0 1 2))) ≡ (3, codes "model 6 Border at 0 1 2\n")
-  pub a_floating_model : told (report.Model who.Source (fault.Floating (coord 1 1 12))) ≡ (3, codes "source 7 Floating at 1 1 12\n")
-  pub a_wide_head : told (report.Model who.Model (fault.WideHead 2)) ≡ (3, codes "model 8 WideHead have 2\n")
-  pub a_wide_resolution : told (report.Model who.Model (fault.WideResolution 401)) ≡ (3, codes "model 9 WideResolution 401\n")
-  pub a_wide_run : told (report.Model who.Model (fault.WideRun 1)) ≡ (3, codes "model 10 WideRun index 1\n")
-  pub too_few_wide_runs : told (report.Model who.Model (fault.WideShort 100)) ≡ (3, codes "model 11 WideShort have 100\n")
-  pub bytes_after_the_runs : told (report.Model who.Target fault.WideLong) ≡ (3, codes "target 12 WideLong\n")
+  pub no_byte : told (report.Model who.Model model.NoByte) ≡ (3, codes "model 1 NoByte\n")
+  pub a_resolution : told (report.Model who.Source (model.Resolution 251)) ≡ (3, codes "source 2 Resolution 251\n")
+  pub too_few_bytes : told (report.Model who.Target (model.Short 5 4)) ≡ (3, codes "target 3 Short want 5 have 4\n")
+  pub too_many_bytes : told (report.Model who.Model (model.Long 5)) ≡ (3, codes "model 4 Long want 5\n")
+  pub outside_the_box : told (report.Model who.Model (model.Border (coord 0 1 2))) ≡ (3, codes "model 6 Border at 0 1 2\n")
+  pub a_floating_model : told (report.Model who.Source (model.Floating (coord 1 1 12))) ≡ (3, codes "source 7 Floating at 1 1 12\n")
+  pub a_wide_head : told (report.Model who.Model (model.WideHead 2)) ≡ (3, codes "model 8 WideHead have 2\n")
+  pub a_wide_resolution : told (report.Model who.Model (model.WideResolution 401)) ≡ (3, codes "model 9 WideResolution 401\n")
+  pub a_wide_run : told (report.Model who.Model (model.WideRun 1)) ≡ (3, codes "model 10 WideRun index 1\n")
+  pub too_few_wide_runs : told (report.Model who.Model (model.WideShort 100)) ≡ (3, codes "model 11 WideShort have 100\n")
+  pub bytes_after_the_runs : told (report.Model who.Target model.WideLong) ≡ (3, codes "target 12 WideLong\n")
   pub two_resolutions : told (report.Resolutions 20 3) ≡ (3, codes "resolutions 20 3\n")
   pub a_long_group_plan : told (report.GroupLong 300 20) ≡ (3, codes "group plan too long runs 300 rows 20\n")
   pub a_bad_byte : told (report.TraceBad 17) ≡ (4, codes "trace bad at 17\n")

@@ -4,7 +4,8 @@ ghost use Rattle.nano_spec.specs.Legal.{IsLegal};
 ghost use Rattle.nanobot_rows.specs.declared.report.Report.{Report as ReportOf};
 ghost use Rattle.vox_depot.specs.Causes.{Rose};
 ghost use Rattle.nanobot_words.specs.Parsing.{side_of};
-ghost use Rattle.nanobot_rows.specs.Reading.{AreBoth, AreModels, AreUnlike, IsModelOf, IsSide, Lacks, LacksModels, LacksSide, Reads, RefusesFile, RefusesModels, RefusesSide};
+ghost use Rattle.nanobot_rows.specs.Models.{AreModels, IsModelOf};
+ghost use Rattle.nanobot_rows.specs.Reading.{AreBoth, AreUnlike, HasSide, Lacks, LacksModels, LacksSide, Reads, RefusesFile, RefusesModels, RefusesSide};
 
 use crate::report::{Report, Who};
 use crate::stop::Stop;
@@ -51,7 +52,7 @@ fn load_side<D: Depot>(
     who: Who,
 ) -> Result<Option<Planes>, Stop>
     requires { (name : List ℕ) → side_of side ≡ Some name → D.may_fetch name }
-    ensures reads { Reads (D.files depot.old) (Rose (D.faults depot.old) (D.faults depot.new)) (IsSide (side_of side.entry))
+    ensures reads { Reads (D.files depot.old) (Rose (D.faults depot.old) (D.faults depot.new)) (HasSide (side_of side.entry))
         (RefusesSide who (side_of side.entry)) (LacksSide (side_of side.entry)) result }
     ensures files { D.files depot.new ≡ D.files depot.old }
     ensures later { D.faults depot.old ≤ D.faults depot.new }

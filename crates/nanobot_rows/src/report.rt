@@ -1,15 +1,18 @@
 //! What is told of a call, and its lines.
 ghost use Rattle.std.specs.List.{concat};
 ghost use Rattle.std.specs.Prelude.{◌≡◌, ◌∷◌, [], IfOk, codes, decimal, length, string_bytes};
-ghost use Rattle.nanobot_rows.specs.Report.{exercised_head as exercised_head_of, exercised_line as exercised_line_of, report_line, model_line as model_line_of, of_verdict, status_of, text_line as text_line_of, who_of};
+ghost use Rattle.model_file.specs.Fault.{why_refused};
+ghost use Rattle.trace_text.specs.Text.{faulty_line};
+ghost use Rattle.nanobot_rows.specs.Lines.{exercised_head as exercised_head_of, exercised_line as exercised_line_of, group_long_line as group_long_line_of, planned_line as planned_line_of, resolutions_line as resolutions_line_of, unsupported_line as unsupported_line_of, who_of};
+ghost use Rattle.nanobot_rows.specs.Report.{faulty_text_line, of_verdict, refused_line, report_line, status_of};
 
 use crate::status::Status;
 use debug_script::broken_line;
-use model_file::ModelFault;
+use model_file::ModelRefusal;
 use nano_spec::{Broken, Command, Verdict};
 use plan_tape::Plan;
 use std::alloc::{AllocError, Global};
-use trace_text::TextFault;
+use trace_text::TextRefusal;
 use vox_geom::Coord;
 
 /// Whose model is refused.
@@ -55,7 +58,7 @@ pub enum Report {
     /// A model was refused.
     Model {
         who: Who,
-        fault: ModelFault,
+        refusal: ModelRefusal,
     },
     /// The source and the target have different resolutions.
     Resolutions {
@@ -75,7 +78,7 @@ pub enum Report {
         limit: u64,
     },
     /// A text was refused.
-    Text(TextFault),
+    Text(TextRefusal),
     /// A text has more bytes than that.
     TextLong {
         limit: u64,
@@ -129,45 +132,42 @@ fn at_line(alloc: Global, who: &str, refusal: &str, at: Coord) -> Result<String,
 }
 
 /// The line of a model that was refused.
-fn model_line(alloc: Global, who: Who, fault: ModelFault) -> Result<String, AllocError>
-    ensures { IfOk result (λ s. string_bytes s ≡ model_line_of who fault) }
+fn model_line(alloc: Global, who: Who, refusal: ModelRefusal) -> Result<String, AllocError>
+    ensures { IfOk result (λ s. string_bytes s ≡ refused_line who (why_refused refusal)) }
 {
     let who = who.name();
-    match &fault {
-        ModelFault::NoByte => format!(in alloc; "{who} 1 NoByte\n"),
-        ModelFault::Resolution { r } => format!(in alloc; "{who} 2 Resolution {r}\n"),
-        ModelFault::Short { want, have } => {
+    match &refusal {
+        ModelRefusal::NoByte => format!(in alloc; "{who} 1 NoByte\n"),
+        ModelRefusal::Resolution { r } => format!(in alloc; "{who} 2 Resolution {r}\n"),
+        ModelRefusal::Short { want, have } => {
             format!(in alloc; "{who} 3 Short want {want} have {have}\n")
         }
-        ModelFault::Long { want } => format!(in alloc; "{who} 4 Long want {want}\n"),
-        ModelFault::Memory => format!(in alloc; "{who} 5 Memory\n"),
-        ModelFault::Border { at } => at_line(alloc, who, " 6 Border at", *at),
-        ModelFault::Floating { at } => at_line(alloc, who, " 7 Floating at", *at),
-        ModelFault::WideHead { have } => format!(in alloc; "{who} 8 WideHead have {have}\n"),
-        ModelFault::WideResolution { r } => format!(in alloc; "{who} 9 WideResolution {r}\n"),
-        ModelFault::WideRun { index } => format!(in alloc; "{who} 10 WideRun index {index}\n"),
-        ModelFault::WideShort { have } => format!(in alloc; "{who} 11 WideShort have {have}\n"),
-        ModelFault::WideLong => format!(in alloc; "{who} 12 WideLong\n"),
+        ModelRefusal::Long { want } => format!(in alloc; "{who} 4 Long want {want}\n"),
+        ModelRefusal::Border { at } => at_line(alloc, who, " 6 Border at", *at),
+        ModelRefusal::Floating { at } => at_line(alloc, who, " 7 Floating at", *at),
+        ModelRefusal::WideHead { have } => format!(in alloc; "{who} 8 WideHead have {have}\n"),
+        ModelRefusal::WideResolution { r } => format!(in alloc; "{who} 9 WideResolution {r}\n"),
+        ModelRefusal::WideRun { index } => format!(in alloc; "{who} 10 WideRun index {index}\n"),
+        ModelRefusal::WideShort { have } => format!(in alloc; "{who} 11 WideShort have {have}\n"),
+        ModelRefusal::WideLong => format!(in alloc; "{who} 12 WideLong\n"),
     }
 }
 
 /// The line of a text that was refused.
-fn text_line(alloc: Global, fault: TextFault) -> Result<String, AllocError>
-    ensures { IfOk result (λ s. string_bytes s ≡ text_line_of fault) }
+fn text_line(alloc: Global, refusal: TextRefusal) -> Result<String, AllocError>
+    ensures { IfOk result (λ s. string_bytes s ≡ faulty_text_line (faulty_line refusal)) }
 {
-    match &fault {
-        TextFault::NotAscii { line } => format!(in alloc; "text 1 NotAscii line {line}\n"),
-        TextFault::UnknownWord { line } => format!(in alloc; "text 2 UnknownWord line {line}\n"),
-        TextFault::Shape { line } => format!(in alloc; "text 3 Shape line {line}\n"),
-        TextFault::Range { line } => format!(in alloc; "text 4 Range line {line}\n"),
-        TextFault::Memory => format!(in alloc; "text 5 Memory\n"),
+    match &refusal {
+        TextRefusal::NotAscii { line } => format!(in alloc; "text 1 NotAscii line {line}\n"),
+        TextRefusal::UnknownWord { line } => format!(in alloc; "text 2 UnknownWord line {line}\n"),
+        TextRefusal::Shape { line } => format!(in alloc; "text 3 Shape line {line}\n"),
+        TextRefusal::Range { line } => format!(in alloc; "text 4 Range line {line}\n"),
     }
 }
 
 /// The line of a target with an unsupported part.
 fn unsupported_line(alloc: Global, at: Coord) -> Result<String, AllocError>
-    ensures { IfOk result
-        (λ s. string_bytes s ≡ concat (codes "unsupported at " ∷ decimal at.x ∷ codes " " ∷ decimal at.y ∷ codes " " ∷ decimal at.z ∷ codes "\n" ∷ [])) }
+    ensures { IfOk result (λ s. string_bytes s ≡ unsupported_line_of at) }
 {
     format!(in alloc; "unsupported at {} {} {}\n", at.x, at.y, at.z)
 }
@@ -217,21 +217,21 @@ fn planned_line(
     commands: u64,
     bytes: u64,
 ) -> Result<String, AllocError>
-    ensures { IfOk result (λ s. string_bytes s ≡ report_line (Report.Planned energy steps commands bytes)) }
+    ensures { IfOk result (λ s. string_bytes s ≡ planned_line_of energy steps commands bytes) }
 {
     format!(in alloc; "plan energy {energy} steps {steps} commands {commands} bytes {bytes}\n")
 }
 
 /// The line of two models of different resolutions.
 fn resolutions_line(alloc: Global, source: u16, target: u16) -> Result<String, AllocError>
-    ensures { IfOk result (λ s. string_bytes s ≡ report_line (Report.Resolutions source target)) }
+    ensures { IfOk result (λ s. string_bytes s ≡ resolutions_line_of source target) }
 {
     format!(in alloc; "resolutions {source} {target}\n")
 }
 
 /// The line of a plan of the group planner that may be too long.
 fn group_long_line(alloc: Global, runs: u64, rows: u64) -> Result<String, AllocError>
-    ensures { IfOk result (λ s. string_bytes s ≡ report_line (Report.GroupLong runs rows)) }
+    ensures { IfOk result (λ s. string_bytes s ≡ group_long_line_of runs rows) }
 {
     format!(in alloc; "group plan too long runs {runs} rows {rows}\n")
 }
@@ -316,12 +316,12 @@ impl Report {
                 bytes,
             } => planned_line(alloc, *energy, *steps, *commands, *bytes),
             Report::Broken(broken) => broken_line(alloc, broken),
-            Report::Model { who, fault } => model_line(alloc, *who, *fault),
+            Report::Model { who, refusal } => model_line(alloc, *who, *refusal),
             Report::Resolutions { source, target } => resolutions_line(alloc, *source, *target),
             Report::TraceBad { offset } => format!(in alloc; "trace bad at {offset}\n"),
             Report::TraceCut { offset } => format!(in alloc; "trace cut at {offset}\n"),
             Report::TraceLong { limit } => format!(in alloc; "trace longer than {limit}\n"),
-            Report::Text(fault) => text_line(alloc, *fault),
+            Report::Text(refusal) => text_line(alloc, *refusal),
             Report::TextLong { limit } => format!(in alloc; "text longer than {limit}\n"),
             Report::GroupLong { runs, rows } => group_long_line(alloc, *runs, *rows),
             Report::Unsupported { at } => unsupported_line(alloc, *at),

@@ -6,7 +6,7 @@ ghost use Rattle.nanobot_rows.specs.Reading.{of_fault, of_fetch, of_load, of_tex
 use crate::report::{Report, Who};
 use model_file::ModelFault;
 use std::alloc::AllocError;
-use trace_codec::TraceFault;
+use trace_codec::{TraceFault, TraceRefusal};
 use trace_text::TextFault;
 use vox_depot::{FetchFault, LoadFault};
 use vox_geom::Memory;
@@ -24,19 +24,9 @@ impl Stop {
     pub fn of_fault(who: Who, fault: ModelFault) -> Stop
         ensures { result ≡ of_fault who fault }
     {
-        match &fault {
+        match fault {
+            ModelFault::Refused(refusal) => Stop::Told(Report::Model { who, refusal }),
             ModelFault::Memory => Stop::Memory,
-            ModelFault::NoByte
-            | ModelFault::Resolution { .. }
-            | ModelFault::Short { .. }
-            | ModelFault::Long { .. }
-            | ModelFault::Border { .. }
-            | ModelFault::Floating { .. }
-            | ModelFault::WideHead { .. }
-            | ModelFault::WideResolution { .. }
-            | ModelFault::WideRun { .. }
-            | ModelFault::WideShort { .. }
-            | ModelFault::WideLong => Stop::Told(Report::Model { who, fault }),
         }
     }
 
@@ -44,12 +34,9 @@ impl Stop {
     pub fn of_text(fault: TextFault) -> Stop
         ensures { result ≡ of_text fault }
     {
-        match &fault {
+        match fault {
+            TextFault::Refused(refusal) => Stop::Told(Report::Text(refusal)),
             TextFault::Memory => Stop::Memory,
-            TextFault::NotAscii { .. }
-            | TextFault::UnknownWord { .. }
-            | TextFault::Shape { .. }
-            | TextFault::Range { .. } => Stop::Told(Report::Text(fault)),
         }
     }
 
@@ -58,8 +45,12 @@ impl Stop {
         ensures { result ≡ of_trace fault }
     {
         match fault {
-            TraceFault::Bad { offset } => Stop::Told(Report::TraceBad { offset }),
-            TraceFault::Cut { offset } => Stop::Told(Report::TraceCut { offset }),
+            TraceFault::Refused(TraceRefusal::Bad { offset }) => Stop::Told(Report::TraceBad {
+                offset,
+            }),
+            TraceFault::Refused(TraceRefusal::Cut { offset }) => Stop::Told(Report::TraceCut {
+                offset,
+            }),
             TraceFault::Memory => Stop::Memory,
         }
     }

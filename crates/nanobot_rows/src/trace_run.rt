@@ -15,7 +15,7 @@ use run_progress::the_progress_is_the_verdict;
 use std::alloc::Global;
 use std::marker::Model;
 use std::sync::ledger::Ledger;
-use trace_codec::{Decoder, Fed, TraceFault, pieces_decode};
+use trace_codec::{Decoder, Fed, TraceRefusal, pieces_decode};
 use trace_judge::{Runner, the_work_pays};
 use vox_geom::{Memory, Steps};
 use vox_planes::Planes;
@@ -149,9 +149,8 @@ impl TraceRun {
         pieces_decode();
         the_progress_is_the_verdict();
         match self.decoder.end() {
-            Err(TraceFault::Bad { offset }) => Report::TraceBad { offset },
-            Err(TraceFault::Cut { offset }) => Report::TraceCut { offset },
-            Err(TraceFault::Memory) => unreachable!(),
+            Err(TraceRefusal::Bad { offset }) => Report::TraceBad { offset },
+            Err(TraceRefusal::Cut { offset }) => Report::TraceCut { offset },
             Ok(()) => Report::of_verdict(self.runner.finish(target, steps)),
         }
     }

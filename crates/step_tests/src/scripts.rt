@@ -2,17 +2,17 @@
 use debug_script::{ScriptLine, read_script};
 use std::process::Abort;
 use std::test::Fail;
-use trace_text::TextFault;
+use trace_text::{TextFault, TextRefusal};
 use vox_geom::Coord;
 
 /// Texts that are no scripts at resolution 5.
-const REFUSED: [(&[u8], TextFault); 6] = [
-    (b"step\n\xC3", TextFault::NotAscii { line: 2 }),
-    (b"step\n\nstep", TextFault::UnknownWord { line: 2 }),
-    (b"back\nstep back", TextFault::Shape { line: 2 }),
-    (b"group 00001", TextFault::Shape { line: 1 }),
-    (b"voxel 0 0 5", TextFault::Range { line: 1 }),
-    (b"group 0", TextFault::Range { line: 1 }),
+const REFUSED: [(&[u8], TextRefusal); 6] = [
+    (b"step\n\xC3", TextRefusal::NotAscii { line: 2 }),
+    (b"step\n\nstep", TextRefusal::UnknownWord { line: 2 }),
+    (b"back\nstep back", TextRefusal::Shape { line: 2 }),
+    (b"group 00001", TextRefusal::Shape { line: 1 }),
+    (b"voxel 0 0 5", TextRefusal::Range { line: 1 }),
+    (b"group 0", TextRefusal::Range { line: 1 }),
 ];
 
 #[test]
@@ -33,10 +33,10 @@ fn lines_that_are_read(rt: HostRuntime) -> Result<(), Fail> {
 
 #[test]
 fn lines_that_are_refused(rt: HostRuntime) -> Result<(), Fail> {
-    for (bytes, fault) in &REFUSED {
+    for (bytes, refusal) in &REFUSED {
         assert!(rt; bytes.len() < 100);
         let answer = read_script(rt.alloc(), bytes, 5);
-        assert!(rt; answer.is_err_and(|refused| refused == *fault));
+        assert!(rt; answer.is_err_and(|fault| fault == TextFault::Refused(*refusal)));
     }
     Ok(())
 }

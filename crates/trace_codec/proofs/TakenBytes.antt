@@ -8,8 +8,9 @@ use Rattle.nano_spec.specs.Cutting.{AreCommands, RestOf, BeginsSpelling, CutAt, 
 use Rattle.nano_spec.specs.Spelling.{spelling, spellings}
 use Rattle.nano_spec.proofs.Traces.{one_spelling}
 use Rattle.trace_codec.specs.declared.decoder.Fed.TheVariants as fed
-use Rattle.trace_codec.specs.declared.fault.TraceFault.{TraceFault}
-use Rattle.trace_codec.specs.declared.fault.TraceFault.TheVariants as fault
+use Rattle.trace_codec.specs.declared.fault.TraceFault.TheVariants.{Refused}
+use Rattle.trace_codec.specs.declared.fault.TraceRefusal.{TraceRefusal}
+use Rattle.trace_codec.specs.declared.fault.TraceRefusal.TheVariants as refusal
 use Rattle.trace_codec.specs.Decoder.{DecoderState, fresh, Completes, AnswersPiece, EndsTrace, decoder_after, HasTaken}
 use Rattle.trace_codec.specs.One.{NoSpelling, IsNoCommand}
 use Rattle.trace_codec.specs.Whole.{Decodes}
@@ -93,7 +94,6 @@ pub taken_whole : (bytes : List ℕ) (commands : List Command) (decoder : Decode
 taken_whole bytes commands decoder h n = whole bytes commands decoder.held h.are_commands h.bytes_are n
 
 -- what the decoder answers at the end is how the bytes are decoded
-pub taken_ended : (bytes : List ℕ) (commands : List Command) (decoder : DecoderState) (fault : TraceFault) → HasTaken bytes commands decoder → EndsTrace {A = Unit {0}} decoder (Err fault) → Decodes bytes (Err fault)
-taken_ended bytes commands decoder (fault.Cut offset) h e = cut_at bytes commands decoder.held offset h.are_commands h.bytes_are (e.2 ∙ h.offset_is) e.1 h.begins
-taken_ended bytes commands decoder (fault.Bad offset) h e = absurd (not_both decoder.failed h.works e.0)
-taken_ended bytes commands decoder fault.Memory h e = tt
+pub taken_ended : (bytes : List ℕ) (commands : List Command) (decoder : DecoderState) (refusal : TraceRefusal) → HasTaken bytes commands decoder → EndsTrace {A = Unit {0}} decoder (Err refusal) → Decodes bytes (Err (Refused refusal))
+taken_ended bytes commands decoder (refusal.Cut offset) h e = cut_at bytes commands decoder.held offset h.are_commands h.bytes_are (e.2 ∙ h.offset_is) e.1 h.begins
+taken_ended bytes commands decoder (refusal.Bad offset) h e = absurd (not_both decoder.failed h.works e.0)

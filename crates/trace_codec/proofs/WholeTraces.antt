@@ -8,17 +8,16 @@ use Rattle.nano_spec.specs.Cutting.{AreCommands, BeginsSpelling, Cutting, Decodi
 use Rattle.nano_spec.specs.Spelling.{spelling, spellings}
 use Rattle.nano_spec.proofs.Traces.{Decoding-unique}
 use Rattle.trace_codec.specs.declared.fault.TraceFault.{TraceFault}
-use Rattle.trace_codec.specs.declared.fault.TraceFault.TheVariants.{Bad, Cut, Memory}
+use Rattle.trace_codec.specs.declared.fault.TraceFault.TheVariants.{Memory, Refused}
 use Rattle.trace_codec.specs.One.{Spells, IsNoCommand}
-use Rattle.trace_codec.specs.Whole.{Decodes, IsDecoding}
+use Rattle.trace_codec.specs.Whole.{Decodes, IsDecoding, why_no_trace}
 use Rattle.trace_codec.proofs.TakenBytes.{are_commands_more, spellings_more, bad_at, cut_at, whole}
 use Rattle.trace_codec.proofs.Unique.{split, len_is}
 
 -- the answer is how the bytes are decoded, and bytes are decoded in one way
 pub is_answer : (bytes : List ℕ) (answer : Result (List Command) TraceFault) (decoding : Result (List Command) NoTrace) → Decodes bytes answer → Decoding bytes decoding → IsDecoding answer decoding
 is_answer bytes (Ok commands) decoding h k = Decoding-unique bytes decoding (Ok commands) k h
-is_answer bytes (Err (Bad offset)) decoding h k = Decoding-unique bytes decoding (Err (BadAt offset)) k h
-is_answer bytes (Err (Cut offset)) decoding h k = Decoding-unique bytes decoding (Err (CutAt offset)) k h
+is_answer bytes (Err (Refused refusal)) decoding h k = Decoding-unique bytes decoding (Err (why_no_trace refusal)) k h
 is_answer bytes (Err Memory) decoding h k = tt
 
 same_commands : (a b : List Command) → (let r : Result (List Command) NoTrace = Ok a in r) ≡ Ok b → a ≡ b
@@ -30,8 +29,7 @@ decoded_again commands bytes answer h k n = by_answer answer (is_answer bytes an
   where
     by_answer : (answer : Result (List Command) TraceFault) → IsDecoding answer (Ok commands) → answer ≢ Err Memory → answer ≡ Ok commands
     by_answer (Ok others) e n = ap Ok (sym (same_commands commands others e))
-    by_answer (Err (Bad offset)) e n = cc
-    by_answer (Err (Cut offset)) e n = cc
+    by_answer (Err (Refused refusal)) e n = cc
     by_answer (Err Memory) e n = absurd (n refl)
 
 -- ---- a front of the bytes that is cut

@@ -6,8 +6,8 @@ use Rattle.nano_spec.specs.Cutting.{AreCommands, BeginsSpelling}
 use Rattle.nano_spec.specs.Spelling.{spelling, spellings}
 use Rattle.trace_codec.specs.declared.decoder.Fed.{Fed}
 use Rattle.trace_codec.specs.declared.decoder.Fed.TheVariants.{Got, All, Bad}
-use Rattle.trace_codec.specs.declared.fault.TraceFault.{TraceFault}
-use Rattle.trace_codec.specs.declared.fault.TraceFault.TheVariants as fault
+use Rattle.trace_codec.specs.declared.fault.TraceRefusal.{TraceRefusal}
+use Rattle.trace_codec.specs.declared.fault.TraceRefusal.TheVariants as refusal
 use Rattle.trace_codec.specs.One.{IsNoCommand}
 
 -- a decoder as contracts see it: the bytes that it holds of the next command, where the first of them stands in the trace, and whether it has failed
@@ -51,11 +51,10 @@ bytes_taken piece All = length piece
 bytes_taken piece (Bad offset) = 0
 
 -- what a decoder answers where no more bytes come
-abbrev pub EndsTrace : {A : Type 0} → DecoderState → Result A TraceFault → Type 0
+abbrev pub EndsTrace : {A : Type 0} → DecoderState → Result A TraceRefusal → Type 0
 EndsTrace decoder (Ok _) = IsFalse decoder.failed × (decoder.held ≡ [])
-EndsTrace decoder (Err (fault.Cut offset)) = IsFalse decoder.failed × (decoder.held ≢ []) × (offset ≡ decoder.offset)
-EndsTrace decoder (Err (fault.Bad offset)) = IsTrue decoder.failed × (offset ≡ decoder.offset)
-EndsTrace decoder (Err fault.Memory) = ⊥
+EndsTrace decoder (Err (refusal.Cut offset)) = IsFalse decoder.failed × (decoder.held ≢ []) × (offset ≡ decoder.offset)
+EndsTrace decoder (Err (refusal.Bad offset)) = IsTrue decoder.failed × (offset ≡ decoder.offset)
 
 -- the decoder has taken the bytes, and has given the commands: their spellings, and after them what is held, are the bytes
 pub record HasTaken (bytes : List ℕ) (commands : List Command) (decoder : DecoderState) : Type 0 where

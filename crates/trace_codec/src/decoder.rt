@@ -4,7 +4,7 @@ ghost use Rattle.trace_codec.specs.declared.decoder.Fed.{Fed};
 ghost use Rattle.trace_codec.specs.Decoder.{AnswersPiece, EndsTrace, IsBetween, decoder_after, fresh, bytes_taken};
 ghost use Rattle.trace_codec.specs.One.{BeginsWith};
 
-use crate::fault::TraceFault;
+use crate::fault::TraceRefusal;
 use crate::one::{One, decode_by, decode_one};
 use arrayvec::ArrayVec;
 use nano_spec::Command;
@@ -158,17 +158,17 @@ impl Decoder {
     }
 
     /// Whether the trace may end here.
-    pub fn end(&self) -> Result<(), TraceFault>
+    pub fn end(&self) -> Result<(), TraceRefusal>
         ensures { EndsTrace self.now result }
     {
         if self.failed {
-            Err(TraceFault::Bad {
+            Err(TraceRefusal::Bad {
                 offset: self.offset,
             })
         } else if self.held.is_empty() {
             Ok(())
         } else {
-            Err(TraceFault::Cut {
+            Err(TraceRefusal::Cut {
                 offset: self.offset,
             })
         }

@@ -5,6 +5,7 @@ ghost use Rattle.nano_spec.specs.Cutting.{BadAt, Cutting, Decoding};
 ghost use Rattle.trace_codec.specs.declared.decoder.Fed.TheVariants as fed;
 ghost use Rattle.trace_codec.specs.declared.fault.TraceFault.{TraceFault};
 ghost use Rattle.trace_codec.specs.declared.fault.TraceFault.TheVariants as fault;
+ghost use Rattle.trace_codec.specs.declared.fault.TraceRefusal.{TraceRefusal};
 ghost use Rattle.trace_codec.specs.Decoder.{AnswersPiece, DecoderState, EndsTrace, HasTaken, decoder_after, fresh};
 ghost use Rattle.trace_codec.specs.Pieces.{Feeds};
 ghost use Rattle.trace_codec.specs.Whole.{Decodes};
@@ -31,8 +32,8 @@ pub fn pieces_decode()
     // Where no more bytes come.
     ensures whole { (bytes : List ℕ) (commands : List Command) (decoder : DecoderState) →
         HasTaken bytes commands decoder → EndsTrace {A = Unit {0}} decoder (Ok tt) → Decodes bytes (Ok commands) }
-    ensures cut { (bytes : List ℕ) (commands : List Command) (decoder : DecoderState) (fault : TraceFault) →
-        HasTaken bytes commands decoder → EndsTrace {A = Unit {0}} decoder (Err fault) → Decodes bytes (Err fault) }
+    ensures cut { (bytes : List ℕ) (commands : List Command) (decoder : DecoderState) (refusal : TraceRefusal) →
+        HasTaken bytes commands decoder → EndsTrace {A = Unit {0}} decoder (Err refusal) → Decodes bytes (Err (fault.Refused refusal)) }
 {}
 
 /// Commands that are encoded are decoded as the same commands, and a trace that is decoded is encoded as the same bytes.

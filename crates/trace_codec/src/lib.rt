@@ -11,7 +11,7 @@ mod spelling;
 mod whole;
 
 pub use decoder::{Decoder, Fed};
-pub use fault::TraceFault;
+pub use fault::{TraceFault, TraceRefusal};
 pub use laws::{encoding_and_decoding, pieces_decode};
 pub use one::{One, decode_one};
 pub use spelling::encode_one;

@@ -5,7 +5,7 @@ ghost use Rattle.nano_spec.specs.Cutting.{Cutting, Decoding, NoTrace};
 ghost use Rattle.nano_spec.specs.Spelling.{spellings};
 ghost use Rattle.trace_codec.specs.Whole.{Decodes, IsDecoding};
 
-use crate::fault::TraceFault;
+use crate::fault::{TraceFault, TraceRefusal};
 use crate::one::{One, decode_one};
 use crate::spelling::{encode_one, spelled_len};
 use nano_spec::{Command, CommandList};
@@ -29,14 +29,14 @@ pub fn decode_all(alloc: Global, bytes: &[u8]) -> Result<CommandList, TraceFault
                 start += usize::from(len);
             }
             One::More => {
-                return Err(TraceFault::Cut {
+                return Err(TraceFault::Refused(TraceRefusal::Cut {
                     offset: start as u64,
-                });
+                }));
             }
             One::Bad => {
-                return Err(TraceFault::Bad {
+                return Err(TraceFault::Refused(TraceRefusal::Bad {
                     offset: start as u64,
-                });
+                }));
             }
         }
     }

@@ -1,5 +1,5 @@
 -- The digits of a byte.
-use Rattle.std.proofs.Common.{◌≡◌, ℕ, zero, suc, ◌+◌, ◌/◌, ◌%◌, ◌<◌, ◌≤◌, refl, ◌∙◌, ap, subst, arith, Bool, true, false, cond, List, [], ◌∷◌}
+use Rattle.std.proofs.Common.{◌≡◌, ℕ, ◌+◌, ◌/◌, ◌%◌, ◌<◌, ◌≤◌, refl, ◌∙◌, ap, subst, arith, true, false, cond, List, [], ◌∷◌}
 use Rattle.std.specs.Prelude.{IsTrue, decimal, nat_lt}
 use Rattle.std.specs.Fmt.{digits as fmt_digits}
 use Rattle.std.specs.List.{list_all}

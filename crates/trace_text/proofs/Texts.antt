@@ -3,9 +3,11 @@ use Rattle.std.proofs.Common.{◌≡◌, ℕ, ◌+◌, ◌<◌, ◌≤◌, refl,
 use Rattle.std.specs.Prelude.{Result, Ok, Err}
 use Rattle.std.proofs.lemmas.List.{append_assoc}
 use Rattle.nano_spec.specs.declared.commands.Command.{Command}
-use Rattle.nano_spec.specs.Line.{Fault, NotAscii, UnknownWord, Shape, Range, Line, Skipped, Says, Faulty, line_of}
+use Rattle.nano_spec.specs.Line.{Fault, Line, Skipped, Says, Faulty, line_of}
 use Rattle.nano_spec.specs.Reading.{FaultyLine, lines, read, read_lines, with_first}
-use Rattle.trace_text.specs.Text.{ReadsText, fault_at}
+use Rattle.trace_text.specs.declared.fault.TextFault.TheVariants.{Refused}
+use Rattle.trace_text.specs.declared.fault.TextRefusal.{TextRefusal}
+use Rattle.trace_text.specs.Text.{ReadsText, faulty_line}
 
 -- commands before those that are read
 abbrev pub onto : List Command → Result (List Command) FaultyLine → Result (List Command) FaultyLine
@@ -38,14 +40,8 @@ skipped_on text commands left number line more h l m s = let w = h.within in rec
 pub says_on : (text : List ℕ) (commands : List Command) (left : List ℕ) (number : ℕ) (line more : List ℕ) (c : Command) → HasRead text commands left number → lines left ≡ line ∷ lines more → length more < length left → Says c ≡ line_of line → HasRead text (commands ++ c ∷ []) more (number + 1)
 says_on text commands left number line more c h l m s = let w = h.within in record { is = next text commands left number line more (Says c) h l s ∙ onto_more commands c (read_lines (number + 1 + 1) (map line_of (lines more))); within = omega (arith, w) }
 
-told : (text : List ℕ) (n : ℕ) (fault : Fault) → read text ≡ Err (record { fault = fault; line = n }) → ReadsText text (Err (fault_at fault n))
-told text n NotAscii e = e
-told text n UnknownWord e = e
-told text n Shape e = e
-told text n Range e = e
-
-pub faulty_here : (text : List ℕ) (commands : List Command) (left : List ℕ) (number : ℕ) (line more : List ℕ) (fault : Fault) → HasRead text commands left number → lines left ≡ line ∷ lines more → Faulty fault ≡ line_of line → ReadsText text (Err (fault_at fault (number + 1)))
-faulty_here text commands left number line more fault h l s = told text (number + 1) fault (next text commands left number line more (Faulty fault) h l s)
+pub faulty_here : (text : List ℕ) (commands : List Command) (left : List ℕ) (number : ℕ) (line more : List ℕ) (fault : Fault) (refusal : TextRefusal) → HasRead text commands left number → lines left ≡ line ∷ lines more → Faulty fault ≡ line_of line → faulty_line refusal ≡ record { fault = fault; line = number + 1 } → ReadsText text (Err (Refused refusal))
+faulty_here text commands left number line more fault refusal h l s told = next text commands left number line more (Faulty fault) h l s ∙ ap Err (sym told)
 
 nothing_more : (xs : List Command) → xs ++ [] ≡ xs
 nothing_more [] = refl

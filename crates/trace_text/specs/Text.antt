@@ -3,9 +3,11 @@ use Rattle.std.specs.Prelude.{◌≡◌, ℕ, List, ⊤, Option, Some, None, Res
 use Rattle.nano_spec.specs.declared.commands.Command.{Command}
 use Rattle.nano_spec.specs.Line as line
 use Rattle.nano_spec.specs.LineForm as form
-use Rattle.nano_spec.specs.Reading.{read}
+use Rattle.nano_spec.specs.Reading.{FaultyLine, read}
 use Rattle.trace_text.specs.declared.fault.TextFault.{TextFault}
-use Rattle.trace_text.specs.declared.fault.TextFault.TheVariants as text_fault
+use Rattle.trace_text.specs.declared.fault.TextFault.TheVariants.{Memory, Refused}
+use Rattle.trace_text.specs.declared.fault.TextRefusal.{TextRefusal}
+use Rattle.trace_text.specs.declared.fault.TextRefusal.TheVariants as refusal
 use Rattle.trace_text.specs.declared.fault.Fault.{Fault}
 use Rattle.trace_text.specs.declared.fault.Fault.TheVariants as fault
 use Rattle.trace_text.specs.declared.line.Line.{Line}
@@ -20,20 +22,19 @@ fault_of fault.UnknownWord = line.UnknownWord
 fault_of fault.Shape = line.Shape
 fault_of fault.Range = line.Range
 
--- the refusal of a fault in the line of this number
-abbrev pub fault_at : line.Fault → ℕ → TextFault
-fault_at line.NotAscii n = text_fault.NotAscii n
-fault_at line.UnknownWord n = text_fault.UnknownWord n
-fault_at line.Shape n = text_fault.Shape n
-fault_at line.Range n = text_fault.Range n
+-- the faulty line that a refusal tells of, by the definitions
+abbrev pub faulty_line : TextRefusal → FaultyLine
+faulty_line (refusal.NotAscii n) = record { fault = line.NotAscii; line = n }
+faulty_line (refusal.UnknownWord n) = record { fault = line.UnknownWord; line = n }
+faulty_line (refusal.Shape n) = record { fault = line.Shape; line = n }
+faulty_line (refusal.Range n) = record { fault = line.Range; line = n }
 
 -- the number by which a refusal is printed
-abbrev pub text_fault_number : TextFault → ℕ
-text_fault_number (text_fault.NotAscii n) = 1
-text_fault_number (text_fault.UnknownWord n) = 2
-text_fault_number (text_fault.Shape n) = 3
-text_fault_number (text_fault.Range n) = 4
-text_fault_number text_fault.Memory = 5
+abbrev pub text_refusal_number : TextRefusal → ℕ
+text_refusal_number (refusal.NotAscii n) = 1
+text_refusal_number (refusal.UnknownWord n) = 2
+text_refusal_number (refusal.Shape n) = 3
+text_refusal_number (refusal.Range n) = 4
 
 -- what a line says, by the definitions
 abbrev pub line_is : Line → line.Line
@@ -63,8 +64,5 @@ word_if_any (Some w) = Some (word_is w)
 -- the text is read as the definition reads it, unless there was no memory
 abbrev pub ReadsText : List ℕ → Result (List Command) TextFault → Type 0
 ReadsText text (Ok commands) = read text ≡ Ok commands
-ReadsText text (Err (text_fault.NotAscii n)) = read text ≡ Err (record { fault = line.NotAscii; line = n })
-ReadsText text (Err (text_fault.UnknownWord n)) = read text ≡ Err (record { fault = line.UnknownWord; line = n })
-ReadsText text (Err (text_fault.Shape n)) = read text ≡ Err (record { fault = line.Shape; line = n })
-ReadsText text (Err (text_fault.Range n)) = read text ≡ Err (record { fault = line.Range; line = n })
-ReadsText text (Err text_fault.Memory) = ⊤
+ReadsText text (Err (Refused refusal)) = read text ≡ Err (faulty_line refusal)
+ReadsText text (Err Memory) = ⊤

@@ -1,14 +1,14 @@
 //! Why a text is no trace.
 ghost use Rattle.std.specs.Prelude.{◌≡◌};
-ghost use Rattle.trace_text.specs.declared.fault.TextFault.TheVariants.{Memory as no_memory};
-ghost use Rattle.trace_text.specs.Text.{fault_at, fault_of, text_fault_number};
+ghost use Rattle.trace_text.specs.declared.fault.TextFault.TheVariants.{Memory as no_memory, Refused};
+ghost use Rattle.trace_text.specs.Text.{fault_of, faulty_line, text_refusal_number};
 
 use vox_geom::Memory;
 
-/// Why a text was not read (docs/FORMATS.md, "Trace text"): what is wrong with its first faulty line, whose number is counted
+/// Why a text is no trace (docs/FORMATS.md, "Trace text"): what is wrong with its first faulty line, whose number is counted
 /// from 1. Where several hold of that line, the first of them here is told.
 #[derive(Clone, Copy, PartialEq, Eq, Debug)]
-pub enum TextFault {
+pub enum TextRefusal {
     /// The line has a byte above 7F, be it in a comment.
     NotAscii { line: u32 },
     /// The line's word is none of the twelve.
@@ -17,22 +17,36 @@ pub enum TextFault {
     Shape { line: u32 },
     /// A difference is not of its kind, or Fission's number is not 0 to 255.
     Range { line: u32 },
+}
+
+/// Why a text was not read.
+#[derive(Clone, Copy, PartialEq, Eq, Debug)]
+pub enum TextFault {
+    /// The text is no trace.
+    Refused(TextRefusal),
     /// There was no memory.
     Memory,
 }
 
-impl TextFault {
+impl TextRefusal {
     /// The number by which the refusal is printed.
     pub fn number(self) -> u8
-        ensures { result ≡ text_fault_number self }
+        ensures { result ≡ text_refusal_number self }
     {
         match self {
-            TextFault::NotAscii { .. } => 1,
-            TextFault::UnknownWord { .. } => 2,
-            TextFault::Shape { .. } => 3,
-            TextFault::Range { .. } => 4,
-            TextFault::Memory => 5,
+            TextRefusal::NotAscii { .. } => 1,
+            TextRefusal::UnknownWord { .. } => 2,
+            TextRefusal::Shape { .. } => 3,
+            TextRefusal::Range { .. } => 4,
         }
+    }
+}
+
+impl From<TextRefusal> for TextFault {
+    ghost from_gives = { λ refusal fault. fault ≡ Refused refusal };
+
+    fn from(refusal: TextRefusal) -> TextFault {
+        TextFault::Refused(refusal)
     }
 }
 
@@ -54,15 +68,15 @@ pub(crate) enum Fault {
 }
 
 impl Fault {
-    /// The fault, of the line with this number.
-    pub(crate) fn at(self, line: u32) -> TextFault
-        ensures { result ≡ fault_at (fault_of self) line }
+    /// The refusal by this fault, of the line with this number.
+    pub(crate) fn at(self, line: u32) -> TextRefusal
+        ensures { faulty_line result ≡ record { fault = fault_of self; line = line } }
     {
         match self {
-            Fault::NotAscii => TextFault::NotAscii { line },
-            Fault::UnknownWord => TextFault::UnknownWord { line },
-            Fault::Shape => TextFault::Shape { line },
-            Fault::Range => TextFault::Range { line },
+            Fault::NotAscii => TextRefusal::NotAscii { line },
+            Fault::UnknownWord => TextRefusal::UnknownWord { line },
+            Fault::Shape => TextRefusal::Shape { line },
+            Fault::Range => TextRefusal::Range { line },
         }
     }
 }

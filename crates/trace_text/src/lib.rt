@@ -10,7 +10,7 @@ mod print;
 mod text;
 mod word;
 
-pub use fault::TextFault;
+pub use fault::{TextFault, TextRefusal};
 pub use laws::printing_and_reading;
 pub use print::print_trace;
 pub use text::read_text;

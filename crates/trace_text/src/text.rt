@@ -25,7 +25,7 @@ pub fn read_text(alloc: Global, bytes: &[u8]) -> Result<CommandList, TextFault>
         match read_line(line) {
             Line::Skipped => {}
             Line::Says(command) => commands.push(command)?,
-            Line::Faulty(fault) => return Err(fault.at(number)),
+            Line::Faulty(fault) => return Err(TextFault::Refused(fault.at(number))),
         }
     }
     Ok(commands)

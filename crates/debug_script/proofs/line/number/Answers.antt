@@ -1,4 +1,4 @@
-use Rattle.std.proofs.Common.{◌≡◌, ◌∙◌, ℕ, arith, sym, Ok}
+use Rattle.std.proofs.Common.{◌≡◌, ◌∙◌, arith, sym, Ok}
 use Rattle.std.proofs.lemmas.Fmt.{parse-decimal}
 use Rattle.debug_script.proofs.Numbers.{digits_are_text, same_digits}
 use Rattle.debug_script.proofs.line.number.Goals as goal

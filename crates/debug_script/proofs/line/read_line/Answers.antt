@@ -1,4 +1,4 @@
-use Rattle.std.proofs.Common.{◌≡◌, Bool, List, ℕ, subst, sym, Err}
+use Rattle.std.proofs.Common.{◌≡◌, Bool, subst, sym, Err}
 use Rattle.std.specs.Prelude.{MatchBool, Result}
 use Rattle.nano_spec.specs.Line.{Fault, NotAscii}
 use Rattle.step_debugger.specs.Session.{DebugLine}

@@ -2,7 +2,7 @@ use Rattle.std.proofs.Common.{refl, codes, ◌∷◌, subst, sym, Err}
 use Rattle.debug_script.specs.Calls.{IsReadBy, script_letters}
 use Rattle.debug_script.specs.Script.{PartsSay, line_parts}
 use Rattle.debug_script.specs.declared.word.ScriptWord.{ScriptWord}
-use Rattle.trace_text.specs.declared.fault.TextFault.TheVariants.{Shape}
+use Rattle.trace_text.specs.declared.fault.TextRefusal.TheVariants.{Shape}
 use Rattle.debug_script.proofs.Forms.{has_shape_fault, no_back, no_bots, no_step, parts_some}
 use Rattle.debug_script.proofs.line.read_numbers.Goals as goal
 

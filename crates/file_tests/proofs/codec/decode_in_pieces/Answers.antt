@@ -1,8 +1,9 @@
-use Rattle.std.proofs.Common.{◌≡◌, ◌+◌, ◌-◌, ℕ, List, ◌++◌, take, drop, sym, ◌∙◌, ap, subst, arith}
+use Rattle.std.proofs.Common.{◌≡◌, ◌+◌, ◌-◌, ℕ, List, ◌++◌, take, drop, sym, ◌∙◌, ap, subst, arith, rules}
 use Rattle.std.specs.Prelude.{Err}
 use Rattle.std.proofs.lemmas.List.{length-drop, length-take, take-append-drop, take_all}
 use Rattle.std.proofs.lemmas.Result.{err_from_is_err_and}
 use Rattle.std.proofs.Math.Seq.{take-add}
+use Rattle.trace_codec.specs.declared.fault.TraceFault.TheVariants.{Refused}
 use Rattle.trace_codec.specs.Decoder.{HasTaken}
 use Rattle.trace_codec.specs.Whole.{Decodes}
 use Rattle.file_tests.proofs.codec.decode_in_pieces.Goals as goal
@@ -30,6 +31,6 @@ returns-in_err-take_piece c =
 
 pub returns-in_err-end : goal.returns-in_err-end
 returns-in_err-end c =
-    let p = err_from_is_err_and c.from_residual-in_err-end.result c.from_residual-in_err-end.ensures.1 in
+    let is : c.from_residual-in_err-end.result ≡ Err (Refused c.in_err-end.field-0.0) = search rules in
     let ended = c.pieces_decode.ensures.cut (take c.loop-start.start c.args.trace.now) c.loop-start.commands c.loop-start.decoder c.in_err-end.field-0.0 c.loop-start.invariant.1 c.in_err-end.ensures in
-    rw (p.1, p.2) (subst (λ (b : List ℕ). Decodes b (Err c.in_err-end.field-0.0)) (take_all c.loop-start.start c.args.trace.now c.loop-start-test.false) ended)
+    rw is (subst (λ (b : List ℕ). Decodes b (Err (Refused c.in_err-end.field-0.0))) (take_all c.loop-start.start c.args.trace.now c.loop-start-test.false) ended)

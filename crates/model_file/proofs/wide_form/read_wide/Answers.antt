@@ -4,6 +4,7 @@ use Rattle.std.proofs.lemmas.List.{get_or_default, take_rest}
 use Rattle.nano_spec.specs.Matrix.{Matrix}
 use Rattle.nano_spec.specs.Model.{NoModel, of_runs, runs_in, volume, wide_form}
 use Rattle.model_file.specs.declared.fault.ModelFault.{ModelFault}
+use Rattle.model_file.specs.declared.fault.ModelFault.TheVariants.{Refused}
 use Rattle.model_file.specs.Fault.{ReadsModel}
 use Rattle.model_file.proofs.WideForms.{wide_is}
 use Rattle.model_file.proofs.wide_form.read_wide.Goals as goal
@@ -21,4 +22,4 @@ returns-in-Ok c =
 
 pub returns-in-Err : goal.returns-in-Err
 returns-in-Err c =
-    said c.args.bytes.now c.in_ok-planes.planes.resolution (c.from.result * 256 + c.from-2.result) (Err c.in-Err.fault) c.in_ok-planes.ensures.resolution c.if-bytes-lt2.false (λ i. (c.from.ensures ∙ get_or_default c.args.bytes.now 0 _ 0 (omega (arith, c.if-bytes-lt2.false))) i * 256 + (c.from-2.ensures ∙ get_or_default c.args.bytes.now 1 _ 0 (omega (arith, c.if-bytes-lt2.false))) i) c.if-r-lt-WIDE_FORM_LEAST_R.false c.if-r-gt-MOST_R.false c.in-Err.ensures
+    said c.args.bytes.now c.in_ok-planes.planes.resolution (c.from.result * 256 + c.from-2.result) (Err (Refused c.in-Err.refusal)) c.in_ok-planes.ensures.resolution c.if-bytes-lt2.false (λ i. (c.from.ensures ∙ get_or_default c.args.bytes.now 0 _ 0 (omega (arith, c.if-bytes-lt2.false))) i * 256 + (c.from-2.ensures ∙ get_or_default c.args.bytes.now 1 _ 0 (omega (arith, c.if-bytes-lt2.false))) i) c.if-r-lt-WIDE_FORM_LEAST_R.false c.if-r-gt-MOST_R.false c.in-Err.ensures

@@ -2,7 +2,7 @@ use Rattle.std.proofs.Common.{◌≡◌, inl, refl, subst, codes, Some}
 use Rattle.std.specs.Prelude.{IfSome}
 use Rattle.vox_depot.specs.Files.{Files}
 use Rattle.nanobot_rows.specs.Answer.{Answer}
-use Rattle.nanobot_rows.specs.Report.{words_line}
+use Rattle.nanobot_rows.specs.Lines.{words_line}
 use Rattle.nanobot_words.specs.Rows.{Row, texts}
 use Rattle.nanobot_rows.specs.Touching.{IsRowWithin}
 use Rattle.nanobot_rows.specs.declared.status.Status.TheVariants as is

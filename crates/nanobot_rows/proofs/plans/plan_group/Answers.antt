@@ -4,6 +4,7 @@ use Rattle.nanobot_rows.specs.Answer.{OfGroupPlan, group_limit}
 use Rattle.nanobot_rows.specs.Planners.{IsGroupPlan}
 use Rattle.nanobot_rows.specs.Effects.{reply_by}
 use Rattle.nanobot_words.specs.Parsing.{side_of}
+use Rattle.nanobot_rows.proofs.Replies.{one_named}
 use Rattle.nanobot_rows.proofs.Stored.{group_kept, models_end, models_stop, plan_kept}
 use Rattle.nanobot_rows.proofs.plans.plan_group.Goals as goal
 
@@ -20,7 +21,7 @@ returns-clause-finishes g c =
     let effect = c.in_ok-effect.effect in
     let these = c.in_ok-plan.ensures {u = tt} in
     let fits : most_bytes s t ≤ group_limit = search rules in
-    models_end _ (side_of c.args.source) (side_of c.args.target) (OfGroupPlan c.args.trace.now) s t effect (c.in_ok-source.ensures {u = tt}).reads
+    models_end _ (side_of c.args.source) (side_of c.args.target) (OfGroupPlan c.args.trace.now) (one_named _ _ c.requires.some) s t effect (c.in_ok-source.ensures {u = tt}).reads
     (λ files are_models. group_kept files c.args.trace.now s t (reply_by files effect) fits
     (plan_kept IsGroupPlan s t c.args.trace.now plan.commands plan.energy plan.steps effect
     (λ are. record {

@@ -4,6 +4,7 @@ use Rattle.nano_spec.specs.Spelling.{spellings}
 use Rattle.nanobot_rows.specs.Answer.{OfPlan}
 use Rattle.nanobot_rows.specs.Planners.{IsLayerPlan}
 use Rattle.nanobot_words.specs.Parsing.{side_of}
+use Rattle.nanobot_rows.proofs.Replies.{one_named}
 use Rattle.nanobot_rows.proofs.Stored.{models_end, models_stop, plan_kept}
 use Rattle.nanobot_rows.proofs.plans.plan_layer.Goals as goal
 
@@ -21,7 +22,7 @@ returns-clause-finishes g c =
     let t = c.in_ok-source.target in
     let plan = c.in_ok-plan.plan in
     let these = c.in_ok-plan.ensures {u = tt} in
-    models_end _ (side_of c.args.source) (side_of c.args.target) (OfPlan IsLayerPlan c.args.trace.now) s t c.in_ok-effect.effect (c.in_ok-source.ensures {u = tt}).reads
+    models_end _ (side_of c.args.source) (side_of c.args.target) (OfPlan IsLayerPlan c.args.trace.now) (one_named _ _ c.requires.some) s t c.in_ok-effect.effect (c.in_ok-source.ensures {u = tt}).reads
     (λ files are_models. plan_kept IsLayerPlan s t c.args.trace.now plan.commands plan.energy plan.steps c.in_ok-effect.effect
     (λ are. record {
       are_commands = are;

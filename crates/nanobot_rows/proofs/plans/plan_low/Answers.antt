@@ -22,7 +22,7 @@ returns-clause-finishes g c =
     let plan = c.in-Ok.plan in
     let effect = c.in_ok-effect.effect in
     let these = c.in-Ok.ensures {u = tt} in
-    models_end _ None (Some c.args.target.now) (OfLowPlan c.args.trace.now) s t effect (c.in_ok-nothing.ensures {u = tt}).reads
+    models_end _ None (Some c.args.target.now) (OfLowPlan c.args.trace.now) tt s t effect (c.in_ok-nothing.ensures {u = tt}).reads
     (λ files are_models. (
       None,
       these.supported,

@@ -18,7 +18,7 @@ returns-clause-finishes g c =
     let plan = c.in_ok-plan.plan in
     let effect = c.in_ok-effect.effect in
     let these = c.in_ok-plan.ensures {u = tt} in
-    models_end _ None (Some c.args.target.now) (OfPlan IsSwarmPlan c.args.trace.now) s t effect (c.in_ok-nothing.ensures {u = tt}).reads
+    models_end _ None (Some c.args.target.now) (OfPlan IsSwarmPlan c.args.trace.now) tt s t effect (c.in_ok-nothing.ensures {u = tt}).reads
     (λ files are_models. plan_kept IsSwarmPlan s t c.args.trace.now plan.commands plan.energy plan.steps effect
     (λ are. subst (λ (m : Matrix). IsSwarmPlan m t plan.commands plan.energy plan.steps) (sym (nothing_here files c.args.target.now s t are_models)) (record {
       are_commands = are;

@@ -18,7 +18,7 @@ returns-clause-finishes g c =
     let plan = c.in_ok-plan.plan in
     let effect = c.in_ok-effect.effect in
     let these = c.in_ok-plan.ensures {u = tt} in
-    models_end _ (Some c.args.source.now) None (OfPlan IsVoidPlan c.args.trace.now) s t effect (c.in_ok-source.ensures {u = tt}).reads
+    models_end _ (Some c.args.source.now) None (OfPlan IsVoidPlan c.args.trace.now) tt s t effect (c.in_ok-source.ensures {u = tt}).reads
     (λ files are_models. plan_kept IsVoidPlan s t c.args.trace.now plan.commands plan.energy plan.steps effect
     (λ are. subst (λ (m : Matrix). IsVoidPlan s m plan.commands plan.energy plan.steps) (sym (nothing_there files c.args.source.now s t are_models)) (record {
       are_commands = are;

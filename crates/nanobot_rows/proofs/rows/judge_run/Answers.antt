@@ -2,7 +2,7 @@ use Rattle.std.proofs.Common.{◌≡◌, refl, rules, Err}
 use Rattle.nano_spec.proofs.Opening.{legal_is}
 use Rattle.nanobot_words.specs.Parsing.{side_of}
 use Rattle.nanobot_rows.proofs.Paying.{run_untouched, run_within}
-use Rattle.nanobot_rows.proofs.Replies.{run_ends, run_stops}
+use Rattle.nanobot_rows.proofs.Replies.{one_named, run_ends, run_stops}
 use Rattle.nanobot_rows.proofs.rows.judge_run.Goals as goal
 
 pub returns-in_err-source-clause-ends : goal.returns-in_err-source-clause-ends
@@ -15,11 +15,11 @@ returns-in_err-source-clause-within g c = λ _. run_untouched c.args.profile _ (
 
 pub returns-clause-ends : goal.returns-clause-ends
 returns-clause-ends g c =
-    run_ends c.args.profile _ (side_of c.args.source) (side_of c.args.target) c.args.trace.now _ _ _ _ c.in_ok-source.source c.in_ok-source.target c.run_trace.result (c.in_ok-source.ensures {u = tt}).reads c.load_models.ensures.files c.load_models.ensures.later c.run_trace.ensures.reads
+    run_ends c.args.profile _ (side_of c.args.source) (side_of c.args.target) c.args.trace.now (one_named _ _ c.requires.some) _ _ _ _ c.in_ok-source.source c.in_ok-source.target c.run_trace.result (c.in_ok-source.ensures {u = tt}).reads c.load_models.ensures.files c.load_models.ensures.later c.run_trace.ensures.reads
 
 pub returns-clause-within : goal.returns-clause-within
 returns-clause-within g c = λ no_memory.
-    run_within c.args.profile _ (side_of c.args.source) (side_of c.args.target) c.args.trace.now c.in_ok-source.source c.in_ok-source.target _ _ _ (c.in_ok-source.ensures {u = tt}).reads c.load_models.ensures.files (c.run_trace.ensures.within no_memory)
+    run_within c.args.profile _ (side_of c.args.source) (side_of c.args.target) c.args.trace.now (one_named _ _ c.requires.some) c.in_ok-source.source c.in_ok-source.target _ _ _ (c.in_ok-source.ensures {u = tt}).reads c.load_models.ensures.files (c.run_trace.ensures.within no_memory)
 
 pub run_trace-requires-clause-grounded : goal.run_trace-requires-clause-grounded
 run_trace-requires-clause-grounded g c = (legal_is c.in_ok-source.source (c.in_ok-source.ensures {u = tt}).source).1
