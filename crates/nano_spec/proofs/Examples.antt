@@ -75,6 +75,7 @@ worked_models = record {
   three_runs = refl;
   three_runs_written = refl;
   voxels_of_runs = refl;
+  model_of_runs = refl;
   runs_of_voxels = refl;
   written_without_padding = refl;
   padding_is_ignored = refl;

@@ -7,7 +7,7 @@ use Rattle.nano_spec.specs.Grounded.{Grounded}
 use Rattle.nano_spec.specs.Legal.{Legality, Border, Floating}
 use Rattle.nano_spec.specs.Level.{Level}
 use Rattle.nano_spec.specs.Matrix.{empty}
-use Rattle.nano_spec.specs.Model.{model, written, volume, runs_in, run_lengths, voxels_of, four_bytes, NoByte, Resolution, Short, Long, WideHead, WideResolution, WideRun, WideShort, WideLong}
+use Rattle.nano_spec.specs.Model.{model, written, volume, of_runs, runs_in, run_lengths, voxels_of, four_bytes, NoByte, Resolution, Short, Long, WideHead, WideResolution, WideRun, WideShort, WideLong}
 use Rattle.nano_spec.specs.Printing.{print}
 use Rattle.nano_spec.specs.Line.{NotAscii, UnknownWord, Shape, Range}
 use Rattle.nano_spec.specs.Reading.{read}
@@ -106,6 +106,8 @@ pub record WorkedModels : Type 0 where
   pub three_runs_written : flat_map four_bytes (63002 ∷ 1 ∷ 15750248 ∷ []) ≡ hex "00 00 F6 1A 00 00 00 01 00 F0 54 68"
   -- the first run is void
   pub voxels_of_runs : voxels_of false (1 ∷ 2 ∷ 1 ∷ []) ≡ false ∷ true ∷ true ∷ false ∷ []
+  -- the first run of a model is void
+  pub model_of_runs : of_runs 2 (Ok (1 ∷ 2 ∷ 5 ∷ [])) ≡ Ok (record { resolution = 2; voxels = false ∷ true ∷ true ∷ false ∷ false ∷ false ∷ false ∷ false ∷ [] })
   -- the runs of five voxels, of which the first and the last two are full
   pub runs_of_voxels : run_lengths 0 false (true ∷ false ∷ false ∷ true ∷ true ∷ []) ≡ 0 ∷ 1 ∷ 2 ∷ 2 ∷ []
   -- unused bits are written 0
