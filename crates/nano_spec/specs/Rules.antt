@@ -64,7 +64,7 @@ fault s all a _ = None
 abbrev pub rules_of_bots : List Rule
 rules_of_bots = Forbidden ∷ HaltAlone ∷ HaltOrigin ∷ HaltLow ∷ OutOfSpace ∷ Blocked ∷ Seeds ∷ InRegion ∷ Partner ∷ GroupShape ∷ []
 
--- a broken rule of a bot
+-- the rule as broken by the bot of this bid, where there is a place at which it is
 abbrev pub broken_by : ℕ → Rule → ℕ → Option Coord → Option Broken
 broken_by step rule bid at = option_map (λ c. record { step = step; bid = bid; rule = rule; at = c }) at
 

@@ -24,7 +24,7 @@ use Rattle.debug_script.specs.Calls.{lines_are}
 use Rattle.debug_script.specs.Script.{ScriptSays}
 use Rattle.debug_script.specs.declared.line.ScriptLine.{ScriptLine}
 use Rattle.nanobot_rows.specs.Answer.{dis_limit, script_limit, text_limit}
-use Rattle.nanobot_rows.specs.Reading.{IsTold, IsScriptOf, IsTextOf, IsTraceOf, Lacks, Reads, RefusesDecoding, RefusesLines, RefusesReading, RefusesScript, RefusesText, RefusesTrace, of_text, of_trace}
+use Rattle.nanobot_rows.specs.Reading.{IsReportOf, IsScriptOf, IsTextOf, IsTraceOf, Lacks, Reads, RefusesDecoding, RefusesLines, RefusesReading, RefusesScript, RefusesText, RefusesTrace, of_text, of_trace}
 use Rattle.nanobot_rows.specs.declared.status.Status.TheVariants as is
 use Rattle.nanobot_rows.specs.Lines.{trace_line}
 use Rattle.nanobot_rows.proofs.Told.{told_weaker}
@@ -103,7 +103,7 @@ module _ (told : Option Files) (name v : List ℕ) (most : ℕ) (one_more : most
     pub trace_found : (commands : List Command) → Cutting v commands → IfSome told (λ files. IsTraceOf files name commands)
     trace_found commands cutting = told_weaker told name _ _ (λ file h. (h.0, subst (λ (bytes : List ℕ). Cutting bytes commands) (sym h.1) cutting)) (is_whole told name v dis_limit most one_more loaded fits)
 
-    no_cutting : (why : NoTrace) (r : Report) → IsTold r is.Trace (trace_line why) → Decoding v (Err why) → IfSome told (λ files. RefusesTrace name files r)
+    no_cutting : (why : NoTrace) (r : Report) → IsReportOf r is.Trace (trace_line why) → Decoding v (Err why) → IfSome told (λ files. RefusesTrace name files r)
     no_cutting why r e decoding = told_weaker told name _ _ (λ file h.
         subst (λ b. MatchBool b (r ≡ TraceLong dis_limit) (RefusesDecoding file r)) (sym (not_longer dis_limit (length file) h.0))
         (why, subst (λ (bytes : List ℕ). Decoding bytes (Err why)) (sym h.1) decoding, e)) (is_whole told name v dis_limit most one_more loaded fits)

@@ -21,7 +21,7 @@ use Rattle.nanobot_rows.specs.declared.report.Who.TheVariants as who
 use Rattle.nanobot_words.specs.Rows.{HasName, check}
 use Rattle.nanobot_rows.specs.Answer.{AnswerOf, AnswerOfRun, Answers, run_limit, OfBytes, OfDecoding, OfRun, OfTrace, Reply, WithBoth, WithFile, WithModel, WithModels, WithSide}
 use Rattle.nanobot_rows.specs.Models.{AreModels, IsModelOf, IsSide}
-use Rattle.nanobot_rows.specs.Reading.{AreBoth, AreUnlike, EndsUnstored, HasSide, IsTold, Lacks, LacksModels, LacksSide, OnBytes, OnCommands, OnDecoding, OnFile, OnTrace, Reads, RefusesBytes, RefusesFile, RefusesModels, RefusesSide, by_both, by_source, by_target, no_such_file, lacks_source, lacks_target, reply_of, tells_nothing}
+use Rattle.nanobot_rows.specs.Reading.{AreBoth, AreUnlike, EndsUnstored, HasSide, IsReportOf, Lacks, LacksModels, LacksSide, OnBytes, OnCommands, OnDecoding, OnFile, OnTrace, Reads, RefusesBytes, RefusesFile, RefusesModels, RefusesSide, by_both, by_source, by_target, no_such_file, lacks_source, lacks_target, reply_of, tells_nothing}
 use Rattle.nanobot_rows.specs.declared.status.Status.{Status}
 use Rattle.nanobot_rows.specs.Lines.{verdict_line, verdict_status}
 use Rattle.nanobot_rows.specs.Report.{of_verdict}
@@ -38,7 +38,7 @@ rose_since a b c l h = omega (arith, h)
 -- ---- what a report tells
 
 -- the reply of a report with this status and this line
-pub reply_told : (files : Files) (r : Report) (status : Status) (line : List ℕ) → IsTold r status line → reply_of files r ≡ record { status = status; line = line; after = files }
+pub reply_told : (files : Files) (r : Report) (status : Status) (line : List ℕ) → IsReportOf r status line → reply_of files r ≡ record { status = status; line = line; after = files }
 reply_told files r status line e = λ i. record { status = e.0 i; line = e.1 i; after = files }
 
 -- ---- one model

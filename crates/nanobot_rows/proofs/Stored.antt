@@ -22,7 +22,7 @@ use Rattle.nanobot_rows.specs.Effects.{EndsStored, KeepsPlan, bytes_by, files_wi
 use Rattle.nanobot_rows.specs.declared.status.Status.TheVariants as is
 use Rattle.nanobot_rows.specs.Lines.{group_long_line, stored_line, trace_line}
 use Rattle.nanobot_rows.specs.Models.{AreModels}
-use Rattle.nanobot_rows.specs.Reading.{IsTold, IsTextOf, IsTraceOf, Lacks, LacksModels, Reads, RefusesDecoding, RefusesModels, RefusesReading, RefusesText, RefusesTrace, no_such_file, reply_of}
+use Rattle.nanobot_rows.specs.Reading.{IsReportOf, IsTextOf, IsTraceOf, Lacks, LacksModels, Reads, RefusesDecoding, RefusesModels, RefusesReading, RefusesText, RefusesTrace, no_such_file, reply_of}
 use Rattle.nanobot_rows.specs.Report.{report_line}
 use Rattle.nanobot_words.specs.Rows.{HasName, dis}
 use Rattle.nanobot_rows.proofs.Loads.{not_longer}
@@ -63,7 +63,7 @@ module _ (files : Files) (name : List ℕ) (p : List Command → Reply → Type 
   pub trace_refused : (told : Report) → RefusesTrace name files told → WithFile files name (λ bytes. OfTrace dis_limit files bytes p) (reply_of files told)
   trace_refused told refuses = of_file files name (λ bytes. MatchBool (nat_lt dis_limit (length bytes)) (told ≡ report.TraceLong dis_limit) (RefusesDecoding bytes told)) (λ bytes. OfTrace dis_limit files bytes p) (reply_of files told) (λ bytes g. by bytes (nat_lt dis_limit (length bytes)) g) refuses
     where
-      none : (bytes : List ℕ) (why : NoTrace) → Decoding bytes (Err why) → IsTold told is.Trace (trace_line why) → (d : Result (List Command) NoTrace) × Decoding bytes d × OfDecoding files d p (reply_of files told)
+      none : (bytes : List ℕ) (why : NoTrace) → Decoding bytes (Err why) → IsReportOf told is.Trace (trace_line why) → (d : Result (List Command) NoTrace) × Decoding bytes d × OfDecoding files d p (reply_of files told)
       none bytes why decoding e = (Err why, decoding, reply_told files told _ _ e)
 
       by : (bytes : List ℕ) (b : Bool) → MatchBool b (told ≡ report.TraceLong dis_limit) (RefusesDecoding bytes told)

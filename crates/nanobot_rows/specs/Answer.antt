@@ -31,11 +31,13 @@ use Rattle.nanobot_rows.specs.Planners.{IsGroupPlan, IsLayerPlan, IsLowPlan, IsS
 use Rattle.nanobot_rows.specs.Lines.{exercised_head, exercised_line, forged_line, group_long_line, legal_line, no_model_line, not_legal_line, planned_line, resolutions_line, stored_line, text_line, text_long_line, trace_line, trace_long_line, unsupported_line, verdict_line, verdict_status, words_line}
 use Rattle.nanobot_words.specs.Rows.{Row, asm, check, debug, dis, exercise, light, make, plan_group, plan_layer, plan_low, plan_swarm, plan_void, run, IsRow, IsInNoRow, MakesPlans}
 
+-- what is answered: a status, a line, which is empty where none is told, and the files afterwards
 pub record Reply : Type 0 where
   pub status : Status
   pub line : List ℕ
   pub after : Files
 
+-- what may be answered over files
 abbrev pub Answers : Type 1
 Answers = Files → Reply → Type 0
 
@@ -65,7 +67,7 @@ WithFile files name p reply = MatchOption (content files name) (IsGone files rep
 
 -- ---- models
 
--- the model, where it is legal
+-- p, where the model is legal, and else why it is not
 abbrev pub Judged : Who → Files → Option NotLegal → (Reply → Type 0) → Reply → Type 0
 Judged who files None p = p
 Judged who files (Some why) p = IsReply is.Model (not_legal_line who why) files

@@ -78,15 +78,15 @@ Reads told rose P R M (Err stop.Depot) = rose ⊎ IsSomeAnd told M
 Reads told rose P R M (Err stop.Memory) = ⊤
 
 -- the report has this status and this line
-abbrev pub IsTold : Report → Status → List ℕ → Type 0
-IsTold report status line = (status_of report ≡ status) × (report_line report ≡ line)
+abbrev pub IsReportOf : Report → Status → List ℕ → Type 0
+IsReportOf report status line = (status_of report ≡ status) × (report_line report ≡ line)
 
 -- ---- models
 
 -- the report on what bytes say that is no legal model
 abbrev pub RefusesBytes : Who → Result Matrix NoModel → Report → Type 0
-RefusesBytes who (Err why) report = IsTold report is.Model (no_model_line who why)
-RefusesBytes who (Ok m) report = (why : NotLegal) × Legality m (Some why) × IsTold report is.Model (not_legal_line who why)
+RefusesBytes who (Err why) report = IsReportOf report is.Model (no_model_line who why)
+RefusesBytes who (Ok m) report = (why : NotLegal) × Legality m (Some why) × IsReportOf report is.Model (not_legal_line who why)
 
 abbrev pub RefusesFile : Who → List ℕ → Files → Report → Type 0
 RefusesFile who name files report = IsSomeAnd (content files name) (λ bytes. RefusesBytes who (model bytes) report)
@@ -142,7 +142,7 @@ IsTextOf files name commands = IsSomeAnd (content files name) (λ bytes. (length
 -- the report on what a text says that says no commands
 abbrev pub RefusesReading : Result (List Command) FaultyLine → Report → Type 0
 RefusesReading (Ok commands) report = ⊥
-RefusesReading (Err faulty) report = IsTold report is.Text (text_line faulty.fault faulty.line)
+RefusesReading (Err faulty) report = IsReportOf report is.Text (text_line faulty.fault faulty.line)
 
 abbrev pub RefusesText : List ℕ → Files → Report → Type 0
 RefusesText name files report = IsSomeAnd (content files name)
@@ -154,7 +154,7 @@ IsTraceOf files name commands = IsSomeAnd (content files name) (λ bytes. (lengt
 
 -- the report on bytes that are no trace
 abbrev pub RefusesDecoding : List ℕ → Report → Type 0
-RefusesDecoding bytes report = (why : NoTrace) × Decoding bytes (Err why) × IsTold report is.Trace (trace_line why)
+RefusesDecoding bytes report = (why : NoTrace) × Decoding bytes (Err why) × IsReportOf report is.Trace (trace_line why)
 
 abbrev pub RefusesTrace : List ℕ → Files → Report → Type 0
 RefusesTrace name files report = IsSomeAnd (content files name)
@@ -166,7 +166,7 @@ IsScriptOf files name r script = IsSomeAnd (content files name) (λ bytes. (leng
 
 -- the report on what a script says that has a faulty line
 abbrev pub RefusesLines : ℕ → List ℕ → Report → Type 0
-RefusesLines r bytes report = (faulty : FaultyLine) × ScriptSays r bytes (Err faulty) × IsTold report is.Text (text_line faulty.fault faulty.line)
+RefusesLines r bytes report = (faulty : FaultyLine) × ScriptSays r bytes (Err faulty) × IsReportOf report is.Text (text_line faulty.fault faulty.line)
 
 abbrev pub RefusesScript : List ℕ → ℕ → Files → Report → Type 0
 RefusesScript name r files report = IsSomeAnd (content files name)
