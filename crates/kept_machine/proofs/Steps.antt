@@ -1,0 +1,142 @@
+-- What is seen of a machine and its notes after a step, and after a step that is taken back.
+use Rattle.std.proofs.Common.{◌≡◌, ℕ, ◌-◌, refl, sym, ◌∙◌, ap, subst, List, [], ◌∷◌, ◌++◌, length, take}
+use Rattle.std.specs.Prelude.{Ok, Err, Some, false}
+use Rattle.circular_buffer.specs.Buffer.{Buffer, buffer, keep_last, last_item}
+use Rattle.nano_spec.specs.declared.commands.Command.{Command}
+use Rattle.nano_spec.specs.declared.system.Profile.{Profile}
+use Rattle.nano_spec.specs.Matrix.{Matrix}
+use Rattle.nano_spec.specs.State.{IsWellFormed, opening}
+use Rattle.step_machine.specs.Situation.{Situation}
+use Rattle.step_machine.specs.Stepped.{Stepped}
+use Rattle.step_machine.specs.Undoing.{MayUndo, state_before}
+use Rattle.step_machine.specs.declared.machine.StepOk.{StepOk}
+use Rattle.step_machine.specs.declared.machine.StepFault.{StepFault}
+use Rattle.step_machine.specs.declared.machine.StepFault.TheVariants as fault
+use Rattle.step_machine.specs.declared.undo.Undo.{Undo}
+use Rattle.kept_machine.specs.declared.fault.NoStep.{NoStep}
+use Rattle.kept_machine.specs.declared.fault.NoStep.TheVariants as no_step
+use Rattle.kept_machine.specs.Calls.{IsMade, IsTakenBack, Tries, no_step_of}
+use Rattle.kept_machine.specs.Kept.{CanBeTakenBack, CanStep, CannotStep, Instant, IsKept, instant_before, instant_of, instants_of, kept_of}
+use Rattle.kept_machine.proofs.Notes.{back_last, back_less, back_more, instants_last, instants_more, last_split}
+use Rattle.kept_machine.proofs.Standing.{looks_the_same, still_kept}
+
+-- ---- a machine that was started
+
+pub opened_is_kept : (source : Matrix) (profile : Profile) (room : ℕ) (m : Situation) (notes : Buffer Undo) → m ≡ record { state = opening source profile; steps = 0; spent = false } → notes ≡ buffer [] room
+    → IsWellFormed (opening source profile) → IsKept m notes
+opened_is_kept source profile room m notes is none formed = record {
+  well_formed = subst (λ (x : Situation). IsWellFormed x.state) (sym is) formed;
+  back = subst (λ (b : Buffer Undo). CanBeTakenBack (instant_of m) b.items) (sym none) tt;
+}
+
+-- ---- a step that was made and noted
+
+module _ (v w : Situation) (notes rest : Buffer Undo) (commands : List Command) (undo : Undo) (ok : StepOk) (began ended : ℕ)
+    (kept : IsKept v notes) (stepped : Stepped v w commands (Ok ok) began ended) (before : state_before w.state undo ≡ v.state) (counted : undo.steps ≡ v.steps)
+    (may : IsWellFormed v.state → MayUndo w.state undo) (pushed : rest ≡ buffer (keep_last notes.capacity (notes.items ++ undo ∷ [])) notes.capacity) where
+  before_is : instant_before (instant_of w) undo ≡ instant_of v
+  before_is = λ i. record { state = before i; steps = counted i }
+
+  items_are : rest.items ≡ keep_last notes.capacity (notes.items ++ undo ∷ [])
+  items_are = ap (λ (b : Buffer Undo). b.items) pushed
+
+  pub kept_noted : IsKept w rest
+  kept_noted = record {
+    well_formed = stepped.well_formed kept.well_formed;
+    back =
+        subst (λ (us : List Undo). CanBeTakenBack (instant_of w) us) (sym items_are)
+        (back_last (instant_of w) notes.capacity (notes.items ++ undo ∷ [])
+        (back_more (instant_of w) notes.items undo (subst (λ (p : Instant). CanBeTakenBack p notes.items) (sym before_is) kept.back) (may kept.well_formed)));
+  }
+
+  past_is : instants_of (instant_of w) rest.items ≡ keep_last notes.capacity (instants_of (instant_of v) notes.items ++ instant_of v ∷ [])
+  past_is =
+      ap (instants_of (instant_of w)) items_are
+      ∙ (instants_last (instant_of w) notes.capacity (notes.items ++ undo ∷ [])
+      ∙ ap (keep_last notes.capacity) (instants_more (instant_of w) notes.items undo ∙ (λ i. instants_of (before_is i) notes.items ++ before_is i ∷ [])))
+
+  pub made_noted : IsMade (kept_of v notes) commands (kept_of w rest) ok
+  made_noted = record {
+    goes = stepped.goes;
+    counted = stepped.counted;
+    past = past_is;
+    room = ap (λ (b : Buffer Undo). b.capacity) pushed;
+    energy = stepped.energy;
+    halted = stepped.halted;
+  }
+
+-- ---- a step that was made where no notes are kept
+
+module _ (v w : Situation) (notes : Buffer Undo) (commands : List Command) (ok : StepOk) (began ended : ℕ)
+    (kept : IsKept v notes) (stepped : Stepped v w commands (Ok ok) began ended) (none : notes ≡ buffer [] 0) where
+  pub kept_once : IsKept w notes
+  kept_once = record {
+    well_formed = stepped.well_formed kept.well_formed;
+    back = subst (λ (b : Buffer Undo). CanBeTakenBack (instant_of w) b.items) (sym none) tt;
+  }
+
+  pub made_once : IsMade (kept_of v notes) commands (kept_of w notes) ok
+  made_once = record {
+    goes = stepped.goes;
+    counted = stepped.counted;
+    past = subst (λ (b : Buffer Undo). instants_of (instant_of w) b.items ≡ keep_last b.capacity (instants_of (instant_of v) b.items ++ instant_of v ∷ [])) (sym none) refl;
+    room = refl;
+    energy = stepped.energy;
+    halted = stepped.halted;
+  }
+
+-- ---- a step that was not made
+
+module _ (v w : Situation) (notes : Buffer Undo) (commands : List Command) where
+  pub kept_refused : (f : StepFault) (began ended : ℕ) → IsKept v notes → Stepped v w commands (Err f) began ended → IsKept w notes
+  kept_refused f began ended kept stepped = still_kept v w notes stepped.stays.0 stepped.stays.1 kept
+
+  pub refused_so : (f : StepFault) (began ended : ℕ) → CanStep v commands → Stepped v w commands (Err f) began ended → Tries (kept_of v notes) commands (kept_of w notes) (Err (no_step_of f))
+  refused_so (fault.Broken b) began ended can stepped = (looks_the_same v w notes stepped.stays.0 stepped.stays.1, can.each, stepped.breaks.1)
+  refused_so fault.Memory began ended can stepped = looks_the_same v w notes stepped.stays.0 stepped.stays.1
+  refused_so fault.Spent began ended can stepped = looks_the_same v w notes stepped.stays.0 stepped.stays.1
+
+-- the commands cannot be judged, and nothing was done
+pub cannot_so : (v : Situation) (notes : Buffer Undo) (commands : List Command) (f : NoStep) → CannotStep v commands f → Tries (kept_of v notes) commands (kept_of v notes) (Err f)
+cannot_so v notes commands (no_step.Broken b) h = absurd h
+cannot_so v notes commands no_step.Ended h = (refl, h)
+cannot_so v notes commands no_step.Count h = (refl, h)
+cannot_so v notes commands no_step.Long h = (refl, h)
+cannot_so v notes commands no_step.Memory h = absurd h
+
+-- ---- the last step is taken back
+
+module _ (v w : Situation) (notes rest : Buffer Undo) (undo : Undo) (kept : IsKept v notes) (last : last_item notes.items ≡ Some undo) where
+  split : notes.items ≡ take (length notes.items - 1) notes.items ++ undo ∷ []
+  split = last_split notes.items undo last
+
+  less : MayUndo v.state undo × CanBeTakenBack (instant_before (instant_of v) undo) (take (length notes.items - 1) notes.items)
+  less = back_less (instant_of v) (take (length notes.items - 1) notes.items) undo (subst (λ (us : List Undo). CanBeTakenBack (instant_of v) us) split kept.back)
+
+  pub may_go_back : MayUndo v.state undo
+  may_go_back = less.0
+
+  module _ (is : w ≡ record { state = state_before v.state undo; steps = undo.steps; spent = false }) (popped : rest ≡ buffer (take (length notes.items - 1) notes.items) notes.capacity) where
+    before_was : instant_before (instant_of v) undo ≡ instant_of w
+    before_was = λ i. record { state = sym (ap (λ (m : Situation). m.state) is) i; steps = sym (ap (λ (m : Situation). m.steps) is) i }
+
+    items_left : rest.items ≡ take (length notes.items - 1) notes.items
+    items_left = ap (λ (b : Buffer Undo). b.items) popped
+
+    pub kept_back : IsKept w rest
+    kept_back = record {
+      well_formed = subst IsWellFormed (sym (ap (λ (m : Situation). m.state) is)) less.0.before.well_formed;
+      back =
+          subst (λ (us : List Undo). CanBeTakenBack (instant_of w) us) (sym items_left)
+          (subst (λ (p : Instant). CanBeTakenBack p (take (length notes.items - 1) notes.items)) before_was less.1);
+    }
+
+    pub taken_back : IsTakenBack (kept_of v notes) (kept_of w rest)
+    taken_back = record {
+      past =
+          ap (instants_of (instant_of v)) split
+          ∙ (instants_more (instant_of v) (take (length notes.items - 1) notes.items) undo
+          ∙ ((λ i. instants_of (before_was i) (take (length notes.items - 1) notes.items) ++ before_was i ∷ [])
+          ∙ ap (λ (us : List Undo). instants_of (instant_of w) us ++ instant_of w ∷ []) (sym items_left)));
+      room = ap (λ (b : Buffer Undo). b.capacity) popped;
+    }

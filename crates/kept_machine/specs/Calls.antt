@@ -1,0 +1,78 @@
+-- What the calls of a kept machine answer and do.
+use Rattle.std.specs.Prelude.{◌≡◌, ◌≢◌, ℕ, ◌+◌, ◌≤◌, ◌↔◌, ◌⊎◌, List, [], ◌∷◌, ◌++◌, length, Option, Result, Ok, Err, true, ⊤}
+use Rattle.circular_buffer.specs.Buffer.{keep_last}
+use Rattle.vox_geom.specs.declared.coordinate.Coord.{Coord}
+use Rattle.vox_geom.specs.Space.{IsInSpace}
+use Rattle.nano_spec.specs.declared.commands.Command.{Command}
+use Rattle.nano_spec.specs.declared.system.Profile.{Profile}
+use Rattle.nano_spec.specs.Legal.{IsLegal}
+use Rattle.nano_spec.specs.Level.{Level}
+use Rattle.nano_spec.specs.Matrix.{Matrix}
+use Rattle.nano_spec.specs.Model.{model}
+use Rattle.nano_spec.specs.Next.{Breaks, Goes, Next}
+use Rattle.model_file.specs.declared.fault.ModelFault.{ModelFault}
+use Rattle.model_file.specs.Fault.{Judges, ReadsModel}
+use Rattle.step_machine.specs.declared.machine.StepOk.{StepOk}
+use Rattle.step_machine.specs.declared.machine.StepFault.{StepFault}
+use Rattle.step_machine.specs.declared.machine.StepFault.TheVariants as fault
+use Rattle.kept_machine.specs.declared.fault.NoLevel.{NoLevel}
+use Rattle.kept_machine.specs.declared.fault.NoLevel.TheVariants as no_level
+use Rattle.kept_machine.specs.declared.fault.NoStep.{NoStep}
+use Rattle.kept_machine.specs.declared.fault.NoStep.TheVariants as no_step
+use Rattle.kept_machine.specs.declared.fault.NoUndo.{NoUndo}
+use Rattle.kept_machine.specs.declared.fault.NoUndo.TheVariants as no_undo
+use Rattle.kept_machine.specs.Kept.{Kept, opened, present}
+
+-- a machine is started over a legal source, or the source is refused as the definition refuses it
+abbrev pub Opens : Matrix → Profile → ℕ → Result Kept ModelFault → Type 0
+Opens source profile room (Ok k) = IsLegal source × (k ≡ opened source profile room)
+Opens source profile room (Err fault) = Judges source (Err fault)
+
+-- the same over the model that bytes say, where they say one
+abbrev pub OpensFile : List ℕ → Profile → ℕ → Result Kept ModelFault → Type 0
+OpensFile bytes profile room answer =
+    ((m : Matrix) × (model bytes ≡ Ok m) × Opens m profile room answer)
+    ⊎ ((fault : ModelFault) × (answer ≡ Err fault) × ReadsModel (model bytes) (Err fault))
+
+-- a step was made: it leads to the definition's state, and can be taken back as long as it is among the last that are kept
+pub record IsMade (old : Kept) (commands : List Command) (new : Kept) (ok : StepOk) : Type 0 where
+  pub goes : Next old.state commands (old.steps + 1) (Goes new.state)
+  pub counted : new.steps ≡ old.steps + 1
+  pub past : new.past ≡ keep_last old.room (old.past ++ present old ∷ [])
+  pub room : new.room ≡ old.room
+  -- the answer tells the energy so far, and whether no bot is left
+  pub energy : ok.energy ≡ new.state.energy
+  pub halted : ok.halted ≡ true ↔ new.state.bots ≡ []
+
+-- what a step answers and does: one that is not made leaves all as it was
+abbrev pub Tries : Kept → List Command → Kept → Result StepOk NoStep → Type 0
+Tries old commands new (Ok ok) = IsMade old commands new ok
+Tries old commands new (Err (no_step.Broken b)) =
+    (new ≡ old) × (length commands ≡ length old.state.bots) × Next old.state commands (old.steps + 1) (Breaks b)
+Tries old commands new (Err no_step.Ended) = (new ≡ old) × (old.state.bots ≡ [])
+Tries old commands new (Err no_step.Count) = (new ≡ old) × (length commands ≢ length old.state.bots)
+Tries old commands new (Err no_step.Long) = (new ≡ old) × (1073741824 ≤ old.steps)
+Tries old commands new (Err no_step.Memory) = new ≡ old
+
+-- what is answered where the machine of the system does not make a step
+abbrev pub no_step_of : StepFault → NoStep
+no_step_of (fault.Broken b) = no_step.Broken b
+no_step_of fault.Memory = no_step.Memory
+no_step_of fault.Spent = no_step.Memory
+
+-- the last step is taken back: where the machine stood before it, it stands again, and the steps before can be taken back next
+pub record IsTakenBack (old new : Kept) : Type 0 where
+  pub past : old.past ≡ new.past ++ present new ∷ []
+  pub room : new.room ≡ old.room
+
+-- what an undo answers and does: one that is refused leaves all as it was
+abbrev pub TakesBack : Kept → Kept → Result (Unit {0}) NoUndo → Type 0
+TakesBack old new (Ok _) = IsTakenBack old new
+TakesBack old new (Err no_undo.NoNote) = (new ≡ old) × (old.past ≡ [])
+TakesBack old new (Err no_undo.Memory) = new ≡ old
+
+-- the level that the definition gives, or that the coordinate is out of space
+abbrev pub TellsLevel : Matrix → Coord → Result (Option ℕ) NoLevel → Type 0
+TellsLevel m c (Ok level) = IsInSpace m.resolution c × Level m c level
+TellsLevel m c (Err no_level.Outside) = IsInSpace m.resolution c → ⊥
+TellsLevel m c (Err no_level.Memory) = ⊤

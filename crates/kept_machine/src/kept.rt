@@ -1,0 +1,191 @@
+//! The machine that is kept.
+ghost use Rattle.std.specs.Prelude.{◌≡◌, ◌≤◌, [], length, count_by, IfOk};
+ghost use Rattle.nano_spec.specs.Matrix.{all_of, empty as empty_of, is_full};
+ghost use Rattle.kept_machine.specs.Calls.{OpensFile, Opens, TakesBack, TellsLevel, Tries};
+
+use crate::fault::{NoLevel, NoStep, NoUndo};
+use crate::reading::{count_full, find_level, is_full_at};
+use crate::stepping::{copy_of, start_over, take_back, try_step};
+use circular_buffer::HeapCircularBuffer;
+use model_file::{ModelFault, read_model};
+use nano_spec::{Bot, Command, Harmonics, Profile, opening_is_well_formed};
+use std::alloc::Global;
+use std::marker::{Brand, Model};
+use std::sync::ledger::Blank;
+use step_machine::{Machine, StepOk, Undo};
+use vox_geom::{Coord, Memory};
+use vox_planes::Planes;
+
+/// A machine between two steps, with notes of its last steps. Contracts see its state, how many steps were made, and the points
+/// before the steps that can be taken back.
+#[derive(Drop)]
+pub struct KeptMachine {
+    alloc: Global,
+    machine: Machine,
+    notes: HeapCircularBuffer<Undo>,
+}
+
+impl Model for KeptMachine {
+    ghost use Rattle.kept_machine.specs.Kept.{IsKept, Kept, kept_of};
+
+    ghost Value = { Kept };
+
+    ghost view = { λ k. kept_of k.machine k.notes };
+
+    ghost invariant = { λ k. IsKept k.machine k.notes };
+}
+
+impl KeptMachine {
+    /// The machine before the first step, over a source that is legal. So many of its last steps can be taken back.
+    pub fn start(
+        alloc: Global,
+        source: Planes,
+        profile: Profile,
+        room: u16,
+    ) -> Result<KeptMachine, ModelFault>
+        requires seeds { profile.seeds ≤ 39 }
+        ensures { Opens source profile room result }
+    {
+        opening_is_well_formed();
+        let (machine, notes) = start_over::<Brand>(alloc, source, profile, room, Blank::new(1))?;
+        Ok(KeptMachine {
+            alloc,
+            machine,
+            notes,
+        })
+    }
+
+    /// The machine before the first step, over the legal model that the bytes of a file say.
+    pub fn of_file(
+        alloc: Global,
+        bytes: &[u8],
+        profile: Profile,
+        room: u16,
+    ) -> Result<KeptMachine, ModelFault>
+        requires seeds { profile.seeds ≤ 39 }
+        ensures { OpensFile bytes.now profile room result }
+    {
+        let source = read_model(alloc, bytes)?;
+        KeptMachine::start(alloc, source, profile, room)
+    }
+
+    /// Another machine in the same state, after as many steps. None of them can be taken back in it.
+    pub fn copy(&self) -> Result<KeptMachine, Memory>
+        ensures { IfOk result (λ k. k ≡ record self.now { past = [] }) }
+    {
+        let (machine, notes) = copy_of::<Brand>(
+            self.alloc,
+            &self.machine,
+            self.notes.capacity(),
+            Blank::new(1),
+        )?;
+        Ok(KeptMachine {
+            alloc: self.alloc,
+            machine,
+            notes,
+        })
+    }
+
+    /// Makes a step: the i-th command is for the i-th active bot.
+    pub fn step(&mut self, commands: &[Command]) -> Result<StepOk, NoStep>
+        ensures { Tries self.old commands.now self.new result }
+    {
+        try_step::<Brand>(
+            self.alloc,
+            &mut self.machine,
+            &mut self.notes,
+            commands,
+            Blank::new(1),
+        )
+    }
+
+    /// Takes the last step back.
+    pub fn undo(&mut self) -> Result<(), NoUndo>
+        ensures { TakesBack self.old self.new result }
+    {
+        take_back::<Brand>(
+            self.alloc,
+            &mut self.machine,
+            &mut self.notes,
+            Blank::new(1),
+        )
+    }
+
+    /// The level of a voxel, or `None` where it is void or not grounded.
+    pub fn level(&mut self, c: Coord) -> Result<Option<u32>, NoLevel>
+        ensures stays { self.new ≡ self.old }
+        ensures told { TellsLevel self.old.state.matrix c result }
+    {
+        find_level::<Brand>(self.alloc, &mut self.machine, c, Blank::new(1))
+    }
+
+    /// Whether the voxel at a coordinate is full; out of space none is.
+    pub fn full(&self, c: Coord) -> bool
+        ensures { result ≡ is_full self.now.state.matrix c }
+    {
+        is_full_at::<Brand>(self.machine.matrix(), c, Blank::new(1))
+    }
+
+    /// How many voxels are full.
+    pub fn count(&self) -> u32
+        ensures { result ≡ count_by (is_full self.now.state.matrix) (all_of self.now.state.matrix) }
+    {
+        count_full::<Brand>(self.machine.matrix(), Blank::new(1))
+    }
+
+    /// The matrix.
+    pub fn matrix(&self) -> &Planes
+        ensures { result.now ≡ self.now.state.matrix }
+    {
+        self.machine.matrix()
+    }
+
+    /// The active bots, in rising order of their bids.
+    pub fn bots(&self) -> &[Bot]
+        ensures { result.now ≡ self.now.state.bots }
+    {
+        self.machine.crew().bots()
+    }
+
+    /// How many bots are active.
+    pub fn active(&self) -> u8
+        ensures { result ≡ length self.now.state.bots }
+    {
+        self.machine.active()
+    }
+
+    /// The harmonics.
+    pub fn harmonics(&self) -> Harmonics
+        ensures { result ≡ self.now.state.harmonics }
+    {
+        self.machine.harmonics()
+    }
+
+    /// The energy spent so far.
+    pub fn energy(&self) -> i64
+        ensures { result ≡ self.now.state.energy }
+    {
+        self.machine.energy()
+    }
+
+    /// The profile.
+    pub fn profile(&self) -> Profile
+        ensures { result ≡ self.now.state.profile }
+    {
+        self.machine.profile()
+    }
+
+    /// How many steps were made.
+    pub fn steps_done(&self) -> u32
+        ensures { result ≡ self.now.steps }
+    {
+        self.machine.steps_done()
+    }
+
+    /// How many steps can be taken back.
+    pub fn noted(&self) -> usize
+        ensures { result ≡ length self.now.past }
+    {
+        self.notes.len()
+    }
+}

@@ -1,0 +1,11 @@
+//! A machine that its owner keeps between steps: the commands of each step are given one step at a time, the last steps can be
+//! taken back, and a call that is refused leaves the machine as it was.
+#![tactic(auto)]
+
+mod fault;
+mod kept;
+mod reading;
+mod stepping;
+
+pub use fault::{NoLevel, NoStep, NoUndo};
+pub use kept::KeptMachine;

@@ -1,0 +1,71 @@
+//! What a machine tells of its matrix, by a counter of touches that nobody reads.
+ghost use Rattle.std.specs.Prelude.{◌≡◌, ◌<◌, count_by, MatchBool};
+ghost use Rattle.nano_spec.specs.Matrix.{all_of, is_full};
+ghost use Rattle.nano_spec.specs.State.{IsWellFormed};
+ghost use Rattle.vox_geom.specs.Space.{IsInSpace};
+ghost use Rattle.kept_machine.specs.Calls.{TellsLevel};
+
+use crate::fault::NoLevel;
+use crate::stepping::stand_again;
+use std::alloc::Global;
+use std::sync::ledger::{Blank, Ledger};
+use step_machine::Machine;
+use vox_geom::{Coord, Steps};
+use vox_planes::Planes;
+
+/// Whether a coordinate is in space.
+fn is_in_space(c: Coord, r: u16) -> bool
+    ensures { MatchBool result (IsInSpace r c) (IsInSpace r c → ⊥) }
+{
+    c.x < r && c.y < r && c.z < r
+}
+
+/// Whether the voxel at a coordinate is full.
+pub(crate) fn is_full_at<L: Ledger>(matrix: &Planes, c: Coord, blank: Blank) -> bool
+    requires name { blank.name ≡ L.name }
+    requires parts { blank.parts ≡ L.parts }
+    requires some { 0 < L.parts }
+    ensures { result ≡ is_full matrix.now c }
+{
+    if !is_in_space(c, matrix.resolution()) {
+        return false;
+    }
+    let mut steps = Steps::<L>::new(blank);
+    matrix.full_at(c, &mut steps)
+}
+
+/// How many voxels are full.
+pub(crate) fn count_full<L: Ledger>(matrix: &Planes, blank: Blank) -> u32
+    requires name { blank.name ≡ L.name }
+    requires parts { blank.parts ≡ L.parts }
+    requires some { 0 < L.parts }
+    ensures { result ≡ count_by (is_full matrix.now) (all_of matrix.now) }
+{
+    let mut steps = Steps::<L>::new(blank);
+    matrix.count(&mut steps)
+}
+
+/// The level of the voxel at a coordinate.
+pub(crate) fn find_level<L: Ledger>(
+    alloc: Global,
+    machine: &mut Machine,
+    c: Coord,
+    blank: Blank,
+) -> Result<Option<u32>, NoLevel>
+    requires well_formed { IsWellFormed machine.old.state }
+    requires name { blank.name ≡ L.name }
+    requires parts { blank.parts ≡ L.parts }
+    requires some { 0 < L.parts }
+    ensures state { machine.new.state ≡ machine.old.state }
+    ensures steps { machine.new.steps ≡ machine.old.steps }
+    ensures told { TellsLevel machine.old.state.matrix c result }
+{
+    if !is_in_space(c, machine.matrix().resolution()) {
+        return Err(NoLevel::Outside);
+    }
+    let mut steps = Steps::<L>::new(blank);
+    match stand_again(alloc, machine, &mut steps) {
+        Ok(()) => Ok(machine.level(c, &mut steps)),
+        Err(_) => Err(NoLevel::Memory),
+    }
+}

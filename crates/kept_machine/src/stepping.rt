@@ -1,0 +1,219 @@
+//! Machines that are started, that make steps, and that take steps back, by a counter of touches that nobody reads.
+ghost use Rattle.std.specs.Prelude.{◌≡◌, ◌<◌, ◌≤◌, [], false, length, IfOk, IfErr, Err};
+ghost use Rattle.circular_buffer.specs.Buffer.{buffer};
+ghost use Rattle.nano_spec.specs.Legal.{IsLegal};
+ghost use Rattle.nano_spec.specs.State.{IsWellFormed, opening};
+ghost use Rattle.model_file.specs.Fault.{Judges};
+ghost use Rattle.kept_machine.specs.Calls.{TakesBack, Tries};
+ghost use Rattle.kept_machine.specs.Kept.{CanStep, CannotStep, IsKept, kept_of};
+
+use crate::fault::{NoStep, NoUndo};
+use circular_buffer::HeapCircularBuffer;
+use model_file::{ModelFault, legal};
+use nano_spec::{Command, Profile, opening_is_well_formed};
+use std::alloc::Global;
+use std::sync::ledger::{Blank, Ledger};
+use step_machine::{Machine, StepOk, Undo};
+use vox_geom::{Memory, Steps};
+use vox_planes::Planes;
+
+/// How many steps a machine makes.
+const MOST_STEPS: u32 = 1_073_741_824;
+
+/// A machine over a source that is legal, before its first step, and room for the notes of so many steps.
+pub(crate) fn start_over<L: Ledger>(
+    alloc: Global,
+    source: Planes,
+    profile: Profile,
+    room: u16,
+    blank: Blank,
+) -> Result<(Machine, HeapCircularBuffer<Undo>), ModelFault>
+    requires seeds { profile.seeds ≤ 39 }
+    requires name { blank.name ≡ L.name }
+    requires parts { blank.parts ≡ L.parts }
+    requires some { 0 < L.parts }
+    ensures legal { IfOk result (λ _. IsLegal source) }
+    ensures machine { IfOk result (λ made. made.0 ≡ record { state = opening source profile; steps = 0; spent = false }) }
+    ensures notes { IfOk result (λ made. made.1 ≡ buffer [] room) }
+    ensures refused { IfErr result (λ fault. Judges source (Err fault)) }
+{
+    opening_is_well_formed();
+    legal(alloc, &source)?;
+    let mut steps = Steps::<L>::new(blank);
+    let machine = Machine::start(alloc, source, profile, &mut steps)?;
+    match HeapCircularBuffer::with_capacity(alloc, usize::from(room)) {
+        Ok(notes) => Ok((machine, notes)),
+        Err(_) => Err(ModelFault::Memory),
+    }
+}
+
+/// Another machine in the state of the one that is given.
+fn anew<L: Ledger>(
+    alloc: Global,
+    machine: &Machine,
+    steps: &mut Steps<L>,
+) -> Result<Machine, Memory>
+    requires { IsWellFormed machine.now.state }
+    ensures { IfOk result (λ m. m ≡ record machine.now { spent = false }) }
+{
+    let matrix = machine.matrix().copy(alloc)?;
+    Machine::at(
+        alloc,
+        matrix,
+        machine.crew().copy(),
+        machine.harmonics(),
+        machine.energy(),
+        machine.steps_done(),
+        machine.profile(),
+        steps,
+    )
+}
+
+/// Another machine in the state of the one that is given, and room for as many notes.
+pub(crate) fn copy_of<L: Ledger>(
+    alloc: Global,
+    machine: &Machine,
+    room: usize,
+    blank: Blank,
+) -> Result<(Machine, HeapCircularBuffer<Undo>), Memory>
+    requires well_formed { IsWellFormed machine.now.state }
+    requires name { blank.name ≡ L.name }
+    requires parts { blank.parts ≡ L.parts }
+    requires some { 0 < L.parts }
+    ensures machine { IfOk result (λ made. made.0 ≡ record machine.now { spent = false }) }
+    ensures notes { IfOk result (λ made. made.1 ≡ buffer [] room) }
+{
+    let mut steps = Steps::<L>::new(blank);
+    let copy = anew(alloc, machine, &mut steps)?;
+    match HeapCircularBuffer::with_capacity(alloc, room) {
+        Ok(notes) => Ok((copy, notes)),
+        Err(_) => Err(Memory),
+    }
+}
+
+/// A machine that is spent is made anew in its state. For want of memory it stays as it is.
+pub(crate) fn stand_again<L: Ledger>(
+    alloc: Global,
+    machine: &mut Machine,
+    steps: &mut Steps<L>,
+) -> Result<(), Memory>
+    requires { IsWellFormed machine.old.state }
+    ensures value { IfOk result (λ _. machine.new ≡ record machine.old { spent = false }) }
+    ensures stays { IfErr result (λ _. machine.new ≡ machine.old) }
+{
+    if !machine.spent() {
+        return Ok(());
+    }
+    let made = anew(alloc, machine, steps)?;
+    *machine = made;
+    Ok(())
+}
+
+/// Whether the step can be judged: some bot is active, each has one command, and a machine makes as many steps.
+fn ready(machine: &Machine, commands: &[Command]) -> Result<(), NoStep>
+    ensures can { IfOk result (λ _. CanStep machine.now commands.now) }
+    ensures cannot { IfErr result (λ fault. CannotStep machine.now commands.now fault) }
+{
+    let count = machine.active();
+    if count == 0 {
+        return Err(NoStep::Ended);
+    }
+    if commands.len() != usize::from(count) {
+        return Err(NoStep::Count);
+    }
+    if machine.steps_done() >= MOST_STEPS {
+        return Err(NoStep::Long);
+    }
+    Ok(())
+}
+
+/// Makes a step of which no note is kept.
+fn step_once<L: Ledger>(
+    machine: &mut Machine,
+    notes: &HeapCircularBuffer<Undo>,
+    commands: &[Command],
+    steps: &mut Steps<L>,
+) -> Result<StepOk, NoStep>
+    requires kept { IsKept machine.old notes.now }
+    requires can { CanStep machine.old commands.now }
+    requires none { notes.now.capacity ≡ 0 }
+    ensures kept { IsKept machine.new notes.now }
+    ensures tries { Tries (kept_of machine.old notes.now) commands.now (kept_of machine.new notes.now) result }
+{
+    let _room = notes.capacity();
+    match machine.step(commands, steps) {
+        Ok(ok) => Ok(ok),
+        Err(fault) => Err(NoStep::of(fault)),
+    }
+}
+
+/// Makes a step and notes it.
+fn step_and_note<L: Ledger>(
+    machine: &mut Machine,
+    notes: &mut HeapCircularBuffer<Undo>,
+    commands: &[Command],
+    steps: &mut Steps<L>,
+) -> Result<StepOk, NoStep>
+    requires kept { IsKept machine.old notes.old }
+    requires can { CanStep machine.old commands.now }
+    ensures kept { IsKept machine.new notes.new }
+    ensures tries { Tries (kept_of machine.old notes.old) commands.now (kept_of machine.new notes.new) result }
+{
+    machine.know();
+    let order = machine.leaders(commands);
+    match machine.step_noted(commands, order.as_slice(), steps) {
+        Ok((ok, undo)) => {
+            notes.push_back(undo);
+            Ok(ok)
+        }
+        Err(fault) => Err(NoStep::of(fault)),
+    }
+}
+
+/// Makes a step, and notes it where notes are kept.
+pub(crate) fn try_step<L: Ledger>(
+    alloc: Global,
+    machine: &mut Machine,
+    notes: &mut HeapCircularBuffer<Undo>,
+    commands: &[Command],
+    blank: Blank,
+) -> Result<StepOk, NoStep>
+    requires kept { IsKept machine.old notes.old }
+    requires name { blank.name ≡ L.name }
+    requires parts { blank.parts ≡ L.parts }
+    requires some { 0 < L.parts }
+    ensures kept { IsKept machine.new notes.new }
+    ensures tries { Tries (kept_of machine.old notes.old) commands.now (kept_of machine.new notes.new) result }
+{
+    ready(machine, commands)?;
+    let mut steps = Steps::<L>::new(blank);
+    stand_again(alloc, machine, &mut steps)?;
+    if notes.capacity() == 0 {
+        return step_once(machine, notes, commands, &mut steps);
+    }
+    step_and_note(machine, notes, commands, &mut steps)
+}
+
+/// Takes the step of the last note back. Where that cannot be done the note stays.
+pub(crate) fn take_back<L: Ledger>(
+    alloc: Global,
+    machine: &mut Machine,
+    notes: &mut HeapCircularBuffer<Undo>,
+    blank: Blank,
+) -> Result<(), NoUndo>
+    requires kept { IsKept machine.old notes.old }
+    requires name { blank.name ≡ L.name }
+    requires parts { blank.parts ≡ L.parts }
+    requires some { 0 < L.parts }
+    ensures kept { IsKept machine.new notes.new }
+    ensures back { TakesBack (kept_of machine.old notes.old) (kept_of machine.new notes.new) result }
+{
+    let Some(undo) = notes.back() else {
+        return Err(NoUndo::NoNote);
+    };
+    let mut steps = Steps::<L>::new(blank);
+    stand_again(alloc, machine, &mut steps)?;
+    machine.undo(undo, &mut steps)?;
+    notes.pop_back();
+    Ok(())
+}

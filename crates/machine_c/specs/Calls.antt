@@ -1,0 +1,198 @@
+-- What the calls do to a handle, and what they tell.
+use Rattle.std.specs.Prelude.{◌≡◌, ℕ, ◌≤◌, ◌<◌, ◌⊎◌, Bool, true, false, List, [], ◌++◌, length, map, drop, Option, Some, None, Result, Ok, Err}
+use Rattle.vox_geom.specs.declared.coordinate.Coord.{Coord}
+use Rattle.vox_geom.specs.Space.{IsInSpace}
+use Rattle.nano_spec.specs.declared.commands.Command.{Command}
+use Rattle.nano_spec.specs.declared.system.Harmonics.{Harmonics}
+use Rattle.nano_spec.specs.declared.system.Harmonics.TheVariants.{Low, High}
+use Rattle.nano_spec.specs.declared.system.Profile.{Profile}
+use Rattle.nano_spec.specs.Cutting.{Cutting}
+use Rattle.nano_spec.specs.Matrix.{empty, full_count, is_full}
+use Rattle.nano_spec.specs.Model.{written}
+use Rattle.nano_spec.specs.Profile.{full_profile, light_profile}
+use Rattle.model_file.specs.declared.fault.ModelFault.{ModelFault}
+use Rattle.model_file.specs.declared.fault.ModelFault.TheVariants as model_fault
+use Rattle.trace_codec.specs.declared.fault.TraceFault.TheVariants as trace_fault
+use Rattle.trace_codec.specs.Whole.{Decodes}
+use Rattle.kept_machine.specs.declared.fault.NoLevel.{NoLevel}
+use Rattle.kept_machine.specs.declared.fault.NoLevel.TheVariants as no_level
+use Rattle.kept_machine.specs.declared.fault.NoStep.TheVariants as no_step
+use Rattle.kept_machine.specs.declared.fault.NoUndo.{NoUndo}
+use Rattle.kept_machine.specs.declared.fault.NoUndo.TheVariants as no_undo
+use Rattle.kept_machine.specs.Calls.{Opens, OpensFile, TakesBack, TellsLevel, Tries}
+use Rattle.kept_machine.specs.Kept.{Kept}
+use Rattle.machine_c.specs.declared.status.TheConstants.{DONE, BROKEN, ARGUMENT, MODEL, COMMANDS, MEMORY, TOO_SMALL, NO_MACHINE, ENDED, COUNT, LONG, NO_NOTE, OUTSIDE, NO_LEVEL}
+use Rattle.machine_c.specs.declared.stepping.StepAnswer.{StepAnswer}
+use Rattle.machine_c.specs.declared.stepping.StepAnswer.TheVariants.{Made, Refused, Unread}
+use Rattle.machine_c.specs.declared.told.BotTold.{BotTold}
+use Rattle.machine_c.specs.declared.told.BrokenTold.{BrokenTold}
+use Rattle.machine_c.specs.declared.told.MachineTold.{MachineTold}
+use Rattle.machine_c.specs.declared.told.ModelTold.{ModelTold}
+use Rattle.machine_c.specs.declared.told.StepTold.{StepTold}
+use Rattle.machine_c.specs.Told.{bot_told, broken_told, model_told, none_broken, sized}
+
+-- ---- starts
+
+-- the light profile, or that of the contest
+abbrev pub profile_by : Bool → Profile
+profile_by true = light_profile
+profile_by false = full_profile
+
+-- the status of a refused start
+abbrev pub status_of_start : ModelFault → ℕ
+status_of_start model_fault.Memory = MEMORY
+status_of_start _ = MODEL
+
+-- a start puts its machine into the handle, or leaves the handle as it was
+abbrev pub Starts : Option Kept → Option Kept → ℕ → Result Kept ModelFault → Type 0
+Starts old new status (Ok k) = (new ≡ Some k) × (status ≡ DONE)
+Starts old new status (Err fault) = (new ≡ old) × (status ≡ status_of_start fault)
+
+-- the refusal, if there is one
+abbrev pub refusal_by : Result Kept ModelFault → ModelTold
+refusal_by (Ok k) = sized 0 0 0
+refusal_by (Err fault) = model_told fault
+
+-- a machine is started over the model that the bytes say, unless more notes are asked for than are kept
+abbrev pub IsStarted : List ℕ → Bool → ℕ → Option Kept → Option Kept → ModelTold → ℕ → Type 0
+IsStarted bytes light notes old new told status =
+    ((4096 < notes) × (new ≡ old) × (told ≡ sized 0 0 0) × (status ≡ ARGUMENT))
+    ⊎ ((notes ≤ 4096) × (answer : Result Kept ModelFault) × OpensFile bytes (profile_by light) notes answer × Starts old new status answer × (told ≡ refusal_by answer))
+
+-- a machine is started over the empty model, unless more notes are asked for than are kept, or there is no such model
+abbrev pub IsStartedEmpty : ℕ → Bool → ℕ → Option Kept → Option Kept → ℕ → Type 0
+IsStartedEmpty r light notes old new status =
+    (((4096 < notes) ⊎ (r ≡ 0) ⊎ (400 < r)) × (new ≡ old) × (status ≡ ARGUMENT))
+    ⊎ ((notes ≤ 4096) × (1 ≤ r) × (r ≤ 400) × (answer : Result Kept ModelFault) × Opens (empty r) (profile_by light) notes answer × Starts old new status answer)
+
+-- a copy stands where the machine stands, and no step can be taken back in it
+abbrev pub IsCopied : Option Kept → Option Kept → Option Kept → ℕ → Type 0
+IsCopied None before after status = (after ≡ before) × (status ≡ NO_MACHINE)
+IsCopied (Some k) before after status =
+    ((after ≡ Some (record k { past = [] })) × (status ≡ DONE)) ⊎ ((after ≡ before) × (status ≡ MEMORY))
+
+-- ---- steps
+
+-- the bytes spell commands that make a step, or commands that make none, or they are no commands
+abbrev pub ComesTo : Kept → List ℕ → Kept → StepAnswer → Type 0
+ComesTo old bytes new (Made ok) = (commands : List Command) × Cutting bytes commands × Tries old commands new (Ok ok)
+ComesTo old bytes new (Refused fault) = (commands : List Command) × Cutting bytes commands × Tries old commands new (Err fault)
+ComesTo old bytes new (Unread fault) = (new ≡ old) × Decodes bytes (Err fault)
+
+-- the status of a step
+abbrev pub status_of_step : StepAnswer → ℕ
+status_of_step (Made ok) = DONE
+status_of_step (Refused (no_step.Broken b)) = BROKEN
+status_of_step (Refused no_step.Ended) = ENDED
+status_of_step (Refused no_step.Count) = COUNT
+status_of_step (Refused no_step.Long) = LONG
+status_of_step (Refused no_step.Memory) = MEMORY
+status_of_step (Unread trace_fault.Memory) = MEMORY
+status_of_step (Unread _) = COMMANDS
+
+-- the rule that a step breaks
+abbrev pub broken_by : StepAnswer → BrokenTold
+broken_by (Refused (no_step.Broken b)) = broken_told b
+broken_by _ = none_broken
+
+-- where the command begins that is bad or cut
+abbrev pub offset_by : StepAnswer → ℕ
+offset_by (Unread (trace_fault.Bad offset)) = offset
+offset_by (Unread (trace_fault.Cut offset)) = offset
+offset_by _ = 0
+
+-- where the machine stands after a step, and why the step was refused
+abbrev pub step_told : Kept → StepAnswer → StepTold
+step_told k answer =
+    record { energy = k.state.energy; offset = offset_by answer; steps = k.steps; active = length k.state.bots; broken = broken_by answer }
+
+-- a step is made of the bytes
+abbrev pub IsStepped : Option Kept → List ℕ → Option Kept → StepTold → StepTold → ℕ → Type 0
+IsStepped None bytes new before after status = (new ≡ None) × (after ≡ before) × (status ≡ NO_MACHINE)
+IsStepped (Some old) bytes new before after status =
+    (k : Kept) × (new ≡ Some k) × (answer : StepAnswer) × ComesTo old bytes k answer × (after ≡ step_told k answer) × (status ≡ status_of_step answer)
+
+-- the status of an undo
+abbrev pub status_of_undo : Result (Unit {0}) NoUndo → ℕ
+status_of_undo (Ok _) = DONE
+status_of_undo (Err no_undo.NoNote) = NO_NOTE
+status_of_undo (Err no_undo.Memory) = MEMORY
+
+-- the last step is taken back
+abbrev pub IsUndone : Option Kept → Option Kept → ℕ → Type 0
+IsUndone None new status = (new ≡ None) × (status ≡ NO_MACHINE)
+IsUndone (Some old) new status =
+    (k : Kept) × (new ≡ Some k) × (answer : Result (Unit {0}) NoUndo) × TakesBack old k answer × (status ≡ status_of_undo answer)
+
+-- ---- what is told
+
+-- the number of the harmonics
+abbrev pub high_of : Harmonics → ℕ
+high_of Low = 0
+high_of High = 1
+
+-- where a machine stands
+abbrev pub machine_told : Kept → MachineTold
+machine_told k =
+    record {
+      energy = k.state.energy;
+      steps = k.steps;
+      active = length k.state.bots;
+      resolution = k.state.matrix.resolution;
+      high = high_of k.state.harmonics;
+      noted = length k.past;
+    }
+
+abbrev pub IsMachineTold : Option Kept → MachineTold → MachineTold → ℕ → Type 0
+IsMachineTold None before after status = (after ≡ before) × (status ≡ NO_MACHINE)
+IsMachineTold (Some k) before after status = (after ≡ machine_told k) × (status ≡ DONE)
+
+-- what a call gives: all of it to the front of the buffer, or where the buffer is too small only how much it is
+abbrev pub Gives : {X : Type 0} → List X → List X → List X → ℕ → ℕ → Type 0
+Gives given before after count status =
+    (count ≡ length given)
+    × (((length given ≤ length before) × (after ≡ given ++ drop (length given) before) × (status ≡ DONE))
+    ⊎ ((length before < length given) × (after ≡ before) × (status ≡ TOO_SMALL)))
+
+-- the active bots, in rising order of their bids
+abbrev pub AreBotsTold : Option Kept → List BotTold → List BotTold → ℕ → ℕ → ℕ → Type 0
+AreBotsTold None before after count_before count status = (after ≡ before) × (count ≡ count_before) × (status ≡ NO_MACHINE)
+AreBotsTold (Some k) before after count_before count status = Gives (map bot_told k.state.bots) before after count status
+
+-- whether a voxel is full, 1 or 0
+abbrev pub bit_of : Bool → ℕ
+bit_of true = 1
+bit_of false = 0
+
+abbrev pub IsFullTold : Option Kept → Coord → ℕ → ℕ → ℕ → Type 0
+IsFullTold None c before after status = (after ≡ before) × (status ≡ NO_MACHINE)
+IsFullTold (Some k) c before after status =
+    (IsInSpace k.state.matrix.resolution c × (after ≡ bit_of (is_full k.state.matrix c)) × (status ≡ DONE))
+    ⊎ ((IsInSpace k.state.matrix.resolution c → ⊥) × (after ≡ before) × (status ≡ OUTSIDE))
+
+-- the status of a level, and the level where there is one
+abbrev pub status_of_level : Result (Option ℕ) NoLevel → ℕ
+status_of_level (Ok (Some n)) = DONE
+status_of_level (Ok None) = NO_LEVEL
+status_of_level (Err no_level.Outside) = OUTSIDE
+status_of_level (Err no_level.Memory) = MEMORY
+
+abbrev pub level_by : ℕ → Result (Option ℕ) NoLevel → ℕ
+level_by before (Ok (Some n)) = n
+level_by before _ = before
+
+abbrev pub IsLevelTold : Option Kept → Coord → ℕ → ℕ → ℕ → Type 0
+IsLevelTold None c before after status = (after ≡ before) × (status ≡ NO_MACHINE)
+IsLevelTold (Some k) c before after status =
+    (answer : Result (Option ℕ) NoLevel) × TellsLevel k.state.matrix c answer × (after ≡ level_by before answer) × (status ≡ status_of_level answer)
+
+-- how many voxels are full
+abbrev pub IsCounted : Option Kept → ℕ → ℕ → ℕ → Type 0
+IsCounted None before after status = (after ≡ before) × (status ≡ NO_MACHINE)
+IsCounted (Some k) before after status = (after ≡ full_count k.state.matrix) × (status ≡ DONE)
+
+-- the matrix as the bytes of a model
+abbrev pub IsModelGiven : Option Kept → List ℕ → List ℕ → ℕ → ℕ → ℕ → Type 0
+IsModelGiven None before after size_before size status = (after ≡ before) × (size ≡ size_before) × (status ≡ NO_MACHINE)
+IsModelGiven (Some k) before after size_before size status =
+    Gives (written k.state.matrix) before after size status ⊎ ((after ≡ before) × (size ≡ size_before) × (status ≡ MEMORY))

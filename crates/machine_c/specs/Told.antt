@@ -1,0 +1,45 @@
+-- What calls tell in numbers.
+use Rattle.std.specs.Prelude.{ℕ}
+use Rattle.vox_geom.specs.declared.coordinate.Coord.{Coord}
+use Rattle.nano_spec.specs.declared.outcomes.Broken.{Broken}
+use Rattle.nano_spec.specs.declared.system.Bot.{Bot}
+use Rattle.nano_spec.specs.Rule.{rule_number}
+use Rattle.model_file.specs.declared.fault.ModelFault.{ModelFault}
+use Rattle.model_file.specs.declared.fault.ModelFault.TheVariants.{NoByte, Resolution, Short, Long, Memory, Border, Floating, WideHead, WideResolution, WideRun, WideShort, WideLong}
+use Rattle.machine_c.specs.declared.told.BotTold.{BotTold}
+use Rattle.machine_c.specs.declared.told.BrokenTold.{BrokenTold}
+use Rattle.machine_c.specs.declared.told.ModelTold.{ModelTold}
+
+-- a rule that is broken
+abbrev pub broken_told : Broken → BrokenTold
+broken_told b = record { rule = rule_number b.rule; step = b.step; bid = b.bid; x = b.at.x; y = b.at.y; z = b.at.z }
+
+-- no rule is
+abbrev pub none_broken : BrokenTold
+none_broken = record { rule = 0; step = 0; bid = 0; x = 0; y = 0; z = 0 }
+
+-- a bot
+abbrev pub bot_told : Bot → BotTold
+bot_told b = record { seeds = b.seeds; bid = b.bid; x = b.pos.x; y = b.pos.y; z = b.pos.z }
+
+-- a refusal that has numbers, and one that has a voxel
+abbrev pub sized : ℕ → ℕ → ℕ → ModelTold
+sized number want have = record { number = number; want = want; have = have; x = 0; y = 0; z = 0 }
+
+abbrev pub placed : ℕ → Coord → ModelTold
+placed number at = record { number = number; want = 0; have = 0; x = at.x; y = at.y; z = at.z }
+
+-- a refusal of a model: how many bytes it wants, what it has (the resolution, bytes or voxels, or the index of a run), the voxel
+abbrev pub model_told : ModelFault → ModelTold
+model_told NoByte = sized 1 0 0
+model_told (Resolution r) = sized 2 0 r
+model_told (Short want have) = sized 3 want have
+model_told (Long want) = sized 4 want 0
+model_told Memory = sized 5 0 0
+model_told (Border at) = placed 6 at
+model_told (Floating at) = placed 7 at
+model_told (WideHead have) = sized 8 0 have
+model_told (WideResolution r) = sized 9 0 r
+model_told (WideRun index) = sized 10 0 index
+model_told (WideShort have) = sized 11 0 have
+model_told WideLong = sized 12 0 0

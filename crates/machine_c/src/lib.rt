@@ -1,0 +1,11 @@
+//! Machines behind handles, for callers in C (`include/nanobot_machine.h`). Each export takes the machine out of its handle, makes
+//! one call of it, and puts it back.
+#![tactic(auto)]
+
+mod handle;
+mod parts;
+mod reading;
+mod starting;
+mod status;
+mod stepping;
+mod told;

@@ -1,0 +1,43 @@
+//! The statuses of the calls.
+
+/// The call did what it says.
+pub const DONE: u32 = 0;
+
+/// The commands of the step break a rule.
+pub const BROKEN: u32 = 1;
+
+/// A number that is passed is none that the call takes.
+pub const ARGUMENT: u32 = 2;
+
+/// The model is refused.
+pub const MODEL: u32 = 3;
+
+/// The bytes are no commands.
+pub const COMMANDS: u32 = 4;
+
+/// There was no memory.
+pub const MEMORY: u32 = 7;
+
+/// The buffer is too small.
+pub const TOO_SMALL: u32 = 10;
+
+/// The handle has no machine.
+pub const NO_MACHINE: u32 = 11;
+
+/// No bot is active.
+pub const ENDED: u32 = 12;
+
+/// The commands are not as many as the active bots.
+pub const COUNT: u32 = 13;
+
+/// The machine has made as many steps as it makes.
+pub const LONG: u32 = 14;
+
+/// No earlier step is noted.
+pub const NO_NOTE: u32 = 15;
+
+/// The coordinate is out of space.
+pub const OUTSIDE: u32 = 16;
+
+/// The voxel has no level.
+pub const NO_LEVEL: u32 = 17;

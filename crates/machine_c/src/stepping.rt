@@ -1,0 +1,125 @@
+//! Steps that are made and taken back.
+ghost use Rattle.std.specs.Prelude.{◌≡◌};
+ghost use Rattle.machine_c.specs.Calls.{ComesTo, IsStepped, IsUndone, broken_by, offset_by, status_of_step, status_of_undo};
+
+use crate::handle::Handle;
+use crate::status::{BROKEN, COMMANDS, COUNT, DONE, ENDED, LONG, MEMORY, NO_MACHINE, NO_NOTE};
+use crate::told::{BrokenTold, StepTold};
+use kept_machine::{KeptMachine, NoStep, NoUndo};
+use std::alloc::Global;
+use step_machine::StepOk;
+use trace_codec::{TraceFault, decode_all};
+
+/// What the bytes of a step come to.
+#[derive(Clone, Copy)]
+pub enum StepAnswer {
+    /// The step was made.
+    Made(StepOk),
+    /// The commands of the bytes make no step.
+    Refused(NoStep),
+    /// The bytes are no commands.
+    Unread(TraceFault),
+}
+
+impl StepAnswer {
+    /// The status of the answer.
+    fn status(self) -> u32
+        ensures { result ≡ status_of_step self }
+    {
+        match self {
+            StepAnswer::Made(_) => DONE,
+            StepAnswer::Refused(NoStep::Broken(_)) => BROKEN,
+            StepAnswer::Refused(NoStep::Ended) => ENDED,
+            StepAnswer::Refused(NoStep::Count) => COUNT,
+            StepAnswer::Refused(NoStep::Long) => LONG,
+            StepAnswer::Refused(NoStep::Memory) => MEMORY,
+            StepAnswer::Unread(TraceFault::Memory) => MEMORY,
+            StepAnswer::Unread(_) => COMMANDS,
+        }
+    }
+
+    /// The rule that is broken.
+    fn broken(self) -> BrokenTold
+        ensures { result ≡ broken_by self }
+    {
+        match self {
+            StepAnswer::Refused(NoStep::Broken(broken)) => BrokenTold::of(broken),
+            _ => BrokenTold::none(),
+        }
+    }
+
+    /// The first byte of the command that is bad or cut.
+    fn offset(self) -> u64
+        ensures { result ≡ offset_by self }
+    {
+        match self {
+            StepAnswer::Unread(TraceFault::Bad { offset }) => offset,
+            StepAnswer::Unread(TraceFault::Cut { offset }) => offset,
+            _ => 0,
+        }
+    }
+}
+
+/// Makes the step of the commands that the bytes spell.
+fn step_by(alloc: Global, machine: &mut KeptMachine, bytes: &[u8]) -> StepAnswer
+    ensures { ComesTo machine.old bytes.now machine.new result }
+{
+    let commands = match decode_all(alloc, bytes) {
+        Ok(commands) => commands,
+        Err(fault) => return StepAnswer::Unread(fault),
+    };
+    match machine.step(commands.as_slice()) {
+        Ok(ok) => StepAnswer::Made(ok),
+        Err(fault) => StepAnswer::Refused(fault),
+    }
+}
+
+/// Makes one step: the bytes spell one command for each active bot, in rising order of their bids. A step that is refused leaves
+/// the machine as it was.
+#[unsafe(no_mangle)]
+pub extern "C" fn nanobot_machine_step(
+    alloc: Global,
+    handle: &mut Handle,
+    commands: &[u8],
+    told: &mut StepTold,
+) -> u32
+    ensures { IsStepped handle.old.machine commands.now handle.new.machine told.old told.new result }
+{
+    let Some(mut machine) = handle.take(alloc) else {
+        return NO_MACHINE;
+    };
+    let answer = step_by(alloc, &mut machine, commands);
+    *told = StepTold {
+        energy: machine.energy(),
+        offset: answer.offset(),
+        steps: machine.steps_done(),
+        active: u32::from(machine.active()),
+        broken: answer.broken(),
+    };
+    handle.put(machine);
+    answer.status()
+}
+
+/// The status of an undo.
+fn undo_status(answer: Result<(), NoUndo>) -> u32
+    ensures { result ≡ status_of_undo answer }
+{
+    match answer {
+        Ok(()) => DONE,
+        Err(NoUndo::NoNote) => NO_NOTE,
+        Err(NoUndo::Memory) => MEMORY,
+    }
+}
+
+/// Takes the last step back. Where that cannot be done the machine is left as it was.
+#[unsafe(no_mangle)]
+pub extern "C" fn nanobot_machine_undo(alloc: Global, handle: &mut Handle) -> u32
+    ensures { IsUndone handle.old.machine handle.new.machine result }
+{
+    let Some(mut machine) = handle.take(alloc) else {
+        return NO_MACHINE;
+    };
+    let answer = machine.undo();
+    handle.put(machine);
+    undo_status(answer)
+}

@@ -1,0 +1,176 @@
+/* nanobot's machine as a static library: a machine that the caller keeps between steps, for planners and searches.
+ *
+ * A handle keeps a machine on the heap. Each call is proved to do what docs/FORMATS.md says of a step, a level or a model; the
+ * contracts stand in crates/machine_c/src. What nobody checks is what a caller in C owes:
+ *
+ * - A handle begins as `nanobot_machine m = {0};` and is passed on as the last call left it. Nobody writes `at`, or through it.
+ * - Never are two copies of a handle alive that has a machine: each would free it. Use nanobot_machine_copy for a second machine. To
+ *   move one, copy the handle and set the old one to {0}. A handle that is overwritten or forgotten is a leak, and no worse.
+ * - For a call the handle and what is written to point to one thing each, are not null, and overlap nothing else that is passed.
+ *   Calls that only read write to the handle too. Two handles that are passed are different ones.
+ * - One thread at a time uses a handle, and frees or steps it where it was begun. Handles of several threads are apart.
+ * - What stands at the head of nanobot.h: pointers that are never null, also with a length of 0 (NANOBOT_NONE), and the program's malloc.
+ * - There is stack for the call (docs/PROMISES.md, "Called from C").
+ *
+ * A call that is refused, for whatever reason, leaves the machine as it was, and a call after it finds it so. That holds after
+ * rule 12 (a voxel that floats) and after want of memory too; the next step, undo or level after these takes as long as a start.
+ */
+#ifndef NANOBOT_MACHINE_H
+#define NANOBOT_MACHINE_H
+
+#include "nanobot.h"
+
+#ifdef __cplusplus
+extern "C" {
+#endif
+
+/* A machine, or none: `at` is null where there is none. */
+typedef struct nanobot_machine {
+    void *at;
+} nanobot_machine;
+
+/* Statuses beside those of nanobot.h. NANOBOT_WORDS is that of a number which a call does not take, NANOBOT_TRACE that of bytes
+ * which are no commands. */
+enum {
+    NANOBOT_NO_MACHINE = 11, /* the handle is empty; nothing is told */
+    NANOBOT_ENDED = 12,      /* no bot is active any more */
+    NANOBOT_COUNT = 13,      /* there are more or fewer commands than active bots */
+    NANOBOT_LONG = 14,       /* the machine has made its 1,073,741,824 steps */
+    NANOBOT_NO_NOTE = 15,    /* no earlier step is noted, so none can be taken back */
+    NANOBOT_OUTSIDE = 16,    /* the coordinate is out of space */
+    NANOBOT_NO_LEVEL = 17    /* the voxel is void, or not grounded */
+};
+
+/* Why a model is refused: the number of the refusal (docs/FORMATS.md, "Model files", "Refusals"), how many bytes are wanted, what
+ * there is (the resolution, bytes or voxels, or the index of a run), and the voxel. What does not belong to it is 0, and all where
+ * nothing is refused. */
+typedef struct nanobot_refusal {
+    uint32_t number, want, have, x, y, z;
+} nanobot_refusal;
+
+/* The rule that a step breaks, by its number (docs/FORMATS.md, "Rules"), in which step, by which bot (0 for rule 12), and where. */
+typedef struct nanobot_broken {
+    uint32_t rule, step, bid, x, y, z;
+} nanobot_broken;
+
+/* Where the machine stands after a step was made or refused: energy, steps made, active bots. `offset` is the first byte of a
+ * command that is bad or cut (NANOBOT_TRACE), `broken` the rule that is broken (NANOBOT_BROKEN); else they are 0. */
+typedef struct nanobot_step {
+    int64_t energy;
+    uint64_t offset;
+    uint32_t steps, active;
+    nanobot_broken broken;
+} nanobot_step;
+
+/* Where a machine stands: `high` is 1 under high harmonics, and so many steps are `noted` that can be taken back. */
+typedef struct nanobot_state {
+    int64_t energy;
+    uint32_t steps, active, resolution, high;
+    uint64_t noted;
+} nanobot_state;
+
+/* An active bot. Bit k of `seeds` says that it can make the bot k. */
+typedef struct nanobot_bot {
+    uint64_t seeds;
+    uint32_t bid, x, y, z;
+} nanobot_bot;
+
+/* Starts a machine over the legal model of these bytes, by the light profile or the full one. The last `notes` steps can be taken
+ * back, at most 4096. A machine that the handle has is freed. NANOBOT_MODEL: the model is refused, as *refusal tells.
+ *
+ *     nanobot_machine machine = {0};
+ *     nanobot_refusal refusal;
+ *     if (nanobot_machine_start(model, model_size, false, 100, &machine, &refusal) == NANOBOT_MODEL)
+ *         printf("refusal %u\n", (unsigned)refusal.number);
+ */
+uint32_t nanobot_machine_start(const uint8_t *model, size_t model_size, bool light, uint32_t notes,
+                               nanobot_machine *machine, nanobot_refusal *refusal);
+
+/* The same over the empty model of a resolution from 1 to 400.
+ *
+ *     nanobot_machine_start_empty(20, false, 100, &machine);
+ */
+uint32_t nanobot_machine_start_empty(uint32_t resolution, bool light, uint32_t notes, nanobot_machine *machine);
+
+/* Makes one step. The bytes are those of a trace: one command for each active bot, in rising order of their bids.
+ *
+ *     nanobot_step step;
+ *     const uint8_t wait[] = {0xfe};
+ *     if (nanobot_machine_step(&machine, wait, sizeof wait, &step) == NANOBOT_BROKEN)
+ *         printf("rule %u at bot %u\n", (unsigned)step.broken.rule, (unsigned)step.broken.bid);
+ */
+uint32_t nanobot_machine_step(nanobot_machine *machine, const uint8_t *commands, size_t commands_size, nanobot_step *step);
+
+/* Takes the last step back.
+ *
+ *     nanobot_machine_undo(&machine);
+ */
+uint32_t nanobot_machine_undo(nanobot_machine *machine);
+
+/* Starts a second machine where the first one stands. No step can be taken back in it until it makes some. It takes as long as a
+ * start over such a model.
+ *
+ *     nanobot_machine other = {0};
+ *     nanobot_machine_copy(&machine, &other);
+ */
+uint32_t nanobot_machine_copy(nanobot_machine *machine, nanobot_machine *copy);
+
+/* Tells where the machine stands.
+ *
+ *     nanobot_state state;
+ *     if (nanobot_machine_tell(&machine, &state) == NANOBOT_DONE) printf("%lld\n", (long long)state.energy);
+ */
+uint32_t nanobot_machine_tell(nanobot_machine *machine, nanobot_state *state);
+
+/* Tells the active bots, in rising order of their bids. There are 40 at most. *count is how many there are; where they are more
+ * than `room` the status is NANOBOT_TOO_SMALL, and the buffer is as it was.
+ *
+ *     nanobot_bot bots[40];
+ *     size_t count;
+ *     nanobot_machine_bots(&machine, bots, 40, &count);
+ */
+uint32_t nanobot_machine_bots(nanobot_machine *machine, nanobot_bot *bots, size_t room, size_t *count);
+
+/* Tells whether the voxel at a coordinate is full, 1 or 0.
+ *
+ *     uint32_t full;
+ *     nanobot_machine_full(&machine, 1, 0, 1, &full);
+ */
+uint32_t nanobot_machine_full(nanobot_machine *machine, uint32_t x, uint32_t y, uint32_t z, uint32_t *full);
+
+/* Tells the level of a full voxel: how far it is from the floor along full voxels.
+ *
+ *     uint32_t level;
+ *     if (nanobot_machine_level(&machine, 1, 0, 1, &level) == NANOBOT_NO_LEVEL) puts("void");
+ */
+uint32_t nanobot_machine_level(nanobot_machine *machine, uint32_t x, uint32_t y, uint32_t z, uint32_t *level);
+
+/* Tells how many voxels are full.
+ *
+ *     uint32_t count_full;
+ *     nanobot_machine_count(&machine, &count_full);
+ */
+uint32_t nanobot_machine_count(nanobot_machine *machine, uint32_t *count);
+
+/* Gives the matrix as the bytes of a model, at most nanobot_model_room(r) at resolution r.
+ *
+ *     uint8_t matrix[1001];
+ *     nanobot_machine_model(&machine, matrix, sizeof matrix, &size);
+ */
+uint32_t nanobot_machine_model(nanobot_machine *machine, uint8_t *model, size_t room, size_t *size);
+
+/* Frees the machine, if there is one: the handle is empty then, and may be started again.
+ *
+ *     nanobot_machine_end(&other);
+ *     nanobot_machine_end(&machine);
+ */
+void nanobot_machine_end(nanobot_machine *machine);
+
+/* The most bytes of a model at resolution r: a byte and a bit for each voxel, or above 250 at most a run of four bytes for each. */
+static inline uint64_t nanobot_model_room(uint64_t r) { return r <= 250 ? 1 + (r * r * r + 7) / 8 : 7 + 4 * r * r * r; }
+
+#ifdef __cplusplus
+}
+#endif
+
+#endif
