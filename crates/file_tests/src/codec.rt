@@ -7,7 +7,8 @@ use nano_spec::{Command, CommandList};
 use std::alloc::Global;
 use std::process::Abort;
 use trace_codec::{
-    Decoder, Fed, One, TraceFault, TraceRefusal, decode_all, decode_one, encode_all, encode_one, pieces_decode,
+    Decoder, Fed, One, TraceFault, TraceRefusal, decode_all, decode_one, encode_all, encode_one,
+    pieces_decode,
 };
 use vox_geom::{Diff, Far, Long, Near, Short};
 

@@ -13,6 +13,7 @@ use Rattle.nano_spec.specs.Profile.{full_profile, light_profile}
 use Rattle.model_file.specs.declared.fault.ModelFault.{ModelFault}
 use Rattle.model_file.specs.declared.fault.ModelFault.TheVariants as model_fault
 use Rattle.trace_codec.specs.declared.fault.TraceFault.TheVariants as trace_fault
+use Rattle.trace_codec.specs.declared.fault.TraceRefusal.TheVariants.{Bad, Cut}
 use Rattle.trace_codec.specs.Whole.{Decodes}
 use Rattle.kept_machine.specs.declared.fault.NoLevel.{NoLevel}
 use Rattle.kept_machine.specs.declared.fault.NoLevel.TheVariants as no_level
@@ -40,8 +41,8 @@ profile_by false = full_profile
 
 -- the status of a refused start
 abbrev pub status_of_start : ModelFault → ℕ
+status_of_start (model_fault.Refused refusal) = MODEL
 status_of_start model_fault.Memory = MEMORY
-status_of_start _ = MODEL
 
 -- a start puts its machine into the handle, or leaves the handle as it was
 abbrev pub Starts : Option Kept → Option Kept → ℕ → Result Kept ModelFault → Type 0
@@ -51,7 +52,8 @@ Starts old new status (Err fault) = (new ≡ old) × (status ≡ status_of_start
 -- the refusal, if there is one
 abbrev pub refusal_by : Result Kept ModelFault → ModelTold
 refusal_by (Ok k) = sized 0 0 0
-refusal_by (Err fault) = model_told fault
+refusal_by (Err (model_fault.Refused refusal)) = model_told refusal
+refusal_by (Err model_fault.Memory) = sized 0 0 0
 
 -- a machine is started over the model that the bytes say, unless more notes are asked for than are kept
 abbrev pub IsStarted : List ℕ → Bool → ℕ → Option Kept → Option Kept → ModelTold → ℕ → Type 0
@@ -87,8 +89,8 @@ status_of_step (Refused no_step.Ended) = ENDED
 status_of_step (Refused no_step.Count) = COUNT
 status_of_step (Refused no_step.Long) = LONG
 status_of_step (Refused no_step.Memory) = MEMORY
+status_of_step (Unread (trace_fault.Refused refusal)) = COMMANDS
 status_of_step (Unread trace_fault.Memory) = MEMORY
-status_of_step (Unread _) = COMMANDS
 
 -- the rule that a step breaks
 abbrev pub broken_by : StepAnswer → BrokenTold
@@ -97,8 +99,8 @@ broken_by _ = none_broken
 
 -- where the command begins that is bad or cut
 abbrev pub offset_by : StepAnswer → ℕ
-offset_by (Unread (trace_fault.Bad offset)) = offset
-offset_by (Unread (trace_fault.Cut offset)) = offset
+offset_by (Unread (trace_fault.Refused (Bad offset))) = offset
+offset_by (Unread (trace_fault.Refused (Cut offset))) = offset
 offset_by _ = 0
 
 -- where the machine stands after a step, and why the step was refused

@@ -4,8 +4,8 @@ use Rattle.vox_geom.specs.declared.coordinate.Coord.{Coord}
 use Rattle.nano_spec.specs.declared.outcomes.Broken.{Broken}
 use Rattle.nano_spec.specs.declared.system.Bot.{Bot}
 use Rattle.nano_spec.specs.Rule.{rule_number}
-use Rattle.model_file.specs.declared.fault.ModelFault.{ModelFault}
-use Rattle.model_file.specs.declared.fault.ModelFault.TheVariants.{NoByte, Resolution, Short, Long, Memory, Border, Floating, WideHead, WideResolution, WideRun, WideShort, WideLong}
+use Rattle.model_file.specs.declared.fault.ModelRefusal.{ModelRefusal}
+use Rattle.model_file.specs.declared.fault.ModelRefusal.TheVariants.{NoByte, Resolution, Short, Long, Border, Floating, WideHead, WideResolution, WideRun, WideShort, WideLong}
 use Rattle.machine_c.specs.declared.told.BotTold.{BotTold}
 use Rattle.machine_c.specs.declared.told.BrokenTold.{BrokenTold}
 use Rattle.machine_c.specs.declared.told.ModelTold.{ModelTold}
@@ -30,12 +30,11 @@ abbrev pub placed : ℕ → Coord → ModelTold
 placed number at = record { number = number; want = 0; have = 0; x = at.x; y = at.y; z = at.z }
 
 -- a refusal of a model: how many bytes it wants, what it has (the resolution, bytes or voxels, or the index of a run), the voxel
-abbrev pub model_told : ModelFault → ModelTold
+abbrev pub model_told : ModelRefusal → ModelTold
 model_told NoByte = sized 1 0 0
 model_told (Resolution r) = sized 2 0 r
 model_told (Short want have) = sized 3 want have
 model_told (Long want) = sized 4 want 0
-model_told Memory = sized 5 0 0
 model_told (Border at) = placed 6 at
 model_told (Floating at) = placed 7 at
 model_told (WideHead have) = sized 8 0 have

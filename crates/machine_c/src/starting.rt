@@ -34,8 +34,8 @@ fn status(fault: ModelFault) -> u32
     ensures { result ≡ status_of_start fault }
 {
     match fault {
+        ModelFault::Refused(_) => MODEL,
         ModelFault::Memory => MEMORY,
-        _ => MODEL,
     }
 }
 
@@ -97,10 +97,11 @@ pub extern "C" fn nanobot_machine_start(
             handle.put(machine);
             DONE
         }
-        Err(fault) => {
-            *told = ModelTold::of(fault);
-            status(fault)
+        Err(ModelFault::Refused(refusal)) => {
+            *told = ModelTold::of(refusal);
+            MODEL
         }
+        Err(ModelFault::Memory) => MEMORY,
     }
 }
 

@@ -8,7 +8,7 @@ use crate::told::{BrokenTold, StepTold};
 use kept_machine::{KeptMachine, NoStep, NoUndo};
 use std::alloc::Global;
 use step_machine::StepOk;
-use trace_codec::{TraceFault, decode_all};
+use trace_codec::{TraceFault, TraceRefusal, decode_all};
 
 /// What the bytes of a step come to.
 #[derive(Clone, Copy)]
@@ -33,8 +33,8 @@ impl StepAnswer {
             StepAnswer::Refused(NoStep::Count) => COUNT,
             StepAnswer::Refused(NoStep::Long) => LONG,
             StepAnswer::Refused(NoStep::Memory) => MEMORY,
+            StepAnswer::Unread(TraceFault::Refused(_)) => COMMANDS,
             StepAnswer::Unread(TraceFault::Memory) => MEMORY,
-            StepAnswer::Unread(_) => COMMANDS,
         }
     }
 
@@ -53,8 +53,8 @@ impl StepAnswer {
         ensures { result ≡ offset_by self }
     {
         match self {
-            StepAnswer::Unread(TraceFault::Bad { offset }) => offset,
-            StepAnswer::Unread(TraceFault::Cut { offset }) => offset,
+            StepAnswer::Unread(TraceFault::Refused(TraceRefusal::Bad { offset })) => offset,
+            StepAnswer::Unread(TraceFault::Refused(TraceRefusal::Cut { offset })) => offset,
             _ => 0,
         }
     }

@@ -2,7 +2,7 @@
 ghost use Rattle.std.specs.Prelude.{◌≡◌};
 ghost use Rattle.machine_c.specs.Told.{bot_told, broken_told, model_told};
 
-use model_file::ModelFault;
+use model_file::ModelRefusal;
 use nano_spec::{Bot, Broken};
 use vox_geom::Coord;
 
@@ -147,23 +147,22 @@ impl ModelTold {
     }
 
     /// The numbers of a refusal.
-    pub fn of(fault: ModelFault) -> ModelTold
-        ensures { result ≡ model_told fault }
+    pub fn of(refusal: ModelRefusal) -> ModelTold
+        ensures { result ≡ model_told refusal }
     {
-        let number = u32::from(fault.number());
-        match fault {
-            ModelFault::NoByte => ModelTold::sized(number, 0, 0),
-            ModelFault::Resolution { r } => ModelTold::sized(number, 0, u32::from(r)),
-            ModelFault::Short { want, have } => ModelTold::sized(number, want, have),
-            ModelFault::Long { want } => ModelTold::sized(number, want, 0),
-            ModelFault::Memory => ModelTold::sized(number, 0, 0),
-            ModelFault::Border { at } => ModelTold::placed(number, at),
-            ModelFault::Floating { at } => ModelTold::placed(number, at),
-            ModelFault::WideHead { have } => ModelTold::sized(number, 0, have),
-            ModelFault::WideResolution { r } => ModelTold::sized(number, 0, u32::from(r)),
-            ModelFault::WideRun { index } => ModelTold::sized(number, 0, index),
-            ModelFault::WideShort { have } => ModelTold::sized(number, 0, have),
-            ModelFault::WideLong => ModelTold::sized(number, 0, 0),
+        let number = u32::from(refusal.number());
+        match refusal {
+            ModelRefusal::NoByte => ModelTold::sized(number, 0, 0),
+            ModelRefusal::Resolution { r } => ModelTold::sized(number, 0, u32::from(r)),
+            ModelRefusal::Short { want, have } => ModelTold::sized(number, want, have),
+            ModelRefusal::Long { want } => ModelTold::sized(number, want, 0),
+            ModelRefusal::Border { at } => ModelTold::placed(number, at),
+            ModelRefusal::Floating { at } => ModelTold::placed(number, at),
+            ModelRefusal::WideHead { have } => ModelTold::sized(number, 0, have),
+            ModelRefusal::WideResolution { r } => ModelTold::sized(number, 0, u32::from(r)),
+            ModelRefusal::WideRun { index } => ModelTold::sized(number, 0, index),
+            ModelRefusal::WideShort { have } => ModelTold::sized(number, 0, have),
+            ModelRefusal::WideLong => ModelTold::sized(number, 0, 0),
         }
     }
 }
