@@ -38,7 +38,9 @@ enum {
     NANOBOT_LONG = 14,       /* the machine has made its 1,073,741,824 steps */
     NANOBOT_NO_NOTE = 15,    /* no earlier step is noted, so none can be taken back */
     NANOBOT_OUTSIDE = 16,    /* the coordinate is out of space */
-    NANOBOT_NO_LEVEL = 17    /* the voxel is void, or not grounded */
+    NANOBOT_NO_LEVEL = 17,   /* the voxel is void, or not grounded */
+    NANOBOT_DIFFERS = 18,    /* the matrix is not the target */
+    NANOBOT_RESOLUTION = 19  /* the target is of another resolution */
 };
 
 /* Why a model is refused: the number of the refusal (docs/FORMATS.md, "Model files", "Refusals"), how many bytes are wanted, what
@@ -47,6 +49,11 @@ enum {
 typedef struct nanobot_refusal {
     uint32_t number, want, have, x, y, z;
 } nanobot_refusal;
+
+/* A coordinate. */
+typedef struct nanobot_place {
+    uint32_t x, y, z;
+} nanobot_place;
 
 /* The rule that a step breaks, by its number (docs/FORMATS.md, "Rules"), in which step, by which bot (0 for rule 12), and where. */
 typedef struct nanobot_broken {
@@ -159,12 +166,29 @@ uint32_t nanobot_machine_count(nanobot_machine *machine, uint32_t *count);
  */
 uint32_t nanobot_machine_model(nanobot_machine *machine, uint8_t *model, size_t room, size_t *size);
 
+/* Tells whether the matrix is the model of these bytes, which need not be legal. NANOBOT_DIFFERS: *place is the least coordinate
+ * at which they differ. NANOBOT_RESOLUTION: they are of two resolutions. NANOBOT_MODEL: the bytes are no model, as *refusal tells.
+ * What does not belong to the status is 0.
+ *
+ *     nanobot_place place;
+ *     if (nanobot_machine_compare(&machine, model, model_size, &place, &refusal) == NANOBOT_DIFFERS)
+ *         printf("differs at %u %u %u\n", (unsigned)place.x, (unsigned)place.y, (unsigned)place.z);
+ */
+uint32_t nanobot_machine_compare(nanobot_machine *machine, const uint8_t *target, size_t target_size, nanobot_place *place,
+                                 nanobot_refusal *refusal);
+
 /* Frees the machine, if there is one: the handle is empty then, and may be started again.
  *
  *     nanobot_machine_end(&other);
  *     nanobot_machine_end(&machine);
  */
 void nanobot_machine_end(nanobot_machine *machine);
+
+/* The version of the library: ten thousand for each first number of NANOBOT_VERSION, a hundred for each second, one for each third.
+ *
+ *     printf("version %u\n", (unsigned)nanobot_version());              // version 900
+ */
+uint32_t nanobot_version(void);
 
 /* The most bytes of a model at resolution r: a byte and a bit for each voxel, or above 250 at most a run of four bytes for each. */
 static inline uint64_t nanobot_model_room(uint64_t r) { return r <= 250 ? 1 + (r * r * r + 7) / 8 : 7 + 4 * r * r * r; }

@@ -4,7 +4,7 @@ use Rattle.std.specs.Prelude.{None, Some, slice_get}
 use Rattle.circular_buffer.specs.Buffer.{keep_last}
 use Rattle.step_machine.specs.Undoing.{MayUndo}
 use Rattle.step_machine.specs.declared.undo.Undo.{Undo}
-use Rattle.kept_machine.specs.Kept.{CanBeTakenBack, Instant, earliest, instant_before, instants_of}
+use Rattle.kept_machine.specs.Kept.{CanBeTakenBack, Instant, first_instant, instant_before, instants_of}
 
 pub instants_many : (p : Instant) (notes : List Undo) → length (instants_of p notes) ≡ length notes
 instants_many p [] = refl
@@ -12,7 +12,7 @@ instants_many p (u ∷ notes) = ap suc (instants_many p notes)
 
 -- ---- one note more
 
-earliest_more : (p : Instant) (notes : List Undo) (u : Undo) → earliest p (notes ++ u ∷ []) ≡ earliest (instant_before p u) notes
+earliest_more : (p : Instant) (notes : List Undo) (u : Undo) → first_instant p (notes ++ u ∷ []) ≡ first_instant (instant_before p u) notes
 earliest_more p [] u = refl
 earliest_more p (n ∷ notes) u = ap (λ (q : Instant). instant_before q n) (earliest_more p notes u)
 

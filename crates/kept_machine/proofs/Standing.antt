@@ -10,7 +10,7 @@ use Rattle.nano_spec.specs.State.{IsReady, IsWellFormed, State}
 use Rattle.step_machine.specs.Situation.{IsEnergyBounded, Situation}
 use Rattle.step_machine.specs.Undoing.{IsMachineState, state_with}
 use Rattle.step_machine.specs.declared.undo.Undo.{Undo}
-use Rattle.kept_machine.specs.Kept.{CanBeTakenBack, Instant, IsKept, instant_of, instants_of, kept_of}
+use Rattle.kept_machine.specs.Kept.{CanBeTakenBack, Instant, IsNoted, instant_of, instants_of, kept_of}
 
 pub may_stand : (s : State) (steps : ℕ) (matrix : Matrix) (bots : List Bot) (harmonics : Harmonics) (energy : ℤ) (profile : Profile) (n : ℕ) → matrix ≡ s.matrix → bots ≡ s.bots → harmonics ≡ s.harmonics → energy ≡ s.energy → profile ≡ s.profile → n ≡ steps
     → IsWellFormed s → IsReady s → s.profile.seeds ≤ 39 → n ≤ 1073741824 → IsEnergyBounded s.energy steps → IsMachineState (state_with matrix bots harmonics energy profile) n
@@ -27,7 +27,7 @@ module _ (v w : Situation) (notes : Buffer Undo) (state : w.state ≡ v.state) (
   pub looks_the_same : kept_of w notes ≡ kept_of v notes
   looks_the_same = λ i. record { state = state i; steps = steps i; past = instants_of (same_instant i) notes.items; room = notes.capacity }
 
-  pub still_kept : IsKept v notes → IsKept w notes
+  pub still_kept : IsNoted v notes → IsNoted w notes
   still_kept kept = record {
     well_formed = subst IsWellFormed (sym state) kept.well_formed;
     back = subst (λ (p : Instant). CanBeTakenBack p notes.items) (sym same_instant) kept.back;
@@ -38,5 +38,5 @@ module _ (v w : Situation) (notes : Buffer Undo) (anew : w ≡ record v { spent 
   pub anew_looks_the_same : kept_of w notes ≡ kept_of v notes
   anew_looks_the_same = looks_the_same v w notes (ap (λ (m : Situation). m.state) anew) (ap (λ (m : Situation). m.steps) anew)
 
-  pub anew_is_kept : IsKept v notes → IsKept w notes
+  pub anew_is_kept : IsNoted v notes → IsNoted w notes
   anew_is_kept = still_kept v w notes (ap (λ (m : Situation). m.state) anew) (ap (λ (m : Situation). m.steps) anew)

@@ -16,14 +16,14 @@ use Rattle.step_machine.specs.declared.undo.Undo.{Undo}
 use Rattle.kept_machine.specs.declared.fault.NoStep.{NoStep}
 use Rattle.kept_machine.specs.declared.fault.NoStep.TheVariants as no_step
 use Rattle.kept_machine.specs.Calls.{IsMade, IsTakenBack, Tries, no_step_of}
-use Rattle.kept_machine.specs.Kept.{CanBeTakenBack, CanStep, CannotStep, Instant, IsKept, instant_before, instant_of, instants_of, kept_of}
+use Rattle.kept_machine.specs.Kept.{CanBeTakenBack, CanStep, CannotStep, Instant, IsNoted, instant_before, instant_of, instants_of, kept_of}
 use Rattle.kept_machine.proofs.Notes.{back_last, back_less, back_more, instants_last, instants_more, last_split}
 use Rattle.kept_machine.proofs.Standing.{looks_the_same, still_kept}
 
 -- ---- a machine that was started
 
 pub opened_is_kept : (source : Matrix) (profile : Profile) (room : ℕ) (m : Situation) (notes : Buffer Undo) → m ≡ record { state = opening source profile; steps = 0; spent = false } → notes ≡ buffer [] room
-    → IsWellFormed (opening source profile) → IsKept m notes
+    → IsWellFormed (opening source profile) → IsNoted m notes
 opened_is_kept source profile room m notes is none formed = record {
   well_formed = subst (λ (x : Situation). IsWellFormed x.state) (sym is) formed;
   back = subst (λ (b : Buffer Undo). CanBeTakenBack (instant_of m) b.items) (sym none) tt;
@@ -32,7 +32,7 @@ opened_is_kept source profile room m notes is none formed = record {
 -- ---- a step that was made and noted
 
 module _ (v w : Situation) (notes rest : Buffer Undo) (commands : List Command) (undo : Undo) (ok : StepOk) (began ended : ℕ)
-    (kept : IsKept v notes) (stepped : Stepped v w commands (Ok ok) began ended) (before : state_before w.state undo ≡ v.state) (counted : undo.steps ≡ v.steps)
+    (kept : IsNoted v notes) (stepped : Stepped v w commands (Ok ok) began ended) (before : state_before w.state undo ≡ v.state) (counted : undo.steps ≡ v.steps)
     (may : IsWellFormed v.state → MayUndo w.state undo) (pushed : rest ≡ buffer (keep_last notes.capacity (notes.items ++ undo ∷ [])) notes.capacity) where
   before_is : instant_before (instant_of w) undo ≡ instant_of v
   before_is = λ i. record { state = before i; steps = counted i }
@@ -40,7 +40,7 @@ module _ (v w : Situation) (notes rest : Buffer Undo) (commands : List Command) 
   items_are : rest.items ≡ keep_last notes.capacity (notes.items ++ undo ∷ [])
   items_are = ap (λ (b : Buffer Undo). b.items) pushed
 
-  pub kept_noted : IsKept w rest
+  pub kept_noted : IsNoted w rest
   kept_noted = record {
     well_formed = stepped.well_formed kept.well_formed;
     back =
@@ -68,8 +68,8 @@ module _ (v w : Situation) (notes rest : Buffer Undo) (commands : List Command) 
 -- ---- a step that was made where no notes are kept
 
 module _ (v w : Situation) (notes : Buffer Undo) (commands : List Command) (ok : StepOk) (began ended : ℕ)
-    (kept : IsKept v notes) (stepped : Stepped v w commands (Ok ok) began ended) (none : notes ≡ buffer [] 0) where
-  pub kept_once : IsKept w notes
+    (kept : IsNoted v notes) (stepped : Stepped v w commands (Ok ok) began ended) (none : notes ≡ buffer [] 0) where
+  pub kept_once : IsNoted w notes
   kept_once = record {
     well_formed = stepped.well_formed kept.well_formed;
     back = subst (λ (b : Buffer Undo). CanBeTakenBack (instant_of w) b.items) (sym none) tt;
@@ -88,7 +88,7 @@ module _ (v w : Situation) (notes : Buffer Undo) (commands : List Command) (ok :
 -- ---- a step that was not made
 
 module _ (v w : Situation) (notes : Buffer Undo) (commands : List Command) where
-  pub kept_refused : (f : StepFault) (began ended : ℕ) → IsKept v notes → Stepped v w commands (Err f) began ended → IsKept w notes
+  pub kept_refused : (f : StepFault) (began ended : ℕ) → IsNoted v notes → Stepped v w commands (Err f) began ended → IsNoted w notes
   kept_refused f began ended kept stepped = still_kept v w notes stepped.stays.0 stepped.stays.1 kept
 
   pub refused_so : (f : StepFault) (began ended : ℕ) → CanStep v commands → Stepped v w commands (Err f) began ended → Tries (kept_of v notes) commands (kept_of w notes) (Err (no_step_of f))
@@ -106,7 +106,7 @@ cannot_so v notes commands no_step.Memory h = absurd h
 
 -- ---- the last step is taken back
 
-module _ (v w : Situation) (notes rest : Buffer Undo) (undo : Undo) (kept : IsKept v notes) (last : last_item notes.items ≡ Some undo) where
+module _ (v w : Situation) (notes rest : Buffer Undo) (undo : Undo) (kept : IsNoted v notes) (last : last_item notes.items ≡ Some undo) where
   split : notes.items ≡ take (length notes.items - 1) notes.items ++ undo ∷ []
   split = last_split notes.items undo last
 
@@ -123,7 +123,7 @@ module _ (v w : Situation) (notes rest : Buffer Undo) (undo : Undo) (kept : IsKe
     items_left : rest.items ≡ take (length notes.items - 1) notes.items
     items_left = ap (λ (b : Buffer Undo). b.items) popped
 
-    pub kept_back : IsKept w rest
+    pub kept_back : IsNoted w rest
     kept_back = record {
       well_formed = subst IsWellFormed (sym (ap (λ (m : Situation). m.state) is)) less.0.before.well_formed;
       back =

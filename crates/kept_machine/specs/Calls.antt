@@ -21,11 +21,11 @@ use Rattle.kept_machine.specs.declared.fault.NoStep.{NoStep}
 use Rattle.kept_machine.specs.declared.fault.NoStep.TheVariants as no_step
 use Rattle.kept_machine.specs.declared.fault.NoUndo.{NoUndo}
 use Rattle.kept_machine.specs.declared.fault.NoUndo.TheVariants as no_undo
-use Rattle.kept_machine.specs.Kept.{Kept, opened, present}
+use Rattle.kept_machine.specs.Kept.{Kept, kept_opening, present}
 
 -- a machine is started over a legal source, or the source is refused as the definition refuses it
 abbrev pub Opens : Matrix → Profile → ℕ → Result Kept ModelFault → Type 0
-Opens source profile room (Ok k) = IsLegal source × (k ≡ opened source profile room)
+Opens source profile room (Ok k) = IsLegal source × (k ≡ kept_opening source profile room)
 Opens source profile room (Err fault) = Judges source (Err fault)
 
 -- the same over the model that bytes say, where they say one
@@ -66,10 +66,10 @@ pub record IsTakenBack (old new : Kept) : Type 0 where
   pub room : new.room ≡ old.room
 
 -- what an undo answers and does: one that is refused leaves all as it was
-abbrev pub TakesBack : Kept → Kept → Result (Unit {0}) NoUndo → Type 0
-TakesBack old new (Ok _) = IsTakenBack old new
-TakesBack old new (Err no_undo.NoNote) = (new ≡ old) × (old.past ≡ [])
-TakesBack old new (Err no_undo.Memory) = new ≡ old
+abbrev pub Undoes : Kept → Kept → Result (Unit {0}) NoUndo → Type 0
+Undoes old new (Ok _) = IsTakenBack old new
+Undoes old new (Err no_undo.NoNote) = (new ≡ old) × (old.past ≡ [])
+Undoes old new (Err no_undo.Memory) = new ≡ old
 
 -- the level that the definition gives, or that the coordinate is out of space
 abbrev pub TellsLevel : Matrix → Coord → Result (Option ℕ) NoLevel → Type 0

@@ -29,8 +29,8 @@ abbrev pub present : Kept → Instant
 present k = record { state = k.state; steps = k.steps }
 
 -- a machine before its first step
-abbrev pub opened : Matrix → Profile → ℕ → Kept
-opened source profile room = record { state = opening source profile; steps = 0; past = []; room = room }
+abbrev pub kept_opening : Matrix → Profile → ℕ → Kept
+kept_opening source profile room = record { state = opening source profile; steps = 0; past = []; room = room }
 
 -- ---- the parts
 
@@ -43,14 +43,14 @@ abbrev pub instant_before : Instant → Undo → Instant
 instant_before p undo = record { state = state_before p.state undo; steps = undo.steps }
 
 -- where it stood before the steps of all notes, of which the last is that of the last step
-abbrev pub earliest : Instant → List Undo → Instant
-earliest p [] = p
-earliest p (undo ∷ notes) = instant_before (earliest p notes) undo
+abbrev pub first_instant : Instant → List Undo → Instant
+first_instant p [] = p
+first_instant p (undo ∷ notes) = instant_before (first_instant p notes) undo
 
 -- where it stood before each of them
 abbrev pub instants_of : Instant → List Undo → List Instant
 instants_of p [] = []
-instants_of p (undo ∷ notes) = earliest p (undo ∷ notes) ∷ instants_of p notes
+instants_of p (undo ∷ notes) = first_instant p (undo ∷ notes) ∷ instants_of p notes
 
 -- what is seen of a machine and its notes
 abbrev pub kept_of : Situation → Buffer Undo → Kept
@@ -59,10 +59,10 @@ kept_of m notes = record { state = m.state; steps = m.steps; past = instants_of 
 -- the steps of the notes can be taken back, one after another
 abbrev pub CanBeTakenBack : Instant → List Undo → Type 0
 CanBeTakenBack p [] = Unit {0}
-CanBeTakenBack p (undo ∷ notes) = MayUndo (earliest p notes).state undo × CanBeTakenBack p notes
+CanBeTakenBack p (undo ∷ notes) = MayUndo (first_instant p notes).state undo × CanBeTakenBack p notes
 
 -- what a machine and its notes keep
-pub record IsKept (m : Situation) (notes : Buffer Undo) : Type 0 where
+pub record IsNoted (m : Situation) (notes : Buffer Undo) : Type 0 where
   pub well_formed : IsWellFormed m.state
   pub back : CanBeTakenBack (instant_of m) notes.items
 

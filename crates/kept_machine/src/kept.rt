@@ -1,10 +1,11 @@
 //! The machine that is kept.
 ghost use Rattle.std.specs.Prelude.{◌≡◌, ◌≤◌, [], length, count_by, IfOk};
 ghost use Rattle.nano_spec.specs.Matrix.{all_of, empty as empty_of, is_full};
-ghost use Rattle.kept_machine.specs.Calls.{OpensFile, Opens, TakesBack, TellsLevel, Tries};
+ghost use Rattle.nano_spec.specs.Verdict.{first_difference};
+ghost use Rattle.kept_machine.specs.Calls.{OpensFile, Opens, Undoes, TellsLevel, Tries};
 
 use crate::fault::{NoLevel, NoStep, NoUndo};
-use crate::reading::{count_full, find_level, is_full_at};
+use crate::reading::{count_full, find_level, is_full_at, least_difference};
 use crate::stepping::{copy_of, start_over, take_back, try_step};
 use circular_buffer::HeapCircularBuffer;
 use model_file::{ModelFault, read_model};
@@ -26,13 +27,13 @@ pub struct KeptMachine {
 }
 
 impl Model for KeptMachine {
-    ghost use Rattle.kept_machine.specs.Kept.{IsKept, Kept, kept_of};
+    ghost use Rattle.kept_machine.specs.Kept.{IsNoted, Kept, kept_of};
 
     ghost Value = { Kept };
 
     ghost view = { λ k. kept_of k.machine k.notes };
 
-    ghost invariant = { λ k. IsKept k.machine k.notes };
+    ghost invariant = { λ k. IsNoted k.machine k.notes };
 }
 
 impl KeptMachine {
@@ -101,7 +102,7 @@ impl KeptMachine {
 
     /// Takes the last step back.
     pub fn undo(&mut self) -> Result<(), NoUndo>
-        ensures { TakesBack self.old self.new result }
+        ensures { Undoes self.old self.new result }
     {
         take_back::<Brand>(
             self.alloc,
@@ -131,6 +132,14 @@ impl KeptMachine {
         ensures { result ≡ count_by (is_full self.now.state.matrix) (all_of self.now.state.matrix) }
     {
         count_full::<Brand>(self.machine.matrix(), Blank::new(1))
+    }
+
+    /// The least coordinate at which the matrix and a target of its resolution differ, or `None` where they are the same.
+    pub fn difference(&self, target: &Planes) -> Option<Coord>
+        requires { self.now.state.matrix.resolution ≡ target.now.resolution }
+        ensures { result ≡ first_difference self.now.state.matrix target.now }
+    {
+        least_difference::<Brand>(self.machine.matrix(), target, Blank::new(1))
     }
 
     /// The matrix.

@@ -2,6 +2,7 @@
 ghost use Rattle.std.specs.Prelude.{◌≡◌, ◌<◌, count_by, MatchBool};
 ghost use Rattle.nano_spec.specs.Matrix.{all_of, is_full};
 ghost use Rattle.nano_spec.specs.State.{IsWellFormed};
+ghost use Rattle.nano_spec.specs.Verdict.{first_difference};
 ghost use Rattle.vox_geom.specs.Space.{IsInSpace};
 ghost use Rattle.kept_machine.specs.Calls.{TellsLevel};
 
@@ -43,6 +44,22 @@ pub(crate) fn count_full<L: Ledger>(matrix: &Planes, blank: Blank) -> u32
 {
     let mut steps = Steps::<L>::new(blank);
     matrix.count(&mut steps)
+}
+
+/// The least coordinate at which two matrices differ.
+pub(crate) fn least_difference<L: Ledger>(
+    matrix: &Planes,
+    target: &Planes,
+    blank: Blank,
+) -> Option<Coord>
+    requires same { matrix.now.resolution ≡ target.now.resolution }
+    requires name { blank.name ≡ L.name }
+    requires parts { blank.parts ≡ L.parts }
+    requires some { 0 < L.parts }
+    ensures { result ≡ first_difference matrix.now target.now }
+{
+    let mut steps = Steps::<L>::new(blank);
+    matrix.equal(target, &mut steps)
 }
 
 /// The level of the voxel at a coordinate.

@@ -4,8 +4,8 @@ ghost use Rattle.circular_buffer.specs.Buffer.{buffer};
 ghost use Rattle.nano_spec.specs.Legal.{IsLegal};
 ghost use Rattle.nano_spec.specs.State.{IsWellFormed, opening};
 ghost use Rattle.model_file.specs.Fault.{Judges};
-ghost use Rattle.kept_machine.specs.Calls.{TakesBack, Tries};
-ghost use Rattle.kept_machine.specs.Kept.{CanStep, CannotStep, IsKept, kept_of};
+ghost use Rattle.kept_machine.specs.Calls.{Undoes, Tries};
+ghost use Rattle.kept_machine.specs.Kept.{CanStep, CannotStep, IsNoted, kept_of};
 
 use crate::fault::{NoStep, NoUndo};
 use circular_buffer::HeapCircularBuffer;
@@ -134,10 +134,10 @@ fn step_once<L: Ledger>(
     commands: &[Command],
     steps: &mut Steps<L>,
 ) -> Result<StepOk, NoStep>
-    requires kept { IsKept machine.old notes.now }
+    requires kept { IsNoted machine.old notes.now }
     requires can { CanStep machine.old commands.now }
     requires none { notes.now.capacity ≡ 0 }
-    ensures kept { IsKept machine.new notes.now }
+    ensures kept { IsNoted machine.new notes.now }
     ensures tries { Tries (kept_of machine.old notes.now) commands.now (kept_of machine.new notes.now) result }
 {
     let _room = notes.capacity();
@@ -154,9 +154,9 @@ fn step_and_note<L: Ledger>(
     commands: &[Command],
     steps: &mut Steps<L>,
 ) -> Result<StepOk, NoStep>
-    requires kept { IsKept machine.old notes.old }
+    requires kept { IsNoted machine.old notes.old }
     requires can { CanStep machine.old commands.now }
-    ensures kept { IsKept machine.new notes.new }
+    ensures kept { IsNoted machine.new notes.new }
     ensures tries { Tries (kept_of machine.old notes.old) commands.now (kept_of machine.new notes.new) result }
 {
     machine.know();
@@ -178,11 +178,11 @@ pub(crate) fn try_step<L: Ledger>(
     commands: &[Command],
     blank: Blank,
 ) -> Result<StepOk, NoStep>
-    requires kept { IsKept machine.old notes.old }
+    requires kept { IsNoted machine.old notes.old }
     requires name { blank.name ≡ L.name }
     requires parts { blank.parts ≡ L.parts }
     requires some { 0 < L.parts }
-    ensures kept { IsKept machine.new notes.new }
+    ensures kept { IsNoted machine.new notes.new }
     ensures tries { Tries (kept_of machine.old notes.old) commands.now (kept_of machine.new notes.new) result }
 {
     ready(machine, commands)?;
@@ -201,12 +201,12 @@ pub(crate) fn take_back<L: Ledger>(
     notes: &mut HeapCircularBuffer<Undo>,
     blank: Blank,
 ) -> Result<(), NoUndo>
-    requires kept { IsKept machine.old notes.old }
+    requires kept { IsNoted machine.old notes.old }
     requires name { blank.name ≡ L.name }
     requires parts { blank.parts ≡ L.parts }
     requires some { 0 < L.parts }
-    ensures kept { IsKept machine.new notes.new }
-    ensures back { TakesBack (kept_of machine.old notes.old) (kept_of machine.new notes.new) result }
+    ensures kept { IsNoted machine.new notes.new }
+    ensures back { Undoes (kept_of machine.old notes.old) (kept_of machine.new notes.new) result }
 {
     let Some(undo) = notes.back() else {
         return Err(NoUndo::NoNote);

@@ -20,7 +20,7 @@ use Rattle.kept_machine.specs.declared.fault.NoLevel.TheVariants as no_level
 use Rattle.kept_machine.specs.declared.fault.NoStep.TheVariants as no_step
 use Rattle.kept_machine.specs.declared.fault.NoUndo.{NoUndo}
 use Rattle.kept_machine.specs.declared.fault.NoUndo.TheVariants as no_undo
-use Rattle.kept_machine.specs.Calls.{Opens, OpensFile, TakesBack, TellsLevel, Tries}
+use Rattle.kept_machine.specs.Calls.{Opens, OpensFile, Undoes, TellsLevel, Tries}
 use Rattle.kept_machine.specs.Kept.{Kept}
 use Rattle.machine_c.specs.declared.status.TheConstants.{DONE, BROKEN, ARGUMENT, MODEL, COMMANDS, MEMORY, TOO_SMALL, NO_MACHINE, ENDED, COUNT, LONG, NO_NOTE, OUTSIDE, NO_LEVEL}
 use Rattle.machine_c.specs.declared.stepping.StepAnswer.{StepAnswer}
@@ -30,7 +30,7 @@ use Rattle.machine_c.specs.declared.told.BrokenTold.{BrokenTold}
 use Rattle.machine_c.specs.declared.told.MachineTold.{MachineTold}
 use Rattle.machine_c.specs.declared.told.ModelTold.{ModelTold}
 use Rattle.machine_c.specs.declared.told.StepTold.{StepTold}
-use Rattle.machine_c.specs.Told.{bot_told, broken_told, model_told, none_broken, sized}
+use Rattle.machine_c.specs.Told.{bot_told, broken_told, model_told, none_broken, number_refusal}
 
 -- ---- starts
 
@@ -51,14 +51,14 @@ Starts old new status (Err fault) = (new ≡ old) × (status ≡ status_of_start
 
 -- the refusal, if there is one
 abbrev pub refusal_by : Result Kept ModelFault → ModelTold
-refusal_by (Ok k) = sized 0 0 0
+refusal_by (Ok k) = number_refusal 0 0 0
 refusal_by (Err (model_fault.Refused refusal)) = model_told refusal
-refusal_by (Err model_fault.Memory) = sized 0 0 0
+refusal_by (Err model_fault.Memory) = number_refusal 0 0 0
 
 -- a machine is started over the model that the bytes say, unless more notes are asked for than are kept
 abbrev pub IsStarted : List ℕ → Bool → ℕ → Option Kept → Option Kept → ModelTold → ℕ → Type 0
 IsStarted bytes light notes old new told status =
-    ((4096 < notes) × (new ≡ old) × (told ≡ sized 0 0 0) × (status ≡ ARGUMENT))
+    ((4096 < notes) × (new ≡ old) × (told ≡ number_refusal 0 0 0) × (status ≡ ARGUMENT))
     ⊎ ((notes ≤ 4096) × (answer : Result Kept ModelFault) × OpensFile bytes (profile_by light) notes answer × Starts old new status answer × (told ≡ refusal_by answer))
 
 -- a machine is started over the empty model, unless more notes are asked for than are kept, or there is no such model
@@ -93,9 +93,9 @@ status_of_step (Unread (trace_fault.Refused refusal)) = COMMANDS
 status_of_step (Unread trace_fault.Memory) = MEMORY
 
 -- the rule that a step breaks
-abbrev pub broken_by : StepAnswer → BrokenTold
-broken_by (Refused (no_step.Broken b)) = broken_told b
-broken_by _ = none_broken
+abbrev pub rule_told : StepAnswer → BrokenTold
+rule_told (Refused (no_step.Broken b)) = broken_told b
+rule_told _ = none_broken
 
 -- where the command begins that is bad or cut
 abbrev pub offset_by : StepAnswer → ℕ
@@ -106,7 +106,7 @@ offset_by _ = 0
 -- where the machine stands after a step, and why the step was refused
 abbrev pub step_told : Kept → StepAnswer → StepTold
 step_told k answer =
-    record { energy = k.state.energy; offset = offset_by answer; steps = k.steps; active = length k.state.bots; broken = broken_by answer }
+    record { energy = k.state.energy; offset = offset_by answer; steps = k.steps; active = length k.state.bots; broken = rule_told answer }
 
 -- a step is made of the bytes
 abbrev pub IsStepped : Option Kept → List ℕ → Option Kept → StepTold → StepTold → ℕ → Type 0
@@ -124,7 +124,7 @@ status_of_undo (Err no_undo.Memory) = MEMORY
 abbrev pub IsUndone : Option Kept → Option Kept → ℕ → Type 0
 IsUndone None new status = (new ≡ None) × (status ≡ NO_MACHINE)
 IsUndone (Some old) new status =
-    (k : Kept) × (new ≡ Some k) × (answer : Result (Unit {0}) NoUndo) × TakesBack old k answer × (status ≡ status_of_undo answer)
+    (k : Kept) × (new ≡ Some k) × (answer : Result (Unit {0}) NoUndo) × Undoes old k answer × (status ≡ status_of_undo answer)
 
 -- ---- what is told
 
@@ -150,8 +150,8 @@ IsMachineTold None before after status = (after ≡ before) × (status ≡ NO_MA
 IsMachineTold (Some k) before after status = (after ≡ machine_told k) × (status ≡ DONE)
 
 -- what a call gives: all of it to the front of the buffer, or where the buffer is too small only how much it is
-abbrev pub Gives : {X : Type 0} → List X → List X → List X → ℕ → ℕ → Type 0
-Gives given before after count status =
+abbrev pub GivesAll : {X : Type 0} → List X → List X → List X → ℕ → ℕ → Type 0
+GivesAll given before after count status =
     (count ≡ length given)
     × (((length given ≤ length before) × (after ≡ given ++ drop (length given) before) × (status ≡ DONE))
     ⊎ ((length before < length given) × (after ≡ before) × (status ≡ TOO_SMALL)))
@@ -159,7 +159,7 @@ Gives given before after count status =
 -- the active bots, in rising order of their bids
 abbrev pub AreBotsTold : Option Kept → List BotTold → List BotTold → ℕ → ℕ → ℕ → Type 0
 AreBotsTold None before after count_before count status = (after ≡ before) × (count ≡ count_before) × (status ≡ NO_MACHINE)
-AreBotsTold (Some k) before after count_before count status = Gives (map bot_told k.state.bots) before after count status
+AreBotsTold (Some k) before after count_before count status = GivesAll (map bot_told k.state.bots) before after count status
 
 -- whether a voxel is full, 1 or 0
 abbrev pub bit_of : Bool → ℕ
@@ -197,4 +197,4 @@ IsCounted (Some k) before after status = (after ≡ full_count k.state.matrix) �
 abbrev pub IsModelGiven : Option Kept → List ℕ → List ℕ → ℕ → ℕ → ℕ → Type 0
 IsModelGiven None before after size_before size status = (after ≡ before) × (size ≡ size_before) × (status ≡ NO_MACHINE)
 IsModelGiven (Some k) before after size_before size status =
-    Gives (written k.state.matrix) before after size status ⊎ ((after ≡ before) × (size ≡ size_before) × (status ≡ MEMORY))
+    GivesAll (written k.state.matrix) before after size status ⊎ ((after ≡ before) × (size ≡ size_before) × (status ≡ MEMORY))

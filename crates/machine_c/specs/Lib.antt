@@ -1,3 +1,4 @@
 pub mod Calls
+pub mod Comparing
 pub mod Owned
 pub mod Told

@@ -23,22 +23,22 @@ abbrev pub bot_told : Bot → BotTold
 bot_told b = record { seeds = b.seeds; bid = b.bid; x = b.pos.x; y = b.pos.y; z = b.pos.z }
 
 -- a refusal that has numbers, and one that has a voxel
-abbrev pub sized : ℕ → ℕ → ℕ → ModelTold
-sized number want have = record { number = number; want = want; have = have; x = 0; y = 0; z = 0 }
+abbrev pub number_refusal : ℕ → ℕ → ℕ → ModelTold
+number_refusal number want have = record { number = number; want = want; have = have; x = 0; y = 0; z = 0 }
 
-abbrev pub placed : ℕ → Coord → ModelTold
-placed number at = record { number = number; want = 0; have = 0; x = at.x; y = at.y; z = at.z }
+abbrev pub voxel_refusal : ℕ → Coord → ModelTold
+voxel_refusal number at = record { number = number; want = 0; have = 0; x = at.x; y = at.y; z = at.z }
 
 -- a refusal of a model: how many bytes it wants, what it has (the resolution, bytes or voxels, or the index of a run), the voxel
 abbrev pub model_told : ModelRefusal → ModelTold
-model_told NoByte = sized 1 0 0
-model_told (Resolution r) = sized 2 0 r
-model_told (Short want have) = sized 3 want have
-model_told (Long want) = sized 4 want 0
-model_told (Border at) = placed 6 at
-model_told (Floating at) = placed 7 at
-model_told (WideHead have) = sized 8 0 have
-model_told (WideResolution r) = sized 9 0 r
-model_told (WideRun index) = sized 10 0 index
-model_told (WideShort have) = sized 11 0 have
-model_told WideLong = sized 12 0 0
+model_told NoByte = number_refusal 1 0 0
+model_told (Resolution r) = number_refusal 2 0 r
+model_told (Short want have) = number_refusal 3 want have
+model_told (Long want) = number_refusal 4 want 0
+model_told (Border at) = voxel_refusal 6 at
+model_told (Floating at) = voxel_refusal 7 at
+model_told (WideHead have) = number_refusal 8 0 have
+model_told (WideResolution r) = number_refusal 9 0 r
+model_told (WideRun index) = number_refusal 10 0 index
+model_told (WideShort have) = number_refusal 11 0 have
+model_told WideLong = number_refusal 12 0 0

@@ -2,6 +2,7 @@
 //! one call of it, and puts it back.
 #![tactic(auto)]
 
+mod comparing;
 mod handle;
 mod parts;
 mod reading;
@@ -9,3 +10,4 @@ mod starting;
 mod status;
 mod stepping;
 mod told;
+mod version;

@@ -3,7 +3,7 @@ ghost use Rattle.std.specs.Prelude.{◌≡◌, map, MatchOption};
 ghost use Rattle.vox_geom.specs.Point.{coord};
 ghost use Rattle.vox_geom.specs.Space.{IsInSpace};
 ghost use Rattle.kept_machine.specs.Calls.{TellsLevel};
-ghost use Rattle.machine_c.specs.Calls.{AreBotsTold, Gives, IsCounted, IsFullTold, IsLevelTold, IsMachineTold, IsModelGiven, high_of, level_by, status_of_level};
+ghost use Rattle.machine_c.specs.Calls.{AreBotsTold, GivesAll, IsCounted, IsFullTold, IsLevelTold, IsMachineTold, IsModelGiven, high_of, level_by, status_of_level};
 ghost use Rattle.machine_c.specs.Told.{bot_told};
 
 use crate::handle::Handle;
@@ -52,7 +52,7 @@ fn high(harmonics: Harmonics) -> u32
 
 /// Writes the bots to the front of the buffer, if it takes them, and tells how many they are.
 fn give_bots(bots: &[Bot], out: &mut [BotTold], count: &mut usize) -> u32
-    ensures { Gives (map bot_told bots.now) out.old out.new count.new result }
+    ensures { GivesAll (map bot_told bots.now) out.old out.new count.new result }
 {
     *count = bots.len();
     if bots.len() > out.len() {
@@ -189,7 +189,7 @@ pub extern "C" fn nanobot_machine_count(alloc: Global, handle: &mut Handle, coun
 
 /// Writes bytes to the front of the buffer, if it takes them, and tells how many they are.
 fn give_bytes(bytes: &[u8], out: &mut [u8], size: &mut usize) -> u32
-    ensures { Gives bytes.now out.old out.new size.new result }
+    ensures { GivesAll bytes.now out.old out.new size.new result }
 {
     *size = bytes.len();
     if bytes.len() > out.len() {
@@ -199,7 +199,7 @@ fn give_bytes(bytes: &[u8], out: &mut [u8], size: &mut usize) -> u32
     DONE
 }
 
-/// Gives the matrix as the bytes of a model.
+/// GivesAll the matrix as the bytes of a model.
 #[unsafe(no_mangle)]
 pub extern "C" fn nanobot_machine_model(
     alloc: Global,

@@ -41,3 +41,9 @@ pub const OUTSIDE: u32 = 16;
 
 /// The voxel has no level.
 pub const NO_LEVEL: u32 = 17;
+
+/// The matrix and the target differ.
+pub const DIFFERS: u32 = 18;
+
+/// The target is of another resolution.
+pub const RESOLUTION: u32 = 19;

@@ -1,6 +1,6 @@
 //! Steps that are made and taken back.
 ghost use Rattle.std.specs.Prelude.{◌≡◌};
-ghost use Rattle.machine_c.specs.Calls.{ComesTo, IsStepped, IsUndone, broken_by, offset_by, status_of_step, status_of_undo};
+ghost use Rattle.machine_c.specs.Calls.{ComesTo, IsStepped, IsUndone, rule_told, offset_by, status_of_step, status_of_undo};
 
 use crate::handle::Handle;
 use crate::status::{BROKEN, COMMANDS, COUNT, DONE, ENDED, LONG, MEMORY, NO_MACHINE, NO_NOTE};
@@ -40,7 +40,7 @@ impl StepAnswer {
 
     /// The rule that is broken.
     fn broken(self) -> BrokenTold
-        ensures { result ≡ broken_by self }
+        ensures { result ≡ rule_told self }
     {
         match self {
             StepAnswer::Refused(NoStep::Broken(broken)) => BrokenTold::of(broken),

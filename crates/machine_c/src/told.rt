@@ -53,6 +53,15 @@ pub struct BotTold {
     pub z: u32,
 }
 
+/// A coordinate.
+#[repr(C)]
+#[derive(Clone, Copy)]
+pub struct PlaceTold {
+    pub x: u32,
+    pub y: u32,
+    pub z: u32,
+}
+
 /// Why a model is refused: the number of the refusal, and what belongs to it. Numbers that do not are 0.
 #[repr(C)]
 #[derive(Clone, Copy)]
@@ -106,6 +115,19 @@ impl BotTold {
             x: u32::from(bot.pos.x),
             y: u32::from(bot.pos.y),
             z: u32::from(bot.pos.z),
+        }
+    }
+}
+
+impl PlaceTold {
+    /// The numbers of a coordinate.
+    pub fn of(at: Coord) -> PlaceTold
+        ensures { result ≡ record { x = at.x; y = at.y; z = at.z } }
+    {
+        PlaceTold {
+            x: u32::from(at.x),
+            y: u32::from(at.y),
+            z: u32::from(at.z),
         }
     }
 }
