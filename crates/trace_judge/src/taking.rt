@@ -20,7 +20,7 @@ pub(crate) enum Taken {
     Refused,
 }
 
-/// The step of an only bot by a command that is frequent. The command is kept only where its step is refused.
+/// The step of an only bot by a command that is frequent, where no command waits. The command is kept only where its step is refused.
 #[inline(always)]
 fn take_alone<L: Ledger>(
     machine: &mut Machine,
