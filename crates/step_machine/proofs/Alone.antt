@@ -13,7 +13,7 @@ use Rattle.nano_spec.specs.State.{State}
 use Rattle.nano_spec.specs.Step.{after}
 use Rattle.nano_spec.proofs.Accepted.{accepted_step}
 use Rattle.step_groups.specs.Judging.{edit_of}
-use Rattle.step_machine.specs.Alone.{IsAlone}
+use Rattle.step_machine.specs.Alone.{IsSolo}
 use Rattle.step_machine.specs.Situation.{Situation}
 use Rattle.step_machine.specs.Stepped.{Stepped, answer_of}
 use Rattle.step_machine.specs.declared.machine.StepFault.{StepFault}
@@ -31,7 +31,7 @@ edit_leaves_one true d b = refl
 edit_leaves_one false d b = refl
 
 alone_after : (command : Command) → LeavesOne command → (old new : Situation) (fault : StepFault) (began ended : ℕ) → length old.state.bots ≡ 1
-    → Stepped old new (command ∷ []) (answer_of true new.state fault) began ended → IsAlone new
+    → Stepped old new (command ∷ []) (answer_of true new.state fault) began ended → IsSolo new
 alone_after command leaves old new fault began ended one s =
     let goes = accepted_step old.state new.state (command ∷ []) (old.steps + 1) s.goes in
     let o = only_bot old.state.bots one in
@@ -43,9 +43,9 @@ alone_after command leaves old new fault began ended one s =
     }
 
 pub alone_after_move : (d : Diff) (old new : Situation) (fault : StepFault) (began ended : ℕ) → length old.state.bots ≡ 1
-    → Stepped old new (SMove d ∷ []) (answer_of true new.state fault) began ended → IsAlone new
+    → Stepped old new (SMove d ∷ []) (answer_of true new.state fault) began ended → IsSolo new
 alone_after_move d = alone_after (SMove d) (move_leaves_one d)
 
 pub alone_after_edit : (full : Bool) (d : Diff) (old new : Situation) (fault : StepFault) (began ended : ℕ) → length old.state.bots ≡ 1
-    → Stepped old new (edit_of full d ∷ []) (answer_of true new.state fault) began ended → IsAlone new
+    → Stepped old new (edit_of full d ∷ []) (answer_of true new.state fault) began ended → IsSolo new
 alone_after_edit full d = alone_after (edit_of full d) (edit_leaves_one full d)

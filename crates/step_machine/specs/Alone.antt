@@ -5,7 +5,7 @@ use Rattle.nano_spec.specs.Grounded.{FirstUngrounded}
 use Rattle.step_machine.specs.Situation.{Situation}
 
 -- the machine is not spent, one bot is left, and each full voxel is grounded where it has to be
-pub record IsAlone (m : Situation) : Type 0 where
+pub record IsSolo (m : Situation) : Type 0 where
   pub stands : m.spent ≡ false
   pub one : length m.state.bots ≡ 1
   pub held : m.state.harmonics ≡ Low → FirstUngrounded m.state.matrix None

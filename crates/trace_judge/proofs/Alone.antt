@@ -19,7 +19,7 @@ use Rattle.step_machine.specs.declared.machine.StepFault.{StepFault}
 use Rattle.step_machine.specs.declared.machine.StepFault.TheVariants as fault
 use Rattle.trace_judge.specs.declared.runner.Mark.{Mark}
 use Rattle.trace_judge.specs.declared.runner.Mark.TheVariants as mark
-use Rattle.trace_judge.specs.Alone.{HasPushed, IsAlone}
+use Rattle.trace_judge.specs.Alone.{HasPushed, RunsAlone}
 use Rattle.trace_judge.specs.Course.{Course, MakesEdits, course_of, mark_by, searched_by, spent_by}
 use Rattle.trace_judge.specs.Payment.{Touches}
 use Rattle.trace_judge.proofs.Running.{made, running_mark}
@@ -31,7 +31,7 @@ running_as mark.Halted e = cc
 running_as mark.Followed e = cc
 
 -- what the parts of a course are that is alone
-module _ (old : Situation) (pending : List Command) (m : Mark) (v : Course) (seen : course_of old pending m ≡ v) (alone : IsAlone v) where
+module _ (old : Situation) (pending : List Command) (m : Mark) (v : Course) (seen : course_of old pending m ≡ v) (alone : RunsAlone v) where
   pub runs : m ≡ mark.Running
   runs = running_as m (ap (λ (c : Course). c.progress.mark) seen ∙ alone.runs)
 
@@ -41,7 +41,7 @@ module _ (old : Situation) (pending : List Command) (m : Mark) (v : Course) (see
   pub one : length old.state.bots ≡ 1
   one = ap (λ (c : Course). length c.progress.state.bots) seen ∙ alone.one
 
-  pub machine_alone : machine.IsAlone old
+  pub machine_alone : machine.IsSolo old
   machine_alone = record {
     stands = subst (λ (k : Mark). spent_by old.spent k ≡ false) runs (ap (λ (c : Course). c.spent) seen ∙ alone.stands);
     one = one;
@@ -79,7 +79,7 @@ module _ (old : Situation) (pending : List Command) (m : Mark) (v : Course) (see
               (let t = s.touches in (t.0, t.1, omega (arith, t.2))));
         }
 
-    pub alone_still : (new : Situation) → machine.IsAlone new → IsAlone (course_of new pending m)
+    pub alone_still : (new : Situation) → machine.IsSolo new → RunsAlone (course_of new pending m)
     alone_still new a = record {
       stands = subst (λ (k : Mark). spent_by new.spent k ≡ false) (sym runs) a.stands;
       runs = ap mark_by runs;

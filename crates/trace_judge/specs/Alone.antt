@@ -9,7 +9,7 @@ use Rattle.trace_judge.specs.Course.{Course}
 use Rattle.trace_judge.specs.Payment.{Touches}
 
 -- the run goes on with one bot, for which no command waits, and each full voxel is grounded where it has to be
-pub record IsAlone (c : Course) : Type 0 where
+pub record RunsAlone (c : Course) : Type 0 where
   pub stands : c.spent ≡ false
   pub runs : c.progress.mark ≡ progress.Running
   pub none : c.progress.pending ≡ []

@@ -7,7 +7,7 @@ ghost use Rattle.nano_spec.specs.Verdict.{VerdictOf};
 ghost use Rattle.run_progress.specs.Progress.{Finishes, Pushes, begun};
 ghost use Rattle.step_machine.specs.Stepped.{IsWithinWork};
 ghost use Rattle.trace_judge.specs.declared.runner.Mark.TheVariants as Mark;
-ghost use Rattle.trace_judge.specs.Alone.{HasPushed, IsAlone};
+ghost use Rattle.trace_judge.specs.Alone.{HasPushed, RunsAlone};
 ghost use Rattle.trace_judge.specs.Course.{IsAfterEnd, LacksCommands, MakesEdits, MakesNoStep, searched_by};
 ghost use Rattle.trace_judge.specs.Payment.{IsWithinWorkOfRun};
 
@@ -141,7 +141,7 @@ impl Runner {
     /// Whether the run goes on with one bot, for which no command waits, and each full voxel is held up, where it has to be.
     #[inline(always)]
     pub fn is_alone(&self) -> bool
-        ensures { result ≡ true → IsAlone self.now }
+        ensures { result ≡ true → RunsAlone self.now }
     {
         if !self.pending.as_slice().is_empty() {
             return false;
@@ -159,10 +159,10 @@ impl Runner {
         command: Command,
         steps: &mut Steps<L>,
     ) -> Result<bool, Memory>
-        requires alone { IsAlone self.old }
+        requires alone { RunsAlone self.old }
         requires steps { self.old.progress.steps < 1073741824 }
         ensures pushed { IfOk result (λ _. HasPushed self.old command self.new steps.old steps.new) }
-        ensures alone { IfOk result (λ still. still ≡ true → IsAlone self.new) }
+        ensures alone { IfOk result (λ still. still ≡ true → RunsAlone self.new) }
         ensures spent { IfErr result (λ _. self.new.spent ≡ true) }
         ensures memory { IfErr result (λ _. MakesEdits self.old.progress command) }
         ensures steps { self.new.progress.steps ≤ self.old.progress.steps + 1 }
@@ -198,6 +198,26 @@ impl Runner {
     }
 }
 
+/// One command more, which is made in the way of an only bot where one is alone.
+#[inline(always)]
+fn push_next<L: Ledger>(
+    runner: &mut Runner,
+    command: Command,
+    steps: &mut Steps<L>,
+) -> Result<(), Memory>
+    requires stands { runner.old.spent ≡ false }
+    requires steps { runner.old.progress.steps < 1073741824 }
+    ensures pushed { IfOk result (λ _. HasPushed runner.old command runner.new steps.old steps.new) }
+    ensures steps { runner.new.progress.steps ≤ runner.old.progress.steps + 1 }
+{
+    if runner.is_alone() {
+        runner.push_alone(command, steps)?;
+        return Ok(());
+    }
+    runner.push(command, steps)?;
+    Ok(())
+}
+
 /// The verdict of a trace that is to make the target of the source, by a profile.
 pub fn judge_by<L: Ledger>(
     alloc: Global,
@@ -217,7 +237,7 @@ pub fn judge_by<L: Ledger>(
     the_progress_is_the_verdict();
     let mut runner = Runner::start(alloc, source, profile, steps)?;
     for command in commands {
-        runner.push(*command, steps)?;
+        push_next(&mut runner, *command, steps)?;
     }
     Ok(runner.finish(target, steps))
 }

@@ -6,7 +6,7 @@ ghost use Rattle.nano_spec.specs.Act.{acts};
 ghost use Rattle.nano_spec.specs.Grounded.{FirstUngrounded};
 ghost use Rattle.nano_spec.specs.Work.{volatile_total};
 ghost use Rattle.step_groups.specs.Judging.{edit_of};
-ghost use Rattle.step_machine.specs.Alone.{IsAlone};
+ghost use Rattle.step_machine.specs.Alone.{IsSolo};
 ghost use Rattle.step_machine.specs.Edits.{is_edit};
 ghost use Rattle.step_machine.specs.Settling.{IsDeclined};
 ghost use Rattle.step_machine.specs.Stepped.{Stepped, answer_of};
@@ -194,7 +194,7 @@ impl Machine {
     /// Whether one bot is left, the machine is not spent, and each full voxel is held up, where it has to be.
     #[inline(always)]
     pub fn is_alone(&self) -> bool
-        ensures { result ≡ true → IsAlone self.now }
+        ensures { result ≡ true → IsSolo self.now }
     {
         if self.spent || self.active() != 1 {
             return false;
@@ -232,12 +232,12 @@ impl Machine {
         fault: &mut StepFault,
         steps: &mut Steps<L>,
     ) -> Tried
-        requires alone { IsAlone self.old }
+        requires alone { IsSolo self.old }
         requires steps { self.old.steps < 1073741824 }
         ensures made { result ≡ Tried.Made → Stepped self.old self.new (command.now ∷ []) (answer_of true self.new.state fault.new) steps.old steps.new }
         ensures refused { result ≡ Tried.Refused → Stepped self.old self.new (command.now ∷ []) (Err fault.new) steps.old steps.new }
         ensures memory { result ≡ Tried.Refused → fault.new ≡ StepFault.Memory → is_edit command.now ≡ true }
-        ensures alone { result ≡ Tried.Made → IsAlone self.new }
+        ensures alone { result ≡ Tried.Made → IsSolo self.new }
         ensures stays { result ≡ Tried.Declined → self.new ≡ self.old }
         ensures untouched { result ≡ Tried.Declined → steps.new ≡ steps.old }
     {
