@@ -34,7 +34,7 @@ use nano_spec::Profile;
 use shim::{Blank, Brand, Global};
 use std::time::Instant;
 use swarm_planner::plan_swarm;
-use trace_codec::{Decoder, Fed, encode_all};
+use trace_codec::{Decoder, Fed, One, encode_all};
 use trace_judge::Runner;
 use void_planner::plan_void;
 use vox_geom::Steps;
@@ -54,6 +54,15 @@ fn load(name: &str) -> Option<Planes> {
     Some(planes)
 }
 
+/// How many bytes the run of an only bot took, and whether the bot is still alone.
+#[derive(Clone, Copy)]
+struct Went {
+    used: u8,
+    alone: bool,
+}
+
+const DECLINED: Went = Went { used: 0, alone: false };
+
 /// The run of `nanobot_rows`, whose crate is not built here.
 struct TraceRun {
     decoder: Decoder,
@@ -64,7 +73,75 @@ impl TraceRun {
     fn feed(&mut self, piece: &[u8], steps: &mut Steps<Brand>) {
         let mut at = 0;
         while at < piece.len() {
-            at += self.next(&piece[at..], steps);
+            at += self.advance(&piece[at..], steps);
+        }
+    }
+
+    #[inline(always)]
+    fn advance(&mut self, piece: &[u8], steps: &mut Steps<Brand>) -> usize {
+        let used = self.run_where_alone(piece, steps);
+        if used > 0 {
+            return used;
+        }
+        self.next(piece, steps)
+    }
+
+    #[inline(always)]
+    fn run_where_alone(&mut self, piece: &[u8], steps: &mut Steps<Brand>) -> usize {
+        if !self.runner.is_alone() || !self.decoder.is_between() {
+            return 0;
+        }
+        self.run_alone(piece, steps)
+    }
+
+    #[inline(never)]
+    fn run_alone(&mut self, piece: &[u8], steps: &mut Steps<Brand>) -> usize {
+        let mut at = 0;
+        while at < piece.len() {
+            let went = self.next_alone(&piece[at..], steps);
+            at += usize::from(went.used);
+            if !went.alone {
+                return at;
+            }
+        }
+        at
+    }
+
+    #[inline(always)]
+    fn next_alone(&mut self, piece: &[u8], steps: &mut Steps<Brand>) -> Went {
+        let head = piece[0];
+        match head {
+            0b0001_0100 => self.move_along(0b0001_0100, piece, steps),
+            0b0010_0100 => self.move_along(0b0010_0100, piece, steps),
+            0b0011_0100 => self.move_along(0b0011_0100, piece, steps),
+            _ => match head % 8 {
+                0b011 => self.step_by(head / 8 * 8 + 0b011, piece, steps),
+                0b010 => self.step_by(head / 8 * 8 + 0b010, piece, steps),
+                _ => DECLINED,
+            },
+        }
+    }
+
+    #[inline(always)]
+    fn move_along(&mut self, head: u8, piece: &[u8], steps: &mut Steps<Brand>) -> Went {
+        if piece.len() < 2 {
+            return DECLINED;
+        }
+        match piece[1] {
+            16 => self.step_by(head, &[head, 16], steps),
+            14 => self.step_by(head, &[head, 14], steps),
+            _ => self.step_by(head, piece, steps),
+        }
+    }
+
+    #[inline(always)]
+    fn step_by(&mut self, head: u8, piece: &[u8], steps: &mut Steps<Brand>) -> Went {
+        match self.decoder.take_front(head, piece) {
+            One::Got { command, len } => {
+                let alone = self.runner.push_alone(command, steps).ok().expect("memory");
+                Went { used: len, alone }
+            }
+            One::More | One::Bad => DECLINED,
         }
     }
 

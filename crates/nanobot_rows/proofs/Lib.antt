@@ -1,3 +1,4 @@
+pub mod AloneBytes
 pub mod Cut
 pub mod Debugged
 pub mod Empty

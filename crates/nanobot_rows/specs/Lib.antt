@@ -1,3 +1,4 @@
+pub mod Alone
 pub mod Answer
 pub mod Effects
 pub mod Lines

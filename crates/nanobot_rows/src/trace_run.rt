@@ -9,6 +9,8 @@ ghost use Rattle.nanobot_rows.specs.Reading.{HasRun, OnBytes};
 ghost use Rattle.nanobot_rows.specs.Taking.{Gets, Takes, TakesFront};
 ghost use Rattle.nanobot_rows.specs.Touching.{HasPaid};
 
+mod alone;
+
 use crate::report::Report;
 use nano_spec::Profile;
 use run_progress::the_progress_is_the_verdict;
@@ -73,9 +75,24 @@ impl TraceRun {
     {
         let mut at = 0;
         while at < piece.len() {
-            at += self.next(&piece[at..], steps)?;
+            at += self.advance(&piece[at..], steps)?;
         }
         Ok(())
+    }
+
+    /// Takes bytes of the piece, at least one. How many were taken. The run of an only bot has a way of its own.
+    #[inline(always)]
+    fn advance<L: Ledger>(&mut self, piece: &[u8], steps: &mut Steps<L>) -> Result<usize, Memory>
+        requires some { 1 ≤ length piece.now }
+        requires offset { self.old.decoder.offset + length self.old.decoder.held + length piece.now ≤ 1073741824 }
+        requires stands { self.old.run.spent ≡ false }
+        ensures { IfOk result (λ n. TakesFront self.old piece.now n self.new steps.old steps.new) }
+    {
+        let used = self.run_where_alone(piece, steps)?;
+        if used > 0 {
+            return Ok(used);
+        }
+        self.next(piece, steps)
     }
 
     /// Takes the next bytes up to the end of a command, or all of them where none ends there. How many were taken.

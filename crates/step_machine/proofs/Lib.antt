@@ -1,3 +1,4 @@
+pub mod Alone
 pub mod Acting
 pub mod Answering
 pub mod Apart

@@ -1,3 +1,4 @@
+pub mod Alone
 pub mod Edits
 pub mod Settling
 pub mod Situation

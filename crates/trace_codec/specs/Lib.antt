@@ -3,3 +3,4 @@ pub mod FarFront
 pub mod One
 pub mod Pieces
 pub mod Whole
+pub mod Front

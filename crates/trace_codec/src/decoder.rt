@@ -2,6 +2,7 @@
 ghost use Rattle.std.specs.Prelude.{◌≡◌, ◌↔◌, ℕ, ◌+◌, ◌-◌, ◌<◌, ◌≤◌, ◌^◌, true, IsFalse, List, [], ◌∷◌, ◌++◌, length, min, take as front_of};
 ghost use Rattle.trace_codec.specs.declared.decoder.Fed.{Fed};
 ghost use Rattle.trace_codec.specs.Decoder.{AnswersPiece, EndsTrace, IsBetween, decoder_after, fresh, bytes_taken};
+ghost use Rattle.trace_codec.specs.Front.{TakesWhole};
 ghost use Rattle.trace_codec.specs.One.{BeginsWith};
 
 use crate::fault::TraceRefusal;
@@ -101,6 +102,23 @@ impl Decoder {
             }
             front => self.take(front, piece),
         }
+    }
+
+    /// Takes the command that a piece begins with, where a command begins and its whole spelling is there. Otherwise the decoder
+    /// stays as it is. The caller has the first byte, as for [`Decoder::feed_from`].
+    #[inline(always)]
+    pub fn take_front(&mut self, head: u8, piece: &[u8]) -> One
+        requires between { IsBetween self.old }
+        requires head { (rest : List ℕ) × (piece.now ≡ head ∷ rest) }
+        requires few { self.old.offset + length self.old.held + length piece.now < 2 ^ 63 }
+        ensures says { BeginsWith piece.now result }
+        ensures takes { TakesWhole self.old piece.now result self.new }
+    {
+        let front = decode_by(head, piece);
+        if let One::Got { command: _, len } = front {
+            self.offset += u64::from(len);
+        }
+        front
     }
 
     /// Takes what the held bytes and the piece begin with.

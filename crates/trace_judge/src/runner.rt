@@ -7,6 +7,7 @@ ghost use Rattle.nano_spec.specs.Verdict.{VerdictOf};
 ghost use Rattle.run_progress.specs.Progress.{Finishes, Pushes, begun};
 ghost use Rattle.step_machine.specs.Stepped.{IsWithinWork};
 ghost use Rattle.trace_judge.specs.declared.runner.Mark.TheVariants as Mark;
+ghost use Rattle.trace_judge.specs.Alone.{HasPushed, RunsAlone};
 ghost use Rattle.trace_judge.specs.Course.{IsAfterEnd, LacksCommands, MakesEdits, MakesNoStep, searched_by};
 ghost use Rattle.trace_judge.specs.Payment.{IsWithinWorkOfRun};
 
@@ -18,7 +19,7 @@ use run_progress::the_progress_is_the_verdict;
 use std::alloc::Global;
 use std::marker::Model;
 use std::sync::ledger::Ledger;
-use step_machine::{Machine, StepFault};
+use step_machine::{Machine, StepFault, Tried};
 use vox_geom::{Memory, Steps};
 use vox_planes::Planes;
 
@@ -137,6 +138,55 @@ impl Runner {
         }
     }
 
+    /// Whether the run goes on with one bot, for which no command waits, and each full voxel is held up, where it has to be.
+    #[inline(always)]
+    pub fn is_alone(&self) -> bool
+        ensures { result ≡ true → RunsAlone self.now }
+    {
+        if !self.pending.as_slice().is_empty() {
+            return false;
+        }
+        match self.mark {
+            Mark::Running => self.machine.is_alone(),
+            Mark::Refused(_) | Mark::Halted | Mark::Followed => false,
+        }
+    }
+
+    /// [`Runner::push`] where the bot is alone. Whether it still is, as after each frequent command whose step is made.
+    #[inline(always)]
+    pub fn push_alone<L: Ledger>(
+        &mut self,
+        command: Command,
+        steps: &mut Steps<L>,
+    ) -> Result<bool, Memory>
+        requires alone { RunsAlone self.old }
+        requires steps { self.old.progress.steps < 1073741824 }
+        ensures pushed { IfOk result (λ _. HasPushed self.old command self.new steps.old steps.new) }
+        ensures alone { IfOk result (λ still. still ≡ true → RunsAlone self.new) }
+        ensures spent { IfErr result (λ _. self.new.spent ≡ true) }
+        ensures memory { IfErr result (λ _. MakesEdits self.old.progress command) }
+        ensures steps { self.new.progress.steps ≤ self.old.progress.steps + 1 }
+    {
+        let mut fault = StepFault::Spent;
+        match self.machine.step_frequent(&command, &mut fault, steps) {
+            Tried::Made => Ok(true),
+            Tried::Refused => {
+                self.pending.push(command);
+                match fault {
+                    StepFault::Broken(broken) => {
+                        self.mark = Mark::Refused(broken);
+                        Ok(false)
+                    }
+                    StepFault::Memory | StepFault::Spent => Err(Memory),
+                }
+            }
+            Tried::Declined => {
+                self.push(command, steps)?;
+                Ok(false)
+            }
+        }
+    }
+
     /// The verdict where no further command comes. At most two touches for each voxel.
     pub fn finish<L: Ledger>(self, target: &Planes, steps: &mut Steps<L>) -> Verdict
         requires stands { self.spent ≡ false }
@@ -146,6 +196,26 @@ impl Runner {
     {
         ended(&self.machine, &self.pending, self.mark, target, steps)
     }
+}
+
+/// One command more, which is made in the way of an only bot where one is alone.
+#[inline(always)]
+fn push_next<L: Ledger>(
+    runner: &mut Runner,
+    command: Command,
+    steps: &mut Steps<L>,
+) -> Result<(), Memory>
+    requires stands { runner.old.spent ≡ false }
+    requires steps { runner.old.progress.steps < 1073741824 }
+    ensures pushed { IfOk result (λ _. HasPushed runner.old command runner.new steps.old steps.new) }
+    ensures steps { runner.new.progress.steps ≤ runner.old.progress.steps + 1 }
+{
+    if runner.is_alone() {
+        runner.push_alone(command, steps)?;
+        return Ok(());
+    }
+    runner.push(command, steps)?;
+    Ok(())
 }
 
 /// The verdict of a trace that is to make the target of the source, by a profile.
@@ -167,7 +237,7 @@ pub fn judge_by<L: Ledger>(
     the_progress_is_the_verdict();
     let mut runner = Runner::start(alloc, source, profile, steps)?;
     for command in commands {
-        runner.push(*command, steps)?;
+        push_next(&mut runner, *command, steps)?;
     }
     Ok(runner.finish(target, steps))
 }

@@ -1,13 +1,13 @@
 //! What one command more comes to: it waits for those of other bots, or a step is made of it.
-ghost use Rattle.std.specs.Prelude.{◌≡◌, ◌≢◌, ◌+◌, ◌<◌, ◌≤◌, true, ◌∷◌, [], ◌++◌, length, count_by, IfOk, IfSome, Err};
+ghost use Rattle.std.specs.Prelude.{◌≡◌, ◌≢◌, ◌+◌, ◌<◌, ◌≤◌, ◌∷◌, [], ◌++◌, length, count_by, IfOk, IfSome};
 ghost use Rattle.step_machine.specs.Edits.{is_edit};
-ghost use Rattle.step_machine.specs.Stepped.{Stepped, answer_of};
+ghost use Rattle.step_machine.specs.Stepped.{Stepped};
 ghost use Rattle.trace_judge.specs.Course.{answer_to};
 
 use crate::pending::Pending;
 use nano_spec::Command;
 use std::sync::ledger::Ledger;
-use step_machine::{Machine, StepFault, Tried};
+use step_machine::{Machine, StepFault};
 use vox_geom::Steps;
 
 /// What one command more came to: it waits for those of other bots, or its step was made, after which some bot is left or none is,
@@ -18,41 +18,6 @@ pub(crate) enum Taken {
     Made,
     Halted,
     Refused,
-}
-
-/// The step of an only bot by a command that is frequent. The command is kept only where its step is refused.
-#[inline(always)]
-fn take_alone<L: Ledger>(
-    machine: &mut Machine,
-    pending: &mut Pending,
-    command: &Command,
-    fault: &mut StepFault,
-    steps: &mut Steps<L>,
-) -> Tried
-    requires steps { machine.old.steps < 1073741824 }
-    ensures full { result ≢ Tried.Declined → length pending.old + 1 ≡ length machine.old.state.bots }
-    ensures made { result ≡ Tried.Made
-        → Stepped machine.old machine.new (pending.old ++ command.now ∷ []) (answer_of true machine.new.state fault.new) steps.old steps.new }
-    ensures cleared { result ≡ Tried.Made → pending.new ≡ [] }
-    ensures refused { result ≡ Tried.Refused
-        → Stepped machine.old machine.new (pending.old ++ command.now ∷ []) (Err fault.new) steps.old steps.new }
-    ensures kept { result ≡ Tried.Refused → pending.new ≡ pending.old ++ command.now ∷ [] }
-    ensures memory { result ≡ Tried.Refused → fault.new ≡ StepFault.Memory → 1 ≤ count_by is_edit (pending.old ++ command.now ∷ []) }
-    ensures stays { result ≡ Tried.Declined → machine.new ≡ machine.old }
-    ensures waits { result ≡ Tried.Declined → pending.new ≡ pending.old }
-    ensures untouched { result ≡ Tried.Declined → steps.new ≡ steps.old }
-{
-    if !pending.as_slice().is_empty() {
-        return Tried::Declined;
-    }
-    match machine.step_alone(command, fault, steps) {
-        Tried::Made => Tried::Made,
-        Tried::Refused => {
-            pending.push(*command);
-            Tried::Refused
-        }
-        Tried::Declined => Tried::Declined,
-    }
 }
 
 /// One command more for the next step, which is made where each bot has one then. `fault` is written only where it is refused.
@@ -77,11 +42,6 @@ pub(crate) fn take<L: Ledger>(
     ensures stays { result ≡ Taken.Waits → machine.new ≡ machine.old }
     ensures untouched { result ≡ Taken.Waits → steps.new ≡ steps.old }
 {
-    match take_alone(machine, pending, &command, fault, steps) {
-        Tried::Made => return Taken::Made,
-        Tried::Refused => return Taken::Refused,
-        Tried::Declined => {}
-    }
     machine.know();
     pending.push(command);
     if pending.as_slice().len() < usize::from(machine.active()) {

@@ -6,6 +6,7 @@ ghost use Rattle.nano_spec.specs.Act.{acts};
 ghost use Rattle.nano_spec.specs.Grounded.{FirstUngrounded};
 ghost use Rattle.nano_spec.specs.Work.{volatile_total};
 ghost use Rattle.step_groups.specs.Judging.{edit_of};
+ghost use Rattle.step_machine.specs.Alone.{IsSolo};
 ghost use Rattle.step_machine.specs.Edits.{is_edit};
 ghost use Rattle.step_machine.specs.Settling.{IsDeclined};
 ghost use Rattle.step_machine.specs.Stepped.{Stepped, answer_of};
@@ -190,6 +191,17 @@ impl Machine {
         self.edit_and_settle::<FULL, L>(d, fault, steps)
     }
 
+    /// Whether one bot is left, the machine is not spent, and each full voxel is held up, where it has to be.
+    #[inline(always)]
+    pub fn is_alone(&self) -> bool
+        ensures { result ≡ true → IsSolo self.now }
+    {
+        if self.spent || self.active() != 1 {
+            return false;
+        }
+        self.is_held()
+    }
+
     /// The step of the only bot by a command that is frequent. `fault` is written only where the step is refused.
     #[inline(always)]
     pub fn step_alone<L: Ledger>(
@@ -206,9 +218,29 @@ impl Machine {
         ensures stays { result ≡ Tried.Declined → self.new ≡ self.old }
         ensures untouched { result ≡ Tried.Declined → steps.new ≡ steps.old }
     {
-        if self.spent || self.active() != 1 || !self.is_held() {
+        if !self.is_alone() {
             return Tried::Declined;
         }
+        self.step_frequent(command, fault, steps)
+    }
+
+    /// [`Machine::step_alone`] where the bot is alone: after a step that is made it still is.
+    #[inline(always)]
+    pub fn step_frequent<L: Ledger>(
+        &mut self,
+        command: &Command,
+        fault: &mut StepFault,
+        steps: &mut Steps<L>,
+    ) -> Tried
+        requires alone { IsSolo self.old }
+        requires steps { self.old.steps < 1073741824 }
+        ensures made { result ≡ Tried.Made → Stepped self.old self.new (command.now ∷ []) (answer_of true self.new.state fault.new) steps.old steps.new }
+        ensures refused { result ≡ Tried.Refused → Stepped self.old self.new (command.now ∷ []) (Err fault.new) steps.old steps.new }
+        ensures memory { result ≡ Tried.Refused → fault.new ≡ StepFault.Memory → is_edit command.now ≡ true }
+        ensures alone { result ≡ Tried.Made → IsSolo self.new }
+        ensures stays { result ≡ Tried.Declined → self.new ≡ self.old }
+        ensures untouched { result ≡ Tried.Declined → steps.new ≡ steps.old }
+    {
         match command {
             Command::SMove(d) => {
                 if self.move_alone(*d, fault, steps) {

@@ -10,9 +10,9 @@ loop-command-init g c =
 
 pub loop-command-preserved : goal.loop-command-preserved
 loop-command-preserved g c =
-    judging_on c.args.source c.args.profile c.args.commands.now c.loop-command.command-index c.loop-command.runner c.push.new.self c.command-item.result c.start.new.steps c.loop-command.steps c.push.new.steps
-    c.loop-command-test.true c.command-item.is c.loop-command.invariant c.in_ok-push.ensures.progress c.push.ensures.steps c.push.ensures.resolution c.in_ok-push.ensures.stands
-    (record { untouched = c.push.ensures.untouched; paid = c.in_ok-push.ensures.touches })
+    let pushed = c.in_ok-push_next.ensures.pushed in
+    judging_on c.args.source c.args.profile c.args.commands.now c.loop-command.command-index c.loop-command.runner c.push_next.new.runner c.command-item.result c.start.new.steps c.loop-command.steps c.push_next.new.steps
+    c.loop-command-test.true c.command-item.is c.loop-command.invariant pushed.progress c.push_next.ensures.steps pushed.resolution pushed.stands pushed.touches
 
 pub returns-clause-touches : goal.returns-clause-touches
 returns-clause-touches g c =

@@ -1,38 +1,11 @@
-use Rattle.std.proofs.Common.{◌≡◌, ◌≤◌, ◌∙◌, ◌++◌, ◌∷◌, [], List, refl, ap, subst, arith, true, false, count_by}
+use Rattle.std.proofs.Common.{◌≡◌, ◌≤◌, ◌∙◌, ◌++◌, ◌∷◌, [], refl, ap, subst, arith, true, false, List, count_by}
 use Rattle.std.specs.Prelude.{Err}
 use Rattle.std.proofs.lemmas.Grind.{common_steps}
 use Rattle.nano_spec.specs.declared.commands.Command.{Command}
 use Rattle.step_machine.specs.declared.machine.StepFault.{StepFault}
 use Rattle.step_machine.specs.Edits.{is_edit}
-use Rattle.step_machine.proofs.Ends.{made_declined, refused_declined}
 use Rattle.trace_judge.proofs.Running.{halted_refused, halted_waits, made_not_refused, made_waits, refused_waits, step_answered, step_moved, waits_refused}
 use Rattle.trace_judge.proofs.taking.take.Goals as goal
-
-pub returns-in-Made : goal.returns-in-Made
-returns-in-Made g c = record {
-  full = λ _. c.in-Made.ensures.full (λ e. made_declined e);
-  stepped = c.in-Made.ensures.made refl;
-  cleared = c.in-Made.ensures.cleared refl;
-  kept = made_not_refused;
-  memory = λ e _. made_not_refused e;
-  lacks = made_waits;
-  joins = made_waits;
-  stays = made_waits;
-  untouched = made_waits;
-}
-
-pub returns-in-Refused : goal.returns-in-Refused
-returns-in-Refused g c = record {
-  full = λ _. c.in-Refused.ensures.full (λ e. refused_declined e);
-  stepped = c.in-Refused.ensures.refused refl;
-  cleared = tt;
-  kept = λ _. c.in-Refused.ensures.kept refl;
-  memory = λ _ f. c.in-Refused.ensures.memory refl f;
-  lacks = refused_waits;
-  joins = refused_waits;
-  stays = refused_waits;
-  untouched = refused_waits;
-}
 
 pub returns-then-as_slice-from : goal.returns-then-as_slice-from
 returns-then-as_slice-from g c = record {
@@ -42,16 +15,16 @@ returns-then-as_slice-from g c = record {
   kept = waits_refused;
   memory = λ e _. waits_refused e;
   lacks = λ _. grind (arith, common_steps);
-  joins = λ _. c.push.ensures ∙ ap (λ (xs : List Command). xs ++ c.args.command ∷ []) (c.in-Declined.ensures.waits refl);
-  stays = λ _. c.in-Declined.ensures.stays refl;
-  untouched = λ _. c.in-Declined.ensures.untouched refl;
+  joins = λ _. c.push.ensures;
+  stays = λ _. refl;
+  untouched = λ _. refl;
 }
 
 pub returns-then-ok : goal.returns-then-ok
 returns-then-ok g c = record {
   full = λ _. grind (arith, common_steps);
-  stepped = step_answered c.args.machine.now c.take_alone.new.machine c.make_step.new.self c.args.pending.now c.take_alone.new.pending c.as_slice-2.result.now c.args.command c.make_step.result c.in-Ok.ok true c.args.steps.now c.take_alone.new.steps c.make_step.new.steps
-      (c.in-Declined.ensures.stays refl) (c.in-Declined.ensures.waits refl) (c.as_slice-2.ensures ∙ c.push.ensures) (c.in-Declined.ensures.untouched refl) c.in-Ok.is c.if-ok.true c.make_step.ensures.stepped;
+  stepped = step_answered c.args.machine.now c.args.machine.now c.make_step.new.self c.args.pending.now c.args.pending.now c.as_slice-2.result.now c.args.command c.make_step.result c.in-Ok.ok true c.args.steps.now c.args.steps.now c.make_step.new.steps
+      refl refl (c.as_slice-2.ensures ∙ c.push.ensures) refl c.in-Ok.is c.if-ok.true c.make_step.ensures.stepped;
   cleared = c.clear.ensures;
   kept = halted_refused;
   memory = λ e _. halted_refused e;
@@ -64,8 +37,8 @@ returns-then-ok g c = record {
 pub returns-else-ok : goal.returns-else-ok
 returns-else-ok g c = record {
   full = λ _. grind (arith, common_steps);
-  stepped = step_answered c.args.machine.now c.take_alone.new.machine c.make_step.new.self c.args.pending.now c.take_alone.new.pending c.as_slice-2.result.now c.args.command c.make_step.result c.in-Ok.ok false c.args.steps.now c.take_alone.new.steps c.make_step.new.steps
-      (c.in-Declined.ensures.stays refl) (c.in-Declined.ensures.waits refl) (c.as_slice-2.ensures ∙ c.push.ensures) (c.in-Declined.ensures.untouched refl) c.in-Ok.is c.if-ok.false c.make_step.ensures.stepped;
+  stepped = step_answered c.args.machine.now c.args.machine.now c.make_step.new.self c.args.pending.now c.args.pending.now c.as_slice-2.result.now c.args.command c.make_step.result c.in-Ok.ok false c.args.steps.now c.args.steps.now c.make_step.new.steps
+      refl refl (c.as_slice-2.ensures ∙ c.push.ensures) refl c.in-Ok.is c.if-ok.false c.make_step.ensures.stepped;
   cleared = c.clear.ensures;
   kept = made_not_refused;
   memory = λ e _. made_not_refused e;
@@ -77,13 +50,13 @@ returns-else-ok g c = record {
 
 pub returns-in-Err : goal.returns-in-Err
 returns-in-Err g c =
-    let all : c.as_slice-2.result.now ≡ c.args.pending.now ++ c.args.command ∷ [] = c.as_slice-2.ensures ∙ c.push.ensures ∙ ap (λ (xs : List Command). xs ++ c.args.command ∷ []) (c.in-Declined.ensures.waits refl) in
+    let all : c.as_slice-2.result.now ≡ c.args.pending.now ++ c.args.command ∷ [] = c.as_slice-2.ensures ∙ c.push.ensures in
     record {
       full = λ _. grind (arith, common_steps);
-      stepped = step_moved c.args.machine.now c.take_alone.new.machine c.make_step.new.self c.args.pending.now c.take_alone.new.pending c.as_slice-2.result.now c.args.command c.make_step.result (Err c.in-Err.refusal) c.args.steps.now c.take_alone.new.steps c.make_step.new.steps
-          (c.in-Declined.ensures.stays refl) (c.in-Declined.ensures.waits refl) (c.as_slice-2.ensures ∙ c.push.ensures) (c.in-Declined.ensures.untouched refl) c.in-Err.is c.make_step.ensures.stepped;
+      stepped = step_moved c.args.machine.now c.args.machine.now c.make_step.new.self c.args.pending.now c.args.pending.now c.as_slice-2.result.now c.args.command c.make_step.result (Err c.in-Err.refusal) c.args.steps.now c.args.steps.now c.make_step.new.steps
+          refl refl (c.as_slice-2.ensures ∙ c.push.ensures) refl c.in-Err.is c.make_step.ensures.stepped;
       cleared = tt;
-      kept = λ _. c.push.ensures ∙ ap (λ (xs : List Command). xs ++ c.args.command ∷ []) (c.in-Declined.ensures.waits refl);
+      kept = λ _. c.push.ensures;
       memory = λ _ f. subst (λ (xs : List Command). 1 ≤ count_by is_edit xs) all (c.make_step.ensures.memory (c.in-Err.is ∙ ap (λ (x : StepFault). Err x) f));
       lacks = refused_waits;
       joins = refused_waits;

@@ -13,7 +13,7 @@ loop-at-preserved g c =
     -- what is left of the piece is given whole
     let whole : take (length piece - at) (drop at piece) ≡ drop at piece = take_all (length piece - at) (drop at piece) (omega (arith, size)) in
     let within : n ≤ length (drop at piece) = subst (λ (b : List ℕ). n ≤ length b) whole c.in_ok-at.ensures.within in
-    let next = subst (λ (b : List ℕ). Takes c.loop-at.self (take n b) c.next.new.self c.loop-at.steps c.next.new.steps) whole c.in_ok-at.ensures.takes in (
+    let next = subst (λ (b : List ℕ). Takes c.loop-at.self (take n b) c.advance.new.self c.loop-at.steps c.advance.new.steps) whole c.in_ok-at.ensures.takes in (
       omega (arith, within, size, c.loop-at.invariant.0),
-      takes_next c.args.self.now c.loop-at.self c.next.new.self piece at n c.args.steps.now c.loop-at.steps c.next.new.steps c.loop-at.invariant.1 next,
+      takes_next c.args.self.now c.loop-at.self c.advance.new.self piece at n c.args.steps.now c.loop-at.steps c.advance.new.steps c.loop-at.invariant.1 next,
     )

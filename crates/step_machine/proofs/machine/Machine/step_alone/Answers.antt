@@ -1,90 +1,15 @@
 use Rattle.std.proofs.Common.{refl}
-use Rattle.step_machine.proofs.Ends.{declined_made, declined_refused, made_declined, made_refused, refused_declined, refused_made}
+use Rattle.step_machine.proofs.Ends.{declined_made, declined_refused}
 use Rattle.step_machine.proofs.machine.Machine.step_alone.Goals as goal
 
-pub returns-then-self-clause-made : goal.returns-then-self-clause-made
-returns-then-self-clause-made g c = declined_made
+pub returns-then-not-is_alone-clause-made : goal.returns-then-not-is_alone-clause-made
+returns-then-not-is_alone-clause-made g c = declined_made
 
-pub returns-then-self-clause-refused : goal.returns-then-self-clause-refused
-returns-then-self-clause-refused g c = declined_refused
+pub returns-then-not-is_alone-clause-refused : goal.returns-then-not-is_alone-clause-refused
+returns-then-not-is_alone-clause-refused g c = declined_refused
 
-pub returns-then-self-clause-memory : goal.returns-then-self-clause-memory
-returns-then-self-clause-memory g c = λ e _. declined_refused e
+pub returns-then-not-is_alone-clause-memory : goal.returns-then-not-is_alone-clause-memory
+returns-then-not-is_alone-clause-memory g c = λ e _. declined_refused e
 
-pub returns-then-self-clause-one : goal.returns-then-self-clause-one
-returns-then-self-clause-one g c = λ n. absurd (n refl)
-
-pub returns-in_default-clause-made : goal.returns-in_default-clause-made
-returns-in_default-clause-made g c = declined_made
-
-pub returns-in_default-clause-refused : goal.returns-in_default-clause-refused
-returns-in_default-clause-refused g c = declined_refused
-
-pub returns-in_default-clause-memory : goal.returns-in_default-clause-memory
-returns-in_default-clause-memory g c = λ e _. declined_refused e
-
-pub returns-in_default-clause-one : goal.returns-in_default-clause-one
-returns-in_default-clause-one g c = λ n. absurd (n refl)
-
-pub returns-then-move_alone-clause-refused : goal.returns-then-move_alone-clause-refused
-returns-then-move_alone-clause-refused g c = made_refused
-
-pub returns-then-move_alone-clause-memory : goal.returns-then-move_alone-clause-memory
-returns-then-move_alone-clause-memory g c = λ e _. made_refused e
-
-pub returns-then-move_alone-clause-stays : goal.returns-then-move_alone-clause-stays
-returns-then-move_alone-clause-stays g c = made_declined
-
-pub returns-then-move_alone-clause-untouched : goal.returns-then-move_alone-clause-untouched
-returns-then-move_alone-clause-untouched g c = made_declined
-
-pub returns-then-edit_alone-clause-refused : goal.returns-then-edit_alone-clause-refused
-returns-then-edit_alone-clause-refused g c = made_refused
-
-pub returns-then-edit_alone-clause-memory : goal.returns-then-edit_alone-clause-memory
-returns-then-edit_alone-clause-memory g c = λ e _. made_refused e
-
-pub returns-then-edit_alone-clause-stays : goal.returns-then-edit_alone-clause-stays
-returns-then-edit_alone-clause-stays g c = made_declined
-
-pub returns-then-edit_alone-clause-untouched : goal.returns-then-edit_alone-clause-untouched
-returns-then-edit_alone-clause-untouched g c = made_declined
-
-pub returns-then-edit_alone-2-clause-refused : goal.returns-then-edit_alone-2-clause-refused
-returns-then-edit_alone-2-clause-refused g c = made_refused
-
-pub returns-then-edit_alone-2-clause-memory : goal.returns-then-edit_alone-2-clause-memory
-returns-then-edit_alone-2-clause-memory g c = λ e _. made_refused e
-
-pub returns-then-edit_alone-2-clause-stays : goal.returns-then-edit_alone-2-clause-stays
-returns-then-edit_alone-2-clause-stays g c = made_declined
-
-pub returns-then-edit_alone-2-clause-untouched : goal.returns-then-edit_alone-2-clause-untouched
-returns-then-edit_alone-2-clause-untouched g c = made_declined
-
-pub returns-else-move_alone-clause-made : goal.returns-else-move_alone-clause-made
-returns-else-move_alone-clause-made g c = refused_made
-
-pub returns-else-move_alone-clause-stays : goal.returns-else-move_alone-clause-stays
-returns-else-move_alone-clause-stays g c = refused_declined
-
-pub returns-else-move_alone-clause-untouched : goal.returns-else-move_alone-clause-untouched
-returns-else-move_alone-clause-untouched g c = refused_declined
-
-pub returns-else-edit_alone-clause-made : goal.returns-else-edit_alone-clause-made
-returns-else-edit_alone-clause-made g c = refused_made
-
-pub returns-else-edit_alone-clause-stays : goal.returns-else-edit_alone-clause-stays
-returns-else-edit_alone-clause-stays g c = refused_declined
-
-pub returns-else-edit_alone-clause-untouched : goal.returns-else-edit_alone-clause-untouched
-returns-else-edit_alone-clause-untouched g c = refused_declined
-
-pub returns-else-edit_alone-2-clause-made : goal.returns-else-edit_alone-2-clause-made
-returns-else-edit_alone-2-clause-made g c = refused_made
-
-pub returns-else-edit_alone-2-clause-stays : goal.returns-else-edit_alone-2-clause-stays
-returns-else-edit_alone-2-clause-stays g c = refused_declined
-
-pub returns-else-edit_alone-2-clause-untouched : goal.returns-else-edit_alone-2-clause-untouched
-returns-else-edit_alone-2-clause-untouched g c = refused_declined
+pub returns-then-not-is_alone-clause-one : goal.returns-then-not-is_alone-clause-one
+returns-then-not-is_alone-clause-one g c = λ n. absurd (n refl)

@@ -1,0 +1,131 @@
+//! The run of an only bot: what is asked of a run at each command is asked once for many.
+ghost use Rattle.std.specs.Prelude.{◌≡◌, ◌+◌, ◌≤◌, ℕ, List, ◌∷◌, false, length, IfOk};
+ghost use Rattle.nanobot_rows.specs.Alone.{WentOn, IsAtCommand, TakesUpTo};
+
+use super::TraceRun;
+use std::sync::ledger::Ledger;
+use trace_codec::{One, pieces_decode};
+use trace_judge::the_work_pays;
+use vox_geom::{Memory, Steps};
+
+/// How many bytes were taken, and whether the bot is still alone.
+#[derive(Clone, Copy)]
+pub(super) struct Went {
+    used: u8,
+    alone: bool,
+}
+
+/// No byte was taken in this way.
+const DECLINED: Went = Went {
+    used: 0,
+    alone: false,
+};
+
+impl TraceRun {
+    /// Takes bytes of frequent commands where one bot is alone and a command begins, and none elsewhere. How many were taken.
+    #[inline(always)]
+    pub(super) fn run_where_alone<L: Ledger>(
+        &mut self,
+        piece: &[u8],
+        steps: &mut Steps<L>,
+    ) -> Result<usize, Memory>
+        requires stands { self.old.run.spent ≡ false }
+        requires offset { self.old.decoder.offset + length self.old.decoder.held + length piece.now ≤ 1073741824 }
+        ensures { IfOk result (λ n. TakesUpTo self.old piece.now n self.new steps.old steps.new) }
+    {
+        if !self.runner.is_alone() {
+            return Ok(0);
+        }
+        if !self.decoder.is_between() {
+            return Ok(0);
+        }
+        self.run_alone(piece, steps)
+    }
+
+    /// Takes bytes of frequent commands while the bot is alone. How many were taken.
+    #[inline(never)]
+    fn run_alone<L: Ledger>(&mut self, piece: &[u8], steps: &mut Steps<L>) -> Result<usize, Memory>
+        requires alone { IsAtCommand self.old }
+        requires offset { self.old.decoder.offset + length self.old.decoder.held + length piece.now ≤ 1073741824 }
+        ensures { IfOk result (λ n. TakesUpTo self.old piece.now n self.new steps.old steps.new) }
+    {
+        let mut at = 0;
+        while at < piece.len() {
+            let went = self.next_alone(&piece[at..], steps)?;
+            at += usize::from(went.used);
+            if !went.alone {
+                return Ok(at);
+            }
+        }
+        Ok(at)
+    }
+
+    /// Takes the next command, if it is a frequent one: then the byte that it begins with is a constant.
+    #[inline(always)]
+    fn next_alone<L: Ledger>(&mut self, piece: &[u8], steps: &mut Steps<L>) -> Result<Went, Memory>
+        requires some { 1 ≤ length piece.now }
+        requires alone { IsAtCommand self.old }
+        requires offset { self.old.decoder.offset + length self.old.decoder.held + length piece.now ≤ 1073741824 }
+        ensures { IfOk result (λ went. WentOn self.old piece.now went self.new steps.old steps.new) }
+    {
+        let head = piece[0];
+        match head {
+            0b0001_0100 => self.move_along(0b0001_0100, piece, steps),
+            0b0010_0100 => self.move_along(0b0010_0100, piece, steps),
+            0b0011_0100 => self.move_along(0b0011_0100, piece, steps),
+            _ => match head % 8 {
+                0b011 => self.step_by(head / 8 * 8 + 0b011, piece, steps),
+                0b010 => self.step_by(head / 8 * 8 + 0b010, piece, steps),
+                _ => Ok(DECLINED),
+            },
+        }
+    }
+
+    /// Takes a straight move. Where it is by one, either way, its second byte is a constant too.
+    #[inline(always)]
+    fn move_along<L: Ledger>(
+        &mut self,
+        head: u8,
+        piece: &[u8],
+        steps: &mut Steps<L>,
+    ) -> Result<Went, Memory>
+        requires head { (rest : List ℕ) × (piece.now ≡ head ∷ rest) }
+        requires alone { IsAtCommand self.old }
+        requires offset { self.old.decoder.offset + length self.old.decoder.held + length piece.now ≤ 1073741824 }
+        ensures { IfOk result (λ went. WentOn self.old piece.now went self.new steps.old steps.new) }
+    {
+        if piece.len() < 2 {
+            return Ok(DECLINED);
+        }
+        match piece[1] {
+            16 => self.step_by(head, &[head, 16], steps),
+            14 => self.step_by(head, &[head, 14], steps),
+            _ => self.step_by(head, piece, steps),
+        }
+    }
+
+    /// Takes the command that begins with this byte, if its whole spelling is there.
+    #[inline(always)]
+    fn step_by<L: Ledger>(
+        &mut self,
+        head: u8,
+        piece: &[u8],
+        steps: &mut Steps<L>,
+    ) -> Result<Went, Memory>
+        requires head { (rest : List ℕ) × (piece.now ≡ head ∷ rest) }
+        requires alone { IsAtCommand self.old }
+        requires offset { self.old.decoder.offset + length self.old.decoder.held + length piece.now ≤ 1073741824 }
+        ensures { IfOk result (λ went. WentOn self.old piece.now went self.new steps.old steps.new) }
+    {
+        pieces_decode();
+        the_work_pays();
+        match self.decoder.take_front(head, piece) {
+            One::Got { command, len } => {
+                let alone = self.runner.push_alone(command, steps)?;
+                Ok(Went { used: len, alone })
+            }
+            One::More => Ok(DECLINED),
+            One::Bad => Ok(DECLINED),
+        }
+    }
+}
