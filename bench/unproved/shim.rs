@@ -24,6 +24,7 @@ impl<T> Vec<T> {
     pub fn pop(&mut self) -> Option<T> { self.0.pop() }
     #[inline(always)]
     pub fn clear(&mut self) { self.0.clear() }
+    pub fn remove(&mut self, at: usize) -> T { self.0.remove(at) }
     pub fn as_slice(&self) -> &[T] { &self.0 }
     pub fn reserve(&mut self, n: usize) -> Result<(), AllocError> { self.0.reserve(n); Ok(()) }
     #[inline(always)] pub fn push_reserved(&mut self, v: T) { self.0.push(v) }

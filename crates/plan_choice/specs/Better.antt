@@ -1,5 +1,5 @@
 -- When a proposal is better than a plan, and what is so of the plan that stands in the end.
-use Rattle.std.specs.Prelude.{◌≡◌, ◌⊎◌, ℕ, ◌<◌, ◌≤◌, ℤ, ◌<ℤ◌, ◌≤ℤ◌, List, count_by, length}
+use Rattle.std.specs.Prelude.{◌≡◌, ℕ, ◌<◌, ◌≤◌, ℤ, ◌<ℤ◌, ◌≤ℤ◌, List, count_by, length}
 use Rattle.nano_spec.specs.declared.commands.Command.{Command}
 use Rattle.nano_spec.specs.declared.system.Profile.{Profile}
 use Rattle.nano_spec.specs.Matrix.{Matrix}

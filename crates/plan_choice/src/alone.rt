@@ -20,7 +20,7 @@ use vox_geom::{Coord, Memory, Region};
 use vox_planes::Planes;
 
 /// Whether no voxel is full.
-fn is_void(planes: &Planes) -> bool {
+pub(crate) fn is_void(planes: &Planes) -> bool {
     let end = planes.resolution() - 1;
     let low = Coord { x: 0, y: 0, z: 0 };
     let high = Coord {
@@ -32,7 +32,7 @@ fn is_void(planes: &Planes) -> bool {
 }
 
 /// The most steps that so much energy pays for under Low.
-fn affordable(resolution: u16, energy: i64) -> u64 {
+pub(crate) fn affordable(resolution: u16, energy: i64) -> u64 {
     let r = u64::from(resolution).max(1);
     energy.max(0) as u64 / 3 / r / r / r
 }

@@ -16,7 +16,17 @@ use vox_geom::{MOST_R, Memory};
 use vox_planes::Planes;
 
 /// How many layers the slabs have that are tried: thin ones keep overhangs off the air, thick ones need fewer ways.
-const THICK: [u16; 4] = [1, 4, 16, MOST_R];
+/// Tiles of each are as wide as they can be, or all about equally wide.
+const SLABS: [(u16, bool); 8] = [
+    (1, false),
+    (4, false),
+    (16, false),
+    (MOST_R, false),
+    (1, true),
+    (4, true),
+    (16, true),
+    (MOST_R, true),
+];
 
 /// The cheapest commands by slabs that cost less than so much energy and keep the bounds, if any do.
 fn cheapest_slabs(
@@ -31,8 +41,8 @@ fn cheapest_slabs(
 {
     let mut least = energy;
     let mut best = None;
-    for thick in THICK {
-        let commands = slabs(alloc, source, thick)?;
+    for (thick, even) in SLABS {
+        let commands = slabs(alloc, source, thick, even)?;
         let proposal = lowered(alloc, source, Profile::full(), commands.as_slice())?;
         let better = improvement(
             alloc,

@@ -9,6 +9,7 @@ mod choice;
 mod extent;
 mod flips;
 mod four;
+mod many;
 mod plain;
 mod plans;
 mod slabs;
@@ -20,6 +21,7 @@ pub use builder::attached;
 pub use choice::{Price, cheaper, improvement};
 pub use flips::{lower, lowered};
 pub use four::by_slabs;
+pub use many::{by_few, by_squads};
 pub use plans::{
     choose_group_plan, choose_layer_plan, choose_low_plan, choose_swarm_plan, choose_void_plan,
 };

@@ -17,6 +17,7 @@ use crate::alone::{attach, attach_low};
 use crate::bounds::Bounds;
 use crate::flips::lower;
 use crate::four::by_slabs;
+use crate::many::{by_few, by_squads};
 use group_planner::{plan_groups, rows, runs};
 use layer_planner::plan_layers;
 use low_planner::{LowFault, plan_low};
@@ -46,6 +47,7 @@ pub fn choose_layer_plan(alloc: Global, source: &Planes, target: &Planes) -> Res
     let profile = Profile::full();
     let plan = lower(alloc, source, target, profile, plan, most)?;
     let plan = attach(alloc, source, target, profile, plan, most)?;
+    let plan = by_few(alloc, source, target, plan, most)?;
     Ok(plan)
 }
 
@@ -71,6 +73,11 @@ pub fn choose_group_plan(alloc: Global, source: &Planes, target: &Planes) -> Res
     most.commands = 2 * steps;
     most.bytes = 36 * runs + 640 * rows + 800 * r + 1600;
     most.bots = 2;
+    let energy = plan.energy;
+    let plan = by_few(alloc, source, target, plan, most)?;
+    if plan.energy < energy {
+        return Ok(plan);
+    }
     lower(alloc, source, target, Profile::full(), plan, most)
 }
 
@@ -107,13 +114,19 @@ pub fn choose_swarm_plan(alloc: Global, target: &Planes) -> Result<Plan, Memory>
 {
     full_accepts_what_light_accepts();
     let plan = plan_swarm(alloc, target)?;
-    let nothing = Planes::empty(alloc, target.resolution())?;
     let r = u64::from(target.resolution());
     let width = ((r + 17) / 20).max(1);
     let mut most = Bounds::none();
     most.steps = 4 * width * r * r + 8 * r + 2000;
     most.bots = 20;
-    lower(alloc, &nothing, target, Profile::light(), plan, most)
+    let energy = plan.energy;
+    let plan = by_squads(alloc, target, plan, most)?;
+    if plan.energy < energy {
+        return Ok(plan);
+    }
+    let nothing = Planes::empty(alloc, target.resolution())?;
+    let plan = lower(alloc, &nothing, target, Profile::light(), plan, most)?;
+    Ok(plan)
 }
 
 /// The plan of one bot that builds the target from nothing, under Low all the time.

@@ -14,31 +14,36 @@ const SIDE: u16 = 31;
 /// More moves than any leg has.
 const MOST_MOVES: u32 = 100;
 
-/// The tiles along x or z: where the first one begins, how far the ends of each are apart, how many there are, and where the last
-/// one begins, which may overlap the one before.
+/// The tiles along x or z: where the first one begins, how many voxels each has for itself, how far its ends are apart, how many there
+/// are, and where the last one begins, which may overlap the one before.
 #[derive(Clone, Copy)]
 struct Tiles {
     first: u16,
+    side: u16,
     far: u16,
     count: u16,
     last: u16,
 }
 
 impl Tiles {
-    /// Tiles over all from low to high, two wide or more.
-    fn over(low: u16, high: u16) -> Tiles {
-        let far = high.saturating_sub(low).max(1).min(SIDE - 1);
+    /// Tiles over all from low to high, two wide or more: as wide as they can be, or all about equally wide.
+    fn over(low: u16, high: u16, even: bool) -> Tiles {
+        let far = high.saturating_sub(low);
+        let count = far / SIDE + 1;
+        let side = if even { far / count + 1 } else { SIDE };
+        let far = far.max(1).min(side.saturating_sub(1).max(1));
         Tiles {
             first: low,
+            side,
             far,
-            count: high.saturating_sub(low) / SIDE + 1,
+            count,
             last: high.saturating_sub(far).max(low),
         }
     }
 
     /// Where what a tile has for itself begins.
     fn own(self, k: u16) -> u16 {
-        self.first.saturating_add(k.saturating_mul(SIDE))
+        self.first.saturating_add(k.saturating_mul(self.side))
     }
 
     /// Where a tile begins.
@@ -91,12 +96,12 @@ struct Square {
 
 impl Square {
     /// Before the first command.
-    fn begin(alloc: Global, extent: Extent) -> Square {
+    fn begin(alloc: Global, extent: Extent, even: bool) -> Square {
         Square {
             commands: CommandList::new(alloc),
             at: Coord { x: 0, y: 0, z: 0 },
-            along_x: Tiles::over(extent.low.x, extent.high.x),
-            along_z: Tiles::over(extent.low.z, extent.high.z),
+            along_x: Tiles::over(extent.low.x, extent.high.x, even),
+            along_z: Tiles::over(extent.low.z, extent.high.z, even),
             turn: false,
             back: false,
         }
@@ -245,10 +250,16 @@ impl Square {
     }
 }
 
-/// The commands of four bots under High that take all of a model down by slabs of so many layers.
-pub(crate) fn slabs(alloc: Global, source: &Planes, thick: u16) -> Result<CommandList, Memory> {
+/// The commands of four bots under High that take all of a model down by slabs of so many layers, in tiles as wide as they can be, or
+/// all about equally wide.
+pub(crate) fn slabs(
+    alloc: Global,
+    source: &Planes,
+    thick: u16,
+    even: bool,
+) -> Result<CommandList, Memory> {
     let extent = extent_of(source);
-    let mut square = Square::begin(alloc, extent);
+    let mut square = Square::begin(alloc, extent, even);
     let top = extent.high.y;
     square.open(top.saturating_add(1))?;
     for s in 0..=top / thick.max(1) {

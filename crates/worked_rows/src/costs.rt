@@ -54,25 +54,25 @@ const COSTS: [Row; 12] = [
         "plan group E3 P3 B",
         &[],
         Status::Done,
-        "plan energy 1039 steps 9 commands 14 bytes 23\n",
+        "plan energy 626 steps 6 commands 6 bytes 10\n",
     ),
     (
         "plan group P3 E3 B",
         &[],
         Status::Done,
-        "plan energy 1015 steps 9 commands 14 bytes 23\n",
+        "plan energy 602 steps 6 commands 6 bytes 10\n",
     ),
     (
         "plan group E5 LINE B",
         &[],
         Status::Done,
-        "plan energy 5393 steps 13 commands 22 bytes 41\n",
+        "plan energy 4006 steps 10 commands 10 bytes 16\n",
     ),
     (
         "plan group - B B",
         &STRIPES,
         Status::Done,
-        "plan energy 22547 steps 21 commands 38 bytes 81\n",
+        "plan energy 15042 steps 14 commands 24 bytes 37\n",
     ),
     (
         "plan void P3 - B",
@@ -84,13 +84,13 @@ const COSTS: [Row; 12] = [
         "plan swarm - P3 B",
         &[],
         Status::Done,
-        "plan energy 832 steps 8 commands 8 bytes 14\n",
+        "plan energy 626 steps 6 commands 6 bytes 10\n",
     ),
     (
         "plan swarm - B B",
         &TWO_POSTS,
         Status::Done,
-        "plan energy 2712 steps 12 commands 18 bytes 29\n",
+        "plan energy 2288 steps 10 commands 16 bytes 25\n",
     ),
 ];
 

@@ -1,0 +1,20 @@
+//! Proposals for plans by squads: bots, or pairs of bots, that each build a strip of columns of a model by themselves. What is
+//! proposed here promises nothing; it is judged where it is used.
+#![tactic(auto)]
+
+mod air;
+mod clearing;
+mod links;
+mod pair;
+mod pieces;
+mod poles;
+mod single;
+mod site;
+mod spots;
+mod squad;
+mod strips;
+mod tasks;
+mod team;
+mod yard;
+
+pub use team::{Manner, squads};

@@ -1,0 +1,155 @@
+//! The voxels of a model in the making, a byte each.
+use crate::spots::Spot;
+use plan_tape::is_full;
+use std::alloc::Global;
+use vox_geom::{Coord, Memory};
+use vox_planes::Planes;
+
+/// More than any resolution.
+const MOST_SIDE: u16 = 1000;
+
+/// What is to become of a voxel.
+#[derive(Clone, Copy, PartialEq, Eq, Debug)]
+pub(crate) enum Cell {
+    /// It stays void.
+    Blank,
+    /// It is to be filled.
+    Wanted,
+    /// It was filled.
+    Made,
+}
+
+/// A cube of voxels.
+#[derive(Drop)]
+pub(crate) struct Site {
+    side: i16,
+    width: u16,
+    cells: Vec<Cell>,
+}
+
+impl Site {
+    /// The voxels of a target, with x and z exchanged, if they are to be.
+    pub(crate) fn of(alloc: Global, target: &Planes, turned: bool) -> Result<Site, Memory> {
+        let r = target.resolution();
+        let side = r.min(MOST_SIDE);
+        let n = usize::from(side);
+        let mut cells = vec![in alloc; Cell::Blank; n * n * n]?;
+        for i in 0..cells.len() {
+            let (a, b) = ((i / (n * n).max(1)) as u16, (i % n.max(1)) as u16);
+            let y = (i / n.max(1) % n.max(1)) as u16;
+            let (x, z) = if turned { (b, a) } else { (a, b) };
+            if x < r && y < r && z < r && is_full(target, Coord { x, y, z }) {
+                if let Some(cell) = cells.get_mut(i) {
+                    *cell = Cell::Wanted;
+                }
+            }
+        }
+        Ok(Site {
+            side: side as i16,
+            width: side,
+            cells,
+        })
+    }
+
+    /// How many voxels it has along each axis.
+    pub(crate) fn side(&self) -> i16 {
+        self.side
+    }
+
+    /// The number of a voxel: x first, then y, then z. There is none out of space.
+    pub(crate) fn number(&self, c: Spot) -> Option<u32> {
+        let n = self.side;
+        if c.x < 0 || c.y < 0 || c.z < 0 || c.x >= n || c.y >= n || c.z >= n {
+            return None;
+        }
+        let side = n as u32;
+        let row = (c.x as u32).wrapping_mul(side).wrapping_add(c.y as u32);
+        Some(row.wrapping_mul(side).wrapping_add(c.z as u32))
+    }
+
+    /// What is to become of a voxel.
+    fn cell(&self, c: Spot) -> Cell {
+        let Some(number) = self.number(c) else {
+            return Cell::Blank;
+        };
+        match self.cells.get(number as usize) {
+            Some(cell) => *cell,
+            None => Cell::Blank,
+        }
+    }
+
+    /// The same as a size of lists.
+    pub(crate) fn width(&self) -> usize {
+        usize::from(self.width)
+    }
+
+    /// How many voxels there are.
+    pub(crate) fn count(&self) -> usize {
+        self.cells.len()
+    }
+
+    /// The voxel with a number.
+    pub(crate) fn spot(&self, number: u32) -> Spot {
+        let side = (self.side.max(1) as u32).max(1);
+        let row = number / side;
+        Spot {
+            x: (row / side).min(1000) as i16,
+            y: (row % side).min(1000) as i16,
+            z: (number % side).min(1000) as i16,
+        }
+    }
+
+    /// Whether a voxel is to be filled, and is not yet.
+    pub(crate) fn is_wanted(&self, c: Spot) -> bool {
+        self.cell(c) == Cell::Wanted
+    }
+
+    /// Whether a voxel was filled.
+    pub(crate) fn is_made(&self, c: Spot) -> bool {
+        self.cell(c) == Cell::Made
+    }
+
+    /// Whether a voxel is full in the target.
+    pub(crate) fn is_target(&self, c: Spot) -> bool {
+        self.cell(c) != Cell::Blank
+    }
+
+    /// Whether a voxel is on the floor or beside one that was filled in its layer, or above one.
+    pub(crate) fn is_attached(&self, c: Spot) -> bool {
+        c.y == 0
+            || self.is_made(c.below())
+            || self.is_made(c.beside(-1, 0))
+            || self.is_made(c.beside(1, 0))
+            || self.is_made(c.beside(0, -1))
+            || self.is_made(c.beside(0, 1))
+    }
+
+    /// Whether a voxel may be filled now: attached or, where voxels may float, any.
+    pub(crate) fn may_fill(&self, c: Spot, float: bool) -> bool {
+        self.is_wanted(c) && (float || self.is_attached(c))
+    }
+
+    /// Sets what is to become of a voxel.
+    fn set(&mut self, c: Spot, to: Cell) {
+        if let Some(number) = self.number(c) {
+            if let Some(cell) = self.cells.get_mut(number as usize) {
+                *cell = to;
+            }
+        }
+    }
+
+    /// Keeps that a voxel is to be filled.
+    pub(crate) fn want(&mut self, c: Spot) {
+        self.set(c, Cell::Wanted);
+    }
+
+    /// Keeps that a voxel was filled.
+    pub(crate) fn make(&mut self, c: Spot) {
+        self.set(c, Cell::Made);
+    }
+
+    /// Keeps that a voxel is void again, to stay so.
+    pub(crate) fn clear(&mut self, c: Spot) {
+        self.set(c, Cell::Blank);
+    }
+}

@@ -1,0 +1,108 @@
+//! Places of bots and voxels, and the moves between them.
+use vox_geom::Diff;
+
+/// The most that a move along one axis goes.
+const LONG: i16 = 15;
+
+/// The most that one part of a double move goes.
+const SHORT: i16 = 5;
+
+/// A place, in space or not.
+#[derive(Clone, Copy, PartialEq, Eq, Debug)]
+pub(crate) struct Spot {
+    pub(crate) x: i16,
+    pub(crate) y: i16,
+    pub(crate) z: i16,
+}
+
+impl Spot {
+    /// Where every run begins.
+    pub(crate) fn home() -> Spot {
+        Spot { x: 0, y: 0, z: 0 }
+    }
+
+    /// The place that a difference leads to.
+    pub(crate) fn plus(self, d: Diff) -> Spot {
+        Spot {
+            x: self.x.wrapping_add(d.dx),
+            y: self.y.wrapping_add(d.dy),
+            z: self.z.wrapping_add(d.dz),
+        }
+    }
+
+    /// What leads to another place.
+    pub(crate) fn to(self, other: Spot) -> Diff {
+        Diff {
+            dx: other.x.wrapping_sub(self.x),
+            dy: other.y.wrapping_sub(self.y),
+            dz: other.z.wrapping_sub(self.z),
+        }
+    }
+
+    /// The place so far beside this one.
+    pub(crate) fn beside(self, dx: i16, dz: i16) -> Spot {
+        self.plus(Diff { dx, dy: 0, dz })
+    }
+
+    /// The place right below.
+    pub(crate) fn below(self) -> Spot {
+        Spot {
+            y: self.y.wrapping_sub(1),
+            ..self
+        }
+    }
+}
+
+/// No difference.
+pub(crate) fn nowhere() -> Diff {
+    Diff {
+        dx: 0,
+        dy: 0,
+        dz: 0,
+    }
+}
+
+/// How far two components lie apart.
+pub(crate) fn apart(a: i16, b: i16) -> i16 {
+    let d = a.wrapping_sub(b);
+    if d < 0 { d.wrapping_neg() } else { d }
+}
+
+/// What one move along an axis goes of a way.
+pub(crate) fn stride(way: i16) -> i16 {
+    way.max(-LONG).min(LONG)
+}
+
+/// What one part of a double move goes of a way.
+fn short_stride(way: i16) -> i16 {
+    way.max(-SHORT).min(SHORT)
+}
+
+/// How many moves a way along an axis takes.
+pub(crate) fn moves(way: i16) -> i16 {
+    apart(way, 0).wrapping_add(LONG - 1) / LONG
+}
+
+/// The first move of a way within a layer: a double move where that saves one.
+pub(crate) fn across(dx: i16, dz: i16) -> Diff {
+    let (x, z) = (short_stride(dx), short_stride(dz));
+    let both = moves(dx.wrapping_sub(x)).wrapping_add(moves(dz.wrapping_sub(z)));
+    if both.wrapping_add(1) < moves(dx).wrapping_add(moves(dz)) {
+        return Diff {
+            dx: x,
+            dy: 0,
+            dz: z,
+        };
+    }
+    if apart(dx, 0) >= apart(dz, 0) {
+        Diff {
+            dx: stride(dx),
+            ..nowhere()
+        }
+    } else {
+        Diff {
+            dz: stride(dz),
+            ..nowhere()
+        }
+    }
+}

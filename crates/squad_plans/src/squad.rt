@@ -1,0 +1,172 @@
+//! A squad: one bot, or two that stand in a row along z, which builds a strip of columns from right above each layer.
+use crate::pieces::{Job, Piece};
+use crate::spots::{Spot, nowhere, stride};
+use crate::strips::Strip;
+use crate::yard::Yard;
+use std::alloc::Global;
+use vox_geom::{Diff, Memory};
+
+/// What became of a squad's turn.
+#[derive(Clone, Copy, PartialEq, Eq, Debug)]
+pub(crate) enum Stance {
+    /// It acts in this step.
+    Acts,
+    /// It can do nothing before others fill something.
+    Waits,
+    /// It is where it began, and has nothing left to do.
+    IsHome,
+}
+
+/// A squad: its strip, its bots, where it began, how high it is to be, what is left of each layer, and which way it goes along its
+/// lane and to the next one.
+#[derive(Drop)]
+pub(crate) struct Squad {
+    pub(crate) strip: Strip,
+    pub(crate) lead: u8,
+    pub(crate) mate: Option<u8>,
+    pub(crate) stand: Spot,
+    pub(crate) height: i16,
+    pub(crate) left: Vec<u32>,
+    pub(crate) along: i16,
+    pub(crate) over: i16,
+    pub(crate) done: bool,
+    pub(crate) pieces: Vec<Piece>,
+    pub(crate) listed: i16,
+    pub(crate) job: Option<Job>,
+}
+
+impl Squad {
+    /// A squad on the floor that has yet to be given bots.
+    pub(crate) fn begin(alloc: Global, yard: &Yard, strip: Strip) -> Result<Squad, Memory> {
+        let site = yard.site();
+        let mut left = Vec::with_capacity(alloc, site.width())?;
+        for y in 0..site.side() {
+            left.push(left_of_layer(yard, strip, y))
+                .map_err(|_| Memory)?;
+        }
+        Ok(Squad {
+            strip,
+            lead: 0,
+            mate: None,
+            stand: Spot {
+                x: strip.lane(0).middle(),
+                ..Spot::home()
+            },
+            height: 1,
+            left,
+            along: 1,
+            over: 1,
+            done: false,
+            pieces: Vec::new(alloc),
+            listed: -1,
+            job: None,
+        })
+    }
+
+    /// The layer that it fills.
+    pub(crate) fn layer(&self) -> i16 {
+        self.height.wrapping_sub(1)
+    }
+
+    /// How many voxels are left of a layer.
+    fn left_of(&self, y: i16) -> u32 {
+        if y < 0 {
+            return 0;
+        }
+        match self.left.get(y as usize) {
+            Some(left) => *left,
+            None => 0,
+        }
+    }
+
+    /// Keeps that so many voxels of its layer were filled.
+    pub(crate) fn took(&mut self, count: u32) {
+        let y = self.layer();
+        if y < 0 {
+            return;
+        }
+        if let Some(left) = self.left.get_mut(y as usize) {
+            *left = left.saturating_sub(count);
+        }
+    }
+
+    /// Sets its height to right above the next layer with something left, or is done.
+    fn choose_layer(&mut self, side: i16) {
+        for y in self.layer().max(0)..side {
+            if self.left_of(y) > 0 {
+                self.height = y.wrapping_add(1);
+                return;
+            }
+        }
+        self.done = true;
+    }
+
+    /// Goes up to its next layer, if the one below has nothing left. Whether it moves or is done.
+    pub(crate) fn rise(&mut self, yard: &mut Yard) -> bool {
+        let y = yard.spot(self.lead).y;
+        if self.left_of(self.layer()) == 0 {
+            self.choose_layer(yard.site().side());
+        }
+        if self.done {
+            return true;
+        }
+        let up = Diff {
+            dy: stride(self.height.wrapping_sub(y)),
+            ..nowhere()
+        };
+        yard.go(self.lead, up);
+        if let Some(mate) = self.mate {
+            yard.go(mate, up);
+        }
+        up != nowhere()
+    }
+
+    /// Goes home, if it is not there.
+    fn come_home(&mut self, yard: &mut Yard) -> Stance {
+        if let Some(mate) = self.mate {
+            self.gather_two(yard, mate);
+            return Stance::Acts;
+        }
+        if yard.return_to(self.lead, self.stand) {
+            Stance::Acts
+        } else {
+            Stance::IsHome
+        }
+    }
+
+    /// Has its turn in this step.
+    pub(crate) fn turn(&mut self, yard: &mut Yard, float: bool) -> Result<Stance, Memory> {
+        if !self.done && self.rise(yard) && !self.done {
+            return Ok(Stance::Acts);
+        }
+        if self.done {
+            return Ok(self.come_home(yard));
+        }
+        let acts = match self.mate {
+            Some(mate) => self.build_by_two(yard, mate, float)?,
+            None => self.build_alone(yard, float),
+        };
+        Ok(if acts { Stance::Acts } else { Stance::Waits })
+    }
+}
+
+/// How many voxels of a layer a strip has.
+fn left_of_layer(yard: &Yard, strip: Strip, y: i16) -> u32 {
+    let mut left = 0u32;
+    for x in strip.low..=strip.high {
+        left = left.saturating_add(left_of_row(yard, x, y));
+    }
+    left
+}
+
+/// How many voxels a column has in a layer.
+fn left_of_row(yard: &Yard, x: i16, y: i16) -> u32 {
+    let site = yard.site();
+    let mut left = 0u32;
+    for z in 0..site.side() {
+        if site.is_target(Spot { x, y, z }) {
+            left = left.saturating_add(1);
+        }
+    }
+    left
+}

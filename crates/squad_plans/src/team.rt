@@ -1,0 +1,401 @@
+//! All squads: they spread from the first bot by halves, build each by itself, and gather the way they spread.
+use crate::clearing::clear_all;
+use crate::poles::Pole;
+use crate::spots::{Spot, nowhere, stride};
+use crate::squad::{Squad, Stance};
+use crate::strips::{Columns, Strip};
+use crate::tasks::Task;
+use crate::yard::Yard;
+use nano_spec::CommandList;
+use std::alloc::Global;
+use vox_geom::{Diff, Memory};
+use vox_planes::Planes;
+
+/// More steps than any plan takes that is worth it.
+const MOST_STEPS: u32 = 1_073_741_824;
+
+/// More moves than any way along x has.
+const MOST_MOVES: u32 = 100;
+
+/// The most squads.
+const MOST_SQUADS: u8 = 40;
+
+/// How squads are to build: how many there are at most, whether each has two bots, how many columns wide their lanes are, from 1 to
+/// 3, whether x and z are exchanged, whether parts that hang get poles, whether
+/// all is taken down in place of built, and how many commands they may have.
+#[derive(Clone, Copy, Debug)]
+pub struct Manner {
+    pub squads: u8,
+    pub pairs: bool,
+    pub lane: u8,
+    pub turned: bool,
+    pub poles: bool,
+    pub down: bool,
+    pub most: u64,
+}
+
+/// A squad that came from another one, in which round, and with how many seeds.
+#[derive(Clone, Copy)]
+struct Birth {
+    parent: usize,
+    child: usize,
+    round: u8,
+    seeds: u8,
+}
+
+/// Squads next to each other, before they spread, with the seeds of the first one's bot: from which one on.
+#[derive(Clone, Copy)]
+struct Troop {
+    low: usize,
+    high: usize,
+    seed: u8,
+}
+
+/// All squads, in rising order of columns, with how they came to be.
+#[derive(Drop)]
+struct Team {
+    yard: Yard,
+    squads: Vec<Squad>,
+    births: Vec<Birth>,
+    poles: Vec<Pole>,
+    rounds: u8,
+    each: u8,
+}
+
+/// A way along x.
+fn along_x(dx: i16) -> Diff {
+    Diff { dx, ..nowhere() }
+}
+
+impl Team {
+    /// Before the first step. None where poles are wanted, and none are to be had or are of use.
+    fn begin(alloc: Global, target: &Planes, manner: Manner) -> Result<Option<Team>, Memory> {
+        let each = if manner.pairs { 2 } else { 1 };
+        let count = manner.squads.min(MOST_SQUADS);
+        let bots = count.saturating_mul(each);
+        let mut yard = Yard::begin(alloc, target, bots, manner.turned, manner.down)?;
+        let mut poles = Vec::new(alloc);
+        if manner.poles {
+            match yard.plant(alloc)? {
+                Some(planted) if !planted.is_empty() => poles = planted,
+                _ => return Ok(None),
+            }
+        }
+        Ok(Some(Team {
+            squads: squads_of(alloc, &yard, count, manner.lane)?,
+            yard,
+            births: Vec::new(alloc),
+            poles,
+            rounds: 0,
+            each,
+        }))
+    }
+
+    /// The bot that leads a squad.
+    fn lead(&self, number: usize) -> u8 {
+        match self.squads.get(number) {
+            Some(squad) => squad.lead,
+            None => 0,
+        }
+    }
+
+    /// The column at which a squad begins.
+    fn stand(&self, number: usize) -> i16 {
+        match self.squads.get(number) {
+            Some(squad) => squad.stand.x,
+            None => 0,
+        }
+    }
+
+    /// All bots of squads go along x to where their squads begin, at the same time.
+    fn line_up(&mut self) -> Result<(), Memory> {
+        for _ in 0..MOST_MOVES {
+            let mut moves = false;
+            for number in 0..self.squads.len() {
+                let lead = self.lead(number);
+                if self.is_there(number) {
+                    let way = self.stand(number).wrapping_sub(self.yard.spot(lead).x);
+                    self.yard.go(lead, along_x(stride(way)));
+                    moves = moves || way != 0;
+                }
+            }
+            if !moves {
+                break;
+            }
+            self.yard.step()?;
+        }
+        Ok(())
+    }
+
+    /// Whether a squad has its bot: the first one has, and those with a bot of their own.
+    fn is_there(&self, number: usize) -> bool {
+        number == 0 || self.lead(number) > 0
+    }
+
+    /// Each troop of two squads or more is split: the bot of its first one makes that of the middle one.
+    fn split(&mut self, troops: &mut Vec<Troop>) -> Result<(), Memory> {
+        let each = usize::from(self.each);
+        for i in 0..troops.len() {
+            let Some(troop) = troops.get_mut(i) else {
+                break;
+            };
+            let Troop { low, high, seed } = *troop;
+            if high.saturating_sub(low) < 2 {
+                continue;
+            }
+            let middle = low.wrapping_add(high).wrapping_add(1) / 2;
+            let bots = each.wrapping_mul(high.saturating_sub(middle)).min(100) as u8;
+            *troop = Troop {
+                low,
+                high: middle,
+                seed: seed.wrapping_add(bots),
+            };
+            let later = Troop {
+                low: middle,
+                high,
+                seed: seed.wrapping_add(1),
+            };
+            troops.push(later).map_err(|_| Memory)?;
+            self.bear(low, middle, seed, bots)?;
+        }
+        Ok(())
+    }
+
+    /// The bot of a squad makes that of another one, which is so far in the list of bots.
+    fn bear(&mut self, parent: usize, child: usize, number: u8, bots: u8) -> Result<(), Memory> {
+        let seeds = bots.saturating_sub(1);
+        let lead = self.lead(parent);
+        self.yard
+            .order(lead, Task::Split(along_x(1), number, seeds));
+        if let Some(squad) = self.squads.get_mut(child) {
+            squad.lead = number;
+        }
+        let birth = Birth {
+            parent,
+            child,
+            round: self.rounds,
+            seeds,
+        };
+        self.births.push(birth).map_err(|_| Memory)
+    }
+
+    /// The bots that were made in this round are there.
+    fn arrive(&mut self) {
+        for i in 0..self.births.len() {
+            if let Some(birth) = self.births.get(i) {
+                let Birth {
+                    parent,
+                    child,
+                    round,
+                    ..
+                } = *birth;
+                if round == self.rounds {
+                    let at = self.yard.spot(self.lead(parent)).plus(along_x(1));
+                    let lead = self.lead(child);
+                    self.yard.arrive(lead, at);
+                }
+            }
+        }
+    }
+
+    /// The first bot goes to its column, and each troop is split until all squads have a bot of their own.
+    fn spread(&mut self, alloc: Global) -> Result<(), Memory> {
+        self.line_up()?;
+        let mut troops = Vec::new(alloc);
+        let all = Troop {
+            low: 0,
+            high: self.squads.len(),
+            seed: 1,
+        };
+        troops.push(all).map_err(|_| Memory)?;
+        for _ in 0..8 {
+            let before = troops.len();
+            self.split(&mut troops)?;
+            if troops.len() == before {
+                break;
+            }
+            self.yard.step()?;
+            self.arrive();
+            self.rounds = self.rounds.saturating_add(1);
+            self.line_up()?;
+        }
+        if self.each > 1 {
+            self.pair_off(troops.as_slice())?;
+        }
+        Ok(())
+    }
+
+    /// The bot of each squad makes its mate.
+    fn pair_off(&mut self, troops: &[Troop]) -> Result<(), Memory> {
+        let on = Diff { dz: 1, ..nowhere() };
+        for troop in troops {
+            let lead = self.lead(troop.low);
+            self.yard.order(lead, Task::Split(on, troop.seed, 0));
+            if let Some(squad) = self.squads.get_mut(troop.low) {
+                squad.mate = Some(troop.seed);
+            }
+        }
+        self.yard.step()?;
+        for troop in troops {
+            let at = self.yard.spot(self.lead(troop.low)).plus(on);
+            self.yard.arrive(troop.seed, at);
+        }
+        Ok(())
+    }
+
+    /// Each squad has its turn in a step: whether one acts, and whether all are home.
+    fn turns(&mut self) -> Result<(bool, bool), Memory> {
+        let float = self.yard.is_high();
+        let (mut acts, mut home) = (false, true);
+        for i in 0..self.squads.len() {
+            if let Some(squad) = self.squads.get_mut(i) {
+                let mut turn = squad.turn(&mut self.yard, false)?;
+                if turn == Stance::Waits && float {
+                    turn = squad.turn(&mut self.yard, true)?;
+                }
+                acts = acts || turn == Stance::Acts;
+                home = home && turn == Stance::IsHome;
+            }
+        }
+        Ok((acts, home))
+    }
+
+    /// All squads consider anew what they do.
+    fn reconsider(&mut self) {
+        for i in 0..self.squads.len() {
+            if let Some(squad) = self.squads.get_mut(i) {
+                squad.reconsider();
+            }
+        }
+    }
+
+    /// Goes under Low once nothing floats.
+    fn calm(&mut self) -> Result<(), Memory> {
+        if self.yard.is_high() && !self.yard.some_float() {
+            self.yard.flip()?;
+            self.reconsider();
+        }
+        Ok(())
+    }
+
+    /// All squads build and come home. Whether they do, by at most so many commands.
+    fn work(&mut self, most: u64) -> Result<bool, Memory> {
+        for _ in 0..MOST_STEPS {
+            let (acts, home) = self.turns()?;
+            if home {
+                return Ok(true);
+            }
+            if acts {
+                self.yard.step()?;
+                self.calm()?;
+            } else if self.yard.is_high() {
+                return Ok(false);
+            } else {
+                self.yard.flip()?;
+            }
+            if self.yard.count() as u64 > most {
+                return Ok(false);
+            }
+        }
+        Ok(false)
+    }
+
+    /// The bots that were made in a round go beside those that made them.
+    fn approach(&mut self, round: u8) -> Result<(), Memory> {
+        for i in 0..self.births.len() {
+            if let Some(birth) = self.births.get(i) {
+                let Birth {
+                    parent,
+                    child,
+                    round: of,
+                    ..
+                } = *birth;
+                let to = self.stand(parent).wrapping_add(1);
+                if of == round {
+                    if let Some(squad) = self.squads.get_mut(child) {
+                        squad.stand = Spot {
+                            x: to,
+                            ..Spot::home()
+                        };
+                    }
+                }
+            }
+        }
+        self.line_up()
+    }
+
+    /// The bots that were made in a round are taken up by those that made them.
+    fn unite(&mut self, round: u8) -> Result<(), Memory> {
+        for i in 0..self.births.len() {
+            if let Some(birth) = self.births.get(i) {
+                let Birth {
+                    parent,
+                    child,
+                    round: of,
+                    seeds,
+                } = *birth;
+                if of == round {
+                    let (lead, join) = (self.lead(parent), self.lead(child));
+                    self.yard.order(lead, Task::Lead(along_x(1), join, seeds));
+                    self.yard.order(join, Task::Join(along_x(-1)));
+                    if let Some(squad) = self.squads.get_mut(child) {
+                        squad.lead = 0;
+                    }
+                }
+            }
+        }
+        self.yard.step()
+    }
+
+    /// All bots become one again, which goes home.
+    fn gather(&mut self) -> Result<(), Memory> {
+        for k in 0..self.rounds {
+            let round = self.rounds.saturating_sub(1).saturating_sub(k);
+            self.approach(round)?;
+            self.unite(round)?;
+        }
+        for _ in 0..MOST_MOVES {
+            if !self.yard.return_to(0, Spot::home()) {
+                break;
+            }
+            self.yard.step()?;
+        }
+        Ok(())
+    }
+}
+
+/// At most so many squads over the columns of what is to be built, in lanes so wide.
+fn squads_of(alloc: Global, yard: &Yard, count: u8, lane: u8) -> Result<Vec<Squad>, Memory> {
+    let columns = Columns::of(alloc, yard.site(), i16::from(lane.max(1).min(3)))?;
+    let strips = columns.strips(alloc, count)?;
+    let mut squads = Vec::with_capacity(alloc, strips.len())?;
+    for strip in strips.as_slice() {
+        let squad = Squad::begin(alloc, yard, *strip)?;
+        squads.push(squad).map_err(|_| Memory)?;
+    }
+    Ok(squads)
+}
+
+/// The commands of squads that build a target from nothing, or, undone, take it down: under Low but where nothing more can be filled that is attached. There
+/// are none where they are more than the manner allows, or where it wants poles and none are to be had or are of use.
+pub fn squads(
+    alloc: Global,
+    target: &Planes,
+    manner: Manner,
+) -> Result<Option<CommandList>, Memory> {
+    let Some(mut team) = Team::begin(alloc, target, manner)? else {
+        return Ok(None);
+    };
+    team.spread(alloc)?;
+    if !team.work(manner.most)? {
+        return Ok(None);
+    }
+    team.gather()?;
+    if !clear_all(alloc, &mut team.yard, team.poles.as_slice())? {
+        return Ok(None);
+    }
+    if team.yard.is_high() {
+        team.yard.flip()?;
+    }
+    Ok(Some(team.yard.into_commands()?))
+}

@@ -1,0 +1,287 @@
+//! Bots at work: what they filled, where they are, and the commands of the steps so far.
+use crate::links::Links;
+use crate::poles::{Pole, plant_all};
+use crate::site::Site;
+use crate::spots::{Spot, nowhere, stride};
+use crate::tasks::{Task, command_of, opposite, undoing};
+use nano_spec::{Command, CommandList};
+use std::alloc::Global;
+use vox_geom::{Diff, Memory};
+use vox_planes::Planes;
+
+/// A bot: where it is after what it does in this step, and whether it is there.
+#[derive(Clone, Copy, Debug)]
+struct Worker {
+    at: Spot,
+    task: Task,
+    active: bool,
+}
+
+/// What a bot did in a step.
+#[derive(Clone, Copy, Debug)]
+struct Doing {
+    number: u8,
+    task: Task,
+}
+
+/// The bots, in rising order of bids, with what they make. What takes it down is written at the end: until then doings are kept, with
+/// how many there are after each step.
+#[derive(Drop)]
+pub(crate) struct Yard {
+    site: Site,
+    links: Links,
+    workers: Vec<Worker>,
+    commands: CommandList,
+    turned: bool,
+    high: bool,
+    keeps: bool,
+    doings: Vec<Doing>,
+    ends: Vec<usize>,
+}
+
+impl Yard {
+    /// Before the first step, with places for so many bots, to build or to take down.
+    pub(crate) fn begin(
+        alloc: Global,
+        target: &Planes,
+        bots: u8,
+        turned: bool,
+        down: bool,
+    ) -> Result<Yard, Memory> {
+        let site = Site::of(alloc, target, turned)?;
+        let links = Links::begin(alloc, &site)?;
+        let worker = Worker {
+            at: Spot::home(),
+            task: Task::Wait,
+            active: false,
+        };
+        let mut yard = Yard {
+            site,
+            links,
+            workers: vec![in alloc; worker; usize::from(bots)]?,
+            commands: CommandList::new(alloc),
+            turned,
+            high: false,
+            keeps: down,
+            doings: Vec::new(alloc),
+            ends: Vec::new(alloc),
+        };
+        yard.arrive(0, Spot::home());
+        Ok(yard)
+    }
+
+    /// The voxels.
+    pub(crate) fn site(&self) -> &Site {
+        &self.site
+    }
+
+    /// Whether harmonics are High.
+    pub(crate) fn is_high(&self) -> bool {
+        self.high
+    }
+
+    /// Whether some full voxel is not grounded.
+    pub(crate) fn some_float(&self) -> bool {
+        self.links.some_float()
+    }
+
+    /// How many commands there are, or doings.
+    pub(crate) fn count(&self) -> usize {
+        self.commands.as_slice().len().max(self.doings.len())
+    }
+
+    /// Where a bot is.
+    pub(crate) fn spot(&self, number: u8) -> Spot {
+        match self.workers.get(usize::from(number)) {
+            Some(worker) => worker.at,
+            None => Spot::home(),
+        }
+    }
+
+    /// From the next step on a bot is there.
+    pub(crate) fn arrive(&mut self, number: u8, at: Spot) {
+        if let Some(worker) = self.workers.get_mut(usize::from(number)) {
+            worker.at = at;
+            worker.active = true;
+        }
+    }
+
+    /// What a bot does in this step.
+    pub(crate) fn order(&mut self, number: u8, task: Task) {
+        if let Some(worker) = self.workers.get_mut(usize::from(number)) {
+            worker.task = task;
+            if let Task::Move(d) = task {
+                worker.at = worker.at.plus(d);
+            }
+        }
+    }
+
+    /// A bot moves in this step.
+    pub(crate) fn go(&mut self, number: u8, d: Diff) {
+        if d != nowhere() {
+            self.order(number, Task::Move(d));
+        }
+    }
+
+    /// A bot goes on its way along z, then y, then x, if it is not there.
+    pub(crate) fn return_to(&mut self, number: u8, to: Spot) -> bool {
+        let way = self.spot(number).to(to);
+        let none = nowhere();
+        let d = if way.dz != 0 {
+            Diff {
+                dz: stride(way.dz),
+                ..none
+            }
+        } else if way.dy != 0 {
+            Diff {
+                dy: stride(way.dy),
+                ..none
+            }
+        } else {
+            Diff {
+                dx: stride(way.dx),
+                ..none
+            }
+        };
+        self.go(number, d);
+        d != none
+    }
+
+    /// Keeps that a voxel is filled in this step.
+    pub(crate) fn make(&mut self, c: Spot) {
+        self.site.make(c);
+        self.links.add(&self.site, c);
+    }
+
+    /// A bot fills a voxel in this step.
+    pub(crate) fn fill(&mut self, number: u8, c: Spot) {
+        let d = self.spot(number).to(c);
+        self.order(number, Task::Fill(d));
+        self.make(c);
+    }
+
+    /// A bot voids a voxel in this step, to stay so.
+    pub(crate) fn void(&mut self, number: u8, c: Spot) {
+        let d = self.spot(number).to(c);
+        self.order(number, Task::Void(d));
+        self.site.clear(c);
+    }
+
+    /// Plants poles under all parts that hang. None where a part can get none.
+    pub(crate) fn plant(&mut self, alloc: Global) -> Result<Option<Vec<Pole>>, Memory> {
+        plant_all(alloc, &mut self.site)
+    }
+
+    /// The command of a bot is written, or what it did is kept; then it is free again, or gone, if it was taken up.
+    fn finish(&mut self, number: u8) -> Result<(), Memory> {
+        let Some(worker) = self.workers.get_mut(usize::from(number)) else {
+            return Ok(());
+        };
+        let task = worker.task;
+        let was_active = worker.active;
+        worker.task = Task::Wait;
+        if let Task::Join(_) = task {
+            worker.active = false;
+        }
+        if !was_active {
+            return Ok(());
+        }
+        if !self.keeps {
+            return self.commands.push(command_of(task, self.turned));
+        }
+        if let Task::Wait = task {
+            return Ok(());
+        }
+        self.doings.push(Doing { number, task }).map_err(|_| Memory)
+    }
+
+    /// The step is done: its commands are written, or what was done is kept.
+    pub(crate) fn step(&mut self) -> Result<(), Memory> {
+        for number in 0..self.workers.len().min(100) {
+            self.finish(number as u8)?;
+        }
+        if self.keeps {
+            let end = self.doings.len();
+            self.ends.push(end).map_err(|_| Memory)?;
+        }
+        Ok(())
+    }
+
+    /// A step in which the first bot changes the harmonics.
+    pub(crate) fn flip(&mut self) -> Result<(), Memory> {
+        self.order(0, Task::Flip);
+        self.high = !self.high;
+        self.step()
+    }
+
+    /// A doing, if there is one of that number.
+    fn doing(&self, number: usize) -> Option<Doing> {
+        match self.doings.get(number) {
+            Some(doing) => Some(*doing),
+            None => None,
+        }
+    }
+
+    /// Orders what undoes some doings. A bot that was made then is taken up.
+    fn order_undoing(&mut self, from: usize, to: usize) {
+        for i in from..to {
+            let Some(doing) = self.doing(i) else {
+                break;
+            };
+            let task = undoing(doing.task);
+            if let Task::Lead(d, child, _) = task {
+                self.order(child, Task::Join(opposite(d)));
+            }
+            if let Task::Wait = task {
+                continue;
+            }
+            self.order(doing.number, task);
+        }
+    }
+
+    /// The bots are there that were taken up by some doings.
+    fn bring_back(&mut self, from: usize, to: usize) {
+        for i in from..to {
+            let Some(doing) = self.doing(i) else {
+                break;
+            };
+            if let Task::Lead(_, child, _) = doing.task {
+                self.arrive(child, Spot::home());
+            }
+        }
+    }
+
+    /// How many doings there are before a step's.
+    fn end_before(&self, step: usize) -> usize {
+        match self.ends.get(step.wrapping_sub(1)) {
+            Some(end) => *end,
+            None => 0,
+        }
+    }
+
+    /// Writes what undoes all steps, from the last on.
+    fn undo(&mut self) -> Result<(), Memory> {
+        self.keeps = false;
+        let steps = self.ends.len();
+        for k in 0..steps {
+            let step = steps.saturating_sub(k);
+            let (from, to) = (
+                self.end_before(step.saturating_sub(1)),
+                self.end_before(step),
+            );
+            self.order_undoing(from, to);
+            self.step()?;
+            self.bring_back(from, to);
+        }
+        Ok(())
+    }
+
+    /// The commands: those that build, or those that take down.
+    pub(crate) fn into_commands(mut self) -> Result<CommandList, Memory> {
+        if self.keeps {
+            self.undo()?;
+        }
+        self.commands.push(Command::Halt)?;
+        Ok(self.commands)
+    }
+}
