@@ -6,4 +6,6 @@ pub mod Numbers
 pub mod Parts
 pub mod Printed
 pub mod Reading
+pub mod SomeScript
+pub mod SomeText
 pub mod Unique

@@ -1,15 +1,19 @@
 //! The laws of scripts, and worked examples of them.
-ghost use Rattle.std.specs.Prelude.{◌≡◌, ℕ, List, Result};
+ghost use Rattle.std.specs.Prelude.{◌≡◌, ◌≤◌, ℕ, List, Result, length};
 ghost use Rattle.nano_spec.specs.declared.commands.Command.{Command};
 ghost use Rattle.nano_spec.specs.declared.system.Profile.{Profile};
+ghost use Rattle.nano_spec.specs.Cutting.{AreCommands};
 ghost use Rattle.nano_spec.specs.Matrix.{Matrix};
+ghost use Rattle.nano_spec.specs.Model.{volume};
 ghost use Rattle.nano_spec.specs.Reading.{FaultyLine};
 ghost use Rattle.step_debugger.specs.Session.{DebugLine};
 ghost use Rattle.debug_script.specs.Script.{ScriptSays};
 ghost use Rattle.debug_script.specs.Sessions.{PrintsFrom};
 ghost use Rattle.debug_script.specs.Worked.{WorkedPrints, WorkedScripts};
 
+use nano_spec::opening_is_ready;
 use step_debugger::one_answer;
+use step_order::{some_groups, stays_ready};
 
 /// A script says one thing at most.
 pub fn one_script()
@@ -22,6 +26,21 @@ pub fn one_text()
         → PrintsFrom source profile commands script a → PrintsFrom source profile commands script b → a ≡ b }
 {
     one_answer();
+}
+
+/// A script says something at each resolution: its lines, or its first faulty line.
+pub fn some_script()
+    ensures { (r : ℕ) (bytes : List ℕ) → (said : Result (List DebugLine) FaultyLine) × ScriptSays r bytes said }
+{}
+
+/// The lines of a script print some text, from a source with a voxel for each coordinate on.
+pub fn some_text()
+    ensures { (source : Matrix) (profile : Profile) (commands : List Command) (script : List DebugLine) → 1 ≤ source.resolution
+        → length source.voxels ≡ volume source.resolution → AreCommands commands → (text : List ℕ) × PrintsFrom source profile commands script text }
+{
+    opening_is_ready();
+    stays_ready();
+    some_groups();
 }
 
 /// Worked examples of scripts, and of what their lines print.

@@ -8,7 +8,7 @@ mod read;
 mod report;
 mod word;
 
-pub use laws::{one_script, one_text, worked_scripts};
+pub use laws::{one_script, one_text, some_script, some_text, worked_scripts};
 pub use line::ScriptLine;
 pub use print::print_session;
 pub use read::read_script;

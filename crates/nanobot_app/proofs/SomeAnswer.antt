@@ -1,4 +1,4 @@
--- Some reply is an answer: models have a legality, bytes a decoding, and commands a verdict.
+-- Some reply is an answer: models have a legality, bytes a decoding, commands a verdict, scripts a reading, and sessions a text.
 use Rattle.std.proofs.Common.{◌≡◌, ◌==◌, ℕ, zero, suc, ◌+◌, ◌≤◌, Bool, true, false, List, [], ◌∷◌, refl, ap, arith, length, take, drop, nat_lt}
 use Rattle.std.specs.Prelude.{Option, Some, None, Result, Ok, Err, MatchBool, MatchOption}
 use Rattle.std.proofs.lemmas.List.{length-drop, length-take}
@@ -8,27 +8,44 @@ use Rattle.nano_spec.specs.declared.outcomes.Verdict.{Verdict}
 use Rattle.nano_spec.specs.declared.outcomes.Verdict.TheVariants.{Refused}
 use Rattle.nano_spec.specs.declared.system.Bot.{Bot}
 use Rattle.nano_spec.specs.declared.system.Profile.{Profile}
-use Rattle.nano_spec.specs.Cutting.{BadAt, CutAt, Decoding, NoTrace}
+use Rattle.nano_spec.specs.Cutting.{AreCommands, BadAt, CutAt, Decoding, NoTrace}
 use Rattle.nano_spec.specs.Grounded.{FirstUngrounded}
 use Rattle.nano_spec.specs.Legal.{Border, Floating, Legality, NotLegal, first_outside, floats_inside, leaves_box, stands_inside}
 use Rattle.nano_spec.specs.Matrix.{Matrix, empty}
-use Rattle.nano_spec.specs.Model.{NoModel, model}
+use Rattle.nano_spec.specs.Model.{NoModel, model, volume}
 use Rattle.nano_spec.specs.Next.{Breaks, Goes, Next, Outcome}
+use Rattle.nano_spec.specs.Profile.{full_profile}
 use Rattle.nano_spec.specs.Reading.{FaultyLine, read}
 use Rattle.nano_spec.specs.State.{State, opening}
 use Rattle.nano_spec.specs.Verdict.{Run, VerdictOf, breaks, ending, ends, goes}
+use Rattle.step_debugger.specs.Session.{DebugLine}
+use Rattle.debug_script.specs.Script.{ScriptSays}
+use Rattle.debug_script.specs.Sessions.{PrintsFrom}
 use Rattle.step_machine.proofs.Reaching.{first_ungrounded}
 use Rattle.step_machine.proofs.Weighing.{next_of}
 use Rattle.vox_depot.specs.Files.{Files, content}
 use Rattle.nanobot_rows.specs.declared.report.Report.TheVariants as report
 use Rattle.nanobot_rows.specs.declared.report.Who.{Who}
 use Rattle.nanobot_rows.specs.declared.report.Who.TheVariants as who
-use Rattle.nanobot_rows.specs.Answer.{AnswerOf, AnswerOfRun, Judged, OfBytes, OfDecoding, OfReading, OfRun, OfText, OfTrace, Reply, WithBoth, WithFile, WithModel, WithModels, dis_limit, run_limit, text_limit}
+use Rattle.nanobot_rows.specs.Answer.{AnswerOf, AnswerOfRun, Judged, OfBytes, OfDecoding, OfLines, OfReading, OfRun, OfScript, OfText, OfTrace, Reply, WithBoth, WithFile, WithModel, WithModels, dis_limit, run_limit, script_limit, text_limit}
 use Rattle.nanobot_rows.specs.Reading.{no_such_file, reply_of}
-use Rattle.nanobot_words.specs.Rows.{HasName, asm, check, dis}
+use Rattle.nanobot_words.specs.Rows.{HasName, asm, check, debug, dis}
 use Rattle.nanobot_rows.proofs.Replies.{verdict_reply}
 use Rattle.nanobot_app.proofs.Decodings.{decoding_of}
 use Rattle.plan_tape.proofs.Reached.{enough}
+
+-- ---- the laws of sessions
+
+abbrev ScriptLaw : Type 0
+ScriptLaw = (r : ℕ) (bytes : List ℕ) → (said : Result (List DebugLine) FaultyLine) × ScriptSays r bytes said
+
+-- each model is whole, each script says something, and each session prints something
+pub record Sessions : Type 0 where
+  pub some : (bytes : List ℕ) (m : Matrix) → model bytes ≡ Ok m → 1 ≤ m.resolution
+  pub whole : (bytes : List ℕ) (m : Matrix) → model bytes ≡ Ok m → length m.voxels ≡ volume m.resolution
+  pub scripts : ScriptLaw
+  pub texts : (source : Matrix) (profile : Profile) (commands : List Command) (script : List DebugLine) → 1 ≤ source.resolution
+      → length source.voxels ≡ volume source.resolution → AreCommands commands → (text : List ℕ) × PrintsFrom source profile commands script text
 
 -- ---- a model has a legality
 
@@ -95,12 +112,15 @@ module _ (files : Files) where
   judged w m p f None l = (f.0, (None, l, f.1))
   judged w m p f (Some why) l = (_, (Some why, l, refl))
 
-  of_bytes : (w : Who) (said : Result Matrix NoModel) (p : Matrix → Reply → Type 0) → ((m : Matrix) → IsAnswered (p m)) → IsAnswered (OfBytes w files said p)
+  of_bytes : (w : Who) (said : Result Matrix NoModel) (p : Matrix → Reply → Type 0) → ((m : Matrix) → said ≡ Ok m → IsAnswered (p m)) → IsAnswered (OfBytes w files said p)
   of_bytes w (Err why) p f = (_, refl)
-  of_bytes w (Ok m) p f = let l = legality_of m in judged w m p (f m) l.0 l.1
+  of_bytes w (Ok m) p f = let l = legality_of m in judged w m p (f m refl) l.0 l.1
+
+  with_said : (w : Who) (name : List ℕ) (p : Matrix → Reply → Type 0) → ((bytes : List ℕ) (m : Matrix) → model bytes ≡ Ok m → IsAnswered (p m)) → IsAnswered (WithModel w files name p)
+  with_said w name p f = with_file name (λ bytes. OfBytes w files (model bytes) p) (λ bytes. of_bytes w (model bytes) p (f bytes))
 
   with_model : (w : Who) (name : List ℕ) (p : Matrix → Reply → Type 0) → ((m : Matrix) → IsAnswered (p m)) → IsAnswered (WithModel w files name p)
-  with_model w name p f = with_file name (λ bytes. OfBytes w files (model bytes) p) (λ bytes. of_bytes w (model bytes) p f)
+  with_model w name p f = with_said w name p (λ bytes m said. f m)
 
   choice : (t : Bool) (p q : Reply → Type 0) → IsAnswered p → IsAnswered q → IsAnswered (λ reply. MatchBool t (p reply) (q reply))
   choice true p q f g = f
@@ -116,13 +136,13 @@ module _ (files : Files) where
   with_models (Some source) (Some target) p has f =
       with_model who.Source source (λ a. WithModel who.Target files target (λ b. WithBoth files (Some a) (Some b) p)) (λ a. with_model who.Target target (λ b. WithBoth files (Some a) (Some b) p) (λ b. with_both a b p (f a b)))
 
-  decoded : (bytes : List ℕ) (p : List Command → Reply → Type 0) → ((commands : List Command) → IsAnswered (p commands)) → (d : Result (List Command) NoTrace) → Decoding bytes d
+  decoded : (bytes : List ℕ) (p : List Command → Reply → Type 0) → ((commands : List Command) → AreCommands commands → IsAnswered (p commands)) → (d : Result (List Command) NoTrace) → Decoding bytes d
       → IsAnswered (λ reply. (e : Result (List Command) NoTrace) × Decoding bytes e × OfDecoding files e p reply)
-  decoded bytes p f (Ok commands) h = let r = f commands in (r.0, (Ok commands, h, r.1))
+  decoded bytes p f (Ok commands) h = let r = f commands h.0 in (r.0, (Ok commands, h, r.1))
   decoded bytes p f (Err (BadAt offset)) h = (reply_of files (report.TraceBad offset), (Err (BadAt offset), h, refl))
   decoded bytes p f (Err (CutAt offset)) h = (reply_of files (report.TraceCut offset), (Err (CutAt offset), h, refl))
 
-  of_trace : (limit : ℕ) (bytes : List ℕ) (p : List Command → Reply → Type 0) → ((commands : List Command) → IsAnswered (p commands)) → IsAnswered (OfTrace limit files bytes p)
+  of_trace : (limit : ℕ) (bytes : List ℕ) (p : List Command → Reply → Type 0) → ((commands : List Command) → AreCommands commands → IsAnswered (p commands)) → IsAnswered (OfTrace limit files bytes p)
   of_trace limit bytes p f =
       let d = decoding_of bytes in
       choice (nat_lt limit (length bytes)) (λ reply. reply ≡ reply_of files (report.TraceLong limit)) (λ reply. (e : Result (List Command) NoTrace) × Decoding bytes e × OfDecoding files e p reply)
@@ -141,7 +161,7 @@ module _ (files : Files) where
   of_run profile source target commands = let v = verdict_of source target commands profile in (verdict_reply files v.0, (v.0, v.1, refl))
 
   pub run_answered : (profile : Profile) (source target : Option (List ℕ)) (trace : List ℕ) → HasName source target → IsAnswered (AnswerOfRun profile source target trace files)
-  run_answered profile source target trace has = with_models source target _ has (λ s t. with_file trace _ (λ bytes. of_trace run_limit bytes _ (of_run profile s t)))
+  run_answered profile source target trace has = with_models source target _ has (λ s t. with_file trace _ (λ bytes. of_trace run_limit bytes _ (λ commands are. of_run profile s t commands)))
 
   pub check_answered : (name : List ℕ) → IsAnswered (AnswerOf (check name) files)
   check_answered name = with_model who.Model name _ (λ m. (_, refl))
@@ -150,4 +170,28 @@ module _ (files : Files) where
   asm_answered text trace = with_file text _ (λ bytes. of_text bytes _ (λ commands. (_, refl)))
 
   pub dis_answered : (trace text : List ℕ) → IsAnswered (AnswerOf (dis trace text) files)
-  dis_answered trace text = with_file trace _ (λ bytes. of_trace dis_limit bytes _ (λ commands. (_, refl)))
+  dis_answered trace text = with_file trace _ (λ bytes. of_trace dis_limit bytes _ (λ commands are. (_, refl)))
+
+  -- ---- the row of a session
+
+  of_lines : (said : Result (List DebugLine) FaultyLine) (p : List DebugLine → Reply → Type 0) → ((script : List DebugLine) → IsAnswered (p script)) → IsAnswered (OfLines files said p)
+  of_lines (Ok script) p f = f script
+  of_lines (Err faulty) p f = (_, refl)
+
+  of_script : ScriptLaw → (r : ℕ) (bytes : List ℕ) (p : List DebugLine → Reply → Type 0) → ((script : List DebugLine) → IsAnswered (p script)) → IsAnswered (OfScript r files bytes p)
+  of_script law r bytes p f =
+      let s = law r bytes in
+      let reply = of_lines s.0 p f in
+      choice (nat_lt script_limit (length bytes)) (λ reply. reply ≡ reply_of files (report.TextLong script_limit))
+      (λ reply. (said : Result (List DebugLine) FaultyLine) × ScriptSays r bytes said × OfLines files said p reply)
+      (reply_of files (report.TextLong script_limit), refl) (reply.0, (s.0, s.1, reply.1))
+
+  pub debug_answered : Sessions → (source trace script : List ℕ) → IsAnswered (AnswerOf (debug source trace script) files)
+  debug_answered laws source trace script =
+      with_said who.Source source _ (λ bytes m said.
+      with_file trace _ (λ commands_in.
+      of_trace dis_limit commands_in _ (λ commands are.
+      with_file script _ (λ text.
+      of_script laws.scripts m.resolution text _ (λ lines.
+      let printed = laws.texts m full_profile commands lines (laws.some bytes m said) (laws.whole bytes m said) are in
+      (_, (printed.0, printed.1, refl)))))))

@@ -6,10 +6,10 @@ ghost use Rattle.nanobot_rows.specs.Answer.{Answer, AnswerOf, AskNoPlan, Reply};
 ghost use Rattle.nanobot_rows.specs.Lines.{accepted_line};
 ghost use Rattle.nanobot_app.specs.Headline.{IsCost, MachineTakes};
 ghost use Rattle.nanobot_app.specs.Plans.{IsRunOfPlan};
-ghost use Rattle.nanobot_words.specs.Rows.{HasName, IsInNoRow, asm, check, dis, light, make, plan_group, plan_layer, plan_low, plan_swarm, plan_void, run};
+ghost use Rattle.nanobot_words.specs.Rows.{HasName, IsInNoRow, asm, check, debug, dis, light, make, plan_group, plan_layer, plan_low, plan_swarm, plan_void, run};
 ghost use Rattle.nanobot_rows.specs.declared.status.Status.TheVariants as status;
 
-use debug_script::{one_script, one_text};
+use debug_script::{one_script, one_text, some_script, some_text};
 use energy_sum::a_step_changes_the_energy_by_little;
 use low_planner::one_unsupported;
 use nano_spec::{a_model_is_whole, one_decoding, one_legality, one_verdict};
@@ -30,7 +30,7 @@ pub fn one_answer()
     one_text();
 }
 
-/// Words that are in no row have an answer over all files, and so has each row that makes no plans and walks no trace.
+/// Words that are in no row have an answer over all files, and so has each row that makes no plans.
 pub fn some_answer()
     ensures no_row { (words : List (List ℕ)) (files : Files) → IsInNoRow words → (reply : Reply) × Answer words files reply }
     ensures check { (model : List ℕ) (files : Files) → (reply : Reply) × AnswerOf (check model) files reply }
@@ -42,7 +42,12 @@ pub fn some_answer()
     ensures dis { (trace text : List ℕ) (files : Files) → (reply : Reply) × AnswerOf (dis trace text) files reply }
     ensures make { (number resolution : ℕ) (model : List ℕ) (files : Files)
         → (reply : Reply) × AnswerOf (make number resolution model) files reply }
-{}
+    ensures debug { (source trace script : List ℕ) (files : Files) → (reply : Reply) × AnswerOf (debug source trace script) files reply }
+{
+    a_model_is_whole();
+    some_script();
+    some_text();
+}
 
 /// The energy and the number of steps of a run that is taken are small, and no two such pairs are printed alike.
 pub fn costs_are_told_apart()

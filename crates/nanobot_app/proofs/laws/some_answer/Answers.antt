@@ -1,6 +1,6 @@
 use Rattle.std.proofs.Common.{inl, refl}
 use Rattle.nano_spec.specs.Profile.{full_profile, light_profile}
-use Rattle.nanobot_app.proofs.SomeAnswer.{asm_answered, check_answered, dis_answered, run_answered}
+use Rattle.nanobot_app.proofs.SomeAnswer.{asm_answered, check_answered, debug_answered, dis_answered, run_answered}
 use Rattle.nanobot_app.proofs.laws.some_answer.Goals as goal
 
 pub returns-clause-no_row : goal.returns-clause-no_row
@@ -23,3 +23,9 @@ returns-clause-dis c = λ trace text files. dis_answered files trace text
 
 pub returns-clause-make : goal.returns-clause-make
 returns-clause-make c = λ number resolution model files. (_, refl)
+
+pub returns-clause-debug : goal.returns-clause-debug
+returns-clause-debug c = λ source trace script files.
+    debug_answered files
+    (record { some = c.a_model_is_whole.ensures.some; whole = c.a_model_is_whole.ensures.whole; scripts = c.some_script.ensures; texts = c.some_text.ensures })
+    source trace script

@@ -1,0 +1,217 @@
+-- The lines of a script print something: each line has an answer in a session whose points are ready and whose begun groups are of
+-- leaders of the next step, and it leads to such a session.
+use Rattle.std.proofs.Common.{◌≡◌, ◌⊎◌, ◌∙◌, ℕ, zero, suc, ◌+◌, ◌-◌, ◌<◌, ◌==◌, inl, inr, Bool, true, false, not, List, [], ◌∷◌, ◌++◌, length, take, drop, get_or, Some, None, Option, refl, arith, sym, ap, subst}
+use Rattle.std.specs.Prelude.{IsPermutation, MatchBool, MatchOption}
+use Rattle.std.specs.List.{list_any, remove}
+use Rattle.std.proofs.lemmas.Bool.Decides.{nat_tests}
+use Rattle.std.proofs.lemmas.List.Sorted.{IsPermutation-more, IsPermutation-refl, list_any-IsPermutation}
+use Rattle.nano_spec.specs.declared.commands.Command.{Command}
+use Rattle.nano_spec.specs.declared.outcomes.Broken.{Broken}
+use Rattle.nano_spec.specs.declared.outcomes.Rule.{Rule}
+use Rattle.nano_spec.specs.declared.outcomes.Rule.TheVariants.{Ungrounded}
+use Rattle.nano_spec.specs.declared.system.Bot.{Bot}
+use Rattle.nano_spec.specs.Act.{acts}
+use Rattle.nano_spec.specs.Cutting.{AreCommands}
+use Rattle.nano_spec.specs.Next.{Breaks, Goes, Next, Outcome}
+use Rattle.nano_spec.specs.Rules.{broken}
+use Rattle.nano_spec.specs.Serial.{acts_of, leader_bids, serial}
+use Rattle.nano_spec.specs.State.{IsReady, State}
+use Rattle.nano_spec.specs.Step.{after}
+use Rattle.nano_spec.proofs.Accepted.{accepted_step}
+use Rattle.step_order.specs.SomeGroups.{after_some}
+use Rattle.step_order.proofs.Lists.{In, any_in, any_none, first, in_either, in_left, in_place, in_right, not_both, second}
+use Rattle.step_machine.proofs.Reaching.{level_of}
+use Rattle.step_machine.proofs.Weighing.{next_of}
+use Rattle.step_debugger.specs.Session.{AnswersLine, Back, BeginsGroup, Begun, Bots, Crew, DebugLine, DebugReport, Ended, GoesBack, Group, Made, Moment, NoHistory, NoLeader, Refused, Session, Step, TakesBack, TriesGroup, TriesStep, UnlessEnded, Voxel, dropped, is_last, is_returned, made, may_begin, middle_state, most_past, next_commands, next_leaders, none_left, refused}
+use Rattle.debug_script.specs.Printing.{printed_report}
+use Rattle.debug_script.specs.Sessions.{Prints}
+
+-- ---- the laws that it stands on
+
+-- a step that breaks no rule leads from a ready state to one
+abbrev pub ReadyLaw : Type 0
+ReadyLaw = (s : State) (commands : List Command) (step : ℕ) → AreCommands commands → IsReady s → broken s commands step ≡ None → IsReady (after s commands)
+
+-- after some of the groups there is a state
+abbrev pub MiddleLaw : Type 0
+MiddleLaw = (s : State) (commands : List Command) (step : ℕ) (order rest : List ℕ) → IsReady s → broken s commands step ≡ None → IsPermutation (leader_bids (acts s.bots commands)) (order ++ rest)
+    → serial s commands order ≡ Some (after_some s (acts s.bots commands) (acts_of (acts s.bots commands) order))
+
+-- ---- lists
+
+are_taken : (n : ℕ) (commands : List Command) → AreCommands commands → AreCommands (take n commands)
+are_taken zero commands h = tt
+are_taken (suc n) [] h = tt
+are_taken (suc n) (c ∷ commands) h = (h.0, are_taken n commands h.1)
+
+are_dropped : (n : ℕ) (commands : List Command) → AreCommands commands → AreCommands (drop n commands)
+are_dropped zero commands h = h
+are_dropped (suc n) [] h = tt
+are_dropped (suc n) (c ∷ commands) h = are_dropped n commands h.1
+
+in_dropped : {X : Type 0} (x : X) (n : ℕ) (xs : List X) → In x (drop n xs) → In x xs
+in_dropped x zero xs i = i
+in_dropped x (suc n) [] i = i
+in_dropped x (suc n) (y ∷ xs) i = inr (in_dropped x n xs i)
+
+-- a list that is not empty has a last element
+last_of : (p : Moment) (past : List Moment) → (earlier : List Moment) × (last : Moment) × (p ∷ past ≡ earlier ++ last ∷ [])
+last_of p [] = ([], p, refl)
+last_of p (q ∷ past) = let l = last_of q past in (p ∷ l.0, l.1, ap (λ (qs : List Moment). p ∷ qs) l.2)
+
+-- ---- sessions
+
+-- the points of a session are ready for a step, and what is begun is of leaders of the next one, which then breaks no rule at its start
+record IsSound (commands : List Command) (s : Session) : Type 0 where
+  point : IsReady s.point.state
+  past : (p : Moment) → In p s.past → IsReady p.state
+  left : List ℕ
+  leaders : IsPermutation (next_leaders commands s.point) (s.begun ++ left)
+  keeps : (s.begun ≡ [] → ⊥) → broken s.point.state (next_commands commands s.point) (s.point.steps + 1) ≡ None
+
+-- nothing is begun
+fresh : (commands : List Command) (p : Moment) (past : List Moment) → IsReady p.state → ((q : Moment) → In q past → IsReady q.state) → IsSound commands (record { point = p; past = past; begun = [] })
+fresh commands p past ready before = record { point = ready; past = before; left = next_leaders commands p; leaders = IsPermutation-refl (next_leaders commands p); keeps = λ some. absurd (some refl) }
+
+same_bid : (a b : ℕ) → (a == b) ≡ true → a ≡ b
+same_bid a b t = grind (arith, nat_tests)
+
+module _ (commands : List Command) (are : AreCommands commands) (stays_ready : ReadyLaw) (middle : MiddleLaw) where
+  -- the line has an answer that leads to a session of the kind
+  abbrev HasAnswer : (Session → DebugReport → Type 0) → Type 0
+  HasAnswer P = (t : Session) × (report : DebugReport) × P t report × IsSound commands t
+
+  module _ (s : Session) (sound : IsSound commands s) where
+    drops : IsSound commands (dropped s)
+    drops = fresh commands s.point s.past sound.point sound.past
+
+    is_refused : (rule : Rule) → IsSound commands (refused rule s)
+    is_refused Ungrounded = drops
+    is_refused rule = sound
+
+    is_made : (u : State) → Next s.point.state (next_commands commands s.point) (s.point.steps + 1) (Goes u) → IsSound commands (made s u)
+    is_made u next =
+        let accepted = accepted_step s.point.state u (next_commands commands s.point) (s.point.steps + 1) next in
+        let now = stays_ready s.point.state (next_commands commands s.point) (s.point.steps + 1)
+        (are_taken (length s.point.state.bots) (drop s.point.taken commands) (are_dropped s.point.taken commands are)) sound.point accepted.keeps in
+        fresh commands (made s u).point (made s u).past (subst IsReady (sym accepted.is) now)
+        (λ p i. joined p (in_either p s.past (s.point ∷ []) (in_dropped p (length (s.past ++ s.point ∷ []) - most_past) (s.past ++ s.point ∷ []) i)))
+      where
+        joined : (p : Moment) → In p s.past ⊎ In p (s.point ∷ []) → IsReady p.state
+        joined p (inl i) = sound.past p i
+        joined p (inr (inl e)) = subst (λ (q : Moment). IsReady q.state) (sym e) sound.point
+        joined p (inr (inr i)) = absurd i
+
+    -- ---- the line of a step
+
+    tries_step : HasAnswer (TriesStep commands s)
+    tries_step = let o = next_of s.point.state (next_commands commands s.point) (s.point.steps + 1) in by o.0 o.1
+      where
+        by : (o : Outcome) → Next s.point.state (next_commands commands s.point) (s.point.steps + 1) o → HasAnswer (TriesStep commands s)
+        by (Goes u) next = (made s u, Made (s.point.steps + 1) u.energy (none_left u.bots), (Goes u, next, (refl, refl)), is_made u next)
+        by (Breaks b) next = (refused b.rule s, Refused b, (Breaks b, next, (refl, refl)), is_refused b.rule)
+
+    unless_ended : (bots : List Bot) (P : Session → DebugReport → Type 0) → HasAnswer P → HasAnswer (λ t report. UnlessEnded bots s t report (P t report))
+    unless_ended [] P answer = (s, Ended, (refl, refl), sound)
+    unless_ended (bot ∷ bots) P answer = answer
+
+    -- ---- the line of a group
+
+    is_begun : (bid : ℕ) → may_begin commands s bid ≡ true → broken s.point.state (next_commands commands s.point) (s.point.steps + 1) ≡ None → IsSound commands (record s { begun = s.begun ++ bid ∷ [] })
+    is_begun bid may keeps =
+        let place = in_place bid 0 sound.left is_left in
+        record {
+          point = sound.point;
+          past = sound.past;
+          left = remove sound.left place.0;
+          leaders = IsPermutation-more (next_leaders commands s.point) s.begun sound.left place.0 bid place.1 (sym (found sound.left place.0 place.1 place.2)) sound.leaders;
+          keeps = λ some. keeps;
+        }
+      where
+        listed : list_any (λ k. k == bid) (s.begun ++ sound.left) ≡ true
+        listed = sym (list_any-IsPermutation (λ k. k == bid) (next_leaders commands s.point) (s.begun ++ sound.left) sound.leaders) ∙ first (list_any (λ k. k == bid) (next_leaders commands s.point)) (not (list_any (λ k. k == bid) s.begun)) may
+
+        not_begun : list_any (λ k. k == bid) s.begun ≡ false
+        not_begun = negated (list_any (λ k. k == bid) s.begun) (second (list_any (λ k. k == bid) (next_leaders commands s.point)) (not (list_any (λ k. k == bid) s.begun)) may)
+          where
+            negated : (b : Bool) → not b ≡ true → b ≡ false
+            negated true e = cc
+            negated false e = refl
+
+        is_left : In bid sound.left
+        is_left = let k = any_in (λ k. k == bid) (s.begun ++ sound.left) listed in by k.0 k.2 (in_either k.0 s.begun sound.left k.1)
+          where
+            by : (k : ℕ) → (k == bid) ≡ true → In k s.begun ⊎ In k sound.left → In bid sound.left
+            by k e (inl i) = absurd (not_both e (any_none (λ k. k == bid) k s.begun not_begun i))
+            by k e (inr i) = subst (λ (n : ℕ). In n sound.left) (same_bid k bid e) i
+
+        found : (xs : List ℕ) (i : ℕ) → i < length xs → get_or xs i 0 ≡ bid → get_or xs i bid ≡ bid
+        found [] i l e = absurd (omega arith)
+        found (x ∷ xs) zero l e = e
+        found (x ∷ xs) (suc i) l e = found xs i (omega arith) e
+
+    begins_group : (bid : ℕ) → broken s.point.state (next_commands commands s.point) (s.point.steps + 1) ≡ None → HasAnswer (BeginsGroup commands bid s)
+    begins_group bid keeps = by (may_begin commands s bid) (is_last commands s) refl
+      where
+        by : (may last : Bool) → may_begin commands s bid ≡ may → HasAnswer (λ t report.
+            MatchBool may
+            (MatchBool last
+            (TriesStep commands s t report)
+            ((t ≡ record s { begun = s.begun ++ bid ∷ [] }) × (report ≡ Begun bid (s.point.steps + 1))))
+            ((t ≡ s) × (report ≡ NoLeader bid)))
+        by false last e = (s, NoLeader bid, (refl, refl), sound)
+        by true true e = tries_step
+        by true false e = (record s { begun = s.begun ++ bid ∷ [] }, Begun bid (s.point.steps + 1), (refl, refl), is_begun bid e keeps)
+
+    tries_group : (bid : ℕ) → HasAnswer (TriesGroup commands bid s)
+    tries_group bid = by (broken s.point.state (next_commands commands s.point) (s.point.steps + 1)) refl
+      where
+        by : (o : Option Broken) → broken s.point.state (next_commands commands s.point) (s.point.steps + 1) ≡ o
+            → HasAnswer (λ t report. MatchOption o (BeginsGroup commands bid s t report) (λ b. (t ≡ s) × (report ≡ Refused b)))
+        by None e = begins_group bid e
+        by (Some b) e = (s, Refused b, (refl, refl), sound)
+
+    -- ---- the lines of the way back, of the bots and of a voxel
+
+    takes_back : (past : List Moment) → s.past ≡ past → HasAnswer (TakesBack past s)
+    takes_back [] e = (s, NoHistory, (refl, refl), sound)
+    takes_back (p ∷ past) e =
+        let l = last_of p past in
+        let is : s.past ≡ l.0 ++ l.1 ∷ [] = e ∙ l.2 in
+        let before : (q : Moment) → In q (l.0 ++ l.1 ∷ []) → IsReady q.state = λ q i. sound.past q (subst (λ (qs : List Moment). In q qs) (sym is) i) in (
+          record { point = l.1; past = l.0; begun = [] },
+          is_returned l.1,
+          record { earlier = l.0; last = l.1; past = is; session = refl; report_is = refl },
+          fresh commands l.1 l.0 (before l.1 (in_right l.1 l.0 (l.1 ∷ []) (inl refl))) (λ q i. before q (in_left q l.0 (l.1 ∷ []) i)),
+        )
+
+    goes_back : (begun : List ℕ) → HasAnswer (GoesBack begun s)
+    goes_back [] = takes_back s.past refl
+    goes_back (bid ∷ begun) = (dropped s, is_returned s.point, (refl, refl), drops)
+
+    middle_of : (begun : List ℕ) → s.begun ≡ begun → (m : State) × (middle_state commands s ≡ Some m)
+    middle_of [] e = (_, ap (serial s.point.state (next_commands commands s.point)) e)
+    middle_of (bid ∷ begun) e = (_, middle s.point.state (next_commands commands s.point) (s.point.steps + 1) s.begun sound.left sound.point (sound.keeps (λ none. some (sym e ∙ none))) sound.leaders)
+      where
+        some : bid ∷ begun ≡ [] → ⊥
+        some f = cc
+
+    tells_bots : HasAnswer (AnswersLine commands Bots s)
+    tells_bots = let m = middle_of s.begun refl in (s, Crew m.0.bots, (refl, (m.0, m.1, refl)), sound)
+
+    answered : (line : DebugLine) → HasAnswer (AnswersLine commands line s)
+    answered Step = unless_ended s.point.state.bots (TriesStep commands s) tries_step
+    answered (Group bid) = unless_ended s.point.state.bots (TriesGroup commands bid s) (tries_group bid)
+    answered Back = goes_back s.begun
+    answered Bots = tells_bots
+    answered (Voxel c) = let l = level_of s.point.state.matrix c in (s, _, (refl, (l.0, l.1, refl)), sound)
+
+  prints_from : (script : List DebugLine) (s : Session) → IsSound commands s → (text : List ℕ) × Prints commands script s text
+  prints_from [] s sound = ([], refl)
+  prints_from (line ∷ more) s sound =
+      let a = answered s sound line in
+      let rest = prints_from more a.0 a.3 in
+      (printed_report a.1 ++ rest.0, (a.0, a.1, rest.0, a.2, rest.1, refl))
+
+  pub some_printing : (script : List DebugLine) (p : Moment) → IsReady p.state → (text : List ℕ) × Prints commands script (record { point = p; past = []; begun = [] }) text
+  some_printing script p ready = prints_from script (record { point = p; past = []; begun = [] }) (fresh commands p [] ready (λ q i. absurd i))
