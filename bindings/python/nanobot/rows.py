@@ -1,0 +1,89 @@
+"""Traces that are judged, models that are checked, and plans."""
+
+from __future__ import annotations
+
+from ctypes import byref, c_int64, c_uint32
+from typing import NamedTuple, Optional
+
+from . import _library as lib
+from ._library import library
+from .errors import NanobotError
+from .machine import Source, bytes_of
+
+
+class Cost(NamedTuple):
+    """What an accepted run costs."""
+
+    energy: int
+    steps: int
+
+
+class Refused(NanobotError):
+    """The status and the line that the program prints."""
+
+    def __init__(self, status: int, line: str) -> None:
+        super().__init__(line)
+        self.status, self.line = status, line
+
+
+def _side(source: Optional[Source]) -> bytes:
+    """The bytes of a source or a target; none of them is the empty model of the other's resolution."""
+    return b"" if source is None else bytes_of(source)
+
+
+def _said(status: int, data: bytes) -> str:
+    if status == lib.MEMORY:
+        raise MemoryError
+    return data.decode().rstrip("\n")
+
+
+def judge(source: Optional[Source], target: Optional[Source], trace: Source, *, light: bool = False) -> Cost:
+    """What the trace costs from the source to the target, where it is accepted. None stands for the empty model."""
+    lent = [part for data in (_side(source), _side(target), bytes_of(trace)) for part in lib.lend(data)]
+    energy, steps = c_int64(), c_uint32()
+    status = library.cost(*lent, light, byref(energy), byref(steps))
+    if status == lib.DONE:
+        return Cost(energy.value, steps.value)
+    status, line = lib.given(library.judge, *lent, light)
+    raise Refused(status, _said(status, line))
+
+
+def check(model: Source) -> str:
+    """What the program prints of a legal model: `legal resolution R full N`."""
+    status, line = lib.given(library.check, *lib.lend(bytes_of(model)))
+    if status == lib.DONE:
+        return _said(status, line)
+    raise Refused(status, _said(status, line))
+
+
+def _plan(call, *models: Optional[Source]) -> bytes:
+    lent = [part for model in models for part in lib.lend(_side(model))]
+    status, made = lib.given(call, *lent, room=1 << 16)
+    if status == lib.DONE:
+        return made
+    raise Refused(status, _said(status, made))
+
+
+def plan_layer(source: Optional[Source], target: Optional[Source]) -> bytes:
+    """A trace from the source to the target by one bot at most."""
+    return _plan(library.plan_layer, source, target)
+
+
+def plan_group(source: Optional[Source], target: Optional[Source]) -> bytes:
+    """The same by two bots at most."""
+    return _plan(library.plan_group, source, target)
+
+
+def plan_void(source: Source) -> bytes:
+    """A trace that takes the source down, by four bots at most."""
+    return _plan(library.plan_void, source)
+
+
+def plan_low(target: Source) -> bytes:
+    """A trace that builds the target under low harmonics all the time, where each part of it is supported."""
+    return _plan(library.plan_low, target)
+
+
+def plan_swarm(target: Source) -> bytes:
+    """A trace that builds the target by twenty bots at most."""
+    return _plan(library.plan_swarm, target)

@@ -1,0 +1,179 @@
+"""A trace, walked step by step: `python -m nanobot walk S T B`."""
+
+from __future__ import annotations
+
+import cmd
+from typing import List, Optional
+
+from .errors import BadCommands, BrokenRule, Coord, OutOfSpace
+from .explain import Row, described, group_of, machine_of, why
+from .machine import Source, bytes_of
+from .trace import next_step
+
+NOTES = 4096
+
+
+class Walk(cmd.Cmd):
+    """The machine of a trace, which goes forwards and backwards to any step."""
+
+    intro = "step [N], back [N], to N, broken, state, bots, groups, voxel X Y Z, layer Y, help, quit"
+
+    def __init__(self, source: Optional[Source], target: Optional[Source], trace: Source, *, light: bool = False, **options) -> None:
+        super().__init__(**options)
+        self.data = bytes_of(trace)
+        self.ends: List[int] = [0]
+        self.start = lambda: machine_of(source, target, light=light, notes=NOTES)
+        self.machine = self.start()
+        self._ask()
+
+    def say(self, text: str) -> None:
+        self.stdout.write(text + "\n")
+
+    def _ask(self) -> None:
+        self.prompt = f"{self.machine.steps}> "
+
+    def _row(self) -> Row:
+        bots = self.machine.bots()
+        return list(zip(bots, next_step(self.data, self.ends[-1], len(bots))))
+
+    def _forwards(self) -> bool:
+        """Makes one step, or says why none is made."""
+        active = self.machine.state.active
+        if not active:
+            self.say("ended")
+            return False
+        try:
+            row = self._row()
+            end = self.ends[-1] + sum(command.size for _, command in row)
+            if len(row) < active:
+                self.say(f"the trace ends: {len(row)} commands for {active} bots")
+                return False
+            self.machine.step(self.data[self.ends[-1] : end])
+        except BadCommands as bad:
+            self.say(str(bad))
+            return False
+        except BrokenRule as broken:
+            self.say(str(broken))
+            for line in why(broken, row):
+                self.say(line)
+            return False
+        self.ends.append(end)
+        return True
+
+    def _backwards(self) -> None:
+        """Takes a step back; past the notes the trace is walked anew from its start."""
+        if self.machine.state.noted:
+            self.machine.undo()
+            self.ends.pop()
+            return
+        wanted = self.machine.steps - 1
+        self.machine.close()
+        self.machine = self.start()
+        ends, self.ends = self.ends, [0]
+        for step in range(wanted):
+            self.machine.step(self.data[ends[step] : ends[step + 1]])
+            self.ends.append(ends[step + 1])
+
+    def _number(self, words: str, default: int) -> Optional[int]:
+        if not words:
+            return default
+        if words.isdecimal():
+            return int(words)
+        self.say("that is no number")
+        return None
+
+    def _stand(self) -> None:
+        state = self.machine.state
+        self.say(f"step {state.steps} energy {state.energy} bots {state.active} {'high' if state.high else 'low'}")
+
+    def _go(self, wanted: int) -> None:
+        while self.machine.steps < wanted and self._forwards():
+            pass
+        while self.machine.steps > wanted:
+            self._backwards()
+        self._stand()
+
+    def do_step(self, words: str) -> None:
+        """step [N]: makes N steps, or one."""
+        n = self._number(words, 1)
+        if n is not None:
+            self._go(self.machine.steps + n)
+
+    def do_back(self, words: str) -> None:
+        """back [N]: takes N steps back, or one."""
+        n = self._number(words, 1)
+        if n is not None:
+            self._go(max(0, self.machine.steps - n))
+
+    def do_to(self, words: str) -> None:
+        """to N: goes to the place after N steps."""
+        n = self._number(words, self.machine.steps)
+        if n is not None:
+            self._go(n)
+
+    def do_broken(self, _: str) -> None:
+        """broken: goes on until a step is refused or the run ends."""
+        while self._forwards():
+            pass
+        self._stand()
+
+    def do_state(self, _: str) -> None:
+        """state: where the machine stands."""
+        self._stand()
+
+    def do_bots(self, _: str) -> None:
+        """bots: the active bots with their next commands."""
+        try:
+            row = self._row()
+        except BadCommands as bad:
+            row = []
+            self.say(str(bad))
+        for line in described(row):
+            self.say(line)
+        for bot in self.machine.bots()[len(row) :]:
+            self.say(f"  bot {bot.bid} at {bot.at.x} {bot.at.y} {bot.at.z}: no command")
+
+    def do_groups(self, _: str) -> None:
+        """groups: the groups of the next step."""
+        row, told = self._row(), set()
+        for bot, _ in row:
+            members = group_of(row, bot)
+            if bot.bid not in told:
+                told |= {it.bid for it, _ in members}
+                self.say(f"group {members[0][0].bid}: " + " ".join(str(it.bid) for it, _ in members))
+
+    def do_voxel(self, words: str) -> None:
+        """voxel X Y Z: whether a voxel is full, and its level."""
+        parts = words.split()
+        if len(parts) != 3 or not all(it.isdecimal() for it in parts):
+            self.say("voxel X Y Z")
+            return
+        c = Coord(*map(int, parts))
+        try:
+            full, level = self.machine.full(c), self.machine.level(c)
+        except OutOfSpace as outside:
+            self.say(str(outside))
+            return
+        self.say("void" if not full else "full floating" if level is None else f"full level {level}")
+
+    def do_layer(self, words: str) -> None:
+        """layer Y: the voxels of a layer, x to the right and z down; bots by `o`."""
+        y, r = self._number(words, 0), self.machine.state.resolution
+        if y is None or y >= r:
+            return
+        bots = {bot.at for bot in self.machine.bots()}
+        for z in range(r):
+            self.say("".join("o" if (x, y, z) in bots else "#" if self.machine.full((x, y, z)) else "." for x in range(r)))
+
+    def do_quit(self, _: str) -> bool:
+        """quit: ends."""
+        return True
+
+    do_EOF = do_quit
+
+    def emptyline(self) -> bool:
+        return False
+
+    def postcmd(self, stop: bool, line: str) -> bool:
+        self._ask()
+        return stop

@@ -1,0 +1,170 @@
+"""Tests of the package: `python -m unittest discover -s tests` in bindings/python, with the library built."""
+
+import copy
+import os
+import pickle
+import unittest
+
+import nanobot
+from nanobot import Coord, Machine
+
+TOP = os.path.dirname(os.path.dirname(os.path.dirname(os.path.dirname(os.path.abspath(__file__)))))
+HOUSE = f"{TOP}/examples/house.mdl"
+HALT, WAIT, FLIP = b"\xff", b"\xfe", b"\xfd"
+# SMove <0,0,1>, Fill <0,0,1>, Fill <0,1,0>, Fission <0,0,1> 5
+MOVE, FILL_BESIDE, FILL_ABOVE, SPLIT = b"\x34\x10", b"\x73", b"\x83", b"\x75\x05"
+
+
+class Steps(unittest.TestCase):
+    def test_a_step_costs_its_upkeep(self):
+        with Machine(resolution=20) as machine:
+            self.assertEqual(machine.step(WAIT), (3 * 8000 + 20, 1, 1))
+            self.assertEqual(machine.step(FLIP), (2 * (3 * 8000 + 20), 2, 1))
+            self.assertEqual(machine.step(WAIT).energy, 2 * (3 * 8000 + 20) + 30 * 8000 + 20)
+            self.assertTrue(machine.state.high)
+
+    def test_a_fission_makes_two_bots(self):
+        with Machine(resolution=3) as machine:
+            self.assertEqual(machine.step(SPLIT).active, 2)
+            first, second = machine.bots()
+            self.assertEqual((first.bid, first.at, first.seeds), (1, (0, 0, 0), tuple(range(8, 41))))
+            self.assertEqual((second.bid, second.at, second.seeds), (2, (0, 0, 1), tuple(range(3, 8))))
+            with self.assertRaises(nanobot.WrongCount) as caught:
+                machine.step(WAIT)
+            self.assertEqual(caught.exception.active, 2)
+            self.assertEqual(machine.step(WAIT + WAIT).steps, 2)
+
+    def test_a_voxel_that_floats_leaves_the_machine_as_it_was(self):
+        with Machine(resolution=4, notes=3) as machine:
+            machine.step(WAIT)
+            before = machine.state
+            with self.assertRaises(nanobot.BrokenRule) as caught:
+                machine.step(FILL_ABOVE)
+            broken = caught.exception
+            self.assertEqual((broken.rule, broken.name, broken.step, broken.bid, broken.at), (12, "Ungrounded", 2, 0, (0, 1, 0)))
+            self.assertEqual(machine.state, before)
+            self.assertFalse(machine.full((0, 1, 0)))
+            self.assertIsNone(machine.level((0, 1, 0)))
+            machine.undo()
+            self.assertEqual(machine.step(FILL_BESIDE).energy, 3 * 64 + 20 + 12)
+            self.assertEqual((machine.full((0, 0, 1)), machine.level((0, 0, 1)), machine.count()), (True, 0, 1))
+
+    def test_a_run_ends_once(self):
+        with Machine(resolution=1) as machine:
+            self.assertEqual(machine.step(HALT).active, 0)
+            self.assertEqual(machine.bots(), [])
+            with self.assertRaises(nanobot.Ended):
+                machine.step(WAIT)
+
+    def test_bytes_that_are_no_commands(self):
+        with Machine(resolution=2) as machine:
+            for data, offset in ((b"\x04", 0), (b"\xfe\x00", 1), (b"\x75", 0)):
+                with self.assertRaises(nanobot.BadCommands) as caught:
+                    machine.step(data)
+                self.assertEqual(caught.exception.offset, offset)
+
+    def test_the_light_profile_forbids_to_void(self):
+        with Machine(resolution=2, light=True) as machine:
+            with self.assertRaises(nanobot.BrokenRule) as caught:
+                machine.step(b"\x72")
+            self.assertEqual(caught.exception.rule, 15)
+
+
+class Undoing(unittest.TestCase):
+    def test_as_many_as_are_noted(self):
+        with Machine(resolution=2, notes=2) as machine:
+            states = []
+            for _ in range(4):
+                states.append(machine.state[:5])
+                machine.step(WAIT)
+            self.assertEqual(machine.state.noted, 2)
+            for wanted in (states[3], states[2]):
+                machine.undo()
+                self.assertEqual(machine.state[:5], wanted)
+            with self.assertRaises(nanobot.NothingNoted):
+                machine.undo()
+
+    def test_a_copy_goes_its_own_way(self):
+        with Machine(resolution=3, notes=5) as machine:
+            machine.step(WAIT)
+            with copy.copy(machine) as other:
+                other.step(FILL_BESIDE)
+                self.assertEqual((machine.count(), other.count()), (0, 1))
+                self.assertEqual((machine.steps, other.steps), (1, 2))
+                self.assertEqual(other.state.noted, 1)
+
+
+class Models(unittest.TestCase):
+    def test_a_model_is_given_back(self):
+        with open(HOUSE, "rb") as file:
+            data = file.read()
+        with Machine(HOUSE) as machine:
+            self.assertEqual(machine.model(), data)
+
+    def test_models_that_are_refused(self):
+        for data, number, at in ((b"", 1, None), (b"\x00", 2, None), (b"\x03\x01\x00\x00\x00", 6, (0, 0, 0))):
+            with self.assertRaises(nanobot.RefusedModel) as caught:
+                Machine(data)
+            self.assertEqual((caught.exception.number, caught.exception.at), (number, at))
+
+    def test_a_target_is_compared(self):
+        # (1,0,1) is full at resolution 3: place 10, bit 2 of the second byte of voxels
+        target = b"\x03\x00\x04\x00\x00"
+        with Machine(target) as machine, Machine(resolution=3) as empty:
+            self.assertIsNone(machine.difference(target))
+            self.assertEqual(empty.difference(target), (1, 0, 1))
+            self.assertRaises(nanobot.OtherResolution, empty.difference, b"\x01\x00")
+            self.assertRaises(nanobot.RefusedModel, empty.difference, b"\x03\x00")
+
+    def test_numbers_that_are_refused(self):
+        for wrong in ({"resolution": 0}, {"resolution": 401}, {"resolution": 2, "notes": 4097}, {}):
+            with self.assertRaises(ValueError):
+                Machine(**wrong)
+
+
+class Handles(unittest.TestCase):
+    def test_a_closed_machine(self):
+        machine = Machine(resolution=2)
+        machine.close()
+        machine.close()
+        for call in (lambda: machine.step(WAIT), machine.undo, machine.bots, machine.model, lambda: machine.full((0, 0, 0))):
+            self.assertRaises(nanobot.Closed, call)
+
+    def test_no_machine_is_pickled(self):
+        with Machine(resolution=2) as machine:
+            self.assertRaises(TypeError, pickle.dumps, machine)
+
+    def test_out_of_space(self):
+        with Machine(resolution=2) as machine:
+            for at in ((2, 0, 0), (0, 65536, 0), (0, 0, 2**32 - 1), (0, 0, 2**32), (-1, 0, 0)):
+                self.assertRaises(nanobot.OutOfSpace, machine.full, at)
+                self.assertRaises(nanobot.OutOfSpace, machine.level, at)
+            self.assertEqual(Coord(1, 2, 3).y, 2)
+
+
+class Versions(unittest.TestCase):
+    def test_the_library_is_that_of_the_package(self):
+        self.assertEqual(nanobot.version(), nanobot.__version__)
+
+
+class Rows(unittest.TestCase):
+    @unittest.skipUnless(os.path.exists(HOUSE), "there are no examples")
+    def test_a_trace_step_by_step_costs_what_it_is_judged_to_cost(self):
+        plan = nanobot.plan_low(HOUSE)
+        cost = nanobot.judge(None, HOUSE, plan)
+        with Machine(resolution=nanobot.Machine(HOUSE).state.resolution) as machine:
+            at = 0
+            while machine.state.active:
+                size = 1
+                while True:
+                    try:
+                        machine.step(plan[at : at + size])
+                        break
+                    except (nanobot.BadCommands, nanobot.WrongCount):
+                        size += 1
+                at += size
+            self.assertEqual((machine.energy, machine.steps, at), (cost.energy, cost.steps, len(plan)))
+
+
+if __name__ == "__main__":
+    unittest.main()

@@ -1,0 +1,192 @@
+//! Why a call did not do its work. The machine is then as it was.
+
+use crate::{sys, Coord};
+use std::error::Error;
+use std::fmt;
+
+/// A rule that is broken, by its number, in which step, by which bot (0 for rule 12), and where.
+#[derive(Clone, Copy, PartialEq, Eq, Debug)]
+pub struct Broken {
+    pub rule: u32,
+    pub step: u32,
+    pub bid: u32,
+    pub at: Coord,
+}
+
+/// Why a machine was not started.
+#[derive(Clone, Copy, PartialEq, Eq, Debug)]
+pub enum StartError {
+    /// The model is refused, by the number of the refusal, with what belongs to it: how many bytes it wants, what there is (the
+    /// resolution, bytes or voxels, or the index of a run), and the voxel.
+    Model { number: u32, want: u32, have: u32, at: Coord },
+    /// More than 4,096 notes were asked for, or a resolution that is not 1 to 400.
+    Argument,
+    Memory,
+}
+
+/// Why a step was not made.
+#[derive(Clone, Copy, PartialEq, Eq, Debug)]
+pub enum StepError {
+    /// The commands break a rule.
+    Broken(Broken),
+    /// The command that begins at this byte is bad or cut.
+    BadCommands { offset: u64 },
+    /// There are more or fewer commands than active bots.
+    WrongCount { active: u32 },
+    /// No bot is active.
+    Ended,
+    /// The machine has made as many steps as it makes.
+    TooManySteps,
+    Memory,
+}
+
+/// Why no step was taken back.
+#[derive(Clone, Copy, PartialEq, Eq, Debug)]
+pub enum UndoError {
+    /// No earlier step is noted.
+    NothingNoted,
+    Memory,
+}
+
+/// Why no level was told.
+#[derive(Clone, Copy, PartialEq, Eq, Debug)]
+pub enum LevelError {
+    OutOfSpace,
+    Memory,
+}
+
+/// Why a target was not compared.
+#[derive(Clone, Copy, PartialEq, Eq, Debug)]
+pub enum TargetError {
+    /// The bytes are no model, by the number of the refusal.
+    Model { number: u32 },
+    /// The target is of another resolution.
+    Resolution,
+    Memory,
+}
+
+pub(crate) fn differs(status: u32, told: &sys::Refusal) -> Result<bool, TargetError> {
+    match status {
+        sys::DONE => Ok(false),
+        sys::DIFFERS => Ok(true),
+        sys::MODEL => Err(TargetError::Model { number: told.number }),
+        sys::RESOLUTION => Err(TargetError::Resolution),
+        _ => Err(TargetError::Memory),
+    }
+}
+
+pub(crate) fn started(status: u32, told: &sys::Refusal) -> Result<(), StartError> {
+    match status {
+        sys::DONE => Ok(()),
+        sys::MODEL => Err(StartError::Model {
+            number: told.number,
+            want: told.want,
+            have: told.have,
+            at: Coord {
+                x: told.x,
+                y: told.y,
+                z: told.z,
+            },
+        }),
+        sys::WORDS => Err(StartError::Argument),
+        _ => Err(StartError::Memory),
+    }
+}
+
+pub(crate) fn stepped(status: u32, told: &sys::Step) -> Result<(), StepError> {
+    match status {
+        sys::DONE => Ok(()),
+        sys::BROKEN => Err(StepError::Broken(Broken {
+            rule: told.broken.rule,
+            step: told.broken.step,
+            bid: told.broken.bid,
+            at: Coord {
+                x: told.broken.x,
+                y: told.broken.y,
+                z: told.broken.z,
+            },
+        })),
+        sys::TRACE => Err(StepError::BadCommands { offset: told.offset }),
+        sys::COUNT => Err(StepError::WrongCount { active: told.active }),
+        sys::ENDED => Err(StepError::Ended),
+        sys::LONG => Err(StepError::TooManySteps),
+        _ => Err(StepError::Memory),
+    }
+}
+
+pub(crate) fn undone(status: u32) -> Result<(), UndoError> {
+    match status {
+        sys::DONE => Ok(()),
+        sys::NO_NOTE => Err(UndoError::NothingNoted),
+        _ => Err(UndoError::Memory),
+    }
+}
+
+pub(crate) fn has_level(status: u32) -> Result<bool, LevelError> {
+    match status {
+        sys::DONE => Ok(true),
+        sys::NO_LEVEL => Ok(false),
+        sys::OUTSIDE => Err(LevelError::OutOfSpace),
+        _ => Err(LevelError::Memory),
+    }
+}
+
+impl fmt::Display for StartError {
+    fn fmt(&self, f: &mut fmt::Formatter<'_>) -> fmt::Result {
+        match self {
+            StartError::Model { number, .. } => write!(f, "the model is refused: refusal {number}"),
+            StartError::Argument => write!(f, "notes are at most 4096, and resolutions 1 to 400"),
+            StartError::Memory => write!(f, "out of memory"),
+        }
+    }
+}
+
+impl fmt::Display for StepError {
+    fn fmt(&self, f: &mut fmt::Formatter<'_>) -> fmt::Result {
+        match self {
+            StepError::Broken(b) => {
+                let Coord { x, y, z } = b.at;
+                write!(f, "rule {} is broken in step {} by bot {} at {x} {y} {z}", b.rule, b.step, b.bid)
+            }
+            StepError::BadCommands { offset } => write!(f, "no command at byte {offset}"),
+            StepError::WrongCount { active } => write!(f, "not one command for each of {active} bots"),
+            StepError::Ended => write!(f, "no bot is active"),
+            StepError::TooManySteps => write!(f, "the machine makes no more steps"),
+            StepError::Memory => write!(f, "out of memory"),
+        }
+    }
+}
+
+impl fmt::Display for UndoError {
+    fn fmt(&self, f: &mut fmt::Formatter<'_>) -> fmt::Result {
+        f.write_str(match self {
+            UndoError::NothingNoted => "no step can be taken back",
+            UndoError::Memory => "out of memory",
+        })
+    }
+}
+
+impl fmt::Display for LevelError {
+    fn fmt(&self, f: &mut fmt::Formatter<'_>) -> fmt::Result {
+        f.write_str(match self {
+            LevelError::OutOfSpace => "the coordinate is out of space",
+            LevelError::Memory => "out of memory",
+        })
+    }
+}
+
+impl fmt::Display for TargetError {
+    fn fmt(&self, f: &mut fmt::Formatter<'_>) -> fmt::Result {
+        match self {
+            TargetError::Model { number } => write!(f, "the target is no model: refusal {number}"),
+            TargetError::Resolution => write!(f, "the target is of another resolution"),
+            TargetError::Memory => write!(f, "out of memory"),
+        }
+    }
+}
+
+impl Error for StartError {}
+impl Error for StepError {}
+impl Error for UndoError {}
+impl Error for LevelError {}
+impl Error for TargetError {}

@@ -1,0 +1,236 @@
+//! nanobot's machine from Rust: each step is proved to do what the rules of the ICFP Programming Contest 2018 say.
+//!
+//! A [`Machine`] is kept between steps. The commands of a step are the bytes of a trace, the last steps can be taken back, and a
+//! call that is refused leaves the machine as it was.
+//!
+//! ```
+//! use nanobot::{Machine, Profile};
+//!
+//! let mut machine = Machine::empty(20, Profile::Full, 100)?;
+//! let step = machine.step(&[0xfe])?; // the only bot waits
+//! assert_eq!(step.energy, 3 * 20 * 20 * 20 + 20);
+//! machine.undo()?;
+//! assert_eq!(machine.state().energy, 0);
+//! # Ok::<(), Box<dyn std::error::Error>>(())
+//! ```
+
+mod errors;
+mod sys;
+
+pub use errors::{Broken, LevelError, StartError, StepError, TargetError, UndoError};
+
+use std::marker::PhantomData;
+use std::ptr::null_mut;
+
+/// The most bots that are active at once.
+pub const MOST_BOTS: usize = 40;
+
+/// A coordinate of a matrix. The axis y points up.
+#[derive(Clone, Copy, PartialEq, Eq, PartialOrd, Ord, Hash, Debug)]
+pub struct Coord {
+    pub x: u32,
+    pub y: u32,
+    pub z: u32,
+}
+
+/// What a run may use: the contest's profile has 39 seeds and all commands, the light one 19 seeds and no Void, GFill and GVoid.
+#[derive(Clone, Copy, PartialEq, Eq, Debug)]
+pub enum Profile {
+    Full,
+    Light,
+}
+
+/// Where a machine stands after a step: the energy so far, the steps made, and how many bots are active.
+#[derive(Clone, Copy, PartialEq, Eq, Debug)]
+pub struct Step {
+    pub energy: i64,
+    pub steps: u32,
+    pub active: u32,
+}
+
+/// Where a machine stands. So many of its last steps can be taken back.
+#[derive(Clone, Copy, PartialEq, Eq, Debug)]
+pub struct State {
+    pub energy: i64,
+    pub steps: u32,
+    pub active: u32,
+    pub resolution: u32,
+    pub high: bool,
+    pub noted: u64,
+}
+
+/// An active bot. Bit k of `seeds` says that it can make the bot k.
+#[derive(Clone, Copy, PartialEq, Eq, Debug)]
+pub struct Bot {
+    pub bid: u32,
+    pub at: Coord,
+    pub seeds: u64,
+}
+
+/// A machine. It stays on its thread.
+pub struct Machine {
+    handle: sys::Handle,
+    on_one_thread: PhantomData<*const ()>,
+}
+
+impl Machine {
+    /// The machine over the legal model of these bytes. So many of its last steps can be taken back, at most 4,096.
+    pub fn start(model: &[u8], profile: Profile, notes: u32) -> Result<Machine, StartError> {
+        let mut made = Machine::none();
+        let mut refusal = sys::Refusal::default();
+        let light = profile == Profile::Light;
+        // SAFETY: each pointer is that of a slice or a reference.
+        let status = unsafe { sys::nanobot_machine_start(model.as_ptr(), model.len(), light, notes, &mut made.handle, &mut refusal) };
+        errors::started(status, &refusal)?;
+        Ok(made)
+    }
+
+    /// The machine over the empty model of a resolution from 1 to 400.
+    pub fn empty(resolution: u32, profile: Profile, notes: u32) -> Result<Machine, StartError> {
+        let mut made = Machine::none();
+        let light = profile == Profile::Light;
+        // SAFETY: the pointer is that of a reference.
+        let status = unsafe { sys::nanobot_machine_start_empty(resolution, light, notes, &mut made.handle) };
+        errors::started(status, &sys::Refusal::default())?;
+        Ok(made)
+    }
+
+    fn none() -> Machine {
+        Machine {
+            handle: sys::Handle { at: null_mut() },
+            on_one_thread: PhantomData,
+        }
+    }
+
+    /// Another machine where this one stands, in which no step can be taken back until it makes some; None for want of memory.
+    pub fn try_clone(&mut self) -> Option<Machine> {
+        let mut made = Machine::none();
+        // SAFETY: the pointers are those of two references.
+        let status = unsafe { sys::nanobot_machine_copy(&mut self.handle, &mut made.handle) };
+        (status == sys::DONE).then_some(made)
+    }
+
+    /// Makes one step: the bytes spell one command for each active bot, in rising order of their bids.
+    pub fn step(&mut self, commands: &[u8]) -> Result<Step, StepError> {
+        let mut told = sys::Step::default();
+        // SAFETY: each pointer is that of a slice or a reference.
+        let status = unsafe { sys::nanobot_machine_step(&mut self.handle, commands.as_ptr(), commands.len(), &mut told) };
+        errors::stepped(status, &told)?;
+        Ok(Step {
+            energy: told.energy,
+            steps: told.steps,
+            active: told.active,
+        })
+    }
+
+    /// Takes the last step back.
+    pub fn undo(&mut self) -> Result<(), UndoError> {
+        // SAFETY: the pointer is that of a reference.
+        errors::undone(unsafe { sys::nanobot_machine_undo(&mut self.handle) })
+    }
+
+    /// Where the machine stands.
+    pub fn state(&mut self) -> State {
+        let mut told = sys::State::default();
+        // SAFETY: the pointers are those of two references.
+        unsafe { sys::nanobot_machine_tell(&mut self.handle, &mut told) };
+        State {
+            energy: told.energy,
+            steps: told.steps,
+            active: told.active,
+            resolution: told.resolution,
+            high: told.high == 1,
+            noted: told.noted,
+        }
+    }
+
+    /// The active bots, in rising order of their bids.
+    pub fn bots(&mut self) -> Vec<Bot> {
+        let mut told = [sys::Bot::default(); MOST_BOTS];
+        let mut count = 0;
+        // SAFETY: the pointers are those of an array of so many bots and of two references.
+        unsafe { sys::nanobot_machine_bots(&mut self.handle, told.as_mut_ptr(), told.len(), &mut count) };
+        told[..count].iter().map(bot_of).collect()
+    }
+
+    /// Whether the voxel at a coordinate is full; None out of space.
+    pub fn full(&mut self, c: Coord) -> Option<bool> {
+        let mut full = 0;
+        // SAFETY: the pointers are those of two references.
+        let status = unsafe { sys::nanobot_machine_full(&mut self.handle, c.x, c.y, c.z, &mut full) };
+        (status == sys::DONE).then_some(full == 1)
+    }
+
+    /// How far the voxel at a coordinate is from the floor along full voxels; None where it is void or not grounded.
+    pub fn level(&mut self, c: Coord) -> Result<Option<u32>, LevelError> {
+        let mut level = 0;
+        // SAFETY: the pointers are those of two references.
+        let status = unsafe { sys::nanobot_machine_level(&mut self.handle, c.x, c.y, c.z, &mut level) };
+        Ok(errors::has_level(status)?.then_some(level))
+    }
+
+    /// How many voxels are full.
+    pub fn count(&mut self) -> u32 {
+        let mut count = 0;
+        // SAFETY: the pointers are those of two references.
+        unsafe { sys::nanobot_machine_count(&mut self.handle, &mut count) };
+        count
+    }
+
+    /// The least coordinate at which the matrix and the model of these bytes differ; None where they are the same.
+    pub fn difference(&mut self, target: &[u8]) -> Result<Option<Coord>, TargetError> {
+        let (mut place, mut refusal) = (sys::Place::default(), sys::Refusal::default());
+        // SAFETY: each pointer is that of a slice or a reference.
+        let status = unsafe { sys::nanobot_machine_compare(&mut self.handle, target.as_ptr(), target.len(), &mut place, &mut refusal) };
+        let at = Coord {
+            x: place.x,
+            y: place.y,
+            z: place.z,
+        };
+        Ok(errors::differs(status, &refusal)?.then_some(at))
+    }
+
+    /// The matrix as the bytes of a model; None for want of memory in the library.
+    pub fn model(&mut self) -> Option<Vec<u8>> {
+        let mut size = 0;
+        let mut bytes = vec![0; 1 << 16];
+        loop {
+            // SAFETY: the pointers are those of the vector's bytes and of two references.
+            let status = unsafe { sys::nanobot_machine_model(&mut self.handle, bytes.as_mut_ptr(), bytes.len(), &mut size) };
+            match status {
+                sys::DONE => {
+                    bytes.truncate(size);
+                    return Some(bytes);
+                }
+                sys::MEMORY => return None,
+                _ => bytes.resize(size, 0),
+            }
+        }
+    }
+}
+
+/// The version of the library: ten thousand for each first number of it, a hundred for each second, one for each third.
+pub fn version() -> u32 {
+    // SAFETY: the call takes nothing.
+    unsafe { sys::nanobot_version() }
+}
+
+/// A bot as the library tells it.
+fn bot_of(told: &sys::Bot) -> Bot {
+    Bot {
+        bid: told.bid,
+        at: Coord {
+            x: told.x,
+            y: told.y,
+            z: told.z,
+        },
+        seeds: told.seeds,
+    }
+}
+
+impl Drop for Machine {
+    fn drop(&mut self) {
+        // SAFETY: the handle is as the last call left it, and no other has its machine.
+        unsafe { sys::nanobot_machine_end(&mut self.handle) }
+    }
+}

@@ -1,0 +1,114 @@
+//! The calls of `include/nanobot_machine.h`.
+
+use std::ffi::c_void;
+
+pub const DONE: u32 = 0;
+pub const BROKEN: u32 = 1;
+pub const WORDS: u32 = 2;
+pub const MODEL: u32 = 3;
+pub const TRACE: u32 = 4;
+pub const MEMORY: u32 = 7;
+pub const ENDED: u32 = 12;
+pub const COUNT: u32 = 13;
+pub const LONG: u32 = 14;
+pub const NO_NOTE: u32 = 15;
+pub const OUTSIDE: u32 = 16;
+pub const NO_LEVEL: u32 = 17;
+pub const DIFFERS: u32 = 18;
+pub const RESOLUTION: u32 = 19;
+
+#[repr(C)]
+pub struct Handle {
+    pub at: *mut c_void,
+}
+
+#[repr(C)]
+#[derive(Clone, Copy, Default)]
+pub struct Refusal {
+    pub number: u32,
+    pub want: u32,
+    pub have: u32,
+    pub x: u32,
+    pub y: u32,
+    pub z: u32,
+}
+
+#[repr(C)]
+#[derive(Clone, Copy, Default)]
+pub struct Place {
+    pub x: u32,
+    pub y: u32,
+    pub z: u32,
+}
+
+#[repr(C)]
+#[derive(Clone, Copy, Default)]
+pub struct Broken {
+    pub rule: u32,
+    pub step: u32,
+    pub bid: u32,
+    pub x: u32,
+    pub y: u32,
+    pub z: u32,
+}
+
+#[repr(C)]
+#[derive(Clone, Copy, Default)]
+pub struct Step {
+    pub energy: i64,
+    pub offset: u64,
+    pub steps: u32,
+    pub active: u32,
+    pub broken: Broken,
+}
+
+#[repr(C)]
+#[derive(Clone, Copy, Default)]
+pub struct State {
+    pub energy: i64,
+    pub steps: u32,
+    pub active: u32,
+    pub resolution: u32,
+    pub high: u32,
+    pub noted: u64,
+}
+
+#[repr(C)]
+#[derive(Clone, Copy, Default)]
+pub struct Bot {
+    pub seeds: u64,
+    pub bid: u32,
+    pub x: u32,
+    pub y: u32,
+    pub z: u32,
+}
+
+extern "C" {
+    pub fn nanobot_machine_start(
+        model: *const u8,
+        model_size: usize,
+        light: bool,
+        notes: u32,
+        machine: *mut Handle,
+        refusal: *mut Refusal,
+    ) -> u32;
+    pub fn nanobot_machine_start_empty(resolution: u32, light: bool, notes: u32, machine: *mut Handle) -> u32;
+    pub fn nanobot_machine_step(machine: *mut Handle, commands: *const u8, commands_size: usize, step: *mut Step) -> u32;
+    pub fn nanobot_machine_undo(machine: *mut Handle) -> u32;
+    pub fn nanobot_machine_copy(machine: *mut Handle, copy: *mut Handle) -> u32;
+    pub fn nanobot_machine_tell(machine: *mut Handle, state: *mut State) -> u32;
+    pub fn nanobot_machine_bots(machine: *mut Handle, bots: *mut Bot, room: usize, count: *mut usize) -> u32;
+    pub fn nanobot_machine_full(machine: *mut Handle, x: u32, y: u32, z: u32, full: *mut u32) -> u32;
+    pub fn nanobot_machine_level(machine: *mut Handle, x: u32, y: u32, z: u32, level: *mut u32) -> u32;
+    pub fn nanobot_machine_count(machine: *mut Handle, count: *mut u32) -> u32;
+    pub fn nanobot_machine_model(machine: *mut Handle, model: *mut u8, room: usize, size: *mut usize) -> u32;
+    pub fn nanobot_machine_compare(
+        machine: *mut Handle,
+        target: *const u8,
+        target_size: usize,
+        place: *mut Place,
+        refusal: *mut Refusal,
+    ) -> u32;
+    pub fn nanobot_version() -> u32;
+    pub fn nanobot_machine_end(machine: *mut Handle);
+}

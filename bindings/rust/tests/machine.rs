@@ -1,0 +1,89 @@
+//! The binding, call by call. Expected numbers are those of the rules.
+
+use nanobot::{Broken, Coord, LevelError, Machine, Profile, StartError, StepError, TargetError, UndoError};
+
+const HALT: &[u8] = &[0xff];
+const WAIT: &[u8] = &[0xfe];
+/// `Fill <0,0,1>`, `Fill <0,1,0>`, `Void <0,0,1>` and `Fission <0,0,1> 5`.
+const FILL_BESIDE: &[u8] = &[0x73];
+const FILL_ABOVE: &[u8] = &[0x83];
+const VOID_BESIDE: &[u8] = &[0x72];
+const SPLIT: &[u8] = &[0x75, 5];
+
+fn at(x: u32, y: u32, z: u32) -> Coord {
+    Coord { x, y, z }
+}
+
+#[test]
+fn a_step_costs_its_upkeep() {
+    let mut machine = Machine::empty(20, Profile::Full, 0).unwrap();
+    let step = machine.step(WAIT).unwrap();
+    assert_eq!((step.energy, step.steps, step.active), (3 * 8000 + 20, 1, 1));
+    assert_eq!(machine.undo(), Err(UndoError::NothingNoted));
+}
+
+#[test]
+fn a_fission_makes_two_bots() {
+    let mut machine = Machine::empty(3, Profile::Full, 0).unwrap();
+    assert_eq!(machine.step(SPLIT).unwrap().active, 2);
+    let bots = machine.bots();
+    assert_eq!((bots[1].bid, bots[1].at, bots[1].seeds), (2, at(0, 0, 1), 0b1111_1000));
+    assert_eq!(machine.step(WAIT), Err(StepError::WrongCount { active: 2 }));
+}
+
+#[test]
+fn a_voxel_that_floats_leaves_the_machine_as_it_was() {
+    let mut machine = Machine::empty(4, Profile::Full, 1).unwrap();
+    machine.step(WAIT).unwrap();
+    let before = machine.state();
+    let broken = Broken { rule: 12, step: 2, bid: 0, at: at(0, 1, 0) };
+    assert_eq!(machine.step(FILL_ABOVE), Err(StepError::Broken(broken)));
+    assert_eq!(machine.state(), before);
+    assert_eq!((machine.full(at(0, 1, 0)), machine.level(at(0, 1, 0))), (Some(false), Ok(None)));
+    machine.undo().unwrap();
+    assert_eq!(machine.step(FILL_BESIDE).unwrap().energy, 3 * 64 + 20 + 12);
+    assert_eq!((machine.level(at(0, 0, 1)), machine.count()), (Ok(Some(0)), 1));
+}
+
+#[test]
+fn a_copy_goes_its_own_way() {
+    let mut machine = Machine::empty(3, Profile::Full, 5).unwrap();
+    machine.step(WAIT).unwrap();
+    let mut other = machine.try_clone().unwrap();
+    other.step(FILL_BESIDE).unwrap();
+    assert_eq!((machine.count(), other.count()), (0, 1));
+    assert_eq!((machine.state().steps, other.state().steps, other.state().noted), (1, 2, 1));
+}
+
+#[test]
+fn what_is_refused() {
+    let mut machine = Machine::empty(2, Profile::Light, 0).unwrap();
+    assert_eq!(machine.step(&[0xfe, 0]), Err(StepError::BadCommands { offset: 1 }));
+    assert!(matches!(machine.step(VOID_BESIDE), Err(StepError::Broken(Broken { rule: 15, .. }))));
+    assert_eq!((machine.full(at(2, 0, 0)), machine.level(at(0, 70_000, 0))), (None, Err(LevelError::OutOfSpace)));
+    machine.step(HALT).unwrap();
+    assert_eq!(machine.step(WAIT), Err(StepError::Ended));
+    assert!(machine.bots().is_empty());
+    assert!(matches!(Machine::empty(401, Profile::Full, 0), Err(StartError::Argument)));
+    assert!(matches!(Machine::empty(2, Profile::Full, 4097), Err(StartError::Argument)));
+    let border = [3, 1, 0, 0, 0];
+    assert!(matches!(Machine::start(&border, Profile::Full, 0), Err(StartError::Model { number: 6, .. })));
+}
+
+#[test]
+fn a_model_is_given_back() {
+    // (1,0,1) is full at resolution 3: place 10, bit 2 of the second byte of voxels
+    let model = [3, 0, 4, 0, 0];
+    let mut machine = Machine::start(&model, Profile::Full, 0).unwrap();
+    assert_eq!(machine.model().unwrap(), model);
+    assert_eq!(machine.full(at(1, 0, 1)), Some(true));
+    assert_eq!(machine.difference(&model), Ok(None));
+    assert_eq!(Machine::empty(3, Profile::Full, 0).unwrap().difference(&model), Ok(Some(at(1, 0, 1))));
+    assert_eq!(machine.difference(&[1, 0]), Err(TargetError::Resolution));
+    assert_eq!(machine.difference(&[]), Err(TargetError::Model { number: 1 }));
+}
+
+#[test]
+fn the_library_is_that_of_the_crate() {
+    assert_eq!((nanobot::version(), env!("CARGO_PKG_VERSION")), (900, "0.9.0"));
+}
