@@ -41,14 +41,10 @@ impl Tiles {
         }
     }
 
-    /// Where what a tile has for itself begins.
-    fn own(self, k: u16) -> u16 {
-        self.first.saturating_add(k.saturating_mul(self.side))
-    }
-
     /// Where a tile begins.
     fn begin(self, k: u16) -> u16 {
-        self.own(k).min(self.last)
+        let own = self.first.saturating_add(k.saturating_mul(self.side));
+        own.min(self.last)
     }
 }
 
@@ -202,17 +198,12 @@ impl Square {
     /// Voids a tile of a slab from its top down: the i-th along x, the k-th along z.
     fn tile(&mut self, source: &Planes, i: u16, k: u16, low: u16, high: u16) -> Result<(), Memory> {
         let (x, z) = (self.along_x.begin(i), self.along_z.begin(k));
-        let (own_x, own_z) = (self.along_x.own(i), self.along_z.own(k));
         let end_x = x.saturating_add(self.along_x.far);
         let end_z = z.saturating_add(self.along_z.far);
         let above = high.saturating_add(1);
         for j in 0..=high.saturating_sub(low) {
             let y = high.saturating_sub(j);
-            let from = Coord {
-                x: own_x,
-                y,
-                z: own_z,
-            };
+            let from = Coord { x, y, z };
             let to = Coord {
                 x: end_x,
                 y,
