@@ -2,14 +2,14 @@
 
 from __future__ import annotations
 
-from typing import Iterator, List, Optional, Tuple
+from typing import Iterator, Optional, Tuple
 
-from .errors import BadCommands, BrokenRule, Coord, RefusedModel
-from .machine import Bot, Machine, Source, bytes_of
+from . import _library as lib
+from .errors import BrokenRule, Coord
+from .machine import Machine, Source, bytes_of
 from .rows import Refused, judge
-from .trace import Command, boxes, has, next_step, region
-
-Row = List[Tuple[Bot, Command]]
+from .trace import command_at, next_step
+from .why import Row, spaced, why
 
 
 def resolution_of(model: bytes) -> int:
@@ -23,58 +23,6 @@ def machine_of(source: Optional[Source], target: Optional[Source], *, light: boo
     if target is None:
         raise ValueError("neither a source nor a target")
     return Machine(resolution=resolution_of(bytes_of(target)), light=light, notes=notes)
-
-
-def described(row: Row) -> Iterator[str]:
-    """The bots of a step with their commands."""
-    for bot, command in row:
-        yield f"  byte {command.offset}: bot {bot.bid} at {bot.at.x} {bot.at.y} {bot.at.z}: {command}"
-
-
-def group_of(row: Row, bot: Bot) -> Row:
-    """The bots that act together with this one: those that name the same region, or the other of a fusion."""
-    own = next(command for it, command in row if it.bid == bot.bid)
-    if own.word in ("GFill", "GVoid"):
-        wanted = region(bot.at, own)
-        return [(it, command) for it, command in row if command.word == own.word and region(it.at, command) == wanted]
-    pair = {"FusionP": "FusionS", "FusionS": "FusionP"}.get(own.word)
-    if pair:
-        there = Coord(*(a + b for a, b in zip(bot.at, own.differences[0])))
-        return [(it, command) for it, command in row if it.bid == bot.bid or (it.at == there and command.word == pair)]
-    return [(bot, own)]
-
-
-def _meeting(row: Row, at: Coord) -> Iterator[str]:
-    """The groups for which a voxel is volatile."""
-    seen = set()
-    for bot, command in row:
-        if bot.at == at or any(has(box, at) for box in boxes(bot.at, command)):
-            members = group_of(row, bot)
-            leader = members[0][0].bid
-            if leader not in seen:
-                seen.add(leader)
-                yield f"the group of bot {leader} uses {at.x} {at.y} {at.z}:"
-                yield from described(members)
-
-
-def _edits(row: Row) -> Row:
-    return [(bot, command) for bot, command in row if region(bot.at, command)]
-
-
-def why(broken: BrokenRule, row: Row) -> Iterator[str]:
-    """What of a step's commands has to do with the rule that they break."""
-    own = [(bot, command) for bot, command in row if bot.bid == broken.bid]
-    if broken.name == "Interference":
-        yield from _meeting(row, broken.at)
-    elif broken.name == "Ungrounded":
-        yield f"after the step no path of full voxels leads from {broken.at.x} {broken.at.y} {broken.at.z} to the floor; what fills or voids in it:"
-        yield from described(_edits(row))
-    elif broken.name in ("Partner", "GroupShape"):
-        members = group_of(row, own[0][0])
-        yield f"these {len(members)} act together:"
-        yield from described(members)
-    else:
-        yield from described(own)
 
 
 def _around(data: bytes, offset: int) -> str:
@@ -102,40 +50,66 @@ def walk_to_the_end(machine: Machine, data: bytes) -> Tuple[int, Optional[Broken
     return offset, None, []
 
 
+def voxels(model: bytes) -> str:
+    """The voxels of a model in the order of their places, by `1` where they are full."""
+    if model[0] == 0xFF:
+        runs = (int.from_bytes(model[i : i + 4], "big") for i in range(3, len(model), 4))
+        return "".join("01"[i % 2] * run for i, run in enumerate(runs))
+    count = model[0] ** 3
+    return format(int.from_bytes(model[1:], "little"), f"0{count}b")[::-1][:count]
+
+
 def _differences(machine: Machine, target: Optional[bytes]) -> Iterator[str]:
     """How many voxels differ from the target, and the least ones."""
-    r = machine.state.resolution
-    with Machine(target) if target else Machine(resolution=r) as wanted:
-        cells = ((x, y, z) for x in range(r) for y in range(r) for z in range(r))
-        differing = [Coord(*c) for c in cells if machine.full(c) != wanted.full(c)]
-        yield f"{len(differing)} voxels differ from the target; the least:"
-        for c in differing[:10]:
-            yield f"  {c.x} {c.y} {c.z} is {'full' if machine.full(c) else 'void'}"
+    r, word = machine.state.resolution, {"0": "void", "1": "full"}
+    left = voxels(machine.model())
+    wanted = voxels(target) if target is not None else "0" * r**3
+    differing = [place for place, (a, b) in enumerate(zip(left, wanted)) if a != b]
+    yield f"{len(differing)} voxels differ from the target; the least:"
+    for place in differing[:10]:
+        c = Coord(place // r**2, place // r % r, place % r)
+        yield f"  {spaced(c)} is {word[left[place]]}, wanted: {word[wanted[place]]}"
+
+
+def _bad_bytes(machine: Machine, data: bytes, offset: int, is_cut: bool) -> Iterator[str]:
+    """What stands where a command is bad or cut, and how far the steps before it go."""
+    yield f"the command at byte {offset} is {'cut' if is_cut else 'none'}: {_around(data, offset)}"
+    start, broken, _ = walk_to_the_end(machine, data[:offset])
+    if broken and broken.name == "TraceEnds":
+        yield f"it is that of bot {broken.bid} in step {broken.step}, which begins at byte {start}"
+    elif broken:
+        yield f"before it, at byte {start}: {broken}"
+    else:
+        yield f"before it the last bot halts in step {machine.steps}, which ends at byte {start}"
+
+
+def _broken_run(machine: Machine, data: bytes, target: Optional[bytes]) -> Iterator[str]:
+    """What a step did that breaks a rule, or what is wrong once no bot is left."""
+    offset, broken, row = walk_to_the_end(machine, data)
+    if broken:
+        yield f"step {broken.step} begins at byte {offset}, with {len(row)} commands for {machine.state.active} bots"
+        yield from why(machine, broken, row)
+    elif offset < len(data):
+        yield f"the last bot halts in step {machine.steps}, and {len(data) - offset} bytes are left from byte {offset} on"
+        yield f"wanted: no command there; it has {command_at(data, offset)}"
+    else:
+        yield from _differences(machine, target)
 
 
 def explain(source: Optional[Source], target: Optional[Source], trace: Source, *, light: bool = False) -> Iterator[str]:
-    """The lines that tell why a trace is refused, or what it costs."""
+    """The lines that tell why a trace is refused, or what it costs: first what the program says of it."""
     data = bytes_of(trace)
     try:
         cost = judge(source, target, data, light=light)
         yield f"ok energy {cost.energy} steps {cost.steps}"
         return
-    except Refused as refused:
-        yield refused.line
-    try:
-        machine = machine_of(source, target, light=light)
-    except RefusedModel:
+    except Refused as it:
+        refused = it
+    yield refused.line
+    if refused.status not in (lib.BROKEN, lib.TRACE):
         return
-    with machine:
-        try:
-            offset, broken, row = walk_to_the_end(machine, data)
-        except BadCommands as bad:
-            yield f"after {machine.steps} steps byte {bad.offset} begins no command: {_around(data, bad.offset)}"
-            return
-        if broken:
-            yield f"step {broken.step} begins at byte {offset}, with {len(row)} commands for {machine.state.active} bots"
-            yield from why(broken, row)
-        elif offset < len(data):
-            yield f"the last bot halts in step {machine.steps}, and {len(data) - offset} bytes are left from byte {offset} on"
-        else:
-            yield from _differences(machine, bytes_of(target) if target is not None else None)
+    with machine_of(source, target, light=light) as machine:
+        if refused.status == lib.BROKEN:
+            yield from _broken_run(machine, data, bytes_of(target) if target is not None else None)
+        elif " at " in refused.line:
+            yield from _bad_bytes(machine, data, int(refused.line.split()[-1]), "cut" in refused.line)

@@ -105,11 +105,17 @@ def _box(a: Coord, b: Coord) -> Box:
     return Coord(*map(min, a, b)), Coord(*map(max, a, b))
 
 
+def named(at: Coord, command: Command) -> List[Coord]:
+    """The coordinates that a bot's command names, one after another."""
+    out: List[Coord] = []
+    for d in command.differences:
+        out.append(plus(out[-1] if out else at, d))
+    return out
+
+
 def boxes(at: Coord, command: Command) -> List[Box]:
     """What is volatile for a bot with this command, as boxes, beside its own place."""
-    ends = [at]
-    for d in command.differences:
-        ends.append(plus(ends[-1], d))
+    ends = [at, *named(at, command)]
     if command.word in ("GFill", "GVoid"):
         return [_box(ends[1], ends[2])]
     if command.word in ("FusionP", "FusionS"):

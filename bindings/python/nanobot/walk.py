@@ -6,9 +6,10 @@ import cmd
 from typing import List, Optional
 
 from .errors import BadCommands, BrokenRule, Coord, OutOfSpace
-from .explain import Row, described, group_of, machine_of, why
+from .explain import machine_of
 from .machine import Source, bytes_of
 from .trace import next_step
+from .why import Row, described, groups_of, why
 
 NOTES = 4096
 
@@ -36,6 +37,14 @@ class Walk(cmd.Cmd):
         bots = self.machine.bots()
         return list(zip(bots, next_step(self.data, self.ends[-1], len(bots))))
 
+    def _told_row(self) -> Row:
+        """The next step, or none where its bytes are no commands, which is said."""
+        try:
+            return self._row()
+        except BadCommands as bad:
+            self.say(str(bad))
+            return []
+
     def _forwards(self) -> bool:
         """Makes one step, or says why none is made."""
         active = self.machine.state.active
@@ -54,7 +63,7 @@ class Walk(cmd.Cmd):
             return False
         except BrokenRule as broken:
             self.say(str(broken))
-            for line in why(broken, row):
+            for line in why(self.machine, broken, row):
                 self.say(line)
             return False
         self.ends.append(end)
@@ -123,11 +132,7 @@ class Walk(cmd.Cmd):
 
     def do_bots(self, _: str) -> None:
         """bots: the active bots with their next commands."""
-        try:
-            row = self._row()
-        except BadCommands as bad:
-            row = []
-            self.say(str(bad))
+        row = self._told_row()
         for line in described(row):
             self.say(line)
         for bot in self.machine.bots()[len(row) :]:
@@ -135,12 +140,8 @@ class Walk(cmd.Cmd):
 
     def do_groups(self, _: str) -> None:
         """groups: the groups of the next step."""
-        row, told = self._row(), set()
-        for bot, _ in row:
-            members = group_of(row, bot)
-            if bot.bid not in told:
-                told |= {it.bid for it, _ in members}
-                self.say(f"group {members[0][0].bid}: " + " ".join(str(it.bid) for it, _ in members))
+        for members in groups_of(self._told_row()):
+            self.say(f"group {members[0][0].bid}: " + " ".join(str(it.bid) for it, _ in members))
 
     def do_voxel(self, words: str) -> None:
         """voxel X Y Z: whether a voxel is full, and its level."""
