@@ -21,6 +21,9 @@ class Walk(cmd.Cmd):
 
     def __init__(self, source: Optional[Source], target: Optional[Source], trace: Source, *, light: bool = False, **options) -> None:
         super().__init__(**options)
+        self.is_asked = self.stdin.isatty()
+        if not self.is_asked:
+            self.intro = None
         self.data = bytes_of(trace)
         self.ends: List[int] = [0]
         self.start = lambda: machine_of(source, target, light=light, notes=NOTES)
@@ -31,7 +34,8 @@ class Walk(cmd.Cmd):
         self.stdout.write(text + "\n")
 
     def _ask(self) -> None:
-        self.prompt = f"{self.machine.steps}> "
+        """Sets the prompt, which a script that is piped in does not have."""
+        self.prompt = f"{self.machine.steps}> " if self.is_asked else ""
 
     def _row(self) -> Row:
         bots = self.machine.bots()
