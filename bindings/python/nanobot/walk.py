@@ -73,19 +73,16 @@ class Walk(cmd.Cmd):
         self.ends.append(end)
         return True
 
-    def _backwards(self) -> None:
-        """Takes a step back; past the notes the trace is walked anew from its start."""
-        if self.machine.state.noted:
+    def _back_to(self, wanted: int) -> None:
+        """Takes steps back; past the notes the trace is walked anew from its start."""
+        if wanted < self.machine.steps - self.machine.state.noted:
+            self.machine.close()
+            self.machine = self.start()
+            for begin, end in zip(self.ends, self.ends[1 : wanted + 1]):
+                self.machine.step(self.data[begin:end])
+        while self.machine.steps > wanted:
             self.machine.undo()
-            self.ends.pop()
-            return
-        wanted = self.machine.steps - 1
-        self.machine.close()
-        self.machine = self.start()
-        ends, self.ends = self.ends, [0]
-        for step in range(wanted):
-            self.machine.step(self.data[ends[step] : ends[step + 1]])
-            self.ends.append(ends[step + 1])
+        del self.ends[wanted + 1 :]
 
     def _number(self, words: str, default: int) -> Optional[int]:
         if not words:
@@ -102,8 +99,8 @@ class Walk(cmd.Cmd):
     def _go(self, wanted: int) -> None:
         while self.machine.steps < wanted and self._forwards():
             pass
-        while self.machine.steps > wanted:
-            self._backwards()
+        if self.machine.steps > wanted:
+            self._back_to(wanted)
         self._stand()
 
     def do_step(self, words: str) -> None:

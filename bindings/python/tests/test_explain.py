@@ -87,6 +87,11 @@ class Walked(unittest.TestCase):
             ],
         )
 
+    def test_back_past_the_notes(self):
+        # each step costs 3*27 + 20
+        told = self.said(b"\xfe" * 5000, "to 4999", "back 4990", "to 2", "step")
+        self.assertEqual(told, [f"step {steps} energy {101 * steps} bots 1 low" for steps in (4999, 9, 2, 3)])
+
     def test_bytes_that_are_no_commands(self):
         for line in ("step", "bots", "groups"):
             self.assertEqual(self.said(b"\x03", line)[0], "no command at byte 0")
