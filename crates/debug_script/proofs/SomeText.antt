@@ -1,6 +1,6 @@
 -- The lines of a script print something: each line has an answer in a session whose points are ready and whose begun groups are of
 -- leaders of the next step, and it leads to such a session.
-use Rattle.std.proofs.Common.{◌≡◌, ◌⊎◌, ◌∙◌, ℕ, zero, suc, ◌+◌, ◌-◌, ◌<◌, ◌==◌, inl, inr, Bool, true, false, not, List, [], ◌∷◌, ◌++◌, length, take, drop, get_or, Some, None, Option, refl, arith, sym, ap, subst}
+use Rattle.std.proofs.Common.{◌≡◌, ◌⊎◌, ◌∙◌, ℕ, zero, suc, ◌+◌, ◌-◌, ◌==◌, inl, inr, Bool, true, false, not, List, [], ◌∷◌, ◌++◌, length, take, drop, Some, None, Option, refl, arith, sym, ap, subst}
 use Rattle.std.specs.Prelude.{IsPermutation, MatchBool, MatchOption}
 use Rattle.std.specs.List.{list_any, remove}
 use Rattle.std.proofs.lemmas.Bool.Decides.{nat_tests}
@@ -61,15 +61,19 @@ last_of p (q ∷ past) = let l = last_of q past in (p ∷ l.0, l.1, ap (λ (qs :
 
 -- ---- sessions
 
+-- the rule that the next commands break at the start of the next step, if they do
+abbrev next_broken : List Command → Session → Option Broken
+next_broken commands s = broken s.point.state (next_commands commands s.point) (s.point.steps + 1)
+
 -- the points of a session are ready for a step, and what is begun is of leaders of the next one, which then breaks no rule at its start
 record IsSound (commands : List Command) (s : Session) : Type 0 where
   point : IsReady s.point.state
   past : (p : Moment) → In p s.past → IsReady p.state
   left : List ℕ
   leaders : IsPermutation (next_leaders commands s.point) (s.begun ++ left)
-  keeps : (s.begun ≡ [] → ⊥) → broken s.point.state (next_commands commands s.point) (s.point.steps + 1) ≡ None
+  keeps : (s.begun ≡ [] → ⊥) → next_broken commands s ≡ None
 
--- nothing is begun
+-- it is so of a session in which nothing is begun, where its points are ready
 fresh : (commands : List Command) (p : Moment) (past : List Moment) → IsReady p.state → ((q : Moment) → In q past → IsReady q.state) → IsSound commands (record { point = p; past = past; begun = [] })
 fresh commands p past ready before = record { point = ready; past = before; left = next_leaders commands p; leaders = IsPermutation-refl (next_leaders commands p); keeps = λ some. absurd (some refl) }
 
@@ -77,7 +81,7 @@ same_bid : (a b : ℕ) → (a == b) ≡ true → a ≡ b
 same_bid a b t = grind (arith, nat_tests)
 
 module _ (commands : List Command) (are : AreCommands commands) (stays_ready : ReadyLaw) (middle : MiddleLaw) where
-  -- the line has an answer that leads to a session of the kind
+  -- something is answered so, and leads to a session of which it is so again
   abbrev HasAnswer : (Session → DebugReport → Type 0) → Type 0
   HasAnswer P = (t : Session) × (report : DebugReport) × P t report × IsSound commands t
 
@@ -89,6 +93,7 @@ module _ (commands : List Command) (are : AreCommands commands) (stays_ready : R
     is_refused Ungrounded = drops
     is_refused rule = sound
 
+    -- the points after a step are those before it, and the state that it leads to
     is_made : (u : State) → Next s.point.state (next_commands commands s.point) (s.point.steps + 1) (Goes u) → IsSound commands (made s u)
     is_made u next =
         let accepted = accepted_step s.point.state u (next_commands commands s.point) (s.point.steps + 1) next in
@@ -117,14 +122,15 @@ module _ (commands : List Command) (are : AreCommands commands) (stays_ready : R
 
     -- ---- the line of a group
 
-    is_begun : (bid : ℕ) → may_begin commands s bid ≡ true → broken s.point.state (next_commands commands s.point) (s.point.steps + 1) ≡ None → IsSound commands (record s { begun = s.begun ++ bid ∷ [] })
+    -- one leader more is begun, and one fewer is left
+    is_begun : (bid : ℕ) → may_begin commands s bid ≡ true → next_broken commands s ≡ None → IsSound commands (record s { begun = s.begun ++ bid ∷ [] })
     is_begun bid may keeps =
-        let place = in_place bid 0 sound.left is_left in
+        let place = in_place bid bid sound.left is_left in
         record {
           point = sound.point;
           past = sound.past;
           left = remove sound.left place.0;
-          leaders = IsPermutation-more (next_leaders commands s.point) s.begun sound.left place.0 bid place.1 (sym (found sound.left place.0 place.1 place.2)) sound.leaders;
+          leaders = IsPermutation-more (next_leaders commands s.point) s.begun sound.left place.0 bid place.1 (sym place.2) sound.leaders;
           keeps = λ some. keeps;
         }
       where
@@ -145,12 +151,7 @@ module _ (commands : List Command) (are : AreCommands commands) (stays_ready : R
             by k e (inl i) = absurd (not_both e (any_none (λ k. k == bid) k s.begun not_begun i))
             by k e (inr i) = subst (λ (n : ℕ). In n sound.left) (same_bid k bid e) i
 
-        found : (xs : List ℕ) (i : ℕ) → i < length xs → get_or xs i 0 ≡ bid → get_or xs i bid ≡ bid
-        found [] i l e = absurd (omega arith)
-        found (x ∷ xs) zero l e = e
-        found (x ∷ xs) (suc i) l e = found xs i (omega arith) e
-
-    begins_group : (bid : ℕ) → broken s.point.state (next_commands commands s.point) (s.point.steps + 1) ≡ None → HasAnswer (BeginsGroup commands bid s)
+    begins_group : (bid : ℕ) → next_broken commands s ≡ None → HasAnswer (BeginsGroup commands bid s)
     begins_group bid keeps = by (may_begin commands s bid) (is_last commands s) refl
       where
         by : (may last : Bool) → may_begin commands s bid ≡ may → HasAnswer (λ t report.
@@ -164,9 +165,9 @@ module _ (commands : List Command) (are : AreCommands commands) (stays_ready : R
         by true false e = (record s { begun = s.begun ++ bid ∷ [] }, Begun bid (s.point.steps + 1), (refl, refl), is_begun bid e keeps)
 
     tries_group : (bid : ℕ) → HasAnswer (TriesGroup commands bid s)
-    tries_group bid = by (broken s.point.state (next_commands commands s.point) (s.point.steps + 1)) refl
+    tries_group bid = by (next_broken commands s) refl
       where
-        by : (o : Option Broken) → broken s.point.state (next_commands commands s.point) (s.point.steps + 1) ≡ o
+        by : (o : Option Broken) → next_broken commands s ≡ o
             → HasAnswer (λ t report. MatchOption o (BeginsGroup commands bid s t report) (λ b. (t ≡ s) × (report ≡ Refused b)))
         by None e = begins_group bid e
         by (Some b) e = (s, Refused b, (refl, refl), sound)
