@@ -30,7 +30,7 @@ use Rattle.machine_c.specs.declared.told.BrokenTold.{BrokenTold}
 use Rattle.machine_c.specs.declared.told.MachineTold.{MachineTold}
 use Rattle.machine_c.specs.declared.told.ModelTold.{ModelTold}
 use Rattle.machine_c.specs.declared.told.StepTold.{StepTold}
-use Rattle.machine_c.specs.Told.{bot_told, broken_told, model_told, none_broken, number_refusal}
+use Rattle.machine_c.specs.Told.{bot_told, broken_told, fault_told, none_broken, number_refusal}
 
 -- ---- starts
 
@@ -52,8 +52,7 @@ Starts old new status (Err fault) = (new ≡ old) × (status ≡ status_of_start
 -- the refusal, if there is one
 abbrev pub refusal_by : Result Kept ModelFault → ModelTold
 refusal_by (Ok k) = number_refusal 0 0 0
-refusal_by (Err (model_fault.Refused refusal)) = model_told refusal
-refusal_by (Err model_fault.Memory) = number_refusal 0 0 0
+refusal_by (Err fault) = fault_told fault
 
 -- a machine is started over the model that the bytes say, unless more notes are asked for than are kept
 abbrev pub IsStarted : List ℕ → Bool → ℕ → Option Kept → Option Kept → ModelTold → ℕ → Type 0
