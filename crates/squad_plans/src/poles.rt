@@ -25,12 +25,12 @@ impl Pole {
 
 /// The voxels that were seen, and those of the part at hand.
 #[derive(Drop)]
-struct Parts {
+struct HangingParts {
     seen: Vec<bool>,
     part: Vec<Spot>,
 }
 
-impl Parts {
+impl HangingParts {
     /// Keeps that a voxel was seen. Whether it was not before.
     fn see(&mut self, site: &Site, c: Spot) -> bool {
         let Some(number) = site.number(c) else {
@@ -143,7 +143,7 @@ fn plant(site: &mut Site, pole: Pole) {
 fn plant_layer(
     site: &mut Site,
     air: &Air,
-    parts: &mut Parts,
+    parts: &mut HangingParts,
     poles: &mut Vec<Pole>,
     y: i16,
 ) -> Result<bool, Memory> {
@@ -167,7 +167,7 @@ fn plant_layer(
 pub(crate) fn plant_all(alloc: Global, site: &mut Site) -> Result<Option<Vec<Pole>>, Memory> {
     let air = Air::around(alloc, site)?;
     let mut poles = Vec::new(alloc);
-    let mut parts = Parts {
+    let mut parts = HangingParts {
         seen: vec![in alloc; false; site.count()]?,
         part: Vec::new(alloc),
     };
