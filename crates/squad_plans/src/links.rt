@@ -10,7 +10,7 @@ const MOST_LINKS: u32 = 1_000_000;
 /// More voxels than any model has.
 const MOST_CELLS: usize = 1_000_000_000;
 
-/// HangingParts of voxels, as trees whose head is the voxel that links to itself, or the floor; and how many of them do not hold to the
+/// Parts of voxels, as trees whose head is the voxel that links to itself, or the floor; and how many of them do not hold to the
 /// floor. The floor has the number past all voxels.
 #[derive(Drop)]
 pub(crate) struct Links {
