@@ -9,5 +9,7 @@ mod reading;
 mod starting;
 mod status;
 mod stepping;
+#[cfg(test)]
+mod tests;
 mod told;
 mod version;
