@@ -2,18 +2,16 @@
 
 from __future__ import annotations
 
+from itertools import islice
 from typing import Iterator, List, Optional, Tuple
 
 from .errors import BadCommands, BrokenRule, Coord, RefusedModel
 from .machine import Bot, Machine, Source, bytes_of
+from .models import coords_of, resolution_of, voxels_of
 from .rows import Refused, judge
 from .trace import Command, boxes, has, next_step, region
 
 Row = List[Tuple[Bot, Command]]
-
-
-def resolution_of(model: bytes) -> int:
-    return int.from_bytes(model[1:3], "big") if model[0] == 0xFF else model[0]
 
 
 def machine_of(source: Optional[Source], target: Optional[Source], *, light: bool = False, notes: int = 0) -> Machine:
@@ -67,7 +65,7 @@ def why(broken: BrokenRule, row: Row) -> Iterator[str]:
     if broken.name == "Interference":
         yield from _meeting(row, broken.at)
     elif broken.name == "Ungrounded":
-        yield f"after the step no path of full voxels leads from {broken.at.x} {broken.at.y} {broken.at.z} to the floor; what fills or voids in it:"
+        yield "after the step no path of full voxels leads from there to the floor; what fills or voids in it:"
         yield from described(_edits(row))
     elif broken.name in ("Partner", "GroupShape"):
         members = group_of(row, own[0][0])
@@ -103,14 +101,12 @@ def walk_to_the_end(machine: Machine, data: bytes) -> Tuple[int, Optional[Broken
 
 
 def _differences(machine: Machine, target: Optional[bytes]) -> Iterator[str]:
-    """How many voxels differ from the target, and the least ones."""
-    r = machine.state.resolution
-    with Machine(target) if target else Machine(resolution=r) as wanted:
-        cells = ((x, y, z) for x in range(r) for y in range(r) for z in range(r))
-        differing = [Coord(*c) for c in cells if machine.full(c) != wanted.full(c)]
-        yield f"{len(differing)} voxels differ from the target; the least:"
-        for c in differing[:10]:
-            yield f"  {c.x} {c.y} {c.z} is {'full' if machine.full(c) else 'void'}"
+    """How many voxels differ from the target, and the least ones; none of it is the empty model."""
+    own = voxels_of(machine.model())
+    differing = own ^ (voxels_of(target) if target is not None else 0)
+    yield f"{bin(differing).count('1')} voxels differ from the target; the least:"
+    for c in islice(coords_of(differing, machine.state.resolution), 10):
+        yield f"  {c.x} {c.y} {c.z} is {'full' if machine.full(c) else 'void'}"
 
 
 def explain(source: Optional[Source], target: Optional[Source], trace: Source, *, light: bool = False) -> Iterator[str]:

@@ -42,4 +42,5 @@ refusal_of_target _ = number_refusal 0 0 0
 abbrev pub IsCompared : Option Kept → List ℕ → PlaceTold → PlaceTold → ModelTold → ModelTold → ℕ → Type 0
 IsCompared None bytes before after refusal_before refusal status = (after ≡ before) × (refusal ≡ refusal_before) × (status ≡ NO_MACHINE)
 IsCompared (Some k) bytes before after refusal_before refusal status =
-    (answer : TargetAnswer) × Compares k bytes answer × (after ≡ place_by answer) × (refusal ≡ refusal_of_target answer) × (status ≡ status_of_target answer)
+    (answer : TargetAnswer) × Compares k bytes answer
+    × (after ≡ place_by answer) × (refusal ≡ refusal_of_target answer) × (status ≡ status_of_target answer)
