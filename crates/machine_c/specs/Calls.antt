@@ -77,10 +77,10 @@ IsCopied (Some k) before after status =
 -- ---- steps
 
 -- commands make a step or none
-abbrev pub Answers : Kept → List Command → Kept → StepAnswer → Type 0
-Answers old commands new (Made ok) = Tries old commands new (Ok ok)
-Answers old commands new (Refused fault) = Tries old commands new (Err fault)
-Answers old commands new (Unread fault) = ⊥
+abbrev pub AnswersCommands : Kept → List Command → Kept → StepAnswer → Type 0
+AnswersCommands old commands new (Made ok) = Tries old commands new (Ok ok)
+AnswersCommands old commands new (Refused fault) = Tries old commands new (Err fault)
+AnswersCommands old commands new (Unread fault) = ⊥
 
 -- the bytes spell commands that make a step, or commands that make none, or they are no commands
 abbrev pub ComesTo : Kept → List ℕ → Kept → StepAnswer → Type 0

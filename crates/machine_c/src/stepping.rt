@@ -1,7 +1,7 @@
 //! Steps that are made and taken back.
 ghost use Rattle.std.specs.Prelude.{◌≡◌, [], ◌∷◌, IfSome};
 ghost use Rattle.nano_spec.specs.Cutting.{Cutting};
-ghost use Rattle.machine_c.specs.Calls.{Answers, ComesTo, IsStepped, IsUndone, rule_told, offset_by, status_of_step, status_of_undo};
+ghost use Rattle.machine_c.specs.Calls.{AnswersCommands, ComesTo, IsStepped, IsUndone, rule_told, offset_by, status_of_step, status_of_undo};
 
 use crate::handle::Handle;
 use crate::status::{BROKEN, COMMANDS, COUNT, DONE, ENDED, LONG, MEMORY, NO_MACHINE, NO_NOTE};
@@ -79,7 +79,7 @@ fn only_command(bytes: &[u8]) -> Option<Command>
 
 /// Makes the step of these commands.
 fn step_of(machine: &mut KeptMachine, commands: &[Command]) -> StepAnswer
-    ensures { Answers machine.old commands.now machine.new result }
+    ensures { AnswersCommands machine.old commands.now machine.new result }
 {
     match machine.step(commands) {
         Ok(ok) => StepAnswer::Made(ok),
