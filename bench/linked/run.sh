@@ -1,6 +1,7 @@
 #!/usr/bin/env bash
 # How long it takes to judge the house, and a forged model of resolution 20 with its plan of one bot, ten thousand times: through
-# the static library, from C, and by starting the program as often. Builds both where they are missing.
+# the static library, from C, and by starting the program as often. Then what calls of a machine take that is kept, and a step of
+# the program beside it: a million moves to and fro. Builds both where they are missing.
 set -eu
 top=$(cd "$(dirname "$0")/../.." && pwd)
 # shellcheck source=scripts/linked_lib disable=SC2154
@@ -20,3 +21,14 @@ for words in "- $top/examples/house.mdl $top/examples/house.nbt" '- forged.mdl f
     # shellcheck disable=SC2086
     time for ((i = 0; i < count; i++)); do "$program" run $words > /dev/null; done
 done
+
+cc -std=c11 -D_POSIX_C_SOURCE=200809L -O2 -I"$top/include" -o machine "$top/bench/linked/machine.c" "$library"
+for resolution in 20 100 250; do
+    for notes in 0 100; do
+        ./machine "$resolution" "$notes"
+    done
+done
+python3 -c 'import sys; sys.stdout.buffer.write(bytes([20]) + bytes(1000))' > empty.mdl
+python3 -c 'import sys; sys.stdout.buffer.write(bytes([0x34, 0x10, 0x34, 0x0E]) * 500000 + b"\xff")' > moves.nbt
+TIMEFORMAT="    the program: a million moves in %R s"
+time "$program" run empty.mdl empty.mdl moves.nbt

@@ -111,26 +111,14 @@ impl TraceRun {
     fn next_alone(&mut self, piece: &[u8], steps: &mut Steps<Brand>) -> Went {
         let head = piece[0];
         match head {
-            0b0001_0100 => self.move_along(0b0001_0100, piece, steps),
-            0b0010_0100 => self.move_along(0b0010_0100, piece, steps),
-            0b0011_0100 => self.move_along(0b0011_0100, piece, steps),
+            0b0001_0100 => self.step_by(0b0001_0100, piece, steps),
+            0b0010_0100 => self.step_by(0b0010_0100, piece, steps),
+            0b0011_0100 => self.step_by(0b0011_0100, piece, steps),
             _ => match head % 8 {
                 0b011 => self.step_by(head / 8 * 8 + 0b011, piece, steps),
                 0b010 => self.step_by(head / 8 * 8 + 0b010, piece, steps),
                 _ => DECLINED,
             },
-        }
-    }
-
-    #[inline(always)]
-    fn move_along(&mut self, head: u8, piece: &[u8], steps: &mut Steps<Brand>) -> Went {
-        if piece.len() < 2 {
-            return DECLINED;
-        }
-        match piece[1] {
-            16 => self.step_by(head, &[head, 16], steps),
-            14 => self.step_by(head, &[head, 14], steps),
-            _ => self.step_by(head, piece, steps),
         }
     }
 

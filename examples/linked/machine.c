@@ -86,32 +86,48 @@ static uint32_t trace_ends(nanobot_machine *machine, uint32_t steps, size_t numb
     return tell_broken(b);
 }
 
-/* What is told at the end: whether commands are left, and whether the matrix is the target. */
+/* The bytes of the empty model of a resolution. */
+static struct bytes empty_model(uint32_t resolution)
+{
+    size_t room = (size_t)nanobot_model_room(resolution);
+    struct bytes model = {malloc(room), 0};
+    nanobot_machine empty = {0};
+    if (model.at == NULL || nanobot_machine_start_empty(resolution, false, 0, &empty) != NANOBOT_DONE)
+        exit(NANOBOT_MEMORY);
+    nanobot_machine_model(&empty, model.at, room, &model.size);
+    nanobot_machine_end(&empty);
+    return model;
+}
+
+/* Whether the matrix is the target: what is told at the end. */
+static uint32_t compare(nanobot_machine *machine, struct bytes target, nanobot_state state)
+{
+    nanobot_place place;
+    nanobot_refusal refusal;
+    uint32_t status = nanobot_machine_compare(machine, target.at, target.size, &place, &refusal);
+    if (status == NANOBOT_DIFFERS) {
+        nanobot_broken wrong = {14, state.steps, 0, place.x, place.y, place.z};
+        return tell_broken(wrong);
+    }
+    if (status == NANOBOT_DONE)
+        printf("ok energy %" PRId64 " steps %u\n", state.energy, state.steps);
+    return status;
+}
+
+/* What is told at the end, where so many bytes of commands are left. */
 static uint32_t finish(nanobot_machine *machine, struct bytes target, size_t left, nanobot_state state)
 {
     nanobot_broken after = {13, state.steps, 0, 0, 0, 0};
-    nanobot_place place;
-    nanobot_refusal refusal;
-    uint32_t full = 0, status;
-    nanobot_machine empty = {0};
+    struct bytes empty;
+    uint32_t status;
     if (left > 0)
         return tell_broken(after);
-    if (target.size == 0) {
-        nanobot_machine_start_empty(state.resolution, false, 0, &empty);
-        target.at = realloc(target.at, nanobot_model_room(state.resolution));
-        nanobot_machine_model(&empty, target.at, nanobot_model_room(state.resolution), &target.size);
-        nanobot_machine_end(&empty);
-    }
-    status = nanobot_machine_compare(machine, target.at, target.size, &place, &refusal);
-    if (status == NANOBOT_DIFFERS) {
-        nanobot_broken wrong = {14, state.steps, 0, place.x, place.y, place.z};
-        nanobot_machine_full(machine, place.x, place.y, place.z, &full);
-        return tell_broken(wrong);
-    }
-    if (status != NANOBOT_DONE)
-        return status;
-    printf("ok energy %" PRId64 " steps %u\n", state.energy, state.steps);
-    return NANOBOT_DONE;
+    if (target.size > 0)
+        return compare(machine, target, state);
+    empty = empty_model(state.resolution);
+    status = compare(machine, empty, state);
+    free(empty.at);
+    return status;
 }
 
 static uint32_t run(nanobot_machine *machine, struct bytes target, struct bytes trace)
@@ -157,5 +173,8 @@ int main(int count, char **words)
     if (status == NANOBOT_DONE)
         status = run(&machine, target, trace);
     nanobot_machine_end(&machine);
+    free(source.at);
+    free(target.at);
+    free(trace.at);
     return (int)status;
 }

@@ -2,18 +2,16 @@
 
 from __future__ import annotations
 
+from itertools import islice
 from typing import Iterator, Optional, Tuple
 
 from . import _library as lib
-from .errors import BrokenRule, Coord
+from .errors import BrokenRule
 from .machine import Machine, Source, bytes_of
+from .models import coords_of, resolution_of, voxels_of
 from .rows import Refused, judge
 from .trace import command_at, next_step
 from .why import Row, spaced, why
-
-
-def resolution_of(model: bytes) -> int:
-    return int.from_bytes(model[1:3], "big") if model[0] == 0xFF else model[0]
 
 
 def machine_of(source: Optional[Source], target: Optional[Source], *, light: bool = False, notes: int = 0) -> Machine:
@@ -50,25 +48,13 @@ def walk_to_the_end(machine: Machine, data: bytes) -> Tuple[int, Optional[Broken
     return offset, None, []
 
 
-def voxels(model: bytes) -> str:
-    """The voxels of a model in the order of their places, by `1` where they are full."""
-    if model[0] == 0xFF:
-        runs = (int.from_bytes(model[i : i + 4], "big") for i in range(3, len(model), 4))
-        return "".join("01"[i % 2] * run for i, run in enumerate(runs))
-    count = model[0] ** 3
-    return format(int.from_bytes(model[1:], "little"), f"0{count}b")[::-1][:count]
-
-
 def _differences(machine: Machine, target: Optional[bytes]) -> Iterator[str]:
-    """How many voxels differ from the target, and the least ones."""
-    r, word = machine.state.resolution, {"0": "void", "1": "full"}
-    left = voxels(machine.model())
-    wanted = voxels(target) if target is not None else "0" * r**3
-    differing = [place for place, (a, b) in enumerate(zip(left, wanted)) if a != b]
-    yield f"{len(differing)} voxels differ from the target; the least:"
-    for place in differing[:10]:
-        c = Coord(place // r**2, place // r % r, place % r)
-        yield f"  {spaced(c)} is {word[left[place]]}, wanted: {word[wanted[place]]}"
+    """How many voxels differ from the target, and the least ones; none of it is the empty model."""
+    differing = voxels_of(machine.model()) ^ (voxels_of(target) if target is not None else 0)
+    yield f"{bin(differing).count('1')} voxels differ from the target; the least:"
+    for c in islice(coords_of(differing, machine.state.resolution), 10):
+        here, wanted = ("full", "void") if machine.full(c) else ("void", "full")
+        yield f"  {spaced(c)} is {here}, wanted: {wanted}"
 
 
 def _bad_bytes(machine: Machine, data: bytes, offset: int, is_cut: bool) -> Iterator[str]:

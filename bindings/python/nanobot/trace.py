@@ -89,10 +89,9 @@ def commands_from(data: bytes, offset: int = 0) -> Iterator[Command]:
 def next_step(data: bytes, offset: int, bots: int) -> List[Command]:
     """The commands of the next step: one for each bot, as far as there are any."""
     out: List[Command] = []
-    for command in commands_from(data, offset):
-        if len(out) == bots:
-            break
-        out.append(command)
+    while len(out) < bots and offset < len(data):
+        out.append(command_at(data, offset))
+        offset += out[-1].size
     return out
 
 

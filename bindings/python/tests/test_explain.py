@@ -4,7 +4,7 @@
 import io
 import unittest
 
-from nanobot.explain import explain, voxels
+from nanobot.explain import explain
 from nanobot.walk import Walk
 
 # the empty model of resolution 3, and the one with (1,0,1) full: place 10, bit 2 of the second byte of voxels
@@ -55,13 +55,6 @@ class Explained(unittest.TestCase):
         self.assertEqual(self.lines(POST[:3], None, ACROSS), ["source 3 Short want 5 have 3"])
         self.assertEqual(self.lines(EMPTY, POST[:3], ACROSS), ["target 3 Short want 5 have 3"])
         self.assertEqual(self.lines(EMPTY, b"\x01\x00", ACROSS), ["resolutions 3 1"])
-
-    def test_voxels_of_both_forms(self):
-        self.assertEqual(voxels(POST), "0" * 10 + "1" + "0" * 16)
-        # the bits behind the last voxel are ignored
-        self.assertEqual(voxels(b"\x01\xfe"), "0")
-        runs = b"".join(n.to_bytes(4, "big") for n in (5, 2, 3))
-        self.assertEqual(voxels(b"\xff\x01\x2c" + runs), "0000011000")
 
 
 class Walked(unittest.TestCase):

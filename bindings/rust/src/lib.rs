@@ -1,4 +1,4 @@
-//! nanobot's machine from Rust: each step is proved to do what the rules of the ICFP Programming Contest 2018 say.
+//! nanobot's machine, judge and planners from Rust: each step is proved to do what the rules of the ICFP Programming Contest 2018 say.
 //!
 //! A [`Machine`] is kept between steps. The commands of a step are the bytes of a trace, the last steps can be taken back, and a
 //! call that is refused leaves the machine as it was.
@@ -15,9 +15,11 @@
 //! ```
 
 mod errors;
+mod rows;
 mod sys;
 
 pub use errors::{Broken, LevelError, StartError, StepError, TargetError, UndoError};
+pub use rows::{check, judge, plan, Cost, Planner, Refused};
 
 use std::marker::PhantomData;
 use std::ptr::null_mut;

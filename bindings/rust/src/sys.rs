@@ -1,4 +1,4 @@
-//! The calls of `include/nanobot_machine.h`.
+//! The calls of `include/nanobot.h` and `include/nanobot_machine.h`.
 
 use std::ffi::c_void;
 
@@ -8,6 +8,7 @@ pub const WORDS: u32 = 2;
 pub const MODEL: u32 = 3;
 pub const TRACE: u32 = 4;
 pub const MEMORY: u32 = 7;
+pub const TOO_SMALL: u32 = 10;
 pub const ENDED: u32 = 12;
 pub const COUNT: u32 = 13;
 pub const LONG: u32 = 14;
@@ -111,4 +112,58 @@ extern "C" {
     ) -> u32;
     pub fn nanobot_version() -> u32;
     pub fn nanobot_machine_end(machine: *mut Handle);
+}
+
+/// `nanobot_check`, and the planners that take one model.
+pub type OfOne = unsafe extern "C" fn(*const u8, usize, *mut u8, usize, *mut usize) -> u32;
+
+/// The planners that take a source and a target.
+pub type OfTwo = unsafe extern "C" fn(*const u8, usize, *const u8, usize, *mut u8, usize, *mut usize) -> u32;
+
+extern "C" {
+    pub fn nanobot_judge(
+        source: *const u8,
+        source_size: usize,
+        target: *const u8,
+        target_size: usize,
+        trace: *const u8,
+        trace_size: usize,
+        light: bool,
+        line: *mut u8,
+        room: usize,
+        size: *mut usize,
+    ) -> u32;
+    pub fn nanobot_cost(
+        source: *const u8,
+        source_size: usize,
+        target: *const u8,
+        target_size: usize,
+        trace: *const u8,
+        trace_size: usize,
+        light: bool,
+        energy: *mut i64,
+        steps: *mut u32,
+    ) -> u32;
+    pub fn nanobot_check(model: *const u8, model_size: usize, line: *mut u8, room: usize, size: *mut usize) -> u32;
+    pub fn nanobot_plan_void(source: *const u8, source_size: usize, plan: *mut u8, room: usize, size: *mut usize) -> u32;
+    pub fn nanobot_plan_low(target: *const u8, target_size: usize, plan: *mut u8, room: usize, size: *mut usize) -> u32;
+    pub fn nanobot_plan_swarm(target: *const u8, target_size: usize, plan: *mut u8, room: usize, size: *mut usize) -> u32;
+    pub fn nanobot_plan_layer(
+        source: *const u8,
+        source_size: usize,
+        target: *const u8,
+        target_size: usize,
+        plan: *mut u8,
+        room: usize,
+        size: *mut usize,
+    ) -> u32;
+    pub fn nanobot_plan_group(
+        source: *const u8,
+        source_size: usize,
+        target: *const u8,
+        target_size: usize,
+        plan: *mut u8,
+        room: usize,
+        size: *mut usize,
+    ) -> u32;
 }

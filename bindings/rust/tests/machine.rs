@@ -1,6 +1,8 @@
 //! The binding, call by call. Expected numbers are those of the rules.
 
-use nanobot::{Broken, Coord, LevelError, Machine, Profile, StartError, StepError, TargetError, UndoError};
+use nanobot::{
+    check, judge, plan, Broken, Coord, Cost, LevelError, Machine, Planner, Profile, Refused, StartError, StepError, TargetError, UndoError,
+};
 
 const HALT: &[u8] = &[0xff];
 const WAIT: &[u8] = &[0xfe];
@@ -86,4 +88,33 @@ fn a_model_is_given_back() {
 #[test]
 fn the_library_is_that_of_the_crate() {
     assert_eq!((nanobot::version(), env!("CARGO_PKG_VERSION")), (900, "0.9.0"));
+}
+
+#[test]
+fn a_trace_is_judged_as_its_steps_cost() {
+    let post: &[u8] = &[0x14, 0x10, 0x73, 0x14, 0x0e, 0xff];
+    let target: &[u8] = &[3, 0, 4, 0, 0];
+    let cost = Cost { energy: 420, steps: 4 };
+    assert_eq!(judge(None, Some(target), post, Profile::Full), Ok(cost));
+    let mut machine = Machine::empty(3, Profile::Full, 0).unwrap();
+    for commands in [&post[..2], &post[2..3], &post[3..5], &post[5..]] {
+        machine.step(commands).unwrap();
+    }
+    let state = machine.state();
+    assert_eq!((state.energy, state.steps, machine.difference(target)), (420, 4, Ok(None)));
+    let line = "broken 14 WrongResult step 1 bid 0 at 1 0 1".to_owned();
+    assert_eq!(judge(None, Some(target), HALT, Profile::Full), Err(Refused { status: 1, line }));
+}
+
+#[test]
+fn each_plan_is_accepted() {
+    let model: &[u8] = &[3, 0, 4, 0, 0];
+    assert_eq!(check(model), Ok("legal resolution 3 full 1".to_owned()));
+    for planner in [Planner::Layer, Planner::Group, Planner::Low, Planner::Swarm] {
+        let trace = plan(planner, None, Some(model)).unwrap();
+        assert!(judge(None, Some(model), &trace, Profile::Full).is_ok());
+    }
+    let trace = plan(Planner::Void, Some(model), None).unwrap();
+    assert!(judge(Some(model), None, &trace, Profile::Full).is_ok());
+    assert_eq!(plan(Planner::Low, None, Some(&[])).unwrap_err().status, 3);
 }

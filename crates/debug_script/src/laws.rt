@@ -35,8 +35,9 @@ pub fn some_script()
 
 /// The lines of a script print some text, from a source with a voxel for each coordinate on.
 pub fn some_text()
-    ensures { (source : Matrix) (profile : Profile) (commands : List Command) (script : List DebugLine) → 1 ≤ source.resolution
-        → length source.voxels ≡ volume source.resolution → AreCommands commands → (text : List ℕ) × PrintsFrom source profile commands script text }
+    ensures { (source : Matrix) (profile : Profile) (commands : List Command) (script : List DebugLine)
+        → 1 ≤ source.resolution → length source.voxels ≡ volume source.resolution → AreCommands commands
+        → (text : List ℕ) × PrintsFrom source profile commands script text }
 {
     opening_is_ready();
     stays_ready();

@@ -40,6 +40,22 @@ fn both_ways(rt: &impl Abort, command: Command, bytes: &[u8]) {
 }
 
 #[test]
+fn a_command_at_the_front_is_taken_whole(rt: HostRuntime) {
+    let mut decoder = Decoder::new();
+    let command = Command::SMove(long(&rt, 12, 0, 0));
+    let front = decoder.take_front(0x14, &[0x14, 0x1B, 0xFF]);
+    assert_eq!(rt; front, One::Got { command, len: 2 });
+    assert_eq!(rt; decoder.offset(), 2);
+}
+
+#[test]
+fn a_command_that_is_cut_is_not_taken(rt: HostRuntime) {
+    let mut decoder = Decoder::new();
+    assert_eq!(rt; decoder.take_front(0x14, &[0x14]), One::More);
+    assert_eq!(rt; decoder.offset(), 0);
+}
+
+#[test]
 fn spellings_both_ways(rt: HostRuntime) {
     both_ways(&rt, Command::Halt, &[0xFF]);
     both_ways(&rt, Command::Wait, &[0xFE]);

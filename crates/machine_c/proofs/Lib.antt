@@ -1,3 +1,4 @@
+mod Answered
 mod AsBox
 mod Buffers
 mod Fields

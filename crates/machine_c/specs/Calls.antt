@@ -30,7 +30,7 @@ use Rattle.machine_c.specs.declared.told.BrokenTold.{BrokenTold}
 use Rattle.machine_c.specs.declared.told.MachineTold.{MachineTold}
 use Rattle.machine_c.specs.declared.told.ModelTold.{ModelTold}
 use Rattle.machine_c.specs.declared.told.StepTold.{StepTold}
-use Rattle.machine_c.specs.Told.{bot_told, broken_told, model_told, none_broken, number_refusal}
+use Rattle.machine_c.specs.Told.{bot_told, broken_told, fault_told, none_broken, number_refusal}
 
 -- ---- starts
 
@@ -52,20 +52,22 @@ Starts old new status (Err fault) = (new ≡ old) × (status ≡ status_of_start
 -- the refusal, if there is one
 abbrev pub refusal_by : Result Kept ModelFault → ModelTold
 refusal_by (Ok k) = number_refusal 0 0 0
-refusal_by (Err (model_fault.Refused refusal)) = model_told refusal
-refusal_by (Err model_fault.Memory) = number_refusal 0 0 0
+refusal_by (Err fault) = fault_told fault
 
 -- a machine is started over the model that the bytes say, unless more notes are asked for than are kept
 abbrev pub IsStarted : List ℕ → Bool → ℕ → Option Kept → Option Kept → ModelTold → ℕ → Type 0
 IsStarted bytes light notes old new told status =
     ((4096 < notes) × (new ≡ old) × (told ≡ number_refusal 0 0 0) × (status ≡ ARGUMENT))
-    ⊎ ((notes ≤ 4096) × (answer : Result Kept ModelFault) × OpensFile bytes (profile_by light) notes answer × Starts old new status answer × (told ≡ refusal_by answer))
+    ⊎ ((notes ≤ 4096)
+    × (answer : Result Kept ModelFault) × OpensFile bytes (profile_by light) notes answer
+    × Starts old new status answer × (told ≡ refusal_by answer))
 
 -- a machine is started over the empty model, unless more notes are asked for than are kept, or there is no such model
 abbrev pub IsStartedEmpty : ℕ → Bool → ℕ → Option Kept → Option Kept → ℕ → Type 0
 IsStartedEmpty r light notes old new status =
     (((4096 < notes) ⊎ (r ≡ 0) ⊎ (400 < r)) × (new ≡ old) × (status ≡ ARGUMENT))
-    ⊎ ((notes ≤ 4096) × (1 ≤ r) × (r ≤ 400) × (answer : Result Kept ModelFault) × Opens (empty r) (profile_by light) notes answer × Starts old new status answer)
+    ⊎ ((notes ≤ 4096) × (1 ≤ r) × (r ≤ 400)
+    × (answer : Result Kept ModelFault) × Opens (empty r) (profile_by light) notes answer × Starts old new status answer)
 
 -- a copy stands where the machine stands, and no step can be taken back in it
 abbrev pub IsCopied : Option Kept → Option Kept → Option Kept → ℕ → Type 0
@@ -74,6 +76,12 @@ IsCopied (Some k) before after status =
     ((after ≡ Some (record k { past = [] })) × (status ≡ DONE)) ⊎ ((after ≡ before) × (status ≡ MEMORY))
 
 -- ---- steps
+
+-- commands make a step or none
+abbrev pub StepComesTo : Kept → List Command → Kept → StepAnswer → Type 0
+StepComesTo old commands new (Made ok) = Tries old commands new (Ok ok)
+StepComesTo old commands new (Refused fault) = Tries old commands new (Err fault)
+StepComesTo old commands new (Unread fault) = ⊥
 
 -- the bytes spell commands that make a step, or commands that make none, or they are no commands
 abbrev pub ComesTo : Kept → List ℕ → Kept → StepAnswer → Type 0
@@ -106,13 +114,20 @@ offset_by _ = 0
 -- where the machine stands after a step, and why the step was refused
 abbrev pub step_told : Kept → StepAnswer → StepTold
 step_told k answer =
-    record { energy = k.state.energy; offset = offset_by answer; steps = k.steps; active = length k.state.bots; broken = rule_told answer }
+    record {
+      energy = k.state.energy;
+      offset = offset_by answer;
+      steps = k.steps;
+      active = length k.state.bots;
+      broken = rule_told answer;
+    }
 
 -- a step is made of the bytes
 abbrev pub IsStepped : Option Kept → List ℕ → Option Kept → StepTold → StepTold → ℕ → Type 0
 IsStepped None bytes new before after status = (new ≡ None) × (after ≡ before) × (status ≡ NO_MACHINE)
 IsStepped (Some old) bytes new before after status =
-    (k : Kept) × (new ≡ Some k) × (answer : StepAnswer) × ComesTo old bytes k answer × (after ≡ step_told k answer) × (status ≡ status_of_step answer)
+    (k : Kept) × (new ≡ Some k) × (answer : StepAnswer) × ComesTo old bytes k answer
+    × (after ≡ step_told k answer) × (status ≡ status_of_step answer)
 
 -- the status of an undo
 abbrev pub status_of_undo : Result (Unit {0}) NoUndo → ℕ
@@ -186,7 +201,8 @@ level_by before _ = before
 abbrev pub IsLevelTold : Option Kept → Coord → ℕ → ℕ → ℕ → Type 0
 IsLevelTold None c before after status = (after ≡ before) × (status ≡ NO_MACHINE)
 IsLevelTold (Some k) c before after status =
-    (answer : Result (Option ℕ) NoLevel) × TellsLevel k.state.matrix c answer × (after ≡ level_by before answer) × (status ≡ status_of_level answer)
+    (answer : Result (Option ℕ) NoLevel) × TellsLevel k.state.matrix c answer
+    × (after ≡ level_by before answer) × (status ≡ status_of_level answer)
 
 -- how many voxels are full
 abbrev pub IsCounted : Option Kept → ℕ → ℕ → ℕ → Type 0

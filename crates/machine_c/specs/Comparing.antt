@@ -11,7 +11,7 @@ use Rattle.machine_c.specs.declared.comparing.TargetAnswer.TheVariants.{Same, Di
 use Rattle.machine_c.specs.declared.status.TheConstants.{DIFFERS, DONE, MEMORY, MODEL, NO_MACHINE, RESOLUTION}
 use Rattle.machine_c.specs.declared.told.ModelTold.{ModelTold}
 use Rattle.machine_c.specs.declared.told.PlaceTold.{PlaceTold}
-use Rattle.machine_c.specs.Told.{model_told, number_refusal}
+use Rattle.machine_c.specs.Told.{fault_told, number_refusal}
 
 -- what the bytes of a target come to beside a matrix; the target need not be legal
 abbrev pub Compares : Kept → List ℕ → TargetAnswer → Type 0
@@ -35,11 +35,12 @@ place_by (Differs at) = record { x = at.x; y = at.y; z = at.z }
 place_by _ = record { x = 0; y = 0; z = 0 }
 
 abbrev pub refusal_of_target : TargetAnswer → ModelTold
-refusal_of_target (Refused fault) = model_told fault
+refusal_of_target (Refused fault) = fault_told fault
 refusal_of_target _ = number_refusal 0 0 0
 
 -- a target is compared with the matrix of a machine
 abbrev pub IsCompared : Option Kept → List ℕ → PlaceTold → PlaceTold → ModelTold → ModelTold → ℕ → Type 0
 IsCompared None bytes before after refusal_before refusal status = (after ≡ before) × (refusal ≡ refusal_before) × (status ≡ NO_MACHINE)
 IsCompared (Some k) bytes before after refusal_before refusal status =
-    (answer : TargetAnswer) × Compares k bytes answer × (after ≡ place_by answer) × (refusal ≡ refusal_of_target answer) × (status ≡ status_of_target answer)
+    (answer : TargetAnswer) × Compares k bytes answer
+    × (after ≡ place_by answer) × (refusal ≡ refusal_of_target answer) × (status ≡ status_of_target answer)

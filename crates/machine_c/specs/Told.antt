@@ -4,6 +4,8 @@ use Rattle.vox_geom.specs.declared.coordinate.Coord.{Coord}
 use Rattle.nano_spec.specs.declared.outcomes.Broken.{Broken}
 use Rattle.nano_spec.specs.declared.system.Bot.{Bot}
 use Rattle.nano_spec.specs.Rule.{rule_number}
+use Rattle.model_file.specs.declared.fault.ModelFault.{ModelFault}
+use Rattle.model_file.specs.declared.fault.ModelFault.TheVariants as fault
 use Rattle.model_file.specs.declared.fault.ModelRefusal.{ModelRefusal}
 use Rattle.model_file.specs.declared.fault.ModelRefusal.TheVariants.{NoByte, Resolution, Short, Long, Border, Floating, WideHead, WideResolution, WideRun, WideShort, WideLong}
 use Rattle.machine_c.specs.declared.told.BotTold.{BotTold}
@@ -42,3 +44,8 @@ model_told (WideResolution r) = number_refusal 9 0 r
 model_told (WideRun index) = number_refusal 10 0 index
 model_told (WideShort have) = number_refusal 11 0 have
 model_told WideLong = number_refusal 12 0 0
+
+-- the same where there may have been no memory, which is no refusal
+abbrev pub fault_told : ModelFault → ModelTold
+fault_told (fault.Refused refusal) = model_told refusal
+fault_told fault.Memory = number_refusal 0 0 0

@@ -27,7 +27,7 @@ impl Model for Handle {
 
 impl Handle {
     /// The handle with no machine.
-    fn empty(alloc: Global) -> Handle
+    pub fn empty(alloc: Global) -> Handle
         ensures { result.machine ≡ None }
     {
         Handle {

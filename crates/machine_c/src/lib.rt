@@ -1,5 +1,5 @@
-//! Machines behind handles, for callers in C (`include/nanobot_machine.h`). Each export takes the machine out of its handle, makes
-//! one call of it, and puts it back.
+//! Machines behind handles, for callers in C (`include/nanobot_machine.h`). Each export takes the machine out of its
+//! handle, makes one call of it, and puts it back.
 #![tactic(auto)]
 
 mod comparing;
@@ -9,5 +9,7 @@ mod reading;
 mod starting;
 mod status;
 mod stepping;
+#[cfg(test)]
+mod tests;
 mod told;
 mod version;

@@ -97,11 +97,10 @@ pub extern "C" fn nanobot_machine_start(
             handle.put(machine);
             DONE
         }
-        Err(ModelFault::Refused(refusal)) => {
-            *told = ModelTold::of(refusal);
-            MODEL
+        Err(fault) => {
+            *told = ModelTold::of(fault);
+            status(fault)
         }
-        Err(ModelFault::Memory) => MEMORY,
     }
 }
 

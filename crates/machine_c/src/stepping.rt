@@ -1,14 +1,16 @@
 //! Steps that are made and taken back.
-ghost use Rattle.std.specs.Prelude.{◌≡◌};
-ghost use Rattle.machine_c.specs.Calls.{ComesTo, IsStepped, IsUndone, rule_told, offset_by, status_of_step, status_of_undo};
+ghost use Rattle.std.specs.Prelude.{◌≡◌, [], ◌∷◌, IfSome};
+ghost use Rattle.nano_spec.specs.Cutting.{Cutting};
+ghost use Rattle.machine_c.specs.Calls.{StepComesTo, ComesTo, IsStepped, IsUndone, rule_told, offset_by, status_of_step, status_of_undo};
 
 use crate::handle::Handle;
 use crate::status::{BROKEN, COMMANDS, COUNT, DONE, ENDED, LONG, MEMORY, NO_MACHINE, NO_NOTE};
 use crate::told::{BrokenTold, StepTold};
 use kept_machine::{KeptMachine, NoStep, NoUndo};
+use nano_spec::Command;
 use std::alloc::Global;
 use step_machine::StepOk;
-use trace_codec::{TraceFault, TraceRefusal, decode_all};
+use trace_codec::{One, TraceFault, TraceRefusal, decode_all, decode_one};
 
 /// What the bytes of a step come to.
 #[derive(Clone, Copy)]
@@ -60,17 +62,41 @@ impl StepAnswer {
     }
 }
 
-/// Makes the step of the commands that the bytes spell.
+/// The command that the bytes spell, where they spell one alone.
+fn only_command(bytes: &[u8]) -> Option<Command>
+    ensures { IfSome result (λ command. Cutting bytes.now (command ∷ [])) }
+{
+    match decode_one(bytes) {
+        One::Got { command, len } => {
+            if usize::from(len) == bytes.len() {
+                return Some(command);
+            }
+            None
+        }
+        One::More | One::Bad => None,
+    }
+}
+
+/// Makes the step of these commands.
+fn step_of(machine: &mut KeptMachine, commands: &[Command]) -> StepAnswer
+    ensures { StepComesTo machine.old commands.now machine.new result }
+{
+    match machine.step(commands) {
+        Ok(ok) => StepAnswer::Made(ok),
+        Err(fault) => StepAnswer::Refused(fault),
+    }
+}
+
+/// Makes the step of the commands that the bytes spell. One command takes no memory to be read.
 fn step_by(alloc: Global, machine: &mut KeptMachine, bytes: &[u8]) -> StepAnswer
     ensures { ComesTo machine.old bytes.now machine.new result }
 {
-    let commands = match decode_all(alloc, bytes) {
-        Ok(commands) => commands,
-        Err(fault) => return StepAnswer::Unread(fault),
-    };
-    match machine.step(commands.as_slice()) {
-        Ok(ok) => StepAnswer::Made(ok),
-        Err(fault) => StepAnswer::Refused(fault),
+    if let Some(command) = only_command(bytes) {
+        return step_of(machine, &[command]);
+    }
+    match decode_all(alloc, bytes) {
+        Ok(commands) => step_of(machine, commands.as_slice()),
+        Err(fault) => StepAnswer::Unread(fault),
     }
 }
 

@@ -1,8 +1,8 @@
 //! What calls tell, as C sees it.
 ghost use Rattle.std.specs.Prelude.{◌≡◌};
-ghost use Rattle.machine_c.specs.Told.{bot_told, broken_told, model_told};
+ghost use Rattle.machine_c.specs.Told.{bot_told, broken_told, fault_told, model_told};
 
-use model_file::ModelRefusal;
+use model_file::{ModelFault, ModelRefusal};
 use nano_spec::{Bot, Broken};
 use vox_geom::Coord;
 
@@ -168,8 +168,18 @@ impl ModelTold {
         }
     }
 
+    /// The numbers of a refusal, or none for want of memory.
+    pub fn of(fault: ModelFault) -> ModelTold
+        ensures { result ≡ fault_told fault }
+    {
+        match fault {
+            ModelFault::Refused(refusal) => ModelTold::of_refusal(refusal),
+            ModelFault::Memory => ModelTold::none(),
+        }
+    }
+
     /// The numbers of a refusal.
-    pub fn of(refusal: ModelRefusal) -> ModelTold
+    fn of_refusal(refusal: ModelRefusal) -> ModelTold
         ensures { result ≡ model_told refusal }
     {
         let number = u32::from(refusal.number());

@@ -39,8 +39,8 @@ use Rattle.plan_tape.proofs.Reached.{enough}
 abbrev ScriptLaw : Type 0
 ScriptLaw = (r : ℕ) (bytes : List ℕ) → (said : Result (List DebugLine) FaultyLine) × ScriptSays r bytes said
 
--- each model is whole, each script says something, and each session prints something
-pub record Sessions : Type 0 where
+-- the model of bytes is whole, each script says something, and each session prints something
+pub record HaveSessions : Type 0 where
   pub some : (bytes : List ℕ) (m : Matrix) → model bytes ≡ Ok m → 1 ≤ m.resolution
   pub whole : (bytes : List ℕ) (m : Matrix) → model bytes ≡ Ok m → length m.voxels ≡ volume m.resolution
   pub scripts : ScriptLaw
@@ -116,11 +116,11 @@ module _ (files : Files) where
   of_bytes w (Err why) p f = (_, refl)
   of_bytes w (Ok m) p f = let l = legality_of m in judged w m p (f m refl) l.0 l.1
 
-  with_said : (w : Who) (name : List ℕ) (p : Matrix → Reply → Type 0) → ((bytes : List ℕ) (m : Matrix) → model bytes ≡ Ok m → IsAnswered (p m)) → IsAnswered (WithModel w files name p)
-  with_said w name p f = with_file name (λ bytes. OfBytes w files (model bytes) p) (λ bytes. of_bytes w (model bytes) p (f bytes))
+  with_model_said : (w : Who) (name : List ℕ) (p : Matrix → Reply → Type 0) → ((bytes : List ℕ) (m : Matrix) → model bytes ≡ Ok m → IsAnswered (p m)) → IsAnswered (WithModel w files name p)
+  with_model_said w name p f = with_file name (λ bytes. OfBytes w files (model bytes) p) (λ bytes. of_bytes w (model bytes) p (f bytes))
 
   with_model : (w : Who) (name : List ℕ) (p : Matrix → Reply → Type 0) → ((m : Matrix) → IsAnswered (p m)) → IsAnswered (WithModel w files name p)
-  with_model w name p f = with_said w name p (λ bytes m said. f m)
+  with_model w name p f = with_model_said w name p (λ bytes m said. f m)
 
   choice : (t : Bool) (p q : Reply → Type 0) → IsAnswered p → IsAnswered q → IsAnswered (λ reply. MatchBool t (p reply) (q reply))
   choice true p q f g = f
@@ -186,11 +186,11 @@ module _ (files : Files) where
       (λ reply. (said : Result (List DebugLine) FaultyLine) × ScriptSays r bytes said × OfLines files said p reply)
       (reply_of files (report.TextLong script_limit), refl) (reply.0, (s.0, s.1, reply.1))
 
-  pub debug_answered : Sessions → (source trace script : List ℕ) → IsAnswered (AnswerOf (debug source trace script) files)
+  pub debug_answered : HaveSessions → (source trace script : List ℕ) → IsAnswered (AnswerOf (debug source trace script) files)
   debug_answered laws source trace script =
-      with_said who.Source source _ (λ bytes m said.
-      with_file trace _ (λ commands_in.
-      of_trace dis_limit commands_in _ (λ commands are.
+      with_model_said who.Source source _ (λ bytes m said.
+      with_file trace _ (λ codes.
+      of_trace dis_limit codes _ (λ commands are.
       with_file script _ (λ text.
       of_script laws.scripts m.resolution text _ (λ lines.
       let printed = laws.texts m full_profile commands lines (laws.some bytes m said) (laws.whole bytes m said) are in

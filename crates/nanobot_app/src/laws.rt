@@ -42,7 +42,8 @@ pub fn some_answer()
     ensures dis { (trace text : List ℕ) (files : Files) → (reply : Reply) × AnswerOf (dis trace text) files reply }
     ensures make { (number resolution : ℕ) (model : List ℕ) (files : Files)
         → (reply : Reply) × AnswerOf (make number resolution model) files reply }
-    ensures debug { (source trace script : List ℕ) (files : Files) → (reply : Reply) × AnswerOf (debug source trace script) files reply }
+    ensures debug { (source trace script : List ℕ) (files : Files)
+        → (reply : Reply) × AnswerOf (debug source trace script) files reply }
 {
     a_model_is_whole();
     some_script();

@@ -1,7 +1,7 @@
 -- The run of an only bot takes the next bytes of its trace.
-use Rattle.std.proofs.Common.{◌≡◌, ℕ, zero, suc, ◌+◌, ◌-◌, ◌≤◌, ◌∙◌, refl, sym, ap, subst, arith, Bool, true, false, not, List, [], ◌∷◌, length, length-append, length-drop, take, drop, slice_index_or}
+use Rattle.std.proofs.Common.{◌≡◌, ℕ, ◌+◌, ◌-◌, ◌≤◌, ◌∙◌, refl, sym, ap, subst, arith, Bool, true, false, not, List, length, length-drop, take, drop}
 use Rattle.std.specs.Prelude.{Result, Ok, Err, IfOk}
-use Rattle.std.proofs.lemmas.List.{length-take-le, take_all}
+use Rattle.std.proofs.lemmas.List.{take_all}
 use Rattle.nano_spec.specs.declared.commands.Command.{Command}
 use Rattle.trace_judge.specs.Alone.{HasPushed, RunsAlone}
 use Rattle.trace_judge.specs.Course.{Course}
@@ -32,40 +32,6 @@ goes_got got all bad push old d next r new piece command used still began ended 
       some = λ e. answers.some;
       still = λ e. record { alone = alone e; between = (refl, refl) };
     }))
-
-pub declines : (s : RunState) (piece : List ℕ) (began : ℕ) → s.run.spent ≡ false → WentOn s piece (record { used = 0; alone = false }) s began began
-declines s piece began stands = record {
-  takes = record { within = omega arith; takes = takes_nothing s began stands };
-  some = λ e. cc;
-  still = λ e. cc;
-}
-
--- a command takes a byte of the trace at least
-pub counts_on : (d : DecoderState) (piece : List ℕ) (command : Command) (used steps after : ℕ) (next : DecoderState) → next ≡ decoder_after d piece (Got command used) → Completes d piece command used → steps ≤ d.offset → after ≤ steps + 1 → after ≤ next.offset
-counts_on d piece command used steps after next is_next answers few one =
-    let size = ap length answers.spelling_is in
-    let at = ap (λ (x : DecoderState). x.offset) is_next in
-    omega (arith, size, at, answers.some, answers.within, length-append d.held (take used piece), length-take-le used piece answers.within)
-
--- ---- the first two bytes of a piece
-
-take_two : (a b n : ℕ) (rest : List ℕ) → n ≤ 2 → take n (a ∷ b ∷ []) ≡ take n (a ∷ b ∷ rest)
-take_two a b zero rest l = refl
-take_two a b (suc zero) rest l = refl
-take_two a b (suc (suc zero)) rest l = refl
-take_two a b (suc (suc (suc n))) rest l = absurd (omega arith)
-
-pub goes_by_two : (old new : RunState) (a b : ℕ) (piece rest : List ℕ) (went : Went) (began ended : ℕ) → piece ≡ a ∷ rest → 2 ≤ length piece → slice_index_or piece 1 0 ≡ b
-    → WentOn old (a ∷ b ∷ []) went new began ended → WentOn old piece went new began ended
-goes_by_two old new a b piece [] went began ended e l s g = absurd (let size = ap length e in omega arith)
-goes_by_two old new a b piece (c ∷ rest) went began ended e l s g =
-    let second : b ≡ c = sym s ∙ ap (λ (xs : List ℕ). slice_index_or xs 1 0) e in
-    let front : take went.used (a ∷ b ∷ []) ≡ take went.used piece = take_two a b went.used rest g.takes.within ∙ ap (λ (k : ℕ). take went.used (a ∷ k ∷ rest)) second ∙ ap (take went.used) (sym e) in
-    record {
-      takes = record { within = omega (arith, g.takes.within, l); takes = subst (λ (bytes : List ℕ). Takes old bytes new began ended) front g.takes.takes };
-      some = g.some;
-      still = g.still;
-    }
 
 -- ---- many commands, and then another
 

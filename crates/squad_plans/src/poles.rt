@@ -25,12 +25,20 @@ impl Pole {
 
 /// The voxels that were seen, and those of the part at hand.
 #[derive(Drop)]
-struct Parts {
+struct HangingParts {
     seen: Vec<bool>,
     part: Vec<Spot>,
 }
 
-impl Parts {
+impl HangingParts {
+    /// None seen.
+    fn begin(alloc: Global, site: &Site) -> Result<HangingParts, Memory> {
+        Ok(HangingParts {
+            seen: vec![in alloc; false; site.count()]?,
+            part: Vec::new(alloc),
+        })
+    }
+
     /// Keeps that a voxel was seen. Whether it was not before.
     fn see(&mut self, site: &Site, c: Spot) -> bool {
         let Some(number) = site.number(c) else {
@@ -139,11 +147,36 @@ fn plant(site: &mut Site, pole: Pole) {
     }
 }
 
+/// Whether a part of a layer hangs.
+fn hangs_in_layer(site: &Site, parts: &mut HangingParts, y: i16) -> Result<bool, Memory> {
+    let side = site.side();
+    for x in 0..side {
+        for z in 0..side {
+            parts.gather(site, Spot { x, y, z })?;
+            if !parts.is_supported(site) {
+                return Ok(true);
+            }
+        }
+    }
+    Ok(false)
+}
+
+/// Whether a part hangs.
+fn some_hang(alloc: Global, site: &Site) -> Result<bool, Memory> {
+    let mut parts = HangingParts::begin(alloc, site)?;
+    for y in 1..site.side() {
+        if hangs_in_layer(site, &mut parts, y)? {
+            return Ok(true);
+        }
+    }
+    Ok(false)
+}
+
 /// Plants poles under the parts of a layer that hang. Whether all of them get one.
 fn plant_layer(
     site: &mut Site,
     air: &Air,
-    parts: &mut Parts,
+    parts: &mut HangingParts,
     poles: &mut Vec<Pole>,
     y: i16,
 ) -> Result<bool, Memory> {
@@ -165,12 +198,12 @@ fn plant_layer(
 
 /// Plants poles under all parts that hang. None where a part can get none.
 pub(crate) fn plant_all(alloc: Global, site: &mut Site) -> Result<Option<Vec<Pole>>, Memory> {
-    let air = Air::around(alloc, site)?;
     let mut poles = Vec::new(alloc);
-    let mut parts = Parts {
-        seen: vec![in alloc; false; site.count()]?,
-        part: Vec::new(alloc),
-    };
+    if !some_hang(alloc, site)? {
+        return Ok(Some(poles));
+    }
+    let air = Air::around(alloc, site)?;
+    let mut parts = HangingParts::begin(alloc, site)?;
     for y in 1..site.side() {
         if !plant_layer(site, &air, &mut parts, &mut poles, y)? {
             return Ok(None);

@@ -1,18 +1,13 @@
 -- The run of an only bot, and what a command that is frequent makes of it.
-use Rattle.std.proofs.Common.{◌≡◌, ℕ, ◌+◌, ◌≤◌, refl, sym, ◌∙◌, ap, subst, arith, List, [], ◌∷◌, ◌++◌, true, false, length, count_by}
-use Rattle.std.specs.Prelude.{None, Err}
-use Rattle.std.proofs.lemmas.Grind.{common_steps}
+use Rattle.std.proofs.Common.{◌≡◌, ℕ, ◌+◌, refl, sym, ◌∙◌, ap, subst, arith, List, [], ◌∷◌, ◌++◌, true, false, length}
+use Rattle.std.specs.Prelude.{Err}
 use Rattle.nano_spec.specs.declared.commands.Command.{Command}
 use Rattle.nano_spec.specs.declared.outcomes.Broken.{Broken}
-use Rattle.nano_spec.specs.declared.system.Harmonics.TheVariants.{Low}
-use Rattle.nano_spec.specs.Grounded.{FirstUngrounded}
 use Rattle.nano_spec.specs.Next.{Breaks, Goes, Next}
 use Rattle.nano_spec.specs.State.{State}
 use Rattle.nano_spec.proofs.Accepted.{accepted_step}
 use Rattle.run_progress.specs.Progress as progress
 use Rattle.run_progress.specs.Progress.{Progress, Pushes}
-use Rattle.step_machine.specs.Alone as machine
-use Rattle.step_machine.specs.Edits.{is_edit}
 use Rattle.step_machine.specs.Situation.{Situation}
 use Rattle.step_machine.specs.Stepped.{IsWithinWork, Stepped, answer_of}
 use Rattle.step_machine.specs.declared.machine.StepFault.{StepFault}
@@ -20,7 +15,7 @@ use Rattle.step_machine.specs.declared.machine.StepFault.TheVariants as fault
 use Rattle.trace_judge.specs.declared.runner.Mark.{Mark}
 use Rattle.trace_judge.specs.declared.runner.Mark.TheVariants as mark
 use Rattle.trace_judge.specs.Alone.{HasPushed, RunsAlone}
-use Rattle.trace_judge.specs.Course.{Course, MakesEdits, course_of, mark_by, searched_by, spent_by}
+use Rattle.trace_judge.specs.Course.{Course, course_of, mark_by, searched_by, spent_by}
 use Rattle.trace_judge.specs.Payment.{Touches}
 use Rattle.trace_judge.proofs.Running.{made, running_mark}
 
@@ -40,13 +35,6 @@ module _ (old : Situation) (pending : List Command) (m : Mark) (v : Course) (see
 
   pub one : length old.state.bots ≡ 1
   one = ap (λ (c : Course). length c.progress.state.bots) seen ∙ alone.one
-
-  pub machine_alone : machine.IsSolo old
-  machine_alone = record {
-    stands = subst (λ (k : Mark). spent_by old.spent k ≡ false) runs (ap (λ (c : Course). c.spent) seen ∙ alone.stands);
-    one = one;
-    held = subst (λ (c : Course). c.progress.state.harmonics ≡ Low → FirstUngrounded c.progress.state.matrix None) (sym seen) alone.held;
-  }
 
   full : length pending + 1 ≡ length old.state.bots
   full = ap (λ (xs : List Command). length xs + 1) none ∙ sym one
@@ -79,15 +67,6 @@ module _ (old : Situation) (pending : List Command) (m : Mark) (v : Course) (see
               (let t = s.touches in (t.0, t.1, omega (arith, t.2))));
         }
 
-    pub alone_still : (new : Situation) → machine.IsSolo new → RunsAlone (course_of new pending m)
-    alone_still new a = record {
-      stands = subst (λ (k : Mark). spent_by new.spent k ≡ false) (sym runs) a.stands;
-      runs = ap mark_by runs;
-      none = none;
-      one = a.one;
-      held = a.held;
-    }
-
     pub pushed_broken : (new : Situation) (after : List Command) (b : Broken) (began ended : ℕ) → after ≡ pending ++ command ∷ []
         → Stepped old new (command ∷ []) (Err (fault.Broken b)) began ended → HasPushed v command (course_of new after (mark.Refused b)) began ended
     pushed_broken new after b began ended kept s = record {
@@ -98,11 +77,3 @@ module _ (old : Situation) (pending : List Command) (m : Mark) (v : Course) (see
       resolution = ap (λ (t : State). t.matrix.resolution) s.stays.0 ∙ ap (λ (c : Course). c.progress.state.matrix.resolution) seen;
       touches = touches (course_of new after (mark.Refused b)).progress began ended s.touches_broken;
     }
-
-    -- memory is refused only to a step that fills or voids
-    pub makes_edits : is_edit command ≡ true → MakesEdits v.progress command
-    makes_edits e = subst (λ (c : Course). MakesEdits c.progress command) seen (record {
-      running = ap mark_by runs;
-      full = full;
-      edits = joined (λ xs. 1 ≤ count_by is_edit xs) (grind (arith, common_steps));
-    })

@@ -180,11 +180,27 @@ impl Runner {
                     StepFault::Memory | StepFault::Spent => Err(Memory),
                 }
             }
-            Tried::Declined => {
-                self.push(command, steps)?;
-                Ok(false)
-            }
+            Tried::Declined => self.push_other(command, steps),
         }
+    }
+
+    /// [`Runner::push`] of a command that is not frequent: a call of its own, so that the rest is written out for its callers.
+    #[inline(never)]
+    fn push_other<L: Ledger>(
+        &mut self,
+        command: Command,
+        steps: &mut Steps<L>,
+    ) -> Result<bool, Memory>
+        requires stands { self.old.spent ≡ false }
+        requires steps { self.old.progress.steps < 1073741824 }
+        ensures pushed { IfOk result (λ _. HasPushed self.old command self.new steps.old steps.new) }
+        ensures other { IfOk result (λ still. still ≡ false) }
+        ensures spent { IfErr result (λ _. self.new.spent ≡ true) }
+        ensures memory { IfErr result (λ _. MakesEdits self.old.progress command) }
+        ensures steps { self.new.progress.steps ≤ self.old.progress.steps + 1 }
+    {
+        self.push(command, steps)?;
+        Ok(false)
     }
 
     /// The verdict where no further command comes. At most two touches for each voxel.

@@ -70,37 +70,14 @@ impl TraceRun {
     {
         let head = piece[0];
         match head {
-            0b0001_0100 => self.move_along(0b0001_0100, piece, steps),
-            0b0010_0100 => self.move_along(0b0010_0100, piece, steps),
-            0b0011_0100 => self.move_along(0b0011_0100, piece, steps),
+            0b0001_0100 => self.step_by(0b0001_0100, piece, steps),
+            0b0010_0100 => self.step_by(0b0010_0100, piece, steps),
+            0b0011_0100 => self.step_by(0b0011_0100, piece, steps),
             _ => match head % 8 {
                 0b011 => self.step_by(head / 8 * 8 + 0b011, piece, steps),
                 0b010 => self.step_by(head / 8 * 8 + 0b010, piece, steps),
                 _ => Ok(DECLINED),
             },
-        }
-    }
-
-    /// Takes a straight move. Where it is by one, either way, its second byte is a constant too.
-    #[inline(always)]
-    fn move_along<L: Ledger>(
-        &mut self,
-        head: u8,
-        piece: &[u8],
-        steps: &mut Steps<L>,
-    ) -> Result<Went, Memory>
-        requires head { (rest : List ℕ) × (piece.now ≡ head ∷ rest) }
-        requires alone { IsAtCommand self.old }
-        requires offset { self.old.decoder.offset + length self.old.decoder.held + length piece.now ≤ 1073741824 }
-        ensures { IfOk result (λ went. WentOn self.old piece.now went self.new steps.old steps.new) }
-    {
-        if piece.len() < 2 {
-            return Ok(DECLINED);
-        }
-        match piece[1] {
-            16 => self.step_by(head, &[head, 16], steps),
-            14 => self.step_by(head, &[head, 14], steps),
-            _ => self.step_by(head, piece, steps),
         }
     }
 

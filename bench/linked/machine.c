@@ -1,0 +1,80 @@
+/* What a call of the machine that is kept takes: a start, steps of one bot and of forty, an undo and a copy, at the resolution that is
+ * given, with so many notes. */
+#include "nanobot_machine.h"
+
+#include <stdio.h>
+#include <stdlib.h>
+#include <time.h>
+
+enum { TIMES = 1000000, BOTS = 40 };
+
+static double now(void)
+{
+    struct timespec t;
+    clock_gettime(CLOCK_MONOTONIC, &t);
+    return (double)t.tv_sec + 1e-9 * (double)t.tv_nsec;
+}
+
+static void must(uint32_t status)
+{
+    if (status != NANOBOT_DONE)
+        exit((int)status);
+}
+
+/* Nanoseconds a step of these commands, by turns. */
+static double steps(nanobot_machine *machine, const uint8_t *even, const uint8_t *odd, size_t size)
+{
+    nanobot_step step;
+    double began = now();
+    for (int i = 0; i < TIMES; i++)
+        must(nanobot_machine_step(machine, i % 2 ? odd : even, size, &step));
+    return 1e9 * (now() - began) / TIMES;
+}
+
+/* Forty bots in a row: the last one splits, and the others wait. */
+static void split(nanobot_machine *machine)
+{
+    uint8_t commands[BOTS + 1];
+    nanobot_step step;
+    for (int bots = 1; bots < BOTS; bots++) {
+        for (int i = 0; i < bots - 1; i++)
+            commands[i] = 0xfe;
+        commands[bots - 1] = 0xb5; /* Fission <1,0,0> */
+        commands[bots] = (uint8_t)(BOTS - 1 - bots);
+        must(nanobot_machine_step(machine, commands, (size_t)bots + 1, &step));
+    }
+}
+
+int main(int count, char **words)
+{
+    static const uint8_t there[] = {0x34, 0x10}, back[] = {0x34, 0x0e}, fill[] = {0x73}, none[] = {0x72}, wait[] = {0xfe};
+    uint8_t waits[BOTS];
+    nanobot_machine machine = {0}, copy = {0};
+    uint32_t resolution = count > 1 ? (uint32_t)atoi(words[1]) : 20, notes = count > 2 ? (uint32_t)atoi(words[2]) : 0;
+    double began = now(), undo;
+    int undone = 0;
+    for (int i = 0; i < BOTS; i++)
+        waits[i] = 0xfe;
+    must(nanobot_machine_start_empty(resolution, false, notes, &machine));
+    printf("resolution %u, notes %u: start %.2f ms", resolution, notes, 1e3 * (now() - began));
+    printf(", wait %.0f ns", steps(&machine, wait, wait, 1));
+    printf(", move %.0f ns", steps(&machine, there, back, 2));
+    printf(", fill and void %.0f ns", steps(&machine, fill, none, 1));
+    began = now();
+    while (nanobot_machine_undo(&machine) == NANOBOT_DONE)
+        undone++;
+    undo = 1e9 * (now() - began) / (undone > 0 ? undone : 1);
+    if (undone > 0)
+        printf(", undo %.0f ns", undo);
+    began = now();
+    must(nanobot_machine_copy(&machine, &copy));
+    printf(", copy %.2f ms", 1e3 * (now() - began));
+    if (resolution >= BOTS) {
+        split(&machine);
+        printf(", forty that wait %.0f ns", steps(&machine, waits, waits, BOTS));
+    }
+    putchar('\n');
+    nanobot_machine_end(&copy);
+    nanobot_machine_end(&machine);
+    return 0;
+}

@@ -1,0 +1,147 @@
+"""Tests of the tools over small traces, and of a walk in a terminal."""
+
+import io
+import os
+import pty
+import subprocess
+import sys
+import tempfile
+import unittest
+
+from nanobot.explain import explain
+from nanobot.models import coords_of, resolution_of, voxels_of
+from nanobot.walk import Walk
+
+HERE = os.path.dirname(os.path.dirname(os.path.abspath(__file__)))
+# The empty model of resolution 3, and the one with the voxel (1,0,1).
+E3, P3 = b"\x03\x00\x00\x00\x00", b"\x03\x00\x04\x00\x00"
+# SMove <1,0,0>, Fill <0,0,1>, SMove <-1,0,0>, Halt: it builds P3
+POST = b"\x14\x10\x73\x14\x0e\xff"
+
+
+def lines(source, target, trace):
+    return list(explain(source, target, trace))
+
+
+class Explaining(unittest.TestCase):
+    def test_an_accepted_trace(self):
+        self.assertEqual(lines(E3, P3, POST), ["ok energy 420 steps 4"])
+
+    def test_both_groups_of_an_interference(self):
+        told = lines(E3, P3, b"\x75\x05\x73\xfe")
+        self.assertEqual(told[0], "broken 11 Interference step 2 bid 1 at 0 0 1")
+        self.assertEqual(told[1], "step 2 begins at byte 2, with 2 commands for 2 bots")
+        self.assertEqual(
+            told[2:],
+            [
+                "the group of bot 1 uses 0 0 1:",
+                "  byte 2: bot 1 at 0 0 0: Fill <0,0,1>",
+                "the group of bot 2 uses 0 0 1:",
+                "  byte 3: bot 2 at 0 0 1: Wait",
+            ],
+        )
+
+    def test_a_voxel_that_floats(self):
+        told = lines(E3, P3, b"\xfe\x83")
+        self.assertEqual(told[0], "broken 12 Ungrounded step 2 bid 0 at 0 1 0")
+        self.assertEqual(told[3], "  byte 1: bot 1 at 0 0 0: Fill <0,1,0>")
+
+    def test_a_bad_byte(self):
+        told = lines(E3, P3, b"\xfe\x04\xfe")
+        self.assertEqual(told, ["trace bad at 1", "the command at byte 1 is none: fe [04] fe", "it is that of bot 1 in step 2, which begins at byte 1"])
+
+    def test_a_trace_that_ends(self):
+        told = lines(E3, P3, POST[:2])
+        self.assertEqual(told[0], "broken 1 TraceEnds step 2 bid 1 at 1 0 0")
+
+    def test_a_wrong_result(self):
+        told = lines(E3, P3, b"\xff")
+        self.assertEqual(told[0], "broken 14 WrongResult step 1 bid 0 at 1 0 1")
+        self.assertEqual(told[1:], ["1 voxels differ from the target; the least:", "  1 0 1 is void, wanted: full"])
+
+    def test_what_follows_a_halt(self):
+        told = lines(P3, P3, b"\xff\xfe")
+        self.assertEqual(told[1], "the last bot halts in step 1, and 1 bytes are left from byte 1 on")
+
+
+class Models(unittest.TestCase):
+    def test_both_forms(self):
+        self.assertEqual((resolution_of(P3), list(coords_of(voxels_of(P3), 3))), (3, [(1, 0, 1)]))
+        # padding bits belong to no voxel
+        self.assertEqual(voxels_of(b"\x01\xfe"), 0)
+        # one full voxel at place 251 * 251 + 1: (1,0,1)
+        wide = b"\xff\x00\xfb" + b"".join(n.to_bytes(4, "big") for n in (63002, 1, 251**3 - 63003))
+        self.assertEqual((resolution_of(wide), list(coords_of(voxels_of(wide), 251))), (251, [(1, 0, 1)]))
+
+
+class Walking(unittest.TestCase):
+    def walk(self, *commands, trace=POST):
+        said = io.StringIO()
+        walk = Walk(E3, P3, trace, stdout=said)
+        for command in commands:
+            walk.onecmd(command)
+        walk.machine.close()
+        return said.getvalue().splitlines()
+
+    def test_there_and_back(self):
+        self.assertEqual(
+            self.walk("step 2", "voxel 1 0 1", "back", "voxel 1 0 1", "to 4", "to 0"),
+            [
+                "step 2 energy 216 bots 1 low",
+                "full level 0",
+                "step 1 energy 103 bots 1 low",
+                "void",
+                "step 4 energy 420 bots 0 low",
+                "step 0 energy 0 bots 1 low",
+            ],
+        )
+
+    def test_to_the_broken_step(self):
+        said = self.walk("broken", "bots", trace=b"\xfe\x83")
+        self.assertEqual(said[0], "broken 12 Ungrounded step 2 bid 0 at 0 1 0")
+        self.assertEqual(said[-2:], ["step 1 energy 101 bots 1 low", "  byte 1: bot 1 at 0 0 0: Fill <0,1,0>"])
+
+    def test_a_layer(self):
+        self.assertEqual(self.walk("step 2", "layer 0")[1:], [".o.", ".#.", "..."])
+
+    def test_words_that_are_not_understood(self):
+        self.assertEqual(self.walk("step x", "voxel 1", "voxel 9 9 9"), ["that is no number", "voxel X Y Z", "9 9 9 is out of space"])
+
+    def test_past_the_notes(self):
+        trace = b"\xfe" * 4200 + b"\xff"
+        said = self.walk("to 4200", "to 3", "step", trace=trace)
+        self.assertEqual(said, ["step 4200 energy 424200 bots 1 low", "step 3 energy 303 bots 1 low", "step 4 energy 404 bots 1 low"])
+
+    def test_in_a_terminal(self):
+        with tempfile.TemporaryDirectory() as folder:
+            names = [os.path.join(folder, name) for name in ("s", "t", "b")]
+            for name, data in zip(names, (E3, P3, POST)):
+                with open(name, "wb") as file:
+                    file.write(data)
+            own, other = pty.openpty()
+            words = [sys.executable, "-m", "nanobot", "walk", *names]
+            with subprocess.Popen(words, cwd=HERE, stdin=other, stdout=other, stderr=other, env={**os.environ, "TERM": "dumb"}) as ran:
+                os.close(other)
+                # A tab completes the word.
+                os.write(own, b"ste\t 2\nquit\n")
+                said = all_of(own)
+            os.close(own)
+        self.assertIn("energy 216", said)
+        self.assertEqual(ran.returncode, 0)
+
+
+def all_of(terminal):
+    """What is written to a terminal until its last writer ends."""
+    said = b""
+    while True:
+        try:
+            part = os.read(terminal, 4096)
+        except OSError:
+            return said.decode()
+        if not part:
+            return said.decode()
+        said += part
+
+
+if __name__ == "__main__":
+    unittest.main()

@@ -1,0 +1,227 @@
+//! Each export as a caller in C calls it. The energies are those of the rules: at resolution 3 a step costs 101 with one bot under
+//! low harmonics, a move 2 for each voxel, and a voxel that becomes full 12.
+use crate::comparing::nanobot_machine_compare;
+use crate::handle::Handle;
+use crate::reading::{
+    nanobot_machine_bots, nanobot_machine_count, nanobot_machine_full, nanobot_machine_level,
+    nanobot_machine_model, nanobot_machine_tell,
+};
+use crate::starting::{
+    nanobot_machine_copy, nanobot_machine_end, nanobot_machine_start, nanobot_machine_start_empty,
+};
+use crate::stepping::{nanobot_machine_step, nanobot_machine_undo};
+use crate::told::{BotTold, BrokenTold, MachineTold, ModelTold, PlaceTold, StepTold};
+use std::alloc::Global;
+use std::process::Abort;
+use std::test::Fail;
+
+/// The model of resolution 3 with the voxel (1,0,1).
+const P3: &[u8] = &[0x03, 0x00, 0x04, 0x00, 0x00];
+
+/// A model with a full voxel at (0,0,0), outside the legal box.
+const BORDER: &[u8] = &[0x03, 0x01, 0x00, 0x00, 0x00];
+
+/// `SMove <1,0,0>`, `Fill <0,0,1>`, `Fill <0,1,0>`, `Fission <0,0,1> 5`, `Wait`, `Halt`.
+const MOVE: &[u8] = &[0x14, 0x10];
+
+const FILL: &[u8] = &[0x73];
+
+const FILL_ABOVE: &[u8] = &[0x83];
+
+const SPLIT: &[u8] = &[0x75, 0x05];
+
+const WAIT: &[u8] = &[0xFE];
+
+const HALT: &[u8] = &[0xFF];
+
+/// A machine of resolution 3 over the empty model, with so many notes.
+fn empty_of_three(rt: &impl Abort, alloc: Global, notes: u32) -> Handle {
+    let mut handle = Handle::empty(alloc);
+    assert_eq!(rt;
+        nanobot_machine_start_empty(alloc, 3, false, notes, &mut handle),
+        0
+    );
+    handle
+}
+
+/// A step ends with this status, energy and number of steps, and breaks this rule, 0 for none.
+fn assert_steps(
+    rt: &impl Abort,
+    alloc: Global,
+    handle: &mut Handle,
+    commands: &[u8],
+    (status, energy, steps, rule): (u32, i64, u32, u32),
+) {
+    let mut told = StepTold {
+        energy: 7,
+        offset: 7,
+        steps: 7,
+        active: 7,
+        broken: BrokenTold::none(),
+    };
+    assert_eq!(rt;
+        nanobot_machine_step(alloc, handle, commands, &mut told),
+        status
+    );
+    assert_eq!(rt; told.energy, energy);
+    assert_eq!(rt; told.steps, steps);
+    assert_eq!(rt; told.broken.rule, rule);
+}
+
+/// The last step is taken back, with this status.
+fn assert_undone(rt: &impl Abort, alloc: Global, handle: &mut Handle, status: u32) {
+    assert_eq!(rt; nanobot_machine_undo(alloc, handle), status);
+}
+
+/// The machine stands after so many steps, and so many of them can be taken back.
+fn assert_stands(rt: &impl Abort, alloc: Global, handle: &mut Handle, steps: u32, noted: u64) {
+    let mut told = MachineTold {
+        energy: 7,
+        steps: 7,
+        active: 7,
+        resolution: 7,
+        high: 7,
+        noted: 7,
+    };
+    assert_eq!(rt; nanobot_machine_tell(alloc, handle, &mut told), 0);
+    assert_eq!(rt; told.steps, steps);
+    assert_eq!(rt; told.noted, noted);
+    assert_eq!(rt; told.resolution, 3);
+}
+
+/// So many voxels are full.
+fn assert_counts(rt: &impl Abort, alloc: Global, handle: &mut Handle, full: u32) {
+    let mut count = 7;
+    assert_eq!(rt; nanobot_machine_count(alloc, handle, &mut count), 0);
+    assert_eq!(rt; count, full);
+}
+
+/// The level at a coordinate, or the status of none.
+fn assert_level(rt: &impl Abort, alloc: Global, handle: &mut Handle, y: u32, status: u32) {
+    let mut level = 7;
+    assert_eq!(rt;
+        nanobot_machine_level(alloc, handle, 1, y, 1, &mut level),
+        status
+    );
+    assert_eq!(rt; level, if status == 0 { 0 } else { 7 });
+}
+
+#[test]
+fn a_post_is_built_and_taken_back(rt: HostRuntime) -> Result<(), Fail> {
+    let alloc = rt.alloc();
+    let mut handle = empty_of_three(&rt, alloc, 2);
+    assert_steps(&rt, alloc, &mut handle, MOVE, (0, 103, 1, 0));
+    assert_steps(&rt, alloc, &mut handle, FILL, (0, 216, 2, 0));
+    assert_level(&rt, alloc, &mut handle, 0, 0);
+    assert_undone(&rt, alloc, &mut handle, 0);
+    assert_counts(&rt, alloc, &mut handle, 0);
+    assert_undone(&rt, alloc, &mut handle, 0);
+    assert_undone(&rt, alloc, &mut handle, 15);
+    assert_stands(&rt, alloc, &mut handle, 0, 0);
+    nanobot_machine_end(alloc, &mut handle);
+    assert_undone(&rt, alloc, &mut handle, 11);
+    Ok(())
+}
+
+#[test]
+fn a_refused_step_leaves_all(rt: HostRuntime) -> Result<(), Fail> {
+    let alloc = rt.alloc();
+    let mut handle = empty_of_three(&rt, alloc, 0);
+    assert_steps(&rt, alloc, &mut handle, FILL_ABOVE, (1, 0, 0, 12));
+    assert_counts(&rt, alloc, &mut handle, 0);
+    assert_level(&rt, alloc, &mut handle, 1, 17);
+    assert_level(&rt, alloc, &mut handle, 3, 16);
+    assert_steps(&rt, alloc, &mut handle, &[0xFE, 0x04], (4, 0, 0, 0));
+    assert_steps(&rt, alloc, &mut handle, &[], (13, 0, 0, 0));
+    assert_steps(&rt, alloc, &mut handle, WAIT, (0, 101, 1, 0));
+    assert_steps(&rt, alloc, &mut handle, HALT, (0, 202, 2, 0));
+    assert_steps(&rt, alloc, &mut handle, WAIT, (12, 202, 2, 0));
+    Ok(())
+}
+
+#[test]
+fn a_copy_goes_its_own_way(rt: HostRuntime) -> Result<(), Fail> {
+    let alloc = rt.alloc();
+    let mut handle = empty_of_three(&rt, alloc, 5);
+    assert_steps(&rt, alloc, &mut handle, MOVE, (0, 103, 1, 0));
+    let mut copy = Handle::empty(alloc);
+    assert_eq!(&rt; nanobot_machine_copy(alloc, &mut handle, &mut copy), 0);
+    assert_steps(&rt, alloc, &mut copy, FILL, (0, 216, 2, 0));
+    assert_counts(&rt, alloc, &mut handle, 0);
+    assert_counts(&rt, alloc, &mut copy, 1);
+    assert_stands(&rt, alloc, &mut handle, 1, 1);
+    assert_stands(&rt, alloc, &mut copy, 2, 1);
+    Ok(())
+}
+
+#[test]
+fn two_bots_are_told(rt: HostRuntime) -> Result<(), Fail> {
+    let alloc = rt.alloc();
+    let mut handle = empty_of_three(&rt, alloc, 0);
+    assert_steps(&rt, alloc, &mut handle, SPLIT, (0, 125, 1, 0));
+    let mut bots = [BotTold {
+        seeds: 0,
+        bid: 0,
+        x: 0,
+        y: 0,
+        z: 0,
+    }; 2];
+    let mut count = 0;
+    assert_eq!(&rt;
+        nanobot_machine_bots(alloc, &mut handle, &mut bots[..1], &mut count),
+        10
+    );
+    assert_eq!(&rt; count, 2);
+    assert_eq!(&rt;
+        nanobot_machine_bots(alloc, &mut handle, &mut bots, &mut count),
+        0
+    );
+    assert_eq!(&rt; bots[1].bid, 2);
+    assert_eq!(&rt; bots[1].z, 1);
+    assert_eq!(&rt; bots[1].seeds, 0b1111_1000);
+    Ok(())
+}
+
+#[test]
+fn models_are_started_compared_and_given(rt: HostRuntime) -> Result<(), Fail> {
+    let alloc = rt.alloc();
+    let mut handle = Handle::empty(alloc);
+    let mut refusal = ModelTold::none();
+    assert_eq!(&rt;
+        nanobot_machine_start(alloc, BORDER, false, 0, &mut handle, &mut refusal),
+        3
+    );
+    assert_eq!(&rt; refusal.number, 6);
+    assert_eq!(&rt;
+        nanobot_machine_start(alloc, P3, true, 4097, &mut handle, &mut refusal),
+        2
+    );
+    assert_eq!(&rt;
+        nanobot_machine_start(alloc, P3, true, 0, &mut handle, &mut refusal),
+        0
+    );
+    let mut full = 7;
+    assert_eq!(&rt;
+        nanobot_machine_full(alloc, &mut handle, 1, 0, 1, &mut full),
+        0
+    );
+    assert_eq!(&rt; full, 1);
+    let mut place = PlaceTold { x: 7, y: 7, z: 7 };
+    assert_eq!(&rt;
+        nanobot_machine_compare(alloc, &mut handle, P3, &mut place, &mut refusal),
+        0
+    );
+    assert_eq!(&rt;
+        nanobot_machine_compare(alloc, &mut handle, BORDER, &mut place, &mut refusal),
+        18
+    );
+    assert_eq!(&rt; place.x, 0);
+    let mut model = vec![in alloc; 0u8; 5]?;
+    let mut size = 0;
+    assert_eq!(&rt;
+        nanobot_machine_model(alloc, &mut handle, &mut model, &mut size),
+        0
+    );
+    assert_eq!(&rt; model.as_slice(), P3);
+    Ok(())
+}
