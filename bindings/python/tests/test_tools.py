@@ -1,4 +1,5 @@
-"""Tests of the tools over small traces, and of a walk in a terminal."""
+"""Tests of the tools over small traces, and of a walk in a terminal. `scripts/try_explain` of the repository breaks each rule by each
+command that can break it."""
 
 import io
 import os
@@ -58,6 +59,23 @@ class Explaining(unittest.TestCase):
         told = lines(E3, P3, b"\xff")
         self.assertEqual(told[0], "broken 14 WrongResult step 1 bid 0 at 1 0 1")
         self.assertEqual(told[1:], ["1 voxels differ from the target; the least:", "  1 0 1 is void, wanted: full"])
+        self.assertEqual(lines(E3, None, POST)[2:], ["  1 0 1 is full, wanted: void"])
+
+    def test_bad_bytes_behind_a_broken_step(self):
+        # Flip, Halt under High, and then a byte that begins no command
+        told = lines(E3, P3, b"\xfd\xff\x03")
+        self.assertEqual(told[0], "trace bad at 2")
+        self.assertEqual(told[1:], ["the command at byte 2 is none: fd ff [03]", "before it, at byte 1: broken 4 HaltLow step 2 bid 1 at 0 0 0"])
+
+    def test_cut_bytes_behind_a_halt(self):
+        told = lines(E3, P3, b"\xff\x14")
+        self.assertEqual(told[0], "trace cut at 1")
+        self.assertEqual(told[1:], ["the command at byte 1 is cut: ff [14]", "before it the last bot halts in step 1, which ends at byte 1"])
+
+    def test_models_that_are_refused(self):
+        self.assertEqual(lines(P3[:3], None, POST), ["source 3 Short want 5 have 3"])
+        self.assertEqual(lines(E3, P3[:3], POST), ["target 3 Short want 5 have 3"])
+        self.assertEqual(lines(E3, b"\x01\x00", POST), ["resolutions 3 1"])
 
     def test_what_follows_a_halt(self):
         told = lines(P3, P3, b"\xff\xfe")
@@ -100,6 +118,10 @@ class Walking(unittest.TestCase):
         said = self.walk("broken", "bots", trace=b"\xfe\x83")
         self.assertEqual(said[0], "broken 12 Ungrounded step 2 bid 0 at 0 1 0")
         self.assertEqual(said[-2:], ["step 1 energy 101 bots 1 low", "  byte 1: bot 1 at 0 0 0: Fill <0,1,0>"])
+
+    def test_bytes_that_are_no_commands(self):
+        for command in ("step", "bots", "groups"):
+            self.assertEqual(self.walk(command, trace=b"\x03")[0], "no command at byte 0")
 
     def test_a_layer(self):
         self.assertEqual(self.walk("step 2", "layer 0")[1:], [".o.", ".#.", "..."])
