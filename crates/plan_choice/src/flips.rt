@@ -11,7 +11,7 @@ use plan_tape::Plan;
 use std::alloc::Global;
 use std::marker::Brand;
 use std::sync::ledger::{Blank, Ledger};
-use step_machine::Machine;
+use step_machine::{Machine, StepFault};
 use vox_geom::{Memory, Steps};
 use vox_planes::Planes;
 
@@ -82,8 +82,10 @@ fn lowered_in<L: Ledger>(
         }
         let (step, later) = rest.split_at(count);
         rest = later;
-        if machine.step(step, &mut steps).is_err() {
-            break;
+        match machine.step(step, &mut steps) {
+            Ok(_) => {}
+            Err(StepFault::Memory) => return Err(Memory),
+            Err(StepFault::Broken(_) | StepFault::Spent) => break,
         }
         let floats = machine.forest().floating() > 0;
         if is_flip(step) {
