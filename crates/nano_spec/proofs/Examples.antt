@@ -1,17 +1,19 @@
 -- Worked examples of spellings, traces, models, levels and texts, each by computing.
-use Rattle.std.proofs.Common.{refl, [], ◌∷◌, pos}
+use Rattle.std.proofs.Common.{◌≡◌, ◌+◌, ◌≤◌, refl, subst, arith, [], ◌∷◌, ◌++◌, length, pos}
 use Rattle.std.specs.Fmt.{digits}
 use Rattle.std.specs.Prelude.{Some, None}
 use Rattle.nano_spec.specs.declared.commands.Command.TheVariants.{Wait, SMove, FusionP, GFill}
 use Rattle.nano_spec.specs.Grounded.{Grounded}
 use Rattle.nano_spec.specs.Legal.{Border, Floating}
 use Rattle.nano_spec.specs.Matrix.{empty}
+use Rattle.nano_spec.specs.Spelling.{spellings}
 use Rattle.nano_spec.specs.Worked.{diff, voxels_at}
-use Rattle.nano_spec.specs.WorkedBytes.{WorkedSpellings, WorkedTraces, WorkedModels, WorkedTexts}
+use Rattle.nano_spec.specs.WorkedBytes.{WorkedSpellings, WorkedTraces, WorkedMisreadings, WorkedModels, WorkedTexts}
 use Rattle.nano_spec.proofs.Heads.{bad, bad_whatever_follows, cut, too_wide}
 use Rattle.nano_spec.proofs.Island.{floats}
 use Rattle.nano_spec.proofs.Levels.{before, afterwards}
 use Rattle.nano_spec.proofs.Simulation.{legality_is}
+use Rattle.nano_spec.proofs.Traces.{suffix}
 use Rattle.nano_spec.proofs.WorkDone.{void_is}
 use Rattle.vox_geom.specs.Point.{coord}
 
@@ -52,6 +54,20 @@ worked_traces = record {
   a_fission_of_255 = ((refl, tt), refl);
   a_cut_that_is_bad = bad_whatever_follows (0x71 ∷ 0x3D ∷ []) [] 0 0x71 (0x3D ∷ []) refl refl refl too_wide refl;
   a_far_difference_is_cut = cut (0x71 ∷ 0x1E ∷ []) [] 0 0x71 (0x1E ∷ []) (GFill (diff (pos 0) (pos 0) (pos 1)) (diff (pos 0) (pos 0) (pos 1))) (0x1E ∷ 0x1F ∷ []) refl refl refl refl refl (λ e. cc) refl;
+}
+
+-- by what the definitions say alone, and by no lemma on decodings
+pub worked_misreadings : WorkedMisreadings
+worked_misreadings = record {
+  no_bad_byte_at_a_command = λ d.
+      let least : length d.0 ≤ 1 = d.1.1 (0x04 ∷ []) (Wait ∷ [], (refl, tt), refl) in
+      let whole : 2 ≡ 0 + length d.0 = d.3 in
+      omega arith;
+  a_cut_that_is_not_bad = λ d.
+      let front : 0x14 ∷ [] ≡ spellings d.1.0.0 ++ d.0 = d.1.0.2 in
+      let whole : 1 ≡ 0 + length d.0 = d.3 in
+      let same : 0x14 ∷ [] ≡ d.0 = suffix [] (spellings d.1.0.0) (0x14 ∷ []) d.0 front (omega arith) in
+      d.4 (SMove (diff (pos 12) (pos 0) (pos 0)), 0x1B ∷ [], refl, (λ e. cc), subst (λ rest. rest ++ 0x1B ∷ [] ≡ 0x14 ∷ 0x1B ∷ []) same refl);
 }
 
 -- by its path alone, and by no lemma

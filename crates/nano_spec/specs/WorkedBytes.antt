@@ -74,6 +74,13 @@ pub record WorkedTraces : Type 0 where
   -- one of 0 does
   pub a_far_difference_is_cut : Decoding (hex "71 1E") (Err (CutAt 0))
 
+-- what the bytes of a trace do not say
+pub record WorkedMisreadings : Type 0 where
+  -- the offset is that of the bad byte, and not of the command before it
+  pub no_bad_byte_at_a_command : Decoding (hex "FE 04") (Err (BadAt 0)) → ⊥
+  -- a move without its length is cut, and not bad
+  pub a_cut_that_is_not_bad : Decoding (hex "14") (Err (BadAt 0)) → ⊥
+
 -- what the bytes of a model say, whether it is legal, and levels
 pub record WorkedModels : Type 0 where
   -- no byte

@@ -26,7 +26,7 @@ ghost use Rattle.nano_spec.specs.Spelling.{spelling};
 ghost use Rattle.nano_spec.specs.State.{IsReady, IsWellFormed, State, opening};
 ghost use Rattle.nano_spec.specs.Verdict.{VerdictOf};
 ghost use Rattle.nano_spec.specs.Work.{Work};
-ghost use Rattle.nano_spec.specs.WorkedBytes.{WorkedSpellings, WorkedTraces, WorkedModels, WorkedTexts};
+ghost use Rattle.nano_spec.specs.WorkedBytes.{WorkedSpellings, WorkedTraces, WorkedMisreadings, WorkedModels, WorkedTexts};
 ghost use Rattle.nano_spec.specs.WorkedOthers.{FloatingUnderHigh, WorkedForge, WorkedNames, WorkedOrders, WorkedStates, WorkedWork};
 ghost use Rattle.nano_spec.specs.WorkedRules.{MeetingGroups, OrderOfRules};
 ghost use Rattle.nano_spec.specs.WorkedRuns.{AcceptedRuns, RefusedRuns, LightRuns};
@@ -146,6 +146,7 @@ pub fn worked_runs()
 pub fn worked_bytes()
     ensures spellings { WorkedSpellings }
     ensures traces { WorkedTraces }
+    ensures misreadings { WorkedMisreadings }
     ensures models { WorkedModels }
     ensures texts { WorkedTexts }
 {}
