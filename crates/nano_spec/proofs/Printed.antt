@@ -1,6 +1,6 @@
 -- What is printed is read back as the same commands.
 use Rattle.std.proofs.Common.{◌≡◌, ℕ, suc, ◌+◌, ◌*◌, ◌-◌, ◌/◌, ◌%◌, ◌<◌, ◌≤◌, refl, sym, ◌∙◌, ap, subst, inl, inr, ◌⊎◌, arith, Bool, true, false, cond, ◌&&◌, ◌==◌, not, List, [], ◌∷◌, ◌++◌, map, take, ℤ, pos, negsuc}
-use Rattle.std.specs.Prelude.{int_le, ◌||◌, Contains, IsFalse, IsTrue, Ok, Some, codes, decimal, flat_map, nat_le, nat_lt, unsigned_abs}
+use Rattle.std.specs.Prelude.{◌||◌, Contains, IsFalse, IsTrue, Ok, Some, codes, decimal, flat_map, nat_le, nat_lt, unsigned_abs}
 use Rattle.std.specs.Fmt.{digits as fmt_digits, signed_decimal}
 use Rattle.std.specs.List.{onto_first, before_first, list_all, position_or_len, slice_split}
 use Rattle.std.specs.Str.{bytes_eq}
@@ -16,7 +16,7 @@ use Rattle.nano_spec.specs.Command.{IsCommand}
 use Rattle.nano_spec.specs.Cutting.{AreCommands}
 use Rattle.nano_spec.specs.Printing.{print, printed, printed_difference, spaced}
 use Rattle.nano_spec.specs.Line.{word_of, from_word, after_word, Says, line_content, has_high_byte, line_of, without_return}
-use Rattle.nano_spec.specs.LineForm.{Blanks, Mark, Number, Part, Read, Word, SMoveWord, LMoveWord, FusionPWord, FusionSWord, FissionWord, FillWord, VoidWord, GFillWord, GVoidWord, after_blanks, command_of, difference_parts, digits, form, has_range, is_blank, is_digit, negative, numbers, readings}
+use Rattle.nano_spec.specs.LineForm.{Blanks, Mark, Number, Part, Read, Word, after_blanks, difference_parts, digits, is_blank, is_digit, negative, numbers, readings}
 use Rattle.nano_spec.specs.Reading.{read, read_lines, with_first, without_last_empty}
 use Rattle.nano_spec.proofs.Grounding.{left, right}
 use Rattle.nano_spec.proofs.Lines.{is_says}
@@ -273,7 +273,7 @@ far_small d h = let most : clen d ≤ 30 = at_most (clen d) 30 (right (nat_le 1 
 -- what is left of a line is of the form of the command
 abbrev LineBy : List ℕ → Command → Type 0
 LineBy line command =
-    (word : Word) × (ns : List ℤ) × (word_of (from_word line) ≡ Some word) × Contains (readings (form word) (after_word (from_word line))) ns × IsTrue (has_range word ns) × (command ≡ command_of word ns)
+    (word : Word) × (ns : List ℤ) × (word_of (from_word line) ≡ Some word) × Contains (readings word.form (after_word (from_word line))) ns × (word.command ns ≡ Some command) × IsCommand command
 
 -- a plain line of the form of a command says the command
 says : (line : List ℕ) (c : Command) → Plain line → list_all is_blank line ≡ false → LineBy line c → line_of line ≡ Says c
@@ -306,45 +306,42 @@ number_too d m s l =
 below_256 : (m : ℕ) → nat_lt m 256 ≡ true → m < 256
 below_256 m h = grind (arith, nat_tests)
 
-in_byte : (m : ℕ) → m < 256 → (int_le (pos 0) (pos m) ≡ true) × (int_le (pos m) (pos 255) ≡ true)
-in_byte m l = (grind (arith, nat_tests), grind (arith, nat_tests))
-
 says_printed : (c : Command) → IsCommand c → line_of (printed c) ≡ Says c
 says_printed Halt h = refl
 says_printed Wait h = refl
 says_printed Flip h = refl
 says_printed (SMove d) h =
     let s : IsSmall d = long_small d h in
-    says (printed (SMove d)) (SMove d) (plain_append (codes "SMove") (spaced d) refl (plain_spaced d s)) refl (SMoveWord, d.dx ∷ d.dy ∷ d.dz ∷ [], refl, one_read d s, h, refl)
+    says (printed (SMove d)) (SMove d) (plain_append (codes "SMove") (spaced d) refl (plain_spaced d s)) refl (_, d.dx ∷ d.dy ∷ d.dz ∷ [], refl, one_read d s, refl, h)
 says_printed (LMove d e) h =
     let s : IsSmall d = short_small d (left (is_short d) (is_short e) h) in
     let t : IsSmall e = short_small e (right (is_short d) (is_short e) h) in
-    says (printed (LMove d e)) (LMove d e) (plain_append (codes "LMove" ++ spaced d) (spaced e) (plain_append (codes "LMove") (spaced d) refl (plain_spaced d s)) (plain_spaced e t)) refl (LMoveWord, d.dx ∷ d.dy ∷ d.dz ∷ e.dx ∷ e.dy ∷ e.dz ∷ [], refl, two_read d e s t, h, refl)
+    says (printed (LMove d e)) (LMove d e) (plain_append (codes "LMove" ++ spaced d) (spaced e) (plain_append (codes "LMove") (spaced d) refl (plain_spaced d s)) (plain_spaced e t)) refl (_, d.dx ∷ d.dy ∷ d.dz ∷ e.dx ∷ e.dy ∷ e.dz ∷ [], refl, two_read d e s t, refl, h)
 says_printed (FusionP d) h =
     let s : IsSmall d = near_small d h in
-    says (printed (FusionP d)) (FusionP d) (plain_append (codes "FusionP") (spaced d) refl (plain_spaced d s)) refl (FusionPWord, d.dx ∷ d.dy ∷ d.dz ∷ [], refl, one_read d s, h, refl)
+    says (printed (FusionP d)) (FusionP d) (plain_append (codes "FusionP") (spaced d) refl (plain_spaced d s)) refl (_, d.dx ∷ d.dy ∷ d.dz ∷ [], refl, one_read d s, refl, h)
 says_printed (FusionS d) h =
     let s : IsSmall d = near_small d h in
-    says (printed (FusionS d)) (FusionS d) (plain_append (codes "FusionS") (spaced d) refl (plain_spaced d s)) refl (FusionSWord, d.dx ∷ d.dy ∷ d.dz ∷ [], refl, one_read d s, h, refl)
+    says (printed (FusionS d)) (FusionS d) (plain_append (codes "FusionS") (spaced d) refl (plain_spaced d s)) refl (_, d.dx ∷ d.dy ∷ d.dz ∷ [], refl, one_read d s, refl, h)
 says_printed (Fission d m) h =
     let near : IsTrue (is_near d) = left (is_near d) (nat_lt m 256) h in
     let s : IsSmall d = near_small d near in
     let l : m < 256 = below_256 m (right (is_near d) (nat_lt m 256) h) in
-    says (printed (Fission d m)) (Fission d m) (plain_append ((codes "Fission" ++ spaced d) ++ 32 ∷ []) (decimal m) (plain_append (codes "Fission" ++ spaced d) (32 ∷ []) (plain_append (codes "Fission") (spaced d) refl (plain_spaced d s)) refl) (plain_decimal m l)) refl (FissionWord, d.dx ∷ d.dy ∷ d.dz ∷ pos m ∷ [], refl, number_too d m s l, both (is_near d && int_le (pos 0) (pos m)) (int_le (pos m) (pos 255)) (both (is_near d) (int_le (pos 0) (pos m)) near (in_byte m l).0) (in_byte m l).1, refl)
+    says (printed (Fission d m)) (Fission d m) (plain_append ((codes "Fission" ++ spaced d) ++ 32 ∷ []) (decimal m) (plain_append (codes "Fission" ++ spaced d) (32 ∷ []) (plain_append (codes "Fission") (spaced d) refl (plain_spaced d s)) refl) (plain_decimal m l)) refl (_, d.dx ∷ d.dy ∷ d.dz ∷ pos m ∷ [], refl, number_too d m s l, refl, h)
 says_printed (Fill d) h =
     let s : IsSmall d = near_small d h in
-    says (printed (Fill d)) (Fill d) (plain_append (codes "Fill") (spaced d) refl (plain_spaced d s)) refl (FillWord, d.dx ∷ d.dy ∷ d.dz ∷ [], refl, one_read d s, h, refl)
+    says (printed (Fill d)) (Fill d) (plain_append (codes "Fill") (spaced d) refl (plain_spaced d s)) refl (_, d.dx ∷ d.dy ∷ d.dz ∷ [], refl, one_read d s, refl, h)
 says_printed (Void d) h =
     let s : IsSmall d = near_small d h in
-    says (printed (Void d)) (Void d) (plain_append (codes "Void") (spaced d) refl (plain_spaced d s)) refl (VoidWord, d.dx ∷ d.dy ∷ d.dz ∷ [], refl, one_read d s, h, refl)
+    says (printed (Void d)) (Void d) (plain_append (codes "Void") (spaced d) refl (plain_spaced d s)) refl (_, d.dx ∷ d.dy ∷ d.dz ∷ [], refl, one_read d s, refl, h)
 says_printed (GFill d f) h =
     let s : IsSmall d = near_small d (left (is_near d) (is_far f) h) in
     let t : IsSmall f = far_small f (right (is_near d) (is_far f) h) in
-    says (printed (GFill d f)) (GFill d f) (plain_append (codes "GFill" ++ spaced d) (spaced f) (plain_append (codes "GFill") (spaced d) refl (plain_spaced d s)) (plain_spaced f t)) refl (GFillWord, d.dx ∷ d.dy ∷ d.dz ∷ f.dx ∷ f.dy ∷ f.dz ∷ [], refl, two_read d f s t, h, refl)
+    says (printed (GFill d f)) (GFill d f) (plain_append (codes "GFill" ++ spaced d) (spaced f) (plain_append (codes "GFill") (spaced d) refl (plain_spaced d s)) (plain_spaced f t)) refl (_, d.dx ∷ d.dy ∷ d.dz ∷ f.dx ∷ f.dy ∷ f.dz ∷ [], refl, two_read d f s t, refl, h)
 says_printed (GVoid d f) h =
     let s : IsSmall d = near_small d (left (is_near d) (is_far f) h) in
     let t : IsSmall f = far_small f (right (is_near d) (is_far f) h) in
-    says (printed (GVoid d f)) (GVoid d f) (plain_append (codes "GVoid" ++ spaced d) (spaced f) (plain_append (codes "GVoid") (spaced d) refl (plain_spaced d s)) (plain_spaced f t)) refl (GVoidWord, d.dx ∷ d.dy ∷ d.dz ∷ f.dx ∷ f.dy ∷ f.dz ∷ [], refl, two_read d f s t, h, refl)
+    says (printed (GVoid d f)) (GVoid d f) (plain_append (codes "GVoid" ++ spaced d) (spaced f) (plain_append (codes "GVoid") (spaced d) refl (plain_spaced d s)) (plain_spaced f t)) refl (_, d.dx ∷ d.dy ∷ d.dz ∷ f.dx ∷ f.dy ∷ f.dz ∷ [], refl, two_read d f s t, refl, h)
 
 plain_printed : (c : Command) → IsCommand c → Plain (printed c)
 plain_printed Halt h = refl

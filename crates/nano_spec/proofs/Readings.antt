@@ -1,9 +1,12 @@
 -- A line has one reading by a form, or none.
 use Rattle.std.proofs.Common.{◌≡◌, ℕ, zero, suc, ◌+◌, ◌-◌, ◌*◌, refl, sym, ◌∙◌, ap, subst, inl, inr, arith, Bool, true, false, cond, ◌&&◌, not, List, [], ◌∷◌, ◌++◌, map, ℤ, pos}
-use Rattle.std.specs.Prelude.{IsTrue, ◌==◌, ◌⊎◌, flat_map}
+use Rattle.std.specs.Prelude.{IsTrue, ◌==◌, ◌⊎◌, flat_map, find, take_while, Some}
+use Rattle.std.specs.List.{list_all}
+use Rattle.std.specs.Str.{bytes_eq}
 use Rattle.std.proofs.lemmas.Bool.Decides.{nat_tests}
 use Rattle.nano_spec.specs.First.{HasOneAtMost}
-use Rattle.nano_spec.specs.LineForm.{is_blank, is_digit, Part, Blanks, Mark, Number, Word, HaltWord, WaitWord, FlipWord, SMoveWord, LMoveWord, FusionPWord, FusionSWord, FissionWord, FillWord, VoidWord, GFillWord, GVoidWord, form, after_blanks, Read, digits, negative, numbers, readings}
+use Rattle.nano_spec.specs.Line.{word_of}
+use Rattle.nano_spec.specs.LineForm.{is_blank, is_digit, Part, Blanks, Mark, Number, Word, words, is_letter, after_blanks, Read, digits, negative, numbers, readings}
 use Rattle.nano_spec.proofs.Grounding.{left, right}
 
 -- whether a form can't begin with a blank
@@ -164,20 +167,18 @@ one_reading (Mark m ∷ ps) h (b ∷ more) = by (b == m) (one_reading ps h more)
     by false later = tt
 one_reading (Number ∷ ps) h line = one_after_number ps line (left (is_free ps) (is_clear ps) h) (one_reading ps (right (is_free ps) (is_clear ps) h))
 
-clear : (w : Word) → IsTrue (is_clear (form w))
-clear HaltWord = refl
-clear WaitWord = refl
-clear FlipWord = refl
-clear SMoveWord = refl
-clear LMoveWord = refl
-clear FusionPWord = refl
-clear FusionSWord = refl
-clear FissionWord = refl
-clear FillWord = refl
-clear VoidWord = refl
-clear GFillWord = refl
-clear GVoidWord = refl
+-- what all have, the one that is found has
+found_has : {A : Type 0} (test has : A → Bool) (xs : List A) (x : A) → IsTrue (list_all has xs) → find test xs ≡ Some x → IsTrue (has x)
+found_has test has [] x h e = cc
+found_has test has (y ∷ ys) x h e = by (test y) e (found_has test has ys x (right (has y) (list_all has ys) h))
+  where
+    by : (t : Bool) → cond t (Some y) (find test ys) ≡ Some x → (find test ys ≡ Some x → IsTrue (has x)) → IsTrue (has x)
+    by true f later = let same : y ≡ x = cc in subst (λ z. IsTrue (has z)) same (left (has y) (list_all has ys) h)
+    by false f later = later f
+
+all_clear : IsTrue (list_all (λ w. is_clear w.form) words)
+all_clear = refl
 
 -- what follows a word has one reading by the form of the word, or none
-pub one_reading_of : (w : Word) (line : List ℕ) → HasOneAtMost (readings (form w) line)
-one_reading_of w line = one_reading (form w) (clear w) line
+pub one_reading_of : (w : Word) (line rest : List ℕ) → word_of line ≡ Some w → HasOneAtMost (readings w.form rest)
+one_reading_of w line rest e = one_reading w.form (found_has (λ v. bytes_eq v.letters (take_while is_letter line)) (λ v. is_clear v.form) words w all_clear e) rest

@@ -1,9 +1,10 @@
 -- What a line of text says: nothing, a command, or it is faulty (docs/FORMATS.md, "Trace text").
-use Rattle.std.specs.Prelude.{◌≡◌, IsTrue, Contains, ℕ, ℤ, Bool, cond, nat_lt, ◌==◌, List, [], ◌∷◌, drop, find, take_while, Option, Some, None}
+use Rattle.std.specs.Prelude.{◌≡◌, Contains, ℕ, ℤ, Bool, cond, nat_lt, ◌==◌, List, [], ◌∷◌, drop, find, take_while, Option, Some, None}
 use Rattle.std.specs.List.{list_all, list_any, before_first, prefix_len}
 use Rattle.std.specs.Str.{bytes_eq}
 use Rattle.nano_spec.specs.declared.commands.Command.{Command}
-use Rattle.nano_spec.specs.LineForm.{is_blank, is_letter, Word, letters, words, form, readings, command_of, has_range}
+use Rattle.nano_spec.specs.Command.{is_command, IsCommand}
+use Rattle.nano_spec.specs.LineForm.{is_blank, is_letter, Word, words, readings}
 
 -- what is wrong with a line
 pub data Fault : Type 0 where
@@ -34,21 +35,26 @@ from_word line = drop (prefix_len is_blank line) line
 
 -- the word of a line that begins with one: the longest run of letters
 abbrev pub word_of : List ℕ → Option Word
-word_of line = find (λ w. bytes_eq (letters w) (take_while is_letter line)) words
+word_of line = find (λ w. bytes_eq w.letters (take_while is_letter line)) words
 
 -- the rest of a line after its word
 abbrev pub after_word : List ℕ → List ℕ
 after_word line = drop (prefix_len is_letter line) line
 
+-- what a command says: each difference has to be of its kind, and the number of a Fission a byte
+abbrev pub in_range : Option Command → Line
+in_range None = Faulty Range
+in_range (Some command) = cond (is_command command) (Says command) (Faulty Range)
+
 -- what the numbers of a reading say
 abbrev pub said : Word → List (List ℤ) → Line
 said w [] = Faulty Shape
-said w (ns ∷ more) = cond (has_range w ns) (Says (command_of w ns)) (Faulty Range)
+said w (ns ∷ more) = in_range (w.command ns)
 
 -- what a line says by its word
 abbrev pub said_by : Option Word → List ℕ → Line
 said_by None rest = Faulty UnknownWord
-said_by (Some w) rest = said w (readings (form w) rest)
+said_by (Some w) rest = said w (readings w.form rest)
 
 -- whether a line has a byte above 7F
 abbrev pub has_high_byte : List ℕ → Bool
@@ -62,8 +68,7 @@ is_skipped line = list_all is_blank (line_content line)
 abbrev pub IsLineOf : List ℕ → Command → Type 0
 IsLineOf line command =
     (word : Word) × (ns : List ℤ) × (word_of (from_word (line_content line)) ≡ Some word)
-    × Contains (readings (form word) (after_word (from_word (line_content line)))) ns × IsTrue (has_range word ns)
-    × (command ≡ command_of word ns)
+    × Contains (readings word.form (after_word (from_word (line_content line)))) ns × (word.command ns ≡ Some command) × IsCommand command
 
 -- what a line says
 abbrev pub line_of : List ℕ → Line

@@ -1,10 +1,9 @@
--- The words of a line of text, the form of what follows each, and all ways to read a line by a form (docs/FORMATS.md, "Trace text").
-use Rattle.std.specs.Prelude.{ℕ, zero, suc, ◌+◌, ◌*◌, ◌-◌, ℤ, pos, neg_ℤ, unsigned_abs, int_le, Bool, cond, ◌&&◌, ◌||◌, nat_le, ◌==◌, List, [], ◌∷◌, ◌++◌, map, flat_map, codes, slice_index_or}
+-- All ways to read a line of text by a form, and the words, with the form of what follows each and what it says (docs/FORMATS.md, "Trace text").
+use Prim.Native.String.{String}
+use Rattle.std.specs.Prelude.{ℕ, zero, suc, ◌+◌, ◌*◌, ◌-◌, ℤ, pos, negsuc, neg_ℤ, Bool, cond, ◌&&◌, ◌||◌, nat_le, ◌==◌, List, [], ◌∷◌, ◌++◌, map, flat_map, codes, slice_index_or, Option, Some, None, option_map}
 use Rattle.vox_geom.specs.declared.difference.Diff.{Diff}
-use Rattle.vox_geom.specs.Difference.{is_near}
 use Rattle.nano_spec.specs.declared.commands.Command.{Command}
 use Rattle.nano_spec.specs.declared.commands.Command.TheVariants.{Halt, Wait, Flip, SMove, LMove, FusionP, FusionS, Fission, Fill, Void, GFill, GVoid}
-use Rattle.nano_spec.specs.Command.{is_command}
 
 -- a space or a tab
 abbrev pub is_blank : ℕ → Bool
@@ -18,40 +17,6 @@ is_digit b = nat_le 48 b && nat_le b 57
 abbrev pub is_letter : ℕ → Bool
 is_letter b = (nat_le 65 b && nat_le b 90) || (nat_le 97 b && nat_le b 122)
 
--- the twelve words
-pub data Word : Type 0 where
-  HaltWord : Word
-  WaitWord : Word
-  FlipWord : Word
-  SMoveWord : Word
-  LMoveWord : Word
-  FusionPWord : Word
-  FusionSWord : Word
-  FissionWord : Word
-  FillWord : Word
-  VoidWord : Word
-  GFillWord : Word
-  GVoidWord : Word
-
--- how a word is written
-abbrev pub letters : Word → List ℕ
-letters HaltWord = codes "Halt"
-letters WaitWord = codes "Wait"
-letters FlipWord = codes "Flip"
-letters SMoveWord = codes "SMove"
-letters LMoveWord = codes "LMove"
-letters FusionPWord = codes "FusionP"
-letters FusionSWord = codes "FusionS"
-letters FissionWord = codes "Fission"
-letters FillWord = codes "Fill"
-letters VoidWord = codes "Void"
-letters GFillWord = codes "GFill"
-letters GVoidWord = codes "GVoid"
-
--- all words
-abbrev pub words : List Word
-words = HaltWord ∷ WaitWord ∷ FlipWord ∷ SMoveWord ∷ LMoveWord ∷ FusionPWord ∷ FusionSWord ∷ FissionWord ∷ FillWord ∷ VoidWord ∷ GFillWord ∷ GVoidWord ∷ []
-
 -- a part of a line: any number of blanks, one byte, or a number
 pub data Part : Type 0 where
   Blanks : Part
@@ -61,21 +26,6 @@ pub data Part : Type 0 where
 -- blanks, and then a difference: <, number, comma, number, comma, number, >, with blanks round each number
 abbrev pub difference_parts : List Part
 difference_parts = Blanks ∷ Mark 60 ∷ Blanks ∷ Number ∷ Blanks ∷ Mark 44 ∷ Blanks ∷ Number ∷ Blanks ∷ Mark 44 ∷ Blanks ∷ Number ∷ Blanks ∷ Mark 62 ∷ []
-
--- the form of what follows a word
-abbrev pub form : Word → List Part
-form HaltWord = Blanks ∷ []
-form WaitWord = Blanks ∷ []
-form FlipWord = Blanks ∷ []
-form SMoveWord = difference_parts ++ Blanks ∷ []
-form LMoveWord = difference_parts ++ difference_parts ++ Blanks ∷ []
-form FusionPWord = difference_parts ++ Blanks ∷ []
-form FusionSWord = difference_parts ++ Blanks ∷ []
-form FissionWord = difference_parts ++ Blanks ∷ Number ∷ Blanks ∷ []
-form FillWord = difference_parts ++ Blanks ∷ []
-form VoidWord = difference_parts ++ Blanks ∷ []
-form GFillWord = difference_parts ++ difference_parts ++ Blanks ∷ []
-form GVoidWord = difference_parts ++ difference_parts ++ Blanks ∷ []
 
 -- what can be left of a line when some blanks at its front, or none, are taken away
 abbrev pub after_blanks : List ℕ → List (List ℕ)
@@ -119,22 +69,35 @@ number_at ns k = slice_index_or ns k (pos 0)
 abbrev pub difference_at : List ℤ → ℕ → Diff
 difference_at ns k = record { dx = number_at ns k; dy = number_at ns (k + 1); dz = number_at ns (k + 2) }
 
--- the command of a word and its numbers
-abbrev pub command_of : Word → List ℤ → Command
-command_of HaltWord ns = Halt
-command_of WaitWord ns = Wait
-command_of FlipWord ns = Flip
-command_of SMoveWord ns = SMove (difference_at ns 0)
-command_of LMoveWord ns = LMove (difference_at ns 0) (difference_at ns 3)
-command_of FusionPWord ns = FusionP (difference_at ns 0)
-command_of FusionSWord ns = FusionS (difference_at ns 0)
-command_of FissionWord ns = Fission (difference_at ns 0) (unsigned_abs (number_at ns 3))
-command_of FillWord ns = Fill (difference_at ns 0)
-command_of VoidWord ns = Void (difference_at ns 0)
-command_of GFillWord ns = GFill (difference_at ns 0) (difference_at ns 3)
-command_of GVoidWord ns = GVoid (difference_at ns 0) (difference_at ns 3)
+-- a number as a natural number, where it is one
+abbrev pub natural : ℤ → Option ℕ
+natural (pos n) = Some n
+natural (negsuc n) = None
 
--- whether the differences are of their kinds, and a Fission's number is 0 to 255
-abbrev pub has_range : Word → List ℤ → Bool
-has_range FissionWord ns = is_near (difference_at ns 0) && int_le (pos 0) (number_at ns 3) && int_le (number_at ns 3) (pos 255)
-has_range word ns = is_command (command_of word ns)
+-- a word: how it is written, the form of what follows it, and the command of the numbers that stand there, if they give one
+pub record Word : Type 0 where
+  pub letters : List ℕ
+  pub form : List Part
+  pub command : List ℤ → Option Command
+
+-- a word of these letters and parts, behind which blanks may stand
+abbrev pub word : String → List Part → (List ℤ → Option Command) → Word
+word letters parts command = record { letters = codes letters; form = parts ++ Blanks ∷ []; command = command }
+
+-- the twelve words
+abbrev pub words : List Word
+words =
+    word "Halt" [] (λ ns. Some Halt)
+    ∷ word "Wait" [] (λ ns. Some Wait)
+    ∷ word "Flip" [] (λ ns. Some Flip)
+    ∷ word "SMove" difference_parts (λ ns. Some (SMove (difference_at ns 0)))
+    ∷ word "LMove" (difference_parts ++ difference_parts) (λ ns. Some (LMove (difference_at ns 0) (difference_at ns 3)))
+    ∷ word "FusionP" difference_parts (λ ns. Some (FusionP (difference_at ns 0)))
+    ∷ word "FusionS" difference_parts (λ ns. Some (FusionS (difference_at ns 0)))
+    ∷ word "Fission" (difference_parts ++ Blanks ∷ Number ∷ [])
+    (λ ns. option_map (Fission (difference_at ns 0)) (natural (number_at ns 3)))
+    ∷ word "Fill" difference_parts (λ ns. Some (Fill (difference_at ns 0)))
+    ∷ word "Void" difference_parts (λ ns. Some (Void (difference_at ns 0)))
+    ∷ word "GFill" (difference_parts ++ difference_parts) (λ ns. Some (GFill (difference_at ns 0) (difference_at ns 3)))
+    ∷ word "GVoid" (difference_parts ++ difference_parts) (λ ns. Some (GVoid (difference_at ns 0) (difference_at ns 3)))
+    ∷ []

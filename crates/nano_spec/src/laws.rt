@@ -19,8 +19,8 @@ ghost use Rattle.nano_spec.specs.Next.{Next, Outcome};
 ghost use Rattle.nano_spec.specs.Printing.{print};
 ghost use Rattle.nano_spec.specs.Profile.{full_profile, light_profile};
 ghost use Rattle.nano_spec.specs.First.{HasOneAtMost};
-ghost use Rattle.nano_spec.specs.Line.{IsLineOf, Says, has_high_byte, is_skipped, line_of};
-ghost use Rattle.nano_spec.specs.LineForm.{Word, form, readings};
+ghost use Rattle.nano_spec.specs.Line.{IsLineOf, Says, has_high_byte, is_skipped, line_of, word_of};
+ghost use Rattle.nano_spec.specs.LineForm.{Word, readings};
 ghost use Rattle.nano_spec.specs.Reading.{read};
 ghost use Rattle.nano_spec.specs.Spelling.{spelling};
 ghost use Rattle.nano_spec.specs.State.{IsReady, IsWellFormed, State, opening};
@@ -93,7 +93,7 @@ pub fn one_decoding()
 
 /// What follows a word in a line of text has one reading by the form of that word, or none.
 pub fn one_reading()
-    ensures { (word : Word) (line : List ℕ) → HasOneAtMost (readings (form word) line) }
+    ensures { (word : Word) (line rest : List ℕ) → word_of line ≡ Some word → HasOneAtMost (readings word.form rest) }
 {}
 
 /// A line of text says a command exactly where it is of its form, is ASCII and is not skipped.

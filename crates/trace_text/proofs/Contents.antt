@@ -5,7 +5,7 @@ use Rattle.std.specs.List.{list_all, prefix_len}
 use Rattle.std.specs.Str.{bytes_eq}
 use Rattle.std.proofs.lemmas.Bool.Decides.{nat_tests}
 use Rattle.nano_spec.specs.Line.{Line, Skipped, Faulty, UnknownWord, line_content, has_high_byte, line_of, said, said_by, word_of, after_word, from_word}
-use Rattle.nano_spec.specs.LineForm.{Word, form, is_blank, is_letter, letters, readings, words}
+use Rattle.nano_spec.specs.LineForm.{Word, is_blank, is_letter, readings, words}
 
 some_no_zero : (n : ℕ) → (suc n == 0) ≡ false
 some_no_zero n = grind (arith, nat_tests)
@@ -55,12 +55,12 @@ by_word line middle rest h e =
     let low = h.low in
     rw (low, b) (ap (λ xs. said_by (word_of xs) (after_word xs)) r)
 
-pub says : (line middle rest word more : List ℕ) (w : Word) (s : Line) → HasParts line middle rest → false ≡ (length rest == 0) → word ≡ take_while is_letter rest → more ≡ drop (prefix_len is_letter rest) rest → Some w ≡ find (λ v. bytes_eq (letters v) word) words → s ≡ said w (readings (form w) more) → s ≡ line_of line
+pub says : (line middle rest word more : List ℕ) (w : Word) (s : Line) → HasParts line middle rest → false ≡ (length rest == 0) → word ≡ take_while is_letter rest → more ≡ drop (prefix_len is_letter rest) rest → Some w ≡ find (λ v. bytes_eq v.letters word) words → s ≡ said w (readings w.form more) → s ≡ line_of line
 says line middle rest word more w s h e f g k i =
-    let u : Some w ≡ word_of rest = k ∙ ap (λ xs. find (λ v. bytes_eq (letters v) xs) words) f in
-    i ∙ (ap (λ xs. said w (readings (form w) xs)) g ∙ (ap (λ o. said_by o (after_word rest)) u ∙ by_word line middle rest h e))
+    let u : Some w ≡ word_of rest = k ∙ ap (λ xs. find (λ v. bytes_eq v.letters xs) words) f in
+    i ∙ (ap (λ xs. said w (readings w.form xs)) g ∙ (ap (λ o. said_by o (after_word rest)) u ∙ by_word line middle rest h e))
 
-pub unknown : (line middle rest word : List ℕ) → HasParts line middle rest → false ≡ (length rest == 0) → word ≡ take_while is_letter rest → None ≡ find (λ v. bytes_eq (letters v) word) words → Faulty UnknownWord ≡ line_of line
+pub unknown : (line middle rest word : List ℕ) → HasParts line middle rest → false ≡ (length rest == 0) → word ≡ take_while is_letter rest → None ≡ find (λ v. bytes_eq v.letters word) words → Faulty UnknownWord ≡ line_of line
 unknown line middle rest word h e f k =
-    let u : None ≡ word_of rest = k ∙ ap (λ xs. find (λ v. bytes_eq (letters v) xs) words) f in
+    let u : None ≡ word_of rest = k ∙ ap (λ xs. find (λ v. bytes_eq v.letters xs) words) f in
     ap (λ o. said_by o (after_word rest)) u ∙ by_word line middle rest h e

@@ -1,5 +1,5 @@
 -- What is answered to a text, and what each type of the reader stands for in the definitions.
-use Rattle.std.specs.Prelude.{◌≡◌, ℕ, List, ⊤, Option, Some, None, Result, Ok, Err}
+use Rattle.std.specs.Prelude.{◌≡◌, ℕ, List, [], ⊤, Option, Some, None, Result, Ok, Err, slice_index_or}
 use Rattle.nano_spec.specs.declared.commands.Command.{Command}
 use Rattle.nano_spec.specs.Line as line
 use Rattle.nano_spec.specs.LineForm as form
@@ -42,20 +42,27 @@ line_is said.Skipped = line.Skipped
 line_is (said.Says command) = line.Says command
 line_is (said.Faulty fault) = line.Faulty (fault_of fault)
 
+-- the word with this number in the table of the definitions
+abbrev pub numbered : ℕ → form.Word
+numbered k = slice_index_or form.words k (form.word "" [] (λ ns. None))
+
 -- a word, by the definitions
 abbrev pub word_is : Word → form.Word
-word_is word.Halt = form.HaltWord
-word_is word.Wait = form.WaitWord
-word_is word.Flip = form.FlipWord
-word_is word.SMove = form.SMoveWord
-word_is word.LMove = form.LMoveWord
-word_is word.FusionP = form.FusionPWord
-word_is word.FusionS = form.FusionSWord
-word_is word.Fission = form.FissionWord
-word_is word.Fill = form.FillWord
-word_is word.Void = form.VoidWord
-word_is word.GFill = form.GFillWord
-word_is word.GVoid = form.GVoidWord
+word_is word.Halt = numbered 0
+word_is word.Wait = numbered 1
+word_is word.Flip = numbered 2
+word_is word.SMove = numbered 3
+word_is word.LMove = numbered 4
+word_is word.FusionP = numbered 5
+word_is word.FusionS = numbered 6
+word_is word.Fission = numbered 7
+word_is word.Fill = numbered 8
+word_is word.Void = numbered 9
+word_is word.GFill = numbered 10
+word_is word.GVoid = numbered 11
+
+abbrev pub fission_word : form.Word
+fission_word = word_is word.Fission
 
 abbrev pub word_if_any : Option Word → Option form.Word
 word_if_any None = None

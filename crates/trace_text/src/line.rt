@@ -2,9 +2,9 @@
 ghost use Rattle.std.specs.Prelude.{◌≡◌, ◌∷◌, ◌++◌, []};
 ghost use Rattle.vox_geom.specs.Difference.{is_far, is_long, is_near, is_short};
 ghost use Rattle.nano_spec.specs.Line.{line_content as content_of, line_of, said, without_return as without_return_of};
-ghost use Rattle.nano_spec.specs.LineForm.{Blanks, FissionWord, Number, difference_parts, form, readings};
+ghost use Rattle.nano_spec.specs.LineForm.{Blanks, Number, difference_parts, readings};
 ghost use Rattle.trace_text.specs.Forms.{StandsAlone, IsKind, IsNumber, IsOne, IsTwo, said_is};
-ghost use Rattle.trace_text.specs.Text.{line_is, word_is};
+ghost use Rattle.trace_text.specs.Text.{fission_word, line_is, word_is};
 
 use crate::fault::Fault;
 use crate::parts::{Rest, find};
@@ -64,7 +64,7 @@ fn without_return(line: &[u8]) -> &[u8]
 
 /// The command of a word and what follows it.
 fn command(word: Word, rest: &mut Rest) -> Result<Command, Fault>
-    ensures { said_is result ≡ said (word_is word) (readings (form (word_is word)) rest.old.bytes.now) }
+    ensures { said_is result ≡ said (word_is word) (readings (word_is word).form rest.old.bytes.now) }
 {
     match word {
         Word::Halt => alone(Command::Halt, rest),
@@ -129,7 +129,7 @@ fn two(rest: &mut Rest) -> Result<(Diff, Diff), Fault>
 
 /// What follows the word Fission, and the command.
 fn fission(rest: &mut Rest) -> Result<Command, Fault>
-    ensures { said_is result ≡ said FissionWord (readings (form FissionWord) rest.old.bytes.now) }
+    ensures { said_is result ≡ said fission_word (readings fission_word.form rest.old.bytes.now) }
 {
     let Some(difference) = rest.difference() else {
         return Err(Fault::Shape);

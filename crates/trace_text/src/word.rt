@@ -1,7 +1,7 @@
 //! The twelve words.
 ghost use Rattle.std.specs.Prelude.{◌≡◌, find};
 ghost use Rattle.std.specs.Str.{bytes_eq};
-ghost use Rattle.nano_spec.specs.LineForm.{letters as letters_of, words};
+ghost use Rattle.nano_spec.specs.LineForm.{words};
 ghost use Rattle.trace_text.specs.Text.{word_if_any};
 
 /// A command's word.
@@ -24,7 +24,7 @@ pub(crate) enum Word {
 impl Word {
     /// The word with these letters.
     pub(crate) fn of(letters: &[u8]) -> Option<Word>
-        ensures { word_if_any result ≡ find (λ w. bytes_eq (letters_of w) letters.now) words }
+        ensures { word_if_any result ≡ find (λ w. bytes_eq w.letters letters.now) words }
     {
         match letters {
             b"Halt" => Some(Word::Halt),
