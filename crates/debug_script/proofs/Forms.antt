@@ -7,11 +7,11 @@ use Rattle.std.proofs.lemmas.Bool.Decides.{nat_tests}
 use Rattle.std.proofs.lemmas.Slice.Eq.{bytes_eq-Decides}
 use Rattle.vox_geom.specs.declared.coordinate.Coord.{Coord}
 use Rattle.trace_text.specs.declared.fault.TextRefusal.TheVariants as refusal
-use Rattle.step_debugger.specs.Session as session
+use Rattle.step_debugger.specs.Session.{Back, Bots, DebugLine, Group, Step, Voxel}
 use Rattle.debug_script.specs.declared.line.ScriptLine.TheVariants as code
 use Rattle.debug_script.specs.declared.word.ScriptWord.{ScriptWord}
 use Rattle.debug_script.specs.Calls.{IsReadBy, all_words, script_letters}
-use Rattle.debug_script.specs.Script.{Back, Bots, Form, Group, HasFewDigits, IsForm, PartsSay, Step, Voxel, has_unknown_word, line_parts, parts_of}
+use Rattle.debug_script.specs.Script.{HasFewDigits, IsWritten, PartsSay, has_unknown_word, line_parts, parts_of}
 
 -- ---- a line has a part
 
@@ -69,14 +69,14 @@ module _ (bytes : List ℕ) where
   pub word_missed : (more : List (List ℕ)) → None ≡ find is_it all_words → has_unknown_word (bytes ∷ more) ≡ true
   word_missed more e = ap not (missed all_words (sym e))
 
--- ---- the form of a line, by its word
+-- ---- how a line is written, by its word
 
 abbrev first : List (List ℕ) → List ℕ
 first [] = []
 first (part ∷ more) = part
 
--- the first part tells forms apart
-apart : (v : List ℕ) (ps : List (List ℕ)) (f : Form) → bytes_eq v v ≡ true → bytes_eq v (first (parts_of f)) ≡ false → v ∷ ps ≡ parts_of f → ⊥
+-- the first part tells lines apart
+apart : (v : List ℕ) (ps : List (List ℕ)) (f : DebugLine) → bytes_eq v v ≡ true → bytes_eq v (first (parts_of f)) ≡ false → v ∷ ps ≡ parts_of f → ⊥
 apart v ps f same other e =
     let g : bytes_eq v v ≡ bytes_eq v (first (parts_of f)) = ap (λ (xs : List (List ℕ)). bytes_eq v (first xs)) e in
     let clash : true ≡ false = sym same ∙ (g ∙ other) in
@@ -90,23 +90,23 @@ pub rest_is : (a b : List ℕ) (ps qs : List (List ℕ)) → a ∷ ps ≡ b ∷ 
 rest_is a b ps qs e = cc
 
 module _ (ps : List (List ℕ)) where
-  pub no_group : ((n : ℕ) → HasFewDigits n → ps ≡ decimal n ∷ [] → ⊥) → (f : Form) → IsForm (codes "group" ∷ ps) f → ⊥
+  pub no_group : ((n : ℕ) → HasFewDigits n → ps ≡ decimal n ∷ [] → ⊥) → (f : DebugLine) → IsWritten (codes "group" ∷ ps) f → ⊥
   no_group none (Group n) h = none n h.short (behind (codes "group") ps (decimal n ∷ []) h.parts_are)
   no_group none f h = apart (codes "group") ps f refl refl h.parts_are
 
-  pub no_voxel : ((x y z : ℕ) → HasFewDigits x → HasFewDigits y → HasFewDigits z → ps ≡ decimal x ∷ decimal y ∷ decimal z ∷ [] → ⊥) → (f : Form) → IsForm (codes "voxel" ∷ ps) f → ⊥
-  no_voxel none (Voxel x y z) h = none x y z h.short.0 h.short.1 h.short.2 (behind (codes "voxel") ps (decimal x ∷ decimal y ∷ decimal z ∷ []) h.parts_are)
+  pub no_voxel : ((x y z : ℕ) → HasFewDigits x → HasFewDigits y → HasFewDigits z → ps ≡ decimal x ∷ decimal y ∷ decimal z ∷ [] → ⊥) → (f : DebugLine) → IsWritten (codes "voxel" ∷ ps) f → ⊥
+  no_voxel none (Voxel c) h = none c.x c.y c.z h.short.0 h.short.1 h.short.2 (behind (codes "voxel") ps (decimal c.x ∷ decimal c.y ∷ decimal c.z ∷ []) h.parts_are)
   no_voxel none f h = apart (codes "voxel") ps f refl refl h.parts_are
 
-  pub no_step : (ps ≡ [] → ⊥) → (f : Form) → IsForm (codes "step" ∷ ps) f → ⊥
+  pub no_step : (ps ≡ [] → ⊥) → (f : DebugLine) → IsWritten (codes "step" ∷ ps) f → ⊥
   no_step behind_it Step h = behind_it (behind (codes "step") ps [] h.parts_are)
   no_step behind_it f h = apart (codes "step") ps f refl refl h.parts_are
 
-  pub no_back : (ps ≡ [] → ⊥) → (f : Form) → IsForm (codes "back" ∷ ps) f → ⊥
+  pub no_back : (ps ≡ [] → ⊥) → (f : DebugLine) → IsWritten (codes "back" ∷ ps) f → ⊥
   no_back behind_it Back h = behind_it (behind (codes "back") ps [] h.parts_are)
   no_back behind_it f h = apart (codes "back") ps f refl refl h.parts_are
 
-  pub no_bots : (ps ≡ [] → ⊥) → (f : Form) → IsForm (codes "bots" ∷ ps) f → ⊥
+  pub no_bots : (ps ≡ [] → ⊥) → (f : DebugLine) → IsWritten (codes "bots" ∷ ps) f → ⊥
   no_bots behind_it Bots h = behind_it (behind (codes "bots") ps [] h.parts_are)
   no_bots behind_it f h = apart (codes "bots") ps f refl refl h.parts_are
 
@@ -123,11 +123,11 @@ and_false true = refl
 and_false false = refl
 
 module _ (r number : ℕ) (ps : List (List ℕ)) (n : ℕ) (few : HasFewDigits n) (are : ps ≡ decimal n ∷ []) where
-  group_form : IsForm (codes "group" ∷ ps) (Group n)
-  group_form = record { parts_are = ap (λ (qs : List (List ℕ)). codes "group" ∷ qs) are; short = few }
+  written : IsWritten (codes "group" ∷ ps) (Group n)
+  written = record { parts_are = ap (λ (qs : List (List ℕ)). codes "group" ∷ qs) are; short = few }
 
   out : (nat_lt 0 n && nat_lt n 41) ≡ false → IsReadBy (PartsSay r (codes "group" ∷ ps)) number (Err (refusal.Range number))
-  out e = ((Group n, group_form, ap (λ b. cond b (Some (session.Group n)) None) e), refl)
+  out e = ((Group n, written, e), refl)
 
   pub group_too_low : n < 1 → IsReadBy (PartsSay r (codes "group" ∷ ps)) number (Err (refusal.Range number))
   group_too_low l = out (ap (λ b. b && nat_lt n 41) (not_below 0 n (omega arith)))
@@ -138,17 +138,17 @@ module _ (r number : ℕ) (ps : List (List ℕ)) (n : ℕ) (few : HasFewDigits n
   pub group_in_range : 1 ≤ n → n ≤ 40 → IsReadBy (PartsSay r (codes "group" ∷ ps)) number (Ok (code.Group n))
   group_in_range l h =
       let e : (nat_lt 0 n && nat_lt n 41) ≡ true = ap (λ b. b && nat_lt n 41) (below 0 n (omega arith)) ∙ below n 41 (omega arith) in
-      (Group n, group_form, ap (λ b. cond b (Some (session.Group n)) None) e)
+      (written, e)
 
 module _ (r number : ℕ) (ps : List (List ℕ)) (x y z : ℕ) (fx : HasFewDigits x) (fy : HasFewDigits y) (fz : HasFewDigits z) (are : ps ≡ decimal x ∷ decimal y ∷ decimal z ∷ []) where
-  voxel_form : IsForm (codes "voxel" ∷ ps) (Voxel x y z)
-  voxel_form = record { parts_are = ap (λ (qs : List (List ℕ)). codes "voxel" ∷ qs) are; short = (fx, fy, fz) }
-
   abbrev at : Coord
   at = record { x = x; y = y; z = z }
 
+  spelled : IsWritten (codes "voxel" ∷ ps) (Voxel at)
+  spelled = record { parts_are = ap (λ (qs : List (List ℕ)). codes "voxel" ∷ qs) are; short = (fx, fy, fz) }
+
   outside : (nat_lt x r && nat_lt y r && nat_lt z r) ≡ false → IsReadBy (PartsSay r (codes "voxel" ∷ ps)) number (Err (refusal.Range number))
-  outside e = ((Voxel x y z, voxel_form, ap (λ b. cond b (Some (session.Voxel at)) None) e), refl)
+  outside e = ((Voxel at, spelled, e), refl)
 
   pub x_too_high : r ≤ x → IsReadBy (PartsSay r (codes "voxel" ∷ ps)) number (Err (refusal.Range number))
   x_too_high l = outside (ap (λ b. b && nat_lt y r && nat_lt z r) (not_below x r l))
@@ -162,11 +162,11 @@ module _ (r number : ℕ) (ps : List (List ℕ)) (x y z : ℕ) (fx : HasFewDigit
   pub voxel_in_range : x < r → y < r → z < r → IsReadBy (PartsSay r (codes "voxel" ∷ ps)) number (Ok (code.Voxel at))
   voxel_in_range lx ly lz =
       let e : (nat_lt x r && nat_lt y r && nat_lt z r) ≡ true = ap (λ b. b && nat_lt y r && nat_lt z r) (below x r lx) ∙ (ap (λ b. b && nat_lt z r) (below y r ly) ∙ below z r lz) in
-      (Voxel x y z, voxel_form, ap (λ b. cond b (Some (session.Voxel at)) None) e)
+      (spelled, e)
 
 -- ---- words
 
-pub has_shape_fault : (r number : ℕ) (line : List (List ℕ)) → has_unknown_word line ≡ false → ((f : Form) → IsForm line f → ⊥) → IsReadBy (PartsSay r line) number (Err (refusal.Shape number))
+pub has_shape_fault : (r number : ℕ) (line : List (List ℕ)) → has_unknown_word line ≡ false → ((f : DebugLine) → IsWritten line f → ⊥) → IsReadBy (PartsSay r line) number (Err (refusal.Shape number))
 has_shape_fault r number line known none = ((known, none), refl)
 
 pub has_word_fault : (r number : ℕ) (line : List (List ℕ)) → has_unknown_word line ≡ true → IsReadBy (PartsSay r line) number (Err (refusal.UnknownWord number))

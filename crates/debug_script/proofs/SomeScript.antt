@@ -1,4 +1,4 @@
--- Each script says something: a line is of a form or of none, and the forms are decided by the word.
+-- Each script says something: parts are those of a line or of none, which the word decides.
 use Rattle.std.proofs.Common.{◌≡◌, ◌⊎◌, ◌∙◌, ℕ, zero, suc, ◌+◌, ◌<◌, inl, inr, Bool, true, false, List, [], ◌∷◌, Some, None, Option, codes, decimal, find, refl, arith, sym, ap, subst}
 use Rattle.std.specs.Prelude.{MatchBool, Result, Ok, Err}
 use Rattle.std.specs.Str.{bytes_eq}
@@ -6,11 +6,11 @@ use Rattle.std.proofs.lemmas.Bool.{cases_lt}
 use Rattle.std.proofs.lemmas.Slice.Eq.{bytes_eq-Decides}
 use Rattle.nano_spec.specs.Line.{Fault, NotAscii, UnknownWord, Shape, Range, has_high_byte}
 use Rattle.nano_spec.specs.Reading.{FaultyLine, lines}
-use Rattle.step_debugger.specs.Session.{DebugLine}
+use Rattle.step_debugger.specs.Session.{Back, Bots, DebugLine, Group, Step, Voxel}
 use Rattle.debug_script.specs.declared.word.ScriptWord.{ScriptWord}
 use Rattle.debug_script.specs.declared.word.ScriptWord.TheVariants as word
 use Rattle.debug_script.specs.Calls.{all_words, script_letters}
-use Rattle.debug_script.specs.Script.{Back, Bots, Form, Group, HasFewDigits, IsForm, LineSays, LinesSay, PartsSay, ScriptSays, Step, Voxel, form_said, has_unknown_word, line_parts, with_first_line}
+use Rattle.debug_script.specs.Script.{HasFewDigits, IsWritten, LineSays, LinesSay, PartsSay, ScriptSays, is_in_range, has_unknown_word, line_parts, with_first_line}
 use Rattle.debug_script.proofs.Forms.{no_back, no_bots, no_group, no_step, no_voxel, parts_some, word_found, word_missed}
 
 -- ---- a part is a number of few digits or not
@@ -45,50 +45,50 @@ module _ (r : ℕ) where
   abbrev SaySome : List (List ℕ) → Type 0
   SaySome line = (what : Result DebugLine Fault) × PartsSay r line what
 
-  of_form : (line : List (List ℕ)) (form : Form) → IsForm line form → SaySome line
-  of_form line form is = by (form_said r form) refl
+  of_line : (parts : List (List ℕ)) (line : DebugLine) → IsWritten parts line → SaySome parts
+  of_line parts line is = by (is_in_range r line) refl
     where
-      by : (said : Option DebugLine) → form_said r form ≡ said → SaySome line
-      by (Some what) e = (Ok what, (form, is, e))
-      by None e = (Err Range, (form, is, e))
+      by : (t : Bool) → is_in_range r line ≡ t → SaySome parts
+      by true e = (Ok line, (is, e))
+      by false e = (Err Range, (line, is, e))
 
-  -- a line of a known word that is of no form
-  of_no_form : (line : List (List ℕ)) → has_unknown_word line ≡ false → ((form : Form) → IsForm line form → ⊥) → SaySome line
-  of_no_form line known none = (Err Shape, (known, none))
+  -- parts behind a known word that are no line's
+  of_no_line : (parts : List (List ℕ)) → has_unknown_word parts ≡ false → ((line : DebugLine) → IsWritten parts line → ⊥) → SaySome parts
+  of_no_line parts known none = (Err Shape, (known, none))
 
   group_says : (ps : List (List ℕ)) → SaySome (codes "group" ∷ ps)
-  group_says [] = of_no_form (codes "group" ∷ []) refl (no_group [] (λ n few e. cc))
-  group_says (p ∷ q ∷ ps) = of_no_form (codes "group" ∷ p ∷ q ∷ ps) refl (no_group (p ∷ q ∷ ps) (λ n few e. cc))
+  group_says [] = of_no_line (codes "group" ∷ []) refl (no_group [] (λ n few e. cc))
+  group_says (p ∷ q ∷ ps) = of_no_line (codes "group" ∷ p ∷ q ∷ ps) refl (no_group (p ∷ q ∷ ps) (λ n few e. cc))
   group_says (p ∷ []) = by (number_or_not p)
     where
       by : IsNumber p ⊎ (IsNumber p → ⊥) → SaySome (codes "group" ∷ p ∷ [])
-      by (inl n) = of_form (codes "group" ∷ p ∷ []) (Group n.0) (record { parts_are = ap (λ (part : List ℕ). codes "group" ∷ part ∷ []) n.2; short = n.1 })
-      by (inr none) = of_no_form (codes "group" ∷ p ∷ []) refl (no_group (p ∷ []) (λ n few e. none (n, few, cc)))
+      by (inl n) = of_line (codes "group" ∷ p ∷ []) (Group n.0) (record { parts_are = ap (λ (part : List ℕ). codes "group" ∷ part ∷ []) n.2; short = n.1 })
+      by (inr none) = of_no_line (codes "group" ∷ p ∷ []) refl (no_group (p ∷ []) (λ n few e. none (n, few, cc)))
 
   voxel_says : (ps : List (List ℕ)) → SaySome (codes "voxel" ∷ ps)
-  voxel_says [] = of_no_form (codes "voxel" ∷ []) refl (no_voxel [] (λ x y z fx fy fz e. cc))
-  voxel_says (p ∷ []) = of_no_form (codes "voxel" ∷ p ∷ []) refl (no_voxel (p ∷ []) (λ x y z fx fy fz e. cc))
-  voxel_says (p ∷ q ∷ []) = of_no_form (codes "voxel" ∷ p ∷ q ∷ []) refl (no_voxel (p ∷ q ∷ []) (λ x y z fx fy fz e. cc))
-  voxel_says (p ∷ q ∷ s ∷ t ∷ ps) = of_no_form (codes "voxel" ∷ p ∷ q ∷ s ∷ t ∷ ps) refl (no_voxel (p ∷ q ∷ s ∷ t ∷ ps) (λ x y z fx fy fz e. cc))
+  voxel_says [] = of_no_line (codes "voxel" ∷ []) refl (no_voxel [] (λ x y z fx fy fz e. cc))
+  voxel_says (p ∷ []) = of_no_line (codes "voxel" ∷ p ∷ []) refl (no_voxel (p ∷ []) (λ x y z fx fy fz e. cc))
+  voxel_says (p ∷ q ∷ []) = of_no_line (codes "voxel" ∷ p ∷ q ∷ []) refl (no_voxel (p ∷ q ∷ []) (λ x y z fx fy fz e. cc))
+  voxel_says (p ∷ q ∷ s ∷ t ∷ ps) = of_no_line (codes "voxel" ∷ p ∷ q ∷ s ∷ t ∷ ps) refl (no_voxel (p ∷ q ∷ s ∷ t ∷ ps) (λ x y z fx fy fz e. cc))
   voxel_says (p ∷ q ∷ s ∷ []) = by (number_or_not p) (number_or_not q) (number_or_not s)
     where
       no_number : ((x y z : ℕ) → HasFewDigits x → HasFewDigits y → HasFewDigits z → p ∷ q ∷ s ∷ [] ≡ decimal x ∷ decimal y ∷ decimal z ∷ [] → ⊥) → SaySome (codes "voxel" ∷ p ∷ q ∷ s ∷ [])
-      no_number none = of_no_form (codes "voxel" ∷ p ∷ q ∷ s ∷ []) refl (no_voxel (p ∷ q ∷ s ∷ []) none)
+      no_number none = of_no_line (codes "voxel" ∷ p ∷ q ∷ s ∷ []) refl (no_voxel (p ∷ q ∷ s ∷ []) none)
 
       by : IsNumber p ⊎ (IsNumber p → ⊥) → IsNumber q ⊎ (IsNumber q → ⊥) → IsNumber s ⊎ (IsNumber s → ⊥) → SaySome (codes "voxel" ∷ p ∷ q ∷ s ∷ [])
       by (inr none) b c = no_number (λ x y z fx fy fz e. none (x, fx, cc))
       by (inl a) (inr none) c = no_number (λ x y z fx fy fz e. none (y, fy, cc))
       by (inl a) (inl b) (inr none) = no_number (λ x y z fx fy fz e. none (z, fz, cc))
       by (inl a) (inl b) (inl c) =
-          of_form (codes "voxel" ∷ p ∷ q ∷ s ∷ []) (Voxel a.0 b.0 c.0) (record { parts_are = λ i. codes "voxel" ∷ a.2 i ∷ b.2 i ∷ c.2 i ∷ []; short = (a.1, b.1, c.1) })
+          of_line (codes "voxel" ∷ p ∷ q ∷ s ∷ []) (Voxel (record { x = a.0; y = b.0; z = c.0 })) (record { parts_are = λ i. codes "voxel" ∷ a.2 i ∷ b.2 i ∷ c.2 i ∷ []; short = (a.1, b.1, c.1) })
 
   word_says : (w : ScriptWord) (ps : List (List ℕ)) → SaySome (script_letters w ∷ ps)
-  word_says word.Step [] = of_form (codes "step" ∷ []) Step (record { parts_are = refl; short = tt })
-  word_says word.Step (p ∷ ps) = of_no_form (codes "step" ∷ p ∷ ps) refl (no_step (p ∷ ps) (λ e. cc))
-  word_says word.Back [] = of_form (codes "back" ∷ []) Back (record { parts_are = refl; short = tt })
-  word_says word.Back (p ∷ ps) = of_no_form (codes "back" ∷ p ∷ ps) refl (no_back (p ∷ ps) (λ e. cc))
-  word_says word.Bots [] = of_form (codes "bots" ∷ []) Bots (record { parts_are = refl; short = tt })
-  word_says word.Bots (p ∷ ps) = of_no_form (codes "bots" ∷ p ∷ ps) refl (no_bots (p ∷ ps) (λ e. cc))
+  word_says word.Step [] = of_line (codes "step" ∷ []) Step (record { parts_are = refl; short = tt })
+  word_says word.Step (p ∷ ps) = of_no_line (codes "step" ∷ p ∷ ps) refl (no_step (p ∷ ps) (λ e. cc))
+  word_says word.Back [] = of_line (codes "back" ∷ []) Back (record { parts_are = refl; short = tt })
+  word_says word.Back (p ∷ ps) = of_no_line (codes "back" ∷ p ∷ ps) refl (no_back (p ∷ ps) (λ e. cc))
+  word_says word.Bots [] = of_line (codes "bots" ∷ []) Bots (record { parts_are = refl; short = tt })
+  word_says word.Bots (p ∷ ps) = of_no_line (codes "bots" ∷ p ∷ ps) refl (no_bots (p ∷ ps) (λ e. cc))
   word_says word.Group ps = group_says ps
   word_says word.Voxel ps = voxel_says ps
 

@@ -6,12 +6,12 @@ use Rattle.std.proofs.lemmas.Fmt.{decimal_injective}
 use Rattle.nano_spec.specs.declared.commands.Command.{Command}
 use Rattle.nano_spec.specs.Line.{Fault, NotAscii, UnknownWord, Shape, Range, has_high_byte}
 use Rattle.nano_spec.specs.Reading.{FaultyLine}
-use Rattle.step_debugger.specs.Session.{AnswersLine, DebugLine, DebugReport, Session}
+use Rattle.step_debugger.specs.Session.{AnswersLine, Back, Bots, DebugLine, DebugReport, Group, Session, Step, Voxel}
 use Rattle.debug_script.specs.Printing.{printed_report}
-use Rattle.debug_script.specs.Script.{Bots, Back, FollowsLine, Form, Group, HasFewDigits, IsForm, LineSays, LinesSay, PartsSay, Step, Voxel, has_unknown_word, line_parts, parts_of, form_said, with_first_line}
+use Rattle.debug_script.specs.Script.{FollowsLine, HasFewDigits, IsWritten, LineSays, LinesSay, PartsSay, has_unknown_word, is_in_range, line_parts, parts_of, with_first_line}
 use Rattle.debug_script.specs.Sessions.{Prints}
 
--- ---- a line is of one form
+-- ---- parts are those of one line
 
 same_digits : (n m : ℕ) → HasFewDigits n → HasFewDigits m → decimal n ≡ decimal m → n ≡ m
 same_digits n m a b e = decimal_injective n m (omega arith) (omega arith) e
@@ -20,30 +20,30 @@ abbrev first_part : List (List ℕ) → List ℕ
 first_part [] = []
 first_part (part ∷ more) = part
 
--- forms of other words have other parts
-pub other_words : (f g : Form) → bytes_eq (first_part (parts_of f)) (first_part (parts_of f)) ≡ true → bytes_eq (first_part (parts_of f)) (first_part (parts_of g)) ≡ false → parts_of f ≡ parts_of g → ⊥
+-- lines of other words have other parts
+pub other_words : (f g : DebugLine) → bytes_eq (first_part (parts_of f)) (first_part (parts_of f)) ≡ true → bytes_eq (first_part (parts_of f)) (first_part (parts_of g)) ≡ false → parts_of f ≡ parts_of g → ⊥
 other_words f g same other e = let t = subst (λ ws. bytes_eq (first_part (parts_of f)) (first_part ws) ≡ true) e same in cc
 
-one_form : (line : List (List ℕ)) (f g : Form) → IsForm line f → IsForm line g → f ≡ g
-one_form line Step Step h k = refl
-one_form line Back Back h k = refl
-one_form line Bots Bots h k = refl
-one_form line (Group n) (Group m) h k = let e : codes "group" ∷ decimal n ∷ [] ≡ codes "group" ∷ decimal m ∷ [] = sym h.parts_are ∙ k.parts_are in ap Group (same_digits n m h.short k.short (cc))
-one_form line (Voxel x y z) (Voxel u v w) h k =
-    let e : codes "voxel" ∷ decimal x ∷ decimal y ∷ decimal z ∷ [] ≡ codes "voxel" ∷ decimal u ∷ decimal v ∷ decimal w ∷ [] = sym h.parts_are ∙ k.parts_are in
-    let px = same_digits x u h.short.0 k.short.0 (cc) in
-    let py = same_digits y v h.short.1 k.short.1 (cc) in
-    let pz = same_digits z w h.short.2 k.short.2 (cc) in
-    λ i. Voxel (px i) (py i) (pz i)
-one_form line f g h k = absurd (other_words f g refl refl (sym h.parts_are ∙ k.parts_are))
+one_written : (line : List (List ℕ)) (f g : DebugLine) → IsWritten line f → IsWritten line g → f ≡ g
+one_written line Step Step h k = refl
+one_written line Back Back h k = refl
+one_written line Bots Bots h k = refl
+one_written line (Group n) (Group m) h k = let e : codes "group" ∷ decimal n ∷ [] ≡ codes "group" ∷ decimal m ∷ [] = sym h.parts_are ∙ k.parts_are in ap Group (same_digits n m h.short k.short (cc))
+one_written line (Voxel c) (Voxel d) h k =
+    let e : codes "voxel" ∷ decimal c.x ∷ decimal c.y ∷ decimal c.z ∷ [] ≡ codes "voxel" ∷ decimal d.x ∷ decimal d.y ∷ decimal d.z ∷ [] = sym h.parts_are ∙ k.parts_are in
+    let px = same_digits c.x d.x h.short.0 k.short.0 (cc) in
+    let py = same_digits c.y d.y h.short.1 k.short.1 (cc) in
+    let pz = same_digits c.z d.z h.short.2 k.short.2 (cc) in
+    λ i. Voxel (record { x = px i; y = py i; z = pz i })
+one_written line f g h k = absurd (other_words f g refl refl (sym h.parts_are ∙ k.parts_are))
 
--- a line that is of a form has a word
-has_word : (line : List (List ℕ)) (f : Form) → IsForm line f → has_unknown_word line ≡ false
+-- the parts of a line have a word
+has_word : (line : List (List ℕ)) (f : DebugLine) → IsWritten line f → has_unknown_word line ≡ false
 has_word line Step h = rw h.parts_are refl
 has_word line (Group n) h = rw h.parts_are refl
 has_word line Back h = rw h.parts_are refl
 has_word line Bots h = rw h.parts_are refl
-has_word line (Voxel x y z) h = rw h.parts_are refl
+has_word line (Voxel c) h = rw h.parts_are refl
 
 no_both : (b : Bool) → b ≡ true → b ≡ false → ⊥
 no_both b t f = let e : true ≡ false = sym t ∙ f in cc
@@ -51,21 +51,15 @@ no_both b t f = let e : true ≡ false = sym t ∙ f in cc
 -- ---- a line says one thing
 
 one_part_says : (r : ℕ) (line : List (List ℕ)) (a b : Result DebugLine Fault) → PartsSay r line a → PartsSay r line b → a ≡ b
-one_part_says r line (Ok x) (Ok y) h k =
-    let same = one_form line h.0 k.0 h.1 k.1 in
-    let e : Some x ≡ Some y = sym h.2 ∙ (ap (form_said r) same ∙ k.2) in
-    ap Ok (inside x y e)
-  where
-    inside : (x y : DebugLine) → Some x ≡ Some y → x ≡ y
-    inside x y e = cc
-one_part_says r line (Ok x) (Err Range) h k = absurd (let e : Some x ≡ None = sym h.2 ∙ (ap (form_said r) (one_form line h.0 k.0 h.1 k.1) ∙ k.2) in cc)
-one_part_says r line (Err Range) (Ok y) h k = absurd (let e : None ≡ Some y = sym h.2 ∙ (ap (form_said r) (one_form line h.0 k.0 h.1 k.1) ∙ k.2) in cc)
-one_part_says r line (Ok x) (Err Shape) h k = absurd (k.1 h.0 h.1)
-one_part_says r line (Err Shape) (Ok y) h k = absurd (h.1 k.0 k.1)
+one_part_says r line (Ok x) (Ok y) h k = ap Ok (one_written line x y h.0 k.0)
+one_part_says r line (Ok x) (Err Range) h k = absurd (no_both (is_in_range r x) h.1 (ap (is_in_range r) (one_written line x k.0 h.0 k.1) ∙ k.2))
+one_part_says r line (Err Range) (Ok y) h k = absurd (no_both (is_in_range r y) k.1 (ap (is_in_range r) (one_written line y h.0 k.0 h.1) ∙ h.2))
+one_part_says r line (Ok x) (Err Shape) h k = absurd (k.1 x h.0)
+one_part_says r line (Err Shape) (Ok y) h k = absurd (h.1 y k.0)
 one_part_says r line (Err Range) (Err Shape) h k = absurd (k.1 h.0 h.1)
 one_part_says r line (Err Shape) (Err Range) h k = absurd (h.1 k.0 k.1)
-one_part_says r line (Ok x) (Err UnknownWord) h k = absurd (no_both (has_unknown_word line) k (has_word line h.0 h.1))
-one_part_says r line (Err UnknownWord) (Ok y) h k = absurd (no_both (has_unknown_word line) h (has_word line k.0 k.1))
+one_part_says r line (Ok x) (Err UnknownWord) h k = absurd (no_both (has_unknown_word line) k (has_word line x h.0))
+one_part_says r line (Err UnknownWord) (Ok y) h k = absurd (no_both (has_unknown_word line) h (has_word line y k.0))
 one_part_says r line (Err Range) (Err UnknownWord) h k = absurd (no_both (has_unknown_word line) k (has_word line h.0 h.1))
 one_part_says r line (Err UnknownWord) (Err Range) h k = absurd (no_both (has_unknown_word line) h (has_word line k.0 k.1))
 one_part_says r line (Err Shape) (Err UnknownWord) h k = absurd (no_both (has_unknown_word line) k h.0)

@@ -1,54 +1,43 @@
 -- How the script of a session is read: its lines, or its first faulty line (docs/FORMATS.md, "Sessions").
-use Rattle.std.specs.Prelude.{◌≡◌, ℕ, ◌+◌, ◌<◌, nat_lt, ◌&&◌, ◌==◌, Bool, false, not, cond, ⊤, List, [], ◌∷◌, codes, decimal, Option, Some, None, Result, Ok, Err, MatchBool, IsTrue, IsFalse}
+use Rattle.std.specs.Prelude.{◌≡◌, ℕ, ◌+◌, ◌<◌, nat_lt, ◌&&◌, ◌==◌, Bool, true, false, not, ⊤, List, [], ◌∷◌, codes, decimal, Result, Ok, Err, MatchBool, IsTrue, IsFalse}
 use Rattle.std.specs.List.{list_any, slice_split}
 use Rattle.std.specs.Str.{bytes_eq}
 use Rattle.nano_spec.specs.Line.{Fault, NotAscii, UnknownWord, Shape, Range, has_high_byte}
 use Rattle.nano_spec.specs.Reading.{FaultyLine, lines}
-use Rattle.step_debugger.specs.Session as session
-use Rattle.step_debugger.specs.Session.{DebugLine}
-
--- a line by its word and its numbers, whatever they are
-pub data Form : Type 0 where
-  Step : Form
-  Group : ℕ → Form
-  Back : Form
-  Bots : Form
-  Voxel : ℕ → ℕ → ℕ → Form
+use Rattle.step_debugger.specs.Session.{DebugLine, Step, Group, Back, Bots, Voxel}
 
 -- the parts of a line, which single spaces separate
 abbrev pub line_parts : List ℕ → List (List ℕ)
 line_parts line = slice_split (λ b. b == 32) line
 
--- the parts of a line of a form: its word, and its numbers in decimal digits without sign or leading zeros
-abbrev pub parts_of : Form → List (List ℕ)
+-- how a line is written: its word, and its numbers in decimal digits without sign or leading zeros
+abbrev pub parts_of : DebugLine → List (List ℕ)
 parts_of Step = codes "step" ∷ []
 parts_of (Group bid) = codes "group" ∷ decimal bid ∷ []
 parts_of Back = codes "back" ∷ []
 parts_of Bots = codes "bots" ∷ []
-parts_of (Voxel x y z) = codes "voxel" ∷ decimal x ∷ decimal y ∷ decimal z ∷ []
+parts_of (Voxel c) = codes "voxel" ∷ decimal c.x ∷ decimal c.y ∷ decimal c.z ∷ []
 
 -- the number has at most five digits
 abbrev pub HasFewDigits : ℕ → Type 0
 HasFewDigits n = n < 100000
 
--- each number of the form has at most five digits
-abbrev pub AreShort : Form → Type 0
+-- each number of the line has at most five digits
+abbrev pub AreShort : DebugLine → Type 0
 AreShort (Group bid) = HasFewDigits bid
-AreShort (Voxel x y z) = HasFewDigits x × HasFewDigits y × HasFewDigits z
-AreShort form = ⊤
+AreShort (Voxel c) = HasFewDigits c.x × HasFewDigits c.y × HasFewDigits c.z
+AreShort line = ⊤
 
--- the parts are those of a line of the form
-pub record IsForm (line : List (List ℕ)) (form : Form) : Type 0 where
-  pub parts_are : line ≡ parts_of form
-  pub short : AreShort form
+-- the parts are those of the line
+pub record IsWritten (parts : List (List ℕ)) (line : DebugLine) : Type 0 where
+  pub parts_are : parts ≡ parts_of line
+  pub short : AreShort line
 
--- what a line of a form says at a resolution, or `None` where a bid is not 1 to 40 or a coordinate is not in the matrix
-abbrev pub form_said : ℕ → Form → Option DebugLine
-form_said r Step = Some session.Step
-form_said r (Group bid) = cond (nat_lt 0 bid && nat_lt bid 41) (Some (session.Group bid)) None
-form_said r Back = Some session.Back
-form_said r Bots = Some session.Bots
-form_said r (Voxel x y z) = cond (nat_lt x r && nat_lt y r && nat_lt z r) (Some (session.Voxel (record { x = x; y = y; z = z }))) None
+-- whether a bid is 1 to 40, and a coordinate is in a matrix of the resolution
+abbrev pub is_in_range : ℕ → DebugLine → Bool
+is_in_range r (Group bid) = nat_lt 0 bid && nat_lt bid 41
+is_in_range r (Voxel c) = nat_lt c.x r && nat_lt c.y r && nat_lt c.z r
+is_in_range r line = true
 
 -- the words of lines
 abbrev pub line_words : List (List ℕ)
@@ -61,11 +50,11 @@ has_unknown_word (word ∷ more) = not (list_any (λ w. bytes_eq w word) line_wo
 
 -- what the parts of a line say, or the first that is wrong with them
 abbrev pub PartsSay : ℕ → List (List ℕ) → Result DebugLine Fault → Type 0
-PartsSay r line (Ok what) = (form : Form) × IsForm line form × (form_said r form ≡ Some what)
-PartsSay r line (Err NotAscii) = ⊥
-PartsSay r line (Err UnknownWord) = IsTrue (has_unknown_word line)
-PartsSay r line (Err Shape) = IsFalse (has_unknown_word line) × ((form : Form) → IsForm line form → ⊥)
-PartsSay r line (Err Range) = (form : Form) × IsForm line form × (form_said r form ≡ None)
+PartsSay r parts (Ok line) = IsWritten parts line × IsTrue (is_in_range r line)
+PartsSay r parts (Err NotAscii) = ⊥
+PartsSay r parts (Err UnknownWord) = IsTrue (has_unknown_word parts)
+PartsSay r parts (Err Shape) = IsFalse (has_unknown_word parts) × ((line : DebugLine) → IsWritten parts line → ⊥)
+PartsSay r parts (Err Range) = (line : DebugLine) × IsWritten parts line × IsFalse (is_in_range r line)
 
 -- what a line says, or the first that is wrong with it
 abbrev pub LineSays : ℕ → List ℕ → Result DebugLine Fault → Type 0
