@@ -6,11 +6,11 @@ use Rattle.vox_geom.specs.Point.{coord}
 use Rattle.nano_spec.specs.Line.{NotAscii, UnknownWord, Shape, Range}
 use Rattle.nano_spec.specs.State.{seed_numbers}
 use Rattle.step_debugger.specs.Session.{DebugLine, Step, Group, Back, Bots, Voxel}
-use Rattle.debug_script.specs.Script.{IsWritten}
+use Rattle.debug_script.specs.Script.{ArePartsOf}
 use Rattle.debug_script.specs.Worked.{WorkedPrints, WorkedScripts}
 
 -- a blank behind the word begins a further part, so that the parts are those of no line
-no_line_is : (line : DebugLine) → IsWritten (codes "step" ∷ [] ∷ []) line → ⊥
+no_line_is : (line : DebugLine) → ArePartsOf (codes "step" ∷ [] ∷ []) line → ⊥
 no_line_is Step h = let e = h.parts_are in cc
 no_line_is (Group bid) h = let e = h.parts_are in cc
 no_line_is Back h = let e = h.parts_are in cc

@@ -11,7 +11,7 @@ use Rattle.step_debugger.specs.Session.{Back, Bots, DebugLine, Group, Step, Voxe
 use Rattle.debug_script.specs.declared.line.ScriptLine.TheVariants as code
 use Rattle.debug_script.specs.declared.word.ScriptWord.{ScriptWord}
 use Rattle.debug_script.specs.Calls.{IsReadBy, all_words, script_letters}
-use Rattle.debug_script.specs.Script.{HasFewDigits, IsWritten, PartsSay, has_unknown_word, line_parts, parts_of}
+use Rattle.debug_script.specs.Script.{HasFewDigits, ArePartsOf, PartsSay, has_unknown_word, line_parts, parts_of}
 
 -- ---- a line has a part
 
@@ -90,23 +90,23 @@ pub rest_is : (a b : List ℕ) (ps qs : List (List ℕ)) → a ∷ ps ≡ b ∷ 
 rest_is a b ps qs e = cc
 
 module _ (ps : List (List ℕ)) where
-  pub no_group : ((n : ℕ) → HasFewDigits n → ps ≡ decimal n ∷ [] → ⊥) → (f : DebugLine) → IsWritten (codes "group" ∷ ps) f → ⊥
+  pub no_group : ((n : ℕ) → HasFewDigits n → ps ≡ decimal n ∷ [] → ⊥) → (f : DebugLine) → ArePartsOf (codes "group" ∷ ps) f → ⊥
   no_group none (Group n) h = none n h.short (behind (codes "group") ps (decimal n ∷ []) h.parts_are)
   no_group none f h = apart (codes "group") ps f refl refl h.parts_are
 
-  pub no_voxel : ((x y z : ℕ) → HasFewDigits x → HasFewDigits y → HasFewDigits z → ps ≡ decimal x ∷ decimal y ∷ decimal z ∷ [] → ⊥) → (f : DebugLine) → IsWritten (codes "voxel" ∷ ps) f → ⊥
+  pub no_voxel : ((x y z : ℕ) → HasFewDigits x → HasFewDigits y → HasFewDigits z → ps ≡ decimal x ∷ decimal y ∷ decimal z ∷ [] → ⊥) → (f : DebugLine) → ArePartsOf (codes "voxel" ∷ ps) f → ⊥
   no_voxel none (Voxel c) h = none c.x c.y c.z h.short.0 h.short.1 h.short.2 (behind (codes "voxel") ps (decimal c.x ∷ decimal c.y ∷ decimal c.z ∷ []) h.parts_are)
   no_voxel none f h = apart (codes "voxel") ps f refl refl h.parts_are
 
-  pub no_step : (ps ≡ [] → ⊥) → (f : DebugLine) → IsWritten (codes "step" ∷ ps) f → ⊥
+  pub no_step : (ps ≡ [] → ⊥) → (f : DebugLine) → ArePartsOf (codes "step" ∷ ps) f → ⊥
   no_step behind_it Step h = behind_it (behind (codes "step") ps [] h.parts_are)
   no_step behind_it f h = apart (codes "step") ps f refl refl h.parts_are
 
-  pub no_back : (ps ≡ [] → ⊥) → (f : DebugLine) → IsWritten (codes "back" ∷ ps) f → ⊥
+  pub no_back : (ps ≡ [] → ⊥) → (f : DebugLine) → ArePartsOf (codes "back" ∷ ps) f → ⊥
   no_back behind_it Back h = behind_it (behind (codes "back") ps [] h.parts_are)
   no_back behind_it f h = apart (codes "back") ps f refl refl h.parts_are
 
-  pub no_bots : (ps ≡ [] → ⊥) → (f : DebugLine) → IsWritten (codes "bots" ∷ ps) f → ⊥
+  pub no_bots : (ps ≡ [] → ⊥) → (f : DebugLine) → ArePartsOf (codes "bots" ∷ ps) f → ⊥
   no_bots behind_it Bots h = behind_it (behind (codes "bots") ps [] h.parts_are)
   no_bots behind_it f h = apart (codes "bots") ps f refl refl h.parts_are
 
@@ -123,7 +123,7 @@ and_false true = refl
 and_false false = refl
 
 module _ (r number : ℕ) (ps : List (List ℕ)) (n : ℕ) (few : HasFewDigits n) (are : ps ≡ decimal n ∷ []) where
-  written : IsWritten (codes "group" ∷ ps) (Group n)
+  written : ArePartsOf (codes "group" ∷ ps) (Group n)
   written = record { parts_are = ap (λ (qs : List (List ℕ)). codes "group" ∷ qs) are; short = few }
 
   out : (nat_lt 0 n && nat_lt n 41) ≡ false → IsReadBy (PartsSay r (codes "group" ∷ ps)) number (Err (refusal.Range number))
@@ -144,7 +144,7 @@ module _ (r number : ℕ) (ps : List (List ℕ)) (x y z : ℕ) (fx : HasFewDigit
   abbrev at : Coord
   at = record { x = x; y = y; z = z }
 
-  spelled : IsWritten (codes "voxel" ∷ ps) (Voxel at)
+  spelled : ArePartsOf (codes "voxel" ∷ ps) (Voxel at)
   spelled = record { parts_are = ap (λ (qs : List (List ℕ)). codes "voxel" ∷ qs) are; short = (fx, fy, fz) }
 
   outside : (nat_lt x r && nat_lt y r && nat_lt z r) ≡ false → IsReadBy (PartsSay r (codes "voxel" ∷ ps)) number (Err (refusal.Range number))
@@ -166,7 +166,7 @@ module _ (r number : ℕ) (ps : List (List ℕ)) (x y z : ℕ) (fx : HasFewDigit
 
 -- ---- words
 
-pub has_shape_fault : (r number : ℕ) (line : List (List ℕ)) → has_unknown_word line ≡ false → ((f : DebugLine) → IsWritten line f → ⊥) → IsReadBy (PartsSay r line) number (Err (refusal.Shape number))
+pub has_shape_fault : (r number : ℕ) (line : List (List ℕ)) → has_unknown_word line ≡ false → ((f : DebugLine) → ArePartsOf line f → ⊥) → IsReadBy (PartsSay r line) number (Err (refusal.Shape number))
 has_shape_fault r number line known none = ((known, none), refl)
 
 pub has_word_fault : (r number : ℕ) (line : List (List ℕ)) → has_unknown_word line ≡ true → IsReadBy (PartsSay r line) number (Err (refusal.UnknownWord number))

@@ -10,7 +10,7 @@ use Rattle.step_debugger.specs.Session.{Back, Bots, DebugLine, Group, Step, Voxe
 use Rattle.debug_script.specs.declared.word.ScriptWord.{ScriptWord}
 use Rattle.debug_script.specs.declared.word.ScriptWord.TheVariants as word
 use Rattle.debug_script.specs.Calls.{all_words, script_letters}
-use Rattle.debug_script.specs.Script.{HasFewDigits, IsWritten, LineSays, LinesSay, PartsSay, ScriptSays, is_in_range, has_unknown_word, line_parts, with_first_line}
+use Rattle.debug_script.specs.Script.{HasFewDigits, ArePartsOf, LineSays, LinesSay, PartsSay, ScriptSays, is_in_range, has_unknown_word, line_parts, with_first_line}
 use Rattle.debug_script.proofs.Forms.{no_back, no_bots, no_group, no_step, no_voxel, parts_some, word_found, word_missed}
 
 -- ---- a part is a number of few digits or not
@@ -45,7 +45,7 @@ module _ (r : ℕ) where
   abbrev SaySome : List (List ℕ) → Type 0
   SaySome line = (what : Result DebugLine Fault) × PartsSay r line what
 
-  of_line : (parts : List (List ℕ)) (line : DebugLine) → IsWritten parts line → SaySome parts
+  of_line : (parts : List (List ℕ)) (line : DebugLine) → ArePartsOf parts line → SaySome parts
   of_line parts line is = by (is_in_range r line) refl
     where
       by : (t : Bool) → is_in_range r line ≡ t → SaySome parts
@@ -53,7 +53,7 @@ module _ (r : ℕ) where
       by false e = (Err Range, (line, is, e))
 
   -- parts behind a known word that are no line's
-  of_no_line : (parts : List (List ℕ)) → has_unknown_word parts ≡ false → ((line : DebugLine) → IsWritten parts line → ⊥) → SaySome parts
+  of_no_line : (parts : List (List ℕ)) → has_unknown_word parts ≡ false → ((line : DebugLine) → ArePartsOf parts line → ⊥) → SaySome parts
   of_no_line parts known none = (Err Shape, (known, none))
 
   group_says : (ps : List (List ℕ)) → SaySome (codes "group" ∷ ps)

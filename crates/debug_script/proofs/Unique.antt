@@ -8,7 +8,7 @@ use Rattle.nano_spec.specs.Line.{Fault, NotAscii, UnknownWord, Shape, Range, has
 use Rattle.nano_spec.specs.Reading.{FaultyLine}
 use Rattle.step_debugger.specs.Session.{AnswersLine, Back, Bots, DebugLine, DebugReport, Group, Session, Step, Voxel}
 use Rattle.debug_script.specs.Printing.{printed_report}
-use Rattle.debug_script.specs.Script.{FollowsLine, HasFewDigits, IsWritten, LineSays, LinesSay, PartsSay, has_unknown_word, is_in_range, line_parts, parts_of, with_first_line}
+use Rattle.debug_script.specs.Script.{FollowsLine, HasFewDigits, ArePartsOf, LineSays, LinesSay, PartsSay, has_unknown_word, is_in_range, line_parts, parts_of, with_first_line}
 use Rattle.debug_script.specs.Sessions.{Prints}
 
 -- ---- parts are those of one line
@@ -24,7 +24,7 @@ first_part (part ∷ more) = part
 pub other_words : (f g : DebugLine) → bytes_eq (first_part (parts_of f)) (first_part (parts_of f)) ≡ true → bytes_eq (first_part (parts_of f)) (first_part (parts_of g)) ≡ false → parts_of f ≡ parts_of g → ⊥
 other_words f g same other e = let t = subst (λ ws. bytes_eq (first_part (parts_of f)) (first_part ws) ≡ true) e same in cc
 
-one_written : (line : List (List ℕ)) (f g : DebugLine) → IsWritten line f → IsWritten line g → f ≡ g
+one_written : (line : List (List ℕ)) (f g : DebugLine) → ArePartsOf line f → ArePartsOf line g → f ≡ g
 one_written line Step Step h k = refl
 one_written line Back Back h k = refl
 one_written line Bots Bots h k = refl
@@ -38,7 +38,7 @@ one_written line (Voxel c) (Voxel d) h k =
 one_written line f g h k = absurd (other_words f g refl refl (sym h.parts_are ∙ k.parts_are))
 
 -- the parts of a line have a word
-has_word : (line : List (List ℕ)) (f : DebugLine) → IsWritten line f → has_unknown_word line ≡ false
+has_word : (line : List (List ℕ)) (f : DebugLine) → ArePartsOf line f → has_unknown_word line ≡ false
 has_word line Step h = rw h.parts_are refl
 has_word line (Group n) h = rw h.parts_are refl
 has_word line Back h = rw h.parts_are refl

@@ -29,7 +29,7 @@ AreShort (Voxel c) = HasFewDigits c.x × HasFewDigits c.y × HasFewDigits c.z
 AreShort line = ⊤
 
 -- the parts are those of the line
-pub record IsWritten (parts : List (List ℕ)) (line : DebugLine) : Type 0 where
+pub record ArePartsOf (parts : List (List ℕ)) (line : DebugLine) : Type 0 where
   pub parts_are : parts ≡ parts_of line
   pub short : AreShort line
 
@@ -50,11 +50,11 @@ has_unknown_word (word ∷ more) = not (list_any (λ w. bytes_eq w word) line_wo
 
 -- what the parts of a line say, or the first that is wrong with them
 abbrev pub PartsSay : ℕ → List (List ℕ) → Result DebugLine Fault → Type 0
-PartsSay r parts (Ok line) = IsWritten parts line × IsTrue (is_in_range r line)
+PartsSay r parts (Ok line) = ArePartsOf parts line × IsTrue (is_in_range r line)
 PartsSay r parts (Err NotAscii) = ⊥
 PartsSay r parts (Err UnknownWord) = IsTrue (has_unknown_word parts)
-PartsSay r parts (Err Shape) = IsFalse (has_unknown_word parts) × ((line : DebugLine) → IsWritten parts line → ⊥)
-PartsSay r parts (Err Range) = (line : DebugLine) × IsWritten parts line × IsFalse (is_in_range r line)
+PartsSay r parts (Err Shape) = IsFalse (has_unknown_word parts) × ((line : DebugLine) → ArePartsOf parts line → ⊥)
+PartsSay r parts (Err Range) = (line : DebugLine) × ArePartsOf parts line × IsFalse (is_in_range r line)
 
 -- what a line says, or the first that is wrong with it
 abbrev pub LineSays : ℕ → List ℕ → Result DebugLine Fault → Type 0

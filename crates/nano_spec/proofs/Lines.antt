@@ -4,7 +4,7 @@ use Rattle.std.specs.Prelude.{Option, Some, None, IsTrue, IsFalse, Contains}
 use Rattle.nano_spec.specs.declared.commands.Command.{Command}
 use Rattle.nano_spec.specs.Command.{is_command, IsCommand}
 use Rattle.nano_spec.specs.First.{HasOneAtMost}
-use Rattle.nano_spec.specs.Line.{Skipped, Says, Faulty, NotAscii, Range, IsLineOf, line_of, in_range, said, said_by, word_of, from_word, line_content, after_word, has_high_byte, is_skipped}
+use Rattle.nano_spec.specs.Line.{Skipped, Says, Faulty, NotAscii, Range, IsLineOf, line_of, checked, said, said_by, word_of, from_word, line_content, after_word, has_high_byte, is_skipped}
 use Rattle.nano_spec.specs.LineForm.{Word, readings}
 use Rattle.nano_spec.proofs.Readings.{one_reading_of}
 
@@ -15,9 +15,9 @@ same_says a b e = cc
 abbrev Reads : Option Word → List ℕ → Command → Type 0
 Reads w rest c = (word : Word) × (ns : List ℤ) × (w ≡ Some word) × Contains (readings word.form rest) ns × (word.command ns ≡ Some c) × IsCommand c
 
-in_range_is : (o : Option Command) (c : Command) → in_range o ≡ Says c → (o ≡ Some c) × IsCommand c
-in_range_is None c h = cc
-in_range_is (Some d) c h = by (is_command d) refl h
+checked_is : (o : Option Command) (c : Command) → checked o ≡ Says c → (o ≡ Some c) × IsCommand c
+checked_is None c h = cc
+checked_is (Some d) c h = by (is_command d) refl h
   where
     by : (t : Bool) → is_command d ≡ t → cond t (Says d) (Faulty Range) ≡ Says c → (Some d ≡ Some c) × IsCommand c
     by true e g = let same : d ≡ c = same_says d c g in (ap Some same, subst IsCommand same e)
@@ -27,7 +27,7 @@ said_is : (w : Word) (rest : List ℕ) (rs : List (List ℤ)) (c : Command) → 
 said_is w rest [] c e h = cc
 said_is w rest (ns ∷ more) c e h =
     let found : Contains (ns ∷ more) ns = (0, omega arith, refl) in
-    let is = in_range_is (w.command ns) c h in
+    let is = checked_is (w.command ns) c h in
     (w, ns, refl, subst (λ (xs : List (List ℤ)). Contains xs ns) (sym e) found, is.0, is.1)
 
 by_word : (w : Option Word) (rest : List ℕ) (c : Command) → said_by w rest ≡ Says c → Reads w rest c

@@ -42,14 +42,14 @@ abbrev pub after_word : List ℕ → List ℕ
 after_word line = drop (prefix_len is_letter line) line
 
 -- what a command says: each difference has to be of its kind, and the number of a Fission a byte
-abbrev pub in_range : Option Command → Line
-in_range None = Faulty Range
-in_range (Some command) = cond (is_command command) (Says command) (Faulty Range)
+abbrev pub checked : Option Command → Line
+checked None = Faulty Range
+checked (Some command) = cond (is_command command) (Says command) (Faulty Range)
 
 -- what the numbers of a reading say
 abbrev pub said : Word → List (List ℤ) → Line
 said w [] = Faulty Shape
-said w (ns ∷ more) = in_range (w.command ns)
+said w (ns ∷ more) = checked (w.command ns)
 
 -- what a line says by its word
 abbrev pub said_by : Option Word → List ℕ → Line

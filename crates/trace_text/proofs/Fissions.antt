@@ -6,7 +6,7 @@ use Rattle.std.proofs.lemmas.Int.{ints}
 use Rattle.vox_geom.specs.declared.difference.Diff.{Diff}
 use Rattle.vox_geom.specs.Difference.{is_near}
 use Rattle.nano_spec.specs.declared.commands.Command.TheVariants.{Fission}
-use Rattle.nano_spec.specs.Line.{Line, Says, Faulty, Range, Shape, in_range, said}
+use Rattle.nano_spec.specs.Line.{Line, Says, Faulty, Range, Shape, checked, said}
 use Rattle.nano_spec.specs.LineForm.{Blanks, Number, natural, readings}
 use Rattle.trace_text.specs.declared.fault.Fault.{Fault}
 use Rattle.trace_text.specs.Forms.{IsNumber}
@@ -22,7 +22,7 @@ no_number old b d f h k =
 
 -- what the difference and the number say
 abbrev verdict : Diff → ℤ → Line
-verdict d n = in_range (option_map (Fission d) (natural n))
+verdict d n = checked (option_map (Fission d) (natural n))
 
 said_is_verdict : (old b : List ℕ) (d : Diff) (n : ℤ) → TakesDifference old (Some d) b → readings (Blanks ∷ Number ∷ Blanks ∷ []) b ≡ (n ∷ []) ∷ [] → said fission_word (readings fission_word.form old) ≡ verdict d n
 said_is_verdict old b d n h k = ap (said fission_word) (h (Blanks ∷ Number ∷ Blanks ∷ []) ∙ ap (map (λ ns. d.dx ∷ d.dy ∷ d.dz ∷ ns)) k)

@@ -43,23 +43,23 @@ line_is (said.Says command) = line.Says command
 line_is (said.Faulty fault) = line.Faulty (fault_of fault)
 
 -- the word with this number in the table of the definitions
-abbrev pub numbered : ℕ → form.Word
-numbered k = slice_index_or form.words k (form.word "" [] (λ ns. None))
+abbrev pub word_numbered : ℕ → form.Word
+word_numbered k = slice_index_or form.words k (form.word "" [] (λ ns. None))
 
 -- a word, by the definitions
 abbrev pub word_is : Word → form.Word
-word_is word.Halt = numbered 0
-word_is word.Wait = numbered 1
-word_is word.Flip = numbered 2
-word_is word.SMove = numbered 3
-word_is word.LMove = numbered 4
-word_is word.FusionP = numbered 5
-word_is word.FusionS = numbered 6
-word_is word.Fission = numbered 7
-word_is word.Fill = numbered 8
-word_is word.Void = numbered 9
-word_is word.GFill = numbered 10
-word_is word.GVoid = numbered 11
+word_is word.Halt = word_numbered 0
+word_is word.Wait = word_numbered 1
+word_is word.Flip = word_numbered 2
+word_is word.SMove = word_numbered 3
+word_is word.LMove = word_numbered 4
+word_is word.FusionP = word_numbered 5
+word_is word.FusionS = word_numbered 6
+word_is word.Fission = word_numbered 7
+word_is word.Fill = word_numbered 8
+word_is word.Void = word_numbered 9
+word_is word.GFill = word_numbered 10
+word_is word.GVoid = word_numbered 11
 
 abbrev pub fission_word : form.Word
 fission_word = word_is word.Fission
