@@ -4,3 +4,6 @@ pub mod Firsts
 pub mod Places
 pub mod Shares
 pub mod Adjacent
+pub mod Truths
+pub mod Tests
+pub mod Sums
