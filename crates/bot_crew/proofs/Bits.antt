@@ -9,8 +9,11 @@ use Rattle.std.proofs.lemmas.Nat.Bits.{bit_at-lt, bit_at-trailing_zeros, bit_at_
 use Rattle.std.proofs.lemmas.Bool.{cases_order}
 use Rattle.std.proofs.lemmas.Bool.Decides.{nat_tests}
 use Rattle.vox_geom.specs.Space.{numbers_from}
+use Rattle.vox_geom.proofs.Truths.{and_false, and_true, or_by_second}
+use Rattle.vox_geom.proofs.Tests.{same_bit, test_equal, test_unequal}
+use Rattle.vox_geom.proofs.Sums.{two_to_next}
 use Rattle.nano_spec.specs.State.{is_seed, seed_list, seed_numbers, seed_set}
-use Rattle.step_order.proofs.Lists.{by_right, not_both}
+use Rattle.step_order.proofs.Lists.{not_both}
 use Rattle.nano_spec.proofs.Seeds.{Rising, contains, none_below, seed_is, weaker, numbers_rise, filter_rises, filtered, none_above, same_filter, nothing_left}
 
 -- ---- sums
@@ -26,9 +29,6 @@ pub seed_join : (xs ys : List ℕ) → seed_set (xs ++ ys) ≡ seed_set xs + see
 seed_join [] ys = omega arith
 seed_join (x ∷ xs) ys = seed_more x (xs ++ ys) ∙ (ap (λ v. 2 ^ x + v) (seed_join xs ys) ∙ (omega arith ∙ ap (λ v. v + seed_set ys) (sym (seed_more x xs))))
 
-two : (j : ℕ) → 2 ^ (j + 1) ≡ 2 ^ j * 2
-two j = pow-add 2 j 1
-
 multiple : (a : ℕ) (ks : List ℕ) → Rising a ks → (q : ℕ) × (seed_set ks ≡ q * 2 ^ a)
 multiple a [] h = (0, omega arith)
 multiple a (j ∷ ks) h = by (multiple (j + 1) ks h.1)
@@ -37,7 +37,7 @@ multiple a (j ∷ ks) h = by (multiple (j + 1) ks h.1)
     by (q, e) =
         let whole : j ≡ (j - a) + a = omega (arith, h.0) in
         let parts : 2 ^ j ≡ 2 ^ (j - a) * 2 ^ a = ap (λ v. 2 ^ v) whole ∙ pow-add 2 (j - a) a in
-        ((1 + 2 * q) * 2 ^ (j - a), seed_more j ks ∙ (ap (λ v. 2 ^ j + v) (e ∙ ap (λ v. q * v) (two j)) ∙ (omega arith ∙ (ap (λ v. (1 + 2 * q) * v) parts ∙ omega arith))))
+        ((1 + 2 * q) * 2 ^ (j - a), seed_more j ks ∙ (ap (λ v. 2 ^ j + v) (e ∙ ap (λ v. q * v) (two_to_next j)) ∙ (omega arith ∙ (ap (λ v. (1 + 2 * q) * v) parts ∙ omega arith))))
 
 -- as many ones as seeds
 pub ones_are : (a : ℕ) (ks : List ℕ) → Rising a ks → count_ones (seed_set ks) ≡ length ks
@@ -51,15 +51,12 @@ ones_are a (j ∷ ks) h = by (multiple (j + 1) ks h.1) (ones_are (j + 1) ks h.1)
         let one : 1 < 2 ^ 1 = omega arith in
         let odd : count_ones (q * 2 ^ 1 + 1) ≡ count_ones q + count_ones 1 = ones_cat 1 q 1 one in
         let all : count_ones ((q * 2 ^ 1 + 1) * 2 ^ j + 0) ≡ count_ones (q * 2 ^ 1 + 1) + count_ones 0 = ones_cat j (q * 2 ^ 1 + 1) 0 (pow_pos j) in
-        let shape : seed_set (j ∷ ks) ≡ (q * 2 ^ 1 + 1) * 2 ^ j + 0 = seed_more j ks ∙ (ap (λ v. 2 ^ j + v) (e ∙ ap (λ v. q * v) (two j)) ∙ omega arith) in
+        let shape : seed_set (j ∷ ks) ≡ (q * 2 ^ 1 + 1) * 2 ^ j + 0 = seed_more j ks ∙ (ap (λ v. 2 ^ j + v) (e ∙ ap (λ v. q * v) (two_to_next j)) ∙ omega arith) in
         let first : count_ones 1 ≡ 1 = refl in
         let none : count_ones 0 ≡ 0 = refl in
         ap count_ones shape ∙ (all ∙ omega arith)
 
 -- ---- bits
-
-same_bit : (a b : ℕ) → a < 2 → b < 2 → (a == 1) ≡ (b == 1) → a ≡ b
-same_bit a b p q e = grind (arith, nat_tests)
 
 same_seeds : (a b : ℕ) → ((k : ℕ) → is_seed a k ≡ is_seed b k) → a ≡ b
 same_seeds a b h = same_from_bits a b (λ i. same_bit (bit_at a i) (bit_at b i) (bit_at-lt a i) (bit_at-lt b i) (h i))
@@ -67,28 +64,14 @@ same_seeds a b h = same_from_bits a b (λ i. same_bit (bit_at a i) (bit_at b i) 
 pub no_seed_above : (n w k : ℕ) → n < 2 ^ w → w ≤ k → is_seed n k ≡ false
 no_seed_above n w k h l = ap (λ v. v == 1) (bit_at_above n w k h l)
 
-pub alike : (a b : ℕ) → a ≡ b → (a == b) ≡ true
-alike a b h = grind (arith, nat_tests)
-
-pub unlike : (a b : ℕ) → (a ≡ b → ⊥) → (a == b) ≡ false
-unlike a b h = grind (arith, nat_tests)
-
 number_in : (a n k : ℕ) → a ≤ k → k < a + n → contains (numbers_from a n) k ≡ true
 number_in a zero k l m = absurd (omega arith)
 number_in a (suc n) k l m = by (cases_order k a) (λ e. number_in (a + 1) n k (omega arith) (omega arith))
   where
     by : (k ≡ a) ⊎ ((k < a) ⊎ (a < k)) → (a < k → contains (numbers_from (a + 1) n) k ≡ true) → (k == a || contains (numbers_from (a + 1) n) k) ≡ true
-    by (inl e) later = let f : (k == a) ≡ true = alike k a e in rw f refl
+    by (inl e) later = let f : (k == a) ≡ true = test_equal k a e in rw f refl
     by (inr (inl e)) later = absurd (omega arith)
-    by (inr (inr e)) later = let f : (k == a) ≡ false = unlike k a (λ g. omega arith) in rw f (later e)
-
-and_false : (a : Bool) → (a && false) ≡ false
-and_false true = refl
-and_false false = refl
-
-and_true : (a : Bool) → (a && true) ≡ a
-and_true true = refl
-and_true false = refl
+    by (inr (inr e)) later = let f : (k == a) ≡ false = test_unequal k a (λ g. omega arith) in rw f (later e)
 
 all_at : (w n : ℕ) → n < 2 ^ w → seed_set (filter (is_seed n) (numbers_from 0 w)) ≡ n
 all_at w n h = same_seeds (seed_set (filter (is_seed n) (numbers_from 0 w))) n (λ k. seed_is 0 (filter (is_seed n) (numbers_from 0 w)) (filter_rises (is_seed n) 0 (numbers_from 0 w) (numbers_rise 0 w)) k ∙ (filtered (is_seed n) (numbers_from 0 w) k ∙ by k (within k)))
@@ -115,18 +98,18 @@ same_list a b h = same_filter (is_seed a) (is_seed b) 0 64 (λ k l m. h k)
 
 back : (a n : ℕ) (ks : List ℕ) → Rising a ks → ((k : ℕ) → contains ks k ≡ true → k < a + n) → filter (contains ks) (numbers_from a n) ≡ ks
 back a zero [] h w = refl
-back a zero (j ∷ ks) h w = let l : j < a + 0 = w j (let e : (j == j) ≡ true = alike j j refl in rw e refl) in absurd (omega (arith, h.0))
+back a zero (j ∷ ks) h w = let l : j < a + 0 = w j (let e : (j == j) ≡ true = test_equal j j refl in rw e refl) in absurd (omega (arith, h.0))
 back a (suc n) [] h w = nothing_left (λ k. false) a (suc n) (λ k l m. refl)
 back a (suc n) (j ∷ ks) h w =
     by (cases_order a j)
-    (λ e. back (a + 1) n ks (weaker (j + 1) (a + 1) ks (omega arith) h.1) (λ k g. let l : k < a + suc n = w k (by_right (k == j) (contains ks k) g) in omega arith))
+    (λ e. back (a + 1) n ks (weaker (j + 1) (a + 1) ks (omega arith) h.1) (λ k g. let l : k < a + suc n = w k (or_by_second (k == j) (contains ks k) g) in omega arith))
     (λ l. back (a + 1) n (j ∷ ks) (omega arith, h.1) (λ k g. let m : k < a + suc n = w k g in omega arith))
   where
     by : (a ≡ j) ⊎ ((a < j) ⊎ (j < a)) → (a ≡ j → filter (contains ks) (numbers_from (a + 1) n) ≡ ks) → (a < j → filter (contains (j ∷ ks)) (numbers_from (a + 1) n) ≡ j ∷ ks) → filter (contains (j ∷ ks)) (a ∷ numbers_from (a + 1) n) ≡ j ∷ ks
     by (inl e) at above =
-        let here : (a == j) ≡ true = alike a j e in
+        let here : (a == j) ≡ true = test_equal a j e in
         let one : contains (j ∷ ks) a ≡ true = rw here refl in
-        let more : filter (contains (j ∷ ks)) (numbers_from (a + 1) n) ≡ ks = same_filter (contains (j ∷ ks)) (contains ks) (a + 1) n (λ k l m. let f : (k == j) ≡ false = unlike k j (λ g. omega arith) in rw f refl) ∙ at e in
+        let more : filter (contains (j ∷ ks)) (numbers_from (a + 1) n) ≡ ks = same_filter (contains (j ∷ ks)) (contains ks) (a + 1) n (λ k l m. let f : (k == j) ≡ false = test_unequal k j (λ g. omega arith) in rw f refl) ∙ at e in
         rw one (λ i. e i ∷ more i)
     by (inr (inl l)) at above =
         let none : contains (j ∷ ks) a ≡ false = none_below (a + 1) (j ∷ ks) (omega arith, h.1) a (omega arith) in
@@ -164,7 +147,7 @@ less_is n j ks h e =
     let s : n ≡ 2 ^ j + seed_set ks = fewer n j ks h e in
     let p = parts n j ks e in
     let d : n - 2 ^ j ≡ seed_set ks = omega arith in
-    (omega arith, ap seed_list d ∙ list_of_set ks (weaker (j + 1) 0 ks (omega arith) p.0.1) (λ k f. p.1 k (by_right (k == j) (contains ks k) f)))
+    (omega arith, ap seed_list d ∙ list_of_set ks (weaker (j + 1) 0 ks (omega arith) p.0.1) (λ k f. p.1 k (or_by_second (k == j) (contains ks k) f)))
 
 -- the lowest bit is the least seed
 pub least_is : (n j : ℕ) (ks : List ℕ) → n < 2 ^ 64 → seed_list n ≡ j ∷ ks → trailing_zeros w64 n ≡ j
@@ -179,4 +162,4 @@ least_is n j ks h e = by (cases_order (trailing_zeros w64 n) j) (bit_at-trailing
     by : (trailing_zeros w64 n ≡ j) ⊎ ((trailing_zeros w64 n < j) ⊎ (j < trailing_zeros w64 n)) → (trailing_zeros w64 n < 64) × (bit_at n (trailing_zeros w64 n) ≡ 1) × ((i : ℕ) → i < trailing_zeros w64 n → bit_at n i ≡ 0) → trailing_zeros w64 n ≡ j
     by (inl f) t = f
     by (inr (inl l)) t = absurd (not_both (ap (λ v. v == 1) t.1) (seed (trailing_zeros w64 n) ∙ none_below j (j ∷ ks) (omega arith, (parts n j ks e).0.1) (trailing_zeros w64 n) l))
-    by (inr (inr l)) t = absurd (not_both (seed j ∙ (let f : (j == j) ≡ true = alike j j refl in rw f refl)) (ap (λ v. v == 1) (t.2 j l)))
+    by (inr (inr l)) t = absurd (not_both (seed j ∙ (let f : (j == j) ≡ true = test_equal j j refl in rw f refl)) (ap (λ v. v == 1) (t.2 j l)))

@@ -7,6 +7,8 @@ use Rattle.std.proofs.lemmas.List.{drop-drop}
 use Rattle.vox_geom.specs.declared.coordinate.Coord.{Coord}
 use Rattle.vox_geom.specs.Point.{point}
 use Rattle.vox_geom.specs.Space.{numbers_from}
+use Rattle.vox_geom.proofs.Truths.{false_by, first_of_two, one_of_two, second_of_two}
+use Rattle.vox_geom.proofs.Tests.{test_equal}
 use Rattle.nano_spec.specs.declared.system.Bot.{Bot}
 use Rattle.nano_spec.specs.Bots.{fused, moved, newborn, parent}
 use Rattle.nano_spec.specs.declared.system.Profile.{Profile}
@@ -14,26 +16,26 @@ use Rattle.nano_spec.specs.State.{first_bot, is_seed, seed_list, seed_numbers, s
 use Rattle.nano_spec.proofs.Opening.{first_bid}
 use Rattle.nano_spec.proofs.Seeds.{Rising as NumbersRise, contains, none_below, seed_is, numbers_rise, filter_rises, drop_rises, take_rises, filtered, none_dropped, none_taken}
 use Rattle.step_order.proofs.Crews.{first_seed}
-use Rattle.step_order.proofs.Lists.{In, not_both, first, one_of, second, is_false, find_none}
+use Rattle.step_order.proofs.Lists.{In, not_both, find_none}
 use Rattle.bot_crew.specs.Crew.{IsBid, IsCrew, bot_at, stands_at}
-use Rattle.bot_crew.proofs.Bits.{alike, list_rises}
+use Rattle.bot_crew.proofs.Bits.{list_rises}
 use Rattle.bot_crew.proofs.Kin.{IsHeir, IsKin, Own, crew_of}
 
 -- ---- who stands at a coordinate
 
 pub stands : (c : Coord) (b : Bot) → b.pos ≡ c → stands_at c b ≡ true
 stands c b e =
-    let x : (b.pos.x == c.x) ≡ true = alike b.pos.x c.x (ap (λ (v : Coord). v.x) e) in
-    let y : (b.pos.y == c.y) ≡ true = alike b.pos.y c.y (ap (λ (v : Coord). v.y) e) in
-    let z : (b.pos.z == c.z) ≡ true = alike b.pos.z c.z (ap (λ (v : Coord). v.z) e) in
+    let x : (b.pos.x == c.x) ≡ true = test_equal b.pos.x c.x (ap (λ (v : Coord). v.x) e) in
+    let y : (b.pos.y == c.y) ≡ true = test_equal b.pos.y c.y (ap (λ (v : Coord). v.y) e) in
+    let z : (b.pos.z == c.z) ≡ true = test_equal b.pos.z c.z (ap (λ (v : Coord). v.z) e) in
     rw (x, y, z) refl
 
 pub stood : (c : Coord) (b : Bot) → stands_at c b ≡ true → b.pos ≡ c
 stood c b h =
-    let rest = second (b.pos.x == c.x) ((b.pos.y == c.y) && (b.pos.z == c.z)) h in
-    let x = (Decides-eqb b.pos.x c.x).0 (first (b.pos.x == c.x) ((b.pos.y == c.y) && (b.pos.z == c.z)) h) in
-    let y = (Decides-eqb b.pos.y c.y).0 (first (b.pos.y == c.y) (b.pos.z == c.z) rest) in
-    let z = (Decides-eqb b.pos.z c.z).0 (second (b.pos.y == c.y) (b.pos.z == c.z) rest) in
+    let rest = second_of_two (b.pos.x == c.x) ((b.pos.y == c.y) && (b.pos.z == c.z)) h in
+    let x = (Decides-eqb b.pos.x c.x).0 (first_of_two (b.pos.x == c.x) ((b.pos.y == c.y) && (b.pos.z == c.z)) h) in
+    let y = (Decides-eqb b.pos.y c.y).0 (first_of_two (b.pos.y == c.y) (b.pos.z == c.z) rest) in
+    let z = (Decides-eqb b.pos.z c.z).0 (second_of_two (b.pos.y == c.y) (b.pos.z == c.z) rest) in
     λ i. record { x = x i; y = y i; z = z i }
 
 pub found_in : (p : Bot → Bool) (bots : List Bot) (b : Bot) → find p bots ≡ Some b → In b bots × (p b ≡ true)
@@ -65,7 +67,7 @@ module _ (bots : List Bot) (c : Coord) where
 
 seed_of : (n k : ℕ) → contains (seed_list n) k ≡ true → is_seed n k ≡ true
 unfolding seed_numbers
-seed_of n k h = first (is_seed n k) (contains (numbers_from 0 64) k) (sym (filtered (is_seed n) (numbers_from 0 64) k) ∙ h)
+seed_of n k h = first_of_two (is_seed n k) (contains (numbers_from 0 64) k) (sym (filtered (is_seed n) (numbers_from 0 64) k) ∙ h)
 
 was_there : (a b : Bool) → (a ≡ false → b ≡ false) → b ≡ true → a ≡ true
 was_there true b h e = refl
@@ -74,7 +76,7 @@ was_there false b h e = absurd (not_both e (h refl))
 cut_apart : (m a : ℕ) (ks : List ℕ) (k : ℕ) → NumbersRise a ks → contains (take m ks) k ≡ true → contains (drop m ks) k ≡ true → ⊥
 cut_apart zero a ks k r e f = cc
 cut_apart (suc m) a [] k r e f = cc
-cut_apart (suc m) a (j ∷ ks) k r e f = by (one_of (k == j) (contains (take m ks) k) e) (λ g. cut_apart m (j + 1) ks k r.1 g f)
+cut_apart (suc m) a (j ∷ ks) k r e f = by (one_of_two (k == j) (contains (take m ks) k) e) (λ g. cut_apart m (j + 1) ks k r.1 g f)
   where
     by : ((k == j) ≡ true) ⊎ (contains (take m ks) k ≡ true) → (contains (take m ks) k ≡ true → ⊥) → ⊥
     by (inl g) later = let h : k ≡ j = (Decides-eqb k j).0 g in not_both f (none_dropped m ks k (none_below (j + 1) ks r.1 k (omega arith)))
@@ -85,7 +87,7 @@ head_apart [] r = refl
 head_apart (j ∷ ks) r = none_below (j + 1) ks r.1 j (omega arith)
 
 one_in : (a b : ℕ) → a ≡ b → ((a == b) || false) ≡ true
-one_in a b e = let f : (a == b) ≡ true = alike a b e in rw f refl
+one_in a b e = let f : (a == b) ≡ true = test_equal a b e in rw f refl
 
 -- ---- a move
 
@@ -175,7 +177,7 @@ module _ (bots : List Bot) (kin : IsKin bots) (b : Bot) (c : Coord) (m : ℕ) (i
   heir_of x k (inr (inr e)) o = absurd e
 
   unborn_of : (x : Bot) → In x (parent b m ∷ newborn b (point c) m ∷ []) → is_seed x.seeds x.bid ≡ false
-  unborn_of x (inl e) = subst (λ (v : Bot). is_seed v.seeds v.bid ≡ false) (sym e) (is_false (is_seed (parent b m).seeds b.bid) (λ f. not_bid b.bid refl (old_seed b.bid f)))
+  unborn_of x (inl e) = subst (λ (v : Bot). is_seed v.seeds v.bid ≡ false) (sym e) (false_by (is_seed (parent b m).seeds b.bid) (λ f. not_bid b.bid refl (old_seed b.bid f)))
   unborn_of x (inr (inl e)) = subst (λ (v : Bot). is_seed v.seeds v.bid ≡ false) (sym e) least_taken
   unborn_of x (inr (inr e)) = absurd e
 
@@ -215,18 +217,18 @@ module _ (bots : List Bot) (kin : IsKin bots) (b : Bot) (c : Coord) (m : ℕ) (i
 
 numbers_in : (p : ℕ → Bool) (k : ℕ) → is_seed (seed_set (filter p seed_numbers)) k ≡ true → p k ≡ true
 unfolding seed_numbers
-numbers_in p k h = first (p k) (contains (numbers_from 0 64) k) (sym (filtered p (numbers_from 0 64) k) ∙ (sym (seed_is 0 (filter p (numbers_from 0 64)) (filter_rises p 0 (numbers_from 0 64) (numbers_rise 0 64)) k) ∙ h))
+numbers_in p k h = first_of_two (p k) (contains (numbers_from 0 64) k) (sym (filtered p (numbers_from 0 64) k) ∙ (sym (seed_is 0 (filter p (numbers_from 0 64)) (filter_rises p 0 (numbers_from 0 64) (numbers_rise 0 64)) k) ∙ h))
 
 module _ (bots : List Bot) (kin : IsKin bots) (a b : Bot) (i : In a bots) (j : In b bots) (two : a.bid ≡ b.bid → ⊥) where
   of_either : (k : ℕ) → is_seed (fused a b).seeds k ≡ true → Own a k ⊎ Own b k
-  of_either k e = by (one_of (is_seed a.seeds k || is_seed b.seeds k) (k == b.bid) (numbers_in (λ n. is_seed a.seeds n || is_seed b.seeds n || n == b.bid) k e))
+  of_either k e = by (one_of_two (is_seed a.seeds k || is_seed b.seeds k) (k == b.bid) (numbers_in (λ n. is_seed a.seeds n || is_seed b.seeds n || n == b.bid) k e))
     where
       more : (is_seed a.seeds k ≡ true) ⊎ (is_seed b.seeds k ≡ true) → Own a k ⊎ Own b k
       more (inl f) = inl (inr f)
       more (inr f) = inr (inr f)
 
       by : ((is_seed a.seeds k || is_seed b.seeds k) ≡ true) ⊎ ((k == b.bid) ≡ true) → Own a k ⊎ Own b k
-      by (inl f) = more (one_of (is_seed a.seeds k) (is_seed b.seeds k) f)
+      by (inl f) = more (one_of_two (is_seed a.seeds k) (is_seed b.seeds k) f)
       by (inr f) = inr (inl ((Decides-eqb k b.bid).0 f))
 
   of_fused : (k : ℕ) → Own (fused a b) k → Own a k ⊎ Own b k
@@ -244,7 +246,7 @@ module _ (bots : List Bot) (kin : IsKin bots) (a b : Bot) (i : In a bots) (j : I
   bid_of x k = ap (λ (v : Bot). v.bid) (fused_is x k)
 
   first_in : (x : ℕ) → a.bid ≡ x → ((a.bid == x) || ((b.bid == x) || false)) ≡ true
-  first_in x e = let f : (a.bid == x) ≡ true = alike a.bid x e in rw f refl
+  first_in x e = let f : (a.bid == x) ≡ true = test_equal a.bid x e in rw f refl
 
   second_in : ((a.bid == b.bid) || ((b.bid == b.bid) || false)) ≡ true
   second_in = by (a.bid == b.bid) (one_in b.bid b.bid refl)
@@ -258,14 +260,14 @@ module _ (bots : List Bot) (kin : IsKin bots) (a b : Bot) (i : In a bots) (j : I
   heir_from k (inr o) = (b, j, second_in, o)
 
   unborn_fused : is_seed (fused a b).seeds a.bid ≡ true → Own a a.bid ⊎ Own b a.bid → ⊥
-  unborn_fused e (inl o) = by (one_of (is_seed a.seeds a.bid || is_seed b.seeds a.bid) (a.bid == b.bid) (numbers_in (λ n. is_seed a.seeds n || is_seed b.seeds n || n == b.bid) a.bid e))
+  unborn_fused e (inl o) = by (one_of_two (is_seed a.seeds a.bid || is_seed b.seeds a.bid) (a.bid == b.bid) (numbers_in (λ n. is_seed a.seeds n || is_seed b.seeds n || n == b.bid) a.bid e))
     where
       more : (is_seed a.seeds a.bid ≡ true) ⊎ (is_seed b.seeds a.bid ≡ true) → ⊥
       more (inl f) = not_both f (kin.unborn a i)
       more (inr f) = two (kin.owns a b a.bid i j (inl refl) (inr f))
 
       by : ((is_seed a.seeds a.bid || is_seed b.seeds a.bid) ≡ true) ⊎ ((a.bid == b.bid) ≡ true) → ⊥
-      by (inl f) = more (one_of (is_seed a.seeds a.bid) (is_seed b.seeds a.bid) f)
+      by (inl f) = more (one_of_two (is_seed a.seeds a.bid) (is_seed b.seeds a.bid) f)
       by (inr f) = two ((Decides-eqb a.bid b.bid).0 f)
   unborn_fused e (inr o) = two (kin.owns a b a.bid i j (inl refl) o)
 
@@ -274,7 +276,7 @@ module _ (bots : List Bot) (kin : IsKin bots) (a b : Bot) (i : In a bots) (j : I
     differ = ((λ x k e. k), tt);
     apart = λ x y k l e. bid_of x k ∙ sym (bid_of y l);
     owns = λ x y n k l o p. bid_of x k ∙ sym (bid_of y l);
-    unborn = λ x k. subst (λ (v : Bot). is_seed v.seeds v.bid ≡ false) (sym (fused_is x k)) (is_false (is_seed (fused a b).seeds a.bid) (λ e. unborn_fused e (of_either a.bid e)));
+    unborn = λ x k. subst (λ (v : Bot). is_seed v.seeds v.bid ≡ false) (sym (fused_is x k)) (false_by (is_seed (fused a b).seeds a.bid) (λ e. unborn_fused e (of_either a.bid e)));
     heirs = λ x k l o. heir_from k (of_fused k (subst (λ (v : Bot). Own v k) (fused_is x l) o));
     free = λ x e k l f. first_in e.bid (kin.apart a e i l (sym (pos_of x k) ∙ f));
   }
@@ -283,7 +285,7 @@ module _ (bots : List Bot) (kin : IsKin bots) (a b : Bot) (i : In a bots) (j : I
 
 row_within : (a n k : ℕ) → contains (numbers_from a n) k ≡ true → (a ≤ k) × (k < a + n)
 row_within a zero k e = cc
-row_within a (suc n) k e = by (one_of (k == a) (contains (numbers_from (a + 1) n) k) e) (λ f. row_within (a + 1) n k f)
+row_within a (suc n) k e = by (one_of_two (k == a) (contains (numbers_from (a + 1) n) k) e) (λ f. row_within (a + 1) n k f)
   where
     by : ((k == a) ≡ true) ⊎ (contains (numbers_from (a + 1) n) k ≡ true) → (contains (numbers_from (a + 1) n) k ≡ true → (a + 1 ≤ k) × (k < a + 1 + n)) → (a ≤ k) × (k < a + suc n)
     by (inl f) later = let g : k ≡ a = (Decides-eqb k a).0 f in (omega arith, omega arith)

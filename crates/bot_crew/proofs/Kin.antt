@@ -2,12 +2,13 @@
 use Rattle.std.proofs.Common.{◌≡◌, ◌≢◌, ℕ, zero, suc, ◌+◌, ◌<◌, ◌≤◌, refl, sym, ◌∙◌, ap, subst, arith, inl, inr, ◌⊎◌, Bool, true, false, not, ◌==◌, List, [], ◌∷◌, ◌++◌, length, get_or}
 use Rattle.std.specs.Prelude.{All, IsTrue, IsFalse}
 use Rattle.std.specs.List.{list_any}
+use Rattle.vox_geom.proofs.Truths.{false_by}
 use Rattle.nano_spec.specs.declared.system.Bot.{Bot}
 use Rattle.nano_spec.specs.State.{AreDisjoint, is_seed}
 use Rattle.step_order.proofs.Crews.{Differing, differ_append, differing, order_in, rising_order}
 use Rattle.step_order.proofs.Facts.{Rising, rising_is, pairs_in}
 use Rattle.step_order.proofs.Groups.{differ_filter}
-use Rattle.step_order.proofs.Lists.{In, not_both, is_false, in_either, in_place, place_in, filter_in}
+use Rattle.step_order.proofs.Lists.{In, not_both, in_either, in_place, place_in, filter_in}
 use Rattle.bot_crew.specs.Crew.{IsBid, IsCrew, replaced, without}
 
 -- a bid or a seed of the bot
@@ -84,8 +85,8 @@ crew_of bots r kin = record {
   most = let h = few 1 bots (omega arith) r (λ c i. kin.numbers c c.bid i (inl refl)) in omega arith;
   rising = rising_pairs bots r;
   positions = λ i j d l m e. differ i j d l m (kin.apart (get_or bots i d) (get_or bots j d) (place_in d bots i (omega arith)) (place_in d bots j m) e);
-  seeds = λ i j d l m k e. is_false (is_seed (get_or bots j d).seeds k) (λ f. differ i j d l m (kin.owns (get_or bots i d) (get_or bots j d) k (place_in d bots i (omega arith)) (place_in d bots j m) (inr e) (inr f)));
-  unborn = λ i d l j e m. is_false (is_seed (get_or bots i d).seeds (get_or bots j e).bid) (λ f. own (get_or bots i d) (get_or bots j e) (place_in d bots i l) (place_in e bots j m) f);
+  seeds = λ i j d l m k e. false_by (is_seed (get_or bots j d).seeds k) (λ f. differ i j d l m (kin.owns (get_or bots i d) (get_or bots j d) k (place_in d bots i (omega arith)) (place_in d bots j m) (inr e) (inr f)));
+  unborn = λ i d l j e m. false_by (is_seed (get_or bots i d).seeds (get_or bots j e).bid) (λ f. own (get_or bots i d) (get_or bots j e) (place_in d bots i l) (place_in e bots j m) f);
   bids = λ i d l. kin.numbers (get_or bots i d) (get_or bots i d).bid (place_in d bots i l) (inl refl);
   numbers = λ i d l k e. kin.numbers (get_or bots i d) k (place_in d bots i l) (inr e);
 }

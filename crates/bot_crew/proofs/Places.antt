@@ -4,20 +4,14 @@ use Rattle.std.specs.Prelude.{Some, None, IsSome, nat_lt}
 use Rattle.std.specs.List.{list_any, insert, remove}
 use Rattle.std.proofs.lemmas.Bool.{cases_order}
 use Rattle.std.proofs.lemmas.Bool.Decides.{nat_tests, Decides-eqb}
+use Rattle.vox_geom.proofs.Tests.{test_equal, test_less, test_not_less, test_unequal}
 use Rattle.nano_spec.specs.declared.system.Bot.{Bot}
 use Rattle.nano_spec.specs.Bots.{in_rising_order, with_bot}
 use Rattle.step_order.proofs.Crews.{Differing, order_in, in_order, rising_order, rising_same, rising_itself}
 use Rattle.step_order.proofs.Facts.{Rising}
 use Rattle.step_order.proofs.Lists.{In, not_both, in_place, place_in, filter_every, filter_same, filter_within, filter_in, none_find}
 use Rattle.bot_crew.specs.Crew.{bot_of, without}
-use Rattle.bot_crew.proofs.Bits.{alike, unlike}
 use Rattle.bot_crew.proofs.Kin.{rising_pairs}
-
-below : (a b : ℕ) → a < b → nat_lt a b ≡ true
-below a b h = grind (arith, nat_tests)
-
-not_below : (a b : ℕ) → b ≤ a → nat_lt a b ≡ false
-not_below a b h = grind (arith, nat_tests)
 
 -- ---- where a bid stands
 
@@ -29,10 +23,10 @@ pub record IsPlace (bots : List Bot) (bid i : ℕ) : Type 0 where
 
 pub found_at : (bots : List Bot) (bid i : ℕ) (d : Bot) → i < length bots → ((k : ℕ) → k < i → (get_or bots k d).bid < bid) → (get_or bots i d).bid ≡ bid → bot_of bots bid ≡ Some (get_or bots i d)
 found_at [] bid i d l b e = absurd (omega arith)
-found_at (x ∷ xs) bid zero d l b e = let f : (x.bid == bid) ≡ true = alike x.bid bid e in rw f refl
+found_at (x ∷ xs) bid zero d l b e = let f : (x.bid == bid) ≡ true = test_equal x.bid bid e in rw f refl
 found_at (x ∷ xs) bid (suc i) d l b e =
     let m : x.bid < bid = b zero (omega arith) in
-    let f : (x.bid == bid) ≡ false = unlike x.bid bid (λ g. omega arith) in
+    let f : (x.bid == bid) ≡ false = test_unequal x.bid bid (λ g. omega arith) in
     rw f (found_at xs bid i d (omega arith) (λ k n. b (suc k) (omega arith)) e)
 
 pub none_at : (bots : List Bot) (bid i : ℕ) → Rising bots → IsPlace bots bid i → ((d : Bot) → i < length bots → (get_or bots i d).bid ≡ bid → ⊥) → (c : Bot) → In c bots → c.bid ≡ bid → ⊥
@@ -45,7 +39,7 @@ none_at bots bid i r p h c j e = let w = in_place c c bots j in by w.0 w.1 (ap (
 
 -- no bot with the bid is active where none stands at its place
 pub none_found : (bots : List Bot) (bid i : ℕ) → Rising bots → IsPlace bots bid i → ((d : Bot) → i < length bots → (get_or bots i d).bid ≡ bid → ⊥) → bot_of bots bid ≡ None
-none_found bots bid i r p h = none_find (λ b. b.bid == bid) bots (λ c j. unlike c.bid bid (none_at bots bid i r p h c j))
+none_found bots bid i r p h = none_find (λ b. b.bid == bid) bots (λ c j. test_unequal c.bid bid (none_at bots bid i r p h c j))
 
 decided : (bots : List Bot) (bid i : ℕ) → ((i < length bots) × ((d : Bot) → (get_or bots i d).bid ≡ bid)) ⊎ ((d : Bot) → i < length bots → (get_or bots i d).bid ≡ bid → ⊥)
 decided [] bid i = inr (λ d l e. absurd (omega arith))
@@ -53,7 +47,7 @@ decided (x ∷ xs) bid zero = by (x.bid == bid) refl
   where
     by : (b : Bool) → (x.bid == bid) ≡ b → ((0 < length (x ∷ xs)) × ((d : Bot) → x.bid ≡ bid)) ⊎ ((d : Bot) → 0 < length (x ∷ xs) → x.bid ≡ bid → ⊥)
     by true e = inl (omega arith, λ d. (Decides-eqb x.bid bid).0 e)
-    by false e = inr (λ d l f. not_both (alike x.bid bid f) e)
+    by false e = inr (λ d l f. not_both (test_equal x.bid bid f) e)
 decided (x ∷ xs) bid (suc i) = by (decided xs bid i)
   where
     by : ((i < length xs) × ((d : Bot) → (get_or xs i d).bid ≡ bid)) ⊎ ((d : Bot) → i < length xs → (get_or xs i d).bid ≡ bid → ⊥) → ((suc i < length (x ∷ xs)) × ((d : Bot) → (get_or xs i d).bid ≡ bid)) ⊎ ((d : Bot) → suc i < length (x ∷ xs) → (get_or xs i d).bid ≡ bid → ⊥)
@@ -77,10 +71,10 @@ placed bots bid i r p s = by (decided bots bid i)
 -- ---- writes at a place
 
 is_kept : (bid : ℕ) (x : Bot) → (bid ≡ x.bid → ⊥) → not (list_any (λ k. k == x.bid) (bid ∷ [])) ≡ true
-is_kept bid x h = let e : (bid == x.bid) ≡ false = unlike bid x.bid h in rw e refl
+is_kept bid x h = let e : (bid == x.bid) ≡ false = test_unequal bid x.bid h in rw e refl
 
 not_kept : (bid : ℕ) (x : Bot) → bid ≡ x.bid → not (list_any (λ k. k == x.bid) (bid ∷ [])) ≡ false
-not_kept bid x h = let e : (bid == x.bid) ≡ true = alike bid x.bid h in rw e refl
+not_kept bid x h = let e : (bid == x.bid) ≡ true = test_equal bid x.bid h in rw e refl
 
 -- a removal
 pub remove_is : (bots : List Bot) (bid i : ℕ) → Rising bots → i < length bots → ((d : Bot) → (get_or bots i d).bid ≡ bid) → remove bots i ≡ without bots (bid ∷ [])
@@ -113,17 +107,17 @@ set_is (x ∷ xs) bid (suc i) new r l e n =
     let ws = without xs (bid ∷ []) in
     let rest : set xs i new ≡ with_bot new ws = set_is xs bid i new r.1 (omega arith) e n ∙ ap (λ ys. with_bot new ys) (rising_itself ws (without_rises xs (bid ∷ []) r.1)) in
     let rises : Rising (x ∷ ws) = ((λ c j. r.0 c (filter_in (λ b. not (list_any (λ k. k == b.bid) (bid ∷ []))) c xs j).0), without_rises xs (bid ∷ []) r.1) in
-    let after : nat_lt new.bid x.bid ≡ false = not_below new.bid x.bid (omega arith) in
+    let after : nat_lt new.bid x.bid ≡ false = test_not_less new.bid x.bid (omega arith) in
     let one : with_bot new (x ∷ ws) ≡ x ∷ with_bot new ws = rw after refl in
     rw (is_kept bid x (λ f. omega arith)) (ap (λ ys. x ∷ ys) rest ∙ (sym one ∙ ap (λ ys. with_bot new ys) (sym (rising_itself (x ∷ ws) rises))))
 
 insert_with : (bots : List Bot) (i : ℕ) (new : Bot) → i ≤ length bots → ((k : ℕ) (d : Bot) → k < i → (get_or bots k d).bid < new.bid) → ((d : Bot) → i < length bots → new.bid < (get_or bots i d).bid) → insert bots i new ≡ with_bot new bots
 insert_with [] zero new l b f = refl
 insert_with [] (suc i) new l b f = absurd (omega arith)
-insert_with (x ∷ xs) zero new l b f = let m : nat_lt new.bid x.bid ≡ true = below new.bid x.bid (f x (omega arith)) in rw m refl
+insert_with (x ∷ xs) zero new l b f = let m : nat_lt new.bid x.bid ≡ true = test_less new.bid x.bid (f x (omega arith)) in rw m refl
 insert_with (x ∷ xs) (suc i) new l b f =
     let n : x.bid < new.bid = b zero x (omega arith) in
-    let m : nat_lt new.bid x.bid ≡ false = not_below new.bid x.bid (omega arith) in
+    let m : nat_lt new.bid x.bid ≡ false = test_not_less new.bid x.bid (omega arith) in
     rw m (ap (λ ys. x ∷ ys) (insert_with xs i new (omega arith) (λ k d h. b (suc k) d (omega arith)) (λ d h. f d (omega arith))))
 
 -- an insertion at the place of a bid that no bot has

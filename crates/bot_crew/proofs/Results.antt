@@ -7,6 +7,7 @@ use Rattle.std.proofs.lemmas.List.Edits.{length-insert}
 use Rattle.std.proofs.Math.ListN.{length-set}
 use Rattle.vox_geom.specs.declared.coordinate.Coord.{Coord}
 use Rattle.vox_geom.specs.Point.{point}
+use Rattle.vox_geom.proofs.Tests.{test_itself, test_unequal}
 use Rattle.nano_spec.specs.declared.system.Bot.{Bot}
 use Rattle.nano_spec.specs.Bots.{fused, in_rising_order, moved, newborn, parent, with_bot}
 use Rattle.nano_spec.specs.State.{is_seed, seed_list, seed_numbers, seed_set}
@@ -14,7 +15,6 @@ use Rattle.step_order.proofs.Crews.{Differing, order_in, rising_itself, rising_o
 use Rattle.step_order.proofs.Facts.{Rising}
 use Rattle.step_order.proofs.Lists.{In, find_within, in_place, none_find, place_in}
 use Rattle.bot_crew.specs.Crew.{IsActive, IsCrew, bot_at, bot_of, replaced, stands_at, without}
-use Rattle.bot_crew.proofs.Bits.{unlike}
 use Rattle.bot_crew.proofs.Kin.{IsHeir, kin_of, rising_of, crew_replaced, differ_all}
 use Rattle.bot_crew.proofs.Places.{IsPlace, found_at, insert_is, none_found, order_swap, placed, remove_is, set_is, without_both, without_rises}
 use Rattle.bot_crew.proofs.Heirs.{fission_heir, found_in, fusion_heir, move_heir, none_there, only_there, stands}
@@ -102,11 +102,8 @@ move_result bots old now bid i c e f crew place active free =
 
 -- ---- the only bot
 
-same_bid : (n : ℕ) → (n == n) ≡ true
-same_bid n = grind (arith, nat_tests)
-
 only_active : (a : Bot) → IsActive (a ∷ []) a.bid
-only_active a = rw (same_bid a.bid) refl
+only_active a = rw (test_itself a.bid) refl
 
 only_free : (a : Bot) (c : Coord) → IfSome (bot_at (a ∷ []) c) (λ b. b.bid ≡ a.bid)
 only_free a c = by (stands_at c a)
@@ -211,7 +208,7 @@ module _ (bots : List Bot) (crew : IsCrew bots) (primary secondary end : ℕ) (p
   rest_rises = subst (λ v. Rising v) (sym rest_is) (without_rises bots (secondary ∷ []) (rising_of bots crew))
 
   stays : (x : Bot) → (x.bid == primary) ≡ true → not (list_any (λ k. k == x.bid) (secondary ∷ [])) ≡ true
-  stays x e = let f : (secondary == x.bid) ≡ false = unlike secondary x.bid (λ g. two (sym (g ∙ (Decides-eqb x.bid primary).0 e))) in rw f refl
+  stays x e = let f : (secondary == x.bid) ≡ false = test_unequal secondary x.bid (λ g. two (sym (g ∙ (Decides-eqb x.bid primary).0 e))) in rw f refl
 
   primary_in : bot_of (remove bots end) primary ≡ bot_of bots primary
   primary_in = ap (λ v. bot_of v primary) rest_is ∙ find_within (λ b. not (list_any (λ k. k == b.bid) (secondary ∷ []))) (λ b. b.bid == primary) bots (λ x j e. stays x e)

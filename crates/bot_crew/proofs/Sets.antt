@@ -9,9 +9,10 @@ use Rattle.std.proofs.lemmas.Bool.{cases_order}
 use Rattle.std.proofs.lemmas.Bool.Decides.{nat_tests}
 use Rattle.std.proofs.lemmas.List.{drop-drop}
 use Rattle.vox_geom.specs.Space.{numbers_from, numbers_below}
+use Rattle.vox_geom.proofs.Tests.{test_equal, test_unequal}
 use Rattle.nano_spec.specs.State.{is_seed, seed_list, seed_numbers, seed_set}
 use Rattle.nano_spec.proofs.Seeds.{same_filter}
-use Rattle.bot_crew.proofs.Bits.{alike, unlike, seed_more, seed_join, set_of_list, list_rises, less_is, least_is, ones_are}
+use Rattle.bot_crew.proofs.Bits.{seed_more, seed_join, set_of_list, list_rises, less_is, least_is, ones_are}
 
 pub ones_of : (n : ℕ) → n < 2 ^ 64 → count_ones n ≡ length (seed_list n)
 ones_of n h = ap count_ones (sym (set_of_list n h)) ∙ ones_are 0 (seed_list n) (list_rises n)
@@ -81,10 +82,10 @@ pow_seed : (j k : ℕ) → is_seed (2 ^ j) k ≡ (k == j)
 pow_seed j k = by (cases_order k j)
   where
     other : (k ≡ j → ⊥) → is_seed (2 ^ j) k ≡ (k == j)
-    other ne = ap (λ v. v == 1) (bit_at-pow_other j k ne) ∙ sym (unlike k j ne)
+    other ne = ap (λ v. v == 1) (bit_at-pow_other j k ne) ∙ sym (test_unequal k j ne)
 
     by : (k ≡ j) ⊎ ((k < j) ⊎ (j < k)) → is_seed (2 ^ j) k ≡ (k == j)
-    by (inl e) = subst (λ v. is_seed (2 ^ v) k ≡ (k == v)) e (ap (λ v. v == 1) (bit_at-pow_same k) ∙ sym (alike k k refl))
+    by (inl e) = subst (λ v. is_seed (2 ^ v) k ≡ (k == v)) e (ap (λ v. v == 1) (bit_at-pow_same k) ∙ sym (test_equal k k refl))
     by (inr (inl l)) = other (λ e. omega arith)
     by (inr (inr l)) = other (λ e. omega arith)
 

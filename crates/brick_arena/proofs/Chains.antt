@@ -14,10 +14,6 @@ among-beside t s ts ne = grind arith
 pub among-cases : (t s : ℕ) (ts : List ℕ) → is_listed t (s ∷ ts) ≡ true → (t ≡ s) ⊎ (is_listed t ts ≡ true)
 among-cases t s ts e = grind arith
 
-pub not_true : (b : Bool) → (b ≡ true → ⊥) → b ≡ false
-not_true true h = absurd (h refl)
-not_true false h = refl
-
 -- what is among them is no slot that is not
 pub apart : (s t : ℕ) (ts : List ℕ) → is_listed s ts ≡ false → is_listed t ts ≡ true → t ≡ s → ⊥
 apart s t ts unheld held e = let z : true ≡ false = sym held ∙ ap (λ k. is_listed k ts) e ∙ unheld in cc

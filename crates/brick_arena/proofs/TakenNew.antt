@@ -1,10 +1,11 @@
 -- What taking a slot that was never reached does.
 use Rattle.std.proofs.Common.{◌≡◌, ℕ, ◌+◌, ◌*◌, ◌<◌, ◌≤◌, false, List, refl, sym, ap, ◌∙◌, subst, arith, Some, None, replicate}
 use Rattle.std.specs.FinMap.{get, insert, len}
+use Rattle.vox_geom.proofs.Truths.{false_by}
 use Rattle.brick_arena.specs.Arena.{is_listed, AreDistinct, chain, slot_words, live_slots, view_of, IsArena}
 use Rattle.brick_arena.specs.Chunks.{chunk_word, HasRoom}
 use Rattle.brick_arena.specs.Slots.{Slots}
-use Rattle.brick_arena.proofs.Chains.{not_true, chain-same}
+use Rattle.brick_arena.proofs.Chains.{chain-same}
 use Rattle.brick_arena.proofs.LiveSlots.{get_past, get_live, inserted, len_added, same_slot}
 use Rattle.brick_arena.proofs.Rows.{row-same, row-const}
 
@@ -35,7 +36,7 @@ module _ (cs : List (List ℕ)) (free vacant reached : ℕ) (old : IsArena cs fr
     links = chain-same m m' free vacant (λ t in_chain. room.same (512 * t))
 
     beyond : is_listed reached fs ≡ false
-    beyond = not_true (is_listed reached fs) (λ e. let bad : reached < reached = old.below reached e in absurd (omega (arith, bad)))
+    beyond = false_by (is_listed reached fs) (λ e. let bad : reached < reached = old.below reached e in absurd (omega (arith, bad)))
 
     pub view_new : view_of ds free vacant (reached + 1) ≡ insert v reached (replicate 512 0)
     view_new =

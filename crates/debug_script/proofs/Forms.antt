@@ -6,6 +6,8 @@ use Rattle.std.specs.Str.{bytes_eq}
 use Rattle.std.proofs.lemmas.Bool.Decides.{nat_tests}
 use Rattle.std.proofs.lemmas.Slice.Eq.{bytes_eq-Decides}
 use Rattle.vox_geom.specs.declared.coordinate.Coord.{Coord}
+use Rattle.vox_geom.proofs.Truths.{and_false}
+use Rattle.vox_geom.proofs.Tests.{test_less, test_not_less}
 use Rattle.trace_text.specs.declared.fault.TextRefusal.TheVariants as refusal
 use Rattle.step_debugger.specs.Session.{Back, Bots, DebugLine, Group, Step, Voxel}
 use Rattle.debug_script.specs.declared.line.ScriptLine.TheVariants as code
@@ -112,16 +114,6 @@ module _ (ps : List (List ℕ)) where
 
 -- ---- ranges
 
-below : (a b : ℕ) → a < b → nat_lt a b ≡ true
-below a b h = grind (arith, nat_tests)
-
-not_below : (a b : ℕ) → b ≤ a → nat_lt a b ≡ false
-not_below a b h = grind (arith, nat_tests)
-
-and_false : (b : Bool) → (b && false) ≡ false
-and_false true = refl
-and_false false = refl
-
 module _ (r number : ℕ) (ps : List (List ℕ)) (n : ℕ) (few : HasFewDigits n) (are : ps ≡ decimal n ∷ []) where
   written : ArePartsOf (codes "group" ∷ ps) (Group n)
   written = record { parts_are = ap (λ (qs : List (List ℕ)). codes "group" ∷ qs) are; short = few }
@@ -130,14 +122,14 @@ module _ (r number : ℕ) (ps : List (List ℕ)) (n : ℕ) (few : HasFewDigits n
   out e = ((Group n, written, e), refl)
 
   pub group_too_low : n < 1 → IsReadBy (PartsSay r (codes "group" ∷ ps)) number (Err (refusal.Range number))
-  group_too_low l = out (ap (λ b. b && nat_lt n 41) (not_below 0 n (omega arith)))
+  group_too_low l = out (ap (λ b. b && nat_lt n 41) (test_not_less 0 n (omega arith)))
 
   pub group_too_high : 40 < n → IsReadBy (PartsSay r (codes "group" ∷ ps)) number (Err (refusal.Range number))
-  group_too_high l = out (ap (λ b. nat_lt 0 n && b) (not_below n 41 (omega arith)) ∙ and_false (nat_lt 0 n))
+  group_too_high l = out (ap (λ b. nat_lt 0 n && b) (test_not_less n 41 (omega arith)) ∙ and_false (nat_lt 0 n))
 
   pub group_in_range : 1 ≤ n → n ≤ 40 → IsReadBy (PartsSay r (codes "group" ∷ ps)) number (Ok (code.Group n))
   group_in_range l h =
-      let e : (nat_lt 0 n && nat_lt n 41) ≡ true = ap (λ b. b && nat_lt n 41) (below 0 n (omega arith)) ∙ below n 41 (omega arith) in
+      let e : (nat_lt 0 n && nat_lt n 41) ≡ true = ap (λ b. b && nat_lt n 41) (test_less 0 n (omega arith)) ∙ test_less n 41 (omega arith) in
       (written, e)
 
 module _ (r number : ℕ) (ps : List (List ℕ)) (x y z : ℕ) (fx : HasFewDigits x) (fy : HasFewDigits y) (fz : HasFewDigits z) (are : ps ≡ decimal x ∷ decimal y ∷ decimal z ∷ []) where
@@ -151,17 +143,17 @@ module _ (r number : ℕ) (ps : List (List ℕ)) (x y z : ℕ) (fx : HasFewDigit
   outside e = ((Voxel at, spelled, e), refl)
 
   pub x_too_high : r ≤ x → IsReadBy (PartsSay r (codes "voxel" ∷ ps)) number (Err (refusal.Range number))
-  x_too_high l = outside (ap (λ b. b && nat_lt y r && nat_lt z r) (not_below x r l))
+  x_too_high l = outside (ap (λ b. b && nat_lt y r && nat_lt z r) (test_not_less x r l))
 
   pub y_too_high : x < r → r ≤ y → IsReadBy (PartsSay r (codes "voxel" ∷ ps)) number (Err (refusal.Range number))
-  y_too_high lx l = outside (ap (λ b. b && nat_lt y r && nat_lt z r) (below x r lx) ∙ ap (λ b. b && nat_lt z r) (not_below y r l))
+  y_too_high lx l = outside (ap (λ b. b && nat_lt y r && nat_lt z r) (test_less x r lx) ∙ ap (λ b. b && nat_lt z r) (test_not_less y r l))
 
   pub z_too_high : x < r → y < r → r ≤ z → IsReadBy (PartsSay r (codes "voxel" ∷ ps)) number (Err (refusal.Range number))
-  z_too_high lx ly l = outside (ap (λ b. b && nat_lt y r && nat_lt z r) (below x r lx) ∙ (ap (λ b. b && nat_lt z r) (below y r ly) ∙ not_below z r l))
+  z_too_high lx ly l = outside (ap (λ b. b && nat_lt y r && nat_lt z r) (test_less x r lx) ∙ (ap (λ b. b && nat_lt z r) (test_less y r ly) ∙ test_not_less z r l))
 
   pub voxel_in_range : x < r → y < r → z < r → IsReadBy (PartsSay r (codes "voxel" ∷ ps)) number (Ok (code.Voxel at))
   voxel_in_range lx ly lz =
-      let e : (nat_lt x r && nat_lt y r && nat_lt z r) ≡ true = ap (λ b. b && nat_lt y r && nat_lt z r) (below x r lx) ∙ (ap (λ b. b && nat_lt z r) (below y r ly) ∙ below z r lz) in
+      let e : (nat_lt x r && nat_lt y r && nat_lt z r) ≡ true = ap (λ b. b && nat_lt y r && nat_lt z r) (test_less x r lx) ∙ (ap (λ b. b && nat_lt z r) (test_less y r ly) ∙ test_less z r lz) in
       (spelled, e)
 
 -- ---- words

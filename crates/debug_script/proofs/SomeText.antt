@@ -5,6 +5,8 @@ use Rattle.std.specs.Prelude.{IsPermutation, MatchBool, MatchOption}
 use Rattle.std.specs.List.{list_any, remove}
 use Rattle.std.proofs.lemmas.Bool.Decides.{nat_tests}
 use Rattle.std.proofs.lemmas.List.Sorted.{IsPermutation-more, IsPermutation-refl, list_any-IsPermutation}
+use Rattle.vox_geom.proofs.Truths.{first_of_two, second_of_two}
+use Rattle.vox_geom.proofs.Tests.{equal_by_test}
 use Rattle.nano_spec.specs.declared.commands.Command.{Command}
 use Rattle.nano_spec.specs.declared.outcomes.Broken.{Broken}
 use Rattle.nano_spec.specs.declared.outcomes.Rule.{Rule}
@@ -19,7 +21,7 @@ use Rattle.nano_spec.specs.State.{IsReady, State}
 use Rattle.nano_spec.specs.Step.{after}
 use Rattle.nano_spec.proofs.Accepted.{accepted_step}
 use Rattle.step_order.specs.SomeGroups.{after_some}
-use Rattle.step_order.proofs.Lists.{In, any_in, any_none, first, in_either, in_left, in_place, in_right, not_both, second}
+use Rattle.step_order.proofs.Lists.{In, any_in, any_none, in_either, in_left, in_place, in_right, not_both}
 use Rattle.step_machine.proofs.Reaching.{level_of}
 use Rattle.step_machine.proofs.Weighing.{next_of}
 use Rattle.step_debugger.specs.Session.{AnswersLine, Back, BeginsGroup, Begun, Bots, Crew, DebugLine, DebugReport, Ended, GoesBack, Group, Made, Moment, NoHistory, NoLeader, Refused, Session, Step, TakesBack, TriesGroup, TriesStep, UnlessEnded, Voxel, dropped, is_last, is_returned, made, may_begin, middle_state, most_past, next_commands, next_leaders, none_left, refused}
@@ -77,9 +79,6 @@ record IsOrderly (commands : List Command) (s : Session) : Type 0 where
 fresh : (commands : List Command) (p : Moment) (past : List Moment) → IsReady p.state → ((q : Moment) → In q past → IsReady q.state) → IsOrderly commands (record { point = p; past = past; begun = [] })
 fresh commands p past ready before = record { point = ready; past = before; left = next_leaders commands p; leaders = IsPermutation-refl (next_leaders commands p); keeps = λ some. absurd (some refl) }
 
-same_bid : (a b : ℕ) → (a == b) ≡ true → a ≡ b
-same_bid a b t = grind (arith, nat_tests)
-
 module _ (commands : List Command) (are : AreCommands commands) (stays_ready : ReadyLaw) (middle : MiddleLaw) where
   -- something is answered so, and leads to a session of which it is so again
   abbrev HasAnswer : (Session → DebugReport → Type 0) → Type 0
@@ -135,10 +134,10 @@ module _ (commands : List Command) (are : AreCommands commands) (stays_ready : R
         }
       where
         listed : list_any (λ k. k == bid) (s.begun ++ orderly.left) ≡ true
-        listed = sym (list_any-IsPermutation (λ k. k == bid) (next_leaders commands s.point) (s.begun ++ orderly.left) orderly.leaders) ∙ first (list_any (λ k. k == bid) (next_leaders commands s.point)) (not (list_any (λ k. k == bid) s.begun)) may
+        listed = sym (list_any-IsPermutation (λ k. k == bid) (next_leaders commands s.point) (s.begun ++ orderly.left) orderly.leaders) ∙ first_of_two (list_any (λ k. k == bid) (next_leaders commands s.point)) (not (list_any (λ k. k == bid) s.begun)) may
 
         not_begun : list_any (λ k. k == bid) s.begun ≡ false
-        not_begun = negated (list_any (λ k. k == bid) s.begun) (second (list_any (λ k. k == bid) (next_leaders commands s.point)) (not (list_any (λ k. k == bid) s.begun)) may)
+        not_begun = negated (list_any (λ k. k == bid) s.begun) (second_of_two (list_any (λ k. k == bid) (next_leaders commands s.point)) (not (list_any (λ k. k == bid) s.begun)) may)
           where
             negated : (b : Bool) → not b ≡ true → b ≡ false
             negated true e = cc
@@ -149,7 +148,7 @@ module _ (commands : List Command) (are : AreCommands commands) (stays_ready : R
           where
             by : (k : ℕ) → (k == bid) ≡ true → In k s.begun ⊎ In k orderly.left → In bid orderly.left
             by k e (inl i) = absurd (not_both e (any_none (λ k. k == bid) k s.begun not_begun i))
-            by k e (inr i) = subst (λ (n : ℕ). In n orderly.left) (same_bid k bid e) i
+            by k e (inr i) = subst (λ (n : ℕ). In n orderly.left) (equal_by_test k bid e) i
 
     begins_group : (bid : ℕ) → next_broken commands s ≡ None → HasAnswer (BeginsGroup commands bid s)
     begins_group bid keeps = by (may_begin commands s bid) (is_last commands s) refl

@@ -10,6 +10,8 @@ use Rattle.vox_geom.specs.Difference.{is_far, is_linear, is_near, is_short, mlen
 use Rattle.vox_geom.specs.Point.{Point, point, plus}
 use Rattle.vox_geom.specs.Region.{Span, between, extent, is_within, just, size}
 use Rattle.vox_geom.proofs.Counts.{region_count_most}
+use Rattle.vox_geom.proofs.Truths.{first_of_two, second_of_two}
+use Rattle.vox_geom.proofs.Tests.{at_most_by_test}
 use Rattle.nano_spec.specs.declared.commands.Command.{Command}
 use Rattle.nano_spec.specs.declared.commands.Command.TheVariants.{Halt, Wait, Flip, SMove, LMove, FusionP, FusionS, Fission, Fill, Void, GFill, GVoid}
 use Rattle.nano_spec.specs.declared.system.Bot.{Bot}
@@ -21,7 +23,6 @@ use Rattle.nano_spec.specs.Group.{is_leader}
 use Rattle.nano_spec.specs.Matrix.{Matrix, all_of}
 use Rattle.nano_spec.specs.State.{State, is_high}
 use Rattle.nano_spec.specs.Step.{after}
-use Rattle.nano_spec.proofs.Grounding.{left, right}
 use Rattle.energy_sum.specs.Costs.{filling_cost, voiding_cost}
 use Rattle.energy_sum.proofs.Prices.{filling-is, fulls, voiding-is, voids, voids-and-fulls}
 
@@ -32,9 +33,6 @@ cube_most r k h = mul-le-mul (mul-le-mul h h) h
 record IsAtMost (k : ℕ) (z : ℤ) : Type 0 where
   above : z ≤ℤ pos k
   below : pos 0 ≤ℤ (z +ℤ pos k)
-
-le_of : (a b : ℕ) → IsTrue (nat_le a b) → a ≤ b
-le_of a b h = grind (arith, nat_tests)
 
 -- ---- regions
 
@@ -88,10 +86,10 @@ fused : IsAtMost 357492 (negsuc 23)
 fused = record { above = omega (arith, ints); below = omega (arith, ints) }
 
 long_most : (d : Diff) → IsLong d → mlen d ≤ 15
-long_most d h = le_of (mlen d) 15 (right (is_linear d) (nat_le (mlen d) 15) h)
+long_most d h = at_most_by_test (mlen d) 15 (second_of_two (is_linear d) (nat_le (mlen d) 15) h)
 
 short_most : (d : Diff) → IsShort d → mlen d ≤ 5
-short_most d h = le_of (mlen d) 5 (right (is_linear d) (nat_le (mlen d) 5) h)
+short_most d h = at_most_by_test (mlen d) 5 (second_of_two (is_linear d) (nat_le (mlen d) 5) h)
 
 group_most : (m : Matrix) (p : Point) (command : Command) → IsCommand command → IsAtMost 357492 (group_cost m p command)
 group_most m p Halt h = small 0 (omega arith)
@@ -99,16 +97,16 @@ group_most m p Wait h = small 0 (omega arith)
 group_most m p Flip h = small 0 (omega arith)
 group_most m p (SMove d) h = let l = long_most d h in small (2 * mlen d) (omega arith)
 group_most m p (LMove d e) h =
-    let k = short_most d (left (is_short d) (is_short e) h) in
-    let l = short_most e (right (is_short d) (is_short e) h) in
+    let k = short_most d (first_of_two (is_short d) (is_short e) h) in
+    let l = short_most e (second_of_two (is_short d) (is_short e) h) in
     small (2 * (mlen d + 2 + mlen e)) (omega arith)
 group_most m p (FusionP d) h = fused
 group_most m p (FusionS d) h = fused
 group_most m p (Fission d n) h = small 24 (omega arith)
 group_most m p (Fill d) h = filled_most m (just (plus p d)) (size_just (plus p d))
 group_most m p (Void d) h = voided_most m (just (plus p d)) (size_just (plus p d))
-group_most m p (GFill d f) h = filled_most m (between (plus p d) (plus (plus p d) f)) (size_far (plus p d) f (right (is_near d) (is_far f) h))
-group_most m p (GVoid d f) h = voided_most m (between (plus p d) (plus (plus p d) f)) (size_far (plus p d) f (right (is_near d) (is_far f) h))
+group_most m p (GFill d f) h = filled_most m (between (plus p d) (plus (plus p d) f)) (size_far (plus p d) f (second_of_two (is_near d) (is_far f) h))
+group_most m p (GVoid d f) h = voided_most m (between (plus p d) (plus (plus p d) f)) (size_far (plus p d) f (second_of_two (is_near d) (is_far f) h))
 
 -- ---- all groups of a step
 

@@ -6,6 +6,7 @@ use Rattle.std.proofs.lemmas.List.Sums.{sum_by-cons}
 use Rattle.vox_geom.specs.declared.coordinate.Coord.{Coord}
 use Rattle.vox_geom.specs.Point.{Point, point, plus}
 use Rattle.vox_geom.specs.Region.{Span, between, is_within, just}
+use Rattle.vox_geom.proofs.Truths.{or_false}
 use Rattle.nano_spec.specs.declared.commands.Command.{Command}
 use Rattle.nano_spec.specs.declared.commands.Command.TheVariants.{Halt, Wait, Flip, SMove, LMove, FusionP, FusionS, Fission, Fill, Void, GFill, GVoid}
 use Rattle.nano_spec.specs.Energy.{filling, group_cost, total, voiding}
@@ -74,10 +75,6 @@ filling-is m s = filled_total m (λ c. is_within s (point c)) (all_of m)
 
 pub voiding-is : (m : Matrix) (s : Span) → voiding m s ≡ voiding_cost (voids m (λ c. is_within s (point c)) (all_of m)) (fulls m (λ c. is_within s (point c)) (all_of m))
 voiding-is m s = voided_total m (λ c. is_within s (point c)) (all_of m)
-
-or_false : (b : Bool) → (b || false) ≡ b
-or_false true = refl
-or_false false = refl
 
 -- the voxels that are met in one region alone
 pub voids-one : (m : Matrix) (s : Span) → count_by (λ c. is_met (s ∷ []) c && not (is_full m c)) (all_of m) ≡ voids m (λ c. is_within s (point c)) (all_of m)

@@ -4,8 +4,8 @@ use Rattle.std.specs.Prelude.{pos, IsTrue}
 use Rattle.std.proofs.lemmas.Bool.Decides.{nat_tests}
 use Rattle.vox_geom.specs.declared.coordinate.Coord.{Coord}
 use Rattle.vox_geom.specs.Region.{is_between}
+use Rattle.vox_geom.proofs.Truths.{first_of_two, second_of_two}
 use Rattle.nano_spec.specs.Matrix.{Matrix, is_full}
-use Rattle.step_order.proofs.Lists.{first, second}
 use Rattle.plan_tape.specs.Leg.{AreVoidTo}
 use Rattle.plan_tape.proofs.ClearWays.{at_either}
 
@@ -16,7 +16,7 @@ at_least : (a v : ℕ) → IsTrue (is_between (pos a) (pos a) (pos v)) → a ≤
 at_least a v t = grind (arith, nat_tests)
 
 sides : (a b v c d w e f u : ℕ) → IsTrue (is_between (pos a) (pos b) (pos v) && is_between (pos c) (pos d) (pos w) && is_between (pos e) (pos f) (pos u)) → IsTrue (is_between (pos a) (pos b) (pos v)) × IsTrue (is_between (pos c) (pos d) (pos w))
-sides a b v c d w e f u t = let p = first _ _ t in (first _ _ p, second _ _ p)
+sides a b v c d w e f u t = let p = first_of_two _ _ t in (first_of_two _ _ p, second_of_two _ _ p)
 
 -- the ways are void where all is void from the height of the start on, and at the end's x from the lower height on
 pub ways_are_void : (m : Matrix) (a b : Coord) → ((c : Coord) → a.y ≤ c.y → is_full m c ≡ false) → ((c : Coord) → c.x ≡ b.x → (a.y ≤ c.y) ⊎ (b.y ≤ c.y) → is_full m c ≡ false) → AreVoidTo m a b

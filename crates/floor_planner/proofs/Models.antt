@@ -6,18 +6,19 @@ use Rattle.vox_geom.specs.declared.coordinate.Coord.{Coord}
 use Rattle.vox_geom.specs.Point.{Point, point, coord}
 use Rattle.vox_geom.specs.Region.{Span, between, is_between, is_within}
 use Rattle.vox_geom.specs.Space.{IsInSpace}
+use Rattle.vox_geom.proofs.Truths.{false_by, first_of_two, second_of_two}
 use Rattle.nano_spec.specs.First.{FirstFailing}
 use Rattle.nano_spec.specs.Grounded.{FirstUngrounded, Grounded}
 use Rattle.nano_spec.specs.Legal.{IsLegal, in_legal_box}
 use Rattle.nano_spec.specs.Matrix.{Matrix, all_of, empty, is_full, matrix_where}
 use Rattle.nano_spec.proofs.Coordinates.{in_space-is}
 use Rattle.nano_spec.proofs.Opening.{legal_is}
-use Rattle.step_order.proofs.Lists.{both, find_none, first, is_false, none_find, not_both, second}
+use Rattle.step_order.proofs.Lists.{both, find_none, none_find, not_both}
 use Rattle.step_order.proofs.Voxels.{full_where, in_coordinates}
 use Rattle.floor_planner.specs.Floor.{IsFlat}
 
 pub full_in_space : (m : Matrix) (c : Coord) → is_full m c ≡ true → IsInSpace m.resolution c
-full_in_space m c f = in_space-is m.resolution c (first _ _ f)
+full_in_space m c f = in_space-is m.resolution c (first_of_two _ _ f)
 
 -- a voxel that is full in the matrix of a test passes the test
 pub full_passes : (r : ℕ) (test : Coord → Bool) (c : Coord) → is_full (matrix_where r test) c ≡ true → test c ≡ true
@@ -25,7 +26,7 @@ full_passes r test c f = sym (full_where r test c (full_in_space (matrix_where r
 
 -- where none of the coordinates passes two tests and the first is passed, the second is not
 second_fails : (m : Matrix) (test : Coord → Bool) (c : Coord) → find (λ d. is_full m d && test d) (all_of m) ≡ None → is_full m c ≡ true → test c ≡ false
-second_fails m test c none f = is_false (test c) (λ t. not_both (both f t) (find_none (λ d. is_full m d && test d) c (all_of m) none (in_coordinates m.resolution c (full_in_space m c f))))
+second_fails m test c none f = false_by (test c) (λ t. not_both (both f t) (find_none (λ d. is_full m d && test d) c (all_of m) none (in_coordinates m.resolution c (full_in_space m c f))))
 
 -- ---- legal models
 
@@ -43,7 +44,7 @@ pub layer_above : (m : Matrix) (c : Coord) → IsLegal m → is_full m c ≡ tru
 layer_above m c h f = below_top m.resolution c (in_box m c h f)
 
 pub border_is_void : (m : Matrix) (c : Coord) → IsLegal m → c.x ≡ 0 → is_full m c ≡ false
-border_is_void m c h e = is_false (is_full m c) (λ f. let l = off_border m.resolution c (in_box m c h f) in omega arith)
+border_is_void m c h e = false_by (is_full m c) (λ f. let l = off_border m.resolution c (in_box m c h f) in omega arith)
 
 -- ---- flat models
 
@@ -62,7 +63,7 @@ too_low most x y z h e = grind (arith, nat_tests)
 
 -- there is no full voxel from the first layer of a flat model on
 pub void_where : (m : Matrix) (most : ℕ) (region : Span) → 1 ≤ most → ((p : Point) → is_within region p ≡ is_within (between (point (coord 0 1 0)) (point (coord most most most))) p) → IsFlat m → find (λ c. is_full m c && is_within region (point c)) (all_of m) ≡ None
-void_where m most region l covers flat = none_find (λ c. is_full m c && is_within region (point c)) (all_of m) (λ c i. is_false (is_full m c && is_within region (point c)) (λ t. not_both (second (is_full m c) (is_within region (point c)) t) (covers (point c) ∙ too_low most c.x c.y c.z l (flat c (first (is_full m c) (is_within region (point c)) t)))))
+void_where m most region l covers flat = none_find (λ c. is_full m c && is_within region (point c)) (all_of m) (λ c i. false_by (is_full m c && is_within region (point c)) (λ t. not_both (second_of_two (is_full m c) (is_within region (point c)) t) (covers (point c) ∙ too_low most c.x c.y c.z l (flat c (first_of_two (is_full m c) (is_within region (point c)) t)))))
 
 pub flat_if_low : (m : Matrix) → m.resolution ≤ 1 → IsFlat m
 flat_if_low m l = λ c f. let i = full_in_space m c f in let y = i.y in omega arith
@@ -70,7 +71,7 @@ flat_if_low m l = λ c f. let i = full_in_space m c f in let y = i.y in omega ar
 -- ---- the empty model
 
 pub empty_is_void : (r : ℕ) (c : Coord) → is_full (empty r) c ≡ false
-empty_is_void r c = is_false (is_full (empty r) c) (λ f. not_both (full_passes r (λ _. false) c f) refl)
+empty_is_void r c = false_by (is_full (empty r) c) (λ f. not_both (full_passes r (λ _. false) c f) refl)
 
 all_hold : (P : Coord → Type 0) (cs : List Coord) → ((c : Coord) → P c) → FirstFailing P cs None
 all_hold P [] h = tt

@@ -6,12 +6,14 @@ use Rattle.std.proofs.lemmas.Int.{ints}
 use Rattle.vox_geom.specs.declared.coordinate.Coord.{Coord}
 use Rattle.vox_geom.specs.Point.{plus, point, same_number, same_point, coord, down}
 use Rattle.vox_geom.specs.Space.{IsInSpace, coordinate}
+use Rattle.vox_geom.proofs.Truths.{false_by, first_of_two}
+use Rattle.vox_geom.proofs.Sums.{unsigned_plus_none}
 use Rattle.nano_spec.specs.declared.commands.Command.{Command}
 use Rattle.nano_spec.specs.Legal.{IsLegal}
 use Rattle.nano_spec.specs.Matrix.{Matrix, empty, is_full}
 use Rattle.nano_spec.specs.Profile.{full_profile}
 use Rattle.nano_spec.specs.Step.{flipped}
-use Rattle.step_order.proofs.Lists.{first, is_false, not_both}
+use Rattle.step_order.proofs.Lists.{not_both}
 use Rattle.step_order.proofs.Voxels.{as_it_is, full_where, matrix_same}
 use Rattle.vox_planes.specs.Voxel.{IsWhole, with_voxel}
 use Rattle.vox_planes.proofs.Voxels.{same_point-is}
@@ -62,18 +64,18 @@ all_swept target w = matrix_same target.resolution (λ c. is_full target c && is
 
 -- a voxel that the target has not is another than one that it has
 apart : (target : Matrix) (c d : Coord) → is_full target c ≡ true → is_full target d ≡ false → same_point (point c) (point d) ≡ false
-apart target c d f g = is_false (same_point (point c) (point d)) (λ s. not_both (sym (ap (is_full target) (same_point-is c d s)) ∙ f) g)
+apart target c d f g = false_by (same_point (point c) (point d)) (λ s. not_both (sym (ap (is_full target) (same_point-is c d s)) ∙ f) g)
 
 one_swept : (target : Matrix) (x z : ℕ) → IsFlat target → is_full target (coord x 0 z) ≡ true → with_voxel (swept target x z) (coord x 0 z) true ≡ swept target x (z + 1)
 one_swept target x z flat wanted = matrix_same target.resolution (λ c. cond (same_point (point c) (point (coord x 0 z))) true (is_full (swept target x z) c)) (λ c. is_full target c && is_passed x (z + 1) c) (λ c i. ap (cond (same_point (point c) (point (coord x 0 z))) true) (full_where target.resolution (λ d. is_full target d && is_passed x z d) c i) ∙ by c (is_full target c) refl)
   where
     by : (c : Coord) (full : Bool) → is_full target c ≡ full → cond (same_point (point c) (point (coord x 0 z))) true (full && is_passed x z c) ≡ (full && is_passed x (z + 1) c)
     by c true f = after_one x z c.x c.y c.z (flat c f)
-    by c false f = ap (λ s. cond s true false) (is_false (same_point (point c) (point (coord x 0 z))) (λ s. not_both (ap (is_full target) (same_point-is c (coord x 0 z) s) ∙ wanted) f))
+    by c false f = ap (λ s. cond s true false) (false_by (same_point (point c) (point (coord x 0 z))) (λ s. not_both (ap (is_full target) (same_point-is c (coord x 0 z) s) ∙ wanted) f))
 
 -- from the first layer on all is void
 clear : (m target : Matrix) (x z : ℕ) → IsFlat target → m ≡ swept target x z → (c : Coord) → 1 ≤ c.y → is_full m c ≡ false
-clear m target x z flat e c h = is_false (is_full m c) (λ f. let low = flat c (first _ _ (full_passes target.resolution (λ d. is_full target d && is_passed x z d) c (sym (ap (λ (n : Matrix). is_full n c) e) ∙ f))) in omega arith)
+clear m target x z flat e c h = false_by (is_full m c) (λ f. let low = flat c (first_of_two _ _ (full_passes target.resolution (λ d. is_full target d && is_passed x z d) c (sym (ap (λ (n : Matrix). is_full n c) e) ∙ f))) in omega arith)
 
 -- ---- the sweep goes on
 
@@ -108,11 +110,8 @@ ways_above t target x z flat s = ways_are_void t.matrix (spot t.bots) (coord x 1
     by c (inl h) = s.above c h
     by c (inr h) = clear t.matrix target x z flat s.matrix c h
 
-stays : (n : ℕ) → unsigned_abs (pos n +ℤ pos 0) ≡ n
-stays n = omega (arith, ints)
-
 below : (p : TapeState) (x z : ℕ) → spot p.bots ≡ coord x 1 z → beside p down ≡ coord x 0 z
-below p x z e = ap (λ (c : Coord). coordinate (plus (point c) down)) e ∙ (λ i. record { x = stays x i; y = 0; z = stays z i })
+below p x z e = ap (λ (c : Coord). coordinate (plus (point c) down)) e ∙ (λ i. record { x = unsigned_plus_none x i; y = 0; z = unsigned_plus_none z i })
 
 pub filled_one : (s t u : TapeState) (target : Matrix) (k : Command) (cost : ℤ) (x z : ℕ) → IsLegal target → IsFlat target → target.resolution ≤ 400 → IsSweptTo s target x z → is_full target (coord x 0 z) ≡ true → Moves s t (coord x 1 z) → Writes t u k (with_voxel t.matrix (beside t down) true) t.harmonics t.bots cost → IsSweptTo u target x (z + 1)
 filled_one s t u target k cost x z legal flat most w wanted m f =

@@ -8,6 +8,8 @@ use Rattle.vox_geom.specs.declared.coordinate.Coord.{Coord}
 use Rattle.vox_geom.specs.declared.difference.Diff.{Diff}
 use Rattle.vox_geom.specs.Point.{Point, point, plus, same_number, same_point, coord}
 use Rattle.vox_geom.specs.Space.{IsInSpace, coordinate, in_space}
+use Rattle.vox_geom.proofs.Truths.{both_true, or_by_second}
+use Rattle.vox_geom.proofs.Sums.{less_one, plus_none, plus_one}
 use Rattle.nano_spec.specs.declared.commands.Command.TheVariants.{Fission, FusionP, FusionS}
 use Rattle.nano_spec.specs.declared.system.Bot.{Bot}
 use Rattle.nano_spec.specs.declared.system.Harmonics.TheVariants.{High}
@@ -28,20 +30,11 @@ use Rattle.group_planner.specs.Phases.{PairJoins, Splits, first_at}
 use Rattle.group_planner.specs.Writing.{AreCalm, CalmStep, ahead}
 use Rattle.group_planner.proofs.Pairs.{all_allowed, both_bots, front_within, rear_within, still_one, void_way}
 
-same : (n : ℕ) → pos n +ℤ pos 0 ≡ pos n
-same n = omega (arith, ints)
-
-one_more : (n : ℕ) → pos n +ℤ pos 1 ≡ pos (n + 1)
-one_more n = omega (arith, ints)
-
-one_less : (n : ℕ) → pos (n + 1) +ℤ negsuc 0 ≡ pos n
-one_less n = omega (arith, ints)
-
 next_is : (c : Coord) → plus (point c) (ahead (pos 1)) ≡ point (coord c.x c.y (c.z + 1))
-next_is c = λ i. record { x = same c.x i; y = same c.y i; z = one_more c.z i }
+next_is c = λ i. record { x = plus_none c.x i; y = plus_none c.y i; z = plus_one c.z i }
 
 last_is : (x y z : ℕ) → plus (point (coord x y (z + 1))) (ahead (negsuc 0)) ≡ point (coord x y z)
-last_is x y z = λ i. record { x = same x i; y = same y i; z = one_less z i }
+last_is x y z = λ i. record { x = plus_none x i; y = plus_none y i; z = less_one z i }
 
 -- ---- the only bot splits
 
@@ -109,13 +102,6 @@ itself a = grind (arith, nat_tests)
 same_itself : (c : Coord) → same_point (point c) (point c) ≡ true
 same_itself c = rw (itself c.x, itself c.y, itself c.z) refl
 
-meets : (u v : Bool) → u ≡ true → v ≡ true → (u && v) ≡ true
-meets u v e f = rw (e, f) refl
-
-or_right : (u v : Bool) → v ≡ true → (u || v) ≡ true
-or_right true v e = refl
-or_right false v e = e
-
 -- what fuses stands where the primary stood
 stays_there : (bot : Bot) (partner : Option Act) → (after_fusion bot partner).pos ≡ bot.pos
 stays_there bot None = refl
@@ -141,7 +127,7 @@ module _ (p : TapeState) (d e : Diff) (ed : d ≡ ahead (pos 1)) (ee : e ≡ ahe
   pair_up a b ra rb =
       let to_b : plus (point a.pos) d ≡ point b.pos = ap (λ (c : Coord). plus (point c) d) (sym ra) ∙ (to_front ∙ ap point rb) in
       let to_a : plus (point b.pos) e ≡ point a.pos = ap (λ (c : Coord). plus (point c) e) (sym rb) ∙ (to_rear ∙ ap point ra) in
-      meets (same_point (plus (point a.pos) d) (point b.pos)) (same_point (plus (point b.pos) e) (point a.pos)) (ap (λ (q : Point). same_point q (point b.pos)) to_b ∙ same_itself b.pos) (ap (λ (q : Point). same_point q (point a.pos)) to_a ∙ same_itself a.pos)
+      both_true (same_point (plus (point a.pos) d) (point b.pos)) (same_point (plus (point b.pos) e) (point a.pos)) (ap (λ (q : Point). same_point q (point b.pos)) to_b ∙ same_itself b.pos) (ap (λ (q : Point). same_point q (point a.pos)) to_a ∙ same_itself a.pos)
 
   pub join_calm : AreCalm p (FusionP d ∷ FusionS e ∷ [])
   join_calm =
@@ -154,7 +140,7 @@ module _ (p : TapeState) (d e : Diff) (ed : d ≡ ahead (pos 1)) (ee : e ≡ ahe
       let in_rear : IsTrue (in_space r (plus (point b.pos) e)) = ap (λ (q : Point). in_space r q) (ap (λ (c : Coord). plus (point c) e) (sym t.front_is) ∙ to_rear) ∙ in_space_is r (rear p) (rear_within r (rear p) (front p) h.in_row) in
       let in_front : IsTrue (in_space r (plus (point a.pos) d)) = ap (λ (q : Point). in_space r q) (ap (λ (c : Coord). plus (point c) d) (sym t.rear_is) ∙ to_front) ∙ in_space_is r (front p) (front_within r (rear p) (front p) h.in_row) in
       let partners : are_partners (first_act a) (second_act b) ≡ true = ap (λ u. u || is_pair (second_act b) (first_act a)) up in
-      let turned : are_partners (second_act b) (first_act a) ≡ true = or_right (is_pair (second_act b) (first_act a)) (is_pair (first_act a) (second_act b)) up in
+      let turned : are_partners (second_act b) (first_act a) ≡ true = or_by_second (is_pair (second_act b) (first_act a)) (is_pair (first_act a) (second_act b)) up in
       record {
         free = subst (λ (bots : List Bot). AreFree (state_of p) (acts bots (FusionP d ∷ FusionS e ∷ []))) (sym t.are) (record {
           each = (

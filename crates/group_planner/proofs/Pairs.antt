@@ -9,6 +9,7 @@ use Rattle.vox_geom.specs.declared.difference.Diff.{Diff}
 use Rattle.vox_geom.specs.Point.{Point, point, plus}
 use Rattle.vox_geom.specs.Region.{between, is_between}
 use Rattle.vox_geom.specs.Space.{IsInSpace, coordinate}
+use Rattle.vox_geom.proofs.Truths.{second_of_three as second}
 use Rattle.nano_spec.specs.declared.commands.Command.{Command}
 use Rattle.nano_spec.specs.declared.commands.Command.TheVariants.{Wait, SMove}
 use Rattle.nano_spec.specs.declared.system.Bot.{Bot}
@@ -108,11 +109,6 @@ moved_pair p q k l a b h s ea eb row free few none =
     }
 
 -- ---- ways where all is void
-
-second : (a b c : Bool) → IsTrue (a && b && c) → IsTrue b
-second true true c t = refl
-second true false c t = cc
-second false b c t = cc
 
 one_of : (a b v : ℕ) → IsTrue (is_between (pos a) (pos b) (pos v)) → (a ≤ v) ⊎ (b ≤ v)
 one_of a b v t = grind (arith, nat_tests)

@@ -17,6 +17,7 @@ use Rattle.group_planner.proofs.Closing.{down_moves, gather_moves}
 use Rattle.group_planner.proofs.Layers.{model_sum}
 use Rattle.group_planner.proofs.Worked.{spends_on}
 use Rattle.vox_geom.specs.Point.{coord}
+use Rattle.vox_geom.proofs.Tests.{not_less_by_test}
 use Rattle.plan_tape.proofs.LegalModels.{alike_is_same, void_at_top}
 
 pub can_clear : (a : TapeState) (s : Matrix) → PairIsOpened a → a.source ≡ s → IsLegal s → CanVoidModel a s
@@ -43,9 +44,6 @@ lower v y e = grind (arith, nat_tests)
 less : (v y : ℕ) → nat_le y v ≡ false → v < y
 less v y e = grind (arith, nat_tests)
 
-higher : (v y : ℕ) → nat_lt v y ≡ false → y ≤ v
-higher v y e = grind (arith, nat_tests)
-
 filled : (t o : Bool) → cond (true && t) true (cond (true && o) false o) ≡ t
 filled true o = refl
 filled false true = refl
@@ -61,7 +59,7 @@ alike_target s t b d low h below p q = λ c. q c ∙ (ap (cond (between_layers l
   where
     by : (c : Coord) (u v : Bool) → nat_le low c.y ≡ u → nat_lt c.y (t.resolution - 1) ≡ v → cond ((nat_le low c.y && nat_lt c.y (t.resolution - 1)) && is_full t c) true (cond (nat_le low c.y && is_full s c) false (is_full s c)) ≡ is_full t c
     by c true true e f = (λ i. cond ((e i && f i) && is_full t c) true (cond (e i && is_full s c) false (is_full s c))) ∙ filled (is_full t c) (is_full s c)
-    by c true false e f = (λ i. cond ((e i && f i) && is_full t c) true (cond (e i && is_full s c) false (is_full s c))) ∙ emptied (is_full t c) (is_full s c) (void_at_top t h c (higher c.y (t.resolution - 1) f))
+    by c true false e f = (λ i. cond ((e i && f i) && is_full t c) true (cond (e i && is_full s c) false (is_full s c))) ∙ emptied (is_full t c) (is_full s c) (void_at_top t h c (not_less_by_test c.y (t.resolution - 1) f))
     by c false v e f = (λ i. cond ((e i && nat_lt c.y (t.resolution - 1)) && is_full t c) true (cond (e i && is_full s c) false (is_full s c))) ∙ below c (less c.y low e)
 
 pub rebuilt : (a b d : TapeState) (s t : Matrix) (low : ℕ) → PairIsOpened a → a.source ≡ s → IsLegal t → t.resolution ≡ s.resolution → IsLowest s t low → Stamps a b s false (from_layer low) (runs s) → climb_to b low ≤ climb_to a (a.matrix.resolution - 1) + a.matrix.resolution + steps_below s a.matrix.resolution → Stamps b d t true (between_layers low (b.matrix.resolution - 1)) (runs t) → d.steps ≤ climb_to b (low + 1) + b.matrix.resolution + steps_below t b.matrix.resolution → PairHasRebuilt d t

@@ -4,6 +4,7 @@ use Rattle.std.specs.Prelude.{◌⊎◌}
 use Rattle.std.proofs.lemmas.Bool.{cases_lt}
 use Rattle.std.proofs.lemmas.Bool.Decides.{nat_tests}
 use Rattle.vox_geom.specs.declared.coordinate.Coord.{Coord}
+use Rattle.vox_geom.proofs.Tests.{equal_by_test}
 use Rattle.nano_spec.specs.Matrix.{Matrix, is_full}
 use Rattle.plan_tape.specs.Progress.{TapeState, IsVoidFrom}
 use Rattle.plan_tape.specs.Parts.{is_in_line}
@@ -25,12 +26,9 @@ both_parts false d m full o = refl
 abbrev pub up_to : ℕ → ℕ → ℕ → Coord → Bool
 up_to x y z = in_part x y 0 z
 
-equal : (v w : ℕ) → (v == w) ≡ true → v ≡ w
-equal v w e = grind (arith, nat_tests)
-
 -- a coordinate of the line
 on_line : (m : Matrix) (x y : ℕ) (c : Coord) → (c.x == x) ≡ true → (c.y == y) ≡ true → is_full m c ≡ is_full_at m x y c.z
-on_line m x y c ex ey = let a = equal c.x x ex in let b = equal c.y y ey in λ i. is_full m (record { x = a i; y = b i; z = c.z })
+on_line m x y c ex ey = let a = equal_by_test c.x x ex in let b = equal_by_test c.y y ey in λ i. is_full m (record { x = a i; y = b i; z = c.z })
 
 -- what is written after one run more
 run_more : (m : Matrix) (x y z : ℕ) (run : RowRun) → IsNextRun m x y z run → (c : Coord) → (up_to x y run.end c && is_full m c) ≡ (in_part x y run.first run.end c || (up_to x y z c && is_full m c))

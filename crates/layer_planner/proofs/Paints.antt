@@ -5,6 +5,8 @@ use Rattle.std.proofs.lemmas.Bool.Decides.{nat_tests}
 use Rattle.vox_geom.specs.declared.coordinate.Coord.{Coord}
 use Rattle.vox_geom.specs.Point.{point, same_point, same_number}
 use Rattle.vox_geom.specs.Space.{IsInSpace, in_space}
+use Rattle.vox_geom.proofs.Truths.{no_first as none, parts_of_three}
+use Rattle.vox_geom.proofs.Tests.{equal_by_test}
 use Rattle.nano_spec.specs.Matrix.{Matrix, is_full}
 use Rattle.step_order.proofs.Voxels.{full_where, in_space_is}
 use Rattle.vox_planes.specs.Voxel.{with_voxel}
@@ -24,22 +26,13 @@ same_is a b = grind (arith, nat_tests)
 here_is : (q c : Coord) → same_point (point q) (point c) ≡ voxel c.x c.y c.z q
 here_is q c = λ i. same_is q.x c.x i && same_is q.y c.y i && same_is q.z c.z i
 
-three : (a b d : Bool) → (a && b && d) ≡ true → (a ≡ true) × (b ≡ true) × (d ≡ true)
-three true true true e = (refl, refl, refl)
-three true true false e = cc
-three true false d e = cc
-three false b d e = cc
-
-equal : (a b : ℕ) → (a == b) ≡ true → a ≡ b
-equal a b h = grind (arith, nat_tests)
-
 -- a coordinate that passes the test of a voxel is that voxel
 pub voxel-is : (q c : Coord) → voxel c.x c.y c.z q ≡ true → q ≡ c
 voxel-is q c h =
-    let p = three (q.x == c.x) (q.y == c.y) (q.z == c.z) h in
-    let x = equal q.x c.x p.0 in
-    let y = equal q.y c.y p.1 in
-    let z = equal q.z c.z p.2 in
+    let p = parts_of_three (q.x == c.x) (q.y == c.y) (q.z == c.z) h in
+    let x = equal_by_test q.x c.x p.0 in
+    let y = equal_by_test q.y c.y p.1 in
+    let z = equal_by_test q.z c.z p.2 in
     λ j. record { x = x j; y = y j; z = z j }
 
 both : {b : Bool} → b ≡ false → b ≡ true → ⊥
@@ -51,9 +44,6 @@ outside r q c i o = by (voxel c.x c.y c.z q) refl
     by : (t : Bool) → voxel c.x c.y c.z q ≡ t → voxel c.x c.y c.z q ≡ false
     by false e = e
     by true e = absurd (both (sym (ap (λ (d : Coord). in_space r (point d)) (voxel-is q c e)) ∙ o) (in_space_is r c i))
-
-none : (a b : Bool) → a ≡ false → (a && b) ≡ false
-none a b e = rw e refl
 
 -- the voxels of a matrix of which one was changed
 full_with : (m : Matrix) (c : Coord) (b : Bool) (q : Coord) → IsInSpace m.resolution c → is_full (with_voxel m c b) q ≡ cond (voxel c.x c.y c.z q) b (is_full m q)

@@ -5,6 +5,7 @@ use Rattle.std.proofs.lemmas.Int.{ints}
 use Rattle.vox_geom.specs.declared.coordinate.Coord.{Coord}
 use Rattle.vox_geom.specs.Point.{point, plus, coord, down}
 use Rattle.vox_geom.specs.Space.{IsInSpace, coordinate}
+use Rattle.vox_geom.proofs.Sums.{unsigned_less_one, unsigned_plus_none}
 use Rattle.nano_spec.specs.declared.commands.Command.{Command}
 use Rattle.nano_spec.specs.Matrix.{Matrix, is_full}
 use Rattle.nano_spec.specs.Spelling.{spelling}
@@ -20,14 +21,8 @@ use Rattle.plan_tape.proofs.Fissions.{moves_make_none, write_makes_none}
 
 -- ---- a voxel that is written from above
 
-there : (n : ℕ) → unsigned_abs (pos n +ℤ pos 0) ≡ n
-there n = omega (arith, ints)
-
-under : (n : ℕ) → unsigned_abs (pos (n + 1) +ℤ negsuc 0) ≡ n
-under n = omega (arith, ints)
-
 pub below_spot : (p : TapeState) (x y z : ℕ) → spot p.bots ≡ coord x (y + 1) z → beside p down ≡ coord x y z
-below_spot p x y z e = ap (λ (c : Coord). coordinate (plus (point c) down)) e ∙ (λ i. record { x = there x i; y = under y i; z = there z i })
+below_spot p x y z e = ap (λ (c : Coord). coordinate (plus (point c) down)) e ∙ (λ i. record { x = unsigned_plus_none x i; y = unsigned_less_one y i; z = unsigned_plus_none z i })
 
 not_there : (y : ℕ) (q c : Coord) → y + 1 ≤ q.y → c.y ≡ y → voxel c.x c.y c.z q ≡ false
 not_there y q c l e = by (voxel c.x c.y c.z q) refl
@@ -65,9 +60,6 @@ wrote a b c goal k v cost x y z ready hx hz m w s n e =
     }
 
 -- ---- layers
-
-pub one_layer_less : (r y n : ℕ) → 0 < y → y < r → (r - 1 - y) * n + n ≤ (r - 1 - (y - 1)) * n
-one_layer_less r y n h l = let e : r - 1 - (y - 1) ≡ r - 1 - y + 1 = omega arith in rw e (omega arith)
 
 pub fewer_layers : (r y n : ℕ) → (r - 1 - y) * n ≤ (r - 1) * n
 fewer_layers r y n = mul-le-mul (let l : r - 1 - y ≤ r - 1 = omega arith in l) (let s : n ≤ n = omega arith in s)

@@ -23,8 +23,11 @@ use Rattle.low_planner.specs.Sweep.{BeginsPart, EndsSweep, TurnsBack, GoesOn, Is
 use Rattle.low_planner.proofs.Beside.{adjacent_below, beside-sym}
 use Rattle.low_planner.proofs.Counts.{one_less}
 use Rattle.low_planner.proofs.Grounds.{empty_is_void, is_supported, set_here, set_other}
-use Rattle.low_planner.proofs.Sweeps.{contrary, in_none, none_left, same_or_not, still}
+use Rattle.low_planner.proofs.Sweeps.{in_none, none_left, same_or_not}
 use Rattle.vox_geom.specs.Point.{below}
+use Rattle.vox_geom.proofs.Truths.{anything_by, true_by_false}
+use Rattle.vox_geom.proofs.Tests.{positive_by_test, zero_by_test}
+use Rattle.vox_geom.proofs.Sums.{most_cube}
 use Rattle.low_planner.proofs.Reach.{above_in_space, moves_paid, one_move, reach_most}
 use Rattle.plan_tape.proofs.ClearWays.{moves_most}
 use Rattle.plan_tape.proofs.LegalModels.{full_within}
@@ -41,11 +44,6 @@ full_most m =
     let most : count_by (is_full m) (coordinates r) ≤ length (coordinates r) = count_by-le-length (is_full m) (coordinates r) in
     let size : length (coordinates r) ≡ r * r * r = length_all (coordinate_at r) (r * r * r) 0 in
     omega arith
-
-cube : (r : ℕ) → r ≤ 400 → r * r * r ≤ 64000000
-cube r h =
-    let square : r * r ≤ 400 * 400 = mul-le-mul h h in
-    mul-le-mul square h
 
 -- ---- the trail
 
@@ -108,7 +106,7 @@ module _ (m : Matrix) (s : Sweep) (p : TapeState) (h : IsSweep m s) (b : IsBuilt
   few_steps : m.resolution ≤ 400 → p.steps ≤ 300000000
   few_steps most =
       let full = full_most m in
-      let size = cube m.resolution most in
+      let size = most_cube m.resolution most in
       let way = reach_most m.resolution s.at h.place in
       let few = b.few in
       omega arith
@@ -128,7 +126,7 @@ module _ (m : Matrix) (s : Sweep) (p : TapeState) (h : IsSweep m s) (b : IsBuilt
       }
 
   full_at_visit : (c : Coord) → IsTrue (is_full s.remaining c) → IsTrue (is_full m c)
-  full_at_visit c f = still (is_full m c) (is_full s.remaining c) (h.fewer c) f
+  full_at_visit c f = true_by_false (is_full m c) (is_full s.remaining c) (h.fewer c) f
 
 -- ---- a voxel more is built
 
@@ -155,17 +153,11 @@ module _ (m : Matrix) (s t : Sweep) (p q : TapeState) (h : IsSweep m s) (b : IsB
     spot_is = λ most last e. w.there ∙ ap above (last_is t.trail.items xs most c last ends e);
     first = λ e. absurd (none_ends t.trail.items xs c e ends);
     plain = w.plain b.plain;
-    idle = λ v. absurd (contrary (is_full m c) full_there (v c));
+    idle = λ v. absurd (anything_by (is_full m c) full_there (v c));
     few = few;
   }
 
 -- ---- the first voxel of a part
-
-on_floor : (y : ℕ) → (y == 0) ≡ true → y ≡ 0
-on_floor y e = grind (arith, nat_tests)
-
-over_floor : (y : ℕ) → (y == 0) ≡ false → 0 < y
-over_floor y e = grind (arith, nat_tests)
 
 module _ (m : Matrix) (s t : Sweep) (p : TapeState) (h : IsSweep m s) (g : IsSweep m t) (b : IsBuilt m s p) (c : Coord) (v : BeginsPart m s t c) where
   -- where it rests on a full voxel, that one was visited
@@ -184,8 +176,8 @@ module _ (m : Matrix) (s t : Sweep) (p : TapeState) (h : IsSweep m s) (g : IsSwe
           ∙ none_left m t (c.y - 1) g (λ d e r. g.swept.layers d (let k = high in omega arith) r) (λ d e i. let k = (g.on_trail d i).1 in let y = high in omega arith) (below c) (is_supported m (below c) supported f) refl
 
       by : (z : Bool) → (c.y == 0) ≡ z → IsTrue (z || is_full m (below c)) → IsCarried p.matrix c
-      by true e r = inl (on_floor c.y e)
-      by false e r = inr (below c, visited_is_built m s p h b (below c) (record { before = r; after = visited (over_floor c.y e) r }), adjacent_below c (below c) refl refl (let l = over_floor c.y e in omega arith))
+      by true e r = inl (zero_by_test c.y e)
+      by false e r = inr (below c, visited_is_built m s p h b (below c) (record { before = r; after = visited (positive_by_test c.y e) r }), adjacent_below c (below c) refl refl (let l = positive_by_test c.y e in omega arith))
 
   pub can_begin : IsLegal m → m.resolution ≤ 400 → FirstUnsupported m None → CanFill p c
   can_begin legal most supported = record { can_go = can_go m s p h b legal most c (full_at_visit m s p h b c v.loses.before) v.up; carried = rested supported }
@@ -272,7 +264,7 @@ module _ (m : Matrix) (s t : Sweep) (p : TapeState) (h : IsSweep m s) (g : IsSwe
         spot_is = λ most last e. w.there ∙ ap above (last_is t.trail.items v.most most c last v.ends e);
         first = λ e. absurd (none_ends t.trail.items v.most c e v.ends);
         plain = w.plain b.plain;
-        idle = λ z. absurd (contrary (is_full m c) back_is.0.before (z c));
+        idle = λ z. absurd (anything_by (is_full m c) back_is.0.before (z c));
         few = omega arith;
       }
 
@@ -318,13 +310,13 @@ finished m s t p legal supported h g b v = record {
 
     no_trail : IsEmpty m → (s.trail.items ≡ []) ⊎ ((most : List Coord) × (last : Coord) × (s.trail.items ≡ most ++ last ∷ [])) → s.trail.items ≡ []
     no_trail z (inl e) = e
-    no_trail z (inr e) = absurd (contrary (is_full m e.1) (on_trail_is m s p h b e.0 e.1 e.2).0.before (z e.1))
+    no_trail z (inr e) = absurd (anything_by (is_full m e.1) (on_trail_is m s p h b e.0 e.1 e.2).0.before (z e.1))
 
 -- the way home and the Halt have their steps
 pub steps_home : (m : Matrix) (p : TapeState) → m.resolution ≤ 400 → IsFinished m p → p.steps + moves_to (spot p.bots) origin ≤ 300000100
 steps_home m p most h =
     let full = full_most m in
-    let size = cube m.resolution most in
+    let size = most_cube m.resolution most in
     let few = h.few in
     let x = h.placed.x in
     let moves = moves_most m.resolution (spot p.bots) origin most h.placed (record { x = omega arith; y = omega arith; z = omega arith }) in

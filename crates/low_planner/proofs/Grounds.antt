@@ -4,11 +4,11 @@ use Rattle.std.specs.Prelude.{IsTrue, None}
 use Rattle.vox_geom.specs.declared.coordinate.Coord.{Coord}
 use Rattle.vox_geom.specs.Point.{are_adjacent, point, same_point}
 use Rattle.vox_geom.specs.Space.{IsInSpace, in_space}
+use Rattle.vox_geom.proofs.Truths.{first_of_two, no_first, second_of_two}
 use Rattle.nano_spec.specs.First.{FirstFailing}
 use Rattle.nano_spec.specs.Grounded.{FirstUngrounded, Grounded, begins_at, is_path}
 use Rattle.nano_spec.specs.Matrix.{Matrix, all_of, empty, is_full}
 use Rattle.nano_spec.proofs.Coordinates.{in_space-is}
-use Rattle.nano_spec.proofs.Grounding.{left, right}
 use Rattle.nano_spec.proofs.Island.{same_coordinate}
 use Rattle.step_order.proofs.Lists.{In}
 use Rattle.step_order.proofs.Voxels.{full_where, in_coordinates}
@@ -38,9 +38,6 @@ is_supported m c h f = holds_of_each (λ d. IsTrue (is_full m d) → IsSupported
 
 -- ---- one voxel more
 
-none : (a b : Bool) → a ≡ false → (a && b) ≡ false
-none a b e = rw e refl
-
 differ : (d c : Coord) → (d ≡ c → ⊥) → same_point (point d) (point c) ≡ false
 differ d c n = by (same_point (point d) (point c)) refl
   where
@@ -56,7 +53,7 @@ set_other m c d b n = by (in_space m.resolution (point d)) refl
   where
     by : (s : Bool) → in_space m.resolution (point d) ≡ s → is_full (with_voxel m c b) d ≡ is_full m d
     by true s = full_where m.resolution (λ e. cond (same_point (point e) (point c)) b (is_full m e)) d (in_space-is m.resolution d s) ∙ ap (λ t. cond t b (is_full m d)) (differ d c n)
-    by false s = none (in_space m.resolution (point d)) _ s ∙ sym (none (in_space m.resolution (point d)) _ s)
+    by false s = no_first (in_space m.resolution (point d)) _ s ∙ sym (no_first (in_space m.resolution (point d)) _ s)
 
 -- where more is full, what was grounded still is
 module _ (m n : Matrix) (more : (d : Coord) → IsTrue (is_full m d) → IsTrue (is_full n d)) where
@@ -65,18 +62,18 @@ module _ (m n : Matrix) (more : (d : Coord) → IsTrue (is_full m d) → IsTrue 
   both false b e f = cc
 
   path_stays : (a : Coord) (path : List Coord) → IsTrue (is_path m (a ∷ path)) → IsTrue (is_path n (a ∷ path))
-  path_stays a [] p = both (is_full n a) (a.y == 0) (more a (left (is_full m a) (a.y == 0) p)) (right (is_full m a) (a.y == 0) p)
+  path_stays a [] p = both (is_full n a) (a.y == 0) (more a (first_of_two (is_full m a) (a.y == 0) p)) (second_of_two (is_full m a) (a.y == 0) p)
   path_stays a (b ∷ path) p =
-      let front = left (is_full m a && are_adjacent a b) (is_path m (b ∷ path)) p in
+      let front = first_of_two (is_full m a && are_adjacent a b) (is_path m (b ∷ path)) p in
       both (is_full n a && are_adjacent a b) (is_path n (b ∷ path))
-      (both (is_full n a) (are_adjacent a b) (more a (left (is_full m a) (are_adjacent a b) front)) (right (is_full m a) (are_adjacent a b) front))
-      (path_stays b path (right (is_full m a && are_adjacent a b) (is_path m (b ∷ path)) p))
+      (both (is_full n a) (are_adjacent a b) (more a (first_of_two (is_full m a) (are_adjacent a b) front)) (second_of_two (is_full m a) (are_adjacent a b) front))
+      (path_stays b path (second_of_two (is_full m a && are_adjacent a b) (is_path m (b ∷ path)) p))
 
   pub stays_grounded : (c : Coord) → Grounded m c → Grounded n c
   stays_grounded c ([], h) = cc
   stays_grounded c (a ∷ path, h) =
-      let begins = left (begins_at c (a ∷ path)) (is_path m (a ∷ path)) h in
-      (a ∷ path, both (begins_at c (a ∷ path)) (is_path n (a ∷ path)) begins (path_stays a path (right (begins_at c (a ∷ path)) (is_path m (a ∷ path)) h)))
+      let begins = first_of_two (begins_at c (a ∷ path)) (is_path m (a ∷ path)) h in
+      (a ∷ path, both (begins_at c (a ∷ path)) (is_path n (a ∷ path)) begins (path_stays a path (second_of_two (begins_at c (a ∷ path)) (is_path m (a ∷ path)) h)))
 
 pub filled_is_grounded : (m : Matrix) (c : Coord) → IsInSpace m.resolution c → FirstUngrounded m None → IsCarried m c → FirstUngrounded (with_voxel m c true) None
 filled_is_grounded m c i h carried = each_holds (λ d. IsTrue (is_full (with_voxel m c true) d) → Grounded (with_voxel m c true) d) (all_of m) (λ d f. of d f (same_or_not d c))
@@ -103,7 +100,7 @@ empty_is_void r c = by (in_space r (point c)) refl
   where
     by : (s : Bool) → in_space r (point c) ≡ s → is_full (empty r) c ≡ false
     by true s = full_where r (λ _. false) c (in_space-is r c s)
-    by false s = none (in_space r (point c)) _ s
+    by false s = no_first (in_space r (point c)) _ s
 
 pub empty_is_grounded : (r : ℕ) (m : Matrix) → m ≡ empty r → FirstUngrounded m None
 empty_is_grounded r m e = each_holds (λ d. IsTrue (is_full m d) → Grounded m d) (all_of m) (λ d f. absurd (contrary (is_full m d) f (ap (λ (n : Matrix). is_full n d) e ∙ empty_is_void r d)))

@@ -9,8 +9,8 @@ use Rattle.vox_geom.specs.Least.{LeastOf}
 use Rattle.vox_geom.specs.Point.{point, coord}
 use Rattle.vox_geom.specs.Region.{Corners, corners, is_within, span}
 use Rattle.vox_geom.specs.Space.{IsInSpace, is_before}
+use Rattle.vox_geom.proofs.Truths.{false_by, first_of_two as left, second_of_two}
 use Rattle.nano_spec.specs.Matrix.{Matrix, all_of, is_full}
-use Rattle.nano_spec.proofs.Grounding.{left, right}
 use Rattle.low_planner.specs.Supported.{rests}
 use Rattle.plan_tape.specs.Leg.{distance}
 use Rattle.low_planner.specs.declared.sweep.Sweep.{Sweep}
@@ -35,18 +35,14 @@ unfolding in_box
 box_from low high c h =
     let front = left ((nat_le low.x c.x && nat_le c.x high.x) && (nat_le low.y c.y && nat_le c.y high.y)) (nat_le low.z c.z && nat_le c.z high.z) h in
     let x = between_from low.x high.x c.x (left (nat_le low.x c.x && nat_le c.x high.x) (nat_le low.y c.y && nat_le c.y high.y) front) in
-    let y = between_from low.y high.y c.y (right (nat_le low.x c.x && nat_le c.x high.x) (nat_le low.y c.y && nat_le c.y high.y) front) in
-    let z = between_from low.z high.z c.z (right ((nat_le low.x c.x && nat_le c.x high.x) && (nat_le low.y c.y && nat_le c.y high.y)) (nat_le low.z c.z && nat_le c.z high.z) h) in
+    let y = between_from low.y high.y c.y (second_of_two (nat_le low.x c.x && nat_le c.x high.x) (nat_le low.y c.y && nat_le c.y high.y) front) in
+    let z = between_from low.z high.z c.z (second_of_two ((nat_le low.x c.x && nat_le c.x high.x) && (nat_le low.y c.y && nat_le c.y high.y)) (nat_le low.z c.z && nat_le c.z high.z) h) in
     (x.0, x.1, y.0, y.1, z.0, z.1)
 
 -- ---- the first full voxel of a row
 
 row_end : ℕ → Coord → Coord
 row_end e from = coord from.x from.y e
-
-void_by : (b : Bool) → (b ≡ true → ⊥) → b ≡ false
-void_by true h = absurd (h refl)
-void_by false h = refl
 
 both_ways : {b : Bool} → b ≡ true → b ≡ false → ⊥
 both_ways e f = let g = sym e ∙ f in cc
@@ -67,9 +63,9 @@ module _ (m : Matrix) (from : Coord) (e : ℕ) (end : e + 1 ≡ m.resolution) wh
       rw f (box_by from (coord from.x from.y e) d (omega arith) (omega arith) (omega arith) (omega arith) z (omega arith))
 
   found_in_row : (o : Option Coord) → LeastOf m.resolution (λ c. is_full m c && in_box from (coord from.x from.y e) c) o → MatchOption o (IsVoidRow m from) (IsNextFull m from)
-  found_in_row None h = λ d x y z. void_by (is_full m d) (λ f. both_ways (in_row d f x y z) (h d (full_within m d f)))
+  found_in_row None h = λ d x y z. false_by (is_full m d) (λ f. both_ways (in_row d f x y z) (h d (full_within m d f)))
   found_in_row (Some c) h =
-      let p = box_from from (coord from.x from.y e) c (right (is_full m c) (in_box from (coord from.x from.y e) c) h.passes) in
+      let p = box_from from (coord from.x from.y e) c (second_of_two (is_full m c) (in_box from (coord from.x from.y e) c) h.passes) in
       let cx : c.x ≡ from.x = omega (arith, p.0, p.1) in
       let cy : c.y ≡ from.y = omega (arith, p.2, p.3) in
       record {
@@ -78,7 +74,7 @@ module _ (m : Matrix) (from : Coord) (e : ℕ) (end : e + 1 ≡ m.resolution) wh
         y = cy;
         z = p.4;
         full = left (is_full m c) (in_box from (coord from.x from.y e) c) h.passes;
-        first = λ d x y z l. void_by (is_full m d) (λ f. both_ways (before_in_row d c (x ∙ sym cx) (y ∙ sym cy) l) (h.least d (full_within m d f) (in_row d f x y z)));
+        first = λ d x y z l. false_by (is_full m d) (λ f. both_ways (before_in_row d c (x ∙ sym cx) (y ∙ sym cy) l) (h.least d (full_within m d f) (in_row d f x y z)));
       }
 
 pub next_full_is : (m : Matrix) (k : Corners) (from : Coord) (e : ℕ) (o : Option Coord) → IsInSpace m.resolution from → e + 1 ≡ m.resolution → k ≡ corners from (coord from.x from.y e) → o ≡ find (λ c. is_full m c && is_within (span k) (point c)) (all_of m) → MatchOption o (IsVoidRow m from) (IsNextFull m from)
@@ -183,7 +179,7 @@ start_is m s from c near up swept h = record {
 
 -- past the last layer
 pub swept_past : (m left : Matrix) (from : Coord) → left.resolution ≡ m.resolution → m.resolution ≤ from.y → AreSwept m left from → AreAllSwept m left
-swept_past m left from e h swept c r = void_by (is_full left c) (λ f. both_ways f (swept.layers c (let i = (full_within left c f).y in omega arith) r))
+swept_past m left from e h swept c r = false_by (is_full left c) (λ f. both_ways f (swept.layers c (let i = (full_within left c f).y in omega arith) r))
 
 pub row_up : (r : ℕ) (from next : Coord) → IsNextRow r from next → from.y ≤ next.y
 row_up r from next h = by h.forth

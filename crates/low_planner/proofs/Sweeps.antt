@@ -7,6 +7,7 @@ use Rattle.vox_geom.specs.declared.coordinate.Coord.{Coord}
 use Rattle.vox_geom.specs.Least.{LeastOf}
 use Rattle.vox_geom.specs.Space.{IsInSpace, coordinates}
 use Rattle.vox_geom.proofs.Firsts.{first_is}
+use Rattle.vox_geom.proofs.Truths.{anything_by, true_by_false}
 use Rattle.nano_spec.specs.First.{FirstFailing}
 use Rattle.nano_spec.specs.Matrix.{Matrix, all_of, is_full}
 use Rattle.low_planner.specs.declared.sweep.Sweep.{Sweep}
@@ -14,14 +15,6 @@ use Rattle.low_planner.specs.Supported.{FirstUnsupported, IsSupported, rests}
 use Rattle.low_planner.specs.Sweep.{AreAllSwept, AreSwept, AreBesideInLayer, IsSweep, IsTrail, IsVisited, TakesVoxel}
 use Rattle.low_planner.proofs.Beside.{beside-sym}
 use Rattle.low_planner.proofs.Paths.{in_part}
-
-pub contrary : {A : Type 0} (b : Bool) → IsTrue b → b ≡ false → A
-contrary b t f = cc
-
--- what is left was there before
-pub still : (a b : Bool) → (a ≡ false → b ≡ false) → IsTrue b → IsTrue a
-still true b h t = refl
-still false b h t = contrary b t (h refl)
 
 pub same_or_not : (c d : Coord) → (c ≡ d) ⊎ (c ≡ d → ⊥)
 same_or_not c d = by (ℕ_discrete c.x d.x) (ℕ_discrete c.y d.y) (ℕ_discrete c.z d.z)
@@ -57,7 +50,7 @@ moved m s t c er et ea h none swept up within = record {
 
 module _ (m : Matrix) (s t : Sweep) (c : Coord) (h : IsSweep m s) (k : TakesVoxel s t c) (at : t.at ≡ s.at) (supported : IsSupported m c) (level : c.y ≡ s.at.y) (trail : IsTrail t.at t.trail.items) where
   was_full : IsTrue (is_full m c)
-  was_full = still (is_full m c) (is_full s.remaining c) (h.fewer c) k.loses.before
+  was_full = true_by_false (is_full m c) (is_full s.remaining c) (h.fewer c) k.loses.before
 
   visited_now : IsVisited m t.remaining c
   visited_now = record { before = was_full; after = k.loses.after }
@@ -87,7 +80,7 @@ module _ (m : Matrix) (s t : Sweep) (c : Coord) (h : IsSweep m s) (k : TakesVoxe
   stays_on d i = subst (λ (xs : List Coord). Contains xs d) (sym k.trail) (Contains-append_left s.trail.items (c ∷ []) d i)
 
   left_before : (d : Coord) → IsTrue (is_full t.remaining d) → IsTrue (is_full s.remaining d)
-  left_before d f = still (is_full s.remaining d) (is_full t.remaining d) (fewer_now d) f
+  left_before d f = true_by_false (is_full s.remaining d) (is_full t.remaining d) (fewer_now d) f
 
   pub taken : IsSweep m t
   taken = record {
@@ -138,7 +131,7 @@ popped m s t last h er ea ends alone trail = record {
 
     near : (a b : Coord) → AreBesideInLayer a b → IsTrue (is_full s.remaining b) → (Contains t.trail.items a ⊎ (last ≡ a)) → Contains t.trail.items a
     near a b n g (inl i) = i
-    near a b n g (inr e) = contrary (is_full s.remaining b) g (alone b (subst (λ (q : Coord). AreBesideInLayer q b) (sym e) n))
+    near a b n g (inr e) = anything_by (is_full s.remaining b) g (alone b (subst (λ (q : Coord). AreBesideInLayer q b) (sym e) n))
 
 -- ---- what was not visited
 
@@ -172,7 +165,7 @@ left_is_unsupported m s o h none all least =
     (first_failing (λ c. IsTrue (is_full m c) → IsSupported m c) (is_full s.remaining) bad good (all_of m))
   where
     bad : (c : Coord) → is_full s.remaining c ≡ true → (IsTrue (is_full m c) → IsSupported m c) → ⊥
-    bad c e g = contrary (is_full s.remaining c) e (none_left m s c.y h (λ d l r. all d r) (λ d l i. in_none s.trail.items d none i) c (g (still (is_full m c) (is_full s.remaining c) (h.fewer c) e)) refl)
+    bad c e g = anything_by (is_full s.remaining c) e (none_left m s c.y h (λ d l r. all d r) (λ d l i. in_none s.trail.items d none i) c (g (true_by_false (is_full m c) (is_full s.remaining c) (h.fewer c) e)) refl)
 
     good : (c : Coord) → is_full s.remaining c ≡ false → IsTrue (is_full m c) → IsSupported m c
     good c e f = h.supported c (record { before = f; after = e })

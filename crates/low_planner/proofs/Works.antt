@@ -6,6 +6,7 @@ use Rattle.std.proofs.lemmas.List.Elements.{All-append, All-cons, All-nil}
 use Rattle.vox_geom.specs.declared.coordinate.Coord.{Coord}
 use Rattle.vox_geom.specs.Point.{plus, point, down}
 use Rattle.vox_geom.specs.Space.{IsInSpace, coordinate}
+use Rattle.vox_geom.proofs.Sums.{unsigned_less_one, unsigned_plus_none as there}
 use Rattle.nano_spec.specs.declared.commands.Command.{Command}
 use Rattle.nano_spec.specs.declared.commands.Command.TheVariants.{Fill}
 use Rattle.vox_planes.specs.Voxel.{with_voxel}
@@ -67,14 +68,8 @@ went_nowhere old new to e m =
 
 -- ---- a voxel that is filled from above
 
-there : (n : ℕ) → unsigned_abs (pos n +ℤ pos 0) ≡ n
-there n = omega (arith, ints)
-
-under : (n : ℕ) → unsigned_abs (pos (n + 1) +ℤ negsuc 0) ≡ n
-under n = omega (arith, ints)
-
 pub below_spot : (p : TapeState) (c : Coord) → spot p.bots ≡ above c → beside p down ≡ c
-below_spot p c e = ap (λ (q : Coord). coordinate (plus (point q) down)) e ∙ (λ i. record { x = there c.x i; y = under c.y i; z = there c.z i })
+below_spot p c e = ap (λ (q : Coord). coordinate (plus (point q) down)) e ∙ (λ i. record { x = there c.x i; y = unsigned_less_one c.y i; z = there c.z i })
 
 pub filled : (a b c : TapeState) (at : Coord) (n : ℕ) (cost : ℤ) → Works a b (above at) a.matrix n → Writes b c (Fill down) (with_voxel b.matrix (beside b down) true) b.harmonics b.bots cost → Works a c (above at) (with_voxel a.matrix at true) (n + 1)
 filled a b c at n cost w f = record {

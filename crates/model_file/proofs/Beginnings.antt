@@ -9,6 +9,8 @@ use Rattle.vox_geom.specs.declared.coordinate.Coord.{Coord}
 use Rattle.vox_geom.specs.Point.{are_adjacent}
 use Rattle.vox_geom.specs.Space.{IsInSpace}
 use Rattle.vox_geom.proofs.Adjacent.{adjacent-sym, adjacent_by}
+use Rattle.vox_geom.proofs.Truths.{anything_by, not_is_true, true_by_false}
+use Rattle.vox_geom.proofs.Tests.{other_bit as other}
 use Rattle.nano_spec.specs.Grounded.{Grounded}
 use Rattle.nano_spec.specs.Matrix.{Matrix, is_full}
 use Rattle.nano_spec.specs.Model.{bit}
@@ -17,7 +19,7 @@ use Rattle.vox_planes.specs.Walk.{at}
 use Rattle.model_file.specs.declared.flood.Flood.{Flood}
 use Rattle.model_file.specs.Flood.{AreOut, HasFound, IsAmong, IsBegun, IsBeside, IsFlood, IsNextTo, IsTaken, LooksAround, TakesOut}
 use Rattle.model_file.proofs.Floods.{below_count, both_true, full_within, its_place, takes_none, takes_then, takes_wider, void_by}
-use Rattle.model_file.proofs.Spreads.{contrary, in_none, on_floor, one_more, still}
+use Rattle.model_file.proofs.Spreads.{in_none, on_floor, one_more}
 
 -- ---- what is stacked is grounded
 
@@ -87,15 +89,8 @@ looks_wider m one all a b wider h = record {
 ones_at : (k : ℕ) → k < 64 → bit (2 ^ 64 - 1) k ≡ true
 ones_at k l = ap (λ d. d == 1) (bit_at_ones 64 k l)
 
-other : (x : ℕ) → x < 2 → (1 - x == 1) ≡ not (x == 1)
-other x l = grind (arith, nat_tests)
-
 other_bit : (n k : ℕ) → n < 2 ^ 64 → k < 64 → bit (bit_not w64 n) k ≡ not (bit n k)
 other_bit n k l m = ap (λ d. d == 1) (bit_at_not w64 n k l m) ∙ other (bit_at n k) (bit_at-lt n k)
-
-is_other : (b : Bool) → not b ≡ true → b ≡ false
-is_other false h = refl
-is_other true h = cc
 
 module _ (m left : Matrix) (first : Coord) (count own bits : ℕ) (few : count ≤ 64) (size : count ≡ min (m.resolution - first.z) 64)
     (mine : (k : ℕ) → k < count → bit own k ≡ (bit (2 ^ 64 - 1) k && is_full left (at first (first.z + k)))) (fits : own < 2 ^ 64)
@@ -115,7 +110,7 @@ module _ (m left : Matrix) (first : Coord) (count own bits : ℕ) (few : count �
     out = λ c a.
         let u : c.z - first.z < count = below_count bits count (c.z - first.z) below a.here in
         let both = both_true (not (is_full left c)) (is_full m c) (sym (out_is c a.x a.y a.from u) ∙ a.here) in
-        record { before = both.1; after = is_other (is_full left c) both.0 };
+        record { before = both.1; after = not_is_true (is_full left c) both.0 };
     all = λ c a t.
         let within = full_within m c t.before in
         let high = within.z in
@@ -135,7 +130,7 @@ pub looks_taken : (m : Matrix) (a b : Flood) (first : Coord) (bits : ℕ) → Is
     ((d : Coord) → IsBeside (record { first = first; bits = bits }) d → is_full b.remaining d ≡ false) → LooksAround m (IsNextTo first) a b
 looks_taken m a b first bits h o t none = record {
   takes = takes_wider (IsBeside (record { first = first; bits = bits })) (Grounded m) a b
-      (λ d f k. one_more m d k.one (still (is_full m d) (is_full a.remaining d) (h.fewer d) f) (adjacent-sym k.one d k.adjacent) (h.grounded k.one (let u = o.out k.one k.among in u))) t;
+      (λ d f k. one_more m d k.one (true_by_false (is_full m d) (is_full a.remaining d) (h.fewer d) f) (adjacent-sym k.one d k.adjacent) (h.grounded k.one (let u = o.out k.one k.among in u))) t;
   bare = λ c d area u n. none d (record { one = c; among = o.all c area u; adjacent = n });
 }
 
@@ -187,8 +182,8 @@ flood_begun m start begun none h floor looks = record {
 
     found : (c : Coord) → (HasFound start c ⊎ IsTaken start.remaining begun.remaining c) → IsTaken m begun.remaining c
     found c (inl k) = absurd (in_none start c none k)
-    found c (inr k) = record { before = still (is_full m c) (is_full start.remaining c) (h.fewer c) k.before; after = k.after }
+    found c (inr k) = record { before = true_by_false (is_full m c) (is_full start.remaining c) (h.fewer c) k.before; after = k.after }
 
     looked : (a b : Coord) → IsTaken m begun.remaining a → IsTrue (are_adjacent a b) → IsTrue (is_full begun.remaining b) → (f : Bool) → is_full start.remaining a ≡ f → HasFound begun a
     looked a b k n f true e = let t = looks.takes in (t.taken a (record { before = e; after = k.after })).1
-    looked a b k n f false e = contrary (is_full begun.remaining b) f (looks.bare a b tt (record { before = k.before; after = e }) n)
+    looked a b k n f false e = anything_by (is_full begun.remaining b) f (looks.bare a b tt (record { before = k.before; after = e }) n)

@@ -8,6 +8,7 @@ use Rattle.vox_geom.specs.Point.{point}
 use Rattle.vox_geom.specs.Region.{Corners, corners, is_between, is_within, span}
 use Rattle.vox_geom.specs.Space.{IsInSpace}
 use Rattle.vox_geom.proofs.Firsts.{first_of}
+use Rattle.vox_geom.proofs.Truths.{and_by_second}
 use Rattle.nano_spec.specs.Legal.{in_legal_box}
 use Rattle.nano_spec.specs.Matrix.{Matrix, all_of, is_full}
 
@@ -51,13 +52,9 @@ in_all : (r e : ℕ) (c : Coord) → IsInSpace r c → e + 1 ≡ r → in_box ze
 unfolding in_box
 in_all r e c i h = rw (up_to c.x e r i.x h, up_to c.y e r i.y h, up_to c.z e r i.z h) refl
 
-and_true : (a b : Bool) → b ≡ true → (a && b) ≡ a
-and_true true b e = e
-and_true false b e = refl
-
 pub least_of_all : (m : Matrix) (k : Corners) (e : ℕ) (o : Option Coord) → e + 1 ≡ m.resolution → k ≡ corners zero_corner (end_corner e) → o ≡ find (λ c. is_full m c && is_within (span k) (point c)) (all_of m) → LeastOf m.resolution (is_full m) o
 least_of_all m k e o h c found =
-    least_same m.resolution (λ c. is_full m c && in_box zero_corner (end_corner e) c) (is_full m) (λ c i. and_true (is_full m c) (in_box zero_corner (end_corner e) c) (in_all m.resolution e c i h)) o
+    least_same m.resolution (λ c. is_full m c && in_box zero_corner (end_corner e) c) (is_full m) (λ c i. and_by_second (is_full m c) (in_box zero_corner (end_corner e) c) (in_all m.resolution e c i h)) o
     (box_least m k zero_corner (end_corner e) o c (omega arith) (omega arith) (omega arith) found)
 
 -- ---- the faces that are outside the legal box

@@ -13,10 +13,10 @@ use Rattle.vox_geom.specs.declared.TheConstants.{MOST_R}
 use Rattle.vox_geom.specs.Point.{point, same_point}
 use Rattle.vox_geom.specs.Space.{IsInSpace, coordinate_at, in_space, place}
 use Rattle.vox_geom.proofs.Places.{coordinate_at-place}
+use Rattle.vox_geom.proofs.Truths.{anything_by, first_of_two as left}
 use Rattle.nano_spec.specs.Matrix.{Matrix, is_full}
 use Rattle.nano_spec.specs.Model.{bit}
 use Rattle.nano_spec.proofs.Coordinates.{in_space-is, place_below}
-use Rattle.nano_spec.proofs.Grounding.{left}
 use Rattle.vox_planes.specs.Places.{is_from, is_marked}
 use Rattle.vox_planes.specs.Walk.{at}
 use Rattle.model_file.specs.declared.flood.Flood.{Flood}
@@ -82,9 +82,6 @@ self_same c = grind (arith, nat_tests)
 pub full_within : (m : Matrix) (c : Coord) → IsTrue (is_full m c) → IsInSpace m.resolution c
 full_within m c h = in_space-is m.resolution c (left (in_space m.resolution (point c)) _ h)
 
-not_taken : {A : Type 0} (b : Bool) → IsTrue b → b ≡ false → A
-not_taken b t f = cc
-
 pub has_same : (a b : Flood) → b.found.items ≡ a.found.items → (d : Coord) → HasFound a d → HasFound b d
 has_same a b e d h = record { stretch = h.stretch; is_found = subst (λ (xs : List Stretch). Contains xs h.stretch) (sym e) h.is_found; among = h.among }
 
@@ -106,7 +103,7 @@ pub takes_none : (near : Coord → Type 0) (a b : Flood) → b.remaining.resolut
 takes_none near a b r same found = record {
   resolution = r;
   fewer = λ d f. same d ∙ f;
-  taken = λ d t. not_taken (is_full a.remaining d) t.before (sym (same d) ∙ t.after);
+  taken = λ d t. anything_by (is_full a.remaining d) t.before (sym (same d) ∙ t.after);
   kept = has_same a b found;
   found = λ d h. inl (has_same b a (sym found) d h);
   starts = λ s k. inl (subst (λ (xs : List Stretch). Contains xs s) found k);
@@ -272,7 +269,7 @@ takes_then near a b c h k = record {
 
     earlier : (d : Coord) → IsTaken b.remaining c.remaining d → (f : Bool) → is_full a.remaining d ≡ f → IsTaken a.remaining c.remaining d
     earlier d t true e = record { before = e; after = t.after }
-    earlier d t false e = not_taken (is_full b.remaining d) t.before (h.fewer d e)
+    earlier d t false e = anything_by (is_full b.remaining d) t.before (h.fewer d e)
 
     of : (d : Coord) → (HasFound b d ⊎ IsTaken b.remaining c.remaining d) → HasFound a d ⊎ IsTaken a.remaining c.remaining d
     of d (inr t) = inr (earlier d t (is_full a.remaining d) refl)

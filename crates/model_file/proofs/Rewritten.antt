@@ -9,6 +9,7 @@ use Rattle.std.proofs.lemmas.List.Elements.{All-get_or, All-head, All-tail}
 use Rattle.std.proofs.lemmas.Nat.{pow_pos}
 use Rattle.std.proofs.lemmas.Nat.Bits.{bit_at_cat_low}
 use Rattle.vox_geom.specs.Space.{numbers_below}
+use Rattle.vox_geom.proofs.Tests.{between_by_tests, not_less_by_test}
 use Rattle.nano_spec.specs.Matrix.{Matrix}
 use Rattle.nano_spec.specs.Model.{NoModel, Resolution, Short, Long, WideResolution, WideRun, WideShort, WideLong, bit, byte_at, first_form, four_bytes, is_no_run, model, number_of_four, of_runs, run_lengths, runs_in, volume, voxel_bit, voxels_of, wanted, wide_form, wide_model, with_run, written}
 use Rattle.model_file.specs.Padding.{cut_last, used_bits, without_padding}
@@ -137,9 +138,6 @@ none_said total (a ∷ b ∷ c ∷ d ∷ more) p h = by (nat_lt 0 total) (is_no_
     by true false (Err f) k = cc
     by true false (Ok ms) k = cc
 
-in_limits : (r low high : ℕ) → (nat_le low r && nat_le r high) ≡ true → (low ≤ r) × (r ≤ high)
-in_limits r low high h = grind (arith, nat_tests)
-
 -- a model of the wide form, written again
 wide_again : (high low : ℕ) (bytes : List ℕ) (m : Matrix) → high < 256 → low < 256 → All (λ b. b < 256) bytes → wide_model (high * 256 + low) bytes ≡ Ok m → written m ≡ 0xFF ∷ high ∷ low ∷ bytes
 wide_again high low bytes m hh hl bound h = by (nat_le 251 r && nat_le r 400) refl (runs_in (volume r) 0 0 bytes) refl h
@@ -161,7 +159,7 @@ wide_again high low bytes m hh hl bound h = by (nat_le 251 r && nat_le r 400) re
     by false f runs e k = cc
     by true f (Err g) e k = cc
     by true f (Ok ns) e k =
-        let l = in_limits (high * 256 + low) 251 400 f in
+        let l = between_by_tests (high * 256 + low) 251 400 f in
         ap written (sym (same_value (record { resolution = high * 256 + low; voxels = voxels_of false ns }) m k))
         ∙ whole ns l.0 (said (volume (high * 256 + low)) bytes 0 0 ns bound e) (λ none. no_runs (some l.0) (e ∙ ap Ok none))
       where
@@ -247,9 +245,6 @@ bytes_again r more bound e =
         ∙ (ap (byte_at (said_voxels r (r ∷ more))) (get_or-numbers ((volume r + 7) / 8) 0 k 0 l ∙ zero-add k)
         ∙ sym (byte_again r more k bound e (omega (arith, e))))
 
-not_less : (a b : ℕ) → nat_lt a b ≡ false → b ≤ a
-not_less a b h = grind (arith, nat_tests)
-
 first_again : (r : ℕ) (more : List ℕ) (m : Matrix) → All (λ b. b < 256) more → first_form r (r ∷ more) ≡ Ok m → written m ≡ r ∷ cut_last (used_bits r) more
 first_again r more m bound h = by (nat_le 1 r && nat_le r 250) (nat_lt (length (r ∷ more)) (wanted r)) (nat_lt (wanted r) (length (r ∷ more))) refl refl refl h
   where
@@ -260,10 +255,10 @@ first_again r more m bound h = by (nat_le 1 r && nat_le r 250) (nat_lt (length (
     by true true c e f g k = cc
     by true false true e f g k = cc
     by true false false e f g k =
-        let l = in_limits r 1 250 e in
+        let l = between_by_tests r 1 250 e in
         let first : nat_le r 250 ≡ true = grind (arith, nat_tests) in
-        let most = not_less (length (r ∷ more)) (wanted r) f in
-        let least = not_less (wanted r) (length (r ∷ more)) g in
+        let most = not_less_by_test (length (r ∷ more)) (wanted r) f in
+        let least = not_less_by_test (wanted r) (length (r ∷ more)) g in
         let size : length more ≡ (volume r + 7) / 8 = omega arith in
         ap written (sym (same_value (record { resolution = r; voxels = said_voxels r (r ∷ more) }) m k))
         ∙ rw (written, first) (ap (λ xs. r ∷ xs) (bytes_again r more bound size))

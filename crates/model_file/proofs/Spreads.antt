@@ -16,22 +16,15 @@ use Rattle.nano_spec.specs.Matrix.{Matrix, all_of, is_full}
 use Rattle.nano_spec.specs.Model.{bit}
 use Rattle.vox_planes.specs.Places.{is_marked}
 use Rattle.vox_planes.specs.Walk.{at}
-use Rattle.nano_spec.proofs.Grounding.{left, right, ungrounded_by}
+use Rattle.nano_spec.proofs.Grounding.{ungrounded_by}
 use Rattle.nano_spec.proofs.Island.{same_coordinate}
 use Rattle.model_file.specs.declared.flood.Flood.{Flood}
 use Rattle.model_file.specs.declared.flood.Stretch.{Stretch}
 use Rattle.vox_geom.proofs.Adjacent.{adjacent-sym}
+use Rattle.vox_geom.proofs.Truths.{anything_by, first_of_two as left, second_of_two, true_by_false}
 use Rattle.model_file.proofs.Stretches.{is_one, moved, near_moved, one_of}
 use Rattle.model_file.proofs.Floods.{fewer_in_row, full_within, row_asked, row_taken, row_was, has_cases, has_last, has_more, has_same, self_same}
 use Rattle.model_file.specs.Flood.{HasFound, IsAmong, IsBeside, IsFlood, IsStart, IsTaken, TakesOut, full_of, weight}
-
-pub contrary : {A : Type 0} (b : Bool) → IsTrue b → b ≡ false → A
-contrary b t f = cc
-
--- what is left was there before
-pub still : (a b : Bool) → (a ≡ false → b ≡ false) → IsTrue b → IsTrue a
-still true b h t = refl
-still false b h t = contrary b t (h refl)
 
 pub on_floor : (m : Matrix) (c : Coord) → IsTrue (is_full m c) → c.y ≡ 0 → Grounded m c
 on_floor m c f e = (c ∷ [], rw (self_same c, f) (floor c.y e))
@@ -44,7 +37,7 @@ one_more m a b f n ([], h) = cc
 one_more m a b f n (d ∷ path, h) =
     let same : b ≡ d = same_coordinate b d (left (same_point (point b) (point d)) (is_path m (d ∷ path)) h) in
     let next : IsTrue (are_adjacent a d) = subst (λ (v : Coord). IsTrue (are_adjacent a v)) same n in
-    (a ∷ d ∷ path, rw (self_same a, f, next) (right (same_point (point b) (point d)) (is_path m (d ∷ path)) h))
+    (a ∷ d ∷ path, rw (self_same a, f, next) (second_of_two (same_point (point b) (point d)) (is_path m (d ∷ path)) h))
 
 -- a stretch that was found is looked around
 pub flood_more : (m : Matrix) (s popped new : Flood) (p : Stretch) → IsFlood m s → popped.remaining ≡ s.remaining → s.found.items ≡ popped.found.items ++ p ∷ [] → TakesOut (IsBeside p) popped new → ((d : Coord) → IsBeside p d → is_full new.remaining d ≡ false) → IsFlood m new
@@ -76,17 +69,17 @@ flood_more m s popped new p fl same items t gone = record {
     found : (d : Coord) → (HasFound popped d ⊎ IsTaken popped.remaining new.remaining d) → IsTaken m new.remaining d
     found d (inl k) = let was = fl.found d (has_more popped s p items d k) in record { before = was.before; after = less d was.after }
     found d (inr k) = record {
-      before = still (is_full m d) (is_full s.remaining d) (fl.fewer d) (sym (ap (λ (l : Matrix). is_full l d) same) ∙ k.before);
+      before = true_by_false (is_full m d) (is_full s.remaining d) (fl.fewer d) (sym (ap (λ (l : Matrix). is_full l d) same) ∙ k.before);
       after = k.after;
     }
 
     looked : (a b : Coord) → IsTaken m new.remaining a → IsTrue (are_adjacent a b) → IsTrue (is_full new.remaining b) → (f : Bool) → is_full s.remaining a ≡ f → HasFound new a
     looked a b k n f true e = (t.taken a (now a e k.after)).1
-    looked a b k n f false e = of (has_cases popped s p items a (fl.looked a b (record { before = k.before; after = e }) n (still (is_full s.remaining b) (is_full new.remaining b) (less b) f)))
+    looked a b k n f false e = of (has_cases popped s p items a (fl.looked a b (record { before = k.before; after = e }) n (true_by_false (is_full s.remaining b) (is_full new.remaining b) (less b) f)))
       where
         of : (HasFound popped a ⊎ IsAmong p a) → HasFound new a
         of (inl h) = t.kept a h
-        of (inr h) = contrary (is_full new.remaining b) f (gone b (record { one = a; among = h; adjacent = n }))
+        of (inr h) = anything_by (is_full new.remaining b) f (gone b (record { one = a; among = h; adjacent = n }))
 
 -- stretches that were found begin where stretches do
 pub found_starts : (near : Coord → Type 0) (popped new : Flood) → All (IsStart popped.remaining.resolution) popped.found.items → TakesOut near popped new → All (IsStart popped.remaining.resolution) new.found.items
@@ -163,7 +156,7 @@ module _ (popped new : Flood) (p : Stretch) (count more : ℕ) (r : new.remainin
           reached d k.before (near_moved p popped.remaining.resolution start most fits d (full_within popped.remaining d t.before) (row_asked popped new p.first count (moved p.bits) more r few was cut d t))
 
       was_full : (d : Coord) → IsTrue (is_full popped.remaining d) → IsTrue (is_full m d)
-      was_full d t = still (is_full m d) (is_full s.remaining d) (fl.fewer d) (sym (ap (λ (l : Matrix). is_full l d) same) ∙ t)
+      was_full d t = true_by_false (is_full m d) (is_full s.remaining d) (fl.fewer d) (sym (ap (λ (l : Matrix). is_full l d) same) ∙ t)
 
       found : (d : Coord) → (HasFound popped d ⊎ IsAmong (record { first = p.first; bits = bit_or p.bits more }) d) → IsTaken m new.remaining d
       found d (inl k) = let t = fl.found d (has_more popped s p held d k) in record { before = t.before; after = less d t.after }
@@ -175,7 +168,7 @@ module _ (popped new : Flood) (p : Stretch) (count more : ℕ) (r : new.remainin
 
       looked : (a b : Coord) → IsTaken m new.remaining a → IsTrue (are_adjacent a b) → IsTrue (is_full new.remaining b) → (f : Bool) → is_full s.remaining a ≡ f → HasFound new a
       looked a b k n f true e = has_last popped new (record { first = p.first; bits = bit_or p.bits more }) items a (added a (row_taken popped new p.first count (moved p.bits) more r few was cut a (now a e k.after)))
-      looked a b k n f false e = of (has_cases popped s p held a (fl.looked a b (record { before = k.before; after = e }) n (still (is_full s.remaining b) (is_full new.remaining b) (less b) f)))
+      looked a b k n f false e = of (has_cases popped s p held a (fl.looked a b (record { before = k.before; after = e }) n (true_by_false (is_full s.remaining b) (is_full new.remaining b) (less b) f)))
         where
           of : (HasFound popped a ⊎ IsAmong p a) → HasFound new a
           of (inl h) = has_more popped new (record { first = p.first; bits = bit_or p.bits more }) items a h
@@ -189,7 +182,7 @@ in_none f d e h = let l : length f.found.items ≡ 0 = ap length e in let k = h.
 -- what is left is not grounded
 left_floats : (m : Matrix) (f : Flood) → IsFlood m f → f.found.items ≡ [] → (c : Coord) → IsTrue (is_full f.remaining c) → Grounded m c → ⊥
 left_floats m f fl none c t =
-    ungrounded_by m (is_full f.remaining) (λ a b i g n. stays a b i g n (is_full f.remaining b) refl, λ a i e. contrary (is_full f.remaining a) i (fl.floor a (zero_of a.y e))) c t
+    ungrounded_by m (is_full f.remaining) (λ a b i g n. stays a b i g n (is_full f.remaining b) refl, λ a i e. anything_by (is_full f.remaining a) i (fl.floor a (zero_of a.y e))) c t
     (λ a b s i. subst (λ (v : Coord). IsTrue (is_full f.remaining v)) (same_coordinate a b s) i)
   where
     zero_of : (y : ℕ) → IsTrue (y == 0) → y ≡ 0
@@ -214,13 +207,13 @@ left_is_ungrounded m f test fl none sound complete =
     first_failing (λ c. IsTrue (is_full m c) → Grounded m c) test bad good (all_of m)
   where
     bad : (c : Coord) → test c ≡ true → (IsTrue (is_full m c) → Grounded m c) → ⊥
-    bad c e g = let t : IsTrue (is_full f.remaining c) = sound c e in left_floats m f fl none c t (g (still (is_full m c) (is_full f.remaining c) (fl.fewer c) t))
+    bad c e g = let t : IsTrue (is_full f.remaining c) = sound c e in left_floats m f fl none c t (g (true_by_false (is_full m c) (is_full f.remaining c) (fl.fewer c) t))
 
     good : (c : Coord) → test c ≡ false → IsTrue (is_full m c) → Grounded m c
     good c e t = by (is_full f.remaining c) refl
       where
         by : (v : Bool) → is_full f.remaining c ≡ v → Grounded m c
-        by true v = contrary (test c) (complete c v) e
+        by true v = anything_by (test c) (complete c v) e
         by false v = fl.grounded c (record { before = t; after = v })
 
 -- only what was found of a search, and what is left, says how far it has come

@@ -7,6 +7,8 @@ use Rattle.std.proofs.lemmas.List.{append_assoc, append-nil, ext_get_or, get_or_
 use Rattle.std.proofs.Math.Seq.{get_or-append_right}
 use Rattle.vox_geom.specs.declared.coordinate.Coord.{Coord}
 use Rattle.vox_geom.specs.Space.{coordinates}
+use Rattle.vox_geom.proofs.Truths.{and_false}
+use Rattle.vox_geom.proofs.Tests.{test_less, test_not_less}
 use Rattle.nano_spec.specs.Matrix.{Matrix, empty}
 use Rattle.nano_spec.specs.Model.{NoModel, WideRun, WideShort, WideLong, is_no_run, number_of_four, of_runs, runs_in, volume, voxels_of, wide_form, wide_model, with_run}
 use Rattle.vox_planes.specs.Places.{is_from, voxel_at}
@@ -33,28 +35,22 @@ before-ok (n ∷ runs) more = ap (with_run n) (before-ok runs more)
 
 -- ---- what is left of the bytes
 
-lt_true : (a b : ℕ) → a < b → nat_lt a b ≡ true
-lt_true a b l = grind (arith, nat_tests)
-
-lt_false : (a b : ℕ) → b ≤ a → nat_lt a b ≡ false
-lt_false a b l = grind (arith, nat_tests)
-
 too_few : (total index sum : ℕ) (rest : List ℕ) → length rest < 4 → sum < total → runs_in total index sum rest ≡ Err (WideShort sum)
-too_few total index sum [] l h = rw (runs_in, lt_true sum total h) refl
-too_few total index sum (a ∷ []) l h = rw (runs_in, lt_true sum total h) refl
-too_few total index sum (a ∷ b ∷ []) l h = rw (runs_in, lt_true sum total h) refl
-too_few total index sum (a ∷ b ∷ c ∷ []) l h = rw (runs_in, lt_true sum total h) refl
+too_few total index sum [] l h = rw (runs_in, test_less sum total h) refl
+too_few total index sum (a ∷ []) l h = rw (runs_in, test_less sum total h) refl
+too_few total index sum (a ∷ b ∷ []) l h = rw (runs_in, test_less sum total h) refl
+too_few total index sum (a ∷ b ∷ c ∷ []) l h = rw (runs_in, test_less sum total h) refl
 too_few total index sum (a ∷ b ∷ c ∷ d ∷ rest) l h = absurd (omega arith)
 
 too_many : (total index sum : ℕ) (rest : List ℕ) → 0 < length rest → total ≤ sum → runs_in total index sum rest ≡ Err WideLong
 too_many total index sum [] l h = absurd (omega arith)
-too_many total index sum (a ∷ []) l h = rw (runs_in, lt_false sum total h) refl
-too_many total index sum (a ∷ b ∷ []) l h = rw (runs_in, lt_false sum total h) refl
-too_many total index sum (a ∷ b ∷ c ∷ []) l h = rw (runs_in, lt_false sum total h) refl
-too_many total index sum (a ∷ b ∷ c ∷ d ∷ rest) l h = rw (runs_in, lt_false sum total h) refl
+too_many total index sum (a ∷ []) l h = rw (runs_in, test_not_less sum total h) refl
+too_many total index sum (a ∷ b ∷ []) l h = rw (runs_in, test_not_less sum total h) refl
+too_many total index sum (a ∷ b ∷ c ∷ []) l h = rw (runs_in, test_not_less sum total h) refl
+too_many total index sum (a ∷ b ∷ c ∷ d ∷ rest) l h = rw (runs_in, test_not_less sum total h) refl
 
 no_more : (total index sum : ℕ) → total ≤ sum → runs_in total index sum [] ≡ Ok []
-no_more total index sum h = rw (runs_in, lt_false sum total h) refl
+no_more total index sum h = rw (runs_in, test_not_less sum total h) refl
 
 -- the number in the next four bytes
 abbrev pub next_run : List ℕ → ℕ → ℕ
@@ -69,7 +65,7 @@ four_of [] total index sum l h = absurd (omega arith)
 four_of (a ∷ []) total index sum l h = absurd (omega arith)
 four_of (a ∷ b ∷ []) total index sum l h = absurd (omega arith)
 four_of (a ∷ b ∷ c ∷ []) total index sum l h = absurd (omega arith)
-four_of (a ∷ b ∷ c ∷ d ∷ rest) total index sum l h = rw (runs_in, lt_true sum total h) refl
+four_of (a ∷ b ∷ c ∷ d ∷ rest) total index sum l h = rw (runs_in, test_less sum total h) refl
 
 -- ---- how far the runs were filled
 
@@ -127,10 +123,6 @@ next_taken bytes total at index sum run four less er =
 
 no_run : (total index sum run : ℕ) → (run ≡ 0 → index ≡ 0) → sum + run ≤ total → is_no_run total index sum run ≡ false
 no_run total index sum run h l = grind (arith, nat_tests)
-
-and_false : (b : Bool) → (b && false) ≡ false
-and_false true = refl
-and_false false = refl
 
 full_or : (b : Bool) → ((b && true) || false) ≡ b
 full_or true = refl
@@ -211,7 +203,7 @@ pub void_run : (total index sum run : ℕ) → run ≡ 0 → 0 < index → is_no
 void_run total index sum run e l = grind (arith, nat_tests)
 
 pub long_run : (total index sum run : ℕ) → total - sum < run → is_no_run total index sum run ≡ true
-long_run total index sum run l = by (nat_lt 0 index && run == 0) (lt_true total (sum + run) (omega arith))
+long_run total index sum run l = by (nat_lt 0 index && run == 0) (test_less total (sum + run) (omega arith))
   where
     by : (b : Bool) → nat_lt total (sum + run) ≡ true → (b || nat_lt total (sum + run)) ≡ true
     by true e = refl

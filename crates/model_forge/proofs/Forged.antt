@@ -7,6 +7,7 @@ use Rattle.std.proofs.lemmas.Bool.Decides.{nat_tests}
 use Rattle.std.proofs.lemmas.List.{ext_get_or, get_or_past}
 use Rattle.vox_geom.specs.declared.coordinate.Coord.{Coord}
 use Rattle.vox_geom.specs.Space.{coordinate_at}
+use Rattle.vox_geom.proofs.Tests.{test_less, test_not_less}
 use Rattle.nano_spec.specs.Forge.{forged, column_height, is_inner, line_of_tallest, tallest}
 use Rattle.nano_spec.specs.Matrix.{Matrix, empty, matrix_where}
 use Rattle.nano_spec.specs.Model.{volume}
@@ -15,7 +16,6 @@ use Rattle.vox_planes.specs.Voxel.{IsWhole}
 use Rattle.vox_planes.proofs.Voxels.{get_or-where, length-where}
 use Rattle.model_forge.specs.declared.tower.Tower.{Tower}
 use Rattle.model_forge.specs.Forging.{IsForged, is_forged, row_place}
-use Rattle.model_forge.proofs.InRow.{lower, no_lower}
 
 -- a coordinate that is not over the columns' places is void
 outside : (number r : ℕ) (tower : Tower) (c : Coord) → is_inner r c ≡ false → is_forged number r tower c ≡ false
@@ -40,10 +40,10 @@ pub begun : (number : ℕ) (tower : Tower) (r : ℕ) (m : Matrix) → m ≡ empt
 begun number tower r m e = subst (λ (n : Matrix). IsForged number tower n (row_place r 1 0)) (sym e) (record { voxels = λ p. void_at r p ∙ sym (by p (cases_lt p (row_place r 1 0))) })
   where
     by : (p : ℕ) → ((p < row_place r 1 0) ⊎ (row_place r 1 0 ≤ p)) → (nat_lt p (row_place r 1 0) && is_forged number r tower (coordinate_at r p)) ≡ false
-    by p (inr l) = ap (λ b. b && is_forged number r tower (coordinate_at r p)) (no_lower p (row_place r 1 0) l)
+    by p (inr l) = ap (λ b. b && is_forged number r tower (coordinate_at r p)) (test_not_less p (row_place r 1 0) l)
     by p (inl l) =
         let first : p / (r * r) ≡ 0 = div-eq_of_lt (omega arith) in
-        ap (λ b. b && is_forged number r tower (coordinate_at r p)) (lower p (row_place r 1 0) l)
+        ap (λ b. b && is_forged number r tower (coordinate_at r p)) (test_less p (row_place r 1 0) l)
         ∙ outside number r tower (coordinate_at r p) (outer_x r (coordinate_at r p) first)
 
 -- ---- behind the last wall
@@ -84,11 +84,11 @@ module _ (number : ℕ) (tower : Tower) (r x : ℕ) (m : Matrix) (same_r : m.res
   voxel p l = h.voxels p ∙ (ap (λ s. nat_lt p (row_place r x 0) && is_forged number s tower (coordinate_at s p)) same_r ∙ by (cases_lt p (row_place r x 0)))
     where
       by : ((p < row_place r x 0) ⊎ (row_place r x 0 ≤ p)) → (nat_lt p (row_place r x 0) && is_forged number r tower (coordinate_at r p)) ≡ is_forged number r tower (coordinate_at r p)
-      by (inl k) = ap (λ b. b && is_forged number r tower (coordinate_at r p)) (lower p (row_place r x 0) k)
+      by (inl k) = ap (λ b. b && is_forged number r tower (coordinate_at r p)) (test_less p (row_place r x 0) k)
       by (inr k) =
           let beyond : x ≤ p / (r * r) = wall_of r x p l k in
           let none : is_forged number r tower (coordinate_at r p) ≡ false = outside number r tower (coordinate_at r p) (outer_last r (coordinate_at r p) (omega arith)) in
-          ap (λ b. b && is_forged number r tower (coordinate_at r p)) (no_lower p (row_place r x 0) k) ∙ sym none
+          ap (λ b. b && is_forged number r tower (coordinate_at r p)) (test_not_less p (row_place r x 0) k) ∙ sym none
 
   all_forged : m ≡ matrix_where r (is_forged number r tower)
   all_forged = λ i. record { resolution = same_r i; voxels = same i }

@@ -5,6 +5,8 @@ use Rattle.std.proofs.lemmas.Bool.{cases_lt}
 use Rattle.std.proofs.lemmas.Bool.Decides.{nat_tests}
 use Rattle.vox_geom.specs.Space.{coordinate_at, place}
 use Rattle.vox_geom.proofs.Places.{coordinate_at-place}
+use Rattle.vox_geom.proofs.Truths.{or_swapped}
+use Rattle.vox_geom.proofs.Tests.{test_equal, test_less, test_not_less, test_unequal}
 use Rattle.nano_spec.specs.Forge.{column_height, is_inner}
 use Rattle.nano_spec.specs.Matrix.{Matrix}
 use Rattle.vox_planes.specs.Places.{is_from, voxel_at}
@@ -12,12 +14,6 @@ use Rattle.model_forge.specs.declared.tower.Tower.{Tower}
 use Rattle.model_forge.specs.Forging.{AreHeights, IsForged, is_forged, row_place}
 
 -- ---- tests
-
-pub lower : (a b : ℕ) → a < b → nat_lt a b ≡ true
-lower a b l = grind (arith, nat_tests)
-
-pub no_lower : (a b : ℕ) → b ≤ a → nat_lt a b ≡ false
-no_lower a b l = grind (arith, nat_tests)
 
 below : (from count p : ℕ) → p < from → is_from from count p ≡ false
 below from count p l = grind (arith, nat_tests)
@@ -37,21 +33,9 @@ same_test a b c d e = by (a == c) (b == d) refl refl
     by true false g h = grind (arith, nat_tests)
     by false true g h = grind (arith, nat_tests)
 
-same_number : (a b : ℕ) → a ≡ b → (a == b) ≡ true
-same_number a b e = grind (arith, nat_tests)
-
-other_number : (a b : ℕ) → (a ≡ b → ⊥) → (a == b) ≡ false
-other_number a b n = grind (arith, nat_tests)
-
 nothing_put : (b m : Bool) → ((b && false) || m) ≡ m
 nothing_put true m = refl
 nothing_put false m = refl
-
-swapped : (a b : Bool) → (a || b) ≡ (b || a)
-swapped true true = refl
-swapped true false = refl
-swapped false true = refl
-swapped false false = refl
 
 module _ (number : ℕ) (tower : Tower) (r x y : ℕ) (x_low : 1 ≤ x) (x_high : x + 1 < r) (in_y : y < r) where
   -- the row's coordinates
@@ -91,12 +75,12 @@ module _ (number : ℕ) (tower : Tower) (r x y : ℕ) (x_low : 1 ≤ x) (x_high 
     pub roofed : (mid : Matrix) (most : ℕ) → most ≡ length heights → y + 1 ≡ tower.height → ((p : ℕ) → voxel_at mid p ≡ cond (is_from from (length heights) p) (nat_lt y (slice_index heights (p - from))) (voxel_at old p))
         → ((p : ℕ) → voxel_at new p ≡ ((is_from from most p && (x % 2 == 0 || p + 1 == from + tower.z)) || voxel_at mid p)) → (p : ℕ) → voxel_at new p ≡ put_at p
     roofed mid most em et columns roof p =
-        let top : true ≡ (y + 1 == tower.height) = sym (same_number (y + 1) tower.height et) in
+        let top : true ≡ (y + 1 == tower.height) = sym (test_equal (y + 1) tower.height et) in
         roof p ∙ (λ i. (is_from from (em i) p && (top i && (x % 2 == 0 || p + 1 == from + tower.z))) || columns p i)
 
     pub unroofed : (y + 1 ≡ tower.height → ⊥) → ((p : ℕ) → voxel_at new p ≡ cond (is_from from (length heights) p) (nat_lt y (slice_index heights (p - from))) (voxel_at old p)) → (p : ℕ) → voxel_at new p ≡ put_at p
     unroofed n columns p =
-        let top : false ≡ (y + 1 == tower.height) = sym (other_number (y + 1) tower.height n) in
+        let top : false ≡ (y + 1 == tower.height) = sym (test_unequal (y + 1) tower.height n) in
         columns p
         ∙ (sym (nothing_put (is_from from (length heights) p) (cond (is_from from (length heights) p) (nat_lt y (slice_index heights (p - from))) (voxel_at old p)))
         ∙ ap (λ t. (is_from from (length heights) p && (t && (x % 2 == 0 || p + 1 == from + tower.z))) || cond (is_from from (length heights) p) (nat_lt y (slice_index heights (p - from))) (voxel_at old p)) top)
@@ -115,7 +99,7 @@ module _ (number : ℕ) (tower : Tower) (r x y : ℕ) (x_low : 1 ≤ x) (x_high 
         ap (λ b. (b && (y + 1 == tower.height && (x % 2 == 0 || row_place r x y + z + 1 == from + tower.z))) || cond b (nat_lt y (slice_index heights (row_place r x y + z - from))) (voxel_at old (row_place r x y + z))) one
         ∙ ((λ i. (y + 1 == tower.height && (x % 2 == 0 || line i)) || nat_lt y (slice_index heights (index i)))
         ∙ (ap (λ h. (y + 1 == tower.height && (x % 2 == 0 || z == tower.z)) || nat_lt y h) (are.at (z - 1) (omega arith) ∙ ap (column_height number r x) next)
-        ∙ swapped (y + 1 == tower.height && (x % 2 == 0 || z == tower.z)) (nat_lt y (column_height number r x z))))
+        ∙ or_swapped (y + 1 == tower.height && (x % 2 == 0 || z == tower.z)) (nat_lt y (column_height number r x z))))
 
     pub row_forged : old.resolution ≡ r → new.resolution ≡ r → ((p : ℕ) → voxel_at new p ≡ put_at p) → IsForged number tower old (row_place r x y) → IsForged number tower new (row_place r x (y + 1))
     row_forged eo en put h = record { voxels = λ p. put p ∙ (by p (cases_lt p (row_place r x y)) (cases_lt p (row_place r x (y + 1))) ∙ ap (λ s. nat_lt p (row_place r x (y + 1)) && is_forged number s tower (coordinate_at s p)) (sym en)) }
@@ -129,24 +113,24 @@ module _ (number : ℕ) (tower : Tower) (r x y : ℕ) (x_low : 1 ≤ x) (x_high 
         here : (p z : ℕ) → p ≡ row_place r x y + z → z < r → ((z < 1) ⊎ (1 ≤ z)) → ((z + 1 < r) ⊎ (r ≤ z + 1)) → put_at p ≡ is_forged number r tower (coordinate_at r p)
         here p z e l (inl m) n =
             let zero_is : z ≡ 0 = omega arith in
-            let old_is : voxel_at old p ≡ false = was p ∙ ap (λ b. b && is_forged number r tower (coordinate_at r p)) (no_lower p (row_place r x y) (omega arith)) in
+            let old_is : voxel_at old p ≡ false = was p ∙ ap (λ b. b && is_forged number r tower (coordinate_at r p)) (test_not_less p (row_place r x y) (omega arith)) in
             stays p (below from (length heights) p (omega arith)) ∙ (old_is ∙ sym (ap (λ q. is_forged number r tower (coordinate_at r q)) (e ∙ ap (λ v. row_place r x y + v) zero_is) ∙ first_is))
         here p z e l (inr m) (inl n) = ap put_at e ∙ (changes z m n ∙ sym (ap (λ q. is_forged number r tower (coordinate_at r q)) e ∙ inside_is z m n))
         here p z e l (inr m) (inr n) =
-            let old_is : voxel_at old p ≡ false = was p ∙ ap (λ b. b && is_forged number r tower (coordinate_at r p)) (no_lower p (row_place r x y) (omega arith)) in
+            let old_is : voxel_at old p ≡ false = was p ∙ ap (λ b. b && is_forged number r tower (coordinate_at r p)) (test_not_less p (row_place r x y) (omega arith)) in
             stays p (beyond from (length heights) p (omega arith)) ∙ (old_is ∙ sym (ap (λ q. is_forged number r tower (coordinate_at r q)) e ∙ last_is z l n))
 
         by : (p : ℕ) → ((p < row_place r x y) ⊎ (row_place r x y ≤ p)) → ((p < row_place r x (y + 1)) ⊎ (row_place r x (y + 1) ≤ p)) → put_at p ≡ (nat_lt p (row_place r x (y + 1)) && is_forged number r tower (coordinate_at r p))
         by p (inl l) m =
             stays p (below from (length heights) p (omega arith))
             ∙ (was p
-            ∙ (ap (λ b. b && is_forged number r tower (coordinate_at r p)) (lower p (row_place r x y) l)
-            ∙ sym (ap (λ b. b && is_forged number r tower (coordinate_at r p)) (lower p (row_place r x (y + 1)) (omega arith)))))
+            ∙ (ap (λ b. b && is_forged number r tower (coordinate_at r p)) (test_less p (row_place r x y) l)
+            ∙ sym (ap (λ b. b && is_forged number r tower (coordinate_at r p)) (test_less p (row_place r x (y + 1)) (omega arith)))))
         by p (inr l) (inr m) =
             stays p (beyond from (length heights) p (omega arith))
             ∙ (was p
-            ∙ (ap (λ b. b && is_forged number r tower (coordinate_at r p)) (no_lower p (row_place r x y) l)
-            ∙ sym (ap (λ b. b && is_forged number r tower (coordinate_at r p)) (no_lower p (row_place r x (y + 1)) m))))
+            ∙ (ap (λ b. b && is_forged number r tower (coordinate_at r p)) (test_not_less p (row_place r x y) l)
+            ∙ sym (ap (λ b. b && is_forged number r tower (coordinate_at r p)) (test_not_less p (row_place r x (y + 1)) m))))
         by p (inr l) (inl m) =
             here p (p - row_place r x y) (omega arith) (omega arith) (cases_lt (p - row_place r x y) 1) (cases_lt (p - row_place r x y + 1) r)
-            ∙ sym (ap (λ b. b && is_forged number r tower (coordinate_at r p)) (lower p (row_place r x (y + 1)) m))
+            ∙ sym (ap (λ b. b && is_forged number r tower (coordinate_at r p)) (test_less p (row_place r x (y + 1)) m))

@@ -1,6 +1,6 @@
 -- What a line says is the command of whose form it is.
 use Rattle.std.proofs.Common.{◌≡◌, ℕ, zero, suc, ◌<◌, refl, sym, ap, subst, arith, Bool, true, false, cond, List, [], ◌∷◌, get_or, ℤ}
-use Rattle.std.specs.Prelude.{Option, Some, None, IsTrue, IsFalse, Contains}
+use Rattle.std.specs.Prelude.{Option, Some, None, IsFalse, Contains}
 use Rattle.nano_spec.specs.declared.commands.Command.{Command}
 use Rattle.nano_spec.specs.Command.{is_command, IsCommand}
 use Rattle.nano_spec.specs.First.{HasOneAtMost}

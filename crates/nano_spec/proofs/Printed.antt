@@ -10,6 +10,9 @@ use Rattle.std.proofs.lemmas.List.Splits.{slice_split-cons_no}
 use Rattle.vox_geom.specs.declared.difference.Diff.{Diff}
 use Rattle.vox_geom.specs.Difference.{clen, mlen, is_linear, is_near, is_far, is_short, is_long}
 use Rattle.vox_geom.specs.Space.{numbers_from}
+use Rattle.vox_geom.proofs.Truths.{both_true, first_of_two, second_of_two}
+use Rattle.vox_geom.proofs.Tests.{at_most_by_test}
+use Rattle.vox_geom.proofs.Sums.{append_none}
 use Rattle.nano_spec.specs.declared.commands.Command.{Command}
 use Rattle.nano_spec.specs.declared.commands.Command.TheVariants.{Halt, Wait, Flip, SMove, LMove, FusionP, FusionS, Fission, Fill, Void, GFill, GVoid}
 use Rattle.nano_spec.specs.Command.{IsCommand}
@@ -18,7 +21,6 @@ use Rattle.nano_spec.specs.Printing.{print, printed, printed_difference, spaced}
 use Rattle.nano_spec.specs.Line.{word_of, from_word, after_word, Says, line_content, has_high_byte, line_of, without_return}
 use Rattle.nano_spec.specs.LineForm.{Blanks, Mark, Number, Part, Read, Word, after_blanks, difference_parts, digits, is_blank, is_digit, negative, numbers, readings}
 use Rattle.nano_spec.specs.Reading.{read, read_lines, with_first, without_last_empty}
-use Rattle.nano_spec.proofs.Grounding.{left, right}
 use Rattle.nano_spec.proofs.Lines.{is_says}
 use Rattle.nano_spec.proofs.Decimals.{at_number, same_bytes}
 
@@ -170,13 +172,9 @@ is_plain b = nat_lt b 128 && not (b == 10) && not (b == 13) && not (b == 35)
 abbrev Plain : List ℕ → Type 0
 Plain xs = IsTrue (list_all is_plain xs)
 
-both : (a b : Bool) → IsTrue a → IsTrue b → IsTrue (a && b)
-both true b h k = k
-both false b h k = cc
-
 plain_append : (xs ys : List ℕ) → Plain xs → Plain ys → Plain (xs ++ ys)
 plain_append [] ys h k = k
-plain_append (x ∷ xs) ys h k = both (is_plain x) (list_all is_plain (xs ++ ys)) (left (is_plain x) (list_all is_plain xs) h) (plain_append xs ys (right (is_plain x) (list_all is_plain xs) h) k)
+plain_append (x ∷ xs) ys h k = both_true (is_plain x) (list_all is_plain (xs ++ ys)) (first_of_two (is_plain x) (list_all is_plain xs) h) (plain_append xs ys (second_of_two (is_plain x) (list_all is_plain xs) h) k)
 
 plain_digit : (d : ℕ) → d < 10 → is_plain (48 + d) ≡ true
 plain_digit d l = grind (arith, nat_tests)
@@ -187,13 +185,13 @@ plain_text n l = by (nat_lt n 10) (nat_lt n 100) refl refl
     by : (a b : Bool) → nat_lt n 10 ≡ a → nat_lt n 100 ≡ b → Plain (cond a ((48 + n) ∷ []) (cond b ((48 + n / 10) ∷ (48 + n % 10) ∷ []) ((48 + n / 100) ∷ (48 + n / 10 % 10) ∷ (48 + n % 10) ∷ [])))
     by true b e f =
         let few : n < 10 = grind (arith, nat_tests) in
-        both (is_plain (48 + n)) true (plain_digit n few) refl
+        both_true (is_plain (48 + n)) true (plain_digit n few) refl
     by false true e f =
         let some : n < 100 = grind (arith, nat_tests) in
-        both (is_plain (48 + n / 10)) (is_plain (48 + n % 10) && true) (plain_digit (n / 10) (omega arith)) (both (is_plain (48 + n % 10)) true (plain_digit (n % 10) (omega arith)) refl)
+        both_true (is_plain (48 + n / 10)) (is_plain (48 + n % 10) && true) (plain_digit (n / 10) (omega arith)) (both_true (is_plain (48 + n % 10)) true (plain_digit (n % 10) (omega arith)) refl)
     by false false e f =
-        both (is_plain (48 + n / 100)) (is_plain (48 + n / 10 % 10) && (is_plain (48 + n % 10) && true)) (plain_digit (n / 100) (omega arith))
-        (both (is_plain (48 + n / 10 % 10)) (is_plain (48 + n % 10) && true) (plain_digit (n / 10 % 10) (omega arith)) (both (is_plain (48 + n % 10)) true (plain_digit (n % 10) (omega arith)) refl))
+        both_true (is_plain (48 + n / 100)) (is_plain (48 + n / 10 % 10) && (is_plain (48 + n % 10) && true)) (plain_digit (n / 100) (omega arith))
+        (both_true (is_plain (48 + n / 10 % 10)) (is_plain (48 + n % 10) && true) (plain_digit (n / 10 % 10) (omega arith)) (both_true (is_plain (48 + n % 10)) true (plain_digit (n % 10) (omega arith)) refl))
 
 plain_decimal : (n : ℕ) → n < 256 → Plain (decimal n)
 plain_decimal n l = subst Plain (sym (decimal_is n l)) (plain_text n l)
@@ -219,7 +217,7 @@ plain_ascii b h = grind (arith, nat_tests)
 
 plain_low : (line : List ℕ) → Plain line → IsFalse (has_high_byte line)
 plain_low [] h = refl
-plain_low (b ∷ more) h = rw (plain_ascii b (left (is_plain b) (list_all is_plain more) h)) (plain_low more (right (is_plain b) (list_all is_plain more) h))
+plain_low (b ∷ more) h = rw (plain_ascii b (first_of_two (is_plain b) (list_all is_plain more) h)) (plain_low more (second_of_two (is_plain b) (list_all is_plain more) h))
 
 no_return : (b : ℕ) → IsTrue (is_plain b) → (b == 13) ≡ false
 no_return b h = grind (arith, nat_tests)
@@ -232,14 +230,14 @@ no_feed b h = grind (arith, nat_tests)
 
 whole : (line : List ℕ) → Plain line → without_return line ≡ line
 whole [] h = refl
-whole (b ∷ []) h = rw (no_return b (left (is_plain b) true h)) refl
-whole (b ∷ c ∷ more) h = ap (λ v. b ∷ v) (whole (c ∷ more) (right (is_plain b) (list_all is_plain (c ∷ more)) h))
+whole (b ∷ []) h = rw (no_return b (first_of_two (is_plain b) true h)) refl
+whole (b ∷ c ∷ more) h = ap (λ v. b ∷ v) (whole (c ∷ more) (second_of_two (is_plain b) (list_all is_plain (c ∷ more)) h))
 
 no_comment : (line : List ℕ) → Plain line → before_first (λ b. b == 35) line ≡ line
 no_comment [] h = refl
 no_comment (b ∷ more) h =
-    let later : before_first (λ c. c == 35) more ≡ more = no_comment more (right (is_plain b) (list_all is_plain more) h) in
-    let count : cond (not (b == 35)) (1 + position_or_len (λ c. c == 35) more) 0 ≡ suc (position_or_len (λ c. c == 35) more) = rw (no_hash b (left (is_plain b) (list_all is_plain more) h)) (omega arith) in
+    let later : before_first (λ c. c == 35) more ≡ more = no_comment more (second_of_two (is_plain b) (list_all is_plain more) h) in
+    let count : cond (not (b == 35)) (1 + position_or_len (λ c. c == 35) more) 0 ≡ suc (position_or_len (λ c. c == 35) more) = rw (no_hash b (first_of_two (is_plain b) (list_all is_plain more) h)) (omega arith) in
     ap (λ n. take n (b ∷ more)) count ∙ ap (λ v. b ∷ v) later
 
 content_is : (line : List ℕ) → Plain line → line_content line ≡ line
@@ -250,23 +248,20 @@ content_is line h = ap (before_first (λ b. b == 35)) (whole line h) ∙ no_comm
 sum_small : (n : ℕ) (d : Diff) → n < 256 → unsigned_abs d.dx + unsigned_abs d.dy + unsigned_abs d.dz ≤ n → IsSmall d
 sum_small n d l h = record { x = omega arith; y = omega arith; z = omega arith }
 
-at_most : (a n : ℕ) → nat_le a n ≡ true → a ≤ n
-at_most a n h = grind (arith, nat_tests)
-
 one_or_two : (n : ℕ) → (n == 1 || n == 2) ≡ true → n ≤ 2
 one_or_two n h = grind (arith, nat_tests)
 
 near_small : (d : Diff) → IsTrue (is_near d) → IsSmall d
-near_small d h = sum_small 2 d (omega arith) (one_or_two (mlen d) (left (mlen d == 1 || mlen d == 2) (clen d == 1) h))
+near_small d h = sum_small 2 d (omega arith) (one_or_two (mlen d) (first_of_two (mlen d == 1 || mlen d == 2) (clen d == 1) h))
 
 long_small : (d : Diff) → IsTrue (is_long d) → IsSmall d
-long_small d h = sum_small 15 d (omega arith) (at_most (mlen d) 15 (right (is_linear d) (nat_le (mlen d) 15) h))
+long_small d h = sum_small 15 d (omega arith) (at_most_by_test (mlen d) 15 (second_of_two (is_linear d) (nat_le (mlen d) 15) h))
 
 short_small : (d : Diff) → IsTrue (is_short d) → IsSmall d
-short_small d h = sum_small 5 d (omega arith) (at_most (mlen d) 5 (right (is_linear d) (nat_le (mlen d) 5) h))
+short_small d h = sum_small 5 d (omega arith) (at_most_by_test (mlen d) 5 (second_of_two (is_linear d) (nat_le (mlen d) 5) h))
 
 far_small : (d : Diff) → IsTrue (is_far d) → IsSmall d
-far_small d h = let most : clen d ≤ 30 = at_most (clen d) 30 (right (nat_le 1 (clen d)) (nat_le (clen d) 30) h) in record { x = omega arith; y = omega arith; z = omega arith }
+far_small d h = let most : clen d ≤ 30 = at_most_by_test (clen d) 30 (second_of_two (nat_le 1 (clen d)) (nat_le (clen d) 30) h) in record { x = omega arith; y = omega arith; z = omega arith }
 
 -- ---- the line of a command
 
@@ -279,25 +274,21 @@ LineBy line command =
 says : (line : List ℕ) (c : Command) → Plain line → list_all is_blank line ≡ false → LineBy line c → line_of line ≡ Says c
 says line c p b h = is_says line c (plain_low line p) (ap (list_all is_blank) (content_is line p) ∙ b) (subst (λ (v : List ℕ). LineBy v c) (sym (content_is line p)) h)
 
-nothing_more : (xs : List ℕ) → xs ++ [] ≡ xs
-nothing_more [] = refl
-nothing_more (x ∷ xs) = ap (λ v. x ∷ v) (nothing_more xs)
-
 one_read : (d : Diff) → IsSmall d → Contains (readings (difference_parts ++ Blanks ∷ []) (spaced d)) (d.dx ∷ d.dy ∷ d.dz ∷ [])
 one_read d s =
     let h : In (d.dx ∷ d.dy ∷ d.dz ∷ []) (readings (difference_parts ++ Blanks ∷ []) (spaced d ++ [])) = reads_difference (Blanks ∷ []) d [] [] s (inl refl) in
-    contained (d.dx ∷ d.dy ∷ d.dz ∷ []) (readings (difference_parts ++ Blanks ∷ []) (spaced d)) (subst (λ (t : List ℕ). In (d.dx ∷ d.dy ∷ d.dz ∷ []) (readings (difference_parts ++ Blanks ∷ []) t)) (nothing_more (spaced d)) h)
+    contained (d.dx ∷ d.dy ∷ d.dz ∷ []) (readings (difference_parts ++ Blanks ∷ []) (spaced d)) (subst (λ (t : List ℕ). In (d.dx ∷ d.dy ∷ d.dz ∷ []) (readings (difference_parts ++ Blanks ∷ []) t)) (append_none (spaced d)) h)
 
 two_read : (d e : Diff) → IsSmall d → IsSmall e → Contains (readings (difference_parts ++ difference_parts ++ Blanks ∷ []) (spaced d ++ spaced e)) (d.dx ∷ d.dy ∷ d.dz ∷ e.dx ∷ e.dy ∷ e.dz ∷ [])
 two_read d e s t =
     let h : In (e.dx ∷ e.dy ∷ e.dz ∷ []) (readings (difference_parts ++ Blanks ∷ []) (spaced e ++ [])) = reads_difference (Blanks ∷ []) e [] [] t (inl refl) in
-    let k : In (e.dx ∷ e.dy ∷ e.dz ∷ []) (readings (difference_parts ++ Blanks ∷ []) (spaced e)) = subst (λ (u : List ℕ). In (e.dx ∷ e.dy ∷ e.dz ∷ []) (readings (difference_parts ++ Blanks ∷ []) u)) (nothing_more (spaced e)) h in
+    let k : In (e.dx ∷ e.dy ∷ e.dz ∷ []) (readings (difference_parts ++ Blanks ∷ []) (spaced e)) = subst (λ (u : List ℕ). In (e.dx ∷ e.dy ∷ e.dz ∷ []) (readings (difference_parts ++ Blanks ∷ []) u)) (append_none (spaced e)) h in
     contained (d.dx ∷ d.dy ∷ d.dz ∷ e.dx ∷ e.dy ∷ e.dz ∷ []) (readings (difference_parts ++ difference_parts ++ Blanks ∷ []) (spaced d ++ spaced e)) (reads_difference (difference_parts ++ Blanks ∷ []) d (spaced e) (e.dx ∷ e.dy ∷ e.dz ∷ []) s k)
 
 number_too : (d : Diff) (m : ℕ) → IsSmall d → m < 256 → Contains (readings (difference_parts ++ Blanks ∷ Number ∷ Blanks ∷ []) ((spaced d ++ 32 ∷ []) ++ decimal m)) (d.dx ∷ d.dy ∷ d.dz ∷ pos m ∷ [])
 number_too d m s l =
     let h : In (pos m ∷ []) (readings (Number ∷ Blanks ∷ []) (decimal m ++ [])) = reads_number (Blanks ∷ []) (pos m) [] [] l (inl refl) in
-    let k : In (pos m ∷ []) (readings (Number ∷ Blanks ∷ []) (decimal m)) = subst (λ (u : List ℕ). In (pos m ∷ []) (readings (Number ∷ Blanks ∷ []) u)) (nothing_more (decimal m)) h in
+    let k : In (pos m ∷ []) (readings (Number ∷ Blanks ∷ []) (decimal m)) = subst (λ (u : List ℕ). In (pos m ∷ []) (readings (Number ∷ Blanks ∷ []) u)) (append_none (decimal m)) h in
     let spaced_too : In (pos m ∷ []) (readings (Blanks ∷ Number ∷ Blanks ∷ []) (32 ∷ decimal m)) = reads_space (Number ∷ Blanks ∷ []) (decimal m) (pos m ∷ []) (reads_here (Number ∷ Blanks ∷ []) (decimal m) (pos m ∷ []) k) in
     let all : In (d.dx ∷ d.dy ∷ d.dz ∷ pos m ∷ []) (readings (difference_parts ++ Blanks ∷ Number ∷ Blanks ∷ []) (spaced d ++ (32 ∷ decimal m))) = reads_difference (Blanks ∷ Number ∷ Blanks ∷ []) d (32 ∷ decimal m) (pos m ∷ []) s spaced_too in
     contained (d.dx ∷ d.dy ∷ d.dz ∷ pos m ∷ []) (readings (difference_parts ++ Blanks ∷ Number ∷ Blanks ∷ []) ((spaced d ++ 32 ∷ []) ++ decimal m))
@@ -314,8 +305,8 @@ says_printed (SMove d) h =
     let s : IsSmall d = long_small d h in
     says (printed (SMove d)) (SMove d) (plain_append (codes "SMove") (spaced d) refl (plain_spaced d s)) refl (_, d.dx ∷ d.dy ∷ d.dz ∷ [], refl, one_read d s, refl, h)
 says_printed (LMove d e) h =
-    let s : IsSmall d = short_small d (left (is_short d) (is_short e) h) in
-    let t : IsSmall e = short_small e (right (is_short d) (is_short e) h) in
+    let s : IsSmall d = short_small d (first_of_two (is_short d) (is_short e) h) in
+    let t : IsSmall e = short_small e (second_of_two (is_short d) (is_short e) h) in
     says (printed (LMove d e)) (LMove d e) (plain_append (codes "LMove" ++ spaced d) (spaced e) (plain_append (codes "LMove") (spaced d) refl (plain_spaced d s)) (plain_spaced e t)) refl (_, d.dx ∷ d.dy ∷ d.dz ∷ e.dx ∷ e.dy ∷ e.dz ∷ [], refl, two_read d e s t, refl, h)
 says_printed (FusionP d) h =
     let s : IsSmall d = near_small d h in
@@ -324,9 +315,9 @@ says_printed (FusionS d) h =
     let s : IsSmall d = near_small d h in
     says (printed (FusionS d)) (FusionS d) (plain_append (codes "FusionS") (spaced d) refl (plain_spaced d s)) refl (_, d.dx ∷ d.dy ∷ d.dz ∷ [], refl, one_read d s, refl, h)
 says_printed (Fission d m) h =
-    let near : IsTrue (is_near d) = left (is_near d) (nat_lt m 256) h in
+    let near : IsTrue (is_near d) = first_of_two (is_near d) (nat_lt m 256) h in
     let s : IsSmall d = near_small d near in
-    let l : m < 256 = below_256 m (right (is_near d) (nat_lt m 256) h) in
+    let l : m < 256 = below_256 m (second_of_two (is_near d) (nat_lt m 256) h) in
     says (printed (Fission d m)) (Fission d m) (plain_append ((codes "Fission" ++ spaced d) ++ 32 ∷ []) (decimal m) (plain_append (codes "Fission" ++ spaced d) (32 ∷ []) (plain_append (codes "Fission") (spaced d) refl (plain_spaced d s)) refl) (plain_decimal m l)) refl (_, d.dx ∷ d.dy ∷ d.dz ∷ pos m ∷ [], refl, number_too d m s l, refl, h)
 says_printed (Fill d) h =
     let s : IsSmall d = near_small d h in
@@ -335,12 +326,12 @@ says_printed (Void d) h =
     let s : IsSmall d = near_small d h in
     says (printed (Void d)) (Void d) (plain_append (codes "Void") (spaced d) refl (plain_spaced d s)) refl (_, d.dx ∷ d.dy ∷ d.dz ∷ [], refl, one_read d s, refl, h)
 says_printed (GFill d f) h =
-    let s : IsSmall d = near_small d (left (is_near d) (is_far f) h) in
-    let t : IsSmall f = far_small f (right (is_near d) (is_far f) h) in
+    let s : IsSmall d = near_small d (first_of_two (is_near d) (is_far f) h) in
+    let t : IsSmall f = far_small f (second_of_two (is_near d) (is_far f) h) in
     says (printed (GFill d f)) (GFill d f) (plain_append (codes "GFill" ++ spaced d) (spaced f) (plain_append (codes "GFill") (spaced d) refl (plain_spaced d s)) (plain_spaced f t)) refl (_, d.dx ∷ d.dy ∷ d.dz ∷ f.dx ∷ f.dy ∷ f.dz ∷ [], refl, two_read d f s t, refl, h)
 says_printed (GVoid d f) h =
-    let s : IsSmall d = near_small d (left (is_near d) (is_far f) h) in
-    let t : IsSmall f = far_small f (right (is_near d) (is_far f) h) in
+    let s : IsSmall d = near_small d (first_of_two (is_near d) (is_far f) h) in
+    let t : IsSmall f = far_small f (second_of_two (is_near d) (is_far f) h) in
     says (printed (GVoid d f)) (GVoid d f) (plain_append (codes "GVoid" ++ spaced d) (spaced f) (plain_append (codes "GVoid") (spaced d) refl (plain_spaced d s)) (plain_spaced f t)) refl (_, d.dx ∷ d.dy ∷ d.dz ∷ f.dx ∷ f.dy ∷ f.dz ∷ [], refl, two_read d f s t, refl, h)
 
 plain_printed : (c : Command) → IsCommand c → Plain (printed c)
@@ -348,20 +339,20 @@ plain_printed Halt h = refl
 plain_printed Wait h = refl
 plain_printed Flip h = refl
 plain_printed (SMove d) h = plain_append (codes "SMove") (spaced d) refl (plain_spaced d (long_small d h))
-plain_printed (LMove d e) h = plain_append (codes "LMove" ++ spaced d) (spaced e) (plain_append (codes "LMove") (spaced d) refl (plain_spaced d (short_small d (left (is_short d) (is_short e) h)))) (plain_spaced e (short_small e (right (is_short d) (is_short e) h)))
+plain_printed (LMove d e) h = plain_append (codes "LMove" ++ spaced d) (spaced e) (plain_append (codes "LMove") (spaced d) refl (plain_spaced d (short_small d (first_of_two (is_short d) (is_short e) h)))) (plain_spaced e (short_small e (second_of_two (is_short d) (is_short e) h)))
 plain_printed (FusionP d) h = plain_append (codes "FusionP") (spaced d) refl (plain_spaced d (near_small d h))
 plain_printed (FusionS d) h = plain_append (codes "FusionS") (spaced d) refl (plain_spaced d (near_small d h))
-plain_printed (Fission d m) h = plain_append ((codes "Fission" ++ spaced d) ++ 32 ∷ []) (decimal m) (plain_append (codes "Fission" ++ spaced d) (32 ∷ []) (plain_append (codes "Fission") (spaced d) refl (plain_spaced d (near_small d (left (is_near d) (nat_lt m 256) h)))) refl) (plain_decimal m (below_256 m (right (is_near d) (nat_lt m 256) h)))
+plain_printed (Fission d m) h = plain_append ((codes "Fission" ++ spaced d) ++ 32 ∷ []) (decimal m) (plain_append (codes "Fission" ++ spaced d) (32 ∷ []) (plain_append (codes "Fission") (spaced d) refl (plain_spaced d (near_small d (first_of_two (is_near d) (nat_lt m 256) h)))) refl) (plain_decimal m (below_256 m (second_of_two (is_near d) (nat_lt m 256) h)))
 plain_printed (Fill d) h = plain_append (codes "Fill") (spaced d) refl (plain_spaced d (near_small d h))
 plain_printed (Void d) h = plain_append (codes "Void") (spaced d) refl (plain_spaced d (near_small d h))
-plain_printed (GFill d f) h = plain_append (codes "GFill" ++ spaced d) (spaced f) (plain_append (codes "GFill") (spaced d) refl (plain_spaced d (near_small d (left (is_near d) (is_far f) h)))) (plain_spaced f (far_small f (right (is_near d) (is_far f) h)))
-plain_printed (GVoid d f) h = plain_append (codes "GVoid" ++ spaced d) (spaced f) (plain_append (codes "GVoid") (spaced d) refl (plain_spaced d (near_small d (left (is_near d) (is_far f) h)))) (plain_spaced f (far_small f (right (is_near d) (is_far f) h)))
+plain_printed (GFill d f) h = plain_append (codes "GFill" ++ spaced d) (spaced f) (plain_append (codes "GFill") (spaced d) refl (plain_spaced d (near_small d (first_of_two (is_near d) (is_far f) h)))) (plain_spaced f (far_small f (second_of_two (is_near d) (is_far f) h)))
+plain_printed (GVoid d f) h = plain_append (codes "GVoid" ++ spaced d) (spaced f) (plain_append (codes "GVoid") (spaced d) refl (plain_spaced d (near_small d (first_of_two (is_near d) (is_far f) h)))) (plain_spaced f (far_small f (second_of_two (is_near d) (is_far f) h)))
 
 -- ---- lines
 
 cut_after : (xs ys : List ℕ) → Plain xs → slice_split (λ b. b == 10) (xs ++ (10 ∷ ys)) ≡ xs ∷ slice_split (λ b. b == 10) ys
 cut_after [] ys h = refl
-cut_after (x ∷ xs) ys h = slice_split-cons_no (λ b. b == 10) x (xs ++ (10 ∷ ys)) (no_feed x (left (is_plain x) (list_all is_plain xs) h)) ∙ ap (onto_first x) (cut_after xs ys (right (is_plain x) (list_all is_plain xs) h))
+cut_after (x ∷ xs) ys h = slice_split-cons_no (λ b. b == 10) x (xs ++ (10 ∷ ys)) (no_feed x (first_of_two (is_plain x) (list_all is_plain xs) h)) ∙ ap (onto_first x) (cut_after xs ys (second_of_two (is_plain x) (list_all is_plain xs) h))
 
 cut_printed : (cs : List Command) → AreCommands cs → slice_split (λ b. b == 10) (print cs) ≡ map printed cs ++ [] ∷ []
 cut_printed [] h = refl

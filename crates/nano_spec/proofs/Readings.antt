@@ -4,10 +4,12 @@ use Rattle.std.specs.Prelude.{IsTrue, ◌==◌, ◌⊎◌, flat_map, find, take_
 use Rattle.std.specs.List.{list_all}
 use Rattle.std.specs.Str.{bytes_eq}
 use Rattle.std.proofs.lemmas.Bool.Decides.{nat_tests}
+use Rattle.vox_geom.proofs.Truths.{first_of_two, second_of_two}
+use Rattle.vox_geom.proofs.Tests.{equal_by_test}
+use Rattle.vox_geom.proofs.Sums.{append_none}
 use Rattle.nano_spec.specs.First.{HasOneAtMost}
 use Rattle.nano_spec.specs.Line.{word_of}
 use Rattle.nano_spec.specs.LineForm.{is_blank, is_digit, Part, Blanks, Mark, Number, Word, words, is_letter, after_blanks, Read, digits, negative, numbers, readings}
-use Rattle.nano_spec.proofs.Grounding.{left, right}
 
 -- whether a form can't begin with a blank
 abbrev pub is_sharp : List Part → Bool
@@ -40,9 +42,6 @@ blank_is b h = by (b == 32) refl
         nine : IsTrue (b == 9) → b ≡ 9
         nine k = grind (arith, nat_tests)
 
-same_mark : (b m : ℕ) → (b == m) ≡ true → b ≡ m
-same_mark b m e = grind (arith, nat_tests)
-
 no_mark : (test : ℕ → Bool) (b m : ℕ) (A : Type 0) (xs : List A) → IsTrue (test b) → IsTrue (not (test m)) → cond (b == m) xs [] ≡ []
 no_mark test b m A xs h k = by (b == m) refl
   where
@@ -51,7 +50,7 @@ no_mark test b m A xs h k = by (b == m) refl
     contrary false p q = cc
 
     by : (t : Bool) → (b == m) ≡ t → cond t xs [] ≡ []
-    by true e = absurd (contrary (test m) (subst (λ (v : ℕ). IsTrue (test v)) (same_mark b m e) h) k)
+    by true e = absurd (contrary (test m) (subst (λ (v : ℕ). IsTrue (test v)) (equal_by_test b m e) h) k)
     by false e = refl
 
 no_number : (ps : List Part) (b : ℕ) (more : List ℕ) → (b ≡ 32) ⊎ (b ≡ 9) → readings (Number ∷ ps) (b ∷ more) ≡ []
@@ -82,14 +81,10 @@ no_both b h = by (is_blank b) refl
     by true e = absurd (none (blank_is b e))
     by false e = e
 
-append_nil : {A : Type 0} (xs : List A) → xs ++ [] ≡ xs
-append_nil [] = refl
-append_nil (x ∷ xs) = λ i. x ∷ append_nil xs i
-
 -- a free form reads no line that begins with a digit
 no_digit : (ps : List Part) (b : ℕ) (more : List ℕ) → IsTrue (is_free ps) → IsTrue (is_digit b) → readings ps (b ∷ more) ≡ []
 no_digit [] b more h k = refl
-no_digit (Blanks ∷ ps) b more h k = let e : is_blank b ≡ false = no_both b k in rw e (append_nil (readings ps (b ∷ more)) ∙ no_digit ps b more h k)
+no_digit (Blanks ∷ ps) b more h k = let e : is_blank b ≡ false = no_both b k in rw e (append_none (readings ps (b ∷ more)) ∙ no_digit ps b more h k)
 no_digit (Mark m ∷ ps) b more h k = no_mark is_digit b m (List ℤ) (readings ps more) k h
 no_digit (Number ∷ ps) b more h k = cc
 
@@ -98,7 +93,7 @@ one_of_none [] ys e h = h
 one_of_none (x ∷ xs) ys e h = cc
 
 one_and_none : {A : Type 0} (xs ys : List A) → ys ≡ [] → HasOneAtMost xs → HasOneAtMost (xs ++ ys)
-one_and_none xs [] e h = subst HasOneAtMost (sym (append_nil xs)) h
+one_and_none xs [] e h = subst HasOneAtMost (sym (append_none xs)) h
 one_and_none xs (y ∷ ys) e h = cc
 
 one_mapped : {A B : Type 0} (f : A → B) (xs : List A) → HasOneAtMost xs → HasOneAtMost (map f xs)
@@ -158,22 +153,22 @@ one_after_number ps (b ∷ more) h one = by (b == 45)
 pub one_reading : (ps : List Part) → IsTrue (is_clear ps) → (line : List ℕ) → HasOneAtMost (readings ps line)
 one_reading [] h [] = tt
 one_reading [] h (b ∷ more) = tt
-one_reading (Blanks ∷ ps) h line = one_after_blanks ps line (left (is_sharp ps) (is_clear ps) h) (one_reading ps (right (is_sharp ps) (is_clear ps) h))
+one_reading (Blanks ∷ ps) h line = one_after_blanks ps line (first_of_two (is_sharp ps) (is_clear ps) h) (one_reading ps (second_of_two (is_sharp ps) (is_clear ps) h))
 one_reading (Mark m ∷ ps) h [] = tt
 one_reading (Mark m ∷ ps) h (b ∷ more) = by (b == m) (one_reading ps h more)
   where
     by : (t : Bool) → HasOneAtMost (readings ps more) → HasOneAtMost (cond t (readings ps more) [])
     by true later = later
     by false later = tt
-one_reading (Number ∷ ps) h line = one_after_number ps line (left (is_free ps) (is_clear ps) h) (one_reading ps (right (is_free ps) (is_clear ps) h))
+one_reading (Number ∷ ps) h line = one_after_number ps line (first_of_two (is_free ps) (is_clear ps) h) (one_reading ps (second_of_two (is_free ps) (is_clear ps) h))
 
 -- what all have, the one that is found has
 found_has : {A : Type 0} (test has : A → Bool) (xs : List A) (x : A) → IsTrue (list_all has xs) → find test xs ≡ Some x → IsTrue (has x)
 found_has test has [] x h e = cc
-found_has test has (y ∷ ys) x h e = by (test y) e (found_has test has ys x (right (has y) (list_all has ys) h))
+found_has test has (y ∷ ys) x h e = by (test y) e (found_has test has ys x (second_of_two (has y) (list_all has ys) h))
   where
     by : (t : Bool) → cond t (Some y) (find test ys) ≡ Some x → (find test ys ≡ Some x → IsTrue (has x)) → IsTrue (has x)
-    by true f later = let same : y ≡ x = cc in subst (λ z. IsTrue (has z)) same (left (has y) (list_all has ys) h)
+    by true f later = let same : y ≡ x = cc in subst (λ z. IsTrue (has z)) same (first_of_two (has y) (list_all has ys) h)
     by false f later = later f
 
 all_clear : IsTrue (list_all (λ w. is_clear w.form) words)

@@ -2,6 +2,7 @@
 use Rattle.std.proofs.Common.{◌≡◌, ℕ, zero, suc, List, [], ◌∷◌, length}
 use Rattle.std.specs.Prelude.{Some, None, Result, Ok, Err, IsTrue}
 use Rattle.std.specs.List.{list_all}
+use Rattle.vox_geom.proofs.Truths.{first_of_two, second_of_two}
 use Rattle.nano_spec.specs.declared.commands.Command.{Command}
 use Rattle.nano_spec.specs.declared.outcomes.Verdict.{Verdict}
 use Rattle.nano_spec.specs.declared.system.Profile.{Profile}
@@ -13,12 +14,11 @@ use Rattle.nano_spec.specs.Spelling.{spellings}
 use Rattle.nano_spec.specs.State.{opening}
 use Rattle.nano_spec.specs.Worked.{Runs}
 use Rattle.nano_spec.proofs.Decoder.{decoded}
-use Rattle.nano_spec.proofs.Grounding.{left, right}
 use Rattle.nano_spec.proofs.Simulation.{simulated, run_by, legality, legality_is}
 
 pub are_commands : (cs : List Command) → IsTrue (list_all is_command cs) → AreCommands cs
 are_commands [] h = tt
-are_commands (c ∷ cs) h = (left (is_command c) (list_all is_command cs) h, are_commands cs (right (is_command c) (list_all is_command cs) h))
+are_commands (c ∷ cs) h = (first_of_two (is_command c) (list_all is_command cs) h, are_commands cs (second_of_two (is_command c) (list_all is_command cs) h))
 
 -- the matrix of a model that was read
 abbrev pub matrix_in : Result Matrix NoModel → Matrix

@@ -1,8 +1,9 @@
 -- Worked examples of states: of each that is not well-formed or not ready, what speaks against it.
-use Rattle.std.proofs.Common.{◌≡◌, ℕ, ◌<◌, refl, arith, Bool, true, false, [], ◌∷◌, get_or}
-use Rattle.std.specs.Prelude.{IsTrue, IsFalse, Some, None}
+use Rattle.std.proofs.Common.{◌≡◌, ℕ, ◌<◌, refl, arith, true, [], ◌∷◌, get_or}
+use Rattle.std.specs.Prelude.{IsFalse, Some, None}
 use Rattle.vox_geom.specs.declared.coordinate.Coord.{Coord}
 use Rattle.vox_geom.specs.Point.{coord}
+use Rattle.vox_geom.proofs.Truths.{true_and_false}
 use Rattle.nano_spec.specs.declared.system.Bot.{Bot}
 use Rattle.nano_spec.specs.declared.system.Harmonics.TheVariants.{Low, High}
 use Rattle.nano_spec.specs.Matrix.{is_full}
@@ -24,10 +25,6 @@ not_low e = cc
 none_floats : (c : Coord) → None ≡ Some c → ⊥
 none_floats c e = cc
 
-both : (b : Bool) → IsTrue b → IsFalse b → ⊥
-both true t f = cc
-both false t f = cc
-
 not_below_itself : (n : ℕ) → n < n → ⊥
 not_below_itself n h = omega arith
 
@@ -42,15 +39,15 @@ worked_states = record {
   floating_under_low = λ h. none_floats (coord 1 1 1) (FirstUngrounded-unique (voxels_at 3 (coord 1 1 1 ∷ [])) None (Some (coord 1 1 1)) (h.grounded refl) (ungrounded_is 6 (voxels_at 3 (coord 1 1 1 ∷ [])) (coord 1 1 1) refl));
   one_bid_twice = λ h. h.bids 0 1 nobody (omega arith) (omega arith) refl;
   one_place_twice = λ h. h.positions 0 1 nobody (omega arith) (omega arith) refl;
-  a_bot_in_a_voxel = λ h. both true refl (h.void 0 nobody (omega arith));
-  one_seed_twice = λ h. both true refl (h.seeds 0 1 nobody (omega arith) (omega arith) 5 refl);
-  a_seed_is_active = λ h. both true refl (h.unborn 0 nobody (omega arith) 1 nobody (omega arith));
+  a_bot_in_a_voxel = λ h. true_and_false true refl (h.void 0 nobody (omega arith));
+  one_seed_twice = λ h. true_and_false true refl (h.seeds 0 1 nobody (omega arith) (omega arith) 5 refl);
+  a_seed_is_active = λ h. true_and_false true refl (h.unborn 0 nobody (omega arith) 1 nobody (omega arith));
   no_voxels = λ h. none_or_27 0 refl h.whole;
   a_bot_outside = λ h. not_below_itself 3 (h.within 0 nobody (omega arith)).z;
   bids_that_fall = λ h. falls (h.rising 0 1 nobody (omega arith) (omega arith));
   one_ready_place_twice = λ h. h.positions 0 1 nobody (omega arith) (omega arith) refl;
-  one_ready_seed_twice = λ h. both true refl (h.seeds 0 1 nobody (omega arith) (omega arith) 5 refl);
-  a_ready_seed_is_active = λ h. both true refl (h.unborn 0 nobody (omega arith) 1 nobody (omega arith));
+  one_ready_seed_twice = λ h. true_and_false true refl (h.seeds 0 1 nobody (omega arith) (omega arith) 5 refl);
+  a_ready_seed_is_active = λ h. true_and_false true refl (h.unborn 0 nobody (omega arith) 1 nobody (omega arith));
 }
 
 pub floating_under_high : FloatingUnderHigh

@@ -1,9 +1,11 @@
 -- A model that bytes say has a resolution of 1 to 400 and a voxel for each coordinate.
-use Rattle.std.proofs.Common.{◌≡◌, ℕ, zero, suc, ◌+◌, ◌*◌, ◌≤◌, refl, sym, ◌∙◌, ap, subst, arith, Bool, true, false, ◌&&◌, not, ◌==◌, List, [], ◌∷◌, ◌++◌, length, length-append, map, replicate}
+use Rattle.std.proofs.Common.{◌≡◌, ℕ, ◌+◌, ◌*◌, ◌≤◌, refl, sym, ◌∙◌, ap, subst, arith, Bool, true, false, ◌&&◌, not, ◌==◌, List, [], ◌∷◌, ◌++◌, length, length-append, map, replicate}
 use Rattle.std.specs.Prelude.{Result, Ok, Err, nat_le, nat_lt}
 use Rattle.std.proofs.lemmas.Bool.Decides.{nat_tests}
 use Rattle.std.proofs.lemmas.List.{length-map, length-replicate}
-use Rattle.vox_geom.specs.Space.{numbers_below, numbers_from}
+use Rattle.vox_geom.specs.Space.{numbers_below}
+use Rattle.vox_geom.proofs.Tests.{between_by_tests}
+use Rattle.vox_geom.proofs.Sums.{numbers_length}
 use Rattle.nano_spec.specs.Matrix.{Matrix}
 use Rattle.nano_spec.specs.Model.{NoModel, Resolution, Short, Long, WideResolution, WideRun, WideShort, WideLong, first_form, is_no_run, model, number_of_four, of_runs, runs_in, volume, voxel_bit, voxels_of, wanted, wide_form, wide_model, with_run}
 
@@ -17,13 +19,6 @@ is_ok : {A E : Type 0} {a b : A} → ◌≡◌ {A = Result A E} (Ok a) (Ok b) �
 is_ok h = cc
 
 -- ---- the first form
-
-numbers_length : (a n : ℕ) → length (numbers_from a n) ≡ n
-numbers_length a zero = refl
-numbers_length a (suc n) = ap (λ k. suc k) (numbers_length (a + 1) n)
-
-in_limits : (r low high : ℕ) → (nat_le low r && nat_le r high) ≡ true → (low ≤ r) × (r ≤ high)
-in_limits r low high h = grind (arith, nat_tests)
 
 first_whole : (r : ℕ) (bytes : List ℕ) (m : Matrix) → first_form r bytes ≡ Ok m → IsWhole m
 first_whole r bytes m h = by (nat_le 1 r && nat_le r 250) (nat_lt (length bytes) (wanted r)) (nat_lt (wanted r) (length bytes)) refl h
@@ -46,7 +41,7 @@ first_whole r bytes m h = by (nat_le 1 r && nat_le r 250) (nat_lt (length bytes)
     by true true c e k = cc
     by true false true e k = cc
     by true false false e k =
-        let l = in_limits r 1 250 e in
+        let l = between_by_tests r 1 250 e in
         subst (λ (n : Matrix). IsWhole n) (is_ok k) (record {
           some = l.0;
           most = omega (arith, l.1);
@@ -112,7 +107,7 @@ wide_whole r bytes m h = by (nat_le 251 r && nat_le r 400) (runs_in (volume r) 0
     by true (Ok runs) e f k =
         let s : 0 + sum_of runs ≡ volume r = runs_sum bytes (volume r) 0 0 runs (omega arith) f in
         let g : length (voxels_of false runs) ≡ sum_of runs = voxels_length false runs in
-        let l = in_limits r 251 400 e in
+        let l = between_by_tests r 251 400 e in
         subst (λ (n : Matrix). IsWhole n) (is_ok k) (record { some = omega (arith, l.0); most = l.1; whole = g ∙ (let t : sum_of runs ≡ volume r = omega arith in t) })
 
 form_whole : (bytes : List ℕ) (m : Matrix) → wide_form bytes ≡ Ok m → IsWhole m

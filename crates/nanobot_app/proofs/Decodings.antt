@@ -8,6 +8,7 @@ use Rattle.std.proofs.lemmas.List.{length-append}
 use Rattle.std.proofs.lemmas.Slice.Eq.{bytes_eq-Decides}
 use Rattle.vox_geom.specs.declared.difference.Diff.{Diff}
 use Rattle.vox_geom.specs.Difference.{IsFar, IsLong, IsNear, IsShort, is_far, is_near, is_short}
+use Rattle.vox_geom.proofs.Truths.{first_of_two, second_of_two}
 use Rattle.nano_spec.specs.declared.commands.Command.{Command}
 use Rattle.nano_spec.specs.declared.commands.Command.TheVariants.{Fill, Fission, Flip, FusionP, FusionS, GFill, GVoid, Halt, LMove, SMove, Void, Wait}
 use Rattle.nano_spec.specs.Command.{IsCommand, is_command}
@@ -15,7 +16,6 @@ use Rattle.nano_spec.specs.Cutting.{AreCommands, BadAt, BeginsSpelling, CutAt, D
 use Rattle.nano_spec.specs.Spelling.{component, far_bytes, near_code, spelling, spellings}
 use Rattle.nano_spec.proofs.Codes.{far_bounds, linear, near_code_below, raised_small}
 use Rattle.nano_spec.proofs.Decoder.{Got, decoded, decoded-spelling, long_is, short_is}
-use Rattle.nano_spec.proofs.Grounding.{left, right}
 use Rattle.nano_spec.proofs.Lengths.{spelling_short, spelling_some}
 use Rattle.nano_spec.proofs.Traces.{one_spelling}
 
@@ -141,14 +141,14 @@ are_bytes Halt h = (omega arith, tt)
 are_bytes Wait h = (omega arith, tt)
 are_bytes Flip h = (omega arith, tt)
 are_bytes (SMove d) h = long_are d h
-are_bytes (LMove d e) h = short_are d e (left (is_short d) (is_short e) h) (right (is_short d) (is_short e) h)
+are_bytes (LMove d e) h = short_are d e (first_of_two (is_short d) (is_short e) h) (second_of_two (is_short d) (is_short e) h)
 are_bytes (FusionP d) h = (near_byte 7 d (omega arith) h, tt)
 are_bytes (FusionS d) h = (near_byte 6 d (omega arith) h, tt)
-are_bytes (Fission d m) h = (near_byte 5 d (omega arith) (left (is_near d) (nat_lt m 256) h), (byte_of m (right (is_near d) (nat_lt m 256) h), tt))
+are_bytes (Fission d m) h = (near_byte 5 d (omega arith) (first_of_two (is_near d) (nat_lt m 256) h), (byte_of m (second_of_two (is_near d) (nat_lt m 256) h), tt))
 are_bytes (Fill d) h = (near_byte 3 d (omega arith) h, tt)
 are_bytes (Void d) h = (near_byte 2 d (omega arith) h, tt)
-are_bytes (GFill d f) h = (near_byte 1 d (omega arith) (left (is_near d) (is_far f) h), far_are f (right (is_near d) (is_far f) h))
-are_bytes (GVoid d f) h = (near_byte 0 d (omega arith) (left (is_near d) (is_far f) h), far_are f (right (is_near d) (is_far f) h))
+are_bytes (GFill d f) h = (near_byte 1 d (omega arith) (first_of_two (is_near d) (is_far f) h), far_are f (second_of_two (is_near d) (is_far f) h))
+are_bytes (GVoid d f) h = (near_byte 0 d (omega arith) (first_of_two (is_near d) (is_far f) h), far_are f (second_of_two (is_near d) (is_far f) h))
 
 back_are : (xs ys : List ℕ) → AreBytes (xs ++ ys) → AreBytes ys
 back_are [] ys h = h

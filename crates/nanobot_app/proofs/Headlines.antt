@@ -4,6 +4,7 @@ use Rattle.std.specs.Prelude.{ℤ, Result, Ok, Err, MatchOption, MatchBool, IfSo
 use Rattle.std.specs.Io.KnownBytes.{append_known}
 use Rattle.std.proofs.lemmas.Bool.Decides.{nat_tests}
 use Rattle.std.proofs.lemmas.List.{append_cancel_left}
+use Rattle.vox_geom.proofs.Tests.{equal_by_test, not_less_by_test, test_not_less}
 use Rattle.nano_spec.specs.declared.commands.Command.{Command}
 use Rattle.nano_spec.specs.declared.outcomes.Verdict.{Verdict}
 use Rattle.nano_spec.specs.declared.outcomes.Verdict.TheVariants as verdict
@@ -28,7 +29,6 @@ use Rattle.nanobot_rows.specs.Reading.{AreBoth, HasSide, no_such_file, reply_of}
 use Rattle.nanobot_rows.specs.Lines.{accepted_line}
 use Rattle.nanobot_rows.specs.Report.{status_of}
 use Rattle.nanobot_words.specs.Rows.{HasName, Row, run, MakesPlans, IsRow, IsRunOf}
-use Rattle.nanobot_rows.proofs.Loads.{not_longer}
 use Rattle.nanobot_app.proofs.Determined.{AnswerLaw, RowLaw, StatusLaw, complete}
 use Rattle.nanobot_rows.proofs.Replies.{models_given, models_of, verdict_reply}
 use Rattle.nanobot_rows.proofs.Told.{if_some, weaker}
@@ -42,7 +42,7 @@ taken files source target trace energy steps h = by (content files trace) h
     of_bytes : (bytes : List ℕ) → TakesBytes source target bytes energy steps → OfTrace run_limit files bytes (OfRun full_profile files source target) (reply_of files (report.Accepted energy steps))
     of_bytes bytes t =
         subst (λ b. MatchBool b (reply_of files (report.Accepted energy steps) ≡ reply_of files (report.TraceLong run_limit)) ((d : Result (List Command) NoTrace) × Decoding bytes d × OfDecoding files d (OfRun full_profile files source target) (reply_of files (report.Accepted energy steps))))
-        (sym (not_longer run_limit (length bytes) t.0))
+        (sym (test_not_less run_limit (length bytes) t.0))
         (Ok t.1.0, t.1.1, (verdict.Accepted energy steps, t.1.2, refl))
 
     by : (o : Option (List ℕ)) → IsSomeAnd o (λ bytes. TakesBytes source target bytes energy steps) → MatchOption o (reply_of files (report.Accepted energy steps) ≡ no_such_file files) (λ bytes. OfTrace run_limit files bytes (OfRun full_profile files source target) (reply_of files (report.Accepted energy steps)))
@@ -84,9 +84,6 @@ done_side : (w : Who) (files : Files) (name : Option (List ℕ)) (p : Option Mat
 done_side w files None p reply done h = (None, tt, h)
 done_side w files (Some name) p reply done h = let m = done_model w files name (λ m. p (Some m)) reply done h in (Some m.0, m.1, m.2)
 
-same_number : (a b : ℕ) → (a == b) ≡ true → a ≡ b
-same_number a b e = grind (arith, nat_tests)
-
 done_both : (files : Files) (a b : Option Matrix) (p : Matrix → Matrix → Reply → Type 0) (reply : Reply) → reply.status ≡ is.Done → WithBoth files a b p reply → (s : Matrix) × (t : Matrix) × AreBoth a b s t × p s t reply
 done_both files None None p reply done h = absurd h
 done_both files (Some a) None p reply done h = (a, empty a.resolution, (refl, refl), h)
@@ -94,7 +91,7 @@ done_both files None (Some b) p reply done h = (empty b.resolution, b, (refl, re
 done_both files (Some a) (Some b) p reply done h = by (a.resolution == b.resolution) refl h
   where
     by : (t : Bool) → (a.resolution == b.resolution) ≡ t → MatchBool t (p a b reply) (reply ≡ reply_of files (report.Resolutions a.resolution b.resolution)) → (s : Matrix) × (u : Matrix) × ((s ≡ a) × (u ≡ b) × (a.resolution ≡ b.resolution)) × p s u reply
-    by true e h = (a, b, (refl, refl, same_number a.resolution b.resolution e), h)
+    by true e h = (a, b, (refl, refl, equal_by_test a.resolution b.resolution e), h)
     by false e h = absurd (let no = other files (report.Resolutions a.resolution b.resolution) reply h done in cc)
 
 -- of a source and a target that are answered so one has a file
@@ -114,9 +111,6 @@ done_models files source target p reply done h =
 accepted : (files : Files) (v : Verdict) (reply : Reply) → reply ≡ verdict_reply files v → reply.status ≡ is.Done → (energy : ℤ) × (steps : ℕ) × (v ≡ verdict.Accepted energy steps)
 accepted files (verdict.Accepted energy steps) reply e done = (energy, steps, refl)
 accepted files (verdict.Refused broken) reply e done = absurd (let no = other files (report.Broken broken) reply e done in cc)
-
-pub longer_not : (limit size : ℕ) → nat_lt limit size ≡ false → size ≤ limit
-longer_not limit size e = grind (arith, nat_tests)
 
 module _ (files : Files) (source target : Matrix) (reply : Reply) (done : reply.status ≡ is.Done) where
   abbrev Found : List ℕ → Type 0
@@ -138,7 +132,7 @@ module _ (files : Files) (source target : Matrix) (reply : Reply) (done : reply.
     where
       of_bytes : (bytes : List ℕ) (t : Bool) → nat_lt run_limit (length bytes) ≡ t → MatchBool t (reply ≡ reply_of files (report.TraceLong run_limit)) ((d : Result (List Command) NoTrace) × Decoding bytes d × OfDecoding files d (OfRun full_profile files source target) reply) → Found bytes
       of_bytes bytes true e h = absurd (let no = other files (report.TraceLong run_limit) reply h done in cc)
-      of_bytes bytes false e h = done_decoding bytes h.0 (longer_not run_limit (length bytes) e) h.1 h.2
+      of_bytes bytes false e h = done_decoding bytes h.0 (not_less_by_test run_limit (length bytes) e) h.1 h.2
 
       by : (o : Option (List ℕ)) → MatchOption o (reply ≡ no_such_file files) (λ bytes. OfTrace run_limit files bytes (OfRun full_profile files source target) reply)
           → (energy : ℤ) × (steps : ℕ) × IsSomeAnd o (λ bytes. TakesBytes source target bytes energy steps) × (reply ≡ reply_of files (report.Accepted energy steps))

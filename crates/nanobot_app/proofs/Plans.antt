@@ -7,6 +7,7 @@ use Rattle.std.proofs.lemmas.Cmp.{nat_list_cmp_total}
 use Rattle.std.proofs.lemmas.Map.Text.{is_eq-slice_cmp}
 use Rattle.std.proofs.lemmas.Slice.Eq.{bytes_eq-Decides}
 use Rattle.vox_geom.specs.declared.coordinate.Coord.{Coord}
+use Rattle.vox_geom.proofs.Tests.{not_less_by_test, test_not_less}
 use Rattle.nano_spec.specs.declared.commands.Command.{Command}
 use Rattle.nano_spec.specs.declared.system.Profile.{Profile}
 use Rattle.nano_spec.specs.declared.outcomes.Verdict.TheVariants.{Accepted}
@@ -32,8 +33,7 @@ use Rattle.nanobot_words.specs.Rows.{HasName, plan_group, plan_layer, plan_low, 
 use Rattle.low_planner.proofs.Builds.{full_most}
 use Rattle.nanobot_app.proofs.Lengths.{few_commands, four_each, low_fits, swarm_fits, two_each, void_fits}
 use Rattle.nanobot_rows.proofs.Stored.{nothing_here}
-use Rattle.nanobot_app.proofs.Headlines.{done_models, longer_not, named_of}
-use Rattle.nanobot_rows.proofs.Loads.{not_longer}
+use Rattle.nanobot_app.proofs.Headlines.{done_models, named_of}
 use Rattle.nanobot_rows.proofs.Replies.{models_given}
 
 -- ---- the files after one was stored
@@ -77,7 +77,7 @@ runs_through profile files source target trace s t commands energy steps named m
     let bytes = spellings commands in
     models_given files source target _ named s t reply models
     (subst (λ (o : Option (List ℕ)). MatchOption o (reply ≡ no_such_file files) (λ bytes. OfTrace run_limit files bytes (OfRun profile files s t) reply)) (sym there)
-    (subst (λ (b : Bool). MatchBool b (reply ≡ reply_of files (report.TraceLong run_limit)) ((d : Result (List Command) NoTrace) × Decoding bytes d × OfDecoding files d (OfRun profile files s t) reply)) (sym (not_longer run_limit (length bytes) size))
+    (subst (λ (b : Bool). MatchBool b (reply ≡ reply_of files (report.TraceLong run_limit)) ((d : Result (List Command) NoTrace) × Decoding bytes d × OfDecoding files d (OfRun profile files s t) reply)) (sym (test_not_less run_limit (length bytes) size))
     (Ok commands, (are, refl), (Accepted energy steps, accepted, refl))))
 
 module _ (law : MostLaw) where
@@ -127,7 +127,7 @@ module _ (law : MostLaw) where
       where
         by : (b : Bool) → nat_lt group_limit (most_bytes s t) ≡ b → MatchBool b (IsReply is.Model (group_long_line (runs s + runs t) (rows s + rows t)) files reply) (OfPlan IsGroupPlan trace files s t reply) → (most_bytes s t ≤ group_limit) × OfPlan IsGroupPlan trace files s t reply
         by true e h = absurd (let no : is.Model ≡ is.Done = sym (ap (λ (x : Reply). x.status) h) ∙ done in cc)
-        by false e h = (longer_not group_limit (most_bytes s t) e, h)
+        by false e h = (not_less_by_test group_limit (most_bytes s t) e, h)
 
     pub group_is_accepted : (reply : Reply) → AnswerOf (plan_group source target trace) files reply → reply.status ≡ is.Done → IsRunOfPlan full_profile source target trace reply
     group_is_accepted reply answer done =

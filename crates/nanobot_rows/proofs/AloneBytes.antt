@@ -35,10 +35,6 @@ goes_got got all bad push old d next r new piece command used still began ended 
 
 -- ---- many commands, and then another
 
-pub still_alone : (alone : Bool) → not alone ≡ false → alone ≡ true
-still_alone true e = refl
-still_alone false e = cc
-
 pub further : (s t u : RunState) (piece : List ℕ) (at n : ℕ) (went : Went) (i j k : ℕ) → at ≤ length piece → n ≡ went.used → Takes s (take at piece) t i j
     → WentOn t (take (length piece - at) (drop at piece)) went u j k → TakesUpTo s piece (at + n) u i k
 further s t u piece at n went i j k l e a g =

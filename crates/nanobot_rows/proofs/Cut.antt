@@ -7,6 +7,7 @@ use Rattle.std.proofs.lemmas.Bool.{cases_lt}
 use Rattle.std.proofs.Math.Nat.{mul-le-mul}
 use Rattle.nano_spec.specs.Matrix.{Matrix}
 use Rattle.vox_geom.specs.Space.{numbers_below}
+use Rattle.vox_geom.proofs.Tests.{test_less}
 use Rattle.nano_spec.specs.Model.{NoModel, Long, Resolution, Short, WideLong, WideResolution, WideRun, WideShort, model, first_form, is_no_run, number_of_four, of_runs, runs_in, volume, voxel_bit, wanted, wide_form, wide_model, with_run}
 
 -- ---- choices
@@ -79,9 +80,6 @@ wide_same r n runs h l =
 
 -- ---- the first form
 
-less : (n m : ℕ) → n < m → nat_lt n m ≡ true
-less n m h = grind (arith, nat_tests)
-
 abbrev sized : ℕ → List ℕ → Result Matrix NoModel
 sized r bytes = choose (Err (Short (wanted r) (length bytes))) (choose (Err (Long (wanted r))) (Ok (record { resolution = r; voxels = map (voxel_bit bytes) (numbers_below (volume r)) })) (nat_lt (wanted r) (length bytes))) (nat_lt (length bytes) (wanted r))
 
@@ -89,7 +87,7 @@ long : (r : ℕ) (bytes : List ℕ) → wanted r < length bytes → sized r byte
 long r bytes h =
     let read : Result Matrix NoModel = Ok (record { resolution = r; voxels = map (voxel_bit bytes) (numbers_below (volume r)) }) in
     ap (choose (Err (Short (wanted r) (length bytes))) (choose (Err (Long (wanted r))) read (nat_lt (wanted r) (length bytes)))) (full (wanted r) (length bytes) (omega arith))
-    ∙ ap (choose (Err (Long (wanted r))) read) (less (wanted r) (length bytes) h)
+    ∙ ap (choose (Err (Long (wanted r))) read) (test_less (wanted r) (length bytes) h)
 
 first_form_same : (r : ℕ) (xs ys : List ℕ) → 2000000 < length xs → 2000000 < length ys → first_form r xs ≡ first_form r ys
 first_form_same r xs ys h k =

@@ -1,6 +1,7 @@
 -- The answers of `debug`, by what was found in the files.
 use Rattle.std.proofs.Common.{◌≡◌, ℕ, ◌≤◌, List, length, sym, ap, subst, Bool, true, false, nat_lt}
 use Rattle.std.specs.Prelude.{Option, Result, Ok, Err, MatchBool, IfSome}
+use Rattle.vox_geom.proofs.Tests.{test_not_less}
 use Rattle.nano_spec.specs.declared.commands.Command.{Command}
 use Rattle.nano_spec.specs.Matrix.{Matrix}
 use Rattle.nano_spec.specs.Reading.{FaultyLine}
@@ -20,7 +21,6 @@ use Rattle.nanobot_rows.specs.Answer.{AnswerOf, Answers, OfLines, OfScript, OfSe
 use Rattle.nanobot_rows.specs.Effects.{EndsStored, reply_by}
 use Rattle.nanobot_rows.specs.Models.{IsModelOf}
 use Rattle.nanobot_rows.specs.Reading.{IsScriptOf, IsTraceOf, Lacks, Reads, RefusesFile, RefusesLines, RefusesScript, RefusesTrace, reply_of}
-use Rattle.nanobot_rows.proofs.Loads.{not_longer}
 use Rattle.nanobot_rows.proofs.Replies.{both_told, model_given, model_lacks, model_refused, reply_told, rose_since, stops}
 use Rattle.nanobot_rows.proofs.Stored.{file_lacks, of_file, trace_given, trace_refused}
 use Rattle.nanobot_rows.proofs.Told.{if_some, weaker}
@@ -30,7 +30,7 @@ use Rattle.nanobot_rows.proofs.Told.{if_some, weaker}
 module _ (files : Files) (name : List ℕ) (r : ℕ) (p : List DebugLine → Reply → Type 0) where
   pub script_given : (script : List ScriptLine) (reply : Reply) → IsScriptOf files name r script → p (lines_are script) reply → WithFile files name (λ bytes. OfScript r files bytes p) reply
   script_given script reply is h = of_file files name (λ bytes. (length bytes ≤ script_limit) × ScriptSays r bytes (Ok (lines_are script))) (λ bytes. OfScript r files bytes p) reply (λ bytes g.
-      subst (λ b. MatchBool b (reply ≡ reply_of files (report.TextLong script_limit)) ((said : Result (List DebugLine) FaultyLine) × ScriptSays r bytes said × OfLines files said p reply)) (sym (not_longer script_limit (length bytes) g.0))
+      subst (λ b. MatchBool b (reply ≡ reply_of files (report.TextLong script_limit)) ((said : Result (List DebugLine) FaultyLine) × ScriptSays r bytes said × OfLines files said p reply)) (sym (test_not_less script_limit (length bytes) g.0))
       (Ok (lines_are script), g.1, h)) is
 
   pub script_refused : (told : Report) → RefusesScript name r files told → WithFile files name (λ bytes. OfScript r files bytes p) (reply_of files told)

@@ -3,6 +3,7 @@ use Rattle.std.proofs.Common.{◌≡◌, ℕ, ◌+◌, ◌<◌, ◌≤◌, ◌�
 use Rattle.std.specs.Prelude.{Option, Result, Ok, Err, MatchBool, IfSome}
 use Rattle.std.proofs.lemmas.Bool.Decides.{nat_tests}
 use Rattle.std.proofs.lemmas.List.{length-append, length-take, take_all}
+use Rattle.vox_geom.proofs.Tests.{test_less, test_not_less}
 use Rattle.nano_spec.specs.declared.commands.Command.{Command}
 use Rattle.nano_spec.specs.Spelling.{spelling, spellings}
 use Rattle.nano_spec.specs.Cutting.{BadAt, CutAt, Cutting, Decoding, NoTrace}
@@ -30,15 +31,9 @@ use Rattle.nanobot_rows.specs.Lines.{trace_line}
 use Rattle.nanobot_rows.proofs.Told.{told_weaker}
 use Rattle.nano_spec.proofs.Lengths.{spelling_some}
 
-longer : (limit size : ℕ) → limit < size → nat_lt limit size ≡ true
-longer limit size h = grind (arith, nat_tests)
-
-pub not_longer : (limit size : ℕ) → size ≤ limit → nat_lt limit size ≡ false
-not_longer limit size h = grind (arith, nat_tests)
-
 module _ (told : Option Files) (name v : List ℕ) (limit most : ℕ) (one_more : most ≡ limit + 1) (loaded : IfTold told name (λ file. v ≡ take most file)) where
   too_long : limit < length v → IfTold told name (λ file. nat_lt limit (length file) ≡ true)
-  too_long l = told_weaker told name _ _ (λ file e. longer limit (length file) (more file e)) loaded
+  too_long l = told_weaker told name _ _ (λ file e. test_less limit (length file) (more file e)) loaded
     where
       more : (file : List ℕ) → v ≡ take most file → limit < length file
       more file e = let n = ap length e ∙ length-take most file in omega arith
@@ -67,7 +62,7 @@ module _ (told : Option Files) (name v : List ℕ) (most : ℕ) (one_more : most
 
     refused : (refusal : TextRefusal) → read v ≡ Err (faulty_line refusal) → IfSome told (λ files. RefusesText name files (Text refusal))
     refused refusal e = told_weaker told name _ _ (λ file h.
-        subst (λ b. MatchBool b (Text refusal ≡ TextLong text_limit) (RefusesReading (read file) (Text refusal))) (sym (not_longer text_limit (length file) h.0))
+        subst (λ b. MatchBool b (Text refusal ≡ TextLong text_limit) (RefusesReading (read file) (Text refusal))) (sym (test_not_less text_limit (length file) h.0))
         (subst (λ (r : Result (List Command) FaultyLine). RefusesReading r (Text refusal)) (sym (ap read h.1 ∙ e)) (refl, refl))) (is_whole told name v text_limit most one_more loaded fits)
 
     pub text_refused : (rose : Type 0) (f : TextFault) → said.ReadsText v (Err f) → Reads {A = List Command} told rose (λ files commands. IsTextOf files name commands) (RefusesText name) (Lacks name) (Err (of_text f))
@@ -86,7 +81,7 @@ module _ (told : Option Files) (name v : List ℕ) (r most : ℕ) (one_more : mo
 
     faulty : (refusal : TextRefusal) → ScriptSays r v (Err (faulty_line refusal)) → IfSome told (λ files. RefusesScript name r files (Text refusal))
     faulty refusal h = told_weaker told name _ _ (λ file g.
-        subst (λ b. MatchBool b (Text refusal ≡ TextLong script_limit) (RefusesLines r file (Text refusal))) (sym (not_longer script_limit (length file) g.0))
+        subst (λ b. MatchBool b (Text refusal ≡ TextLong script_limit) (RefusesLines r file (Text refusal))) (sym (test_not_less script_limit (length file) g.0))
         (faulty_line refusal, subst (λ (bytes : List ℕ). ScriptSays r bytes (Err (faulty_line refusal))) (sym g.1) h, (refl, refl))) (is_whole told name v script_limit most one_more loaded fits)
 
     pub script_refused : (rose : Type 0) (f : TextFault) → script.ReadsScript {Y = Global} r v (Err f) → Reads {A = List ScriptLine} told rose (λ files lines. IsScriptOf files name r lines) (RefusesScript name r) (Lacks name) (Err (of_text f))
@@ -105,7 +100,7 @@ module _ (told : Option Files) (name v : List ℕ) (most : ℕ) (one_more : most
 
     no_cutting : (why : NoTrace) (r : Report) → IsReportOf r is.Trace (trace_line why) → Decoding v (Err why) → IfSome told (λ files. RefusesTrace name files r)
     no_cutting why r e decoding = told_weaker told name _ _ (λ file h.
-        subst (λ b. MatchBool b (r ≡ TraceLong dis_limit) (RefusesDecoding file r)) (sym (not_longer dis_limit (length file) h.0))
+        subst (λ b. MatchBool b (r ≡ TraceLong dis_limit) (RefusesDecoding file r)) (sym (test_not_less dis_limit (length file) h.0))
         (why, subst (λ (bytes : List ℕ). Decoding bytes (Err why)) (sym h.1) decoding, e)) (is_whole told name v dis_limit most one_more loaded fits)
 
     pub trace_refused : (rose : Type 0) (f : TraceFault) → Decodes v (Err f) → Reads {A = List Command} told rose (λ files commands. IsTraceOf files name commands) (RefusesTrace name) (Lacks name) (Err (of_trace f))

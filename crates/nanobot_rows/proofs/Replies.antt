@@ -2,6 +2,7 @@
 use Rattle.std.proofs.Common.{◌≡◌, ℕ, ◌≤◌, ◌==◌, List, length, refl, sym, ap, subst, inl, inr, arith, Bool, true, false, nat_lt, ◌∙◌}
 use Rattle.std.specs.Prelude.{Option, Some, None, Result, Ok, Err, MatchOption, MatchBool, IfOk, IfSome, IsSomeAnd}
 use Rattle.std.proofs.lemmas.Bool.Decides.{nat_tests}
+use Rattle.vox_geom.proofs.Tests.{test_equal, test_unequal}
 use Rattle.nano_spec.specs.declared.commands.Command.{Command}
 use Rattle.nano_spec.specs.declared.system.Profile.{Profile}
 use Rattle.nano_spec.specs.declared.outcomes.Verdict.{Verdict}
@@ -84,19 +85,13 @@ module _ (who : Who) (files : Files) (p : Option Matrix → Reply → Type 0) wh
 
 -- ---- both
 
-same_number : (a b : ℕ) → a ≡ b → (a == b) ≡ true
-same_number a b h = grind (arith, nat_tests)
-
-other_number : (a b : ℕ) → (a ≡ b → ⊥) → (a == b) ≡ false
-other_number a b h = grind (arith, nat_tests)
-
 module _ (files : Files) (p : Matrix → Matrix → Reply → Type 0) where
   pub both_given : (a b : Option Matrix) (s t : Matrix) (reply : Reply) → AreBoth a b s t → p s t reply → WithBoth files a b p reply
   both_given None None s t reply are h = are
   both_given (Some a) None s t reply are h = subst (λ (m : Matrix). p a m reply) are.1 (subst (λ (m : Matrix). p m t reply) are.0 h)
   both_given None (Some b) s t reply are h = subst (λ (m : Matrix). p m b reply) are.0 (subst (λ (m : Matrix). p s m reply) are.1 h)
   both_given (Some a) (Some b) s t reply are h =
-      subst (λ w. MatchBool w (p a b reply) (reply ≡ reply_of files (report.Resolutions a.resolution b.resolution))) (sym (same_number a.resolution b.resolution are.2))
+      subst (λ w. MatchBool w (p a b reply) (reply ≡ reply_of files (report.Resolutions a.resolution b.resolution))) (sym (test_equal a.resolution b.resolution are.2))
       (subst (λ (m : Matrix). p a m reply) are.1 (subst (λ (m : Matrix). p m t reply) are.0 h))
 
   pub both_unlike : (a b : Option Matrix) (told : Report) → AreUnlike a b told → WithBoth files a b p (reply_of files told)
@@ -104,7 +99,7 @@ module _ (files : Files) (p : Matrix → Matrix → Reply → Type 0) where
   both_unlike (Some a) None told h = absurd h
   both_unlike None (Some b) told h = absurd h
   both_unlike (Some a) (Some b) told h =
-      subst (λ w. MatchBool w (p a b (reply_of files told)) (reply_of files told ≡ reply_of files (report.Resolutions a.resolution b.resolution))) (sym (other_number a.resolution b.resolution h.0)) (ap (reply_of files) h.1)
+      subst (λ w. MatchBool w (p a b (reply_of files told)) (reply_of files told ≡ reply_of files (report.Resolutions a.resolution b.resolution))) (sym (test_unequal a.resolution b.resolution h.0)) (ap (reply_of files) h.1)
 
 -- ---- the models of a source and a target
 

@@ -1,6 +1,7 @@
 -- The answers of the rows that store a file, by what was found in the files.
 use Rattle.std.proofs.Common.{◌≡◌, ℕ, ◌+◌, ◌≤◌, List, length, refl, sym, ap, ◌∙◌, subst, Bool, true, false, nat_lt}
 use Rattle.std.specs.Prelude.{ℤ, Option, Some, None, Result, Ok, Err, MatchOption, MatchBool, IfSome, IsSomeAnd}
+use Rattle.vox_geom.proofs.Tests.{test_not_less}
 use Rattle.nano_spec.specs.declared.commands.Command.{Command}
 use Rattle.nano_spec.specs.Cutting.{AreCommands, Cutting, Decoding, NoTrace}
 use Rattle.nano_spec.specs.Matrix.{Matrix, empty}
@@ -25,7 +26,6 @@ use Rattle.nanobot_rows.specs.Models.{AreModels}
 use Rattle.nanobot_rows.specs.Reading.{IsReportOf, IsTextOf, IsTraceOf, Lacks, LacksModels, Reads, RefusesDecoding, RefusesModels, RefusesReading, RefusesText, RefusesTrace, no_such_file, reply_of}
 use Rattle.nanobot_rows.specs.Report.{report_line}
 use Rattle.nanobot_words.specs.Rows.{HasName, dis}
-use Rattle.nanobot_rows.proofs.Loads.{not_longer}
 use Rattle.nanobot_rows.proofs.Replies.{ReadsModels, models_given, reply_told, models_lack, models_refused, stops}
 use Rattle.nanobot_rows.proofs.Told.{if_some, weaker}
 
@@ -44,7 +44,7 @@ of_file files name P p reply f h = by (content files name) h
 module _ (files : Files) (name : List ℕ) (p : List Command → Reply → Type 0) where
   pub text_given : (commands : List Command) (reply : Reply) → IsTextOf files name commands → p commands reply → WithFile files name (λ bytes. OfText files bytes p) reply
   text_given commands reply is h = of_file files name (λ bytes. (length bytes ≤ text_limit) × (read bytes ≡ Ok commands)) (λ bytes. OfText files bytes p) reply (λ bytes g.
-      subst (λ b. MatchBool b (reply ≡ reply_of files (report.TextLong text_limit)) (OfReading files (read bytes) p reply)) (sym (not_longer text_limit (length bytes) g.0))
+      subst (λ b. MatchBool b (reply ≡ reply_of files (report.TextLong text_limit)) (OfReading files (read bytes) p reply)) (sym (test_not_less text_limit (length bytes) g.0))
       (subst (λ (r : Result (List Command) FaultyLine). OfReading files r p reply) (sym g.1) h)) is
 
   pub text_refused : (told : Report) → RefusesText name files told → WithFile files name (λ bytes. OfText files bytes p) (reply_of files told)
@@ -57,7 +57,7 @@ module _ (files : Files) (name : List ℕ) (p : List Command → Reply → Type 
 
   pub trace_given : (commands : List Command) (reply : Reply) → IsTraceOf files name commands → p commands reply → WithFile files name (λ bytes. OfTrace dis_limit files bytes p) reply
   trace_given commands reply is h = of_file files name (λ bytes. (length bytes ≤ dis_limit) × Cutting bytes commands) (λ bytes. OfTrace dis_limit files bytes p) reply (λ bytes g.
-      subst (λ b. MatchBool b (reply ≡ reply_of files (report.TraceLong dis_limit)) ((d : Result (List Command) NoTrace) × Decoding bytes d × OfDecoding files d p reply)) (sym (not_longer dis_limit (length bytes) g.0))
+      subst (λ b. MatchBool b (reply ≡ reply_of files (report.TraceLong dis_limit)) ((d : Result (List Command) NoTrace) × Decoding bytes d × OfDecoding files d p reply)) (sym (test_not_less dis_limit (length bytes) g.0))
       (Ok commands, g.1, h)) is
 
   pub trace_refused : (told : Report) → RefusesTrace name files told → WithFile files name (λ bytes. OfTrace dis_limit files bytes p) (reply_of files told)
@@ -110,7 +110,7 @@ plan_kept Is s t name commands energy steps effect is keeps files = (commands, e
 -- a plan of the group planner that is within the limit
 pub group_kept : (files : Files) (name : List ℕ) (s t : Matrix) (reply : Reply) → most_bytes s t ≤ group_limit → OfPlan IsGroupPlan name files s t reply → OfGroupPlan name files s t reply
 group_kept files name s t reply fits plan =
-    subst (λ (b : Bool). MatchBool b (IsReply is.Model (group_long_line (runs s + runs t) (rows s + rows t)) files reply) (OfPlan IsGroupPlan name files s t reply)) (sym (not_longer group_limit (most_bytes s t) fits)) plan
+    subst (λ (b : Bool). MatchBool b (IsReply is.Model (group_long_line (runs s + runs t) (rows s + rows t)) files reply) (OfPlan IsGroupPlan name files s t reply)) (sym (test_not_less group_limit (most_bytes s t) fits)) plan
 
 -- an answer of a source and a target
 module _ (told : Option Files) (source target : Option (List ℕ)) (p : Files → Matrix → Matrix → Reply → Type 0) where

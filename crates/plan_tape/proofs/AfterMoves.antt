@@ -6,6 +6,7 @@ use Rattle.std.proofs.lemmas.Int.{ints}
 use Rattle.vox_geom.specs.declared.coordinate.Coord.{Coord}
 use Rattle.vox_geom.specs.Point.{point}
 use Rattle.vox_geom.specs.Space.{IsInSpace}
+use Rattle.vox_geom.proofs.Tests.{test_itself}
 use Rattle.nano_spec.specs.declared.commands.Command.{Command}
 use Rattle.nano_spec.specs.declared.system.Bot.{Bot}
 use Rattle.nano_spec.specs.Bots.{moved}
@@ -29,16 +30,13 @@ free_one [] now c d l e = absurd (omega arith)
 free_one (b ∷ []) now c d l e = rw e (free_for b (stands_at c b))
 free_one (a ∷ b ∷ bots) now c d l e = absurd (omega arith)
 
-same_bid : (n : ℕ) → (n == n) ≡ true
-same_bid n = grind (arith, nat_tests)
-
 -- what holds of the bots after the only one moved
 pub moved_one : (P : List Bot → Type 0) (bots now : List Bot) (c : Coord) (d : Bot) → length bots ≡ 1 → now ≡ bots → IfSome (bot_of bots (get_or now 0 d).bid) (λ (b : Bot). P (replaced bots ((get_or now 0 d).bid ∷ []) (moved b (point c) ∷ []))) → P (bots_at bots c)
 moved_one P [] now c d l e h = absurd (omega arith)
-moved_one P (b ∷ []) now c d l e h = by (b.bid == b.bid) (same_bid b.bid) (rw e at h)
+moved_one P (b ∷ []) now c d l e h = by (b.bid == b.bid) (test_itself b.bid) (rw e at h)
   where
     only : replaced (b ∷ []) (b.bid ∷ []) (moved b (point c) ∷ []) ≡ record { bid = b.bid; pos = c; seeds = b.seeds } ∷ []
-    only = rw (same_bid b.bid) refl
+    only = rw (test_itself b.bid) refl
 
     by : (same : Bool) → same ≡ true → IfSome (cond same (Some b) None) (λ (a : Bot). P (replaced (b ∷ []) (b.bid ∷ []) (moved a (point c) ∷ []))) → P (record { bid = b.bid; pos = c; seeds = b.seeds } ∷ [])
     by true s h = subst P only h

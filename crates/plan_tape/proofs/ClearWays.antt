@@ -5,6 +5,7 @@ use Rattle.std.proofs.lemmas.Bool.Decides.{nat_tests}
 use Rattle.vox_geom.specs.declared.coordinate.Coord.{Coord}
 use Rattle.vox_geom.specs.Region.{is_between}
 use Rattle.vox_geom.specs.Space.{IsInSpace}
+use Rattle.vox_geom.proofs.Truths.{first_of_three, second_of_three}
 use Rattle.nano_spec.specs.declared.system.Harmonics.{Harmonics}
 use Rattle.nano_spec.specs.declared.system.Harmonics.TheVariants.{Low, High}
 use Rattle.nano_spec.specs.Legal.{IsLegal}
@@ -22,15 +23,6 @@ held_high h m e = λ l. absurd (high_low (sym e ∙ l))
     high_low f = cc
 
 -- ---- where all is void
-
-pub first_of_three : (a b c : Bool) → IsTrue (a && b && c) → IsTrue a
-first_of_three true b c t = refl
-first_of_three false b c t = cc
-
-pub second_of_three : (a b c : Bool) → IsTrue (a && b && c) → IsTrue b
-second_of_three true true c t = refl
-second_of_three true false c t = cc
-second_of_three false b c t = cc
 
 pub between_zeros : (v : ℕ) → IsTrue (is_between (pos 0) (pos 0) (pos v)) → v ≡ 0
 between_zeros v t = grind (arith, nat_tests)

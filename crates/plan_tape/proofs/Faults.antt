@@ -5,6 +5,7 @@ use Rattle.vox_geom.specs.declared.difference.Diff.{Diff}
 use Rattle.vox_geom.specs.Point.{point, plus, same_point}
 use Rattle.vox_geom.specs.Region.{between, is_within}
 use Rattle.vox_geom.specs.Space.{in_space}
+use Rattle.vox_geom.proofs.Truths.{and_false}
 use Rattle.nano_spec.specs.declared.commands.Command.{Command}
 use Rattle.nano_spec.specs.declared.commands.Command.TheVariants.{Halt, Flip, SMove, Fill, Void}
 use Rattle.nano_spec.specs.declared.outcomes.Rule.{Rule}
@@ -43,30 +44,26 @@ no_pairs m a step false = refl
 pub unbroken : (m : Matrix) (h : Harmonics) (b : Bot) (e : ℤ) (profile : Profile) (k : Command) (step : ℕ) → IsFaultless m h b e profile k → broken (with_one m h b e profile) (k ∷ []) step ≡ None
 unbroken m h b e profile k step f = simp f (ap first_value (no_pairs m (lone b k) step (is_leader (lone b k ∷ []) (lone b k))))
 
-no_way : (b : Bool) → (b && false) ≡ false
-no_way true = refl
-no_way false = refl
-
 in_the_way : (way full : Bool) → (IsTrue way → full ≡ false) → (full && (way || false)) ≡ false
 in_the_way true full f = rw (f refl) refl
-in_the_way false full f = no_way full
+in_the_way false full f = and_false full
 
 module _ (m : Matrix) (h : Harmonics) (b : Bot) (e : ℤ) (profile : Profile) where
   pub flip_faults : is_allowed profile Flip ≡ true → IsFaultless m h b e profile Flip
   flip_faults a Forbidden = rw a refl
-  flip_faults a Blocked = none_find _ (all_of m) (λ c i. no_way (is_full m c))
+  flip_faults a Blocked = none_find _ (all_of m) (λ c i. and_false (is_full m c))
   flip_faults a _ = refl
 
   pub fill_faults : (d : Diff) → is_allowed profile (Fill d) ≡ true → in_space m.resolution (plus (point b.pos) d) ≡ true → IsFaultless m h b e profile (Fill d)
   fill_faults d a i Forbidden = rw a refl
   fill_faults d a i OutOfSpace = rw i refl
-  fill_faults d a i Blocked = none_find _ (all_of m) (λ c i. no_way (is_full m c))
+  fill_faults d a i Blocked = none_find _ (all_of m) (λ c i. and_false (is_full m c))
   fill_faults d a i _ = refl
 
   pub void_faults : (d : Diff) → is_allowed profile (Void d) ≡ true → in_space m.resolution (plus (point b.pos) d) ≡ true → IsFaultless m h b e profile (Void d)
   void_faults d a i Forbidden = rw a refl
   void_faults d a i OutOfSpace = rw i refl
-  void_faults d a i Blocked = none_find _ (all_of m) (λ c i. no_way (is_full m c))
+  void_faults d a i Blocked = none_find _ (all_of m) (λ c i. and_false (is_full m c))
   void_faults d a i _ = refl
 
   pub move_faults : (d : Diff) → is_allowed profile (SMove d) ≡ true → in_space m.resolution (plus (point b.pos) d) ≡ true → IsVoid m (between (point b.pos) (plus (point b.pos) d)) → IsFaultless m h b e profile (SMove d)
@@ -79,5 +76,5 @@ module _ (m : Matrix) (h : Harmonics) (b : Bot) (e : ℤ) (profile : Profile) wh
   halt_faults a o l Forbidden = rw a refl
   halt_faults a o l HaltOrigin = rw o refl
   halt_faults a o l HaltLow = rw l refl
-  halt_faults a o l Blocked = none_find _ (all_of m) (λ c i. no_way (is_full m c))
+  halt_faults a o l Blocked = none_find _ (all_of m) (λ c i. and_false (is_full m c))
   halt_faults a o l _ = refl

@@ -5,23 +5,21 @@ use Rattle.std.proofs.lemmas.Bool.Decides.{nat_tests}
 use Rattle.vox_geom.specs.declared.coordinate.Coord.{Coord}
 use Rattle.vox_geom.specs.Point.{point}
 use Rattle.vox_geom.specs.Space.{IsInSpace, in_space}
+use Rattle.vox_geom.proofs.Truths.{first_of_two, no_first, second_by_and_not}
 use Rattle.nano_spec.specs.First.{FirstFailing}
 use Rattle.nano_spec.specs.Grounded.{FirstUngrounded, Grounded}
 use Rattle.nano_spec.specs.Legal.{IsLegal, in_legal_box}
 use Rattle.nano_spec.specs.Matrix.{Matrix, all_of, empty, is_full, matrix_where}
 use Rattle.nano_spec.proofs.Coordinates.{in_space-is}
 use Rattle.nano_spec.proofs.Opening.{legal_is}
-use Rattle.step_order.proofs.Lists.{find_none, first}
+use Rattle.step_order.proofs.Lists.{find_none}
 use Rattle.step_order.proofs.Voxels.{as_it_is, full_where, in_coordinates, matrix_same}
 use Rattle.vox_planes.specs.Voxel.{IsWhole}
 use Rattle.plan_tape.specs.Progress.{IsVoidFrom}
 
 -- a full voxel is in space
 pub full_within : (m : Matrix) (c : Coord) → is_full m c ≡ true → IsInSpace m.resolution c
-full_within m c h = in_space-is m.resolution c (first (in_space m.resolution (point c)) _ h)
-
-none : (a b : Bool) → a ≡ false → (a && b) ≡ false
-none a b e = rw e refl
+full_within m c h = in_space-is m.resolution c (first_of_two (in_space m.resolution (point c)) _ h)
 
 -- a voxel is void where it is so in space
 pub void_by_space : (m : Matrix) (c : Coord) → (IsInSpace m.resolution c → is_full m c ≡ false) → is_full m c ≡ false
@@ -29,19 +27,14 @@ void_by_space m c h = by (in_space m.resolution (point c)) refl
   where
     by : (t : Bool) → in_space m.resolution (point c) ≡ t → is_full m c ≡ false
     by true e = h (in_space-is m.resolution c e)
-    by false e = none (in_space m.resolution (point c)) _ e
+    by false e = no_first (in_space m.resolution (point c)) _ e
 
 -- ---- legal models
-
-in_box : (full box : Bool) → (full && not box) ≡ false → full ≡ true → box ≡ true
-in_box true true e f = refl
-in_box true false e f = cc
-in_box false box e f = cc
 
 -- a full voxel of a legal model is in the legal box
 pub legal_box : (m : Matrix) (c : Coord) → IsLegal m → is_full m c ≡ true → in_legal_box m.resolution c ≡ true
 legal_box m c h f =
-    in_box (is_full m c) (in_legal_box m.resolution c)
+    second_by_and_not (is_full m c) (in_legal_box m.resolution c)
     (find_none (λ d. is_full m d && not (in_legal_box m.resolution d)) c (all_of m) (legal_is m h).0 (in_coordinates m.resolution c (full_within m c f))) f
 
 void_unless : (full box : Bool) → (full ≡ true → box ≡ true) → box ≡ false → full ≡ false

@@ -9,6 +9,7 @@ use Rattle.vox_geom.specs.Difference.{mlen}
 use Rattle.vox_geom.specs.Point.{point, plus}
 use Rattle.vox_geom.specs.Region.{between, is_between}
 use Rattle.vox_geom.specs.Space.{IsInSpace}
+use Rattle.vox_geom.proofs.Sums.{plus_none}
 use Rattle.nano_spec.specs.declared.commands.Command.{Command}
 use Rattle.nano_spec.specs.declared.commands.Command.TheVariants.{SMove}
 use Rattle.nano_spec.specs.declared.system.Bot.{Bot}
@@ -51,13 +52,10 @@ put_in_space Z r c v h l = record { x = h.x; y = h.y; z = l }
 there : (u v : ℕ) → pos u +ℤ (pos v -ℤ pos u) ≡ pos v
 there u v = omega (arith, ints)
 
-here : (u : ℕ) → pos u +ℤ pos 0 ≡ pos u
-here u = omega (arith, ints)
-
 pub plus-along : (axis : Axis) (c : Coord) (u v : ℕ) → plus (point (put axis c u)) (along axis (pos v -ℤ pos u)) ≡ point (put axis c v)
-plus-along X c u v = λ i. record { x = there u v i; y = here c.y i; z = here c.z i }
-plus-along Y c u v = λ i. record { x = here c.x i; y = there u v i; z = here c.z i }
-plus-along Z c u v = λ i. record { x = here c.x i; y = here c.y i; z = there u v i }
+plus-along X c u v = λ i. record { x = there u v i; y = plus_none c.y i; z = plus_none c.z i }
+plus-along Y c u v = λ i. record { x = plus_none c.x i; y = there u v i; z = plus_none c.z i }
+plus-along Z c u v = λ i. record { x = plus_none c.x i; y = plus_none c.y i; z = there u v i }
 
 far : (u v : ℕ) → unsigned_abs (pos v -ℤ pos u) ≡ gap u v
 far u v = omega (arith, ints)

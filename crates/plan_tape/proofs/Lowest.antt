@@ -7,6 +7,7 @@ use Rattle.vox_geom.specs.declared.coordinate.Coord.{Coord}
 use Rattle.vox_geom.specs.Least.{LeastOf}
 use Rattle.vox_geom.specs.Point.{point}
 use Rattle.vox_geom.specs.Space.{in_space}
+use Rattle.vox_geom.proofs.Tests.{equal_by_test}
 use Rattle.nano_spec.specs.Matrix.{Matrix, is_full}
 use Rattle.vox_planes.specs.Difference.{in_layer_differ}
 use Rattle.vox_planes.specs.Voxel.{IsWhole}
@@ -34,9 +35,6 @@ last true true e = refl
 last true false e = cc
 last false t e = cc
 
-equal : (u v : ℕ) → (u == v) ≡ true → u ≡ v
-equal u v e = grind (arith, nat_tests)
-
 -- where no coordinate of a layer differs, both are the same there
 pub same_layer : (m n : Matrix) (y : ℕ) → m.resolution ≡ n.resolution → LeastOf m.resolution (in_layer_differ m n y) None → (c : Coord) → c.y ≡ y → is_full m c ≡ is_full n c
 same_layer m n y e h c f = by (in_space m.resolution (point c)) refl
@@ -60,7 +58,7 @@ lowest_at m n y c l below h = record {
   within = l;
   below = below;
   at = c;
-  here = equal c.y y (last ((is_full m c && not (is_full n c)) || (is_full n c && not (is_full m c))) (c.y == y) h.passes);
+  here = equal_by_test c.y y (last ((is_full m c && not (is_full n c)) || (is_full n c && not (is_full m c))) (c.y == y) h.passes);
   differ = differs (is_full m c) (is_full n c) (c.y == y) h.passes;
 }
 

@@ -5,17 +5,15 @@ use Rattle.std.proofs.lemmas.Bool.Decides.{nat_tests}
 use Rattle.vox_geom.specs.declared.coordinate.Coord.{Coord}
 use Rattle.vox_geom.specs.Point.{point}
 use Rattle.vox_geom.specs.Space.{in_range, in_space}
+use Rattle.vox_geom.proofs.Truths.{no_first}
 use Rattle.nano_spec.specs.Matrix.{Matrix, is_full}
 use Rattle.plan_tape.specs.Parts.{below_layer, from_layer, in_layer, in_row, is_in_line, layer, voxel}
 
 -- ---- out of space
 
-none : (a b : Bool) → a ≡ false → (a && b) ≡ false
-none a b e = rw e refl
-
 -- no voxel is full out of space
 pub void_out : (r : ℕ) (n : Matrix) (c : Coord) → n.resolution ≡ r → in_space r (point c) ≡ false → is_full n c ≡ false
-void_out r n c e o = none (in_space n.resolution (point c)) _ (ap (λ k. in_space k (point c)) e ∙ o)
+void_out r n c e o = no_first (in_space n.resolution (point c)) _ (ap (λ k. in_space k (point c)) e ∙ o)
 
 outside_z : (a b c d : Bool) → c ≡ false → (a && b && c && d) ≡ false
 outside_z true true c d e = rw e refl

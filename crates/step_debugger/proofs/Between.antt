@@ -12,6 +12,7 @@ use Rattle.vox_geom.specs.declared.coordinate.Coord.{Coord}
 use Rattle.vox_geom.specs.Point.{point}
 use Rattle.vox_geom.specs.Region.{is_within}
 use Rattle.vox_geom.specs.Space.{IsInSpace}
+use Rattle.vox_geom.proofs.Truths.{false_by, or_by_first}
 use Rattle.nano_spec.specs.declared.commands.Command.{Command}
 use Rattle.nano_spec.specs.declared.system.Bot.{Bot}
 use Rattle.nano_spec.specs.Act.{Act, acts, stays_in_space}
@@ -23,7 +24,7 @@ use Rattle.nano_spec.specs.State.{IsReady, State}
 use Rattle.nano_spec.specs.Step.{is_filled, is_voided, matrix_after}
 use Rattle.step_order.specs.SomeGroups.{is_taken, taken as taken_acts}
 use Rattle.step_order.proofs.Facts.{IsGood, bots_of, good_is}
-use Rattle.step_order.proofs.Lists.{In, any_in, by_left, filter_in, flat_in, in_any, in_filter, in_flat, in_place, is_false, not_both, place_in}
+use Rattle.step_order.proofs.Lists.{In, any_in, filter_in, flat_in, in_any, in_filter, in_flat, in_place, not_both, place_in}
 use Rattle.step_order.proofs.Together.{together_is, with_itself}
 use Rattle.step_order.proofs.Voxels.{full_where}
 use Rattle.step_machine.specs.Edits.{is_edited}
@@ -91,7 +92,7 @@ module _ (s : State) (all : List Act) (good : IsGood s all) (begun : List ℕ) (
   untouched h = full_is ∙ ((λ i. filled i || (is_full s.matrix c && not (voided i))) ∙ stays_so (is_full s.matrix c))
     where
       none : (full : Bool) → is_changed full (taken_acts all (acts_of all begun)) c ≡ false
-      none full = is_false (is_changed full (taken_acts all (acts_of all begun)) c) (λ g. let l = leader_of_edit full g in not_both l.3 (h l.0 l.1 l.2 full))
+      none full = false_by (is_changed full (taken_acts all (acts_of all begun)) c) (λ g. let l = leader_of_edit full g in not_both l.3 (h l.0 l.1 l.2 full))
 
       filled : is_filled (taken_acts all (acts_of all begun)) c ≡ false
       filled = none false
@@ -104,14 +105,14 @@ module _ (s : State) (all : List Act) (good : IsGood s all) (begun : List ℕ) (
       stays_so false = refl
 
   pub touched : (full : Bool) (l : Act) → In l all → leads_in begun l ≡ true → IsEditOf l c (Some full) → full ≡ is_full (matrix_after s.matrix (taken_acts all (acts_of all begun))) c
-  touched true l i h e = sym (full_is ∙ by_left (is_filled (taken_acts all (acts_of all begun)) c) (is_full s.matrix c && not (is_voided (taken_acts all (acts_of all begun)) c)) (edit_of_leader false l i h e))
+  touched true l i h e = sym (full_is ∙ or_by_first (is_filled (taken_acts all (acts_of all begun)) c) (is_full s.matrix c && not (is_voided (taken_acts all (acts_of all begun)) c)) (edit_of_leader false l i h e))
   touched false l i h e = sym (full_is ∙ ((λ j. filled j || (is_full s.matrix c && not (voided j))) ∙ gone (is_full s.matrix c)))
     where
       voided : is_voided (taken_acts all (acts_of all begun)) c ≡ true
       voided = edit_of_leader true l i h e
 
       filled : is_filled (taken_acts all (acts_of all begun)) c ≡ false
-      filled = is_false (is_filled (taken_acts all (acts_of all begun)) c) (λ g. one_way s all good c within (in_any (λ (x : Act). is_edited true x c) l all i e) (some_edit false g))
+      filled = false_by (is_filled (taken_acts all (acts_of all begun)) c) (λ g. one_way s all good c within (in_any (λ (x : Act). is_edited true x c) l all i e) (some_edit false g))
 
       gone : (b : Bool) → (false || (b && not true)) ≡ false
       gone true = refl

@@ -5,10 +5,11 @@ use Rattle.std.specs.List.{AllPairs}
 use Rattle.std.proofs.lemmas.List.Sums.{length-filter}
 use Rattle.vox_geom.specs.declared.coordinate.Coord.{Coord}
 use Rattle.vox_geom.specs.Space.{IsInSpace}
+use Rattle.vox_geom.proofs.Truths.{or_by_first, or_by_second}
 use Rattle.nano_spec.specs.Matrix.{Matrix, all_of, differ_at, is_full}
 use Rattle.nano_spec.specs.Work.{Levels, changed_count}
 use Rattle.system_state.specs.Painting.{is_cell}
-use Rattle.step_order.proofs.Lists.{In, both, by_left, by_right, in_either, in_filter, in_place, not_both}
+use Rattle.step_order.proofs.Lists.{In, both, in_either, in_filter, in_place, not_both}
 use Rattle.step_order.proofs.Voxels.{in_coordinates, matrix_same}
 use Rattle.step_machine.specs.Undoing.{HaveChanged, IsUndoneBy, matrix_before, without_filled}
 use Rattle.step_machine.specs.declared.undo.Undo.{Undo}
@@ -59,14 +60,14 @@ module _ (old : Matrix) (undo : Undo) (h : HaveChanged old undo) where
       let a = among undo.filled.items c i in
       let v = not_among undo.voided.items c (λ j. not_both w.1 (voided_is c j).1) in
       let e : is_full (matrix_before old undo.filled.items undo.voided.items) c ≡ false = new_at c w.0 ∙ (λ k. cond (v k) true (cond (a k) false (is_full old c))) in
-      by_left (is_full old c && not (is_full (matrix_before old undo.filled.items undo.voided.items) c)) (is_full (matrix_before old undo.filled.items undo.voided.items) c && not (is_full old c)) (both w.1 (ap not e))
+      or_by_first (is_full old c && not (is_full (matrix_before old undo.filled.items undo.voided.items) c)) (is_full (matrix_before old undo.filled.items undo.voided.items) c && not (is_full old c)) (both w.1 (ap not e))
 
   voided_differs : (c : Coord) → In c undo.voided.items → differ_at old (matrix_before old undo.filled.items undo.voided.items) c ≡ true
   voided_differs c i =
       let w = voided_is c i in
       let a = among undo.voided.items c i in
       let e : is_full (matrix_before old undo.filled.items undo.voided.items) c ≡ true = new_at c w.0 ∙ ap (λ b. cond b true (cond (is_cell undo.filled.items c) false (is_full old c))) a in
-      by_right (is_full old c && not (is_full (matrix_before old undo.filled.items undo.voided.items) c)) (is_full (matrix_before old undo.filled.items undo.voided.items) c && not (is_full old c)) (both e (ap not w.1))
+      or_by_second (is_full old c && not (is_full (matrix_before old undo.filled.items undo.voided.items) c)) (is_full (matrix_before old undo.filled.items undo.voided.items) c && not (is_full old c)) (both e (ap not w.1))
 
   all_differ : length undo.filled.items + length undo.voided.items ≤ changed_count old (matrix_before old undo.filled.items undo.voided.items)
   all_differ =

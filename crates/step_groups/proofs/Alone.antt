@@ -5,6 +5,7 @@ use Rattle.std.specs.List.{list_all}
 use Rattle.std.proofs.lemmas.Bool.Decides.{nat_tests}
 use Rattle.nano_spec.specs.declared.system.Bot.{Bot}
 use Rattle.vox_geom.specs.Point.{Point}
+use Rattle.vox_geom.proofs.Tests.{test_itself}
 use Rattle.nano_spec.specs.declared.commands.Command.{Command}
 use Rattle.nano_spec.specs.declared.commands.Command.TheVariants.{Halt, Wait, Flip, SMove, LMove, FusionP, FusionS, Fission, Fill, Void, GFill, GVoid}
 use Rattle.nano_spec.specs.Act.{Act, acts, position}
@@ -80,9 +81,6 @@ together_by_bid a b h =
 pub alone_members : (all : List Act) (a : Act) → IsTrue (is_alone a.command) → members all a ≡ filter (λ b. a.bot.bid == b.bot.bid) all
 alone_members all a h = ap (λ t. filter t all) (λ i b. together_by_bid a b h i)
 
-same : (n : ℕ) → (n == n) ≡ true
-same n = grind (arith, nat_tests)
-
 least : (n : ℕ) → nat_le n n ≡ true
 least n = grind (arith, nat_tests)
 
@@ -90,7 +88,7 @@ least n = grind (arith, nat_tests)
 pub single_members : (b : Bot) (k : Command) → members (record { bot = b; command = k } ∷ []) (record { bot = b; command = k }) ≡ record { bot = b; command = k } ∷ []
 single_members b k =
     let a : Act = record { bot = b; command = k } in
-    ap (λ t. cond ((t || are_partners a a) || share_region (position a) k (position a) k) (a ∷ []) []) (same b.bid)
+    ap (λ t. cond ((t || are_partners a a) || share_region (position a) k (position a) k) (a ∷ []) []) (test_itself b.bid)
 
 pub single_leaders : (b : Bot) (k : Command) → leaders (record { bot = b; command = k } ∷ []) ≡ record { bot = b; command = k } ∷ []
 single_leaders b k =

@@ -19,12 +19,12 @@ use Rattle.nano_spec.specs.declared.commands.Command.TheVariants.{Halt, Wait, SM
 use Rattle.nano_spec.specs.declared.outcomes.Rule.TheVariants.{HaltAlone, HaltOrigin, HaltLow, OutOfSpace, Blocked, Seeds, Partner}
 use Rattle.vox_planes.specs.Difference.{earlier}
 use Rattle.vox_geom.proofs.Firsts.{first_is, first_of}
+use Rattle.vox_geom.proofs.Truths.{and_false, or_false}
 use Rattle.step_groups.proofs.Firsts.{earliest}
 use Rattle.step_groups.specs.Judging.{act, first_fault, later_rules}
 use Rattle.nano_spec.specs.Rules.{here, broken_by}
 use Rattle.nano_spec.specs.declared.outcomes.Broken.{Broken}
 use Rattle.nano_spec.specs.declared.outcomes.Rule.{Rule}
-use Rattle.step_groups.proofs.Lists.{or_false}
 
 -- two tests that say the same find the same
 pub find-same : {A : Type 0} (f g : A → Bool) (xs : List A) → ((x : A) → f x ≡ g x) → find f xs ≡ find g xs
@@ -34,13 +34,9 @@ find-never : {A : Type 0} (xs : List A) → find (λ _. false) xs ≡ None
 find-never [] = refl
 find-never (x ∷ xs) = find-never xs
 
-and-false : (b : Bool) → (b && false) ≡ false
-and-false true = refl
-and-false false = refl
-
 -- where there is no way nothing blocks it
 pub no_way : (m : Matrix) (cs : List Coord) → find (λ c. is_full m c && false) cs ≡ None
-no_way m cs = find-same (λ c. is_full m c && false) (λ _. false) cs (λ c. and-false (is_full m c)) ∙ find-never cs
+no_way m cs = find-same (λ c. is_full m c && false) (λ _. false) cs (λ c. and_false (is_full m c)) ∙ find-never cs
 
 -- one way
 pub one_way : (m : Matrix) (k : Corners) (s : Span) (cs : List Coord) → ((p : Point) → is_within (span k) p ≡ is_within s p) → find (λ c. is_full m c && is_within (span k) (point c)) cs ≡ find (λ c. is_full m c && (is_within s (point c) || false)) cs

@@ -9,6 +9,7 @@ use Rattle.vox_geom.specs.declared.difference.Diff.{Diff}
 use Rattle.vox_geom.specs.Difference.{mlen}
 use Rattle.vox_geom.specs.Point.{Point, point, plus}
 use Rattle.vox_geom.specs.Region.{IsOrdered, corners, extent, is_between, is_within, size, span}
+use Rattle.vox_geom.proofs.Truths.{parts_of_three}
 use Rattle.nano_spec.specs.Matrix.{Matrix, is_full, all_of}
 use Rattle.step_order.proofs.Lists.{none_find}
 
@@ -105,17 +106,11 @@ at_an_end a b c (suc i) j k x y z one = along_x a b c (suc i) j k x y z (omega (
 at_an_end a b c zero (suc j) k x y z one = along_y a b c zero (suc j) k x y z refl (omega (arith, one)) (omega (arith, one))
 at_an_end a b c zero zero k x y z one = along_z a b c zero zero k x y z refl refl (omega (arith, one))
 
-three : (a b c : Bool) → (a && b && c) ≡ true → (a ≡ true) × (b ≡ true) × (c ≡ true)
-three true true true h = (refl, refl, refl)
-three true true false h = cc
-three true false c h = cc
-three false b c h = cc
-
 module _ (from to : Coord) (d : Diff) (sum : point to ≡ plus (point from) d) (one : mlen d ≡ 1) where
   -- a coordinate of the way is one of its ends
   one_of_ends : (c : Coord) → is_within (span (corners from to)) (point c) ≡ true → (c ≡ from) ⊎ (c ≡ to)
   one_of_ends c t =
-      let p = three _ _ _ t in
+      let p = parts_of_three _ _ _ t in
       at_an_end from to c (unsigned_abs d.dx) (unsigned_abs d.dy) (unsigned_abs d.dz)
       (along from.x to.x c.x d.dx (ap (λ (q : Point). q.x) sum) p.0) (along from.y to.y c.y d.dy (ap (λ (q : Point). q.y) sum) p.1) (along from.z to.z c.z d.dz (ap (λ (q : Point). q.z) sum) p.2) one
 

@@ -7,6 +7,7 @@ use Rattle.vox_geom.specs.declared.difference.Diff.{Diff}
 use Rattle.vox_geom.specs.Point.{Point, point, plus}
 use Rattle.vox_geom.specs.Region.{Corners, Span, between, corners, span, is_within, dimension, differs}
 use Rattle.vox_geom.specs.Space.{in_space}
+use Rattle.vox_geom.proofs.Truths.{or_false}
 use Rattle.nano_spec.specs.Act.{Act}
 use Rattle.nano_spec.specs.First.{first_value}
 use Rattle.nano_spec.specs.Group.{are_together}
@@ -20,7 +21,6 @@ use Rattle.nano_spec.specs.declared.outcomes.Rule.TheVariants.{OutOfSpace, Block
 use Rattle.nano_spec.specs.declared.system.Bot.{Bot}
 use Rattle.step_groups.specs.Judging.{act, first_fault, later_rules, corner_list}
 use Rattle.step_groups.proofs.BlockedWays.{skip, unblocked}
-use Rattle.step_groups.proofs.Lists.{or_false}
 
 -- whether the members of a bot's group misfit a region
 abbrev pub misshape : List Act → Act → Span → Bool

@@ -8,6 +8,8 @@ use Rattle.vox_geom.specs.declared.coordinate.Coord.{Coord}
 use Rattle.vox_geom.specs.Point.{Point, plus, same_point}
 use Rattle.vox_geom.specs.Region.{Span, between, differs, dimension}
 use Rattle.vox_geom.specs.Space.{coordinate}
+use Rattle.vox_geom.proofs.Truths.{false_by, first_of_two, not_is_false, one_of_two, or_false, second_of_two}
+use Rattle.vox_geom.proofs.Tests.{equal_by_test}
 use Rattle.nano_spec.specs.declared.commands.Command.{Command}
 use Rattle.nano_spec.specs.declared.commands.Command.TheVariants.{Halt, Wait, Flip, SMove, LMove, FusionP, FusionS, Fission, Fill, Void, GFill, GVoid}
 use Rattle.nano_spec.specs.declared.outcomes.Rule.{Rule}
@@ -19,13 +21,12 @@ use Rattle.nano_spec.specs.Group.{are_partners, are_together, fuse, is_pair, mem
 use Rattle.nano_spec.specs.Rules.{broken_by, fault, here, rules_of_bots}
 use Rattle.nano_spec.specs.State.{State}
 use Rattle.step_order.proofs.Facts.{Rising, pairs_in, rising_is}
-use Rattle.step_order.proofs.Lists.{In, first, second, in_map, is_false, any_in, one_of}
+use Rattle.step_order.proofs.Lists.{In, in_map, any_in}
 use Rattle.step_order.proofs.Together.{point_is}
 use Rattle.step_groups.specs.Groups.{AreJudged}
 use Rattle.step_groups.specs.Judging.{act, first_fault, judge_bot, judge_each, later_rules}
 use Rattle.step_groups.proofs.Joined.{bot_in, in_all}
 use Rattle.step_groups.proofs.Mates.{bots_are, no_filter}
-use Rattle.step_groups.proofs.Lists.{or_false}
 
 -- ---- no rule is broken
 
@@ -56,15 +57,11 @@ no_fault : (a : Act) (b : Bool) → here a b ≡ None → b ≡ false
 no_fault a true e = cc
 no_fault a false e = refl
 
-not_not : (b : Bool) → not b ≡ false → b ≡ true
-not_not true e = refl
-not_not false e = cc
-
 -- so the command of a bot that breaks no later rule stays in space
 pub stays_if : (s : State) (all : List Act) (step : ℕ) (a : Act) → first_fault s all step a later_rules ≡ None → IsTrue (stays_in_space s.matrix.resolution a)
 stays_if s all step a e =
     let judged = λ (r : Rule). broken_by step r a.bot.bid (fault s all a r) in
-    not_not (stays_in_space s.matrix.resolution a) (no_fault a (not (stays_in_space s.matrix.resolution a))
+    not_is_false (stays_in_space s.matrix.resolution a) (no_fault a (not (stays_in_space s.matrix.resolution a))
     (no_map (λ (c : Coord). record { step = step; bid = a.bot.bid; rule = OutOfSpace; at = c }) (fault s all a OutOfSpace) (none_first (map judged later_rules) (judged OutOfSpace) e (inr (inr (inr (inl refl)))))))
 
 -- ---- how many members a group has
@@ -74,7 +71,7 @@ one_at_most p [] up h = omega arith
 one_at_most p (x ∷ xs) up h = by (p x) refl (one_at_most p xs up.1 (λ y z i j. h y z (inr i) (inr j)))
   where
     none : p x ≡ true → filter p xs ≡ []
-    none e = no_filter p xs (is_false (list_any p xs) (λ (f : list_any p xs ≡ true).
+    none e = no_filter p xs (false_by (list_any p xs) (λ (f : list_any p xs ≡ true).
         let r = any_in p xs f in
         let same : x.bot.bid ≡ r.0.bot.bid = h x r.0 (inl refl) (inr r.1) e r.2 in
         let l : x.bot.bid < r.0.bot.bid = up.0 r.0.bot (in_map (λ (a : Act). a.bot) r.0 xs r.1) in
@@ -101,24 +98,21 @@ mate_place p (FusionS d) = plus p d
 mate_place p _ = p
 
 ahead : (p : Point) (c : Command) (q : Point) (e : Command) → fuse p c q e ≡ true → q ≡ mate_place p c
-ahead p (FusionP d) q (FusionS e) h = sym (point_is (plus p d) q (first (same_point (plus p d) q) (same_point (plus q e) p) h))
+ahead p (FusionP d) q (FusionS e) h = sym (point_is (plus p d) q (first_of_two (same_point (plus p d) q) (same_point (plus q e) p) h))
 ahead p (FusionP d) q e h = cc
 ahead p c q e h = cc
 
 behind : (p : Point) (c : Command) (q : Point) (e : Command) → fuse p c q e ≡ true → p ≡ mate_place q e
-behind p (FusionP d) q (FusionS e) h = sym (point_is (plus q e) p (second (same_point (plus p d) q) (same_point (plus q e) p) h))
+behind p (FusionP d) q (FusionS e) h = sym (point_is (plus q e) p (second_of_two (same_point (plus p d) q) (same_point (plus q e) p) h))
 behind p (FusionP d) q e h = cc
 behind p c q e h = cc
 
 partner_at : (a b : Act) → are_partners a b ≡ true → position b ≡ mate_place (position a) a.command
-partner_at a b h = by (one_of (is_pair a b) (is_pair b a) h)
+partner_at a b h = by (one_of_two (is_pair a b) (is_pair b a) h)
   where
     by : (is_pair a b ≡ true) ⊎ (is_pair b a ≡ true) → position b ≡ mate_place (position a) a.command
     by (inl e) = ahead (position a) a.command (position b) b.command e
     by (inr e) = behind (position b) b.command (position a) a.command e
-
-bid_is : (a b : ℕ) → (a == b) ≡ true → a ≡ b
-bid_is a b h = (Decides-eqb a b).0 h
 
 differs_most : (a b : ℤ) → differs a b ≤ 1
 differs_most a b = by _
@@ -143,7 +137,7 @@ dimension_most s =
 
 -- a group that fits its region
 shaped : (n d : ℕ) (t : Bool) → ((not (n == d) || t) || false) ≡ false → n ≡ d
-shaped n d t h = bid_is n d (by (n == d) h)
+shaped n d t h = equal_by_test n d (by (n == d) h)
   where
     by : (b : Bool) → ((not b || t) || false) ≡ false → b ≡ true
     by true e = refl
@@ -172,7 +166,7 @@ module _ (bots : List Bot) (commands : List Command) (lengths : length commands 
   pair_at_most a h =
       let all : List Act = acts bots commands in
       let same : Act → Bool = λ b. a.bot.bid == b.bot.bid in
-      let bids : length (filter same all) ≤ 1 = one_at_most same all up (λ x y i j e f. sym (bid_is a.bot.bid x.bot.bid e) ∙ bid_is a.bot.bid y.bot.bid f) in
+      let bids : length (filter same all) ≤ 1 = one_at_most same all up (λ x y i j e f. sym (equal_by_test a.bot.bid x.bot.bid e) ∙ equal_by_test a.bot.bid y.bot.bid f) in
       let mates : length (filter (are_partners a) all) ≤ 1 = one_at_most (are_partners a) all up (λ x y i j e f. same_bot x y i j (ap coordinate (partner_at a x e ∙ sym (partner_at a y f)))) in
       let both = both_counts same (are_partners a) all in
       let is : (b : Act) → are_together a b ≡ (same b || are_partners a b) = λ b. ap (λ t. (same b || are_partners a b) || t) (h b) ∙ or_false (same b || are_partners a b) in
@@ -198,6 +192,6 @@ module _ (bots : List Bot) (commands : List Command) (lengths : length commands 
   judged s step e =
       let all : List Act = acts bots commands in
       record {
-        stays = in_all (λ (a : Act). IsTrue (stays_in_space s.matrix.resolution a)) all (λ a i. not_not (stays_in_space s.matrix.resolution a) (no_fault a (not (stays_in_space s.matrix.resolution a)) (unbroken s all step all e a OutOfSpace i (inr (inr (inr (inr (inl refl))))))));
+        stays = in_all (λ (a : Act). IsTrue (stays_in_space s.matrix.resolution a)) all (λ a i. not_is_false (stays_in_space s.matrix.resolution a) (no_fault a (not (stays_in_space s.matrix.resolution a)) (unbroken s all step all e a OutOfSpace i (inr (inr (inr (inr (inl refl))))))));
         few = in_all (λ (a : Act). length (members all a) ≤ 8) all (λ a i. few_by s a.bot a.command (unbroken s all step all e a GroupShape i (inr (inr (inr (inr (inr (inr (inr (inr (inr (inl refl))))))))))));
       }

@@ -6,24 +6,8 @@ use Rattle.vox_geom.specs.declared.coordinate.Coord.{Coord}
 use Rattle.vox_geom.specs.Least.{LeastOf}
 use Rattle.vox_geom.specs.Space.{is_before}
 use Rattle.vox_geom.proofs.Firsts.{before-trans}
+use Rattle.vox_geom.proofs.Truths.{false_by, or_by_first, or_by_second, true_and_false}
 use Rattle.vox_planes.specs.Difference.{earlier}
-
-not_both : (b : Bool) → IsTrue b → IsFalse b → ⊥
-not_both true h k = cc
-not_both false h k = cc
-
--- what is not true is false
-pub untrue : (b : Bool) → (IsTrue b → ⊥) → IsFalse b
-untrue true h = absurd (h refl)
-untrue false h = refl
-
-pub either_left : (a b : Bool) → IsTrue a → IsTrue (a || b)
-either_left true b h = refl
-either_left false b h = cc
-
-pub either_right : (a b : Bool) → IsTrue b → IsTrue (a || b)
-either_right true b h = refl
-either_right false b h = h
 
 right_only : (a b : Bool) → IsFalse a → IsTrue (a || b) → IsTrue b
 right_only true b h k = cc
@@ -51,12 +35,12 @@ earliest r f g None None h k = λ d i. neither (f d) (g d) (h d i) (k d i)
     neither false b p q = q
 earliest r f g None (Some c) h k = record {
   within = k.within;
-  passes = either_right (f c) (g c) k.passes;
+  passes = or_by_second (f c) (g c) k.passes;
   least = λ d i t. k.least d i (right_only (f d) (g d) (h d i) t);
 }
 earliest r f g (Some c) None h k = record {
   within = h.within;
-  passes = either_left (f c) (g c) h.passes;
+  passes = or_by_first (f c) (g c) h.passes;
   least = λ d i t. h.least d i (left_only (f d) (g d) (k d i) t);
 }
 earliest r f g (Some a) (Some b) h k = by (is_before b a) refl
@@ -64,11 +48,11 @@ earliest r f g (Some a) (Some b) h k = by (is_before b a) refl
     by : (t : Bool) → is_before b a ≡ t → LeastOf r (λ c. f c || g c) (cond t (Some b) (Some a))
     by true e = record {
       within = k.within;
-      passes = either_right (f b) (g b) k.passes;
-      least = λ d i t. one_of (f d) (g d) t (is_before d b) (λ fd. untrue (is_before d b) (λ db. not_both (is_before d a) (before-trans d b a db e) (h.least d i fd))) (λ gd. k.least d i gd);
+      passes = or_by_second (f b) (g b) k.passes;
+      least = λ d i t. one_of (f d) (g d) t (is_before d b) (λ fd. false_by (is_before d b) (λ db. true_and_false (is_before d a) (before-trans d b a db e) (h.least d i fd))) (λ gd. k.least d i gd);
     }
     by false e = record {
       within = h.within;
-      passes = either_left (f a) (g a) h.passes;
+      passes = or_by_first (f a) (g a) h.passes;
       least = λ d i t. one_of (f d) (g d) t (is_before d a) (λ fd. h.least d i fd) (λ gd. before-not d b a (k.least d i gd) e);
     }

@@ -5,6 +5,7 @@ use Rattle.std.proofs.lemmas.Bool.Decides.{nat_tests}
 use Rattle.vox_geom.specs.declared.coordinate.Coord.{Coord}
 use Rattle.vox_geom.specs.Point.{Point, point}
 use Rattle.vox_geom.specs.Region.{Corners, IsOrdered, between, is_between, is_within, span}
+use Rattle.vox_geom.proofs.Truths.{both_true, first_of_two, second_of_two}
 use Rattle.nano_spec.specs.Act.{Act}
 use Rattle.nano_spec.specs.First.{first_value}
 use Rattle.nano_spec.specs.Matrix.{Matrix}
@@ -12,7 +13,7 @@ use Rattle.nano_spec.specs.Rules.{judge_pairs}
 use Rattle.step_groups.specs.Boxes.{IsHull, in_boxes}
 use Rattle.step_groups.specs.Groups.{AreGroups, AreHulls}
 use Rattle.step_groups.specs.declared.groups.Group.{Group}
-use Rattle.step_groups.proofs.Shared.{any-push, both_left, both_right, both_true, take_one}
+use Rattle.step_groups.proofs.Shared.{any-push, take_one}
 use Rattle.step_groups.proofs.Lists.{to_end}
 
 -- a wider stretch of numbers
@@ -25,9 +26,9 @@ widened a k l h o lx ly lz hx hy hz covers c t =
     let x : Bool = is_between (pos a.low.x) (pos a.high.x) (pos c.x) in
     let y : Bool = is_between (pos a.low.y) (pos a.high.y) (pos c.y) in
     let z : Bool = is_between (pos a.low.z) (pos a.high.z) (pos c.z) in
-    let wx : IsTrue (is_between (pos l.x) (pos h.x) (pos c.x)) = wider a.low.x a.high.x l.x h.x c.x o.x lx hx (both_left x y (both_left (x && y) z t)) in
-    let wy : IsTrue (is_between (pos l.y) (pos h.y) (pos c.y)) = wider a.low.y a.high.y l.y h.y c.y o.y ly hy (both_right x y (both_left (x && y) z t)) in
-    let wz : IsTrue (is_between (pos l.z) (pos h.z) (pos c.z)) = wider a.low.z a.high.z l.z h.z c.z o.z lz hz (both_right (x && y) z t) in
+    let wx : IsTrue (is_between (pos l.x) (pos h.x) (pos c.x)) = wider a.low.x a.high.x l.x h.x c.x o.x lx hx (first_of_two x y (first_of_two (x && y) z t)) in
+    let wy : IsTrue (is_between (pos l.y) (pos h.y) (pos c.y)) = wider a.low.y a.high.y l.y h.y c.y o.y ly hy (second_of_two x y (first_of_two (x && y) z t)) in
+    let wz : IsTrue (is_between (pos l.z) (pos h.z) (pos c.z)) = wider a.low.z a.high.z l.z h.z c.z o.z lz hz (second_of_two (x && y) z t) in
     covers (point c)
     ∙ both_true (is_between (pos l.x) (pos h.x) (pos c.x) && is_between (pos l.y) (pos h.y) (pos c.y)) (is_between (pos l.z) (pos h.z) (pos c.z)) (both_true (is_between (pos l.x) (pos h.x) (pos c.x)) (is_between (pos l.y) (pos h.y) (pos c.y)) wx wy) wz
 

@@ -8,6 +8,8 @@ use Rattle.vox_geom.specs.declared.coordinate.Coord.{Coord}
 use Rattle.vox_geom.specs.Point.{Point, point}
 use Rattle.vox_geom.specs.Region.{Corners, between, is_within, just, span}
 use Rattle.vox_geom.specs.Space.{IsInSpace}
+use Rattle.vox_geom.proofs.Truths.{or_false}
+use Rattle.vox_geom.proofs.Sums.{append_none}
 use Rattle.nano_spec.specs.declared.commands.Command.{Command}
 use Rattle.nano_spec.specs.declared.system.Bot.{Bot}
 use Rattle.nano_spec.specs.Act.{Act, acts, position}
@@ -20,7 +22,6 @@ use Rattle.step_groups.specs.Groups.{AreGroups, IsGroup, bid_of, box_of_bot}
 use Rattle.step_groups.specs.Judging.{is_alone}
 use Rattle.step_groups.specs.declared.groups.Group.{Group}
 use Rattle.step_groups.proofs.Mates.{group, leads, none_after, none_before, volatile}
-use Rattle.step_groups.proofs.Lists.{or_false}
 
 -- ---- boxes
 
@@ -89,10 +90,6 @@ one_more r all (l ∷ leaders) (f ∷ groups) a g h k = (h.0, one_more r all lea
 pub with_leader : (all xs : List Act) (a : Act) (b : Bool) → is_leader all a ≡ b → filter (is_leader all) (xs ++ a ∷ []) ≡ filter (is_leader all) xs ++ cond b (a ∷ []) []
 with_leader all xs a b e = filter-append (is_leader all) xs (a ∷ []) ∙ ap (λ t. filter (is_leader all) xs ++ cond t (a ∷ []) []) e
 
-pub nothing_more : {X : Type 0} (xs : List X) → xs ++ [] ≡ xs
-nothing_more [] = refl
-nothing_more (x ∷ xs) = ap (λ ys. x ∷ ys) (nothing_more xs)
-
 module _ (r : ℕ) (all xs ys : List Act) (a : Act) (whole : all ≡ xs ++ a ∷ ys) (up : Rising (map (λ (b : Act). b.bot) all)) where
   rise : Rising (map (λ (b : Act). b.bot) (xs ++ a ∷ ys))
   rise = subst (λ (as' : List Act). Rising (map (λ (b : Act). b.bot) as')) whole up
@@ -106,7 +103,7 @@ module _ (r : ℕ) (all xs ys : List Act) (a : Act) (whole : all ≡ xs ++ a ∷
   -- a bot that leads no group
   pub add_none : (more : List Act) (groups : List Group) → more ≡ xs ++ a ∷ [] → list_any (are_together a) xs ≡ true → AreGroups r all (filter (is_leader all) xs) groups → AreGroups r all (filter (is_leader all) more) groups
   add_none more groups e h k =
-      subst (λ (ls : List Act). AreGroups r all ls groups) (sym (ap (filter (is_leader all)) e ∙ (with_leader all xs a false (leads_all ∙ ap not h) ∙ nothing_more (filter (is_leader all) xs)))) k
+      subst (λ (ls : List Act). AreGroups r all ls groups) (sym (ap (filter (is_leader all)) e ∙ (with_leader all xs a false (leads_all ∙ ap not h) ∙ append_none (filter (is_leader all) xs)))) k
 
   -- a bot that leads the group of those after it
   pub add_joined : (more : List Act) (groups next : List Group) (g : Group) → more ≡ xs ++ a ∷ [] → next ≡ groups ++ g ∷ [] → list_any (are_together a) xs ≡ false → g.leader ≡ a.bot.bid → g.members.items ≡ a.bot.bid ∷ map bid_of (filter (are_together a) ys) → ((c : Coord) → in_boxes g.boxes.items c ≡ (is_volatile_of (point c) a || list_any (λ b. is_within (span (box_of_bot b)) (point c)) (filter (are_together a) ys))) → AreBoxesIn r g.boxes.items → AreGroups r all (filter (is_leader all) xs) groups → AreGroups r all (filter (is_leader all) more) next

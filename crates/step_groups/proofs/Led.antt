@@ -3,6 +3,7 @@ use Rattle.std.proofs.Common.{◌≡◌, ℕ, ◌+◌, ◌<◌, ap, sym, ◌∙�
 use Rattle.std.specs.Prelude.{AllPairs}
 use Rattle.std.specs.List.{list_any}
 use Rattle.std.proofs.lemmas.List.{map-append}
+use Rattle.vox_geom.proofs.Sums.{append_none}
 use Rattle.nano_spec.specs.declared.commands.Command.{Command}
 use Rattle.nano_spec.specs.declared.system.Bot.{Bot}
 use Rattle.nano_spec.specs.Act.{Act, acts}
@@ -10,7 +11,7 @@ use Rattle.nano_spec.specs.Group.{are_together, is_leader}
 use Rattle.step_order.proofs.Facts.{Rising, rising_is}
 use Rattle.step_groups.specs.Groups.{bid_of}
 use Rattle.step_groups.specs.Judging.{act}
-use Rattle.step_groups.proofs.Joined.{nothing_more, with_leader}
+use Rattle.step_groups.proofs.Joined.{with_leader}
 use Rattle.step_groups.proofs.Mates.{bots_are, leads, split_at, take_more}
 
 -- the bids of the leaders among the bots before a place
@@ -41,7 +42,7 @@ module _ (bots : List Bot) (commands : List Command) (i : ℕ) (b : Bot) (k : Co
 
   -- a bot with a mate before it leads no group
   pub follows : list_any (are_together (act b k)) (acts (take i bots) (take i commands)) ≡ true → led bots commands (i + 1) ≡ led bots commands i
-  follows e = one_more true e ∙ nothing_more (led bots commands i)
+  follows e = one_more true e ∙ append_none (led bots commands i)
 
   -- a bot without one leads a group
   pub leads_one : list_any (are_together (act b k)) (acts (take i bots) (take i commands)) ≡ false → led bots commands (i + 1) ≡ led bots commands i ++ b.bid ∷ []

@@ -6,6 +6,7 @@ use Rattle.std.proofs.lemmas.List.Folds.{list_any-append}
 use Rattle.vox_geom.specs.declared.coordinate.Coord.{Coord}
 use Rattle.vox_geom.specs.Point.{point}
 use Rattle.vox_geom.specs.Region.{Corners, is_within, span}
+use Rattle.vox_geom.proofs.Truths.{one_of_two, or_by_first, or_by_second, or_false}
 use Rattle.nano_spec.specs.declared.commands.Command.{Command}
 use Rattle.nano_spec.specs.declared.outcomes.Rule.TheVariants.{Interference}
 use Rattle.nano_spec.specs.declared.system.Bot.{Bot}
@@ -23,30 +24,17 @@ use Rattle.step_groups.specs.Groups.{AreLone, judge_with}
 use Rattle.step_groups.specs.Judging.{is_alone}
 use Rattle.step_groups.proofs.Couples.{pairs_miss}
 use Rattle.step_groups.proofs.Joined.{in_all}
-use Rattle.step_groups.proofs.Lists.{or_false}
 use Rattle.step_groups.proofs.Mates.{bots_are}
 use Rattle.step_groups.proofs.Shared.{any-push}
 use Rattle.step_groups.proofs.Sums.{alone_leads, alone_members}
 
 -- ---- one bot more
 
-either : (a b : Bool) → IsTrue (a || b) → IsTrue a ⊎ IsTrue b
-either true b h = inl refl
-either false b h = inr h
-
-or_first : (a b : Bool) → IsTrue a → IsTrue (a || b)
-or_first true b h = refl
-or_first false b h = cc
-
-or_second : (a b : Bool) → IsTrue b → IsTrue (a || b)
-or_second true b h = refl
-or_second false b h = h
-
 -- what is volatile for one more
 pub any_more : (c : Coord) (xs : List Act) (a : Act) → IsTrue (list_any (is_volatile_of (point c)) (xs ++ a ∷ [])) → IsTrue (list_any (is_volatile_of (point c)) xs) ⊎ IsTrue (is_volatile_of (point c) a)
 any_more c xs a h =
     let e : list_any (is_volatile_of (point c)) (xs ++ a ∷ []) ≡ (list_any (is_volatile_of (point c)) xs || (is_volatile_of (point c) a || false)) = list_any-append (is_volatile_of (point c)) xs (a ∷ []) in
-    elim (either (list_any (is_volatile_of (point c)) xs) (is_volatile_of (point c) a || false) (sym e ∙ h)) [
+    elim (one_of_two (list_any (is_volatile_of (point c)) xs) (is_volatile_of (point c) a || false) (sym e ∙ h)) [
       | inl k ↦ inl k
       | inr k ↦ inr (sym (or_false (is_volatile_of (point c) a)) ∙ k)
     ]
@@ -56,25 +44,25 @@ apart_more [] a h k = ((λ c v w. cc), tt)
 apart_more (x ∷ xs) a h k = (
   (λ c v w. elim (any_more c xs a w) [
     | inl o ↦ h.0 c v o
-    | inr o ↦ k c o (or_first (is_volatile_of (point c) x) (list_any (is_volatile_of (point c)) xs) v)
+    | inr o ↦ k c o (or_by_first (is_volatile_of (point c) x) (list_any (is_volatile_of (point c)) xs) v)
   ]),
-  apart_more xs a h.1 (λ c v w. k c v (or_second (is_volatile_of (point c) x) (list_any (is_volatile_of (point c)) xs) w)),
+  apart_more xs a h.1 (λ c v w. k c v (or_by_second (is_volatile_of (point c) x) (list_any (is_volatile_of (point c)) xs) w)),
 )
 
 -- ---- the box around some and one more
 
 pub in_more_boxes : (others : List Corners) (k : Corners) (c : Coord) → IsTrue (in_boxes (others ++ k ∷ []) c) → IsTrue (in_boxes others c) ⊎ IsTrue (is_within (span k) (point c))
-in_more_boxes others k c t = either (in_boxes others c) (is_within (span k) (point c)) (sym (any-push (λ l. is_within (span l) (point c)) others k) ∙ t)
+in_more_boxes others k c t = one_of_two (in_boxes others c) (is_within (span k) (point c)) (sym (any-push (λ l. is_within (span l) (point c)) others k) ∙ t)
 
 pub hull_more : (others : List Corners) (k all next : Corners) → IsHull all others → ((c : Coord) → IsTrue (is_within (span all) (point c)) → IsTrue (is_within (span next) (point c))) → ((c : Coord) → IsTrue (is_within (span k) (point c)) → IsTrue (is_within (span next) (point c))) → IsHull next (others ++ k ∷ [])
 hull_more others k all next h f g c t =
     elim (in_more_boxes others k c t) [ inl i ↦ f c (h c i) | inr i ↦ g c i ]
 
 pub in_box_last : (others : List Corners) (k : Corners) (c : Coord) → IsTrue (is_within (span k) (point c)) → IsTrue (in_boxes (others ++ k ∷ []) c)
-in_box_last others k c t = any-push (λ l. is_within (span l) (point c)) others k ∙ or_second (in_boxes others c) (is_within (span k) (point c)) t
+in_box_last others k c t = any-push (λ l. is_within (span l) (point c)) others k ∙ or_by_second (in_boxes others c) (is_within (span k) (point c)) t
 
 pub in_box_before : (others : List Corners) (k : Corners) (c : Coord) → IsTrue (in_boxes others c) → IsTrue (in_boxes (others ++ k ∷ []) c)
-in_box_before others k c t = any-push (λ l. is_within (span l) (point c)) others k ∙ or_first (in_boxes others c) (is_within (span k) (point c)) t
+in_box_before others k c t = any-push (λ l. is_within (span l) (point c)) others k ∙ or_by_first (in_boxes others c) (is_within (span k) (point c)) t
 
 pub none_of : (o : Option Coord) (P : Type 0) → is_some o ≡ false → IfNone o P → P
 none_of None P e h = h
@@ -109,8 +97,8 @@ both false b h = cc
 
 any_in : (c : Coord) (xs : List Act) (a : Act) → In a xs → IsTrue (is_volatile_of (point c) a) → IsTrue (list_any (is_volatile_of (point c)) xs)
 any_in c [] a i h = absurd i
-any_in c (x ∷ xs) a (inl e) h = or_first (is_volatile_of (point c) x) (list_any (is_volatile_of (point c)) xs) (ap (λ (y : Act). is_volatile_of (point c) y) (sym e) ∙ h)
-any_in c (x ∷ xs) a (inr i) h = or_second (is_volatile_of (point c) x) (list_any (is_volatile_of (point c)) xs) (any_in c xs a i h)
+any_in c (x ∷ xs) a (inl e) h = or_by_first (is_volatile_of (point c) x) (list_any (is_volatile_of (point c)) xs) (ap (λ (y : Act). is_volatile_of (point c) y) (sym e) ∙ h)
+any_in c (x ∷ xs) a (inr i) h = or_by_second (is_volatile_of (point c) x) (list_any (is_volatile_of (point c)) xs) (any_in c xs a i h)
 
 module _ (m : Matrix) (all : List Act) (step : ℕ) where
   -- what is volatile for the group of a bot that is alone
@@ -124,9 +112,9 @@ module _ (m : Matrix) (all : List Act) (step : ℕ) where
   with_none : (a : Act) (more : List Act) → members all a ≡ a ∷ [] → ((b : Act) → In b more → members all b ≡ b ∷ []) → IsApartFrom a more → judge_with m all step a more ≡ None
   with_none a [] e h k = refl
   with_none a (b ∷ more) e h k =
-      let n : clash m all a b ≡ None = no_clash a b e (h b (inl refl)) (λ c v w. k c v (or_first (is_volatile_of (point c) b) (list_any (is_volatile_of (point c)) more) w)) in
+      let n : clash m all a b ≡ None = no_clash a b e (h b (inl refl)) (λ c v w. k c v (or_by_first (is_volatile_of (point c) b) (list_any (is_volatile_of (point c)) more) w)) in
       ap (λ o. first_value (broken_by step Interference a.bot.bid o ∷ map (λ x. broken_by step Interference a.bot.bid (clash m all a x)) more)) n
-      ∙ with_none a more e (λ x i. h x (inr i)) (λ c v w. k c v (or_second (is_volatile_of (point c) b) (list_any (is_volatile_of (point c)) more) w))
+      ∙ with_none a more e (λ x i. h x (inr i)) (λ c v w. k c v (or_by_second (is_volatile_of (point c) b) (list_any (is_volatile_of (point c)) more) w))
 
   pairs_none : (xs : List Act) → ((a : Act) → In a xs → members all a ≡ a ∷ []) → AreAllApart xs → first_value (judge_pairs m all step xs) ≡ None
   pairs_none [] h k = refl

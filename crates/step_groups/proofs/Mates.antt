@@ -6,13 +6,15 @@ use Rattle.std.proofs.lemmas.Bool.Decides.{nat_tests}
 use Rattle.std.proofs.lemmas.List.Elements.{filter-append}
 use Rattle.vox_geom.specs.Point.{Point}
 use Rattle.vox_geom.specs.Region.{is_within, just}
+use Rattle.vox_geom.proofs.Truths.{false_by, one_of_two, or_by_first, or_by_second, same_truth}
+use Rattle.vox_geom.proofs.Tests.{at_most_by_test, test_at_most, test_unequal}
 use Rattle.nano_spec.specs.declared.commands.Command.{Command}
 use Rattle.nano_spec.specs.declared.system.Bot.{Bot}
 use Rattle.nano_spec.specs.Act.{Act, acts, position}
 use Rattle.nano_spec.specs.Group.{are_together, is_leader, members}
 use Rattle.nano_spec.specs.Volatile.{is_volatile, is_volatile_of}
 use Rattle.step_order.proofs.Facts.{Rising}
-use Rattle.step_order.proofs.Lists.{In, not_both, is_false, same_test, one_of, by_left, by_right, any_in, in_any, all_in, in_all, filter_in, in_filter, in_map}
+use Rattle.step_order.proofs.Lists.{In, not_both, any_in, in_any, all_in, in_all, filter_in, in_filter, in_map}
 use Rattle.step_order.proofs.Together.{Together, itself, partners, shares, together_is, with_itself}
 use Rattle.step_groups.specs.Judging.{act, is_alone}
 use Rattle.step_groups.proofs.Alone.{together_by_bid}
@@ -67,15 +69,6 @@ parts_of {X} (y ∷ xs) ys a x (inr i) = on (parts_of xs ys a x i)
     on (inl j) = inl (inr j)
     on (inr j) = inr j
 
-le_test : (a b : ℕ) → a ≤ b → nat_le a b ≡ true
-le_test a b h = grind (arith, nat_tests)
-
-test_le : (a b : ℕ) → nat_le a b ≡ true → a ≤ b
-test_le a b h = grind (arith, nat_tests)
-
-bid_test : (a b : ℕ) → (a ≡ b → ⊥) → (a == b) ≡ false
-bid_test a b h = grind (arith, nat_tests)
-
 none_first : {X : Type 0} (p : X → Bool) (x : X) (xs : List X) (b : Bool) → p x ≡ b → (b || list_any p xs) ≡ false → (list_any p xs ≡ false → filter p xs ≡ []) → cond b (x ∷ filter p xs) (filter p xs) ≡ []
 none_first p x xs true e h ih = cc
 none_first p x xs false e h ih = ih h
@@ -93,10 +86,10 @@ module _ (xs ys : List Act) (a : Act) (up : Rising (map (λ (b : Act). b.bot) (x
       all = xs ++ a ∷ ys
 
       by : (b : Bool) → list_any (are_together a) xs ≡ b → is_leader all a ≡ not b
-      by true e = is_false (is_leader all a) (λ (h : is_leader all a ≡ true).
+      by true e = false_by (is_leader all a) (λ (h : is_leader all a ≡ true).
           let r = any_in (are_together a) xs e in
           let low = earlier_bid xs ys a r.0 up r.1 in
-          let high = test_le a.bot.bid r.0.bot.bid (all_in (λ b. nat_le a.bot.bid b.bot.bid) r.0 (members all a) h (in_filter (are_together a) r.0 all (before r.0 r.1) r.2)) in
+          let high = at_most_by_test a.bot.bid r.0.bot.bid (all_in (λ b. nat_le a.bot.bid b.bot.bid) r.0 (members all a) h (in_filter (are_together a) r.0 all (before r.0 r.1) r.2)) in
           absurd (omega arith))
         where
           before : (x : Act) → In x xs → In x all
@@ -108,7 +101,7 @@ module _ (xs ys : List Act) (a : Act) (up : Rising (map (λ (b : Act). b.bot) (x
               in_front (y ∷ xs) ys a x (inr i) = inr (in_front xs ys a x i)
       by false e = in_all (λ b. nat_le a.bot.bid b.bot.bid) (members all a) (λ b i.
           let m = filter_in (are_together a) b all i in
-          le_test a.bot.bid b.bot.bid (at_most b m.1 (parts_of xs ys a b m.0)))
+          test_at_most a.bot.bid b.bot.bid (at_most b m.1 (parts_of xs ys a b m.0)))
         where
           at_most : (b : Act) → are_together a b ≡ true → In b xs ⊎ ((b ≡ a) ⊎ In b ys) → a.bot.bid ≤ b.bot.bid
           at_most b t (inl i) = absurd (not_both (in_any (are_together a) b xs i t) e)
@@ -124,7 +117,7 @@ module _ (xs ys : List Act) (a : Act) (up : Rising (map (λ (b : Act). b.bot) (x
 
   -- what is volatile for a leader's group is so for the leader, or is the place of another member
   pub volatile : list_any (are_together a) xs ≡ false → (p : Point) → is_volatile (xs ++ a ∷ ys) a p ≡ (is_volatile_of p a || list_any (λ b. is_within (just (position b)) p) (filter (are_together a) ys))
-  volatile e p = ap (λ ms. list_any (is_volatile_of p) ms) (group e) ∙ same_test (is_volatile_of p a || list_any (is_volatile_of p) zs) (is_volatile_of p a || list_any spots zs) onwards backwards
+  volatile e p = ap (λ ms. list_any (is_volatile_of p) ms) (group e) ∙ same_truth (is_volatile_of p a || list_any (is_volatile_of p) zs) (is_volatile_of p a || list_any spots zs) onwards backwards
     where
       zs : List Act
       zs = filter (are_together a) ys
@@ -133,23 +126,23 @@ module _ (xs ys : List Act) (a : Act) (up : Rising (map (λ (b : Act). b.bot) (x
       spots = λ b. is_within (just (position b)) p
 
       onwards : (is_volatile_of p a || list_any (is_volatile_of p) zs) ≡ true → (is_volatile_of p a || list_any spots zs) ≡ true
-      onwards h = by (one_of (is_volatile_of p a) (list_any (is_volatile_of p) zs) h)
+      onwards h = by (one_of_two (is_volatile_of p a) (list_any (is_volatile_of p) zs) h)
         where
           of_member : (b : Act) → In b zs → is_volatile_of p b ≡ true → Together a b → (is_volatile_of p a || list_any spots zs) ≡ true
           of_member b i v (itself f) = absurd (let l = later_bid xs ys a b up (filter_in (are_together a) b ys i).0 in omega arith)
-          of_member b i v (partners t) = by_right (is_volatile_of p a) (list_any spots zs) (in_any spots b zs i (of_partner a b p t v))
-          of_member b i v (shares t) = on (one_of (is_volatile_of p a) (spots b) (of_sharer (position a) a.command (position b) b.command p t v))
+          of_member b i v (partners t) = or_by_second (is_volatile_of p a) (list_any spots zs) (in_any spots b zs i (of_partner a b p t v))
+          of_member b i v (shares t) = on (one_of_two (is_volatile_of p a) (spots b) (of_sharer (position a) a.command (position b) b.command p t v))
             where
               on : (is_volatile_of p a ≡ true) ⊎ (spots b ≡ true) → (is_volatile_of p a || list_any spots zs) ≡ true
-              on (inl w) = by_left (is_volatile_of p a) (list_any spots zs) w
-              on (inr w) = by_right (is_volatile_of p a) (list_any spots zs) (in_any spots b zs i w)
+              on (inl w) = or_by_first (is_volatile_of p a) (list_any spots zs) w
+              on (inr w) = or_by_second (is_volatile_of p a) (list_any spots zs) (in_any spots b zs i w)
 
           by : (is_volatile_of p a ≡ true) ⊎ (list_any (is_volatile_of p) zs ≡ true) → (is_volatile_of p a || list_any spots zs) ≡ true
-          by (inl w) = by_left (is_volatile_of p a) (list_any spots zs) w
+          by (inl w) = or_by_first (is_volatile_of p a) (list_any spots zs) w
           by (inr w) = let r = any_in (is_volatile_of p) zs w in of_member r.0 r.1 r.2 (together_is a r.0 (filter_in (are_together a) r.0 ys r.1).1)
 
       backwards : (is_volatile_of p a || list_any spots zs) ≡ true → (is_volatile_of p a || list_any (is_volatile_of p) zs) ≡ true
-      backwards h = by (one_of (is_volatile_of p a) (list_any spots zs) h)
+      backwards h = by (one_of_two (is_volatile_of p a) (list_any spots zs) h)
         where
           at : (b : Act) → In b zs → spots b ≡ true → Together a b → is_volatile_of p b ≡ true
           at b i v (itself f) = absurd (let l = later_bid xs ys a b up (filter_in (are_together a) b ys i).0 in omega arith)
@@ -157,18 +150,18 @@ module _ (xs ys : List Act) (a : Act) (up : Rising (map (λ (b : Act). b.bot) (x
           at b i v (shares t) = spot_of_sharer (position a) a.command (position b) b.command p t v
 
           by : (is_volatile_of p a ≡ true) ⊎ (list_any spots zs ≡ true) → (is_volatile_of p a || list_any (is_volatile_of p) zs) ≡ true
-          by (inl w) = by_left (is_volatile_of p a) (list_any (is_volatile_of p) zs) w
-          by (inr w) = let r = any_in spots zs w in by_right (is_volatile_of p a) (list_any (is_volatile_of p) zs) (in_any (is_volatile_of p) r.0 zs r.1 (at r.0 r.1 r.2 (together_is a r.0 (filter_in (are_together a) r.0 ys r.1).1)))
+          by (inl w) = or_by_first (is_volatile_of p a) (list_any (is_volatile_of p) zs) w
+          by (inr w) = let r = any_in spots zs w in or_by_second (is_volatile_of p a) (list_any (is_volatile_of p) zs) (in_any (is_volatile_of p) r.0 zs r.1 (at r.0 r.1 r.2 (together_is a r.0 (filter_in (are_together a) r.0 ys r.1).1)))
 
   -- a bot whose command needs no other is alone
   pub none_before : IsTrue (is_alone a.command) → list_any (are_together a) xs ≡ false
-  none_before h = is_false (list_any (are_together a) xs) (λ (e : list_any (are_together a) xs ≡ true).
+  none_before h = false_by (list_any (are_together a) xs) (λ (e : list_any (are_together a) xs ≡ true).
       let r = any_in (are_together a) xs e in
       let l = earlier_bid xs ys a r.0 up r.1 in
-      not_both (sym (together_by_bid a r.0 h) ∙ r.2) (bid_test a.bot.bid r.0.bot.bid (λ f. omega arith)))
+      not_both (sym (together_by_bid a r.0 h) ∙ r.2) (test_unequal a.bot.bid r.0.bot.bid (λ f. omega arith)))
 
   pub none_after : IsTrue (is_alone a.command) → filter (are_together a) ys ≡ []
-  none_after h = no_filter (are_together a) ys (is_false (list_any (are_together a) ys) (λ (e : list_any (are_together a) ys ≡ true).
+  none_after h = no_filter (are_together a) ys (false_by (list_any (are_together a) ys) (λ (e : list_any (are_together a) ys ≡ true).
       let r = any_in (are_together a) ys e in
       let l = later_bid xs ys a r.0 up r.1 in
-      not_both (sym (together_by_bid a r.0 h) ∙ r.2) (bid_test a.bot.bid r.0.bot.bid (λ f. omega arith))))
+      not_both (sym (together_by_bid a r.0 h) ∙ r.2) (test_unequal a.bot.bid r.0.bot.bid (λ f. omega arith))))

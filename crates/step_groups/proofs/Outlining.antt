@@ -7,15 +7,14 @@ use Rattle.vox_geom.specs.declared.coordinate.Coord.{Coord}
 use Rattle.vox_geom.specs.declared.difference.Diff.{Diff}
 use Rattle.vox_geom.specs.Point.{Point, point, plus}
 use Rattle.vox_geom.specs.Region.{Corners, IsOrdered, between, is_between, is_within, just, span}
+use Rattle.vox_geom.proofs.Truths.{both_true, first_of_two, or_false, second_of_two}
 use Rattle.nano_spec.specs.declared.commands.Command.TheVariants.{Fill, LMove, SMove, Wait}
 use Rattle.nano_spec.specs.declared.system.Bot.{Bot}
 use Rattle.nano_spec.specs.Act.{Act}
 use Rattle.step_groups.specs.declared.one_pass.Outline.{Outline}
 use Rattle.step_groups.specs.Outlines.{LiesBetween, IsOutlineOf, IsVolatileFor, TakesIn}
 use Rattle.step_groups.specs.Judging.{act}
-use Rattle.step_groups.proofs.Lists.{or_false}
 use Rattle.step_groups.proofs.Lone.{any_more, apart_more}
-use Rattle.step_groups.proofs.Shared.{both_left, both_right, both_true}
 use Rattle.step_groups.proofs.Volatiles.{covers, one}
 
 -- ---- a box and its ends
@@ -28,9 +27,9 @@ inside_box k c o t =
     let x : Bool = is_between (pos k.low.x) (pos k.high.x) (pos c.x) in
     let y : Bool = is_between (pos k.low.y) (pos k.high.y) (pos c.y) in
     let z : Bool = is_between (pos k.low.z) (pos k.high.z) (pos c.z) in
-    let ex = ends k.low.x k.high.x c.x o.x (both_left x y (both_left (x && y) z t)) in
-    let ey = ends k.low.y k.high.y c.y o.y (both_right x y (both_left (x && y) z t)) in
-    let ez = ends k.low.z k.high.z c.z o.z (both_right (x && y) z t) in
+    let ex = ends k.low.x k.high.x c.x o.x (first_of_two x y (first_of_two (x && y) z t)) in
+    let ey = ends k.low.y k.high.y c.y o.y (second_of_two x y (first_of_two (x && y) z t)) in
+    let ez = ends k.low.z k.high.z c.z o.z (second_of_two (x && y) z t) in
     record { from_x = ex.0; from_y = ey.0; from_z = ez.0; to_x = ex.1; to_y = ey.1; to_z = ez.1 }
 
 -- the box takes in also what is less
@@ -63,8 +62,8 @@ module _ (bot : Bot) (k : Corners) (to : Coord) (around : (p : Point) → is_wit
       let y : Bool = is_between e.y e.y c.y in
       let z : Bool = is_between e.z e.z c.z in
       both_true (is_between p.x q.x c.x && is_between p.y q.y c.y) (is_between p.z q.z c.z)
-      (both_true (is_between p.x q.x c.x) (is_between p.y q.y c.y) (fx c.x (both_left x y (both_left (x && y) z t))) (fy c.y (both_right x y (both_left (x && y) z t))))
-      (fz c.z (both_right (x && y) z t))
+      (both_true (is_between p.x q.x c.x) (is_between p.y q.y c.y) (fx c.x (first_of_two x y (first_of_two (x && y) z t))) (fy c.y (second_of_two x y (first_of_two (x && y) z t))))
+      (fz c.z (second_of_two (x && y) z t))
 
   pub named_within : (d : Diff) → point to ≡ plus (point bot.pos) d → (c : Coord) → IsVolatileFor (act bot (Fill d)) c → IsTrue (is_within (span k) (point c))
   named_within d e c h =

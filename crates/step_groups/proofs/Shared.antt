@@ -12,20 +12,9 @@ use Rattle.vox_geom.specs.Region.{Corners, is_within, is_between, span, AreShare
 use Rattle.vox_geom.specs.Space.{IsInSpace}
 use Rattle.step_groups.specs.Boxes.{IsBoxIn, AreBoxesIn, in_boxes}
 use Rattle.vox_geom.specs.Least.{LeastOf}
+use Rattle.vox_geom.proofs.Truths.{both_true, false_by, first_of_two, or_of_and, second_of_two}
 use Rattle.vox_planes.specs.Difference.{earlier}
-use Rattle.step_groups.proofs.Firsts.{earliest, untrue}
-
-pub both_left : (a b : Bool) → IsTrue (a && b) → IsTrue a
-both_left true b h = refl
-both_left false b h = h
-
-pub both_right : (a b : Bool) → IsTrue (a && b) → IsTrue b
-both_right true b h = h
-both_right false b h = cc
-
-pub both_true : (a b : Bool) → IsTrue a → IsTrue b → IsTrue (a && b)
-both_true true b h k = k
-both_true false b h k = h
+use Rattle.step_groups.proofs.Firsts.{earliest}
 
 -- what lies between two numbers below r is below r
 between_below : (r a b v : ℕ) → a < r → b < r → IsTrue (is_between (pos a) (pos b) (pos v)) → v < r
@@ -37,9 +26,9 @@ within_space r k c h t =
     let y : Bool = is_between (pos k.low.y) (pos k.high.y) (pos c.y) in
     let z : Bool = is_between (pos k.low.z) (pos k.high.z) (pos c.z) in
     record {
-      x = between_below r k.low.x k.high.x c.x h.low.x h.high.x (both_left x y (both_left (x && y) z t));
-      y = between_below r k.low.y k.high.y c.y h.low.y h.high.y (both_right x y (both_left (x && y) z t));
-      z = between_below r k.low.z k.high.z c.z h.low.z h.high.z (both_right (x && y) z t);
+      x = between_below r k.low.x k.high.x c.x h.low.x h.high.x (first_of_two x y (first_of_two (x && y) z t));
+      y = between_below r k.low.y k.high.y c.y h.low.y h.high.y (second_of_two x y (first_of_two (x && y) z t));
+      z = between_below r k.low.z k.high.z c.z h.low.z h.high.z (second_of_two (x && y) z t);
     }
 
 -- what two boxes share
@@ -47,11 +36,11 @@ pub meets_is : (r : ℕ) (k l : Corners) (o : Option Coord) → IsBoxIn r k → 
 meets_is r k l (Some c) h shared least none = record {
   within = within_space r k c h shared.0;
   passes = both_true (is_within (span k) (point c)) (is_within (span l) (point c)) shared.0 shared.1;
-  least = λ d i t. least d (both_left (is_within (span k) (point d)) (is_within (span l) (point d)) t, both_right (is_within (span k) (point d)) (is_within (span l) (point d)) t);
+  least = λ d i t. least d (first_of_two (is_within (span k) (point d)) (is_within (span l) (point d)) t, second_of_two (is_within (span k) (point d)) (is_within (span l) (point d)) t);
 }
 meets_is r k l None h shared least none = λ d i.
-    untrue (is_within (span k) (point d) && is_within (span l) (point d))
-    (λ t. none d (both_left (is_within (span k) (point d)) (is_within (span l) (point d)) t, both_right (is_within (span k) (point d)) (is_within (span l) (point d)) t))
+    false_by (is_within (span k) (point d) && is_within (span l) (point d))
+    (λ t. none d (first_of_two (is_within (span k) (point d)) (is_within (span l) (point d)) t, second_of_two (is_within (span k) (point d)) (is_within (span l) (point d)) t))
 
 -- the same test
 pub least_same : (r : ℕ) (f g : Coord → Bool) (o : Option Coord) → ((c : Coord) → f c ≡ g c) → LeastOf r f o → LeastOf r g o
@@ -73,13 +62,6 @@ and_or : (a b c : Bool) → ((a && b) || (a && c)) ≡ (a && (b || c))
 and_or true b c = refl
 and_or false b c = refl
 
-or_and : (a b c : Bool) → ((a && c) || (b && c)) ≡ ((a || b) && c)
-or_and true true true = refl
-or_and true false true = refl
-or_and true true false = refl
-or_and true false false = refl
-or_and false b c = refl
-
 -- one more box on the right
 pub more_right : (r : ℕ) (s : Coord → Bool) (boxes : List Corners) (k : Corners) (x y : Option Coord) → LeastOf r (λ c. s c && in_boxes boxes c) x → LeastOf r (λ c. s c && is_within (span k) (point c)) y → LeastOf r (λ c. s c && in_boxes (boxes ++ k ∷ []) c) (earlier x y)
 more_right r s boxes k x y h i =
@@ -91,7 +73,7 @@ more_right r s boxes k x y h i =
 pub more_left : (r : ℕ) (t : Coord → Bool) (boxes : List Corners) (k : Corners) (x y : Option Coord) → LeastOf r (λ c. in_boxes boxes c && t c) x → LeastOf r (λ c. is_within (span k) (point c) && t c) y → LeastOf r (λ c. in_boxes (boxes ++ k ∷ []) c && t c) (earlier x y)
 more_left r t boxes k x y h i =
     least_same r (λ c. (in_boxes boxes c && t c) || (is_within (span k) (point c) && t c)) (λ c. in_boxes (boxes ++ k ∷ []) c && t c) (earlier x y)
-    (λ c. or_and (in_boxes boxes c) (is_within (span k) (point c)) (t c) ∙ ap (λ b. b && t c) (sym (any-push (λ l. is_within (span l) (point c)) boxes k)))
+    (λ c. or_of_and (in_boxes boxes c) (is_within (span k) (point c)) (t c) ∙ ap (λ b. b && t c) (sym (any-push (λ l. is_within (span l) (point c)) boxes k)))
     (earliest r (λ c. in_boxes boxes c && t c) (λ c. is_within (span k) (point c) && t c) x y h i)
 
 pub take_one : {A : Type 0} (xs : List A) (j : ℕ) (x : A) → j < length xs → x ≡ get_or xs j x → take (j + 1) xs ≡ take j xs ++ x ∷ []

@@ -4,30 +4,23 @@ use Rattle.std.specs.Prelude.{ℤ, int_le}
 use Rattle.std.specs.List.{list_any}
 use Rattle.vox_geom.specs.Point.{Point, plus}
 use Rattle.vox_geom.specs.Region.{Span, between, is_between, is_within, just, same_extent, same_region}
+use Rattle.vox_geom.proofs.Truths.{one_of_two, or_by_first, or_false, or_swapped}
 use Rattle.nano_spec.specs.declared.commands.Command.{Command}
 use Rattle.nano_spec.specs.declared.commands.Command.TheVariants.{FusionP, FusionS, GFill, GVoid}
 use Rattle.nano_spec.specs.Act.{Act, position}
 use Rattle.nano_spec.specs.Group.{are_partners, fuse, is_pair, share_region}
 use Rattle.nano_spec.specs.Volatile.{is_volatile_of, volatile_regions}
-use Rattle.step_order.proofs.Lists.{one_of}
 use Rattle.step_order.proofs.Together.{extent_is, region_parts}
-use Rattle.step_groups.proofs.Lists.{or_false}
 
 abbrev within_any : Point → Command → Point → Bool
 within_any q e x = list_any (λ s. is_within s x) (volatile_regions q e)
-
-or_back : (a b : Bool) → (a || b) ≡ (b || a)
-or_back true true = refl
-or_back true false = refl
-or_back false true = refl
-or_back false false = refl
 
 between_same : (a b c d v : ℤ) → same_extent a b c d ≡ true → is_between a b v ≡ is_between c d v
 between_same a b c d v h = by (extent_is a b c d h)
   where
     by : ((a ≡ c) × (b ≡ d)) ⊎ ((a ≡ d) × (b ≡ c)) → is_between a b v ≡ is_between c d v
     by (inl e) = λ i. is_between (e.0 i) (e.1 i) v
-    by (inr e) = (λ i. is_between (e.0 i) (e.1 i) v) ∙ or_back (int_le d v && int_le v c) (int_le c v && int_le v d)
+    by (inr e) = (λ i. is_between (e.0 i) (e.1 i) v) ∙ or_swapped (int_le d v && int_le v c) (int_le c v && int_le v d)
 
 -- the same regions have the same points
 within_same : (s t : Span) (x : Point) → same_region s t ≡ true → is_within s x ≡ is_within t x
@@ -46,7 +39,7 @@ secondary p (FusionP d) q e x h = cc
 secondary p c q e x h = cc
 
 partner : (a b : Act) (x : Point) → are_partners a b ≡ true → is_volatile_of x b ≡ is_within (just (position b)) x
-partner a b x h = by (one_of (is_pair a b) (is_pair b a) h)
+partner a b x h = by (one_of_two (is_pair a b) (is_pair b a) h)
   where
     by : (is_pair a b ≡ true) ⊎ (is_pair b a ≡ true) → is_volatile_of x b ≡ is_within (just (position b)) x
     by (inl e) = secondary (position a) a.command (position b) b.command x e
@@ -71,11 +64,7 @@ of_sharer p (GFill d f) q (GFill e g) x h v = in_region (is_within (just p) x) (
 of_sharer p (GVoid d f) q (GVoid e g) x h v = in_region (is_within (just p) x) (is_within (just q) x) (is_within (between (plus p d) (plus (plus p d) f)) x) (is_within (between (plus q e) (plus (plus q e) g)) x) (within_same (between (plus p d) (plus (plus p d) f)) (between (plus q e) (plus (plus q e) g)) x h) v
 of_sharer p c q e x h v = cc
 
-by_spot : (there other : Bool) → there ≡ true → (there || other) ≡ true
-by_spot true other h = refl
-by_spot false other h = cc
-
 pub spot_of_sharer : (p : Point) (c : Command) (q : Point) (e : Command) (x : Point) → share_region p c q e ≡ true → is_within (just q) x ≡ true → within_any q e x ≡ true
-spot_of_sharer p (GFill d f) q (GFill e g) x h v = by_spot (is_within (just q) x) (is_within (between (plus q e) (plus (plus q e) g)) x || false) v
-spot_of_sharer p (GVoid d f) q (GVoid e g) x h v = by_spot (is_within (just q) x) (is_within (between (plus q e) (plus (plus q e) g)) x || false) v
+spot_of_sharer p (GFill d f) q (GFill e g) x h v = or_by_first (is_within (just q) x) (is_within (between (plus q e) (plus (plus q e) g)) x || false) v
+spot_of_sharer p (GVoid d f) q (GVoid e g) x h v = or_by_first (is_within (just q) x) (is_within (between (plus q e) (plus (plus q e) g)) x || false) v
 spot_of_sharer p c q e x h v = cc

@@ -4,6 +4,7 @@ use Rattle.std.specs.Prelude.{IsTrue, AllPairs, sum, sum_by}
 use Rattle.std.specs.List.{list_any}
 use Rattle.std.proofs.lemmas.List.Sums.{sum_by-cons}
 use Rattle.vox_geom.specs.Point.{point}
+use Rattle.vox_geom.proofs.Truths.{or_false}
 use Rattle.nano_spec.specs.declared.commands.Command.{Command}
 use Rattle.nano_spec.specs.declared.system.Bot.{Bot}
 use Rattle.nano_spec.specs.Act.{Act, acts, stays_in_space}
@@ -15,7 +16,6 @@ use Rattle.step_order.proofs.Facts.{Rising, rising_is}
 use Rattle.step_order.proofs.Lists.{In}
 use Rattle.step_groups.specs.Judging.{is_alone, touches_of}
 use Rattle.step_groups.proofs.Mates.{bots_are, group, leads, none_after, none_before}
-use Rattle.step_groups.proofs.Lists.{or_false}
 
 -- the elements before one and after it
 record Within {X : Type 0} (x : X) (xs : List X) : Type 0 where

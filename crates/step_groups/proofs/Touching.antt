@@ -9,14 +9,13 @@ use Rattle.vox_geom.specs.Point.{Point, point, plus}
 use Rattle.vox_geom.specs.Region.{Corners, IsOrdered, Span, between, corners, just, is_within, size, span}
 use Rattle.vox_geom.specs.Space.{IsInSpace, in_space}
 use Rattle.vox_geom.proofs.Counts.{region_count}
+use Rattle.vox_geom.proofs.Truths.{both_true, or_by_first, or_by_second}
 use Rattle.nano_spec.specs.declared.commands.Command.TheVariants.{SMove, LMove, Fission}
 use Rattle.nano_spec.specs.declared.system.Bot.{Bot}
 use Rattle.nano_spec.specs.Act.{Act, acts, stays_in_space}
 use Rattle.nano_spec.specs.Matrix.{Matrix, all_of}
 use Rattle.nano_spec.specs.Volatile.{is_volatile_of}
 use Rattle.step_groups.specs.Judging.{act, is_alone, touches_of}
-use Rattle.step_groups.proofs.Firsts.{either_left, either_right}
-use Rattle.step_groups.proofs.Shared.{both_true}
 
 step : (b c : Bool) → (IsTrue b → IsTrue c) → cond {A = ℕ} b 1 0 ≤ cond {A = ℕ} c 1 0
 step true true h = omega arith
@@ -75,13 +74,13 @@ pub smove_reads_twice : (m : Matrix) (bot : Bot) (d : Diff) (k j : Corners) (to 
 smove_reads_twice m bot d k j to old half new i e h l le lf = two_reads m (act bot (SMove d)) k j old half new refl (both_true (in_space m.resolution (plus (point bot.pos) d)) true i refl) (on_way k h) (on_way j l) le lf
   where
     on_way : (w : Corners) → Covers w (between (point bot.pos) (point to)) → (c : Coord) → IsTrue (in_box w c) → IsTrue (is_volatile_of (point c) (act bot (SMove d)))
-    on_way w v c t = either_left (is_within (between (point bot.pos) (plus (point bot.pos) d)) (point c)) false (sym (v (point c) ∙ ap (λ q. is_within (between (point bot.pos) q) (point c)) e) ∙ t)
+    on_way w v c t = or_by_first (is_within (between (point bot.pos) (plus (point bot.pos) d)) (point c)) false (sym (v (point c) ∙ ap (λ q. is_within (between (point bot.pos) q) (point c)) e) ∙ t)
 
 pub fission_reads : (m : Matrix) (bot : Bot) (d : Diff) (n : ℕ) (k : Corners) (to : Coord) (old new : ℕ) → IsTrue (in_space m.resolution (plus (point bot.pos) d)) → point to ≡ plus (point bot.pos) d → Covers k (between (point to) (point to)) → new ≤ old + count_by (in_box k) (all_of m) → new ≤ old + touches_of m (act bot (Fission d n))
 fission_reads m bot d n k to old new i e h le =
     one_read m (act bot (Fission d n)) k old new refl (both_true (in_space m.resolution (plus (point bot.pos) d)) true i refl)
-    (λ c t. either_right (is_within (just (point bot.pos)) (point c)) (is_within (just (plus (point bot.pos) d)) (point c) || false)
-    (either_left (is_within (just (plus (point bot.pos) d)) (point c)) false (sym (h (point c) ∙ ap (λ q. is_within (just q) (point c)) e) ∙ t)))
+    (λ c t. or_by_second (is_within (just (point bot.pos)) (point c)) (is_within (just (plus (point bot.pos) d)) (point c) || false)
+    (or_by_first (is_within (just (plus (point bot.pos) d)) (point c)) false (sym (h (point c) ∙ ap (λ q. is_within (just q) (point c)) e) ∙ t)))
     le
 
 pub lmove_reads : (m : Matrix) (bot : Bot) (d e : Diff) (k j : Corners) (mid to : Coord) (old half new : ℕ) → IsTrue (in_space m.resolution (plus (point bot.pos) d)) → IsTrue (in_space m.resolution (plus (point mid) e)) → point mid ≡ plus (point bot.pos) d → point to ≡ plus (point mid) e → Covers k (between (point bot.pos) (point mid)) → Covers j (between (point mid) (point to)) → half ≤ old + count_by (in_box k) (all_of m) → new ≤ half + count_by (in_box j) (all_of m) → new ≤ old + touches_of m (act bot (LMove d e))
@@ -91,8 +90,8 @@ lmove_reads m bot d e k j mid to old half new i n f g h l le lf =
     let b : point to ≡ Q = g ∙ ap (λ w. plus w e) f in
     two_reads m (act bot (LMove d e)) k j old half new refl
     (both_true (in_space m.resolution P) (in_space m.resolution Q && true) i (both_true (in_space m.resolution Q) true (subst (λ (w : Point). IsTrue (in_space m.resolution (plus w e))) f n) refl))
-    (λ c t. either_left (is_within (between (point bot.pos) P) (point c)) (is_within (between P Q) (point c) || false) (sym (h (point c) ∙ ap (λ q. is_within (between (point bot.pos) q) (point c)) f) ∙ t))
-    (λ c t. either_right (is_within (between (point bot.pos) P) (point c)) (is_within (between P Q) (point c) || false) (either_left (is_within (between P Q) (point c)) false (sym (l (point c) ∙ (λ v. is_within (between (f v) (b v)) (point c))) ∙ t)))
+    (λ c t. or_by_first (is_within (between (point bot.pos) P) (point c)) (is_within (between P Q) (point c) || false) (sym (h (point c) ∙ ap (λ q. is_within (between (point bot.pos) q) (point c)) f) ∙ t))
+    (λ c t. or_by_second (is_within (between (point bot.pos) P) (point c)) (is_within (between P Q) (point c) || false) (or_by_first (is_within (between P Q) (point c)) false (sym (l (point c) ∙ (λ v. is_within (between (f v) (b v)) (point c))) ∙ t)))
     le lf
 
 -- the touches of the bots from a place on

@@ -10,6 +10,7 @@ use Rattle.vox_geom.specs.Point.{point}
 use Rattle.vox_geom.specs.Region.{Corners, IsOrdered, is_within, size, span}
 use Rattle.vox_geom.specs.Space.{IsInSpace, coordinates}
 use Rattle.vox_geom.proofs.Counts.{region_count}
+use Rattle.vox_geom.proofs.Truths.{second_of_two}
 use Rattle.nano_spec.specs.declared.commands.Command.{Command}
 use Rattle.nano_spec.specs.declared.system.Bot.{Bot}
 use Rattle.nano_spec.specs.Act.{Act, acts}
@@ -17,7 +18,7 @@ use Rattle.nano_spec.specs.Group.{is_leader, leaders}
 use Rattle.nano_spec.specs.Matrix.{Matrix, all_of}
 use Rattle.vox_planes.specs.Voxel.{is_state}
 use Rattle.support_forest.proofs.Counts.{count_le}
-use Rattle.step_order.proofs.Lists.{In, any_none, filter_in, second, not_both}
+use Rattle.step_order.proofs.Lists.{In, any_none, filter_in, not_both}
 use Rattle.step_machine.specs.Edits.{cells_of, cells_of_all, edit_count, is_change, is_edited}
 use Rattle.step_machine.proofs.Regions.{not_change}
 
@@ -32,7 +33,7 @@ size_is m r full a k s o h e = sym (region_count r k o h) ∙ (λ i. count_by (�
 few : (m : Matrix) (full : Bool) (a : Act) → length (cells_of m full a) ≤ edit_count m full a
 few m full a =
     let n = length-filter (λ c. is_state m full c && is_edited full a c) (all_of m) in
-    let le = count_le (λ c. is_state m full c && is_edited full a c) (is_edited full a) (λ c h. second (is_state m full c) (is_edited full a c) h) (all_of m) in
+    let le = count_le (λ c. is_state m full c && is_edited full a c) (is_edited full a) (λ c h. second_of_two (is_state m full c) (is_edited full a c) h) (all_of m) in
     omega (arith, n, le)
 
 -- what a list of the region's voxels did
@@ -56,7 +57,7 @@ void (x ∷ xs) h = absurd (h x (inl refl))
 
 -- nothing is changed where nothing is edited
 pub no_cells : (m : Matrix) (full : Bool) (a : Act) → ((c : Coord) → false ≡ is_edited full a c) → cells_of m full a ≡ []
-no_cells m full a e = void (cells_of m full a) (λ c i. let h = filter_in (λ d. is_state m full d && is_edited full a d) c (all_of m) i in not_both (second (is_state m full c) (is_edited full a c) h.1) (sym (e c)))
+no_cells m full a e = void (cells_of m full a) (λ c i. let h = filter_in (λ d. is_state m full d && is_edited full a d) c (all_of m) i in not_both (second_of_two (is_state m full c) (is_edited full a c) h.1) (sym (e c)))
 
 pub listed_none : (m : Matrix) (full : Bool) (a : Act) (old : List Coord) (spare before : ℕ) → ((c : Coord) → false ≡ is_edited full a c) → AreListed m full a old old spare spare before before
 listed_none m full a old spare before e = record { items = sym (append-nil old) ∙ ap (λ cs. old ++ cs) (sym (no_cells m full a e)); left = omega arith; touches = omega arith }

@@ -7,6 +7,7 @@ use Rattle.vox_geom.specs.declared.coordinate.Coord.{Coord}
 use Rattle.vox_geom.specs.Point.{Point, plus, point}
 use Rattle.vox_geom.specs.Region.{Span, between, is_between, is_within, same_region}
 use Rattle.vox_geom.specs.Space.{IsInSpace}
+use Rattle.vox_geom.proofs.Truths.{false_by, first_of_two, one_of_two, or_by_first, or_by_second, or_swapped, same_truth, second_of_two}
 use Rattle.nano_spec.specs.declared.commands.Command.{Command}
 use Rattle.nano_spec.specs.declared.commands.Command.TheVariants.{FusionP, FusionS, GFill, GVoid}
 use Rattle.nano_spec.specs.Act.{Act, filled, position, voided}
@@ -21,7 +22,7 @@ use Rattle.vox_planes.specs.Voxel.{is_state}
 use Rattle.step_order.proofs.Effects.{fills_own, voids_own}
 use Rattle.step_order.proofs.Facts.{IsGood}
 use Rattle.step_order.proofs.Groups.{Differ, differ_acts, differ_filter, led}
-use Rattle.step_order.proofs.Lists.{In, any_in, both, by_left, by_right, filter_in, first, flat_in, in_any, in_filter, in_flat, is_false, not_both, one_of, same_test, second, true_or_false}
+use Rattle.step_order.proofs.Lists.{In, any_in, both, filter_in, flat_in, in_any, in_filter, in_flat, not_both, true_or_false}
 use Rattle.step_order.proofs.Together.{Together, extent_is, itself, partners, region_parts, shares, together_is, with_itself}
 use Rattle.step_order.proofs.Voxels.{as_it_is, coordinates_within, in_coordinates, matrix_same}
 use Rattle.step_machine.specs.Edits.{cells_of, cells_of_all, is_edited}
@@ -30,15 +31,9 @@ use Rattle.step_machine.proofs.Regions.{one_edit}
 
 -- ---- members of a group make the same edit
 
-either_way : (a b : Bool) → (a || b) ≡ (b || a)
-either_way true true = refl
-either_way true false = refl
-either_way false true = refl
-either_way false false = refl
-
 axis : (a b c d v : ℤ) → ((a ≡ c) × (b ≡ d)) ⊎ ((a ≡ d) × (b ≡ c)) → is_between a b v ≡ is_between c d v
 axis a b c d v (inl e) = λ i. is_between (e.0 i) (e.1 i) v
-axis a b c d v (inr e) = (λ i. is_between (e.0 i) (e.1 i) v) ∙ either_way (int_le d v && int_le v c) (int_le c v && int_le v d)
+axis a b c d v (inr e) = (λ i. is_between (e.0 i) (e.1 i) v) ∙ or_swapped (int_le d v && int_le v c) (int_le c v && int_le v d)
 
 same_points : (s t : Span) (p : Point) → same_region s t ≡ true → is_within s p ≡ is_within t p
 same_points s t p h =
@@ -67,7 +62,7 @@ pub same_edit : (full : Bool) (l a : Act) (c : Coord) → (l.bot.bid ≡ a.bot.b
 same_edit full l a c bids (itself e) h = ap (λ (x : Act). is_edited full x c) (bids e) ∙ h
 same_edit true l a c bids (shares e) h = shared_void (position l) l.command (position a) a.command (point c) e ∙ h
 same_edit false l a c bids (shares e) h = shared_fill (position l) l.command (position a) a.command (point c) e ∙ h
-same_edit full l a c bids (partners e) h = by full (one_of (is_pair l a) (is_pair a l) e) h
+same_edit full l a c bids (partners e) h = by full (one_of_two (is_pair l a) (is_pair a l) e) h
   where
     by : (full : Bool) → (is_pair l a ≡ true) ⊎ (is_pair a l ≡ true) → is_edited full a c ≡ true → is_edited full l c ≡ true
     by true (inl f) h = absurd (not_both h (fusion_edits_not (position l) l.command (position a) a.command (point c) f).2)
@@ -113,7 +108,7 @@ module _ (s : State) (all : List Act) (good : IsGood s all) where
   cell_is : (full : Bool) (a : Act) (c : Coord) → In c (cells_of s.matrix full a) → IsInSpace s.matrix.resolution c × (is_state s.matrix full c ≡ true) × (is_edited full a c ≡ true)
   cell_is full a c i =
       let f = filter_in (λ x. is_state s.matrix full x && is_edited full a x) c (all_of s.matrix) i in
-      (coordinates_within s.matrix.resolution c f.0, first (is_state s.matrix full c) (is_edited full a c) f.1, second (is_state s.matrix full c) (is_edited full a c) f.1)
+      (coordinates_within s.matrix.resolution c f.0, first_of_two (is_state s.matrix full c) (is_edited full a c) f.1, second_of_two (is_state s.matrix full c) (is_edited full a c) f.1)
 
   pub cells_apart : (full : Bool) → Apart (cells_of_all s.matrix full (leaders all))
   cells_apart full = apart_flat (cells_of s.matrix full) (leaders all) apart_leaders
@@ -164,14 +159,14 @@ module _ (s : State) (all : List Act) (good : IsGood s all) where
   may_add between r = record {
     differ = pairs_of (cells_of_all s.matrix false (leaders all)) (cells_apart false);
     within = λ c i. subst (λ (n : ℕ). IsInSpace n c) (sym r.resolution) (cell_of false c (held c (cells_of_all s.matrix false (leaders all)) i)).0;
-    void = λ c i. is_false (is_full between c) (λ f. not_both (r.full c f) (void_state c (cell_of false c (held c (cells_of_all s.matrix false (leaders all)) i)).1));
+    void = λ c i. false_by (is_full between c) (λ f. not_both (r.full c f) (void_state c (cell_of false c (held c (cells_of_all s.matrix false (leaders all)) i)).1));
   }
 
   -- ---- what it comes to
 
   module _ (between : Matrix) (lost : AreRemoved s.matrix between (cells_of_all s.matrix true (leaders all))) where
     is_left : (c : Coord) → IsInSpace s.matrix.resolution c → is_full between c ≡ true → (is_full s.matrix c && not (is_voided all c)) ≡ true
-    is_left c w f = both (lost.full c f) (ap not (is_false (is_voided all c) (λ v. not_both f (lost.gone c (holds c (cells_of_all s.matrix true (leaders all)) (of_cell true c w (lost.full c f) v))))))
+    is_left c w f = both (lost.full c f) (ap not (false_by (is_voided all c) (λ v. not_both f (lost.gone c (holds c (cells_of_all s.matrix true (leaders all)) (of_cell true c w (lost.full c f) v))))))
 
     left_is : (c : Coord) → is_full s.matrix c ≡ true → (is_voided all c ≡ true → ⊥) → is_full between c ≡ true
     left_is c f n = by (lost.kept c f)
@@ -184,17 +179,17 @@ module _ (s : State) (all : List Act) (good : IsGood s all) where
     between_is =
         sym (as_it_is between lost.whole)
         ∙ (ap (λ r. matrix_where r (is_full between)) lost.resolution
-        ∙ matrix_same s.matrix.resolution (is_full between) (λ c. is_full s.matrix c && not (is_voided all c)) (λ c w. same_test (is_full between c) (is_full s.matrix c && not (is_voided all c))
+        ∙ matrix_same s.matrix.resolution (is_full between) (λ c. is_full s.matrix c && not (is_voided all c)) (λ c w. same_truth (is_full between c) (is_full s.matrix c && not (is_voided all c))
         (is_left c w)
-        (λ e. left_is c (first (is_full s.matrix c) (not (is_voided all c)) e) (λ v. not_both (second (is_full s.matrix c) (not (is_voided all c)) e) (ap not v)))))
+        (λ e. left_is c (first_of_two (is_full s.matrix c) (not (is_voided all c)) e) (λ v. not_both (second_of_two (is_full s.matrix c) (not (is_voided all c)) e) (ap not v)))))
 
     module _ (new : Matrix) (won : AreAdded between new (cells_of_all s.matrix false (leaders all))) where
       there : (c : Coord) → IsInSpace s.matrix.resolution c → is_full new c ≡ true → (is_filled all c || (is_full s.matrix c && not (is_voided all c))) ≡ true
       there c w f = by (won.full c f)
         where
           by : IsTrue (is_full between c) ⊎ Contains (cells_of_all s.matrix false (leaders all)) c → (is_filled all c || (is_full s.matrix c && not (is_voided all c))) ≡ true
-          by (inl e) = by_right (is_filled all c) (is_full s.matrix c && not (is_voided all c)) (is_left c w e)
-          by (inr i) = by_left (is_filled all c) (is_full s.matrix c && not (is_voided all c)) (cell_of false c (held c (cells_of_all s.matrix false (leaders all)) i)).2
+          by (inl e) = or_by_second (is_filled all c) (is_full s.matrix c && not (is_voided all c)) (is_left c w e)
+          by (inr i) = or_by_first (is_filled all c) (is_full s.matrix c && not (is_voided all c)) (cell_of false c (held c (cells_of_all s.matrix false (leaders all)) i)).2
 
       back : (c : Coord) → IsInSpace s.matrix.resolution c → (is_filled all c ≡ true) ⊎ ((is_full s.matrix c && not (is_voided all c)) ≡ true) → is_full new c ≡ true
       back c w (inl e) = by (true_or_false (is_full s.matrix c))
@@ -202,12 +197,12 @@ module _ (s : State) (all : List Act) (good : IsGood s all) where
           by : (is_full s.matrix c ≡ true) ⊎ (is_full s.matrix c ≡ false) → is_full new c ≡ true
           by (inl f) = won.kept c (left_is c f (λ v. one_way c w v e))
           by (inr f) = won.added c (holds c (cells_of_all s.matrix false (leaders all)) (of_cell false c w (state_void c f) e))
-      back c w (inr e) = won.kept c (left_is c (first (is_full s.matrix c) (not (is_voided all c)) e) (λ v. not_both (second (is_full s.matrix c) (not (is_voided all c)) e) (ap not v)))
+      back c w (inr e) = won.kept c (left_is c (first_of_two (is_full s.matrix c) (not (is_voided all c)) e) (λ v. not_both (second_of_two (is_full s.matrix c) (not (is_voided all c)) e) (ap not v)))
 
       pub new_is : new ≡ matrix_after s.matrix all
       new_is =
           sym (as_it_is new won.whole)
           ∙ (ap (λ r. matrix_where r (is_full new)) (won.resolution ∙ lost.resolution)
-          ∙ matrix_same s.matrix.resolution (is_full new) (λ c. is_filled all c || (is_full s.matrix c && not (is_voided all c))) (λ c w. same_test (is_full new c) (is_filled all c || (is_full s.matrix c && not (is_voided all c)))
+          ∙ matrix_same s.matrix.resolution (is_full new) (λ c. is_filled all c || (is_full s.matrix c && not (is_voided all c))) (λ c w. same_truth (is_full new c) (is_filled all c || (is_full s.matrix c && not (is_voided all c)))
           (there c w)
-          (λ e. back c w (one_of (is_filled all c) (is_full s.matrix c && not (is_voided all c)) e))))
+          (λ e. back c w (one_of_two (is_filled all c) (is_full s.matrix c && not (is_voided all c)) e))))

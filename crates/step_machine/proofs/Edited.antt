@@ -8,6 +8,7 @@ use Rattle.vox_geom.specs.declared.difference.Diff.{Diff}
 use Rattle.vox_geom.specs.Point.{point, plus, same_point}
 use Rattle.vox_geom.specs.Region.{is_within, just}
 use Rattle.vox_geom.specs.Space.{IsInSpace}
+use Rattle.vox_geom.proofs.Truths.{and_by_second, or_false}
 use Rattle.nano_spec.specs.declared.commands.Command.{Command}
 use Rattle.nano_spec.specs.declared.system.Bot.{Bot}
 use Rattle.nano_spec.specs.Act.{acts}
@@ -35,14 +36,6 @@ use Rattle.step_machine.proofs.Refitting.{cheap_none, is_refitted, lost_none, ma
 use Rattle.step_machine.proofs.Still.{only_bot}
 use Rattle.step_machine.proofs.Working.{edits_are_volatile}
 
-or_false : (b : Bool) → (b || false) ≡ b
-or_false true = refl
-or_false false = refl
-
-and_true : (a b : Bool) → b ≡ true → (a && b) ≡ a
-and_true true b e = e
-and_true false b e = refl
-
 and_false : (a b : Bool) → (IsTrue b → ⊥) → (a && b) ≡ false
 and_false true true h = absurd (h refl)
 and_false true false h = refl
@@ -66,7 +59,7 @@ module _ (m : Matrix) (b : Bot) (d : Diff) (at : Coord) (named : point at ≡ pl
   cell_by test =
       ap (λ (f : Coord → Bool). filter (λ c. test c && f c) (all_of m)) (λ i c. here c i)
       ∙ (only_one m.resolution (λ c. test c && same_point (point c) (point at)) at stays (λ c ne. and_false (test c) (same_point (point c) (point at)) (λ h. ne (same_point-is c at h)))
-      ∙ ap (λ t. cond t (at ∷ []) []) (and_true (test at) (same_point (point at) (point at)) (same_point-refl at)))
+      ∙ ap (λ t. cond t (at ∷ []) []) (and_by_second (test at) (same_point (point at) (point at)) (same_point-refl at)))
 
   cell_there : filter (λ c. is_within (just (plus (point b.pos) d)) (point c) || false) (all_of m) ≡ at ∷ []
   cell_there = cell_by (λ c. true)

@@ -8,6 +8,7 @@ use Rattle.vox_geom.specs.declared.coordinate.Coord.{Coord}
 use Rattle.vox_geom.specs.Point.{point}
 use Rattle.vox_geom.specs.Region.{Corners, IsOrdered, corners, is_within, size, span}
 use Rattle.vox_geom.specs.Space.{IsInSpace}
+use Rattle.vox_geom.proofs.Truths.{second_of_two}
 use Rattle.nano_spec.specs.declared.commands.Command.{Command}
 use Rattle.nano_spec.specs.declared.commands.Command.TheVariants.{Fill, Void, GFill, GVoid}
 use Rattle.nano_spec.specs.declared.system.Bot.{Bot}
@@ -21,7 +22,7 @@ use Rattle.nano_spec.specs.Work.{volatile_total}
 use Rattle.vox_planes.specs.Voxel.{is_state}
 use Rattle.vox_planes.proofs.Walks.{is_of}
 use Rattle.support_forest.specs.Standing.{AreRemoved, IsVoided, IsVoidedCheaply, Standing}
-use Rattle.step_order.proofs.Lists.{In, both, filter_in, in_filter, second}
+use Rattle.step_order.proofs.Lists.{In, both, filter_in, in_filter}
 use Rattle.step_order.proofs.Voxels.{in_coordinates}
 use Rattle.step_groups.specs.Judging.{act}
 use Rattle.system_state.specs.declared.edited.EditedRegion.{EditedRegion}
@@ -105,7 +106,7 @@ module _ (s : State) (commands : List Command) (step : ℕ) (ready : IsReady s) 
       edited : (c : Coord) → In c (edits_of s commands true) → is_edited true h.leader c ≡ true
       edited c i =
           let j = filter_in (λ x. is_state s.matrix true x && is_edited true h.leader x) c (all_of s.matrix) (subst (λ (xs : List Coord). In c xs) (edits_are true) i) in
-          second (is_state s.matrix true c) (is_edited true h.leader c) j.1
+          second_of_two (is_state s.matrix true c) (is_edited true h.leader c) j.1
 
   small : size (span k) ≤ volatile_total s.matrix (acts s.bots commands)
   small =

@@ -7,13 +7,14 @@ use Rattle.std.proofs.lemmas.List.Sums.{count_by-le-length}
 use Rattle.vox_geom.specs.declared.coordinate.Coord.{Coord}
 use Rattle.vox_geom.specs.Point.{are_adjacent, point, same_point}
 use Rattle.vox_geom.specs.Space.{in_space}
+use Rattle.vox_geom.proofs.Truths.{first_of_two, not_is_true, one_of_two, or_by_first, or_by_second, second_of_two}
 use Rattle.nano_spec.specs.First.{FirstFailing}
 use Rattle.nano_spec.specs.Grounded.{FirstUngrounded, Grounded, is_path, is_path_from}
 use Rattle.nano_spec.specs.Level.{Level}
 use Rattle.nano_spec.specs.Matrix.{Matrix, all_of, is_full}
 use Rattle.nano_spec.specs.Work.{LevelsOf}
 use Rattle.nano_spec.proofs.Coordinates.{in_space-is}
-use Rattle.step_order.proofs.Lists.{In, any_in, any_none, both, by_left, by_right, first, in_any, not_both, one_of, second, true_or_false}
+use Rattle.step_order.proofs.Lists.{In, any_in, any_none, both, in_any, not_both, true_or_false}
 use Rattle.step_order.proofs.Voxels.{coordinates_within, in_coordinates}
 use Rattle.support_forest.proofs.Counts.{count_more}
 use Rattle.support_forest.proofs.Levels.{same_coordinate, same_point_itself}
@@ -32,18 +33,18 @@ abbrev is_held : Matrix → ℕ → Coord → Bool
 is_held m n c = is_full m c && list_any (holds m n c) (all_of m)
 
 full_reached : (m : Matrix) (n : ℕ) (c : Coord) → reached m n c ≡ true → is_full m c ≡ true
-full_reached m zero c h = first (is_full m c) (c.y == 0) h
-full_reached m (suc n) c h = by (one_of (reached m n c) (is_held m n c) h) (full_reached m n c)
+full_reached m zero c h = first_of_two (is_full m c) (c.y == 0) h
+full_reached m (suc n) c h = by (one_of_two (reached m n c) (is_held m n c) h) (full_reached m n c)
   where
     by : (reached m n c ≡ true) ⊎ (is_held m n c ≡ true) → (reached m n c ≡ true → is_full m c ≡ true) → is_full m c ≡ true
     by (inl e) before = before e
-    by (inr e) before = first (is_full m c) (list_any (holds m n c) (all_of m)) e
+    by (inr e) before = first_of_two (is_full m c) (list_any (holds m n c) (all_of m)) e
 
 listed : (m : Matrix) (c : Coord) → is_full m c ≡ true → In c (all_of m)
-listed m c h = in_coordinates m.resolution c (in_space-is m.resolution c (first (in_space m.resolution (point c)) _ h))
+listed m c h = in_coordinates m.resolution c (in_space-is m.resolution c (first_of_two (in_space m.resolution (point c)) _ h))
 
 held : (m : Matrix) (n : ℕ) (c d : Coord) → is_full m c ≡ true → are_adjacent c d ≡ true → reached m n d ≡ true → reached m (suc n) c ≡ true
-held m n c d f a h = by_right (reached m n c) (is_held m n c) (both f (in_any (holds m n c) d (all_of m) (listed m d (full_reached m n d h)) (both a h)))
+held m n c d f a h = or_by_second (reached m n c) (is_held m n c) (both f (in_any (holds m n c) d (all_of m) (listed m d (full_reached m n d h)) (both a h)))
 
 -- ---- paths
 
@@ -52,37 +53,37 @@ PathOf m c n = (more : List Coord) × IsTrue (is_path m (c ∷ more)) × (length
 
 path_of : (m : Matrix) (n : ℕ) (c : Coord) → reached m n c ≡ true → PathOf m c n
 path_of m zero c h = ([], h, omega arith)
-path_of m (suc n) c h = by (one_of (reached m n c) (is_held m n c) h) (path_of m n)
+path_of m (suc n) c h = by (one_of_two (reached m n c) (is_held m n c) h) (path_of m n)
   where
     by : (reached m n c ≡ true) ⊎ (is_held m n c ≡ true) → ((d : Coord) → reached m n d ≡ true → PathOf m d n) → PathOf m c (suc n)
     by (inl e) before = let p = before c e in (p.0, p.1, (let l = p.2 in omega arith))
     by (inr e) before =
-        let d = any_in (holds m n c) (all_of m) (second (is_full m c) (list_any (holds m n c) (all_of m)) e) in
-        let p = before d.0 (second (are_adjacent c d.0) (reached m n d.0) d.2) in
-        let full : is_full m c ≡ true = first (is_full m c) (list_any (holds m n c) (all_of m)) e in
-        let near : are_adjacent c d.0 ≡ true = first (are_adjacent c d.0) (reached m n d.0) d.2 in
+        let d = any_in (holds m n c) (all_of m) (second_of_two (is_full m c) (list_any (holds m n c) (all_of m)) e) in
+        let p = before d.0 (second_of_two (are_adjacent c d.0) (reached m n d.0) d.2) in
+        let full : is_full m c ≡ true = first_of_two (is_full m c) (list_any (holds m n c) (all_of m)) e in
+        let near : are_adjacent c d.0 ≡ true = first_of_two (are_adjacent c d.0) (reached m n d.0) d.2 in
         (d.0 ∷ p.0, both (both full near) p.1, (let l = p.2 in omega arith))
 
 reached_by : (m : Matrix) (n : ℕ) (a : Coord) (path : List Coord) → IsTrue (is_path m (a ∷ path)) → length path ≤ n → reached m n a ≡ true
 reached_by m zero a [] p l = p
 reached_by m zero a (b ∷ path) p l = absurd (omega arith)
-reached_by m (suc n) a [] p l = by_left (reached m n a) (is_held m n a) (reached_by m n a [] p (omega arith))
+reached_by m (suc n) a [] p l = or_by_first (reached m n a) (is_held m n a) (reached_by m n a [] p (omega arith))
 reached_by m (suc n) a (b ∷ path) p l =
-    let step : (is_full m a && are_adjacent a b) ≡ true = first (is_full m a && are_adjacent a b) (is_path m (b ∷ path)) p in
-    held m n a b (first (is_full m a) (are_adjacent a b) step) (second (is_full m a) (are_adjacent a b) step)
-    (reached_by m n b path (second (is_full m a && are_adjacent a b) (is_path m (b ∷ path)) p) (omega arith))
+    let step : (is_full m a && are_adjacent a b) ≡ true = first_of_two (is_full m a && are_adjacent a b) (is_path m (b ∷ path)) p in
+    held m n a b (first_of_two (is_full m a) (are_adjacent a b) step) (second_of_two (is_full m a) (are_adjacent a b) step)
+    (reached_by m n b path (second_of_two (is_full m a && are_adjacent a b) (is_path m (b ∷ path)) p) (omega arith))
 
 -- no path of at most n + 1 voxels leads from what they do not hold up
 too_short : (m : Matrix) (n : ℕ) (a : Coord) (path : List Coord) → reached m n a ≡ false → IsTrue (is_path m (a ∷ path)) → n < length path
 too_short m n a path f p = elim (cases_lt n (length path)) [ inl l ↦ l | inr l ↦ absurd (not_both (reached_by m n a path p l) f) ]
 
 begins : (c a : Coord) (path : List Coord) (m : Matrix) → IsTrue (is_path_from m c (a ∷ path)) → c ≡ a
-begins c a path m p = same_coordinate c a (first (same_point (point c) (point a)) (is_path m (a ∷ path)) p)
+begins c a path m p = same_coordinate c a (first_of_two (same_point (point c) (point a)) (is_path m (a ∷ path)) p)
 
 longer : (m : Matrix) (n : ℕ) (c : Coord) → reached m n c ≡ false → (path : List Coord) → IsTrue (is_path_from m c path) → suc n < length path
 longer m n c f [] p = cc
 longer m n c f (a ∷ path) p =
-    let l : n < length path = too_short m n a path (ap (reached m n) (sym (begins c a path m p)) ∙ f) (second (same_point (point c) (point a)) (is_path m (a ∷ path)) p) in
+    let l : n < length path = too_short m n a path (ap (reached m n) (sym (begins c a path m p)) ∙ f) (second_of_two (same_point (point c) (point a)) (is_path m (a ∷ path)) p) in
     omega arith
 
 -- ---- the level is the least such number
@@ -117,21 +118,17 @@ Stays m n = (c : Coord) → reached m (suc n) c ≡ true → reached m n c ≡ t
 reached_all : (m : Matrix) (n : ℕ) → Stays m n → (a : Coord) (path : List Coord) → IsTrue (is_path m (a ∷ path)) → reached m n a ≡ true
 reached_all m n stays a [] p = reached_by m n a [] p (omega arith)
 reached_all m n stays a (b ∷ path) p =
-    let step : (is_full m a && are_adjacent a b) ≡ true = first (is_full m a && are_adjacent a b) (is_path m (b ∷ path)) p in
-    stays a (held m n a b (first (is_full m a) (are_adjacent a b) step) (second (is_full m a) (are_adjacent a b) step)
-    (reached_all m n stays b path (second (is_full m a && are_adjacent a b) (is_path m (b ∷ path)) p)))
+    let step : (is_full m a && are_adjacent a b) ≡ true = first_of_two (is_full m a && are_adjacent a b) (is_path m (b ∷ path)) p in
+    stays a (held m n a b (first_of_two (is_full m a) (are_adjacent a b) step) (second_of_two (is_full m a) (are_adjacent a b) step)
+    (reached_all m n stays b path (second_of_two (is_full m a && are_adjacent a b) (is_path m (b ∷ path)) p)))
 
 no_level : (m : Matrix) (n : ℕ) (c : Coord) → Stays m n → reached m n c ≡ false → Grounded m c → ⊥
 no_level m n c stays f ([], p) = cc
-no_level m n c stays f (a ∷ path, p) = not_both (ap (reached m n) (begins c a path m p) ∙ reached_all m n stays a path (second (same_point (point c) (point a)) (is_path m (a ∷ path)) p)) f
+no_level m n c stays f (a ∷ path, p) = not_both (ap (reached m n) (begins c a path m p) ∙ reached_all m n stays a path (second_of_two (same_point (point c) (point a)) (is_path m (a ∷ path)) p)) f
 
 -- whether one voxel more holds it up
 abbrev is_new : Matrix → ℕ → Coord → Bool
 is_new m n c = reached m (suc n) c && not (reached m n c)
-
-not_true : (b : Bool) → not b ≡ true → b ≡ false
-not_true true h = cc
-not_true false h = refl
 
 stays_from : (m : Matrix) (n : ℕ) → list_any (is_new m n) (all_of m) ≡ false → Stays m n
 stays_from m n e c h = by (true_or_false (reached m n c))
@@ -143,8 +140,8 @@ stays_from m n e c h = by (true_or_false (reached m n c))
 more_reached : (m : Matrix) (n : ℕ) → list_any (is_new m n) (all_of m) ≡ true → count_by (reached m n) (all_of m) + 1 ≤ count_by (reached m (suc n)) (all_of m)
 more_reached m n e =
     let d = any_in (is_new m n) (all_of m) e in
-    count_more m.resolution (reached m n) (reached m (suc n)) (λ c h. by_left (reached m n c) (is_held m n c) h) d.0 (coordinates_within m.resolution d.0 d.1)
-    (not_true (reached m n d.0) (second (reached m (suc n) d.0) (not (reached m n d.0)) d.2)) (first (reached m (suc n) d.0) (not (reached m n d.0)) d.2)
+    count_more m.resolution (reached m n) (reached m (suc n)) (λ c h. or_by_first (reached m n c) (is_held m n c) h) d.0 (coordinates_within m.resolution d.0 d.1)
+    (not_is_true (reached m n d.0) (second_of_two (reached m (suc n) d.0) (not (reached m n d.0)) d.2)) (first_of_two (reached m (suc n) d.0) (not (reached m n d.0)) d.2)
 
 settles : (m : Matrix) (rounds n : ℕ) → length (all_of m) ≤ count_by (reached m n) (all_of m) + rounds → (k : ℕ) × Stays m k
 settles m zero n l = by (true_or_false (list_any (is_new m n) (all_of m)))

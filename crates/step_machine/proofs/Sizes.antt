@@ -12,6 +12,8 @@ use Rattle.vox_geom.specs.Difference.{IsFar, is_far, is_near}
 use Rattle.vox_geom.specs.Point.{Point, plus, point, same_number}
 use Rattle.vox_geom.specs.Region.{Span, between, differs, dimension, extent, is_within, just, size}
 use Rattle.vox_geom.proofs.Counts.{region_count_most}
+use Rattle.vox_geom.proofs.Truths.{false_by, or_by_first, or_false, second_of_two}
+use Rattle.vox_geom.proofs.Tests.{at_most_by_test}
 use Rattle.nano_spec.specs.declared.commands.Command.{Command}
 use Rattle.nano_spec.specs.declared.commands.Command.TheVariants.{Halt, Wait, Flip, SMove, LMove, FusionP, FusionS, Fission, Fill, Void, GFill, GVoid}
 use Rattle.nano_spec.specs.declared.system.Bot.{Bot}
@@ -23,7 +25,7 @@ use Rattle.nano_spec.specs.Rules.{corners_of, here, is_misshapen, repeats}
 use Rattle.nano_spec.specs.State.{State}
 use Rattle.nano_spec.specs.declared.outcomes.Rule.TheVariants.{GroupShape}
 use Rattle.nano_spec.specs.Matrix.{Matrix, all_of}
-use Rattle.step_order.proofs.Lists.{In, all_in, any_in, by_left, filter_in, flat_in, in_any, in_filter, is_false, not_both, second}
+use Rattle.step_order.proofs.Lists.{In, all_in, any_in, filter_in, flat_in, in_any, in_filter, not_both}
 use Rattle.step_order.proofs.Facts.{IsGood}
 use Rattle.step_order.proofs.Groups.{Differ, differ_acts}
 use Rattle.step_order.proofs.Together.{number_is, together_back, together_on, with_itself}
@@ -81,10 +83,6 @@ pub count_none : (xs : List Coord) → count_by (λ c. false) xs ≡ 0
 count_none [] = refl
 count_none (x ∷ xs) = let e : count_by (λ c. false) (x ∷ xs) ≡ 0 + count_by (λ c. false) xs = sum_by-cons (λ c. 0) x xs in let n = count_none xs in omega arith
 
-or_false : (b : Bool) → (b || false) ≡ b
-or_false true = refl
-or_false false = refl
-
 count_one : (m : Matrix) (s : Span) → count_by (λ c. is_within s (point c) || false) (all_of m) ≤ size s
 count_one m s =
     let e : count_by (λ c. is_within s (point c) || false) (all_of m) ≡ count_by (λ c. is_within s (point c)) (all_of m) = λ i. count_by (λ c. or_false (is_within s (point c)) i) (all_of m) in
@@ -124,13 +122,13 @@ act_most m b (Void d) n h f =
 act_most m b (GFill d f) n h g =
     let e = count_none (all_of m) in
     let l = count_one m (between (plus (point b.pos) d) (plus (plus (point b.pos) d) f)) in
-    let k = far_most (plus (point b.pos) d) f (second (is_near d) (is_far f) h) in
+    let k = far_most (plus (point b.pos) d) f (second_of_two (is_near d) (is_far f) h) in
     let p = fits_is n (2 ^ dimension (between (plus (point b.pos) d) (plus (plus (point b.pos) d) f))) g.0 in
     omega (arith, e, l, k, p)
 act_most m b (GVoid d f) n h g =
     let e = count_none (all_of m) in
     let l = count_one m (between (plus (point b.pos) d) (plus (plus (point b.pos) d) f)) in
-    let k = far_most (plus (point b.pos) d) f (second (is_near d) (is_far f) h) in
+    let k = far_most (plus (point b.pos) d) f (second_of_two (is_near d) (is_far f) h) in
     let p = fits_is n (2 ^ dimension (between (plus (point b.pos) d) (plus (plus (point b.pos) d) f))) g.0 in
     omega (arith, e, l, k, p)
 
@@ -171,7 +169,7 @@ length_flat f (x ∷ xs) =
     omega (arith, a, b, c)
 
 none_of_either : {X : Type 0} (p q : X → Bool) (xs : List X) → list_any (λ x. p x || q x) xs ≡ false → list_any p xs ≡ false
-none_of_either {X} p q xs h = is_false (list_any p xs) (λ (e : list_any p xs ≡ true). let r = any_in p xs e in not_both (in_any (λ (x : X). p x || q x) r.0 xs r.1 (by_left (p r.0) (q r.0) r.2)) h)
+none_of_either {X} p q xs h = false_by (list_any p xs) (λ (e : list_any p xs ≡ true). let r = any_in p xs e in not_both (in_any (λ (x : X). p x || q x) r.0 xs r.1 (or_by_first (p r.0) (q r.0) r.2)) h)
 
 some_in : {X : Type 0} (x : X) (xs : List X) → In x xs → 1 ≤ length xs
 some_in x [] h = absurd h
@@ -180,9 +178,6 @@ some_in x (y ∷ ys) h = omega arith
 not_here : (a : Act) (b : Bool) → here a b ≡ None → b ≡ false
 not_here a true e = cc
 not_here a false e = refl
-
-le_test : (a b : ℕ) → nat_le a b ≡ true → a ≤ b
-le_test a b h = grind (arith, nat_tests)
 
 abbrev member_count : List Act → Act → ℕ
 member_count all l = length (members all l)
@@ -207,8 +202,8 @@ module _ (s : State) (all : List Act) (good : IsGood s all) where
       let k = filter_in (are_together l) a all p in
       let n = filter_in (are_together d) a all q in
       let ld = together_on all good.apart l a d (lead l i) k.0 (lead d j) k.1 (together_back d a n.1) in
-      let up = le_test l.bot.bid d.bot.bid (all_in (λ b. nat_le l.bot.bid b.bot.bid) d (members all l) (filter_in (is_leader all) l all i).1 (in_filter (are_together l) d all (lead d j) ld)) in
-      let down = le_test d.bot.bid l.bot.bid (all_in (λ b. nat_le d.bot.bid b.bot.bid) l (members all d) (filter_in (is_leader all) d all j).1 (in_filter (are_together d) l all (lead l i) (together_back l d ld))) in
+      let up = at_most_by_test l.bot.bid d.bot.bid (all_in (λ b. nat_le l.bot.bid b.bot.bid) d (members all l) (filter_in (is_leader all) l all i).1 (in_filter (are_together l) d all (lead d j) ld)) in
+      let down = at_most_by_test d.bot.bid l.bot.bid (all_in (λ b. nat_le d.bot.bid b.bot.bid) l (members all d) (filter_in (is_leader all) d all j).1 (in_filter (are_together d) l all (lead l i) (together_back l d ld))) in
       good.apart.bids l d (lead l i) (lead d j) (let e : l.bot.bid ≡ d.bot.bid = omega arith in e)
 
   apart_acts : Apart all

@@ -6,6 +6,7 @@ use Rattle.std.proofs.lemmas.List.Sums.{count_by-le-length}
 use Rattle.vox_geom.specs.declared.coordinate.Coord.{Coord}
 use Rattle.vox_geom.specs.Point.{point, same_point}
 use Rattle.vox_geom.specs.Space.{IsInSpace}
+use Rattle.vox_geom.proofs.Truths.{false_by, or_by_first, same_truth}
 use Rattle.vox_planes.specs.Changes.{Changes}
 use Rattle.vox_planes.specs.Voxel.{IsWhole}
 use Rattle.vox_planes.proofs.Voxels.{same_point-is, same_point-refl}
@@ -19,7 +20,7 @@ use Rattle.support_forest.specs.Standing.{AreAdded, AreRemoved, MayAdd, MayRemov
 use Rattle.support_forest.proofs.Counts.{length_coordinates}
 use Rattle.system_state.specs.Painting.{is_cell, with_cells}
 use Rattle.step_order.proofs.Facts.{IsGood, good_is}
-use Rattle.step_order.proofs.Lists.{In, any_in, by_left, in_any, is_false, not_both, place_in, same_test}
+use Rattle.step_order.proofs.Lists.{In, any_in, in_any, not_both, place_in}
 use Rattle.step_order.proofs.Voxels.{as_it_is, full_where, matrix_same}
 use Rattle.step_machine.specs.Edits.{edits_of}
 use Rattle.step_machine.specs.Situation.{IsEnergyBounded, IsConsistent, Situation}
@@ -41,7 +42,7 @@ of_among cells d h =
     subst (λ (c : Coord). In c cells) (sym (same_point-is d r.0 r.2)) r.1
 
 pub not_among : (cells : List Coord) (d : Coord) → (In d cells → ⊥) → is_cell cells d ≡ false
-not_among cells d h = is_false (is_cell cells d) (λ e. h (of_among cells d e))
+not_among cells d h = false_by (is_cell cells d) (λ e. h (of_among cells d e))
 
 pub full_with : (m : Matrix) (cells : List Coord) (full : Bool) (d : Coord) → IsInSpace m.resolution d → is_full (with_cells m cells full) d ≡ cond (is_cell cells d) full (is_full m d)
 full_with m cells full d w = full_where m.resolution (λ e. cond (is_cell cells e) full (is_full m e)) d w
@@ -58,7 +59,7 @@ removed_is old new cells r =
 
     by : (d : Coord) (b : Bool) → is_cell cells d ≡ b → is_full new d ≡ cond b false (is_full old d)
     by d true e = r.gone d (holds d cells (of_among cells d e))
-    by d false e = same_test (is_full new d) (is_full old d) (r.full d) (λ f. left d (λ i. not_both (among cells d i) e) (r.kept d f))
+    by d false e = same_truth (is_full new d) (is_full old d) (r.full d) (λ f. left d (λ i. not_both (among cells d i) e) (r.kept d f))
 
 pub added_is : (old new : Matrix) (cells : List Coord) → AreAdded old new cells → new ≡ with_cells old cells true
 added_is old new cells a =
@@ -72,7 +73,7 @@ added_is old new cells a =
 
     by : (d : Coord) (b : Bool) → is_cell cells d ≡ b → is_full new d ≡ cond b true (is_full old d)
     by d true e = a.added d (holds d cells (of_among cells d e))
-    by d false e = same_test (is_full new d) (is_full old d) (λ f. old_one d (λ i. not_both (among cells d i) e) (a.full d f)) (a.kept d)
+    by d false e = same_truth (is_full new d) (is_full old d) (λ f. old_one d (λ i. not_both (among cells d i) e) (a.full d f)) (a.kept d)
 
 -- ---- what may be taken back
 
@@ -179,7 +180,7 @@ module _ (s : State) (commands : List Command) (step : ℕ) (ready : IsReady s) 
       voided_differ = subst (λ (xs : List Coord). AllPairs ◌≢◌ xs) (sym h.voided) (pairs_of (edits_of s commands true) (cells_apart s (acts s.bots commands) good true));
       filled = in_each undo.filled.items (λ c i.
           let w = cell_of s (acts s.bots commands) good false c (filled_cell c i) in
-          now c w.0 ∙ by_left (is_filled (acts s.bots commands) c) (is_full s.matrix c && not (is_voided (acts s.bots commands) c)) w.2);
+          now c w.0 ∙ or_by_first (is_filled (acts s.bots commands) c) (is_full s.matrix c && not (is_voided (acts s.bots commands) c)) w.2);
       voided = in_each undo.voided.items (λ c i.
           let w = cell_of s (acts s.bots commands) good true c (voided_cell c i) in
           now c w.0 ∙ voided_gone (is_filled (acts s.bots commands) c) (is_full s.matrix c) (is_voided (acts s.bots commands) c) (λ f. one_way s (acts s.bots commands) good c w.0 w.2 f) w.2);
@@ -193,10 +194,10 @@ module _ (s : State) (commands : List Command) (step : ℕ) (ready : IsReady s) 
     others_stay d w nf nv = now d w ∙ by (is_full s.matrix d) refl
       where
         not_filled : is_full s.matrix d ≡ false → is_filled (acts s.bots commands) d ≡ false
-        not_filled e = is_false (is_filled (acts s.bots commands) d) (λ f. nf (subst (λ (xs : List Coord). In d xs) (sym h.filled) (of_cell s (acts s.bots commands) good false d w (state_void s (acts s.bots commands) good d e) f)))
+        not_filled e = false_by (is_filled (acts s.bots commands) d) (λ f. nf (subst (λ (xs : List Coord). In d xs) (sym h.filled) (of_cell s (acts s.bots commands) good false d w (state_void s (acts s.bots commands) good d e) f)))
 
         not_voided : is_full s.matrix d ≡ true → is_voided (acts s.bots commands) d ≡ false
-        not_voided e = is_false (is_voided (acts s.bots commands) d) (λ f. nv (subst (λ (xs : List Coord). In d xs) (sym h.voided) (of_cell s (acts s.bots commands) good true d w e f)))
+        not_voided e = false_by (is_voided (acts s.bots commands) d) (λ f. nv (subst (λ (xs : List Coord). In d xs) (sym h.voided) (of_cell s (acts s.bots commands) good true d w e f)))
 
         stays : (f v : Bool) → v ≡ false → (f || (true && not v)) ≡ true
         stays true false e = refl

@@ -6,6 +6,7 @@ use Rattle.std.proofs.lemmas.List.Sums.{length-filter, sum-map, sum_by-cons}
 use Rattle.std.proofs.lemmas.Option.{slice_get_within}
 use Rattle.vox_geom.specs.declared.coordinate.Coord.{Coord}
 use Rattle.vox_geom.specs.Point.{point}
+use Rattle.vox_geom.proofs.Truths.{or_by_first, or_by_second}
 use Rattle.nano_spec.specs.declared.commands.Command.{Command}
 use Rattle.nano_spec.specs.declared.outcomes.Broken.{Broken}
 use Rattle.nano_spec.specs.declared.outcomes.Rule.{Rule}
@@ -22,7 +23,7 @@ use Rattle.nano_spec.specs.Volatile.{is_volatile_of}
 use Rattle.nano_spec.specs.Work.{Levels, WorkOfActs, WorkOfJudged, WorkOfStep, changed_count, differing, volatile_count, volatile_total, without_voided, work_by_rule}
 use Rattle.support_forest.proofs.Counts.{count_le}
 use Rattle.step_order.proofs.Facts.{IsGood, good_is}
-use Rattle.step_order.proofs.Lists.{In, both, by_left, by_right, filter_in, in_any, in_either, in_filter, not_both}
+use Rattle.step_order.proofs.Lists.{In, both, filter_in, in_any, in_either, in_filter, not_both}
 use Rattle.step_order.proofs.Together.{with_itself}
 use Rattle.step_order.proofs.Voxels.{full_where, in_coordinates}
 use Rattle.step_machine.specs.Edits.{edit_count, edits_of, edits_total, is_edited}
@@ -81,7 +82,7 @@ module _ (s : State) (commands : List Command) (step : ℕ) (ready : IsReady s) 
       let w = cell_of s (acts s.bots commands) good true c i in
       let gone : (is_filled (acts s.bots commands) c || (is_full s.matrix c && not (is_voided (acts s.bots commands) c))) ≡ false = voided_gone (is_filled (acts s.bots commands) c) (is_full s.matrix c) (is_voided (acts s.bots commands) c) (λ f. one_way s (acts s.bots commands) good c w.0 w.2 f) w.2 in
       let e = full_where s.matrix.resolution (λ d. is_filled (acts s.bots commands) d || (is_full s.matrix d && not (is_voided (acts s.bots commands) d))) c w.0 ∙ gone in
-      by_left (is_full s.matrix c && not (is_full (matrix_after s.matrix (acts s.bots commands)) c)) (is_full (matrix_after s.matrix (acts s.bots commands)) c && not (is_full s.matrix c)) (both w.1 (ap not e))
+      or_by_first (is_full s.matrix c && not (is_full (matrix_after s.matrix (acts s.bots commands)) c)) (is_full (matrix_after s.matrix (acts s.bots commands)) c && not (is_full s.matrix c)) (both w.1 (ap not e))
     where
       voided_gone : (f u v : Bool) → (f ≡ true → ⊥) → v ≡ true → (f || (u && not v)) ≡ false
       voided_gone true u v n e = absurd (n refl)
@@ -92,8 +93,8 @@ module _ (s : State) (commands : List Command) (step : ℕ) (ready : IsReady s) 
   won_differs : (c : Coord) → In c (edits_of s commands false) → differ_at s.matrix (matrix_after s.matrix (acts s.bots commands)) c ≡ true
   won_differs c i =
       let w = cell_of s (acts s.bots commands) good false c i in
-      let e = full_where s.matrix.resolution (λ d. is_filled (acts s.bots commands) d || (is_full s.matrix d && not (is_voided (acts s.bots commands) d))) c w.0 ∙ by_left (is_filled (acts s.bots commands) c) (is_full s.matrix c && not (is_voided (acts s.bots commands) c)) w.2 in
-      by_right (is_full s.matrix c && not (is_full (matrix_after s.matrix (acts s.bots commands)) c)) (is_full (matrix_after s.matrix (acts s.bots commands)) c && not (is_full s.matrix c)) (both e w.1)
+      let e = full_where s.matrix.resolution (λ d. is_filled (acts s.bots commands) d || (is_full s.matrix d && not (is_voided (acts s.bots commands) d))) c w.0 ∙ or_by_first (is_filled (acts s.bots commands) c) (is_full s.matrix c && not (is_voided (acts s.bots commands) c)) w.2 in
+      or_by_second (is_full s.matrix c && not (is_full (matrix_after s.matrix (acts s.bots commands)) c)) (is_full (matrix_after s.matrix (acts s.bots commands)) c && not (is_full s.matrix c)) (both e w.1)
 
   apart_all : Apart (edits_of s commands true ++ edits_of s commands false)
   apart_all = apart_append (edits_of s commands true) (edits_of s commands false) (cells_apart s (acts s.bots commands) good true) (cells_apart s (acts s.bots commands) good false)

@@ -7,6 +7,7 @@ use Rattle.std.proofs.lemmas.List.Sums.{sum_by-cons}
 use Rattle.vox_geom.specs.declared.coordinate.Coord.{Coord}
 use Rattle.vox_geom.specs.Point.{Point, point, plus}
 use Rattle.vox_geom.specs.Region.{Span, between, dimension, is_within}
+use Rattle.vox_geom.proofs.Truths.{and_false, and_true, or_by_first, or_false}
 use Rattle.nano_spec.specs.declared.commands.Command.{Command}
 use Rattle.nano_spec.specs.declared.commands.Command.TheVariants.{Halt, Wait, Flip, SMove, LMove, FusionP, FusionS, Fission, Fill, Void, GFill, GVoid}
 use Rattle.nano_spec.specs.declared.system.Bot.{Bot}
@@ -22,17 +23,9 @@ use Rattle.step_order.specs.Unbroken.{AreOneGroup, IsMember, MayJoin}
 use Rattle.step_order.proofs.Crews.{rising_itself}
 use Rattle.step_order.proofs.Facts.{Rising, up}
 use Rattle.step_order.proofs.Faultless.{all_by, within_as}
-use Rattle.step_order.proofs.Lists.{In, by_left, flat_same, in_map, map_in, map_same}
+use Rattle.step_order.proofs.Lists.{In, flat_same, in_map, map_in, map_same}
 use Rattle.step_order.proofs.Together.{AreApart, one_partner}
 use Rattle.step_order.proofs.Voxels.{as_it_is, matrix_same}
-
-and_true : (b : Bool) → (b && true) ≡ b
-and_true true = refl
-and_true false = refl
-
-and_false : (b : Bool) → (b && false) ≡ false
-and_false true = refl
-and_false false = refl
 
 -- what holds of each that is in a list
 all_from : {X : Type 0} (P : X → Type 0) (xs : List X) → ((x : X) → In x xs → P x) → AllByRecursion P xs
@@ -147,10 +140,6 @@ group_flip r region true p _ h = absurd h
 group_flip r region false p (GVoid d f) h = refl
 group_flip r region false p _ h = absurd h
 
-or_false : (b : Bool) → (b || false) ≡ b
-or_false true = refl
-or_false false = refl
-
 group_filled : (r : ℕ) (region : Span) (full : Bool) (p q : Point) (k : Command) → MayJoin r region full p k → list_any (λ s. is_within s q) (filled p k) ≡ (is_within region q && full)
 group_filled r region true p q (GFill d f) h = or_false (is_within (between (plus p d) (plus (plus p d) f)) q) ∙ (within_as (between (plus p d) (plus (plus p d) f)) region q h.same ∙ sym (and_true (is_within region q)))
 group_filled r region true p q _ h = absurd h
@@ -207,7 +196,7 @@ find_only {X} p b (x ∷ xs) i t only = by (p x) refl i (λ j. find_only p b xs 
 
 module _ (all : List Act) (apart : AreApart all) (a b : Act) (j : In b all) (pair : is_pair a b ≡ true) where
   found_partner : find (is_pair a) all ≡ Some b
-  found_partner = find_only (is_pair a) b all j pair (λ x i t. apart.places x b i j (one_partner x a b (by_left (is_pair a x) (is_pair x a) t) (by_left (is_pair a b) (is_pair b a) pair)))
+  found_partner = find_only (is_pair a) b all j pair (λ x i t. apart.places x b i j (one_partner x a b (or_by_first (is_pair a x) (is_pair x a) t) (or_by_first (is_pair a b) (is_pair b a) pair)))
 
   primary_by : (k : Command) → fuse (position a) k (position b) b.command ≡ true → successors all a k ≡ fused a.bot b.bot ∷ []
   primary_by (FusionP d) h = ap (λ (o : Option Act). after_fusion a.bot o ∷ []) found_partner

@@ -8,6 +8,7 @@ use Rattle.vox_geom.specs.declared.difference.Diff.{Diff}
 use Rattle.vox_geom.specs.Point.{Point, point, plus, same_point}
 use Rattle.vox_geom.specs.Region.{Span, between, differs, dimension, is_between, is_within, just, same_extent, same_region}
 use Rattle.vox_geom.specs.Space.{in_space}
+use Rattle.vox_geom.proofs.Truths.{and_false, first_of_two, second_of_two}
 use Rattle.nano_spec.specs.declared.commands.Command.{Command}
 use Rattle.nano_spec.specs.declared.commands.Command.TheVariants.{Halt, Wait, Flip, SMove, LMove, FusionP, FusionS, Fission, Fill, Void, GFill, GVoid}
 use Rattle.nano_spec.specs.declared.outcomes.Rule.{Rule}
@@ -23,7 +24,7 @@ use Rattle.nano_spec.specs.Volatile.{volatile_regions}
 use Rattle.step_order.specs.Apart.{AreApart, AreBelow, AreUntangled, LieApart, MayMeet, before_x, before_y, before_z, after_x, after_y, after_z}
 use Rattle.step_order.specs.Unbroken.{AreFree, AreOneGroup, HasPartner, IsCornered, IsFree, IsFreeWay, IsMember, MayAct, MayHalt, MayJoin}
 use Rattle.step_order.proofs.Judgements.{Agree, AreClear, contained}
-use Rattle.step_order.proofs.Lists.{In, any_in, filter_every, first, in_any, none_find, second}
+use Rattle.step_order.proofs.Lists.{In, any_in, filter_every, in_any, none_find}
 use Rattle.step_order.proofs.Together.{extent_is, is_together, partners, region_back, region_on, region_parts, shares, together_back, with_itself}
 
 -- a bot and its command
@@ -38,13 +39,13 @@ axis_apart a b c d v h i j = grind (arith, ints)
 -- a point of a region lies between its ends on each axis
 module _ (s : Span) (p : Point) (h : is_within s p ≡ true) where
   within_x : is_between s.from.x s.to.x p.x ≡ true
-  within_x = first (is_between s.from.x s.to.x p.x) (is_between s.from.y s.to.y p.y) (first (is_between s.from.x s.to.x p.x && is_between s.from.y s.to.y p.y) (is_between s.from.z s.to.z p.z) h)
+  within_x = first_of_two (is_between s.from.x s.to.x p.x) (is_between s.from.y s.to.y p.y) (first_of_two (is_between s.from.x s.to.x p.x && is_between s.from.y s.to.y p.y) (is_between s.from.z s.to.z p.z) h)
 
   within_y : is_between s.from.y s.to.y p.y ≡ true
-  within_y = second (is_between s.from.x s.to.x p.x) (is_between s.from.y s.to.y p.y) (first (is_between s.from.x s.to.x p.x && is_between s.from.y s.to.y p.y) (is_between s.from.z s.to.z p.z) h)
+  within_y = second_of_two (is_between s.from.x s.to.x p.x) (is_between s.from.y s.to.y p.y) (first_of_two (is_between s.from.x s.to.x p.x && is_between s.from.y s.to.y p.y) (is_between s.from.z s.to.z p.z) h)
 
   within_z : is_between s.from.z s.to.z p.z ≡ true
-  within_z = second (is_between s.from.x s.to.x p.x && is_between s.from.y s.to.y p.y) (is_between s.from.z s.to.z p.z) h
+  within_z = second_of_two (is_between s.from.x s.to.x p.x && is_between s.from.y s.to.y p.y) (is_between s.from.z s.to.z p.z) h
 
 none_shared : (s t : Span) (p : Point) → LieApart s t → is_within s p ≡ true → is_within t p ≡ true → ⊥
 none_shared s t p (before_x h) i j = axis_apart s.from.x s.to.x t.from.x t.to.x p.x h (within_x s p i) (within_x t p j)
@@ -83,13 +84,9 @@ agree_in (x ∷ xs) h a b (inl i) (inr j) = subst (λ (y : Act). Agree y b) (sym
 agree_in (x ∷ xs) h a b (inr i) (inl j) = subst (λ (y : Act). Agree a y) (sym j) (turned x a (meets x a (all_by (λ (y : Act). MayMeet x y) xs a h.0 i)))
 agree_in (x ∷ xs) h a b (inr i) (inr j) = agree_in xs h.1 a b i j
 
-no_way : (b : Bool) → (b && false) ≡ false
-no_way true = refl
-no_way false = refl
-
 one_way : (way full : Bool) → (IsTrue way → full ≡ false) → (full && (way || false)) ≡ false
 one_way true full f = rw (f refl) refl
-one_way false full f = no_way full
+one_way false full f = and_false full
 
 two_ways : (way next full : Bool) → (IsTrue way → full ≡ false) → (IsTrue next → full ≡ false) → (full && (way || (next || false))) ≡ false
 two_ways true next full f g = rw (f refl) refl
@@ -99,7 +96,7 @@ enough : (n m : ℕ) → m < n → nat_le n m ≡ false
 enough n m h = grind (arith, nat_tests)
 
 none_blocked : (m : Matrix) → find (λ c. is_full m c && false) (all_of m) ≡ None
-none_blocked m = none_find (λ c. is_full m c && false) (all_of m) (λ c i. no_way (is_full m c))
+none_blocked m = none_find (λ c. is_full m c && false) (all_of m) (λ c i. and_false (is_full m c))
 
 module _ (s : State) (all : List Act) (b : Bot) where
   halt_faults : is_allowed s.profile Halt ≡ true → MayHalt s (act b Halt) → (rule : Rule) → fault s all (act b Halt) rule ≡ None

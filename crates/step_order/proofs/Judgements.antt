@@ -4,6 +4,7 @@ use Rattle.std.specs.Prelude.{Some, None, Option, option_map, slice_get}
 use Rattle.std.specs.List.{Contains}
 use Rattle.vox_geom.specs.declared.coordinate.Coord.{Coord}
 use Rattle.vox_geom.specs.Point.{point}
+use Rattle.vox_geom.proofs.Truths.{false_by, first_of_two, second_of_two}
 use Rattle.nano_spec.specs.declared.commands.Command.{Command}
 use Rattle.nano_spec.specs.declared.outcomes.Broken.{Broken}
 use Rattle.nano_spec.specs.declared.outcomes.Rule.{Rule}
@@ -18,7 +19,7 @@ use Rattle.nano_spec.specs.State.{IsReady, State}
 use Rattle.nano_spec.specs.Volatile.{is_volatile, is_volatile_of}
 use Rattle.step_order.proofs.Facts.{apart_is, commanded, up}
 use Rattle.step_order.proofs.Groups.{Differ, differ_acts, differ_filter, only_leader}
-use Rattle.step_order.proofs.Lists.{In, any_in, filter_in, first, flat_in, in_either, in_place, is_false, map_in, none_find, place_in, second}
+use Rattle.step_order.proofs.Lists.{In, any_in, filter_in, flat_in, in_either, in_place, map_in, none_find, place_in}
 use Rattle.step_order.proofs.Together.{AreApart, together_back, together_on}
 
 -- what is contained in a list is in it
@@ -55,7 +56,7 @@ Agree a b = (are_together a b ≡ true) ⊎ AreClear a b
 
 module _ (m : Matrix) (all : List Act) (apart : AreApart all) (agree : (a b : Act) → In a all → In b all → Agree a b) where
   no_clash : (l d : Act) → In l (leaders all) → In d (leaders all) → (l.bot.bid ≡ d.bot.bid → ⊥) → clash m all l d ≡ None
-  no_clash l d i j differ = none_find (λ c. is_volatile all l (point c) && is_volatile all d (point c)) (all_of m) (λ c k. is_false (is_volatile all l (point c) && is_volatile all d (point c)) (never c))
+  no_clash l d i j differ = none_find (λ c. is_volatile all l (point c) && is_volatile all d (point c)) (all_of m) (λ c k. false_by (is_volatile all l (point c) && is_volatile all d (point c)) (never c))
     where
       at : (c : Coord) (x y : Act) → In x all → In y all → are_together l x ≡ true → are_together d y ≡ true → is_volatile_of (point c) x ≡ true → is_volatile_of (point c) y ≡ true → Agree x y → ⊥
       at c x y i' j' t u v w (inr clear) = clear c v w
@@ -68,8 +69,8 @@ module _ (m : Matrix) (all : List Act) (apart : AreApart all) (agree : (a b : Ac
 
       never : (c : Coord) → (is_volatile all l (point c) && is_volatile all d (point c)) ≡ true → ⊥
       never c h =
-          let x = any_in (is_volatile_of (point c)) (members all l) (first (is_volatile all l (point c)) (is_volatile all d (point c)) h) in
-          let y = any_in (is_volatile_of (point c)) (members all d) (second (is_volatile all l (point c)) (is_volatile all d (point c)) h) in
+          let x = any_in (is_volatile_of (point c)) (members all l) (first_of_two (is_volatile all l (point c)) (is_volatile all d (point c)) h) in
+          let y = any_in (is_volatile_of (point c)) (members all d) (second_of_two (is_volatile all l (point c)) (is_volatile all d (point c)) h) in
           let xi = filter_in (are_together l) x.0 all x.1 in
           let yi = filter_in (are_together d) y.0 all y.1 in
           at c x.0 y.0 xi.0 yi.0 xi.1 yi.1 x.2 y.2 (agree x.0 y.0 xi.0 yi.0)

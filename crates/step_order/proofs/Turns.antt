@@ -7,6 +7,7 @@ use Rattle.std.proofs.lemmas.List.Sorted.{IsPermutation-sym, sum_by-IsPermutatio
 use Rattle.vox_geom.specs.declared.coordinate.Coord.{Coord}
 use Rattle.vox_geom.specs.Point.{point}
 use Rattle.vox_geom.specs.Space.{IsInSpace}
+use Rattle.vox_geom.proofs.Truths.{false_by}
 use Rattle.nano_spec.specs.declared.commands.Command.{Command}
 use Rattle.nano_spec.specs.declared.system.Bot.{Bot}
 use Rattle.nano_spec.specs.Act.{Act, acts}
@@ -25,7 +26,7 @@ use Rattle.step_order.proofs.Ends.{Stands, stands}
 use Rattle.step_order.proofs.Facts.{IsGood, good_is}
 use Rattle.step_order.proofs.Groups.{differ_acts, differ_filter}
 use Rattle.step_order.proofs.Judged.{rules_kept}
-use Rattle.step_order.proofs.Lists.{In, filter_in, flat_in, in_left, in_right, is_false, place_in}
+use Rattle.step_order.proofs.Lists.{In, filter_in, flat_in, in_left, in_right, place_in}
 use Rattle.step_order.proofs.Order.{AreLeaders, AreOrdered, at_last, group_step, in_any_order, listed, next_is, of_onto, onto, onto_sum}
 use Rattle.step_order.proofs.Sums.{hit, one_hit_most}
 use Rattle.step_order.proofs.Together.{with_itself}
@@ -125,4 +126,4 @@ module _ (s : State) (commands : List Command) (step : ℕ) (ready : IsReady s) 
   all_taken order perm = at_last s (acts s.bots commands) (good_is s commands step ready keep) order (in_order (acts s.bots commands) order perm)
 
   pub apart_are : (l d : Act) (c : Coord) → Contains (leaders (acts s.bots commands)) l → Contains (leaders (acts s.bots commands)) d → l ≢ d → IsInSpace s.matrix.resolution c → IsTrue (is_volatile (acts s.bots commands) l (point c)) → IsFalse (is_volatile (acts s.bots commands) d (point c))
-  apart_are l d c i j ne w v = is_false (is_volatile (acts s.bots commands) d (point c)) (λ u. (good_is s commands step ready keep).clear l d (held l (leaders (acts s.bots commands)) i) (held d (leaders (acts s.bots commands)) j) ne c w v u)
+  apart_are l d c i j ne w v = false_by (is_volatile (acts s.bots commands) d (point c)) (λ u. (good_is s commands step ready keep).clear l d (held l (leaders (acts s.bots commands)) i) (held d (leaders (acts s.bots commands)) j) ne c w v u)

@@ -4,23 +4,12 @@ use Rattle.std.specs.List.{Contains}
 use Rattle.std.proofs.lemmas.Bool.{false≢true}
 use Rattle.vox_geom.specs.declared.coordinate.Coord.{Coord}
 use Rattle.vox_geom.specs.Point.{point, same_point}
+use Rattle.vox_geom.proofs.Truths.{one_of_two, or_by_first, or_by_second, same_truth}
 use Rattle.nano_spec.specs.Matrix.{Matrix, is_full}
 use Rattle.support_forest.specs.Edits.{Edit, adds, removes, AreEdited, is_among, is_left}
 use Rattle.support_forest.specs.Standing.{AreAdded, AreRemoved}
 use Rattle.support_forest.proofs.Counts.{later}
 use Rattle.support_forest.proofs.Levels.{same_coordinate, same_point_itself}
-
-either : (a b : Bool) → (a || b) ≡ true → (a ≡ true) ⊎ (b ≡ true)
-either true b h = inl refl
-either false b h = inr h
-
-or_left : (a b : Bool) → a ≡ true → (a || b) ≡ true
-or_left true b h = refl
-or_left false b h = cc
-
-or_right : (a b : Bool) → b ≡ true → (a || b) ≡ true
-or_right true b h = refl
-or_right false b h = h
 
 and_not : (a b : Bool) → a ≡ true → (b ≡ true → ⊥) → (a && not b) ≡ true
 and_not true true h n = absurd (n refl)
@@ -35,27 +24,22 @@ and_second : (a b : Bool) → (a && not b) ≡ true → b ≡ true → ⊥
 and_second true b h e = false≢true (sym (ap not e) ∙ h)
 and_second false b h e = cc
 
-same_truth : (a b : Bool) → (a ≡ true → b ≡ true) → (b ≡ true → a ≡ true) → a ≡ b
-same_truth true b f g = sym (f refl)
-same_truth false true f g = g refl
-same_truth false false f g = refl
-
 among_is : (c : Coord) (cells : List Coord) → is_among c cells ≡ true → Contains cells c
 among_is c [] h = cc
-among_is c (d ∷ more) h = elim (either (same_point (point c) (point d)) (is_among c more) h) [
+among_is c (d ∷ more) h = elim (one_of_two (same_point (point c) (point d)) (is_among c more) h) [
   | inl e ↦ (0, omega arith, sym (same_coordinate c d e))
   | inr e ↦ later d c more (among_is c more e)
 ]
 
 is_among_all : (c : Coord) (cells : List Coord) → Contains cells c → is_among c cells ≡ true
 is_among_all c [] (k, l, e) = absurd (omega arith)
-is_among_all c (d ∷ more) (zero, l, e) = or_left (same_point (point c) (point d)) (is_among c more) (ap (λ (x : Coord). same_point (point c) (point x)) e ∙ same_point_itself c)
-is_among_all c (d ∷ more) (suc k, l, e) = or_right (same_point (point c) (point d)) (is_among c more) (is_among_all c more (k, omega arith, e))
+is_among_all c (d ∷ more) (zero, l, e) = or_by_first (same_point (point c) (point d)) (is_among c more) (ap (λ (x : Coord). same_point (point c) (point x)) e ∙ same_point_itself c)
+is_among_all c (d ∷ more) (suc k, l, e) = or_by_second (same_point (point c) (point d)) (is_among c more) (is_among_all c more (k, omega arith, e))
 
 full_added : (old new : Matrix) (cells : List Coord) (c : Coord) → AreAdded old new cells → is_full new c ≡ (is_full old c || is_among c cells)
 full_added old new cells c a = same_truth (is_full new c) (is_full old c || is_among c cells)
-    (λ h. elim (a.full c h) [ inl o ↦ or_left (is_full old c) (is_among c cells) o | inr m ↦ or_right (is_full old c) (is_among c cells) (is_among_all c cells m) ])
-    (λ h. elim (either (is_full old c) (is_among c cells) h) [ inl o ↦ a.kept c o | inr m ↦ a.added c (among_is c cells m) ])
+    (λ h. elim (a.full c h) [ inl o ↦ or_by_first (is_full old c) (is_among c cells) o | inr m ↦ or_by_second (is_full old c) (is_among c cells) (is_among_all c cells m) ])
+    (λ h. elim (one_of_two (is_full old c) (is_among c cells) h) [ inl o ↦ a.kept c o | inr m ↦ a.added c (among_is c cells m) ])
 
 full_removed : (old new : Matrix) (cells : List Coord) (c : Coord) → AreRemoved old new cells → is_full new c ≡ (is_full old c && not (is_among c cells))
 full_removed old new cells c a = same_truth (is_full new c) (is_full old c && not (is_among c cells))

@@ -29,6 +29,7 @@ use Rattle.support_forest.proofs.Nearby.{same_slot}
 use Rattle.support_forest.proofs.Placing.{Fits, placed_with}
 use Rattle.support_forest.proofs.Settling.{same_or_not}
 use Rattle.vox_geom.specs.Point.{below as under}
+use Rattle.vox_geom.proofs.Truths.{false_and_true}
 
 -- ---- one voxel more in a heap
 
@@ -194,9 +195,6 @@ bits_from m from count bits k part place b l e j h =
 same_place : (r : ℕ) (c d : Coord) → IsInSpace r c → IsInSpace r d → place r c ≡ place r d → c ≡ d
 same_place r c d i j e = sym (coordinate_at-place r c i) ∙ (ap (coordinate_at r) e ∙ coordinate_at-place r d j)
 
-contrary : (b : Bool) → IsFalse b → IsTrue b → ⊥
-contrary b h k = false≢true (sym h ∙ k)
-
 later_seen : (m : Matrix) (p q : ℕ) (c : Coord) → p ≤ q → IsSeen m p c → IsSeen m q c
 later_seen m p q c l s = record { within = s.within; full = s.full; before = omega (arith, s.before) }
 
@@ -241,7 +239,7 @@ heaped_void m g p q rest l void h = record {
   seen = λ c k. later_seen m p q c l (h.seen c k);
   done = λ c s. elim (cases_lt (place m.resolution c) p) [
     | inl b ↦ h.done c (record { within = s.within; full = s.full; before = b })
-    | inr b ↦ absurd (contrary (voxel_at m (place m.resolution c)) (void (place m.resolution c) b s.before) s.full)
+    | inr b ↦ absurd (false_and_true (voxel_at m (place m.resolution c)) (void (place m.resolution c) b s.before) s.full)
   ];
   listed = λ c k. let o = h.listed c k in (later_seen m p q c l o.0, o.1);
   differ = h.differ;

@@ -10,35 +10,19 @@ use Rattle.std.specs.FinMap.{get, insert, len, get-insert, len-insert}
 use Rattle.vox_geom.specs.declared.coordinate.Coord.{Coord}
 use Rattle.vox_geom.specs.Space.{IsInSpace, place, coordinate_at}
 use Rattle.vox_geom.proofs.Places.{coordinate_at-place}
+use Rattle.vox_geom.proofs.Truths.{both_true, first_of_two, second_of_two}
+use Rattle.vox_geom.proofs.Tests.{less_by_test, test_less}
 use Rattle.brick_arena.specs.Slots.{Slots, IsLive, words_of}
 use Rattle.support_forest.specs.Grid.{Grid, side, brick, brick_number, word_index, slot_at, is_inside, IsStore}
 
-both : (a b : Bool) → a ≡ true → b ≡ true → (a && b) ≡ true
-both true b p q = q
-both false b p q = cc
-
-left : (a b : Bool) → (a && b) ≡ true → a ≡ true
-left true b h = refl
-left false b h = h
-
-right : (a b : Bool) → (a && b) ≡ true → b ≡ true
-right true b h = h
-right false b h = cc
-
-less : (a b : ℕ) → a < b → nat_lt a b ≡ true
-less a b h = grind (arith, nat_tests)
-
-is_less : (a b : ℕ) → nat_lt a b ≡ true → a < b
-is_less a b h = grind (arith, nat_tests)
-
 pub inside : (r : ℕ) (c : Coord) → IsInSpace r c → is_inside r c ≡ true
-inside r c h = both (nat_lt c.x r && nat_lt c.y r) (nat_lt c.z r) (both (nat_lt c.x r) (nat_lt c.y r) (less c.x r h.x) (less c.y r h.y)) (less c.z r h.z)
+inside r c h = both_true (nat_lt c.x r && nat_lt c.y r) (nat_lt c.z r) (both_true (nat_lt c.x r) (nat_lt c.y r) (test_less c.x r h.x) (test_less c.y r h.y)) (test_less c.z r h.z)
 
 pub in_space : (r : ℕ) (c : Coord) → is_inside r c ≡ true → IsInSpace r c
 in_space r c h = record {
-  x = is_less c.x r (left (nat_lt c.x r) (nat_lt c.y r) (left (nat_lt c.x r && nat_lt c.y r) (nat_lt c.z r) h));
-  y = is_less c.y r (right (nat_lt c.x r) (nat_lt c.y r) (left (nat_lt c.x r && nat_lt c.y r) (nat_lt c.z r) h));
-  z = is_less c.z r (right (nat_lt c.x r && nat_lt c.y r) (nat_lt c.z r) h);
+  x = less_by_test c.x r (first_of_two (nat_lt c.x r) (nat_lt c.y r) (first_of_two (nat_lt c.x r && nat_lt c.y r) (nat_lt c.z r) h));
+  y = less_by_test c.y r (second_of_two (nat_lt c.x r) (nat_lt c.y r) (first_of_two (nat_lt c.x r && nat_lt c.y r) (nat_lt c.z r) h));
+  z = less_by_test c.z r (second_of_two (nat_lt c.x r && nat_lt c.y r) (nat_lt c.z r) h);
 }
 
 -- ---- bricks

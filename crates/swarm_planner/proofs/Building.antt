@@ -3,6 +3,7 @@ use Rattle.std.proofs.Common.{◌≡◌, ℕ, zero, suc, ◌+◌, ◌-◌, ◌*�
 use Rattle.std.proofs.lemmas.Bool.Decides.{nat_tests}
 use Rattle.vox_geom.specs.declared.coordinate.Coord.{Coord}
 use Rattle.vox_geom.specs.Point.{coord}
+use Rattle.vox_geom.proofs.Truths.{no_second_of_three, none_of_two, or_of_and, second_by_and_not}
 use Rattle.nano_spec.specs.Matrix.{Matrix, is_full}
 use Rattle.plan_tape.specs.Leg.{distance}
 use Rattle.plan_tape.specs.Progress.{TapeState, spot, IsVoidFrom}
@@ -13,9 +14,6 @@ use Rattle.swarm_planner.specs.Bounds.{width}
 use Rattle.swarm_planner.proofs.Filling.{is_below-is}
 
 -- ---- which voxels are below a row
-
-equal : (a b : ℕ) → (a == b) ≡ true → a ≡ b
-equal a b h = grind (arith, nat_tests)
 
 one_up : (a b : ℕ) → (a + 1 == b + 1) ≡ (a == b)
 one_up a b = grind (arith, nat_tests)
@@ -44,21 +42,12 @@ under_is r x y z c = under_row (width r) (last r) (count r) x y z c
 
 -- ---- where nothing is wanted
 
-not_both : (a b : Bool) → (a && not b) ≡ false → a ≡ true → b ≡ true
-not_both true true h e = refl
-not_both true false h e = cc
-not_both false b h e = cc
-
-neither : (a b : Bool) → (a || b) ≡ false → (a ≡ false) × (b ≡ false)
-neither true b h = cc
-neither false b h = (refl, h)
-
 none_wanted : (m goal : Matrix) (ps : List Coord) (c : Coord) → are_wanted m goal ps ≡ false → is_under ps c ≡ true → is_full goal c ≡ true → is_full m c ≡ true
 none_wanted m goal [] c h u g = cc
-none_wanted m goal (p ∷ ps) c h u g = by (is_below p c) refl (neither (is_wanted m goal p) (are_wanted m goal ps) h) (λ n v. none_wanted m goal ps c n v g)
+none_wanted m goal (p ∷ ps) c h u g = by (is_below p c) refl (none_of_two (is_wanted m goal p) (are_wanted m goal ps) h) (λ n v. none_wanted m goal ps c n v g)
   where
     by : (t : Bool) → is_below p c ≡ t → (is_wanted m goal p ≡ false) × (are_wanted m goal ps ≡ false) → (are_wanted m goal ps ≡ false → is_under ps c ≡ true → is_full m c ≡ true) → is_full m c ≡ true
-    by true e n later = let f = is_below-is p c e in not_both (is_full goal c) (is_full m c) (ap (λ (d : Coord). is_full goal d && not (is_full m d)) f ∙ n.0) g
+    by true e n later = let f = is_below-is p c e in second_by_and_not (is_full goal c) (is_full m c) (ap (λ (d : Coord). is_full goal d && not (is_full m d)) f ∙ n.0) g
     by false e n later = later n.1 (sym (ap (λ t. t || is_under ps c) e) ∙ u)
 
 all_there : (full under goal : Bool) → (under ≡ true → goal ≡ true → full ≡ true) → full ≡ (full || (under && goal))
@@ -123,15 +112,11 @@ no_less full under goal e f = rw (e, f) refl
 pub void_above : (m n goal : Matrix) (d : Coord → Bool) (h : ℕ) → IsRaised m n goal d → IsVoidFrom n h → ((c : Coord) → h ≤ c.y → d c ≡ false) → IsVoidFrom m h
 void_above m n goal d h raised void none = λ c l. raised c ∙ no_less (is_full n c) (d c) (is_full goal c) (void c l) (none c l)
 
-last_false : (a b c : Bool) → b ≡ false → (a && b && c) ≡ false
-last_false true b c e = rw e refl
-last_false false b c e = refl
-
 higher : (a b : ℕ) → b + 1 ≤ a → (a == b) ≡ false
 higher a b h = grind (arith, nat_tests)
 
 pub no_cell : (r x y z : ℕ) (c : Coord) → y + 1 ≤ c.y → cell r x y z c ≡ false
-no_cell r x y z c h = last_false (in_line r x c.x) (c.y == y) (c.z == z) (higher c.y y h)
+no_cell r x y z c h = no_second_of_three (in_line r x c.x) (c.y == y) (c.z == z) (higher c.y y h)
 
 -- ---- the search for what is wanted
 
@@ -200,21 +185,10 @@ cell_built a b c goal x y z k g f =
 
 -- ---- lines and layers
 
-inside : (a b : Bool) → (a && b) ≡ true → a ≡ true
-inside true b h = refl
-inside false b h = cc
-
-joined_front : (a b c : Bool) → ((a && c) || (b && c)) ≡ ((a || b) && c)
-joined_front true true true = refl
-joined_front true true false = refl
-joined_front true false true = refl
-joined_front true false false = refl
-joined_front false b c = refl
-
 lines_more : (r x y : ℕ) (c : Coord) → (in_first_lines r x y c || line r (x + 1) y c) ≡ in_first_lines r (x + 1) y c
 lines_more r x y c =
     ap (λ n. (in_lines r x c.x && c.y == y) || (in_line r n c.x && c.y == y)) (add-one x)
-    ∙ (joined_front (in_lines r x c.x) (in_line r (suc x) c.x) (c.y == y) ∙ ap (λ n. in_lines r n c.x && c.y == y) (sym (add-one x)))
+    ∙ (or_of_and (in_lines r x c.x) (in_line r (suc x) c.x) (c.y == y) ∙ ap (λ n. in_lines r n c.x && c.y == y) (sym (add-one x)))
 
 pub one_more_line : (a b c : TapeState) (goal : Matrix) (x y : ℕ) → Builds a b goal (in_first_lines a.matrix.resolution x y) (coord 1 (y + 1) 0) (coord (x + 1) (y + 1) 0) (x * line_steps a.matrix.resolution) → Builds b c goal (line b.matrix.resolution (x + 1) y) (coord (x + 1) (y + 1) 0) (coord (x + 1) (y + 1) b.matrix.resolution) (2 * b.matrix.resolution) → Builds a c goal (in_first_lines a.matrix.resolution (x + 1) y) (coord 1 (y + 1) 0) (coord (x + 1 + 1) (y + 1) 0) ((x + 1) * line_steps a.matrix.resolution)
 one_more_line a b c goal x y h k =

@@ -4,6 +4,8 @@ use Rattle.std.proofs.Math.Nat.{div-add-mod}
 use Rattle.std.proofs.lemmas.Nat.{div_below, mod_below}
 use Rattle.std.proofs.lemmas.Bool.Decides.{nat_tests}
 use Rattle.vox_geom.specs.declared.coordinate.Coord.{Coord}
+use Rattle.vox_geom.proofs.Truths.{both_true, or_by_first, or_by_second}
+use Rattle.vox_geom.proofs.Tests.{test_equal, test_less}
 use Rattle.nano_spec.specs.Legal.{IsLegal}
 use Rattle.nano_spec.specs.Matrix.{Matrix, is_full}
 use Rattle.plan_tape.specs.Progress.{AreAlike, IsVoidFrom}
@@ -12,21 +14,10 @@ use Rattle.swarm_planner.specs.Strips.{count, last}
 use Rattle.swarm_planner.specs.Bounds.{width}
 use Rattle.swarm_planner.proofs.Legality.{full_in_box}
 
-same : (a b : ℕ) → a ≡ b → (a == b) ≡ true
-same a b h = grind (arith, nat_tests)
-
-by_left : (a b : Bool) → a ≡ true → (a || b) ≡ true
-by_left true b h = refl
-by_left false b h = cc
-
-by_right : (a b : Bool) → b ≡ true → (a || b) ≡ true
-by_right true b h = refl
-by_right false b h = h
-
 column_at : (w l n a i x : ℕ) → i < n → x ≡ a + w * i → x ≤ l → is_column w l n a x ≡ true
 column_at w l zero a i x h e k = absurd (omega arith)
-column_at w l (suc n) a zero x h e k = by_left (x == min a l) (is_column w l n (a + w) x) (same x (min a l) (let f : w * zero ≡ 0 = omega arith in omega arith))
-column_at w l (suc n) a (suc i) x h e k = by_right (x == min a l) (is_column w l n (a + w) x) (column_at w l n (a + w) i x (omega arith) (let f : a + w * suc i ≡ a + w + w * i = omega arith in omega arith) k)
+column_at w l (suc n) a zero x h e k = or_by_first (x == min a l) (is_column w l n (a + w) x) (test_equal x (min a l) (let f : w * zero ≡ 0 = omega arith in omega arith))
+column_at w l (suc n) a (suc i) x h e k = or_by_second (x == min a l) (is_column w l n (a + w) x) (column_at w l n (a + w) i x (omega arith) (let f : a + w * suc i ≡ a + w + w * i = omega arith in omega arith) k)
 
 equal_or_less : (j k : ℕ) → j ≤ suc k → (j ≡ suc k) ⊎ (j ≤ k)
 equal_or_less j k h = grind arith
@@ -36,8 +27,8 @@ line_in r zero j x h l e = absurd (omega arith)
 line_in r (suc k) j x h l e = by (equal_or_less j k l) (λ m. line_in r k j x h m e)
   where
     by : (j ≡ suc k) ⊎ (j ≤ k) → (j ≤ k → in_lines r k x ≡ true) → in_lines r (suc k) x ≡ true
-    by (inl f) later = by_right (in_lines r k x) (in_line r (suc k) x) (sym (ap (λ v. in_line r v x) f) ∙ e)
-    by (inr m) later = by_left (in_lines r k x) (in_line r (suc k) x) (later m)
+    by (inl f) later = or_by_second (in_lines r k x) (in_line r (suc k) x) (sym (ap (λ v. in_line r v x) f) ∙ e)
+    by (inr m) later = or_by_first (in_lines r k x) (in_line r (suc k) x) (later m)
 
 strip_of : (r v : ℕ) → 1 ≤ width r → v ≤ r - 3 → v / width r < count r
 strip_of r v h l =
@@ -54,19 +45,13 @@ covered r x s h l =
     let m : (x - 1) % width r < width r = mod_below (x - 1) (width r) w in
     line_in r (width r) ((x - 1) % width r + 1) x (omega arith) (omega arith) (column_at (width r) (last r) (count r) ((x - 1) % width r + 1) ((x - 1) / width r) x (strip_of r (x - 1) w (omega arith)) (omega arith) (omega arith))
 
-lower : (a b : ℕ) → a < b → nat_lt a b ≡ true
-lower a b h = grind (arith, nat_tests)
-
-both : (a b : Bool) → a ≡ true → b ≡ true → (a && b) ≡ true
-both a b e f = rw (e, f) refl
-
 pub in_layers : (m : Matrix) (c : Coord) → IsLegal m → is_full m c ≡ true → layers m.resolution (m.resolution - 1) c ≡ true
 in_layers m c h f =
     let b = full_in_box m c h f in
     let x = b.x in
     let e = b.x_end in
     let y = b.y_end in
-    both (in_lines m.resolution (width m.resolution) c.x) (nat_lt c.y (m.resolution - 1)) (covered m.resolution c.x (omega arith) x e) (lower c.y (m.resolution - 1) (omega arith))
+    both_true (in_lines m.resolution (width m.resolution) c.x) (nat_lt c.y (m.resolution - 1)) (covered m.resolution c.x (omega arith) x e) (test_less c.y (m.resolution - 1) (omega arith))
 
 all_there : (full done goal : Bool) → full ≡ false → (goal ≡ true → done ≡ true) → (full || (done && goal)) ≡ goal
 all_there full done true e h = rw (e, h refl) refl

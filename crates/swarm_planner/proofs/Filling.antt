@@ -8,6 +8,9 @@ use Rattle.vox_geom.specs.declared.coordinate.Coord.{Coord}
 use Rattle.vox_geom.specs.Point.{Point, plus, point, down, below}
 use Rattle.vox_geom.specs.Region.{is_between, is_within, just}
 use Rattle.vox_geom.specs.Space.{IsInSpace, in_range, in_space}
+use Rattle.vox_geom.proofs.Truths.{or_false, or_of_and, parts_of_three}
+use Rattle.vox_geom.proofs.Tests.{equal_by_test}
+use Rattle.vox_geom.proofs.Sums.{plus_none}
 use Rattle.nano_spec.specs.declared.commands.Command.{Command}
 use Rattle.nano_spec.specs.declared.commands.Command.TheVariants.{Fill, Wait}
 use Rattle.nano_spec.specs.declared.system.Bot.{Bot}
@@ -31,14 +34,11 @@ use Rattle.nano_spec.proofs.Coordinates.{in_space-is}
 
 -- ---- one bot
 
-down_x : (n : ℕ) → pos n +ℤ pos 0 ≡ pos n
-down_x n = omega (arith, ints)
-
 down_y : (n : ℕ) → 1 ≤ n → pos n +ℤ negsuc 0 ≡ pos (n - 1)
 down_y n h = omega (arith, ints)
 
 pub below_is : (p : Coord) → 1 ≤ p.y → plus (point p) down ≡ point (below p)
-below_is p h = λ i. record { x = down_x p.x i; y = down_y p.y h i; z = down_x p.z i }
+below_is p h = λ i. record { x = plus_none p.x i; y = down_y p.y h i; z = plus_none p.z i }
 
 only : (a v : ℕ) → is_between (pos a) (pos a) (pos v) ≡ (v == a)
 only a v = grind (arith, nat_tests)
@@ -49,29 +49,16 @@ only_below a v h = grind (arith, nat_tests)
 within_below : (p c : Coord) → 1 ≤ p.y → is_within (just (plus (point p) down)) (point c) ≡ is_below p c
 within_below p c h = ap (λ q. is_within (just q) (point c)) (below_is p h) ∙ (λ i. only p.x c.x i && only_below p.y c.y h i && only p.z c.z i)
 
-three : (a b d : Bool) → (a && b && d) ≡ true → (a ≡ true) × (b ≡ true) × (d ≡ true)
-three true true true e = (refl, refl, refl)
-three true true false e = cc
-three true false d e = cc
-three false b d e = cc
-
-same : (a b : ℕ) → (a == b) ≡ true → a ≡ b
-same a b h = grind (arith, nat_tests)
-
 less_one : (a b : ℕ) → (a + 1 == b) ≡ true → a ≡ b - 1
-less_one a b h = let e = same (a + 1) b h in omega arith
+less_one a b h = let e = equal_by_test (a + 1) b h in omega arith
 
 pub is_below-is : (p c : Coord) → is_below p c ≡ true → c ≡ below p
 is_below-is p c h =
-    let t = three (c.x == p.x) (c.y + 1 == p.y) (c.z == p.z) h in
-    let x = same c.x p.x t.0 in
+    let t = parts_of_three (c.x == p.x) (c.y + 1 == p.y) (c.z == p.z) h in
+    let x = equal_by_test c.x p.x t.0 in
     let y = less_one c.y p.y t.1 in
-    let z = same c.z p.z t.2 in
+    let z = equal_by_test c.z p.z t.2 in
     λ i. record { x = x i; y = y i; z = z i }
-
-or_false : (b : Bool) → (b || false) ≡ b
-or_false true = refl
-or_false false = refl
 
 and_with : (a b : Bool) → (a ≡ true → b ≡ false) → (a && b) ≡ false
 and_with true b h = h refl
@@ -124,7 +111,7 @@ fenced : (m goal : Matrix) (low high : ℕ) (b : Bot) → low ≤ b.pos.x → b.
 fenced m goal low high b l h = by (is_wanted m goal b.pos)
   where
     by : (t : Bool) → AllByRecursion (IsInColumns low high) (volatile_regions (point b.pos) (cond t (Fill down) Wait))
-    by true = (just_in low high (point b.pos) b.pos.x refl l h, (just_in low high (plus (point b.pos) down) b.pos.x (down_x b.pos.x) l h, tt))
+    by true = (just_in low high (point b.pos) b.pos.x refl l h, (just_in low high (plus (point b.pos) down) b.pos.x (plus_none b.pos.x) l h, tt))
     by false = (just_in low high (point b.pos) b.pos.x refl l h, tt)
 
 -- ---- all bots
@@ -153,18 +140,12 @@ module _ (s : State) (goal : Matrix) (light : s.profile ≡ light_profile) where
 
 -- ---- the matrix
 
-either : (a b g : Bool) → ((a && g) || (b && g)) ≡ ((a || b) && g)
-either true b true = refl
-either true true false = refl
-either true false false = refl
-either false b g = refl
-
 all_filled : (m goal : Matrix) (c : Coord) (r low : ℕ) (bots : List Bot) → AreLed r 1 Z low (places bots) (places bots) → is_filled (acts bots (fills m goal bots)) c ≡ (is_under (places bots) c && (is_full goal c && not (is_full m c)))
 all_filled m goal c r low [] k = refl
 all_filled m goal c r low (b ∷ bots) k =
     let here = fills_one m goal b.pos c k.0.high_from in
     let more = all_filled m goal c r (max b.pos.x b.pos.x + 1) bots k.1 in
-    (λ i. here i || more i) ∙ either (is_below b.pos c) (is_under (places bots) c) (is_full goal c && not (is_full m c))
+    (λ i. here i || more i) ∙ or_of_and (is_below b.pos c) (is_under (places bots) c) (is_full goal c && not (is_full m c))
 
 together : (under goal full : Bool) → ((under && (goal && not full)) || full) ≡ (full || (under && goal))
 together true true true = refl
@@ -220,11 +201,11 @@ module _ (p : TapeState) (swarm : IsSwarm p) (row : InRow p) (up : 1 ≤ (spot p
     only_fills = subst (λ (k : List Command). AllByRecursion FillsOrWaits k) (sym e) (fills_wait p.matrix goal p.bots)
 
     pub has_filled : (q : TapeState) → goal.resolution ≡ p.matrix.resolution → AllStep p q ks (with_fills p.matrix (acts p.bots ks)) p.harmonics p.bots → Fills p q goal
-    has_filled q same s = record {
+    has_filled q equal_by_test s = record {
       source = s.source;
       swarm = record { high = s.harmonics ∙ swarm.high; light = s.profile ∙ swarm.light };
       bots = s.bots_are;
       resolution = ap (λ (m : Matrix). m.resolution) s.matrix;
-      raised = subst (λ (m : Matrix). IsRaised m p.matrix goal (is_under (places p.bots))) (sym (s.matrix ∙ ap (λ (k : List Command). with_fills p.matrix (acts p.bots k)) e)) (raised_by p.matrix goal p.bots 1 same standing);
+      raised = subst (λ (m : Matrix). IsRaised m p.matrix goal (is_under (places p.bots))) (sym (s.matrix ∙ ap (λ (k : List Command). with_fills p.matrix (acts p.bots k)) e)) (raised_by p.matrix goal p.bots 1 equal_by_test standing);
       steps = s.steps;
     }

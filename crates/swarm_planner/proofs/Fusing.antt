@@ -7,6 +7,8 @@ use Rattle.std.proofs.lemmas.Int.{ints}
 use Rattle.vox_geom.specs.declared.coordinate.Coord.{Coord}
 use Rattle.vox_geom.specs.Point.{Point, plus, point, same_number, same_point}
 use Rattle.vox_geom.specs.Space.{IsInSpace, in_space}
+use Rattle.vox_geom.proofs.Truths.{or_by_first, or_by_second}
+use Rattle.vox_geom.proofs.Sums.{less_one, plus_none}
 use Rattle.nano_spec.specs.declared.commands.Command.{Command}
 use Rattle.nano_spec.specs.declared.commands.Command.TheVariants.{FusionP, FusionS, Wait}
 use Rattle.nano_spec.specs.declared.system.Bot.{Bot}
@@ -31,14 +33,8 @@ use Rattle.swarm_planner.proofs.Splitting.{right_is}
 
 -- ---- two bots side by side
 
-one_back : (n : ℕ) → pos (n + 1) +ℤ negsuc 0 ≡ pos n
-one_back n = omega (arith, ints)
-
-none_on : (n : ℕ) → pos n +ℤ pos 0 ≡ pos n
-none_on n = omega (arith, ints)
-
 left_is : (p : Coord) → plus (point (next_along_x p)) left ≡ point p
-left_is p = λ i. record { x = one_back p.x i; y = none_on p.y i; z = none_on p.z i }
+left_is p = λ i. record { x = less_one p.x i; y = plus_none p.y i; z = plus_none p.z i }
 
 itself : (p : Coord) → same_point (point p) (point p) ≡ true
 itself p = λ i. same p.x i && same p.y i && same p.z i
@@ -55,14 +51,6 @@ are_pair b c e =
     let to : same_point (plus (point b.pos) right) (point c.pos) ≡ true = (λ i. same_point (right_is b.pos i) (point (sym e i))) ∙ itself (next_along_x b.pos) in
     let back : same_point (plus (point c.pos) left) (point b.pos) ≡ true = (λ i. same_point (plus (point (sym e i)) left) (point b.pos)) ∙ ((λ i. same_point (left_is b.pos i) (point b.pos)) ∙ itself b.pos) in
     λ i. to i && back i
-
-either_way : (a b : Bool) → a ≡ true → (a || b) ≡ true
-either_way true b h = refl
-either_way false b h = cc
-
-or_way : (a b : Bool) → b ≡ true → (a || b) ≡ true
-or_way true b h = refl
-or_way false b h = h
 
 allowed : (profile : Profile) (k : Command) → profile ≡ light_profile → IsTrue (is_allowed light_profile k) → IsTrue (is_allowed profile k)
 allowed profile k e h = subst (λ (f : Profile). IsTrue (is_allowed f k)) (sym e) h
@@ -84,7 +72,7 @@ module _ (s : State) (light : s.profile ≡ light_profile) (y z : ℕ) (below : 
             within = subst (λ (q : Point). IsTrue (in_space s.matrix.resolution q)) (sym (right_is b.pos)) (in_space_is s.matrix.resolution (next_along_x b.pos) there);
             other = record { bot = c; command = FusionS left };
             here = containing all (record { bot = c; command = FusionS left }) (within (record { bot = c; command = FusionS left }) (inr (inl refl)));
-            partners = either_way (is_pair (record { bot = b; command = FusionP right }) (record { bot = c; command = FusionS left })) _ pair;
+            partners = or_by_first (is_pair (record { bot = b; command = FusionP right }) (record { bot = c; command = FusionS left })) _ pair;
           };
         },
         (
@@ -94,7 +82,7 @@ module _ (s : State) (light : s.profile ≡ light_profile) (y z : ℕ) (below : 
               within = subst (λ (q : Point). IsTrue (in_space s.matrix.resolution q)) (sym (ap (λ (q : Coord). plus (point q) left) (sym next) ∙ left_is b.pos)) (in_space_is s.matrix.resolution b.pos here);
               other = record { bot = b; command = FusionP right };
               here = containing all (record { bot = b; command = FusionP right }) (within (record { bot = b; command = FusionP right }) (inl refl));
-              partners = or_way (is_pair (record { bot = c; command = FusionS left }) (record { bot = b; command = FusionP right })) (is_pair (record { bot = b; command = FusionP right }) (record { bot = c; command = FusionS left })) pair;
+              partners = or_by_second (is_pair (record { bot = c; command = FusionS left }) (record { bot = b; command = FusionP right })) (is_pair (record { bot = b; command = FusionP right }) (record { bot = c; command = FusionS left })) pair;
             };
           },
           tt,
@@ -114,7 +102,7 @@ module _ (s : State) (light : s.profile ≡ light_profile) (y z : ℕ) (below : 
       let l = k.0.past in
       let m = k.1.0.past in
       let next : next_along_x b.pos ≡ c.pos = beside_is b.pos c.pos e (k.1.0.height ∙ sym k.0.height) (k.1.0.depth ∙ sym k.0.depth) in
-      AreFenced.two c.pos.x (just_in low c.pos.x (point b.pos) b.pos.x refl l (omega arith), tt) (just_in low c.pos.x (point c.pos) c.pos.x refl (omega arith) (omega arith), tt) (either_way (is_pair (record { bot = b; command = FusionP right }) (record { bot = c; command = FusionS left })) _ (are_pair b c next))
+      AreFenced.two c.pos.x (just_in low c.pos.x (point b.pos) b.pos.x refl l (omega arith), tt) (just_in low c.pos.x (point c.pos) c.pos.x refl (omega arith) (omega arith), tt) (or_by_first (is_pair (record { bot = b; command = FusionP right }) (record { bot = c; command = FusionS left })) _ (are_pair b c next))
   all_fenced (b ∷ c ∷ d ∷ more) low k e h =
       let l = k.0.past in
       AreFenced.one b.pos.x l (just_in low b.pos.x (point b.pos) b.pos.x refl l (omega arith), tt) (all_fenced (c ∷ d ∷ more) (b.pos.x + 1) k.1 e (omega arith))

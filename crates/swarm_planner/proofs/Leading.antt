@@ -8,6 +8,8 @@ use Rattle.vox_geom.specs.declared.coordinate.Coord.{Coord}
 use Rattle.vox_geom.specs.Point.{Point, plus, point}
 use Rattle.vox_geom.specs.Region.{Span, between, is_between, is_within}
 use Rattle.vox_geom.specs.Space.{coordinate}
+use Rattle.vox_geom.proofs.Truths.{second_of_three}
+use Rattle.vox_geom.proofs.Tests.{equal_by_test}
 use Rattle.nano_spec.specs.declared.commands.Command.TheVariants.{SMove, Wait}
 use Rattle.nano_spec.specs.declared.system.Bot.{Bot}
 use Rattle.nano_spec.specs.declared.system.Profile.{Profile}
@@ -28,9 +30,6 @@ use Rattle.swarm_planner.specs.Crew.{AreAlong, AreLed, IsLed, lead, led, placed,
 
 -- ---- one bot
 
-equal : (a b : ℕ) → (a == b) ≡ true → a ≡ b
-equal a b h = grind (arith, nat_tests)
-
 put_there : (axis : Axis) (p q : Coord) → AreAlong axis p q → put axis p (component_of axis q) ≡ q
 put_there X p q h = λ i. record { x = q.x; y = h.0 i; z = h.1 i }
 put_there Y p q h = λ i. record { x = h.0 i; y = q.y; z = h.1 i }
@@ -44,7 +43,7 @@ move_ends axis p q h =
 
 -- where there is no way to go, the bot is there
 stays_there : (axis : Axis) (p q : Coord) → AreAlong axis p q → (component_of axis p == component_of axis q) ≡ true → p ≡ q
-stays_there axis p q h e = sym (put-component_of axis p) ∙ (ap (put axis p) (equal (component_of axis p) (component_of axis q) e) ∙ put_there axis p q h)
+stays_there axis p q h e = sym (put-component_of axis p) ∙ (ap (put axis p) (equal_by_test (component_of axis p) (component_of axis q) e) ∙ put_there axis p q h)
 
 pub goal_is : (axis : Axis) (p q : Coord) → AreAlong axis p q → goal_of (point p) (lead axis p q) ≡ point q
 goal_is axis p q h = by (component_of axis p == component_of axis q) refl
@@ -52,11 +51,6 @@ goal_is axis p q h = by (component_of axis p == component_of axis q) refl
     by : (t : Bool) → (component_of axis p == component_of axis q) ≡ t → goal_of (point p) (cond t Wait (SMove (along axis (pos (component_of axis q) -ℤ pos (component_of axis p))))) ≡ point q
     by true e = ap point (stays_there axis p q h e)
     by false e = move_ends axis p q h
-
-second : (a b c : Bool) → IsTrue (a && b && c) → IsTrue b
-second true true c t = refl
-second true false c t = cc
-second false b c t = cc
 
 one_of : (a b v : ℕ) → IsTrue (is_between (pos a) (pos b) (pos v)) → (a ≤ v) ⊎ (b ≤ v)
 one_of a b v t = grind (arith, nat_tests)
@@ -67,7 +61,7 @@ from_height h a b v l m (inr k) = omega arith
 
 -- between two places all is void from their height on
 pub void_way : (m : Matrix) (h : ℕ) (p q c : Coord) → IsVoidFrom m h → h ≤ p.y → h ≤ q.y → IsTrue (is_within (between (point p) (point q)) (point c)) → is_full m c ≡ false
-void_way m h p q c void l k t = void c (from_height h p.y q.y c.y l k (one_of p.y q.y c.y (second (is_between (pos p.x) (pos q.x) (pos c.x)) (is_between (pos p.y) (pos q.y) (pos c.y)) (is_between (pos p.z) (pos q.z) (pos c.z)) t)))
+void_way m h p q c void l k t = void c (from_height h p.y q.y c.y l k (one_of p.y q.y c.y (second_of_three (is_between (pos p.x) (pos q.x) (pos c.x)) (is_between (pos p.y) (pos q.y) (pos c.y)) (is_between (pos p.z) (pos q.z) (pos c.z)) t)))
 
 pub may_go : (m : Matrix) (h : ℕ) (axis : Axis) (low : ℕ) (p q : Coord) → IsVoidFrom m h → IsLed m.resolution h axis low p q → MayGo m (point p) (lead axis p q)
 may_go m h axis low p q void k = by (component_of axis p == component_of axis q)

@@ -4,6 +4,8 @@ use Rattle.std.specs.Prelude.{IsTrue, pos}
 use Rattle.std.proofs.lemmas.Bool.Decides.{nat_tests}
 use Rattle.vox_geom.specs.declared.coordinate.Coord.{Coord}
 use Rattle.vox_geom.specs.Region.{is_between}
+use Rattle.vox_geom.proofs.Truths.{false_by}
+use Rattle.vox_geom.proofs.Tests.{at_most_by_test, less_by_test}
 use Rattle.nano_spec.specs.Legal.{IsLegal}
 use Rattle.nano_spec.specs.Matrix.{Matrix, is_full}
 use Rattle.vox_planes.specs.Voxel.{IsWhole}
@@ -28,23 +30,13 @@ five true true false d e h = cc
 five true false c d e h = cc
 five false b c d e h = cc
 
-at_least : (a b : ℕ) → nat_le a b ≡ true → a ≤ b
-at_least a b h = grind (arith, nat_tests)
-
-less : (a b : ℕ) → nat_lt a b ≡ true → a < b
-less a b h = grind (arith, nat_tests)
-
 pub full_in_box : (m : Matrix) (c : Coord) → IsLegal m → is_full m c ≡ true → IsInBox m.resolution c
 full_in_box m c h f =
     let b = five (nat_le 1 c.x) (nat_lt (c.x + 1) m.resolution) (nat_lt (c.y + 1) m.resolution) (nat_le 1 c.z) (nat_lt (c.z + 1) m.resolution) (legal_box m c h f) in
-    record { x = at_least 1 c.x b.0; x_end = less (c.x + 1) m.resolution b.1; y_end = less (c.y + 1) m.resolution b.2; z = at_least 1 c.z b.3 }
-
-never_full : (full : Bool) → (full ≡ true → ⊥) → full ≡ false
-never_full true h = absurd (h refl)
-never_full false h = refl
+    record { x = at_most_by_test 1 c.x b.0; x_end = less_by_test (c.x + 1) m.resolution b.1; y_end = less_by_test (c.y + 1) m.resolution b.2; z = at_most_by_test 1 c.z b.3 }
 
 pub void_at_depth : (m : Matrix) → IsLegal m → (c : Coord) → c.z ≡ 0 → is_full m c ≡ false
-void_at_depth m h c e = never_full (is_full m c) (λ f. let b = full_in_box m c h f in let z = b.z in absurd (omega arith))
+void_at_depth m h c e = false_by (is_full m c) (λ f. let b = full_in_box m c h f in let z = b.z in absurd (omega arith))
 
 third : (a b c : Bool) → IsTrue (a && b && c) → IsTrue c
 third true true c t = t
@@ -74,4 +66,4 @@ wide_enough m n h v w e void differ = by (three_or_less m.resolution)
   where
     by : (3 ≤ m.resolution) ⊎ (m.resolution < 3) → 3 ≤ m.resolution
     by (inl k) = k
-    by (inr k) = absurd (differ (alike_is_same n m w v e (λ c _. void c (omega arith) ∙ sym (never_full (is_full m c) (λ f. let b = full_in_box m c h f in let x = b.x in let y = b.x_end in absurd (omega arith))))))
+    by (inr k) = absurd (differ (alike_is_same n m w v e (λ c _. void c (omega arith) ∙ sym (false_by (is_full m c) (λ f. let b = full_in_box m c h f in let x = b.x in let y = b.x_end in absurd (omega arith))))))

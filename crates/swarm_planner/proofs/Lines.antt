@@ -12,6 +12,7 @@ use Rattle.plan_tape.specs.Leg.{along, gap}
 use Rattle.swarm_planner.specs.Crew.{AreLed, lead, led, places}
 use Rattle.swarm_planner.specs.Lineup.{AreLined, ends, free_column, without_last, last_column, pair_ends, sent, split}
 use Rattle.vox_geom.specs.Point.{coord}
+use Rattle.vox_geom.proofs.Tests.{test_itself, test_unequal}
 
 -- ---- places
 
@@ -99,12 +100,6 @@ sent_led r y z low x (c ∷ d ∷ more) i j k h l near =
     let g = k.0.depth in
     (record { line = (refl, refl); near = omega arith; from = record { x = k.0.within; y = omega arith; z = omega arith }; to = record { x = k.0.within; y = omega arith; z = omega arith }; high_from = omega arith; high_to = omega arith; low_from = k.0.past; low_to = k.0.past }, subst (λ v. AreLed r y X v (d ∷ more) (sent (d ∷ more) x)) (let e : c.x + 1 ≡ max c.x c.x + 1 = omega arith in e) (sent_led r y z (c.x + 1) x (d ∷ more) i j k.1 h l near))
 
-itself : (v : ℕ) → (v == v) ≡ true
-itself v = grind (arith, nat_tests)
-
-other : (u v : ℕ) → (u ≡ v → ⊥) → (u == v) ≡ false
-other u v h = grind (arith, nat_tests)
-
 pub waits_then : (k : Command) (bots : List Bot) → 0 < length bots → replicate (length bots - 1) Wait ++ k ∷ [] ≡ ends k bots
 waits_then k [] h = absurd (omega arith)
 waits_then k (b ∷ []) h = refl
@@ -122,9 +117,9 @@ waits_then_two k l (b ∷ c ∷ d ∷ more) h =
 
 pub ends_led : (bots : List Bot) (x : ℕ) → (last_column (places bots) ≡ x → ⊥) → ends (SMove (along X (pos x -ℤ pos (last_column (places bots))))) bots ≡ led X bots (sent (places bots) x)
 ends_led [] x h = refl
-ends_led (b ∷ []) x h = ap (λ t. cond t Wait (SMove (along X (pos x -ℤ pos b.pos.x))) ∷ []) (sym (other b.pos.x x h))
+ends_led (b ∷ []) x h = ap (λ t. cond t Wait (SMove (along X (pos x -ℤ pos b.pos.x))) ∷ []) (sym (test_unequal b.pos.x x h))
 ends_led (b ∷ c ∷ more) x h =
-    let stays : lead X b.pos b.pos ≡ Wait = ap (λ t. cond t Wait (SMove (along X (pos b.pos.x -ℤ pos b.pos.x)))) (itself b.pos.x) in
+    let stays : lead X b.pos b.pos ≡ Wait = ap (λ t. cond t Wait (SMove (along X (pos b.pos.x -ℤ pos b.pos.x)))) (test_itself b.pos.x) in
     let back = sym stays in
     let later = ends_led (c ∷ more) x h in
     λ i. back i ∷ later i

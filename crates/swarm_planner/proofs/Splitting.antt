@@ -6,6 +6,7 @@ use Rattle.std.proofs.lemmas.Int.{ints}
 use Rattle.vox_geom.specs.declared.coordinate.Coord.{Coord}
 use Rattle.vox_geom.specs.Point.{Point, plus, point}
 use Rattle.vox_geom.specs.Space.{coordinate, numbers_from}
+use Rattle.vox_geom.proofs.Sums.{numbers_length, plus_none, plus_one}
 use Rattle.nano_spec.specs.declared.commands.Command.{Command}
 use Rattle.nano_spec.specs.declared.commands.Command.TheVariants.{Fission, Wait}
 use Rattle.nano_spec.specs.declared.system.Bot.{Bot}
@@ -33,14 +34,8 @@ use Rattle.swarm_planner.proofs.Rows.{length-places}
 
 -- ---- the place beside
 
-one_on : (n : ℕ) → pos n +ℤ pos 1 ≡ pos (n + 1)
-one_on n = omega (arith, ints)
-
-none_on : (n : ℕ) → pos n +ℤ pos 0 ≡ pos n
-none_on n = omega (arith, ints)
-
 pub right_is : (p : Coord) → plus (point p) right ≡ point (next_along_x p)
-right_is p = λ i. record { x = one_on p.x i; y = none_on p.y i; z = none_on p.z i }
+right_is p = λ i. record { x = plus_one p.x i; y = plus_none p.y i; z = plus_none p.z i }
 
 -- ---- each bot has what it needs
 
@@ -72,7 +67,7 @@ module _ (s : State) (light : s.profile ≡ light_profile) (y z : ℕ) (void : I
   all_fenced [] low k = AreFenced.none
   all_fenced (b ∷ []) low k =
       let l = k.0.past in
-      AreFenced.one (b.pos.x + 1) (omega arith) (just_in low (b.pos.x + 1) (point b.pos) b.pos.x refl l (omega arith), (just_in low (b.pos.x + 1) (plus (point b.pos) right) (b.pos.x + 1) (one_on b.pos.x) (omega arith) (omega arith), tt)) AreFenced.none
+      AreFenced.one (b.pos.x + 1) (omega arith) (just_in low (b.pos.x + 1) (point b.pos) b.pos.x refl l (omega arith), (just_in low (b.pos.x + 1) (plus (point b.pos) right) (b.pos.x + 1) (plus_one b.pos.x) (omega arith) (omega arith), tt)) AreFenced.none
   all_fenced (b ∷ c ∷ more) low k =
       let l = k.0.past in
       AreFenced.one b.pos.x l (just_in low b.pos.x (point b.pos) b.pos.x refl l (omega arith), tt) (all_fenced (c ∷ more) (b.pos.x + 1) k.1)
@@ -108,10 +103,6 @@ below_64 a n k h e = by k
 seeds_list : (bid : ℕ) → bid ≤ 20 → seed_list (seeds_after bid) ≡ numbers_from (bid + 1) (20 - bid)
 seeds_list bid h = list_of_set (numbers_from (bid + 1) (20 - bid)) (weaker_rise (bid + 1) 0 (numbers_from (bid + 1) (20 - bid)) (omega arith) (numbers_rise (bid + 1) (20 - bid))) (λ k e. below_64 (bid + 1) (20 - bid) k (omega arith) e)
 
-length-numbers : (a n : ℕ) → length (numbers_from a n) ≡ n
-length-numbers a zero = refl
-length-numbers a (suc n) = ap suc (length-numbers (a + 1) n)
-
 take_numbers : (a n : ℕ) → take n (numbers_from a n) ≡ numbers_from a n
 take_numbers a zero = refl
 take_numbers a (suc n) = ap (λ ks. a ∷ ks) (take_numbers (a + 1) n)
@@ -125,7 +116,7 @@ first_seed : (bid m : ℕ) → m + bid ≡ 19 → seed_list (seeds_after bid) �
 first_seed bid m h = seeds_list bid (omega arith) ∙ ap (numbers_from (bid + 1)) (let e : 20 - bid ≡ suc m = omega arith in e)
 
 pub enough_seeds : (bid m : ℕ) → m + bid ≡ 19 → m < length (seed_list (seeds_after bid))
-enough_seeds bid m h = let e = ap length (first_seed bid m h) in let n = length-numbers (bid + 1 + 1) m in omega arith
+enough_seeds bid m h = let e = ap length (first_seed bid m h) in let n = numbers_length (bid + 1 + 1) m in omega arith
 
 pub parent_is : (bid m : ℕ) (c : Coord) → m + bid ≡ 19 → parent (record { bid = bid; pos = c; seeds = seeds_after bid }) m ≡ record { bid = bid; pos = c; seeds = 0 }
 parent_is bid m c h =

@@ -5,6 +5,7 @@ use Rattle.std.specs.List.{list_any}
 use Rattle.std.proofs.lemmas.Bool.Decides.{Decides-eqb}
 use Rattle.vox_geom.specs.Point.{point, plus}
 use Rattle.vox_geom.specs.Space.{IsInSpace, in_space}
+use Rattle.vox_geom.proofs.Truths.{first_of_two, second_of_two}
 use Rattle.nano_spec.specs.declared.commands.Command.{Command}
 use Rattle.nano_spec.specs.declared.commands.Command.TheVariants.{Halt, Wait, Flip, SMove, LMove, FusionP, FusionS, Fission, Fill, Void, GFill, GVoid}
 use Rattle.nano_spec.specs.declared.system.Bot.{Bot}
@@ -15,7 +16,7 @@ use Rattle.step_order.proofs.Crews.{Differing, differ_append, differing, in_orde
 use Rattle.step_order.proofs.Ends.{space_is}
 use Rattle.step_order.proofs.Facts.{Rising}
 use Rattle.step_order.proofs.Groups.{differ_filter}
-use Rattle.step_order.proofs.Lists.{In, any_in, filter_in, first, in_any, in_either, in_filter, in_left, in_map, in_place, in_right, map_in, not_both, place_in, second}
+use Rattle.step_order.proofs.Lists.{In, any_in, filter_in, in_any, in_either, in_filter, in_left, in_map, in_place, in_right, map_in, not_both, place_in}
 use Rattle.bot_crew.specs.Crew.{bot_of, replaced, without}
 use Rattle.bot_crew.proofs.Heirs.{found_in}
 use Rattle.system_state.specs.Effects.{MayTake, bots_after_turn, with_partner}
@@ -116,11 +117,11 @@ module _ (r : ℕ) (bots : List Bot) (within : (b : Bot) → In b bots → IsInS
   after_within partner Halt e b i = absurd i
   after_within partner Wait e b i = within b i
   after_within partner Flip e b i = within b i
-  after_within partner (SMove d) e b i = all_replaced (λ (c : Bot). IsInSpace r c.pos) bots (bot.bid ∷ []) (moved bot (plus (point bot.pos) d) ∷ []) within (one (moved bot (plus (point bot.pos) d)) (space_is r (plus (point bot.pos) d) (first (in_space r (plus (point bot.pos) d)) true e)).0) b i
-  after_within partner (LMove d f) e b i = all_replaced (λ (c : Bot). IsInSpace r c.pos) bots (bot.bid ∷ []) (moved bot (plus (plus (point bot.pos) d) f) ∷ []) within (one (moved bot (plus (plus (point bot.pos) d) f)) (space_is r (plus (plus (point bot.pos) d) f) (first (in_space r (plus (plus (point bot.pos) d) f)) true (second (in_space r (plus (point bot.pos) d)) (in_space r (plus (plus (point bot.pos) d) f) && true) e))).0) b i
+  after_within partner (SMove d) e b i = all_replaced (λ (c : Bot). IsInSpace r c.pos) bots (bot.bid ∷ []) (moved bot (plus (point bot.pos) d) ∷ []) within (one (moved bot (plus (point bot.pos) d)) (space_is r (plus (point bot.pos) d) (first_of_two (in_space r (plus (point bot.pos) d)) true e)).0) b i
+  after_within partner (LMove d f) e b i = all_replaced (λ (c : Bot). IsInSpace r c.pos) bots (bot.bid ∷ []) (moved bot (plus (plus (point bot.pos) d) f) ∷ []) within (one (moved bot (plus (plus (point bot.pos) d) f)) (space_is r (plus (plus (point bot.pos) d) f) (first_of_two (in_space r (plus (plus (point bot.pos) d) f)) true (second_of_two (in_space r (plus (point bot.pos) d)) (in_space r (plus (plus (point bot.pos) d) f) && true) e))).0) b i
   after_within partner (FusionP d) e b i = joined partner (bot.bid ∷ partner ∷ []) (λ other. fused bot other) (λ other j. here) b i
   after_within partner (FusionS d) e b i = joined partner (partner ∷ bot.bid ∷ []) (λ other. fused other bot) (λ other j. within other j) b i
-  after_within partner (Fission d m) e b i = all_replaced (λ (c : Bot). IsInSpace r c.pos) bots (bot.bid ∷ []) (parent bot m ∷ newborn bot (plus (point bot.pos) d) m ∷ []) within (two (parent bot m) (newborn bot (plus (point bot.pos) d) m) here (space_is r (plus (point bot.pos) d) (first (in_space r (plus (point bot.pos) d)) true e)).0) b i
+  after_within partner (Fission d m) e b i = all_replaced (λ (c : Bot). IsInSpace r c.pos) bots (bot.bid ∷ []) (parent bot m ∷ newborn bot (plus (point bot.pos) d) m ∷ []) within (two (parent bot m) (newborn bot (plus (point bot.pos) d) m) here (space_is r (plus (point bot.pos) d) (first_of_two (in_space r (plus (point bot.pos) d)) true e)).0) b i
   after_within partner (Fill d) e b i = within b i
   after_within partner (Void d) e b i = within b i
   after_within partner (GFill d f) e b i = within b i

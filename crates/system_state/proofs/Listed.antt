@@ -3,13 +3,14 @@ use Rattle.std.proofs.Common.{◌≡◌, ℕ, zero, suc, ◌+◌, ◌-◌, ◌<�
 use Rattle.std.specs.Prelude.{AllPairs, IsTrue, Some, slice_get, slice_index_or}
 use Rattle.std.specs.List.{list_any}
 use Rattle.std.proofs.lemmas.List.{take_rest}
+use Rattle.vox_geom.proofs.Sums.{append_none}
 use Rattle.nano_spec.specs.declared.commands.Command.{Command}
 use Rattle.nano_spec.specs.declared.system.Bot.{Bot}
 use Rattle.nano_spec.specs.Act.{Act, acts}
 use Rattle.nano_spec.specs.Group.{are_together, is_leader, members}
 use Rattle.step_order.proofs.Facts.{Rising, rising_is}
 use Rattle.step_groups.specs.Judging.{act, is_alone}
-use Rattle.step_groups.proofs.Joined.{nothing_more, with_leader}
+use Rattle.step_groups.proofs.Joined.{with_leader}
 use Rattle.step_groups.proofs.Mates.{bots_are, group, leads, none_after, none_before, split_at, take_more}
 use Rattle.system_state.specs.declared.turns.Turn.{Turn}
 use Rattle.system_state.specs.Turns.{AreTurns, first_mate}
@@ -50,7 +51,7 @@ module _ (bots : List Bot) (commands : List Command) (i : ℕ) (b : Bot) (k : Co
 
   -- a bot with a mate before it leads no group
   pub no_turn_more : (turns : List Turn) → list_any (are_together (act b k)) (acts (take i bots) (take i commands)) ≡ true → AreTurns (acts bots commands) (filter (is_leader (acts bots commands)) (acts (take i bots) (take i commands))) turns → AreTurns (acts bots commands) (filter (is_leader (acts bots commands)) (acts (take (i + 1) bots) (take (i + 1) commands))) turns
-  no_turn_more turns e h = subst (λ (ls : List Act). AreTurns all ls turns) (sym (leaders_are true e ∙ nothing_more (filter (is_leader all) xs))) h
+  no_turn_more turns e h = subst (λ (ls : List Act). AreTurns all ls turns) (sym (leaders_are true e ∙ append_none (filter (is_leader all) xs))) h
 
   -- a bot without one leads the group of those after it
   pub leader_more : (turns next : List Turn) (partner : ℕ) → next ≡ turns ++ record { leader = b.bid; place = i; partner = partner } ∷ [] → list_any (are_together (act b k)) (acts (take i bots) (take i commands)) ≡ false → partner ≡ first_mate (act b k) (acts (drop (i + 1) bots) (drop (i + 1) commands)) → AreTurns (acts bots commands) (filter (is_leader (acts bots commands)) (acts (take i bots) (take i commands))) turns → AreTurns (acts bots commands) (filter (is_leader (acts bots commands)) (acts (take (i + 1) bots) (take (i + 1) commands))) next

@@ -4,6 +4,7 @@ use Rattle.std.specs.Prelude.{Some, None, Option, find, unwrap_or, IsNone, IfSom
 use Rattle.std.specs.List.{list_all, list_any}
 use Rattle.std.proofs.lemmas.Bool.Decides.{nat_tests}
 use Rattle.vox_geom.specs.declared.coordinate.Coord.{Coord}
+use Rattle.vox_geom.proofs.Truths.{first_of_two, not_is_false, second_of_two}
 use Rattle.nano_spec.specs.declared.commands.Command.TheVariants.{Halt}
 use Rattle.nano_spec.specs.declared.outcomes.Rule.{Rule}
 use Rattle.nano_spec.specs.declared.outcomes.Rule.TheVariants.{HaltAlone, OutOfSpace, Seeds}
@@ -15,7 +16,7 @@ use Rattle.nano_spec.specs.State.{State, seed_list}
 use Rattle.bot_crew.specs.Crew.{bot_at, bot_of, stands_at}
 use Rattle.bot_crew.proofs.Heirs.{found_in, stood}
 use Rattle.step_order.proofs.Crews.{not_here}
-use Rattle.step_order.proofs.Lists.{In, all_in, first, second}
+use Rattle.step_order.proofs.Lists.{In, all_in}
 use Rattle.system_state.specs.Effects.{IsFreeFor}
 
 -- ---- what is known of a group in the state that it meets
@@ -24,15 +25,11 @@ is_none_is : {X : Type 0} (o : Option X) → is_none o ≡ true → o ≡ None
 is_none_is None e = refl
 is_none_is (Some x) e = cc
 
-untrue : (b : Bool) → not b ≡ false → b ≡ true
-untrue true e = refl
-untrue false e = cc
-
 module _ (t : State) (group : List Act) (keeps : keeps_rules t group ≡ true) (a : Act) (i : In a group) where
   both_of : (is_active t a.bot ≡ true) × (list_all (λ rule. is_none (fault t group a rule)) rules_of_bots ≡ true)
   both_of =
       let h = all_in (λ b. is_active t b.bot && list_all (λ rule. is_none (fault t group b rule)) rules_of_bots) a group keeps i in
-      (first (is_active t a.bot) (list_all (λ rule. is_none (fault t group a rule)) rules_of_bots) h, second (is_active t a.bot) (list_all (λ rule. is_none (fault t group a rule)) rules_of_bots) h)
+      (first_of_two (is_active t a.bot) (list_all (λ rule. is_none (fault t group a rule)) rules_of_bots) h, second_of_two (is_active t a.bot) (list_all (λ rule. is_none (fault t group a rule)) rules_of_bots) h)
 
   pub kept_rule : (rule : Rule) → In rule rules_of_bots → fault t group a rule ≡ None
   kept_rule rule j = is_none_is (fault t group a rule) (all_in (λ r. is_none (fault t group a r)) rule rules_of_bots both_of.1 j)
@@ -41,7 +38,7 @@ module _ (t : State) (group : List Act) (keeps : keeps_rules t group ≡ true) (
   is_there = both_of.0
 
   pub stays : stays_in_space t.matrix.resolution a ≡ true
-  stays = untrue (stays_in_space t.matrix.resolution a) (not_here a (not (stays_in_space t.matrix.resolution a)) (kept_rule OutOfSpace (inr (inr (inr (inr (inl refl)))))))
+  stays = not_is_false (stays_in_space t.matrix.resolution a) (not_here a (not (stays_in_space t.matrix.resolution a)) (kept_rule OutOfSpace (inr (inr (inr (inr (inl refl)))))))
 
   pub seeded : lacks_seeds (seed_list a.bot.seeds) a.command ≡ false
   seeded = not_here a (lacks_seeds (seed_list a.bot.seeds) a.command) (kept_rule Seeds (inr (inr (inr (inr (inr (inr (inl refl))))))))
@@ -66,9 +63,6 @@ module _ (t : State) (bot : Bot) (met : bot_in t.bots bot ≡ bot) (active : is_
 
 pub at_most_one : (n : ℕ) → nat_lt 1 n ≡ false → n ≤ 1
 at_most_one n e = grind (arith, nat_tests)
-
-pub enough : (n m : ℕ) → nat_le n m ≡ false → m + 1 ≤ n
-enough n m e = grind (arith, nat_tests)
 
 pub some_of : (b : Bot) (bots : List Bot) → In b bots → 1 ≤ length bots
 some_of b [] i = absurd i

@@ -4,6 +4,8 @@ use Rattle.std.specs.Prelude.{filter, nat_le}
 use Rattle.std.specs.List.{list_any}
 use Rattle.std.proofs.lemmas.Bool.Decides.{nat_tests, Decides-eqb}
 use Rattle.vox_geom.specs.Point.{Point}
+use Rattle.vox_geom.proofs.Truths.{one_of_two}
+use Rattle.vox_geom.proofs.Tests.{at_most_by_test}
 use Rattle.nano_spec.specs.declared.commands.Command.{Command}
 use Rattle.nano_spec.specs.declared.commands.Command.TheVariants.{FusionP, GFill, GVoid}
 use Rattle.nano_spec.specs.declared.outcomes.Rule.TheVariants.{Partner}
@@ -15,7 +17,7 @@ use Rattle.step_groups.proofs.Alone.{alone_members}
 use Rattle.step_order.proofs.Crews.{not_here}
 use Rattle.step_order.proofs.Facts.{IsGood, Rising}
 use Rattle.step_order.proofs.Groups.{differ_acts, filter_only}
-use Rattle.step_order.proofs.Lists.{In, all_in, any_in, filter_in, in_filter, in_map, not_both, one_of}
+use Rattle.step_order.proofs.Lists.{In, all_in, any_in, filter_in, in_filter, in_map, not_both}
 use Rattle.step_order.proofs.Together.{Together, itself, partners, shares, is_together, one_partner, together_is}
 
 -- two bots of a group command
@@ -67,9 +69,6 @@ no_share p (GFill d f) q e h k = cc
 no_share p (GVoid d f) q e h k = cc
 no_share p c q e h k = cc
 
-test_le : (a b : ℕ) → nat_le a b ≡ true → a ≤ b
-test_le a b h = grind (arith, nat_tests)
-
 less : (a b : ℕ) → a ≤ b → (a ≡ b → ⊥) → a < b
 less a b h n = grind arith
 
@@ -78,7 +77,7 @@ module _ (s : State) (all : List Act) (good : IsGood s all) (l : Act) (leads : I
   leader_in = (filter_in (is_leader all) l all leads).0
 
   least : (a : Act) → In a (members all l) → l.bot.bid ≤ a.bot.bid
-  least a i = test_le l.bot.bid a.bot.bid (all_in (λ b. nat_le l.bot.bid b.bot.bid) a (members all l) (filter_in (is_leader all) l all leads).1 i)
+  least a i = at_most_by_test l.bot.bid a.bot.bid (all_in (λ b. nat_le l.bot.bid b.bot.bid) a (members all l) (filter_in (is_leader all) l all leads).1 i)
 
   pub alone_is : is_alone l.command ≡ true → members all l ≡ l ∷ []
   alone_is h = alone_members all l h ∙ filter_only (λ (a : Act). a.bot.bid) (λ b. l.bot.bid == b.bot.bid) l all (differ_acts all good.rising) leader_in (eq-eqb l.bot.bid l.bot.bid refl)
@@ -101,7 +100,7 @@ module _ (s : State) (all : List Act) (good : IsGood s all) (l : Act) (leads : I
       partner_is = stays (sym (ap (λ b. b && not (list_any (are_partners l) all)) h) ∙ not_here l (is_fusion l.command && not (list_any (are_partners l) all)) (good.keeps l Partner leader_in (inr (inr (inr (inr (inr (inr (inr (inr (inl refl)))))))))))
 
       apart : (b : Act) → In b all → are_partners l b ≡ true → l.bot.bid ≡ b.bot.bid → ⊥
-      apart b i e k = same (one_of (is_pair l l) (is_pair l l) (ap (are_partners l) (good.apart.bids l b leader_in i k) ∙ e))
+      apart b i e k = same (one_of_two (is_pair l l) (is_pair l l) (ap (are_partners l) (good.apart.bids l b leader_in i k) ∙ e))
         where
           same : (is_pair l l ≡ true) ⊎ (is_pair l l ≡ true) → ⊥
           same (inl f) = no_self (position l) l.command f
@@ -134,5 +133,5 @@ module _ (s : State) (all : List Act) (good : IsGood s all) (l : Act) (leads : I
 
       by : Together l a → (a ≡ l) ⊎ (share_region (position l) l.command (position a) a.command ≡ true)
       by (itself e) = inl (good.apart.bids a l k.0 leader_in (sym e))
-      by (partners e) = absurd (no_fusion (position l) l.command (position a) a.command h (one_of (is_pair l a) (is_pair a l) e))
+      by (partners e) = absurd (no_fusion (position l) l.command (position a) a.command h (one_of_two (is_pair l a) (is_pair a l) e))
       by (shares e) = inr e

@@ -7,13 +7,13 @@ use Rattle.vox_geom.specs.declared.difference.Diff.{Diff}
 use Rattle.vox_geom.specs.Point.{point, plus}
 use Rattle.vox_geom.specs.Region.{is_within, just}
 use Rattle.vox_geom.specs.Space.{coordinate, coordinates, in_space}
+use Rattle.vox_geom.proofs.Truths.{first_of_two, or_false}
 use Rattle.nano_spec.specs.declared.commands.Command.TheVariants.{Fill, Void}
 use Rattle.nano_spec.specs.declared.system.Bot.{Bot}
 use Rattle.nano_spec.specs.Act.{stays_in_space}
 use Rattle.nano_spec.specs.Matrix.{Matrix, is_full}
 use Rattle.nano_spec.specs.State.{State}
 use Rattle.step_groups.specs.Judging.{act, edit_of}
-use Rattle.step_order.proofs.Lists.{first}
 use Rattle.vox_planes.specs.Voxel.{with_voxel}
 use Rattle.system_state.specs.Effects.{after_turn}
 use Rattle.system_state.specs.Painting.{met_count}
@@ -21,12 +21,8 @@ use Rattle.system_state.specs.Edited.{edit_cost}
 use Rattle.system_state.proofs.OnlyBot.{cost_is, fill_cost, matrix_filled, matrix_voided, of_point, one_only, void_cost}
 
 pub names_in_space : (r : ℕ) (b : Bot) (d : Diff) (full : Bool) → IsTrue (stays_in_space r (act b (edit_of full d))) → in_space r (plus (point b.pos) d) ≡ true
-names_in_space r b d true h = first (in_space r (plus (point b.pos) d)) true h
-names_in_space r b d false h = first (in_space r (plus (point b.pos) d)) true h
-
-or_nothing : (b : Bool) → (b || false) ≡ b
-or_nothing true = refl
-or_nothing false = refl
+names_in_space r b d true h = first_of_two (in_space r (plus (point b.pos) d)) true h
+names_in_space r b d false h = first_of_two (in_space r (plus (point b.pos) d)) true h
 
 -- one voxel is met
 one_there : (m : Matrix) (b : Bot) (d : Diff) → in_space m.resolution (plus (point b.pos) d) ≡ true → 1 ≤ count_by (λ c. is_within (just (plus (point b.pos) d)) (point c) || false) (coordinates m.resolution)
@@ -34,7 +30,7 @@ one_there m b d i =
     let q = of_point m.resolution (plus (point b.pos) d) i in
     let there : Coord = coordinate (plus (point b.pos) d) in
     let e : length (filter (λ c. is_within (just (plus (point b.pos) d)) (point c) || false) (coordinates m.resolution)) ≡ 1 =
-    (λ j. length (filter (λ c. or_nothing (is_within (just (sym q.0 j)) (point c)) j) (coordinates m.resolution))) ∙ ap length (one_only m.resolution there q.1) in
+    (λ j. length (filter (λ c. or_false (is_within (just (sym q.0 j)) (point c)) j) (coordinates m.resolution))) ∙ ap length (one_only m.resolution there q.1) in
     let n = length-filter (λ c. is_within (just (plus (point b.pos) d)) (point c) || false) (coordinates m.resolution) in
     omega (arith, n, e)
 

@@ -10,6 +10,8 @@ use Rattle.vox_geom.specs.Point.{Point, point, plus, same_point}
 use Rattle.vox_geom.specs.Region.{just, is_within}
 use Rattle.vox_geom.specs.Space.{IsInSpace, in_range, in_space, coordinate, coordinate_at, coordinates, numbers_from, place}
 use Rattle.vox_geom.proofs.Places.{place-coordinate_at}
+use Rattle.vox_geom.proofs.Truths.{and_true, parts_of_three}
+use Rattle.vox_geom.proofs.Sums.{integer_plus_none}
 use Rattle.nano_spec.specs.declared.commands.Command.{Command}
 use Rattle.nano_spec.specs.declared.commands.Command.TheVariants.{Fill, Void}
 use Rattle.nano_spec.specs.declared.system.Bot.{Bot}
@@ -31,25 +33,15 @@ number_in : (r : ℕ) (z : ℤ) → in_range r z ≡ true → (pos (unsigned_abs
 number_in r (pos n) e = (refl, grind (arith, nat_tests))
 number_in r (negsuc n) e = cc
 
-three : (a b c : Bool) → (a && b && c) ≡ true → (a ≡ true) × (b ≡ true) × (c ≡ true)
-three true true true e = (refl, refl, refl)
-three true true false e = cc
-three true false c e = cc
-three false b c e = cc
-
 pub of_point : (r : ℕ) (q : Point) → in_space r q ≡ true → (point (coordinate q) ≡ q) × IsInSpace r (coordinate q)
 of_point r q e =
-    let t = three (in_range r q.x) (in_range r q.y) (in_range r q.z) e in
+    let t = parts_of_three (in_range r q.x) (in_range r q.y) (in_range r q.z) e in
     let x = number_in r q.x t.0 in
     let y = number_in r q.y t.1 in
     let z = number_in r q.z t.2 in
     (λ i. record { x = x.0 i; y = y.0 i; z = z.0 i }, record { x = x.1; y = y.1; z = z.1 })
 
 -- ---- the matrix after the step
-
-and_true : (b : Bool) → (b && true) ≡ b
-and_true true = refl
-and_true false = refl
 
 turned : (x y : Bool) → ((x && y) || (x && y)) ≡ (y && x)
 turned true true = refl
@@ -96,11 +88,8 @@ kept t a e = rw e refl
 leads : (b : Bot) (k : Command) → leaders (lone b k ∷ []) ≡ lone b k ∷ []
 leads b k = kept (is_leader (lone b k ∷ []) (lone b k)) (lone b k) (least 0 (are_together (lone b k) (lone b k)) (lone b k))
 
-nothing_more : (z : ℤ) → z +ℤ pos 0 ≡ z
-nothing_more z = omega (arith, ints)
-
 pub cost_is : (m : Matrix) (b : Bot) (k : Command) → groups_cost m (lone b k ∷ []) ≡ group_cost m (point b.pos) k
-cost_is m b k = ap (λ (xs : List Act). total (map (λ a. group_cost m (point a.bot.pos) a.command) xs)) (leads b k) ∙ nothing_more (group_cost m (point b.pos) k)
+cost_is m b k = ap (λ (xs : List Act). total (map (λ a. group_cost m (point a.bot.pos) a.command) xs)) (leads b k) ∙ integer_plus_none (group_cost m (point b.pos) k)
 
 -- ---- a region of one coordinate
 
@@ -134,7 +123,7 @@ one_only r p i =
     coordinate_is c d e = ap coordinate e
 
 price_just : (m : Matrix) (p : Coord) (a b : ℤ) → IsInSpace m.resolution p → price m (just (point p)) a b ≡ cond (is_full m p) b a
-price_just m p a b i = ap (λ cs. total (map (λ c. cond (is_full m c) b a) cs)) (one_only m.resolution p i) ∙ nothing_more (cond (is_full m p) b a)
+price_just m p a b i = ap (λ cs. total (map (λ c. cond (is_full m c) b a) cs)) (one_only m.resolution p i) ∙ integer_plus_none (cond (is_full m p) b a)
 
 module _ (m : Matrix) (b : Bot) (d : Diff) (i : in_space m.resolution (plus (point b.pos) d) ≡ true) where
   beside_cost : (if_void if_full : ℤ) → price m (just (plus (point b.pos) d)) if_void if_full ≡ cond (is_full m (coordinate (plus (point b.pos) d))) if_full if_void

@@ -3,6 +3,7 @@ use Rattle.std.proofs.Common.{◌≡◌, ◌*◌, refl, sym, ◌∙◌, ap, List
 use Rattle.std.specs.List.{list_any}
 use Rattle.vox_geom.specs.declared.coordinate.Coord.{Coord}
 use Rattle.vox_geom.specs.Point.{point, same_point}
+use Rattle.vox_geom.proofs.Truths.{twice_chosen}
 use Rattle.nano_spec.specs.Matrix.{Matrix, is_full}
 use Rattle.vox_planes.specs.Voxel.{with_voxel}
 use Rattle.step_order.proofs.Voxels.{as_it_is, full_where, matrix_same}
@@ -23,15 +24,10 @@ any_more p (x ∷ xs) y = ap (λ b. p x || b) (any_more p xs y) ∙ assoc (p x) 
     assoc true b c = refl
     assoc false b c = refl
 
-choices : (a b full old : Bool) → cond b full (cond a full old) ≡ cond (a || b) full old
-choices true true full old = refl
-choices true false full old = refl
-choices false b full old = refl
-
 -- one more cell
 pub one_cell_more : (m : Matrix) (cells : List Coord) (c : Coord) (full : Bool) → with_voxel (with_cells m cells full) c full ≡ with_cells m (cells ++ c ∷ []) full
 one_cell_more m cells c full =
     matrix_same m.resolution (λ d. cond (same_point (point d) (point c)) full (is_full (with_cells m cells full) d)) (λ d. cond (is_cell (cells ++ c ∷ []) d) full (is_full m d)) (λ d w.
     ap (λ b. cond (same_point (point d) (point c)) full b) (full_where m.resolution (λ e. cond (is_cell cells e) full (is_full m e)) d w)
-    ∙ (choices (is_cell cells d) (same_point (point d) (point c)) full (is_full m d)
+    ∙ (twice_chosen (is_cell cells d) (same_point (point d) (point c)) full (is_full m d)
     ∙ ap (λ b. cond b full (is_full m d)) (sym (any_more (λ e. same_point (point d) (point e)) cells c))))

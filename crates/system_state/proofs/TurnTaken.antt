@@ -11,6 +11,8 @@ use Rattle.vox_geom.specs.Difference.{is_near}
 use Rattle.vox_geom.specs.Point.{Point, point, plus}
 use Rattle.vox_geom.specs.Region.{between, is_within, Span}
 use Rattle.vox_geom.specs.Space.{IsInSpace, coordinate, in_space}
+use Rattle.vox_geom.proofs.Truths.{false_by, first_of_two, one_of_two, same_truth}
+use Rattle.vox_geom.proofs.Tests.{not_at_most_by_test}
 use Rattle.nano_spec.specs.declared.commands.Command.{Command}
 use Rattle.nano_spec.specs.declared.commands.Command.TheVariants.{Halt, Wait, Flip, SMove, LMove, FusionP, FusionS, Fission, Fill, Void, GFill, GVoid}
 use Rattle.nano_spec.specs.declared.system.Bot.{Bot}
@@ -31,12 +33,12 @@ use Rattle.step_groups.specs.Judging.{is_alone}
 use Rattle.step_order.proofs.Ends.{near_away, region_on, space_is}
 use Rattle.step_order.proofs.Facts.{IsGood, Rising}
 use Rattle.step_order.proofs.Groups.{Differ, differ_acts, differ_filter, one_leader}
-use Rattle.step_order.proofs.Lists.{In, any_in, first, flat_same, in_any, in_filter, is_false, map_in, one_of, same_test}
+use Rattle.step_order.proofs.Lists.{In, any_in, flat_same, in_any, in_filter, map_in}
 use Rattle.step_order.proofs.Together.{share_back, with_itself}
 use Rattle.system_state.specs.Effects.{MayTake, Needs, after_turn, bots_after_turn, with_partner}
 use Rattle.system_state.proofs.Bots.{alone_bots, replaced_itself}
 use Rattle.system_state.proofs.Members.{alone_is, couple, is_group, leader_in, shared}
-use Rattle.system_state.proofs.Meeting.{at_most_one, enough, found, free_for, halts_alone, is_met, is_there, nobody, seeded, some_of, stays}
+use Rattle.system_state.proofs.Meeting.{at_most_one, found, free_for, halts_alone, is_met, is_there, nobody, seeded, some_of, stays}
 use Rattle.step_groups.specs.Groups.{bid_of}
 
 -- ---- kinds of commands
@@ -185,15 +187,15 @@ module _ (s : State) (all : List Act) (good : IsGood s all) (l : Act) (leads : I
   needs known (LMove d f) e = free_for t.bots l.bot (coordinate (plus (plus (point l.bot.pos) d) f)) (comes (LMove d f) e (moved l.bot (plus (plus (point l.bot.pos) d) f)) (inl refl))
   needs known (Fission d m) e = (
     nobody t.bots l.bot (coordinate (plus (point l.bot.pos) d)) (comes (Fission d m) e (newborn l.bot (plus (point l.bot.pos) d) m) (inr (inl refl))) away,
-    enough (length (seed_list l.bot.seeds)) m (sym (ap (lacks_seeds (seed_list l.bot.seeds)) e) ∙ seeded t (members all l) keeps l itself_in),
+    not_at_most_by_test (length (seed_list l.bot.seeds)) m (sym (ap (lacks_seeds (seed_list l.bot.seeds)) e) ∙ seeded t (members all l) keeps l itself_in),
   )
     where
       near : is_near d ≡ true
-      near = first (is_near d) (nat_lt m 256) (sym (ap is_command e) ∙ known)
+      near = first_of_two (is_near d) (nat_lt m 256) (sym (ap is_command e) ∙ known)
 
       away : l.bot.pos ≡ coordinate (plus (point l.bot.pos) d) → ⊥
       away k = near_away (point l.bot.pos) d near
-          (sym (space_is t.matrix.resolution (plus (point l.bot.pos) d) (first (in_space t.matrix.resolution (plus (point l.bot.pos) d)) true (in_space_of (Fission d m) e))).1 ∙ ap point (sym k))
+          (sym (space_is t.matrix.resolution (plus (point l.bot.pos) d) (first_of_two (in_space t.matrix.resolution (plus (point l.bot.pos) d)) true (in_space_of (Fission d m) e))).1 ∙ ap point (sym k))
   needs known (FusionP d) e =
       let w = couple s all good l leads (ap is_fusion e) in
       (is_active_partner w.0 w.3, λ k. let u : l.bot.bid < w.0.bot.bid = w.2 in let v : partner ≡ w.0.bot.bid = partner_of w.0 w.3 in omega arith)
@@ -217,7 +219,7 @@ module _ (s : State) (all : List Act) (good : IsGood s all) (l : Act) (leads : I
 
   shared_any : (work : Point → Command → List Span) → ((p : Point) (c : Command) (q : Point) (e : Command) (x : Point) → share_region p c q e ≡ true → list_any (λ r. is_within r x) (work p c) ≡ true → list_any (λ r. is_within r x) (work q e) ≡ true) → is_group l.command ≡ true
       → (x : Coord) → list_any (λ (a : Act). list_any (λ r. is_within r (point x)) (work (position a) a.command)) (members all l) ≡ list_any (λ (a : Act). list_any (λ r. is_within r (point x)) (work (position a) a.command)) (l ∷ [])
-  shared_any work share g x = same_test (list_any (λ (a : Act). list_any (λ r. is_within r (point x)) (work (position a) a.command)) (members all l)) (list_any (λ (a : Act). list_any (λ r. is_within r (point x)) (work (position a) a.command)) (l ∷ []))
+  shared_any work share g x = same_truth (list_any (λ (a : Act). list_any (λ r. is_within r (point x)) (work (position a) a.command)) (members all l)) (list_any (λ (a : Act). list_any (λ r. is_within r (point x)) (work (position a) a.command)) (l ∷ []))
       (λ h. let w = any_in (λ (a : Act). list_any (λ r. is_within r (point x)) (work (position a) a.command)) (members all l) h in by w.0 w.2 (shared s all good l leads g w.0 w.1))
       (λ h. in_any (λ (a : Act). list_any (λ r. is_within r (point x)) (work (position a) a.command)) l (members all l) itself_in (of_or _ h))
     where
@@ -236,7 +238,7 @@ module _ (s : State) (all : List Act) (good : IsGood s all) (l : Act) (leads : I
       ∙ (λ i. list_any (λ r. is_within r (point x)) (work (position l) l.command) || (list_any (λ r. is_within r (point x)) (none (position b) b.command h i) || false))
 
   mate_fuses : (b : Act) → are_partners l b ≡ true → is_fusion b.command ≡ true
-  mate_fuses b h = partner_fuses (position l) l.command (position b) b.command (one_of (is_pair l b) (is_pair b l) h)
+  mate_fuses b h = partner_fuses (position l) l.command (position b) b.command (one_of_two (is_pair l b) (is_pair b l) h)
 
   same_filled : (x : Coord) → is_filled (members all l) x ≡ is_filled (l ∷ []) x
   same_filled x = by (kind l.command)
@@ -308,7 +310,7 @@ module _ (s : State) (all : List Act) (good : IsGood s all) (l : Act) (leads : I
   Come group = replaced t.bots (map (λ (a : Act). a.bot.bid) group) (flat_map (λ (a : Act). successors group a a.command) group)
 
   pair_first : (b : Act) (d : Diff) → l.command ≡ FusionP d → are_partners l b ≡ true → is_pair l b ≡ true
-  pair_first b d e h = by (one_of (is_pair l b) (is_pair b l) h)
+  pair_first b d e h = by (one_of_two (is_pair l b) (is_pair b l) h)
     where
       no : (q : Point) (c : Command) (p : Point) → fuse q c p (FusionP d) ≡ true → ⊥
       no q (FusionP f) p k = cc
@@ -319,7 +321,7 @@ module _ (s : State) (all : List Act) (good : IsGood s all) (l : Act) (leads : I
       by (inr k) = absurd (no (position b) b.command (position l) (sym (ap (λ (c : Command). fuse (position b) b.command (position l) c) e) ∙ k))
 
   pair_second : (b : Act) (d : Diff) → l.command ≡ FusionS d → are_partners l b ≡ true → is_pair b l ≡ true
-  pair_second b d e h = by (one_of (is_pair l b) (is_pair b l) h)
+  pair_second b d e h = by (one_of_two (is_pair l b) (is_pair b l) h)
     where
       no : (q : Point) (c : Command) (p : Point) → fuse p (FusionS d) q c ≡ true → ⊥
       no q c p k = cc
@@ -329,7 +331,7 @@ module _ (s : State) (all : List Act) (good : IsGood s all) (l : Act) (leads : I
       by (inl k) = absurd (no (position b) b.command (position l) (sym (ap (λ (c : Command). fuse (position l) c (position b) b.command) e) ∙ k))
 
   no_pair : (a : Act) → is_pair a a ≡ false
-  no_pair a = is_false (is_pair a a) (no_itself (position a) a.command)
+  no_pair a = false_by (is_pair a a) (no_itself (position a) a.command)
     where
       no_itself : (p : Point) (c : Command) → fuse p c p c ≡ true → ⊥
       no_itself p (FusionP d) h = cc

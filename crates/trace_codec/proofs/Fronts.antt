@@ -4,6 +4,7 @@ use Rattle.std.specs.Prelude.{IsTrue, nat_lt, unsigned_abs}
 use Rattle.std.proofs.lemmas.List.{append-nil}
 use Rattle.vox_geom.specs.declared.difference.Diff.{Diff}
 use Rattle.vox_geom.specs.Difference.{IsNear, IsFar, IsShort, IsLong, is_near, is_far, is_short, mlen}
+use Rattle.vox_geom.proofs.Truths.{both_true, first_of_two, second_of_two}
 use Rattle.nano_spec.specs.declared.commands.Command.{Command}
 use Rattle.nano_spec.specs.declared.commands.Command.TheVariants.{Halt, Wait, Flip, SMove, LMove, FusionP, FusionS, Fission, Fill, Void, GFill, GVoid}
 use Rattle.nano_spec.specs.Command.{IsCommand}
@@ -11,7 +12,6 @@ use Rattle.nano_spec.specs.Cutting.{BeginsSpelling}
 use Rattle.nano_spec.specs.Spelling.{near_code, far_bytes, axis, component, raised, spelling}
 use Rattle.nano_spec.proofs.Codes.{along, linear, near_code_below, raised_small}
 use Rattle.nano_spec.proofs.Decoder.{long_is, short_is}
-use Rattle.nano_spec.proofs.Grounding.{left, right}
 use Rattle.trace_codec.specs.declared.one.FarFront.TheVariants as far
 use Rattle.trace_codec.specs.FarFront.{SaysFar}
 use Rattle.trace_codec.specs.One.{IsNoCommand}
@@ -59,18 +59,18 @@ front (SMove d) h bytes y i e =
     let l = linear d (long_is d i).0 in
     by_long d i l.low l.high (same_head h _ bytes (raised (component d) 15 ∷ y) e) (y, same_rest h _ bytes (raised (component d) 15 ∷ y) e)
 front (LMove d g) h bytes y i e =
-    let p = left (is_short d) (is_short g) i in
-    let q = right (is_short d) (is_short g) i in
+    let p = first_of_two (is_short d) (is_short g) i in
+    let q = second_of_two (is_short d) (is_short g) i in
     let l = linear d (short_is d p).0 in
     let m = linear g (short_is g q).0 in
     by_short d g p q l.low l.high m.low m.high (same_head h _ bytes _ e) (y, same_rest h _ bytes _ e)
 front (FusionP d) h bytes y i e = near_front h 7 d bytes y i (omega arith) (omega arith) e (λ (l : 7 < 2). absurd (omega arith))
 front (FusionS d) h bytes y i e = near_front h 6 d bytes y i (omega arith) (omega arith) e (λ (l : 6 < 2). absurd (omega arith))
-front (Fission d m) h bytes y i e = near_front h 5 d bytes (m ∷ y) (left (is_near d) (nat_lt m 256) i) (omega arith) (omega arith) e (λ (l : 5 < 2). absurd (omega arith))
+front (Fission d m) h bytes y i e = near_front h 5 d bytes (m ∷ y) (first_of_two (is_near d) (nat_lt m 256) i) (omega arith) (omega arith) e (λ (l : 5 < 2). absurd (omega arith))
 front (Fill d) h bytes y i e = near_front h 3 d bytes y i (omega arith) (omega arith) e (λ (l : 3 < 2). absurd (omega arith))
 front (Void d) h bytes y i e = near_front h 2 d bytes y i (omega arith) (omega arith) e (λ (l : 2 < 2). absurd (omega arith))
-front (GFill d f) h bytes y i e = far_front h 1 d f bytes y (left (is_near d) (is_far f) i) (right (is_near d) (is_far f) i) (omega arith) (omega arith) e
-front (GVoid d f) h bytes y i e = far_front h 0 d f bytes y (left (is_near d) (is_far f) i) (right (is_near d) (is_far f) i) (omega arith) (omega arith) e
+front (GFill d f) h bytes y i e = far_front h 1 d f bytes y (first_of_two (is_near d) (is_far f) i) (second_of_two (is_near d) (is_far f) i) (omega arith) (omega arith) e
+front (GVoid d f) h bytes y i e = far_front h 0 d f bytes y (first_of_two (is_near d) (is_far f) i) (second_of_two (is_near d) (is_far f) i) (omega arith) (omega arith) e
 
 -- bytes are refused where they agree with no spelling, however both go on
 pub refused : (bytes : List ℕ) → ((c : Command) (x y : List ℕ) → IsCommand c → bytes ++ x ≡ spelling c ++ y → ⊥) → IsNoCommand bytes
@@ -90,16 +90,12 @@ empty_below (b ∷ bytes) l = absurd (omega arith)
 begins_two : (c : Command) (h s : ℕ) (bytes : List ℕ) → length bytes < 1 → IsCommand c → spelling c ≡ h ∷ s ∷ [] → BeginsSpelling (h ∷ bytes)
 begins_two c h s bytes l i e = (c, s ∷ [], i, λ n. cc, ap (λ b. h ∷ (b ++ s ∷ [])) (empty_below bytes l) ∙ sym e)
 
-both : (a b : Bool) → IsTrue a → IsTrue b → IsTrue (a && b)
-both true b p q = q
-both false b p q = cc
-
 pub begins_fission : (d : Diff) (k : ℕ) (bytes : List ℕ) → k ≡ 5 → length bytes < 1 → IsNear d → BeginsSpelling ((8 * near_code d + k) ∷ bytes)
-begins_fission d k bytes e l n = begins_two (Fission d 0) (8 * near_code d + k) 0 bytes l (both (is_near d) true n refl) (ap (λ v. (8 * near_code d + v) ∷ 0 ∷ []) (sym e))
+begins_fission d k bytes e l n = begins_two (Fission d 0) (8 * near_code d + k) 0 bytes l (both_true (is_near d) true n refl) (ap (λ v. (8 * near_code d + v) ∷ 0 ∷ []) (sym e))
 
 pub begins_group : (d : Diff) (k : ℕ) (bytes : List ℕ) → k < 2 → IsNear d → SaysFar bytes far.More → BeginsSpelling ((8 * near_code d + k) ∷ bytes)
-begins_group d zero bytes l n (f, more, g, m, e) = (GVoid d f, more, both (is_near d) (is_far f) n g, m, ap (λ v. (8 * near_code d + 0) ∷ v) e)
-begins_group d (suc zero) bytes l n (f, more, g, m, e) = (GFill d f, more, both (is_near d) (is_far f) n g, m, ap (λ v. (8 * near_code d + 1) ∷ v) e)
+begins_group d zero bytes l n (f, more, g, m, e) = (GVoid d f, more, both_true (is_near d) (is_far f) n g, m, ap (λ v. (8 * near_code d + 0) ∷ v) e)
+begins_group d (suc zero) bytes l n (f, more, g, m, e) = (GFill d f, more, both_true (is_near d) (is_far f) n g, m, ap (λ v. (8 * near_code d + 1) ∷ v) e)
 begins_group d (suc (suc k)) bytes l n h = absurd (omega arith)
 
 -- a difference of one step along an axis
@@ -120,7 +116,7 @@ begins_short a b bytes l m n o z =
     let d = stepped a l m in
     let e = stepped b n o in
     let s = 16 * raised (component e.0) 5 + raised (component d.0) 5 in
-    begins_two (LMove d.0 e.0) (64 * b + 16 * a + 12) s bytes z (both (is_short d.0) (is_short e.0) d.1 e.1) (ap (λ v. (64 * axis e.0 + 16 * v + 12) ∷ s ∷ []) d.3 ∙ ap (λ v. (64 * v + 16 * a + 12) ∷ s ∷ []) e.3)
+    begins_two (LMove d.0 e.0) (64 * b + 16 * a + 12) s bytes z (both_true (is_short d.0) (is_short e.0) d.1 e.1) (ap (λ v. (64 * axis e.0 + 16 * v + 12) ∷ s ∷ []) d.3 ∙ ap (λ v. (64 * v + 16 * a + 12) ∷ s ∷ []) e.3)
 
 -- ---- what bytes are refused
 

@@ -4,6 +4,7 @@ use Rattle.std.specs.Prelude.{MatchBool}
 use Rattle.std.proofs.lemmas.Bool.Decides.{nat_tests}
 use Rattle.std.proofs.lemmas.List.{take-append-drop}
 use Rattle.std.proofs.Math.Seq.{drop-append_seam, take-append_seam, take-suc}
+use Rattle.vox_geom.proofs.Tests.{equal_by_test, unequal_by_test}
 use Rattle.nano_spec.specs.declared.commands.Command.{Command}
 use Rattle.nano_spec.specs.declared.outcomes.Broken.{Broken}
 use Rattle.nano_spec.specs.declared.outcomes.Rule.{Rule}
@@ -42,12 +43,6 @@ searched_not : (bots : List Bot) (n : Matrix) → searched_by (mark_of bots) n �
 searched_not [] n = refl
 searched_not (b ∷ bots) n = refl
 
-unlike : (a b : ℕ) → (a == b) ≡ false → a ≡ b → ⊥
-unlike a b h e = grind (arith, nat_tests)
-
-test_is : (a b : ℕ) → (a == b) ≡ true → a ≡ b
-test_is a b h = grind (arith, nat_tests)
-
 -- ---- the work of one step, taken from that of the rest
 
 not_both : (b : Broken) (t : State) → Breaks b ≡ Goes t → ⊥
@@ -75,7 +70,7 @@ module _ (p q : Progress) (command : Command) (rest : List Command) (v start bef
   waits : (length (p.pending ++ command ∷ []) == length p.state.bots) ≡ false → q ≡ with_command p command → (more : ℕ) → WorkFrom p.state (p.pending ++ command ∷ rest) p.steps more → before + 100 * more ≤ start + 100 * n → Left q rest v start after n
   waits b e more w l =
       let a = length-append p.pending (command ∷ []) in
-      let same : after ≡ before = t.untouched (λ _ e. unlike (length (p.pending ++ command ∷ [])) (length p.state.bots) b (omega (arith, a, e))) in
+      let same : after ≡ before = t.untouched (λ _ e. unequal_by_test (length (p.pending ++ command ∷ [])) (length p.state.bots) b (omega (arith, a, e))) in
       subst (λ (x : Progress). Left x rest v start after n) (sym e)
       (subst (λ (m : progress.Mark). LeftAt m (with_command p command) rest v start after n) (sym runs)
       (more, subst (λ (xs : List Command). WorkFrom p.state xs p.steps more) joined w, omega (arith, same, l)))
@@ -114,7 +109,7 @@ module _ (p q : Progress) (command : Command) (rest : List Command) (v start bef
   running j w = by (length (p.pending ++ command ∷ []) == length p.state.bots) refl j
     where
       by : (b : Bool) → (length (p.pending ++ command ∷ []) == length p.state.bots) ≡ b → MatchBool b (MakesStep (with_command p command) q) (q ≡ with_command p command) → Left q rest v start after n
-      by true e k = made (test_is (length (p.pending ++ command ∷ [])) (length p.state.bots) e) k.0 k.1 k.2 w.0 w.1 w.2
+      by true e k = made (equal_by_test (length (p.pending ++ command ∷ [])) (length p.state.bots) e) k.0 k.1 k.2 w.0 w.1 w.2
       by false e k = waits e k w.0 w.1 w.2
 
 -- one push more

@@ -6,6 +6,7 @@ use Rattle.std.specs.List.{list_all}
 use Rattle.std.specs.Str.{bytes_eq}
 use Rattle.std.proofs.lemmas.Bool.Decides.{nat_tests}
 use Rattle.vox_geom.specs.Space.{numbers_from}
+use Rattle.vox_geom.proofs.Tests.{test_less, test_not_less}
 use Rattle.nano_spec.proofs.Decimals.{at_number, same_bytes}
 
 abbrev text : ℕ → List ℕ
@@ -18,17 +19,11 @@ all_texts = refl
 decimal_is : (n : ℕ) → n < 256 → decimal n ≡ text n
 decimal_is n l = same_bytes (decimal n) (text n) (subst (λ (v : ℕ). IsTrue (bytes_eq (decimal v) (text v))) (omega arith) (at_number (λ v. bytes_eq (decimal v) (text v)) 256 0 n l all_texts))
 
-yes_below : (n k : ℕ) → n < k → nat_lt n k ≡ true
-yes_below n k l = grind (arith, nat_tests)
-
-no_below : (n k : ℕ) → k ≤ n → nat_lt n k ≡ false
-no_below n k l = grind (arith, nat_tests)
-
 pub one_digit : (n : ℕ) → n < 10 → decimal n ≡ (48 + n % 10) ∷ []
-one_digit n l = decimal_is n (omega arith) ∙ ap (λ t. cond t ((48 + n % 10) ∷ []) (cond (nat_lt n 100) ((48 + n / 10 % 10) ∷ (48 + n % 10) ∷ []) ((48 + n / 100) ∷ (48 + n / 10 % 10) ∷ (48 + n % 10) ∷ []))) (yes_below n 10 l)
+one_digit n l = decimal_is n (omega arith) ∙ ap (λ t. cond t ((48 + n % 10) ∷ []) (cond (nat_lt n 100) ((48 + n / 10 % 10) ∷ (48 + n % 10) ∷ []) ((48 + n / 100) ∷ (48 + n / 10 % 10) ∷ (48 + n % 10) ∷ []))) (test_less n 10 l)
 
 pub two_digits : (n : ℕ) → 10 ≤ n → n < 100 → decimal n ≡ (48 + n / 10 % 10) ∷ (48 + n % 10) ∷ []
-two_digits n l h = let a = no_below n 10 l in let b = yes_below n 100 h in decimal_is n (omega arith) ∙ rw (a, b) refl
+two_digits n l h = let a = test_not_less n 10 l in let b = test_less n 100 h in decimal_is n (omega arith) ∙ rw (a, b) refl
 
 pub three_digits : (n : ℕ) → 100 ≤ n → n < 256 → decimal n ≡ (48 + n / 100) ∷ (48 + n / 10 % 10) ∷ (48 + n % 10) ∷ []
-three_digits n l h = let a = no_below n 10 (omega arith) in let b = no_below n 100 l in decimal_is n h ∙ rw (a, b) refl
+three_digits n l h = let a = test_not_less n 10 (omega arith) in let b = test_not_less n 100 l in decimal_is n h ∙ rw (a, b) refl

@@ -5,6 +5,7 @@ use Rattle.std.proofs.lemmas.Bool.Decides.{nat_tests}
 use Rattle.std.proofs.lemmas.Int.{ints}
 use Rattle.vox_geom.specs.declared.difference.Diff.{Diff}
 use Rattle.vox_geom.specs.Difference.{is_near}
+use Rattle.vox_geom.proofs.Truths.{and_false}
 use Rattle.nano_spec.specs.declared.commands.Command.TheVariants.{Fission}
 use Rattle.nano_spec.specs.Line.{Line, Says, Faulty, Range, Shape, checked, said}
 use Rattle.nano_spec.specs.LineForm.{Blanks, Number, natural, readings}
@@ -31,10 +32,6 @@ said_is_verdict old b d n h k = ap (said fission_word) (h (Blanks ∷ Number ∷
 abbrev by_tests : Diff → ℕ → Bool → Bool → Line
 by_tests d m near fits = cond (near && fits) (Says (Fission d m)) (Faulty Range)
 
-and_no : (t : Bool) → (t && false) ≡ false
-and_no true = refl
-and_no false = refl
-
 far_off : (d : Diff) (n : ℤ) → is_near d ≡ false → verdict d n ≡ Faulty Range
 far_off d (pos m) e = ap (λ t. by_tests d m t (nat_lt m 256)) e
 far_off d (negsuc m) e = refl
@@ -47,7 +44,7 @@ too_great : (d : Diff) (n : ℤ) → pos 255 <ℤ n → verdict d n ≡ Faulty R
 too_great d (pos m) l =
     let above : 255 < m = omega (arith, ints, l) in
     let no : nat_lt m 256 ≡ false = grind (arith, nat_tests) in
-    ap (λ t. by_tests d m (is_near d) t) no ∙ ap (λ t. cond t (Says (Fission d m)) (Faulty Range)) (and_no (is_near d))
+    ap (λ t. by_tests d m (is_near d) t) no ∙ ap (λ t. cond t (Says (Fission d m)) (Faulty Range)) (and_false (is_near d))
 too_great d (negsuc m) l = absurd (omega (arith, ints, l))
 
 both_fit : (d : Diff) (n : ℤ) → is_near d ≡ true → int_le (pos 0) n ≡ true → int_le n (pos 255) ≡ true → verdict d n ≡ Says (Fission d (unsigned_abs n))

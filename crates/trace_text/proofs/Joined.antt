@@ -2,6 +2,7 @@
 use Rattle.std.proofs.Common.{◌≡◌, ℕ, refl, sym, ◌∙◌, ap, List, [], ◌∷◌, ◌++◌}
 use Rattle.std.specs.Prelude.{OnOk, Result, Ok, Err}
 use Rattle.std.proofs.lemmas.List.{append_assoc}
+use Rattle.vox_geom.proofs.Sums.{append_none}
 use Rattle.nano_spec.specs.declared.commands.Command.{Command}
 use Rattle.nano_spec.specs.Printing.{print, printed}
 
@@ -14,14 +15,10 @@ print_joined : (xs ys : List Command) → print (xs ++ ys) ≡ print xs ++ print
 print_joined [] ys = refl
 print_joined (c ∷ xs) ys = ap (λ v. (printed c ++ 10 ∷ []) ++ v) (print_joined xs ys) ∙ sym (append_assoc (printed c ++ 10 ∷ []) (print xs) (print ys))
 
-nothing_more : (xs : List ℕ) → xs ++ [] ≡ xs
-nothing_more [] = refl
-nothing_more (x ∷ xs) = ap (λ v. x ∷ v) (nothing_more xs)
-
 -- one more command is printed behind those before it
 pub printed_on : (before more : List Command) (c : Command) (old mid new : List ℕ) → more ≡ before ++ c ∷ [] → old ≡ print before → mid ≡ old ++ printed c → new ≡ mid ++ 10 ∷ [] → new ≡ print more
 printed_on before more c old mid new m o p n =
-    let one : print (c ∷ []) ≡ printed c ++ 10 ∷ [] = nothing_more (printed c ++ 10 ∷ []) in
+    let one : print (c ∷ []) ≡ printed c ++ 10 ∷ [] = append_none (printed c ++ 10 ∷ []) in
     let e : print more ≡ print before ++ (printed c ++ 10 ∷ []) = ap print m ∙ (print_joined before (c ∷ []) ∙ ap (λ v. print before ++ v) one) in
     n ∙ (ap (λ v. v ++ 10 ∷ []) (p ∙ ap (λ v. v ++ printed c) o) ∙ (append_assoc (print before) (printed c) (10 ∷ []) ∙ sym e))
 

@@ -3,6 +3,8 @@ use Rattle.std.proofs.Common.{◌≡◌, ℕ, zero, suc, ◌+◌, ◌-◌, ◌*�
 use Rattle.std.specs.Prelude.{IsTrue, IsFalse, ◌==◌, ◌⊎◌, Option, Some, None, flat_map}
 use Rattle.std.specs.List.{prefix_len}
 use Rattle.std.proofs.lemmas.Bool.Decides.{nat_tests}
+use Rattle.vox_geom.proofs.Tests.{equal_by_test}
+use Rattle.vox_geom.proofs.Sums.{append_none}
 use Rattle.nano_spec.specs.LineForm.{is_blank, is_digit, Part, Blanks, Mark, Number, after_blanks, Read, digits, negative, readings}
 use Rattle.trace_text.specs.Parts.{after_number, begins_with, is_free, is_sharp, longer, longest, number_read}
 
@@ -16,9 +18,6 @@ blank_is b h = by (b == 32) refl
     by true e = inl (grind (arith, nat_tests))
     by false e = inr (nine (rw e at h))
 
-same_mark : (b m : ℕ) → (b == m) ≡ true → b ≡ m
-same_mark b m e = grind (arith, nat_tests)
-
 contrary : (t : Bool) → IsTrue t → IsTrue (not t) → ⊥
 contrary true p q = cc
 contrary false p q = cc
@@ -27,7 +26,7 @@ no_mark : (test : ℕ → Bool) (b m : ℕ) (xs : List (List ℤ)) → IsTrue (t
 no_mark test b m xs h k = by (b == m) refl
   where
     by : (t : Bool) → (b == m) ≡ t → cond t xs [] ≡ []
-    by true e = absurd (contrary (test m) (subst (λ (v : ℕ). IsTrue (test v)) (same_mark b m e) h) k)
+    by true e = absurd (contrary (test m) (subst (λ (v : ℕ). IsTrue (test v)) (equal_by_test b m e) h) k)
     by false e = refl
 
 no_number : (ps : List Part) (b : ℕ) (more : List ℕ) → (b ≡ 32) ⊎ (b ≡ 9) → readings (Number ∷ ps) (b ∷ more) ≡ []
@@ -58,20 +57,16 @@ no_both b h = by (is_blank b) refl
     by true e = absurd (none (blank_is b e))
     by false e = e
 
-nothing_more : {A : Type 0} (xs : List A) → xs ++ [] ≡ xs
-nothing_more [] = refl
-nothing_more (x ∷ xs) = λ i. x ∷ nothing_more xs i
-
 -- a free form reads no line that begins with a digit
 no_digit : (ps : List Part) (b : ℕ) (more : List ℕ) → IsTrue (is_free ps) → IsTrue (is_digit b) → readings ps (b ∷ more) ≡ []
 no_digit [] b more h k = refl
-no_digit (Blanks ∷ ps) b more h k = let e : is_blank b ≡ false = no_both b k in rw e (nothing_more (readings ps (b ∷ more)) ∙ no_digit ps b more h k)
+no_digit (Blanks ∷ ps) b more h k = let e : is_blank b ≡ false = no_both b k in rw e (append_none (readings ps (b ∷ more)) ∙ no_digit ps b more h k)
 no_digit (Mark m ∷ ps) b more h k = no_mark is_digit b m (readings ps more) k h
 no_digit (Number ∷ ps) b more h k = cc
 
 -- blanks before a sharp form are taken all
 pub without_blanks : (ps : List Part) (line : List ℕ) → IsTrue (is_sharp ps) → readings (Blanks ∷ ps) line ≡ readings ps (drop (prefix_len is_blank line) line)
-without_blanks ps [] h = nothing_more (readings ps [])
+without_blanks ps [] h = append_none (readings ps [])
 without_blanks ps (b ∷ more) h = by (is_blank b) refl (without_blanks ps more h)
   where
     by : (t : Bool) → is_blank b ≡ t → readings (Blanks ∷ ps) more ≡ readings ps (drop (prefix_len is_blank more) more) → readings ps (b ∷ more) ++ flat_map (readings ps) (cond t (after_blanks more) []) ≡ readings ps (drop (cond t (1 + prefix_len is_blank more) 0) (b ∷ more))
@@ -79,7 +74,7 @@ without_blanks ps (b ∷ more) h = by (is_blank b) refl (without_blanks ps more 
       where
         one_more : suc (prefix_len is_blank more) ≡ 1 + prefix_len is_blank more
         one_more = omega arith
-    by false e later = nothing_more (readings ps (b ∷ more))
+    by false e later = append_none (readings ps (b ∷ more))
 
 -- the readings behind a number
 abbrev behind : (Read → ℤ) → List Part → Read → List (List ℤ)
@@ -99,7 +94,7 @@ none_behind ps (suc n) so_far (b ∷ more) q h e = by (is_digit b) refl e
     by false f g = cc
 
 further : (value : Read → ℤ) (ps : List Part) (first : Read) (n so_far : ℕ) (more : List ℕ) → first.rest ≡ more → IsTrue (is_free ps) → (o : Option Read) → longest n so_far more ≡ o → flat_map (behind value ps) (digits n so_far more) ≡ behind_any value ps o → behind value ps first ++ flat_map (behind value ps) (digits n so_far more) ≡ behind_any value ps (longer first o)
-further value ps first n so_far more f h None e later = ap (λ xs. behind value ps first ++ xs) later ∙ nothing_more (behind value ps first)
+further value ps first n so_far more f h None e later = ap (λ xs. behind value ps first ++ xs) later ∙ append_none (behind value ps first)
 further value ps first n so_far more f h (Some q) e later = no_first (none_behind ps n so_far more q h e)
   where
     no_more : (xs : List (List ℤ)) → xs ≡ [] → map (λ ns. value first ∷ ns) xs ≡ []
@@ -174,7 +169,7 @@ empty_reads [] = refl
 empty_reads (b ∷ new) = by (length (b ∷ new) == 0) refl
   where
     no : (length (b ∷ new) == 0) ≡ true → ⊥
-    no e = let k : suc (length new) ≡ 0 = same_mark (length (b ∷ new)) 0 e in absurd (omega arith)
+    no e = let k : suc (length new) ≡ 0 = equal_by_test (length (b ∷ new)) 0 e in absurd (omega arith)
 
     by : (t : Bool) → (length (b ∷ new) == 0) ≡ t → readings [] (b ∷ new) ≡ cond t ([] ∷ []) []
     by true e = absurd (no e)

@@ -1,6 +1,7 @@
 -- A line without the carriage return at its end.
 use Rattle.std.proofs.Common.{◌≡◌, ℕ, refl, sym, ◌∙◌, ap, false, cond, List, [], ◌∷◌, ◌++◌}
 use Rattle.std.specs.Prelude.{◌==◌}
+use Rattle.vox_geom.proofs.Sums.{append_none}
 use Rattle.nano_spec.specs.Line.{without_return}
 
 with_last : (front : List ℕ) (last : ℕ) → without_return (front ++ last ∷ []) ≡ front ++ cond (last == 13) [] (last ∷ [])
@@ -8,12 +9,8 @@ with_last [] last = refl
 with_last (x ∷ []) last = refl
 with_last (x ∷ y ∷ front) last = ap (λ ys. x ∷ ys) (with_last (y ∷ front) last)
 
-nothing_more : (xs : List ℕ) → xs ++ [] ≡ xs
-nothing_more [] = refl
-nothing_more (x ∷ xs) = ap (λ v. x ∷ v) (nothing_more xs)
-
 pub cut_return : (line front : List ℕ) → line ≡ front ++ 13 ∷ [] → front ≡ without_return line
-cut_return line front e = sym (ap without_return e ∙ (with_last front 13 ∙ nothing_more front))
+cut_return line front e = sym (ap without_return e ∙ (with_last front 13 ∙ append_none front))
 
 pub no_return : (line front : List ℕ) (last : ℕ) → line ≡ front ++ last ∷ [] → (last == 13) ≡ false → line ≡ without_return line
 no_return line front last e f = sym (ap without_return e ∙ (with_last front last ∙ (ap (λ t. front ++ cond t [] (last ∷ [])) f ∙ sym e)))

@@ -9,6 +9,8 @@ use Rattle.vox_geom.specs.declared.difference.Diff.{Diff}
 use Rattle.vox_geom.specs.Point.{Point, point, plus, same_number, same_point, coord}
 use Rattle.vox_geom.specs.Region.{between, differs, dimension, is_between, is_within, same_extent, same_region}
 use Rattle.vox_geom.specs.Space.{IsInSpace}
+use Rattle.vox_geom.proofs.Truths.{no_first_of_three, no_second_of_three, three_true}
+use Rattle.vox_geom.proofs.Sums.{plus_none}
 use Rattle.nano_spec.specs.declared.commands.Command.{Command}
 use Rattle.nano_spec.specs.declared.commands.Command.TheVariants.{GVoid}
 use Rattle.nano_spec.specs.declared.system.Bot.{Bot}
@@ -55,18 +57,11 @@ straight a b = grind (arith, nat_tests)
 crossed : (a b : ℕ) → same_extent (pos b) (pos a) (pos a) (pos b) ≡ true
 crossed a b = grind (arith, nat_tests)
 
-all_three : (a b d : Bool) → a ≡ true → b ≡ true → d ≡ true → (a && b && d) ≡ true
-all_three a b d e f g = rw (e, f, g) refl
-
 not_between : (y v : ℕ) → v ≡ y + 1 → is_between (pos y) (pos y) (pos v) ≡ false
 not_between y v h = grind (arith, nat_tests)
 
-not_second : (a b d : Bool) → b ≡ false → (a && b && d) ≡ false
-not_second true b d e = rw e refl
-not_second false b d e = refl
-
 above_tile : (far : ℕ) (t p : Coord) → p.y ≡ t.y + 1 → is_within (tile far t) (point p) ≡ false
-above_tile far t p h = not_second (is_between (pos t.x) (pos (t.x + far)) (pos p.x)) (is_between (pos t.y) (pos t.y) (pos p.y)) (is_between (pos t.z) (pos (t.z + far)) (pos p.z)) (not_between t.y p.y h)
+above_tile far t p h = no_second_of_three (is_between (pos t.x) (pos (t.x + far)) (pos p.x)) (is_between (pos t.y) (pos t.y) (pos p.y)) (is_between (pos t.z) (pos (t.z + far)) (pos p.z)) (not_between t.y p.y h)
 
 -- ---- the shape
 
@@ -89,16 +84,13 @@ unlike a b h = grind (arith, nat_tests)
 unlike_back : (a b : ℕ) → a + 1 ≤ b → same_number (pos b) (pos a) ≡ false
 unlike_back a b h = grind (arith, nat_tests)
 
-not_first : (a b d : Bool) → a ≡ false → (a && b && d) ≡ false
-not_first a b d e = rw e refl
-
 not_third : (a b d : Bool) → d ≡ false → (a && b && d) ≡ false
 not_third true true d e = e
 not_third true false d e = refl
 not_third false b d e = refl
 
 other_x : (a b : Coord) → same_number (pos a.x) (pos b.x) ≡ false → same_point (point a) (point b) ≡ false
-other_x a b e = not_first (same_number (pos a.x) (pos b.x)) (same_number (pos a.y) (pos b.y)) (same_number (pos a.z) (pos b.z)) e
+other_x a b e = no_first_of_three (same_number (pos a.x) (pos b.x)) (same_number (pos a.y) (pos b.y)) (same_number (pos a.z) (pos b.z)) e
 
 other_z : (a b : Coord) → same_number (pos a.z) (pos b.z) ≡ false → same_point (point a) (point b) ≡ false
 other_z a b e = not_third (same_number (pos a.x) (pos b.x)) (same_number (pos a.y) (pos b.y)) (same_number (pos a.z) (pos b.z)) e
@@ -125,9 +117,6 @@ corners_differ far x y z h =
 point_by : (b : Coord) (e : Diff) (q : Coord) → pos b.x +ℤ e.dx ≡ pos q.x → pos b.y +ℤ e.dy ≡ pos q.y → pos b.z +ℤ e.dz ≡ pos q.z → plus (point b) e ≡ point q
 point_by b e q x y z = λ i. record { x = x i; y = y i; z = z i }
 
-by_none : (a : ℕ) → pos a +ℤ pos 0 ≡ pos a
-by_none a = omega (arith, ints)
-
 by_down : (a b : ℕ) → a ≡ b + 1 → pos a +ℤ negsuc 0 ≡ pos b
 by_down a b h = omega (arith, ints)
 
@@ -143,7 +132,7 @@ abbrev pub over : ℤ → ℤ → Diff
 over dx dz = record { dx = dx; dy = pos 0; dz = dz }
 
 below : (b : Coord) (y : ℕ) (n : Diff) → n ≡ down → b.y ≡ y + 1 → plus (point b) n ≡ point (coord b.x y b.z)
-below b y n e h = ap (plus (point b)) e ∙ point_by b down (coord b.x y b.z) (by_none b.x) (by_down b.y y h) (by_none b.z)
+below b y n e h = ap (plus (point b)) e ∙ point_by b down (coord b.x y b.z) (plus_none b.x) (by_down b.y y h) (plus_none b.z)
 
 module _ (p : TapeState) (far x y z : ℕ) (k l m o f g h j : Diff) (full : p.profile ≡ full_profile) (some : 1 ≤ far) (wide : x + far < p.matrix.resolution) (high : y < p.matrix.resolution) (deep : z + far < p.matrix.resolution) (ek : k ≡ down) (el : l ≡ down) (em : m ≡ down) (eo : o ≡ down) (ef : f ≡ over (pos far) (pos far)) (eg : g ≡ over (neg_ℤ (pos far)) (pos far)) (eh : h ≡ over (neg_ℤ (pos far)) (neg_ℤ (pos far))) (ej : j ≡ over (pos far) (neg_ℤ (pos far))) where
   abbrev low : Coord
@@ -169,17 +158,17 @@ module _ (p : TapeState) (far x y z : ℕ) (k l m o f g h j : Diff) (full : p.pr
 
   members : AllByRecursion (IsMember (state_of p) (tile far low) false) (acts (four s far far) commands)
   members = (
-    member p (bot_with 1 s (2 ^ 41 - 2 ^ 5)) k f far low (coord x y z) (coord (x + far) y (z + far)) full (below s y k ek refl) (ap (plus (point (coord x y z))) ef ∙ point_by (coord x y z) (over (pos far) (pos far)) (coord (x + far) y (z + far)) refl (by_none y) refl)
-        (record { near = near_first; across = near_third; same = all_three _ _ _ (straight x (x + far)) (straight y y) (straight z (z + far)); outside = above_tile far low s refl }),
+    member p (bot_with 1 s (2 ^ 41 - 2 ^ 5)) k f far low (coord x y z) (coord (x + far) y (z + far)) full (below s y k ek refl) (ap (plus (point (coord x y z))) ef ∙ point_by (coord x y z) (over (pos far) (pos far)) (coord (x + far) y (z + far)) refl (plus_none y) refl)
+        (record { near = near_first; across = near_third; same = three_true _ _ _ (straight x (x + far)) (straight y y) (straight z (z + far)); outside = above_tile far low s refl }),
     (
-      member p (bot_with 2 (coord (x + far) (y + 1) z) 0) l g far low (coord (x + far) y z) (coord x y (z + far)) full (below (coord (x + far) (y + 1) z) y l el refl) (ap (plus (point (coord (x + far) y z))) eg ∙ point_by (coord (x + far) y z) (over (neg_ℤ (pos far)) (pos far)) (coord x y (z + far)) (by_back x far) (by_none y) refl)
-          (record { near = near_second; across = near_fourth; same = all_three _ _ _ (crossed x (x + far)) (straight y y) (straight z (z + far)); outside = above_tile far low (coord (x + far) (y + 1) z) refl }),
+      member p (bot_with 2 (coord (x + far) (y + 1) z) 0) l g far low (coord (x + far) y z) (coord x y (z + far)) full (below (coord (x + far) (y + 1) z) y l el refl) (ap (plus (point (coord (x + far) y z))) eg ∙ point_by (coord (x + far) y z) (over (neg_ℤ (pos far)) (pos far)) (coord x y (z + far)) (by_back x far) (plus_none y) refl)
+          (record { near = near_second; across = near_fourth; same = three_true _ _ _ (crossed x (x + far)) (straight y y) (straight z (z + far)); outside = above_tile far low (coord (x + far) (y + 1) z) refl }),
       (
-        member p (bot_with 3 (coord (x + far) (y + 1) (z + far)) 0) m h far low (coord (x + far) y (z + far)) (coord x y z) full (below (coord (x + far) (y + 1) (z + far)) y m em refl) (ap (plus (point (coord (x + far) y (z + far)))) eh ∙ point_by (coord (x + far) y (z + far)) (over (neg_ℤ (pos far)) (neg_ℤ (pos far))) (coord x y z) (by_back x far) (by_none y) (by_back z far))
-            (record { near = near_third; across = near_first; same = all_three _ _ _ (crossed x (x + far)) (straight y y) (crossed z (z + far)); outside = above_tile far low (coord (x + far) (y + 1) (z + far)) refl }),
+        member p (bot_with 3 (coord (x + far) (y + 1) (z + far)) 0) m h far low (coord (x + far) y (z + far)) (coord x y z) full (below (coord (x + far) (y + 1) (z + far)) y m em refl) (ap (plus (point (coord (x + far) y (z + far)))) eh ∙ point_by (coord (x + far) y (z + far)) (over (neg_ℤ (pos far)) (neg_ℤ (pos far))) (coord x y z) (by_back x far) (plus_none y) (by_back z far))
+            (record { near = near_third; across = near_first; same = three_true _ _ _ (crossed x (x + far)) (straight y y) (crossed z (z + far)); outside = above_tile far low (coord (x + far) (y + 1) (z + far)) refl }),
         (
-          member p (bot_with 4 (coord x (y + 1) (z + far)) 0) o j far low (coord x y (z + far)) (coord (x + far) y z) full (below (coord x (y + 1) (z + far)) y o eo refl) (ap (plus (point (coord x y (z + far)))) ej ∙ point_by (coord x y (z + far)) (over (pos far) (neg_ℤ (pos far))) (coord (x + far) y z) refl (by_none y) (by_back z far))
-              (record { near = near_fourth; across = near_second; same = all_three _ _ _ (straight x (x + far)) (straight y y) (crossed z (z + far)); outside = above_tile far low (coord x (y + 1) (z + far)) refl }),
+          member p (bot_with 4 (coord x (y + 1) (z + far)) 0) o j far low (coord x y (z + far)) (coord (x + far) y z) full (below (coord x (y + 1) (z + far)) y o eo refl) (ap (plus (point (coord x y (z + far)))) ej ∙ point_by (coord x y (z + far)) (over (pos far) (neg_ℤ (pos far))) (coord (x + far) y z) refl (plus_none y) (by_back z far))
+              (record { near = near_fourth; across = near_second; same = three_true _ _ _ (straight x (x + far)) (straight y y) (crossed z (z + far)); outside = above_tile far low (coord x (y + 1) (z + far)) refl }),
           tt,
         ),
       ),

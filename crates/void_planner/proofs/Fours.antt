@@ -9,6 +9,8 @@ use Rattle.vox_geom.specs.declared.difference.Diff.{Diff}
 use Rattle.vox_geom.specs.Point.{Point, point, plus, coord}
 use Rattle.vox_geom.specs.Region.{Span, between, is_between}
 use Rattle.vox_geom.specs.Space.{IsInSpace, coordinate, in_space}
+use Rattle.vox_geom.proofs.Truths.{second_of_three as second}
+use Rattle.vox_geom.proofs.Sums.{plus_none}
 use Rattle.nano_spec.specs.declared.commands.Command.{Command}
 use Rattle.nano_spec.specs.declared.commands.Command.TheVariants.{Wait, SMove}
 use Rattle.nano_spec.specs.declared.system.Bot.{Bot}
@@ -40,11 +42,6 @@ act b k = record { bot = b; command = k }
 pub data Goes (b : Bot) (k : Command) (q : Coord) : Type 0 where
   waits : k ≡ Wait → q ≡ b.pos → Goes b k q
   moves : (d : Diff) → k ≡ SMove d → plus (point b.pos) d ≡ point q → Goes b k q
-
-second : (a b c : Bool) → IsTrue (a && b && c) → IsTrue b
-second true true c t = refl
-second true false c t = cc
-second false b c t = cc
 
 one_of : (a b v : ℕ) → IsTrue (is_between (pos a) (pos b) (pos v)) → (a ≤ v) ⊎ (b ≤ v)
 one_of a b v t = grind (arith, nat_tests)
@@ -195,18 +192,15 @@ point_by b e q x y z = λ i. record { x = x i; y = y i; z = z i }
 by_gap : (a b at next : ℕ) → a + next ≡ b + at → pos a +ℤ (pos next -ℤ pos at) ≡ pos b
 by_gap a b at next e = omega (arith, ints)
 
-by_none : (a : ℕ) → pos a +ℤ pos 0 ≡ pos a
-by_none a = omega (arith, ints)
-
 -- a coordinate whose component on the axis changes by as much
 pub along_x : (b q : Coord) (at next : ℕ) → b.x + next ≡ q.x + at → b.y ≡ q.y → b.z ≡ q.z → plus (point b) (along X (pos next -ℤ pos at)) ≡ point q
-along_x b q at next x y z = point_by b (along X (pos next -ℤ pos at)) q (by_gap b.x q.x at next x) (by_none b.y ∙ ap pos y) (by_none b.z ∙ ap pos z)
+along_x b q at next x y z = point_by b (along X (pos next -ℤ pos at)) q (by_gap b.x q.x at next x) (plus_none b.y ∙ ap pos y) (plus_none b.z ∙ ap pos z)
 
 pub along_y : (b q : Coord) (at next : ℕ) → b.y + next ≡ q.y + at → b.x ≡ q.x → b.z ≡ q.z → plus (point b) (along Y (pos next -ℤ pos at)) ≡ point q
-along_y b q at next y x z = point_by b (along Y (pos next -ℤ pos at)) q (by_none b.x ∙ ap pos x) (by_gap b.y q.y at next y) (by_none b.z ∙ ap pos z)
+along_y b q at next y x z = point_by b (along Y (pos next -ℤ pos at)) q (plus_none b.x ∙ ap pos x) (by_gap b.y q.y at next y) (plus_none b.z ∙ ap pos z)
 
 pub along_z : (b q : Coord) (at next : ℕ) → b.z + next ≡ q.z + at → b.x ≡ q.x → b.y ≡ q.y → plus (point b) (along Z (pos next -ℤ pos at)) ≡ point q
-along_z b q at next z x y = point_by b (along Z (pos next -ℤ pos at)) q (by_none b.x ∙ ap pos x) (by_none b.y ∙ ap pos y) (by_gap b.z q.z at next z)
+along_z b q at next z x y = point_by b (along Z (pos next -ℤ pos at)) q (plus_none b.x ∙ ap pos x) (plus_none b.y ∙ ap pos y) (by_gap b.z q.z at next z)
 
 -- all four make the same move
 pub shift_goes : (axis : Axis) (c : Coord) (f at next : ℕ) (a b e g : Diff) → component_of axis c ≡ at → a ≡ along axis (pos next -ℤ pos at) → b ≡ along axis (pos next -ℤ pos at) → e ≡ along axis (pos next -ℤ pos at) → g ≡ along axis (pos next -ℤ pos at) → FourGoes c f f (put axis c next) f f (SMove a) (SMove b) (SMove e) (SMove g)

@@ -9,6 +9,8 @@ use Rattle.vox_geom.specs.declared.difference.Diff.{Diff}
 use Rattle.vox_geom.specs.Point.{Point, point, plus, same_number, same_point, coord}
 use Rattle.vox_geom.specs.Region.{just}
 use Rattle.vox_geom.specs.Space.{IsInSpace, in_space}
+use Rattle.vox_geom.proofs.Truths.{both_true, or_by_first, three_true}
+use Rattle.vox_geom.proofs.Sums.{less_one, plus_none, plus_one}
 use Rattle.nano_spec.specs.declared.commands.Command.{Command}
 use Rattle.nano_spec.specs.declared.commands.Command.TheVariants.{Fission, FusionP, FusionS}
 use Rattle.nano_spec.specs.declared.system.Bot.{Bot}
@@ -51,27 +53,18 @@ to dx dz = record { dx = dx; dy = pos 0; dz = dz }
 point_by : (b : Coord) (e : Diff) (q : Coord) → pos b.x +ℤ e.dx ≡ pos q.x → pos b.y +ℤ e.dy ≡ pos q.y → pos b.z +ℤ e.dz ≡ pos q.z → plus (point b) e ≡ point q
 point_by b e q x y z = λ i. record { x = x i; y = y i; z = z i }
 
-by_none : (a : ℕ) → pos a +ℤ pos 0 ≡ pos a
-by_none a = omega (arith, ints)
-
-by_one : (a : ℕ) → pos a +ℤ pos 1 ≡ pos (a + 1)
-by_one a = omega (arith, ints)
-
-by_back : (a : ℕ) → pos (a + 1) +ℤ negsuc 0 ≡ pos a
-by_back a = omega (arith, ints)
-
 -- the coordinate beside one along x, along z, and back
 beside_x : (c : Coord) → plus (point c) (to (pos 1) (pos 0)) ≡ point (coord (c.x + 1) c.y c.z)
-beside_x c = point_by c (to (pos 1) (pos 0)) (coord (c.x + 1) c.y c.z) (by_one c.x) (by_none c.y) (by_none c.z)
+beside_x c = point_by c (to (pos 1) (pos 0)) (coord (c.x + 1) c.y c.z) (plus_one c.x) (plus_none c.y) (plus_none c.z)
 
 beside_z : (c : Coord) → plus (point c) (to (pos 0) (pos 1)) ≡ point (coord c.x c.y (c.z + 1))
-beside_z c = point_by c (to (pos 0) (pos 1)) (coord c.x c.y (c.z + 1)) (by_none c.x) (by_none c.y) (by_one c.z)
+beside_z c = point_by c (to (pos 0) (pos 1)) (coord c.x c.y (c.z + 1)) (plus_none c.x) (plus_none c.y) (plus_one c.z)
 
 back_x : (c : Coord) → plus (point (coord (c.x + 1) c.y c.z)) (to (negsuc 0) (pos 0)) ≡ point c
-back_x c = point_by (coord (c.x + 1) c.y c.z) (to (negsuc 0) (pos 0)) c (by_back c.x) (by_none c.y) (by_none c.z)
+back_x c = point_by (coord (c.x + 1) c.y c.z) (to (negsuc 0) (pos 0)) c (less_one c.x) (plus_none c.y) (plus_none c.z)
 
 back_z : (c : Coord) → plus (point (coord c.x c.y (c.z + 1))) (to (pos 0) (negsuc 0)) ≡ point c
-back_z c = point_by (coord c.x c.y (c.z + 1)) (to (pos 0) (negsuc 0)) c (by_none c.x) (by_none c.y) (by_back c.z)
+back_z c = point_by (coord c.x c.y (c.z + 1)) (to (pos 0) (negsuc 0)) c (plus_none c.x) (plus_none c.y) (less_one c.z)
 
 -- a way of one coordinate that is in space, where all is void from its height on
 free_spot : (m : Matrix) (w d : ℕ) (c q : Coord) (u : Point) → CanStand m w d c → u ≡ point q → IsInSpace m.resolution q → q.y ≡ c.y → IsFreeWay m u u
@@ -188,21 +181,12 @@ module _ (p : TapeState) (c : Coord) (d e : Diff) (bots : p.bots ≡ two c) (ful
 number_itself : (a : ℕ) → same_number (pos a) (pos a) ≡ true
 number_itself a = grind (arith, nat_tests)
 
-all_three : (a b d : Bool) → a ≡ true → b ≡ true → d ≡ true → (a && b && d) ≡ true
-all_three a b d e f g = rw (e, f, g) refl
-
 point_itself : (a : Coord) → same_point (point a) (point a) ≡ true
-point_itself a = all_three (same_number (pos a.x) (pos a.x)) (same_number (pos a.y) (pos a.y)) (same_number (pos a.z) (pos a.z)) (number_itself a.x) (number_itself a.y) (number_itself a.z)
-
-both : (a b : Bool) → a ≡ true → b ≡ true → (a && b) ≡ true
-both a b e f = rw (e, f) refl
+point_itself a = three_true (same_number (pos a.x) (pos a.x)) (same_number (pos a.y) (pos a.y)) (same_number (pos a.z) (pos a.z)) (number_itself a.x) (number_itself a.y) (number_itself a.z)
 
 -- two bots whose differences lead to each other
 pair : (a b : Coord) (d e : Diff) → plus (point a) d ≡ point b → plus (point b) e ≡ point a → fuse (point a) (FusionP d) (point b) (FusionS e) ≡ true
-pair a b d e f g = both (same_point (plus (point a) d) (point b)) (same_point (plus (point b) e) (point a)) (ap (λ (u : Point). same_point u (point b)) f ∙ point_itself b) (ap (λ (u : Point). same_point u (point a)) g ∙ point_itself a)
-
-by_left : (a b : Bool) → a ≡ true → (a || b) ≡ true
-by_left a b e = rw e refl
+pair a b d e f g = both_true (same_point (plus (point a) d) (point b)) (same_point (plus (point b) e) (point a)) (ap (λ (u : Point). same_point u (point b)) f ∙ point_itself b) (ap (λ (u : Point). same_point u (point a)) g ∙ point_itself a)
 
 fused_two : (c e : Coord) → fused (bot_with 1 c (2 ^ 41 - 2 ^ 4)) (bot_with 2 e (2 ^ 3)) ∷ [] ≡ one c
 unfolding seed_numbers
@@ -240,7 +224,7 @@ module _ (p : TapeState) (c : Coord) (d e : Diff) (bots : p.bots ≡ two c) (ful
         each = (
           record {
             allowed = ap (λ (f : Profile). is_allowed f (FusionP d)) full;
-            may = record { within = ap (in_space p.matrix.resolution) forth ∙ in_space_is p.matrix.resolution (coord (c.x + 1) c.y c.z) (record { x = sx; y = sy; z = omega arith }); other = second; here = (1, lit< tt, refl); partners = by_left (is_pair first second) (is_pair second first) fuse_pair };
+            may = record { within = ap (in_space p.matrix.resolution) forth ∙ in_space_is p.matrix.resolution (coord (c.x + 1) c.y c.z) (record { x = sx; y = sy; z = omega arith }); other = second; here = (1, lit< tt, refl); partners = or_by_first (is_pair first second) (is_pair second first) fuse_pair };
           },
           (
             record {
@@ -250,7 +234,7 @@ module _ (p : TapeState) (c : Coord) (d e : Diff) (bots : p.bots ≡ two c) (ful
             tt,
           ),
         );
-        untangled = ((inl (by_left (is_pair first second) (is_pair second first) fuse_pair), tt), (tt, tt));
+        untangled = ((inl (or_by_first (is_pair first second) (is_pair second first) fuse_pair), tt), (tt, tt));
       })
 
   pub fuse_makes : successors fusion first (FusionP d) ≡ fused first.bot second.bot ∷ [] → bots_fused p.bots (FusionP d ∷ FusionS e ∷ []) ≡ one c
@@ -308,7 +292,7 @@ module _ (p : TapeState) (c : Coord) (d e f g : Diff) (bots : p.bots ≡ four c 
   stays_in u q e i = ap (in_space p.matrix.resolution) e ∙ in_space_is p.matrix.resolution q i
 
   joined : (a b : Act) → is_pair a b ≡ true → are_partners a b ≡ true
-  joined a b h = by_left (is_pair a b) (is_pair b a) h
+  joined a b h = or_by_first (is_pair a b) (is_pair b a) h
 
   pub fuse_both_free : AreFree (state_of p) (acts p.bots commands)
   fuse_both_free =

@@ -10,6 +10,7 @@ use Rattle.void_planner.specs.Tiles.{IsVoidBefore, IsVoidStrip, IsVoidTile, edge
 use Rattle.void_planner.specs.Bounds.{tiles_of}
 use Rattle.void_planner.proofs.Regions.{region_fewer, tile_void}
 use Rattle.vox_geom.specs.Point.{coord}
+use Rattle.vox_geom.proofs.Sums.{one_layer_less}
 use Rattle.plan_tape.proofs.LegalModels.{void_by_space}
 use Rattle.plan_tape.proofs.ClearWays.{moves_on, no_moves}
 
@@ -190,9 +191,6 @@ layer_on a b c r turn first now y k p q =
 -- the steps of a layer and of the way to the one below
 abbrev pub fro_steps : ℕ → ℕ
 fro_steps r = strip_steps r * tiles_of r + 1
-
-one_layer_less : (r y n : ℕ) → 0 < y → y < r → (r - 1 - y) * n + n ≤ (r - 1 - (y - 1)) * n
-one_layer_less r y n h l = let e : r - 1 - (y - 1) ≡ r - 1 - y + 1 = omega arith in rw e (omega arith)
 
 -- one layer more, above which all is void
 pub layers_on : (a b c : TapeState) (r y : ℕ) (turn back next : Bool) → 0 < y → y < r → Clears a b (coord 0 (r - 1) 0) (coord (edge r turn) y (edge r back)) ((r - 1 - y) * fro_steps r) → Clears b c (coord (edge r turn) (y - 1 + 1) (edge r back)) (coord (edge r (not turn)) (y - 1 + 1) (edge r next)) (strip_steps r * tiles_of r) → Clears a c (coord 0 (r - 1) 0) (coord (edge r (not turn)) (y - 1) (edge r next)) ((r - 1 - (y - 1)) * fro_steps r)

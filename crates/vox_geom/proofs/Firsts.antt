@@ -9,6 +9,7 @@ use Rattle.vox_geom.specs.declared.coordinate.Coord.{Coord}
 use Rattle.vox_geom.specs.Space.{IsInSpace, is_before, place, coordinate_at, coordinates, numbers_from}
 use Rattle.vox_geom.proofs.Places.{coordinate_at-place, place-coordinate_at}
 use Rattle.vox_geom.specs.Least.{LeastOf}
+use Rattle.vox_geom.proofs.Truths.{false_by, true_and_false}
 
 -- the first number that passes
 found : (test : Coord → Bool) (f : ℕ → Coord) (n a p : ℕ) → a ≤ p → p < a + n → IsTrue (test (f p)) → ((q : ℕ) → a ≤ q → q < p → IsFalse (test (f q))) → find test (map f (numbers_from a n)) ≡ Some (f p)
@@ -48,10 +49,6 @@ place_below r c h =
     let all : (c.x * r + c.y) * r + c.z < r * r * r = digits_lt front h.z in
     omega arith
 
-not_both : (b : Bool) → IsTrue b → IsFalse b → ⊥
-not_both true h k = cc
-not_both false h k = cc
-
 -- each place below r * r * r is that of a coordinate in space
 pub at_in_space : (r p : ℕ) → p < r * r * r → IsInSpace r (coordinate_at r p)
 at_in_space zero p h = absurd (omega arith)
@@ -80,7 +77,7 @@ first_is r test (Some c) h =
         by (test d) refl (before r d c in_space h.within lt) (h.least d in_space)
       where
         by : (b : Bool) → test (coordinate_at r q) ≡ b → IsTrue (is_before (coordinate_at r q) c) → (IsTrue (test (coordinate_at r q)) → IsFalse (is_before (coordinate_at r q) c)) → IsFalse (test (coordinate_at r q))
-        by true e t f = absurd (not_both (is_before (coordinate_at r q) c) t (f e))
+        by true e t f = absurd (true_and_false (is_before (coordinate_at r q) c) t (f e))
         by false e t f = e
 first_is r test None h = nowhere test (coordinate_at r) (r * r * r) 0 (λ q i j. h (coordinate_at r q) (at_in_space r q (omega arith)))
 
@@ -125,11 +122,6 @@ rises r d c h k lt =
     (λ e f l. omega (arith, ap (λ v. v * r * r) e, ap (λ v. v * r) f))
     lt
 
--- what is not true is false
-untrue : (b : Bool) → (IsTrue b → ⊥) → IsFalse b
-untrue true h = absurd (h refl)
-untrue false h = refl
-
 pub first_of : (r : ℕ) (test : Coord → Bool) → LeastOf r test (find test (coordinates r))
 first_of r test = by (find test (coordinates r)) (hit_of test (coordinate_at r) (r * r * r) 0)
   where
@@ -140,9 +132,9 @@ first_of r test = by (find test (coordinates r)) (hit_of test (coordinate_at r) 
         record {
           within = within;
           passes = h.passes;
-          least = λ d i t. untrue (is_before d c) (λ e.
+          least = λ d i t. false_by (is_before d c) (λ e.
               let lt : place r d < place r c = rises r d c i within e in
               let at : place r c ≡ h.at = ap (place r) h.is ∙ place-coordinate_at r h.at in
               let none : IsFalse (test (coordinate_at r (place r d))) = h.none (place r d) (omega arith) (omega arith) in
-              not_both (test d) t (subst (λ (e : Coord). IsFalse (test e)) (coordinate_at-place r d i) none));
+              true_and_false (test d) t (subst (λ (e : Coord). IsFalse (test e)) (coordinate_at-place r d i) none));
         }

@@ -13,12 +13,13 @@ use Rattle.vox_geom.specs.declared.coordinate.Coord.{Coord}
 use Rattle.vox_geom.specs.Least.{LeastOf}
 use Rattle.vox_geom.specs.Space.{IsInSpace, coordinates, is_before}
 use Rattle.vox_geom.proofs.Firsts.{before-trans, first_is}
+use Rattle.vox_geom.proofs.Truths.{false_by, one_of_two, or_by_first, or_by_second, true_and_false}
+use Rattle.vox_geom.proofs.Tests.{same_bit}
 use Rattle.nano_spec.specs.Matrix.{Matrix, differ_at}
 use Rattle.nano_spec.specs.Model.{bit}
 use Rattle.vox_planes.specs.Layers.{IsLayered, bit_index, is_set, layer_words, layered}
 use Rattle.vox_planes.specs.Difference.{earlier, in_layer_differ}
 use Rattle.vox_planes.proofs.Bits.{in_layer}
-use Rattle.vox_planes.proofs.Parts.{false_of}
 use Rattle.vox_planes.proofs.Voxels.{is_full-layered}
 
 -- ---- two words
@@ -32,11 +33,8 @@ other_value a b e f = omega arith
 bits_same : (w u k : ℕ) → bit_at (bit_xor w u) k ≡ 0 → bit w k ≡ bit u k
 bits_same w u k e = ap (λ v. v == 1) (same_value (bit_at w k) (bit_at u k) (bit_at-lt w k) (bit_at-lt u k) (sym (bit_at_xor w u k) ∙ e))
 
-by_value : (a b : ℕ) → a < 2 → b < 2 → (a == 1) ≡ (b == 1) → a ≡ b
-by_value a b l m e = grind (arith, nat_tests)
-
 bits_differ : (w u k : ℕ) → bit_at (bit_xor w u) k ≡ 1 → bit w k ≡ bit u k → ⊥
-bits_differ w u k e f = other_value (bit_at w k) (bit_at u k) (sym (bit_at_xor w u k) ∙ e) (by_value (bit_at w k) (bit_at u k) (bit_at-lt w k) (bit_at-lt u k) f)
+bits_differ w u k e f = other_value (bit_at w k) (bit_at u k) (sym (bit_at_xor w u k) ∙ e) (same_bit (bit_at w k) (bit_at u k) (bit_at-lt w k) (bit_at-lt u k) f)
 
 -- ---- the bits of a layer, from its first word on
 
@@ -126,7 +124,7 @@ at_bit r ws us y n d a h t = (parts.1, by (cases_lt (d.x * r + d.z) n))
         cc
 
 pub layer_alike : (r : ℕ) (ws us : List ℕ) (y : ℕ) → AreAlike ws us (y * layer_words r) (64 * layer_words r) → LeastOf r (in_layer_differ (layered r ws) (layered r us) y) None
-layer_alike r ws us y a = λ d h. false_of (in_layer_differ (layered r ws) (layered r us) y d) (λ t.
+layer_alike r ws us y a = λ d h. false_by (in_layer_differ (layered r ws) (layered r us) y d) (λ t.
     let far = (at_bit r ws us y (64 * layer_words r) d a h t).1 in
     let near = in_layer r d h in
     omega arith)
@@ -177,7 +175,7 @@ layer_differs r ws us y at hw hu ly la f = (used, record { within = within; pass
         same_layer = grind (arith, nat_tests)
 
     least : (d : Coord) → IsInSpace r d → IsTrue (in_layer_differ (layered r ws) (layered r us) y d) → IsFalse (is_before d (record { x = at / r; y = y; z = at % r }))
-    least d h t = false_of (is_before d (record { x = at / r; y = y; z = at % r })) (λ b.
+    least d h t = false_by (is_before d (record { x = at / r; y = y; z = at % r })) (λ b.
         let far = at_bit r ws us y at d f.before h t in
         let near = before-bits d r (at / r) y (at % r) h.z (mod-lt at some) far.0 b in
         omega (arith, back, far.1, near))
@@ -188,63 +186,47 @@ layer_differs r ws us y at hw hu ly la f = (used, record { within = within; pass
 abbrev pub below_differ : Matrix → Matrix → ℕ → Coord → Bool
 below_differ m n y c = differ_at m n c && nat_lt c.y y
 
-contrary : (b : Bool) → IsTrue b → IsFalse b → ⊥
-contrary true t f = cc
-contrary false t f = cc
-
 between : (a b d : Coord) → IsTrue (is_before d a) → IsFalse (is_before d b) → IsTrue (is_before b a)
 between a b d h k = grind (arith, nat_tests)
 
-either-cases : (a b : Bool) → IsTrue (a || b) → IsTrue a ⊎ IsTrue b
-either-cases true b h = inl refl
-either-cases false b h = inr h
-
-either-first : (a b : Bool) → IsTrue a → IsTrue (a || b)
-either-first true b h = refl
-either-first false b h = cc
-
-either-second : (a b : Bool) → IsTrue b → IsTrue (a || b)
-either-second true b h = refl
-either-second false b h = h
-
 -- the earlier of the least that pass two tests is the least that passes either
 pub earlier-least : (r : ℕ) (f g : Coord → Bool) (a b : Option Coord) → LeastOf r f a → LeastOf r g b → LeastOf r (λ c. f c || g c) (earlier a b)
-earlier-least r f g None None h k = λ d i. false_of (f d || g d) (λ t. by d i (either-cases (f d) (g d) t))
+earlier-least r f g None None h k = λ d i. false_by (f d || g d) (λ t. by d i (one_of_two (f d) (g d) t))
   where
     by : (d : Coord) → IsInSpace r d → IsTrue (f d) ⊎ IsTrue (g d) → ⊥
-    by d i (inl t) = contrary (f d) t (h d i)
-    by d i (inr t) = contrary (g d) t (k d i)
+    by d i (inl t) = true_and_false (f d) t (h d i)
+    by d i (inr t) = true_and_false (g d) t (k d i)
 earlier-least r f g (Some a) None h k = record {
   within = h.within;
-  passes = either-first (f a) (g a) h.passes;
-  least = λ d i t. by d i (either-cases (f d) (g d) t);
+  passes = or_by_first (f a) (g a) h.passes;
+  least = λ d i t. by d i (one_of_two (f d) (g d) t);
 }
   where
     by : (d : Coord) → IsInSpace r d → IsTrue (f d) ⊎ IsTrue (g d) → IsFalse (is_before d a)
     by d i (inl t) = h.least d i t
-    by d i (inr t) = absurd (contrary (g d) t (k d i))
+    by d i (inr t) = absurd (true_and_false (g d) t (k d i))
 earlier-least r f g None (Some b) h k = record {
   within = k.within;
-  passes = either-second (f b) (g b) k.passes;
-  least = λ d i t. by d i (either-cases (f d) (g d) t);
+  passes = or_by_second (f b) (g b) k.passes;
+  least = λ d i t. by d i (one_of_two (f d) (g d) t);
 }
   where
     by : (d : Coord) → IsInSpace r d → IsTrue (f d) ⊎ IsTrue (g d) → IsFalse (is_before d b)
-    by d i (inl t) = absurd (contrary (f d) t (h d i))
+    by d i (inl t) = absurd (true_and_false (f d) t (h d i))
     by d i (inr t) = k.least d i t
 earlier-least r f g (Some a) (Some b) h k = by (is_before b a) refl
   where
     second : IsTrue (is_before b a) → (d : Coord) → IsInSpace r d → IsTrue (f d) ⊎ IsTrue (g d) → IsFalse (is_before d b)
-    second e d i (inl t) = false_of (is_before d b) (λ l. contrary (is_before d a) (before-trans d b a l e) (h.least d i t))
+    second e d i (inl t) = false_by (is_before d b) (λ l. true_and_false (is_before d a) (before-trans d b a l e) (h.least d i t))
     second e d i (inr t) = k.least d i t
 
     first : IsFalse (is_before b a) → (d : Coord) → IsInSpace r d → IsTrue (f d) ⊎ IsTrue (g d) → IsFalse (is_before d a)
     first e d i (inl t) = h.least d i t
-    first e d i (inr t) = false_of (is_before d a) (λ l. contrary (is_before b a) (between a b d l (k.least d i t)) e)
+    first e d i (inr t) = false_by (is_before d a) (λ l. true_and_false (is_before b a) (between a b d l (k.least d i t)) e)
 
     by : (t : Bool) → is_before b a ≡ t → LeastOf r (λ c. f c || g c) (cond t (Some b) (Some a))
-    by true e = record { within = k.within; passes = either-second (f b) (g b) k.passes; least = λ d i t. second e d i (either-cases (f d) (g d) t) }
-    by false e = record { within = h.within; passes = either-first (f a) (g a) h.passes; least = λ d i t. first e d i (either-cases (f d) (g d) t) }
+    by true e = record { within = k.within; passes = or_by_second (f b) (g b) k.passes; least = λ d i t. second e d i (one_of_two (f d) (g d) t) }
+    by false e = record { within = h.within; passes = or_by_first (f a) (g a) h.passes; least = λ d i t. first e d i (one_of_two (f d) (g d) t) }
 
 below-next : (b : Bool) (v y : ℕ) → ((b && nat_lt v y) || (b && (v == y))) ≡ (b && nat_lt v (y + 1))
 below-next true v y = grind (arith, nat_tests)

@@ -11,6 +11,7 @@ use Rattle.std.proofs.lemmas.Nat.Bits.{bit_at-lt, bit_at-zero, bit_at_and, bit_a
 use Rattle.vox_geom.specs.declared.coordinate.Coord.{Coord}
 use Rattle.vox_geom.specs.Space.{IsInSpace, in_space}
 use Rattle.vox_geom.specs.Point.{below as under, point}
+use Rattle.vox_geom.proofs.Truths.{first_of_two}
 use Rattle.nano_spec.specs.Matrix.{is_full}
 use Rattle.nano_spec.specs.Model.{bit}
 use Rattle.nano_spec.proofs.Coordinates.{in_space-is}
@@ -83,10 +84,6 @@ module _ (ws : List ℕ) (layer : ℕ) where
 
 -- ---- all words
 
-first_part : (a b : Bool) → IsTrue (a && b) → IsTrue a
-first_part true b h = refl
-first_part false b h = h
-
 pub one_down : (y n : ℕ) → 0 < y → y * n ≡ (y - 1) * n + n
 one_down zero n l = absurd (omega arith)
 one_down (suc y) n l = let less : suc y - 1 ≡ y = omega arith in suc-mul y n ∙ ap (λ v. v * n + n) (sym less)
@@ -101,7 +98,7 @@ is_heap-held r ws layer end size all a = λ c h. by c h (cases_lt 0 c.y)
     by : (c : Coord) → IsTrue (is_full (layered r ws) c) → ((0 < c.y) ⊎ (c.y ≤ 0)) → (c.y ≡ 0) ⊎ IsTrue (is_full (layered r ws) (under c))
     by c h (inr l) = inl (omega arith)
     by c h (inl l) =
-        let within : IsInSpace r c = in_space-is r c (first_part (in_space r (point c)) _ h) in
+        let within : IsInSpace r c = in_space-is r c (first_of_two (in_space r (point c)) _ h) in
         let below : IsInSpace r (under c) = record { x = within.x; y = (let y = within.y in omega arith); z = within.z } in
         let here : is_set ws (bit_index r c) ≡ true = sym (is_full-layered r ws c within) ∙ h in
         let row = in_layer r c within in

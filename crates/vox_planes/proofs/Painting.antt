@@ -11,6 +11,7 @@ use Rattle.vox_geom.specs.Region.{Corners, IsOrdered, is_between, is_within, siz
 use Rattle.vox_geom.specs.Space.{IsInSpace, coordinate_at, coordinates, place}
 use Rattle.vox_geom.proofs.Firsts.{at_in_space, place_below}
 use Rattle.vox_geom.proofs.Places.{coordinate_at-place, place-coordinate_at}
+use Rattle.vox_geom.proofs.Truths.{no_first_of_three, no_second as last_no, no_second_of_three, twice_chosen}
 use Rattle.nano_spec.specs.Matrix.{Matrix, is_full, matrix_where}
 use Rattle.nano_spec.specs.Model.{bit}
 use Rattle.vox_planes.specs.Bits.{has_value}
@@ -60,20 +61,11 @@ itself m w =
         ∙ (ap (λ b. b && get_or m.voxels (place m.resolution (coordinate_at m.resolution k)) false) (in_space-of m.resolution (coordinate_at m.resolution k) (at_in_space m.resolution k l))
         ∙ ap (λ p. get_or m.voxels p false) (place-coordinate_at m.resolution k)))
 
-last_no : (a b : Bool) → b ≡ false → (a && b) ≡ false
-last_no true b e = e
-last_no false b e = refl
-
 pub painted_none : (m : Matrix) (area : Coord → Bool) (full : Bool) → IsWhole m → ((d : Coord) → area d ≡ false) → IsPainted m m area full 0
 painted_none m area full w none = record {
   value = itself m w ∙ same_where m.resolution (λ d. is_full m d) (λ d. cond (area d) full (is_full m d)) (λ d i. sym (ap (λ b. cond b full (is_full m d)) (none d)));
   count = sym (count_none m.resolution (λ c. is_state m (not full) c && area c) (λ d i. last_no (is_state m (not full) d) (area d) (none d)));
 }
-
-twice_chosen : (a b full old : Bool) → cond b full (cond a full old) ≡ cond (a || b) full old
-twice_chosen true true full old = refl
-twice_chosen true false full old = refl
-twice_chosen false b full old = refl
 
 once_counted : (a b full old : Bool) → one_if (has_value (not full) old && (a || b)) ≡ one_if (has_value (not full) old && a) + one_if (has_value (not full) (cond a full old) && b)
 once_counted true true true true = refl
@@ -146,17 +138,8 @@ either_second true true false false = refl
 either_second true false q z = refl
 either_second false p q z = refl
 
-no_first : (x y z : Bool) → x ≡ false → (x && y && z) ≡ false
-no_first true y z e = cc
-no_first false y z e = refl
-
-no_second : (x y z : Bool) → y ≡ false → (x && y && z) ≡ false
-no_second true true z e = cc
-no_second true false z e = refl
-no_second false y z e = refl
-
 pub layer_none : (k : Corners) (y : ℕ) (d : Coord) → is_in_layer k y k.low.x d ≡ false
-layer_none k y d = no_first (is_up_to k.low.x k.low.x d.x) (is_up_to y (y + 1) d.y) (is_up_to k.low.z (k.high.z + 1) d.z) (no_axis k.low.x d.x)
+layer_none k y d = no_first_of_three (is_up_to k.low.x k.low.x d.x) (is_up_to y (y + 1) d.y) (is_up_to k.low.z (k.high.z + 1) d.z) (no_axis k.low.x d.x)
 
 pub layer_more : (k : Corners) (y x : ℕ) → k.low.x ≤ x → (d : Coord) → is_in_layer k y (x + 1) d ≡ (is_in_layer k y x d || is_in_row (row_start k x y) k.high.z d)
 layer_more k y x l d =
@@ -164,7 +147,7 @@ layer_more k y x l d =
     ∙ either_first (is_up_to k.low.x x d.x) (is_up_to x (x + 1) d.x) (is_up_to y (y + 1) d.y) (is_up_to k.low.z (k.high.z + 1) d.z)
 
 pub layers_none : (k : Corners) (d : Coord) → is_in_layers k k.low.y d ≡ false
-layers_none k d = no_second (is_up_to k.low.x (k.high.x + 1) d.x) (is_up_to k.low.y k.low.y d.y) (is_up_to k.low.z (k.high.z + 1) d.z) (no_axis k.low.y d.y)
+layers_none k d = no_second_of_three (is_up_to k.low.x (k.high.x + 1) d.x) (is_up_to k.low.y k.low.y d.y) (is_up_to k.low.z (k.high.z + 1) d.z) (no_axis k.low.y d.y)
 
 pub layers_more : (k : Corners) (y : ℕ) → k.low.y ≤ y → (d : Coord) → is_in_layers k (y + 1) d ≡ (is_in_layers k y d || is_in_layer k y (k.high.x + 1) d)
 layers_more k y l d =

@@ -10,6 +10,8 @@ use Rattle.std.proofs.lemmas.Nat.Bits.{bit_at_ones}
 use Rattle.vox_geom.specs.declared.coordinate.Coord.{Coord}
 use Rattle.vox_geom.specs.Point.{point}
 use Rattle.vox_geom.specs.Space.{IsInSpace, in_space, place}
+use Rattle.vox_geom.proofs.Truths.{second_of_two}
+use Rattle.vox_geom.proofs.Tests.{test_less, test_not_less}
 use Rattle.nano_spec.specs.Matrix.{Matrix, is_full}
 use Rattle.nano_spec.specs.Model.{bit}
 use Rattle.nano_spec.proofs.Coordinates.{in_space-is}
@@ -22,16 +24,10 @@ use Rattle.vox_planes.proofs.Voxels.{is_full-layered}
 
 -- ---- one word
 
-before : (i j : ℕ) → i < j → nat_lt i j ≡ true
-before i j l = grind (arith, nat_tests)
-
-not_before : (i j : ℕ) → j ≤ i → nat_lt i j ≡ false
-not_before i j l = grind (arith, nat_tests)
-
 pub going_low : (full left : List ℕ) (layer i : ℕ) → i < layer → (k : ℕ) → k < 64 → bit (2 ^ 64 - 1) k ≡ goes full left layer (i * 64 + k)
 going_low full left layer i h k l =
     ap (λ d. d == 1) (bit_at_ones 64 k l)
-    ∙ sym (ap (λ b. b || (is_set full (i * 64 + k - layer * 64) && not (is_set left (i * 64 + k - layer * 64)))) (before (i * 64 + k) (layer * 64) (omega arith)))
+    ∙ sym (ap (λ b. b || (is_set full (i * 64 + k - layer * 64) && not (is_set left (i * 64 + k - layer * 64)))) (test_less (i * 64 + k) (layer * 64) (omega arith)))
 
 pub going_high : (full left : List ℕ) (layer i u v : ℕ) → layer ≤ i → u ≡ get_or full (i - layer) 0 → v ≡ get_or left (i - layer) 0 → v < 2 ^ 64 →
     (k : ℕ) → k < 64 → bit (bit_and u (bit_not w64 v)) k ≡ goes full left layer (i * 64 + k)
@@ -42,7 +38,7 @@ going_high full left layer i u v h eu ev fits k l =
     and_bit u (bit_not w64 v) k
     ∙ (ap (λ b. bit u k && b) (not_bit v k fits l)
     ∙ ((λ t. one t && not (two t))
-    ∙ sym (ap (λ b. b || (is_set full (i * 64 + k - layer * 64) && not (is_set left (i * 64 + k - layer * 64)))) (not_before (i * 64 + k) (layer * 64) (omega arith)))))
+    ∙ sym (ap (λ b. b || (is_set full (i * 64 + k - layer * 64) && not (is_set left (i * 64 + k - layer * 64)))) (test_not_less (i * 64 + k) (layer * 64) (omega arith)))))
 
 -- ---- the words below an index
 
@@ -69,8 +65,8 @@ goes_same full a b layer j h = by (cases_lt j (layer * 64))
   where
     by : ((j < layer * 64) ⊎ (layer * 64 ≤ j)) → goes full b layer j ≡ goes full a layer j
     by (inl l) =
-        ap (λ t. t || (is_set full (j - layer * 64) && not (is_set b (j - layer * 64)))) (before j (layer * 64) l)
-        ∙ sym (ap (λ t. t || (is_set full (j - layer * 64) && not (is_set a (j - layer * 64)))) (before j (layer * 64) l))
+        ap (λ t. t || (is_set full (j - layer * 64) && not (is_set b (j - layer * 64)))) (test_less j (layer * 64) l)
+        ∙ sym (ap (λ t. t || (is_set full (j - layer * 64) && not (is_set a (j - layer * 64)))) (test_less j (layer * 64) l))
     by (inr l) = ap (λ t. nat_lt j (layer * 64) || (is_set full (j - layer * 64) && not t)) (h l)
 
 pub dropped_more : (old now full : List ℕ) (layer i v : ℕ) → 1 ≤ layer → i < length now →
@@ -100,10 +96,6 @@ dropped_more old now full layer i v some within bits h = record {
 abbrev level : Coord → ℕ → Coord
 level c y = record { x = c.x; y = y; z = c.z }
 
-second_of : (a b : Bool) → (a && b) ≡ true → b ≡ true
-second_of true b h = h
-second_of false b h = cc
-
 -- a voxel goes exactly where all from it down to the floor are full
 gone_over : (full under stacked : Bool) → (stacked ≡ true → under ≡ true) → (full && not (false || (under && not (under && not stacked)))) ≡ (full && not (stacked && full))
 gone_over true true true h = refl
@@ -121,7 +113,7 @@ gone_low false = refl
 
 top : (m : Matrix) (c : Coord) (y : ℕ) → is_full_up_to m c y ≡ true → is_full m (level c y) ≡ true
 top m c zero h = h
-top m c (suc y) h = second_of (is_full_up_to m c y) (is_full m (level c (suc y))) h
+top m c (suc y) h = second_of_two (is_full_up_to m c y) (is_full m (level c (suc y))) h
 
 module _ (r : ℕ) (old now full : List ℕ) (layered_is : IsLayered r full) (copy : layered r old ≡ layered r full)
     (dropped : (j : ℕ) → j < length full * 64 → is_set now j ≡ (is_set old j && not (goes full now (layer_words r) j))) where
@@ -140,7 +132,7 @@ module _ (r : ℕ) (old now full : List ℕ) (layered_is : IsLayered r full) (co
       let row = in_layer r (level c zero) i in
       dropped (bit_index r (level c zero)) (within_words (level c zero) i)
       ∙ ((λ t. was (level c zero) i t
-      && not (before (bit_index r (level c zero)) (layer_words r * 64) (omega arith) t
+      && not (test_less (bit_index r (level c zero)) (layer_words r * 64) (omega arith) t
       || (is_set full (bit_index r (level c zero) - layer_words r * 64) && not (is_set now (bit_index r (level c zero) - layer_words r * 64)))))
       ∙ gone_low (is_full (layered r full) (level c zero)))
   column c (suc y) i =
@@ -152,7 +144,7 @@ module _ (r : ℕ) (old now full : List ℕ) (layered_is : IsLayered r full) (co
       let above : layer_words r * 64 ≤ bit_index r (level c (suc y)) = omega arith in
       dropped (bit_index r (level c (suc y))) (within_words (level c (suc y)) i)
       ∙ ((λ t. was (level c (suc y)) i t
-      && not (not_before (bit_index r (level c (suc y))) (layer_words r * 64) above t
+      && not (test_not_less (bit_index r (level c (suc y))) (layer_words r * 64) above t
       || ((ap (is_set full) under ∙ sym (is_full-layered r full (level c y) lower)) t && not ((ap (is_set now) under ∙ column c y lower) t))))
       ∙ gone_over (is_full (layered r full) (level c (suc y))) (is_full (layered r full) (level c y)) (is_full_up_to (layered r full) c y) (top (layered r full) c y))
 

@@ -8,6 +8,7 @@ use Rattle.std.proofs.lemmas.Nat.Bits.{bit_at-lt, bit_at_and, bit_at_not}
 use Rattle.vox_geom.specs.declared.coordinate.Coord.{Coord}
 use Rattle.vox_geom.specs.Point.{point}
 use Rattle.vox_geom.specs.Space.{IsInSpace, in_space, place}
+use Rattle.vox_geom.proofs.Tests.{other_bit}
 use Rattle.nano_spec.specs.Matrix.{is_full}
 use Rattle.nano_spec.specs.Model.{bit}
 use Rattle.nano_spec.proofs.Coordinates.{in_space-is}
@@ -27,11 +28,8 @@ both_ones x y l m = grind (arith, nat_tests)
 pub and_bit : (a b k : ℕ) → bit (bit_and a b) k ≡ (bit a k && bit b k)
 and_bit a b k = ap (λ d. d == 1) (bit_at_and a b k) ∙ both_ones (bit_at a k) (bit_at b k) (bit_at-lt a k) (bit_at-lt b k)
 
-other_one : (x : ℕ) → x < 2 → (1 - x == 1) ≡ not (x == 1)
-other_one x l = grind (arith, nat_tests)
-
 pub not_bit : (b k : ℕ) → b < 2 ^ 64 → k < 64 → bit (bit_not w64 b) k ≡ not (bit b k)
-not_bit b k l m = ap (λ d. d == 1) (bit_at_not w64 b k l m) ∙ other_one (bit_at b k) (bit_at-lt b k)
+not_bit b k l m = ap (λ d. d == 1) (bit_at_not w64 b k l m) ∙ other_bit (bit_at b k) (bit_at-lt b k)
 
 turned : (a b : Bool) → (a && b) ≡ (b && a)
 turned true true = refl

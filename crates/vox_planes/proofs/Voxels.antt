@@ -13,12 +13,12 @@ use Rattle.vox_geom.specs.Point.{point, same_point, same_number}
 use Rattle.vox_geom.specs.Space.{IsInSpace, in_space, in_range, place, coordinate_at, coordinates, numbers_from, numbers_below}
 use Rattle.vox_geom.proofs.Places.{coordinate_at-place}
 use Rattle.vox_geom.proofs.Firsts.{at_in_space, place_below}
+use Rattle.vox_geom.proofs.Truths.{parts_of_three, three_true}
 use Rattle.nano_spec.specs.Matrix.{empty, is_full, matrix_where}
 use Rattle.nano_spec.specs.Model.{bit}
 use Rattle.nano_spec.proofs.Coordinates.{in_space-is}
 use Rattle.vox_planes.specs.Layers.{IsLayered, bit_index, is_set, layer_words, layered}
 use Rattle.vox_planes.specs.Voxel.{IsWhole, with_voxel}
-use Rattle.vox_planes.proofs.Parts.{both, three}
 use Rattle.vox_planes.proofs.Bits.{in_layer, one_bit}
 
 -- ---- matrices by a test
@@ -27,7 +27,7 @@ ranged : (r x : ℕ) → x < r → in_range r (pos x) ≡ true
 ranged r x h = grind (arith, nat_tests)
 
 pub in_space-of : (r : ℕ) (c : Coord) → IsInSpace r c → in_space r (point c) ≡ true
-in_space-of r c h = both (in_range r (pos c.x)) (in_range r (pos c.y)) (in_range r (pos c.z)) (ranged r c.x h.x) (ranged r c.y h.y) (ranged r c.z h.z)
+in_space-of r c h = three_true (in_range r (pos c.x)) (in_range r (pos c.y)) (in_range r (pos c.z)) (ranged r c.x h.x) (ranged r c.y h.y) (ranged r c.z h.z)
 
 length-numbers : (n a : ℕ) → length (numbers_from a n) ≡ n
 length-numbers zero a = refl
@@ -99,11 +99,11 @@ same_is : (a b : ℕ) → same_number (pos a) (pos b) ≡ true → a ≡ b
 same_is a b h = grind (arith, nat_tests)
 
 pub same_point-refl : (c : Coord) → same_point (point c) (point c) ≡ true
-same_point-refl c = both (same_number (pos c.x) (pos c.x)) (same_number (pos c.y) (pos c.y)) (same_number (pos c.z) (pos c.z)) (same_self c.x) (same_self c.y) (same_self c.z)
+same_point-refl c = three_true (same_number (pos c.x) (pos c.x)) (same_number (pos c.y) (pos c.y)) (same_number (pos c.z) (pos c.z)) (same_self c.x) (same_self c.y) (same_self c.z)
 
 pub same_point-is : (c d : Coord) → same_point (point c) (point d) ≡ true → c ≡ d
 same_point-is c d h =
-    let parts = three (same_number (pos c.x) (pos d.x)) (same_number (pos c.y) (pos d.y)) (same_number (pos c.z) (pos d.z)) h in
+    let parts = parts_of_three (same_number (pos c.x) (pos d.x)) (same_number (pos c.y) (pos d.y)) (same_number (pos c.z) (pos d.z)) h in
     let x = same_is c.x d.x parts.0 in
     let y = same_is c.y d.y parts.1 in
     let z = same_is c.z d.z parts.2 in

@@ -15,7 +15,7 @@ use Rattle.vox_geom.specs.Region.{Corners, IsOrdered, extent, is_between, is_wit
 use Rattle.vox_geom.specs.Space.{IsInSpace, coordinate_at, coordinates, numbers_from, place}
 use Rattle.vox_geom.proofs.Places.{coordinate_at-place, place-coordinate_at}
 use Rattle.vox_geom.proofs.Firsts.{place_below}
-use Rattle.vox_planes.proofs.Parts.{false_of, three}
+use Rattle.vox_geom.proofs.Truths.{and_by_second, false_by, no_second, parts_of_three}
 use Rattle.vox_planes.specs.Walk.{at, coordinates_from, passes_in, row, row_start, wall_size}
 
 -- ---- a row
@@ -90,7 +90,7 @@ pub record IsOf (k : Corners) (c : Coord) : Type 0 where
 
 pub is_of : (k : Corners) (c : Coord) → IsOrdered k → is_within (span k) (point c) ≡ true → IsOf k c
 is_of k c o h =
-    let parts = three (is_between (pos k.low.x) (pos k.high.x) (pos c.x)) (is_between (pos k.low.y) (pos k.high.y) (pos c.y)) (is_between (pos k.low.z) (pos k.high.z) (pos c.z)) h in
+    let parts = parts_of_three (is_between (pos k.low.x) (pos k.high.x) (pos c.x)) (is_between (pos k.low.y) (pos k.high.y) (pos c.y)) (is_between (pos k.low.z) (pos k.high.z) (pos c.z)) h in
     let x = from_between k.low.x k.high.x c.x o.x parts.0 in
     let y = from_between k.low.y k.high.y c.y o.y parts.1 in
     let z = from_between k.low.z k.high.z c.z o.z parts.2 in
@@ -99,13 +99,8 @@ is_of k c o h =
 pub of_is : (k : Corners) (c : Coord) → IsOf k c → is_within (span k) (point c) ≡ true
 of_is k c h = λ i. between k.low.x k.high.x c.x h.x_low h.x_high i && between k.low.y k.high.y c.y h.y_low h.y_high i && between k.low.z k.high.z c.z h.z_low h.z_high i
 
--- in a row of the region the test alone decides
-and_true : (b t : Bool) → t ≡ true → (b && t) ≡ b
-and_true true t e = e
-and_true false t e = refl
-
 in_row : (k : Corners) (test : Coord → Bool) (c : Coord) → IsOf k c → passes_in k test c ≡ test c
-in_row k test c h = and_true (test c) (is_within (span k) (point c)) (of_is k c h)
+in_row k test c h = and_by_second (test c) (is_within (span k) (point c)) (of_is k c h)
 
 filter_row : (k : Corners) (test : Coord → Bool) (n : ℕ) (c : Coord) → n ≡ k.high.z + 1 - c.z → IsOf k (at c k.high.z) → k.low.z ≤ c.z → c.z ≤ k.high.z + 1 → filter (passes_in k test) (row c k.high.z) ≡ filter test (row c k.high.z)
 filter_row k test zero c e h l m = ap (filter (passes_in k test)) (row-end c k.high.z (omega arith)) ∙ sym (ap (filter test) (row-end c k.high.z (omega arith)))
@@ -143,7 +138,7 @@ gap r k walk w (suc n) p none =
 over : {A : Type 0} (r : ℕ) (k : Corners) (walk : ℕ → A) → IsWalk r k walk → IsOrdered k → (p q : ℕ) → p ≤ q → ((c : Coord) → IsOf k c → p ≤ place r c → place r c < q → ⊥) → walk p ≡ walk q
 over r k walk w o p q l none =
     let e : p + (q - p) ≡ q = omega arith in
-    gap r k walk w (q - p) p (λ t i j. false_of (is_within (span k) (point (coordinate_at r t))) (λ h.
+    gap r k walk w (q - p) p (λ t i j. false_by (is_within (span k) (point (coordinate_at r t))) (λ h.
     let s : place r (coordinate_at r t) ≡ t = place-coordinate_at r t in
     none (coordinate_at r t) (is_of k (coordinate_at r t) o h) (omega (arith, s)) (omega (arith, s))))
     ∙ ap walk e
@@ -201,17 +196,13 @@ to_end r k walk w o s = over r k walk w o (place r (row_start k (k.high.x + 1) k
 
 -- ---- what is found and what is listed from a place on
 
-false_last : (b t : Bool) → t ≡ false → (b && t) ≡ false
-false_last true t e = e
-false_last false t e = refl
-
 found_walks : (r : ℕ) (k : Corners) (test : Coord → Bool) → IsWalk r k (λ p. find (passes_in k test) (coordinates_from r p))
 found_walks r k test = record { passes = λ p h. by p h (cases_lt p (r * r * r)) }
   where
     by : (p : ℕ) → (p < r * r * r → IsFalse (is_within (span k) (point (coordinate_at r p)))) → ((p < r * r * r) ⊎ (r * r * r ≤ p)) → find (passes_in k test) (coordinates_from r p) ≡ find (passes_in k test) (coordinates_from r (p + 1))
     by p h (inl l) =
         ap (find (passes_in k test)) (from-more r p l)
-        ∙ ap (λ b. cond b (Some (coordinate_at r p)) (find (passes_in k test) (coordinates_from r (p + 1)))) (false_last (test (coordinate_at r p)) (is_within (span k) (point (coordinate_at r p))) (h l))
+        ∙ ap (λ b. cond b (Some (coordinate_at r p)) (find (passes_in k test) (coordinates_from r (p + 1)))) (no_second (test (coordinate_at r p)) (is_within (span k) (point (coordinate_at r p))) (h l))
     by p h (inr l) = ap (find (passes_in k test)) (from-end r p l ∙ sym (from-end r (p + 1) (omega arith)))
 
 listed_walks : (r : ℕ) (k : Corners) (test : Coord → Bool) → IsWalk r k (λ p. filter (passes_in k test) (coordinates_from r p))
@@ -220,7 +211,7 @@ listed_walks r k test = record { passes = λ p h. by p h (cases_lt p (r * r * r)
     by : (p : ℕ) → (p < r * r * r → IsFalse (is_within (span k) (point (coordinate_at r p)))) → ((p < r * r * r) ⊎ (r * r * r ≤ p)) → filter (passes_in k test) (coordinates_from r p) ≡ filter (passes_in k test) (coordinates_from r (p + 1))
     by p h (inl l) =
         ap (filter (passes_in k test)) (from-more r p l)
-        ∙ ap (λ b. cond b (coordinate_at r p ∷ filter (passes_in k test) (coordinates_from r (p + 1))) (filter (passes_in k test) (coordinates_from r (p + 1)))) (false_last (test (coordinate_at r p)) (is_within (span k) (point (coordinate_at r p))) (h l))
+        ∙ ap (λ b. cond b (coordinate_at r p ∷ filter (passes_in k test) (coordinates_from r (p + 1))) (filter (passes_in k test) (coordinates_from r (p + 1)))) (no_second (test (coordinate_at r p)) (is_within (span k) (point (coordinate_at r p))) (h l))
     by p h (inr l) = ap (filter (passes_in k test)) (from-end r p l ∙ sym (from-end r (p + 1) (omega arith)))
 
 -- the search for the first coordinate of the region that passes

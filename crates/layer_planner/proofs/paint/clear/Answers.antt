@@ -3,9 +3,10 @@ use Rattle.layer_planner.specs.Painting.{Paints, layer_bytes, row_bytes}
 use Rattle.plan_tape.specs.Parts.{from_layer, layer}
 use Rattle.layer_planner.proofs.Paints.{paints_few, paints_more, paints_to}
 use Rattle.plan_tape.proofs.Parts.{from_layer-more}
-use Rattle.layer_planner.proofs.Sweeps.{fewer_layers, one_layer_less}
+use Rattle.layer_planner.proofs.Sweeps.{fewer_layers}
 use Rattle.layer_planner.proofs.paint.clear.Goals as goal
 use Rattle.vox_geom.specs.Point.{coord}
+use Rattle.vox_geom.proofs.Sums.{one_layer_less}
 use Rattle.plan_tape.specs.Progress.{top}
 use Rattle.layer_planner.proofs.Gaps.{next_layer}
 

@@ -1,8 +1,8 @@
 use Rattle.std.proofs.Common.{◌≡◌, ◌∙◌, [], ◌∷◌, ap, refl, sym}
 use Rattle.vox_geom.specs.Point.{Point, point, plus}
 use Rattle.vox_geom.specs.Region.{between, is_within, just, span}
+use Rattle.vox_geom.proofs.Truths.{or_false}
 use Rattle.nano_spec.specs.declared.commands.Command.TheVariants.{Wait, SMove}
-use Rattle.step_groups.proofs.Lists.{or_false}
 use Rattle.step_groups.proofs.Volatiles.{covers, one}
 use Rattle.step_groups.proofs.volatile.own_hull.Goals as goal
 

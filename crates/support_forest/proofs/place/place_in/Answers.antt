@@ -1,12 +1,12 @@
 use Rattle.std.proofs.Common.{arith, refl}
+use Rattle.vox_geom.proofs.Sums.{most_cube}
 use Rattle.support_forest.specs.Grid.{word_at}
-use Rattle.support_forest.proofs.Depth.{cube_small}
 use Rattle.support_forest.proofs.Placing.{placed_over, under_small}
 use Rattle.support_forest.proofs.place.place_in.Goals as goal
 
 pub overflow_add-beside : goal.overflow_add-beside
 overflow_add-beside g c =
-    let cube = cube_small c.args.cells.now.resolution c.recall.ensures.few in
+    let cube = most_cube c.args.cells.now.resolution c.recall.ensures.few in
     let low = under_small c.args.cells.now.resolution (word_at c.args.cells.now) c.args.c c.words_in-beside.result c.requires.can.exact cube c.words_in-beside.ensures.words (c.if-may_stand.ensures refl) in
     omega arith
 

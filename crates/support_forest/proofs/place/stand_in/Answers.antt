@@ -1,8 +1,8 @@
 use Rattle.std.proofs.Common.{◌+◌, ◌≤◌, arith, refl}
+use Rattle.vox_geom.proofs.Sums.{most_cube}
 use Rattle.support_forest.specs.declared.beside.Beside.{Beside}
 use Rattle.support_forest.specs.Grid.{word_at}
 use Rattle.support_forest.specs.Placing.{AreBesideWords, MayStand}
-use Rattle.support_forest.proofs.Depth.{cube_small}
 use Rattle.support_forest.proofs.Placing.{placed_over, under_small}
 use Rattle.support_forest.proofs.place.stand_in.Goals as goal
 
@@ -11,7 +11,7 @@ chunk-chunk-requires g c = c.recall.ensures.store.live _ c.args.slot c.requires.
 
 pub overflow_add-height : goal.overflow_add-height
 overflow_add-height g c =
-    let cube = cube_small c.args.cells.now.resolution c.recall.ensures.few in
+    let cube = most_cube c.args.cells.now.resolution c.recall.ensures.few in
     let beside : Beside = record { left = c.word_near-left.result; right = c.word_near-right.result; under = c.word_near-under.result; over = c.word_near-over.result; near = c.word_near-near.result; far = c.word_near-far.result } in
     let words : AreBesideWords (word_at c.args.cells.now) c.args.c beside = record {
       left = c.word_near-left.ensures.word;

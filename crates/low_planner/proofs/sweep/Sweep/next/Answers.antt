@@ -3,12 +3,13 @@ use Rattle.std.specs.Prelude.{Contains}
 use Rattle.std.proofs.lemmas.List.Elements.{Contains-push}
 use Rattle.vox_geom.specs.declared.coordinate.Coord.{Coord}
 use Rattle.vox_geom.specs.Space.{IsInSpace}
+use Rattle.vox_geom.proofs.Truths.{true_by_false}
 use Rattle.nano_spec.specs.Matrix.{Matrix, is_full}
 use Rattle.low_planner.specs.declared.sweep.Sweep.{Sweep}
 use Rattle.low_planner.specs.Sweep.{IsSweep, IsTrail, IsVisited}
 use Rattle.low_planner.proofs.Beside.{beside-sym}
 use Rattle.low_planner.proofs.Paths.{one_more}
-use Rattle.low_planner.proofs.Sweeps.{popped, still, taken}
+use Rattle.low_planner.proofs.Sweeps.{popped, taken}
 use Rattle.low_planner.proofs.Trails.{trail_last, trail_pop, trail_push}
 use Rattle.low_planner.proofs.sweep.Sweep.next.Goals as goal
 use Rattle.plan_tape.proofs.LegalModels.{full_within}
@@ -38,7 +39,7 @@ returns-in-Some-beside-clause-sweep c =
     let last = at_top m s end.0 top c.requires end.1 in
     let trail : t.trail.items ≡ (end.0 ++ top ∷ []) ++ at ∷ [] = takes.trail ∙ ap (λ (xs : List Coord). xs ++ at ∷ []) end.1 in
     taken m s t at c.requires takes same
-    (one_more m at top (still (is_full m at) (is_full s.remaining at) (c.requires.fewer at) near.1) (beside-sym top at near.0) (c.requires.supported top last.0))
+    (one_more m at top (true_by_false (is_full m at) (is_full s.remaining at) (c.requires.fewer at) near.1) (beside-sym top at near.0) (c.requires.supported top last.0))
     (near.0.level ∙ last.1)
     (subst (λ (xs : List Coord). IsTrail t.at xs) (sym trail) (subst (λ (q : Coord). IsTrail q ((end.0 ++ top ∷ []) ++ at ∷ [])) (sym same) (trail_push s.at end.0 top at (subst (IsTrail s.at) end.1 c.requires.trail) near.0)))
 

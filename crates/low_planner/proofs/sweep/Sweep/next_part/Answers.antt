@@ -1,10 +1,11 @@
 use Rattle.std.proofs.Common.{◌≡◌, List, [], ◌∷◌, ◌++◌, refl, sym, ◌∙◌, ap, subst}
 use Rattle.vox_geom.specs.declared.coordinate.Coord.{Coord}
+use Rattle.vox_geom.proofs.Truths.{true_by_false}
 use Rattle.nano_spec.specs.Matrix.{is_full}
 use Rattle.low_planner.specs.declared.sweep.Sweep.{Sweep}
 use Rattle.low_planner.specs.Sweep.{IsTrail}
 use Rattle.low_planner.proofs.Paths.{at_rest}
-use Rattle.low_planner.proofs.Sweeps.{moved, still, taken}
+use Rattle.low_planner.proofs.Sweeps.{moved, taken}
 use Rattle.low_planner.proofs.sweep.Sweep.next_part.Goals as goal
 
 pub returns-in_ok-take-in-Some-clause-sweep : goal.returns-in_ok-take-in-Some-clause-sweep
@@ -18,5 +19,5 @@ returns-in_ok-take-in-Some-clause-sweep c =
     let takes = c.in_ok-take-in-Some.ensures.takes in
     let trail : c.take.new.self.trail.items ≡ at ∷ [] = takes.trail ∙ ap (λ (xs : List Coord). xs ++ at ∷ []) c.requires.none in
     taken m mid c.take.new.self at here takes c.in_ok-take-in-Some.ensures.at
-    (at_rest m at (still (is_full m at) (is_full s.remaining at) (c.requires.sweep.fewer at) starts.here) starts.resting) refl
+    (at_rest m at (true_by_false (is_full m at) (is_full s.remaining at) (c.requires.sweep.fewer at) starts.here) starts.resting) refl
     (subst (λ (xs : List Coord). IsTrail c.take.new.self.at xs) (sym trail) (sym c.in_ok-take-in-Some.ensures.at, tt))

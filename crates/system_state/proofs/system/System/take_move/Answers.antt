@@ -4,13 +4,13 @@ use Rattle.vox_geom.specs.declared.coordinate.Coord.{Coord}
 use Rattle.vox_geom.specs.declared.difference.Diff.{Diff}
 use Rattle.vox_geom.specs.Point.{point, plus}
 use Rattle.vox_geom.specs.Space.{IsInSpace, coordinate, in_space}
+use Rattle.vox_geom.proofs.Truths.{first_of_two}
 use Rattle.nano_spec.specs.declared.commands.Command.TheVariants.{SMove}
 use Rattle.nano_spec.specs.declared.system.Bot.{Bot}
 use Rattle.nano_spec.specs.Bots.{moved}
 use Rattle.nano_spec.specs.State.{State}
 use Rattle.bot_crew.specs.Crew.{replaced}
 use Rattle.vox_planes.specs.Voxel.{IsWhole}
-use Rattle.step_order.proofs.Lists.{first}
 use Rattle.system_state.specs.Bounds.{IsWithin}
 use Rattle.system_state.specs.Effects.{IsFreeFor, MayTake}
 use Rattle.system_state.proofs.Still.{bots_moved, gone, moved_straight}
@@ -30,7 +30,7 @@ target-to-requires-clause-within c =
     let same : c.resolution.result ≡ c.args.self.now.matrix.resolution = c.resolution.ensures.value ∙ ap (λ (t : State). t.matrix.resolution) c.self.view_is in
     subst (λ r. IsTrue (in_space r (plus (point c.args.bot.pos) c.diff.result))) (sym same)
     (subst (λ (d : Diff). IsTrue (in_space s.matrix.resolution (plus (point c.args.bot.pos) d))) (sym c.diff.ensures.value)
-    (first (in_space s.matrix.resolution (plus (point c.args.bot.pos) c.args.d)) _ may.stays))
+    (first_of_two (in_space s.matrix.resolution (plus (point c.args.bot.pos) c.args.d)) _ may.stays))
 
 pub move_to-requires-clause-active : goal.move_to-requires-clause-active
 move_to-requires-clause-active c =

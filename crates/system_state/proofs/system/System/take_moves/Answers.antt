@@ -4,13 +4,13 @@ use Rattle.vox_geom.specs.declared.coordinate.Coord.{Coord}
 use Rattle.vox_geom.specs.declared.difference.Diff.{Diff}
 use Rattle.vox_geom.specs.Point.{Point, point, plus}
 use Rattle.vox_geom.specs.Space.{IsInSpace, coordinate, in_space}
+use Rattle.vox_geom.proofs.Truths.{first_of_two, second_of_two}
 use Rattle.nano_spec.specs.declared.commands.Command.TheVariants.{LMove}
 use Rattle.nano_spec.specs.declared.system.Bot.{Bot}
 use Rattle.nano_spec.specs.Bots.{moved}
 use Rattle.nano_spec.specs.State.{State}
 use Rattle.bot_crew.specs.Crew.{replaced}
 use Rattle.vox_planes.specs.Voxel.{IsWhole}
-use Rattle.step_order.proofs.Lists.{first, second}
 use Rattle.system_state.specs.Bounds.{IsWithin}
 use Rattle.system_state.specs.Effects.{IsFreeFor, MayTake}
 use Rattle.system_state.proofs.Still.{bots_moved_twice, gone, moved_twice}
@@ -32,7 +32,7 @@ target-middle-requires-clause-within c =
     let p : Point = point c.args.bot.pos in
     subst (λ n. IsTrue (in_space n (plus p c.diff.result))) (sym same)
     (subst (λ (d : Diff). IsTrue (in_space r (plus p d))) (sym c.diff.ensures.value)
-    (first (in_space r (plus p c.args.d)) (in_space r (plus (plus p c.args.d) c.args.e) && true) may.stays))
+    (first_of_two (in_space r (plus p c.args.d)) (in_space r (plus (plus p c.args.d) c.args.e) && true) may.stays))
 
 pub target-to-requires-clause-within : goal.target-to-requires-clause-within
 target-to-requires-clause-within c =
@@ -46,7 +46,7 @@ target-to-requires-clause-within c =
     let there : plus (point c.target-middle.result) c.diff-2.result ≡ q = λ i. plus (middle i) (c.diff-2.ensures.value i) in
     subst (λ n. IsTrue (in_space n (plus (point c.target-middle.result) c.diff-2.result))) (sym same)
     (subst (λ (w : Point). IsTrue (in_space r w)) (sym there)
-    (first (in_space r q) true (second (in_space r (plus p c.args.d)) (in_space r q && true) may.stays)))
+    (first_of_two (in_space r q) true (second_of_two (in_space r (plus p c.args.d)) (in_space r q && true) may.stays)))
 
 pub move_to-requires-clause-active : goal.move_to-requires-clause-active
 move_to-requires-clause-active c =
