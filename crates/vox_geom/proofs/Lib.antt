@@ -7,3 +7,4 @@ pub mod Adjacent
 pub mod Truths
 pub mod Tests
 pub mod Sums
+pub mod Points
