@@ -15,6 +15,7 @@ use Rattle.vox_geom.proofs.Sums.{two_to_next}
 use Rattle.nano_spec.specs.State.{is_seed, seed_list, seed_numbers, seed_set}
 use Rattle.step_order.proofs.Lists.{not_both}
 use Rattle.nano_spec.proofs.Seeds.{Rising, contains, none_below, seed_is, weaker, numbers_rise, filter_rises, filtered, none_above, same_filter, nothing_left}
+use Rattle.nano_spec.proofs.Alike.{list_rises}
 
 -- ---- sums
 
@@ -87,10 +88,6 @@ all_at w n h = same_seeds (seed_set (filter (is_seed n) (numbers_from 0 w))) n (
 pub set_of_list : (n : ℕ) → n < 2 ^ 64 → seed_set (seed_list n) ≡ n
 unfolding seed_numbers
 set_of_list n h = all_at 64 n h
-
-pub list_rises : (n : ℕ) → Rising 0 (seed_list n)
-unfolding seed_numbers
-list_rises n = filter_rises (is_seed n) 0 (numbers_from 0 64) (numbers_rise 0 64)
 
 pub same_list : (a b : ℕ) → ((k : ℕ) → is_seed a k ≡ is_seed b k) → seed_list a ≡ seed_list b
 unfolding seed_numbers

@@ -7,7 +7,7 @@ use Rattle.std.proofs.lemmas.List.{drop-drop}
 use Rattle.vox_geom.specs.declared.coordinate.Coord.{Coord}
 use Rattle.vox_geom.specs.Point.{point}
 use Rattle.vox_geom.specs.Space.{numbers_from}
-use Rattle.vox_geom.proofs.Truths.{false_by, first_of_two, one_of_two, second_of_two}
+use Rattle.vox_geom.proofs.Truths.{false_by, first_of_two, one_of_two, second_of_two, true_by_false}
 use Rattle.vox_geom.proofs.Tests.{test_equal}
 use Rattle.nano_spec.specs.declared.system.Bot.{Bot}
 use Rattle.nano_spec.specs.Bots.{fused, moved, newborn, parent}
@@ -15,10 +15,11 @@ use Rattle.nano_spec.specs.declared.system.Profile.{Profile}
 use Rattle.nano_spec.specs.State.{first_bot, is_seed, seed_list, seed_numbers, seed_set}
 use Rattle.nano_spec.proofs.Opening.{first_bid}
 use Rattle.nano_spec.proofs.Seeds.{Rising as NumbersRise, contains, none_below, seed_is, numbers_rise, filter_rises, drop_rises, take_rises, filtered, none_dropped, none_taken}
+use Rattle.nano_spec.proofs.Alike.{list_rises}
 use Rattle.step_order.proofs.Crews.{first_seed}
 use Rattle.step_order.proofs.Lists.{In, not_both, find_none}
+use Rattle.step_order.proofs.Kin.{of_list}
 use Rattle.bot_crew.specs.Crew.{IsBid, IsCrew, bot_at, stands_at}
-use Rattle.bot_crew.proofs.Bits.{list_rises}
 use Rattle.bot_crew.proofs.Kin.{IsHeir, IsKin, Own, crew_of}
 
 -- ---- who stands at a coordinate
@@ -64,14 +65,6 @@ module _ (bots : List Bot) (c : Coord) where
       by (Some b) g n = let r = found_in (stands_at c) bots b g in kin.apart e b i r.0 (f ∙ sym (stood c b r.1)) ∙ n
 
 -- ---- seeds
-
-seed_of : (n k : ℕ) → contains (seed_list n) k ≡ true → is_seed n k ≡ true
-unfolding seed_numbers
-seed_of n k h = first_of_two (is_seed n k) (contains (numbers_from 0 64) k) (sym (filtered (is_seed n) (numbers_from 0 64) k) ∙ h)
-
-was_there : (a b : Bool) → (a ≡ false → b ≡ false) → b ≡ true → a ≡ true
-was_there true b h e = refl
-was_there false b h e = absurd (not_both e (h refl))
 
 cut_apart : (m a : ℕ) (ks : List ℕ) (k : ℕ) → NumbersRise a ks → contains (take m ks) k ≡ true → contains (drop m ks) k ≡ true → ⊥
 cut_apart zero a ks k r e f = cc
@@ -127,10 +120,10 @@ module _ (bots : List Bot) (kin : IsKin bots) (b : Bot) (c : Coord) (m : ℕ) (i
   new_in k = seed_is 0 (take m (drop 1 (seed_list b.seeds))) (take_rises m 0 (drop 1 (seed_list b.seeds)) (drop_rises 1 0 (seed_list b.seeds) (list_rises b.seeds))) k
 
   old_seed : (k : ℕ) → is_seed (parent b m).seeds k ≡ true → is_seed b.seeds k ≡ true
-  old_seed k e = seed_of b.seeds k (was_there (contains (seed_list b.seeds) k) (contains (drop (m + 1) (seed_list b.seeds)) k) (none_dropped (m + 1) (seed_list b.seeds) k) (sym (old_in k) ∙ e))
+  old_seed k e = of_list b.seeds k (true_by_false (contains (seed_list b.seeds) k) (contains (drop (m + 1) (seed_list b.seeds)) k) (none_dropped (m + 1) (seed_list b.seeds) k) (sym (old_in k) ∙ e))
 
   new_seed : (k : ℕ) → is_seed (newborn b (point c) m).seeds k ≡ true → is_seed b.seeds k ≡ true
-  new_seed k e = seed_of b.seeds k (was_there (contains (seed_list b.seeds) k) (contains (take m (drop 1 (seed_list b.seeds))) k) (λ h. none_taken m (drop 1 (seed_list b.seeds)) k (none_dropped 1 (seed_list b.seeds) k h)) (sym (new_in k) ∙ e))
+  new_seed k e = of_list b.seeds k (true_by_false (contains (seed_list b.seeds) k) (contains (take m (drop 1 (seed_list b.seeds))) k) (λ h. none_taken m (drop 1 (seed_list b.seeds)) k (none_dropped 1 (seed_list b.seeds) k h)) (sym (new_in k) ∙ e))
 
   not_bid : (k : ℕ) → k ≡ b.bid → is_seed b.seeds k ≡ true → ⊥
   not_bid k e f = not_both f (ap (is_seed b.seeds) e ∙ kin.unborn b i)

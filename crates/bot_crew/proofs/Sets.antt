@@ -12,7 +12,8 @@ use Rattle.vox_geom.specs.Space.{numbers_from, numbers_below}
 use Rattle.vox_geom.proofs.Tests.{test_equal, test_unequal}
 use Rattle.nano_spec.specs.State.{is_seed, seed_list, seed_numbers, seed_set}
 use Rattle.nano_spec.proofs.Seeds.{same_filter}
-use Rattle.bot_crew.proofs.Bits.{seed_more, seed_join, set_of_list, list_rises, less_is, least_is, ones_are}
+use Rattle.nano_spec.proofs.Alike.{list_rises}
+use Rattle.bot_crew.proofs.Bits.{seed_more, seed_join, set_of_list, less_is, least_is, ones_are}
 
 pub ones_of : (n : ℕ) → n < 2 ^ 64 → count_ones n ≡ length (seed_list n)
 ones_of n h = ap count_ones (sym (set_of_list n h)) ∙ ones_are 0 (seed_list n) (list_rises n)

@@ -3,6 +3,7 @@ use Rattle.std.proofs.Common.{◌≡◌, ◌∙◌, ℕ, ◌+◌, Bool, true, fa
 use Rattle.std.specs.Prelude.{MatchBool, Result, Ok, Err}
 use Rattle.std.specs.Str.{bytes_eq}
 use Rattle.std.proofs.lemmas.Fmt.{decimal_injective}
+use Rattle.vox_geom.proofs.Truths.{true_and_false}
 use Rattle.nano_spec.specs.declared.commands.Command.{Command}
 use Rattle.nano_spec.specs.Line.{Fault, NotAscii, UnknownWord, Shape, Range, has_high_byte}
 use Rattle.nano_spec.specs.Reading.{FaultyLine}
@@ -45,25 +46,22 @@ has_word line Back h = rw h.parts_are refl
 has_word line Bots h = rw h.parts_are refl
 has_word line (Voxel c) h = rw h.parts_are refl
 
-no_both : (b : Bool) → b ≡ true → b ≡ false → ⊥
-no_both b t f = let e : true ≡ false = sym t ∙ f in cc
-
 -- ---- a line says one thing
 
 one_part_says : (r : ℕ) (line : List (List ℕ)) (a b : Result DebugLine Fault) → PartsSay r line a → PartsSay r line b → a ≡ b
 one_part_says r line (Ok x) (Ok y) h k = ap Ok (one_written line x y h.0 k.0)
-one_part_says r line (Ok x) (Err Range) h k = absurd (no_both (is_in_range r x) h.1 (ap (is_in_range r) (one_written line x k.0 h.0 k.1) ∙ k.2))
-one_part_says r line (Err Range) (Ok y) h k = absurd (no_both (is_in_range r y) k.1 (ap (is_in_range r) (one_written line y h.0 k.0 h.1) ∙ h.2))
+one_part_says r line (Ok x) (Err Range) h k = absurd (true_and_false (is_in_range r x) h.1 (ap (is_in_range r) (one_written line x k.0 h.0 k.1) ∙ k.2))
+one_part_says r line (Err Range) (Ok y) h k = absurd (true_and_false (is_in_range r y) k.1 (ap (is_in_range r) (one_written line y h.0 k.0 h.1) ∙ h.2))
 one_part_says r line (Ok x) (Err Shape) h k = absurd (k.1 x h.0)
 one_part_says r line (Err Shape) (Ok y) h k = absurd (h.1 y k.0)
 one_part_says r line (Err Range) (Err Shape) h k = absurd (k.1 h.0 h.1)
 one_part_says r line (Err Shape) (Err Range) h k = absurd (h.1 k.0 k.1)
-one_part_says r line (Ok x) (Err UnknownWord) h k = absurd (no_both (has_unknown_word line) k (has_word line x h.0))
-one_part_says r line (Err UnknownWord) (Ok y) h k = absurd (no_both (has_unknown_word line) h (has_word line y k.0))
-one_part_says r line (Err Range) (Err UnknownWord) h k = absurd (no_both (has_unknown_word line) k (has_word line h.0 h.1))
-one_part_says r line (Err UnknownWord) (Err Range) h k = absurd (no_both (has_unknown_word line) h (has_word line k.0 k.1))
-one_part_says r line (Err Shape) (Err UnknownWord) h k = absurd (no_both (has_unknown_word line) k h.0)
-one_part_says r line (Err UnknownWord) (Err Shape) h k = absurd (no_both (has_unknown_word line) h k.0)
+one_part_says r line (Ok x) (Err UnknownWord) h k = absurd (true_and_false (has_unknown_word line) k (has_word line x h.0))
+one_part_says r line (Err UnknownWord) (Ok y) h k = absurd (true_and_false (has_unknown_word line) h (has_word line y k.0))
+one_part_says r line (Err Range) (Err UnknownWord) h k = absurd (true_and_false (has_unknown_word line) k (has_word line h.0 h.1))
+one_part_says r line (Err UnknownWord) (Err Range) h k = absurd (true_and_false (has_unknown_word line) h (has_word line k.0 k.1))
+one_part_says r line (Err Shape) (Err UnknownWord) h k = absurd (true_and_false (has_unknown_word line) k h.0)
+one_part_says r line (Err UnknownWord) (Err Shape) h k = absurd (true_and_false (has_unknown_word line) h k.0)
 one_part_says r line (Err UnknownWord) (Err UnknownWord) h k = refl
 one_part_says r line (Err Shape) (Err Shape) h k = refl
 one_part_says r line (Err Range) (Err Range) h k = refl

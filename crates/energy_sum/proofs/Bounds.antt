@@ -23,6 +23,7 @@ use Rattle.nano_spec.specs.Group.{is_leader}
 use Rattle.nano_spec.specs.Matrix.{Matrix, all_of}
 use Rattle.nano_spec.specs.State.{State, is_high}
 use Rattle.nano_spec.specs.Step.{after}
+use Rattle.nano_spec.proofs.Codes.{far_bounds}
 use Rattle.energy_sum.specs.Costs.{filling_cost, voiding_cost}
 use Rattle.energy_sum.proofs.Prices.{filling-is, fulls, voiding-is, voids, voids-and-fulls}
 
@@ -36,10 +37,7 @@ record IsAtMost (k : ℕ) (z : ℤ) : Type 0 where
 
 -- ---- regions
 
-far_bounds : (d : Diff) → IsFar d → (unsigned_abs d.dx ≤ 30) × (unsigned_abs d.dy ≤ 30) × (unsigned_abs d.dz ≤ 30)
-far_bounds d h = grind (arith, nat_tests)
-
-extent_far : (a d : ℤ) → unsigned_abs d ≤ 30 → extent a (a +ℤ d) ≤ 31
+pub extent_far : (a d : ℤ) → unsigned_abs d ≤ 30 → extent a (a +ℤ d) ≤ 31
 extent_far a d h = omega (arith, ints)
 
 extent_just : (a : ℤ) → extent a a ≤ 31

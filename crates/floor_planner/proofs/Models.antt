@@ -7,26 +7,25 @@ use Rattle.vox_geom.specs.Point.{Point, point, coord}
 use Rattle.vox_geom.specs.Region.{Span, between, is_between, is_within}
 use Rattle.vox_geom.specs.Space.{IsInSpace}
 use Rattle.vox_geom.proofs.Truths.{false_by, first_of_two, second_of_two}
+use Rattle.vox_geom.proofs.Points.{space_by_test}
 use Rattle.nano_spec.specs.First.{FirstFailing}
 use Rattle.nano_spec.specs.Grounded.{FirstUngrounded, Grounded}
 use Rattle.nano_spec.specs.Legal.{IsLegal, in_legal_box}
 use Rattle.nano_spec.specs.Matrix.{Matrix, all_of, empty, is_full, matrix_where}
-use Rattle.nano_spec.proofs.Coordinates.{in_space-is}
 use Rattle.nano_spec.proofs.Opening.{legal_is}
+use Rattle.nano_spec.proofs.EmptyModel.{all_hold}
 use Rattle.step_order.proofs.Lists.{both, find_none, none_find, not_both}
 use Rattle.step_order.proofs.Voxels.{full_where, in_coordinates}
+use Rattle.plan_tape.proofs.LegalModels.{full_within}
 use Rattle.floor_planner.specs.Floor.{IsFlat}
-
-pub full_in_space : (m : Matrix) (c : Coord) → is_full m c ≡ true → IsInSpace m.resolution c
-full_in_space m c f = in_space-is m.resolution c (first_of_two _ _ f)
 
 -- a voxel that is full in the matrix of a test passes the test
 pub full_passes : (r : ℕ) (test : Coord → Bool) (c : Coord) → is_full (matrix_where r test) c ≡ true → test c ≡ true
-full_passes r test c f = sym (full_where r test c (full_in_space (matrix_where r test) c f)) ∙ f
+full_passes r test c f = sym (full_where r test c (full_within (matrix_where r test) c f)) ∙ f
 
 -- where none of the coordinates passes two tests and the first is passed, the second is not
 second_fails : (m : Matrix) (test : Coord → Bool) (c : Coord) → find (λ d. is_full m d && test d) (all_of m) ≡ None → is_full m c ≡ true → test c ≡ false
-second_fails m test c none f = false_by (test c) (λ t. not_both (both f t) (find_none (λ d. is_full m d && test d) c (all_of m) none (in_coordinates m.resolution c (full_in_space m c f))))
+second_fails m test c none f = false_by (test c) (λ t. not_both (both f t) (find_none (λ d. is_full m d && test d) c (all_of m) none (in_coordinates m.resolution c (full_within m c f))))
 
 -- ---- legal models
 
@@ -54,7 +53,7 @@ flat_at most x y z h k l e = grind (arith, nat_tests)
 -- where no voxel is full from the first layer on
 pub flat_where : (m : Matrix) (most : ℕ) (region : Span) → m.resolution ≤ most + 1 → ((p : Point) → is_within region p ≡ is_within (between (point (coord 0 1 0)) (point (coord most most most))) p) → find (λ c. is_full m c && is_within region (point c)) (all_of m) ≡ None → IsFlat m
 flat_where m most region l covers none = λ c f.
-    let i = full_in_space m c f in
+    let i = full_within m c f in
     let ix = i.x in let iy = i.y in let iz = i.z in
     flat_at most c.x c.y c.z (omega arith) (omega arith) (omega arith) (sym (covers (point c)) ∙ second_fails m (λ d. is_within region (point d)) c none f)
 
@@ -66,18 +65,6 @@ pub void_where : (m : Matrix) (most : ℕ) (region : Span) → 1 ≤ most → ((
 void_where m most region l covers flat = none_find (λ c. is_full m c && is_within region (point c)) (all_of m) (λ c i. false_by (is_full m c && is_within region (point c)) (λ t. not_both (second_of_two (is_full m c) (is_within region (point c)) t) (covers (point c) ∙ too_low most c.x c.y c.z l (flat c (first_of_two (is_full m c) (is_within region (point c)) t)))))
 
 pub flat_if_low : (m : Matrix) → m.resolution ≤ 1 → IsFlat m
-flat_if_low m l = λ c f. let i = full_in_space m c f in let y = i.y in omega arith
+flat_if_low m l = λ c f. let i = full_within m c f in let y = i.y in omega arith
 
 -- ---- the empty model
-
-pub empty_is_void : (r : ℕ) (c : Coord) → is_full (empty r) c ≡ false
-empty_is_void r c = false_by (is_full (empty r) c) (λ f. not_both (full_passes r (λ _. false) c f) refl)
-
-all_hold : (P : Coord → Type 0) (cs : List Coord) → ((c : Coord) → P c) → FirstFailing P cs None
-all_hold P [] h = tt
-all_hold P (c ∷ cs) h = (h c, all_hold P cs h)
-
-pub empty_is_grounded : (m : Matrix) (r : ℕ) → m ≡ empty r → FirstUngrounded m None
-empty_is_grounded m r e =
-    subst (λ (n : Matrix). FirstUngrounded n None) (sym e)
-    (all_hold (λ c. IsTrue (is_full (empty r) c) → Grounded (empty r) c) (all_of (empty r)) (λ c f. absurd (not_both f (empty_is_void r c))))

@@ -20,9 +20,10 @@ use Rattle.vox_planes.proofs.Voxels.{same_point-is}
 use Rattle.plan_tape.specs.Leg.{AreVoidTo, Moves, moves_to}
 use Rattle.plan_tape.specs.Progress.{TapeState, Writes, beside, spot, starting}
 use Rattle.floor_planner.specs.Floor.{IsFlat, IsSweptTo, is_passed, swept}
-use Rattle.floor_planner.proofs.Models.{border_is_void, empty_is_void, full_in_space, full_passes, layer_above}
+use Rattle.floor_planner.proofs.Models.{border_is_void, full_passes, layer_above}
 use Rattle.floor_planner.proofs.ClearWays.{area, ways_are_void}
 use Rattle.plan_tape.proofs.ClearWays.{moves_most}
+use Rattle.plan_tape.proofs.LegalModels.{empty_is_void, full_within}
 
 -- ---- which coordinates are passed
 
@@ -84,7 +85,7 @@ goes_on : (t : TapeState) (target : Matrix) (x z a b : ℕ) → IsSweptTo t targ
 goes_on t target x z a b s same more = record { source = s.source; matrix = s.matrix ∙ same_swept target x z a b same; profile = s.profile; high = s.high; alone = s.alone; placed = s.placed; above = s.above; few = let few = s.few in omega arith }
 
 pub row_ends : (t : TapeState) (target : Matrix) (x : ℕ) → IsSweptTo t target x target.resolution → IsSweptTo t target (x + 1) 0
-row_ends t target x s = goes_on t target x target.resolution (x + 1) 0 s (λ c f. let i = full_in_space target c f in after_row x target.resolution c.x c.z i.z) (omega arith)
+row_ends t target x s = goes_on t target x target.resolution (x + 1) 0 s (λ c f. let i = full_within target c f in after_row x target.resolution c.x c.z i.z) (omega arith)
 
 -- past a voxel that the target has not
 pub skipped : (t : TapeState) (target : Matrix) (x z : ℕ) → IsFlat target → IsSweptTo t target x z → is_full target (coord x 0 z) ≡ false → IsSweptTo t target x (z + 1)
@@ -95,7 +96,7 @@ skipped t target x z flat s void = goes_on t target x z x (z + 1) s (λ c f. ap 
 -- there is a place above a voxel that the target has
 pub place_above : (r : ℕ) (target : Matrix) (x z : ℕ) → IsLegal target → r ≡ target.resolution → is_full target (coord x 0 z) ≡ true → IsInSpace r (coord x 1 z)
 place_above r target x z legal e wanted =
-    let i = full_in_space target (coord x 0 z) wanted in
+    let i = full_within target (coord x 0 z) wanted in
     subst (λ n. IsInSpace n (coord x 1 z)) (sym e) (record { x = i.x; y = layer_above target (coord x 0 z) legal wanted; z = i.z })
 
 -- no way takes the tape past its limit

@@ -5,6 +5,7 @@ use Rattle.std.proofs.lemmas.Bool.Decides.{nat_tests}
 use Rattle.vox_geom.specs.declared.coordinate.Coord.{Coord}
 use Rattle.vox_geom.specs.Point.{Point, point, plus, same_number, coord, down}
 use Rattle.vox_geom.specs.Region.{Span, between, dimension, is_between, is_within, same_region}
+use Rattle.vox_geom.proofs.Points.{in_space_is, number_itself}
 use Rattle.nano_spec.specs.declared.commands.Command.{Command}
 use Rattle.nano_spec.specs.declared.system.Bot.{Bot}
 use Rattle.nano_spec.specs.Act.{Act, acts, position}
@@ -14,7 +15,6 @@ use Rattle.nano_spec.specs.Rules.{corners_of, repeats}
 use Rattle.nano_spec.specs.Spelling.{spellings}
 use Rattle.step_order.specs.Acting.{with_region}
 use Rattle.step_order.specs.Unbroken.{AreOneGroup, IsCornered, MayJoin}
-use Rattle.step_order.proofs.Voxels.{in_space_is}
 use Rattle.plan_tape.specs.Crowd.{AllStep, CanPaintAll}
 use Rattle.plan_tape.specs.Fissions.{is_fission}
 use Rattle.plan_tape.specs.Progress.{TapeState, spot, state_of}
@@ -24,9 +24,6 @@ use Rattle.group_planner.proofs.Pairs.{all_allowed, both_bots, spends, still_one
 use Rattle.group_planner.proofs.Written.{across, below, set_region, still_free}
 
 -- ---- the region below both bots
-
-itself : (a : ℕ) → same_number (pos a) (pos a) ≡ true
-itself a = grind (arith, nat_tests)
 
 others : (a b : ℕ) → a < b → same_number (pos a) (pos b) ≡ false
 others a b h = grind (arith, nat_tests)
@@ -39,13 +36,13 @@ region x y a b = between (point (coord x y a)) (point (coord x y b))
 
 -- it has two corners
 two_corners : (x y a b : ℕ) → a < b → 2 ≡ 2 ^ dimension (region x y a b)
-two_corners x y a b h = rw (itself x, itself y, others a b h) refl
+two_corners x y a b h = rw (number_itself x, number_itself y, others a b h) refl
 
 same_as_it : (x y a b : ℕ) → IsTrue (same_region (region x y a b) (region x y a b))
-same_as_it x y a b = rw (itself x, itself y, itself a, itself b) refl
+same_as_it x y a b = rw (number_itself x, number_itself y, number_itself a, number_itself b) refl
 
 same_turned : (x y a b : ℕ) → IsTrue (same_region (region x y b a) (region x y a b))
-same_turned x y a b = rw (itself x, itself y, itself a, itself b) (or_true (same_number (pos b) (pos a) && same_number (pos a) (pos b)))
+same_turned x y a b = rw (number_itself x, number_itself y, number_itself a, number_itself b) (or_true (same_number (pos b) (pos a) && same_number (pos a) (pos b)))
   where
     or_true : (t : Bool) → (t || true) ≡ true
     or_true true = refl
@@ -61,7 +58,7 @@ outside x y a b c h = by (is_between (pos x) (pos x) (pos c.x)) (is_between (pos
 
 -- no corner stands twice
 no_twice : (x y a b : ℕ) → a < b → repeats (point (coord x y a) ∷ point (coord x y b) ∷ []) ≡ false
-no_twice x y a b h = rw (itself x, itself y, others a b h) refl
+no_twice x y a b h = rw (number_itself x, number_itself y, others a b h) refl
 
 no_twice_at : (x y a b : ℕ) (p q : Point) → a < b → p ≡ point (coord x y a) → q ≡ point (coord x y b) → repeats (p ∷ q ∷ []) ≡ false
 no_twice_at x y a b p q h e f = subst (λ (u : Point). repeats (u ∷ q ∷ []) ≡ false) (sym e) (subst (λ (u : Point). repeats (point (coord x y a) ∷ u ∷ []) ≡ false) (sym f) (no_twice x y a b h))

@@ -10,6 +10,7 @@ use Rattle.vox_geom.specs.Point.{Point, point, plus, same_number, same_point, co
 use Rattle.vox_geom.specs.Space.{IsInSpace, coordinate, in_space}
 use Rattle.vox_geom.proofs.Truths.{both_true, or_by_second}
 use Rattle.vox_geom.proofs.Sums.{less_one, plus_none, plus_one}
+use Rattle.vox_geom.proofs.Points.{in_space_is, number_itself, point_itself}
 use Rattle.nano_spec.specs.declared.commands.Command.TheVariants.{Fission, FusionP, FusionS}
 use Rattle.nano_spec.specs.declared.system.Bot.{Bot}
 use Rattle.nano_spec.specs.declared.system.Harmonics.TheVariants.{High}
@@ -21,7 +22,6 @@ use Rattle.nano_spec.specs.State.{first_bot, seed_list, seed_numbers}
 use Rattle.nano_spec.specs.Step.{after}
 use Rattle.step_order.specs.Acting.{leaves_voxels}
 use Rattle.step_order.specs.Unbroken.{AreFree, IsFreeWay}
-use Rattle.step_order.proofs.Voxels.{in_space_is}
 use Rattle.plan_tape.specs.Fissions.{fissions}
 use Rattle.plan_tape.specs.Progress.{TapeState, spot, state_of, IsVoidFrom}
 use Rattle.plan_tape.proofs.Fissions.{fissions_more}
@@ -96,12 +96,6 @@ module _ (p : TapeState) (d : Diff) (e : d ≡ ahead (pos 1)) (alone : p.bots �
 
 -- ---- the pair joins
 
-itself : (a : ℕ) → same_number (pos a) (pos a) ≡ true
-itself a = grind (arith, nat_tests)
-
-same_itself : (c : Coord) → same_point (point c) (point c) ≡ true
-same_itself c = rw (itself c.x, itself c.y, itself c.z) refl
-
 -- what fuses stands where the primary stood
 stays_there : (bot : Bot) (partner : Option Act) → (after_fusion bot partner).pos ≡ bot.pos
 stays_there bot None = refl
@@ -127,7 +121,7 @@ module _ (p : TapeState) (d e : Diff) (ed : d ≡ ahead (pos 1)) (ee : e ≡ ahe
   pair_up a b ra rb =
       let to_b : plus (point a.pos) d ≡ point b.pos = ap (λ (c : Coord). plus (point c) d) (sym ra) ∙ (to_front ∙ ap point rb) in
       let to_a : plus (point b.pos) e ≡ point a.pos = ap (λ (c : Coord). plus (point c) e) (sym rb) ∙ (to_rear ∙ ap point ra) in
-      both_true (same_point (plus (point a.pos) d) (point b.pos)) (same_point (plus (point b.pos) e) (point a.pos)) (ap (λ (q : Point). same_point q (point b.pos)) to_b ∙ same_itself b.pos) (ap (λ (q : Point). same_point q (point a.pos)) to_a ∙ same_itself a.pos)
+      both_true (same_point (plus (point a.pos) d) (point b.pos)) (same_point (plus (point b.pos) e) (point a.pos)) (ap (λ (q : Point). same_point q (point b.pos)) to_b ∙ point_itself b.pos) (ap (λ (q : Point). same_point q (point a.pos)) to_a ∙ point_itself a.pos)
 
   pub join_calm : AreCalm p (FusionP d ∷ FusionS e ∷ [])
   join_calm =

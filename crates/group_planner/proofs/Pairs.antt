@@ -10,6 +10,7 @@ use Rattle.vox_geom.specs.Point.{Point, point, plus}
 use Rattle.vox_geom.specs.Region.{between, is_between}
 use Rattle.vox_geom.specs.Space.{IsInSpace, coordinate}
 use Rattle.vox_geom.proofs.Truths.{second_of_three as second}
+use Rattle.vox_geom.proofs.Points.{from_one_end, in_space_is}
 use Rattle.nano_spec.specs.declared.commands.Command.{Command}
 use Rattle.nano_spec.specs.declared.commands.Command.TheVariants.{Wait, SMove}
 use Rattle.nano_spec.specs.declared.system.Bot.{Bot}
@@ -21,7 +22,6 @@ use Rattle.nano_spec.specs.Spelling.{spellings}
 use Rattle.step_order.specs.Acting.{goal_of}
 use Rattle.step_order.specs.Apart.{LieApart, before_z}
 use Rattle.step_order.specs.Unbroken.{IsFreeWay, IsVoid}
-use Rattle.step_order.proofs.Voxels.{in_space_is}
 use Rattle.plan_tape.specs.declared.axis.Axis.{Axis}
 use Rattle.plan_tape.specs.declared.axis.Axis.TheVariants.{X, Y, Z}
 use Rattle.plan_tape.specs.Crowd.{AllStep, AreWaysApart, CanGo, CanMoveAll, MayGo, bots_gone}
@@ -110,12 +110,9 @@ moved_pair p q k l a b h s ea eb row free few none =
 
 -- ---- ways where all is void
 
-one_of : (a b v : ℕ) → IsTrue (is_between (pos a) (pos b) (pos v)) → (a ≤ v) ⊎ (b ≤ v)
-one_of a b v t = grind (arith, nat_tests)
-
 -- where all is void from both heights on, so is what lies between
 pub void_way : (m : Matrix) (a b : Coord) → IsVoidFrom m a.y → IsVoidFrom m b.y → IsVoid m (between (point a) (point b))
-void_way m a b v w = λ c t. by c (one_of a.y b.y c.y (second (is_between (pos a.x) (pos b.x) (pos c.x)) (is_between (pos a.y) (pos b.y) (pos c.y)) (is_between (pos a.z) (pos b.z) (pos c.z)) t))
+void_way m a b v w = λ c t. by c (from_one_end a.y b.y c.y (second (is_between (pos a.x) (pos b.x) (pos c.x)) (is_between (pos a.y) (pos b.y) (pos c.y)) (is_between (pos a.z) (pos b.z) (pos c.z)) t))
   where
     by : (c : Coord) → (a.y ≤ c.y) ⊎ (b.y ≤ c.y) → is_full m c ≡ false
     by c (inl h) = v c h

@@ -6,6 +6,7 @@ use Rattle.vox_geom.specs.declared.coordinate.Coord.{Coord}
 use Rattle.vox_geom.specs.Point.{Point, point, plus, coord, down}
 use Rattle.vox_geom.specs.Region.{Span, is_within, just}
 use Rattle.vox_geom.specs.Space.{IsInSpace, in_space}
+use Rattle.vox_geom.proofs.Points.{in_space_is}
 use Rattle.nano_spec.specs.declared.commands.Command.{Command}
 use Rattle.nano_spec.specs.declared.commands.Command.TheVariants.{Wait}
 use Rattle.nano_spec.specs.declared.system.Bot.{Bot}
@@ -19,7 +20,6 @@ use Rattle.nano_spec.specs.Volatile.{volatile_regions}
 use Rattle.step_order.specs.Acting.{goal_of, stays_one}
 use Rattle.step_order.specs.Apart.{LieApart}
 use Rattle.step_order.specs.Unbroken.{AreFree, MayAct}
-use Rattle.step_order.proofs.Voxels.{in_space_is}
 use Rattle.plan_tape.specs.Crowd.{AllStep, bots_gone}
 use Rattle.plan_tape.specs.Fissions.{is_fission}
 use Rattle.plan_tape.specs.Progress.{TapeState, spot, state_of}

@@ -7,18 +7,15 @@ use Rattle.vox_geom.specs.declared.coordinate.Coord.{Coord}
 use Rattle.vox_geom.specs.Point.{point, plus, coord}
 use Rattle.vox_geom.specs.Region.{between, is_between, is_within}
 use Rattle.vox_geom.specs.Space.{IsInSpace, in_space}
+use Rattle.vox_geom.proofs.Points.{between_is_equal, in_space_is, space_by_test}
 use Rattle.nano_spec.specs.Matrix.{Matrix, is_full}
 use Rattle.step_order.specs.Acting.{with_region}
-use Rattle.step_order.proofs.Voxels.{full_where, in_space_is}
+use Rattle.step_order.proofs.Voxels.{full_where}
 use Rattle.plan_tape.proofs.Parts.{void_out}
 use Rattle.group_planner.specs.Pair.{AreSet, in_part}
 use Rattle.plan_tape.specs.Progress.{IsVoidFrom}
-use Rattle.nano_spec.proofs.Coordinates.{in_space-is}
 
 -- ---- regions along z
-
-just_at : (a v : ℕ) → is_between (pos a) (pos a) (pos v) ≡ (v == a)
-just_at a v = grind (arith, nat_tests)
 
 from_to : (a b v : ℕ) → a ≤ b → is_between (pos a) (pos b) (pos v) ≡ (nat_le a v && nat_lt v (b + 1))
 from_to a b v h = grind (arith, nat_tests)
@@ -29,7 +26,7 @@ flat true false u v = refl
 flat false t u v = refl
 
 part_is : (x y a b : ℕ) (c : Coord) → a ≤ b → is_within (between (point (coord x y a)) (point (coord x y b))) (point c) ≡ in_part x y a (b + 1) c
-part_is x y a b c h = (λ i. just_at x c.x i && just_at y c.y i && from_to a b c.z h i) ∙ flat (c.x == x) (c.y == y) (nat_le a c.z) (nat_lt c.z (b + 1))
+part_is x y a b c h = (λ i. between_is_equal x c.x i && between_is_equal y c.y i && from_to a b c.z h i) ∙ flat (c.x == x) (c.y == y) (nat_le a c.z) (nat_lt c.z (b + 1))
 
 out_of_part : (r x y a b : ℕ) (c : Coord) → x < r → y < r → b < r → in_space r (point c) ≡ false → in_part x y a (b + 1) c ≡ false
 out_of_part r x y a b c hx hy hb o = by (in_part x y a (b + 1) c) refl
@@ -62,7 +59,7 @@ pub set_by : (n m : Matrix) (x y a b : ℕ) (full : Bool) → n.resolution ≡ m
 set_by n m x y a b full e hx hy hb hab h = λ c. by c (in_space m.resolution (point c)) refl
   where
     by : (c : Coord) (t : Bool) → in_space m.resolution (point c) ≡ t → is_full n c ≡ cond (in_part x y a (b + 1) c) full (is_full m c)
-    by c true i = h c (in_space-is m.resolution c i) ∙ ap (λ t. cond t full (is_full m c)) (part_is x y a b c hab)
+    by c true i = h c (space_by_test m.resolution c i) ∙ ap (λ t. cond t full (is_full m c)) (part_is x y a b c hab)
     by c false o = void_out m.resolution n c e o ∙ sym (ap (λ t. cond t full (is_full m c)) (out_of_part m.resolution x y a b c hx hy hb o) ∙ void_out m.resolution m c refl o)
 
 pub set_region : (m : Matrix) (x y a b : ℕ) (full : Bool) → x < m.resolution → y < m.resolution → b < m.resolution → a ≤ b → AreSet (with_region m (between (point (coord x y a)) (point (coord x y b))) full) m (in_part x y a (b + 1)) full

@@ -7,8 +7,9 @@ use Rattle.vox_geom.specs.Point.{point, same_point, same_number}
 use Rattle.vox_geom.specs.Space.{IsInSpace, in_space}
 use Rattle.vox_geom.proofs.Truths.{no_first as none, parts_of_three}
 use Rattle.vox_geom.proofs.Tests.{equal_by_test}
+use Rattle.vox_geom.proofs.Points.{in_space_is, space_by_test}
 use Rattle.nano_spec.specs.Matrix.{Matrix, is_full}
-use Rattle.step_order.proofs.Voxels.{full_where, in_space_is}
+use Rattle.step_order.proofs.Voxels.{full_where}
 use Rattle.vox_planes.specs.Voxel.{with_voxel}
 use Rattle.plan_tape.specs.Leg.{moves_to}
 use Rattle.plan_tape.specs.Progress.{TapeState, spot}
@@ -16,7 +17,6 @@ use Rattle.layer_planner.specs.Painting.{CanPaint, CanSweep, IsPartlyBuilt, Pain
 use Rattle.plan_tape.specs.Parts.{below_layer, in_layer, in_row, layer, is_in_line, voxel}
 use Rattle.plan_tape.proofs.ClearWays.{moves_on}
 use Rattle.plan_tape.proofs.Parts.{void_past_x, void_past_z}
-use Rattle.nano_spec.proofs.Coordinates.{in_space-is}
 
 -- ---- one voxel
 
@@ -51,7 +51,7 @@ full_with m c b q i = by (in_space m.resolution (point q)) refl
   where
     by : (s : Bool) → in_space m.resolution (point q) ≡ s → is_full (with_voxel m c b) q ≡ cond (voxel c.x c.y c.z q) b (is_full m q)
     by true s =
-        full_where m.resolution (λ d. cond (same_point (point d) (point c)) b (is_full m d)) q (in_space-is m.resolution q s)
+        full_where m.resolution (λ d. cond (same_point (point d) (point c)) b (is_full m d)) q (space_by_test m.resolution q s)
         ∙ ap (λ t. cond t b (is_full m q)) (here_is q c)
     by false s =
         none (in_space m.resolution (point q)) _ s

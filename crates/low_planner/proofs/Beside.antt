@@ -7,6 +7,7 @@ use Rattle.vox_geom.specs.Point.{are_adjacent, coord}
 use Rattle.nano_spec.specs.Matrix.{Matrix, is_full}
 use Rattle.low_planner.specs.Sweep.{AreBesideInLayer}
 use Rattle.vox_geom.proofs.Adjacent.{Side, adjacent-sym, adjacent_by, right, above, ahead, left, below, behind, side_of}
+use Rattle.vox_geom.proofs.Points.{coordinate_by_parts}
 
 -- a voxel and the one right above it are adjacent
 pub adjacent_below : (c b : Coord) → b.x ≡ c.x → b.z ≡ c.z → c.y ≡ b.y + 1 → IsTrue (are_adjacent c b)
@@ -31,15 +32,12 @@ beside_gap a b h = by (side_of a b h.adjacent) h.level
     by (below x y z) l = absurd (omega arith)
     by (behind x y z) l = omega arith
 
-same : (a b : Coord) → a.x ≡ b.x → a.y ≡ b.y → a.z ≡ b.z → a ≡ b
-same a b x y z = λ i. record { x = x i; y = y i; z = z i }
-
 -- none of the four is full
 pub none_beside : (m : Matrix) (c : Coord) → is_full m (coord c.x c.y (c.z + 1)) ≡ false → (0 < c.z → is_full m (coord c.x c.y (c.z - 1)) ≡ false) → is_full m (coord (c.x + 1) c.y c.z) ≡ false → (0 < c.x → is_full m (coord (c.x - 1) c.y c.z) ≡ false) → (d : Coord) → AreBesideInLayer c d → is_full m d ≡ false
 none_beside m c e f g h d b = by (beside_gap c d b) b.level (cases_lt c.x d.x) (cases_lt d.x c.x) (cases_lt c.z d.z)
   where
     at : (x y z : ℕ) → d.x ≡ x → d.y ≡ y → d.z ≡ z → is_full m (coord x y z) ≡ false → is_full m d ≡ false
-    at x y z i j k v = subst (λ (q : Coord). is_full m q ≡ false) (sym (same d (coord x y z) i j k)) v
+    at x y z i j k v = subst (λ (q : Coord). is_full m q ≡ false) (sym (coordinate_by_parts d (coord x y z) i j k)) v
 
     by : ((c.x - d.x) + (d.x - c.x)) + ((c.z - d.z) + (d.z - c.z)) ≡ 1 → d.y ≡ c.y → ((c.x < d.x) ⊎ (d.x ≤ c.x)) → ((d.x < c.x) ⊎ (c.x ≤ d.x)) → ((c.z < d.z) ⊎ (d.z ≤ c.z)) → is_full m d ≡ false
     by s l (inl x) y z = at (c.x + 1) c.y c.z (omega arith) l (omega arith) g

@@ -22,19 +22,20 @@ use Rattle.low_planner.specs.Supported.{FirstUnsupported}
 use Rattle.low_planner.specs.Sweep.{BeginsPart, EndsSweep, TurnsBack, GoesOn, IsSweep, IsTrail, IsVisited, LosesVoxel, reach}
 use Rattle.low_planner.proofs.Beside.{adjacent_below, beside-sym}
 use Rattle.low_planner.proofs.Counts.{one_less}
-use Rattle.low_planner.proofs.Grounds.{empty_is_void, is_supported, set_here, set_other}
-use Rattle.low_planner.proofs.Sweeps.{in_none, none_left, same_or_not}
+use Rattle.low_planner.proofs.Grounds.{is_supported, set_here, set_other}
+use Rattle.low_planner.proofs.Sweeps.{in_none, none_left}
 use Rattle.vox_geom.specs.Point.{below}
 use Rattle.vox_geom.proofs.Truths.{anything_by, true_by_false}
 use Rattle.vox_geom.proofs.Tests.{positive_by_test, zero_by_test}
 use Rattle.vox_geom.proofs.Sums.{most_cube}
+use Rattle.vox_geom.proofs.Points.{same_or_not}
 use Rattle.low_planner.proofs.Reach.{above_in_space, moves_paid, one_move, reach_most}
 use Rattle.plan_tape.proofs.ClearWays.{moves_most}
-use Rattle.plan_tape.proofs.LegalModels.{full_within}
+use Rattle.plan_tape.proofs.LegalModels.{empty_is_void, full_within}
 
 -- ---- how many voxels there are at most
 
-length_all : {X : Type 0} (f : ℕ → X) (n a : ℕ) → length (map f (numbers_from a n)) ≡ n
+pub length_all : {X : Type 0} (f : ℕ → X) (n a : ℕ) → length (map f (numbers_from a n)) ≡ n
 length_all f zero a = refl
 length_all f (suc n) a = let e : length (map f (numbers_from (a + 1) n)) ≡ n = length_all f n (a + 1) in ap suc e
 

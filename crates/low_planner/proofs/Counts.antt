@@ -7,8 +7,8 @@ use Rattle.std.proofs.lemmas.Bool.{cases_eq}
 use Rattle.vox_geom.specs.declared.coordinate.Coord.{Coord}
 use Rattle.vox_geom.specs.Space.{place, coordinate_at, coordinates, numbers_from}
 use Rattle.vox_geom.proofs.Places.{coordinate_at-place, place-coordinate_at}
+use Rattle.vox_geom.proofs.Firsts.{place_below}
 use Rattle.nano_spec.specs.Matrix.{Matrix, is_full, full_count}
-use Rattle.step_order.proofs.Voxels.{place_below}
 use Rattle.low_planner.specs.declared.sweep.Sweep.{Sweep}
 use Rattle.low_planner.specs.declared.sweep.Visit.{Visit}
 use Rattle.low_planner.specs.declared.sweep.Visit.TheVariants.{First, Onward, Back}

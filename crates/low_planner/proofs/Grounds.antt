@@ -5,19 +5,17 @@ use Rattle.vox_geom.specs.declared.coordinate.Coord.{Coord}
 use Rattle.vox_geom.specs.Point.{are_adjacent, point, same_point}
 use Rattle.vox_geom.specs.Space.{IsInSpace, in_space}
 use Rattle.vox_geom.proofs.Truths.{first_of_two, no_first, second_of_two}
+use Rattle.vox_geom.proofs.Points.{coordinate_by_test, point_itself, same_or_not, space_by_test}
 use Rattle.nano_spec.specs.First.{FirstFailing}
 use Rattle.nano_spec.specs.Grounded.{FirstUngrounded, Grounded, begins_at, is_path}
 use Rattle.nano_spec.specs.Matrix.{Matrix, all_of, empty, is_full}
-use Rattle.nano_spec.proofs.Coordinates.{in_space-is}
-use Rattle.nano_spec.proofs.Island.{same_coordinate}
+use Rattle.nano_spec.proofs.ForgeLegal.{on_floor, one_more}
 use Rattle.step_order.proofs.Lists.{In}
 use Rattle.step_order.proofs.Voxels.{full_where, in_coordinates}
 use Rattle.vox_planes.specs.Voxel.{with_voxel}
 use Rattle.low_planner.specs.Build.{IsCarried}
 use Rattle.low_planner.specs.Supported.{FirstUnsupported, IsSupported}
-use Rattle.low_planner.proofs.Paths.{by_another, on_floor, self_same}
-use Rattle.low_planner.proofs.Sweeps.{same_or_not}
-use Rattle.plan_tape.proofs.LegalModels.{full_within}
+use Rattle.plan_tape.proofs.LegalModels.{empty_is_void, full_within}
 
 -- ---- what holds of each
 
@@ -43,16 +41,16 @@ differ d c n = by (same_point (point d) (point c)) refl
   where
     by : (b : Bool) → same_point (point d) (point c) ≡ b → b ≡ false
     by false e = refl
-    by true e = absurd (n (same_coordinate d c e))
+    by true e = absurd (n (coordinate_by_test d c e))
 
 pub set_here : (m : Matrix) (c : Coord) (b : Bool) → IsInSpace m.resolution c → is_full (with_voxel m c b) c ≡ b
-set_here m c b i = full_where m.resolution (λ d. cond (same_point (point d) (point c)) b (is_full m d)) c i ∙ ap (λ t. cond t b (is_full m c)) (self_same c)
+set_here m c b i = full_where m.resolution (λ d. cond (same_point (point d) (point c)) b (is_full m d)) c i ∙ ap (λ t. cond t b (is_full m c)) (point_itself c)
 
 pub set_other : (m : Matrix) (c d : Coord) (b : Bool) → (d ≡ c → ⊥) → is_full (with_voxel m c b) d ≡ is_full m d
 set_other m c d b n = by (in_space m.resolution (point d)) refl
   where
     by : (s : Bool) → in_space m.resolution (point d) ≡ s → is_full (with_voxel m c b) d ≡ is_full m d
-    by true s = full_where m.resolution (λ e. cond (same_point (point e) (point c)) b (is_full m e)) d (in_space-is m.resolution d s) ∙ ap (λ t. cond t b (is_full m d)) (differ d c n)
+    by true s = full_where m.resolution (λ e. cond (same_point (point e) (point c)) b (is_full m e)) d (space_by_test m.resolution d s) ∙ ap (λ t. cond t b (is_full m d)) (differ d c n)
     by false s = no_first (in_space m.resolution (point d)) _ s ∙ sym (no_first (in_space m.resolution (point d)) _ s)
 
 -- where more is full, what was grounded still is
@@ -87,20 +85,13 @@ filled_is_grounded m c i h carried = each_holds (λ d. IsTrue (is_full (with_vox
 
     here : (d : Coord) → d ≡ c → IsTrue (is_full (with_voxel m c true) d) → IsCarried m c → Grounded (with_voxel m c true) d
     here d e f (inl y) = on_floor (with_voxel m c true) d f (ap (λ (q : Coord). q.y) e ∙ y)
-    here d e f (inr b) = by_another (with_voxel m c true) d b.0 f (subst (λ (q : Coord). IsTrue (are_adjacent q b.0)) (sym e) b.2) (stays_grounded m (with_voxel m c true) more b.0 (is_grounded m b.0 h b.1))
+    here d e f (inr b) = one_more (with_voxel m c true) d b.0 f (subst (λ (q : Coord). IsTrue (are_adjacent q b.0)) (sym e) b.2) (stays_grounded m (with_voxel m c true) more b.0 (is_grounded m b.0 h b.1))
 
     of : (d : Coord) → IsTrue (is_full (with_voxel m c true) d) → (d ≡ c) ⊎ (d ≡ c → ⊥) → Grounded (with_voxel m c true) d
     of d f (inl e) = here d e f carried
     of d f (inr u) = stays_grounded m (with_voxel m c true) more d (is_grounded m d h (sym (set_other m c d true u) ∙ f))
 
 -- ---- nothing is full
-
-pub empty_is_void : (r : ℕ) (c : Coord) → is_full (empty r) c ≡ false
-empty_is_void r c = by (in_space r (point c)) refl
-  where
-    by : (s : Bool) → in_space r (point c) ≡ s → is_full (empty r) c ≡ false
-    by true s = full_where r (λ _. false) c (in_space-is r c s)
-    by false s = no_first (in_space r (point c)) _ s
 
 pub empty_is_grounded : (r : ℕ) (m : Matrix) → m ≡ empty r → FirstUngrounded m None
 empty_is_grounded r m e = each_holds (λ d. IsTrue (is_full m d) → Grounded m d) (all_of m) (λ d f. absurd (contrary (is_full m d) f (ap (λ (n : Matrix). is_full n d) e ∙ empty_is_void r d)))

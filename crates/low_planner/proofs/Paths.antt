@@ -6,15 +6,12 @@ use Rattle.vox_geom.specs.declared.coordinate.Coord.{Coord}
 use Rattle.vox_geom.specs.Point.{are_adjacent, point, same_point}
 use Rattle.vox_geom.proofs.Truths.{first_of_two, second_of_two}
 use Rattle.vox_geom.proofs.Tests.{test_equal}
+use Rattle.vox_geom.proofs.Points.{coordinate_by_test, point_itself}
 use Rattle.nano_spec.specs.Grounded.{Grounded}
 use Rattle.nano_spec.specs.Grounded as grounded
 use Rattle.nano_spec.specs.Matrix.{Matrix, is_full}
-use Rattle.nano_spec.proofs.Island.{same_coordinate}
 use Rattle.low_planner.specs.Sweep.{AreBesideInLayer}
 use Rattle.low_planner.specs.Supported.{IsSupported, is_layer_path, rests}
-
-pub self_same : (c : Coord) → same_point (point c) (point c) ≡ true
-self_same c = grind (arith, nat_tests)
 
 same_number : (a b : ℕ) → IsTrue (a == b) → a ≡ b
 same_number a b e = grind (arith, nat_tests)
@@ -22,15 +19,15 @@ same_number a b e = grind (arith, nat_tests)
 -- ---- to a voxel that rests
 
 pub at_rest : (m : Matrix) (c : Coord) → IsTrue (is_full m c) → IsTrue (rests m c) → IsSupported m c
-at_rest m c f r = (c ∷ [], rw (self_same c, f) r)
+at_rest m c f r = (c ∷ [], rw (point_itself c, f) r)
 
 pub one_more : (m : Matrix) (a b : Coord) → IsTrue (is_full m a) → AreBesideInLayer a b → IsSupported m b → IsSupported m a
 one_more m a b f n ([], h) = cc
 one_more m a b f n (d ∷ path, h) =
-    let same : b ≡ d = same_coordinate b d (first_of_two (same_point (point b) (point d)) (is_layer_path m (d ∷ path)) h) in
+    let same : b ≡ d = coordinate_by_test b d (first_of_two (same_point (point b) (point d)) (is_layer_path m (d ∷ path)) h) in
     let next : IsTrue (are_adjacent a d) = subst (λ (v : Coord). IsTrue (are_adjacent a v)) same n.adjacent in
     let level : (a.y == d.y) ≡ true = test_equal a.y d.y (sym n.level ∙ ap (λ (v : Coord). v.y) same) in
-    (a ∷ d ∷ path, rw (self_same a, f, next, level) (second_of_two (same_point (point b) (point d)) (is_layer_path m (d ∷ path)) h))
+    (a ∷ d ∷ path, rw (point_itself a, f, next, level) (second_of_two (same_point (point b) (point d)) (is_layer_path m (d ∷ path)) h))
 
 -- what holds of each full voxel that rests, and of each full voxel beside one of which it holds, holds of each voxel of a supported part
 module _ (m : Matrix) (P : Coord → Type 0) (rest : (a : Coord) → IsTrue (is_full m a) → IsTrue (rests m a) → P a) (more : (a b : Coord) → IsTrue (is_full m a) → IsTrue (is_full m b) → AreBesideInLayer a b → P b → P a) where
@@ -51,17 +48,7 @@ module _ (m : Matrix) (P : Coord → Type 0) (rest : (a : Coord) → IsTrue (is_
   pub in_part : (c : Coord) → IsSupported m c → P c
   in_part c ([], h) = cc
   in_part c (d ∷ path, h) =
-      let same : c ≡ d = same_coordinate c d (first_of_two (same_point (point c) (point d)) (is_layer_path m (d ∷ path)) h) in
+      let same : c ≡ d = coordinate_by_test c d (first_of_two (same_point (point c) (point d)) (is_layer_path m (d ∷ path)) h) in
       subst P (sym same) (along d path (second_of_two (same_point (point c) (point d)) (is_layer_path m (d ∷ path)) h))
 
 -- ---- to the floor
-
-pub on_floor : (m : Matrix) (c : Coord) → IsTrue (is_full m c) → c.y ≡ 0 → Grounded m c
-on_floor m c f e = (c ∷ [], rw (self_same c, f) (test_equal c.y 0 e))
-
-pub by_another : (m : Matrix) (a b : Coord) → IsTrue (is_full m a) → IsTrue (are_adjacent a b) → Grounded m b → Grounded m a
-by_another m a b f n ([], h) = cc
-by_another m a b f n (d ∷ path, h) =
-    let same : b ≡ d = same_coordinate b d (first_of_two (same_point (point b) (point d)) (grounded.is_path m (d ∷ path)) h) in
-    let next : IsTrue (are_adjacent a d) = subst (λ (v : Coord). IsTrue (are_adjacent a v)) same n in
-    (a ∷ d ∷ path, rw (self_same a, f, next) (second_of_two (same_point (point b) (point d)) (grounded.is_path m (d ∷ path)) h))

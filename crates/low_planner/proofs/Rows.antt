@@ -11,6 +11,7 @@ use Rattle.vox_geom.specs.Region.{Corners, corners, is_within, span}
 use Rattle.vox_geom.specs.Space.{IsInSpace, is_before}
 use Rattle.vox_geom.proofs.Truths.{false_by, first_of_two as left, second_of_two}
 use Rattle.nano_spec.specs.Matrix.{Matrix, all_of, is_full}
+use Rattle.step_order.proofs.Lists.{not_both}
 use Rattle.low_planner.specs.Supported.{rests}
 use Rattle.plan_tape.specs.Leg.{distance}
 use Rattle.low_planner.specs.declared.sweep.Sweep.{Sweep}
@@ -44,9 +45,6 @@ box_from low high c h =
 row_end : ℕ → Coord → Coord
 row_end e from = coord from.x from.y e
 
-both_ways : {b : Bool} → b ≡ true → b ≡ false → ⊥
-both_ways e f = let g = sym e ∙ f in cc
-
 before_in_row : (d c : Coord) → d.x ≡ c.x → d.y ≡ c.y → d.z < c.z → is_before d c ≡ true
 before_in_row d c x y z = rw (same_as d.x c.x x, same_as d.y c.y y) (less d.z c.z z)
   where
@@ -63,7 +61,7 @@ module _ (m : Matrix) (from : Coord) (e : ℕ) (end : e + 1 ≡ m.resolution) wh
       rw f (box_by from (coord from.x from.y e) d (omega arith) (omega arith) (omega arith) (omega arith) z (omega arith))
 
   found_in_row : (o : Option Coord) → LeastOf m.resolution (λ c. is_full m c && in_box from (coord from.x from.y e) c) o → MatchOption o (IsVoidRow m from) (IsNextFull m from)
-  found_in_row None h = λ d x y z. false_by (is_full m d) (λ f. both_ways (in_row d f x y z) (h d (full_within m d f)))
+  found_in_row None h = λ d x y z. false_by (is_full m d) (λ f. not_both (in_row d f x y z) (h d (full_within m d f)))
   found_in_row (Some c) h =
       let p = box_from from (coord from.x from.y e) c (second_of_two (is_full m c) (in_box from (coord from.x from.y e) c) h.passes) in
       let cx : c.x ≡ from.x = omega (arith, p.0, p.1) in
@@ -74,7 +72,7 @@ module _ (m : Matrix) (from : Coord) (e : ℕ) (end : e + 1 ≡ m.resolution) wh
         y = cy;
         z = p.4;
         full = left (is_full m c) (in_box from (coord from.x from.y e) c) h.passes;
-        first = λ d x y z l. false_by (is_full m d) (λ f. both_ways (before_in_row d c (x ∙ sym cx) (y ∙ sym cy) l) (h.least d (full_within m d f) (in_row d f x y z)));
+        first = λ d x y z l. false_by (is_full m d) (λ f. not_both (before_in_row d c (x ∙ sym cx) (y ∙ sym cy) l) (h.least d (full_within m d f) (in_row d f x y z)));
       }
 
 pub next_full_is : (m : Matrix) (k : Corners) (from : Coord) (e : ℕ) (o : Option Coord) → IsInSpace m.resolution from → e + 1 ≡ m.resolution → k ≡ corners from (coord from.x from.y e) → o ≡ find (λ c. is_full m c && is_within (span k) (point c)) (all_of m) → MatchOption o (IsVoidRow m from) (IsNextFull m from)
@@ -112,7 +110,7 @@ module _ (m left : Matrix) (from at c : Coord) (x : at.x ≡ from.x) (y : at.y �
       by (no ne) = before_next n d dx dy l (omega arith) s
       by (yes e) =
           let same : d ≡ c = (λ i. record { x = (dx ∙ sym (n.x ∙ x)) i; y = (dy ∙ sym (n.y ∙ y)) i; z = e i }) in
-          absurd (both_ways (subst (λ (q : Coord). IsTrue (rests m q)) same s) r)
+          absurd (not_both (subst (λ (q : Coord). IsTrue (rests m q)) same s) r)
 
 -- where none is full from there on
 pub swept_all : (m left : Matrix) (from at : Coord) (end : ℕ) → at.x ≡ from.x → at.y ≡ from.y → IsSweptRow m left from at.z → IsVoidRow left at → IsSweptRow m left from end
@@ -179,7 +177,7 @@ start_is m s from c near up swept h = record {
 
 -- past the last layer
 pub swept_past : (m left : Matrix) (from : Coord) → left.resolution ≡ m.resolution → m.resolution ≤ from.y → AreSwept m left from → AreAllSwept m left
-swept_past m left from e h swept c r = false_by (is_full left c) (λ f. both_ways f (swept.layers c (let i = (full_within left c f).y in omega arith) r))
+swept_past m left from e h swept c r = false_by (is_full left c) (λ f. not_both f (swept.layers c (let i = (full_within left c f).y in omega arith) r))
 
 pub row_up : (r : ℕ) (from next : Coord) → IsNextRow r from next → from.y ≤ next.y
 row_up r from next h = by h.forth

@@ -8,22 +8,15 @@ use Rattle.vox_geom.specs.Least.{LeastOf}
 use Rattle.vox_geom.specs.Space.{IsInSpace, coordinates}
 use Rattle.vox_geom.proofs.Firsts.{first_is}
 use Rattle.vox_geom.proofs.Truths.{anything_by, true_by_false}
+use Rattle.vox_geom.proofs.Points.{same_or_not}
 use Rattle.nano_spec.specs.First.{FirstFailing}
 use Rattle.nano_spec.specs.Matrix.{Matrix, all_of, is_full}
+use Rattle.model_file.proofs.Spreads.{first_failing}
 use Rattle.low_planner.specs.declared.sweep.Sweep.{Sweep}
 use Rattle.low_planner.specs.Supported.{FirstUnsupported, IsSupported, rests}
 use Rattle.low_planner.specs.Sweep.{AreAllSwept, AreSwept, AreBesideInLayer, IsSweep, IsTrail, IsVisited, TakesVoxel}
 use Rattle.low_planner.proofs.Beside.{beside-sym}
 use Rattle.low_planner.proofs.Paths.{in_part}
-
-pub same_or_not : (c d : Coord) → (c ≡ d) ⊎ (c ≡ d → ⊥)
-same_or_not c d = by (ℕ_discrete c.x d.x) (ℕ_discrete c.y d.y) (ℕ_discrete c.z d.z)
-  where
-    by : Dec (c.x ≡ d.x) → Dec (c.y ≡ d.y) → Dec (c.z ≡ d.z) → (c ≡ d) ⊎ (c ≡ d → ⊥)
-    by (yes e) (yes f) (yes g) = inl (λ i. record { x = e i; y = f i; z = g i })
-    by (yes e) (yes f) (no n) = inr (λ h. n (ap (λ (q : Coord). q.z) h))
-    by (yes e) (no n) g = inr (λ h. n (ap (λ (q : Coord). q.y) h))
-    by (no n) f g = inr (λ h. n (ap (λ (q : Coord). q.x) h))
 
 pub in_none : {X : Type 0} (xs : List X) (x : X) → xs ≡ [] → Contains xs x → ⊥
 in_none xs x e h = let l : length xs ≡ 0 = ap length e in omega (arith, h.1)
@@ -148,15 +141,6 @@ none_left m s y h rest off = in_part m (λ a. a.y ≡ y → is_full s.remaining 
         by : (v : Bool) → is_full s.remaining a ≡ v → v ≡ false
         by false w = refl
         by true w = absurd (off b at (h.closed b a (record { before = g; after = later at }) (beside-sym a b n) w))
-
-first_failing : {A : Type 0} (P : A → Type 0) (test : A → Bool) → ((a : A) → test a ≡ true → P a → ⊥) → ((a : A) → test a ≡ false → P a) → (xs : List A) → FirstFailing P xs (find test xs)
-first_failing P test bad good [] = tt
-first_failing {A = A} P test bad good (a ∷ xs) = by (test a) refl (find test xs) (first_failing P test bad good xs)
-  where
-    by : (b : Bool) → test a ≡ b → (o : Option A) → FirstFailing P xs o → FirstFailing P (a ∷ xs) (cond b (Some a) o)
-    by true e o h = inl (bad a e, refl)
-    by false e None h = (good a e, h)
-    by false e (Some c) h = inr (good a e, h)
 
 -- the least voxel that was not visited is the least of all unsupported parts
 pub left_is_unsupported : (m : Matrix) (s : Sweep) (o : Option Coord) → IsSweep m s → s.trail.items ≡ [] → AreAllSwept m s.remaining → LeastOf s.remaining.resolution (is_full s.remaining) o → FirstUnsupported m o

@@ -14,12 +14,15 @@ use Rattle.vox_geom.proofs.Tests.{other_bit as other}
 use Rattle.nano_spec.specs.Grounded.{Grounded}
 use Rattle.nano_spec.specs.Matrix.{Matrix, is_full}
 use Rattle.nano_spec.specs.Model.{bit}
+use Rattle.nano_spec.proofs.ForgeLegal.{on_floor, one_more}
 use Rattle.vox_planes.specs.Heap.{is_full_up_to, is_stacked}
 use Rattle.vox_planes.specs.Walk.{at}
+use Rattle.vox_planes.proofs.Placed.{full_bit}
+use Rattle.vox_planes.proofs.TakenBits.{not_bit}
 use Rattle.model_file.specs.declared.flood.Flood.{Flood}
 use Rattle.model_file.specs.Flood.{AreOut, HasFound, IsAmong, IsBegun, IsBeside, IsFlood, IsNextTo, IsTaken, LooksAround, TakesOut}
 use Rattle.model_file.proofs.Floods.{below_count, both_true, full_within, its_place, takes_none, takes_then, takes_wider, void_by}
-use Rattle.model_file.proofs.Spreads.{in_none, on_floor, one_more}
+use Rattle.model_file.proofs.Spreads.{in_none}
 
 -- ---- what is stacked is grounded
 
@@ -86,24 +89,18 @@ looks_wider m one all a b wider h = record {
 
 -- ---- a stretch
 
-ones_at : (k : ℕ) → k < 64 → bit (2 ^ 64 - 1) k ≡ true
-ones_at k l = ap (λ d. d == 1) (bit_at_ones 64 k l)
-
-other_bit : (n k : ℕ) → n < 2 ^ 64 → k < 64 → bit (bit_not w64 n) k ≡ not (bit n k)
-other_bit n k l m = ap (λ d. d == 1) (bit_at_not w64 n k l m) ∙ other (bit_at n k) (bit_at-lt n k)
-
 module _ (m left : Matrix) (first : Coord) (count own bits : ℕ) (few : count ≤ 64) (size : count ≡ min (m.resolution - first.z) 64)
     (mine : (k : ℕ) → k < count → bit own k ≡ (bit (2 ^ 64 - 1) k && is_full left (at first (first.z + k)))) (fits : own < 2 ^ 64)
     (outs : (k : ℕ) → k < count → bit bits k ≡ (bit (bit_not w64 own) k && is_full m (at first (first.z + k)))) (below : bits < 2 ^ count) where
   own_is : (c : Coord) → c.x ≡ first.x → c.y ≡ first.y → first.z ≤ c.z → c.z - first.z < count → bit own (c.z - first.z) ≡ is_full left c
   own_is c x y l u =
       mine (c.z - first.z) u
-      ∙ ((λ i. ones_at (c.z - first.z) (omega arith) i && is_full left (its_place first c x y l i)))
+      ∙ ((λ i. full_bit (c.z - first.z) (omega arith) i && is_full left (its_place first c x y l i)))
 
   out_is : (c : Coord) → c.x ≡ first.x → c.y ≡ first.y → first.z ≤ c.z → c.z - first.z < count → bit bits (c.z - first.z) ≡ (not (is_full left c) && is_full m c)
   out_is c x y l u =
       outs (c.z - first.z) u
-      ∙ (λ i. (other_bit own (c.z - first.z) fits (omega arith) ∙ ap not (own_is c x y l u)) i && is_full m (its_place first c x y l i))
+      ∙ (λ i. (not_bit own (c.z - first.z) fits (omega arith) ∙ ap not (own_is c x y l u)) i && is_full m (its_place first c x y l i))
 
   pub outs_are : AreOut m left first bits
   outs_are = record {

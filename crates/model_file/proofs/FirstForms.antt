@@ -10,17 +10,14 @@ use Rattle.vox_geom.specs.Space.{numbers_below, numbers_from}
 use Rattle.nano_spec.specs.Matrix.{Matrix}
 use Rattle.nano_spec.specs.Model.{bit, byte_at, volume, voxel_bit}
 use Rattle.vox_planes.specs.Places.{is_from, voxel_at}
+use Rattle.vox_planes.proofs.Placed.{before_these, one_of_these}
+use Rattle.vox_planes.proofs.Voxels.{get_or-numbers}
 
 -- ---- a matrix by its voxels
 
 pub length-numbers : (n a : ℕ) → length (numbers_from a n) ≡ n
 length-numbers zero a = refl
 length-numbers (suc n) a = ap suc (length-numbers n (a + 1))
-
-pub get_or-numbers : (n a k d : ℕ) → k < n → get_or (numbers_from a n) k d ≡ a + k
-get_or-numbers zero a k d h = absurd (omega arith)
-get_or-numbers (suc n) a zero d h = omega arith
-get_or-numbers (suc n) a (suc k) d h = omega (arith, get_or-numbers n (a + 1) k d (omega arith))
 
 pub matrix_is : (m : Matrix) (r : ℕ) (f : ℕ → Bool) → m.resolution ≡ r → length m.voxels ≡ volume r → ((p : ℕ) → p < volume r → voxel_at m p ≡ f p) → m ≡ (record { resolution = r; voxels = map f (numbers_below (volume r)) })
 matrix_is m r f er el h = λ i. record { resolution = er i; voxels = same i }
@@ -43,15 +40,6 @@ byte_is bytes s k byte d l e =
 
 pub rest_length : (bytes : List ℕ) (s : ℕ) → length (take (length bytes - s) (drop s bytes)) ≡ length bytes - s
 rest_length bytes s = ap length (take_rest bytes s) ∙ length-drop s bytes
-
-pub before_these : (from count p : ℕ) → p < from → is_from from count p ≡ false
-before_these from count p l = grind (arith, nat_tests)
-
-pub one_of_these : (from count p : ℕ) → from ≤ p → p < from + count → is_from from count p ≡ true
-one_of_these from count p h l = grind (arith, nat_tests)
-
-pub after_these : (from count p : ℕ) → from + count ≤ p → is_from from count p ≡ false
-after_these from count p l = grind (arith, nat_tests)
 
 -- the voxels of one more byte
 pub byte_more : (old new : Matrix) (bytes : List ℕ) (places from k count byte : ℕ) → from ≡ 8 * k → count ≡ min (places - from) 8 → byte ≡ slice_index bytes (1 + k) →

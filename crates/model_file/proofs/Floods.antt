@@ -14,9 +14,10 @@ use Rattle.vox_geom.specs.Point.{point, same_point}
 use Rattle.vox_geom.specs.Space.{IsInSpace, coordinate_at, in_space, place}
 use Rattle.vox_geom.proofs.Places.{coordinate_at-place}
 use Rattle.vox_geom.proofs.Truths.{anything_by, first_of_two as left}
+use Rattle.vox_geom.proofs.Points.{space_by_test}
+use Rattle.vox_geom.proofs.Firsts.{place_below}
 use Rattle.nano_spec.specs.Matrix.{Matrix, is_full}
 use Rattle.nano_spec.specs.Model.{bit}
-use Rattle.nano_spec.proofs.Coordinates.{in_space-is, place_below}
 use Rattle.vox_planes.specs.Places.{is_from, is_marked}
 use Rattle.vox_planes.specs.Walk.{at}
 use Rattle.model_file.specs.declared.flood.Flood.{Flood}
@@ -76,11 +77,8 @@ full_of-less r m n c within before after others =
 
 -- ---- parts of a search
 
-pub self_same : (c : Coord) → same_point (point c) (point c) ≡ true
-self_same c = grind (arith, nat_tests)
-
 pub full_within : (m : Matrix) (c : Coord) → IsTrue (is_full m c) → IsInSpace m.resolution c
-full_within m c h = in_space-is m.resolution c (left (in_space m.resolution (point c)) _ h)
+full_within m c h = space_by_test m.resolution c (left (in_space m.resolution (point c)) _ h)
 
 pub has_same : (a b : Flood) → b.found.items ≡ a.found.items → (d : Coord) → HasFound a d → HasFound b d
 has_same a b e d h = record { stretch = h.stretch; is_found = subst (λ (xs : List Stretch). Contains xs h.stretch) (sym e) h.is_found; among = h.among }

@@ -5,10 +5,10 @@ use Rattle.vox_geom.specs.declared.coordinate.Coord.{Coord}
 use Rattle.nano_spec.specs.First.{FirstFailing}
 use Rattle.nano_spec.specs.Grounded.{FirstUngrounded, Grounded}
 use Rattle.nano_spec.specs.Matrix.{Matrix, all_of, is_full}
+use Rattle.nano_spec.proofs.ForgeLegal.{on_floor, one_more}
 use Rattle.vox_geom.specs.Point.{below as under}
 use Rattle.vox_planes.specs.Heap.{IsHeap}
 use Rattle.vox_geom.proofs.Adjacent.{adjacent_by}
-use Rattle.model_file.proofs.Spreads.{on_floor, one_more}
 
 -- a voxel so high up is grounded
 grounded_from : (m : Matrix) → IsHeap m → (y : ℕ) (c : Coord) → c.y ≡ y → IsTrue (is_full m c) → Grounded m c

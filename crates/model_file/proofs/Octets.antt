@@ -8,8 +8,8 @@ use Rattle.std.proofs.lemmas.Bool.{cases_lt}
 use Rattle.nano_spec.specs.Matrix.{Matrix}
 use Rattle.nano_spec.specs.Model.{bit, voxel_bit}
 use Rattle.vox_planes.specs.Places.{is_from, voxel_at}
+use Rattle.vox_planes.proofs.Placed.{before_these, one_of_these}
 use Rattle.model_file.specs.Words.{IsWordOf}
-use Rattle.model_file.proofs.FirstForms.{before_these, one_of_these}
 
 bit_beyond : (n j i : ℕ) → bit n (j + i) ≡ bit (n / 2 ^ j) i
 bit_beyond n j i = ap (λ d. d % 2 == 1) (ap (λ d. n / d) (pow-add 2 j i) ∙ sym (div-div-eq-div-mul n (2 ^ j) (2 ^ i)))

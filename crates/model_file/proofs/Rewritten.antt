@@ -12,8 +12,9 @@ use Rattle.vox_geom.specs.Space.{numbers_below}
 use Rattle.vox_geom.proofs.Tests.{between_by_tests, not_less_by_test}
 use Rattle.nano_spec.specs.Matrix.{Matrix}
 use Rattle.nano_spec.specs.Model.{NoModel, Resolution, Short, Long, WideResolution, WideRun, WideShort, WideLong, bit, byte_at, first_form, four_bytes, is_no_run, model, number_of_four, of_runs, run_lengths, runs_in, volume, voxel_bit, voxels_of, wanted, wide_form, wide_model, with_run, written}
+use Rattle.vox_planes.proofs.Voxels.{get_or-numbers}
 use Rattle.model_file.specs.Padding.{cut_last, used_bits, without_padding}
-use Rattle.model_file.proofs.FirstForms.{byte_of, get_or-numbers, length-numbers}
+use Rattle.model_file.proofs.FirstForms.{byte_of, length-numbers}
 
 same_value : {A E : Type 0} (a b : A) → ◌≡◌ {A = Result A E} (Ok a) (Ok b) → a ≡ b
 same_value a b h = cc

@@ -17,27 +17,15 @@ use Rattle.nano_spec.specs.Model.{bit}
 use Rattle.vox_planes.specs.Places.{is_marked}
 use Rattle.vox_planes.specs.Walk.{at}
 use Rattle.nano_spec.proofs.Grounding.{ungrounded_by}
-use Rattle.nano_spec.proofs.Island.{same_coordinate}
+use Rattle.nano_spec.proofs.ForgeLegal.{one_more}
 use Rattle.model_file.specs.declared.flood.Flood.{Flood}
 use Rattle.model_file.specs.declared.flood.Stretch.{Stretch}
 use Rattle.vox_geom.proofs.Adjacent.{adjacent-sym}
 use Rattle.vox_geom.proofs.Truths.{anything_by, first_of_two as left, second_of_two, true_by_false}
+use Rattle.vox_geom.proofs.Points.{coordinate_by_test, point_itself}
 use Rattle.model_file.proofs.Stretches.{is_one, moved, near_moved, one_of}
-use Rattle.model_file.proofs.Floods.{fewer_in_row, full_within, row_asked, row_taken, row_was, has_cases, has_last, has_more, has_same, self_same}
+use Rattle.model_file.proofs.Floods.{fewer_in_row, full_within, row_asked, row_taken, row_was, has_cases, has_last, has_more, has_same}
 use Rattle.model_file.specs.Flood.{HasFound, IsAmong, IsBeside, IsFlood, IsStart, IsTaken, TakesOut, full_of, weight}
-
-pub on_floor : (m : Matrix) (c : Coord) → IsTrue (is_full m c) → c.y ≡ 0 → Grounded m c
-on_floor m c f e = (c ∷ [], rw (self_same c, f) (floor c.y e))
-  where
-    floor : (y : ℕ) → y ≡ 0 → (y == 0) ≡ true
-    floor y g = grind (arith, nat_tests)
-
-pub one_more : (m : Matrix) (a b : Coord) → IsTrue (is_full m a) → IsTrue (are_adjacent a b) → Grounded m b → Grounded m a
-one_more m a b f n ([], h) = cc
-one_more m a b f n (d ∷ path, h) =
-    let same : b ≡ d = same_coordinate b d (left (same_point (point b) (point d)) (is_path m (d ∷ path)) h) in
-    let next : IsTrue (are_adjacent a d) = subst (λ (v : Coord). IsTrue (are_adjacent a v)) same n in
-    (a ∷ d ∷ path, rw (self_same a, f, next) (second_of_two (same_point (point b) (point d)) (is_path m (d ∷ path)) h))
 
 -- a stretch that was found is looked around
 pub flood_more : (m : Matrix) (s popped new : Flood) (p : Stretch) → IsFlood m s → popped.remaining ≡ s.remaining → s.found.items ≡ popped.found.items ++ p ∷ [] → TakesOut (IsBeside p) popped new → ((d : Coord) → IsBeside p d → is_full new.remaining d ≡ false) → IsFlood m new
@@ -183,7 +171,7 @@ in_none f d e h = let l : length f.found.items ≡ 0 = ap length e in let k = h.
 left_floats : (m : Matrix) (f : Flood) → IsFlood m f → f.found.items ≡ [] → (c : Coord) → IsTrue (is_full f.remaining c) → Grounded m c → ⊥
 left_floats m f fl none c t =
     ungrounded_by m (is_full f.remaining) (λ a b i g n. stays a b i g n (is_full f.remaining b) refl, λ a i e. anything_by (is_full f.remaining a) i (fl.floor a (zero_of a.y e))) c t
-    (λ a b s i. subst (λ (v : Coord). IsTrue (is_full f.remaining v)) (same_coordinate a b s) i)
+    (λ a b s i. subst (λ (v : Coord). IsTrue (is_full f.remaining v)) (coordinate_by_test a b s) i)
   where
     zero_of : (y : ℕ) → IsTrue (y == 0) → y ≡ 0
     zero_of y e = grind (arith, nat_tests)
@@ -192,7 +180,7 @@ left_floats m f fl none c t =
     stays a b i g n true e = e
     stays a b i g n false e = absurd (in_none f b none (fl.looked b a (record { before = g; after = e }) (adjacent-sym a b n) i))
 
-first_failing : {A : Type 0} (P : A → Type 0) (test : A → Bool) → ((a : A) → test a ≡ true → P a → ⊥) → ((a : A) → test a ≡ false → P a) → (xs : List A) → FirstFailing P xs (find test xs)
+pub first_failing : {A : Type 0} (P : A → Type 0) (test : A → Bool) → ((a : A) → test a ≡ true → P a → ⊥) → ((a : A) → test a ≡ false → P a) → (xs : List A) → FirstFailing P xs (find test xs)
 first_failing P test bad good [] = tt
 first_failing {A = A} P test bad good (a ∷ xs) = by (test a) refl (find test xs) (first_failing P test bad good xs)
   where

@@ -14,6 +14,7 @@ use Rattle.nano_spec.specs.Model.{bit}
 use Rattle.model_file.specs.declared.flood.Stretch.{Stretch}
 use Rattle.model_file.specs.Flood.{IsAmong, IsBeside, IsStart}
 use Rattle.vox_geom.proofs.Adjacent.{Side, adjacent_by, side_of, right, above, ahead, left, below, behind}
+use Rattle.vox_planes.proofs.Chunks.{shifted_bit}
 
 -- ---- bits of moved words
 
@@ -27,9 +28,6 @@ word_less z = (z + 65472) % 65536
 -- a word moved by one bit either way
 abbrev pub moved : ℕ → ℕ
 moved bits = bit_or (bits * 2 ^ 1 % 2 ^ 64) (bits / 2 ^ 1)
-
-shifted_bit : (n s k : ℕ) → bit_at (n / 2 ^ s) k ≡ bit_at n (s + k)
-shifted_bit n s k = ap (λ v. v % 2) (div-div-eq-div-mul n (2 ^ s) (2 ^ k) ∙ ap (λ v. n / v) (sym (pow-add 2 s k)))
 
 raised_bit : (n s j : ℕ) → s ≤ j → j < 64 → bit_at (n * 2 ^ s % 2 ^ 64) j ≡ bit_at n (j - s)
 raised_bit n s j l u =

@@ -11,9 +11,11 @@ use Rattle.vox_geom.proofs.Truths.{and_false}
 use Rattle.vox_geom.proofs.Tests.{test_less, test_not_less}
 use Rattle.nano_spec.specs.Matrix.{Matrix, empty}
 use Rattle.nano_spec.specs.Model.{NoModel, WideRun, WideShort, WideLong, is_no_run, number_of_four, of_runs, runs_in, volume, voxels_of, wide_form, wide_model, with_run}
+use Rattle.nano_spec.proofs.EmptyModel.{none_there}
+use Rattle.nano_spec.proofs.Writing.{is_run}
 use Rattle.vox_planes.specs.Places.{is_from, voxel_at}
 use Rattle.vox_planes.specs.Voxel.{IsWhole}
-use Rattle.model_file.proofs.FirstForms.{after_these, before_these, one_of_these}
+use Rattle.vox_planes.proofs.Placed.{after_these, before_these, one_of_these}
 
 -- ---- runs that were taken before
 
@@ -82,11 +84,6 @@ pub record HasRuns (r : ℕ) (bytes : List ℕ) (m : Matrix) (at index sum : ℕ
   pub voxels : (p : ℕ) → voxel_at m p ≡ get_or (voxels_of false done) p false
   pub turn : (more : List ℕ) → voxels_of false (done ++ more) ≡ voxels_of false done ++ voxels_of full more
 
-all_void : (cs : List Coord) (p : ℕ) → get_or (map (λ _. false) cs) p false ≡ false
-all_void [] p = refl
-all_void (c ∷ cs) zero = refl
-all_void (c ∷ cs) (suc p) = all_void cs p
-
 pub no_runs : (r : ℕ) (bytes : List ℕ) (m : Matrix) → m ≡ empty r → IsWhole m → HasRuns r bytes m 0 0 0 false
 no_runs r bytes m e w = record {
   done = [];
@@ -97,7 +94,7 @@ no_runs r bytes m e w = record {
   resolution = ap (λ (n : Matrix). n.resolution) e;
   whole = w;
   size = refl;
-  voxels = λ p. ap (λ (n : Matrix). voxel_at n p) e ∙ all_void (coordinates r) p;
+  voxels = λ p. ap (λ (n : Matrix). voxel_at n p) e ∙ none_there (coordinates r) p;
   turn = λ more. refl;
 }
 
@@ -120,9 +117,6 @@ next_taken : (bytes : List ℕ) (total at index sum run : ℕ) → at + 4 ≤ le
 next_taken bytes total at index sum run four less er =
     four_of (drop at bytes) total index sum (omega (arith, rest_length bytes at)) less
     ∙ (λ i. taken total index sum ((next_of bytes at ∙ sym er) i) (drop-drop 4 at bytes i))
-
-no_run : (total index sum run : ℕ) → (run ≡ 0 → index ≡ 0) → sum + run ≤ total → is_no_run total index sum run ≡ false
-no_run total index sum run h l = grind (arith, nat_tests)
 
 full_or : (b : Bool) → ((b && true) || false) ≡ b
 full_or true = refl
@@ -163,7 +157,7 @@ run_more r bytes old new at index sum run full h four less er nz fits set resolu
   done = h.done ++ run ∷ [];
   reads =
       h.reads
-      ∙ (ap (before h.done) (next_taken bytes (volume r) at index sum run four less er ∙ ap (λ b. elim b [ true ↦ Err (WideRun index) | false ↦ with_run run (runs_in (volume r) (index + 1) (sum + run) (drop (at + 4) bytes)) ]) (no_run (volume r) index sum run nz fits))
+      ∙ (ap (before h.done) (next_taken bytes (volume r) at index sum run four less er ∙ ap (λ b. elim b [ true ↦ Err (WideRun index) | false ↦ with_run run (runs_in (volume r) (index + 1) (sum + run) (drop (at + 4) bytes)) ]) (is_run (volume r) index sum run nz fits))
       ∙ sym (before-push h.done run (runs_in (volume r) (index + 1) (sum + run) (drop (at + 4) bytes))));
   within = four;
   few = few run nz;

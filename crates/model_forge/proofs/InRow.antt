@@ -10,19 +10,11 @@ use Rattle.vox_geom.proofs.Tests.{test_equal, test_less, test_not_less, test_une
 use Rattle.nano_spec.specs.Forge.{column_height, is_inner}
 use Rattle.nano_spec.specs.Matrix.{Matrix}
 use Rattle.vox_planes.specs.Places.{is_from, voxel_at}
+use Rattle.vox_planes.proofs.Placed.{after_these, before_these, one_of_these}
 use Rattle.model_forge.specs.declared.tower.Tower.{Tower}
 use Rattle.model_forge.specs.Forging.{AreHeights, IsForged, is_forged, row_place}
 
 -- ---- tests
-
-below : (from count p : ℕ) → p < from → is_from from count p ≡ false
-below from count p l = grind (arith, nat_tests)
-
-among : (from count p : ℕ) → from ≤ p → p < from + count → is_from from count p ≡ true
-among from count p l m = grind (arith, nat_tests)
-
-beyond : (from count p : ℕ) → from + count ≤ p → is_from from count p ≡ false
-beyond from count p l = grind (arith, nat_tests)
 
 same_test : (a b c d : ℕ) → a + d ≡ c + b → (a == c) ≡ (b == d)
 same_test a b c d e = by (a == c) (b == d) refl refl
@@ -92,7 +84,7 @@ module _ (number : ℕ) (tower : Tower) (r x y : ℕ) (x_low : 1 ≤ x) (x_high 
     changes : (z : ℕ) → 1 ≤ z → z + 1 < r → put_at (row_place r x y + z) ≡ full_inside z
     changes z l m =
         let p : ℕ = row_place r x y + z in
-        let one : is_from from (length heights) (row_place r x y + z) ≡ true = among from (length heights) (row_place r x y + z) (omega arith) (omega arith) in
+        let one : is_from from (length heights) (row_place r x y + z) ≡ true = one_of_these from (length heights) (row_place r x y + z) (omega arith) (omega arith) in
         let line : (row_place r x y + z + 1 == from + tower.z) ≡ (z == tower.z) = same_test (row_place r x y + z + 1) z (from + tower.z) tower.z (omega arith) in
         let index : row_place r x y + z - from ≡ z - 1 = omega arith in
         let next : z - 1 + 1 ≡ z = omega arith in
@@ -114,20 +106,20 @@ module _ (number : ℕ) (tower : Tower) (r x y : ℕ) (x_low : 1 ≤ x) (x_high 
         here p z e l (inl m) n =
             let zero_is : z ≡ 0 = omega arith in
             let old_is : voxel_at old p ≡ false = was p ∙ ap (λ b. b && is_forged number r tower (coordinate_at r p)) (test_not_less p (row_place r x y) (omega arith)) in
-            stays p (below from (length heights) p (omega arith)) ∙ (old_is ∙ sym (ap (λ q. is_forged number r tower (coordinate_at r q)) (e ∙ ap (λ v. row_place r x y + v) zero_is) ∙ first_is))
+            stays p (before_these from (length heights) p (omega arith)) ∙ (old_is ∙ sym (ap (λ q. is_forged number r tower (coordinate_at r q)) (e ∙ ap (λ v. row_place r x y + v) zero_is) ∙ first_is))
         here p z e l (inr m) (inl n) = ap put_at e ∙ (changes z m n ∙ sym (ap (λ q. is_forged number r tower (coordinate_at r q)) e ∙ inside_is z m n))
         here p z e l (inr m) (inr n) =
             let old_is : voxel_at old p ≡ false = was p ∙ ap (λ b. b && is_forged number r tower (coordinate_at r p)) (test_not_less p (row_place r x y) (omega arith)) in
-            stays p (beyond from (length heights) p (omega arith)) ∙ (old_is ∙ sym (ap (λ q. is_forged number r tower (coordinate_at r q)) e ∙ last_is z l n))
+            stays p (after_these from (length heights) p (omega arith)) ∙ (old_is ∙ sym (ap (λ q. is_forged number r tower (coordinate_at r q)) e ∙ last_is z l n))
 
         by : (p : ℕ) → ((p < row_place r x y) ⊎ (row_place r x y ≤ p)) → ((p < row_place r x (y + 1)) ⊎ (row_place r x (y + 1) ≤ p)) → put_at p ≡ (nat_lt p (row_place r x (y + 1)) && is_forged number r tower (coordinate_at r p))
         by p (inl l) m =
-            stays p (below from (length heights) p (omega arith))
+            stays p (before_these from (length heights) p (omega arith))
             ∙ (was p
             ∙ (ap (λ b. b && is_forged number r tower (coordinate_at r p)) (test_less p (row_place r x y) l)
             ∙ sym (ap (λ b. b && is_forged number r tower (coordinate_at r p)) (test_less p (row_place r x (y + 1)) (omega arith)))))
         by p (inr l) (inr m) =
-            stays p (beyond from (length heights) p (omega arith))
+            stays p (after_these from (length heights) p (omega arith))
             ∙ (was p
             ∙ (ap (λ b. b && is_forged number r tower (coordinate_at r p)) (test_not_less p (row_place r x y) l)
             ∙ sym (ap (λ b. b && is_forged number r tower (coordinate_at r p)) (test_not_less p (row_place r x (y + 1)) m))))

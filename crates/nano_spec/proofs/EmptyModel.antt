@@ -7,7 +7,7 @@ use Rattle.nano_spec.specs.First.{FirstFailing}
 use Rattle.nano_spec.specs.Grounded.{FirstUngrounded, Grounded}
 use Rattle.nano_spec.specs.Matrix.{Matrix, empty, is_full}
 
-none_there : (xs : List Coord) (k : ℕ) → get_or (map (λ _. false) xs) k false ≡ false
+pub none_there : (xs : List Coord) (k : ℕ) → get_or (map (λ _. false) xs) k false ≡ false
 none_there [] k = refl
 none_there (x ∷ xs) zero = refl
 none_there (x ∷ xs) (suc k) = none_there xs k
@@ -20,7 +20,7 @@ not_full r c e = by _ _ (none_there (coordinates r) (place r c)) e
     by true false f g = cc
     by false b f g = cc
 
-all_hold : (P : Coord → Type 0) (xs : List Coord) → ((c : Coord) → P c) → FirstFailing P xs None
+pub all_hold : (P : Coord → Type 0) (xs : List Coord) → ((c : Coord) → P c) → FirstFailing P xs None
 all_hold P [] h = tt
 all_hold P (x ∷ xs) h = (h x, all_hold P xs h)
 

@@ -32,7 +32,7 @@ is_clear (Blanks ∷ ps) = is_sharp ps && is_clear ps
 is_clear (Mark m ∷ ps) = is_clear ps
 is_clear (Number ∷ ps) = is_free ps && is_clear ps
 
-blank_is : (b : ℕ) → IsTrue (is_blank b) → (b ≡ 32) ⊎ (b ≡ 9)
+pub blank_is : (b : ℕ) → IsTrue (is_blank b) → (b ≡ 32) ⊎ (b ≡ 9)
 blank_is b h = by (b == 32) refl
   where
     by : (t : Bool) → (b == 32) ≡ t → (b ≡ 32) ⊎ (b ≡ 9)
@@ -53,18 +53,18 @@ no_mark test b m A xs h k = by (b == m) refl
     by true e = absurd (contrary (test m) (subst (λ (v : ℕ). IsTrue (test v)) (equal_by_test b m e) h) k)
     by false e = refl
 
-no_number : (ps : List Part) (b : ℕ) (more : List ℕ) → (b ≡ 32) ⊎ (b ≡ 9) → readings (Number ∷ ps) (b ∷ more) ≡ []
+pub no_number : (ps : List Part) (b : ℕ) (more : List ℕ) → (b ≡ 32) ⊎ (b ≡ 9) → readings (Number ∷ ps) (b ∷ more) ≡ []
 no_number ps b more (inl e) = subst (λ (v : ℕ). readings (Number ∷ ps) (v ∷ more) ≡ []) (sym e) refl
 no_number ps b more (inr e) = subst (λ (v : ℕ). readings (Number ∷ ps) (v ∷ more) ≡ []) (sym e) refl
 
 -- a sharp form reads no line that begins with a blank
-no_blank : (ps : List Part) (b : ℕ) (more : List ℕ) → IsTrue (is_sharp ps) → IsTrue (is_blank b) → readings ps (b ∷ more) ≡ []
+pub no_blank : (ps : List Part) (b : ℕ) (more : List ℕ) → IsTrue (is_sharp ps) → IsTrue (is_blank b) → readings ps (b ∷ more) ≡ []
 no_blank [] b more h k = refl
 no_blank (Blanks ∷ ps) b more h k = cc
 no_blank (Mark m ∷ ps) b more h k = no_mark is_blank b m (List ℤ) (readings ps more) k h
 no_blank (Number ∷ ps) b more h k = no_number ps b more (blank_is b k)
 
-no_both : (b : ℕ) → IsTrue (is_digit b) → is_blank b ≡ false
+pub no_both : (b : ℕ) → IsTrue (is_digit b) → is_blank b ≡ false
 no_both b h = by (is_blank b) refl
   where
     none : (b ≡ 32) ⊎ (b ≡ 9) → ⊥
@@ -82,7 +82,7 @@ no_both b h = by (is_blank b) refl
     by false e = e
 
 -- a free form reads no line that begins with a digit
-no_digit : (ps : List Part) (b : ℕ) (more : List ℕ) → IsTrue (is_free ps) → IsTrue (is_digit b) → readings ps (b ∷ more) ≡ []
+pub no_digit : (ps : List Part) (b : ℕ) (more : List ℕ) → IsTrue (is_free ps) → IsTrue (is_digit b) → readings ps (b ∷ more) ≡ []
 no_digit [] b more h k = refl
 no_digit (Blanks ∷ ps) b more h k = let e : is_blank b ≡ false = no_both b k in rw e (append_none (readings ps (b ∷ more)) ∙ no_digit ps b more h k)
 no_digit (Mark m ∷ ps) b more h k = no_mark is_digit b m (List ℤ) (readings ps more) k h

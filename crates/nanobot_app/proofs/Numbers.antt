@@ -34,6 +34,9 @@ use Rattle.nanobot_rows.specs.Lines.{accepted_line}
 use Rattle.nanobot_rows.proofs.Loads.{few_commands}
 use Rattle.nanobot_app.specs.Headline.{IsCost, MachineTakes, TakesBytes}
 use Rattle.plan_tape.proofs.Reached.{enough}
+use Rattle.plan_tape.proofs.AfterSteps.{bounded_on}
+use Rattle.plan_tape.proofs.Many.{first_part, last_part}
+use Rattle.low_planner.proofs.Builds.{length_all}
 
 -- ---- no two are printed alike
 
@@ -97,23 +100,9 @@ pub record CostLaws : Type 0 where
   pub most : (bytes : List ℕ) (m : Matrix) → model bytes ≡ Ok m → m.resolution ≤ 400
   pub whole : (bytes : List ℕ) (m : Matrix) → model bytes ≡ Ok m → length m.voxels ≡ volume m.resolution
 
-bounded_on : (old new : ℤ) (steps : ℕ) → IsBounded old steps → new <ℤ (old +ℤ pos 3000000000) → old <ℤ (new +ℤ pos 3000000000) → IsBounded new (steps + 1)
-bounded_on old new steps b rises falls =
-    let low = b.low in
-    let high = b.high in
-    record { low = omega (arith, ints); high = omega (arith, ints) }
-
 small : (energy : ℤ) (steps : ℕ) → IsBounded energy steps → steps ≤ 1073741824 → IsCost energy steps
 small (pos n) steps b few = let high = b.high in (omega (arith, ints), omega arith)
 small (negsuc n) steps b few = let low = b.low in (omega (arith, ints), omega arith)
-
-front_of : (xs ys : List Command) → AllByRecursion IsCommand (xs ++ ys) → AllByRecursion IsCommand xs
-front_of [] ys h = tt
-front_of (x ∷ xs) ys h = (h.0, front_of xs ys h.1)
-
-back_of : (xs ys : List Command) → AllByRecursion IsCommand (xs ++ ys) → AllByRecursion IsCommand ys
-back_of [] ys h = h
-back_of (x ∷ xs) ys h = back_of xs ys h.1
 
 module _ (laws : CostLaws) (source target : Matrix) (profile : Profile) (commands : List Command) (seeds : profile.seeds ≤ 39) (some : 1 ≤ source.resolution) (most : source.resolution ≤ 400) (whole : length source.voxels ≡ volume source.resolution) (are : AreCommands commands) (energy : ℤ) (steps : ℕ) where
   at_end : (s : State) (rest : List Command) (done : ℕ) → IsBounded s.energy done → ending target s rest done ≡ Accepted energy steps → IsBounded energy steps × (steps ≤ done + length rest)
@@ -144,7 +133,7 @@ module _ (laws : CostLaws) (source target : Matrix) (profile : Profile) (command
       let fits : s.matrix.resolution ≤ 400 = subst (λ (k : ℕ). k ≤ 400) (sym same) most in
       let few_bots = laws.few source profile commands some most whole are before rest s done e r in
       let little : count ≤ 40 = omega (arith, few_bots, seeds) in
-      let of_step : AreCommands step = back_of before step (front_of (before ++ step) left (subst AreCommands all are)) in
+      let of_step : AreCommands step = last_part before step (first_part (before ++ step) left (subst AreCommands all are)) in
       let is : t ≡ after s step = (accepted_step s t step (done + 1) next).is in
       let on : IsBounded t.energy (done + 1) = subst (λ (u : State). IsBounded u.energy (done + 1)) (sym is) (bounded_on s.energy (after s step).energy done b (laws.rises s step fits little of_step) (laws.falls s step fits little of_step)) in
       let later = counted (before ++ step) left t (done + 1) v all (steps_on s before step done r (omega (arith, there)) size next refl refl) (ap (λ (u : State). u.matrix.resolution) is ∙ same) on run g in
@@ -164,15 +153,11 @@ record HasVoxels (m : Matrix) : Type 0 where
   most : m.resolution ≤ 400
   whole : length m.voxels ≡ volume m.resolution
 
-numbers_length : {X : Type 0} (f : ℕ → X) (n a : ℕ) → length (map f (numbers_from a n)) ≡ n
-numbers_length f zero a = refl
-numbers_length f (suc n) a = let e : length (map f (numbers_from (a + 1) n)) ≡ n = numbers_length f n (a + 1) in ap suc e
-
 empty_has : (r : ℕ) → 1 ≤ r → r ≤ 400 → HasVoxels (empty r)
 empty_has r low high = record {
   some = low;
   most = high;
-  whole = length-map (coordinates r) _ ∙ numbers_length (coordinate_at r) (volume r) 0;
+  whole = length-map (coordinates r) _ ∙ length_all (coordinate_at r) (volume r) 0;
 }
 
 module _ (laws : CostLaws) (files : Files) where

@@ -5,13 +5,10 @@ use Rattle.vox_geom.specs.declared.coordinate.Coord.{Coord}
 use Rattle.nano_spec.specs.Legal.{IsLegal, first_outside, in_legal_box, stands_inside}
 use Rattle.nano_spec.specs.Matrix.{Matrix, all_of, empty, is_full}
 use Rattle.nano_spec.proofs.EmptyModel.{empty_is_grounded, not_full}
-
-none_find : (p : Coord → Bool) (xs : List Coord) → ((c : Coord) → p c ≡ false) → find p xs ≡ None
-none_find p [] h = refl
-none_find p (x ∷ xs) h = rw (h x) (none_find p xs h)
+use Rattle.nano_spec.proofs.ForgeLegal.{none_found}
 
 none_outside : (r : ℕ) → first_outside (empty r) ≡ None
-none_outside r = none_find (λ c. is_full (empty r) c && not (in_legal_box r c)) (all_of (empty r)) (λ c. by (is_full (empty r) c) (not (in_legal_box r c)) (not_full r c))
+none_outside r = none_found (λ c. is_full (empty r) c && not (in_legal_box r c)) (all_of (empty r)) (λ c. by (is_full (empty r) c) (not (in_legal_box r c)) (not_full r c))
   where
     by : (a b : Bool) → (a ≡ true → ⊥) → (a && b) ≡ false
     by true b h = absurd (h refl)

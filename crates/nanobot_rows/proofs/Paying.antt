@@ -19,11 +19,12 @@ use Rattle.trace_judge.specs.Payment.{IsPaid, Touches}
 use Rattle.trace_codec.specs.Decoder.{AnswersPiece, DecoderState, HasTaken, decoder_after, fresh}
 use Rattle.trace_codec.specs.declared.decoder.Fed.TheVariants.{Got, All, Bad}
 use Rattle.vox_depot.specs.Files.{Files, IfTold, IsPiece, content}
+use Rattle.vox_depot.proofs.Loading.{from_told}
 use Rattle.nanobot_rows.specs.Models.{AreModels, IsModelOf}
 use Rattle.nanobot_rows.specs.Reading.{RunState}
 use Rattle.nanobot_rows.specs.Touching.{AreInFront, BeginWith, HasGiven, HasPaid, IsRunWithin, IsWithinFile}
 use Rattle.nanobot_rows.proofs.Running.{AllLaw, GotLaw}
-use Rattle.nanobot_rows.proofs.Tracing.{from_told, piece_has}
+use Rattle.nanobot_rows.proofs.Tracing.{piece_has}
 use Rattle.nano_spec.proofs.Lengths.{spelling_some}
 
 -- ---- the laws of the machine's touches

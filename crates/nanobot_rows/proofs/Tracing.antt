@@ -7,6 +7,7 @@ use Rattle.std.proofs.Math.Seq.{take-add}
 use Rattle.nano_spec.specs.declared.system.Profile.{Profile}
 use Rattle.nano_spec.specs.Matrix.{Matrix}
 use Rattle.vox_depot.specs.Files.{Files, IfTold, IsPiece, content}
+use Rattle.vox_depot.proofs.Loading.{from_told, to_told}
 use Rattle.nanobot_rows.specs.declared.report.Report.{Report}
 use Rattle.nanobot_rows.specs.declared.report.Report.TheVariants.{TraceLong}
 use Rattle.nanobot_rows.specs.Reading.{HasRun, OnBytes, OnFile, RunState}
@@ -17,26 +18,6 @@ pub record IsUnderway (told : Option Files) (name : List ℕ) (source : Matrix) 
 
 pub underway : (told : Option Files) (name : List ℕ) (source : Matrix) (profile : Profile) (run : RunState) → HasRun source profile [] run → IsUnderway told name source profile 0 run
 underway told name source profile run h = record { front = λ files file t c. (omega arith, h) }
-
--- what is known of the file where it is told, in the form of a premise
-pub from_told : (told : Option Files) (name : List ℕ) (P : List ℕ → Type 0) → IfTold told name P → (files : Files) (file : List ℕ) → told ≡ Some files → content files name ≡ Some file → P file
-from_told told name P h files file t c = let here = subst (λ o. IfTold o name P) t h in subst (λ o. IsSomeAnd o P) c here
-
--- the other way: where files are told there is such a file, and each such file has P
-to_told : (told : Option Files) (name : List ℕ) (P Q : List ℕ → Type 0) → IfTold told name P → ((files : Files) (file : List ℕ) → told ≡ Some files → content files name ≡ Some file → Q file) → IfTold told name Q
-to_told told name P Q h all = outer told h all
-  where
-    inner : (o : Option (List ℕ)) → IsSomeAnd o P → ((file : List ℕ) → o ≡ Some file → Q file) → IsSomeAnd o Q
-    inner o h all = elim o as (λ x. IsSomeAnd x P → ((file : List ℕ) → x ≡ Some file → Q file) → IsSomeAnd x Q) [
-      | None ↦ λ h all. h
-      | Some file ↦ λ h all. all file refl
-    ] h all
-
-    outer : (o : Option Files) → IfTold o name P → ((files : Files) (file : List ℕ) → o ≡ Some files → content files name ≡ Some file → Q file) → IfTold o name Q
-    outer o h all = elim o as (λ x. IfTold x name P → ((files : Files) (file : List ℕ) → x ≡ Some files → content files name ≡ Some file → Q file) → IfTold x name Q) [
-      | None ↦ λ h all. tt
-      | Some files ↦ λ h all. inner (content files name) h (λ file c. all files file refl c)
-    ] h all
 
 -- the bytes that a piece has
 pub piece_has : (file buf : List ℕ) (at n : ℕ) → n ≤ length buf → IsPiece file at n buf → at ≤ length file → at + n ≤ length file

@@ -22,7 +22,7 @@ payable energy steps b few =
     record { above = omega (arith, ints); below = omega (arith, ints) }
 
 -- a step changes the energy by little
-bounded_on : (old new : ℤ) (steps : ℕ) → IsBounded old steps → new <ℤ (old +ℤ pos 3000000000) → old <ℤ (new +ℤ pos 3000000000) → IsBounded new (steps + 1)
+pub bounded_on : (old new : ℤ) (steps : ℕ) → IsBounded old steps → new <ℤ (old +ℤ pos 3000000000) → old <ℤ (new +ℤ pos 3000000000) → IsBounded new (steps + 1)
 bounded_on old new steps b rises falls =
     let low = b.low in
     let high = b.high in

@@ -6,6 +6,7 @@ use Rattle.vox_geom.specs.declared.coordinate.Coord.{Coord}
 use Rattle.vox_geom.specs.Region.{is_between}
 use Rattle.vox_geom.specs.Space.{IsInSpace}
 use Rattle.vox_geom.proofs.Truths.{first_of_three, second_of_three}
+use Rattle.vox_geom.proofs.Points.{between_zeros, from_both_ends, from_one_end}
 use Rattle.nano_spec.specs.declared.system.Harmonics.{Harmonics}
 use Rattle.nano_spec.specs.declared.system.Harmonics.TheVariants.{Low, High}
 use Rattle.nano_spec.specs.Legal.{IsLegal}
@@ -24,12 +25,6 @@ held_high h m e = λ l. absurd (high_low (sym e ∙ l))
 
 -- ---- where all is void
 
-pub between_zeros : (v : ℕ) → IsTrue (is_between (pos 0) (pos 0) (pos v)) → v ≡ 0
-between_zeros v t = grind (arith, nat_tests)
-
-pub at_either : (a b v : ℕ) → IsTrue (is_between (pos a) (pos b) (pos v)) → (a ≤ v) ⊎ (b ≤ v)
-at_either a b v t = grind (arith, nat_tests)
-
 void_between : (m : Matrix) (a b : ℕ) (c : Coord) → IsVoidFrom m a → IsVoidFrom m b → (a ≤ c.y) ⊎ (b ≤ c.y) → is_full m c ≡ false
 void_between m a b c v w (inl h) = v c h
 void_between m a b c v w (inr h) = w c h
@@ -37,9 +32,9 @@ void_between m a b c v w (inr h) = w c h
 -- where all is void from the height of either end on, so are the ways
 pub ways_between : (m : Matrix) (a b : Coord) → IsVoidFrom m a.y → IsVoidFrom m b.y → AreVoidTo m a b
 ways_between m a b v w = record {
-  x = λ c t. void_between m a.y a.y c v v (at_either a.y a.y c.y (second_of_three (is_between (pos a.x) (pos b.x) (pos c.x)) _ _ t));
-  y = λ c t. void_between m a.y b.y c v w (at_either a.y b.y c.y (second_of_three (is_between (pos b.x) (pos b.x) (pos c.x)) _ _ t));
-  z = λ c t. void_between m b.y b.y c w w (at_either b.y b.y c.y (second_of_three (is_between (pos b.x) (pos b.x) (pos c.x)) _ _ t));
+  x = λ c t. void_between m a.y a.y c v v (from_one_end a.y a.y c.y (second_of_three (is_between (pos a.x) (pos b.x) (pos c.x)) _ _ t));
+  y = λ c t. void_between m a.y b.y c v w (from_one_end a.y b.y c.y (second_of_three (is_between (pos b.x) (pos b.x) (pos c.x)) _ _ t));
+  z = λ c t. void_between m b.y b.y c w w (from_one_end b.y b.y c.y (second_of_three (is_between (pos b.x) (pos b.x) (pos c.x)) _ _ t));
 }
 
 -- where the way along x is void, and all is void where x is 0, so are the ways to an end there
@@ -49,12 +44,9 @@ ways_by_x m a b e along border = record { x = along; y = λ c t. at_zero c _ _ t
     at_zero : (c : Coord) (v w : Bool) → IsTrue (is_between (pos b.x) (pos b.x) (pos c.x) && v && w) → is_full m c ≡ false
     at_zero c v w t = border c (between_zeros c.x (subst (λ n. IsTrue (is_between (pos n) (pos n) (pos c.x))) e (first_of_three (is_between (pos b.x) (pos b.x) (pos c.x)) v w t)))
 
-at_height : (y v : ℕ) → IsTrue (is_between (pos y) (pos y) (pos v)) → y ≤ v
-at_height y v t = grind (arith, nat_tests)
-
 -- where all is void from the height of the one end on, and where x is 0, so are the ways to an end there
 pub ways_to_border : (m : Matrix) (a b : Coord) → b.x ≡ 0 → IsVoidFrom m a.y → ((c : Coord) → c.x ≡ 0 → is_full m c ≡ false) → AreVoidTo m a b
-ways_to_border m a b e v border = ways_by_x m a b e (λ c t. v c (at_height a.y c.y (second_of_three (is_between (pos a.x) (pos b.x) (pos c.x)) _ _ t))) border
+ways_to_border m a b e v border = ways_by_x m a b e (λ c t. v c (from_both_ends a.y c.y (second_of_three (is_between (pos a.x) (pos b.x) (pos c.x)) _ _ t))) border
 
 -- ---- how many moves
 

@@ -23,6 +23,7 @@ use Rattle.nano_spec.specs.Rules.{broken, fault, judge_pairs}
 use Rattle.nano_spec.specs.State.{State, origin}
 use Rattle.step_order.proofs.Lists.{none_find}
 use Rattle.step_order.specs.Unbroken.{IsVoid}
+use Rattle.step_order.proofs.Faultless.{one_way}
 
 -- the only bot with its command
 abbrev pub lone : Bot → Command → Act
@@ -43,10 +44,6 @@ no_pairs m a step false = refl
 -- then no rule is broken at all
 pub unbroken : (m : Matrix) (h : Harmonics) (b : Bot) (e : ℤ) (profile : Profile) (k : Command) (step : ℕ) → IsFaultless m h b e profile k → broken (with_one m h b e profile) (k ∷ []) step ≡ None
 unbroken m h b e profile k step f = simp f (ap first_value (no_pairs m (lone b k) step (is_leader (lone b k ∷ []) (lone b k))))
-
-in_the_way : (way full : Bool) → (IsTrue way → full ≡ false) → (full && (way || false)) ≡ false
-in_the_way true full f = rw (f refl) refl
-in_the_way false full f = and_false full
 
 module _ (m : Matrix) (h : Harmonics) (b : Bot) (e : ℤ) (profile : Profile) where
   pub flip_faults : is_allowed profile Flip ≡ true → IsFaultless m h b e profile Flip
@@ -69,7 +66,7 @@ module _ (m : Matrix) (h : Harmonics) (b : Bot) (e : ℤ) (profile : Profile) wh
   pub move_faults : (d : Diff) → is_allowed profile (SMove d) ≡ true → in_space m.resolution (plus (point b.pos) d) ≡ true → IsVoid m (between (point b.pos) (plus (point b.pos) d)) → IsFaultless m h b e profile (SMove d)
   move_faults d a i v Forbidden = rw a refl
   move_faults d a i v OutOfSpace = rw i refl
-  move_faults d a i v Blocked = none_find _ (all_of m) (λ c j. in_the_way (is_within (between (point b.pos) (plus (point b.pos) d)) (point c)) (is_full m c) (v c))
+  move_faults d a i v Blocked = none_find _ (all_of m) (λ c j. one_way (is_within (between (point b.pos) (plus (point b.pos) d)) (point c)) (is_full m c) (v c))
   move_faults d a i v _ = refl
 
   pub halt_faults : is_allowed profile Halt ≡ true → same_point (point b.pos) (point origin) ≡ true → h ≡ Low → IsFaultless m h b e profile Halt

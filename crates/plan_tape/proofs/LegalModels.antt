@@ -6,11 +6,11 @@ use Rattle.vox_geom.specs.declared.coordinate.Coord.{Coord}
 use Rattle.vox_geom.specs.Point.{point}
 use Rattle.vox_geom.specs.Space.{IsInSpace, in_space}
 use Rattle.vox_geom.proofs.Truths.{first_of_two, no_first, second_by_and_not}
+use Rattle.vox_geom.proofs.Points.{space_by_test}
 use Rattle.nano_spec.specs.First.{FirstFailing}
 use Rattle.nano_spec.specs.Grounded.{FirstUngrounded, Grounded}
 use Rattle.nano_spec.specs.Legal.{IsLegal, in_legal_box}
 use Rattle.nano_spec.specs.Matrix.{Matrix, all_of, empty, is_full, matrix_where}
-use Rattle.nano_spec.proofs.Coordinates.{in_space-is}
 use Rattle.nano_spec.proofs.Opening.{legal_is}
 use Rattle.step_order.proofs.Lists.{find_none}
 use Rattle.step_order.proofs.Voxels.{as_it_is, full_where, in_coordinates, matrix_same}
@@ -19,14 +19,14 @@ use Rattle.plan_tape.specs.Progress.{IsVoidFrom}
 
 -- a full voxel is in space
 pub full_within : (m : Matrix) (c : Coord) → is_full m c ≡ true → IsInSpace m.resolution c
-full_within m c h = in_space-is m.resolution c (first_of_two (in_space m.resolution (point c)) _ h)
+full_within m c h = space_by_test m.resolution c (first_of_two (in_space m.resolution (point c)) _ h)
 
 -- a voxel is void where it is so in space
 pub void_by_space : (m : Matrix) (c : Coord) → (IsInSpace m.resolution c → is_full m c ≡ false) → is_full m c ≡ false
 void_by_space m c h = by (in_space m.resolution (point c)) refl
   where
     by : (t : Bool) → in_space m.resolution (point c) ≡ t → is_full m c ≡ false
-    by true e = h (in_space-is m.resolution c e)
+    by true e = h (space_by_test m.resolution c e)
     by false e = no_first (in_space m.resolution (point c)) _ e
 
 -- ---- legal models

@@ -8,13 +8,13 @@ use Rattle.vox_geom.specs.Least.{LeastOf}
 use Rattle.vox_geom.specs.Point.{point}
 use Rattle.vox_geom.specs.Space.{in_space}
 use Rattle.vox_geom.proofs.Tests.{equal_by_test}
+use Rattle.vox_geom.proofs.Points.{space_by_test}
 use Rattle.nano_spec.specs.Matrix.{Matrix, is_full}
 use Rattle.vox_planes.specs.Difference.{in_layer_differ}
 use Rattle.vox_planes.specs.Voxel.{IsWhole}
 use Rattle.plan_tape.specs.Lowest.{IsLowest}
 use Rattle.plan_tape.proofs.Parts.{void_out}
 use Rattle.plan_tape.proofs.LegalModels.{alike_is_same}
-use Rattle.nano_spec.proofs.Coordinates.{in_space-is}
 
 unlike : (a b t : Bool) → (((a && not b) || (b && not a)) && t) ≡ false → t ≡ true → a ≡ b
 unlike true true t e f = refl
@@ -43,7 +43,7 @@ same_layer m n y e h c f = by (in_space m.resolution (point c)) refl
     here u v g = grind (arith, nat_tests)
 
     by : (t : Bool) → in_space m.resolution (point c) ≡ t → is_full m c ≡ is_full n c
-    by true i = unlike (is_full m c) (is_full n c) (c.y == y) (h c (in_space-is m.resolution c i)) (here c.y y f)
+    by true i = unlike (is_full m c) (is_full n c) (c.y == y) (h c (space_by_test m.resolution c i)) (here c.y y f)
     by false o = void_out m.resolution m c refl o ∙ sym (void_out m.resolution n c (sym e) o)
 
 pub layers_more : (m n : Matrix) (y : ℕ) → ((c : Coord) → c.y < y → is_full m c ≡ is_full n c) → ((c : Coord) → c.y ≡ y → is_full m c ≡ is_full n c) → (c : Coord) → c.y < y + 1 → is_full m c ≡ is_full n c

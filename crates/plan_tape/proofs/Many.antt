@@ -109,11 +109,11 @@ stays_made n s t commands step are m next =
 
 -- ---- all steps
 
-first_part : (xs ys : List Command) → AllByRecursion IsCommand (xs ++ ys) → AllByRecursion IsCommand xs
+pub first_part : (xs ys : List Command) → AllByRecursion IsCommand (xs ++ ys) → AllByRecursion IsCommand xs
 first_part [] ys h = tt
 first_part (x ∷ xs) ys h = (h.0, first_part xs ys h.1)
 
-last_part : (xs ys : List Command) → AllByRecursion IsCommand (xs ++ ys) → AllByRecursion IsCommand ys
+pub last_part : (xs ys : List Command) → AllByRecursion IsCommand (xs ++ ys) → AllByRecursion IsCommand ys
 last_part [] ys h = h
 last_part (x ∷ xs) ys h = last_part xs ys h.1
 

@@ -9,6 +9,7 @@ use Rattle.vox_geom.specs.Difference.{mlen}
 use Rattle.vox_geom.specs.Point.{Point, point, plus}
 use Rattle.vox_geom.specs.Region.{between}
 use Rattle.vox_geom.specs.Space.{IsInSpace, in_space, coordinate}
+use Rattle.vox_geom.proofs.Points.{in_space_is}
 use Rattle.nano_spec.specs.declared.commands.Command.{Command}
 use Rattle.nano_spec.specs.declared.commands.Command.TheVariants.{Halt, Flip, SMove, Fill, Void}
 use Rattle.nano_spec.specs.declared.system.Bot.{Bot}
@@ -23,7 +24,6 @@ use Rattle.nano_spec.specs.Rules.{broken}
 use Rattle.nano_spec.specs.Spelling.{spelling, spellings}
 use Rattle.nano_spec.specs.State.{State, origin}
 use Rattle.nano_spec.specs.Step.{after, matrix_after, harmonics_after, flipped}
-use Rattle.step_order.proofs.Voxels.{in_space_is}
 use Rattle.vox_planes.specs.Voxel.{IsWhole, with_voxel}
 use Rattle.plan_tape.specs.declared.axis.Axis.{Axis}
 use Rattle.plan_tape.specs.declared.axis.Axis.TheVariants.{X, Y, Z}

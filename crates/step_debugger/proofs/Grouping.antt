@@ -13,7 +13,6 @@ use Rattle.nano_spec.specs.Group.{is_leader, leaders}
 use Rattle.nano_spec.specs.Rules.{broken}
 use Rattle.nano_spec.specs.Serial.{acts_of, leader_bids, serial}
 use Rattle.nano_spec.specs.State.{IsReady, State}
-use Rattle.step_groups.proofs.Mates.{bots_are}
 use Rattle.step_machine.specs.Situation.{Situation}
 use Rattle.step_machine.specs.declared.machine.StepOk.{StepOk}
 use Rattle.step_machine.specs.declared.undo.Undo.{Undo}
@@ -24,6 +23,7 @@ use Rattle.nano_spec.specs.Energy.{upkeep}
 use Rattle.step_order.proofs.Facts.{Rising, rising_is}
 use Rattle.step_order.proofs.Groups.{Differ, differ_acts, differ_filter}
 use Rattle.step_order.proofs.Lists.{In, map_in, none_any, in_place}
+use Rattle.step_order.proofs.Judgements.{all_bots as bots_are}
 use Rattle.circular_buffer.specs.Buffer.{Buffer}
 use Rattle.step_debugger.specs.declared.fault.DebugFault.{DebugFault}
 use Rattle.step_debugger.specs.declared.fault.DebugFault.TheVariants as fault

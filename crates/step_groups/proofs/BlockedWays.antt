@@ -18,9 +18,9 @@ use Rattle.nano_spec.specs.declared.system.Bot.{Bot}
 use Rattle.nano_spec.specs.declared.commands.Command.TheVariants.{Halt, Wait, SMove, LMove, FusionP, FusionS, Fission, Fill}
 use Rattle.nano_spec.specs.declared.outcomes.Rule.TheVariants.{HaltAlone, HaltOrigin, HaltLow, OutOfSpace, Blocked, Seeds, Partner}
 use Rattle.vox_planes.specs.Difference.{earlier}
+use Rattle.vox_planes.proofs.Differences.{earlier-least}
 use Rattle.vox_geom.proofs.Firsts.{first_is, first_of}
 use Rattle.vox_geom.proofs.Truths.{and_false, or_false}
-use Rattle.step_groups.proofs.Firsts.{earliest}
 use Rattle.step_groups.specs.Judging.{act, first_fault, later_rules}
 use Rattle.nano_spec.specs.Rules.{here, broken_by}
 use Rattle.nano_spec.specs.declared.outcomes.Broken.{Broken}
@@ -60,7 +60,7 @@ within : (b : Bool) → IsTrue b → not (b && true) ≡ false
 within true h = refl
 within false h = cc
 
-within_two : (b c : Bool) → IsTrue b → IsTrue c → not (b && (c && true)) ≡ false
+pub within_two : (b c : Bool) → IsTrue b → IsTrue c → not (b && (c && true)) ≡ false
 within_two true true h k = refl
 within_two true false h k = cc
 within_two false c h k = cc
@@ -114,7 +114,7 @@ two_ways m k l s t x y p q e f =
     let g1 : Coord → Bool = λ c. is_full m c && is_within (span l) (point c) in
     let both : (c : Coord) → (is_full m c && (is_within s (point c) || (is_within t (point c) || false))) ≡ (f1 c || g1 c) = λ c. (λ i. is_full m c && (sym (p (point c)) i || (sym (q (point c)) i || false))) ∙ spread (is_full m c) (is_within (span k) (point c)) (is_within (span l) (point c)) in
     find-same (λ c. is_full m c && (is_within s (point c) || (is_within t (point c) || false))) (λ c. f1 c || g1 c) (all_of m) both
-    ∙ (first_is m.resolution (λ c. f1 c || g1 c) (earlier (find f1 (all_of m)) (find g1 (all_of m))) (earliest m.resolution f1 g1 (find f1 (all_of m)) (find g1 (all_of m)) (first_of m.resolution f1) (first_of m.resolution g1))
+    ∙ (first_is m.resolution (λ c. f1 c || g1 c) (earlier (find f1 (all_of m)) (find g1 (all_of m))) (earlier-least m.resolution f1 g1 (find f1 (all_of m)) (find g1 (all_of m)) (first_of m.resolution f1) (first_of m.resolution g1))
     ∙ (λ i. earlier (sym e i) (sym f i)))
   where
     spread : (a b c : Bool) → (a && (b || (c || false))) ≡ ((a && b) || (a && c))

@@ -10,6 +10,7 @@ use Rattle.vox_geom.specs.Difference.{mlen}
 use Rattle.vox_geom.specs.Point.{Point, point, plus}
 use Rattle.vox_geom.specs.Region.{IsOrdered, corners, extent, is_between, is_within, size, span}
 use Rattle.vox_geom.proofs.Truths.{parts_of_three}
+use Rattle.vox_geom.proofs.Points.{coordinate_by_parts}
 use Rattle.nano_spec.specs.Matrix.{Matrix, is_full, all_of}
 use Rattle.step_order.proofs.Lists.{none_find}
 
@@ -59,9 +60,6 @@ at_both a b v n h z = by (h.at_end (omega (arith, z)))
 
 -- ---- the coordinates of the way
 
-same_coordinate : (c d : Coord) → c.x ≡ d.x → c.y ≡ d.y → c.z ≡ d.z → c ≡ d
-same_coordinate c d x y z = λ i. record { x = x i; y = y i; z = z i }
-
 along_x : (a b c : Coord) (i j k : ℕ) → IsAlong a.x b.x c.x i → IsAlong a.y b.y c.y j → IsAlong a.z b.z c.z k → i ≤ 1 → j ≡ 0 → k ≡ 0 → (c ≡ a) ⊎ (c ≡ b)
 along_x a b c i j k x y z l m n = by (x.at_end l)
   where
@@ -72,8 +70,8 @@ along_x a b c i j k x y z l m n = by (x.at_end l)
     zz = at_both a.z b.z c.z k z n
 
     by : (c.x ≡ a.x) ⊎ (c.x ≡ b.x) → (c ≡ a) ⊎ (c ≡ b)
-    by (inl e) = inl (same_coordinate c a e yy.0 zz.0)
-    by (inr e) = inr (same_coordinate c b e yy.1 zz.1)
+    by (inl e) = inl (coordinate_by_parts c a e yy.0 zz.0)
+    by (inr e) = inr (coordinate_by_parts c b e yy.1 zz.1)
 
 along_y : (a b c : Coord) (i j k : ℕ) → IsAlong a.x b.x c.x i → IsAlong a.y b.y c.y j → IsAlong a.z b.z c.z k → i ≡ 0 → j ≤ 1 → k ≡ 0 → (c ≡ a) ⊎ (c ≡ b)
 along_y a b c i j k x y z l m n = by (y.at_end m)
@@ -85,8 +83,8 @@ along_y a b c i j k x y z l m n = by (y.at_end m)
     zz = at_both a.z b.z c.z k z n
 
     by : (c.y ≡ a.y) ⊎ (c.y ≡ b.y) → (c ≡ a) ⊎ (c ≡ b)
-    by (inl e) = inl (same_coordinate c a xx.0 e zz.0)
-    by (inr e) = inr (same_coordinate c b xx.1 e zz.1)
+    by (inl e) = inl (coordinate_by_parts c a xx.0 e zz.0)
+    by (inr e) = inr (coordinate_by_parts c b xx.1 e zz.1)
 
 along_z : (a b c : Coord) (i j k : ℕ) → IsAlong a.x b.x c.x i → IsAlong a.y b.y c.y j → IsAlong a.z b.z c.z k → i ≡ 0 → j ≡ 0 → k ≤ 1 → (c ≡ a) ⊎ (c ≡ b)
 along_z a b c i j k x y z l m n = by (z.at_end n)
@@ -98,8 +96,8 @@ along_z a b c i j k x y z l m n = by (z.at_end n)
     yy = at_both a.y b.y c.y j y m
 
     by : (c.z ≡ a.z) ⊎ (c.z ≡ b.z) → (c ≡ a) ⊎ (c ≡ b)
-    by (inl e) = inl (same_coordinate c a xx.0 yy.0 e)
-    by (inr e) = inr (same_coordinate c b xx.1 yy.1 e)
+    by (inl e) = inl (coordinate_by_parts c a xx.0 yy.0 e)
+    by (inr e) = inr (coordinate_by_parts c b xx.1 yy.1 e)
 
 at_an_end : (a b c : Coord) (i j k : ℕ) → IsAlong a.x b.x c.x i → IsAlong a.y b.y c.y j → IsAlong a.z b.z c.z k → i + j + k ≡ 1 → (c ≡ a) ⊎ (c ≡ b)
 at_an_end a b c (suc i) j k x y z one = along_x a b c (suc i) j k x y z (omega (arith, one)) (omega (arith, one)) (omega (arith, one))

@@ -20,16 +20,11 @@ use Rattle.nano_spec.specs.declared.outcomes.Broken.{Broken}
 use Rattle.nano_spec.specs.declared.outcomes.Rule.TheVariants.{OutOfSpace, Blocked, InRegion, GroupShape}
 use Rattle.nano_spec.specs.declared.system.Bot.{Bot}
 use Rattle.step_groups.specs.Judging.{act, first_fault, later_rules, corner_list}
-use Rattle.step_groups.proofs.BlockedWays.{skip, unblocked}
+use Rattle.step_groups.proofs.BlockedWays.{skip, unblocked, within_two}
 
 -- whether the members of a bot's group misfit a region
 abbrev pub misshape : List Act → Act → Span → Bool
 misshape all a s = not (length (filter (are_together a) all) == 2 ^ dimension s) || repeats (corner_list (filter (are_together a) all))
-
-both_in : (b c : Bool) → IsTrue b → IsTrue c → not (b && (c && true)) ≡ false
-both_in true true h k = refl
-both_in true false h k = cc
-both_in false c h k = cc
 
 last_two : (x y : Option Broken) → first_value (x ∷ None ∷ y ∷ []) ≡ first_value (x ∷ y ∷ [])
 last_two (Some b) y = refl
@@ -41,7 +36,7 @@ group_rest s step bot a P Q x y t u i j g h =
     let B : Option Broken = broken_by step Blocked bot.bid (find (λ c. is_full s.matrix c && false) (all_of s.matrix)) in
     let I : Option Broken = broken_by step InRegion bot.bid (cond (x || false) (Some bot.pos) None) in
     let G : Option Broken = broken_by step GroupShape bot.bid (cond (y || false) (Some bot.pos) None) in
-    (skip step bot.bid OutOfSpace a (not (in_space r P && (in_space r Q && true))) (B ∷ None ∷ I ∷ None ∷ G ∷ []) (both_in (in_space r P) (in_space r Q) i j)
+    (skip step bot.bid OutOfSpace a (not (in_space r P && (in_space r Q && true))) (B ∷ None ∷ I ∷ None ∷ G ∷ []) (within_two (in_space r P) (in_space r Q) i j)
     ∙ (unblocked step bot.bid s.matrix (all_of s.matrix) (None ∷ I ∷ None ∷ G ∷ []) ∙ last_two I G))
     ∙ (λ n. first_value (broken_by step InRegion bot.bid (cond ((or_false x ∙ g) n) (Some bot.pos) None) ∷ broken_by step GroupShape bot.bid (cond ((or_false y ∙ h) n) (Some bot.pos) None) ∷ []))
 

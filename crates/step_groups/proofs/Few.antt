@@ -20,13 +20,15 @@ use Rattle.nano_spec.specs.First.{first_value}
 use Rattle.nano_spec.specs.Group.{are_partners, are_together, fuse, is_pair, members, share_region}
 use Rattle.nano_spec.specs.Rules.{broken_by, fault, here, rules_of_bots}
 use Rattle.nano_spec.specs.State.{State}
-use Rattle.step_order.proofs.Facts.{Rising, pairs_in, rising_is}
+use Rattle.nano_spec.proofs.Light.{here_false}
+use Rattle.step_order.proofs.Facts.{Rising, no_first, nothing, pairs_in, rising_is}
 use Rattle.step_order.proofs.Lists.{In, in_map, any_in}
 use Rattle.step_order.proofs.Together.{point_is}
+use Rattle.step_order.proofs.Judgements.{all_bots}
 use Rattle.step_groups.specs.Groups.{AreJudged}
 use Rattle.step_groups.specs.Judging.{act, first_fault, judge_bot, judge_each, later_rules}
 use Rattle.step_groups.proofs.Joined.{bot_in, in_all}
-use Rattle.step_groups.proofs.Mates.{bots_are, no_filter}
+use Rattle.step_groups.proofs.Mates.{no_filter}
 
 -- ---- no rule is broken
 
@@ -34,35 +36,21 @@ none_or : {A : Type 0} (x y : Option A) → option_or x y ≡ None → (x ≡ No
 none_or None y e = (refl, e)
 none_or (Some x) y e = cc
 
-none_first : {A : Type 0} (xs : List (Option A)) (x : Option A) → first_value xs ≡ None → In x xs → x ≡ None
-none_first [] x e i = absurd i
-none_first (Some a ∷ more) x e i = cc
-none_first (None ∷ more) x e (inl i) = i
-none_first (None ∷ more) x e (inr i) = none_first more x e i
-
-no_map : {A B : Type 0} (f : A → B) (o : Option A) → option_map f o ≡ None → o ≡ None
-no_map f None e = refl
-no_map f (Some a) e = cc
-
 pub unbroken : (s : State) (all : List Act) (step : ℕ) (xs : List Act) → judge_each s all step xs ≡ None → (a : Act) (rule : Rule) → In a xs → In rule rules_of_bots → fault s all a rule ≡ None
 unbroken s all step [] e a rule i j = absurd i
 unbroken s all step (x ∷ xs) e a rule (inl f) j =
     let judged = λ (r : Rule). broken_by step r x.bot.bid (fault s all x r) in
     let h : judge_bot s all step x ≡ None = (none_or (judge_bot s all step x) (judge_each s all step xs) e).0 in
     subst (λ (y : Act). fault s all y rule ≡ None) (sym f)
-    (no_map (λ (c : Coord). record { step = step; bid = x.bot.bid; rule = rule; at = c }) (fault s all x rule) (none_first (map judged rules_of_bots) (judged rule) h (in_map judged rule rules_of_bots j)))
+    (nothing (λ (c : Coord). record { step = step; bid = x.bot.bid; rule = rule; at = c }) (fault s all x rule) (no_first (map judged rules_of_bots) (judged rule) h (in_map judged rule rules_of_bots j)))
 unbroken s all step (x ∷ xs) e a rule (inr i) j = unbroken s all step xs (none_or (judge_bot s all step x) (judge_each s all step xs) e).1 a rule i j
-
-no_fault : (a : Act) (b : Bool) → here a b ≡ None → b ≡ false
-no_fault a true e = cc
-no_fault a false e = refl
 
 -- so the command of a bot that breaks no later rule stays in space
 pub stays_if : (s : State) (all : List Act) (step : ℕ) (a : Act) → first_fault s all step a later_rules ≡ None → IsTrue (stays_in_space s.matrix.resolution a)
 stays_if s all step a e =
     let judged = λ (r : Rule). broken_by step r a.bot.bid (fault s all a r) in
-    not_is_false (stays_in_space s.matrix.resolution a) (no_fault a (not (stays_in_space s.matrix.resolution a))
-    (no_map (λ (c : Coord). record { step = step; bid = a.bot.bid; rule = OutOfSpace; at = c }) (fault s all a OutOfSpace) (none_first (map judged later_rules) (judged OutOfSpace) e (inr (inr (inr (inl refl)))))))
+    not_is_false (stays_in_space s.matrix.resolution a) (here_false a (not (stays_in_space s.matrix.resolution a))
+    (nothing (λ (c : Coord). record { step = step; bid = a.bot.bid; rule = OutOfSpace; at = c }) (fault s all a OutOfSpace) (no_first (map judged later_rules) (judged OutOfSpace) e (inr (inr (inr (inl refl)))))))
 
 -- ---- how many members a group has
 
@@ -151,7 +139,7 @@ fits n s t h =
 
 module _ (bots : List Bot) (commands : List Command) (lengths : length commands ≡ length bots) (rising : AllPairs (λ a b. a.bid < b.bid) bots) (places : AllPairs (λ a b. a.pos ≢ b.pos) bots) where
   up : Rising (map (λ (x : Act). x.bot) (acts bots commands))
-  up = subst (λ (bs : List Bot). Rising bs) (sym (bots_are bots commands lengths)) (rising_is bots rising)
+  up = subst (λ (bs : List Bot). Rising bs) (sym (all_bots bots commands lengths)) (rising_is bots rising)
 
   same_bot : (a b : Act) → In a (acts bots commands) → In b (acts bots commands) → a.bot.pos ≡ b.bot.pos → a.bot.bid ≡ b.bot.bid
   same_bot a b i j e = by (pairs_in (λ (x y : Bot). x.pos ≢ y.pos) bots a.bot b.bot places (bot_in bots commands a i) (bot_in bots commands b j))
@@ -174,8 +162,8 @@ module _ (bots : List Bot) (commands : List Command) (lengths : length commands 
       omega (arith, e, both, bids, mates)
 
   few_by : (s : State) (b : Bot) (k : Command) → fault s (acts bots commands) (act b k) GroupShape ≡ None → length (members (acts bots commands) (act b k)) ≤ 8
-  few_by s b (GFill d f) e = fits _ (between (plus (position (act b (GFill d f))) d) (plus (plus (position (act b (GFill d f))) d) f)) _ (no_fault (act b (GFill d f)) _ e)
-  few_by s b (GVoid d f) e = fits _ (between (plus (position (act b (GVoid d f))) d) (plus (plus (position (act b (GVoid d f))) d) f)) _ (no_fault (act b (GVoid d f)) _ e)
+  few_by s b (GFill d f) e = fits _ (between (plus (position (act b (GFill d f))) d) (plus (plus (position (act b (GFill d f))) d) f)) _ (here_false (act b (GFill d f)) _ e)
+  few_by s b (GVoid d f) e = fits _ (between (plus (position (act b (GVoid d f))) d) (plus (plus (position (act b (GVoid d f))) d) f)) _ (here_false (act b (GVoid d f)) _ e)
   few_by s b Halt e = pair_at_most (act b Halt) (λ x. refl)
   few_by s b Wait e = pair_at_most (act b Wait) (λ x. refl)
   few_by s b Flip e = pair_at_most (act b Flip) (λ x. refl)
@@ -192,6 +180,6 @@ module _ (bots : List Bot) (commands : List Command) (lengths : length commands 
   judged s step e =
       let all : List Act = acts bots commands in
       record {
-        stays = in_all (λ (a : Act). IsTrue (stays_in_space s.matrix.resolution a)) all (λ a i. not_is_false (stays_in_space s.matrix.resolution a) (no_fault a (not (stays_in_space s.matrix.resolution a)) (unbroken s all step all e a OutOfSpace i (inr (inr (inr (inr (inl refl))))))));
+        stays = in_all (λ (a : Act). IsTrue (stays_in_space s.matrix.resolution a)) all (λ a i. not_is_false (stays_in_space s.matrix.resolution a) (here_false a (not (stays_in_space s.matrix.resolution a)) (unbroken s all step all e a OutOfSpace i (inr (inr (inr (inr (inl refl))))))));
         few = in_all (λ (a : Act). length (members all a) ≤ 8) all (λ a i. few_by s a.bot a.command (unbroken s all step all e a GroupShape i (inr (inr (inr (inr (inr (inr (inr (inr (inr (inl refl))))))))))));
       }

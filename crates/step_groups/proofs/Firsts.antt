@@ -8,6 +8,7 @@ use Rattle.vox_geom.specs.Space.{is_before}
 use Rattle.vox_geom.proofs.Firsts.{before-trans}
 use Rattle.vox_geom.proofs.Truths.{false_by, or_by_first, or_by_second, true_and_false}
 use Rattle.vox_planes.specs.Difference.{earlier}
+use Rattle.vox_planes.proofs.Differences.{earlier-least}
 
 right_only : (a b : Bool) → IsFalse a → IsTrue (a || b) → IsTrue b
 right_only true b h k = cc
@@ -27,23 +28,13 @@ before-not : (d b a : Coord) → IsFalse (is_before d b) → IsFalse (is_before 
 before-not d b a h k = grind (arith, nat_tests)
 
 -- the earlier of the least ones passes either
-pub earliest : (r : ℕ) (f g : Coord → Bool) (x y : Option Coord) → LeastOf r f x → LeastOf r g y → LeastOf r (λ c. f c || g c) (earlier x y)
-earliest r f g None None h k = λ d i. neither (f d) (g d) (h d i) (k d i)
-  where
-    neither : (a b : Bool) → IsFalse a → IsFalse b → IsFalse (a || b)
-    neither true b p q = p
-    neither false b p q = q
-earliest r f g None (Some c) h k = record {
-  within = k.within;
-  passes = or_by_second (f c) (g c) k.passes;
-  least = λ d i t. k.least d i (right_only (f d) (g d) (h d i) t);
 }
-earliest r f g (Some c) None h k = record {
+earlier-least r f g (Some c) None h k = record {
   within = h.within;
   passes = or_by_first (f c) (g c) h.passes;
   least = λ d i t. h.least d i (left_only (f d) (g d) (k d i) t);
 }
-earliest r f g (Some a) (Some b) h k = by (is_before b a) refl
+earlier-least r f g (Some a) (Some b) h k = by (is_before b a) refl
   where
     by : (t : Bool) → is_before b a ≡ t → LeastOf r (λ c. f c || g c) (cond t (Some b) (Some a))
     by true e = record {

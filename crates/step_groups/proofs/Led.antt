@@ -9,10 +9,11 @@ use Rattle.nano_spec.specs.declared.system.Bot.{Bot}
 use Rattle.nano_spec.specs.Act.{Act, acts}
 use Rattle.nano_spec.specs.Group.{are_together, is_leader}
 use Rattle.step_order.proofs.Facts.{Rising, rising_is}
+use Rattle.step_order.proofs.Judgements.{all_bots}
 use Rattle.step_groups.specs.Groups.{bid_of}
 use Rattle.step_groups.specs.Judging.{act}
 use Rattle.step_groups.proofs.Joined.{with_leader}
-use Rattle.step_groups.proofs.Mates.{bots_are, leads, split_at, take_more}
+use Rattle.step_groups.proofs.Mates.{leads, split_at, take_more}
 
 -- the bids of the leaders among the bots before a place
 abbrev pub led : List Bot → List Command → ℕ → List ℕ
@@ -29,7 +30,7 @@ module _ (bots : List Bot) (commands : List Command) (i : ℕ) (b : Bot) (k : Co
   whole = split_at bots commands i b k lt lengths bi ki
 
   up : Rising (map (λ (x : Act). x.bot) (xs ++ act b k ∷ ys))
-  up = subst (λ (zs : List Act). Rising (map (λ (x : Act). x.bot) zs)) whole (subst (λ (bs : List Bot). Rising bs) (sym (bots_are bots commands lengths)) (rising_is bots rising))
+  up = subst (λ (zs : List Act). Rising (map (λ (x : Act). x.bot) zs)) whole (subst (λ (bs : List Bot). Rising bs) (sym (all_bots bots commands lengths)) (rising_is bots rising))
 
   leads_here : is_leader (acts bots commands) (act b k) ≡ not (list_any (are_together (act b k)) xs)
   leads_here = ap (λ (zs : List Act). is_leader zs (act b k)) whole ∙ leads xs ys (act b k) up

@@ -18,13 +18,13 @@ use Rattle.nano_spec.specs.Rules.{broken_by, clash, judge_pairs}
 use Rattle.nano_spec.specs.Volatile.{is_volatile, is_volatile_of}
 use Rattle.step_order.proofs.Facts.{Rising, rising_is}
 use Rattle.step_order.proofs.Lists.{In, filter_every, none_find}
+use Rattle.step_order.proofs.Judgements.{all_bots}
 use Rattle.step_groups.specs.Apart.{AreAllApart, IsApartFrom}
 use Rattle.step_groups.specs.Boxes.{IsHull, in_boxes}
 use Rattle.step_groups.specs.Groups.{AreLone, judge_with}
 use Rattle.step_groups.specs.Judging.{is_alone}
 use Rattle.step_groups.proofs.Couples.{pairs_miss}
 use Rattle.step_groups.proofs.Joined.{in_all}
-use Rattle.step_groups.proofs.Mates.{bots_are}
 use Rattle.step_groups.proofs.Shared.{any-push}
 use Rattle.step_groups.proofs.Sums.{alone_leads, alone_members}
 
@@ -132,7 +132,7 @@ alone_in (b ∷ bots) (k ∷ commands) a h (inr i) = alone_in bots commands a (b
 
 module _ (m : Matrix) (bots : List Bot) (commands : List Command) (lengths : length commands ≡ length bots) (rising : AllPairs (λ a b. a.bid < b.bid) bots) (alone : IsTrue (list_all is_alone commands)) where
   up : Rising (map (λ (x : Act). x.bot) (acts bots commands))
-  up = subst (λ (bs : List Bot). Rising bs) (sym (bots_are bots commands lengths)) (rising_is bots rising)
+  up = subst (λ (bs : List Bot). Rising bs) (sym (all_bots bots commands lengths)) (rising_is bots rising)
 
   own_members : (a : Act) → In a (acts bots commands) → members (acts bots commands) a ≡ a ∷ []
   own_members a i = alone_members m (acts bots commands) up a i (alone_in bots commands a alone i)

@@ -39,11 +39,6 @@ take_more (x ∷ bots) (y ∷ commands) (suc i) b k h e f g =
     ap (λ j. acts (take j (x ∷ bots)) (take j (y ∷ commands))) n
     ∙ ap (λ (more : List Act). act x y ∷ more) (take_more bots commands i b k (omega arith) (omega arith) f g)
 
-pub bots_are : (bots : List Bot) (commands : List Command) → length commands ≡ length bots → map (λ (a : Act). a.bot) (acts bots commands) ≡ bots
-bots_are [] commands e = refl
-bots_are (b ∷ bots) [] e = absurd (omega arith)
-bots_are (b ∷ bots) (k ∷ commands) e = ap (λ bs. b ∷ bs) (bots_are bots commands (omega arith))
-
 pub in_middle : {X : Type 0} (xs ys : List X) (a : X) → In a (xs ++ a ∷ ys)
 in_middle [] ys a = inl refl
 in_middle (x ∷ xs) ys a = inr (in_middle xs ys a)

@@ -12,12 +12,13 @@ use Rattle.nano_spec.specs.Group.{are_together, is_leader, members}
 use Rattle.nano_spec.specs.Volatile.{is_volatile_of}
 use Rattle.step_order.proofs.Facts.{Rising, rising_is}
 use Rattle.step_order.proofs.Lists.{In}
+use Rattle.step_order.proofs.Judgements.{all_bots}
 use Rattle.step_groups.specs.Boxes.{AreBoxesIn, in_boxes}
 use Rattle.step_groups.specs.Groups.{AreGroups, bid_of, box_of_bot}
 use Rattle.step_groups.specs.Judging.{act, is_alone}
 use Rattle.step_groups.specs.declared.groups.Group.{Group}
 use Rattle.step_groups.proofs.Joined.{add_alone, add_joined, add_none, all_in, few_after}
-use Rattle.step_groups.proofs.Mates.{bots_are, in_middle, split_at, take_more}
+use Rattle.step_groups.proofs.Mates.{in_middle, split_at, take_more}
 use Rattle.step_groups.proofs.Lists.{to_end}
 
 module _ (r : ℕ) (bots : List Bot) (commands : List Command) (i : ℕ) (b : Bot) (k : Command) (lt : i < length bots) (lengths : length commands ≡ length bots) (bi : b ≡ get_or bots i b) (ki : k ≡ get_or commands i k) where
@@ -56,7 +57,7 @@ module _ (r : ℕ) (bots : List Bot) (commands : List Command) (i : ℕ) (b : Bo
 
   module _ (rising : AllPairs (λ a b. a.bid < b.bid) bots) where
     up : Rising (map (λ (x : Act). x.bot) (acts bots commands))
-    up = subst (λ (bs : List Bot). Rising bs) (sym (bots_are bots commands lengths)) (rising_is bots rising)
+    up = subst (λ (bs : List Bot). Rising bs) (sym (all_bots bots commands lengths)) (rising_is bots rising)
 
     pub few_here : list_any (are_together (act b k)) (acts (take i bots) (take i commands)) ≡ false → All (λ a. length (members (acts bots commands) a) ≤ 8) (acts bots commands) → length (filter (are_together (act b k)) (acts (take (length bots - (i + 1)) (drop (i + 1) bots)) (take (length commands - (i + 1)) (drop (i + 1) commands)))) ≤ 7
     few_here e h =

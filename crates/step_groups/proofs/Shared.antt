@@ -14,7 +14,7 @@ use Rattle.step_groups.specs.Boxes.{IsBoxIn, AreBoxesIn, in_boxes}
 use Rattle.vox_geom.specs.Least.{LeastOf}
 use Rattle.vox_geom.proofs.Truths.{both_true, false_by, first_of_two, or_of_and, second_of_two}
 use Rattle.vox_planes.specs.Difference.{earlier}
-use Rattle.step_groups.proofs.Firsts.{earliest}
+use Rattle.vox_planes.proofs.Differences.{earlier-least}
 
 -- what lies between two numbers below r is below r
 between_below : (r a b v : ℕ) → a < r → b < r → IsTrue (is_between (pos a) (pos b) (pos v)) → v < r
@@ -67,14 +67,14 @@ pub more_right : (r : ℕ) (s : Coord → Bool) (boxes : List Corners) (k : Corn
 more_right r s boxes k x y h i =
     least_same r (λ c. (s c && in_boxes boxes c) || (s c && is_within (span k) (point c))) (λ c. s c && in_boxes (boxes ++ k ∷ []) c) (earlier x y)
     (λ c. and_or (s c) (in_boxes boxes c) (is_within (span k) (point c)) ∙ ap (λ b. s c && b) (sym (any-push (λ l. is_within (span l) (point c)) boxes k)))
-    (earliest r (λ c. s c && in_boxes boxes c) (λ c. s c && is_within (span k) (point c)) x y h i)
+    (earlier-least r (λ c. s c && in_boxes boxes c) (λ c. s c && is_within (span k) (point c)) x y h i)
 
 -- one more box on the left
 pub more_left : (r : ℕ) (t : Coord → Bool) (boxes : List Corners) (k : Corners) (x y : Option Coord) → LeastOf r (λ c. in_boxes boxes c && t c) x → LeastOf r (λ c. is_within (span k) (point c) && t c) y → LeastOf r (λ c. in_boxes (boxes ++ k ∷ []) c && t c) (earlier x y)
 more_left r t boxes k x y h i =
     least_same r (λ c. (in_boxes boxes c && t c) || (is_within (span k) (point c) && t c)) (λ c. in_boxes (boxes ++ k ∷ []) c && t c) (earlier x y)
     (λ c. or_of_and (in_boxes boxes c) (is_within (span k) (point c)) (t c) ∙ ap (λ b. b && t c) (sym (any-push (λ l. is_within (span l) (point c)) boxes k)))
-    (earliest r (λ c. in_boxes boxes c && t c) (λ c. is_within (span k) (point c) && t c) x y h i)
+    (earlier-least r (λ c. in_boxes boxes c && t c) (λ c. is_within (span k) (point c) && t c) x y h i)
 
 pub take_one : {A : Type 0} (xs : List A) (j : ℕ) (x : A) → j < length xs → x ≡ get_or xs j x → take (j + 1) xs ≡ take j xs ++ x ∷ []
 take_one xs j x h e = rw add-one (take-suc xs j x h ∙ ap (λ v. take j xs ++ v ∷ []) (sym e))

@@ -11,22 +11,10 @@ use Rattle.nano_spec.specs.Act.{Act, position}
 use Rattle.nano_spec.specs.Group.{are_partners, fuse, is_pair, share_region}
 use Rattle.nano_spec.specs.Volatile.{is_volatile_of, volatile_regions}
 use Rattle.step_order.proofs.Together.{extent_is, region_parts}
+use Rattle.step_order.proofs.Faultless.{within_as}
 
 abbrev within_any : Point → Command → Point → Bool
 within_any q e x = list_any (λ s. is_within s x) (volatile_regions q e)
-
-between_same : (a b c d v : ℤ) → same_extent a b c d ≡ true → is_between a b v ≡ is_between c d v
-between_same a b c d v h = by (extent_is a b c d h)
-  where
-    by : ((a ≡ c) × (b ≡ d)) ⊎ ((a ≡ d) × (b ≡ c)) → is_between a b v ≡ is_between c d v
-    by (inl e) = λ i. is_between (e.0 i) (e.1 i) v
-    by (inr e) = (λ i. is_between (e.0 i) (e.1 i) v) ∙ or_swapped (int_le d v && int_le v c) (int_le c v && int_le v d)
-
--- the same regions have the same points
-within_same : (s t : Span) (x : Point) → same_region s t ≡ true → is_within s x ≡ is_within t x
-within_same s t x h =
-    let p = region_parts s t h in
-    λ i. between_same s.from.x s.to.x t.from.x t.to.x x.x p.0 i && between_same s.from.y s.to.y t.from.y t.to.y x.y p.1 i && between_same s.from.z s.to.z t.from.z t.to.z x.z p.2 i
 
 -- the halves of a fusion make their places volatile
 primary : (p : Point) (c : Command) (q : Point) (e : Command) (x : Point) → fuse p c q e ≡ true → within_any p c x ≡ is_within (just p) x
@@ -60,8 +48,8 @@ in_region false false false true e h = cc
 in_region false false false false e h = h
 
 pub of_sharer : (p : Point) (c : Command) (q : Point) (e : Command) (x : Point) → share_region p c q e ≡ true → within_any q e x ≡ true → (within_any p c x || is_within (just q) x) ≡ true
-of_sharer p (GFill d f) q (GFill e g) x h v = in_region (is_within (just p) x) (is_within (just q) x) (is_within (between (plus p d) (plus (plus p d) f)) x) (is_within (between (plus q e) (plus (plus q e) g)) x) (within_same (between (plus p d) (plus (plus p d) f)) (between (plus q e) (plus (plus q e) g)) x h) v
-of_sharer p (GVoid d f) q (GVoid e g) x h v = in_region (is_within (just p) x) (is_within (just q) x) (is_within (between (plus p d) (plus (plus p d) f)) x) (is_within (between (plus q e) (plus (plus q e) g)) x) (within_same (between (plus p d) (plus (plus p d) f)) (between (plus q e) (plus (plus q e) g)) x h) v
+of_sharer p (GFill d f) q (GFill e g) x h v = in_region (is_within (just p) x) (is_within (just q) x) (is_within (between (plus p d) (plus (plus p d) f)) x) (is_within (between (plus q e) (plus (plus q e) g)) x) (within_as (between (plus p d) (plus (plus p d) f)) (between (plus q e) (plus (plus q e) g)) x h) v
+of_sharer p (GVoid d f) q (GVoid e g) x h v = in_region (is_within (just p) x) (is_within (just q) x) (is_within (between (plus p d) (plus (plus p d) f)) x) (is_within (between (plus q e) (plus (plus q e) g)) x) (within_as (between (plus p d) (plus (plus p d) f)) (between (plus q e) (plus (plus q e) g)) x h) v
 of_sharer p c q e x h v = cc
 
 pub spot_of_sharer : (p : Point) (c : Command) (q : Point) (e : Command) (x : Point) → share_region p c q e ≡ true → is_within (just q) x ≡ true → within_any q e x ≡ true

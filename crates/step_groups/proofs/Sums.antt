@@ -14,8 +14,9 @@ use Rattle.nano_spec.specs.Volatile.{is_volatile_of}
 use Rattle.nano_spec.specs.Work.{volatile_count, volatile_total}
 use Rattle.step_order.proofs.Facts.{Rising, rising_is}
 use Rattle.step_order.proofs.Lists.{In}
+use Rattle.step_order.proofs.Judgements.{all_bots}
 use Rattle.step_groups.specs.Judging.{is_alone, touches_of}
-use Rattle.step_groups.proofs.Mates.{bots_are, group, leads, none_after, none_before}
+use Rattle.step_groups.proofs.Mates.{group, leads, none_after, none_before}
 
 -- the elements before one and after it
 record Within {X : Type 0} (x : X) (xs : List X) : Type 0 where
@@ -77,6 +78,6 @@ module _ (m : Matrix) (all : List Act) (up : Rising (map (λ (x : Act). x.bot) a
 pub touched : (m : Matrix) (bots : List Bot) (commands : List Command) (old new : ℕ) → length commands ≡ length bots → AllPairs (λ a b. a.bid < b.bid) bots → new ≤ old + sum_by (touches_of m) (acts bots commands) → new ≤ old + 2 * volatile_total m (acts bots commands)
 touched m bots commands old new lengths rising le =
     let all : List Act = acts bots commands in
-    let up : Rising (map (λ (x : Act). x.bot) all) = subst (λ (bs : List Bot). Rising bs) (sym (bots_are bots commands lengths)) (rising_is bots rising) in
+    let up : Rising (map (λ (x : Act). x.bot) all) = subst (λ (bs : List Bot). Rising bs) (sym (all_bots bots commands lengths)) (rising_is bots rising) in
     let most : sum_by (touches_of m) all ≤ 2 * volatile_total m all = summed m all up all (λ a i. i) in
     omega (arith, most, le)

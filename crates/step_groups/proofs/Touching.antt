@@ -36,7 +36,7 @@ count_more f g (x ∷ xs) h =
     let i = count_more f g xs h in
     omega (arith, a, b, e, i)
 
-high_within : (r : ℕ) (k : Corners) (a b : Coord) → k ≡ corners a b → IsInSpace r a → IsInSpace r b → IsInSpace r k.high
+pub high_within : (r : ℕ) (k : Corners) (a b : Coord) → k ≡ corners a b → IsInSpace r a → IsInSpace r b → IsInSpace r k.high
 high_within r k a b e h i = subst (λ (l : Corners). IsInSpace r l.high) (sym e) (record { x = below r a.x b.x h.x i.x; y = below r a.y b.y h.y i.y; z = below r a.z b.z h.z i.z })
   where
     below : (r m n : ℕ) → m < r → n < r → max m n < r

@@ -19,9 +19,6 @@ pairs_of {X} (x ∷ xs) h zero (suc j) d l k e = h.0 (subst (λ (y : X). In y xs
 pairs_of (x ∷ xs) h (suc i) zero d l k e = omega arith
 pairs_of (x ∷ xs) h (suc i) (suc j) d l k e = pairs_of xs h.1 i j d (omega arith) (omega arith) e
 
-pub held : {X : Type 0} (x : X) (xs : List X) → Contains xs x → In x xs
-held {X} x xs h = subst (λ (y : X). In y xs) h.2 (place_in x xs h.0 h.1)
-
 pub holds : {X : Type 0} (x : X) (xs : List X) → In x xs → Contains xs x
 holds x xs h = let p = in_place x x xs h in (p.0, p.1, p.2)
 

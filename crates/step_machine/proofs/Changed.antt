@@ -25,8 +25,10 @@ use Rattle.step_order.proofs.Groups.{Differ, differ_acts, differ_filter, led}
 use Rattle.step_order.proofs.Lists.{In, any_in, both, filter_in, flat_in, in_any, in_filter, in_flat, not_both, true_or_false}
 use Rattle.step_order.proofs.Together.{Together, extent_is, itself, partners, region_parts, shares, together_is, with_itself}
 use Rattle.step_order.proofs.Voxels.{as_it_is, coordinates_within, in_coordinates, matrix_same}
+use Rattle.step_order.proofs.Faultless.{within_as}
+use Rattle.step_order.proofs.Turns.{held}
 use Rattle.step_machine.specs.Edits.{cells_of, cells_of_all, is_edited}
-use Rattle.step_machine.proofs.Apart.{Apart, apart_coordinates, apart_filter, apart_flat, held, holds, pairs_of}
+use Rattle.step_machine.proofs.Apart.{Apart, apart_coordinates, apart_filter, apart_flat, holds, pairs_of}
 use Rattle.step_machine.proofs.Regions.{one_edit}
 
 -- ---- members of a group make the same edit
@@ -35,21 +37,13 @@ axis : (a b c d v : ℤ) → ((a ≡ c) × (b ≡ d)) ⊎ ((a ≡ d) × (b ≡ c
 axis a b c d v (inl e) = λ i. is_between (e.0 i) (e.1 i) v
 axis a b c d v (inr e) = (λ i. is_between (e.0 i) (e.1 i) v) ∙ or_swapped (int_le d v && int_le v c) (int_le c v && int_le v d)
 
-same_points : (s t : Span) (p : Point) → same_region s t ≡ true → is_within s p ≡ is_within t p
-same_points s t p h =
-    let parts = region_parts s t h in
-    let x = axis s.from.x s.to.x t.from.x t.to.x p.x (extent_is s.from.x s.to.x t.from.x t.to.x parts.0) in
-    let y = axis s.from.y s.to.y t.from.y t.to.y p.y (extent_is s.from.y s.to.y t.from.y t.to.y parts.1) in
-    let z = axis s.from.z s.to.z t.from.z t.to.z p.z (extent_is s.from.z s.to.z t.from.z t.to.z parts.2) in
-    λ i. x i && y i && z i
-
 shared_void : (p : Point) (c : Command) (q : Point) (e : Command) (x : Point) → share_region p c q e ≡ true → list_any (λ s. is_within s x) (voided p c) ≡ list_any (λ s. is_within s x) (voided q e)
 shared_void p (GFill d f) q (GFill e g) x h = refl
-shared_void p (GVoid d f) q (GVoid e g) x h = ap (λ b. b || false) (same_points (between (plus p d) (plus (plus p d) f)) (between (plus q e) (plus (plus q e) g)) x h)
+shared_void p (GVoid d f) q (GVoid e g) x h = ap (λ b. b || false) (within_as (between (plus p d) (plus (plus p d) f)) (between (plus q e) (plus (plus q e) g)) x h)
 shared_void p c q e x h = cc
 
 shared_fill : (p : Point) (c : Command) (q : Point) (e : Command) (x : Point) → share_region p c q e ≡ true → list_any (λ s. is_within s x) (filled p c) ≡ list_any (λ s. is_within s x) (filled q e)
-shared_fill p (GFill d f) q (GFill e g) x h = ap (λ b. b || false) (same_points (between (plus p d) (plus (plus p d) f)) (between (plus q e) (plus (plus q e) g)) x h)
+shared_fill p (GFill d f) q (GFill e g) x h = ap (λ b. b || false) (within_as (between (plus p d) (plus (plus p d) f)) (between (plus q e) (plus (plus q e) g)) x h)
 shared_fill p (GVoid d f) q (GVoid e g) x h = refl
 shared_fill p c q e x h = cc
 

@@ -9,6 +9,7 @@ use Rattle.vox_geom.specs.Point.{point, plus, same_point}
 use Rattle.vox_geom.specs.Region.{is_within, just}
 use Rattle.vox_geom.specs.Space.{IsInSpace}
 use Rattle.vox_geom.proofs.Truths.{and_by_second, or_false}
+use Rattle.vox_geom.proofs.Points.{point_itself}
 use Rattle.nano_spec.specs.declared.commands.Command.{Command}
 use Rattle.nano_spec.specs.declared.system.Bot.{Bot}
 use Rattle.nano_spec.specs.Act.{acts}
@@ -21,7 +22,7 @@ use Rattle.nano_spec.specs.Step.{after, harmonics_after}
 use Rattle.nano_spec.specs.Work.{volatile_total}
 use Rattle.step_groups.specs.Judging.{edit_of, act}
 use Rattle.step_groups.proofs.Alone.{single_leaders}
-use Rattle.vox_planes.proofs.Voxels.{same_point-is, same_point-refl}
+use Rattle.vox_planes.proofs.Voxels.{same_point-is}
 use Rattle.system_state.proofs.OnlyBot.{within_just}
 use Rattle.system_state.proofs.Single.{only_one}
 use Rattle.step_machine.specs.Edits.{cells_of, cells_of_all, edit_count, edits_of, edits_total}
@@ -59,7 +60,7 @@ module _ (m : Matrix) (b : Bot) (d : Diff) (at : Coord) (named : point at ≡ pl
   cell_by test =
       ap (λ (f : Coord → Bool). filter (λ c. test c && f c) (all_of m)) (λ i c. here c i)
       ∙ (only_one m.resolution (λ c. test c && same_point (point c) (point at)) at stays (λ c ne. and_false (test c) (same_point (point c) (point at)) (λ h. ne (same_point-is c at h)))
-      ∙ ap (λ t. cond t (at ∷ []) []) (and_by_second (test at) (same_point (point at) (point at)) (same_point-refl at)))
+      ∙ ap (λ t. cond t (at ∷ []) []) (and_by_second (test at) (same_point (point at) (point at)) (point_itself at)))
 
   cell_there : filter (λ c. is_within (just (plus (point b.pos) d)) (point c) || false) (all_of m) ≡ at ∷ []
   cell_there = cell_by (λ c. true)

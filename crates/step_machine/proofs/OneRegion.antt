@@ -24,15 +24,17 @@ use Rattle.vox_planes.proofs.Walks.{is_of}
 use Rattle.support_forest.specs.Standing.{AreRemoved, IsVoided, IsVoidedCheaply, Standing}
 use Rattle.step_order.proofs.Lists.{In, both, filter_in, in_filter}
 use Rattle.step_order.proofs.Voxels.{in_coordinates}
+use Rattle.step_order.proofs.Turns.{held}
 use Rattle.step_groups.specs.Judging.{act}
+use Rattle.step_groups.proofs.Touching.{high_within}
 use Rattle.system_state.specs.declared.edited.EditedRegion.{EditedRegion}
 use Rattle.system_state.specs.Edited.{IsEditedRegion, region_of}
 use Rattle.step_machine.specs.Edits.{cells_of, cells_of_all, edit_count, edits_of, edits_total, is_change, is_edit, is_edited}
 use Rattle.step_machine.specs.Settling.{IsOnlyRegion, IsRefitted, IsVoidedRegion}
-use Rattle.step_machine.proofs.Apart.{held, holds}
+use Rattle.step_machine.proofs.Apart.{holds}
 use Rattle.step_machine.proofs.Cells.{IsRegionOf, no_cells, size_is}
 use Rattle.step_machine.proofs.Refitting.{cheap_none, counted, is_refitted, won_none}
-use Rattle.step_machine.proofs.Regions.{change_is_other, edits_nothing, edits_region, high_within}
+use Rattle.step_machine.proofs.Regions.{change_is_other, edits_nothing, edits_region}
 use Rattle.step_machine.proofs.Working.{edits_are_volatile}
 
 -- ---- what a command voids

@@ -8,16 +8,16 @@ use Rattle.vox_geom.specs.declared.coordinate.Coord.{Coord}
 use Rattle.vox_geom.specs.Point.{are_adjacent, point, same_point}
 use Rattle.vox_geom.specs.Space.{in_space}
 use Rattle.vox_geom.proofs.Truths.{first_of_two, not_is_true, one_of_two, or_by_first, or_by_second, second_of_two}
+use Rattle.vox_geom.proofs.Points.{coordinate_by_test, space_by_test}
 use Rattle.nano_spec.specs.First.{FirstFailing}
 use Rattle.nano_spec.specs.Grounded.{FirstUngrounded, Grounded, is_path, is_path_from}
 use Rattle.nano_spec.specs.Level.{Level}
 use Rattle.nano_spec.specs.Matrix.{Matrix, all_of, is_full}
 use Rattle.nano_spec.specs.Work.{LevelsOf}
-use Rattle.nano_spec.proofs.Coordinates.{in_space-is}
 use Rattle.step_order.proofs.Lists.{In, any_in, any_none, both, in_any, not_both, true_or_false}
 use Rattle.step_order.proofs.Voxels.{coordinates_within, in_coordinates}
 use Rattle.support_forest.proofs.Counts.{count_more}
-use Rattle.support_forest.proofs.Levels.{same_coordinate, same_point_itself}
+use Rattle.support_forest.proofs.Levels.{same_point_itself}
 
 -- ---- what is held up by a path of at most n + 1 voxels
 
@@ -41,7 +41,7 @@ full_reached m (suc n) c h = by (one_of_two (reached m n c) (is_held m n c) h) (
     by (inr e) before = first_of_two (is_full m c) (list_any (holds m n c) (all_of m)) e
 
 listed : (m : Matrix) (c : Coord) → is_full m c ≡ true → In c (all_of m)
-listed m c h = in_coordinates m.resolution c (in_space-is m.resolution c (first_of_two (in_space m.resolution (point c)) _ h))
+listed m c h = in_coordinates m.resolution c (space_by_test m.resolution c (first_of_two (in_space m.resolution (point c)) _ h))
 
 held : (m : Matrix) (n : ℕ) (c d : Coord) → is_full m c ≡ true → are_adjacent c d ≡ true → reached m n d ≡ true → reached m (suc n) c ≡ true
 held m n c d f a h = or_by_second (reached m n c) (is_held m n c) (both f (in_any (holds m n c) d (all_of m) (listed m d (full_reached m n d h)) (both a h)))
@@ -78,7 +78,7 @@ too_short : (m : Matrix) (n : ℕ) (a : Coord) (path : List Coord) → reached m
 too_short m n a path f p = elim (cases_lt n (length path)) [ inl l ↦ l | inr l ↦ absurd (not_both (reached_by m n a path p l) f) ]
 
 begins : (c a : Coord) (path : List Coord) (m : Matrix) → IsTrue (is_path_from m c (a ∷ path)) → c ≡ a
-begins c a path m p = same_coordinate c a (first_of_two (same_point (point c) (point a)) (is_path m (a ∷ path)) p)
+begins c a path m p = coordinate_by_test c a (first_of_two (same_point (point c) (point a)) (is_path m (a ∷ path)) p)
 
 longer : (m : Matrix) (n : ℕ) (c : Coord) → reached m n c ≡ false → (path : List Coord) → IsTrue (is_path_from m c path) → suc n < length path
 longer m n c f [] p = cc

@@ -19,11 +19,12 @@ use Rattle.nano_spec.specs.Work.{Levels, volatile_total, without_voided}
 use Rattle.support_forest.specs.Standing.{AreAdded, AreRemoved, IsCheap, MayAdd, MayRemove, Standing}
 use Rattle.step_order.proofs.Facts.{IsGood, good_is}
 use Rattle.step_order.proofs.Lists.{In, any_in}
+use Rattle.step_order.proofs.After.{commands_are}
+use Rattle.step_order.proofs.Turns.{held}
 use Rattle.step_machine.specs.Edits.{edits_of, edits_total, is_edit, is_edited}
-use Rattle.step_machine.proofs.Apart.{held}
 use Rattle.step_machine.proofs.Changed.{between_is, cell_of, may_add, may_remove, new_is}
 use Rattle.step_machine.specs.Settling.{IsRefitted}
-use Rattle.step_machine.proofs.Sizes.{acts_few, changes_most, commands_are}
+use Rattle.step_machine.proofs.Sizes.{acts_few, changes_most}
 use Rattle.step_machine.proofs.Working.{refit_touches}
 use Rattle.step_groups.specs.Judging.{act}
 

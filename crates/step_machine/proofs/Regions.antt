@@ -86,14 +86,6 @@ pub idle_edits_nothing : (b : Bot) (k : Command) (full : Bool) → IsIdle b k �
 idle_edits_nothing b k true h c = none (voided (point b.pos) k) c h.voided
 idle_edits_nothing b k false h c = none (filled (point b.pos) k) c h.filled
 
--- the region between two coordinates of the matrix is in it
-pub high_within : (r : ℕ) (k : Corners) (a b : Coord) → k ≡ corners a b → IsInSpace r a → IsInSpace r b → IsInSpace r k.high
-high_within r k a b e h i =
-    let x : k.high.x ≡ max a.x b.x = ap (λ (c : Corners). c.high.x) e in
-    let y : k.high.y ≡ max a.y b.y = ap (λ (c : Corners). c.high.y) e in
-    let z : k.high.z ≡ max a.z b.z = ap (λ (c : Corners). c.high.z) e in
-    record { x = omega (arith, x, h.x, i.x); y = omega (arith, y, h.y, i.y); z = omega (arith, z, h.z, i.z) }
-
 -- ---- an act voids or fills
 
 -- whether the command voids something

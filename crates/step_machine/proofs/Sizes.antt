@@ -25,10 +25,13 @@ use Rattle.nano_spec.specs.Rules.{corners_of, here, is_misshapen, repeats}
 use Rattle.nano_spec.specs.State.{State}
 use Rattle.nano_spec.specs.declared.outcomes.Rule.TheVariants.{GroupShape}
 use Rattle.nano_spec.specs.Matrix.{Matrix, all_of}
+use Rattle.nano_spec.proofs.Light.{here_false}
+use Rattle.nano_spec.proofs.Codes.{far_bounds}
 use Rattle.step_order.proofs.Lists.{In, all_in, any_in, filter_in, flat_in, in_any, in_filter, not_both}
 use Rattle.step_order.proofs.Facts.{IsGood}
 use Rattle.step_order.proofs.Groups.{Differ, differ_acts}
 use Rattle.step_order.proofs.Together.{number_is, together_back, together_on, with_itself}
+use Rattle.energy_sum.proofs.Bounds.{extent_far}
 use Rattle.step_machine.proofs.Apart.{Apart, apart_filter, apart_flat}
 use Rattle.step_machine.specs.Edits.{edit_count, edits_total}
 use Rattle.step_groups.specs.Judging.{act}
@@ -64,12 +67,6 @@ region_most s x y z =
     let e = eights (extent s.from.x s.to.x) (extent s.from.y s.to.y) (extent s.from.z s.to.z) in
     let p = powers (same_number s.from.x s.to.x) (same_number s.from.y s.to.y) (same_number s.from.z s.to.z) in
     omega (arith, le, e, p)
-
-far_bounds : (d : Diff) → IsFar d → (unsigned_abs d.dx ≤ 30) × (unsigned_abs d.dy ≤ 30) × (unsigned_abs d.dz ≤ 30)
-far_bounds d h = grind (arith, nat_tests)
-
-extent_far : (a d : ℤ) → unsigned_abs d ≤ 30 → extent a (a +ℤ d) ≤ 31
-extent_far a d h = omega (arith, ints)
 
 far_most : (p : Point) (f : Diff) → IsFar f → 8 * size (between p (plus p f)) ≤ 29791 * 2 ^ dimension (between p (plus p f))
 far_most p f h = let b = far_bounds f h in region_most (between p (plus p f)) (extent_far p.x f.dx b.0) (extent_far p.y f.dy b.1) (extent_far p.z f.dz b.2)
@@ -175,10 +172,6 @@ some_in : {X : Type 0} (x : X) (xs : List X) → In x xs → 1 ≤ length xs
 some_in x [] h = absurd h
 some_in x (y ∷ ys) h = omega arith
 
-not_here : (a : Act) (b : Bool) → here a b ≡ None → b ≡ false
-not_here a true e = cc
-not_here a false e = refl
-
 abbrev member_count : List Act → Act → ℕ
 member_count all l = length (members all l)
 
@@ -223,7 +216,7 @@ module _ (s : State) (all : List Act) (good : IsGood s all) where
   fits : (l : Act) → In l (leaders all) → Fits l (member_count all l)
   fits l i = (
     none_of_either (λ t. not (length (members all l) == 2 ^ dimension t)) (λ t. repeats (flat_map (λ b. corners_of (position b) b.command) (members all l))) (group_regions (position l) l.command)
-        (not_here l (is_misshapen all l) (good.keeps l GroupShape (lead l i) (inr (inr (inr (inr (inr (inr (inr (inr (inr (inl refl)))))))))))),
+        (here_false l (is_misshapen all l) (good.keeps l GroupShape (lead l i) (inr (inr (inr (inr (inr (inr (inr (inr (inr (inl refl)))))))))))),
     some_in l (members all l) (in_filter (are_together l) l all (lead l i) (with_itself l)),
   )
 
@@ -232,13 +225,6 @@ module _ (s : State) (all : List Act) (good : IsGood s all) where
       let t = group_totals s.matrix all (leaders all) (λ l i. act_most s.matrix l.bot l.command (member_count all l) (are l (lead l i)) (fits l i)) in
       let n = members_most in
       omega (arith, t, n, few)
-
--- the commands of the acts
-pub commands_are : (bots : List Bot) (commands : List Command) → AreCommands commands → (a : Act) → In a (acts bots commands) → is_command a.command ≡ true
-commands_are [] commands h a i = absurd i
-commands_are (b ∷ bots) [] h a i = absurd i
-commands_are (b ∷ bots) (c ∷ commands) h a (inl e) = ap (λ (x : Act). is_command x.command) e ∙ h.0
-commands_are (b ∷ bots) (c ∷ commands) h a (inr i) = commands_are bots commands h.1 a i
 
 pub acts_few : (bots : List Bot) (commands : List Command) → length (acts bots commands) ≤ length bots
 acts_few [] commands = omega arith

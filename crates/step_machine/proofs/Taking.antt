@@ -7,9 +7,10 @@ use Rattle.vox_geom.specs.declared.coordinate.Coord.{Coord}
 use Rattle.vox_geom.specs.Point.{point, same_point}
 use Rattle.vox_geom.specs.Space.{IsInSpace}
 use Rattle.vox_geom.proofs.Truths.{false_by, or_by_first, same_truth}
+use Rattle.vox_geom.proofs.Points.{point_itself}
 use Rattle.vox_planes.specs.Changes.{Changes}
 use Rattle.vox_planes.specs.Voxel.{IsWhole}
-use Rattle.vox_planes.proofs.Voxels.{same_point-is, same_point-refl}
+use Rattle.vox_planes.proofs.Voxels.{same_point-is}
 use Rattle.nano_spec.specs.declared.commands.Command.{Command}
 use Rattle.nano_spec.specs.Act.{acts}
 use Rattle.nano_spec.specs.Matrix.{Matrix, all_of, differ_at, is_full, matrix_where}
@@ -22,11 +23,12 @@ use Rattle.system_state.specs.Painting.{is_cell, with_cells}
 use Rattle.step_order.proofs.Facts.{IsGood, good_is}
 use Rattle.step_order.proofs.Lists.{In, any_in, in_any, not_both, place_in}
 use Rattle.step_order.proofs.Voxels.{as_it_is, full_where, matrix_same}
+use Rattle.step_order.proofs.Turns.{held}
 use Rattle.step_machine.specs.Edits.{edits_of}
 use Rattle.step_machine.specs.Situation.{IsEnergyBounded, IsConsistent, Situation}
 use Rattle.step_machine.specs.Undoing.{HaveChanged, IsNote, IsUndoneBy, IsMachineState, MayUndo, matrix_before, state_before, without_filled}
 use Rattle.step_machine.specs.declared.undo.Undo.{Undo}
-use Rattle.step_machine.proofs.Apart.{held, holds, pairs_of}
+use Rattle.step_machine.proofs.Apart.{holds, pairs_of}
 use Rattle.step_machine.proofs.Changed.{cell_of, cells_apart, of_cell, one_way, state_void, void_state}
 use Rattle.step_machine.proofs.Stepping.{seen}
 use Rattle.step_machine.proofs.Working.{all_change}
@@ -34,7 +36,7 @@ use Rattle.step_machine.proofs.Working.{all_change}
 -- ---- cells that a matrix gains and loses
 
 pub among : (cells : List Coord) (d : Coord) → In d cells → is_cell cells d ≡ true
-among cells d i = in_any (λ c. same_point (point d) (point c)) d cells i (same_point-refl d)
+among cells d i = in_any (λ c. same_point (point d) (point c)) d cells i (point_itself d)
 
 pub of_among : (cells : List Coord) (d : Coord) → is_cell cells d ≡ true → In d cells
 of_among cells d h =

@@ -84,7 +84,7 @@ agree_in (x ∷ xs) h a b (inl i) (inr j) = subst (λ (y : Act). Agree y b) (sym
 agree_in (x ∷ xs) h a b (inr i) (inl j) = subst (λ (y : Act). Agree a y) (sym j) (turned x a (meets x a (all_by (λ (y : Act). MayMeet x y) xs a h.0 i)))
 agree_in (x ∷ xs) h a b (inr i) (inr j) = agree_in xs h.1 a b i j
 
-one_way : (way full : Bool) → (IsTrue way → full ≡ false) → (full && (way || false)) ≡ false
+pub one_way : (way full : Bool) → (IsTrue way → full ≡ false) → (full && (way || false)) ≡ false
 one_way true full f = rw (f refl) refl
 one_way false full f = and_false full
 
@@ -210,7 +210,7 @@ dimension_as s t h =
     let z = differs_as s.from.z s.to.z t.from.z t.to.z p.2 in
     λ i. x i + y i + z i
 
-between_as : (a b c d v : ℤ) → same_extent a b c d ≡ true → is_between a b v ≡ is_between c d v
+pub between_as : (a b c d v : ℤ) → same_extent a b c d ≡ true → is_between a b v ≡ is_between c d v
 between_as a b c d v h = by (extent_is a b c d h)
   where
     or_turned : (x y : Bool) → (x || y) ≡ (y || x)

@@ -31,7 +31,7 @@ use Rattle.step_order.proofs.Order.{AreLeaders, AreOrdered, at_last, group_step,
 use Rattle.step_order.proofs.Sums.{hit, one_hit_most}
 use Rattle.step_order.proofs.Together.{with_itself}
 
-held : {X : Type 0} (x : X) (xs : List X) → Contains xs x → In x xs
+pub held : {X : Type 0} (x : X) (xs : List X) → Contains xs x → In x xs
 held {X} x xs h = subst (λ (y : X). In y xs) h.2 (place_in x xs h.0 h.1)
 
 -- all leaders in some order

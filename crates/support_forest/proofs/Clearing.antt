@@ -3,6 +3,7 @@ use Rattle.std.proofs.Common.{◌≡◌, ℕ, zero, suc, ◌+◌, ◌-◌, ◌*�
 use Rattle.std.specs.Prelude.{slice_index_or}
 use Rattle.std.proofs.lemmas.Bool.{cases_lt, cases_eq}
 use Rattle.vox_geom.specs.declared.coordinate.Coord.{Coord}
+use Rattle.vox_geom.proofs.Points.{same_or_not}
 use Rattle.support_forest.specs.Directions.{Toward}
 use Rattle.support_forest.specs.Grid.{Grid, word_at}
 use Rattle.support_forest.specs.Losing.{CanRemove}
@@ -10,7 +11,6 @@ use Rattle.support_forest.specs.Stretches.{AreCleared, IsPast, IsStretch, IsTaki
 use Rattle.support_forest.specs.Taking.{HaveTaken, IsNoParent}
 use Rattle.support_forest.specs.Words.{AreExact, IsWritten}
 use Rattle.support_forest.proofs.Each.{before_last, taking_listed, taking_taken}
-use Rattle.support_forest.proofs.Settling.{same_or_not}
 use Rattle.support_forest.proofs.Taking.{exact_without}
 
 -- ---- voxels of a row become void

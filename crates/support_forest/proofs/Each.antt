@@ -8,6 +8,7 @@ use Rattle.std.proofs.Math.Seq.{get_or-append_seam}
 use Rattle.std.proofs.lemmas.List.Elements.{Contains-append_left, Contains-push, Contains-push_cases}
 use Rattle.vox_geom.specs.declared.coordinate.Coord.{Coord}
 use Rattle.vox_geom.specs.Space.{IsInSpace, coordinates}
+use Rattle.vox_geom.proofs.Points.{same_or_not}
 use Rattle.support_forest.specs.Grid.{Grid, word_at}
 use Rattle.support_forest.specs.Losing.{CanRemove, HaveRemoved}
 use Rattle.support_forest.specs.Placing.{ArePlaced, HavePlaced}
@@ -17,7 +18,6 @@ use Rattle.support_forest.specs.Waiting.{CanAdd, HaveAdded}
 use Rattle.support_forest.specs.Words.{height, AreExact, has_changed, changed}
 use Rattle.support_forest.proofs.Counts.{count_le, differ, do_differ}
 use Rattle.support_forest.proofs.Marks.{IsMarked}
-use Rattle.support_forest.proofs.Settling.{same_or_not}
 
 -- ---- lists
 

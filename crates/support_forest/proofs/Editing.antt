@@ -5,11 +5,12 @@ use Rattle.std.proofs.lemmas.Bool.{false≢true}
 use Rattle.vox_geom.specs.declared.coordinate.Coord.{Coord}
 use Rattle.vox_geom.specs.Point.{point, same_point}
 use Rattle.vox_geom.proofs.Truths.{one_of_two, or_by_first, or_by_second, same_truth}
+use Rattle.vox_geom.proofs.Points.{coordinate_by_test}
 use Rattle.nano_spec.specs.Matrix.{Matrix, is_full}
 use Rattle.support_forest.specs.Edits.{Edit, adds, removes, AreEdited, is_among, is_left}
 use Rattle.support_forest.specs.Standing.{AreAdded, AreRemoved}
 use Rattle.support_forest.proofs.Counts.{later}
-use Rattle.support_forest.proofs.Levels.{same_coordinate, same_point_itself}
+use Rattle.support_forest.proofs.Levels.{same_point_itself}
 
 and_not : (a b : Bool) → a ≡ true → (b ≡ true → ⊥) → (a && not b) ≡ true
 and_not true true h n = absurd (n refl)
@@ -27,7 +28,7 @@ and_second false b h e = cc
 among_is : (c : Coord) (cells : List Coord) → is_among c cells ≡ true → Contains cells c
 among_is c [] h = cc
 among_is c (d ∷ more) h = elim (one_of_two (same_point (point c) (point d)) (is_among c more) h) [
-  | inl e ↦ (0, omega arith, sym (same_coordinate c d e))
+  | inl e ↦ (0, omega arith, sym (coordinate_by_test c d e))
   | inr e ↦ later d c more (among_is c more e)
 ]
 

@@ -6,6 +6,7 @@ use Rattle.std.proofs.lemmas.Bool.{cases_lt, false≢true}
 use Rattle.std.proofs.lemmas.List.{get_or_default}
 use Rattle.vox_geom.specs.declared.coordinate.Coord.{Coord}
 use Rattle.vox_geom.specs.Space.{IsInSpace}
+use Rattle.vox_geom.proofs.Points.{same_or_not}
 use Rattle.support_forest.specs.declared.candidate.Candidate.{Candidate}
 use Rattle.support_forest.specs.declared.beside.Beside.{Beside}
 use Rattle.support_forest.specs.declared.place.Around.{Around}
@@ -16,7 +17,7 @@ use Rattle.support_forest.specs.Waiting.{CanAdd, HaveAdded}
 use Rattle.support_forest.specs.Words.{height, AreExact, AreSettling, IsSound, IsWritten}
 use Rattle.support_forest.proofs.Nearby.{each_beside, toward_down}
 use Rattle.support_forest.proofs.Depth.{not_deep}
-use Rattle.support_forest.proofs.Settling.{same_or_not, sound_range}
+use Rattle.support_forest.proofs.Settling.{sound_range}
 use Rattle.support_forest.proofs.Sides.{back, one_toward, toward_range_seven}
 
 pub positive : (n : ℕ) → (n ≡ 0 → ⊥) → 0 < n

@@ -27,9 +27,9 @@ use Rattle.support_forest.proofs.Counts.{changed_most}
 use Rattle.support_forest.proofs.Each.{differ_more, no_member, none_differ}
 use Rattle.support_forest.proofs.Nearby.{same_slot}
 use Rattle.support_forest.proofs.Placing.{Fits, placed_with}
-use Rattle.support_forest.proofs.Settling.{same_or_not}
 use Rattle.vox_geom.specs.Point.{below as under}
 use Rattle.vox_geom.proofs.Truths.{false_and_true}
+use Rattle.vox_geom.proofs.Points.{same_or_not}
 
 -- ---- one voxel more in a heap
 
@@ -367,10 +367,10 @@ same_bool true b f g = sym (f refl)
 same_bool false true f g = g refl
 same_bool false false f g = refl
 
-positive : (n : ℕ) → IsTrue (nat_lt 0 n) → 0 < n
+pub positive : (n : ℕ) → IsTrue (nat_lt 0 n) → 0 < n
 positive n h = grind (arith, nat_tests)
 
-is_positive : (n : ℕ) → 0 < n → IsTrue (nat_lt 0 n)
+pub is_positive : (n : ℕ) → 0 < n → IsTrue (nat_lt 0 n)
 is_positive n h = grind (arith, nat_tests)
 
 module _ (m : Matrix) (mid new : Grid) (rest : List Coord) (before after : ℕ) (whole : IsWhole m) (h : IsHeaped m mid (volume m.resolution) rest)

@@ -3,6 +3,7 @@ use Rattle.std.proofs.Common.{◌≡◌, ℕ, ◌+◌, ◌%◌, ◌<◌, ◌≤�
 use Rattle.std.specs.Prelude.{slice_index_or}
 use Rattle.std.proofs.lemmas.List.{get_or_default}
 use Rattle.vox_geom.specs.declared.coordinate.Coord.{Coord}
+use Rattle.vox_geom.proofs.Points.{same_or_not}
 use Rattle.support_forest.specs.declared.beside.Beside.{Beside}
 use Rattle.support_forest.specs.Directions.{Toward}
 use Rattle.support_forest.specs.Grid.{Grid, word_at}
@@ -11,7 +12,6 @@ use Rattle.support_forest.specs.Placing.{AreBesideWords, IsWordToward}
 use Rattle.support_forest.specs.Taking.{HangsNot, HaveTaken, IsNoParent, NoneHangs}
 use Rattle.support_forest.specs.Words.{AreExact, IsWritten}
 use Rattle.support_forest.proofs.Placing.{only_one}
-use Rattle.support_forest.proofs.Settling.{same_or_not}
 
 pub none_hangs : (w : Coord → ℕ) (c : Coord) (b : Beside) → AreBesideWords w c b → NoneHangs b → IsNoParent w c
 unfolding Toward

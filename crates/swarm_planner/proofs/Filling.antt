@@ -11,6 +11,7 @@ use Rattle.vox_geom.specs.Space.{IsInSpace, in_range, in_space}
 use Rattle.vox_geom.proofs.Truths.{or_false, or_of_and, parts_of_three}
 use Rattle.vox_geom.proofs.Tests.{equal_by_test}
 use Rattle.vox_geom.proofs.Sums.{plus_none}
+use Rattle.vox_geom.proofs.Points.{between_is_equal, in_space_is, space_by_test}
 use Rattle.nano_spec.specs.declared.commands.Command.{Command}
 use Rattle.nano_spec.specs.declared.commands.Command.TheVariants.{Fill, Wait}
 use Rattle.nano_spec.specs.declared.system.Bot.{Bot}
@@ -22,7 +23,7 @@ use Rattle.nano_spec.specs.State.{State}
 use Rattle.nano_spec.specs.Step.{is_filled}
 use Rattle.nano_spec.specs.Volatile.{volatile_regions}
 use Rattle.step_order.specs.Unbroken.{AreFree, IsFree, MayAct}
-use Rattle.step_order.proofs.Voxels.{full_where, in_space_is}
+use Rattle.step_order.proofs.Voxels.{full_where}
 use Rattle.plan_tape.specs.declared.axis.Axis.TheVariants.{Z}
 use Rattle.plan_tape.specs.Crowd.{AllStep, FillsOrWaits, with_fills}
 use Rattle.plan_tape.specs.Progress.{TapeState, spot, state_of}
@@ -30,7 +31,6 @@ use Rattle.swarm_planner.specs.Building.{Fills, IsRaised, fill, fills, is_below,
 use Rattle.swarm_planner.specs.Crew.{AreLed, InRow, IsSwarm, places}
 use Rattle.swarm_planner.proofs.Rows.{led_row}
 use Rattle.swarm_planner.proofs.Fences.{AreFenced, IsFenced, IsInColumns, untangled}
-use Rattle.nano_spec.proofs.Coordinates.{in_space-is}
 
 -- ---- one bot
 
@@ -40,14 +40,11 @@ down_y n h = omega (arith, ints)
 pub below_is : (p : Coord) → 1 ≤ p.y → plus (point p) down ≡ point (below p)
 below_is p h = λ i. record { x = plus_none p.x i; y = down_y p.y h i; z = plus_none p.z i }
 
-only : (a v : ℕ) → is_between (pos a) (pos a) (pos v) ≡ (v == a)
-only a v = grind (arith, nat_tests)
-
 only_below : (a v : ℕ) → 1 ≤ a → is_between (pos (a - 1)) (pos (a - 1)) (pos v) ≡ (v + 1 == a)
 only_below a v h = grind (arith, nat_tests)
 
 within_below : (p c : Coord) → 1 ≤ p.y → is_within (just (plus (point p) down)) (point c) ≡ is_below p c
-within_below p c h = ap (λ q. is_within (just q) (point c)) (below_is p h) ∙ (λ i. only p.x c.x i && only_below p.y c.y h i && only p.z c.z i)
+within_below p c h = ap (λ q. is_within (just q) (point c)) (below_is p h) ∙ (λ i. between_is_equal p.x c.x i && only_below p.y c.y h i && between_is_equal p.z c.z i)
 
 less_one : (a b : ℕ) → (a + 1 == b) ≡ true → a ≡ b - 1
 less_one a b h = let e = equal_by_test (a + 1) b h in omega arith
@@ -165,15 +162,12 @@ outside n r c e o = no (in_space n.resolution (point c)) _ (ap (λ k. in_space k
     no : (a b : Bool) → a ≡ false → (a && b) ≡ false
     no a b f = rw f refl
 
-below_number : (r v : ℕ) → in_range r (pos v) ≡ true → v < r
-below_number r v h = grind (arith, nat_tests)
-
 pub raised_by : (m goal : Matrix) (bots : List Bot) (low : ℕ) → goal.resolution ≡ m.resolution → AreLed m.resolution 1 Z low (places bots) (places bots) → IsRaised (with_fills m (acts bots (fills m goal bots))) m goal (is_under (places bots))
 raised_by m goal bots low e k = λ c. by c (in_space m.resolution (point c)) refl
   where
     by : (c : Coord) (t : Bool) → in_space m.resolution (point c) ≡ t → is_full (with_fills m (acts bots (fills m goal bots))) c ≡ (is_full m c || (is_under (places bots) c && is_full goal c))
     by c true i =
-        full_where m.resolution (λ d. is_filled (acts bots (fills m goal bots)) d || is_full m d) c (in_space-is m.resolution c i)
+        full_where m.resolution (λ d. is_filled (acts bots (fills m goal bots)) d || is_full m d) c (space_by_test m.resolution c i)
         ∙ ((λ j. all_filled m goal c m.resolution low bots k j || is_full m c)
         ∙ together (is_under (places bots) c) (is_full goal c) (is_full m c))
     by c false o =

@@ -9,6 +9,7 @@ use Rattle.vox_geom.specs.Point.{Point, plus, point, same_number, same_point}
 use Rattle.vox_geom.specs.Space.{IsInSpace, in_space}
 use Rattle.vox_geom.proofs.Truths.{or_by_first, or_by_second}
 use Rattle.vox_geom.proofs.Sums.{less_one, plus_none}
+use Rattle.vox_geom.proofs.Points.{in_space_is, point_itself}
 use Rattle.nano_spec.specs.declared.commands.Command.{Command}
 use Rattle.nano_spec.specs.declared.commands.Command.TheVariants.{FusionP, FusionS, Wait}
 use Rattle.nano_spec.specs.declared.system.Bot.{Bot}
@@ -21,7 +22,6 @@ use Rattle.nano_spec.specs.State.{State}
 use Rattle.step_order.specs.Unbroken.{AreFree, IsFree}
 use Rattle.step_order.proofs.Judgements.{containing}
 use Rattle.step_order.proofs.Lists.{In}
-use Rattle.step_order.proofs.Voxels.{in_space_is}
 use Rattle.plan_tape.specs.Crowd.{FusesOrWaits, bots_fused}
 use Rattle.plan_tape.specs.Progress.{TapeState, spot, state_of}
 use Rattle.swarm_planner.specs.Crew.{places}
@@ -36,20 +36,14 @@ use Rattle.swarm_planner.proofs.Splitting.{right_is}
 left_is : (p : Coord) → plus (point (next_along_x p)) left ≡ point p
 left_is p = λ i. record { x = less_one p.x i; y = plus_none p.y i; z = plus_none p.z i }
 
-itself : (p : Coord) → same_point (point p) (point p) ≡ true
-itself p = λ i. same p.x i && same p.y i && same p.z i
-  where
-    same : (v : ℕ) → same_number (pos v) (pos v) ≡ true
-    same v = grind (arith, nat_tests)
-
 -- the next place is where the other bot stands
 beside_is : (p q : Coord) → q.x ≡ p.x + 1 → q.y ≡ p.y → q.z ≡ p.z → next_along_x p ≡ q
 beside_is p q e f g = λ i. record { x = sym e i; y = sym f i; z = sym g i }
 
 are_pair : (b c : Bot) → next_along_x b.pos ≡ c.pos → is_pair (record { bot = b; command = FusionP right }) (record { bot = c; command = FusionS left }) ≡ true
 are_pair b c e =
-    let to : same_point (plus (point b.pos) right) (point c.pos) ≡ true = (λ i. same_point (right_is b.pos i) (point (sym e i))) ∙ itself (next_along_x b.pos) in
-    let back : same_point (plus (point c.pos) left) (point b.pos) ≡ true = (λ i. same_point (plus (point (sym e i)) left) (point b.pos)) ∙ ((λ i. same_point (left_is b.pos i) (point b.pos)) ∙ itself b.pos) in
+    let to : same_point (plus (point b.pos) right) (point c.pos) ≡ true = (λ i. same_point (right_is b.pos i) (point (sym e i))) ∙ point_itself (next_along_x b.pos) in
+    let back : same_point (plus (point c.pos) left) (point b.pos) ≡ true = (λ i. same_point (plus (point (sym e i)) left) (point b.pos)) ∙ ((λ i. same_point (left_is b.pos i) (point b.pos)) ∙ point_itself b.pos) in
     λ i. to i && back i
 
 allowed : (profile : Profile) (k : Command) → profile ≡ light_profile → IsTrue (is_allowed light_profile k) → IsTrue (is_allowed profile k)

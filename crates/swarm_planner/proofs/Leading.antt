@@ -10,6 +10,7 @@ use Rattle.vox_geom.specs.Region.{Span, between, is_between, is_within}
 use Rattle.vox_geom.specs.Space.{coordinate}
 use Rattle.vox_geom.proofs.Truths.{second_of_three}
 use Rattle.vox_geom.proofs.Tests.{equal_by_test}
+use Rattle.vox_geom.proofs.Points.{from_one_end, in_space_is}
 use Rattle.nano_spec.specs.declared.commands.Command.TheVariants.{SMove, Wait}
 use Rattle.nano_spec.specs.declared.system.Bot.{Bot}
 use Rattle.nano_spec.specs.declared.system.Profile.{Profile}
@@ -19,7 +20,6 @@ use Rattle.nano_spec.specs.Profile.{is_allowed, light_profile}
 use Rattle.step_order.specs.Acting.{goal_of, gone}
 use Rattle.step_order.specs.Apart.{LieApart}
 use Rattle.step_order.specs.Unbroken.{IsFreeWay}
-use Rattle.step_order.proofs.Voxels.{in_space_is}
 use Rattle.plan_tape.specs.declared.axis.Axis.{Axis}
 use Rattle.plan_tape.specs.declared.axis.Axis.TheVariants.{X, Y, Z}
 use Rattle.plan_tape.specs.Crowd.{AreWaysApart, CanGo, MayGo, way}
@@ -52,16 +52,13 @@ goal_is axis p q h = by (component_of axis p == component_of axis q) refl
     by true e = ap point (stays_there axis p q h e)
     by false e = move_ends axis p q h
 
-one_of : (a b v : ℕ) → IsTrue (is_between (pos a) (pos b) (pos v)) → (a ≤ v) ⊎ (b ≤ v)
-one_of a b v t = grind (arith, nat_tests)
-
 from_height : (h a b v : ℕ) → h ≤ a → h ≤ b → (a ≤ v) ⊎ (b ≤ v) → h ≤ v
 from_height h a b v l m (inl k) = omega arith
 from_height h a b v l m (inr k) = omega arith
 
 -- between two places all is void from their height on
 pub void_way : (m : Matrix) (h : ℕ) (p q c : Coord) → IsVoidFrom m h → h ≤ p.y → h ≤ q.y → IsTrue (is_within (between (point p) (point q)) (point c)) → is_full m c ≡ false
-void_way m h p q c void l k t = void c (from_height h p.y q.y c.y l k (one_of p.y q.y c.y (second_of_three (is_between (pos p.x) (pos q.x) (pos c.x)) (is_between (pos p.y) (pos q.y) (pos c.y)) (is_between (pos p.z) (pos q.z) (pos c.z)) t)))
+void_way m h p q c void l k t = void c (from_height h p.y q.y c.y l k (from_one_end p.y q.y c.y (second_of_three (is_between (pos p.x) (pos q.x) (pos c.x)) (is_between (pos p.y) (pos q.y) (pos c.y)) (is_between (pos p.z) (pos q.z) (pos c.z)) t)))
 
 pub may_go : (m : Matrix) (h : ℕ) (axis : Axis) (low : ℕ) (p q : Coord) → IsVoidFrom m h → IsLed m.resolution h axis low p q → MayGo m (point p) (lead axis p q)
 may_go m h axis low p q void k = by (component_of axis p == component_of axis q)

@@ -6,6 +6,7 @@ use Rattle.vox_geom.specs.declared.coordinate.Coord.{Coord}
 use Rattle.vox_geom.specs.Region.{is_between}
 use Rattle.vox_geom.proofs.Truths.{false_by}
 use Rattle.vox_geom.proofs.Tests.{at_most_by_test, less_by_test}
+use Rattle.vox_geom.proofs.Points.{between_zeros}
 use Rattle.nano_spec.specs.Legal.{IsLegal}
 use Rattle.nano_spec.specs.Matrix.{Matrix, is_full}
 use Rattle.vox_planes.specs.Voxel.{IsWhole}
@@ -43,15 +44,12 @@ third true true c t = t
 third true false c t = cc
 third false b c t = cc
 
-at_zero : (v : ℕ) → IsTrue (is_between (pos 0) (pos 0) (pos v)) → v ≡ 0
-at_zero v t = grind (arith, nat_tests)
-
 -- at z = 0 all ways home are void
 pub ways_home : (m : Matrix) (a b : Coord) → IsLegal m → a.z ≡ 0 → b.z ≡ 0 → AreVoidTo m a b
 ways_home m a b h e f = record {
-  x = λ c t. void_at_depth m h c (at_zero c.z (subst (λ v. IsTrue (is_between (pos v) (pos v) (pos c.z))) e (third (is_between (pos a.x) (pos b.x) (pos c.x)) (is_between (pos a.y) (pos a.y) (pos c.y)) (is_between (pos a.z) (pos a.z) (pos c.z)) t)));
-  y = λ c t. void_at_depth m h c (at_zero c.z (subst (λ v. IsTrue (is_between (pos v) (pos v) (pos c.z))) e (third (is_between (pos b.x) (pos b.x) (pos c.x)) (is_between (pos a.y) (pos b.y) (pos c.y)) (is_between (pos a.z) (pos a.z) (pos c.z)) t)));
-  z = λ c t. void_at_depth m h c (at_zero c.z (subst (λ v. IsTrue (is_between (pos v) (pos 0) (pos c.z))) e (subst (λ v. IsTrue (is_between (pos a.z) (pos v) (pos c.z))) f (third (is_between (pos b.x) (pos b.x) (pos c.x)) (is_between (pos b.y) (pos b.y) (pos c.y)) (is_between (pos a.z) (pos b.z) (pos c.z)) t))));
+  x = λ c t. void_at_depth m h c (between_zeros c.z (subst (λ v. IsTrue (is_between (pos v) (pos v) (pos c.z))) e (third (is_between (pos a.x) (pos b.x) (pos c.x)) (is_between (pos a.y) (pos a.y) (pos c.y)) (is_between (pos a.z) (pos a.z) (pos c.z)) t)));
+  y = λ c t. void_at_depth m h c (between_zeros c.z (subst (λ v. IsTrue (is_between (pos v) (pos v) (pos c.z))) e (third (is_between (pos b.x) (pos b.x) (pos c.x)) (is_between (pos a.y) (pos b.y) (pos c.y)) (is_between (pos a.z) (pos a.z) (pos c.z)) t)));
+  z = λ c t. void_at_depth m h c (between_zeros c.z (subst (λ v. IsTrue (is_between (pos v) (pos 0) (pos c.z))) e (subst (λ v. IsTrue (is_between (pos a.z) (pos v) (pos c.z))) f (third (is_between (pos b.x) (pos b.x) (pos c.x)) (is_between (pos b.y) (pos b.y) (pos c.y)) (is_between (pos a.z) (pos b.z) (pos c.z)) t))));
 }
 
 pub ways_home_in : (m n : Matrix) (a b : Coord) → m ≡ n → IsLegal n → a.z ≡ 0 → b.z ≡ 0 → AreVoidTo m a b

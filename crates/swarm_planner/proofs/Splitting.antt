@@ -7,6 +7,7 @@ use Rattle.vox_geom.specs.declared.coordinate.Coord.{Coord}
 use Rattle.vox_geom.specs.Point.{Point, plus, point}
 use Rattle.vox_geom.specs.Space.{coordinate, numbers_from}
 use Rattle.vox_geom.proofs.Sums.{numbers_length, plus_none, plus_one}
+use Rattle.vox_geom.proofs.Points.{in_space_is}
 use Rattle.nano_spec.specs.declared.commands.Command.{Command}
 use Rattle.nano_spec.specs.declared.commands.Command.TheVariants.{Fission, Wait}
 use Rattle.nano_spec.specs.declared.system.Bot.{Bot}
@@ -21,7 +22,6 @@ use Rattle.step_order.specs.Unbroken.{AreFree, IsFree, IsFreeWay}
 use Rattle.step_order.proofs.Crews.{rising_itself}
 use Rattle.step_order.proofs.Facts.{Rising}
 use Rattle.step_order.proofs.Lists.{In}
-use Rattle.step_order.proofs.Voxels.{in_space_is}
 use Rattle.plan_tape.specs.Crowd.{AllStep, SplitsOrWaits, bots_split, parts}
 use Rattle.plan_tape.specs.Progress.{TapeState, spot, state_of, IsVoidFrom}
 use Rattle.swarm_planner.specs.Crew.{IsSwarm, places}

@@ -28,6 +28,7 @@ use Rattle.step_order.proofs.Effects.{fills_own, voids_own}
 use Rattle.step_order.proofs.Facts.{IsGood, good_is, rising_is}
 use Rattle.step_order.proofs.Order.{listed}
 use Rattle.step_order.proofs.Lists.{In, any_in, filter_in, in_any, in_filter, in_place, in_right}
+use Rattle.step_order.proofs.After.{commands_are}
 use Rattle.system_state.specs.declared.turns.Turn.{Turn}
 use Rattle.system_state.specs.Bounds.{IsWithin}
 use Rattle.system_state.specs.Effects.{MayTake, after_turn}
@@ -62,12 +63,6 @@ command_at (b ∷ bots) (c ∷ commands) zero a e = (omega arith, λ d. ap (λ (
     same : Some (record { bot = b; command = c }) ≡ Some a → record { bot = b; command = c } ≡ a
     same k = cc
 command_at (b ∷ bots) (c ∷ commands) (suc k) a e = let r = command_at bots commands k a e in (omega arith, r.1)
-
-pub known_at : (bots : List Bot) (commands : List Command) → AreCommands commands → (a : Act) → In a (acts bots commands) → is_command a.command ≡ true
-known_at [] commands h a i = absurd i
-known_at (b ∷ bots) [] h a i = absurd i
-known_at (b ∷ bots) (c ∷ commands) h a (inl e) = ap (λ (x : Act). is_command x.command) e ∙ h.0
-known_at (b ∷ bots) (c ∷ commands) h a (inr i) = known_at bots commands h.1 a i
 
 pub contained : {X : Type 0} (x : X) (xs : List X) → In x xs → Contains xs x
 contained x xs i = let p = in_place x x xs i in (p.0, p.1, p.2)
@@ -182,7 +177,7 @@ module _ (s : State) (commands : List Command) (step : ℕ) (ready : IsReady s) 
   may : MayTake s.matrix.resolution (after_some s (acts s.bots commands) (take i order)).bots here.0.bot (get_or turns i d).partner here.0.command
   may = may_take s (acts s.bots commands) good here.0 leads (after_some s (acts s.bots commands) (take i order)) law.bots law.rules apart_there
       (rising_is (after_some s (acts s.bots commands) (take i order)).bots ready_there.rising) within_there (get_or turns i d).partner here.2.partner
-      (known_at s.bots commands known here.0 (filter_in (is_leader (acts s.bots commands)) here.0 (acts s.bots commands) leads).0)
+      (commands_are s.bots commands known here.0 (filter_in (is_leader (acts s.bots commands)) here.0 (acts s.bots commands) leads).0)
 
   found_now : bot_of now.bots (get_or turns i d).leader ≡ Some here.0.bot
   found_now =

@@ -10,11 +10,11 @@ use Rattle.nano_spec.specs.declared.commands.Command.TheVariants.{Halt}
 use Rattle.nano_spec.specs.declared.system.Bot.{Bot}
 use Rattle.nano_spec.specs.Act.{Act, acts}
 use Rattle.nano_spec.specs.Group.{is_leader, leaders}
-use Rattle.step_groups.proofs.Mates.{bots_are}
 use Rattle.step_order.proofs.Facts.{Rising, rising_is}
 use Rattle.step_order.proofs.Groups.{Differ, differ_acts}
 use Rattle.step_order.proofs.Lists.{In, filter_in, in_either, in_place, place_in}
 use Rattle.step_order.proofs.Order.{listed}
+use Rattle.step_order.proofs.Judgements.{all_bots}
 use Rattle.system_state.specs.declared.turns.Turn.{Turn}
 use Rattle.system_state.specs.Turns.{AreAllTurns, AreTurns, IsTurn, leader_of}
 use Rattle.step_groups.specs.Groups.{bid_of}
@@ -114,4 +114,4 @@ module _ (all : List Act) (up : Rising (map (λ (a : Act). a.bot) all)) (old : L
 pub arranged_are : (old new : List Turn) (bids : List ℕ) → IsPermutation (map leader_of old) bids → map leader_of new ≡ bids → ((t : Turn) → In t new → In t old)
     → (bots : List Bot) (commands : List Command) → AllPairs (λ a b. a.bid < b.bid) bots → length commands ≡ length bots → AreTurns (acts bots commands) (leaders (acts bots commands)) old → AreAllTurns (acts bots commands) new
 arranged_are old new bids perm leads known bots commands rising lengths are =
-    arranged (acts bots commands) (subst (λ (bs : List Bot). Rising bs) (sym (bots_are bots commands lengths)) (rising_is bots rising)) old are bids perm new leads known
+    arranged (acts bots commands) (subst (λ (bs : List Bot). Rising bs) (sym (all_bots bots commands lengths)) (rising_is bots rising)) old are bids perm new leads known

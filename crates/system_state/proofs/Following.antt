@@ -20,10 +20,11 @@ use Rattle.step_order.proofs.Facts.{IsGood, good_is, rising_is}
 use Rattle.step_order.proofs.Groups.{differ_acts, filter_only}
 use Rattle.step_order.proofs.Order.{listed}
 use Rattle.step_order.proofs.Lists.{In, filter_in, in_left, in_right, in_place, place_in}
+use Rattle.step_order.proofs.After.{commands_are}
 use Rattle.system_state.specs.declared.turns.Turn.{Turn}
 use Rattle.system_state.specs.Effects.{MayTake, bots_after_turn}
 use Rattle.system_state.specs.Turns.{AreTurns, FollowsOn, IsTurn, bots_after_some, leader_of}
-use Rattle.system_state.proofs.Advancing.{OfTurns, Replaces, TurnOf, command_at, contained, known_at}
+use Rattle.system_state.proofs.Advancing.{OfTurns, Replaces, TurnOf, command_at, contained}
 use Rattle.system_state.proofs.Arranged.{in_order_of, leaders_are, one_of_them, same_act}
 use Rattle.system_state.proofs.TurnTaken.{found_there, itself_in, may_take, turn_is_group}
 use Rattle.step_groups.specs.Groups.{bid_of}
@@ -142,7 +143,7 @@ module _ (s : State) (commands : List Command) (step : ℕ) (ready : IsReady s) 
           (subst (λ (bs : List Bot). MayTake s.matrix.resolution bs parts.1.bot t.partner parts.1.command) (sym taken)
           (may_take s (acts s.bots commands) good parts.1 leads (after_some s (acts s.bots commands) parts.0) law.bots law.rules apart_there
           (rising_is (after_some s (acts s.bots commands) parts.0).bots (subst (λ (bs : List Bot). AllPairs (λ a b. a.bid < b.bid) bs) taken crew.rising)) within_there t.partner turn_is.partner
-          (known_at s.bots commands known parts.1 (leads_all parts.1 leads)))))
+          (commands_are s.bots commands known parts.1 (leads_all parts.1 leads)))))
         where
           same : Some parts.1.bot ≡ Some bot → parts.1.bot ≡ bot
           same h = cc

@@ -9,9 +9,10 @@ use Rattle.nano_spec.specs.declared.system.Bot.{Bot}
 use Rattle.nano_spec.specs.Act.{Act, acts}
 use Rattle.nano_spec.specs.Group.{are_together, is_leader, members}
 use Rattle.step_order.proofs.Facts.{Rising, rising_is}
+use Rattle.step_order.proofs.Judgements.{all_bots}
 use Rattle.step_groups.specs.Judging.{act, is_alone}
 use Rattle.step_groups.proofs.Joined.{with_leader}
-use Rattle.step_groups.proofs.Mates.{bots_are, group, leads, none_after, none_before, split_at, take_more}
+use Rattle.step_groups.proofs.Mates.{group, leads, none_after, none_before, split_at, take_more}
 use Rattle.system_state.specs.declared.turns.Turn.{Turn}
 use Rattle.system_state.specs.Turns.{AreTurns, first_mate}
 use Rattle.system_state.proofs.Gathered.{turn_more}
@@ -41,7 +42,7 @@ module _ (bots : List Bot) (commands : List Command) (i : ℕ) (b : Bot) (k : Co
   whole = split_at bots commands i b k lt lengths bi ki
 
   up : Rising (map (λ (x : Act). x.bot) (xs ++ act b k ∷ ys))
-  up = subst (λ (zs : List Act). Rising (map (λ (x : Act). x.bot) zs)) whole (subst (λ (bs : List Bot). Rising bs) (sym (bots_are bots commands lengths)) (rising_is bots rising))
+  up = subst (λ (zs : List Act). Rising (map (λ (x : Act). x.bot) zs)) whole (subst (λ (bs : List Bot). Rising bs) (sym (all_bots bots commands lengths)) (rising_is bots rising))
 
   leads_here : is_leader (acts bots commands) (act b k) ≡ not (list_any (are_together (act b k)) xs)
   leads_here = ap (λ (zs : List Act). is_leader zs (act b k)) whole ∙ leads xs ys (act b k) up

@@ -13,9 +13,9 @@ use Rattle.nano_spec.specs.Act.{Act, is_halt, stays_in_space}
 use Rattle.nano_spec.specs.Rules.{fault, lacks_seeds, rules_of_bots}
 use Rattle.nano_spec.specs.Serial.{bot_in, is_active, keeps_rules}
 use Rattle.nano_spec.specs.State.{State, seed_list}
+use Rattle.nano_spec.proofs.Light.{here_false}
 use Rattle.bot_crew.specs.Crew.{bot_at, bot_of, stands_at}
 use Rattle.bot_crew.proofs.Heirs.{found_in, stood}
-use Rattle.step_order.proofs.Crews.{not_here}
 use Rattle.step_order.proofs.Lists.{In, all_in}
 use Rattle.system_state.specs.Effects.{IsFreeFor}
 
@@ -38,13 +38,13 @@ module _ (t : State) (group : List Act) (keeps : keeps_rules t group ≡ true) (
   is_there = both_of.0
 
   pub stays : stays_in_space t.matrix.resolution a ≡ true
-  stays = not_is_false (stays_in_space t.matrix.resolution a) (not_here a (not (stays_in_space t.matrix.resolution a)) (kept_rule OutOfSpace (inr (inr (inr (inr (inl refl)))))))
+  stays = not_is_false (stays_in_space t.matrix.resolution a) (here_false a (not (stays_in_space t.matrix.resolution a)) (kept_rule OutOfSpace (inr (inr (inr (inr (inl refl)))))))
 
   pub seeded : lacks_seeds (seed_list a.bot.seeds) a.command ≡ false
-  seeded = not_here a (lacks_seeds (seed_list a.bot.seeds) a.command) (kept_rule Seeds (inr (inr (inr (inr (inr (inr (inl refl))))))))
+  seeded = here_false a (lacks_seeds (seed_list a.bot.seeds) a.command) (kept_rule Seeds (inr (inr (inr (inr (inr (inr (inl refl))))))))
 
   pub halts_alone : a.command ≡ Halt → nat_lt 1 (length t.bots) ≡ false
-  halts_alone e = sym (ap (λ c. is_halt c && nat_lt 1 (length t.bots)) e) ∙ not_here a (is_halt a.command && nat_lt 1 (length t.bots)) (kept_rule HaltAlone (inr (inl refl)))
+  halts_alone e = sym (ap (λ c. is_halt c && nat_lt 1 (length t.bots)) e) ∙ here_false a (is_halt a.command && nat_lt 1 (length t.bots)) (kept_rule HaltAlone (inr (inl refl)))
 
 -- a bot that is met as it was found is active as it is
 module _ (t : State) (bot : Bot) (met : bot_in t.bots bot ≡ bot) (active : is_active t bot ≡ true) where

@@ -12,13 +12,14 @@ use Rattle.nano_spec.specs.declared.outcomes.Rule.TheVariants.{Partner}
 use Rattle.nano_spec.specs.Act.{Act, is_fusion, position}
 use Rattle.nano_spec.specs.Group.{are_partners, are_together, fuse, is_leader, is_pair, leaders, members, share_region}
 use Rattle.nano_spec.specs.State.{State}
+use Rattle.nano_spec.proofs.Light.{here_false}
 use Rattle.step_groups.specs.Judging.{is_alone}
 use Rattle.step_groups.proofs.Alone.{alone_members}
-use Rattle.step_order.proofs.Crews.{not_here}
 use Rattle.step_order.proofs.Facts.{IsGood, Rising}
 use Rattle.step_order.proofs.Groups.{differ_acts, filter_only}
 use Rattle.step_order.proofs.Lists.{In, all_in, any_in, filter_in, in_filter, in_map, not_both}
 use Rattle.step_order.proofs.Together.{Together, itself, partners, shares, is_together, one_partner, together_is}
+use Rattle.step_order.proofs.Kin.{not_itself}
 
 -- two bots of a group command
 abbrev pub is_group : Command → Bool
@@ -60,10 +61,6 @@ two_pass p l b (x ∷ xs) up less (inr i) (inr j) e f h = on (p x) refl (two_pas
 
 -- ---- fusions
 
-no_self : (p : Point) (c : Command) → fuse p c p c ≡ true → ⊥
-no_self p (FusionP d) h = cc
-no_self p c h = cc
-
 no_share : (p : Point) (c : Command) (q : Point) (e : Command) → is_fusion c ≡ true → share_region p c q e ≡ true → ⊥
 no_share p (GFill d f) q e h k = cc
 no_share p (GVoid d f) q e h k = cc
@@ -97,14 +94,14 @@ module _ (s : State) (all : List Act) (good : IsGood s all) (l : Act) (leads : I
           back false e = cc
 
       partner_is : list_any (are_partners l) all ≡ true
-      partner_is = stays (sym (ap (λ b. b && not (list_any (are_partners l) all)) h) ∙ not_here l (is_fusion l.command && not (list_any (are_partners l) all)) (good.keeps l Partner leader_in (inr (inr (inr (inr (inr (inr (inr (inr (inl refl)))))))))))
+      partner_is = stays (sym (ap (λ b. b && not (list_any (are_partners l) all)) h) ∙ here_false l (is_fusion l.command && not (list_any (are_partners l) all)) (good.keeps l Partner leader_in (inr (inr (inr (inr (inr (inr (inr (inr (inl refl)))))))))))
 
       apart : (b : Act) → In b all → are_partners l b ≡ true → l.bot.bid ≡ b.bot.bid → ⊥
       apart b i e k = same (one_of_two (is_pair l l) (is_pair l l) (ap (are_partners l) (good.apart.bids l b leader_in i k) ∙ e))
         where
           same : (is_pair l l ≡ true) ⊎ (is_pair l l ≡ true) → ⊥
-          same (inl f) = no_self (position l) l.command f
-          same (inr f) = no_self (position l) l.command f
+          same (inl f) = not_itself (position l) l.command f
+          same (inr f) = not_itself (position l) l.command f
 
       before : (b : Act) → In b all → are_partners l b ≡ true → l.bot.bid < b.bot.bid
       before b i e = less l.bot.bid b.bot.bid (least b (in_filter (are_together l) b all i (is_together l b (partners e)))) (apart b i e)

@@ -5,6 +5,7 @@ use Rattle.vox_geom.specs.declared.coordinate.Coord.{Coord}
 use Rattle.vox_geom.specs.declared.difference.Diff.{Diff}
 use Rattle.vox_geom.specs.Point.{Point, point, plus}
 use Rattle.vox_geom.specs.Space.{IsInSpace, coordinate, in_space}
+use Rattle.vox_geom.proofs.Points.{in_space_is}
 use Rattle.nano_spec.specs.declared.commands.Command.TheVariants.{Fill, Void}
 use Rattle.nano_spec.specs.declared.system.Bot.{Bot}
 use Rattle.nano_spec.specs.Energy.{upkeep}
@@ -15,7 +16,6 @@ use Rattle.step_groups.specs.Judging.{edit_of}
 use Rattle.vox_planes.specs.Voxel.{with_voxel}
 use Rattle.system_state.specs.Edited.{edit_cost}
 use Rattle.system_state.proofs.OnlyBot.{fill_cost, matrix_filled, matrix_voided, void_cost}
-use Rattle.step_order.proofs.Voxels.{in_space_is}
 
 module _ (s : State) (b : Bot) (d : Diff) (only : s.bots ≡ b ∷ []) (i : in_space s.matrix.resolution (plus (point b.pos) d) ≡ true) where
   abbrev there : Coord

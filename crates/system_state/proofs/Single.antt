@@ -6,6 +6,7 @@ use Rattle.std.proofs.Math.Arith.{digits_lt}
 use Rattle.vox_geom.specs.declared.coordinate.Coord.{Coord}
 use Rattle.vox_geom.specs.Space.{IsInSpace, coordinate_at, coordinates, numbers_from, place}
 use Rattle.vox_geom.proofs.Places.{coordinate_at-place, place-coordinate_at}
+use Rattle.vox_geom.proofs.Firsts.{place_below}
 
 none_passes : (test : Coord → Bool) (f : ℕ → Coord) (n a : ℕ) → ((j : ℕ) → a ≤ j → test (f j) ≡ false) → filter test (map f (numbers_from a n)) ≡ []
 none_passes test f zero a h = refl
@@ -19,12 +20,6 @@ only_at test f (suc n) a k l m h = elim (cases_eq a k) [
       ap (λ xs. cond (test (f a)) (f a ∷ xs) xs) rest ∙ ap (λ i. cond (test (f i)) (f i ∷ []) []) e
   | inr ne ↦ let e : test (f a) ≡ false = h a ne in rw e (only_at test f n (a + 1) k (omega arith) (omega arith) h)
 ]
-
-place_below : (r : ℕ) (c : Coord) → IsInSpace r c → place r c < r * r * r
-place_below r c h =
-    let front : c.x * r + c.y < r * r = digits_lt h.x h.y in
-    let all : (c.x * r + c.y) * r + c.z < r * r * r = digits_lt front h.z in
-    omega arith
 
 -- a test that passes at one coordinate alone
 pub only_one : (r : ℕ) (test : Coord → Bool) (c : Coord) → IsInSpace r c → ((d : Coord) → (d ≡ c → ⊥) → test d ≡ false) → filter test (coordinates r) ≡ cond (test c) (c ∷ []) []

@@ -35,6 +35,7 @@ use Rattle.step_order.proofs.Facts.{IsGood, Rising}
 use Rattle.step_order.proofs.Groups.{Differ, differ_acts, differ_filter, one_leader}
 use Rattle.step_order.proofs.Lists.{In, any_in, flat_same, in_any, in_filter, map_in}
 use Rattle.step_order.proofs.Together.{share_back, with_itself}
+use Rattle.step_order.proofs.Acted.{harmonics_stay}
 use Rattle.system_state.specs.Effects.{MayTake, Needs, after_turn, bots_after_turn, with_partner}
 use Rattle.system_state.proofs.Bots.{alone_bots, replaced_itself}
 use Rattle.system_state.proofs.Members.{alone_is, couple, is_group, leader_in, shared}
@@ -131,9 +132,6 @@ none_flips (x ∷ xs) h =
     let f : cond {A = ℕ} (is_flip x.command) 1 0 ≡ 0 = ap (λ (b : Bool). cond {A = ℕ} b 1 0) (h x (inl refl)) in
     let r : count_by (λ (a : Act). is_flip a.command) xs ≡ 0 = none_flips xs (λ a i. h a (inr i)) in
     omega arith
-
-still : (h : Harmonics) (xs : List Act) → ((a : Act) → In a xs → is_flip a.command ≡ false) → harmonics_after h xs ≡ h
-still h xs n = ap (λ k. cond (k % 2 == 1) (flipped h) h) (none_flips xs n)
 
 -- ---- the law
 
@@ -285,8 +283,8 @@ module _ (s : State) (all : List Act) (good : IsGood s all) (l : Act) (leads : I
 
       by : (is_alone l.command ≡ true) ⊎ ((is_fusion l.command ≡ true) ⊎ (is_group l.command ≡ true)) → harmonics_after t.harmonics (members all l) ≡ harmonics_after t.harmonics (l ∷ [])
       by (inl h) = ap (harmonics_after t.harmonics) (alone_is s all good l leads h)
-      by (inr (inl h)) = let w = couple s all good l leads h in still t.harmonics (members all l) (couple_still w.0 h (mate_fuses w.0 w.1) w.3) ∙ sym (still t.harmonics (l ∷ []) (one (fusion_not_alone l.command h)))
-      by (inr (inr h)) = still t.harmonics (members all l) (group_still h) ∙ sym (still t.harmonics (l ∷ []) (one (group_not_alone l.command h)))
+      by (inr (inl h)) = let w = couple s all good l leads h in harmonics_stay t.harmonics (members all l) (couple_still w.0 h (mate_fuses w.0 w.1) w.3) ∙ sym (harmonics_stay t.harmonics (l ∷ []) (one (fusion_not_alone l.command h)))
+      by (inr (inr h)) = harmonics_stay t.harmonics (members all l) (group_still h) ∙ sym (harmonics_stay t.harmonics (l ∷ []) (one (group_not_alone l.command h)))
 
   same_cost : groups_cost t.matrix (members all l) ≡ group_cost t.matrix (position l) l.command
   same_cost = ap (λ (xs : List Act). total (map (λ (a : Act). group_cost t.matrix (position a) a.command) xs)) (one_leader all good.apart l (differ_acts all good.rising) leads) ∙ no_more (group_cost t.matrix (position l) l.command)

@@ -41,7 +41,7 @@ far_small d h = let b = far_bounds d h in (raised_small d.dx 30 b.0, raised_smal
 below : (x a : ℕ) (xs ys : List ℕ) → x ∷ xs ≡ a ∷ ys → a ≤ 60 → x ≤ 60
 below x a xs ys e l = let s : x ≡ a = cc in omega arith
 
-tail_is : (x a : ℕ) (xs ys : List ℕ) → x ∷ xs ≡ a ∷ ys → xs ≡ ys
+pub tail_is : (x a : ℕ) (xs ys : List ℕ) → x ∷ xs ≡ a ∷ ys → xs ≡ ys
 tail_is x a xs ys e = cc
 
 -- bytes that agree with those of a far difference are at most 60

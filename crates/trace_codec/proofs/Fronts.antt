@@ -11,10 +11,11 @@ use Rattle.nano_spec.specs.Command.{IsCommand}
 use Rattle.nano_spec.specs.Cutting.{BeginsSpelling}
 use Rattle.nano_spec.specs.Spelling.{near_code, far_bytes, axis, component, raised, spelling}
 use Rattle.nano_spec.proofs.Codes.{along, linear, near_code_below, raised_small}
-use Rattle.nano_spec.proofs.Decoder.{long_is, short_is}
+use Rattle.nano_spec.proofs.Decoder.{long_is, short_is, short_raised}
 use Rattle.trace_codec.specs.declared.one.FarFront.TheVariants as far
 use Rattle.trace_codec.specs.FarFront.{SaysFar}
 use Rattle.trace_codec.specs.One.{IsNoCommand}
+use Rattle.trace_codec.proofs.Far.{tail_is}
 
 -- the bytes begin with those of a far difference
 abbrev pub HasFar : List ℕ → Type 0
@@ -34,21 +35,11 @@ pub data Front (h : ℕ) (bytes : List ℕ) : Type 0 where
 same_head : (h b : ℕ) (x y : List ℕ) → h ∷ x ≡ b ∷ y → h ≡ b
 same_head h b x y e = cc
 
-same_rest : (h b : ℕ) (x y : List ℕ) → h ∷ x ≡ b ∷ y → x ≡ y
-same_rest h b x y e = cc
-
 near_front : (h k : ℕ) (d : Diff) (bytes y : List ℕ) → IsNear d → k < 8 → k ≢ 4 → h ∷ bytes ≡ (8 * near_code d + k) ∷ y → (k < 2 → HasFar bytes) → Front h bytes
 near_front h k d bytes y n l m e f = by_near d k n (near_code_below d n) l m (same_head h _ bytes y e) f
 
 far_front : (h k : ℕ) (d f : Diff) (bytes y : List ℕ) → IsNear d → IsFar f → k < 8 → k ≢ 4 → h ∷ bytes ≡ (8 * near_code d + k) ∷ (far_bytes f ++ y) → Front h bytes
-far_front h k d f bytes y n g l m e = near_front h k d bytes (far_bytes f ++ y) n l m e (λ _. (f, y, g, same_rest h _ bytes (far_bytes f ++ y) e))
-
-short_raised : (d : Diff) → IsShort d → raised (component d) 5 ≤ 10
-short_raised d h =
-    let l = linear d (short_is d h).0 in
-    let b : mlen d ≤ 5 = (short_is d h).1 in
-    let s : unsigned_abs (component d) ≤ mlen d = l.small in
-    raised_small (component d) 5 (omega arith)
+far_front h k d f bytes y n g l m e = near_front h k d bytes (far_bytes f ++ y) n l m e (λ _. (f, y, g, tail_is h _ bytes (far_bytes f ++ y) e))
 
 -- what a command's spelling is
 pub front : (c : Command) (h : ℕ) (bytes y : List ℕ) → IsCommand c → h ∷ bytes ≡ spelling c ++ y → Front h bytes
@@ -57,13 +48,13 @@ front Wait h bytes y i e = let s = same_head h _ bytes y e in alone (omega arith
 front Flip h bytes y i e = let s = same_head h _ bytes y e in alone (omega arith)
 front (SMove d) h bytes y i e =
     let l = linear d (long_is d i).0 in
-    by_long d i l.low l.high (same_head h _ bytes (raised (component d) 15 ∷ y) e) (y, same_rest h _ bytes (raised (component d) 15 ∷ y) e)
+    by_long d i l.low l.high (same_head h _ bytes (raised (component d) 15 ∷ y) e) (y, tail_is h _ bytes (raised (component d) 15 ∷ y) e)
 front (LMove d g) h bytes y i e =
     let p = first_of_two (is_short d) (is_short g) i in
     let q = second_of_two (is_short d) (is_short g) i in
     let l = linear d (short_is d p).0 in
     let m = linear g (short_is g q).0 in
-    by_short d g p q l.low l.high m.low m.high (same_head h _ bytes _ e) (y, same_rest h _ bytes _ e)
+    by_short d g p q l.low l.high m.low m.high (same_head h _ bytes _ e) (y, tail_is h _ bytes _ e)
 front (FusionP d) h bytes y i e = near_front h 7 d bytes y i (omega arith) (omega arith) e (λ (l : 7 < 2). absurd (omega arith))
 front (FusionS d) h bytes y i e = near_front h 6 d bytes y i (omega arith) (omega arith) e (λ (l : 6 < 2). absurd (omega arith))
 front (Fission d m) h bytes y i e = near_front h 5 d bytes (m ∷ y) (first_of_two (is_near d) (nat_lt m 256) i) (omega arith) (omega arith) e (λ (l : 5 < 2). absurd (omega arith))

@@ -2,6 +2,7 @@
 use Rattle.std.proofs.Common.{◌≡◌, ◌≢◌, ℕ, ◌+◌, ◌≤◌, refl, sym, ◌∙◌, ap, subst, inl, inr, arith, Bool, true, false, List, [], ◌∷◌, ◌++◌, length, take}
 use Rattle.std.specs.Prelude.{Ok, Err}
 use Rattle.std.proofs.lemmas.List.{append-nil, append_assoc, flat_map_more, length-append}
+use Rattle.vox_geom.proofs.Truths.{false_and_true}
 use Rattle.nano_spec.specs.declared.commands.Command.{Command}
 use Rattle.nano_spec.specs.Command.{IsCommand}
 use Rattle.nano_spec.specs.Cutting.{AreCommands, RestOf, BeginsSpelling, CutAt, BadAt, Decoding}
@@ -79,11 +80,8 @@ taken_all bytes piece commands decoder h b = record {
   begins = b;
 }
 
-not_both : (b : Bool) → b ≡ false → b ≡ true → ⊥
-not_both b p q = cc
-
 pub taken_bad : (bytes piece more : List ℕ) (commands : List Command) (decoder : DecoderState) (offset : ℕ) → HasTaken bytes commands decoder → AnswersPiece decoder piece (fed.Bad offset) → Decoding ((bytes ++ piece) ++ more) (Err (BadAt offset))
-taken_bad bytes piece more commands decoder offset h (e, inl f) = absurd (not_both decoder.failed h.works f)
+taken_bad bytes piece more commands decoder offset h (e, inl f) = absurd (false_and_true decoder.failed h.works f)
 taken_bad bytes piece more commands decoder offset h (e, inr r) =
     bad_at ((bytes ++ piece) ++ more) commands ((decoder.held ++ piece) ++ more) offset h.are_commands
     (ap (λ x. (x ++ piece) ++ more) h.bytes_are ∙ (ap (λ x. x ++ more) (append_assoc (spellings commands) decoder.held piece) ∙ append_assoc (spellings commands) (decoder.held ++ piece) more))
@@ -96,4 +94,4 @@ taken_whole bytes commands decoder h n = whole bytes commands decoder.held h.are
 -- what the decoder answers at the end is how the bytes are decoded
 pub taken_ended : (bytes : List ℕ) (commands : List Command) (decoder : DecoderState) (refusal : TraceRefusal) → HasTaken bytes commands decoder → EndsTrace {A = Unit {0}} decoder (Err refusal) → Decodes bytes (Err (Refused refusal))
 taken_ended bytes commands decoder (refusal.Cut offset) h e = cut_at bytes commands decoder.held offset h.are_commands h.bytes_are (e.2 ∙ h.offset_is) e.1 h.begins
-taken_ended bytes commands decoder (refusal.Bad offset) h e = absurd (not_both decoder.failed h.works e.0)
+taken_ended bytes commands decoder (refusal.Bad offset) h e = absurd (false_and_true decoder.failed h.works e.0)

@@ -16,7 +16,7 @@ use Rattle.nano_spec.specs.Model.{volume}
 use Rattle.nano_spec.specs.Next.{Breaks, Goes, Next, Outcome}
 use Rattle.nano_spec.specs.State.{State}
 use Rattle.nano_spec.specs.Work.{Work, WorkFrom, WorkOfStep, rests, stops, works}
-use Rattle.nano_spec.proofs.Unique.{Next-unique}
+use Rattle.nano_spec.proofs.Unique.{Next-unique, not_both, same_state}
 use Rattle.run_progress.specs.Progress as progress
 use Rattle.run_progress.specs.Progress.{Comes, begun, first, later, mark_of, Progress, Pushes, PushesAt, MakesStep, stepped, with_command}
 use Rattle.trace_judge.specs.Course.{Course, searched_by}
@@ -44,12 +44,6 @@ searched_not [] n = refl
 searched_not (b ∷ bots) n = refl
 
 -- ---- the work of one step, taken from that of the rest
-
-not_both : (b : Broken) (t : State) → Breaks b ≡ Goes t → ⊥
-not_both b t e = cc
-
-same_state : (t u : State) → Goes t ≡ Goes u → t ≡ u
-same_state t u e = cc
 
 abbrev Paid : State → List Command → ℕ → ℕ → Outcome → Type 0
 Paid s all steps more (Goes t) = (n : ℕ) × (m : ℕ) × WorkOfStep s (take (length s.bots) all) (steps + 1) n × WorkFrom t (drop (length s.bots) all) (steps + 1) m × (more ≡ n + m)

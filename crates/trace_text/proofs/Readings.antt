@@ -6,17 +6,8 @@ use Rattle.std.proofs.lemmas.Bool.Decides.{nat_tests}
 use Rattle.vox_geom.proofs.Tests.{equal_by_test}
 use Rattle.vox_geom.proofs.Sums.{append_none}
 use Rattle.nano_spec.specs.LineForm.{is_blank, is_digit, Part, Blanks, Mark, Number, after_blanks, Read, digits, negative, readings}
+use Rattle.nano_spec.proofs.Readings.{blank_is, no_blank, no_both, no_digit, no_number}
 use Rattle.trace_text.specs.Parts.{after_number, begins_with, is_free, is_sharp, longer, longest, number_read}
-
-blank_is : (b : ℕ) → IsTrue (is_blank b) → (b ≡ 32) ⊎ (b ≡ 9)
-blank_is b h = by (b == 32) refl
-  where
-    nine : IsTrue (b == 9) → b ≡ 9
-    nine k = grind (arith, nat_tests)
-
-    by : (t : Bool) → (b == 32) ≡ t → (b ≡ 32) ⊎ (b ≡ 9)
-    by true e = inl (grind (arith, nat_tests))
-    by false e = inr (nine (rw e at h))
 
 contrary : (t : Bool) → IsTrue t → IsTrue (not t) → ⊥
 contrary true p q = cc
@@ -28,41 +19,6 @@ no_mark test b m xs h k = by (b == m) refl
     by : (t : Bool) → (b == m) ≡ t → cond t xs [] ≡ []
     by true e = absurd (contrary (test m) (subst (λ (v : ℕ). IsTrue (test v)) (equal_by_test b m e) h) k)
     by false e = refl
-
-no_number : (ps : List Part) (b : ℕ) (more : List ℕ) → (b ≡ 32) ⊎ (b ≡ 9) → readings (Number ∷ ps) (b ∷ more) ≡ []
-no_number ps b more (inl e) = subst (λ (v : ℕ). readings (Number ∷ ps) (v ∷ more) ≡ []) (sym e) refl
-no_number ps b more (inr e) = subst (λ (v : ℕ). readings (Number ∷ ps) (v ∷ more) ≡ []) (sym e) refl
-
--- a sharp form reads no line that begins with a blank
-no_blank : (ps : List Part) (b : ℕ) (more : List ℕ) → IsTrue (is_sharp ps) → IsTrue (is_blank b) → readings ps (b ∷ more) ≡ []
-no_blank [] b more h k = refl
-no_blank (Blanks ∷ ps) b more h k = cc
-no_blank (Mark m ∷ ps) b more h k = no_mark is_blank b m (readings ps more) k h
-no_blank (Number ∷ ps) b more h k = no_number ps b more (blank_is b k)
-
-no_both : (b : ℕ) → IsTrue (is_digit b) → is_blank b ≡ false
-no_both b h = by (is_blank b) refl
-  where
-    space : IsTrue (is_digit 32) → ⊥
-    space k = cc
-
-    tab : IsTrue (is_digit 9) → ⊥
-    tab k = cc
-
-    none : (b ≡ 32) ⊎ (b ≡ 9) → ⊥
-    none (inl e) = space (subst (λ (v : ℕ). IsTrue (is_digit v)) e h)
-    none (inr e) = tab (subst (λ (v : ℕ). IsTrue (is_digit v)) e h)
-
-    by : (t : Bool) → is_blank b ≡ t → is_blank b ≡ false
-    by true e = absurd (none (blank_is b e))
-    by false e = e
-
--- a free form reads no line that begins with a digit
-no_digit : (ps : List Part) (b : ℕ) (more : List ℕ) → IsTrue (is_free ps) → IsTrue (is_digit b) → readings ps (b ∷ more) ≡ []
-no_digit [] b more h k = refl
-no_digit (Blanks ∷ ps) b more h k = let e : is_blank b ≡ false = no_both b k in rw e (append_none (readings ps (b ∷ more)) ∙ no_digit ps b more h k)
-no_digit (Mark m ∷ ps) b more h k = no_mark is_digit b m (readings ps more) k h
-no_digit (Number ∷ ps) b more h k = cc
 
 -- blanks before a sharp form are taken all
 pub without_blanks : (ps : List Part) (line : List ℕ) → IsTrue (is_sharp ps) → readings (Blanks ∷ ps) line ≡ readings ps (drop (prefix_len is_blank line) line)

@@ -11,6 +11,7 @@ use Rattle.vox_geom.specs.Region.{between, differs, dimension, is_between, is_wi
 use Rattle.vox_geom.specs.Space.{IsInSpace}
 use Rattle.vox_geom.proofs.Truths.{no_first_of_three, no_second_of_three, three_true}
 use Rattle.vox_geom.proofs.Sums.{plus_none}
+use Rattle.vox_geom.proofs.Points.{in_space_is}
 use Rattle.nano_spec.specs.declared.commands.Command.{Command}
 use Rattle.nano_spec.specs.declared.commands.Command.TheVariants.{GVoid}
 use Rattle.nano_spec.specs.declared.system.Bot.{Bot}
@@ -22,7 +23,6 @@ use Rattle.nano_spec.specs.Profile.{full_profile, is_allowed}
 use Rattle.nano_spec.specs.Rules.{repeats}
 use Rattle.step_order.specs.Acting.{with_region}
 use Rattle.step_order.specs.Unbroken.{AreOneGroup, IsCornered, IsMember}
-use Rattle.step_order.proofs.Voxels.{in_space_is}
 use Rattle.plan_tape.specs.Crowd.{AllStep, CanPaintAll}
 use Rattle.plan_tape.specs.Progress.{TapeState, spot, state_of}
 use Rattle.void_planner.specs.Square.{CanStand, FourVoid, bot_with, four}
@@ -114,7 +114,7 @@ corners_differ far x y z h =
 
 -- ---- the four
 
-point_by : (b : Coord) (e : Diff) (q : Coord) → pos b.x +ℤ e.dx ≡ pos q.x → pos b.y +ℤ e.dy ≡ pos q.y → pos b.z +ℤ e.dz ≡ pos q.z → plus (point b) e ≡ point q
+pub point_by : (b : Coord) (e : Diff) (q : Coord) → pos b.x +ℤ e.dx ≡ pos q.x → pos b.y +ℤ e.dy ≡ pos q.y → pos b.z +ℤ e.dz ≡ pos q.z → plus (point b) e ≡ point q
 point_by b e q x y z = λ i. record { x = x i; y = y i; z = z i }
 
 by_down : (a b : ℕ) → a ≡ b + 1 → pos a +ℤ negsuc 0 ≡ pos b

@@ -11,6 +11,7 @@ use Rattle.vox_geom.specs.Region.{Span, between, is_between}
 use Rattle.vox_geom.specs.Space.{IsInSpace, coordinate, in_space}
 use Rattle.vox_geom.proofs.Truths.{second_of_three as second}
 use Rattle.vox_geom.proofs.Sums.{plus_none}
+use Rattle.vox_geom.proofs.Points.{from_one_end, in_space_is}
 use Rattle.nano_spec.specs.declared.commands.Command.{Command}
 use Rattle.nano_spec.specs.declared.commands.Command.TheVariants.{Wait, SMove}
 use Rattle.nano_spec.specs.declared.system.Bot.{Bot}
@@ -22,7 +23,6 @@ use Rattle.nano_spec.specs.Profile.{full_profile, is_allowed}
 use Rattle.step_order.specs.Acting.{gone}
 use Rattle.step_order.specs.Apart.{AreBelow, LieApart, after_x, before_x, before_z}
 use Rattle.step_order.specs.Unbroken.{IsVoid}
-use Rattle.step_order.proofs.Voxels.{in_space_is}
 use Rattle.plan_tape.specs.declared.axis.Axis.{Axis}
 use Rattle.plan_tape.specs.declared.axis.Axis.TheVariants.{X, Y, Z}
 use Rattle.plan_tape.specs.Crowd.{AllStep, AreWaysApart, CanGo, CanMoveAll, bots_gone, way}
@@ -31,6 +31,7 @@ use Rattle.plan_tape.specs.Progress.{TapeState, spot, IsVoidFrom}
 use Rattle.plan_tape.specs.Fissions.{is_fission}
 use Rattle.void_planner.specs.Square.{CanStand, FourGo, IsRectangle, bot_with, four}
 use Rattle.void_planner.specs.Tiles.{far_of}
+use Rattle.void_planner.proofs.Corners.{point_by}
 use Rattle.plan_tape.proofs.Fissions.{fissions_more}
 
 -- ---- one bot
@@ -43,12 +44,9 @@ pub data Goes (b : Bot) (k : Command) (q : Coord) : Type 0 where
   waits : k ≡ Wait → q ≡ b.pos → Goes b k q
   moves : (d : Diff) → k ≡ SMove d → plus (point b.pos) d ≡ point q → Goes b k q
 
-one_of : (a b v : ℕ) → IsTrue (is_between (pos a) (pos b) (pos v)) → (a ≤ v) ⊎ (b ≤ v)
-one_of a b v t = grind (arith, nat_tests)
-
 -- where all is void from both heights on, so is the region between two coordinates
 pub void_between : (m : Matrix) (a b : Coord) → IsVoidFrom m a.y → IsVoidFrom m b.y → IsVoid m (between (point a) (point b))
-void_between m a b v w = λ c t. by c (one_of a.y b.y c.y (second (is_between (pos a.x) (pos b.x) (pos c.x)) (is_between (pos a.y) (pos b.y) (pos c.y)) (is_between (pos a.z) (pos b.z) (pos c.z)) t))
+void_between m a b v w = λ c t. by c (from_one_end a.y b.y c.y (second (is_between (pos a.x) (pos b.x) (pos c.x)) (is_between (pos a.y) (pos b.y) (pos c.y)) (is_between (pos a.z) (pos b.z) (pos c.z)) t))
   where
     by : (c : Coord) → (a.y ≤ c.y) ⊎ (b.y ≤ c.y) → is_full m c ≡ false
     by c (inl h) = v c h
@@ -185,9 +183,6 @@ module _ (p : TapeState) (c : Coord) (w d : ℕ) (n : Coord) (width depth : ℕ)
         }
 
 -- ---- moves along an axis
-
-point_by : (b : Coord) (e : Diff) (q : Coord) → pos b.x +ℤ e.dx ≡ pos q.x → pos b.y +ℤ e.dy ≡ pos q.y → pos b.z +ℤ e.dz ≡ pos q.z → plus (point b) e ≡ point q
-point_by b e q x y z = λ i. record { x = x i; y = y i; z = z i }
 
 by_gap : (a b at next : ℕ) → a + next ≡ b + at → pos a +ℤ (pos next -ℤ pos at) ≡ pos b
 by_gap a b at next e = omega (arith, ints)

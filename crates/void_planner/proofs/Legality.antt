@@ -13,9 +13,9 @@ use Rattle.plan_tape.specs.Leg.{AreVoidTo}
 use Rattle.void_planner.specs.Phases.{IsVoidModel}
 use Rattle.vox_geom.specs.Point.{coord}
 use Rattle.vox_geom.proofs.Truths.{first_of_three}
+use Rattle.vox_geom.proofs.Points.{between_zeros}
 use Rattle.plan_tape.specs.Progress.{top}
 use Rattle.plan_tape.proofs.LegalModels.{outside_is_void, void_at_border, void_by_space}
-use Rattle.plan_tape.proofs.ClearWays.{between_zeros}
 
 no_box : (r x : ℕ) (b d e : Bool) → r ≤ 2 → (nat_le 1 x && nat_lt (x + 1) r && b && d && e) ≡ false
 no_box r x b d e h = let f : (nat_le 1 x && nat_lt (x + 1) r) ≡ false = grind (arith, nat_tests) in rw f refl

@@ -6,6 +6,7 @@ use Rattle.vox_geom.specs.declared.coordinate.Coord.{Coord}
 use Rattle.vox_geom.specs.Point.{point, coord}
 use Rattle.vox_geom.specs.Region.{Span, is_between, is_within}
 use Rattle.vox_geom.proofs.Truths.{three_true}
+use Rattle.vox_geom.proofs.Points.{between_ends}
 use Rattle.nano_spec.specs.Matrix.{Matrix, all_of, is_full}
 use Rattle.step_order.specs.Acting.{with_region}
 use Rattle.step_order.proofs.Lists.{find_none}
@@ -28,12 +29,9 @@ module _ (m : Matrix) (s : Span) where
 
 -- ---- a tile
 
-between_is : (a b v : ℕ) → a ≤ v → v ≤ b → is_between (pos a) (pos b) (pos v) ≡ true
-between_is a b v h k = grind (arith, nat_tests)
-
 -- the coordinates of a tile
 pub in_tile : (far : ℕ) (t c : Coord) → t.x ≤ c.x → c.x ≤ t.x + far → c.y ≡ t.y → t.z ≤ c.z → c.z ≤ t.z + far → is_within (tile far t) (point c) ≡ true
-in_tile far t c a b e f g = three_true (is_between (pos t.x) (pos (t.x + far)) (pos c.x)) (is_between (pos t.y) (pos t.y) (pos c.y)) (is_between (pos t.z) (pos (t.z + far)) (pos c.z)) (between_is t.x (t.x + far) c.x a b) (between_is t.y t.y c.y (omega arith) (omega arith)) (between_is t.z (t.z + far) c.z f g)
+in_tile far t c a b e f g = three_true (is_between (pos t.x) (pos (t.x + far)) (pos c.x)) (is_between (pos t.y) (pos t.y) (pos c.y)) (is_between (pos t.z) (pos (t.z + far)) (pos c.z)) (between_ends t.x (t.x + far) c.x a b) (between_ends t.y t.y c.y (omega arith) (omega arith)) (between_ends t.z (t.z + far) c.z f g)
 
 -- a tile that was voided is void
 pub tile_void : (m : Matrix) (far x y z : ℕ) → IsVoidTile (with_region m (tile far (coord x y z)) false) far x y z

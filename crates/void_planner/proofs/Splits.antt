@@ -11,6 +11,7 @@ use Rattle.vox_geom.specs.Region.{just}
 use Rattle.vox_geom.specs.Space.{IsInSpace, in_space}
 use Rattle.vox_geom.proofs.Truths.{both_true, or_by_first, three_true}
 use Rattle.vox_geom.proofs.Sums.{less_one, plus_none, plus_one}
+use Rattle.vox_geom.proofs.Points.{in_space_is, number_itself, point_itself}
 use Rattle.nano_spec.specs.declared.commands.Command.{Command}
 use Rattle.nano_spec.specs.declared.commands.Command.TheVariants.{Fission, FusionP, FusionS}
 use Rattle.nano_spec.specs.declared.system.Bot.{Bot}
@@ -24,13 +25,13 @@ use Rattle.nano_spec.specs.Profile.{full_profile, is_allowed}
 use Rattle.nano_spec.specs.State.{seed_list, seed_numbers}
 use Rattle.step_order.specs.Apart.{AreBelow, LieApart, after_x, before_x}
 use Rattle.step_order.specs.Unbroken.{AreFree, IsFreeWay}
-use Rattle.step_order.proofs.Voxels.{in_space_is}
 use Rattle.plan_tape.specs.Crowd.{AllStep, bots_fused, bots_split}
 use Rattle.plan_tape.specs.Progress.{TapeState, state_of}
 use Rattle.plan_tape.specs.Fissions.{is_fission}
 use Rattle.void_planner.specs.Square.{Becomes, CanStand, bot_with, four, one, two}
 use Rattle.plan_tape.proofs.Fissions.{fissions_more}
 use Rattle.void_planner.proofs.Fours.{void_between}
+use Rattle.void_planner.proofs.Corners.{point_by}
 
 -- ---- what a step makes
 
@@ -49,9 +50,6 @@ becomes p q k some bots made n e high full s = record {
 
 abbrev to : ℤ → ℤ → Diff
 to dx dz = record { dx = dx; dy = pos 0; dz = dz }
-
-point_by : (b : Coord) (e : Diff) (q : Coord) → pos b.x +ℤ e.dx ≡ pos q.x → pos b.y +ℤ e.dy ≡ pos q.y → pos b.z +ℤ e.dz ≡ pos q.z → plus (point b) e ≡ point q
-point_by b e q x y z = λ i. record { x = x i; y = y i; z = z i }
 
 -- the coordinate beside one along x, along z, and back
 beside_x : (c : Coord) → plus (point c) (to (pos 1) (pos 0)) ≡ point (coord (c.x + 1) c.y c.z)
@@ -177,12 +175,6 @@ module _ (p : TapeState) (c : Coord) (d e : Diff) (bots : p.bots ≡ two c) (ful
       ∙ split_bots_both c (coord c.x c.y (c.z + 1)) (coord (c.x + 1) c.y (c.z + 1)) (coord (c.x + 1) c.y c.z))
 
 -- ---- bots that fuse
-
-number_itself : (a : ℕ) → same_number (pos a) (pos a) ≡ true
-number_itself a = grind (arith, nat_tests)
-
-point_itself : (a : Coord) → same_point (point a) (point a) ≡ true
-point_itself a = three_true (same_number (pos a.x) (pos a.x)) (same_number (pos a.y) (pos a.y)) (same_number (pos a.z) (pos a.z)) (number_itself a.x) (number_itself a.y) (number_itself a.z)
 
 -- two bots whose differences lead to each other
 pair : (a b : Coord) (d e : Diff) → plus (point a) d ≡ point b → plus (point b) e ≡ point a → fuse (point a) (FusionP d) (point b) (FusionS e) ≡ true

@@ -10,10 +10,10 @@ use Rattle.vox_geom.specs.Point.{are_adjacent}
 gap : (a b : ℕ) → unsigned_abs (pos a -ℤ pos b) ≡ (a - b) + (b - a)
 gap a b = omega (arith, ints)
 
-is_one : (n : ℕ) → IsTrue (n == 1) → n ≡ 1
+pub is_one : (n : ℕ) → IsTrue (n == 1) → n ≡ 1
 is_one n h = grind (arith, nat_tests)
 
-one_is : (n : ℕ) → n ≡ 1 → IsTrue (n == 1)
+pub one_is : (n : ℕ) → n ≡ 1 → IsTrue (n == 1)
 one_is n h = rw h refl
 
 gaps : (a b : Coord) → IsTrue (are_adjacent a b) → ((a.x - b.x) + (b.x - a.x)) + ((a.y - b.y) + (b.y - a.y)) + ((a.z - b.z) + (b.z - a.z)) ≡ 1

@@ -11,6 +11,7 @@ use Rattle.vox_geom.specs.declared.coordinate.Coord.{Coord}
 use Rattle.vox_geom.specs.Point.{point}
 use Rattle.vox_geom.specs.Region.{Corners, IsOrdered, Span, extent, is_between, is_within, size, span}
 use Rattle.vox_geom.specs.Space.{IsInSpace, coordinate_at, coordinates, numbers_from}
+use Rattle.vox_geom.proofs.Points.{between_ends}
 
 -- how many of n numbers, from a on, pass the test
 tally : (ℕ → Bool) → ℕ → ℕ → ℕ
@@ -80,9 +81,6 @@ pairs f g m (suc n) =
 
 -- ---- a region's coordinates
 
-inside : (low high v : ℕ) → low ≤ v → v ≤ high → is_between (pos low) (pos high) (pos v) ≡ true
-inside low high v h k = grind (arith, nat_tests)
-
 below : (low high v : ℕ) → low ≤ high → v < low → is_between (pos low) (pos high) (pos v) ≡ false
 below low high v h k = grind (arith, nat_tests)
 
@@ -100,7 +98,7 @@ between_tallied low high r h k =
     let m = r - (high + 1) in
     let e : r ≡ low + (n + m) = omega arith in
     let front : tally test low 0 ≡ 0 = same_tally test (λ _. false) low 0 (λ v i j. below low high v h (omega arith)) ∙ none_tallied low 0 in
-    let middle : tally test n (0 + low) ≡ n = same_tally test (λ _. true) n (0 + low) (λ v i j. inside low high v (omega arith) (omega arith)) ∙ all_tallied n (0 + low) in
+    let middle : tally test n (0 + low) ≡ n = same_tally test (λ _. true) n (0 + low) (λ v i j. between_ends low high v (omega arith) (omega arith)) ∙ all_tallied n (0 + low) in
     let back : tally test m (0 + low + n) ≡ 0 = same_tally test (λ _. false) m (0 + low + n) (λ v i j. above low high v h (omega arith)) ∙ none_tallied m (0 + low + n) in
     let outer : tally test (low + (n + m)) 0 ≡ tally test low 0 + tally test (n + m) (0 + low) = in_parts test low (n + m) 0 in
     let inner : tally test (n + m) (0 + low) ≡ tally test n (0 + low) + tally test m (0 + low + n) = in_parts test n m (0 + low) in

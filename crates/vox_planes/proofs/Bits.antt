@@ -13,10 +13,10 @@ use Rattle.vox_planes.specs.Layers.{layer_words, bit_index, is_set}
 
 -- ---- the bit that a write changes, and the others
 
-one : (n k : ℕ) → bit_at n k ≡ 1 → bit n k ≡ true
+pub one : (n k : ℕ) → bit_at n k ≡ 1 → bit n k ≡ true
 one n k h = rw h refl
 
-zero_bit : (n k : ℕ) → bit_at n k ≡ 0 → bit n k ≡ false
+pub zero_bit : (n k : ℕ) → bit_at n k ≡ 0 → bit n k ≡ false
 zero_bit n k h = rw h refl
 
 -- a word in which the bit i is b, and all other bits are those of another word

@@ -12,9 +12,9 @@ use Rattle.vox_geom.specs.declared.coordinate.Coord.{Coord}
 use Rattle.vox_geom.specs.Space.{IsInSpace, in_space}
 use Rattle.vox_geom.specs.Point.{below as under, point}
 use Rattle.vox_geom.proofs.Truths.{first_of_two}
+use Rattle.vox_geom.proofs.Points.{space_by_test}
 use Rattle.nano_spec.specs.Matrix.{is_full}
 use Rattle.nano_spec.specs.Model.{bit}
-use Rattle.nano_spec.proofs.Coordinates.{in_space-is}
 use Rattle.vox_planes.specs.Heap.{IsHeap}
 use Rattle.vox_planes.specs.Layers.{IsLayered, bit_index, is_set, layer_words, layered}
 use Rattle.vox_planes.proofs.Bits.{in_layer}
@@ -98,7 +98,7 @@ is_heap-held r ws layer end size all a = λ c h. by c h (cases_lt 0 c.y)
     by : (c : Coord) → IsTrue (is_full (layered r ws) c) → ((0 < c.y) ⊎ (c.y ≤ 0)) → (c.y ≡ 0) ⊎ IsTrue (is_full (layered r ws) (under c))
     by c h (inr l) = inl (omega arith)
     by c h (inl l) =
-        let within : IsInSpace r c = in_space-is r c (first_of_two (in_space r (point c)) _ h) in
+        let within : IsInSpace r c = space_by_test r c (first_of_two (in_space r (point c)) _ h) in
         let below : IsInSpace r (under c) = record { x = within.x; y = (let y = within.y in omega arith); z = within.z } in
         let here : is_set ws (bit_index r c) ≡ true = sym (is_full-layered r ws c within) ∙ h in
         let row = in_layer r c within in

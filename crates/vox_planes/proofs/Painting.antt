@@ -12,6 +12,7 @@ use Rattle.vox_geom.specs.Space.{IsInSpace, coordinate_at, coordinates, place}
 use Rattle.vox_geom.proofs.Firsts.{at_in_space, place_below}
 use Rattle.vox_geom.proofs.Places.{coordinate_at-place, place-coordinate_at}
 use Rattle.vox_geom.proofs.Truths.{no_first_of_three, no_second as last_no, no_second_of_three, twice_chosen}
+use Rattle.vox_geom.proofs.Points.{in_space_is}
 use Rattle.nano_spec.specs.Matrix.{Matrix, is_full, matrix_where}
 use Rattle.nano_spec.specs.Model.{bit}
 use Rattle.vox_planes.specs.Bits.{has_value}
@@ -25,7 +26,7 @@ use Rattle.vox_planes.proofs.Filled.{AreFilled, others_total}
 use Rattle.vox_planes.proofs.Placed.{none_of_these, put_layered}
 use Rattle.vox_planes.proofs.Lines.{row_listed}
 use Rattle.vox_planes.proofs.Totals.{counted, one_if, total, total-plus, total-same}
-use Rattle.vox_planes.proofs.Voxels.{get_or-where, in_space-of, is_full-layered, is_full-where, length-where, same_where}
+use Rattle.vox_planes.proofs.Voxels.{get_or-where, is_full-layered, is_full-where, length-where, same_where}
 use Rattle.vox_planes.proofs.Walks.{size-walls}
 
 -- ---- sums over the coordinates of a matrix
@@ -58,7 +59,7 @@ itself m w =
   where
     voxel : (k : ℕ) → k < m.resolution * m.resolution * m.resolution → get_or m.voxels k false ≡ get_or (matrix_where m.resolution (λ d. is_full m d)).voxels k false
     voxel k l = sym (get_or-where m.resolution (λ d. is_full m d) k l
-        ∙ (ap (λ b. b && get_or m.voxels (place m.resolution (coordinate_at m.resolution k)) false) (in_space-of m.resolution (coordinate_at m.resolution k) (at_in_space m.resolution k l))
+        ∙ (ap (λ b. b && get_or m.voxels (place m.resolution (coordinate_at m.resolution k)) false) (in_space_is m.resolution (coordinate_at m.resolution k) (at_in_space m.resolution k l))
         ∙ ap (λ p. get_or m.voxels p false) (place-coordinate_at m.resolution k)))
 
 pub painted_none : (m : Matrix) (area : Coord → Bool) (full : Bool) → IsWhole m → ((d : Coord) → area d ≡ false) → IsPainted m m area full 0

@@ -16,6 +16,8 @@ use Rattle.vox_planes.specs.Voxel.{is_state}
 use Rattle.vox_planes.specs.Walk.{at, row}
 use Rattle.vox_planes.proofs.Voxels.{is_full-layered}
 use Rattle.vox_planes.proofs.Walks.{row-end, row-more}
+use Rattle.vox_planes.proofs.Chunks.{shifted_bit}
+use Rattle.vox_planes.proofs.Bits.{one as is_one, zero_bit}
 
 -- ---- the bits of a word from one on
 
@@ -29,15 +31,6 @@ state-false true b e = e
 state-false false true e = refl
 state-false false false e = cc
 
-is_one : (n k : ℕ) → bit_at n k ≡ 1 → bit n k ≡ true
-is_one n k e = rw e refl
-
-is_zero : (n k : ℕ) → bit_at n k ≡ 0 → bit n k ≡ false
-is_zero n k e = rw e refl
-
-shifted : (v s k : ℕ) → bit_at (v / 2 ^ s) k ≡ bit_at v (s + k)
-shifted v s k = ap (λ n. n % 2) (shr-shr v s k)
-
 bit_from : (ws : List ℕ) (i k : ℕ) → i % 64 + k < 64 → is_set ws (i + k) ≡ bit (get_or ws (i / 64) 0) (i % 64 + k)
 unfolding is_set
 bit_from ws i k l =
@@ -50,7 +43,7 @@ unmarked : (ws : List ℕ) (i w v k : ℕ) (value : Bool) → w ≡ get_or ws (i
 unmarked ws i w v k value e h l z =
     bit_from ws i k l
     ∙ (ap (λ n. bit n (i % 64 + k)) (sym e)
-    ∙ state-false value (bit w (i % 64 + k)) (sym (h.bits (i % 64 + k) l) ∙ is_zero v (i % 64 + k) (sym (shifted v (i % 64) k) ∙ z)))
+    ∙ state-false value (bit w (i % 64 + k)) (sym (h.bits (i % 64 + k) l) ∙ zero_bit v (i % 64 + k) (sym (shifted_bit v (i % 64) k) ∙ z)))
 
 -- the other word marks the bits of the other value
 pub mark_other : (w : ℕ) → w < 2 ^ 64 → IsMarked w (bit_not w64 w) false
@@ -87,7 +80,7 @@ next_in_word ws from i w v value e l h p o f =
       here =
           bit_from ws i t near
           ∙ (ap (λ n. bit n (s + t)) (sym e)
-          ∙ state-true value (bit w (s + t)) (sym (h.bits (s + t) near) ∙ is_one v (s + t) (sym (shifted v s t) ∙ z.1)));
+          ∙ state-true value (bit w (s + t)) (sym (h.bits (s + t) near) ∙ is_one v (s + t) (sym (shifted_bit v s t) ∙ z.1)));
     }
   where
     in_range : (bits s t : ℕ) → bit_at bits t ≡ 1 → bits < 2 ^ (64 - s) → s < 64 → s + t < 64
@@ -243,12 +236,12 @@ same_kept (suc n) f g c last e h =
 
 -- a bit of a word of which so many of the lowest bits are gone
 left_bit : (v left s k : ℕ) → left ≡ v / 2 ^ s → bit v (s + k) ≡ bit left k
-left_bit v left s k e = ap (λ n. n == 1) (sym (shifted v s k)) ∙ ap (λ n. bit n k) (sym e)
+left_bit v left s k e = ap (λ n. n == 1) (sym (shifted_bit v s k)) ∙ ap (λ n. bit n k) (sym e)
 
 no_bit : (v left : ℕ) (c : Coord) (z y : ℕ) → left ≡ v / 2 ^ (z - c.z) → c.z ≤ z → z ≤ y → bit_at left (y - z) ≡ 0 → has_bit v c (at c y) ≡ false
 no_bit v left c z y e l m h =
     let same : y - c.z ≡ z - c.z + (y - z) = omega arith in
-    ap (bit v) same ∙ (left_bit v left (z - c.z) (y - z) e ∙ is_zero left (y - z) h)
+    ap (bit v) same ∙ (left_bit v left (z - c.z) (y - z) e ∙ zero_bit left (y - z) h)
 
 -- no bit is left in the row: so none of it is listed
 pub none_left : (v left : ℕ) (c : Coord) (z last : ℕ) → left ≡ v / 2 ^ (z - c.z) → c.z ≤ z → z ≤ last + 1 → ((j : ℕ) → j < last + 1 - z → bit_at left j ≡ 0) → filter (has_bit v c) (row (at c z) last) ≡ []
@@ -275,7 +268,7 @@ left_after v left s t k e f = shr-shr left t 1 ∙ (ap (λ n. n / 2 ^ (t + 1)) e
 pub bits_marked : (ws : List ℕ) (i v : ℕ) (value : Bool) → IsMarked (get_or ws (i / 64) 0) v value → AreBitsFrom ws i (v / 2 ^ (i % 64)) value
 bits_marked ws i v value marks = record {
   bits = λ k l.
-      ap (λ n. n == 1) (shifted v (i % 64) k) ∙ (marks.bits (i % 64 + k) l ∙ ap (has_value value) (sym (bit_from ws i k l)));
+      ap (λ n. n == 1) (shifted_bit v (i % 64) k) ∙ (marks.bits (i % 64 + k) l ∙ ap (has_value value) (sym (bit_from ws i k l)));
 }
 
 -- the bits of a word of the row, from a place on, tell the voxels up to the end of the word

@@ -12,9 +12,9 @@ use Rattle.vox_geom.specs.Point.{point}
 use Rattle.vox_geom.specs.Space.{IsInSpace, in_space, place}
 use Rattle.vox_geom.proofs.Truths.{second_of_two}
 use Rattle.vox_geom.proofs.Tests.{test_less, test_not_less}
+use Rattle.vox_geom.proofs.Points.{space_by_test}
 use Rattle.nano_spec.specs.Matrix.{Matrix, is_full}
 use Rattle.nano_spec.specs.Model.{bit}
-use Rattle.nano_spec.proofs.Coordinates.{in_space-is}
 use Rattle.vox_planes.specs.Heap.{goes, is_full_up_to, is_stacked}
 use Rattle.vox_planes.specs.Layers.{IsLayered, bit_index, is_set, layer_words, layered}
 use Rattle.vox_planes.proofs.Bits.{in_layer}
@@ -157,7 +157,7 @@ module _ (r : ℕ) (old now full : List ℕ) (layered_is : IsLayered r full) (co
       by : (s : Bool) → in_space r (point c) ≡ s → is_full (layered r now) c ≡ (is_full (layered r full) c && not (is_stacked (layered r full) c))
       by false s = none now s ∙ sym (ap (λ b. b && not (is_stacked (layered r full) c)) (none full s))
       by true s =
-          let i : IsInSpace r c = in_space-is r c s in
+          let i : IsInSpace r c = space_by_test r c s in
           is_full-layered r now c i ∙ column c c.y i
 
   pub stacked_layered : length now ≡ length full → ((y i : ℕ) → y < r → r * r ≤ i → i < layer_words r * 64 → is_set old (y * layer_words r * 64 + i) ≡ false) → IsLayered r now

@@ -9,9 +9,9 @@ use Rattle.vox_geom.specs.declared.coordinate.Coord.{Coord}
 use Rattle.vox_geom.specs.Point.{point}
 use Rattle.vox_geom.specs.Space.{IsInSpace, in_space, place}
 use Rattle.vox_geom.proofs.Tests.{other_bit}
+use Rattle.vox_geom.proofs.Points.{space_by_test}
 use Rattle.nano_spec.specs.Matrix.{is_full}
 use Rattle.nano_spec.specs.Model.{bit}
-use Rattle.nano_spec.proofs.Coordinates.{in_space-is}
 use Rattle.vox_planes.specs.Layers.{IsLayered, bit_index, is_set, layer_words, layered}
 use Rattle.vox_planes.specs.Places.{is_from, is_marked}
 use Rattle.vox_planes.specs.Walk.{at}
@@ -172,7 +172,7 @@ module _ (r : ℕ) (old new : List ℕ) (first : Coord) (count bits taken : ℕ)
       by : (s : Bool) → in_space r (point d) ≡ s → is_full (layered r new) d ≡ (is_full (layered r old) d && not (is_marked first count bits d))
       by false s = none new s ∙ sym (ap (λ b. b && not (is_marked first count bits d)) (none old s))
       by true s =
-          let i : IsInSpace r d = in_space-is r d s in
+          let i : IsInSpace r d = space_by_test r d s in
           is_full-layered r new d i
           ∙ (h.left (bit_index r d)
           ∙ (λ j. sym (is_full-layered r old d i) j && not (marked d i j)))

@@ -14,26 +14,20 @@ use Rattle.vox_geom.specs.Space.{IsInSpace, in_space, in_range, place, coordinat
 use Rattle.vox_geom.proofs.Places.{coordinate_at-place}
 use Rattle.vox_geom.proofs.Firsts.{at_in_space, place_below}
 use Rattle.vox_geom.proofs.Truths.{parts_of_three, three_true}
+use Rattle.vox_geom.proofs.Points.{in_range_is, in_space_is, number_itself, numbers_are_same, point_itself, space_by_test}
 use Rattle.nano_spec.specs.Matrix.{empty, is_full, matrix_where}
 use Rattle.nano_spec.specs.Model.{bit}
-use Rattle.nano_spec.proofs.Coordinates.{in_space-is}
 use Rattle.vox_planes.specs.Layers.{IsLayered, bit_index, is_set, layer_words, layered}
 use Rattle.vox_planes.specs.Voxel.{IsWhole, with_voxel}
 use Rattle.vox_planes.proofs.Bits.{in_layer, one_bit}
 
 -- ---- matrices by a test
 
-ranged : (r x : ℕ) → x < r → in_range r (pos x) ≡ true
-ranged r x h = grind (arith, nat_tests)
-
-pub in_space-of : (r : ℕ) (c : Coord) → IsInSpace r c → in_space r (point c) ≡ true
-in_space-of r c h = three_true (in_range r (pos c.x)) (in_range r (pos c.y)) (in_range r (pos c.z)) (ranged r c.x h.x) (ranged r c.y h.y) (ranged r c.z h.z)
-
 length-numbers : (n a : ℕ) → length (numbers_from a n) ≡ n
 length-numbers zero a = refl
 length-numbers (suc n) a = ap suc (length-numbers n (a + 1))
 
-get_or-numbers : (n a k d : ℕ) → k < n → get_or (numbers_from a n) k d ≡ a + k
+pub get_or-numbers : (n a k d : ℕ) → k < n → get_or (numbers_from a n) k d ≡ a + k
 get_or-numbers zero a k d h = absurd (omega arith)
 get_or-numbers (suc n) a zero d h = omega arith
 get_or-numbers (suc n) a (suc k) d h = omega (arith, get_or-numbers n (a + 1) k d (omega arith))
@@ -52,7 +46,7 @@ get_or-where r test k h =
 -- a voxel of the matrix by a test
 pub is_full-where : (r : ℕ) (test : Coord → Bool) (c : Coord) → IsInSpace r c → is_full (matrix_where r test) c ≡ test c
 is_full-where r test c h =
-    ap (λ s. s && get_or (matrix_where r test).voxels (place r c) false) (in_space-of r c h)
+    ap (λ s. s && get_or (matrix_where r test).voxels (place r c) false) (in_space_is r c h)
     ∙ (get_or-where r test (place r c) (place_below r c h) ∙ ap test (coordinate_at-place r c h))
 
 -- tests that agree in space make one matrix
@@ -92,21 +86,12 @@ layered-zeros r = same_where r (λ c. is_set (replicate (r * layer_words r) 0) (
 
 -- ---- one voxel changed
 
-same_self : (a : ℕ) → same_number (pos a) (pos a) ≡ true
-same_self a = grind (arith, nat_tests)
-
-same_is : (a b : ℕ) → same_number (pos a) (pos b) ≡ true → a ≡ b
-same_is a b h = grind (arith, nat_tests)
-
-pub same_point-refl : (c : Coord) → same_point (point c) (point c) ≡ true
-same_point-refl c = three_true (same_number (pos c.x) (pos c.x)) (same_number (pos c.y) (pos c.y)) (same_number (pos c.z) (pos c.z)) (same_self c.x) (same_self c.y) (same_self c.z)
-
 pub same_point-is : (c d : Coord) → same_point (point c) (point d) ≡ true → c ≡ d
 same_point-is c d h =
     let parts = parts_of_three (same_number (pos c.x) (pos d.x)) (same_number (pos c.y) (pos d.y)) (same_number (pos c.z) (pos d.z)) h in
-    let x = same_is c.x d.x parts.0 in
-    let y = same_is c.y d.y parts.1 in
-    let z = same_is c.z d.z parts.2 in
+    let x = numbers_are_same c.x d.x parts.0 in
+    let y = numbers_are_same c.y d.y parts.1 in
+    let z = numbers_are_same c.z d.z parts.2 in
     λ i. record { x = x i; y = y i; z = z i }
 
 -- words of which one bit was changed
@@ -137,7 +122,7 @@ changed_at r old new c b h k d i = by (same_point (point d) (point c)) refl
     by false t = k.others (bit_index r d) (λ e. differs (one_bit r d c i h e))
       where
         differs : d ≡ c → ⊥
-        differs e = let s = ap (λ v. same_point (point v) (point c)) e ∙ same_point-refl c in cc
+        differs e = let s = ap (λ v. same_point (point v) (point c)) e ∙ point_itself c in cc
 
 pub layered-changed : (r : ℕ) (old new : List ℕ) (c : Coord) (b : Bool) → IsInSpace r c → IsChanged old new (bit_index r c) b → layered r new ≡ with_voxel (layered r old) c b
 layered-changed r old new c b h k = same_where r (λ d. is_set new (bit_index r d)) (λ d. cond (same_point (point d) (point c)) b (is_full (layered r old) d)) (λ d i.
@@ -152,7 +137,7 @@ full_others r old new c b h k d n = by (in_space r (point d)) refl
     by : (s : Bool) → in_space r (point d) ≡ s → is_full (layered r new) d ≡ is_full (layered r old) d
     by false s = ap (λ t. t && get_or (layered r new).voxels (place r d) false) s ∙ sym (ap (λ t. t && get_or (layered r old).voxels (place r d) false) s)
     by true s =
-        let i : IsInSpace r d = in_space-is r d s in
+        let i : IsInSpace r d = space_by_test r d s in
         is_full-layered r new d i ∙ (k.others (bit_index r d) (λ e. n (one_bit r d c i h e)) ∙ sym (is_full-layered r old d i))
 
 -- what `set_bit` says, read from the words as they were to those that are kept

@@ -16,6 +16,7 @@ use Rattle.vox_geom.specs.Space.{IsInSpace, coordinate_at, coordinates, numbers_
 use Rattle.vox_geom.proofs.Places.{coordinate_at-place, place-coordinate_at}
 use Rattle.vox_geom.proofs.Firsts.{place_below}
 use Rattle.vox_geom.proofs.Truths.{and_by_second, false_by, no_second, parts_of_three}
+use Rattle.vox_geom.proofs.Points.{between_ends}
 use Rattle.vox_planes.specs.Walk.{at, coordinates_from, passes_in, row, row_start, wall_size}
 
 -- ---- a row
@@ -66,10 +67,6 @@ from-row r c last within l h = rows r (last + 1 - c.z) c last refl (omega arith)
 
 -- ---- tests in a region
 
--- what is between the ends, and what is not
-between : (low high v : ℕ) → low ≤ v → v ≤ high → is_between (pos low) (pos high) (pos v) ≡ true
-between low high v h k = grind (arith, nat_tests)
-
 from_between : (low high v : ℕ) → low ≤ high → is_between (pos low) (pos high) (pos v) ≡ true → (low ≤ v) × (v ≤ high)
 from_between low high v h e = (lower low high v h e, upper low high v h e)
   where
@@ -97,7 +94,7 @@ is_of k c o h =
     record { x_low = x.0; x_high = x.1; y_low = y.0; y_high = y.1; z_low = z.0; z_high = z.1 }
 
 pub of_is : (k : Corners) (c : Coord) → IsOf k c → is_within (span k) (point c) ≡ true
-of_is k c h = λ i. between k.low.x k.high.x c.x h.x_low h.x_high i && between k.low.y k.high.y c.y h.y_low h.y_high i && between k.low.z k.high.z c.z h.z_low h.z_high i
+of_is k c h = λ i. between_ends k.low.x k.high.x c.x h.x_low h.x_high i && between_ends k.low.y k.high.y c.y h.y_low h.y_high i && between_ends k.low.z k.high.z c.z h.z_low h.z_high i
 
 in_row : (k : Corners) (test : Coord → Bool) (c : Coord) → IsOf k c → passes_in k test c ≡ test c
 in_row k test c h = and_by_second (test c) (is_within (span k) (point c)) (of_is k c h)

@@ -9,8 +9,5 @@ either_is : (words : List ℕ) (held : Option (List ℕ)) (same : Bool) → is_s
 either_is words held true live = refl
 either_is words held false live = live
 
-pub live-insert : (v : Slots) (s : ℕ) (words : List ℕ) (q : ℕ) → IsLive v q → IsLive (insert v s words) q
-live-insert v s words q live = ap is_some (get-insert nat_cmp_total v s words q) ∙ either_is words (get v q) _ live
-
 pub live-remove : (v : Slots) (s q : ℕ) → (q ≡ s → ⊥) → IsLive v q → IsLive (remove v s) q
 live-remove v s q ne live = ap is_some (get-remove nat_cmp_total v s q ∙ ap (λ b. cond b None (get v q)) (unsigned_tied q s ∙ ne_eqb q s ne)) ∙ live

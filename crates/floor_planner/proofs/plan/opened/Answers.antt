@@ -1,6 +1,6 @@
 use Rattle.std.proofs.Common.{◌∙◌, ap}
 use Rattle.nano_spec.specs.Matrix.{empty}
-use Rattle.floor_planner.proofs.Models.{empty_is_grounded}
+use Rattle.nano_spec.proofs.EmptyModel.{empty_is_grounded}
 use Rattle.floor_planner.proofs.Sweeping.{begins}
 use Rattle.floor_planner.proofs.plan.opened.Goals as goal
 

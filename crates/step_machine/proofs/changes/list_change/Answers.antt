@@ -1,9 +1,10 @@
 use Rattle.std.proofs.Common.{sym, ◌∙◌, arith}
 use Rattle.vox_geom.specs.Point.{point}
 use Rattle.step_machine.proofs.Cells.{IsRegionOf, listed, listed_none, size_is}
-use Rattle.step_machine.proofs.Regions.{change_is_other, edits_region, high_within, idle_edits_nothing, not_change}
+use Rattle.step_machine.proofs.Regions.{change_is_other, edits_region, idle_edits_nothing, not_change}
 use Rattle.step_machine.proofs.changes.list_change.Goals as goal
 use Rattle.step_groups.specs.Judging.{act}
+use Rattle.step_groups.proofs.Touching.{high_within}
 
 pub returns-in_default-clause-items : goal.returns-in_default-clause-items
 returns-in_default-clause-items g c =
