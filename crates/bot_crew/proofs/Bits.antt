@@ -1,5 +1,5 @@
 -- Sets of seeds and their lists: a set is the sum of the powers of its seeds, and its least seed is its lowest bit.
-use Rattle.std.proofs.Common.{◌≡◌, ℕ, zero, suc, ◌+◌, ◌*◌, ◌-◌, ◌^◌, ◌<◌, ◌≤◌, refl, sym, ◌∙◌, ap, subst, arith, inl, inr, ◌⊎◌, Bool, true, false, ◌||◌, ◌&&◌, ◌==◌, List, [], ◌∷◌, ◌++◌, length, fold}
+use Rattle.std.proofs.Common.{◌≡◌, ℕ, zero, suc, ◌+◌, ◌*◌, ◌-◌, ◌^◌, ◌<◌, ◌≤◌, refl, sym, ◌∙◌, ap, subst, arith, inl, inr, ◌⊎◌, true, false, ◌||◌, ◌&&◌, ◌==◌, List, [], ◌∷◌, ◌++◌, length, fold}
 use Rattle.std.specs.Prelude.{filter, count_ones}
 use lib.Count.{ones}
 use Rattle.std.specs.Int.{bit_at, trailing_zeros}
@@ -7,7 +7,6 @@ use Rattle.std.proofs.Common.{w64}
 use Rattle.std.proofs.lemmas.Nat.{pow-add, pow_pos, ones_cat}
 use Rattle.std.proofs.lemmas.Nat.Bits.{bit_at-lt, bit_at-trailing_zeros, bit_at_above, same_from_bits}
 use Rattle.std.proofs.lemmas.Bool.{cases_order}
-use Rattle.std.proofs.lemmas.Bool.Decides.{nat_tests}
 use Rattle.vox_geom.specs.Space.{numbers_from}
 use Rattle.vox_geom.proofs.Truths.{and_false, and_true, or_by_second}
 use Rattle.vox_geom.proofs.Tests.{same_bit, test_equal, test_unequal}

@@ -3,7 +3,7 @@ use Rattle.std.proofs.Common.{◌≡◌, ℕ, zero, suc, ◌<◌, ◌≤◌, ref
 use Rattle.std.specs.Prelude.{Some, None, IsSome, nat_lt}
 use Rattle.std.specs.List.{list_any, insert, remove}
 use Rattle.std.proofs.lemmas.Bool.{cases_order}
-use Rattle.std.proofs.lemmas.Bool.Decides.{nat_tests, Decides-eqb}
+use Rattle.std.proofs.lemmas.Bool.Decides.{Decides-eqb}
 use Rattle.vox_geom.proofs.Tests.{test_equal, test_less, test_not_less, test_unequal}
 use Rattle.nano_spec.specs.declared.system.Bot.{Bot}
 use Rattle.nano_spec.specs.Bots.{in_rising_order, with_bot}

@@ -1,5 +1,5 @@
 -- The chain of vacant slots, as words change.
-use Rattle.std.proofs.Common.{◌≡◌, ◌⊎◌, ℕ, zero, suc, ◌+◌, ◌-◌, ◌*◌, ◌<◌, Bool, true, false, List, ◌∷◌, refl, sym, ap, ◌∙◌, arith}
+use Rattle.std.proofs.Common.{◌≡◌, ◌⊎◌, ℕ, zero, suc, ◌+◌, ◌-◌, ◌*◌, ◌<◌, true, false, List, ◌∷◌, refl, sym, ap, ◌∙◌, arith}
 use Rattle.brick_arena.specs.Arena.{is_listed, chain}
 
 pub among-first : (s : ℕ) (ts : List ℕ) → is_listed s (s ∷ ts) ≡ true

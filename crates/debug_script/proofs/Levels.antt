@@ -1,15 +1,12 @@
 -- Voxels outside of the matrix.
-use Rattle.std.proofs.Common.{◌≡◌, List, [], ◌∷◌, false, None}
-use Rattle.std.specs.Prelude.{IsTrue, ◌&&◌, ◌==◌, slice_index_or}
+use Rattle.std.proofs.Common.{◌≡◌, false, None}
+use Rattle.std.specs.Prelude.{◌&&◌, slice_index_or}
 use Rattle.vox_geom.specs.declared.coordinate.Coord.{Coord}
-use Rattle.vox_geom.specs.Point.{point, same_point}
+use Rattle.vox_geom.specs.Point.{point}
 use Rattle.vox_geom.specs.Space.{in_space, place}
-use Rattle.vox_geom.proofs.Truths.{first_of_two, second_of_two}
-use Rattle.vox_geom.proofs.Points.{coordinate_by_test}
-use Rattle.nano_spec.specs.Grounded.{Grounded, is_path}
 use Rattle.nano_spec.specs.Level.{Level}
 use Rattle.nano_spec.specs.Matrix.{Matrix, is_full}
-use Rattle.nano_spec.proofs.WorkDone.{full_head, void_is}
+use Rattle.nano_spec.proofs.WorkDone.{void_is}
 
 pub void_outside : (m : Matrix) (c : Coord) → in_space m.resolution (point c) ≡ false → is_full m c ≡ false
 void_outside m c e = λ i. e i && slice_index_or m.voxels (place m.resolution c) false

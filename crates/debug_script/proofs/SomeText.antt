@@ -1,9 +1,8 @@
 -- The lines of a script print something: each line has an answer in a session whose points are ready and whose begun groups are of
 -- leaders of the next step, and it leads to such a session.
-use Rattle.std.proofs.Common.{◌≡◌, ◌⊎◌, ◌∙◌, ℕ, zero, suc, ◌+◌, ◌-◌, ◌==◌, inl, inr, Bool, true, false, not, List, [], ◌∷◌, ◌++◌, length, take, drop, Some, None, Option, refl, arith, sym, ap, subst}
+use Rattle.std.proofs.Common.{◌≡◌, ◌⊎◌, ◌∙◌, ℕ, zero, suc, ◌+◌, ◌-◌, ◌==◌, inl, inr, Bool, true, false, not, List, [], ◌∷◌, ◌++◌, length, take, drop, Some, None, Option, refl, sym, ap, subst}
 use Rattle.std.specs.Prelude.{IsPermutation, MatchBool, MatchOption}
 use Rattle.std.specs.List.{list_any, remove}
-use Rattle.std.proofs.lemmas.Bool.Decides.{nat_tests}
 use Rattle.std.proofs.lemmas.List.Sorted.{IsPermutation-more, IsPermutation-refl, list_any-IsPermutation}
 use Rattle.vox_geom.proofs.Truths.{first_of_two, second_of_two}
 use Rattle.vox_geom.proofs.Tests.{equal_by_test}

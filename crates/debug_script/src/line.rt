@@ -1,12 +1,11 @@
 //! What a line of a script says.
-ghost use Rattle.std.specs.List.{position_or_len};
 ghost use Rattle.std.specs.Prelude.{◌≡◌, ◌==◌, ◌∷◌, ◌<◌, ◌≤◌, ℕ, List, [], MatchOption, codes, decimal, length};
 ghost use Rattle.debug_script.specs.Calls.{IsReadBy, script_letters};
 ghost use Rattle.debug_script.specs.Script.{HasFewDigits, LineSays, PartsSay, line_parts};
 
 use crate::word::ScriptWord;
 use itoa::Buffer;
-use trace_text::TextRefusal;
+use trace_text::{TextRefusal, find_byte};
 use vox_geom::Coord;
 
 /// A line of a script.
@@ -24,28 +23,12 @@ pub enum ScriptLine {
     Voxel { at: Coord },
 }
 
-/// Where the byte first stands, or how many bytes there are.
-#[tactic(auto, using(trace_text::proofs::Runs::none_yet, trace_text::proofs::Runs::passes_on, trace_text::proofs::Runs::stops_at, trace_text::proofs::Runs::ends_at))]
-pub(crate) fn find(byte: u8, bytes: &[u8]) -> usize
-    ensures value { result ≡ position_or_len (λ b. b == byte) bytes.now }
-    ensures bound { result ≤ length bytes.now }
-{
-    let mut len = 0;
-    while len < bytes.len() {
-        if bytes[len] == byte {
-            return len;
-        }
-        len += 1;
-    }
-    len
-}
-
 /// The first part of a line, and what follows its space, where it has one.
 #[tactic(auto, using(crate::proofs::Parts::one_part, crate::proofs::Parts::first_part))]
 fn cut_part(line: &[u8]) -> (&[u8], Option<&[u8]>)
     ensures { MatchOption result.1 (line_parts line.now ≡ result.0.now ∷ []) (λ rest. line_parts line.now ≡ result.0.now ∷ line_parts rest.now) }
 {
-    let end = find(b' ', line);
+    let end = find_byte(b' ', line);
     if end == line.len() {
         return (line, None);
     }

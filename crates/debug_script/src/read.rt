@@ -1,11 +1,10 @@
 //! What a script says.
-ghost use Rattle.std.specs.Prelude.{◌≡◌, ◌<◌, ◌≤◌, ◌∷◌, length};
-ghost use Rattle.nano_spec.specs.Reading.{lines};
+ghost use Rattle.std.specs.Prelude.{◌≤◌, length};
 ghost use Rattle.debug_script.specs.Calls.{ReadsScript};
 
-use crate::line::{ScriptLine, find, read_line};
+use crate::line::{ScriptLine, read_line};
 use std::alloc::Global;
-use trace_text::TextFault;
+use trace_text::{TextFault, cut_line};
 
 /// The lines of a script over a source of this resolution, or its first faulty line, counted from 1 (docs/FORMATS.md, "Sessions").
 #[tactic(auto, using(crate::proofs::Reading::nothing_read))]
@@ -30,18 +29,4 @@ pub fn read_script(
         }
     }
     Ok(script)
-}
-
-/// The first line of a text without its line feed, and the lines after it.
-#[tactic(auto, using(trace_text::proofs::Cuts::last_line, trace_text::proofs::Cuts::first_line))]
-fn cut_line(text: &[u8]) -> (&[u8], &[u8])
-    requires { 0 < length text.now }
-    ensures lines { lines text.now ≡ result.0.now ∷ lines result.1.now }
-    ensures shorter { length result.1.now < length text.now }
-{
-    let end = find(b'\n', text);
-    if end == text.len() {
-        return (text, &[]);
-    }
-    (&text[..end], &text[end + 1..])
 }

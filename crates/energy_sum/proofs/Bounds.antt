@@ -1,8 +1,7 @@
 -- How much a step can cost.
 use Rattle.std.proofs.Common.{◌≡◌, ℕ, suc, ◌+◌, ◌*◌, ◌≤◌, sym, subst, arith, Bool, true, false, cond, List, [], ◌∷◌, length, map, filter}
-use Rattle.std.specs.Prelude.{IsTrue, ℤ, pos, negsuc, ◌+ℤ◌, ◌≤ℤ◌, ◌<ℤ◌, unsigned_abs, nat_le, count_by}
+use Rattle.std.specs.Prelude.{ℤ, pos, negsuc, ◌+ℤ◌, ◌≤ℤ◌, ◌<ℤ◌, unsigned_abs, nat_le, count_by}
 use Rattle.std.specs.List.{AllByRecursion}
-use Rattle.std.proofs.lemmas.Bool.Decides.{nat_tests}
 use Rattle.std.proofs.lemmas.Int.{ints}
 use Rattle.std.proofs.Math.Nat.{mul-le-mul}
 use Rattle.vox_geom.specs.declared.difference.Diff.{Diff}

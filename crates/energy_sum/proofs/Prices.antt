@@ -1,5 +1,5 @@
 -- The price of a region is a price for each void and for each full voxel in it.
-use Rattle.std.proofs.Common.{◌≡◌, ℕ, ◌+◌, refl, sym, ◌∙◌, arith, Bool, true, false, cond, ◌&&◌, ◌||◌, not, List, [], ◌∷◌, map}
+use Rattle.std.proofs.Common.{◌≡◌, ℕ, ◌+◌, refl, sym, ◌∙◌, arith, Bool, true, false, cond, ◌&&◌, not, List, [], ◌∷◌, map}
 use Rattle.std.specs.Prelude.{IsFalse, pos, negsuc, ◌+ℤ◌, count_by, filter}
 use Rattle.std.proofs.lemmas.Int.{ints}
 use Rattle.std.proofs.lemmas.List.Sums.{sum_by-cons}

@@ -1,19 +1,14 @@
 -- What is full in a legal model, in one that lies on the floor, and in the empty one.
-use Rattle.std.proofs.Common.{◌≡◌, ℕ, ◌+◌, ◌<◌, ◌≤◌, refl, sym, ◌∙◌, subst, arith, Bool, true, false, ◌&&◌, not, List, [], ◌∷◌, None}
-use Rattle.std.specs.Prelude.{IsTrue, find, pos}
+use Rattle.std.proofs.Common.{◌≡◌, ℕ, ◌+◌, ◌<◌, ◌≤◌, sym, ◌∙◌, arith, Bool, true, false, ◌&&◌, not, None}
+use Rattle.std.specs.Prelude.{find, pos}
 use Rattle.std.proofs.lemmas.Bool.Decides.{nat_tests}
 use Rattle.vox_geom.specs.declared.coordinate.Coord.{Coord}
 use Rattle.vox_geom.specs.Point.{Point, point, coord}
 use Rattle.vox_geom.specs.Region.{Span, between, is_between, is_within}
-use Rattle.vox_geom.specs.Space.{IsInSpace}
 use Rattle.vox_geom.proofs.Truths.{false_by, first_of_two, second_of_two}
-use Rattle.vox_geom.proofs.Points.{space_by_test}
-use Rattle.nano_spec.specs.First.{FirstFailing}
-use Rattle.nano_spec.specs.Grounded.{FirstUngrounded, Grounded}
 use Rattle.nano_spec.specs.Legal.{IsLegal, in_legal_box}
-use Rattle.nano_spec.specs.Matrix.{Matrix, all_of, empty, is_full, matrix_where}
+use Rattle.nano_spec.specs.Matrix.{Matrix, all_of, is_full, matrix_where}
 use Rattle.nano_spec.proofs.Opening.{legal_is}
-use Rattle.nano_spec.proofs.EmptyModel.{all_hold}
 use Rattle.step_order.proofs.Lists.{both, find_none, none_find, not_both}
 use Rattle.step_order.proofs.Voxels.{full_where, in_coordinates}
 use Rattle.plan_tape.proofs.LegalModels.{full_within}

@@ -1,16 +1,14 @@
 -- One bot becomes two, and two become one.
-use Rattle.std.proofs.Common.{◌≡◌, ℕ, ◌+◌, ◌<◌, refl, sym, ◌∙◌, ap, subst, arith, Bool, true, false, ◌&&◌, ◌||◌, List, [], ◌∷◌, length, length-append, lit<, inl, nat_lt}
-use Rattle.std.specs.Prelude.{IsTrue, IsFalse, pos, negsuc, ◌+ℤ◌, Option, Some, None, slice_index, find}
+use Rattle.std.proofs.Common.{◌≡◌, ℕ, ◌+◌, ◌<◌, refl, sym, ◌∙◌, ap, subst, arith, true, ◌||◌, List, [], ◌∷◌, length, length-append, lit<, inl, nat_lt}
+use Rattle.std.specs.Prelude.{IsTrue, IsFalse, pos, negsuc, Option, Some, None, slice_index, find}
 use Rattle.std.specs.List.{AllByRecursion}
-use Rattle.std.proofs.lemmas.Int.{ints}
-use Rattle.std.proofs.lemmas.Bool.Decides.{nat_tests}
 use Rattle.vox_geom.specs.declared.coordinate.Coord.{Coord}
 use Rattle.vox_geom.specs.declared.difference.Diff.{Diff}
-use Rattle.vox_geom.specs.Point.{Point, point, plus, same_number, same_point, coord}
+use Rattle.vox_geom.specs.Point.{Point, point, plus, same_point, coord}
 use Rattle.vox_geom.specs.Space.{IsInSpace, coordinate, in_space}
 use Rattle.vox_geom.proofs.Truths.{both_true, or_by_second}
 use Rattle.vox_geom.proofs.Sums.{less_one, plus_none, plus_one}
-use Rattle.vox_geom.proofs.Points.{in_space_is, number_itself, point_itself}
+use Rattle.vox_geom.proofs.Points.{in_space_is, point_itself}
 use Rattle.nano_spec.specs.declared.commands.Command.TheVariants.{Fission, FusionP, FusionS}
 use Rattle.nano_spec.specs.declared.system.Bot.{Bot}
 use Rattle.nano_spec.specs.declared.system.Harmonics.TheVariants.{High}

@@ -1,5 +1,5 @@
 -- How many bytes and steps a plan has.
-use Rattle.std.proofs.Common.{◌≡◌, ℕ, zero, suc, ◌+◌, ◌-◌, ◌*◌, ◌<◌, ◌≤◌, arith, mul-le-mul}
+use Rattle.std.proofs.Common.{◌≡◌, ℕ, zero, suc, ◌+◌, ◌-◌, ◌*◌, ◌<◌, ◌≤◌, arith}
 use Rattle.plan_tape.specs.Leg.{moves_to}
 use Rattle.layer_planner.specs.Painting.{layer_bytes}
 use Rattle.vox_geom.specs.Point.{coord}

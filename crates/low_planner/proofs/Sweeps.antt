@@ -1,15 +1,13 @@
 -- The steps of a sweep.
-use Rattle.std.proofs.Common.{◌≡◌, ℕ, ◌≤◌, ◌⊎◌, inl, inr, refl, sym, ◌∙◌, ap, subst, arith, List, [], ◌∷◌, ◌++◌, Bool, true, false, cond, length, find, Option, Some, None}
+use Rattle.std.proofs.Common.{◌≡◌, ℕ, ◌≤◌, ◌⊎◌, inl, inr, refl, sym, ◌∙◌, ap, subst, arith, List, [], ◌∷◌, ◌++◌, Bool, true, false, length, find, Option}
 use Rattle.std.specs.Prelude.{IsTrue, Contains}
 use Rattle.std.proofs.lemmas.List.Elements.{Contains-append_left, Contains-push, Contains-push_cases}
-use native.Mathlib.Decide.{ℕ_discrete}
 use Rattle.vox_geom.specs.declared.coordinate.Coord.{Coord}
 use Rattle.vox_geom.specs.Least.{LeastOf}
 use Rattle.vox_geom.specs.Space.{IsInSpace, coordinates}
 use Rattle.vox_geom.proofs.Firsts.{first_is}
 use Rattle.vox_geom.proofs.Truths.{anything_by, true_by_false}
 use Rattle.vox_geom.proofs.Points.{same_or_not}
-use Rattle.nano_spec.specs.First.{FirstFailing}
 use Rattle.nano_spec.specs.Matrix.{Matrix, all_of, is_full}
 use Rattle.model_file.proofs.Spreads.{first_failing}
 use Rattle.low_planner.specs.declared.sweep.Sweep.{Sweep}

@@ -1,8 +1,7 @@
 -- The bits of the first form.
-use Rattle.std.proofs.Common.{◌≡◌, ℕ, zero, suc, ◌+◌, ◌-◌, ◌*◌, ◌/◌, ◌%◌, ◌<◌, ◌≤◌, ◌^◌, ◌++◌, ◌==◌, add-one, zero-add, refl, sym, ◌∙◌, ap, arith, Bool, true, false, cond, List, [], ◌∷◌, length, map, get_or, min, drop, take, inl, inr}
+use Rattle.std.proofs.Common.{◌≡◌, ℕ, zero, suc, ◌+◌, ◌-◌, ◌*◌, ◌/◌, ◌%◌, ◌<◌, ◌≤◌, ◌^◌, ◌++◌, ◌==◌, add-one, zero-add, refl, sym, ◌∙◌, ap, arith, Bool, false, cond, List, [], ◌∷◌, length, map, get_or, min, drop, take, inl, inr}
 use Rattle.std.specs.Prelude.{◌⊎◌, slice_index, sum_by}
 use Rattle.std.proofs.lemmas.Bool.{cases_lt}
-use Rattle.std.proofs.lemmas.Bool.Decides.{nat_tests}
 use Rattle.std.proofs.lemmas.List.{ext_get_or, get_or-drop, get_or-map, get_or_default, length-drop, length-map, take_rest}
 use Rattle.std.proofs.Math.Nat.{pow-le-pow_right}
 use Rattle.std.proofs.lemmas.Nat.Bits.{bit_at_above}

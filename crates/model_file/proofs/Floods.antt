@@ -10,7 +10,7 @@ use Rattle.std.proofs.lemmas.Nat.Bits.{bit_at-trailing_zeros, bit_at_above}
 use native.Mathlib.Decide.{ℕ_discrete}
 use Rattle.vox_geom.specs.declared.coordinate.Coord.{Coord}
 use Rattle.vox_geom.specs.declared.TheConstants.{MOST_R}
-use Rattle.vox_geom.specs.Point.{point, same_point}
+use Rattle.vox_geom.specs.Point.{point}
 use Rattle.vox_geom.specs.Space.{IsInSpace, coordinate_at, in_space, place}
 use Rattle.vox_geom.proofs.Places.{coordinate_at-place}
 use Rattle.vox_geom.proofs.Truths.{anything_by, first_of_two as left}

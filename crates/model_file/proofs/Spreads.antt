@@ -8,10 +8,10 @@ use Rattle.std.proofs.lemmas.Bool.Decides.{nat_tests}
 use Rattle.std.proofs.lemmas.List.Elements.{All-contains, All-contains_itself, All-weaker}
 use Rattle.vox_geom.specs.declared.coordinate.Coord.{Coord}
 use Rattle.vox_geom.specs.declared.TheConstants.{MOST_R}
-use Rattle.vox_geom.specs.Point.{are_adjacent, point, same_point}
+use Rattle.vox_geom.specs.Point.{are_adjacent}
 use Rattle.vox_geom.specs.Space.{IsInSpace}
 use Rattle.nano_spec.specs.First.{FirstFailing}
-use Rattle.nano_spec.specs.Grounded.{FirstUngrounded, Grounded, is_path}
+use Rattle.nano_spec.specs.Grounded.{FirstUngrounded, Grounded}
 use Rattle.nano_spec.specs.Matrix.{Matrix, all_of, is_full}
 use Rattle.nano_spec.specs.Model.{bit}
 use Rattle.vox_planes.specs.Places.{is_marked}
@@ -21,8 +21,8 @@ use Rattle.nano_spec.proofs.ForgeLegal.{one_more}
 use Rattle.model_file.specs.declared.flood.Flood.{Flood}
 use Rattle.model_file.specs.declared.flood.Stretch.{Stretch}
 use Rattle.vox_geom.proofs.Adjacent.{adjacent-sym}
-use Rattle.vox_geom.proofs.Truths.{anything_by, first_of_two as left, second_of_two, true_by_false}
-use Rattle.vox_geom.proofs.Points.{coordinate_by_test, point_itself}
+use Rattle.vox_geom.proofs.Truths.{anything_by, first_of_two as left, true_by_false}
+use Rattle.vox_geom.proofs.Points.{coordinate_by_test}
 use Rattle.model_file.proofs.Stretches.{is_one, moved, near_moved, one_of}
 use Rattle.model_file.proofs.Floods.{fewer_in_row, full_within, row_asked, row_taken, row_was, has_cases, has_last, has_more, has_same}
 use Rattle.model_file.specs.Flood.{HasFound, IsAmong, IsBeside, IsFlood, IsStart, IsTaken, TakesOut, full_of, weight}

@@ -1,11 +1,11 @@
 //! The caller's bytes as files.
-ghost use Rattle.std.specs.Prelude.{◌≡◌, ◌-◌, min, length, option_map};
-ghost use Rattle.vox_depot.specs.Files.{IsPiece, content};
+ghost use Rattle.std.specs.Prelude.{◌≡◌, option_map};
+ghost use Rattle.vox_depot.specs.Files.{content};
 ghost use Rattle.nanobot_words.specs.Parsing.{side_of};
 ghost use Rattle.nanobot_c.specs.Lent.{lent_files, side_named};
 
 use nanobot_words::Side;
-use vox_depot::{Depot, FetchFault, StoreFault};
+use vox_depot::{Depot, FetchFault, StoreFault, copy_piece};
 
 /// Bytes that a caller lends for a call: they are the files `s`, `t` and `b`, which are only read.
 #[derive(Clone, Copy)]
@@ -23,20 +23,6 @@ pub fn side(name: &'static str, bytes: &[u8]) -> Side<'static>
         return Side::Empty;
     }
     Side::Named(name)
-}
-
-/// Copies from a place of the bytes on into the front of the buffer, as many as there are and it takes.
-fn copy_piece(bytes: &[u8], from: u64, buf: &mut [u8]) -> usize
-    ensures count { result ≡ min (length buf.new) (length bytes.now - from) }
-    ensures piece { IsPiece bytes.now from result buf.new }
-{
-    if from >= bytes.len() as u64 {
-        return 0;
-    }
-    let rest = &bytes[from as usize..];
-    let count = rest.len().min(buf.len());
-    buf[..count].copy_from_slice(&rest[..count]);
-    count
 }
 
 impl<'a> Lent<'a> {

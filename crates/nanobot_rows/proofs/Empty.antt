@@ -1,7 +1,6 @@
 -- The empty model is legal.
-use Rattle.std.proofs.Common.{◌≡◌, ℕ, refl, sym, subst, List, [], ◌∷◌, Bool, true, false, ◌&&◌, not}
-use Rattle.std.specs.Prelude.{None, find}
-use Rattle.vox_geom.specs.declared.coordinate.Coord.{Coord}
+use Rattle.std.proofs.Common.{◌≡◌, ℕ, refl, sym, subst, Bool, true, false, ◌&&◌, not}
+use Rattle.std.specs.Prelude.{None}
 use Rattle.nano_spec.specs.Legal.{IsLegal, first_outside, in_legal_box, stands_inside}
 use Rattle.nano_spec.specs.Matrix.{Matrix, all_of, empty, is_full}
 use Rattle.nano_spec.proofs.EmptyModel.{empty_is_grounded, not_full}

@@ -1,7 +1,6 @@
 -- What a file that was loaded says, of which one byte past the limit was asked for.
-use Rattle.std.proofs.Common.{◌≡◌, ℕ, ◌+◌, ◌<◌, ◌≤◌, ◌∙◌, Global, List, [], ◌∷◌, length, take, refl, sym, ap, subst, arith, true, false, nat_lt}
+use Rattle.std.proofs.Common.{◌≡◌, ℕ, ◌+◌, ◌<◌, ◌≤◌, ◌∙◌, Global, List, [], ◌∷◌, length, take, refl, sym, ap, subst, arith, true, nat_lt}
 use Rattle.std.specs.Prelude.{Option, Result, Ok, Err, MatchBool, IfSome}
-use Rattle.std.proofs.lemmas.Bool.Decides.{nat_tests}
 use Rattle.std.proofs.lemmas.List.{length-append, length-take, take_all}
 use Rattle.vox_geom.proofs.Tests.{test_less, test_not_less}
 use Rattle.nano_spec.specs.declared.commands.Command.{Command}

@@ -1,6 +1,6 @@
 -- A run of a trace that is fetched piece by piece.
 use Rattle.std.proofs.Common.{◌≡◌, ℕ, ◌+◌, ◌<◌, ◌≤◌, List, [], ◌++◌, length, take, drop, refl, sym, ap, ◌∙◌, subst, arith, length-take, length-drop, true, false, nat_lt}
-use Rattle.std.specs.Prelude.{Option, Some, None, IfSome, IsSomeAnd, MatchBool}
+use Rattle.std.specs.Prelude.{Option, Some, IfSome, MatchBool}
 use Rattle.std.proofs.lemmas.Bool.Decides.{nat_tests}
 use Rattle.std.proofs.lemmas.List.{take_all}
 use Rattle.std.proofs.Math.Seq.{take-add}

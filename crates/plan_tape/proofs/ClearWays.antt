@@ -1,7 +1,6 @@
 -- Ways along which all is void, how many moves they take, the ways home of a legal model, and that High asks for no grounding.
-use Rattle.std.proofs.Common.{◌≡◌, ◌⊎◌, inl, inr, ℕ, ◌+◌, ◌≤◌, sym, ◌∙◌, refl, subst, arith, Bool, true, false, ◌&&◌}
+use Rattle.std.proofs.Common.{◌≡◌, ◌⊎◌, inl, inr, ℕ, ◌+◌, ◌≤◌, sym, ◌∙◌, subst, arith, Bool, false, ◌&&◌}
 use Rattle.std.specs.Prelude.{pos, IsTrue}
-use Rattle.std.proofs.lemmas.Bool.Decides.{nat_tests}
 use Rattle.vox_geom.specs.declared.coordinate.Coord.{Coord}
 use Rattle.vox_geom.specs.Region.{is_between}
 use Rattle.vox_geom.specs.Space.{IsInSpace}

@@ -1,9 +1,8 @@
 -- What is known where no bot breaks a rule of single bots: commands stay in space, and groups have eight members at most.
-use Rattle.std.proofs.Common.{◌≡◌, ℕ, zero, suc, ◌+◌, ◌<◌, ◌≤◌, ◌^◌, refl, ap, sym, ◌∙◌, subst, arith, inl, inr, ◌⊎◌, Bool, true, false, ◌||◌, ◌==◌, not, cond, List, [], ◌∷◌, filter, length, map, Option, Some, None, option_map}
+use Rattle.std.proofs.Common.{◌≡◌, ℕ, zero, suc, ◌+◌, ◌<◌, ◌≤◌, ◌^◌, refl, ap, sym, ◌∙◌, subst, arith, inl, inr, ◌⊎◌, Bool, true, false, ◌||◌, ◌==◌, not, cond, List, [], ◌∷◌, filter, length, map, Option, Some, None}
 use Rattle.std.specs.Prelude.{IsTrue, AllPairs, ◌≢◌, ℤ}
 use Rattle.std.specs.List.{list_any}
 use Rattle.std.specs.Option.{option_or}
-use Rattle.std.proofs.lemmas.Bool.Decides.{Decides-eqb}
 use Rattle.vox_geom.specs.declared.coordinate.Coord.{Coord}
 use Rattle.vox_geom.specs.Point.{Point, plus, same_point}
 use Rattle.vox_geom.specs.Region.{Span, between, differs, dimension}
@@ -16,9 +15,8 @@ use Rattle.nano_spec.specs.declared.outcomes.Rule.{Rule}
 use Rattle.nano_spec.specs.declared.outcomes.Rule.TheVariants.{OutOfSpace, GroupShape}
 use Rattle.nano_spec.specs.declared.system.Bot.{Bot}
 use Rattle.nano_spec.specs.Act.{Act, acts, position, stays_in_space}
-use Rattle.nano_spec.specs.First.{first_value}
 use Rattle.nano_spec.specs.Group.{are_partners, are_together, fuse, is_pair, members, share_region}
-use Rattle.nano_spec.specs.Rules.{broken_by, fault, here, rules_of_bots}
+use Rattle.nano_spec.specs.Rules.{broken_by, fault, rules_of_bots}
 use Rattle.nano_spec.specs.State.{State}
 use Rattle.nano_spec.proofs.Light.{here_false}
 use Rattle.step_order.proofs.Facts.{Rising, no_first, nothing, pairs_in, rising_is}

@@ -1,5 +1,5 @@
 -- Small facts on tests and slices.
-use Rattle.std.proofs.Common.{◌≡◌, ℕ, ◌-◌, ◌≤◌, refl, arith, Bool, true, false, ◌||◌, List, drop, length, length-drop, take}
+use Rattle.std.proofs.Common.{◌≡◌, ℕ, ◌-◌, ◌≤◌, arith, List, drop, length, length-drop, take}
 use Rattle.std.proofs.lemmas.List.{take_all}
 
 -- the slice from a place to the end

@@ -1,16 +1,14 @@
 -- What is volatile for two bots of one group: the place of each, and for a group command the one region.
-use Rattle.std.proofs.Common.{◌≡◌, refl, sym, ◌∙◌, inl, inr, ◌⊎◌, Bool, true, false, ◌&&◌, ◌||◌}
-use Rattle.std.specs.Prelude.{ℤ, int_le}
+use Rattle.std.proofs.Common.{◌≡◌, refl, sym, ◌∙◌, inl, inr, ◌⊎◌, Bool, true, false, ◌||◌}
 use Rattle.std.specs.List.{list_any}
 use Rattle.vox_geom.specs.Point.{Point, plus}
-use Rattle.vox_geom.specs.Region.{Span, between, is_between, is_within, just, same_extent, same_region}
-use Rattle.vox_geom.proofs.Truths.{one_of_two, or_by_first, or_false, or_swapped}
+use Rattle.vox_geom.specs.Region.{between, is_within, just}
+use Rattle.vox_geom.proofs.Truths.{one_of_two, or_by_first, or_false}
 use Rattle.nano_spec.specs.declared.commands.Command.{Command}
 use Rattle.nano_spec.specs.declared.commands.Command.TheVariants.{FusionP, FusionS, GFill, GVoid}
 use Rattle.nano_spec.specs.Act.{Act, position}
 use Rattle.nano_spec.specs.Group.{are_partners, fuse, is_pair, share_region}
 use Rattle.nano_spec.specs.Volatile.{is_volatile_of, volatile_regions}
-use Rattle.step_order.proofs.Together.{extent_is, region_parts}
 use Rattle.step_order.proofs.Faultless.{within_as}
 
 abbrev within_any : Point → Command → Point → Bool

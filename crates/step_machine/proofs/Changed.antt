@@ -5,7 +5,7 @@ use Rattle.std.specs.List.{Contains, list_any}
 use native.Mathlib.Decide.{ℕ_discrete}
 use Rattle.vox_geom.specs.declared.coordinate.Coord.{Coord}
 use Rattle.vox_geom.specs.Point.{Point, plus, point}
-use Rattle.vox_geom.specs.Region.{Span, between, is_between, is_within, same_region}
+use Rattle.vox_geom.specs.Region.{between, is_between, is_within}
 use Rattle.vox_geom.specs.Space.{IsInSpace}
 use Rattle.vox_geom.proofs.Truths.{false_by, first_of_two, one_of_two, or_by_first, or_by_second, or_swapped, same_truth, second_of_two}
 use Rattle.nano_spec.specs.declared.commands.Command.{Command}
@@ -23,7 +23,7 @@ use Rattle.step_order.proofs.Effects.{fills_own, voids_own}
 use Rattle.step_order.proofs.Facts.{IsGood}
 use Rattle.step_order.proofs.Groups.{Differ, differ_acts, differ_filter, led}
 use Rattle.step_order.proofs.Lists.{In, any_in, both, filter_in, flat_in, in_any, in_filter, in_flat, not_both, true_or_false}
-use Rattle.step_order.proofs.Together.{Together, extent_is, itself, partners, region_parts, shares, together_is, with_itself}
+use Rattle.step_order.proofs.Together.{Together, itself, partners, shares, together_is, with_itself}
 use Rattle.step_order.proofs.Voxels.{as_it_is, coordinates_within, in_coordinates, matrix_same}
 use Rattle.step_order.proofs.Faultless.{within_as}
 use Rattle.step_order.proofs.Turns.{held}

@@ -1,12 +1,10 @@
 -- The region that a command fills or voids, and the coordinates that it has.
-use Rattle.std.proofs.Common.{◌≡◌, ℕ, refl, sym, ◌∙◌, ap, arith, List, [], ◌∷◌, Bool, true, false, cond, ◌||◌, not}
+use Rattle.std.proofs.Common.{◌≡◌, ℕ, refl, sym, ◌∙◌, ap, List, [], ◌∷◌, Bool, true, false, cond, ◌||◌, not}
 use Rattle.std.specs.Bool.{beq}
-use Rattle.std.specs.Prelude.{max}
 use Rattle.std.specs.List.{list_any}
 use Rattle.vox_geom.specs.declared.coordinate.Coord.{Coord}
 use Rattle.vox_geom.specs.Point.{Point, point}
-use Rattle.vox_geom.specs.Region.{Corners, Span, corners, is_within}
-use Rattle.vox_geom.specs.Space.{IsInSpace}
+use Rattle.vox_geom.specs.Region.{Span, is_within}
 use Rattle.nano_spec.specs.declared.commands.Command.{Command}
 use Rattle.nano_spec.specs.declared.commands.Command.TheVariants.{Halt, Wait, Flip, SMove, LMove, FusionP, FusionS, Fission, Fill, Void, GFill, GVoid}
 use Rattle.nano_spec.specs.declared.system.Bot.{Bot}

@@ -1,6 +1,6 @@
 -- How many voxels the groups of a step change at most.
 use Rattle.std.proofs.Common.{◌≡◌, ℕ, suc, ◌+◌, ◌*◌, ◌≤◌, ◌^◌, ◌||◌, ◌==◌, not, refl, sym, ◌∙◌, ap, inl, inr, arith, List, [], ◌∷◌, Bool, true, false, cond, length, length-append, subst}
-use Rattle.std.specs.Prelude.{count_by, sum_by, flat_map, ℤ, ◌+ℤ◌, unsigned_abs, None, nat_le}
+use Rattle.std.specs.Prelude.{count_by, sum_by, flat_map, ℤ, nat_le}
 use Rattle.std.specs.List.{list_any}
 use Rattle.std.proofs.lemmas.Bool.Decides.{nat_tests}
 use Rattle.std.proofs.lemmas.Int.{ints}
@@ -19,9 +19,8 @@ use Rattle.nano_spec.specs.declared.commands.Command.TheVariants.{Halt, Wait, Fl
 use Rattle.nano_spec.specs.declared.system.Bot.{Bot}
 use Rattle.nano_spec.specs.Act.{Act, acts, group_regions, position}
 use Rattle.nano_spec.specs.Command.{is_command}
-use Rattle.nano_spec.specs.Cutting.{AreCommands}
 use Rattle.nano_spec.specs.Group.{are_together, is_leader, leaders, members}
-use Rattle.nano_spec.specs.Rules.{corners_of, here, is_misshapen, repeats}
+use Rattle.nano_spec.specs.Rules.{corners_of, is_misshapen, repeats}
 use Rattle.nano_spec.specs.State.{State}
 use Rattle.nano_spec.specs.declared.outcomes.Rule.TheVariants.{GroupShape}
 use Rattle.nano_spec.specs.Matrix.{Matrix, all_of}

@@ -1,5 +1,5 @@
 -- What a list of edits leaves.
-use Rattle.std.proofs.Common.{◌≡◌, zero, suc, ◌⊎◌, inl, inr, refl, sym, ◌∙◌, ap, arith, Bool, true, false, ◌&&◌, ◌||◌, not, List, [], ◌∷◌}
+use Rattle.std.proofs.Common.{◌≡◌, zero, suc, inl, inr, refl, sym, ◌∙◌, ap, arith, Bool, true, false, ◌&&◌, ◌||◌, not, List, [], ◌∷◌}
 use Rattle.std.specs.List.{Contains}
 use Rattle.std.proofs.lemmas.Bool.{false≢true}
 use Rattle.vox_geom.specs.declared.coordinate.Coord.{Coord}

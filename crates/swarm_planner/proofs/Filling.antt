@@ -1,5 +1,5 @@
 -- What a step leaves in which each bot fills the voxel below it, or waits.
-use Rattle.std.proofs.Common.{◌≡◌, ℕ, suc, ◌+◌, ◌-◌, ◌<◌, ◌≤◌, refl, sym, ◌∙◌, ap, subst, arith, Bool, true, false, cond, ◌&&◌, ◌||◌, not, ◌==◌, max, List, [], ◌∷◌, length}
+use Rattle.std.proofs.Common.{◌≡◌, ℕ, suc, ◌+◌, ◌-◌, ◌≤◌, refl, sym, ◌∙◌, ap, subst, arith, Bool, true, false, cond, ◌&&◌, ◌||◌, not, ◌==◌, max, List, [], ◌∷◌, length}
 use Rattle.std.specs.Prelude.{pos, negsuc, ◌+ℤ◌, ◌≤ℤ◌, IsTrue}
 use Rattle.std.specs.List.{AllByRecursion, list_any}
 use Rattle.std.proofs.lemmas.Bool.Decides.{nat_tests}
@@ -7,7 +7,7 @@ use Rattle.std.proofs.lemmas.Int.{ints}
 use Rattle.vox_geom.specs.declared.coordinate.Coord.{Coord}
 use Rattle.vox_geom.specs.Point.{Point, plus, point, down, below}
 use Rattle.vox_geom.specs.Region.{is_between, is_within, just}
-use Rattle.vox_geom.specs.Space.{IsInSpace, in_range, in_space}
+use Rattle.vox_geom.specs.Space.{IsInSpace, in_space}
 use Rattle.vox_geom.proofs.Truths.{or_false, or_of_and, parts_of_three}
 use Rattle.vox_geom.proofs.Tests.{equal_by_test}
 use Rattle.vox_geom.proofs.Sums.{plus_none}

@@ -1,11 +1,9 @@
 -- What a step leaves in which the last two bots of a line fuse.
-use Rattle.std.proofs.Common.{◌≡◌, ℕ, suc, ◌+◌, ◌-◌, ◌<◌, ◌≤◌, refl, sym, ◌∙◌, ap, subst, inl, inr, arith, Bool, true, false, ◌&&◌, ◌||◌, List, [], ◌∷◌, ◌++◌, length, replicate, append_assoc}
-use Rattle.std.specs.Prelude.{pos, negsuc, ◌+ℤ◌, IsTrue, flat_map}
+use Rattle.std.proofs.Common.{◌≡◌, ℕ, suc, ◌+◌, ◌-◌, ◌<◌, ◌≤◌, refl, sym, ◌∙◌, ap, subst, inl, inr, arith, true, ◌&&◌, List, [], ◌∷◌, ◌++◌, length, replicate, append_assoc}
+use Rattle.std.specs.Prelude.{pos, IsTrue, flat_map}
 use Rattle.std.specs.List.{AllByRecursion, Contains}
-use Rattle.std.proofs.lemmas.Bool.Decides.{nat_tests}
-use Rattle.std.proofs.lemmas.Int.{ints}
 use Rattle.vox_geom.specs.declared.coordinate.Coord.{Coord}
-use Rattle.vox_geom.specs.Point.{Point, plus, point, same_number, same_point}
+use Rattle.vox_geom.specs.Point.{Point, plus, point, same_point}
 use Rattle.vox_geom.specs.Space.{IsInSpace, in_space}
 use Rattle.vox_geom.proofs.Truths.{or_by_first, or_by_second}
 use Rattle.vox_geom.proofs.Sums.{less_one, plus_none}

@@ -1,7 +1,6 @@
 -- Lines of places, and bots of which the last goes along the line.
-use Rattle.std.proofs.Common.{◌≡◌, ℕ, suc, ◌+◌, ◌-◌, ◌<◌, ◌≤◌, refl, sym, ◌∙◌, ap, subst, arith, true, false, cond, ◌==◌, max, List, [], ◌∷◌, ◌++◌, length, get_or, replicate}
+use Rattle.std.proofs.Common.{◌≡◌, ℕ, suc, ◌+◌, ◌-◌, ◌<◌, ◌≤◌, refl, sym, ◌∙◌, ap, subst, arith, cond, max, List, [], ◌∷◌, ◌++◌, length, get_or, replicate}
 use Rattle.std.specs.Prelude.{pos, ◌-ℤ◌}
-use Rattle.std.proofs.lemmas.Bool.Decides.{nat_tests}
 use Rattle.vox_geom.specs.declared.coordinate.Coord.{Coord}
 use Rattle.vox_geom.specs.declared.difference.Diff.{Diff}
 use Rattle.nano_spec.specs.declared.commands.Command.{Command}

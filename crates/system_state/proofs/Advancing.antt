@@ -12,7 +12,6 @@ use Rattle.nano_spec.specs.declared.commands.Command.{Command}
 use Rattle.nano_spec.specs.declared.system.Bot.{Bot}
 use Rattle.nano_spec.specs.Act.{Act, acts, filled, position, stays_in_space, voided}
 use Rattle.nano_spec.specs.Bots.{successors}
-use Rattle.nano_spec.specs.Command.{is_command}
 use Rattle.nano_spec.specs.Cutting.{AreCommands}
 use Rattle.nano_spec.specs.Group.{is_leader, leaders, members}
 use Rattle.nano_spec.specs.Matrix.{Matrix, all_of}

@@ -1,6 +1,6 @@
 -- What is known of a group in the state that it meets: its bots are there, it keeps the rules, and where it goes nobody stands.
-use Rattle.std.proofs.Common.{rules, ◌≡◌, ℕ, ◌+◌, ◌≤◌, refl, sym, ◌∙◌, ap, arith, inl, inr, List, [], ◌∷◌, Bool, true, false, cond, ◌&&◌, ◌||◌, ◌==◌, map, not, length}
-use Rattle.std.specs.Prelude.{Some, None, Option, find, unwrap_or, IsNone, IfSome, is_none, nat_le, nat_lt}
+use Rattle.std.proofs.Common.{rules, ◌≡◌, ℕ, ◌≤◌, refl, sym, ◌∙◌, ap, arith, inl, inr, List, [], ◌∷◌, Bool, true, false, cond, ◌&&◌, ◌||◌, ◌==◌, map, not, length}
+use Rattle.std.specs.Prelude.{Some, None, Option, find, unwrap_or, IsNone, IfSome, is_none, nat_lt}
 use Rattle.std.specs.List.{list_all, list_any}
 use Rattle.std.proofs.lemmas.Bool.Decides.{nat_tests}
 use Rattle.vox_geom.specs.declared.coordinate.Coord.{Coord}

@@ -2,7 +2,7 @@
 use Rattle.std.proofs.Common.{◌≡◌, ℕ, ◌<◌, ◌≤◌, refl, sym, ◌∙◌, ap, arith, inl, inr, ◌⊎◌, List, [], ◌∷◌, Bool, true, false, cond, ◌&&◌, ◌==◌, eq-eqb, map, not}
 use Rattle.std.specs.Prelude.{filter, nat_le}
 use Rattle.std.specs.List.{list_any}
-use Rattle.std.proofs.lemmas.Bool.Decides.{nat_tests, Decides-eqb}
+use Rattle.std.proofs.lemmas.Bool.Decides.{Decides-eqb}
 use Rattle.vox_geom.specs.Point.{Point}
 use Rattle.vox_geom.proofs.Truths.{one_of_two}
 use Rattle.vox_geom.proofs.Tests.{at_most_by_test}

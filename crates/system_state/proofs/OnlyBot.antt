@@ -1,6 +1,6 @@
 -- What a command of the only bot changes, and what it costs.
 use Rattle.std.proofs.Common.{◌≡◌, ℕ, zero, suc, ◌+◌, ◌*◌, ◌<◌, ◌≤◌, refl, sym, ◌∙◌, ap, inl, inr, arith, List, [], ◌∷◌, Bool, true, false, cond, ◌&&◌, ◌||◌, not, nat_le, map}
-use Rattle.std.specs.Prelude.{ℤ, pos, negsuc, unsigned_abs, ◌+ℤ◌, filter, int_le}
+use Rattle.std.specs.Prelude.{ℤ, pos, negsuc, unsigned_abs, filter, int_le}
 use Rattle.std.specs.List.{list_all}
 use Rattle.std.proofs.lemmas.Bool.Decides.{nat_tests}
 use Rattle.std.proofs.lemmas.Int.{ints}

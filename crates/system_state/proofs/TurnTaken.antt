@@ -1,5 +1,5 @@
 -- The turn of a group can be taken, and does to the state what the definition says of the group.
-use Rattle.std.proofs.Common.{rules, ◌≡◌, ℕ, ◌+◌, ◌<◌, ◌≤◌, ◌%◌, refl, sym, ◌∙◌, ap, subst, arith, inl, inr, ◌⊎◌, List, [], ◌∷◌, ◌++◌, Bool, true, false, cond, ◌&&◌, ◌||◌, ◌==◌, map, not, length, pos}
+use Rattle.std.proofs.Common.{rules, ◌≡◌, ℕ, ◌+◌, ◌<◌, ◌≤◌, refl, sym, ◌∙◌, ap, subst, arith, inl, inr, ◌⊎◌, List, [], ◌∷◌, ◌++◌, Bool, true, false, cond, ◌&&◌, ◌||◌, ◌==◌, map, not, length, pos}
 use Rattle.std.specs.Prelude.{Some, None, Option, nat_lt, filter, find, flat_map, option_map, unwrap_or, IsSome, count_by, slice_index_or, ◌+ℤ◌, ℤ}
 use Rattle.std.specs.List.{list_all, list_any}
 use Rattle.std.proofs.lemmas.Int.{ints}
@@ -16,7 +16,6 @@ use Rattle.vox_geom.proofs.Tests.{not_at_most_by_test}
 use Rattle.nano_spec.specs.declared.commands.Command.{Command}
 use Rattle.nano_spec.specs.declared.commands.Command.TheVariants.{Halt, Wait, Flip, SMove, LMove, FusionP, FusionS, Fission, Fill, Void, GFill, GVoid}
 use Rattle.nano_spec.specs.declared.system.Bot.{Bot}
-use Rattle.nano_spec.specs.declared.system.Harmonics.{Harmonics}
 use Rattle.nano_spec.specs.Act.{Act, filled, is_flip, is_fusion, named_points, position, voided}
 use Rattle.nano_spec.specs.Bots.{fused, in_rising_order, moved, newborn, successors, after_fusion}
 use Rattle.nano_spec.specs.Command.{is_command}
@@ -26,7 +25,7 @@ use Rattle.nano_spec.specs.Matrix.{is_full, matrix_where}
 use Rattle.nano_spec.specs.Rules.{lacks_seeds}
 use Rattle.nano_spec.specs.Serial.{after_group, bot_in, group_in, keeps_rules}
 use Rattle.nano_spec.specs.State.{State, seed_list}
-use Rattle.nano_spec.specs.Step.{flipped, harmonics_after, is_filled, is_voided, matrix_after}
+use Rattle.nano_spec.specs.Step.{harmonics_after, is_filled, is_voided, matrix_after}
 use Rattle.bot_crew.specs.Crew.{bot_of, replaced}
 use Rattle.bot_crew.proofs.Heirs.{found_in}
 use Rattle.step_groups.specs.Judging.{is_alone}

@@ -1,16 +1,16 @@
 -- What a first byte and the bytes after it are where they agree with the spelling of a command.
-use Rattle.std.proofs.Common.{◌≡◌, ◌≢◌, ℕ, suc, zero, ◌+◌, ◌*◌, ◌/◌, ◌%◌, ◌<◌, ◌≤◌, refl, sym, ◌∙◌, ap, arith, Bool, true, false, ◌&&◌, List, [], ◌∷◌, ◌++◌, get_or, length, pos}
-use Rattle.std.specs.Prelude.{IsTrue, nat_lt, unsigned_abs}
+use Rattle.std.proofs.Common.{◌≡◌, ◌≢◌, ℕ, suc, zero, ◌+◌, ◌*◌, ◌/◌, ◌%◌, ◌<◌, ◌≤◌, refl, sym, ◌∙◌, ap, arith, true, List, [], ◌∷◌, ◌++◌, get_or, length, pos}
+use Rattle.std.specs.Prelude.{nat_lt}
 use Rattle.std.proofs.lemmas.List.{append-nil}
 use Rattle.vox_geom.specs.declared.difference.Diff.{Diff}
-use Rattle.vox_geom.specs.Difference.{IsNear, IsFar, IsShort, IsLong, is_near, is_far, is_short, mlen}
+use Rattle.vox_geom.specs.Difference.{IsNear, IsFar, IsShort, IsLong, is_near, is_far, is_short}
 use Rattle.vox_geom.proofs.Truths.{both_true, first_of_two, second_of_two}
 use Rattle.nano_spec.specs.declared.commands.Command.{Command}
 use Rattle.nano_spec.specs.declared.commands.Command.TheVariants.{Halt, Wait, Flip, SMove, LMove, FusionP, FusionS, Fission, Fill, Void, GFill, GVoid}
 use Rattle.nano_spec.specs.Command.{IsCommand}
 use Rattle.nano_spec.specs.Cutting.{BeginsSpelling}
 use Rattle.nano_spec.specs.Spelling.{near_code, far_bytes, axis, component, raised, spelling}
-use Rattle.nano_spec.proofs.Codes.{along, linear, near_code_below, raised_small}
+use Rattle.nano_spec.proofs.Codes.{along, linear, near_code_below}
 use Rattle.nano_spec.proofs.Decoder.{long_is, short_is, short_raised}
 use Rattle.trace_codec.specs.declared.one.FarFront.TheVariants as far
 use Rattle.trace_codec.specs.FarFront.{SaysFar}

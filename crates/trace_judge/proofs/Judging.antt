@@ -1,12 +1,10 @@
 -- A whole trace, command by command: the progress, and how often voxels are touched.
 use Rattle.std.proofs.Common.{◌≡◌, ℕ, ◌+◌, ◌*◌, ◌≤◌, ◌<◌, ◌==◌, refl, sym, ◌∙◌, ap, subst, arith, List, [], ◌∷◌, ◌++◌, append_assoc, Bool, true, false, length, length-append, take, drop, get_or, add-one}
 use Rattle.std.specs.Prelude.{MatchBool}
-use Rattle.std.proofs.lemmas.Bool.Decides.{nat_tests}
 use Rattle.std.proofs.lemmas.List.{take-append-drop}
 use Rattle.std.proofs.Math.Seq.{drop-append_seam, take-append_seam, take-suc}
 use Rattle.vox_geom.proofs.Tests.{equal_by_test, unequal_by_test}
 use Rattle.nano_spec.specs.declared.commands.Command.{Command}
-use Rattle.nano_spec.specs.declared.outcomes.Broken.{Broken}
 use Rattle.nano_spec.specs.declared.outcomes.Rule.{Rule}
 use Rattle.nano_spec.specs.declared.outcomes.Rule.TheVariants.{Ungrounded}
 use Rattle.nano_spec.specs.declared.system.Bot.{Bot}

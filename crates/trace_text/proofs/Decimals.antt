@@ -1,10 +1,9 @@
 -- The digits of a byte.
-use Rattle.std.proofs.Common.{◌≡◌, ℕ, ◌+◌, ◌/◌, ◌%◌, ◌<◌, ◌≤◌, refl, ◌∙◌, ap, subst, arith, true, false, cond, List, [], ◌∷◌}
+use Rattle.std.proofs.Common.{◌≡◌, ℕ, ◌+◌, ◌/◌, ◌%◌, ◌<◌, ◌≤◌, refl, ◌∙◌, ap, subst, arith, cond, List, [], ◌∷◌}
 use Rattle.std.specs.Prelude.{IsTrue, decimal, nat_lt}
 use Rattle.std.specs.Fmt.{digits as fmt_digits}
 use Rattle.std.specs.List.{list_all}
 use Rattle.std.specs.Str.{bytes_eq}
-use Rattle.std.proofs.lemmas.Bool.Decides.{nat_tests}
 use Rattle.vox_geom.specs.Space.{numbers_from}
 use Rattle.vox_geom.proofs.Tests.{test_less, test_not_less}
 use Rattle.nano_spec.proofs.Decimals.{at_number, same_bytes}

@@ -1,12 +1,11 @@
 -- What is left to be read once a part of a line was taken.
-use Rattle.std.proofs.Common.{◌≡◌, ℕ, zero, suc, ◌+◌, ◌-◌, ◌*◌, refl, sym, ◌∙◌, ap, subst, inl, inr, arith, Bool, true, false, cond, not, List, [], ◌∷◌, ◌++◌, map, length, drop, ℤ, pos, neg_ℤ}
-use Rattle.std.specs.Prelude.{IsTrue, IsFalse, ◌==◌, ◌⊎◌, Option, Some, None, flat_map}
+use Rattle.std.proofs.Common.{◌≡◌, ℕ, zero, suc, ◌+◌, ◌-◌, ◌*◌, refl, sym, ◌∙◌, ap, subst, arith, Bool, true, false, cond, not, List, [], ◌∷◌, ◌++◌, map, length, drop, ℤ, pos, neg_ℤ}
+use Rattle.std.specs.Prelude.{IsTrue, IsFalse, ◌==◌, Option, Some, None, flat_map}
 use Rattle.std.specs.List.{prefix_len}
-use Rattle.std.proofs.lemmas.Bool.Decides.{nat_tests}
 use Rattle.vox_geom.proofs.Tests.{equal_by_test}
 use Rattle.vox_geom.proofs.Sums.{append_none}
 use Rattle.nano_spec.specs.LineForm.{is_blank, is_digit, Part, Blanks, Mark, Number, after_blanks, Read, digits, negative, readings}
-use Rattle.nano_spec.proofs.Readings.{blank_is, no_blank, no_both, no_digit, no_number}
+use Rattle.nano_spec.proofs.Readings.{no_blank, no_digit}
 use Rattle.trace_text.specs.Parts.{after_number, begins_with, is_free, is_sharp, longer, longest, number_read}
 
 contrary : (t : Bool) → IsTrue t → IsTrue (not t) → ⊥

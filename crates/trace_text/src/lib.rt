@@ -12,5 +12,6 @@ mod word;
 
 pub use fault::{TextFault, TextRefusal};
 pub use laws::printing_and_reading;
+pub use parts::find_byte;
 pub use print::print_trace;
-pub use text::read_text;
+pub use text::{cut_line, read_text};

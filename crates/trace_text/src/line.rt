@@ -7,7 +7,7 @@ ghost use Rattle.trace_text.specs.Forms.{StandsAlone, IsKind, IsNumber, IsOne, I
 ghost use Rattle.trace_text.specs.Text.{fission_word, line_is, word_is};
 
 use crate::fault::Fault;
-use crate::parts::{Rest, find};
+use crate::parts::{Rest, find_byte};
 use crate::word::Word;
 use nano_spec::Command;
 use vox_geom::{Diff, Far, Long, Near, Short};
@@ -47,7 +47,7 @@ fn content(line: &[u8]) -> &[u8]
     ensures { result.now ≡ content_of line.now }
 {
     let line = without_return(line);
-    let (content, _) = line.split_at(find(b'#', line));
+    let (content, _) = line.split_at(find_byte(b'#', line));
     content
 }
 

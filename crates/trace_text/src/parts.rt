@@ -60,7 +60,7 @@ fn is_letter_byte(byte: u8) -> bool
 
 /// Where the byte first stands, or how many bytes there are.
 #[tactic(auto, using(crate::proofs::Runs::none_yet, crate::proofs::Runs::passes_on, crate::proofs::Runs::stops_at, crate::proofs::Runs::ends_at))]
-pub(crate) fn find(byte: u8, bytes: &[u8]) -> usize
+pub fn find_byte(byte: u8, bytes: &[u8]) -> usize
     ensures value { result ≡ position_or_len (λ b. b == byte) bytes.now }
     ensures bound { result ≤ length bytes.now }
 {

@@ -5,7 +5,7 @@ ghost use Rattle.trace_text.specs.Text.{ReadsText};
 
 use crate::fault::TextFault;
 use crate::line::{Line, read_line};
-use crate::parts::find;
+use crate::parts::find_byte;
 use nano_spec::CommandList;
 use std::alloc::Global;
 
@@ -33,12 +33,12 @@ pub fn read_text(alloc: Global, bytes: &[u8]) -> Result<CommandList, TextFault>
 
 /// The first line of a text without its line feed, and the lines after it.
 #[tactic(auto, using(crate::proofs::Cuts::last_line, crate::proofs::Cuts::first_line))]
-fn cut_line(text: &[u8]) -> (&[u8], &[u8])
+pub fn cut_line(text: &[u8]) -> (&[u8], &[u8])
     requires { 0 < length text.now }
     ensures lines { lines text.now ≡ result.0.now ∷ lines result.1.now }
     ensures shorter { length result.1.now < length text.now }
 {
-    let end = find(b'\n', text);
+    let end = find_byte(b'\n', text);
     if end == text.len() {
         return (text, &[]);
     }

@@ -1,17 +1,16 @@
 -- How one bot becomes four, and four become one again.
-use Rattle.std.proofs.Common.{◌≡◌, ℕ, ◌+◌, ◌-◌, ◌^◌, ◌<◌, refl, sym, ◌∙◌, ap, subst, inl, inr, arith, List, [], ◌∷◌, ◌++◌, Bool, true, ◌&&◌, ◌||◌, length, lit<}
-use Rattle.std.specs.Prelude.{ℤ, count_by, pos, negsuc, ◌+ℤ◌, IsTrue}
+use Rattle.std.proofs.Common.{◌≡◌, ℕ, ◌+◌, ◌-◌, ◌^◌, ◌<◌, refl, sym, ◌∙◌, ap, subst, inl, inr, arith, List, [], ◌∷◌, ◌++◌, true, length, lit<}
+use Rattle.std.specs.Prelude.{ℤ, count_by, pos, negsuc, IsTrue}
 use Rattle.std.specs.List.{Contains}
-use Rattle.std.proofs.lemmas.Bool.Decides.{nat_tests}
 use Rattle.std.proofs.lemmas.Int.{ints}
 use Rattle.vox_geom.specs.declared.coordinate.Coord.{Coord}
 use Rattle.vox_geom.specs.declared.difference.Diff.{Diff}
-use Rattle.vox_geom.specs.Point.{Point, point, plus, same_number, same_point, coord}
+use Rattle.vox_geom.specs.Point.{Point, point, plus, same_point, coord}
 use Rattle.vox_geom.specs.Region.{just}
 use Rattle.vox_geom.specs.Space.{IsInSpace, in_space}
-use Rattle.vox_geom.proofs.Truths.{both_true, or_by_first, three_true}
+use Rattle.vox_geom.proofs.Truths.{both_true, or_by_first}
 use Rattle.vox_geom.proofs.Sums.{less_one, plus_none, plus_one}
-use Rattle.vox_geom.proofs.Points.{in_space_is, number_itself, point_itself}
+use Rattle.vox_geom.proofs.Points.{in_space_is, point_itself}
 use Rattle.nano_spec.specs.declared.commands.Command.{Command}
 use Rattle.nano_spec.specs.declared.commands.Command.TheVariants.{Fission, FusionP, FusionS}
 use Rattle.nano_spec.specs.declared.system.Bot.{Bot}

@@ -12,6 +12,6 @@ mod whole;
 pub use depot::{Depot, FetchFault, Sink, SinkFault, StoreFault};
 pub use host_depot::HostDepot;
 pub use host_sink::HostSink;
-pub use memory_depot::MemoryDepot;
+pub use memory_depot::{MemoryDepot, copy_piece};
 pub use memory_sink::MemorySink;
 pub use whole::{LoadFault, load};

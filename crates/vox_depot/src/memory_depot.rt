@@ -44,8 +44,8 @@ impl Model for MemoryDepot {
     ghost invariant = { λ d. d.starved ≤ d.calls };
 }
 
-// Copies from a place of the bytes on into the front of the buffer, as many as there are and it takes.
-fn copy_piece(bytes: &[u8], from: u64, buf: &mut [u8]) -> usize
+/// Copies from a place of the bytes on into the front of the buffer, as many as there are and it takes.
+pub fn copy_piece(bytes: &[u8], from: u64, buf: &mut [u8]) -> usize
     ensures count { result ≡ min (length buf.new) (length bytes.now - from) }
     ensures piece { IsPiece bytes.now from result buf.new }
 {

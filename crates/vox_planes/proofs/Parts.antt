@@ -1,3 +1,1 @@
 -- Tests of several parts.
-use Rattle.std.proofs.Common.{◌≡◌, refl, Bool, true, false, ◌&&◌}
-use Rattle.std.specs.Prelude.{IsTrue, IsFalse}

@@ -3,18 +3,17 @@ use Rattle.std.proofs.Common.{◌≡◌, ◌≢◌, ℕ, zero, suc, ◌+◌, ◌
 use Rattle.std.specs.Prelude.{IsFalse, pos, ◌⊎◌}
 use Rattle.std.proofs.Math.Arith.{digits_lt}
 use Rattle.std.proofs.lemmas.Bool.{cases_lt}
-use Rattle.std.proofs.lemmas.Bool.Decides.{nat_tests}
 use Rattle.std.proofs.lemmas.List.{length-map, get_or-map, get_or-replicate, length-replicate, ext_get_or, get_or_past}
 use Rattle.std.proofs.lemmas.Nat.{same_from_place}
 use Rattle.std.proofs.lemmas.Nat.Bits.{bit_at-zero}
 use Rattle.vox_geom.specs.declared.coordinate.Coord.{Coord}
 use Rattle.vox_geom.specs.declared.TheConstants.{MOST_R}
 use Rattle.vox_geom.specs.Point.{point, same_point, same_number}
-use Rattle.vox_geom.specs.Space.{IsInSpace, in_space, in_range, place, coordinate_at, coordinates, numbers_from, numbers_below}
+use Rattle.vox_geom.specs.Space.{IsInSpace, in_space, place, coordinate_at, coordinates, numbers_from, numbers_below}
 use Rattle.vox_geom.proofs.Places.{coordinate_at-place}
 use Rattle.vox_geom.proofs.Firsts.{at_in_space, place_below}
-use Rattle.vox_geom.proofs.Truths.{parts_of_three, three_true}
-use Rattle.vox_geom.proofs.Points.{in_range_is, in_space_is, number_itself, numbers_are_same, point_itself, space_by_test}
+use Rattle.vox_geom.proofs.Truths.{parts_of_three}
+use Rattle.vox_geom.proofs.Points.{in_space_is, numbers_are_same, point_itself, space_by_test}
 use Rattle.nano_spec.specs.Matrix.{empty, is_full, matrix_where}
 use Rattle.nano_spec.specs.Model.{bit}
 use Rattle.vox_planes.specs.Layers.{IsLayered, bit_index, is_set, layer_words, layered}

@@ -2,7 +2,7 @@
 use Rattle.std.proofs.Common.{◌≡◌, ℕ, Bool, true, false, cond, List, Option, Some, None, is_some, refl, ap, ◌∙◌}
 use Rattle.std.proofs.lemmas.Bool.{ne_eqb}
 use Rattle.std.specs.Cmp.{nat_cmp_total, unsigned_tied}
-use Rattle.std.specs.FinMap.{get, insert, remove, get-insert, get-remove}
+use Rattle.std.specs.FinMap.{get, remove, get-remove}
 use Rattle.brick_arena.specs.Slots.{Slots, IsLive}
 
 either_is : (words : List ℕ) (held : Option (List ℕ)) (same : Bool) → is_some held ≡ true → is_some (cond same (Some words) held) ≡ true
