@@ -1,5 +1,4 @@
-use Rattle.std.proofs.Common.{◌≡◌, sym, ◌∙◌, ap, subst, Bool, false}
-use Rattle.nano_spec.specs.State.{State}
+use Rattle.std.proofs.Common.{sym, ◌∙◌, ap, subst}
 use Rattle.step_machine.specs.Situation.{Situation}
 use Rattle.step_machine.specs.Undoing.{MayUndo, state_before}
 use Rattle.step_machine.proofs.Taking.{gain_slice, lose_slice, sound_restored}
