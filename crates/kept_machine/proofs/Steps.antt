@@ -16,7 +16,7 @@ use Rattle.step_machine.specs.declared.undo.Undo.{Undo}
 use Rattle.kept_machine.specs.declared.fault.NoStep.{NoStep}
 use Rattle.kept_machine.specs.declared.fault.NoStep.TheVariants as no_step
 use Rattle.kept_machine.specs.Calls.{IsMade, IsTakenBack, Tries, WouldAnswer, no_step_of}
-use Rattle.kept_machine.specs.Kept.{CanBeTakenBack, CanStep, CannotStep, Instant, IsNoted, Kept, instant_before, instant_of, instants_of, kept_of, longer, present, shorter}
+use Rattle.kept_machine.specs.Kept.{CanBeTakenBack, CanStep, CannotStep, Instant, IsNoted, Kept, instant_before, instant_of, instants_of, kept_of, trace_with, present, trace_without}
 use Rattle.kept_machine.proofs.Notes.{back_last, back_less, back_more, instants_last, instants_more, last_split}
 use Rattle.kept_machine.proofs.Standing.{looks_the_same, still_kept}
 
@@ -55,7 +55,7 @@ module _ (v w : Situation) (notes rest : Buffer Undo) (commands : List Command) 
       ∙ (instants_last (instant_of w) notes.capacity (notes.items ++ undo ∷ [])
       ∙ ap (keep_last notes.capacity) (instants_more (instant_of w) notes.items undo ∙ (λ i. instants_of (before_is i) notes.items ++ before_is i ∷ [])))
 
-  pub made_noted : (trace : Option (List Command)) → IsMade (kept_of v notes trace) commands (kept_of w rest (longer trace commands)) ok
+  pub made_noted : (trace : Option (List Command)) → IsMade (kept_of v notes trace) commands (kept_of w rest (trace_with trace commands)) ok
   made_noted trace = record {
     goes = stepped.goes;
     counted = stepped.counted;
@@ -76,7 +76,7 @@ module _ (v w : Situation) (notes : Buffer Undo) (commands : List Command) (ok :
     back = subst (λ (b : Buffer Undo). CanBeTakenBack (instant_of w) b.items) (sym none) tt;
   }
 
-  pub made_once : (trace : Option (List Command)) → IsMade (kept_of v notes trace) commands (kept_of w notes (longer trace commands)) ok
+  pub made_once : (trace : Option (List Command)) → IsMade (kept_of v notes trace) commands (kept_of w notes (trace_with trace commands)) ok
   made_once trace = record {
     goes = stepped.goes;
     counted = stepped.counted;
@@ -103,7 +103,7 @@ module _ (v w : Situation) (notes : Buffer Undo) (commands : List Command) where
   pub would_make : (trace : Option (List Command)) (ok : StepOk) (began ended : ℕ) → Stepped v w commands (Ok ok) began ended → WouldAnswer (kept_of v notes trace) commands (Ok ok)
   would_make trace ok began ended stepped =
       let k : Kept = kept_of v notes trace in (
-        record { state = w.state; steps = w.steps; past = keep_last k.room (k.past ++ present k ∷ []); room = k.room; trace = longer trace commands },
+        record { state = w.state; steps = w.steps; past = keep_last k.room (k.past ++ present k ∷ []); room = k.room; trace = trace_with trace commands },
         record { goes = stepped.goes; counted = stepped.counted; past = refl; room = refl; trace = refl; energy = stepped.energy; halted = stepped.halted },
       )
 
@@ -142,7 +142,7 @@ module _ (v w : Situation) (notes rest : Buffer Undo) (undo : Undo) (kept : IsNo
           (subst (λ (p : Instant). CanBeTakenBack p (take (length notes.items - 1) notes.items)) before_was less.1);
     }
 
-    pub taken_back : (trace : Option (List Command)) → IsTakenBack (kept_of v notes trace) (kept_of w rest (shorter trace (length w.state.bots)))
+    pub taken_back : (trace : Option (List Command)) → IsTakenBack (kept_of v notes trace) (kept_of w rest (trace_without trace (length w.state.bots)))
     taken_back trace = record {
       past =
           ap (instants_of (instant_of v)) split

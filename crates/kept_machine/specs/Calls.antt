@@ -19,7 +19,7 @@ use Rattle.kept_machine.specs.declared.fault.NoLevel.{NoLevel}
 use Rattle.kept_machine.specs.declared.fault.NoLevel.TheVariants as no_level
 use Rattle.kept_machine.specs.declared.fault.NoStep.{NoStep}
 use Rattle.kept_machine.specs.declared.fault.NoStep.TheVariants as no_step
-use Rattle.kept_machine.specs.Kept.{Kept, kept_opening, longer, present, shorter}
+use Rattle.kept_machine.specs.Kept.{Kept, kept_opening, trace_with, present, trace_without}
 
 -- a machine is started over a legal source, or the source is refused as the definition refuses it
 abbrev pub Opens : Matrix → Profile → ℕ → Result Kept ModelFault → Type 0
@@ -39,7 +39,7 @@ pub record IsMade (old : Kept) (commands : List Command) (new : Kept) (ok : Step
   pub past : new.past ≡ keep_last old.room (old.past ++ present old ∷ [])
   pub room : new.room ≡ old.room
   -- its commands go to the end of the trace
-  pub trace : new.trace ≡ longer old.trace commands
+  pub trace : new.trace ≡ trace_with old.trace commands
   -- the answer tells the energy so far, and whether no bot is left
   pub energy : ok.energy ≡ new.state.energy
   pub halted : ok.halted ≡ true ↔ new.state.bots ≡ []
@@ -69,7 +69,7 @@ no_step_of fault.Spent = no_step.Memory
 pub record IsTakenBack (old new : Kept) : Type 0 where
   pub past : old.past ≡ new.past ++ present new ∷ []
   pub room : new.room ≡ old.room
-  pub trace : new.trace ≡ shorter old.trace (length new.state.bots)
+  pub trace : new.trace ≡ trace_without old.trace (length new.state.bots)
 
 -- what an undo answers and does: it is made wherever a step can be taken back
 abbrev pub Undoes : Kept → Kept → Bool → Type 0

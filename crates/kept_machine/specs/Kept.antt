@@ -36,12 +36,12 @@ abbrev pub kept_opening : Matrix → Profile → ℕ → Kept
 kept_opening source profile room = record { state = opening source profile; steps = 0; past = []; room = room; trace = None }
 
 -- a trace, if it is kept, with more commands at its end
-abbrev pub longer : Option (List Command) → List Command → Option (List Command)
-longer trace commands = option_map (λ made. made ++ commands) trace
+abbrev pub trace_with : Option (List Command) → List Command → Option (List Command)
+trace_with trace commands = option_map (λ made. made ++ commands) trace
 
 -- and without so many at its end
-abbrev pub shorter : Option (List Command) → ℕ → Option (List Command)
-shorter trace count = option_map (λ made. take (length made - count) made) trace
+abbrev pub trace_without : Option (List Command) → ℕ → Option (List Command)
+trace_without trace count = option_map (λ made. take (length made - count) made) trace
 
 -- ---- the parts
 
@@ -51,12 +51,12 @@ trace_of t = cond t.is_kept (Some t.commands.items) None
 
 -- a trace after a step that was tried
 abbrev pub tried : Option (List Command) → List Command → Result StepOk NoStep → Option (List Command)
-tried trace commands (Ok ok) = longer trace commands
+tried trace commands (Ok ok) = trace_with trace commands
 tried trace commands (Err fault) = trace
 
 -- and after a step that was taken back or not, where so many bots are active then
 abbrev pub undone : Option (List Command) → ℕ → Bool → Option (List Command)
-undone trace active is_undone = cond is_undone (shorter trace active) trace
+undone trace active is_undone = cond is_undone (trace_without trace active) trace
 
 -- where a machine of the system stands, spent or not
 abbrev pub instant_of : Situation → Instant

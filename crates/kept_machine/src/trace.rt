@@ -1,6 +1,6 @@
 //! The commands of the steps that a machine made, if they are kept.
 ghost use Rattle.std.specs.Prelude.{◌≡◌, [], OnOk, OnErr, IfOk, Some, None, option_map};
-ghost use Rattle.kept_machine.specs.Kept.{longer, shorter, trace_of};
+ghost use Rattle.kept_machine.specs.Kept.{trace_with, trace_without, trace_of};
 
 use nano_spec::Command;
 use std::alloc::Global;
@@ -36,7 +36,7 @@ impl Trace {
 
     /// Adds the commands of a step, if they are kept. Where there is no memory, the trace stays as it was.
     pub fn lengthen(&mut self, commands: &[Command]) -> Result<(), Memory>
-        ensures ok { OnOk result (trace_of self.new ≡ longer (trace_of self.old) commands.now) }
+        ensures ok { OnOk result (trace_of self.new ≡ trace_with (trace_of self.old) commands.now) }
         ensures err { OnErr result (trace_of self.new ≡ trace_of self.old) }
     {
         if !self.is_kept {
@@ -50,7 +50,7 @@ impl Trace {
 
     /// Takes so many commands away, the last ones.
     pub fn shorten(&mut self, count: usize)
-        ensures { trace_of self.new ≡ shorter (trace_of self.old) count }
+        ensures { trace_of self.new ≡ trace_without (trace_of self.old) count }
     {
         let left = self.commands.len().saturating_sub(count);
         self.commands.truncate(left);

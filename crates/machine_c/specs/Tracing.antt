@@ -13,9 +13,9 @@ status_of_keep true = DONE
 status_of_keep false = BEGUN
 
 -- the commands of all steps are kept from here on
-abbrev pub IsKept : Option Kept → Option Kept → ℕ → Type 0
-IsKept None new status = (new ≡ None) × (status ≡ NO_MACHINE)
-IsKept (Some old) new status =
+abbrev pub BeginsToKeep : Option Kept → Option Kept → ℕ → Type 0
+BeginsToKeep None new status = (new ≡ None) × (status ≡ NO_MACHINE)
+BeginsToKeep (Some old) new status =
     (k : Kept) × (new ≡ Some k) × (answer : Bool) × BeginsTrace old k answer × (status ≡ status_of_keep answer)
 
 -- the bytes that the commands are spelled by are given, or there was no memory

@@ -1,6 +1,6 @@
 //! The trace of a machine.
 ghost use Rattle.std.specs.Prelude.{◌≡◌};
-ghost use Rattle.machine_c.specs.Tracing.{GivesTrace, IsKept, IsTraceGiven, status_of_keep};
+ghost use Rattle.machine_c.specs.Tracing.{GivesTrace, BeginsToKeep, IsTraceGiven, status_of_keep};
 
 use crate::handle::Handle;
 use crate::reading::give_bytes;
@@ -22,7 +22,7 @@ fn keep_status(is_begun: bool) -> u32
 /// Keeps the commands of all steps from here on, unless steps were made before.
 #[unsafe(no_mangle)]
 pub extern "C" fn nanobot_machine_keep(alloc: Global, handle: &mut Handle) -> u32
-    ensures { IsKept handle.old.machine handle.new.machine result }
+    ensures { BeginsToKeep handle.old.machine handle.new.machine result }
 {
     let Some(mut machine) = handle.take(alloc) else {
         return NO_MACHINE;
