@@ -46,7 +46,7 @@ extern "C" {
 /* What to pass with a length of 0, since no pointer may be null. */
 #define NANOBOT_NONE ((const uint8_t *)"")
 
-/* The statuses that can come: those of the program but 6 and 8, and 10. */
+/* The statuses that can come: those of the program but 6, and 10. */
 enum {
     NANOBOT_DONE = 0,        /* the trace is accepted, the model is legal, the plan is made */
     NANOBOT_BROKEN = 1,      /* a rule is broken */
@@ -55,6 +55,7 @@ enum {
     NANOBOT_TRACE = 4,       /* the trace is refused: a bad or cut command, or more than 1073741824 bytes */
     NANOBOT_DEPOT = 5,       /* a file could not be read: never seen here, where there are no files */
     NANOBOT_MEMORY = 7,      /* there was no memory: nothing is given, and *size, *energy and *steps are 0 */
+    NANOBOT_TEXT = 8,        /* a text is refused */
     NANOBOT_UNSUPPORTED = 9, /* a part of the target of a low plan is unsupported */
     NANOBOT_TOO_SMALL = 10   /* the buffer is too small: *size is the room that is wanted */
 };
@@ -129,6 +130,22 @@ uint32_t nanobot_plan_low(const uint8_t *target, size_t target_size, uint8_t *pl
  *     nanobot_plan_swarm(model, model_size, plan, sizeof plan, &size);
  */
 uint32_t nanobot_plan_swarm(const uint8_t *target, size_t target_size, uint8_t *plan, size_t room, size_t *size);
+
+/* Reads the text of a trace, and gives the trace that `nanobot asm X B` stores or, where the text is refused (NANOBOT_TEXT), the line
+ * that the program prints. A trace has no more bytes than its text.
+ *
+ *     const uint8_t text[] = "Wait\nHalt\n";
+ *     nanobot_asm(text, sizeof text - 1, plan, sizeof plan, &size);     // fe ff
+ */
+uint32_t nanobot_asm(const uint8_t *text, size_t text_size, uint8_t *trace, size_t room, size_t *size);
+
+/* Reads a trace of at most 50,000,000 bytes, and gives the text that `nanobot dis B X` stores or, where the trace is refused, the
+ * line that the program prints. A text has at most 18 bytes for each byte of its trace; a line that is told has less than 100.
+ *
+ *     uint8_t spelled[100];
+ *     nanobot_dis(plan, size, spelled, sizeof spelled, &size);          // Wait, Halt
+ */
+uint32_t nanobot_dis(const uint8_t *trace, size_t trace_size, uint8_t *text, size_t room, size_t *size);
 
 /* The most bytes that a plan takes at resolution r, r being at most 400. */
 static inline uint64_t nanobot_layer_room(uint64_t r) { return 8 * r * r * r + 200; }

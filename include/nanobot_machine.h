@@ -13,7 +13,7 @@
  * - There is stack for the call. No clause says how much; measured were 52 KB for the starts, and 31 KB for each other call.
  *
  * A call that is refused, for whatever reason, leaves the machine as it was, and a call after it finds it so. That holds after
- * rule 12 (a voxel that floats) and after want of memory too; the next step, undo or level after these takes as long as a start.
+ * rule 12 (a voxel that floats) and after want of memory too; the next step, judgement or level after these takes as long as a start.
  */
 #ifndef NANOBOT_MACHINE_H
 #define NANOBOT_MACHINE_H
@@ -40,7 +40,9 @@ enum {
     NANOBOT_OUTSIDE = 16,    /* the coordinate is out of space */
     NANOBOT_NO_LEVEL = 17,   /* the voxel is void, or not grounded */
     NANOBOT_DIFFERS = 18,    /* the matrix is not the target */
-    NANOBOT_RESOLUTION = 19  /* the target is of another resolution */
+    NANOBOT_RESOLUTION = 19, /* the target is of another resolution */
+    NANOBOT_BEGUN = 20,      /* the machine has made steps, so its trace cannot begin here */
+    NANOBOT_NO_TRACE = 21    /* no trace is kept */
 };
 
 /* Why a model is refused: the number of the refusal (docs/FORMATS.md, "Model files", "Refusals"), how many bytes are wanted, what
@@ -68,6 +70,15 @@ typedef struct nanobot_step {
     uint32_t steps, active;
     nanobot_broken broken;
 } nanobot_step;
+
+/* What a step would come to: the energy that the machine would have (its own where the step would be refused), and `halts` 1 where
+ * no bot would be left. `offset` and `broken` are as in nanobot_step. */
+typedef struct nanobot_judged {
+    int64_t energy;
+    uint64_t offset;
+    uint32_t halts;
+    nanobot_broken broken;
+} nanobot_judged;
 
 /* Where a machine stands: `high` is 1 under high harmonics, and so many steps are `noted` that can be taken back. */
 typedef struct nanobot_state {
@@ -108,14 +119,24 @@ uint32_t nanobot_machine_start_empty(uint32_t resolution, bool light, uint32_t n
  */
 uint32_t nanobot_machine_step(nanobot_machine *machine, const uint8_t *commands, size_t commands_size, nanobot_step *step);
 
-/* Takes the last step back.
+/* Tells what a step of these bytes would come to, with the status of nanobot_machine_step, and leaves the machine as it was: whether it
+ * would be accepted, and at what energy. It copies nothing: it takes as long as a step and an undo, and as a start after one that
+ * would break rule 12, as nanobot_machine_step does.
+ *
+ *     nanobot_judged judged;
+ *     if (nanobot_machine_judge(&machine, wait, sizeof wait, &judged) == NANOBOT_DONE)
+ *         printf("would cost %lld\n", (long long)(judged.energy - step.energy));
+ */
+uint32_t nanobot_machine_judge(nanobot_machine *machine, const uint8_t *commands, size_t commands_size, nanobot_judged *judged);
+
+/* Takes the last step back, if one is noted: NANOBOT_DONE or NANOBOT_NO_NOTE. It takes no memory.
  *
  *     nanobot_machine_undo(&machine);
  */
 uint32_t nanobot_machine_undo(nanobot_machine *machine);
 
-/* Starts a second machine where the first one stands. No step can be taken back in it until it makes some. It takes as long as a
- * start over such a model.
+/* Starts a second machine where the first one stands, with a trace of its own if one is kept. No step can be taken back in it until it
+ * makes some. It takes as long as a start over such a model.
  *
  *     nanobot_machine other = {0};
  *     nanobot_machine_copy(&machine, &other);
@@ -176,6 +197,30 @@ uint32_t nanobot_machine_model(nanobot_machine *machine, uint8_t *model, size_t 
  */
 uint32_t nanobot_machine_compare(nanobot_machine *machine, const uint8_t *target, size_t target_size, nanobot_place *place,
                                  nanobot_refusal *refusal);
+
+/* Tells at how many coordinates the matrix and the model of these bytes differ, 0 where they are the same. The statuses are those of
+ * nanobot_machine_compare without NANOBOT_DIFFERS.
+ *
+ *     uint32_t left;
+ *     if (nanobot_machine_differences(&machine, model, model_size, &left, &refusal) == NANOBOT_DONE)
+ *         printf("%u voxels to go\n", (unsigned)left);
+ */
+uint32_t nanobot_machine_differences(nanobot_machine *machine, const uint8_t *target, size_t target_size, uint32_t *count,
+                                     nanobot_refusal *refusal);
+
+/* Keeps the trace of the machine from here on: the commands of all steps that are made and not taken back. NANOBOT_BEGUN where steps
+ * were made before. A start keeps none.
+ *
+ *     nanobot_machine_keep(&other);
+ */
+uint32_t nanobot_machine_keep(nanobot_machine *machine);
+
+/* Gives the trace, if it is kept (else NANOBOT_NO_TRACE): nanobot_judge takes it from the source to where the machine stands.
+ *
+ *     uint8_t made[1000];
+ *     if (nanobot_machine_trace(&machine, made, sizeof made, &size) == NANOBOT_DONE) fwrite(made, 1, size, stdout);
+ */
+uint32_t nanobot_machine_trace(nanobot_machine *machine, uint8_t *trace, size_t room, size_t *size);
 
 /* Frees the machine, if there is one: the handle is empty then, and may be started again.
  *

@@ -61,16 +61,28 @@ static uint32_t step(nanobot_machine *machine, const uint8_t *commands, size_t s
     return status == NANOBOT_MEMORY ? nanobot_machine_step(machine, commands, size, told) : status;
 }
 
+/* An undo takes no memory. */
 static uint32_t undo(nanobot_machine *machine)
 {
     struct seen before = see(machine);
     uint32_t status = nanobot_machine_undo(machine);
+    must(status != NANOBOT_MEMORY, "an undo was refused memory");
     if (status != NANOBOT_DONE)
         must(same(before, see(machine)), "a refused undo changed the machine");
-    return status == NANOBOT_MEMORY ? nanobot_machine_undo(machine) : status;
+    return status;
 }
 
-/* Moves, fills, and a fill of a voxel that floats; then copies, levels, undo, and the model. */
+/* A step that is judged leaves the machine as it was, whatever it is told. */
+static uint32_t judge(nanobot_machine *machine, const uint8_t *commands, size_t size)
+{
+    struct seen before = see(machine);
+    nanobot_judged told;
+    uint32_t status = nanobot_machine_judge(machine, commands, size, &told);
+    must(same(before, see(machine)), "a judgement changed the machine");
+    return status == NANOBOT_MEMORY ? judge(machine, commands, size) : status;
+}
+
+/* Moves, fills, and a fill of a voxel that floats, each judged and then made, with a trace; then copies, levels, undo, and the model. */
 static void try_once(nanobot_machine *machine, nanobot_machine *copy)
 {
     static const uint8_t moves[] = {0x14, 0x10}, fills[] = {0x73}, floats[] = {0x83};
@@ -82,8 +94,14 @@ static void try_once(nanobot_machine *machine, nanobot_machine *copy)
     uint32_t level = 7, status;
     while (nanobot_machine_start_empty(RESOLUTION, false, NOTES, machine) == NANOBOT_MEMORY)
         must(machine->at == NULL, "a refused start");
-    for (int i = 0; i < STEPS; i++)
+    must(nanobot_machine_keep(machine) == NANOBOT_DONE, "a trace");
+    for (int i = 0; i < STEPS; i++) {
+        must(judge(machine, commands[i], sizes[i]) == (i == 4 ? NANOBOT_BROKEN : NANOBOT_DONE), "a judgement");
         must(step(machine, commands[i], sizes[i], &told) == (i == 4 ? NANOBOT_BROKEN : NANOBOT_DONE), "a step");
+    }
+    while ((status = nanobot_machine_trace(machine, model, sizeof model, &size)) == NANOBOT_MEMORY)
+        continue;
+    must(status == NANOBOT_DONE && size == 9, "a trace of nine bytes");
     while ((status = nanobot_machine_level(machine, 1, 0, 1, &level)) == NANOBOT_MEMORY)
         must(level == 7, "a refused level");
     must(status == NANOBOT_DONE && level == 0, "a level");

@@ -2,6 +2,7 @@
 
 from .errors import (
     BadCommands,
+    Begun,
     BrokenRule,
     Closed,
     Coord,
@@ -14,19 +15,21 @@ from .errors import (
     TooManySteps,
     WrongCount,
 )
-from .machine import Bot, Machine, State, Step, version
-from .rows import Cost, Refused, check, judge, plan_group, plan_layer, plan_low, plan_swarm, plan_void
+from .machine import Bot, Judged, Machine, State, Step, version
+from .rows import Cost, Refused, asm, check, dis, judge, plan_group, plan_layer, plan_low, plan_swarm, plan_void
 
 __version__ = "0.9.0"
 
 __all__ = [
     "BadCommands",
+    "Begun",
     "Bot",
     "BrokenRule",
     "Closed",
     "Coord",
     "Cost",
     "Ended",
+    "Judged",
     "Machine",
     "NanobotError",
     "NothingNoted",
@@ -38,7 +41,9 @@ __all__ = [
     "Step",
     "TooManySteps",
     "WrongCount",
+    "asm",
     "check",
+    "dis",
     "judge",
     "plan_group",
     "plan_layer",

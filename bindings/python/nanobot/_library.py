@@ -8,8 +8,8 @@ from ctypes import POINTER, byref, c_bool, c_int64, c_size_t, c_uint8, c_uint32,
 
 NAME = "libnanobot.so"
 
-DONE, BROKEN, WORDS, MODEL, TRACE, MEMORY, UNSUPPORTED, TOO_SMALL = 0, 1, 2, 3, 4, 7, 9, 10
-NO_MACHINE, ENDED, COUNT, LONG, NO_NOTE, OUTSIDE, NO_LEVEL, DIFFERS, RESOLUTION = 11, 12, 13, 14, 15, 16, 17, 18, 19
+DONE, BROKEN, WORDS, MODEL, TRACE, MEMORY, TEXT, UNSUPPORTED, TOO_SMALL = 0, 1, 2, 3, 4, 7, 8, 9, 10
+NO_MACHINE, ENDED, COUNT, LONG, NO_NOTE, OUTSIDE, NO_LEVEL, DIFFERS, RESOLUTION, BEGUN, NO_TRACE = range(11, 22)
 
 
 class Handle(ctypes.Structure):
@@ -34,6 +34,10 @@ class StepTold(ctypes.Structure):
     _fields_ = [("energy", c_int64), ("offset", c_uint64), ("steps", c_uint32), ("active", c_uint32), ("broken", Broken)]
 
 
+class JudgedTold(ctypes.Structure):
+    _fields_ = [("energy", c_int64), ("offset", c_uint64), ("halts", c_uint32), ("broken", Broken)]
+
+
 class StateTold(ctypes.Structure):
     _fields_ = [("energy", c_int64)] + [(name, c_uint32) for name in ("steps", "active", "resolution", "high")] + [("noted", c_uint64)]
 
@@ -56,9 +60,12 @@ CALLS = {
     "nanobot_plan_void": BYTES + GIVEN,
     "nanobot_plan_low": BYTES + GIVEN,
     "nanobot_plan_swarm": BYTES + GIVEN,
+    "nanobot_asm": BYTES + GIVEN,
+    "nanobot_dis": BYTES + GIVEN,
     "nanobot_machine_start": BYTES + [c_bool, c_uint32, MACHINE, POINTER(Refusal)],
     "nanobot_machine_start_empty": [c_uint32, c_bool, c_uint32, MACHINE],
     "nanobot_machine_step": [MACHINE] + BYTES + [POINTER(StepTold)],
+    "nanobot_machine_judge": [MACHINE] + BYTES + [POINTER(JudgedTold)],
     "nanobot_machine_undo": [MACHINE],
     "nanobot_machine_copy": [MACHINE, MACHINE],
     "nanobot_machine_tell": [MACHINE, POINTER(StateTold)],
@@ -68,6 +75,9 @@ CALLS = {
     "nanobot_machine_count": [MACHINE, POINTER(c_uint32)],
     "nanobot_machine_model": [MACHINE] + GIVEN,
     "nanobot_machine_compare": [MACHINE] + BYTES + [POINTER(Place), POINTER(Refusal)],
+    "nanobot_machine_differences": [MACHINE] + BYTES + [POINTER(c_uint32), POINTER(Refusal)],
+    "nanobot_machine_keep": [MACHINE],
+    "nanobot_machine_trace": [MACHINE] + GIVEN,
     "nanobot_machine_end": [MACHINE],
     "nanobot_version": [],
 }

@@ -82,6 +82,10 @@ class NothingNoted(NanobotError):
     """No earlier step is noted, so none can be taken back."""
 
 
+class Begun(NanobotError):
+    """The machine has made steps, so its trace cannot begin here."""
+
+
 class OutOfSpace(NanobotError):
     """The coordinate is out of space."""
 

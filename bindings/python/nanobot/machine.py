@@ -10,6 +10,7 @@ from . import _library as lib
 from ._library import library
 from .errors import (
     BadCommands,
+    Begun,
     BrokenRule,
     Closed,
     Coord,
@@ -43,6 +44,13 @@ class Step(NamedTuple):
     energy: int
     steps: int
     active: int
+
+
+class Judged(NamedTuple):
+    """What a step would come to: the energy that the machine would have, and whether no bot would be left."""
+
+    energy: int
+    halts: bool
 
 
 class State(NamedTuple):
@@ -81,10 +89,18 @@ def refusal_of(told: lib.Refusal) -> RefusedModel:
 class Machine:
     """A machine over a legal model, or over the empty one of a resolution, kept between steps.
 
-    Of its last steps as many as `notes` can be taken back, at most 4096. Each call that raises leaves the machine as it was. One
+    Of its last steps as many as `notes` can be taken back, at most 4096. With `trace` the commands of its steps are kept. Each call that raises leaves the machine as it was. One
     thread at a time uses a machine. It is freed by `close`, at the end of a `with`, or when nothing refers to it any more."""
 
-    def __init__(self, model: Optional[Source] = None, *, resolution: Optional[int] = None, light: bool = False, notes: int = 0) -> None:
+    def __init__(
+        self,
+        model: Optional[Source] = None,
+        *,
+        resolution: Optional[int] = None,
+        light: bool = False,
+        notes: int = 0,
+        trace: bool = False,
+    ) -> None:
         self._handle = lib.Handle()
         if (model is None) == (resolution is None):
             raise ValueError("give a model, or the resolution of the empty one")
@@ -96,6 +112,8 @@ class Machine:
             self._check(library.machine_start_empty(resolution, light, notes, byref(self._handle)))
         else:
             self._start(bytes_of(model), light, notes)
+        if trace:
+            self.keep()
 
     def _start(self, data: bytes, light: bool, notes: int) -> None:
         told = lib.Refusal()
@@ -135,29 +153,40 @@ class Machine:
         raise TypeError("a machine cannot be pickled")
 
     def copy(self) -> "Machine":
-        """Another machine where this one stands, in which no step can be taken back until it makes some."""
+        """Another machine where this one stands, with a trace of its own if one is kept. No step can be taken back in it until it makes
+        some."""
         other = Machine.__new__(Machine)
         other._handle = lib.Handle()
         self._check(library.machine_copy(byref(self._handle), byref(other._handle)))
         return other
 
-    def step(self, commands: bytes) -> Step:
-        """Makes one step: the bytes of a trace for one command of each active bot, in rising order of their bids."""
-        told = lib.StepTold()
-        status = library.machine_step(byref(self._handle), *lib.lend(commands), byref(told))
+    def _refuse(self, status: int, broken: lib.Broken, offset: int) -> None:
+        """Raises why a step is refused."""
         if status == lib.BROKEN:
-            b = told.broken
-            raise BrokenRule(b.rule, b.step, b.bid, Coord(b.x, b.y, b.z))
+            raise BrokenRule(broken.rule, broken.step, broken.bid, Coord(broken.x, broken.y, broken.z))
         if status == lib.TRACE:
-            raise BadCommands(told.offset)
+            raise BadCommands(offset)
         if status == lib.COUNT:
-            raise WrongCount(told.active)
+            raise WrongCount(self.state.active)
         if status == lib.ENDED:
             raise Ended("no bot is active")
         if status == lib.LONG:
             raise TooManySteps("the machine makes no more steps")
         self._check(status)
+
+    def step(self, commands: bytes) -> Step:
+        """Makes one step: the bytes of a trace for one command of each active bot, in rising order of their bids."""
+        told = lib.StepTold()
+        status = library.machine_step(byref(self._handle), *lib.lend(commands), byref(told))
+        self._refuse(status, told.broken, told.offset)
         return Step(told.energy, told.steps, told.active)
+
+    def judge(self, commands: bytes) -> Judged:
+        """What `step` would come to: it raises what that would, and the machine stays as it is."""
+        told = lib.JudgedTold()
+        status = library.machine_judge(byref(self._handle), *lib.lend(commands), byref(told))
+        self._refuse(status, told.broken, told.offset)
+        return Judged(told.energy, told.halts == 1)
 
     def undo(self) -> None:
         """Takes the last step back."""
@@ -222,18 +251,44 @@ class Machine:
         self._check(status)
         return data
 
+    def _refuse_target(self, status: int, told: lib.Refusal) -> None:
+        """Raises why a target is refused."""
+        if status == lib.MODEL:
+            raise refusal_of(told)
+        if status == lib.RESOLUTION:
+            raise OtherResolution("the target is of another resolution")
+        self._check(status)
+
     def difference(self, target: Source) -> Optional[Coord]:
         """The least coordinate at which the matrix and a target differ; None where they are the same."""
         place, told = lib.Place(), lib.Refusal()
         status = library.machine_compare(byref(self._handle), *lib.lend(bytes_of(target)), byref(place), byref(told))
         if status == lib.DIFFERS:
             return Coord(place.x, place.y, place.z)
-        if status == lib.MODEL:
-            raise refusal_of(told)
-        if status == lib.RESOLUTION:
-            raise OtherResolution("the target is of another resolution")
-        self._check(status)
+        self._refuse_target(status, told)
         return None
+
+    def differences(self, target: Source) -> int:
+        """At how many coordinates the matrix and a target differ."""
+        count, told = c_uint32(), lib.Refusal()
+        status = library.machine_differences(byref(self._handle), *lib.lend(bytes_of(target)), byref(count), byref(told))
+        self._refuse_target(status, told)
+        return count.value
+
+    def keep(self) -> None:
+        """Keeps the trace from here on, before the first step."""
+        status = library.machine_keep(byref(self._handle))
+        if status == lib.BEGUN:
+            raise Begun("steps were made before")
+        self._check(status)
+
+    def trace(self) -> Optional[bytes]:
+        """The commands of the steps that were made and not taken back, as the bytes of a trace; None where they are not kept."""
+        status, data = lib.given(library.machine_trace, byref(self._handle), room=4096)
+        if status == lib.NO_TRACE:
+            return None
+        self._check(status)
+        return data
 
 
 def version() -> str:

@@ -56,6 +56,25 @@ def check(model: Source) -> str:
     raise Refused(status, _said(status, line))
 
 
+def _stored(call, data: bytes, room: int) -> bytes:
+    status, made = lib.given(call, *lib.lend(data), room=room)
+    if status == lib.DONE:
+        return made
+    raise Refused(status, _said(status, made))
+
+
+def asm(text: str | bytes) -> bytes:
+    """The trace that a text spells."""
+    data = text.encode() if isinstance(text, str) else text
+    return _stored(library.asm, data, 100 + len(data))
+
+
+def dis(trace: Source) -> str:
+    """The text of a trace: a line for each command."""
+    data = bytes_of(trace)
+    return _stored(library.dis, data, 100 + 18 * len(data)).decode()
+
+
 def _plan(call, *models: Optional[Source]) -> bytes:
     lent = [part for model in models for part in lib.lend(_side(model))]
     status, made = lib.given(call, *lent, room=1 << 16)

@@ -70,6 +70,44 @@ class Steps(unittest.TestCase):
             self.assertEqual(caught.exception.rule, 15)
 
 
+class Judging(unittest.TestCase):
+    def test_a_step_that_is_judged_is_not_made(self):
+        with Machine(resolution=4, notes=1) as machine:
+            self.assertEqual(machine.judge(FILL_BESIDE), (3 * 64 + 20 + 12, False))
+            self.assertEqual(machine.judge(HALT), (3 * 64 + 20, True))
+            with self.assertRaises(nanobot.BrokenRule) as caught:
+                machine.judge(FILL_ABOVE)
+            self.assertEqual((caught.exception.rule, caught.exception.at), (12, (0, 1, 0)))
+            self.assertRaises(nanobot.WrongCount, machine.judge, b"")
+            self.assertRaises(nanobot.BadCommands, machine.judge, b"\x04")
+            self.assertEqual(machine.state, (0, 0, 1, 4, False, 0))
+            self.assertEqual(machine.count(), 0)
+            machine.step(FILL_BESIDE)
+            self.assertEqual(machine.judge(WAIT).energy, 2 * (3 * 64 + 20) + 12)
+            machine.undo()
+            self.assertEqual(machine.count(), 0)
+
+
+class Traces(unittest.TestCase):
+    def test_the_commands_that_were_made(self):
+        with Machine(resolution=3, notes=2, trace=True) as machine:
+            self.assertEqual(machine.trace(), b"")
+            machine.step(SPLIT)
+            machine.step(WAIT + WAIT)
+            self.assertRaises(nanobot.BrokenRule, machine.step, WAIT + HALT)
+            self.assertEqual(machine.trace(), SPLIT + WAIT + WAIT)
+            with machine.copy() as other:
+                machine.undo()
+                self.assertEqual((machine.trace(), other.trace()), (SPLIT, SPLIT + WAIT + WAIT))
+                self.assertRaises(nanobot.Begun, other.keep)
+
+    def test_none_is_kept(self):
+        with Machine(resolution=3) as machine:
+            self.assertIsNone(machine.trace())
+            machine.step(WAIT)
+            self.assertRaises(nanobot.Begun, machine.keep)
+
+
 class Undoing(unittest.TestCase):
     def test_as_many_as_are_noted(self):
         with Machine(resolution=2, notes=2) as machine:
@@ -113,6 +151,8 @@ class Models(unittest.TestCase):
         with Machine(target) as machine, Machine(resolution=3) as empty:
             self.assertIsNone(machine.difference(target))
             self.assertEqual(empty.difference(target), (1, 0, 1))
+            self.assertEqual((machine.differences(target), empty.differences(target)), (0, 1))
+            self.assertRaises(nanobot.OtherResolution, empty.differences, b"\x01\x00")
             self.assertRaises(nanobot.OtherResolution, empty.difference, b"\x01\x00")
             self.assertRaises(nanobot.RefusedModel, empty.difference, b"\x03\x00")
 
@@ -148,6 +188,17 @@ class Versions(unittest.TestCase):
 
 
 class Rows(unittest.TestCase):
+    def test_a_text_is_read_and_spelled(self):
+        self.assertEqual(nanobot.asm("SMove <0,0,1>\nHalt # done\n"), MOVE + HALT)
+        self.assertEqual(nanobot.dis(MOVE + HALT), "SMove <0,0,1>\nHalt\n")
+        self.assertEqual((nanobot.asm(b""), nanobot.dis(b"")), (b"", ""))
+        with self.assertRaises(nanobot.Refused) as caught:
+            nanobot.asm("Wait\nStop\n")
+        self.assertEqual((caught.exception.status, caught.exception.line), (8, "text 2 UnknownWord line 2"))
+        with self.assertRaises(nanobot.Refused) as caught:
+            nanobot.dis(b"\xfe\x04")
+        self.assertEqual((caught.exception.status, caught.exception.line), (4, "trace bad at 1"))
+
     @unittest.skipUnless(os.path.exists(HOUSE), "there are no examples")
     def test_a_trace_step_by_step_costs_what_it_is_judged_to_cost(self):
         plan = nanobot.plan_low(HOUSE)

@@ -45,6 +45,13 @@ pub enum StepError {
 pub enum UndoError {
     /// No earlier step is noted.
     NothingNoted,
+}
+
+/// Why no trace was given.
+#[derive(Clone, Copy, PartialEq, Eq, Debug)]
+pub enum TraceError {
+    /// None is kept.
+    NotKept,
     Memory,
 }
 
@@ -117,8 +124,7 @@ pub(crate) fn stepped(status: u32, told: &sys::Step) -> Result<(), StepError> {
 pub(crate) fn undone(status: u32) -> Result<(), UndoError> {
     match status {
         sys::DONE => Ok(()),
-        sys::NO_NOTE => Err(UndoError::NothingNoted),
-        _ => Err(UndoError::Memory),
+        _ => Err(UndoError::NothingNoted),
     }
 }
 
@@ -159,9 +165,17 @@ impl fmt::Display for StepError {
 
 impl fmt::Display for UndoError {
     fn fmt(&self, f: &mut fmt::Formatter<'_>) -> fmt::Result {
+        match self {
+            UndoError::NothingNoted => f.write_str("no step can be taken back"),
+        }
+    }
+}
+
+impl fmt::Display for TraceError {
+    fn fmt(&self, f: &mut fmt::Formatter<'_>) -> fmt::Result {
         f.write_str(match self {
-            UndoError::NothingNoted => "no step can be taken back",
-            UndoError::Memory => "out of memory",
+            TraceError::NotKept => "no trace is kept",
+            TraceError::Memory => "out of memory",
         })
     }
 }
@@ -188,5 +202,6 @@ impl fmt::Display for TargetError {
 impl Error for StartError {}
 impl Error for StepError {}
 impl Error for UndoError {}
+impl Error for TraceError {}
 impl Error for LevelError {}
 impl Error for TargetError {}

@@ -18,8 +18,8 @@ mod errors;
 mod rows;
 mod sys;
 
-pub use errors::{Broken, LevelError, StartError, StepError, TargetError, UndoError};
-pub use rows::{check, judge, plan, Cost, Planner, Refused};
+pub use errors::{Broken, LevelError, StartError, StepError, TargetError, TraceError, UndoError};
+pub use rows::{asm, check, dis, judge, plan, Cost, Planner, Refused};
 
 use std::marker::PhantomData;
 use std::ptr::null_mut;
@@ -48,6 +48,13 @@ pub struct Step {
     pub energy: i64,
     pub steps: u32,
     pub active: u32,
+}
+
+/// What a step would come to: the energy that the machine would have, and whether no bot would be left.
+#[derive(Clone, Copy, PartialEq, Eq, Debug)]
+pub struct Judged {
+    pub energy: i64,
+    pub halts: bool,
 }
 
 /// Where a machine stands. So many of its last steps can be taken back.
@@ -104,7 +111,8 @@ impl Machine {
         }
     }
 
-    /// Another machine where this one stands, in which no step can be taken back until it makes some; None for want of memory.
+    /// Another machine where this one stands, with a trace of its own if one is kept; None for want of memory. No step can be taken back
+    /// in it until it makes some.
     pub fn try_clone(&mut self) -> Option<Machine> {
         let mut made = Machine::none();
         // SAFETY: the pointers are those of two references.
@@ -125,7 +133,26 @@ impl Machine {
         })
     }
 
-    /// Takes the last step back.
+    /// What a step would come to. The machine stays as it is.
+    pub fn judge(&mut self, commands: &[u8]) -> Result<Judged, StepError> {
+        let mut told = sys::Judged::default();
+        // SAFETY: each pointer is that of a slice or a reference.
+        let status = unsafe { sys::nanobot_machine_judge(&mut self.handle, commands.as_ptr(), commands.len(), &mut told) };
+        let active = if status == sys::COUNT { self.state().active } else { 0 };
+        let refused = sys::Step {
+            offset: told.offset,
+            broken: told.broken,
+            active,
+            ..sys::Step::default()
+        };
+        errors::stepped(status, &refused)?;
+        Ok(Judged {
+            energy: told.energy,
+            halts: told.halts == 1,
+        })
+    }
+
+    /// Takes the last step back. It takes no memory.
     pub fn undo(&mut self) -> Result<(), UndoError> {
         // SAFETY: the pointer is that of a reference.
         errors::undone(unsafe { sys::nanobot_machine_undo(&mut self.handle) })
@@ -192,20 +219,51 @@ impl Machine {
         Ok(errors::differs(status, &refusal)?.then_some(at))
     }
 
+    /// At how many coordinates the matrix and the model of these bytes differ.
+    pub fn differences(&mut self, target: &[u8]) -> Result<u32, TargetError> {
+        let (mut count, mut refusal) = (0, sys::Refusal::default());
+        // SAFETY: each pointer is that of a slice or a reference.
+        let status = unsafe { sys::nanobot_machine_differences(&mut self.handle, target.as_ptr(), target.len(), &mut count, &mut refusal) };
+        errors::differs(status, &refusal)?;
+        Ok(count)
+    }
+
+    /// Keeps the trace from here on, unless steps were made before: whether it does.
+    pub fn keep_trace(&mut self) -> bool {
+        // SAFETY: the pointer is that of a reference.
+        unsafe { sys::nanobot_machine_keep(&mut self.handle) == sys::DONE }
+    }
+
+    /// The commands of the steps that were made and not taken back, as the bytes of a trace.
+    pub fn trace(&mut self) -> Result<Vec<u8>, TraceError> {
+        // SAFETY: the pointers are those of a slice and of two references.
+        let given = self.given(1 << 12, |handle, bytes, size| unsafe {
+            sys::nanobot_machine_trace(handle, bytes.as_mut_ptr(), bytes.len(), size)
+        });
+        given.map_err(|status| if status == sys::NO_TRACE { TraceError::NotKept } else { TraceError::Memory })
+    }
+
     /// The matrix as the bytes of a model; None for want of memory in the library.
     pub fn model(&mut self) -> Option<Vec<u8>> {
-        let mut size = 0;
-        let mut bytes = vec![0; 1 << 16];
+        // SAFETY: the pointers are those of a slice and of two references.
+        let given = self.given(1 << 16, |handle, bytes, size| unsafe {
+            sys::nanobot_machine_model(handle, bytes.as_mut_ptr(), bytes.len(), size)
+        });
+        given.ok()
+    }
+
+    /// The bytes that a call gives into a buffer, which is made larger where it is too small, or the call's status.
+    fn given(&mut self, room: usize, call: impl Fn(&mut sys::Handle, &mut [u8], &mut usize) -> u32) -> Result<Vec<u8>, u32> {
+        let mut bytes = vec![0; room];
         loop {
-            // SAFETY: the pointers are those of the vector's bytes and of two references.
-            let status = unsafe { sys::nanobot_machine_model(&mut self.handle, bytes.as_mut_ptr(), bytes.len(), &mut size) };
-            match status {
+            let mut size = 0;
+            match call(&mut self.handle, &mut bytes, &mut size) {
                 sys::DONE => {
                     bytes.truncate(size);
-                    return Some(bytes);
+                    return Ok(bytes);
                 }
-                sys::MEMORY => return None,
-                _ => bytes.resize(size, 0),
+                sys::TOO_SMALL => bytes.resize(size, 0),
+                status => return Err(status),
             }
         }
     }

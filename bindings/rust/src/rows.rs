@@ -59,6 +59,16 @@ fn of_one(call: sys::OfOne, model: &[u8]) -> Result<Vec<u8>, Refused> {
     given(|buffer, size| unsafe { call(model.as_ptr(), model.len(), buffer.as_mut_ptr(), buffer.len(), size) })
 }
 
+/// The trace that a text spells.
+pub fn asm(text: &str) -> Result<Vec<u8>, Refused> {
+    of_one(sys::nanobot_asm, text.as_bytes())
+}
+
+/// The text of a trace: a line for each command.
+pub fn dis(trace: &[u8]) -> Result<String, Refused> {
+    Ok(String::from_utf8_lossy(&of_one(sys::nanobot_dis, trace)?).into_owned())
+}
+
 fn of_two(call: sys::OfTwo, source: &[u8], target: &[u8]) -> Result<Vec<u8>, Refused> {
     // SAFETY: as above.
     given(|buffer, size| unsafe {

@@ -7,16 +7,15 @@ pub const BROKEN: u32 = 1;
 pub const WORDS: u32 = 2;
 pub const MODEL: u32 = 3;
 pub const TRACE: u32 = 4;
-pub const MEMORY: u32 = 7;
 pub const TOO_SMALL: u32 = 10;
 pub const ENDED: u32 = 12;
 pub const COUNT: u32 = 13;
 pub const LONG: u32 = 14;
-pub const NO_NOTE: u32 = 15;
 pub const OUTSIDE: u32 = 16;
 pub const NO_LEVEL: u32 = 17;
 pub const DIFFERS: u32 = 18;
 pub const RESOLUTION: u32 = 19;
+pub const NO_TRACE: u32 = 21;
 
 #[repr(C)]
 pub struct Handle {
@@ -65,6 +64,15 @@ pub struct Step {
 
 #[repr(C)]
 #[derive(Clone, Copy, Default)]
+pub struct Judged {
+    pub energy: i64,
+    pub offset: u64,
+    pub halts: u32,
+    pub broken: Broken,
+}
+
+#[repr(C)]
+#[derive(Clone, Copy, Default)]
 pub struct State {
     pub energy: i64,
     pub steps: u32,
@@ -95,6 +103,7 @@ extern "C" {
     ) -> u32;
     pub fn nanobot_machine_start_empty(resolution: u32, light: bool, notes: u32, machine: *mut Handle) -> u32;
     pub fn nanobot_machine_step(machine: *mut Handle, commands: *const u8, commands_size: usize, step: *mut Step) -> u32;
+    pub fn nanobot_machine_judge(machine: *mut Handle, commands: *const u8, commands_size: usize, judged: *mut Judged) -> u32;
     pub fn nanobot_machine_undo(machine: *mut Handle) -> u32;
     pub fn nanobot_machine_copy(machine: *mut Handle, copy: *mut Handle) -> u32;
     pub fn nanobot_machine_tell(machine: *mut Handle, state: *mut State) -> u32;
@@ -110,11 +119,20 @@ extern "C" {
         place: *mut Place,
         refusal: *mut Refusal,
     ) -> u32;
+    pub fn nanobot_machine_differences(
+        machine: *mut Handle,
+        target: *const u8,
+        target_size: usize,
+        count: *mut u32,
+        refusal: *mut Refusal,
+    ) -> u32;
+    pub fn nanobot_machine_keep(machine: *mut Handle) -> u32;
+    pub fn nanobot_machine_trace(machine: *mut Handle, trace: *mut u8, room: usize, size: *mut usize) -> u32;
     pub fn nanobot_version() -> u32;
     pub fn nanobot_machine_end(machine: *mut Handle);
 }
 
-/// `nanobot_check`, and the planners that take one model.
+/// `nanobot_check`, `nanobot_asm` and `nanobot_dis`, and the planners that take one model.
 pub type OfOne = unsafe extern "C" fn(*const u8, usize, *mut u8, usize, *mut usize) -> u32;
 
 /// The planners that take a source and a target.
@@ -145,6 +163,8 @@ extern "C" {
         steps: *mut u32,
     ) -> u32;
     pub fn nanobot_check(model: *const u8, model_size: usize, line: *mut u8, room: usize, size: *mut usize) -> u32;
+    pub fn nanobot_asm(text: *const u8, text_size: usize, trace: *mut u8, room: usize, size: *mut usize) -> u32;
+    pub fn nanobot_dis(trace: *const u8, trace_size: usize, text: *mut u8, room: usize, size: *mut usize) -> u32;
     pub fn nanobot_plan_void(source: *const u8, source_size: usize, plan: *mut u8, room: usize, size: *mut usize) -> u32;
     pub fn nanobot_plan_low(target: *const u8, target_size: usize, plan: *mut u8, room: usize, size: *mut usize) -> u32;
     pub fn nanobot_plan_swarm(target: *const u8, target_size: usize, plan: *mut u8, room: usize, size: *mut usize) -> u32;

@@ -1,7 +1,8 @@
 //! The binding, call by call. Expected numbers are those of the rules.
 
 use nanobot::{
-    check, judge, plan, Broken, Coord, Cost, LevelError, Machine, Planner, Profile, Refused, StartError, StepError, TargetError, UndoError,
+    asm, check, dis, judge, plan, Broken, Coord, Cost, Judged, LevelError, Machine, Planner, Profile, Refused, StartError, StepError,
+    TargetError, TraceError, UndoError,
 };
 
 const HALT: &[u8] = &[0xff];
@@ -58,6 +59,41 @@ fn a_copy_goes_its_own_way() {
 }
 
 #[test]
+fn a_step_that_is_judged_is_not_made() {
+    let mut machine = Machine::empty(4, Profile::Full, 1).unwrap();
+    let judged = |energy, halts| Ok(Judged { energy, halts });
+    assert_eq!(machine.judge(FILL_BESIDE), judged(3 * 64 + 20 + 12, false));
+    assert_eq!(machine.judge(HALT), judged(3 * 64 + 20, true));
+    assert!(matches!(machine.judge(FILL_ABOVE), Err(StepError::Broken(Broken { rule: 12, .. }))));
+    assert_eq!(machine.judge(&[]), Err(StepError::WrongCount { active: 1 }));
+    assert_eq!(machine.judge(&[4]), Err(StepError::BadCommands { offset: 0 }));
+    assert_eq!((machine.state().steps, machine.state().noted, machine.count()), (0, 0, 0));
+    machine.step(FILL_BESIDE).unwrap();
+    assert_eq!(machine.judge(WAIT), judged(2 * (3 * 64 + 20) + 12, false));
+}
+
+#[test]
+fn a_trace_is_kept() {
+    let mut machine = Machine::empty(3, Profile::Full, 2).unwrap();
+    assert_eq!(machine.trace(), Err(TraceError::NotKept));
+    assert!(machine.keep_trace());
+    machine.step(SPLIT).unwrap();
+    machine.step(&[0xfe, 0xfe]).unwrap();
+    let mut other = machine.try_clone().unwrap();
+    machine.undo().unwrap();
+    assert_eq!((machine.trace(), other.trace()), (Ok(SPLIT.to_vec()), Ok(vec![0x75, 5, 0xfe, 0xfe])));
+    assert!(!other.keep_trace());
+}
+
+#[test]
+fn a_text_is_read_and_spelled() {
+    assert_eq!(asm("Wait\nHalt # done\n"), Ok(vec![0xfe, 0xff]));
+    assert_eq!(dis(&[0xfe, 0xff]), Ok("Wait\nHalt\n".to_owned()));
+    assert_eq!(asm("Stop\n").unwrap_err().line, "text 2 UnknownWord line 1");
+    assert_eq!(dis(&[4]).unwrap_err().status, 4);
+}
+
+#[test]
 fn what_is_refused() {
     let mut machine = Machine::empty(2, Profile::Light, 0).unwrap();
     assert_eq!(machine.step(&[0xfe, 0]), Err(StepError::BadCommands { offset: 1 }));
@@ -81,6 +117,8 @@ fn a_model_is_given_back() {
     assert_eq!(machine.full(at(1, 0, 1)), Some(true));
     assert_eq!(machine.difference(&model), Ok(None));
     assert_eq!(Machine::empty(3, Profile::Full, 0).unwrap().difference(&model), Ok(Some(at(1, 0, 1))));
+    assert_eq!((machine.differences(&model), Machine::empty(3, Profile::Full, 0).unwrap().differences(&model)), (Ok(0), Ok(1)));
+    assert_eq!(machine.differences(&[1, 0]), Err(TargetError::Resolution));
     assert_eq!(machine.difference(&[1, 0]), Err(TargetError::Resolution));
     assert_eq!(machine.difference(&[]), Err(TargetError::Model { number: 1 }));
 }

@@ -1,3 +1,5 @@
+mod Differences
 pub mod Notes
 pub mod Standing
 pub mod Steps
+mod Traces

@@ -1,7 +1,8 @@
 -- A machine that is made anew in its state, and what is seen of it.
-use Rattle.std.proofs.Common.{◌≡◌, ℕ, ◌≤◌, sym, ap, subst, List, false}
+use Rattle.std.proofs.Common.{◌≡◌, ℕ, ◌≤◌, sym, ap, subst, List, Option, false}
 use Rattle.std.specs.Prelude.{ℤ}
 use Rattle.circular_buffer.specs.Buffer.{Buffer}
+use Rattle.nano_spec.specs.declared.commands.Command.{Command}
 use Rattle.nano_spec.specs.declared.system.Bot.{Bot}
 use Rattle.nano_spec.specs.declared.system.Harmonics.{Harmonics}
 use Rattle.nano_spec.specs.declared.system.Profile.{Profile}
@@ -24,8 +25,8 @@ module _ (v w : Situation) (notes : Buffer Undo) (state : w.state ≡ v.state) (
   same_instant : instant_of w ≡ instant_of v
   same_instant = λ i. record { state = state i; steps = steps i }
 
-  pub looks_the_same : kept_of w notes ≡ kept_of v notes
-  looks_the_same = λ i. record { state = state i; steps = steps i; past = instants_of (same_instant i) notes.items; room = notes.capacity }
+  pub looks_the_same : (trace : Option (List Command)) → kept_of w notes trace ≡ kept_of v notes trace
+  looks_the_same trace = λ i. record { state = state i; steps = steps i; past = instants_of (same_instant i) notes.items; room = notes.capacity; trace = trace }
 
   pub still_kept : IsNoted v notes → IsNoted w notes
   still_kept kept = record {
@@ -35,7 +36,7 @@ module _ (v w : Situation) (notes : Buffer Undo) (state : w.state ≡ v.state) (
 
 -- a machine that is made anew looks the same, and keeps the same
 module _ (v w : Situation) (notes : Buffer Undo) (anew : w ≡ record v { spent = false }) where
-  pub anew_looks_the_same : kept_of w notes ≡ kept_of v notes
+  pub anew_looks_the_same : (trace : Option (List Command)) → kept_of w notes trace ≡ kept_of v notes trace
   anew_looks_the_same = looks_the_same v w notes (ap (λ (m : Situation). m.state) anew) (ap (λ (m : Situation). m.steps) anew)
 
   pub anew_is_kept : IsNoted v notes → IsNoted w notes

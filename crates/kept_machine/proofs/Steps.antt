@@ -1,5 +1,5 @@
 -- What is seen of a machine and its notes after a step, and after a step that is taken back.
-use Rattle.std.proofs.Common.{◌≡◌, ℕ, ◌-◌, refl, sym, ◌∙◌, ap, subst, List, [], ◌∷◌, ◌++◌, length, take}
+use Rattle.std.proofs.Common.{◌≡◌, ℕ, ◌-◌, refl, sym, ◌∙◌, ap, subst, List, [], ◌∷◌, ◌++◌, length, take, Option}
 use Rattle.std.specs.Prelude.{Ok, Err, Some, false}
 use Rattle.circular_buffer.specs.Buffer.{Buffer, buffer, keep_last, last_item}
 use Rattle.nano_spec.specs.declared.commands.Command.{Command}
@@ -15,8 +15,8 @@ use Rattle.step_machine.specs.declared.machine.StepFault.TheVariants as fault
 use Rattle.step_machine.specs.declared.undo.Undo.{Undo}
 use Rattle.kept_machine.specs.declared.fault.NoStep.{NoStep}
 use Rattle.kept_machine.specs.declared.fault.NoStep.TheVariants as no_step
-use Rattle.kept_machine.specs.Calls.{IsMade, IsTakenBack, Tries, no_step_of}
-use Rattle.kept_machine.specs.Kept.{CanBeTakenBack, CanStep, CannotStep, Instant, IsNoted, instant_before, instant_of, instants_of, kept_of}
+use Rattle.kept_machine.specs.Calls.{IsMade, IsTakenBack, Tries, WouldAnswer, no_step_of}
+use Rattle.kept_machine.specs.Kept.{CanBeTakenBack, CanStep, CannotStep, Instant, IsNoted, Kept, instant_before, instant_of, instants_of, kept_of, trace_with, present, trace_without}
 use Rattle.kept_machine.proofs.Notes.{back_last, back_less, back_more, instants_last, instants_more, last_split}
 use Rattle.kept_machine.proofs.Standing.{looks_the_same, still_kept}
 
@@ -55,12 +55,13 @@ module _ (v w : Situation) (notes rest : Buffer Undo) (commands : List Command) 
       ∙ (instants_last (instant_of w) notes.capacity (notes.items ++ undo ∷ [])
       ∙ ap (keep_last notes.capacity) (instants_more (instant_of w) notes.items undo ∙ (λ i. instants_of (before_is i) notes.items ++ before_is i ∷ [])))
 
-  pub made_noted : IsMade (kept_of v notes) commands (kept_of w rest) ok
-  made_noted = record {
+  pub made_noted : (trace : Option (List Command)) → IsMade (kept_of v notes trace) commands (kept_of w rest (trace_with trace commands)) ok
+  made_noted trace = record {
     goes = stepped.goes;
     counted = stepped.counted;
     past = past_is;
     room = ap (λ (b : Buffer Undo). b.capacity) pushed;
+    trace = refl;
     energy = stepped.energy;
     halted = stepped.halted;
   }
@@ -75,12 +76,13 @@ module _ (v w : Situation) (notes : Buffer Undo) (commands : List Command) (ok :
     back = subst (λ (b : Buffer Undo). CanBeTakenBack (instant_of w) b.items) (sym none) tt;
   }
 
-  pub made_once : IsMade (kept_of v notes) commands (kept_of w notes) ok
-  made_once = record {
+  pub made_once : (trace : Option (List Command)) → IsMade (kept_of v notes trace) commands (kept_of w notes (trace_with trace commands)) ok
+  made_once trace = record {
     goes = stepped.goes;
     counted = stepped.counted;
     past = subst (λ (b : Buffer Undo). instants_of (instant_of w) b.items ≡ keep_last b.capacity (instants_of (instant_of v) b.items ++ instant_of v ∷ [])) (sym none) refl;
     room = refl;
+    trace = refl;
     energy = stepped.energy;
     halted = stepped.halted;
   }
@@ -91,18 +93,27 @@ module _ (v w : Situation) (notes : Buffer Undo) (commands : List Command) where
   pub kept_refused : (f : StepFault) (began ended : ℕ) → IsNoted v notes → Stepped v w commands (Err f) began ended → IsNoted w notes
   kept_refused f began ended kept stepped = still_kept v w notes stepped.stays.0 stepped.stays.1 kept
 
-  pub refused_so : (f : StepFault) (began ended : ℕ) → CanStep v commands → Stepped v w commands (Err f) began ended → Tries (kept_of v notes) commands (kept_of w notes) (Err (no_step_of f))
-  refused_so (fault.Broken b) began ended can stepped = (looks_the_same v w notes stepped.stays.0 stepped.stays.1, can.each, stepped.breaks.1)
-  refused_so fault.Memory began ended can stepped = looks_the_same v w notes stepped.stays.0 stepped.stays.1
-  refused_so fault.Spent began ended can stepped = looks_the_same v w notes stepped.stays.0 stepped.stays.1
+  pub refused_so : (trace : Option (List Command)) (f : StepFault) (began ended : ℕ) → CanStep v commands → Stepped v w commands (Err f) began ended
+      → Tries (kept_of v notes trace) commands (kept_of w notes trace) (Err (no_step_of f))
+  refused_so trace (fault.Broken b) began ended can stepped = (looks_the_same v w notes stepped.stays.0 stepped.stays.1 trace, can.each, stepped.breaks.1)
+  refused_so trace fault.Memory began ended can stepped = looks_the_same v w notes stepped.stays.0 stepped.stays.1 trace
+  refused_so trace fault.Spent began ended can stepped = looks_the_same v w notes stepped.stays.0 stepped.stays.1 trace
+
+  -- what is answered to a step that is made and then taken back
+  pub would_make : (trace : Option (List Command)) (ok : StepOk) (began ended : ℕ) → Stepped v w commands (Ok ok) began ended → WouldAnswer (kept_of v notes trace) commands (Ok ok)
+  would_make trace ok began ended stepped =
+      let k : Kept = kept_of v notes trace in (
+        record { state = w.state; steps = w.steps; past = keep_last k.room (k.past ++ present k ∷ []); room = k.room; trace = trace_with trace commands },
+        record { goes = stepped.goes; counted = stepped.counted; past = refl; room = refl; trace = refl; energy = stepped.energy; halted = stepped.halted },
+      )
 
 -- the commands cannot be judged, and nothing was done
-pub cannot_so : (v : Situation) (notes : Buffer Undo) (commands : List Command) (f : NoStep) → CannotStep v commands f → Tries (kept_of v notes) commands (kept_of v notes) (Err f)
-cannot_so v notes commands (no_step.Broken b) h = absurd h
-cannot_so v notes commands no_step.Ended h = (refl, h)
-cannot_so v notes commands no_step.Count h = (refl, h)
-cannot_so v notes commands no_step.Long h = (refl, h)
-cannot_so v notes commands no_step.Memory h = absurd h
+pub cannot_so : (k : Kept) (v : Situation) (notes : Buffer Undo) (trace : Option (List Command)) (commands : List Command) (f : NoStep) → k ≡ kept_of v notes trace → CannotStep v commands f → Tries (kept_of v notes trace) commands k (Err f)
+cannot_so k v notes trace commands (no_step.Broken b) same h = absurd h
+cannot_so k v notes trace commands no_step.Ended same h = (same, h)
+cannot_so k v notes trace commands no_step.Count same h = (same, h)
+cannot_so k v notes trace commands no_step.Long same h = (same, h)
+cannot_so k v notes trace commands no_step.Memory same h = absurd h
 
 -- ---- the last step is taken back
 
@@ -116,27 +127,28 @@ module _ (v w : Situation) (notes rest : Buffer Undo) (undo : Undo) (kept : IsNo
   pub may_go_back : MayUndo v.state undo
   may_go_back = less.0
 
-  module _ (is : w ≡ record { state = state_before v.state undo; steps = undo.steps; spent = false }) (popped : rest ≡ buffer (take (length notes.items - 1) notes.items) notes.capacity) where
+  module _ (state_is : w.state ≡ state_before v.state undo) (steps_are : w.steps ≡ undo.steps) (popped : rest ≡ buffer (take (length notes.items - 1) notes.items) notes.capacity) where
     before_was : instant_before (instant_of v) undo ≡ instant_of w
-    before_was = λ i. record { state = sym (ap (λ (m : Situation). m.state) is) i; steps = sym (ap (λ (m : Situation). m.steps) is) i }
+    before_was = λ i. record { state = sym state_is i; steps = sym steps_are i }
 
     items_left : rest.items ≡ take (length notes.items - 1) notes.items
     items_left = ap (λ (b : Buffer Undo). b.items) popped
 
     pub kept_back : IsNoted w rest
     kept_back = record {
-      well_formed = subst IsWellFormed (sym (ap (λ (m : Situation). m.state) is)) less.0.before.well_formed;
+      well_formed = subst IsWellFormed (sym state_is) less.0.before.well_formed;
       back =
           subst (λ (us : List Undo). CanBeTakenBack (instant_of w) us) (sym items_left)
           (subst (λ (p : Instant). CanBeTakenBack p (take (length notes.items - 1) notes.items)) before_was less.1);
     }
 
-    pub taken_back : IsTakenBack (kept_of v notes) (kept_of w rest)
-    taken_back = record {
+    pub taken_back : (trace : Option (List Command)) → IsTakenBack (kept_of v notes trace) (kept_of w rest (trace_without trace (length w.state.bots)))
+    taken_back trace = record {
       past =
           ap (instants_of (instant_of v)) split
           ∙ (instants_more (instant_of v) (take (length notes.items - 1) notes.items) undo
           ∙ ((λ i. instants_of (before_was i) (take (length notes.items - 1) notes.items) ++ before_was i ∷ [])
           ∙ ap (λ (us : List Undo). instants_of (instant_of w) us ++ instant_of w ∷ []) (sym items_left)));
       room = ap (λ (b : Buffer Undo). b.capacity) popped;
+      trace = refl;
     }

@@ -1,5 +1,5 @@
 -- What the calls of a kept machine answer and do.
-use Rattle.std.specs.Prelude.{◌≡◌, ◌≢◌, ℕ, ◌+◌, ◌≤◌, ◌↔◌, ◌⊎◌, List, [], ◌∷◌, ◌++◌, length, Option, Result, Ok, Err, true, ⊤}
+use Rattle.std.specs.Prelude.{◌≡◌, ◌≢◌, ℕ, ◌+◌, ◌≤◌, ◌↔◌, ◌⊎◌, Bool, true, false, List, [], ◌∷◌, ◌++◌, length, count_by, Option, Some, Result, Ok, Err, ⊤}
 use Rattle.circular_buffer.specs.Buffer.{keep_last}
 use Rattle.vox_geom.specs.declared.coordinate.Coord.{Coord}
 use Rattle.vox_geom.specs.Space.{IsInSpace}
@@ -7,7 +7,7 @@ use Rattle.nano_spec.specs.declared.commands.Command.{Command}
 use Rattle.nano_spec.specs.declared.system.Profile.{Profile}
 use Rattle.nano_spec.specs.Legal.{IsLegal}
 use Rattle.nano_spec.specs.Level.{Level}
-use Rattle.nano_spec.specs.Matrix.{Matrix}
+use Rattle.nano_spec.specs.Matrix.{Matrix, all_of, differ_at}
 use Rattle.nano_spec.specs.Model.{model}
 use Rattle.nano_spec.specs.Next.{Breaks, Goes, Next}
 use Rattle.model_file.specs.declared.fault.ModelFault.{ModelFault}
@@ -19,9 +19,7 @@ use Rattle.kept_machine.specs.declared.fault.NoLevel.{NoLevel}
 use Rattle.kept_machine.specs.declared.fault.NoLevel.TheVariants as no_level
 use Rattle.kept_machine.specs.declared.fault.NoStep.{NoStep}
 use Rattle.kept_machine.specs.declared.fault.NoStep.TheVariants as no_step
-use Rattle.kept_machine.specs.declared.fault.NoUndo.{NoUndo}
-use Rattle.kept_machine.specs.declared.fault.NoUndo.TheVariants as no_undo
-use Rattle.kept_machine.specs.Kept.{Kept, kept_opening, present}
+use Rattle.kept_machine.specs.Kept.{Kept, kept_opening, trace_with, present, trace_without}
 
 -- a machine is started over a legal source, or the source is refused as the definition refuses it
 abbrev pub Opens : Matrix → Profile → ℕ → Result Kept ModelFault → Type 0
@@ -40,6 +38,8 @@ pub record IsMade (old : Kept) (commands : List Command) (new : Kept) (ok : Step
   pub counted : new.steps ≡ old.steps + 1
   pub past : new.past ≡ keep_last old.room (old.past ++ present old ∷ [])
   pub room : new.room ≡ old.room
+  -- its commands go to the end of the trace
+  pub trace : new.trace ≡ trace_with old.trace commands
   -- the answer tells the energy so far, and whether no bot is left
   pub energy : ok.energy ≡ new.state.energy
   pub halted : ok.halted ≡ true ↔ new.state.bots ≡ []
@@ -54,22 +54,36 @@ Tries old commands new (Err no_step.Count) = (new ≡ old) × (length commands �
 Tries old commands new (Err no_step.Long) = (new ≡ old) × (1073741824 ≤ old.steps)
 Tries old commands new (Err no_step.Memory) = new ≡ old
 
+-- what a step would answer: the same as one that is made, whichever machine that would leave
+abbrev pub WouldAnswer : Kept → List Command → Result StepOk NoStep → Type 0
+WouldAnswer k commands answer = (next : Kept) × Tries k commands next answer
+
 -- what is answered where the machine of the system does not make a step
 abbrev pub no_step_of : StepFault → NoStep
 no_step_of (fault.Broken b) = no_step.Broken b
 no_step_of fault.Memory = no_step.Memory
 no_step_of fault.Spent = no_step.Memory
 
--- the last step is taken back: where the machine stood before it, it stands again, and the steps before can be taken back next
+-- the last step is taken back: where the machine stood before it, it stands again, the steps before can be taken back next, and the
+-- commands of the bots that are active again are no more in the trace
 pub record IsTakenBack (old new : Kept) : Type 0 where
   pub past : old.past ≡ new.past ++ present new ∷ []
   pub room : new.room ≡ old.room
+  pub trace : new.trace ≡ trace_without old.trace (length new.state.bots)
 
--- what an undo answers and does: one that is refused leaves all as it was
-abbrev pub Undoes : Kept → Kept → Result (Unit {0}) NoUndo → Type 0
-Undoes old new (Ok _) = IsTakenBack old new
-Undoes old new (Err no_undo.NoNote) = (new ≡ old) × (old.past ≡ [])
-Undoes old new (Err no_undo.Memory) = new ≡ old
+-- what an undo answers and does: it is made wherever a step can be taken back
+abbrev pub Undoes : Kept → Kept → Bool → Type 0
+Undoes old new true = IsTakenBack old new
+Undoes old new false = (new ≡ old) × (old.past ≡ [])
+
+-- the commands are kept from here on, unless steps were made before
+abbrev pub BeginsTrace : Kept → Kept → Bool → Type 0
+BeginsTrace old new true = (old.steps ≡ 0) × (new ≡ record old { trace = Some [] })
+BeginsTrace old new false = (1 ≤ old.steps) × (new ≡ old)
+
+-- at how many coordinates two matrices of one resolution differ
+abbrev pub difference_count : Matrix → Matrix → ℕ
+difference_count m target = count_by (differ_at m target) (all_of m)
 
 -- the level that the definition gives, or that the coordinate is out of space
 abbrev pub TellsLevel : Matrix → Coord → Result (Option ℕ) NoLevel → Type 0

@@ -1,5 +1,5 @@
 -- What is seen of a machine that is kept, and what its parts keep.
-use Rattle.std.specs.Prelude.{◌≡◌, ◌≢◌, ℕ, ◌<◌, ◌≤◌, List, [], ◌∷◌, length}
+use Rattle.std.specs.Prelude.{◌≡◌, ◌≢◌, ℕ, ◌-◌, ◌<◌, ◌≤◌, Bool, cond, List, [], ◌∷◌, ◌++◌, length, take, Option, Some, None, option_map, Result, Ok, Err}
 use Rattle.circular_buffer.specs.Buffer.{Buffer}
 use Rattle.nano_spec.specs.declared.commands.Command.{Command}
 use Rattle.nano_spec.specs.Matrix.{Matrix}
@@ -7,22 +7,25 @@ use Rattle.nano_spec.specs.State.{IsWellFormed, State, opening}
 use Rattle.nano_spec.specs.declared.system.Profile.{Profile}
 use Rattle.step_machine.specs.Situation.{Situation}
 use Rattle.step_machine.specs.Undoing.{MayUndo, state_before}
+use Rattle.step_machine.specs.declared.machine.StepOk.{StepOk}
 use Rattle.step_machine.specs.declared.undo.Undo.{Undo}
 use Rattle.kept_machine.specs.declared.fault.NoStep.{NoStep}
 use Rattle.kept_machine.specs.declared.fault.NoStep.TheVariants as no_step
+use Rattle.kept_machine.specs.declared.trace.Trace.{Trace}
 
 -- a state, and how many steps were made until then
 pub record Instant : Type 0 where
   pub state : State
   pub steps : ℕ
 
--- the state, how many steps were made, where the machine stood before each of the last steps, the last one last, and how many of
--- these are kept
+-- the state, how many steps were made, where the machine stood before each of the last steps, the last one last, how many of these
+-- are kept, and the commands of the steps that were made and not taken back, if they are kept
 pub record Kept : Type 0 where
   pub state : State
   pub steps : ℕ
   pub past : List Instant
   pub room : ℕ
+  pub trace : Option (List Command)
 
 -- where the machine stands
 abbrev pub present : Kept → Instant
@@ -30,9 +33,30 @@ present k = record { state = k.state; steps = k.steps }
 
 -- a machine before its first step
 abbrev pub kept_opening : Matrix → Profile → ℕ → Kept
-kept_opening source profile room = record { state = opening source profile; steps = 0; past = []; room = room }
+kept_opening source profile room = record { state = opening source profile; steps = 0; past = []; room = room; trace = None }
+
+-- a trace, if it is kept, with more commands at its end
+abbrev pub trace_with : Option (List Command) → List Command → Option (List Command)
+trace_with trace commands = option_map (λ made. made ++ commands) trace
+
+-- and without so many at its end
+abbrev pub trace_without : Option (List Command) → ℕ → Option (List Command)
+trace_without trace count = option_map (λ made. take (length made - count) made) trace
 
 -- ---- the parts
+
+-- the commands of a trace, if they are kept
+abbrev pub trace_of : Trace → Option (List Command)
+trace_of t = cond t.is_kept (Some t.commands.items) None
+
+-- a trace after a step that was tried
+abbrev pub tried : Option (List Command) → List Command → Result StepOk NoStep → Option (List Command)
+tried trace commands (Ok ok) = trace_with trace commands
+tried trace commands (Err fault) = trace
+
+-- and after a step that was taken back or not, where so many bots are active then
+abbrev pub undone : Option (List Command) → ℕ → Bool → Option (List Command)
+undone trace active is_undone = cond is_undone (trace_without trace active) trace
 
 -- where a machine of the system stands, spent or not
 abbrev pub instant_of : Situation → Instant
@@ -52,9 +76,10 @@ abbrev pub instants_of : Instant → List Undo → List Instant
 instants_of p [] = []
 instants_of p (undo ∷ notes) = first_instant p (undo ∷ notes) ∷ instants_of p notes
 
--- what is seen of a machine and its notes
-abbrev pub kept_of : Situation → Buffer Undo → Kept
-kept_of m notes = record { state = m.state; steps = m.steps; past = instants_of (instant_of m) notes.items; room = notes.capacity }
+-- what is seen of a machine, its notes and its trace
+abbrev pub kept_of : Situation → Buffer Undo → Option (List Command) → Kept
+kept_of m notes trace =
+    record { state = m.state; steps = m.steps; past = instants_of (instant_of m) notes.items; room = notes.capacity; trace = trace }
 
 -- the steps of the notes can be taken back, one after another
 abbrev pub CanBeTakenBack : Instant → List Undo → Type 0

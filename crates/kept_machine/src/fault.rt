@@ -3,7 +3,6 @@ ghost use Rattle.std.specs.Prelude.{◌≡◌};
 ghost use Rattle.kept_machine.specs.Calls.{no_step_of};
 ghost use Rattle.kept_machine.specs.declared.fault.NoLevel.TheVariants as no_level;
 ghost use Rattle.kept_machine.specs.declared.fault.NoStep.TheVariants as no_step;
-ghost use Rattle.kept_machine.specs.declared.fault.NoUndo.TheVariants as no_undo;
 
 use nano_spec::Broken;
 use step_machine::StepFault;
@@ -42,23 +41,6 @@ impl From<Memory> for NoStep {
 
     fn from(_memory: Memory) -> NoStep {
         NoStep::Memory
-    }
-}
-
-/// Why no step was taken back.
-#[derive(Clone, Copy, PartialEq, Eq, Debug)]
-pub enum NoUndo {
-    /// No earlier step is noted.
-    NoNote,
-    /// There was no memory.
-    Memory,
-}
-
-impl From<Memory> for NoUndo {
-    ghost from_gives = { λ _ fault. fault ≡ no_undo.Memory };
-
-    fn from(_memory: Memory) -> NoUndo {
-        NoUndo::Memory
     }
 }
 

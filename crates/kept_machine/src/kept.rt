@@ -1,12 +1,14 @@
 //! The machine that is kept.
-ghost use Rattle.std.specs.Prelude.{◌≡◌, ◌≤◌, [], length, count_by, IfOk};
+ghost use Rattle.std.specs.Prelude.{◌≡◌, ◌≤◌, [], length, count_by, option_map, IfOk};
 ghost use Rattle.nano_spec.specs.Matrix.{all_of, empty as empty_of, is_full};
 ghost use Rattle.nano_spec.specs.Verdict.{first_difference};
-ghost use Rattle.kept_machine.specs.Calls.{OpensFile, Opens, Undoes, TellsLevel, Tries};
+ghost use Rattle.kept_machine.specs.Calls.{BeginsTrace, Opens, OpensFile, TellsLevel, Tries, Undoes, WouldAnswer, difference_count};
 
-use crate::fault::{NoLevel, NoStep, NoUndo};
+use crate::counting::count_differences;
+use crate::fault::{NoLevel, NoStep};
 use crate::reading::{count_full, find_level, is_full_at, least_difference};
-use crate::stepping::{copy_of, start_over, take_back, try_step};
+use crate::stepping::{copy_of, judge_step, start_over, step_and_keep, undo_and_shorten};
+use crate::trace::Trace;
 use circular_buffer::HeapCircularBuffer;
 use model_file::{ModelFault, read_model};
 use nano_spec::{Bot, Command, Harmonics, Profile, opening_is_well_formed};
@@ -17,21 +19,22 @@ use step_machine::{Machine, StepOk, Undo};
 use vox_geom::{Coord, Memory};
 use vox_planes::Planes;
 
-/// A machine between two steps, with notes of its last steps. Contracts see its state, how many steps were made, and the points
-/// before the steps that can be taken back.
+/// A machine between two steps, with notes of its last steps. Contracts see its state, how many steps were made, where it stood
+/// before the steps that can be taken back, and the commands of all its steps, if they are kept.
 #[derive(Drop)]
 pub struct KeptMachine {
     alloc: Global,
     machine: Machine,
     notes: HeapCircularBuffer<Undo>,
+    trace: Trace,
 }
 
 impl Model for KeptMachine {
-    ghost use Rattle.kept_machine.specs.Kept.{IsNoted, Kept, kept_of};
+    ghost use Rattle.kept_machine.specs.Kept.{IsNoted, Kept, kept_of, trace_of};
 
     ghost Value = { Kept };
 
-    ghost view = { λ k. kept_of k.machine k.notes };
+    ghost view = { λ k. kept_of k.machine k.notes (trace_of k.trace) };
 
     ghost invariant = { λ k. IsNoted k.machine k.notes };
 }
@@ -53,6 +56,7 @@ impl KeptMachine {
             alloc,
             machine,
             notes,
+            trace: Trace::none(alloc),
         })
     }
 
@@ -70,7 +74,7 @@ impl KeptMachine {
         KeptMachine::start(alloc, source, profile, room)
     }
 
-    /// Another machine in the same state, after as many steps. None of them can be taken back in it.
+    /// Another machine in the same state, after as many steps, with the same trace. No step can be taken back in it.
     pub fn copy(&self) -> Result<KeptMachine, Memory>
         ensures { IfOk result (λ k. k ≡ record self.now { past = [] }) }
     {
@@ -80,34 +84,56 @@ impl KeptMachine {
             self.notes.capacity(),
             Blank::new(1),
         )?;
+        let trace = self.trace.copy(self.alloc)?;
         Ok(KeptMachine {
             alloc: self.alloc,
             machine,
             notes,
+            trace,
         })
+    }
+
+    /// Keeps the commands of the steps from here on, unless steps were made before: whether it does.
+    pub fn keep_trace(&mut self) -> bool
+        ensures { BeginsTrace self.old self.new result }
+    {
+        if self.machine.steps_done() > 0 {
+            return false;
+        }
+        self.trace = Trace::begun(self.alloc);
+        true
     }
 
     /// Makes a step: the i-th command is for the i-th active bot.
     pub fn step(&mut self, commands: &[Command]) -> Result<StepOk, NoStep>
         ensures { Tries self.old commands.now self.new result }
     {
-        try_step::<Brand>(
+        step_and_keep::<Brand>(
             self.alloc,
             &mut self.machine,
             &mut self.notes,
+            &mut self.trace,
             commands,
             Blank::new(1),
         )
     }
 
-    /// Takes the last step back.
-    pub fn undo(&mut self) -> Result<(), NoUndo>
+    /// What the step would come to. The machine stays as it is.
+    pub fn judge(&mut self, commands: &[Command]) -> Result<StepOk, NoStep>
+        ensures stays { self.new ≡ self.old }
+        ensures answer { WouldAnswer self.old commands.now result }
+    {
+        judge_step::<Brand>(self.alloc, &mut self.machine, commands, Blank::new(1))
+    }
+
+    /// Takes the last step back, if one is noted: whether one is. It takes no memory.
+    pub fn undo(&mut self) -> bool
         ensures { Undoes self.old self.new result }
     {
-        take_back::<Brand>(
-            self.alloc,
+        undo_and_shorten::<Brand>(
             &mut self.machine,
             &mut self.notes,
+            &mut self.trace,
             Blank::new(1),
         )
     }
@@ -140,6 +166,14 @@ impl KeptMachine {
         ensures { result ≡ first_difference self.now.state.matrix target.now }
     {
         least_difference::<Brand>(self.machine.matrix(), target, Blank::new(1))
+    }
+
+    /// At how many coordinates the matrix and a target of its resolution differ.
+    pub fn differences(&self, target: &Planes) -> u32
+        requires { self.now.state.matrix.resolution ≡ target.now.resolution }
+        ensures { result ≡ difference_count self.now.state.matrix target.now }
+    {
+        count_differences::<Brand>(self.machine.matrix(), target, Blank::new(1))
     }
 
     /// The matrix.
@@ -189,6 +223,13 @@ impl KeptMachine {
         ensures { result ≡ self.now.steps }
     {
         self.machine.steps_done()
+    }
+
+    /// The commands of the steps that were made and not taken back, if they are kept.
+    pub fn trace(&self) -> Option<&[Command]>
+        ensures { option_map (λ commands. commands.now) result ≡ self.now.trace }
+    {
+        self.trace.commands()
     }
 
     /// How many steps can be taken back.

@@ -2,10 +2,12 @@
 //! taken back, and a call that is refused leaves the machine as it was.
 #![tactic(auto)]
 
+mod counting;
 mod fault;
 mod kept;
 mod reading;
 mod stepping;
+mod trace;
 
-pub use fault::{NoLevel, NoStep, NoUndo};
+pub use fault::{NoLevel, NoStep};
 pub use kept::KeptMachine;

@@ -1,13 +1,16 @@
 //! Machines that are started, that make steps, and that take steps back, by a counter of touches that nobody reads.
-ghost use Rattle.std.specs.Prelude.{◌≡◌, ◌<◌, ◌≤◌, [], false, length, IfOk, IfErr, Err};
-ghost use Rattle.circular_buffer.specs.Buffer.{buffer};
+ghost use Rattle.std.specs.Prelude.{◌≡◌, ◌<◌, ◌≤◌, [], List, Option, false, length, IfOk, IfErr, Err};
+ghost use Rattle.circular_buffer.specs.Buffer.{Buffer, buffer};
+ghost use Rattle.nano_spec.specs.declared.commands.Command.{Command as Spoken};
 ghost use Rattle.nano_spec.specs.Legal.{IsLegal};
 ghost use Rattle.nano_spec.specs.State.{IsWellFormed, opening};
 ghost use Rattle.model_file.specs.Fault.{Judges};
-ghost use Rattle.kept_machine.specs.Calls.{Undoes, Tries};
-ghost use Rattle.kept_machine.specs.Kept.{CanStep, CannotStep, IsNoted, kept_of};
+ghost use Rattle.step_machine.specs.declared.undo.Undo.{Undo as Note};
+ghost use Rattle.kept_machine.specs.Calls.{Tries, Undoes, WouldAnswer};
+ghost use Rattle.kept_machine.specs.Kept.{CanStep, CannotStep, IsNoted, kept_of, trace_of, tried, undone};
 
-use crate::fault::{NoStep, NoUndo};
+use crate::fault::NoStep;
+use crate::trace::Trace;
 use circular_buffer::HeapCircularBuffer;
 use model_file::{ModelFault, legal};
 use nano_spec::{Command, Profile, opening_is_well_formed};
@@ -138,7 +141,8 @@ fn step_once<L: Ledger>(
     requires can { CanStep machine.old commands.now }
     requires none { notes.now.capacity ≡ 0 }
     ensures kept { IsNoted machine.new notes.now }
-    ensures tries { Tries (kept_of machine.old notes.now) commands.now (kept_of machine.new notes.now) result }
+    ensures tries { (trace : Option (List Spoken)) → Tries (kept_of machine.old notes.now trace) commands.now
+        (kept_of machine.new notes.now (tried trace commands.now result)) result }
 {
     let _room = notes.capacity();
     match machine.step(commands, steps) {
@@ -157,7 +161,8 @@ fn step_and_note<L: Ledger>(
     requires kept { IsNoted machine.old notes.old }
     requires can { CanStep machine.old commands.now }
     ensures kept { IsNoted machine.new notes.new }
-    ensures tries { Tries (kept_of machine.old notes.old) commands.now (kept_of machine.new notes.new) result }
+    ensures tries { (trace : Option (List Spoken)) → Tries (kept_of machine.old notes.old trace) commands.now
+        (kept_of machine.new notes.new (tried trace commands.now result)) result }
 {
     machine.know();
     let order = machine.leaders(commands);
@@ -171,7 +176,7 @@ fn step_and_note<L: Ledger>(
 }
 
 /// Makes a step, and notes it where notes are kept.
-pub(crate) fn try_step<L: Ledger>(
+fn try_step<L: Ledger>(
     alloc: Global,
     machine: &mut Machine,
     notes: &mut HeapCircularBuffer<Undo>,
@@ -183,7 +188,8 @@ pub(crate) fn try_step<L: Ledger>(
     requires parts { blank.parts ≡ L.parts }
     requires some { 0 < L.parts }
     ensures kept { IsNoted machine.new notes.new }
-    ensures tries { Tries (kept_of machine.old notes.old) commands.now (kept_of machine.new notes.new) result }
+    ensures tries { (trace : Option (List Spoken)) → Tries (kept_of machine.old notes.old trace) commands.now
+        (kept_of machine.new notes.new (tried trace commands.now result)) result }
 {
     ready(machine, commands)?;
     let mut steps = Steps::<L>::new(blank);
@@ -194,26 +200,120 @@ pub(crate) fn try_step<L: Ledger>(
     step_and_note(machine, notes, commands, &mut steps)
 }
 
-/// Takes the step of the last note back. Where that cannot be done the note stays.
-pub(crate) fn take_back<L: Ledger>(
+/// Makes a step, notes it where notes are kept, and adds its commands to the trace, if they are kept.
+pub(crate) fn step_and_keep<L: Ledger>(
     alloc: Global,
     machine: &mut Machine,
     notes: &mut HeapCircularBuffer<Undo>,
+    trace: &mut Trace,
+    commands: &[Command],
     blank: Blank,
-) -> Result<(), NoUndo>
+) -> Result<StepOk, NoStep>
     requires kept { IsNoted machine.old notes.old }
     requires name { blank.name ≡ L.name }
     requires parts { blank.parts ≡ L.parts }
     requires some { 0 < L.parts }
     ensures kept { IsNoted machine.new notes.new }
-    ensures back { Undoes (kept_of machine.old notes.old) (kept_of machine.new notes.new) result }
+    ensures tries { Tries (kept_of machine.old notes.old (trace_of trace.old)) commands.now
+        (kept_of machine.new notes.new (trace_of trace.new)) result }
 {
-    let Some(undo) = notes.back() else {
-        return Err(NoUndo::NoNote);
-    };
+    trace.lengthen(commands)?;
+    match try_step::<L>(alloc, machine, notes, commands, blank) {
+        Ok(ok) => Ok(ok),
+        Err(fault) => {
+            trace.shorten(commands.len());
+            Err(fault)
+        }
+    }
+}
+
+/// Makes a step that can be judged, and takes it back.
+fn step_and_restore<L: Ledger>(
+    machine: &mut Machine,
+    commands: &[Command],
+    steps: &mut Steps<L>,
+) -> Result<StepOk, NoStep>
+    requires well_formed { IsWellFormed machine.old.state }
+    requires can { CanStep machine.old commands.now }
+    ensures state { machine.new.state ≡ machine.old.state }
+    ensures steps { machine.new.steps ≡ machine.old.steps }
+    ensures answer { (notes : Buffer Note) (trace : Option (List Spoken))
+        → WouldAnswer (kept_of machine.old notes trace) commands.now result }
+{
+    machine.know();
+    let order = machine.leaders(commands);
+    match machine.step_noted(commands, order.as_slice(), steps) {
+        Ok((ok, undo)) => {
+            machine.restore(&undo, steps);
+            Ok(ok)
+        }
+        Err(fault) => Err(NoStep::of(fault)),
+    }
+}
+
+/// What a step would come to. The machine stays where it stands.
+pub(crate) fn judge_step<L: Ledger>(
+    alloc: Global,
+    machine: &mut Machine,
+    commands: &[Command],
+    blank: Blank,
+) -> Result<StepOk, NoStep>
+    requires well_formed { IsWellFormed machine.old.state }
+    requires name { blank.name ≡ L.name }
+    requires parts { blank.parts ≡ L.parts }
+    requires some { 0 < L.parts }
+    ensures state { machine.new.state ≡ machine.old.state }
+    ensures steps { machine.new.steps ≡ machine.old.steps }
+    ensures answer { (notes : Buffer Note) (trace : Option (List Spoken))
+        → WouldAnswer (kept_of machine.old notes trace) commands.now result }
+{
+    ready(machine, commands)?;
     let mut steps = Steps::<L>::new(blank);
     stand_again(alloc, machine, &mut steps)?;
-    machine.undo(undo, &mut steps)?;
+    step_and_restore(machine, commands, &mut steps)
+}
+
+/// Takes the step of the last note back, if there is one: whether there is.
+fn take_back<L: Ledger>(
+    machine: &mut Machine,
+    notes: &mut HeapCircularBuffer<Undo>,
+    blank: Blank,
+) -> bool
+    requires kept { IsNoted machine.old notes.old }
+    requires name { blank.name ≡ L.name }
+    requires parts { blank.parts ≡ L.parts }
+    requires some { 0 < L.parts }
+    ensures kept { IsNoted machine.new notes.new }
+    ensures back { (trace : Option (List Spoken)) → Undoes (kept_of machine.old notes.old trace)
+        (kept_of machine.new notes.new (undone trace (length machine.new.state.bots) result)) result }
+{
+    let Some(undo) = notes.back() else {
+        return false;
+    };
+    let mut steps = Steps::<L>::new(blank);
+    machine.restore(undo, &mut steps);
     notes.pop_back();
-    Ok(())
+    true
+}
+
+/// Takes the step of the last note back, if there is one, and its commands away: whether there is.
+pub(crate) fn undo_and_shorten<L: Ledger>(
+    machine: &mut Machine,
+    notes: &mut HeapCircularBuffer<Undo>,
+    trace: &mut Trace,
+    blank: Blank,
+) -> bool
+    requires kept { IsNoted machine.old notes.old }
+    requires name { blank.name ≡ L.name }
+    requires parts { blank.parts ≡ L.parts }
+    requires some { 0 < L.parts }
+    ensures kept { IsNoted machine.new notes.new }
+    ensures back { Undoes (kept_of machine.old notes.old (trace_of trace.old))
+        (kept_of machine.new notes.new (trace_of trace.new)) result }
+{
+    if !take_back::<L>(machine, notes, blank) {
+        return false;
+    }
+    trace.shorten(usize::from(machine.active()));
+    true
 }

@@ -18,8 +18,6 @@ use Rattle.trace_codec.specs.Whole.{Decodes}
 use Rattle.kept_machine.specs.declared.fault.NoLevel.{NoLevel}
 use Rattle.kept_machine.specs.declared.fault.NoLevel.TheVariants as no_level
 use Rattle.kept_machine.specs.declared.fault.NoStep.TheVariants as no_step
-use Rattle.kept_machine.specs.declared.fault.NoUndo.{NoUndo}
-use Rattle.kept_machine.specs.declared.fault.NoUndo.TheVariants as no_undo
 use Rattle.kept_machine.specs.Calls.{Opens, OpensFile, Undoes, TellsLevel, Tries}
 use Rattle.kept_machine.specs.Kept.{Kept}
 use Rattle.machine_c.specs.declared.status.TheConstants.{DONE, BROKEN, ARGUMENT, MODEL, COMMANDS, MEMORY, TOO_SMALL, NO_MACHINE, ENDED, COUNT, LONG, NO_NOTE, OUTSIDE, NO_LEVEL}
@@ -130,16 +128,15 @@ IsStepped (Some old) bytes new before after status =
     × (after ≡ step_told k answer) × (status ≡ status_of_step answer)
 
 -- the status of an undo
-abbrev pub status_of_undo : Result (Unit {0}) NoUndo → ℕ
-status_of_undo (Ok _) = DONE
-status_of_undo (Err no_undo.NoNote) = NO_NOTE
-status_of_undo (Err no_undo.Memory) = MEMORY
+abbrev pub status_of_undo : Bool → ℕ
+status_of_undo true = DONE
+status_of_undo false = NO_NOTE
 
 -- the last step is taken back
 abbrev pub IsUndone : Option Kept → Option Kept → ℕ → Type 0
 IsUndone None new status = (new ≡ None) × (status ≡ NO_MACHINE)
 IsUndone (Some old) new status =
-    (k : Kept) × (new ≡ Some k) × (answer : Result (Unit {0}) NoUndo) × Undoes old k answer × (status ≡ status_of_undo answer)
+    (k : Kept) × (new ≡ Some k) × (answer : Bool) × Undoes old k answer × (status ≡ status_of_undo answer)
 
 -- ---- what is told
 

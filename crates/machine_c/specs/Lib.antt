@@ -1,4 +1,7 @@
 pub mod Calls
 pub mod Comparing
+pub mod Counting
+pub mod Judging
 pub mod Owned
 pub mod Told
+pub mod Tracing

@@ -3,7 +3,9 @@
 #![tactic(auto)]
 
 mod comparing;
+mod counting;
 mod handle;
+mod judging;
 mod parts;
 mod reading;
 mod starting;
@@ -12,4 +14,5 @@ mod stepping;
 #[cfg(test)]
 mod tests;
 mod told;
+mod tracing;
 mod version;

@@ -188,7 +188,7 @@ pub extern "C" fn nanobot_machine_count(alloc: Global, handle: &mut Handle, coun
 }
 
 /// Writes bytes to the front of the buffer, if it takes them, and tells how many they are.
-fn give_bytes(bytes: &[u8], out: &mut [u8], size: &mut usize) -> u32
+pub fn give_bytes(bytes: &[u8], out: &mut [u8], size: &mut usize) -> u32
     ensures { GivesAll bytes.now out.old out.new size.new result }
 {
     *size = bytes.len();
@@ -199,7 +199,7 @@ fn give_bytes(bytes: &[u8], out: &mut [u8], size: &mut usize) -> u32
     DONE
 }
 
-/// GivesAll the matrix as the bytes of a model.
+/// Gives the matrix as the bytes of a model.
 #[unsafe(no_mangle)]
 pub extern "C" fn nanobot_machine_model(
     alloc: Global,

@@ -47,3 +47,9 @@ pub const DIFFERS: u32 = 18;
 
 /// The target is of another resolution.
 pub const RESOLUTION: u32 = 19;
+
+/// Steps were made before.
+pub const BEGUN: u32 = 20;
+
+/// No trace is kept.
+pub const NO_TRACE: u32 = 21;

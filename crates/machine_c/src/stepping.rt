@@ -6,7 +6,7 @@ ghost use Rattle.machine_c.specs.Calls.{StepComesTo, ComesTo, IsStepped, IsUndon
 use crate::handle::Handle;
 use crate::status::{BROKEN, COMMANDS, COUNT, DONE, ENDED, LONG, MEMORY, NO_MACHINE, NO_NOTE};
 use crate::told::{BrokenTold, StepTold};
-use kept_machine::{KeptMachine, NoStep, NoUndo};
+use kept_machine::{KeptMachine, NoStep};
 use nano_spec::Command;
 use std::alloc::Global;
 use step_machine::StepOk;
@@ -25,7 +25,7 @@ pub enum StepAnswer {
 
 impl StepAnswer {
     /// The status of the answer.
-    fn status(self) -> u32
+    pub fn status(self) -> u32
         ensures { result ≡ status_of_step self }
     {
         match self {
@@ -41,7 +41,7 @@ impl StepAnswer {
     }
 
     /// The rule that is broken.
-    fn broken(self) -> BrokenTold
+    pub fn broken(self) -> BrokenTold
         ensures { result ≡ rule_told self }
     {
         match self {
@@ -51,7 +51,7 @@ impl StepAnswer {
     }
 
     /// The first byte of the command that is bad or cut.
-    fn offset(self) -> u64
+    pub fn offset(self) -> u64
         ensures { result ≡ offset_by self }
     {
         match self {
@@ -63,7 +63,7 @@ impl StepAnswer {
 }
 
 /// The command that the bytes spell, where they spell one alone.
-fn only_command(bytes: &[u8]) -> Option<Command>
+pub fn only_command(bytes: &[u8]) -> Option<Command>
     ensures { IfSome result (λ command. Cutting bytes.now (command ∷ [])) }
 {
     match decode_one(bytes) {
@@ -126,18 +126,17 @@ pub extern "C" fn nanobot_machine_step(
     answer.status()
 }
 
-/// The status of an undo.
-fn undo_status(answer: Result<(), NoUndo>) -> u32
-    ensures { result ≡ status_of_undo answer }
+/// The status of an undo, by whether a step was taken back.
+fn undo_status(is_undone: bool) -> u32
+    ensures { result ≡ status_of_undo is_undone }
 {
-    match answer {
-        Ok(()) => DONE,
-        Err(NoUndo::NoNote) => NO_NOTE,
-        Err(NoUndo::Memory) => MEMORY,
+    if is_undone {
+        return DONE;
     }
+    NO_NOTE
 }
 
-/// Takes the last step back. Where that cannot be done the machine is left as it was.
+/// Takes the last step back, if one is noted.
 #[unsafe(no_mangle)]
 pub extern "C" fn nanobot_machine_undo(alloc: Global, handle: &mut Handle) -> u32
     ensures { IsUndone handle.old.machine handle.new.machine result }
@@ -145,7 +144,7 @@ pub extern "C" fn nanobot_machine_undo(alloc: Global, handle: &mut Handle) -> u3
     let Some(mut machine) = handle.take(alloc) else {
         return NO_MACHINE;
     };
-    let answer = machine.undo();
+    let is_undone = machine.undo();
     handle.put(machine);
-    undo_status(answer)
+    undo_status(is_undone)
 }

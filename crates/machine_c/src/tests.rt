@@ -1,7 +1,9 @@
 //! Each export as a caller in C calls it. The energies are those of the rules: at resolution 3 a step costs 101 with one bot under
 //! low harmonics, a move 2 for each voxel, and a voxel that becomes full 12.
 use crate::comparing::nanobot_machine_compare;
+use crate::counting::nanobot_machine_differences;
 use crate::handle::Handle;
+use crate::judging::nanobot_machine_judge;
 use crate::reading::{
     nanobot_machine_bots, nanobot_machine_count, nanobot_machine_full, nanobot_machine_level,
     nanobot_machine_model, nanobot_machine_tell,
@@ -10,7 +12,8 @@ use crate::starting::{
     nanobot_machine_copy, nanobot_machine_end, nanobot_machine_start, nanobot_machine_start_empty,
 };
 use crate::stepping::{nanobot_machine_step, nanobot_machine_undo};
-use crate::told::{BotTold, BrokenTold, MachineTold, ModelTold, PlaceTold, StepTold};
+use crate::told::{BotTold, BrokenTold, JudgedTold, MachineTold, ModelTold, PlaceTold, StepTold};
+use crate::tracing::{nanobot_machine_keep, nanobot_machine_trace};
 use std::alloc::Global;
 use std::process::Abort;
 use std::test::Fail;
@@ -66,6 +69,52 @@ fn assert_steps(
     assert_eq!(rt; told.energy, energy);
     assert_eq!(rt; told.steps, steps);
     assert_eq!(rt; told.broken.rule, rule);
+}
+
+/// A step would end with this status and energy, leave a bot or none, and break this rule, 0 for none.
+fn assert_judged(
+    rt: &impl Abort,
+    alloc: Global,
+    handle: &mut Handle,
+    commands: &[u8],
+    (status, energy, halts, rule): (u32, i64, u32, u32),
+) {
+    let mut told = JudgedTold {
+        energy: 7,
+        offset: 7,
+        halts: 7,
+        broken: BrokenTold::none(),
+    };
+    assert_eq!(rt;
+        nanobot_machine_judge(alloc, handle, commands, &mut told),
+        status
+    );
+    assert_eq!(rt; told.energy, energy);
+    assert_eq!(rt; told.halts, halts);
+    assert_eq!(rt; told.broken.rule, rule);
+}
+
+/// The trace of the machine has these bytes.
+fn assert_trace(rt: &impl Abort, alloc: Global, handle: &mut Handle, bytes: &[u8]) {
+    let mut trace = [7u8; 8];
+    let mut size = 0;
+    assert_eq!(rt;
+        nanobot_machine_trace(alloc, handle, &mut trace, &mut size),
+        0
+    );
+    assert_eq!(rt; size, bytes.len());
+    assert_eq!(rt; trace.get(..size), Some(bytes));
+}
+
+/// The matrix differs from the model at so many coordinates.
+fn assert_differs(rt: &impl Abort, alloc: Global, handle: &mut Handle, target: &[u8], want: u32) {
+    let mut count = 7;
+    let mut refusal = ModelTold::none();
+    assert_eq!(rt;
+        nanobot_machine_differences(alloc, handle, target, &mut count, &mut refusal),
+        0
+    );
+    assert_eq!(rt; count, want);
 }
 
 /// The last step is taken back, with this status.
@@ -223,5 +272,75 @@ fn models_are_started_compared_and_given(rt: HostRuntime) -> Result<(), Fail> {
         0
     );
     assert_eq!(&rt; model.as_slice(), P3);
+    Ok(())
+}
+
+#[test]
+fn steps_are_judged_and_not_made(rt: HostRuntime) -> Result<(), Fail> {
+    let alloc = rt.alloc();
+    let mut handle = empty_of_three(&rt, alloc, 1);
+    assert_judged(&rt, alloc, &mut handle, FILL, (0, 113, 0, 0));
+    assert_counts(&rt, alloc, &mut handle, 0);
+    assert_judged(&rt, alloc, &mut handle, FILL_ABOVE, (1, 0, 0, 12));
+    assert_judged(&rt, alloc, &mut handle, HALT, (0, 101, 1, 0));
+    assert_judged(&rt, alloc, &mut handle, &[0x04], (4, 0, 0, 0));
+    assert_judged(&rt, alloc, &mut handle, &[], (13, 0, 0, 0));
+    assert_stands(&rt, alloc, &mut handle, 0, 0);
+    assert_steps(&rt, alloc, &mut handle, FILL, (0, 113, 1, 0));
+    assert_judged(&rt, alloc, &mut handle, WAIT, (0, 214, 0, 0));
+    assert_undone(&rt, alloc, &mut handle, 0);
+    assert_stands(&rt, alloc, &mut handle, 0, 0);
+    Ok(())
+}
+
+#[test]
+fn a_trace_is_kept(rt: HostRuntime) -> Result<(), Fail> {
+    let alloc = rt.alloc();
+    let mut handle = empty_of_three(&rt, alloc, 2);
+    let mut size = 7;
+    assert_eq!(&rt;
+        nanobot_machine_trace(alloc, &mut handle, &mut [], &mut size),
+        21
+    );
+    assert_eq!(&rt; nanobot_machine_keep(alloc, &mut handle), 0);
+    assert_trace(&rt, alloc, &mut handle, &[]);
+    assert_steps(&rt, alloc, &mut handle, SPLIT, (0, 125, 1, 0));
+    assert_trace(&rt, alloc, &mut handle, SPLIT);
+    assert_steps(&rt, alloc, &mut handle, &[0xFE, 0xFE], (0, 246, 2, 0));
+    assert_steps(&rt, alloc, &mut handle, &[0xFE, 0xFF], (1, 246, 2, 2));
+    assert_trace(&rt, alloc, &mut handle, &[0x75, 0x05, 0xFE, 0xFE]);
+    let mut copy = Handle::empty(alloc);
+    assert_eq!(&rt; nanobot_machine_copy(alloc, &mut handle, &mut copy), 0);
+    assert_undone(&rt, alloc, &mut handle, 0);
+    assert_trace(&rt, alloc, &mut handle, SPLIT);
+    assert_trace(&rt, alloc, &mut copy, &[0x75, 0x05, 0xFE, 0xFE]);
+    assert_eq!(&rt; nanobot_machine_keep(alloc, &mut copy), 20);
+    Ok(())
+}
+
+#[test]
+fn differences_are_counted(rt: HostRuntime) -> Result<(), Fail> {
+    let alloc = rt.alloc();
+    let mut handle = empty_of_three(&rt, alloc, 0);
+    assert_differs(&rt, alloc, &mut handle, P3, 1);
+    assert_steps(&rt, alloc, &mut handle, FILL, (0, 113, 1, 0));
+    assert_differs(&rt, alloc, &mut handle, P3, 2);
+    let mut count = 7;
+    let mut refusal = ModelTold::none();
+    assert_eq!(&rt;
+        nanobot_machine_differences(alloc, &mut handle, &[0x02, 0x00], &mut count, &mut refusal),
+        19
+    );
+    assert_eq!(&rt; count, 0);
+    assert_eq!(&rt;
+        nanobot_machine_differences(alloc, &mut handle, &[], &mut count, &mut refusal),
+        3
+    );
+    assert_eq!(&rt; refusal.number, 1);
+    nanobot_machine_end(alloc, &mut handle);
+    assert_eq!(&rt;
+        nanobot_machine_differences(alloc, &mut handle, P3, &mut count, &mut refusal),
+        11
+    );
     Ok(())
 }

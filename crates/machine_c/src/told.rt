@@ -30,6 +30,17 @@ pub struct StepTold {
     pub broken: BrokenTold,
 }
 
+/// What a step would come to: the energy that the machine would have, the first byte of the command that is bad or cut, 1 where no
+/// bot would be left, and the rule that would be broken.
+#[repr(C)]
+#[derive(Clone, Copy)]
+pub struct JudgedTold {
+    pub energy: i64,
+    pub offset: u64,
+    pub halts: u32,
+    pub broken: BrokenTold,
+}
+
 /// Where a machine stands. `high` is 1 under high harmonics, and `noted` steps can be taken back.
 #[repr(C)]
 #[derive(Clone, Copy)]

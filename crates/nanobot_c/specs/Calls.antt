@@ -44,10 +44,14 @@ pub record Gives (row : Row) (files : Files) (old new : List ℕ) (size result :
 abbrev pub GaveLineOf : Row → Files → List ℕ → List ℕ → ℕ → ℕ → Type 0
 GaveLineOf row files old new size result = (reply : Reply) × AnswerOf row files reply × Gave (code_of reply.status) reply.line old new size result
 
+-- an answer of the row: the file of this name that it stores, or else its line, was given with its status
+abbrev pub GaveFileOf : List ℕ → Row → Files → List ℕ → List ℕ → ℕ → ℕ → Type 0
+GaveFileOf name row files old new size result = (reply : Reply) × AnswerOf row files reply
+    × Gave (code_of reply.status) (file_or_line (content reply.after name) reply.line) old new size result
+
 -- an answer of the row: the trace that it stores, or else its line, was given with its status
 abbrev pub GavePlanOf : Row → Files → List ℕ → List ℕ → ℕ → ℕ → Type 0
-GavePlanOf row files old new size result = (reply : Reply) × AnswerOf row files reply
-    × Gave (code_of reply.status) (file_or_line (content reply.after plan_name) reply.line) old new size result
+GavePlanOf row files old new size result = GaveFileOf plan_name row files old new size result
 
 -- the machine of the definitions takes the whole trace from the source to the target, with this energy in so many steps
 abbrev pub TakesAll : List ℕ → List ℕ → List ℕ → ℤ → ℕ → Type 0

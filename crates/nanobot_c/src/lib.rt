@@ -6,5 +6,8 @@ mod call;
 mod judging;
 mod lent;
 mod planning;
+mod spelling;
+#[cfg(test)]
+mod spelling_tests;
 #[cfg(test)]
 mod tests;

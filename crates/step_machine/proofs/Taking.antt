@@ -102,6 +102,19 @@ may_gain_back m n undo e h = subst (λ (x : Matrix). MayAdd (without_filled x un
     void_still true full f = refl
     void_still false full f = f
 
+-- the machine's parts belong together in the state that a note tells, where the machine is spent or its forest is that state's
+pub sound_restored : (s : State) (undo : Undo) (old : Standing) (changed : Changes) (steps : ℕ) (spent : Bool) → IsConsistent s old changed steps spent → MayUndo s undo
+    → (now : State) (new : Standing) (spends : Bool) (filled voided : List Coord) → filled ≡ undo.filled.items → voided ≡ undo.voided.items → now ≡ state_before s undo
+    → (spends ≡ false → spent ≡ false) → (spends ≡ false → new.spent ≡ false) → (spends ≡ false → new.matrix ≡ matrix_before old.matrix filled voided) → IsConsistent now new changed undo.steps spends
+sound_restored s undo old changed steps spent sound may now new spends filled voided f u is was free tied = record {
+  stands = free;
+  tied = λ h. tied h ∙ ((λ i. matrix_before (sound.tied (was h) i) (f i) (u i)) ∙ ap (λ (x : State). x.matrix) (sym is));
+  room = sound.room;
+  seeds = subst (λ (x : State). x.profile.seeds ≤ 39) (sym is) may.before.seeds;
+  paid = subst (λ (x : State). IsEnergyBounded x.energy undo.steps) (sym is) may.before.paid;
+  few = may.before.few;
+}
+
 -- a machine may lose and gain the voxels of a note, as they are read from it
 module _ (s : State) (undo : Undo) (old : Standing) (changed : Changes) (steps : ℕ) (spent : Bool) (v : Situation) (sound : IsConsistent s old changed steps spent) (e : seen s steps spent ≡ v) (stands : v.spent ≡ false) (may : MayUndo v.state undo) where
   here : MayUndo s undo
@@ -120,14 +133,7 @@ module _ (s : State) (undo : Undo) (old : Standing) (changed : Changes) (steps :
 
   -- the machine's parts belong together again
   pub sound_back : (now : State) (new : Standing) (filled voided : List Coord) → filled ≡ undo.filled.items → voided ≡ undo.voided.items → now ≡ state_before s undo → new.spent ≡ false → new.matrix ≡ matrix_before old.matrix filled voided → IsConsistent now new changed undo.steps spent
-  sound_back now new filled voided f u is free tied = record {
-    stands = λ _. free;
-    tied = λ _. tied ∙ ((λ i. matrix_before (sound.tied unspent i) (f i) (u i)) ∙ ap (λ (x : State). x.matrix) (sym is));
-    room = sound.room;
-    seeds = subst (λ (x : State). x.profile.seeds ≤ 39) (sym is) here.before.seeds;
-    paid = subst (λ (x : State). IsEnergyBounded x.energy undo.steps) (sym is) here.before.paid;
-    few = here.before.few;
-  }
+  sound_back now new filled voided f u is free tied = sound_restored s undo old changed steps spent sound here now new spent filled voided f u is (λ h. h) (λ _. free) (λ _. tied)
 
   pub value_back : (now : State) → now ≡ state_before s undo → seen now undo.steps spent ≡ seen (state_before v.state undo) undo.steps false
   value_back now is = (λ i. seen (is i) undo.steps (unspent i)) ∙ ap (λ (w : Situation). seen (state_before w.state undo) undo.steps false) e

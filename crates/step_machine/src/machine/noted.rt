@@ -4,7 +4,8 @@ ghost use Rattle.nano_spec.specs.Act.{acts};
 ghost use Rattle.nano_spec.specs.Serial.{leader_bids, serial};
 ghost use Rattle.nano_spec.specs.State.{IsWellFormed};
 ghost use Rattle.step_machine.specs.Stepped.{Stepped};
-ghost use Rattle.step_machine.specs.Undoing.{HaveChanged, IsUndoneBy, MayUndo, state_before, without_note};
+ghost use Rattle.support_forest.specs.Standing.{MayAdd, MayRemove};
+ghost use Rattle.step_machine.specs.Undoing.{HaveChanged, IsUndoneBy, MayUndo, matrix_before, state_before, without_filled, without_note};
 
 use super::{Machine, StepFault, StepOk, know_step, made};
 use crate::order::take_turns;
@@ -13,7 +14,45 @@ use crate::undo::{Undo, settle_noted};
 use nano_spec::Command;
 use std::sync::ledger::Ledger;
 use step_order::every_order;
-use vox_geom::{Memory, Steps};
+use support_forest::Forest;
+use system_state::System;
+use vox_geom::{Coord, Memory, Steps};
+
+/// The system is again in the state that the note tells.
+fn put_back(system: &mut System, undo: &Undo)
+    requires { MayUndo system.old undo.now }
+    ensures { system.new ≡ state_before system.old undo.now }
+{
+    system.set_voxels(undo.filled.as_slice(), false);
+    system.set_voxels(undo.voided.as_slice(), true);
+    system.set_crew(undo.crew.copy());
+    system.set_harmonics(undo.harmonics);
+    system.set_energy(undo.energy);
+}
+
+/// The forest before the step of a note, unless the machine is spent or memory is refused: whether it is spent then.
+fn spent_back<L: Ledger>(
+    forest: &mut Forest,
+    filled: &[Coord],
+    voided: &[Coord],
+    spent: bool,
+    steps: &mut Steps<L>,
+) -> bool
+    requires stands { spent ≡ false → forest.old.spent ≡ false }
+    requires filled { spent ≡ false → MayRemove forest.old.matrix filled.now }
+    requires voided { spent ≡ false → MayAdd (without_filled forest.old.matrix filled.now) voided.now }
+    ensures was { result ≡ false → spent ≡ false }
+    ensures stands { result ≡ false → forest.new.spent ≡ false }
+    ensures value { result ≡ false → forest.new.matrix ≡ matrix_before forest.old.matrix filled.now voided.now }
+{
+    if spent {
+        return true;
+    }
+    match refit_back(forest, filled, voided, steps) {
+        Ok(()) => false,
+        Err(Memory) => true,
+    }
+}
 
 impl Machine {
     /// As [`Machine::step_in_order`], with a note by which the step can be taken back. Memory may be refused to every step.
@@ -89,12 +128,22 @@ impl Machine {
                 return Err(Memory);
             }
         }
-        self.system.set_voxels(filled, false);
-        self.system.set_voxels(voided, true);
-        self.system.set_crew(undo.crew.copy());
-        self.system.set_harmonics(undo.harmonics);
-        self.system.set_energy(undo.energy);
+        put_back(&mut self.system, undo);
         self.steps = undo.steps;
         Ok(())
+    }
+
+    /// Takes the step of a note back in every case: one that is spent stays so, and memory that is refused spends the machine.
+    pub fn restore<L: Ledger>(&mut self, undo: &Undo, steps: &mut Steps<L>)
+        requires { MayUndo self.old.state undo.now }
+        ensures state { self.new.state ≡ state_before self.old.state undo.now }
+        ensures steps { self.new.steps ≡ undo.now.steps }
+    {
+        let filled = undo.filled.as_slice();
+        let voided = undo.voided.as_slice();
+        let spent = spent_back(&mut self.forest, filled, voided, self.spent, steps);
+        put_back(&mut self.system, undo);
+        self.spent = spent;
+        self.steps = undo.steps;
     }
 }

@@ -12,11 +12,11 @@ returns-in-Ok-clause-kept g c =
     c.requires.kept c.in-Ok.ensures.stepped c.in-Ok.ensures.before c.in-Ok.ensures.counted c.in-Ok.ensures.undo c.push_back.ensures.items
 
 pub returns-in-Ok-clause-tries : goal.returns-in-Ok-clause-tries
-returns-in-Ok-clause-tries g c =
+returns-in-Ok-clause-tries g c = λ trace.
     made_noted c.args.machine.now c.step_noted.new.self c.args.notes.now c.push_back.new.self c.args.commands.now c.in-Ok.undo c.in-Ok.ok c.args.steps.now c.step_noted.new.steps
-    c.requires.kept c.in-Ok.ensures.stepped c.in-Ok.ensures.before c.in-Ok.ensures.counted c.in-Ok.ensures.undo c.push_back.ensures.items
+    c.requires.kept c.in-Ok.ensures.stepped c.in-Ok.ensures.before c.in-Ok.ensures.counted c.in-Ok.ensures.undo c.push_back.ensures.items trace
 
 pub returns-in-Err-clause-tries : goal.returns-in-Err-clause-tries
-returns-in-Err-clause-tries g c =
-    subst (λ (r : NoStep). Tries (kept_of c.args.machine.now c.args.notes.now) c.args.commands.now (kept_of c.step_noted.new.self c.args.notes.now) (Err r)) (sym c.of.ensures)
-    (refused_so c.args.machine.now c.step_noted.new.self c.args.notes.now c.args.commands.now c.in-Err.fault c.args.steps.now c.step_noted.new.steps c.requires.can c.in-Err.ensures.stepped)
+returns-in-Err-clause-tries g c = λ trace.
+    subst (λ (r : NoStep). Tries (kept_of c.args.machine.now c.args.notes.now trace) c.args.commands.now (kept_of c.step_noted.new.self c.args.notes.now trace) (Err r)) (sym c.of.ensures)
+    (refused_so c.args.machine.now c.step_noted.new.self c.args.notes.now c.args.commands.now trace c.in-Err.fault c.args.steps.now c.step_noted.new.steps c.requires.can c.in-Err.ensures.stepped)

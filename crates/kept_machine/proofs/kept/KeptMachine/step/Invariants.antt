@@ -1,4 +1,4 @@
 use Rattle.kept_machine.proofs.kept.KeptMachine.step.Given as goal
 
-abbrev pub ghosts-try_step : goal.ghosts-try_step
-ghosts-try_step a = record { name = a.blank.name; parts = a.blank.parts }
+abbrev pub ghosts-step_and_keep : goal.ghosts-step_and_keep
+ghosts-step_and_keep a = record { name = a.blank.name; parts = a.blank.parts }

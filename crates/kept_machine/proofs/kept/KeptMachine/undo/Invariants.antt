@@ -1,4 +1,4 @@
 use Rattle.kept_machine.proofs.kept.KeptMachine.undo.Given as goal
 
-abbrev pub ghosts-take_back : goal.ghosts-take_back
-ghosts-take_back a = record { name = a.blank.name; parts = a.blank.parts }
+abbrev pub ghosts-undo_and_shorten : goal.ghosts-undo_and_shorten
+ghosts-undo_and_shorten a = record { name = a.blank.name; parts = a.blank.parts }

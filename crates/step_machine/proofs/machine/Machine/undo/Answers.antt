@@ -1,5 +1,4 @@
-use Rattle.std.proofs.Common.{◌≡◌, rules, ap, true}
-use Rattle.step_machine.specs.Undoing.{state_before}
+use Rattle.std.proofs.Common.{ap, true}
 use Rattle.step_machine.specs.Situation.{Situation}
 use Rattle.step_machine.proofs.Stepping.{sound_spent}
 use Rattle.step_machine.proofs.Taking.{gain_slice, sound_back, touches_back, value_back}
@@ -12,15 +11,13 @@ refit_back-requires-clause-voided g c =
 
 pub invariant_of-self-2 : goal.invariant_of-self-2
 invariant_of-self-2 g c =
-    let back : c.set_energy.new.self ≡ state_before c.self.inside.system c.args.undo.now = search rules in
     sound_back c.self.inside.system c.args.undo.now c.self.inside.forest c.self.inside.changed c.self.inside.steps c.self.inside.spent c.args.self.now c.self.invariant c.self.view_is c.requires.stands c.requires.may
-    c.set_energy.new.self c.refit_back.new.forest c.as_slice-filled.result.now c.as_slice-voided.result.now c.as_slice-filled.ensures c.as_slice-voided.ensures back c.in-Ok.ensures.stands c.in-Ok.ensures.value
+    c.put_back.new.system c.refit_back.new.forest c.as_slice-filled.result.now c.as_slice-voided.result.now c.as_slice-filled.ensures c.as_slice-voided.ensures c.put_back.ensures c.in-Ok.ensures.stands c.in-Ok.ensures.value
 
 pub returns-clause-value : goal.returns-clause-value
 returns-clause-value g c =
-    let back : c.set_energy.new.self ≡ state_before c.self.inside.system c.args.undo.now = search rules in
     value_back c.self.inside.system c.args.undo.now c.self.inside.forest c.self.inside.changed c.self.inside.steps c.self.inside.spent c.args.self.now c.self.invariant c.self.view_is c.requires.stands c.requires.may
-    c.set_energy.new.self back
+    c.put_back.new.system c.put_back.ensures
 
 pub returns-clause-touches : goal.returns-clause-touches
 returns-clause-touches g c =

@@ -1,0 +1,40 @@
+//! How many voxels of two matrices differ, by a counter of touches that nobody reads.
+ghost use Rattle.std.specs.Prelude.{◌≡◌, ◌+◌, ◌<◌, ◌≤◌};
+ghost use Rattle.nano_spec.specs.Model.{volume as volume_of};
+ghost use Rattle.kept_machine.specs.Calls.{difference_count};
+
+use std::sync::ledger::{Blank, Ledger};
+use vox_geom::Steps;
+use vox_planes::Planes;
+
+/// How many voxels a matrix has.
+fn volume(matrix: &Planes) -> u32
+    ensures value { result ≡ volume_of matrix.now.resolution }
+    ensures most { result ≤ 64000000 }
+{
+    matrix.know();
+    let side = u32::from(matrix.resolution());
+    side * side * side
+}
+
+/// At how many coordinates two matrices differ: up to 64 voxels are looked at together.
+pub(crate) fn count_differences<L: Ledger>(matrix: &Planes, target: &Planes, blank: Blank) -> u32
+    requires same { matrix.now.resolution ≡ target.now.resolution }
+    requires name { blank.name ≡ L.name }
+    requires parts { blank.parts ≡ L.parts }
+    requires some { 0 < L.parts }
+    ensures { result ≡ difference_count matrix.now target.now }
+{
+    let mut steps = Steps::<L>::new(blank);
+    let places = volume(matrix);
+    let mut count = 0;
+    let mut from = 0;
+    while from < places {
+        let some = (places - from).min(64);
+        let here = matrix.places(from, some, &mut steps);
+        let there = target.places(from, some, &mut steps);
+        count += (here ^ there).count_ones();
+        from += some;
+    }
+    count
+}

@@ -1,0 +1,42 @@
+-- How many voxels of a machine's matrix differ from a target.
+use Rattle.std.specs.Prelude.{◌≡◌, ◌≢◌, ℕ, List, Option, Some, None, Ok, Err}
+use Rattle.nano_spec.specs.Matrix.{Matrix}
+use Rattle.nano_spec.specs.Model.{model}
+use Rattle.model_file.specs.declared.fault.ModelFault.TheVariants as model_fault
+use Rattle.model_file.specs.Fault.{ReadsModel}
+use Rattle.kept_machine.specs.Calls.{difference_count}
+use Rattle.kept_machine.specs.Kept.{Kept}
+use Rattle.machine_c.specs.declared.counting.CountAnswer.{CountAnswer}
+use Rattle.machine_c.specs.declared.counting.CountAnswer.TheVariants.{Counted, Unlike, Refused}
+use Rattle.machine_c.specs.declared.status.TheConstants.{DONE, MEMORY, MODEL, NO_MACHINE, RESOLUTION}
+use Rattle.machine_c.specs.declared.told.ModelTold.{ModelTold}
+use Rattle.machine_c.specs.Told.{fault_told, number_refusal}
+
+-- what is counted of the bytes of a target beside a matrix; the target need not be legal
+abbrev pub Counts : Kept → List ℕ → CountAnswer → Type 0
+Counts k bytes (Counted count) =
+    (m : Matrix) × (model bytes ≡ Ok m) × (m.resolution ≡ k.state.matrix.resolution) × (count ≡ difference_count k.state.matrix m)
+Counts k bytes Unlike = (m : Matrix) × (model bytes ≡ Ok m) × (m.resolution ≢ k.state.matrix.resolution)
+Counts k bytes (Refused fault) = ReadsModel (model bytes) (Err fault)
+
+-- the status, the number, and the refusal
+abbrev pub status_of_count : CountAnswer → ℕ
+status_of_count (Counted count) = DONE
+status_of_count Unlike = RESOLUTION
+status_of_count (Refused model_fault.Memory) = MEMORY
+status_of_count (Refused _) = MODEL
+
+abbrev pub differences_by : CountAnswer → ℕ
+differences_by (Counted count) = count
+differences_by _ = 0
+
+abbrev pub refusal_of_count : CountAnswer → ModelTold
+refusal_of_count (Refused fault) = fault_told fault
+refusal_of_count _ = number_refusal 0 0 0
+
+-- it is told at how many coordinates the matrix of a machine and a target differ
+abbrev pub AreDifferencesTold : Option Kept → List ℕ → ℕ → ℕ → ModelTold → ModelTold → ℕ → Type 0
+AreDifferencesTold None bytes before after refusal_before refusal status = (after ≡ before) × (refusal ≡ refusal_before) × (status ≡ NO_MACHINE)
+AreDifferencesTold (Some k) bytes before after refusal_before refusal status =
+    (answer : CountAnswer) × Counts k bytes answer
+    × (after ≡ differences_by answer) × (refusal ≡ refusal_of_count answer) × (status ≡ status_of_count answer)

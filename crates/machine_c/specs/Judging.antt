@@ -1,0 +1,37 @@
+-- Steps that are judged and not made.
+use Rattle.std.specs.Prelude.{◌≡◌, ℕ, ℤ, List, Option, Some, None}
+use Rattle.nano_spec.specs.declared.commands.Command.{Command}
+use Rattle.kept_machine.specs.Kept.{Kept}
+use Rattle.machine_c.specs.declared.status.TheConstants.{NO_MACHINE}
+use Rattle.machine_c.specs.declared.stepping.StepAnswer.{StepAnswer}
+use Rattle.machine_c.specs.declared.stepping.StepAnswer.TheVariants.{Made}
+use Rattle.machine_c.specs.declared.told.JudgedTold.{JudgedTold}
+use Rattle.machine_c.specs.Calls.{ComesTo, StepComesTo, bit_of, offset_by, rule_told, status_of_step}
+
+-- what a step of commands, or of the bytes of commands, would come to: the same as one that is made, whichever machine that would leave
+abbrev pub WouldStep : Kept → List Command → StepAnswer → Type 0
+WouldStep k commands answer = (next : Kept) × StepComesTo k commands next answer
+
+abbrev pub WouldComeTo : Kept → List ℕ → StepAnswer → Type 0
+WouldComeTo k bytes answer = (next : Kept) × ComesTo k bytes next answer
+
+-- the energy that the machine would have, which a step that would be refused leaves as it is
+abbrev pub energy_by : ℤ → StepAnswer → ℤ
+energy_by energy (Made ok) = ok.energy
+energy_by energy _ = energy
+
+-- 1 where the step would leave no bot
+abbrev pub halts_by : StepAnswer → ℕ
+halts_by (Made ok) = bit_of ok.halted
+halts_by _ = 0
+
+-- what is told of a step that is judged
+abbrev pub judged_told : Kept → StepAnswer → JudgedTold
+judged_told k answer =
+    record { energy = energy_by k.state.energy answer; offset = offset_by answer; halts = halts_by answer; broken = rule_told answer }
+
+-- a step of the bytes is judged
+abbrev pub IsJudged : Option Kept → List ℕ → JudgedTold → JudgedTold → ℕ → Type 0
+IsJudged None bytes before after status = (after ≡ before) × (status ≡ NO_MACHINE)
+IsJudged (Some k) bytes before after status =
+    (answer : StepAnswer) × WouldComeTo k bytes answer × (after ≡ judged_told k answer) × (status ≡ status_of_step answer)

@@ -1,0 +1,91 @@
+//! How many voxels of a machine's matrix differ from a target.
+ghost use Rattle.std.specs.Prelude.{◌≡◌};
+ghost use Rattle.machine_c.specs.Counting.{AreDifferencesTold, Counts, differences_by, refusal_of_count, status_of_count};
+
+use crate::handle::Handle;
+use crate::status::{DONE, MEMORY, MODEL, NO_MACHINE, RESOLUTION};
+use crate::told::ModelTold;
+use kept_machine::KeptMachine;
+use model_file::{ModelFault, read_model};
+use std::alloc::Global;
+
+/// What is counted of a target.
+#[derive(Clone, Copy)]
+pub enum CountAnswer {
+    /// The matrix and the target differ at so many coordinates.
+    Counted(u32),
+    /// The target is of another resolution.
+    Unlike,
+    /// The bytes are no model.
+    Refused(ModelFault),
+}
+
+impl CountAnswer {
+    /// The status of the answer.
+    fn status(self) -> u32
+        ensures { result ≡ status_of_count self }
+    {
+        match self {
+            CountAnswer::Counted(_) => DONE,
+            CountAnswer::Unlike => RESOLUTION,
+            CountAnswer::Refused(ModelFault::Memory) => MEMORY,
+            CountAnswer::Refused(_) => MODEL,
+        }
+    }
+
+    /// At how many coordinates they differ.
+    fn differences(self) -> u32
+        ensures { result ≡ differences_by self }
+    {
+        match self {
+            CountAnswer::Counted(count) => count,
+            _ => 0,
+        }
+    }
+
+    /// The refusal of the bytes.
+    fn refusal(self) -> ModelTold
+        ensures { result ≡ refusal_of_count self }
+    {
+        match self {
+            CountAnswer::Refused(fault) => ModelTold::of(fault),
+            _ => ModelTold::none(),
+        }
+    }
+}
+
+/// Counts where the matrix and the model that the bytes say differ.
+fn count_differences(alloc: Global, machine: &KeptMachine, target: &[u8]) -> CountAnswer
+    ensures { Counts machine.now target.now result }
+{
+    let planes = match read_model(alloc, target) {
+        Ok(planes) => planes,
+        Err(fault) => return CountAnswer::Refused(fault),
+    };
+    if planes.resolution() != machine.matrix().resolution() {
+        return CountAnswer::Unlike;
+    }
+    CountAnswer::Counted(machine.differences(&planes))
+}
+
+/// Tells at how many coordinates the matrix and the model that the bytes say differ.
+#[unsafe(no_mangle)]
+pub extern "C" fn nanobot_machine_differences(
+    alloc: Global,
+    handle: &mut Handle,
+    target: &[u8],
+    count: &mut u32,
+    refusal: &mut ModelTold,
+) -> u32
+    ensures same { handle.new.machine ≡ handle.old.machine }
+    ensures told { AreDifferencesTold handle.old.machine target.now count.old count.new refusal.old refusal.new result }
+{
+    let Some(machine) = handle.take(alloc) else {
+        return NO_MACHINE;
+    };
+    let answer = count_differences(alloc, &machine, target);
+    handle.put(machine);
+    *count = answer.differences();
+    *refusal = answer.refusal();
+    answer.status()
+}

@@ -1,0 +1,183 @@
+// A search over two machines, from C++, as search.c is from C: `search T B` builds towards the model T by steps that look best two moves
+// deep, stores the trace that it made as B, and prints what `nanobot run - T B` prints of it.
+#include "nanobot_machine.h"
+
+#include <cstdio>
+#include <cstdlib>
+#include <fstream>
+#include <iterator>
+#include <limits>
+#include <string>
+#include <utility>
+#include <vector>
+
+using Bytes = std::vector<std::uint8_t>;
+using Score = std::pair<std::uint32_t, std::int64_t>; // how many voxels are wrong, and the energy
+
+static const int steps = 12;
+
+static void must(std::uint32_t status)
+{
+    if (status != NANOBOT_DONE)
+        std::exit(static_cast<int>(status));
+}
+
+static void require(bool holds)
+{
+    if (!holds)
+        std::abort();
+}
+
+// Owns a machine over the empty model, or a copy of one.
+class Machine {
+public:
+    explicit Machine(std::uint32_t resolution)
+    {
+        must(nanobot_machine_start_empty(resolution, false, 2, &handle));
+        must(nanobot_machine_keep(&handle));
+    }
+    Machine(Machine &other) { must(nanobot_machine_copy(&other.handle, &handle)); }
+    Machine &operator=(const Machine &) = delete;
+    ~Machine() { nanobot_machine_end(&handle); }
+
+    nanobot_state state()
+    {
+        nanobot_state told;
+        must(nanobot_machine_tell(&handle, &told));
+        return told;
+    }
+    bool judge(const Bytes &commands, nanobot_judged &told)
+    {
+        return nanobot_machine_judge(&handle, commands.data(), commands.size(), &told) == NANOBOT_DONE;
+    }
+    nanobot_step step(const Bytes &commands)
+    {
+        nanobot_step told;
+        must(nanobot_machine_step(&handle, commands.data(), commands.size(), &told));
+        return told;
+    }
+    void undo() { must(nanobot_machine_undo(&handle)); }
+    Score score(const Bytes &target)
+    {
+        nanobot_refusal refusal;
+        std::uint32_t wrong;
+        must(nanobot_machine_differences(&handle, target.data(), target.size(), &wrong, &refusal));
+        return {wrong, state().energy};
+    }
+    Bytes trace()
+    {
+        Bytes bytes(2 * steps + 2);
+        std::size_t size;
+        must(nanobot_machine_trace(&handle, bytes.data(), bytes.size(), &size));
+        bytes.resize(size);
+        return bytes;
+    }
+    std::uint32_t count()
+    {
+        std::uint32_t told;
+        must(nanobot_machine_count(&handle, &told));
+        return told;
+    }
+    bool full(std::uint32_t x, std::uint32_t y, std::uint32_t z)
+    {
+        std::uint32_t told;
+        must(nanobot_machine_full(&handle, x, y, z, &told));
+        return told == 1;
+    }
+    bool grounded(std::uint32_t x, std::uint32_t y, std::uint32_t z)
+    {
+        std::uint32_t level;
+        return nanobot_machine_level(&handle, x, y, z, &level) == NANOBOT_DONE;
+    }
+    nanobot_bot bot()
+    {
+        nanobot_bot told;
+        std::size_t count;
+        must(nanobot_machine_bots(&handle, &told, 1, &count));
+        return told;
+    }
+
+private:
+    nanobot_machine handle = {nullptr};
+};
+
+// The fills of all near coordinates, and the moves by one.
+static std::vector<Bytes> list_moves()
+{
+    std::vector<Bytes> moves;
+    for (int code = 0; code < 27; code++) {
+        int length = std::abs(code / 9 - 1) + std::abs(code / 3 % 3 - 1) + std::abs(code % 3 - 1);
+        if (length == 1 || length == 2)
+            moves.push_back({static_cast<std::uint8_t>(code << 3 | 3)});
+    }
+    for (int axis = 1; axis <= 3; axis++)
+        for (int way : {-1, 1})
+            moves.push_back({static_cast<std::uint8_t>(axis << 4 | 4), static_cast<std::uint8_t>(way + 15)});
+    return moves;
+}
+
+// The best score that so many moves lead to, and the first of them.
+static std::pair<Score, const Bytes *> search(Machine &machine, const Bytes &target, const std::vector<Bytes> &moves, int depth)
+{
+    std::pair<Score, const Bytes *> best = {{std::numeric_limits<std::uint32_t>::max(), 0}, nullptr};
+    if (depth == 0)
+        return {machine.score(target), nullptr};
+    for (const Bytes &move : moves) {
+        nanobot_judged judged;
+        if (!machine.judge(move, judged))
+            continue;
+        require(machine.step(move).energy == judged.energy);
+        Score score = search(machine, target, moves, depth - 1).first;
+        machine.undo();
+        if (score < best.first)
+            best = {score, &move};
+    }
+    return best;
+}
+
+// Both machines stand alike, and the trace is that of its own text.
+static void check(Machine &made, Machine &scout, const Bytes &trace)
+{
+    nanobot_state a = made.state(), b = scout.state();
+    require(a.energy == b.energy && a.steps == b.steps && made.count() == scout.count() && nanobot_version() >= 900);
+    for (std::uint32_t x = 0; x < a.resolution; x++)
+        require(made.full(x, 0, 1) == made.grounded(x, 0, 1));
+    Bytes text(18 * trace.size() + 100), again(trace.size() + 100);
+    std::size_t size, size_again;
+    must(nanobot_dis(trace.empty() ? NANOBOT_NONE : trace.data(), trace.size(), text.data(), text.size(), &size));
+    must(nanobot_asm(text.data(), size, again.data(), again.size(), &size_again));
+    again.resize(size_again);
+    require(again == trace);
+}
+
+int main(int count, char **words)
+{
+    if (count != 3)
+        return NANOBOT_WORDS;
+    std::ifstream file(words[1], std::ios::binary);
+    const Bytes target((std::istreambuf_iterator<char>(file)), {}), halt = {0xff};
+    std::uint32_t resolution = target.size() > 2 && target[0] == 0xff ? target[1] * 256u + target[2] : target[0];
+    const std::vector<Bytes> moves = list_moves();
+    Machine made(resolution), scout(made);
+    nanobot_judged judged;
+    for (int i = 0; i < steps && made.score(target).first > 0; i++) {
+        const Bytes &best = *search(scout, target, moves, 2).second;
+        made.step(best);
+        scout.step(best);
+    }
+    if (made.score(target).first == 0 && made.judge(halt, judged)) {
+        made.step(halt);
+        scout.step(halt);
+    }
+    Bytes trace = made.trace();
+    check(made, scout, trace);
+    std::ofstream(words[2], std::ios::binary).write(reinterpret_cast<const char *>(trace.data()), static_cast<std::streamsize>(trace.size()));
+    nanobot_state state = made.state();
+    if (state.active == 0) {
+        std::printf("ok energy %lld steps %u\n", static_cast<long long>(state.energy), state.steps);
+        return NANOBOT_DONE;
+    }
+    nanobot_bot bot = made.bot();
+    std::printf("broken 1 TraceEnds step %u bid %u at %u %u %u\n", state.steps + 1, bot.bid, bot.x, bot.y, bot.z);
+    return NANOBOT_BROKEN;
+}

@@ -1,0 +1,87 @@
+#!/usr/bin/env python3
+"""A search over two machines, from Python, as search.c is from C: `search.py T B` builds towards the model T by steps that look best two
+moves deep, stores the trace that it made as B, and prints what `nanobot run - T B` prints of it. It needs the package of
+bindings/python."""
+
+import sys
+
+import nanobot
+from nanobot import BrokenRule, Machine, NanobotError
+from nanobot.machine import bytes_of
+from nanobot.models import resolution_of
+
+STEPS, HALT = 12, b"\xff"
+
+
+def moves():
+    """The fills of all near coordinates, and the moves by one."""
+    for code in range(27):
+        if sum(abs(n - 1) for n in (code // 9, code // 3 % 3, code % 3)) in (1, 2):
+            yield bytes([code << 3 | 3])
+    for axis in (1, 2, 3):
+        for way in (-1, 1):
+            yield bytes([axis << 4 | 4, way + 15])
+
+
+def score(machine, target):
+    """How good a state is: first how many voxels are wrong, then the energy."""
+    return machine.differences(target), machine.energy
+
+
+def accepts(machine, commands):
+    """What the step would come to; None where it is refused."""
+    try:
+        return machine.judge(commands)
+    except NanobotError:
+        return None
+
+
+def search(machine, target, depth):
+    """The best score that so many moves lead to, and the first of them."""
+    if depth == 0:
+        return score(machine, target), b""
+    best = (2**32, 0), b""
+    for move in moves():
+        judged = accepts(machine, move)
+        if not judged:
+            continue
+        assert machine.step(move).energy == judged.energy
+        found = search(machine, target, depth - 1)[0]
+        machine.undo()
+        if found < best[0]:
+            best = found, move
+    return best
+
+
+def check(made, scout, trace):
+    """Both machines stand alike, and the trace is that of its own text."""
+    assert made.state[:5] == scout.state[:5] and made.count() == scout.count() and nanobot.version() >= "0.9.0"
+    assert all(made.full((x, 0, 1)) == (made.level((x, 0, 1)) is not None) for x in range(made.state.resolution))
+    assert nanobot.asm(nanobot.dis(trace)) == trace
+
+
+def main():
+    target = bytes_of(sys.argv[1])
+    with Machine(resolution=resolution_of(target), notes=2, trace=True) as made, made.copy() as scout:
+        for _ in range(STEPS):
+            if not made.differences(target):
+                break
+            move = search(scout, target, 2)[1]
+            made.step(move)
+            scout.step(move)
+        if not made.differences(target) and accepts(made, HALT):
+            made.step(HALT)
+            scout.step(HALT)
+        trace = made.trace()
+        check(made, scout, trace)
+        with open(sys.argv[2], "wb") as file:
+            file.write(trace)
+        bots = made.bots()
+        if not bots:
+            print(f"ok energy {made.energy} steps {made.steps}")
+            return 0
+        print(BrokenRule(1, made.steps + 1, bots[0].bid, bots[0].at))
+        return 1
+
+
+sys.exit(main())
