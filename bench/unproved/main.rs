@@ -13,6 +13,7 @@ mod plan_choice;
 mod plan_tape;
 mod run_progress;
 mod shim;
+mod squad_plans;
 mod step_groups;
 mod step_machine;
 mod step_order;
