@@ -50,11 +50,15 @@ fn stack<L: Ledger>(
     true
 }
 
-/// The slot of the brick of the voxel under one.
-fn slot_under(cells: &Cells, c: Coord) -> Option<u32>
-    requires { IsInSpace cells.now.resolution c }
+/// The slot of the brick of the voxel under one. `own` is the slot of the voxel's own brick, which mostly is the same.
+fn slot_under(cells: &Cells, c: Coord, own: u32) -> Option<u32>
+    requires within { IsInSpace cells.now.resolution c }
+    requires own { slot_of cells.now c ≡ Some own }
     ensures { 0 < c.y → result ≡ slot_of cells.now (under_of c) }
 {
+    if c.y % BRICK_SIDE != 0 {
+        return Some(own);
+    }
     if c.y == 0 {
         return None;
     }
@@ -224,7 +228,7 @@ fn stack_part<L: Ledger>(
         return Ok(());
     }
     let own = cells.take_slot(first)?;
-    let below = slot_under(cells, first);
+    let below = slot_under(cells, first, own);
     if is_pile(cells, first, count, bits, below, steps) {
         pile_row(cells, planes, first, own, steps);
         return Ok(());
