@@ -4,7 +4,7 @@ use crate::vox_geom::{Memory, Steps};
 
 pub const CHUNK_SLOTS: usize = 64;
 pub const CHUNK_WORDS: usize = 32_768;
-pub const LINE_WORDS: usize = 16;
+pub const ROW_WORDS: usize = 8;
 
 pub struct Chunk {
     words: Box<[u32; CHUNK_WORDS]>,
@@ -18,21 +18,26 @@ impl Chunk {
 
     #[inline(always)]
     pub fn peek(&self, index: usize) -> u32 {
-        self.words[index]
+        unsafe { *self.words.get_unchecked(index) }
     }
 
     #[inline(always)]
     pub fn word<L: Ledger>(&self, index: usize, steps: &mut Steps<L>) -> u32 {
         steps.tick();
-        self.words[index]
+        unsafe { *self.words.get_unchecked(index) }
     }
 
     #[inline(always)]
     pub fn set_word(&mut self, index: usize, word: u32) {
-        self.words[index] = word;
+        unsafe { *self.words.get_unchecked_mut(index) = word }
     }
 
-    pub fn set_zeros(&mut self, start: usize, lines: usize) {
-        self.words[start..start + lines * LINE_WORDS].fill(0);
+    #[inline(always)]
+    pub fn set_row(&mut self, index: usize, word: u32) {
+        unsafe { (self.words.as_mut_ptr().cast::<u32>().add(index) as *mut [u32; 8]).write_unaligned([word; 8]) }
+    }
+
+    pub fn set_zeros(&mut self, start: usize, rows: usize) {
+        self.words[start..start + rows * ROW_WORDS].fill(0);
     }
 }

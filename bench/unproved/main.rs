@@ -1,5 +1,5 @@
 //! `run S T B` over files, or `PLANNER S T B`, by the code without its clauses: the verdict, or the plan's size, and how long each
-//! part took.
+//! part took; `make N R M` stores a forged model.
 #![allow(dead_code, unused_variables, unused_imports, unused_mut)]
 mod brick_arena;
 mod bot_crew;
@@ -8,11 +8,13 @@ mod group_planner;
 mod layer_planner;
 mod low_planner;
 mod model_file;
+mod model_forge;
 mod nano_spec;
 mod plan_choice;
 mod plan_tape;
 mod run_progress;
 mod shim;
+mod squad_plans;
 mod step_groups;
 mod step_machine;
 mod step_order;
@@ -29,7 +31,8 @@ use group_planner::{plan_groups, rows, runs};
 use layer_planner::plan_layers;
 use plan_choice::{choose_group_plan, choose_layer_plan, choose_low_plan, choose_swarm_plan, choose_void_plan};
 use low_planner::plan_low;
-use model_file::{legal, read_model};
+use model_file::{legal, read_model, write_model};
+use model_forge::forge;
 use nano_spec::Profile;
 use shim::{Blank, Brand, Global};
 use std::time::Instant;
@@ -233,11 +236,19 @@ fn plan(words: &[String]) {
     );
 }
 
+/// `make N R M`.
+fn make(words: &[String]) {
+    let (number, r) = (words[1].parse().expect("a number"), words[2].parse().expect("a resolution"));
+    let planes = forge(Global, number, r).ok().expect("memory");
+    let bytes = write_model(Global, &planes).ok().expect("memory");
+    std::fs::write(&words[3], bytes.as_slice()).expect("a file");
+}
+
 fn main() {
     let words: Vec<String> = std::env::args().skip(1).collect();
-    if words[0] == "run" {
-        run(&words);
-    } else {
-        plan(&words);
+    match words[0].as_str() {
+        "run" => run(&words),
+        "make" => make(&words),
+        _ => plan(&words),
     }
 }

@@ -1,4 +1,4 @@
--- The words of a chunk in which every place holds one, and what writing zeros into a range makes of them.
+-- The words of a chunk in which every place holds one, and what writing one word into a range makes of them.
 use Rattle.std.proofs.Common.{◌≡◌, ℕ, ◌<◌, suc, zero, List, [], ◌∷◌, refl, sym, ap, ◌∙◌, arith, true, Some, None, Option, length, get_or, set, length-set, inl, inr}
 use Rattle.std.proofs.lemmas.Bool.{cases_lt}
 use Rattle.std.proofs.lemmas.List.{get_or_past}
@@ -40,7 +40,7 @@ filled-set cs i w all k lt = let e = length-set cs i (Some w) in stays cs i k w 
     stays (c ∷ cs) (suc i) zero w e = e
     stays (c ∷ cs) (suc i) (suc k) w e = stays cs i k w e
 
-module _ (old new : List (Option ℕ)) (start end : ℕ) (range : SetsRange (Some 0) None old new start end) where
+module _ (w : ℕ) (old new : List (Option ℕ)) (start end : ℕ) (range : SetsRange (Some w) None old new start end) where
   pub filled-range : AllFilled old → AllFilled new
   filled-range all k lt =
       elim (cases_lt k start) [
@@ -51,10 +51,10 @@ module _ (old new : List (Option ℕ)) (start end : ℕ) (range : SetsRange (Som
         ]
       ]
 
-  pub known-range : SetsRange 0 0 (known old) (known new) start end
+  pub known-range : SetsRange w 0 (known old) (known new) start end
   known-range = record {
     same_length = known-length new ∙ range.same_length ∙ sym (known-length old);
-    inside = λ k from to. known-get new k 0 (range.inside k from to);
+    inside = λ k from to. known-get new k w (range.inside k from to);
     below = λ k before. known-index new k ∙ ap word_or_zero (range.below k before) ∙ sym (known-index old k);
     above = λ k after. known-index new k ∙ ap word_or_zero (range.above k after) ∙ sym (known-index old k);
   }

@@ -1,15 +1,27 @@
--- What a write of one word of a live slot does.
-use Rattle.std.proofs.Common.{◌≡◌, ℕ, ◌+◌, ◌*◌, ◌<◌, ◌≤◌, true, false, List, refl, sym, ap, ◌∙◌, subst, arith, Some, is_some, set}
-use Rattle.std.specs.FinMap.{insert, len}
+-- What writes into a live slot do.
+use Rattle.std.proofs.Common.{◌≡◌, ℕ, zero, suc, ◌+◌, ◌-◌, ◌*◌, ◌<◌, ◌≤◌, ◌⊎◌, inl, inr, true, false, List, [], length, length-set, get_or, refl, sym, ap, ◌∙◌, subst, arith, Option, Some, None, is_some, unwrap_or, set}
+use Rattle.std.proofs.lemmas.Bool.{cases_lt, cases_eq}
+use Rattle.std.proofs.lemmas.List.{ext_get_or, get_or-set_same, get_or-set_other}
+use Rattle.std.specs.FinMap.{get, insert, len}
 use Rattle.brick_arena.specs.Arena.{is_listed, AreDistinct, chain, slot_words, live_slots, view_of, IsArena}
-use Rattle.brick_arena.specs.Chunks.{chunk_word, IsStored}
-use Rattle.brick_arena.specs.Slots.{Slots, words_of}
+use Rattle.brick_arena.specs.Chunks.{chunk_word, AreChunks, IsRowStored, IsStored}
+use Rattle.brick_arena.specs.Slots.{Slots, IsLive, with_row, words_of}
 use Rattle.brick_arena.proofs.Chains.{chain-stays}
-use Rattle.brick_arena.proofs.LiveSlots.{get_live, inserted, len_replaced, same_slot}
-use Rattle.brick_arena.proofs.Rows.{row-same, row-set}
+use Rattle.brick_arena.proofs.LiveSlots.{get-insert_here, get-insert_other, get_live, inserted, len_replaced, same_slot}
+use Rattle.brick_arena.proofs.Rows.{get-row, length-row, row-same, row-set}
 use Rattle.brick_arena.proofs.Standing.{words-live}
 
-module _ (cs ds : List (List ℕ)) (free vacant reached s i w p : ℕ) (old : IsArena cs free vacant reached) (stored : IsStored cs ds p w) (at : p ≡ s * 512 + i) (li : i < 512)
+-- ---- the words of one slot become others
+
+-- the place is of another slot
+abbrev pub IsElsewhere : ℕ → ℕ → Type 0
+IsElsewhere s q = (q < 512 * s) ⊎ (512 * s + 512 ≤ q)
+
+elsewhere : (s t k : ℕ) → (t ≡ s → ⊥) → k < 512 → IsElsewhere s (512 * t + k)
+elsewhere s t k ne l = elim (cases_lt t s) [ inl b ↦ inl (omega arith) | inr b ↦ inr (let c : s < t = elim (cases_lt s t) [ inl d ↦ d | inr d ↦ absurd (ne (omega arith)) ] in omega arith) ]
+
+module _ (cs ds : List (List ℕ)) (free vacant reached s : ℕ) (ws : List ℕ) (old : IsArena cs free vacant reached) (same_length : length ds ≡ length cs) (chunks : AreChunks ds)
+    (here : slot_words (chunk_word ds) s ≡ ws) (others : (q : ℕ) → IsElsewhere s q → chunk_word ds q ≡ chunk_word cs q)
     (lt : s < reached) (live : is_listed s (chain (chunk_word cs) free vacant) ≡ false) where
   abbrev m : ℕ → ℕ
   m = chunk_word cs
@@ -23,42 +35,153 @@ module _ (cs ds : List (List ℕ)) (free vacant reached s i w p : ℕ) (old : Is
   abbrev v : Slots
   v = view_of cs free vacant reached
 
-  here : m' (512 * s + i) ≡ w
-  here = let e : 512 * s + i ≡ p = omega (arith, at) in ap m' e ∙ stored.here
+  kept_words : (t : ℕ) → (t ≡ s → ⊥) → slot_words m' t ≡ slot_words m t
+  kept_words t ne = row-same m m' (512 * t) 512 (λ k lk. others (512 * t + k) (elsewhere s t k ne lk))
 
-  others : (q : ℕ) → (q ≡ 512 * s + i → ⊥) → m' q ≡ m q
-  others q ne = stored.others q (λ e. ne (omega (arith, e, at)))
+  first_stays : (t : ℕ) → (t ≡ s → ⊥) → m' (512 * t) ≡ m (512 * t)
+  first_stays t ne = let e : 512 * t ≡ 512 * t + 0 = omega arith in ap m' e ∙ (others (512 * t + 0) (elsewhere s t 0 ne (omega arith)) ∙ ap m (sym e))
 
-  words_set : slot_words m' s ≡ set (slot_words m s) i w
-  words_set = row-set m m' (512 * s) 512 i w li here (λ k lk ne. others (512 * s + k) (λ e. ne (omega (arith, e))))
+  kept_links : chain m' free vacant ≡ fs
+  kept_links = chain-stays m m' s free vacant first_stays live
 
-  pub words_stay : (t : ℕ) → (t ≡ s → ⊥) → slot_words m' t ≡ slot_words m t
-  words_stay t ne = row-same m m' (512 * t) 512 (λ k lk. others (512 * t + k) (λ e. ne (omega (arith, e, lk, li))))
-
-  pub links : chain m' free vacant ≡ fs
-  links = chain-stays m m' s free vacant (λ t ne. others (512 * t) (λ e. ne (omega (arith, e, li)))) live
-
-  pub view_written : view_of ds free vacant reached ≡ insert v s (set (words_of v s) i w)
-  view_written =
-      ap (λ l. live_slots m' l reached) links
-      ∙ inserted v s (live_slots m' fs reached) (set (words_of v s) i w)
-      (get_live m' fs reached s lt live ∙ ap Some (words_set ∙ ap (λ ws. set ws i w) (sym (words-live cs free vacant reached old s lt live))))
-      (λ q ne. same_slot m m' fs fs reached reached q (λ l. l) (λ l. l) refl (λ _. words_stay q ne))
+  view_changed : view_of ds free vacant reached ≡ insert v s ws
+  view_changed =
+      ap (λ l. live_slots m' l reached) kept_links
+      ∙ inserted v s (live_slots m' fs reached) ws (get_live m' fs reached s lt live ∙ ap Some here)
+      (λ q ne. same_slot m m' fs fs reached reached q (λ l. l) (λ l. l) refl (λ _. kept_words q ne))
 
   same_count : len (view_of ds free vacant reached) ≡ len v
-  same_count = ap len view_written ∙ len_replaced v s (set (words_of v s) i w) (ap is_some (get_live m fs reached s lt live))
+  same_count = ap len view_changed ∙ len_replaced v s ws (ap is_some (get_live m fs reached s lt live))
 
-  -- no word past the reached slots changes
-  pub past_stay : (q : ℕ) → 512 * reached ≤ q → m' q ≡ m q
-  past_stay q past = others q (λ e. absurd (omega (arith, e, past, lt, li)))
-
-  pub arena_written : IsArena ds free vacant reached
-  arena_written = record {
-    chunks = stored.chunks;
-    room = subst (λ n. reached ≤ 64 * n) (sym stored.same_length) old.room;
+  arena_changed : IsArena ds free vacant reached
+  arena_changed = record {
+    chunks = chunks;
+    room = subst (λ n. reached ≤ 64 * n) (sym same_length) old.room;
     limit = old.limit;
-    below = subst (λ l. (t : ℕ) → is_listed t l ≡ true → t < reached) (sym links) old.below;
-    distinct = subst AreDistinct (sym links) old.distinct;
-    blank = λ q past. past_stay q past ∙ old.blank q past;
+    below = subst (λ l. (t : ℕ) → is_listed t l ≡ true → t < reached) (sym kept_links) old.below;
+    distinct = subst AreDistinct (sym kept_links) old.distinct;
+    blank = λ q past. others q (inr (omega (arith, past, lt))) ∙ old.blank q past;
     count = omega (arith, old.count, same_count);
   }
+
+-- ---- one word
+
+module _ (cs ds : List (List ℕ)) (free vacant reached s i w p : ℕ) (old : IsArena cs free vacant reached) (stored : IsStored cs ds p w) (at : p ≡ s * 512 + i) (li : i < 512)
+    (lt : s < reached) (live : is_listed s (chain (chunk_word cs) free vacant) ≡ false) where
+  others : (q : ℕ) → (q ≡ 512 * s + i → ⊥) → chunk_word ds q ≡ chunk_word cs q
+  others q ne = stored.others q (λ e. ne (omega (arith, e, at)))
+
+  word_here : chunk_word ds (512 * s + i) ≡ w
+  word_here = let e : 512 * s + i ≡ p = omega (arith, at) in ap (chunk_word ds) e ∙ stored.here
+
+  words_set : slot_words (chunk_word ds) s ≡ set (words_of (view_of cs free vacant reached) s) i w
+  words_set =
+      row-set (chunk_word cs) (chunk_word ds) (512 * s) 512 i w li word_here (λ k lk ne. others (512 * s + k) (λ e. ne (omega (arith, e))))
+      ∙ ap (λ ws. set ws i w) (sym (words-live cs free vacant reached old s lt live))
+
+  apart : (q : ℕ) → IsElsewhere s q → chunk_word ds q ≡ chunk_word cs q
+  apart q (inl b) = others q (λ e. absurd (omega arith))
+  apart q (inr b) = others q (λ e. absurd (omega arith))
+
+  pub words_stay : (t : ℕ) → (t ≡ s → ⊥) → slot_words (chunk_word ds) t ≡ slot_words (chunk_word cs) t
+  words_stay = kept_words cs ds free vacant reached s _ old stored.same_length stored.chunks words_set apart lt live
+
+  pub links : chain (chunk_word ds) free vacant ≡ chain (chunk_word cs) free vacant
+  links = kept_links cs ds free vacant reached s _ old stored.same_length stored.chunks words_set apart lt live
+
+  -- no word past the reached slots changes
+  pub past_stay : (q : ℕ) → 512 * reached ≤ q → chunk_word ds q ≡ chunk_word cs q
+  past_stay q past = apart q (inr (omega (arith, past, lt)))
+
+  pub view_written : view_of ds free vacant reached ≡ insert (view_of cs free vacant reached) s (set (words_of (view_of cs free vacant reached) s) i w)
+  view_written = view_changed cs ds free vacant reached s _ old stored.same_length stored.chunks words_set apart lt live
+
+  pub arena_written : IsArena ds free vacant reached
+  arena_written = arena_changed cs ds free vacant reached s _ old stored.same_length stored.chunks words_set apart lt live
+
+-- ---- a word in several places
+
+-- the words with one word in so many places from an index on
+abbrev pub with_words : List ℕ → ℕ → ℕ → ℕ → List ℕ
+with_words ws i zero w = ws
+with_words ws i (suc n) w = set (with_words ws i n w) (i + n) w
+
+length-with_words : (ws : List ℕ) (i n w : ℕ) → length (with_words ws i n w) ≡ length ws
+length-with_words ws i zero w = refl
+length-with_words ws i (suc n) w = length-set (with_words ws i n w) (i + n) w ∙ length-with_words ws i n w
+
+inside : (ws : List ℕ) (i n w k : ℕ) → i ≤ k → k < i + n → i + n ≤ length ws → get_or (with_words ws i n w) k 0 ≡ w
+inside ws i zero w k f t l = absurd (omega arith)
+inside ws i (suc n) w k f t l = elim (cases_eq k (i + n)) [
+  | inl e ↦ ap (λ j. get_or (set (with_words ws i n w) (i + n) w) j 0) e ∙ get_or-set_same (with_words ws i n w) (i + n) w 0 (let long = length-with_words ws i n w in omega arith)
+  | inr e ↦ get_or-set_other (with_words ws i n w) (i + n) k w 0 e ∙ inside ws i n w k f (grind arith) (omega arith)
+]
+
+outside : (ws : List ℕ) (i n w k : ℕ) → ((j : ℕ) → j < n → k ≡ i + j → ⊥) → get_or (with_words ws i n w) k 0 ≡ get_or ws k 0
+outside ws i zero w k o = refl
+outside ws i (suc n) w k o = get_or-set_other (with_words ws i n w) (i + n) k w 0 (o n (omega arith)) ∙ outside ws i n w k (λ j l. o j (omega arith))
+
+the_words : (v : Slots) (s : ℕ) → IsLive v s → get v s ≡ Some (words_of v s)
+the_words v s live = by (get v s) live
+  where
+    by : (o : Option (List ℕ)) → is_some o ≡ true → o ≡ Some (unwrap_or o [])
+    by (Some ws) e = refl
+    by None e = cc
+
+pub row_inserted : (v : Slots) (s i n w : ℕ) → IsLive v s → with_row v s i n w ≡ insert v s (with_words (words_of v s) i n w)
+unfolding with_row
+row_inserted v s i zero w live = inserted v s v (words_of v s) (the_words v s live) (λ q ne. refl)
+row_inserted v s i (suc n) w live =
+    let ws = with_words (words_of v s) i n w in
+    let e : with_row v s i n w ≡ insert v s ws = row_inserted v s i n w live in
+    let f : words_of (with_row v s i n w) s ≡ ws = ap (λ u. words_of u s) e ∙ ap (λ o. unwrap_or o []) (get-insert_here v s ws s refl) in
+    ap (λ u. insert u s (set (words_of (with_row v s i n w) s) (i + n) w)) e
+    ∙ (ap (λ us. insert (insert v s ws) s (set us (i + n) w)) f
+    ∙ inserted v s (insert (insert v s ws) s (set ws (i + n) w)) (set ws (i + n) w) (get-insert_here (insert v s ws) s (set ws (i + n) w) s refl)
+    (λ q ne. get-insert_other (insert v s ws) s (set ws (i + n) w) q ne ∙ get-insert_other v s ws q ne))
+
+-- the last of the words that were written stands there
+pub row_last : (v : Slots) (s i k w : ℕ) → IsLive v s → length (words_of v s) ≡ 512 → i + k < 512 → get_or (words_of (with_row v s i (k + 1) w) s) (i + k) 0 ≡ w
+row_last v s i k w live long l =
+    let ws = with_words (words_of v s) i (k + 1) w in
+    ap (λ u. get_or (words_of u s) (i + k) 0) (row_inserted v s i (k + 1) w live)
+    ∙ (ap (λ o. get_or (unwrap_or o []) (i + k) 0) (get-insert_here v s ws s refl) ∙ inside (words_of v s) i (k + 1) w (i + k) (omega arith) (omega arith) (omega arith))
+
+module _ (cs ds : List (List ℕ)) (free vacant reached s i w p : ℕ) (old : IsArena cs free vacant reached) (stored : IsRowStored cs ds p w) (at : p ≡ s * 512 + i) (li : i + 8 ≤ 512)
+    (lt : s < reached) (live : is_listed s (chain (chunk_word cs) free vacant) ≡ false) where
+  row_here : (k : ℕ) → k < 8 → chunk_word ds (512 * s + (i + k)) ≡ w
+  row_here k l = let e : 512 * s + (i + k) ≡ p + k = omega (arith, at) in ap (chunk_word ds) e ∙ stored.here k l
+
+  row_others : (q : ℕ) → ((k : ℕ) → k < 8 → q ≡ 512 * s + (i + k) → ⊥) → chunk_word ds q ≡ chunk_word cs q
+  row_others q ne = stored.others q (λ k l e. ne k l (omega (arith, e, at)))
+
+  row_set : slot_words (chunk_word ds) s ≡ with_words (slot_words (chunk_word cs) s) i 8 w
+  row_set =
+      let ws = slot_words (chunk_word cs) s in
+      let long : length ws ≡ 512 = length-row (chunk_word cs) (512 * s) 512 in
+      let long' : length (slot_words (chunk_word ds) s) ≡ 512 = length-row (chunk_word ds) (512 * s) 512 in
+      ext_get_or 0 (slot_words (chunk_word ds) s) (with_words ws i 8 w) (long' ∙ sym (length-with_words ws i 8 w ∙ long))
+      (λ k l. let b : k < 512 = omega arith in get-row (chunk_word ds) (512 * s) 512 k 0 b ∙ each k b (cases_lt k i) (cases_lt k (i + 8)))
+    where
+      each : (k : ℕ) → k < 512 → (k < i) ⊎ (i ≤ k) → (k < i + 8) ⊎ (i + 8 ≤ k) → chunk_word ds (512 * s + k) ≡ get_or (with_words (slot_words (chunk_word cs) s) i 8 w) k 0
+      each k b (inl f) o = row_others (512 * s + k) (λ j l e. absurd (omega arith)) ∙ sym (outside (slot_words (chunk_word cs) s) i 8 w k (λ j l e. absurd (omega arith)) ∙ get-row (chunk_word cs) (512 * s) 512 k 0 b)
+      each k b (inr f) (inr o) = row_others (512 * s + k) (λ j l e. absurd (omega arith)) ∙ sym (outside (slot_words (chunk_word cs) s) i 8 w k (λ j l e. absurd (omega arith)) ∙ get-row (chunk_word cs) (512 * s) 512 k 0 b)
+      each k b (inr f) (inl o) =
+          let e : 512 * s + k ≡ 512 * s + (i + (k - i)) = omega arith in
+          ap (chunk_word ds) e ∙ (row_here (k - i) (omega arith) ∙ sym (inside (slot_words (chunk_word cs) s) i 8 w k f o (let long : length (slot_words (chunk_word cs) s) ≡ 512 = length-row (chunk_word cs) (512 * s) 512 in omega arith)))
+
+  row_apart : (q : ℕ) → IsElsewhere s q → chunk_word ds q ≡ chunk_word cs q
+  row_apart q (inl b) = row_others q (λ k l e. absurd (omega arith))
+  row_apart q (inr b) = row_others q (λ k l e. absurd (omega arith))
+
+  is_live : IsLive (view_of cs free vacant reached) s
+  is_live = ap is_some (get_live (chunk_word cs) (chain (chunk_word cs) free vacant) reached s lt live)
+
+  pub view_with_row : view_of ds free vacant reached ≡ with_row (view_of cs free vacant reached) s i 8 w
+  view_with_row =
+      view_changed cs ds free vacant reached s _ old stored.same_length stored.chunks row_set row_apart lt live
+      ∙ (ap (λ ws. insert (view_of cs free vacant reached) s (with_words ws i 8 w)) (sym (words-live cs free vacant reached old s lt live))
+      ∙ sym (row_inserted (view_of cs free vacant reached) s i 8 w is_live))
+
+  pub arena_with_row : IsArena ds free vacant reached
+  arena_with_row = arena_changed cs ds free vacant reached s _ old stored.same_length stored.chunks row_set row_apart lt live

@@ -33,6 +33,13 @@ pub record IsStored (old new : List (List ℕ)) (place word : ℕ) : Type 0 wher
   pub here : chunk_word new place ≡ word
   pub others : (other : ℕ) → (other ≡ place → ⊥) → chunk_word new other ≡ chunk_word old other
 
+-- the word stands at eight places from this one on, and all others stay
+pub record IsRowStored (old new : List (List ℕ)) (place word : ℕ) : Type 0 where
+  pub same_length : length new ≡ length old
+  pub chunks : AreChunks new
+  pub here : (k : ℕ) → k < 8 → chunk_word new (place + k) ≡ word
+  pub others : (other : ℕ) → ((k : ℕ) → k < 8 → other ≡ place + k → ⊥) → chunk_word new other ≡ chunk_word old other
+
 -- the words of the slot are 0, and those of all others stay
 pub record IsCleared (old new : List (List ℕ)) (slot : ℕ) : Type 0 where
   pub same_length : length new ≡ length old

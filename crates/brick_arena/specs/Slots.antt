@@ -1,7 +1,7 @@
 -- The live slots by number, each with its words: what callers see of an arena.
-use Rattle.std.specs.Prelude.{◌≡◌, ℕ, ◌+◌, ◌*◌, ◌%◌, ◌^◌, ◌<◌, List, [], length, slice_index, IsSome, unwrap_or}
+use Rattle.std.specs.Prelude.{◌≡◌, ℕ, zero, suc, ◌+◌, ◌*◌, ◌%◌, ◌^◌, ◌<◌, List, [], length, slice_index, slice_set, IsSome, unwrap_or}
 use Rattle.std.specs.Ordering.{nat_cmp}
-use Rattle.std.specs.FinMap.{FinMap, get}
+use Rattle.std.specs.FinMap.{FinMap, get, insert}
 use Rattle.brick_arena.specs.declared.TheConstants.{SLOT_WORDS, MOST_SLOTS}
 use Rattle.brick_arena.specs.declared.chunk.TheConstants.{CHUNK_WORDS, CHUNK_SLOTS}
 
@@ -14,6 +14,12 @@ IsLive slots slot = IsSome (get slots slot)
 -- the words of a live slot
 abbrev pub words_of : Slots → ℕ → List ℕ
 words_of slots slot = unwrap_or (get slots slot) []
+
+-- the slots after so many writes of one word into a live slot, from an index on, one after another
+unfoldable pub with_row : Slots → ℕ → ℕ → ℕ → ℕ → Slots
+with_row slots slot index zero word = slots
+with_row slots slot index (suc n) word =
+    let now = with_row slots slot index n word in insert now slot (slice_set (words_of now slot) (index + n) word)
 
 -- what is so of the slots of every arena
 pub record AreSlots (slots : Slots) : Type 0 where

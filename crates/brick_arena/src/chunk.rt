@@ -19,8 +19,8 @@ pub(crate) const CHUNK_WORDS: usize = 32_768;
 /// How many bytes a chunk has.
 const CHUNK_BYTES: usize = 131_072;
 
-/// How many words are set to 0 at once: those of a cache line.
-pub(crate) const LINE_WORDS: usize = 16;
+/// How many words are written at once.
+pub(crate) const ROW_WORDS: usize = 8;
 
 /// The words of a chunk, from `at` on. A place without a word was never written.
 pub(crate) struct Words {
@@ -86,22 +86,22 @@ impl Words {
         unsafe { *self.at.add(index) }
     }
 
-    /// Writes 0 into the places of a line, from `index` on, whether or not they were written before.
-    pub(crate) fn set_line(&mut self, index: usize)
-        requires { index + LINE_WORDS ≤ CHUNK_WORDS }
-        ensures { SetsRange (Some 0) None self.old.words self.new.words index (index + LINE_WORDS) × (self.new.at ≡ self.old.at) }
+    /// Writes one word into the places of a row, from `index` on, whether or not they were written before.
+    pub(crate) fn set_row(&mut self, index: usize, word: u32)
+        requires { index + ROW_WORDS ≤ CHUNK_WORDS }
+        ensures { SetsRange (Some word) None self.old.words self.new.words index (index + ROW_WORDS) × (self.new.at ≡ self.old.at) }
     {
-        unsafe { (self.at.add(index) as *mut [u32; LINE_WORDS]).write([0; LINE_WORDS]) }
+        unsafe { (self.at.add(index) as *mut [u32; ROW_WORDS]).write([word; ROW_WORDS]) }
     }
 
-    /// Writes 0 into `lines` lines of places from `start` on.
-    pub(crate) fn set_zeros(&mut self, start: usize, lines: usize)
-        requires { start + LINE_WORDS * lines ≤ CHUNK_WORDS }
-        ensures zeros { SetsRange (Some 0) None self.old.words self.new.words start (start + LINE_WORDS * lines) }
+    /// Writes 0 into `rows` rows of places from `start` on.
+    pub(crate) fn set_zeros(&mut self, start: usize, rows: usize)
+        requires { start + ROW_WORDS * rows ≤ CHUNK_WORDS }
+        ensures zeros { SetsRange (Some 0) None self.old.words self.new.words start (start + ROW_WORDS * rows) }
         ensures place { self.new.at ≡ self.old.at }
     {
-        for line in 0..lines {
-            self.set_line(start + line * LINE_WORDS);
+        for row in 0..rows {
+            self.set_row(start + row * ROW_WORDS, 0);
         }
     }
 }
@@ -132,7 +132,7 @@ impl Chunk {
         let Some((mut words, deed)) = allocate(&alloc) else {
             return Err(Memory);
         };
-        words.set_zeros(0, CHUNK_WORDS / LINE_WORDS);
+        words.set_zeros(0, CHUNK_WORDS / ROW_WORDS);
         Ok(Chunk { words, deed, alloc })
     }
 
@@ -162,12 +162,21 @@ impl Chunk {
         self.words.set(index, word)
     }
 
-    /// Writes 0 into `lines` lines of words from `start` on.
-    pub(crate) fn set_zeros(&mut self, start: usize, lines: usize)
-        requires { start + LINE_WORDS * lines ≤ length self.old }
-        ensures { SetsRange 0 0 self.old self.new start (start + LINE_WORDS * lines) }
+    /// Writes one word into the places of a row, from `index` on.
+    #[inline(always)]
+    pub(crate) fn set_row(&mut self, index: usize, word: u32)
+        requires { index + ROW_WORDS ≤ length self.old }
+        ensures { SetsRange word 0 self.old self.new index (index + ROW_WORDS) }
     {
-        self.words.set_zeros(start, lines)
+        self.words.set_row(index, word)
+    }
+
+    /// Writes 0 into `rows` rows of words from `start` on.
+    pub(crate) fn set_zeros(&mut self, start: usize, rows: usize)
+        requires { start + ROW_WORDS * rows ≤ length self.old }
+        ensures { SetsRange 0 0 self.old self.new start (start + ROW_WORDS * rows) }
+    {
+        self.words.set_zeros(start, rows)
     }
 }
 

@@ -1,10 +1,10 @@
 //! Words over a list of chunks, by place: the words of slot 0, those of slot 1, and so on.
-ghost use Rattle.std.specs.Prelude.{◌≡◌, ◌+◌, ◌*◌, ◌<◌, ◌≤◌, length, OnOk, OnErr};
-ghost use Rattle.brick_arena.specs.Chunks.{chunk_word, AreChunks, IsStored, IsCleared, HasRoom};
+ghost use Rattle.std.specs.Prelude.{◌≡◌, ◌+◌, ◌*◌, ◌%◌, ◌<◌, ◌≤◌, length, OnOk, OnErr};
+ghost use Rattle.brick_arena.specs.Chunks.{chunk_word, AreChunks, IsStored, IsRowStored, IsCleared, HasRoom};
 ghost use Rattle.brick_arena.specs.Slots.{start_in_chunk as start_in_chunk_of};
 
 use super::SLOT_WORDS;
-use super::chunk::{CHUNK_SLOTS, CHUNK_WORDS, Chunk, LINE_WORDS};
+use super::chunk::{CHUNK_SLOTS, CHUNK_WORDS, Chunk, ROW_WORDS};
 use std::alloc::Global;
 use vox_geom::Memory;
 
@@ -32,6 +32,18 @@ pub(crate) fn store(chunks: &mut Vec<Chunk>, place: usize, word: u32)
     chunk.set_word(place % CHUNK_WORDS, word);
 }
 
+/// Writes one word into the places of a row, which lie in one chunk.
+#[inline(always)]
+pub(crate) fn store_row(chunks: &mut Vec<Chunk>, place: usize, word: u32)
+    requires inside { place < CHUNK_WORDS * length chunks.old.items }
+    requires row { place % CHUNK_WORDS + ROW_WORDS ≤ CHUNK_WORDS }
+    requires chunks { AreChunks chunks.old.items }
+    ensures { IsRowStored chunks.old.items chunks.new.items place word }
+{
+    let chunk = &mut chunks[place / CHUNK_WORDS];
+    chunk.set_row(place % CHUNK_WORDS, word);
+}
+
 /// The place of a slot's first word in its chunk.
 #[inline(always)]
 pub fn start_in_chunk(slot: u32) -> usize
@@ -48,7 +60,7 @@ pub(crate) fn clear(chunks: &mut Vec<Chunk>, slot: u32)
 {
     let chunk = &mut chunks[slot as usize / CHUNK_SLOTS];
     let start = start_in_chunk(slot);
-    chunk.set_zeros(start, usize::from(SLOT_WORDS) / LINE_WORDS);
+    chunk.set_zeros(start, usize::from(SLOT_WORDS) / ROW_WORDS);
 }
 
 /// Takes a chunk where there is none for the slot yet.

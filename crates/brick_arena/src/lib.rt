@@ -4,14 +4,14 @@
 mod chunk;
 mod chunks;
 
-ghost use Rattle.std.specs.Prelude.{◌≡◌, ◌+◌, ◌<◌, None, replicate, slice_index, slice_set, OnErr, IfOk};
+ghost use Rattle.std.specs.Prelude.{◌≡◌, ◌+◌, ◌<◌, ◌≤◌, ℕ, None, replicate, slice_index, slice_set, OnErr, IfOk};
 ghost use Rattle.std.specs.FinMap as map;
-ghost use Rattle.brick_arena.specs.Slots.{IsLive, words_of, AreSlots, HasSlot};
+ghost use Rattle.brick_arena.specs.Slots.{IsLive, words_of, with_row, AreSlots, HasSlot};
 
 use chunk::CHUNK_SLOTS;
 pub use chunk::Chunk;
 pub use chunks::start_in_chunk;
-use chunks::{clear, load, place, reserve, store};
+use chunks::{clear, load, place, reserve, store, store_row};
 use std::alloc::Global;
 use std::marker::Model;
 use std::sync::ledger::Ledger;
@@ -143,5 +143,22 @@ impl Bricks {
     {
         steps.tick();
         store(&mut self.chunks, place(slot, index), word);
+    }
+
+    /// Writes one word into the eight places of a live slot from `index` on, as eight calls of [`Bricks::set_word`] would, by
+    /// one touch each.
+    #[inline(always)]
+    pub fn set_row<L: Ledger>(&mut self, slot: u32, index: u16, word: u32, steps: &mut Steps<L>)
+        requires live { IsLive self.old slot }
+        requires row { index + 8 ≤ SLOT_WORDS }
+        ensures value { self.new ≡ with_row self.old slot index 8 word }
+        ensures written { (k : ℕ) → k < 8 → slice_index (words_of (with_row self.old slot index (k + 1) word) slot) (index + k) ≡ word }
+        ensures touches { steps.new ≡ steps.old + 8 }
+        ensures slots { AreSlots self.new }
+    {
+        for _ in 0..8u16 {
+            steps.tick();
+        }
+        store_row(&mut self.chunks, place(slot, index), word);
     }
 }

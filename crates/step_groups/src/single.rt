@@ -48,7 +48,7 @@ pub fn judge_move<L: Ledger>(
     ensures touches { steps.new ≤ steps.old + 2 * volatile_total planes.now (acts (bot ∷ []) (SMove d ∷ [])) }
 {
     if profile.allows(Command::SMove(d)) {
-        end_of_move(planes, step, bot, d.diff(), true, steps)
+        end_of_move(planes, step, bot, d.diff(), false, steps)
     } else {
         Err(breaks(step, bot, Rule::Forbidden, bot.pos))
     }

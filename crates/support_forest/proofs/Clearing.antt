@@ -77,7 +77,7 @@ before_left old now c k n before steps h a = let e : k ≡ k - 1 + 1 = omega ari
 -- ---- voxels of the list that were taken or listed
 
 -- the voxel is one of the row, or none
-in_row : (d c : Coord) (n : ℕ) → ((j : ℕ) × (j < n) × (d ≡ further c j)) ⊎ ((j : ℕ) → j < n → d ≡ further c j → ⊥)
+pub in_row : (d c : Coord) (n : ℕ) → ((j : ℕ) × (j < n) × (d ≡ further c j)) ⊎ ((j : ℕ) → j < n → d ≡ further c j → ⊥)
 in_row d c zero = inr (λ j l e. absurd (omega arith))
 in_row d c (suc n) = elim (same_or_not d (further c n)) [
   | inl e ↦ inl (n, omega arith, e)

@@ -18,9 +18,9 @@ use Rattle.vox_planes.specs.Voxel.{IsWhole}
 use Rattle.vox_planes.proofs.Voxels.{get_or-where, length-where}
 use Rattle.support_forest.specs.Directions.{Toward}
 use Rattle.support_forest.specs.Grid.{Grid, brick, brick_number, slot_at, slot_of, word_at}
-use Rattle.support_forest.specs.Heap.{AreBits, AreBrickSlots, CanStack, HaveStacked, AreHeapWords, IsHeaped, IsSeen, RowStands}
+use Rattle.support_forest.specs.Heap.{AreBits, AreBrickSlots, CanStack, HaveStacked, AreHeapWords, IsHeaped, IsSeen, IsSomeHeap, RowStands}
 use Rattle.support_forest.specs.Standing.{matrix_of}
-use Rattle.support_forest.specs.Stretches.{further}
+use Rattle.support_forest.specs.Stretches.{AreWritten, further}
 use Rattle.support_forest.specs.Waiting.{CanAdd, HaveAdded}
 use Rattle.support_forest.specs.Words.{height, AreExact, IsWritten}
 use Rattle.support_forest.proofs.Counts.{changed_most}
@@ -345,6 +345,50 @@ module _ (m : Matrix) (old : Grid) (first : Coord) (k : ℕ) (rest : List Coord)
     listed_along more e f =
         heaped_at m new (place m.resolution first + k + 1) (place m.resolution first + (k + 1)) more (omega arith)
         (heaped_listed m old (place m.resolution first + k) rest (along first k) h within_row (omega arith) full new more e f)
+
+-- ---- a whole row
+
+-- the first k voxels of the row are stacked
+record ArePiled (m : Matrix) (old now : Grid) (c : Coord) (k : ℕ) : Type 0 where
+  heaped : (rest : List Coord) → IsHeaped m old (place m.resolution c) rest → IsHeaped m now (place m.resolution c + k) rest
+  stands : RowStands (word_at now) c 8
+
+-- what is so of a row that stands, and of the word
+pub record CanPile (m : Matrix) (old : Grid) (c : Coord) (word : ℕ) : Type 0 where
+  pub within : IsInSpace m.resolution c
+  pub row : c.z + 8 ≤ m.resolution
+  pub full : (k : ℕ) → k < 8 → IsTrue (voxel_at m (place m.resolution c + k))
+  pub stands : RowStands (word_at old) c 8
+  pub heap : IsSomeHeap m old (place m.resolution c)
+  pub floor : c.y ≡ 0 → word ≡ 8
+  pub above : 0 < c.y → word ≡ 8 * c.y + 11
+
+are_piled : (m : Matrix) (old new : Grid) (c : Coord) (word k : ℕ) → CanPile m old c word → (w : AreWritten old new c word) → k ≤ 8 → ArePiled m old (w.after k) c k
+are_piled m old new c word zero h w l = subst (λ (g : Grid). ArePiled m old g c 0) (sym w.first) (record { heaped = λ rest i. heaped_at _ _ _ _ _ (omega arith) i; stands = h.stands })
+are_piled m old new c word (suc k) h w l =
+    let p = are_piled m old new c word k h w (omega arith) in
+    let n : k + 1 ≡ suc k = omega arith in
+    let b : k < 8 = omega arith in
+    let r : c.z + k < m.resolution = omega (arith, h.row) in
+    let some = h.heap in
+    let can : CanStack (w.after k) (further c k) = can_stack_along m (w.after k) c k some.rest (p.heaped some.rest some.is) h.within r in
+    let stacked = stacked_in_pile (w.after k) (w.after (k + 1)) c 8 k word 0 1 can p.stands b h.floor h.above (w.each k b) (w.resolution (k + 1) ∙ sym (w.resolution k)) (w.table (k + 1) ∙ sym (w.table k)) (omega arith) in
+    subst (λ (j : ℕ). ArePiled m old (w.after j) c j) n (record {
+      heaped = λ rest i. stacked_along m (w.after k) c k rest (p.heaped rest i) h.within r (h.full k b) (w.after (k + 1)) 0 1 stacked;
+      stands = still_stands (word_at (w.after k)) (word_at (w.after (k + 1))) c 8 k word p.stands (w.each k b);
+    })
+
+pub piled : (m : Matrix) (old new : Grid) (c : Coord) (word : ℕ) → CanPile m old c word → AreWritten old new c word →
+    (rest : List Coord) → IsHeaped m old (place m.resolution c) rest → IsHeaped m new (place m.resolution c + 8) rest
+piled m old new c word h w rest i = subst (λ (g : Grid). IsHeaped m g (place m.resolution c + 8) rest) w.last ((are_piled m old new c word 8 h w (omega arith)).heaped rest i)
+
+-- what is not seen yet is void
+pub void_to_come : (m : Matrix) (old : Grid) (c : Coord) (k : ℕ) → IsSomeHeap m old (place m.resolution c) → word_at old (further c k) ≡ 1 → ⊥
+void_to_come m old c k h e =
+    let s = h.is.seen (further c k) (omega arith) in
+    let b : place m.resolution (further c k) < place m.resolution c = s.before in
+    let p : place m.resolution (further c k) ≡ place m.resolution c + k = omega arith in
+    omega arith
 
 -- ---- the whole matrix
 

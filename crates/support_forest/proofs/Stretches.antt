@@ -91,7 +91,7 @@ row_slot g c n k own h l e = same_slot g c (further c k) own (row_brick c n k h.
 pub row_void : (g : Grid) (c : Coord) (n toward : ℕ) → LieInRow g c n → None ≡ slot_of g c → RowHangsNot (word_at g) c n toward
 row_void g c n toward h e k l f = let z : 0 ≡ word_at g (further c k) = reads_none g (further c k) (row_space g c n k h l) (row_slot g c n k None h l e) in absurd (omega arith)
 
-row_index : (c : Coord) (n k index : ℕ) → c.z % 8 + n ≤ 8 → k < n → index ≡ word_index c → word_index (further c k) ≡ index + k
+pub row_index : (c : Coord) (n k index : ℕ) → c.z % 8 + n ≤ 8 → k < n → index ≡ word_index c → word_index (further c k) ≡ index + k
 unfolding word_index
 row_index c n k index r l e = omega arith
 

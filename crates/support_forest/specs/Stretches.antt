@@ -7,7 +7,7 @@ use Rattle.support_forest.specs.Directions.{Toward}
 use Rattle.support_forest.specs.Grid.{Grid, slot_of, word_at}
 use Rattle.support_forest.specs.Losing.{CanRemove}
 use Rattle.support_forest.specs.Taking.{HangsNot}
-use Rattle.support_forest.specs.Words.{AreExact}
+use Rattle.support_forest.specs.Words.{AreExact, IsWritten}
 
 -- the voxel that lies so many further along z
 abbrev pub further : Coord → ℕ → Coord
@@ -71,6 +71,15 @@ pub record RowIsFree (w : Coord → ℕ) (c : Coord) (n : ℕ) : Type 0 where
   pub near : SideHangsNot w c 1 5 6
   pub own : RowHangsNot w c n 6
   pub far : (p : Coord) → p.x ≡ c.x → p.y ≡ c.y → p.z ≡ c.z + n → HangsNot (w p) 5
+
+-- one voxel after another of a whole row got the word: the stores in between
+pub record AreWritten (old new : Grid) (c : Coord) (word : ℕ) : Type 0 where
+  pub after : ℕ → Grid
+  pub first : after 0 ≡ old
+  pub last : after 8 ≡ new
+  pub resolution : (k : ℕ) → (after k).resolution ≡ old.resolution
+  pub table : (k : ℕ) → (after k).table ≡ old.table
+  pub each : (k : ℕ) → k < 8 → IsWritten (word_at (after k)) (word_at (after (k + 1))) (further c k) word
 
 -- the voxels of the row from one on became void, and the words are exact
 pub record AreCleared (old new : Grid) (c : Coord) (k n before after : ℕ) : Type 0 where

@@ -50,11 +50,15 @@ fn stack<L: Ledger>(
     true
 }
 
-/// The slot of the brick of the voxel under one.
-fn slot_under(cells: &Cells, c: Coord) -> Option<u32>
-    requires { IsInSpace cells.now.resolution c }
+/// The slot of the brick of the voxel under one. `own` is the slot of the voxel's own brick, which mostly is the same.
+fn slot_under(cells: &Cells, c: Coord, own: u32) -> Option<u32>
+    requires within { IsInSpace cells.now.resolution c }
+    requires own { slot_of cells.now c ≡ Some own }
     ensures { 0 < c.y → result ≡ slot_of cells.now (under_of c) }
 {
+    if c.y % BRICK_SIDE != 0 {
+        return Some(own);
+    }
     if c.y == 0 {
         return None;
     }
@@ -141,33 +145,25 @@ fn heap_word(y: u16) -> u32
     if y == 0 { 8 } else { 8 * u32::from(y) + 11 }
 }
 
-/// Stacks a row of full voxels, each on the floor or on a full one. `own` is the slot of their brick.
+/// Stacks a whole row of full voxels, each on the floor or on a full one. `own` is the slot of their brick.
 #[inline(always)]
 fn pile_row<L: Ledger>(
     cells: &mut Cells,
     planes: &Planes,
     first: Coord,
-    count: u16,
     own: u32,
     steps: &mut Steps<L>,
 )
-    requires row { LieInRow cells.old first count }
+    requires row { LieInRow cells.old first 8 }
     requires own { slot_of cells.old first ≡ Some own }
-    requires full { (k : ℕ) → k < count → IsTrue (voxel_at planes.now (place_of planes.now.resolution first + k)) }
-    requires stands { RowStands (word_at cells.old) first count }
+    requires full { (k : ℕ) → k < 8 → IsTrue (voxel_at planes.now (place_of planes.now.resolution first + k)) }
+    requires stands { RowStands (word_at cells.old) first 8 }
     requires heap { IsSomeHeap planes.now cells.old (place_of planes.now.resolution first) }
     ensures heaped { (rest : List Coordinate) → IsHeaped planes.now cells.old (place_of planes.now.resolution first) rest
-        → IsHeaped planes.now cells.new (place_of planes.now.resolution first + count) rest }
-    ensures touches { steps.new ≤ steps.old + count }
+        → IsHeaped planes.now cells.new (place_of planes.now.resolution first + 8) rest }
+    ensures touches { steps.new ≤ steps.old + 8 }
 {
-    let word = heap_word(first.y);
-    for k in 0..count {
-        let at = Coord {
-            z: first.z + k,
-            ..first
-        };
-        cells.write(own, at, 0, word, steps);
-    }
+    cells.write_row(own, first, heap_word(first.y), steps);
 }
 
 /// Stacks the full ones of some voxels of a row in one brick, whose bits are the lowest of a word, one after another, or lists
@@ -232,9 +228,9 @@ fn stack_part<L: Ledger>(
         return Ok(());
     }
     let own = cells.take_slot(first)?;
-    let below = slot_under(cells, first);
+    let below = slot_under(cells, first, own);
     if is_pile(cells, first, count, bits, below, steps) {
-        pile_row(cells, planes, first, BRICK_SIDE, own, steps);
+        pile_row(cells, planes, first, own, steps);
         return Ok(());
     }
     stack_each(cells, planes, first, count, bits, own, below, rest, steps)

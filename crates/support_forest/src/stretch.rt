@@ -325,7 +325,33 @@ fn clear_voxels<L: Ledger>(
     }
 }
 
-/// Makes the voxels of a row void, from the last to the first. A whole row is written by steps that the compiler knows.
+/// Makes the voxels of a row void at once, where it is a whole one and no voxel floats: whether it did. Otherwise all stays.
+#[inline(always)]
+fn clear_at_once<L: Ledger>(
+    cells: &mut Cells,
+    own: u32,
+    first: Coord,
+    count: u16,
+    steps: &mut Steps<L>,
+) -> bool
+    requires row { IsBrickRow cells.old own first count }
+    requires exact { AreExact cells.old.resolution (word_at cells.old) }
+    requires free { RowIsFree (word_at cells.old) first count }
+    ensures cleared { result ≡ true → AreCleared cells.old cells.new first 0 count steps.old steps.new }
+    ensures stays { result ≡ false → cells.new ≡ cells.old × steps.new ≡ steps.old }
+{
+    if count < BRICK_SIDE {
+        return false;
+    }
+    if cells.floating() != 0 {
+        return false;
+    }
+    cells.write_row(own, first, 0, steps);
+    true
+}
+
+/// Makes the voxels of a row void.
+#[inline(always)]
 pub fn clear_row<L: Ledger>(
     cells: &mut Cells,
     own: u32,
@@ -338,8 +364,8 @@ pub fn clear_row<L: Ledger>(
     requires free { RowIsFree (word_at cells.old) first count }
     ensures { AreCleared cells.old cells.new first 0 count steps.old steps.new }
 {
-    if count == BRICK_SIDE {
-        return clear_voxels(cells, own, whole_row(first), BRICK_SIDE, steps);
+    if clear_at_once(cells, own, first, count, steps) {
+        return;
     }
     clear_voxels(cells, own, first, count, steps)
 }

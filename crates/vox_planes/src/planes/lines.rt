@@ -57,7 +57,8 @@ impl Planes {
     }
 }
 
-/// The number of the first bit that is 1, of so many, the first at an index and each so far behind the one before.
+/// The number of the first bit that is 1, of so many, the first at an index and each so far behind the one before. While none is
+/// found the bits are not counted.
 #[inline(always)]
 fn next_apart<L: Ledger>(
     words: &[u64],
@@ -68,16 +69,18 @@ fn next_apart<L: Ledger>(
 ) -> Option<u16>
     requires within { (n : ℕ) → n < count → (from + n * apart) / 64 < length words.now }
     requires small { from + count * apart < 2 ^ 63 }
+    requires some { 0 < apart }
     ensures found { IfSome result (λ n. IsFirstBit words.now from apart n) }
     ensures below { IfSome result (λ n. n < count) }
     ensures none { IfNone result (AreClear words.now from apart count) }
     ensures touches { steps.new ≤ steps.old + count }
 {
+    let end = from + usize::from(count) * apart;
     let mut at = from;
-    for n in 0..count {
+    while at < end {
         steps.tick();
         if is_set(words, at) {
-            return Some(n);
+            return Some(((at - from) / apart) as u16);
         }
         at += apart;
     }
@@ -106,17 +109,20 @@ fn next_above<L: Ledger>(
 ) -> Option<u16>
     requires within { (n : ℕ) → n < count → (from + n * (apart * 64)) / 64 < length words.now }
     requires small { from + count * (apart * 64) < 2 ^ 63 }
+    requires some { 0 < apart }
     ensures found { IfSome result (λ n. IsFirstBit words.now from (apart * 64) n) }
     ensures below { IfSome result (λ n. n < count) }
     ensures none { IfNone result (AreClear words.now from (apart * 64) count) }
     ensures touches { steps.new ≤ steps.old + count }
 {
     let place = from % WORD_BITS;
-    let mut word = from / WORD_BITS;
-    for n in 0..count {
+    let first = from / WORD_BITS;
+    let end = first + usize::from(count) * apart;
+    let mut word = first;
+    while word < end {
         steps.tick();
         if is_set_in(words, word, place) {
-            return Some(n);
+            return Some(((word - first) / apart) as u16);
         }
         word += apart;
     }

@@ -14,7 +14,7 @@ pub invariant_of-self : goal.invariant_of-self
 invariant_of-self c =
     let old = c.self.inside.words in
     let new = c.set_zeros.new.self in (
-      filled-range old.words new.words c.args.start (c.args.start + 16 * c.args.lines) c.set_zeros.ensures.zeros c.self.invariant.0,
+      filled-range 0 old.words new.words c.args.start (c.args.start + 8 * c.args.rows) c.set_zeros.ensures.zeros c.self.invariant.0,
       c.self.invariant.1,
       c.self.invariant.2 ∙ sym c.set_zeros.ensures.place,
     )
@@ -23,5 +23,5 @@ pub returns : goal.returns
 returns c =
     let old = c.self.inside.words in
     let new = c.set_zeros.new.self in
-    subst (λ words. SetsRange 0 0 words (known new.words) c.args.start (c.args.start + 16 * c.args.lines)) c.self.view_is
-    (known-range old.words new.words c.args.start (c.args.start + 16 * c.args.lines) c.set_zeros.ensures.zeros)
+    subst (λ words. SetsRange 0 0 words (known new.words) c.args.start (c.args.start + 8 * c.args.rows)) c.self.view_is
+    (known-range 0 old.words new.words c.args.start (c.args.start + 8 * c.args.rows) c.set_zeros.ensures.zeros)

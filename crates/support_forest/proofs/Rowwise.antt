@@ -1,0 +1,212 @@
+-- A whole row of a brick that gets one word.
+use Rattle.std.proofs.Common.{◌≡◌, ℕ, zero, suc, ◌+◌, ◌-◌, ◌*◌, ◌%◌, ◌<◌, ◌≤◌, ◌⊎◌, inl, inr, refl, sym, ◌∙◌, ap, subst, arith, true, false, get_or, set, Some}
+use Rattle.std.specs.Prelude.{◌≢◌, ◌==◌}
+use Rattle.std.proofs.lemmas.Bool.{cases_eq, cases_lt}
+use Rattle.std.proofs.lemmas.Bool.Decides.{nat_tests}
+use Rattle.vox_geom.specs.declared.coordinate.Coord.{Coord}
+use Rattle.vox_geom.specs.Space.{IsInSpace, coordinate_at, place}
+use Rattle.vox_geom.proofs.Firsts.{place_below}
+use Rattle.vox_geom.proofs.Places.{coordinate_at-place}
+use Rattle.nano_spec.specs.Model.{volume}
+use Rattle.brick_arena.specs.Slots.{Slots, with_row, words_of}
+use Rattle.support_forest.specs.Directions.{Toward}
+use Rattle.support_forest.specs.Grid.{Grid, IsStore, NoneFloatsBelow, floating_count, slot_of, word_at, word_index}
+use Rattle.support_forest.specs.Stretches.{AreCleared, AreWritten, LieInRow, RowIsFree, further}
+use Rattle.support_forest.specs.Words.{AreExact, IsWritten}
+use Rattle.support_forest.proofs.Clearing.{in_row}
+use Rattle.support_forest.proofs.Counts.{tally}
+use Rattle.support_forest.proofs.Stretches.{row_index, row_slot, row_space}
+use Rattle.support_forest.proofs.Writes.{count_written, keeps, sets}
+
+-- ---- the store
+
+-- the store after k words of the row
+abbrev pub rowed : Grid → ℕ → ℕ → ℕ → ℕ → Grid
+rowed g slot index word k = record { resolution = g.resolution; table = g.table; bricks = with_row g.bricks slot index k word }
+
+-- what is so of the row, the slot and the words
+pub record CanRow (g : Grid) (c : Coord) (slot index word : ℕ) : Type 0 where
+  pub store : IsStore g
+  pub row : LieInRow g c 8
+  pub own : slot_of g c ≡ Some slot
+  pub at : index ≡ word_index c
+  pub level : word ≢ 1
+  pub levels : (k : ℕ) → k < 8 → word_at g (further c k) ≢ 1
+  pub written : (k : ℕ) → k < 8 → get_or (words_of (with_row g.bricks slot index (k + 1) word) slot) (index + k) 0 ≡ word
+
+pub can_row : (g q : Grid) (c : Coord) (slot index word : ℕ) → g ≡ q → IsStore g → LieInRow q c 8 → slot_of q c ≡ Some slot → index ≡ word_index c → word ≢ 1 →
+    ((k : ℕ) → k < 8 → word_at q (further c k) ≢ 1) → ((k : ℕ) → k < 8 → get_or (words_of (with_row g.bricks slot index (k + 1) word) slot) (index + k) 0 ≡ word) → CanRow g c slot index word
+can_row g q c slot index word same h r o a l ls w = record {
+  store = h;
+  row = subst (λ (x : Grid). LieInRow x c 8) (sym same) r;
+  own = subst (λ (x : Grid). slot_of x c ≡ Some slot) (sym same) o;
+  at = a;
+  level = l;
+  levels = λ k m e. ls k m (ap (λ (x : Grid). word_at x (further c k)) (sym same) ∙ e);
+  written = w;
+}
+
+pub row_fits : (c : Coord) (index : ℕ) → c.z % 8 + 8 ≤ 8 → index ≡ word_index c → index + 8 ≤ 512
+unfolding word_index
+row_fits c index r e = omega arith
+
+-- what is so after k words
+record IsRowed (g : Grid) (c : Coord) (slot index word k : ℕ) : Type 0 where
+  store : IsStore (rowed g slot index word k)
+  count : floating_count (rowed g slot index word k) ≡ floating_count g
+  later : (j : ℕ) → k ≤ j → word_at (rowed g slot index word k) (further c j) ≡ word_at g (further c j)
+
+not_one : (n : ℕ) → n ≢ 1 → tally (n == 1) ≡ 0
+not_one n h = let e : (n == 1) ≡ false = grind (arith, nat_tests) in ap tally e
+
+one_more : (g : Grid) (c : Coord) (slot index word k : ℕ) → CanRow g c slot index word → IsStore (rowed g slot index word k) → k < 8 →
+    IsWritten (word_at (rowed g slot index word k)) (word_at (rowed g slot index word (suc k))) (further c k) word × IsStore (rowed g slot index word (suc k))
+unfolding with_row
+one_more g c slot index word k h s l =
+    let now = rowed g slot index word k in
+    let i : IsInSpace g.resolution (further c k) = row_space g c 8 k h.row l in
+    let e : Some slot ≡ slot_of now (further c k) = row_slot g c 8 k (Some slot) h.row l (sym h.own) in
+    let x : index + k ≡ word_index (further c k) = sym (row_index c 8 k index h.row.row l h.at) in
+    let n : k + 1 ≡ suc k = omega arith in
+    let w : get_or (words_of (with_row g.bricks slot index (suc k) word) slot) (index + k) 0 ≡ word = subst (λ (j : ℕ). get_or (words_of (with_row g.bricks slot index j word) slot) (index + k) 0 ≡ word) n (h.written k l) in (
+      sets now (further c k) slot (index + k) word (with_row g.bricks slot index (suc k) word) s i e x refl w,
+      keeps now (further c k) slot (index + k) word (with_row g.bricks slot index (suc k) word) s i e x refl w,
+    )
+
+is_rowed : (g : Grid) (c : Coord) (slot index word k : ℕ) → CanRow g c slot index word → k ≤ 8 → IsRowed g c slot index word k
+unfolding with_row
+is_rowed g c slot index word zero h l = record { store = h.store; count = refl; later = λ j m. refl }
+is_rowed g c slot index word (suc k) h l =
+    let p = is_rowed g c slot index word k h (omega arith) in
+    let b : k < 8 = omega arith in
+    let o = one_more g c slot index word k h p.store b in
+    let old : word_at (rowed g slot index word k) (further c k) ≢ 1 = λ e. h.levels k b (sym (p.later k (omega arith)) ∙ e) in
+    let n = count_written (rowed g slot index word k) (rowed g slot index word (suc k)) (further c k) (word_at (rowed g slot index word k) (further c k)) word refl (row_space g c 8 k h.row b) refl o.0 in
+    let u : tally (word == 1) ≡ 0 = not_one word h.level in
+    let d : tally (word_at (rowed g slot index word k) (further c k) == 1) ≡ 0 = not_one (word_at (rowed g slot index word k) (further c k)) old in
+    let before = p.count in
+    record {
+      store = o.1;
+      count = omega arith;
+      later = λ j m. o.0.kept (further c j) (λ e. let z : c.z + j ≡ c.z + k = ap (λ (x : Coord). x.z) e in omega arith) ∙ p.later j (omega arith);
+    }
+
+-- what a row that is written leaves
+pub record WroteRow (g : Grid) (v : Slots) (c : Coord) (word : ℕ) : Type 0 where
+  pub store : IsStore (record { resolution = g.resolution; table = g.table; bricks = v })
+  pub count : floating_count (record { resolution = g.resolution; table = g.table; bricks = v }) ≡ floating_count g
+  pub written : AreWritten g (record { resolution = g.resolution; table = g.table; bricks = v }) c word
+
+pub wrote_row : (g : Grid) (v : Slots) (c : Coord) (slot index word : ℕ) → CanRow g c slot index word → v ≡ with_row g.bricks slot index 8 word → WroteRow g v c word
+unfolding with_row
+wrote_row g v c slot index word h e =
+    let p = is_rowed g c slot index word 8 h (omega arith) in
+    subst (λ (u : Slots). WroteRow g u c word) (sym e) (record {
+      store = p.store;
+      count = p.count;
+      written = record {
+        after = λ k. rowed g slot index word k;
+        first = refl;
+        last = refl;
+        resolution = λ k. refl;
+        table = λ k. refl;
+        each = λ k l.
+            let n : suc k ≡ k + 1 = omega arith in
+            subst (λ (j : ℕ). IsWritten (word_at (rowed g slot index word k)) (word_at (rowed g slot index word j)) (further c k) word) n
+            (one_more g c slot index word k h (is_rowed g c slot index word k h (omega arith)).store l).0;
+      };
+    })
+
+-- ---- what is read of it
+
+-- the voxels of the row have the word, and no others changed
+written_so_far : (old new : Grid) (c : Coord) (word k : ℕ) (w : AreWritten old new c word) → k ≤ 8 →
+    ((j : ℕ) → j < k → word_at (w.after k) (further c j) ≡ word) × ((d : Coord) → ((j : ℕ) → j < k → d ≡ further c j → ⊥) → word_at (w.after k) d ≡ word_at old d)
+written_so_far old new c word zero w l = ((λ j m. absurd (omega arith)), (λ d h. ap (λ (g : Grid). word_at g d) w.first))
+written_so_far old new c word (suc k) w l =
+    let p = written_so_far old new c word k w (omega arith) in
+    let n : k + 1 ≡ suc k = omega arith in
+    let o : IsWritten (word_at (w.after k)) (word_at (w.after (suc k))) (further c k) word = subst (λ (j : ℕ). IsWritten (word_at (w.after k)) (word_at (w.after j)) (further c k) word) n (w.each k (omega arith)) in (
+      (λ j m. elim (cases_eq j k) [
+        | inl e ↦ ap (λ (i : ℕ). word_at (w.after (suc k)) (further c i)) e ∙ o.here
+        | inr e ↦ o.kept (further c j) (λ q. let z : c.z + j ≡ c.z + k = ap (λ (x : Coord). x.z) q in e (omega arith)) ∙ p.0 j (grind arith)
+      ]),
+      (λ d h. o.kept d (h k (omega arith)) ∙ p.1 d (λ j m. h j (omega arith))),
+    )
+
+pub row_word : (old new : Grid) (c : Coord) (word j : ℕ) → AreWritten old new c word → j < 8 → word_at new (further c j) ≡ word
+row_word old new c word j w l = ap (λ (g : Grid). word_at g (further c j)) (sym w.last) ∙ (written_so_far old new c word 8 w (omega arith)).0 j l
+
+pub row_others : (old new : Grid) (c d : Coord) (word : ℕ) → AreWritten old new c word → ((j : ℕ) → j < 8 → d ≡ further c j → ⊥) → word_at new d ≡ word_at old d
+row_others old new c d word w h = ap (λ (g : Grid). word_at g d) (sym w.last) ∙ (written_so_far old new c word 8 w (omega arith)).1 d h
+
+-- ---- a row that becomes void
+
+-- no voxel out of the row has its parent in it
+no_parent : (w : Coord → ℕ) (c q : Coord) (n k : ℕ) → RowIsFree w c n → k < n → ((j : ℕ) → j < n → q ≡ further c j → ⊥) → 8 ≤ w q → Toward (w q % 8) q (further c k) → ⊥
+unfolding Toward
+no_parent w c q n k f l out h t = by t
+  where
+    by : Toward (w q % 8) q (further c k) → ⊥
+    by (inl d) = f.right k q l (inr (inl (refl, omega arith, omega arith, omega arith))) h (omega arith)
+    by (inr (inl d)) = f.left k q l (inl (refl, omega arith, omega arith, omega arith)) h (omega arith)
+    by (inr (inr (inl d))) = f.over k q l (inr (inr (inr (inl (refl, omega arith, omega arith, omega arith))))) h (omega arith)
+    by (inr (inr (inr (inl d)))) = f.under k q l (inr (inr (inl (refl, omega arith, omega arith, omega arith)))) h (omega arith)
+    by (inr (inr (inr (inr (inl d))))) =
+        let x : q.x ≡ c.x = omega arith in
+        let y : q.y ≡ c.y = omega arith in
+        elim (cases_lt (k + 1) n) [
+          | inl m ↦ let z : q.z ≡ c.z + (k + 1) = omega arith in out (k + 1) m (λ j. record { x = x j; y = y j; z = z j })
+          | inr m ↦ f.far q x y (omega arith) h (omega arith)
+        ]
+    by (inr (inr (inr (inr (inr d))))) =
+        let x : q.x ≡ c.x = omega arith in
+        let y : q.y ≡ c.y = omega arith in
+        elim (cases_lt 0 k) [
+          | inl m ↦ let z : q.z ≡ c.z + (k - 1) = omega arith in out (k - 1) (omega arith) (λ j. record { x = x j; y = y j; z = z j })
+          | inr m ↦ f.near 0 q (omega arith) (inr (inr (inr (inr (inl (refl, omega arith, omega arith, omega arith)))))) h (omega arith)
+        ]
+
+exact_without_row : (r n : ℕ) (w v : Coord → ℕ) (c : Coord) → AreExact r w → RowIsFree w c n → ((j : ℕ) → j < n → v (further c j) ≡ 0) →
+    ((d : Coord) → ((j : ℕ) → j < n → d ≡ further c j → ⊥) → v d ≡ w d) → AreExact r v
+exact_without_row r n w v c e f gone kept = record {
+  space = λ d h. let s = kept d (out d h) in e.space d (omega arith);
+  form = λ d l. elim (in_row d c n) [
+    | inl i ↦ let z : v d ≡ 0 = ap v i.2 ∙ gone i.0 i.1 in omega arith
+    | inr o ↦ let s = kept d o in let h : w d ≤ 1 = e.form d (omega arith) in omega arith
+  ];
+  floor = λ d h y. let s = kept d (out d h) in s ∙ e.floor d (omega arith) y;
+  parent = λ d h.
+      let o = out d (omega arith) in
+      let s = kept d o in
+      elim (e.parent d (omega arith)) [
+        | inl p ↦ inl (s ∙ p.0, p.1)
+        | inr p ↦
+            let same : v p.0 ≡ w p.0 = kept p.0 (λ j l m. no_parent w c d n j f l o (omega arith) (subst (λ (x : Coord). Toward (w d % 8) d x) m p.1)) in
+            inr (p.0, subst (λ (j : ℕ). Toward (j % 8) d p.0) (sym s) p.1, omega (arith, p.2), omega (arith, p.3))
+      ];
+  near = λ a b h i j. let s = kept a (out a h) in let t = kept b (out b (omega arith)) in let q = e.near a b (omega arith) (omega arith) j in (omega (arith, q.0), omega (arith, q.1));
+}
+  where
+    out : (d : Coord) → 0 < v d → (j : ℕ) → j < n → d ≡ further c j → ⊥
+    out d h j l m = let z : v d ≡ 0 = ap v m ∙ gone j l in omega arith
+
+pub row_voided : (old new : Grid) (c : Coord) (before after : ℕ) → AreExact old.resolution (word_at old) → RowIsFree (word_at old) c 8 → AreWritten old new c 0 → after ≡ before + 8 → AreCleared old new c 0 8 before after
+row_voided old new c before after e f w a =
+    let r : new.resolution ≡ old.resolution = ap (λ (g : Grid). g.resolution) (sym w.last) ∙ w.resolution 8 in
+    record {
+      resolution = r;
+      table = ap (λ (g : Grid). g.table) (sym w.last) ∙ w.table 8;
+      exact = subst (λ (s : ℕ). AreExact s (word_at new)) (sym r)
+          (exact_without_row old.resolution 8 (word_at old) (word_at new) c e f (λ j l. row_word old new c 0 j w l) (λ d h. row_others old new c d 0 w h));
+      gone = λ j b l. row_word old new c 0 j w l;
+      kept = λ d h. row_others old new c d 0 w (λ j l. h j (omega arith) l);
+      within = omega arith;
+      cost = omega arith;
+    }
+
+-- no word of the row is 1 where none is
+pub none_is_one : (g : Grid) (c : Coord) (k : ℕ) → LieInRow g c 8 → NoneFloatsBelow g (volume g.resolution) → k < 8 → word_at g (further c k) ≢ 1
+none_is_one g c k h none l e =
+    let i : IsInSpace g.resolution (further c k) = row_space g c 8 k h l in
+    none (place g.resolution (further c k)) (place_below g.resolution (further c k) i) (ap (word_at g) (coordinate_at-place g.resolution (further c k) i) ∙ e)

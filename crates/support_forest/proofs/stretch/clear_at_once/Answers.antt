@@ -1,0 +1,23 @@
+use Rattle.std.proofs.Common.{◌≡◌, ℕ, ◌∙◌, arith, subst, sym}
+use Rattle.support_forest.specs.Stretches.{AreCleared, LieInRow, RowIsFree}
+use Rattle.support_forest.specs.Grid.{word_at}
+use Rattle.support_forest.proofs.Rowwise.{none_is_one, row_voided}
+use Rattle.support_forest.proofs.Standing.{none_floats}
+use Rattle.support_forest.proofs.stretch.clear_at_once.Goals as goal
+
+pub write_row-requires-clause-row : goal.write_row-requires-clause-row
+write_row-requires-clause-row g c =
+    let b = c.requires.row.row in
+    let n : c.args.count ≡ 8 = (let r = b.row in let f = c.if-count-lt-BRICK_SIDE.false in omega arith) in
+    subst (λ (k : ℕ). LieInRow c.args.cells.now c.args.first k) n b
+
+pub write_row-requires-clause-levels : goal.write_row-requires-clause-levels
+write_row-requires-clause-levels g c k l e =
+    none_is_one c.args.cells.now c.args.first k (write_row-requires-clause-row g c) (none_floats c.args.cells.now (sym c.floating.ensures ∙ c.if-floating-ne0.false)) l e
+
+pub returns-clause-cleared : goal.returns-clause-cleared
+returns-clause-cleared g c t =
+    let n : c.args.count ≡ 8 = (let r = c.requires.row.row.row in let f = c.if-count-lt-BRICK_SIDE.false in omega arith) in
+    subst (λ (k : ℕ). AreCleared c.args.cells.now c.write_row.new.self c.args.first 0 k c.args.steps.now c.write_row.new.steps) (sym n)
+    (row_voided c.args.cells.now c.write_row.new.self c.args.first c.args.steps.now c.write_row.new.steps c.requires.exact
+    (subst (λ (k : ℕ). RowIsFree (word_at c.args.cells.now) c.args.first k) n c.requires.free) c.write_row.ensures.written c.write_row.ensures.touches)
