@@ -145,14 +145,15 @@ impl Bricks {
         store(&mut self.chunks, place(slot, index), word);
     }
 
-    /// Writes one word into the eight places of a live slot from `index` on, as eight calls of [`Bricks::set_word`] would, by
-    /// one touch each.
+    /// Writes one word into the eight places of a live slot from `index` on, as eight calls of [`Bricks::set_word`] would,
+    /// by one touch each.
     #[inline(always)]
     pub fn set_row<L: Ledger>(&mut self, slot: u32, index: u16, word: u32, steps: &mut Steps<L>)
         requires live { IsLive self.old slot }
         requires row { index + 8 ≤ SLOT_WORDS }
         ensures value { self.new ≡ with_row self.old slot index 8 word }
-        ensures written { (k : ℕ) → k < 8 → slice_index (words_of (with_row self.old slot index (k + 1) word) slot) (index + k) ≡ word }
+        ensures written { (k : ℕ) → k < 8
+            → slice_index (words_of (with_row self.old slot index (k + 1) word) slot) (index + k) ≡ word }
         ensures touches { steps.new ≡ steps.old + 8 }
         ensures slots { AreSlots self.new }
     {

@@ -325,7 +325,8 @@ fn clear_voxels<L: Ledger>(
     }
 }
 
-/// Makes the voxels of a row void at once, where it is a whole one and no voxel floats: whether it did. Otherwise all stays.
+/// Makes the voxels of a row void at once, where it is a whole one and no voxel floats: whether it did. Otherwise all
+/// stays.
 #[inline(always)]
 fn clear_at_once<L: Ledger>(
     cells: &mut Cells,

@@ -1,8 +1,8 @@
 -- Lines along an axis: their bits, and the search for the first full coordinate of a region that is a line.
-use Rattle.std.proofs.Common.{◌≡◌, ℕ, zero, suc, ◌+◌, ◌-◌, ◌*◌, ◌/◌, ◌%◌, ◌<◌, ◌≤◌, refl, sym, ◌∙◌, ap, subst, arith, Bool, true, false, cond, List, ◌++◌, append-nil, length, filter, find, Option, Some, None, inl, inr}
+use Rattle.std.proofs.Common.{◌≡◌, ℕ, zero, suc, ◌+◌, ◌-◌, ◌*◌, ◌/◌, ◌<◌, ◌≤◌, refl, sym, ◌∙◌, ap, subst, arith, Bool, true, false, cond, List, ◌++◌, append-nil, length, filter, find, Option, Some, None, inl, inr}
 use Rattle.std.specs.Prelude.{◌⊎◌}
 use Rattle.std.specs.Option.{option_or}
-use Rattle.std.proofs.Math.Nat.{mul_assoc, mul-div_cancel, mul-le-mul}
+use Rattle.std.proofs.Math.Nat.{mul-le-mul}
 use Rattle.std.proofs.lemmas.Bool.{cases_lt}
 use Rattle.vox_geom.specs.declared.coordinate.Coord.{Coord}
 use Rattle.vox_geom.specs.Region.{Corners, IsOrdered, size, span}
@@ -29,66 +29,9 @@ free_more ws from apart n at f e h = record { free = λ k l. by k l (cases_lt k 
         let same : k ≡ n = omega arith in
         ap (λ v. is_set ws (from + v * apart)) same ∙ (ap (is_set ws) (sym e) ∙ h)
 
--- some of so many bits are clear, and the next one is at an index
-pub record AreClearSoFar (ws : List ℕ) (from apart count at before steps : ℕ) : Type 0 where
-  pub number : ℕ
-  pub few : number ≤ count
-  pub index : at ≡ from + number * apart
-  pub clear : AreClear ws from apart number
-  pub touches : steps ≤ before + number
-
--- the same of bits that lie so many words apart, of which the first stands in a word
-pub record AreClearWords (ws : List ℕ) (from first apart count word before steps : ℕ) : Type 0 where
-  pub number : ℕ
-  pub few : number ≤ count
-  pub index : word ≡ first + number * apart
-  pub clear : AreClear ws from (apart * 64) number
-  pub touches : steps ≤ before + number
-
 -- so many steps are no longer than all of them
 pub steps_within : (n count apart : ℕ) → n ≤ count → n * apart ≤ count * apart
 steps_within n count apart l = mul-le-mul l (omega arith)
-
--- the number of the bit at an index
-pub number_is : (from apart n at : ℕ) → 0 < apart → at ≡ from + n * apart → (at - from) / apart ≡ n
-number_is from apart n at s e = let d : at - from ≡ n * apart = omega arith in ap (λ v. v / apart) d ∙ mul-div_cancel n s
-
--- before the end it is one of them
-pub number_below : (from apart n count at : ℕ) → at ≡ from + n * apart → at < from + count * apart → n < count
-number_below from apart n count at e l = elim (cases_lt n count) [ inl m ↦ m | inr m ↦ let s = steps_within count n apart m in absurd (omega arith) ]
-
--- the bit is the first that is 1
-pub first_at : (ws : List ℕ) (from apart count at before steps : ℕ) → AreClearSoFar ws from apart count at before steps → 0 < apart → is_set ws at ≡ true → IsFirstBit ws from apart ((at - from) / apart)
-first_at ws from apart count at before steps i s h =
-    subst (λ (n : ℕ). IsFirstBit ws from apart n) (sym (number_is from apart i.number at s i.index)) (record { before = i.clear; here = ap (is_set ws) (sym i.index) ∙ h })
-
--- the bit with a number
-words_on : (from first apart n word place : ℕ) → first ≡ from / 64 → place ≡ from % 64 → word ≡ first + n * apart → word * 64 + place ≡ from + n * (apart * 64)
-words_on from first apart n word place f p w = let m : n * (apart * 64) ≡ n * apart * 64 = sym (mul_assoc n apart 64) in omega arith
-
-pub first_in : (ws : List ℕ) (from first apart count word place before steps : ℕ) → AreClearWords ws from first apart count word before steps → 0 < apart → first ≡ from / 64 → place ≡ from % 64 → is_set ws (word * 64 + place) ≡ true →
-    IsFirstBit ws from (apart * 64) ((word - first) / apart)
-first_in ws from first apart count word place before steps i s f p h =
-    let e : word * 64 + place ≡ from + i.number * (apart * 64) = words_on from first apart i.number word place f p i.index in
-    subst (λ (n : ℕ). IsFirstBit ws from (apart * 64) n) (sym (number_is first apart i.number word s i.index)) (record { before = i.clear; here = ap (is_set ws) (sym e) ∙ h })
-
-pub word_within : (ws : List ℕ) (from first apart count word before steps : ℕ) → AreClearWords ws from first apart count word before steps → first ≡ from / 64 → word < first + count * apart →
-    ((n : ℕ) → n < count → (from + n * (apart * 64)) / 64 < length ws) → word < length ws
-word_within ws from first apart count word before steps i f l w =
-    let m : i.number * (apart * 64) ≡ i.number * apart * 64 = sym (mul_assoc i.number apart 64) in
-    let b = w i.number (number_below first apart i.number count word i.index l) in
-    let index = i.index in
-    omega arith
-
-pub all_clear : (ws : List ℕ) (from first apart count word before steps : ℕ) → AreClearWords ws from first apart count word before steps → 0 < apart → first + count * apart ≤ word → AreClear ws from (apart * 64) count
-all_clear ws from first apart count word before steps i s l =
-    let few = i.few in
-    let index = i.index in
-    let e : i.number ≡ count = elim (cases_lt i.number count) [
-      | inl m ↦ let d : (i.number + 1) * apart ≡ i.number * apart + apart = omega arith in let k = steps_within (i.number + 1) count apart (omega arith) in absurd (omega arith)
-      | inr m ↦ omega arith
-    ] in
-    subst (λ (n : ℕ). AreClear ws from (apart * 64) n) e i.clear
 
 -- ---- a search that goes on at the next of so many coordinates
 

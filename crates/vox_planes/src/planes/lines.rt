@@ -57,8 +57,7 @@ impl Planes {
     }
 }
 
-/// The number of the first bit that is 1, of so many, the first at an index and each so far behind the one before. While none is
-/// found the bits are not counted.
+/// The number of the first bit that is 1, of so many, the first at an index and each so far behind the one before.
 #[inline(always)]
 fn next_apart<L: Ledger>(
     words: &[u64],
@@ -69,18 +68,16 @@ fn next_apart<L: Ledger>(
 ) -> Option<u16>
     requires within { (n : ℕ) → n < count → (from + n * apart) / 64 < length words.now }
     requires small { from + count * apart < 2 ^ 63 }
-    requires some { 0 < apart }
     ensures found { IfSome result (λ n. IsFirstBit words.now from apart n) }
     ensures below { IfSome result (λ n. n < count) }
     ensures none { IfNone result (AreClear words.now from apart count) }
     ensures touches { steps.new ≤ steps.old + count }
 {
-    let end = from + usize::from(count) * apart;
     let mut at = from;
-    while at < end {
+    for n in 0..count {
         steps.tick();
         if is_set(words, at) {
-            return Some(((at - from) / apart) as u16);
+            return Some(n);
         }
         at += apart;
     }
@@ -109,20 +106,17 @@ fn next_above<L: Ledger>(
 ) -> Option<u16>
     requires within { (n : ℕ) → n < count → (from + n * (apart * 64)) / 64 < length words.now }
     requires small { from + count * (apart * 64) < 2 ^ 63 }
-    requires some { 0 < apart }
     ensures found { IfSome result (λ n. IsFirstBit words.now from (apart * 64) n) }
     ensures below { IfSome result (λ n. n < count) }
     ensures none { IfNone result (AreClear words.now from (apart * 64) count) }
     ensures touches { steps.new ≤ steps.old + count }
 {
     let place = from % WORD_BITS;
-    let first = from / WORD_BITS;
-    let end = first + usize::from(count) * apart;
-    let mut word = first;
-    while word < end {
+    let mut word = from / WORD_BITS;
+    for n in 0..count {
         steps.tick();
         if is_set_in(words, word, place) {
-            return Some(((word - first) / apart) as u16);
+            return Some(n);
         }
         word += apart;
     }

@@ -1,9 +1,10 @@
-use Rattle.std.proofs.Common.{◌-◌, ◌/◌}
-use Rattle.vox_planes.proofs.Lines.{AreClearWords}
+use Rattle.std.proofs.Common.{◌≡◌, ◌+◌, ◌*◌, ◌/◌, ◌≤◌}
+use Rattle.vox_planes.specs.Bits.{AreClear}
 use Rattle.vox_planes.proofs.planes.lines.next_above.Given as goal
 
-abbrev pub invariant-loop-word : goal.invariant-loop-word
-invariant-loop-word g l = AreClearWords l.words l.from (l.from / 64) l.apart l.count l.word l.initial.steps l.steps
-
-abbrev pub decreases-loop-word : goal.decreases-loop-word
-decreases-loop-word g l = l.end - l.word
+abbrev pub invariant-loop-n : goal.invariant-loop-n
+invariant-loop-n g l = record {
+  word : l.word ≡ l.from / 64 + l.n * l.apart;
+  free : AreClear l.words l.from (l.apart * 64) l.n;
+  touches : l.steps ≤ l.initial.steps + l.n;
+}
