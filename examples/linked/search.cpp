@@ -1,5 +1,6 @@
 // A search over two machines, from C++, as search.c is from C: `search T B` builds towards the model T by steps that look best two moves
-// deep, stores the trace that it made as B, and prints what `nanobot run - T B` prints of it.
+// deep, stores the trace that it made as B, and prints what `nanobot run - T B` prints of it, which it asks the judge too. It calls the
+// planners besides, so that these two programs in C++ make every call.
 #include "nanobot_machine.h"
 
 #include <cstdio>
@@ -150,6 +151,52 @@ static void check(Machine &made, Machine &scout, const Bytes &trace)
     require(again == trace);
 }
 
+// What a call gives into a buffer of so much room.
+template <class Call> static Bytes given(std::uint64_t room, std::uint32_t wanted, Call call)
+{
+    Bytes bytes(static_cast<std::size_t>(room));
+    std::size_t size;
+    require(call(bytes.data(), bytes.size(), &size) == wanted);
+    bytes.resize(size);
+    return bytes;
+}
+
+static bool is_accepted(const Bytes &source, const Bytes &target, const Bytes &trace)
+{
+    std::int64_t energy;
+    std::uint32_t count;
+    const std::uint8_t *from = source.empty() ? NANOBOT_NONE : source.data(), *to = target.empty() ? NANOBOT_NONE : target.data();
+    return nanobot_cost(from, source.size(), to, target.size(), trace.data(), trace.size(), false, &energy, &count) == NANOBOT_DONE;
+}
+
+// The judge says of the trace what is told here, and accepts the plans of the planners that build and take down every legal model.
+static void judge(const Bytes &target, std::uint32_t r, const Bytes &trace, const std::string &line, std::uint32_t wanted)
+{
+    const std::uint8_t *t = target.data();
+    Bytes told = given(200, wanted, [&](auto... to) {
+        return nanobot_judge(NANOBOT_NONE, 0, t, target.size(), trace.data(), trace.size(), false, to...);
+    });
+    require(std::string(told.begin(), told.end()) == line);
+    given(200, NANOBOT_DONE, [&](auto... to) { return nanobot_check(t, target.size(), to...); });
+    require(is_accepted({}, target, given(nanobot_layer_room(r), NANOBOT_DONE, [&](auto... to) {
+        return nanobot_plan_layer(NANOBOT_NONE, 0, t, target.size(), to...);
+    })));
+    require(is_accepted({}, target, given(nanobot_group_room(r), NANOBOT_DONE, [&](auto... to) {
+        return nanobot_plan_group(NANOBOT_NONE, 0, t, target.size(), to...);
+    })));
+    require(is_accepted({}, target, given(nanobot_swarm_room(r), NANOBOT_DONE, [&](auto... to) {
+        return nanobot_plan_swarm(t, target.size(), to...);
+    })));
+    require(is_accepted(target, {}, given(nanobot_void_room(r), NANOBOT_DONE, [&](auto... to) {
+        return nanobot_plan_void(t, target.size(), to...);
+    })));
+    Bytes low(static_cast<std::size_t>(nanobot_low_room(r)));
+    std::size_t size;
+    std::uint32_t status = nanobot_plan_low(t, target.size(), low.data(), low.size(), &size);
+    low.resize(size);
+    require(status == NANOBOT_UNSUPPORTED || (status == NANOBOT_DONE && is_accepted({}, target, low)));
+}
+
 int main(int count, char **words)
 {
     if (count != 3)
@@ -173,11 +220,14 @@ int main(int count, char **words)
     check(made, scout, trace);
     std::ofstream(words[2], std::ios::binary).write(reinterpret_cast<const char *>(trace.data()), static_cast<std::streamsize>(trace.size()));
     nanobot_state state = made.state();
-    if (state.active == 0) {
-        std::printf("ok energy %lld steps %u\n", static_cast<long long>(state.energy), state.steps);
-        return NANOBOT_DONE;
+    std::string line = "ok energy " + std::to_string(state.energy) + " steps " + std::to_string(state.steps) + "\n";
+    if (state.active > 0) {
+        nanobot_bot bot = made.bot();
+        line = "broken 1 TraceEnds step " + std::to_string(state.steps + 1) + " bid " + std::to_string(bot.bid) + " at " + std::to_string(bot.x) + " "
+            + std::to_string(bot.y) + " " + std::to_string(bot.z) + "\n";
     }
-    nanobot_bot bot = made.bot();
-    std::printf("broken 1 TraceEnds step %u bid %u at %u %u %u\n", state.steps + 1, bot.bid, bot.x, bot.y, bot.z);
-    return NANOBOT_BROKEN;
+    std::uint32_t status = state.active > 0 ? NANOBOT_BROKEN : NANOBOT_DONE;
+    judge(target, resolution, trace, line, status);
+    std::fputs(line.c_str(), stdout);
+    return static_cast<int>(status);
 }

@@ -1,4 +1,5 @@
 mod Differences
+mod Histories
 pub mod Notes
 pub mod Standing
 pub mod Steps

@@ -55,8 +55,10 @@ module _ (v w : Situation) (notes rest : Buffer Undo) (commands : List Command) 
       ∙ (instants_last (instant_of w) notes.capacity (notes.items ++ undo ∷ [])
       ∙ ap (keep_last notes.capacity) (instants_more (instant_of w) notes.items undo ∙ (λ i. instants_of (before_is i) notes.items ++ before_is i ∷ [])))
 
-  pub made_noted : (trace : Option (List Command)) → IsMade (kept_of v notes trace) commands (kept_of w rest (trace_with trace commands)) ok
-  made_noted trace = record {
+  pub made_noted : CanStep v commands → (trace : Option (List Command)) → IsMade (kept_of v notes trace) commands (kept_of w rest (trace_with trace commands)) ok
+  made_noted can trace = record {
+    some = can.some;
+    each = can.each;
     goes = stepped.goes;
     counted = stepped.counted;
     past = past_is;
@@ -76,8 +78,10 @@ module _ (v w : Situation) (notes : Buffer Undo) (commands : List Command) (ok :
     back = subst (λ (b : Buffer Undo). CanBeTakenBack (instant_of w) b.items) (sym none) tt;
   }
 
-  pub made_once : (trace : Option (List Command)) → IsMade (kept_of v notes trace) commands (kept_of w notes (trace_with trace commands)) ok
-  made_once trace = record {
+  pub made_once : CanStep v commands → (trace : Option (List Command)) → IsMade (kept_of v notes trace) commands (kept_of w notes (trace_with trace commands)) ok
+  made_once can trace = record {
+    some = can.some;
+    each = can.each;
     goes = stepped.goes;
     counted = stepped.counted;
     past = subst (λ (b : Buffer Undo). instants_of (instant_of w) b.items ≡ keep_last b.capacity (instants_of (instant_of v) b.items ++ instant_of v ∷ [])) (sym none) refl;
@@ -100,11 +104,11 @@ module _ (v w : Situation) (notes : Buffer Undo) (commands : List Command) where
   refused_so trace fault.Spent began ended can stepped = looks_the_same v w notes stepped.stays.0 stepped.stays.1 trace
 
   -- what is answered to a step that is made and then taken back
-  pub would_make : (trace : Option (List Command)) (ok : StepOk) (began ended : ℕ) → Stepped v w commands (Ok ok) began ended → WouldAnswer (kept_of v notes trace) commands (Ok ok)
-  would_make trace ok began ended stepped =
+  pub would_make : (trace : Option (List Command)) (ok : StepOk) (began ended : ℕ) → CanStep v commands → Stepped v w commands (Ok ok) began ended → WouldAnswer (kept_of v notes trace) commands (Ok ok)
+  would_make trace ok began ended can stepped =
       let k : Kept = kept_of v notes trace in (
         record { state = w.state; steps = w.steps; past = keep_last k.room (k.past ++ present k ∷ []); room = k.room; trace = trace_with trace commands },
-        record { goes = stepped.goes; counted = stepped.counted; past = refl; room = refl; trace = refl; energy = stepped.energy; halted = stepped.halted },
+        record { some = can.some; each = can.each; goes = stepped.goes; counted = stepped.counted; past = refl; room = refl; trace = refl; energy = stepped.energy; halted = stepped.halted },
       )
 
 -- the commands cannot be judged, and nothing was done

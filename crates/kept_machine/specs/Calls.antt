@@ -32,8 +32,10 @@ OpensFile bytes profile room answer =
     ((m : Matrix) × (model bytes ≡ Ok m) × Opens m profile room answer)
     ⊎ ((fault : ModelFault) × (answer ≡ Err fault) × ReadsModel (model bytes) (Err fault))
 
--- a step was made: it leads to the definition's state, and can be taken back as long as it is among the last that are kept
+-- a step was made of one command for each bot: it leads to the definition's state, and can be taken back as long as it is among the last that are kept
 pub record IsMade (old : Kept) (commands : List Command) (new : Kept) (ok : StepOk) : Type 0 where
+  pub some : 1 ≤ length old.state.bots
+  pub each : length commands ≡ length old.state.bots
   pub goes : Next old.state commands (old.steps + 1) (Goes new.state)
   pub counted : new.steps ≡ old.steps + 1
   pub past : new.past ≡ keep_last old.room (old.past ++ present old ∷ [])

@@ -5,9 +5,11 @@
 mod counting;
 mod fault;
 mod kept;
+mod laws;
 mod reading;
 mod stepping;
 mod trace;
 
 pub use fault::{NoLevel, NoStep};
 pub use kept::KeptMachine;
+pub use laws::a_trace_leads_to_its_machine;

@@ -13,7 +13,8 @@ use std::alloc::Global;
 /// Reads a text, and gives the trace that `nanobot asm X B` stores or, where the text is refused, the line that the program prints.
 #[unsafe(no_mangle)]
 pub extern "C" fn nanobot_asm(alloc: Global, text: &[u8], trace: &mut [u8], size: &mut usize) -> u32
-    ensures answer { (IsMemory result → ⊥) → GaveFileOf plan_name (asm_row source_name plan_name) (lent text.now [] []) trace.old trace.new size.new result }
+    ensures answer { (IsMemory result → ⊥)
+        → GaveFileOf plan_name (asm_row source_name plan_name) (lent text.now [] []) trace.old trace.new size.new result }
     ensures memory { IsMemory result → (trace.new ≡ trace.old) × (size.new ≡ 0) }
 {
     let row = Row::Asm {
@@ -31,7 +32,8 @@ pub extern "C" fn nanobot_asm(alloc: Global, text: &[u8], trace: &mut [u8], size
 /// Reads a trace, and gives the text that `nanobot dis B X` stores or, where the trace is refused, the line that the program prints.
 #[unsafe(no_mangle)]
 pub extern "C" fn nanobot_dis(alloc: Global, trace: &[u8], text: &mut [u8], size: &mut usize) -> u32
-    ensures answer { (IsMemory result → ⊥) → GaveFileOf plan_name (dis_row trace_name plan_name) (lent [] [] trace.now) text.old text.new size.new result }
+    ensures answer { (IsMemory result → ⊥)
+        → GaveFileOf plan_name (dis_row trace_name plan_name) (lent [] [] trace.now) text.old text.new size.new result }
     ensures memory { IsMemory result → (text.new ≡ text.old) × (size.new ≡ 0) }
 {
     let row = Row::Dis {

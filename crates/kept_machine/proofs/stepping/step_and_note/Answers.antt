@@ -14,7 +14,7 @@ returns-in-Ok-clause-kept g c =
 pub returns-in-Ok-clause-tries : goal.returns-in-Ok-clause-tries
 returns-in-Ok-clause-tries g c = λ trace.
     made_noted c.args.machine.now c.step_noted.new.self c.args.notes.now c.push_back.new.self c.args.commands.now c.in-Ok.undo c.in-Ok.ok c.args.steps.now c.step_noted.new.steps
-    c.requires.kept c.in-Ok.ensures.stepped c.in-Ok.ensures.before c.in-Ok.ensures.counted c.in-Ok.ensures.undo c.push_back.ensures.items trace
+    c.requires.kept c.in-Ok.ensures.stepped c.in-Ok.ensures.before c.in-Ok.ensures.counted c.in-Ok.ensures.undo c.push_back.ensures.items c.requires.can trace
 
 pub returns-in-Err-clause-tries : goal.returns-in-Err-clause-tries
 returns-in-Err-clause-tries g c = λ trace.

@@ -8,7 +8,7 @@ use Rattle.kept_machine.proofs.stepping.step_and_restore.Goals as goal
 
 pub returns-in-Ok-clause-answer : goal.returns-in-Ok-clause-answer
 returns-in-Ok-clause-answer g c = λ notes trace.
-    would_make c.args.machine.now c.step_noted.new.self notes c.args.commands.now trace c.in-Ok.ok c.args.steps.now c.step_noted.new.steps c.in-Ok.ensures.stepped
+    would_make c.args.machine.now c.step_noted.new.self notes c.args.commands.now trace c.in-Ok.ok c.args.steps.now c.step_noted.new.steps c.requires.can c.in-Ok.ensures.stepped
 
 pub returns-in-Err-clause-answer : goal.returns-in-Err-clause-answer
 returns-in-Err-clause-answer g c = λ notes trace.
