@@ -15,7 +15,7 @@ from .errors import (
     WrongCount,
 )
 from .machine import Bot, Machine, State, Step, version
-from .rows import Cost, Refused, check, judge, plan_group, plan_layer, plan_low, plan_swarm, plan_void
+from .rows import Cost, Refused, check, judge, plan_crew, plan_group, plan_layer, plan_low, plan_swarm, plan_void
 
 __version__ = "0.9.0"
 
@@ -40,6 +40,7 @@ __all__ = [
     "WrongCount",
     "check",
     "judge",
+    "plan_crew",
     "plan_group",
     "plan_layer",
     "plan_low",
