@@ -6,17 +6,17 @@ _nanobot() {
     case $COMP_CWORD in
     1) kinds='run check asm dis make plan exercise debug' ;;
     2) case ${COMP_WORDS[1]} in
-        plan) kinds='layer group void low swarm' ;;
+        plan) kinds='layer group crew void low swarm' ;;
         run) kinds='light -' ;;
         make | exercise) return ;;
         esac ;;
     3) case ${COMP_WORDS[1]} in
-        plan) case ${COMP_WORDS[2]} in low | swarm) kinds='-' ;; layer | group) kinds='-' ;; esac ;;
+        plan) case ${COMP_WORDS[2]} in low | swarm) kinds='-' ;; layer | group | crew) kinds='-' ;; esac ;;
         run) kinds='-' ;;
         make | exercise) return ;;
         esac ;;
     4) case ${COMP_WORDS[1]} in
-        plan) case ${COMP_WORDS[2]} in void) kinds='-' ;; layer | group) kinds='-' ;; esac ;;
+        plan) case ${COMP_WORDS[2]} in void) kinds='-' ;; layer | group | crew) kinds='-' ;; esac ;;
         run) [[ ${COMP_WORDS[2]} != light ]] || kinds='-' ;;
         esac ;;
     esac

@@ -30,7 +30,7 @@ timed() {
 echo '| Model | Plan | Energy | Steps | Commands | Bytes | Planned, s | Run, s |'
 echo '|---|---|---|---|---|---|---|---|'
 for model in house full-100 full-248 forged-7-100; do
-    for words in "layer - $model.mdl" "layer $model.mdl -" "group - $model.mdl" "group $model.mdl -" "void $model.mdl -" "low - $model.mdl" "swarm - $model.mdl"; do
+    for words in "layer - $model.mdl" "layer $model.mdl -" "group - $model.mdl" "group $model.mdl -" "crew - $model.mdl" "crew $model.mdl -" "void $model.mdl -" "low - $model.mdl" "swarm - $model.mdl"; do
         shown=${words/$model.mdl/M}
         # shellcheck disable=SC2086
         timed plan $words plan.nbt

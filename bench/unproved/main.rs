@@ -29,7 +29,7 @@ mod vox_planes;
 
 use group_planner::{plan_groups, rows, runs};
 use layer_planner::plan_layers;
-use plan_choice::{choose_group_plan, choose_layer_plan, choose_low_plan, choose_swarm_plan, choose_void_plan};
+use plan_choice::{choose_crew_plan, choose_group_plan, choose_layer_plan, choose_low_plan, choose_swarm_plan, choose_void_plan};
 use low_planner::plan_low;
 use model_file::{legal, read_model, write_model};
 use model_forge::forge;
@@ -214,6 +214,7 @@ fn plan(words: &[String]) {
         "layer" => plan_layers(Global, &source, &target).ok(),
         "void" => plan_void(Global, &source).ok(),
         "low" => plan_low(Global, &target).ok(),
+        "crew" => choose_crew_plan(Global, &source, &target).ok(),
         "group-low" => choose_group_plan(Global, &source, &target).ok(),
         "layer-low" => choose_layer_plan(Global, &source, &target).ok(),
         "low-low" => choose_low_plan(Global, &target).ok(),

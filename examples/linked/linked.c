@@ -91,6 +91,8 @@ static uint32_t plan_into(const char *kind, struct bytes source, struct bytes ta
         return nanobot_plan_layer(source.at, source.size, target.at, target.size, at, most, size);
     if (strcmp(kind, "group") == 0)
         return nanobot_plan_group(source.at, source.size, target.at, target.size, at, most, size);
+    if (strcmp(kind, "crew") == 0)
+        return nanobot_plan_crew(source.at, source.size, target.at, target.size, at, most, size);
     if (strcmp(kind, "void") == 0)
         return nanobot_plan_void(source.at, source.size, at, most, size);
     if (strcmp(kind, "low") == 0)

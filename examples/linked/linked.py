@@ -20,6 +20,7 @@ CALLS = {
     "check": SLICE + GIVEN,
     "plan_layer": 2 * SLICE + GIVEN,
     "plan_group": 2 * SLICE + GIVEN,
+    "plan_crew": 2 * SLICE + GIVEN,
     "plan_void": SLICE + GIVEN,
     "plan_low": SLICE + GIVEN,
     "plan_swarm": SLICE + GIVEN,

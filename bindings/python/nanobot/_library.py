@@ -57,6 +57,7 @@ CALLS = {
     "nanobot_check": BYTES + GIVEN,
     "nanobot_plan_layer": 2 * BYTES + GIVEN,
     "nanobot_plan_group": 2 * BYTES + GIVEN,
+    "nanobot_plan_crew": 2 * BYTES + GIVEN,
     "nanobot_plan_void": BYTES + GIVEN,
     "nanobot_plan_low": BYTES + GIVEN,
     "nanobot_plan_swarm": BYTES + GIVEN,

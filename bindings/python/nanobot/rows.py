@@ -93,6 +93,11 @@ def plan_group(source: Optional[Source], target: Optional[Source]) -> bytes:
     return _plan(library.plan_group, source, target)
 
 
+def plan_crew(source: Optional[Source], target: Optional[Source]) -> bytes:
+    """The same by forty bots at most, never dearer than what the other planners make."""
+    return _plan(library.plan_crew, source, target)
+
+
 def plan_void(source: Source) -> bytes:
     """A trace that takes the source down, by four bots at most."""
     return _plan(library.plan_void, source)

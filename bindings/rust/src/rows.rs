@@ -31,6 +31,7 @@ impl Error for Refused {}
 pub enum Planner {
     Layer,
     Group,
+    Crew,
     Void,
     Low,
     Swarm,
@@ -130,6 +131,7 @@ pub fn plan(planner: Planner, source: Option<&[u8]>, target: Option<&[u8]>) -> R
     match planner {
         Planner::Layer => of_two(sys::nanobot_plan_layer, source, target),
         Planner::Group => of_two(sys::nanobot_plan_group, source, target),
+        Planner::Crew => of_two(sys::nanobot_plan_crew, source, target),
         Planner::Void => of_one(sys::nanobot_plan_void, source),
         Planner::Low => of_one(sys::nanobot_plan_low, target),
         Planner::Swarm => of_one(sys::nanobot_plan_swarm, target),

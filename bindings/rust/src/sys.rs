@@ -177,6 +177,15 @@ extern "C" {
         room: usize,
         size: *mut usize,
     ) -> u32;
+    pub fn nanobot_plan_crew(
+        source: *const u8,
+        source_size: usize,
+        target: *const u8,
+        target_size: usize,
+        plan: *mut u8,
+        room: usize,
+        size: *mut usize,
+    ) -> u32;
     pub fn nanobot_plan_group(
         source: *const u8,
         source_size: usize,

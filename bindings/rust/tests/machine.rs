@@ -148,7 +148,7 @@ fn a_trace_is_judged_as_its_steps_cost() {
 fn each_plan_is_accepted() {
     let model: &[u8] = &[3, 0, 4, 0, 0];
     assert_eq!(check(model), Ok("legal resolution 3 full 1".to_owned()));
-    for planner in [Planner::Layer, Planner::Group, Planner::Low, Planner::Swarm] {
+    for planner in [Planner::Layer, Planner::Group, Planner::Crew, Planner::Low, Planner::Swarm] {
         let trace = plan(planner, None, Some(model)).unwrap();
         assert!(judge(None, Some(model), &trace, Profile::Full).is_ok());
     }

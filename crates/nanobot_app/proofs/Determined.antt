@@ -26,11 +26,11 @@ use Rattle.nanobot_rows.specs.declared.report.Who.TheVariants as who
 use Rattle.nanobot_rows.specs.declared.status.Status.{Status}
 use Rattle.nanobot_rows.specs.declared.status.Status.TheVariants as is
 use Rattle.nanobot_rows.specs.Answer.{Answer, AnswerOf, AnswerOfRun, AskNoPlan, Judged, OfBytes, OfDecoding, OfGroupPlan, OfLines, OfLowPlan, OfPlan, OfReading, OfRun, OfScript, OfSession, OfText, OfTrace, Reply, WhereSupported, WithBoth, WithFile, WithModel, WithModels, WithSide, dis_limit, group_limit, run_limit, script_limit, text_limit}
-use Rattle.nanobot_rows.specs.Planners.{IsGroupPlan, IsLayerPlan, IsLowPlan, IsSwarmPlan, IsVoidPlan, PlanFacts}
+use Rattle.plan_choice.specs.Planners.{IsCrewPlan, IsGroupPlan, IsLayerPlan, IsLowPlan, IsSwarmPlan, IsVoidPlan, PlanFacts}
 use Rattle.nanobot_app.specs.Outcome.{DepotRose, IsAnswer, LacksFile, CallOutcome, Outside, SinkRose}
 use Rattle.nanobot_rows.specs.Reading.{no_such_file, reply_of}
 use Rattle.nanobot_rows.specs.Lines.{no_model_line, not_legal_line, text_line}
-use Rattle.nanobot_words.specs.Rows.{Row, asm, check, debug, dis, exercise, light, make, plan_group, plan_layer, plan_low, plan_swarm, plan_void, run, IsRow, MakesPlans}
+use Rattle.nanobot_words.specs.Rows.{Row, asm, check, debug, dis, exercise, light, make, plan_crew, plan_group, plan_layer, plan_low, plan_swarm, plan_void, run, IsRow, MakesPlans}
 use Rattle.nanobot_rows.proofs.Replies.{verdict_reply}
 use Rattle.nanobot_rows.proofs.Told.{if_some}
 
@@ -191,6 +191,7 @@ module _ {A : Type 0} (part : Reply → A) (laws : Laws) where
     row_answer_once (make number resolution name) told = same_reply _
     row_answer_once (plan_layer source target trace) told = models_once source target _ (λ s t. plan_once (told tt) IsLayerPlan trace s t)
     row_answer_once (plan_group source target trace) told = models_once source target _ (λ s t. group_once (told tt) trace s t)
+    row_answer_once (plan_crew source target trace) told = models_once source target _ (λ s t. plan_once (told tt) IsCrewPlan trace s t)
     row_answer_once (plan_void source trace) told = models_once (Some source) None _ (λ s t. plan_once (told tt) IsVoidPlan trace s t)
     row_answer_once (plan_low target trace) told = models_once None (Some target) _ (λ s t. low_once (told tt) trace s t)
     row_answer_once (plan_swarm target trace) told = models_once None (Some target) _ (λ s t. plan_once (told tt) IsSwarmPlan trace s t)

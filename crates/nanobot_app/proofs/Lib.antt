@@ -1,7 +1,6 @@
 pub mod Decodings
 pub mod Determined
 pub mod Headlines
-pub mod Lengths
 pub mod Numbers
 pub mod Outcomes
 pub mod Plans

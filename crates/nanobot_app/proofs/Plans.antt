@@ -24,14 +24,14 @@ use Rattle.vox_depot.specs.Files.{Files, content}
 use Rattle.nanobot_rows.specs.declared.report.Report.TheVariants as report
 use Rattle.nanobot_rows.specs.declared.status.Status.TheVariants as is
 use Rattle.nanobot_rows.specs.Answer.{AnswerOf, AnswerOfRun, OfDecoding, OfGroupPlan, OfLowPlan, OfPlan, OfRun, OfTrace, Reply, IsReply, Stores, WhereSupported, group_limit, run_limit, with_file}
-use Rattle.nanobot_rows.specs.Planners.{IsGroupPlan, IsLayerPlan, IsLowPlan, IsSwarmPlan, IsVoidPlan}
+use Rattle.plan_choice.specs.Planners.{IsCrewPlan, IsGroupPlan, IsLayerPlan, IsLowPlan, IsSwarmPlan, IsVoidPlan}
 use Rattle.nanobot_app.specs.Plans.{IsRunOfPlan}
 use Rattle.nanobot_rows.specs.Lines.{group_long_line, planned_line}
 use Rattle.nanobot_rows.specs.Models.{AreModels, IsModelOf, IsSide}
 use Rattle.nanobot_rows.specs.Reading.{no_such_file, reply_of}
-use Rattle.nanobot_words.specs.Rows.{HasName, plan_group, plan_layer, plan_low, plan_swarm, plan_void}
+use Rattle.nanobot_words.specs.Rows.{HasName, plan_crew, plan_group, plan_layer, plan_low, plan_swarm, plan_void}
 use Rattle.low_planner.proofs.Builds.{full_most}
-use Rattle.nanobot_app.proofs.Lengths.{few_commands, four_each, low_fits, swarm_fits, two_each, void_fits}
+use Rattle.plan_choice.proofs.Lengths.{few_commands, four_each, layer_fits, low_fits, swarm_fits, two_each, void_fits}
 use Rattle.nanobot_rows.proofs.Stored.{nothing_here}
 use Rattle.nanobot_app.proofs.Headlines.{done_models, named_of}
 use Rattle.nanobot_rows.proofs.Replies.{models_given}
@@ -88,9 +88,6 @@ module _ (law : MostLaw) where
       by None h = absurd h
       by (Some bytes) h = law bytes m h.0
 
-  fits : (r size : ℕ) → r ≤ 400 → size ≤ 8 * volume r + 200 → size ≤ run_limit
-  fits r size most bound = let cube : r * r * r ≤ 400 * 400 * 400 = mul-le-mul (mul-le-mul most most) most in omega (arith, cube, bound)
-
   most_of_models : (files : Files) (source target : Option (List ℕ)) (s t : Matrix) → HasName source target → AreModels source target files s t → s.resolution ≤ 400
   most_of_models files (Some name) target s t named m = most_of files name s m.source_is
   most_of_models files None (Some name) s t named m = subst (λ (r : ℕ). r ≤ 400) (sym m.alike) (most_of files name t m.target_is)
@@ -118,8 +115,15 @@ module _ (law : MostLaw) where
         let named = named_of files source target (OfPlan IsLayerPlan trace files) reply answer in
         let m = done_models files source target (OfPlan IsLayerPlan trace files) reply done answer in
         let plan = m.3.3 in
-        let size = fits m.0.resolution (length (spellings m.3.0)) (most_of_models files source target m.0 m.1 named m.2) plan.bytes in
+        let size = layer_fits m.0.resolution (length (spellings m.3.0)) (most_of_models files source target m.0 m.1 named m.2) plan.bytes in
         run_of_plan full_profile m.0 m.1 m.3.0 m.3.1 m.3.2 reply named m.2 plan.are_commands plan.accepted size m.3.4
+
+    pub crew_is_accepted : (reply : Reply) → AnswerOf (plan_crew source target trace) files reply → reply.status ≡ is.Done → IsRunOfPlan full_profile source target trace reply
+    crew_is_accepted reply answer done =
+        let named = named_of files source target (OfPlan IsCrewPlan trace files) reply answer in
+        let m = done_models files source target (OfPlan IsCrewPlan trace files) reply done answer in
+        let plan = m.3.3 in
+        run_of_plan full_profile m.0 m.1 m.3.0 m.3.1 m.3.2 reply named m.2 plan.are_commands plan.accepted plan.few_bytes m.3.4
 
     -- a plan of the group planner that is told is within the limit
     group_done : (s t : Matrix) (reply : Reply) → reply.status ≡ is.Done → OfGroupPlan trace files s t reply → (most_bytes s t ≤ group_limit) × OfPlan IsGroupPlan trace files s t reply

@@ -6,7 +6,7 @@ ghost use Rattle.nanobot_rows.specs.Answer.{Answer, AnswerOf, AskNoPlan, Reply};
 ghost use Rattle.nanobot_rows.specs.Lines.{accepted_line};
 ghost use Rattle.nanobot_app.specs.Headline.{IsCost, MachineTakes};
 ghost use Rattle.nanobot_app.specs.Plans.{IsRunOfPlan};
-ghost use Rattle.nanobot_words.specs.Rows.{HasName, IsInNoRow, asm, check, debug, dis, light, make, plan_group, plan_layer, plan_low, plan_swarm, plan_void, run};
+ghost use Rattle.nanobot_words.specs.Rows.{HasName, IsInNoRow, asm, check, debug, dis, light, make, plan_crew, plan_group, plan_layer, plan_low, plan_swarm, plan_void, run};
 ghost use Rattle.nanobot_rows.specs.declared.status.Status.TheVariants as status;
 
 use debug_script::{one_script, one_text, some_script, some_text};
@@ -69,6 +69,8 @@ pub fn a_plan_is_accepted()
         → AnswerOf (plan_layer source target trace) files reply → reply.status ≡ status.Done → IsRunOfPlan full_profile source target trace reply }
     ensures group { (source target : Option (List ℕ)) (trace : List ℕ) (files : Files) (reply : Reply) → (source ≡ Some trace → ⊥) → (target ≡ Some trace → ⊥)
         → AnswerOf (plan_group source target trace) files reply → reply.status ≡ status.Done → IsRunOfPlan full_profile source target trace reply }
+    ensures crew { (source target : Option (List ℕ)) (trace : List ℕ) (files : Files) (reply : Reply) → (source ≡ Some trace → ⊥) → (target ≡ Some trace → ⊥)
+        → AnswerOf (plan_crew source target trace) files reply → reply.status ≡ status.Done → IsRunOfPlan full_profile source target trace reply }
     ensures void { (source trace : List ℕ) (files : Files) (reply : Reply) → (source ≡ trace → ⊥) → AnswerOf (plan_void source trace) files reply
         → reply.status ≡ status.Done → IsRunOfPlan full_profile (Some source) None trace reply }
     ensures low { (target trace : List ℕ) (files : Files) (reply : Reply) → (target ≡ trace → ⊥) → AnswerOf (plan_low target trace) files reply

@@ -13,7 +13,7 @@ use Rattle.nanobot_rows.specs.Answer.{AnswerOf, Reply}
 use Rattle.nanobot_rows.specs.Effects.{IsFor, bytes_by, files_with, reply_by, status_by}
 use Rattle.nanobot_rows.specs.Reading.{no_such_file, reply_of}
 use Rattle.nanobot_rows.specs.Report.{code_of, report_line, status_of}
-use Rattle.nanobot_words.specs.Rows.{Row, plan_group, plan_layer, stores_of}
+use Rattle.nanobot_words.specs.Rows.{Row, plan_crew, plan_group, plan_layer, stores_of}
 use Rattle.nanobot_c.specs.Calls.{GaveLineOf, GavePlanOf, Gives, bytes_in, stored_in}
 use Rattle.nanobot_c.specs.Given.{Gave, IsDone, IsMemory, MayGive, file_or_line}
 use Rattle.nanobot_c.specs.Lent.{plan_name, run_row}
@@ -91,3 +91,7 @@ module _ (source source' target target' : Option (List ℕ)) (files : Files) (ol
   pub group_given : Gives (plan_group source target plan_name) files old new size result → GavePlanOf (plan_group source' target' plan_name) files old new size result
   group_given g = (subst (λ (s : Option (List ℕ)). Gives (plan_group s target' plan_name) files old new size result) same_source
       (subst (λ (t : Option (List ℕ)). Gives (plan_group source t plan_name) files old new size result) same_target g)).answer has
+
+  pub crew_given : Gives (plan_crew source target plan_name) files old new size result → GavePlanOf (plan_crew source' target' plan_name) files old new size result
+  crew_given g = (subst (λ (s : Option (List ℕ)). Gives (plan_crew s target' plan_name) files old new size result) same_source
+      (subst (λ (t : Option (List ℕ)). Gives (plan_crew source t plan_name) files old new size result) same_target g)).answer has

@@ -1,6 +1,6 @@
 //! Plans.
 ghost use Rattle.std.specs.Prelude.{◌≡◌, []};
-ghost use Rattle.nanobot_words.specs.Rows.{plan_group as group_row, plan_layer as layer_row, plan_low as low_row, plan_swarm as swarm_row, plan_void as void_row};
+ghost use Rattle.nanobot_words.specs.Rows.{plan_crew as crew_row, plan_group as group_row, plan_layer as layer_row, plan_low as low_row, plan_swarm as swarm_row, plan_void as void_row};
 ghost use Rattle.nanobot_c.specs.Calls.{GavePlanOf, HasModel, HasNoModel};
 ghost use Rattle.nanobot_c.specs.Given.{GaveNoRow, IsMemory};
 ghost use Rattle.nanobot_c.specs.Lent.{lent, plan_name, source_name, source_side, target_name, target_side};
@@ -63,6 +63,38 @@ pub extern "C" fn nanobot_plan_group(
         return give_no_row(plan, size);
     }
     let row = Row::PlanGroup {
+        source: side("s", source),
+        target: side("t", target),
+        trace: "p",
+    };
+    let lent = Lent {
+        source,
+        target,
+        trace: &[],
+    };
+    call(alloc, row, lent, plan, size)
+}
+
+/// Plans with up to forty bots from the source to the target, and gives the trace that `nanobot plan crew S T B` stores or,
+/// where it is refused, the line that the program prints. A source or a target of no bytes is the empty model of the
+/// other's resolution.
+#[unsafe(no_mangle)]
+pub extern "C" fn nanobot_plan_crew(
+    alloc: Global,
+    source: &[u8],
+    target: &[u8],
+    plan: &mut [u8],
+    size: &mut usize,
+) -> u32
+    ensures answer { HasModel source.now target.now → (IsMemory result → ⊥)
+        → GavePlanOf (crew_row (source_side source.now) (target_side target.now) plan_name) (lent source.now target.now []) plan.old plan.new size.new result }
+    ensures no_model { HasNoModel source.now target.now → GaveNoRow plan.old plan.new size.new result }
+    ensures memory { IsMemory result → (plan.new ≡ plan.old) × (size.new ≡ 0) }
+{
+    if !has_model(source, target) {
+        return give_no_row(plan, size);
+    }
+    let row = Row::PlanCrew {
         source: side("s", source),
         target: side("t", target),
         trace: "p",

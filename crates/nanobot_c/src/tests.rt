@@ -1,7 +1,8 @@
 //! Each export over small models and traces. The lines are those of `worked_rows`.
 use crate::judging::{nanobot_check, nanobot_cost, nanobot_judge};
 use crate::planning::{
-    nanobot_plan_group, nanobot_plan_layer, nanobot_plan_low, nanobot_plan_swarm, nanobot_plan_void,
+    nanobot_plan_crew, nanobot_plan_group, nanobot_plan_layer, nanobot_plan_low,
+    nanobot_plan_swarm, nanobot_plan_void,
 };
 use std::alloc::Global;
 use std::process::Abort;
@@ -194,6 +195,7 @@ fn models_are_checked(rt: HostRuntime) -> Result<(), Fail> {
 enum Planner {
     Layer,
     Group,
+    Crew,
     Void,
     Low,
     Swarm,
@@ -211,6 +213,7 @@ fn planned(
     match planner {
         Planner::Layer => nanobot_plan_layer(alloc, source, target, buffer, size),
         Planner::Group => nanobot_plan_group(alloc, source, target, buffer, size),
+        Planner::Crew => nanobot_plan_crew(alloc, source, target, buffer, size),
         Planner::Void => nanobot_plan_void(alloc, source, buffer, size),
         Planner::Low => nanobot_plan_low(alloc, target, buffer, size),
         Planner::Swarm => nanobot_plan_swarm(alloc, target, buffer, size),
@@ -218,14 +221,16 @@ fn planned(
 }
 
 /// A planner, a source, a target, and the status and what is given.
-const PLANS: [(Planner, &[u8], &[u8], u32, &[u8]); 10] = [
+const PLANS: [(Planner, &[u8], &[u8], u32, &[u8]); 12] = [
     (Planner::Layer, P3, P3, 0, &[0xFF]),
     (Planner::Group, P3, P3, 0, &[0xFF]),
+    (Planner::Crew, P3, P3, 0, &[0xFF]),
     (Planner::Void, E3, NONE, 0, &[0xFF]),
     (Planner::Low, NONE, E3, 0, &[0xFF]),
     (Planner::Swarm, NONE, E3, 0, &[0xFF]),
     (Planner::Layer, NONE, NONE, 2, b"words not understood\n"),
     (Planner::Group, NONE, NONE, 2, b"words not understood\n"),
+    (Planner::Crew, NONE, NONE, 2, b"words not understood\n"),
     (Planner::Void, NONE, NONE, 3, b"source 1 NoByte\n"),
     (Planner::Low, NONE, HOOK, 9, b"unsupported at 3 1 1\n"),
     (Planner::Swarm, NONE, NONE, 3, b"target 1 NoByte\n"),
@@ -281,6 +286,8 @@ fn plans_are_accepted(rt: HostRuntime) -> Result<(), Fail> {
     let alloc = rt.alloc();
     assert_accepted(&rt, alloc, Planner::Layer, NONE, P3)?;
     assert_accepted(&rt, alloc, Planner::Group, P3, NONE)?;
+    assert_accepted(&rt, alloc, Planner::Crew, NONE, P3)?;
+    assert_accepted(&rt, alloc, Planner::Crew, P3, NONE)?;
     assert_accepted(&rt, alloc, Planner::Void, P3, NONE)?;
     assert_accepted(&rt, alloc, Planner::Low, NONE, P3)?;
     assert_accepted(&rt, alloc, Planner::Swarm, NONE, P3)

@@ -1,10 +1,9 @@
 -- The answers of `exercise`.
-use Rattle.std.proofs.Common.{◌≡◌, ◌∙◌, ◌+◌, ◌*◌, ◌≤◌, ℕ, List, sym, ap, subst, arith}
+use Rattle.std.proofs.Common.{◌≡◌, ◌∙◌, ℕ, List, sym, ap, subst}
 use Rattle.std.specs.Prelude.{ℤ, Option, Result, Ok, Err, IfSome}
 use Rattle.nano_spec.specs.declared.commands.Command.{Command}
 use Rattle.nano_spec.specs.Forge.{forged}
 use Rattle.nano_spec.specs.Matrix.{Matrix, empty, full_count}
-use Rattle.nano_spec.specs.Model.{volume}
 use Rattle.vox_depot.specs.Files.{Files}
 use Rattle.nanobot_rows.specs.declared.report.Cost.{Cost}
 use Rattle.nanobot_rows.specs.declared.report.Report.{Report}
@@ -14,7 +13,7 @@ use Rattle.nanobot_rows.specs.declared.stop.Stop.TheVariants as stop
 use Rattle.nanobot_words.specs.Rows.{exercise}
 use Rattle.nanobot_rows.specs.Answer.{AnswerOf, Answers, Costs}
 use Rattle.nanobot_rows.specs.Effects.{EndsStored, alone}
-use Rattle.nanobot_rows.specs.Planners.{IsGroupPlan, IsLayerPlan, PlanFacts}
+use Rattle.plan_choice.specs.Planners.{IsGroupPlan, IsLayerPlan, PlanFacts}
 use Rattle.nanobot_rows.specs.Reading.{EndsUnstored, reply_of}
 use Rattle.nanobot_rows.proofs.Told.{if_some}
 
@@ -36,9 +35,6 @@ exercised told number resolution full target layer group e l g f =
       subst (λ (m : Matrix). Costs IsGroupPlan m group) e g,
       ap (λ (n : ℕ). reply_of files (Exercised number resolution n layer group)) (f ∙ ap full_count e),
     ))
-
-pub cubes : (r size : ℕ) → size ≤ 8 * r * r * r + 200 → size ≤ 8 * volume r + 200
-cubes r size h = omega (arith, h)
 
 -- a plan from the empty model of this resolution
 pub costs_of : (Is : PlanFacts) (r : ℕ) (nothing target : Matrix) (commands : List Command) (energy : ℤ) (steps : ℕ) (cost : Cost) → nothing ≡ empty r → target.resolution ≡ r → Is nothing target commands energy steps → cost ≡ record { energy = energy; steps = steps } → Costs Is target cost

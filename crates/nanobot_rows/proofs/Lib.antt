@@ -1,7 +1,6 @@
 pub mod AloneBytes
 pub mod Cut
 pub mod Debugged
-pub mod Empty
 pub mod Examples
 pub mod Exercised
 pub mod Loads

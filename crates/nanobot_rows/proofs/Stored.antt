@@ -18,7 +18,7 @@ use Rattle.nanobot_rows.specs.declared.report.Report.{Report}
 use Rattle.nanobot_rows.specs.declared.report.Report.TheVariants as report
 use Rattle.nanobot_rows.specs.declared.stop.Stop.{Stop}
 use Rattle.nanobot_rows.specs.Answer.{AnswerOf, Answers, OfDecoding, OfGroupPlan, OfPlan, OfReading, OfText, OfTrace, Reply, IsReply, Stores, WithFile, WithModels, dis_limit, group_limit, text_limit, with_file}
-use Rattle.nanobot_rows.specs.Planners.{IsGroupPlan, PlanFacts}
+use Rattle.plan_choice.specs.Planners.{IsGroupPlan, PlanFacts}
 use Rattle.nanobot_rows.specs.Effects.{EndsStored, KeepsPlan, bytes_by, files_with, reply_by, status_by}
 use Rattle.nanobot_rows.specs.declared.status.Status.TheVariants as is
 use Rattle.nanobot_rows.specs.Lines.{group_long_line, stored_line, trace_line}
@@ -96,9 +96,9 @@ module _ (told : Option Files) (trace text : List ℕ) where
 -- ---- plans
 
 -- what keeps a plan is answered so
-pub plan_kept : (Is : PlanFacts) (s t : Matrix) (name : List ℕ) (commands : List Command) (energy : ℤ) (steps : ℕ) (effect : Effect) → (AreCommands commands → Is s t commands energy steps) → KeepsPlan name commands energy steps effect
+pub plan_kept : (Is : PlanFacts) (s t : Matrix) (name : List ℕ) (commands : List Command) (energy : ℤ) (steps : ℕ) (effect : Effect) → Is s t commands energy steps → KeepsPlan name commands energy steps effect
     → (files : Files) → OfPlan Is name files s t (reply_by files effect)
-plan_kept Is s t name commands energy steps effect is keeps files = (commands, energy, steps, is keeps.are_commands, by effect.file keeps.file)
+plan_kept Is s t name commands energy steps effect is keeps files = (commands, energy, steps, is, by effect.file keeps.file)
   where
     planned : Report
     planned = report.Planned energy steps (length commands) (length (spellings commands))

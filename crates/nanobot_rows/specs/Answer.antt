@@ -27,9 +27,9 @@ use Rattle.nanobot_rows.specs.declared.report.Who.{Who}
 use Rattle.nanobot_rows.specs.declared.report.Who.TheVariants as who
 use Rattle.nanobot_rows.specs.declared.status.Status.{Status}
 use Rattle.nanobot_rows.specs.declared.status.Status.TheVariants as is
-use Rattle.nanobot_rows.specs.Planners.{IsGroupPlan, IsLayerPlan, IsLowPlan, IsSwarmPlan, IsVoidPlan, PlanFacts}
+use Rattle.plan_choice.specs.Planners.{IsCrewPlan, IsGroupPlan, IsLayerPlan, IsLowPlan, IsSwarmPlan, IsVoidPlan, PlanFacts}
 use Rattle.nanobot_rows.specs.Lines.{exercised_head, exercised_line, forged_line, group_long_line, legal_line, no_model_line, not_legal_line, planned_line, resolutions_line, stored_line, text_line, text_long_line, trace_line, trace_long_line, unsupported_line, verdict_line, verdict_status, words_line}
-use Rattle.nanobot_words.specs.Rows.{Row, asm, check, debug, dis, exercise, light, make, plan_group, plan_layer, plan_low, plan_swarm, plan_void, run, IsRow, IsInNoRow, MakesPlans}
+use Rattle.nanobot_words.specs.Rows.{Row, asm, check, debug, dis, exercise, light, make, plan_crew, plan_group, plan_layer, plan_low, plan_swarm, plan_void, run, IsRow, IsInNoRow, MakesPlans}
 
 -- what is answered: a status, a line, which is empty where none is told, and the files afterwards
 pub record Reply : Type 0 where
@@ -228,6 +228,7 @@ AnswerOf (make number resolution name) files = Stores (forged_line resolution (f
     (written (forged number resolution)) files
 AnswerOf (plan_layer source target trace) files = WithModels files source target (OfPlan IsLayerPlan trace files)
 AnswerOf (plan_group source target trace) files = WithModels files source target (OfGroupPlan trace files)
+AnswerOf (plan_crew source target trace) files = WithModels files source target (OfPlan IsCrewPlan trace files)
 AnswerOf (plan_void source trace) files = WithModels files (Some source) None (OfPlan IsVoidPlan trace files)
 AnswerOf (plan_low target trace) files = WithModels files None (Some target) (OfLowPlan trace files)
 AnswerOf (plan_swarm target trace) files = WithModels files None (Some target) (OfPlan IsSwarmPlan trace files)

@@ -3,7 +3,6 @@ pub mod Answer
 pub mod Effects
 pub mod Lines
 pub mod Models
-pub mod Planners
 pub mod Reading
 pub mod Report
 pub mod Taking

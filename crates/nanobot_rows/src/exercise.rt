@@ -20,7 +20,6 @@ use plan_choice::{choose_group_plan, choose_layer_plan};
 use plan_tape::Plan;
 use std::alloc::Global;
 use std::sync::ledger::Ledger;
-use system_state::know_all;
 use trace_judge::judge;
 use vox_geom::{MOST_R, Memory, Steps};
 use vox_planes::Planes;
@@ -68,10 +67,8 @@ fn judge_plans<L: Ledger>(
     let target = forge(alloc, number, resolution)?;
     let nothing = Planes::empty(alloc, resolution)?;
     let first = choose_layer_plan(alloc, &nothing, &target)?;
-    know_all(first.commands.as_slice());
     let layer = judge_plan(alloc, &target, &first, steps)?;
     let second = choose_group_plan(alloc, &nothing, &target)?;
-    know_all(second.commands.as_slice());
     let group = judge_plan(alloc, &target, &second, steps)?;
     Ok(Report::Exercised {
         number,

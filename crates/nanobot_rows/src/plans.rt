@@ -4,7 +4,7 @@ ghost use Rattle.group_planner.specs.Bounds.{most_bytes};
 ghost use Rattle.group_planner.specs.Rows.{rows as rows_of, runs as runs_of};
 ghost use Rattle.vox_depot.specs.Causes.{Rose};
 ghost use Rattle.nanobot_words.specs.Parsing.{side_of};
-ghost use Rattle.nanobot_words.specs.Rows.{plan_group as group_row, plan_layer as layer_row, plan_low as low_row, plan_swarm as swarm_row, plan_void as void_row};
+ghost use Rattle.nanobot_words.specs.Rows.{plan_crew as crew_row, plan_group as group_row, plan_layer as layer_row, plan_low as low_row, plan_swarm as swarm_row, plan_void as void_row};
 ghost use Rattle.nanobot_rows.specs.Answer.{AnswerOf};
 ghost use Rattle.nanobot_rows.specs.Effects.{EndsStored, IsFor, KeepsPlan};
 ghost use Rattle.nanobot_rows.specs.declared.report.Report.TheVariants.{GroupLong};
@@ -16,7 +16,9 @@ use crate::stop::Stop;
 use group_planner::{rows, runs};
 use low_planner::LowFault;
 use nanobot_words::Side;
-use plan_choice::{choose_group_plan, choose_layer_plan, choose_swarm_plan, choose_void_plan};
+use plan_choice::{
+    choose_crew_plan, choose_group_plan, choose_layer_plan, choose_swarm_plan, choose_void_plan,
+};
 use plan_tape::Plan;
 use std::alloc::Global;
 use trace_codec::encode_all;
@@ -98,6 +100,30 @@ pub fn plan_group<'a, D: Depot>(
         return Err(Stop::Told(report));
     }
     let plan = choose_group_plan(alloc, &source, &target)?;
+    let effect = keep_plan(alloc, &plan, trace)?;
+    Ok(effect)
+}
+
+/// `plan crew`: the trace of a plan of up to forty bots that makes the target of the source.
+pub fn plan_crew<'a, D: Depot>(
+    alloc: Global,
+    depot: &mut D,
+    source: Side<'_>,
+    target: Side<'_>,
+    trace: &'a str,
+) -> Result<Effect<'a>, Stop>
+    requires source { (name : List ℕ) → side_of source ≡ Some name → D.may_fetch name }
+    requires target { (name : List ℕ) → side_of target ≡ Some name → D.may_fetch name }
+    requires some { side_of source ≡ None → side_of target ≡ None → ⊥ }
+    ensures finishes { EndsStored (AnswerOf (crew_row (side_of source.entry) (side_of target.entry) trace.now)) (D.files depot.old)
+        (Rose (D.faults depot.old) (D.faults depot.new)) result }
+    ensures named { IfOk result (IsFor (Some trace.now)) }
+    ensures files { D.files depot.new ≡ D.files depot.old }
+    ensures later { D.faults depot.old ≤ D.faults depot.new }
+    ensures stores { D.failed_stores depot.new ≡ D.failed_stores depot.old }
+{
+    let (source, target) = load_models(alloc, depot, source, target)?;
+    let plan = choose_crew_plan(alloc, &source, &target)?;
     let effect = keep_plan(alloc, &plan, trace)?;
     Ok(effect)
 }

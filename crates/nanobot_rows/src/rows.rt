@@ -14,7 +14,7 @@ use crate::debugging::debug;
 use crate::effect::Effect;
 use crate::exercise::exercise;
 use crate::models::{load_model, load_models};
-use crate::plans::{plan_group, plan_layer, plan_low, plan_swarm, plan_void};
+use crate::plans::{plan_crew, plan_group, plan_layer, plan_low, plan_swarm, plan_void};
 use crate::report::{Report, Who};
 use crate::stop::Stop;
 use crate::trace::run_trace;
@@ -213,6 +213,11 @@ pub fn answer<'a, D: Depot, L: Ledger>(
             target,
             trace,
         } => plan_group(alloc, depot, source, target, trace),
+        Row::PlanCrew {
+            source,
+            target,
+            trace,
+        } => plan_crew(alloc, depot, source, target, trace),
         Row::PlanVoid { source, trace } => plan_void(alloc, depot, source, trace),
         Row::PlanLow { target, trace } => plan_low(alloc, depot, target, trace),
         Row::PlanSwarm { target, trace } => plan_swarm(alloc, depot, target, trace),

@@ -15,6 +15,7 @@ worked_words = record {
   a_forged_model = refl;
   a_layer_plan = refl;
   a_group_plan = refl;
+  a_crew_plan = refl;
   a_void_plan = refl;
   a_low_plan = refl;
   a_swarm_plan = refl;

@@ -3,7 +3,7 @@ use Rattle.std.proofs.Common.{◌≡◌, ℕ, List, [], ◌∷◌, Option, cond,
 use Rattle.std.specs.Str.{bytes_eq}
 use Rattle.std.specs.Prelude.{All, IsFalse, IsTrue}
 use Rattle.std.proofs.lemmas.Fmt.{decimal_injective}
-use Rattle.nanobot_words.specs.Rows.{Row, asm, check, debug, dis, exercise, light, make, plan_group, plan_layer, plan_low, plan_swarm, plan_void, run, row_words, side_word, CanForge, IsName, IsRow, with_side}
+use Rattle.nanobot_words.specs.Rows.{Row, asm, check, debug, dis, exercise, light, make, plan_crew, plan_group, plan_layer, plan_low, plan_swarm, plan_void, run, row_words, side_word, CanForge, IsName, IsRow, with_side}
 use Rattle.nanobot_words.proofs.Parsed.{first_named, same_side, second_named, trace_last}
 
 -- the word that tells what is asked for: the planner behind `plan`, and else the first
@@ -73,6 +73,9 @@ row_once words (plan_void s b) (plan_void s' b') h h' = same_void s b s' b' (sym
 row_once words (plan_group s t b) (plan_group s' t' b') h h' =
     let e : codes "plan" ∷ codes "group" ∷ side_word s ∷ side_word t ∷ b ∷ [] ≡ codes "plan" ∷ codes "group" ∷ side_word s' ∷ side_word t' ∷ b' ∷ [] = sym h.written ∙ h'.written in
     same_operands plan_group s t s' t' b b' (trace_last s t b h.named) (trace_last s' t' b' h'.named) (cc) (cc) (cc)
+row_once words (plan_crew s t b) (plan_crew s' t' b') h h' =
+    let e : codes "plan" ∷ codes "crew" ∷ side_word s ∷ side_word t ∷ b ∷ [] ≡ codes "plan" ∷ codes "crew" ∷ side_word s' ∷ side_word t' ∷ b' ∷ [] = sym h.written ∙ h'.written in
+    same_operands plan_crew s t s' t' b b' (trace_last s t b h.named) (trace_last s' t' b' h'.named) (cc) (cc) (cc)
 row_once words (plan_low t b) (plan_low t' b') h h' =
     let e : codes "plan" ∷ codes "low" ∷ codes "-" ∷ t ∷ b ∷ [] ≡ codes "plan" ∷ codes "low" ∷ codes "-" ∷ t' ∷ b' ∷ [] = sym h.written ∙ h'.written in
     same_target plan_low t b t' b' (cc) (cc)

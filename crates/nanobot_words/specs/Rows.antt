@@ -12,6 +12,7 @@ pub data Row : Type 0 where
   make : (number resolution : ℕ) (model : List ℕ) → Row
   plan_layer : (source target : Option (List ℕ)) (trace : List ℕ) → Row
   plan_group : (source target : Option (List ℕ)) (trace : List ℕ) → Row
+  plan_crew : (source target : Option (List ℕ)) (trace : List ℕ) → Row
   plan_void : (source trace : List ℕ) → Row
   plan_low : (target trace : List ℕ) → Row
   plan_swarm : (target trace : List ℕ) → Row
@@ -37,6 +38,7 @@ row_words (dis trace text) = codes "dis" ∷ trace ∷ text ∷ []
 row_words (make number resolution model) = codes "make" ∷ decimal number ∷ decimal resolution ∷ model ∷ []
 row_words (plan_layer source target trace) = codes "plan" ∷ codes "layer" ∷ side_word source ∷ side_word target ∷ trace ∷ []
 row_words (plan_group source target trace) = codes "plan" ∷ codes "group" ∷ side_word source ∷ side_word target ∷ trace ∷ []
+row_words (plan_crew source target trace) = codes "plan" ∷ codes "crew" ∷ side_word source ∷ side_word target ∷ trace ∷ []
 row_words (plan_void source trace) = codes "plan" ∷ codes "void" ∷ source ∷ codes "-" ∷ trace ∷ []
 row_words (plan_low target trace) = codes "plan" ∷ codes "low" ∷ codes "-" ∷ target ∷ trace ∷ []
 row_words (plan_swarm target trace) = codes "plan" ∷ codes "swarm" ∷ codes "-" ∷ target ∷ trace ∷ []
@@ -58,6 +60,7 @@ reads_of (dis trace text) = trace ∷ []
 reads_of (make number resolution model) = []
 reads_of (plan_layer source target trace) = with_side source (with_side target [])
 reads_of (plan_group source target trace) = with_side source (with_side target [])
+reads_of (plan_crew source target trace) = with_side source (with_side target [])
 reads_of (plan_void source trace) = source ∷ []
 reads_of (plan_low target trace) = target ∷ []
 reads_of (plan_swarm target trace) = target ∷ []
@@ -74,6 +77,7 @@ stores_of (dis trace text) = Some text
 stores_of (make number resolution model) = Some model
 stores_of (plan_layer source target trace) = Some trace
 stores_of (plan_group source target trace) = Some trace
+stores_of (plan_crew source target trace) = Some trace
 stores_of (plan_void source trace) = Some trace
 stores_of (plan_low target trace) = Some trace
 stores_of (plan_swarm target trace) = Some trace
@@ -103,6 +107,7 @@ IsOfTable (dis trace text) = ⊤
 IsOfTable (make number resolution model) = CanForge number resolution
 IsOfTable (plan_layer source target trace) = HasName source target
 IsOfTable (plan_group source target trace) = HasName source target
+IsOfTable (plan_crew source target trace) = HasName source target
 IsOfTable (plan_void source trace) = ⊤
 IsOfTable (plan_low target trace) = ⊤
 IsOfTable (plan_swarm target trace) = ⊤
@@ -113,6 +118,7 @@ IsOfTable (debug source trace script) = ⊤
 abbrev pub MakesPlans : Row → Type 0
 MakesPlans (plan_layer source target trace) = ⊤
 MakesPlans (plan_group source target trace) = ⊤
+MakesPlans (plan_crew source target trace) = ⊤
 MakesPlans (plan_void source trace) = ⊤
 MakesPlans (plan_low target trace) = ⊤
 MakesPlans (plan_swarm target trace) = ⊤

@@ -1,6 +1,6 @@
 -- Worked examples of the table of words: how rows are written, and which files they read and store (docs/FORMATS.md, "Printed lines").
 use Rattle.std.specs.Prelude.{◌≡◌, ℕ, List, [], ◌∷◌, codes, Some, None}
-use Rattle.nanobot_words.specs.Rows.{Row, asm, check, debug, dis, exercise, light, make, plan_group, plan_layer, plan_low, plan_swarm, plan_void, run, reads_of, row_words, stores_of}
+use Rattle.nanobot_words.specs.Rows.{Row, asm, check, debug, dis, exercise, light, make, plan_crew, plan_group, plan_layer, plan_low, plan_swarm, plan_void, run, reads_of, row_words, stores_of}
 
 -- the words of each row
 pub record WorkedWords : Type 0 where
@@ -16,6 +16,8 @@ pub record WorkedWords : Type 0 where
       ≡ codes "plan" ∷ codes "layer" ∷ codes "-" ∷ codes "t" ∷ codes "b" ∷ []
   pub a_group_plan : row_words (plan_group (Some (codes "s")) None (codes "b"))
       ≡ codes "plan" ∷ codes "group" ∷ codes "s" ∷ codes "-" ∷ codes "b" ∷ []
+  pub a_crew_plan : row_words (plan_crew (Some (codes "s")) (Some (codes "t")) (codes "b"))
+      ≡ codes "plan" ∷ codes "crew" ∷ codes "s" ∷ codes "t" ∷ codes "b" ∷ []
   pub a_void_plan : row_words (plan_void (codes "s") (codes "b")) ≡ codes "plan" ∷ codes "void" ∷ codes "s" ∷ codes "-" ∷ codes "b" ∷ []
   pub a_low_plan : row_words (plan_low (codes "t") (codes "b")) ≡ codes "plan" ∷ codes "low" ∷ codes "-" ∷ codes "t" ∷ codes "b" ∷ []
   pub a_swarm_plan : row_words (plan_swarm (codes "t") (codes "b")) ≡ codes "plan" ∷ codes "swarm" ∷ codes "-" ∷ codes "t" ∷ codes "b" ∷ []

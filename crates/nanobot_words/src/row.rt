@@ -54,6 +54,12 @@ pub enum Row<'a> {
         target: Side<'a>,
         trace: &'a str,
     },
+    /// The trace of the crew's planner from the source to the target, as a file.
+    PlanCrew {
+        source: Side<'a>,
+        target: Side<'a>,
+        trace: &'a str,
+    },
     /// The trace of the void planner from the source to the empty model, as a file.
     PlanVoid {
         source: &'a str,

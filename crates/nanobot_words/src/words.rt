@@ -1,6 +1,6 @@
 //! The words of the program.
 ghost use Rattle.std.specs.Prelude.{◌≡◌, ◌↔◌, ◌<◌, ◌≤◌, ◌^◌, ℕ, List, Option, [], ◌∷◌, IsTrue, MatchOption, codes, decimal};
-ghost use Rattle.nanobot_words.specs.Rows.{asm, check, debug, dis, exercise, light, make, plan_group, plan_layer, plan_low, plan_swarm, plan_void, run, side_word, AreOperands, AreWith, HasName, IsInNoRow, IsName, IsRow, MakesPlans, Row as RowOf, texts};
+ghost use Rattle.nanobot_words.specs.Rows.{asm, check, debug, dis, exercise, light, make, plan_crew, plan_group, plan_layer, plan_low, plan_swarm, plan_void, run, side_word, AreOperands, AreWith, HasName, IsInNoRow, IsName, IsRow, MakesPlans, Row as RowOf, texts};
 ghost use Rattle.nanobot_words.specs.Parsing.{row_of, side_of};
 
 use crate::row::{Row, Side};
@@ -254,6 +254,19 @@ fn parse_plan_group(words: &[String]) -> Option<Row<'_>>
     })
 }
 
+/// The source, the target and the trace after `plan crew`.
+fn parse_plan_crew(words: &[String]) -> Option<Row<'_>>
+    ensures { MatchOption result ((s t : Option (List ℕ)) (b : List ℕ) → IsRow (texts words.now) (plan_crew s t b) → ⊥)
+        (λ row. IsRow (texts words.now) (row_of row)) }
+{
+    let (source, target, trace) = parse_operands(words, "plan", "crew")?;
+    Some(Row::PlanCrew {
+        source,
+        target,
+        trace,
+    })
+}
+
 /// The source and the trace after `plan`, a planner's word and `S - B`.
 fn parse_source<'a>(words: &'a [String], planner: &str) -> Option<(&'a str, &'a str)>
     ensures { MatchOption result ((s b : List ℕ) → texts words.now ≡ codes "plan" ∷ planner.now ∷ s ∷ codes "-" ∷ b ∷ [] → IsName b → IsName s → ⊥)
@@ -371,6 +384,9 @@ fn parse_plans(words: &[String]) -> Option<Row<'_>>
         return Some(row);
     }
     if let Some(row) = parse_plan_group(words) {
+        return Some(row);
+    }
+    if let Some(row) = parse_plan_crew(words) {
         return Some(row);
     }
     if let Some(row) = parse_plan_void(words) {

@@ -1,8 +1,9 @@
 -- A proposal that is better than a plan may stand in its place.
-use Rattle.std.proofs.Common.{◌≡◌, arith, subst, sym, List}
+use Rattle.std.proofs.Common.{◌≡◌, ◌∙◌, ap, arith, subst, sym, List, [], ◌∷◌, length}
 use Rattle.std.specs.Prelude.{ℤ}
 use Rattle.std.proofs.lemmas.Int.{ints}
 use Rattle.nano_spec.specs.declared.commands.Command.{Command}
+use Rattle.nano_spec.specs.declared.commands.Command.TheVariants.{Halt}
 use Rattle.nano_spec.specs.declared.system.Profile.{Profile}
 use Rattle.nano_spec.specs.Matrix.{Matrix}
 use Rattle.plan_tape.specs.declared.tape.Plan.{Plan}
@@ -33,3 +34,18 @@ taken source target profile most plan proposal cost energy same accepted within 
   bytes = λ _. within.bytes_are;
   bots = λ _. few_at_most source profile proposal most.bots (let few = within.fissions_are in omega (arith, few));
 }
+
+-- what may stand for a plan that may stand for another one may stand for that one
+pub in_turn : (source target : Matrix) (profile : Profile) (most : Bounds) (plan first it : Plan) → MayStandFor source target profile most plan first → MayStandFor source target profile most first it → MayStandFor source target profile most plan it
+in_turn source target profile most plan first it a b = record {
+  accepted = b.accepted;
+  energy = let x = a.energy in let y = b.energy in omega (arith, ints, x, y);
+  steps = λ h. b.steps (a.steps h);
+  commands = λ h. b.commands (a.commands h);
+  bytes = λ h. b.bytes (a.bytes h);
+  bots = λ h. b.bots (a.bots h);
+}
+
+-- a Halt alone that stays is one
+pub alone_stays : (first it : List Command) → first ≡ Halt ∷ [] → (length first ≡ 1 → it ≡ first) → it ≡ Halt ∷ []
+alone_stays first it e h = h (ap length e) ∙ e

@@ -1,3 +1,6 @@
 pub mod Chosen
 pub mod Counting
+pub mod Crews
+pub mod Empty
+pub mod Lengths
 pub mod Scanned

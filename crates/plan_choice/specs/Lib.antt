@@ -1,1 +1,3 @@
 pub mod Better
+pub mod Crew
+pub mod Planners

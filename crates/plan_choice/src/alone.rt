@@ -57,7 +57,8 @@ fn alone(
 }
 
 /// The plan, or one bot's plan that fills each voxel once it is attached, from nothing, or voids all backwards, where that is
-/// cheaper and within the bounds. A plan of one command, which is a Halt alone, stands.
+/// cheaper and within the bounds. A plan of one command, which is a Halt alone, stands. What cannot cost less than the ceiling need not
+/// be tried.
 pub fn attach(
     alloc: Global,
     source: &Planes,
@@ -65,6 +66,7 @@ pub fn attach(
     profile: Profile,
     plan: Plan,
     most: Bounds,
+    ceiling: i64,
 ) -> Result<Plan, Memory>
     requires grounded { FirstUngrounded source.now None }
     requires resolution { source.now.resolution ≡ target.now.resolution }
@@ -76,7 +78,7 @@ pub fn attach(
     if plan.commands.as_slice().len() == 1 {
         return Ok(plan);
     }
-    let room = affordable(source.resolution(), plan.energy);
+    let room = affordable(source.resolution(), plan.energy.min(ceiling));
     let Some(commands) = alone(alloc, source, target, room)? else {
         return Ok(plan);
     };
@@ -89,8 +91,15 @@ pub fn attach(
 }
 
 /// The plan from nothing, or one bot's plan under Low all the time that fills each voxel once it is attached, where all are and that
-/// is cheaper and within the bounds. A plan of one command, which is a Halt alone, stands.
-pub fn attach_low(alloc: Global, target: &Planes, plan: Plan, most: Bounds) -> Result<Plan, Memory>
+/// is cheaper and within the bounds. A plan of one command, which is a Halt alone, stands. What cannot cost less than the ceiling need not
+/// be tried.
+pub fn attach_low(
+    alloc: Global,
+    target: &Planes,
+    plan: Plan,
+    most: Bounds,
+    ceiling: i64,
+) -> Result<Plan, Memory>
     requires accepted { IsAccepted (empty target.now.resolution) target.now plan.commands light_profile plan.energy plan.steps }
     ensures stands { IfOk result (λ it. MayStandFor (empty target.now.resolution) target.now light_profile most plan it) }
     ensures plain { All IsPlain plan.commands → IfOk result (λ it. All IsPlain it.commands) }
@@ -99,7 +108,7 @@ pub fn attach_low(alloc: Global, target: &Planes, plan: Plan, most: Bounds) -> R
     if plan.commands.as_slice().len() == 1 {
         return Ok(plan);
     }
-    let room = affordable(target.resolution(), plan.energy);
+    let room = affordable(target.resolution(), plan.energy.min(ceiling));
     let Some(proposal) = attached(alloc, target, false, room)? else {
         return Ok(plan);
     };

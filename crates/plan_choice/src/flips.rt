@@ -4,6 +4,7 @@ ghost use Rattle.nano_spec.specs.Grounded.{FirstUngrounded};
 ghost use Rattle.plan_tape.specs.Progress.{IsAccepted};
 ghost use Rattle.plan_choice.specs.Better.{MayStandFor};
 
+use crate::alone::affordable;
 use crate::bounds::Bounds;
 use crate::choice::cheaper;
 use nano_spec::{Command, CommandList, Harmonics, Profile};
@@ -17,6 +18,9 @@ use vox_planes::Planes;
 
 /// The most steps of a run.
 const MOST_STEPS: u32 = 1_073_741_824;
+
+/// The most Flips of a planner's plan, which others take the place of.
+const FLIPS: u64 = 2;
 
 /// Commands in the making, and the harmonics after them.
 #[derive(Drop)]
@@ -117,7 +121,7 @@ pub fn lowered(
 }
 
 /// The plan with Flips of its own, where that is accepted with less energy and within the bounds; else the plan. A plan of one
-/// command, which is a Halt alone, stands.
+/// command, which is a Halt alone, stands. What cannot cost less than the ceiling need not be tried.
 pub fn lower(
     alloc: Global,
     source: &Planes,
@@ -125,6 +129,7 @@ pub fn lower(
     profile: Profile,
     plan: Plan,
     most: Bounds,
+    ceiling: i64,
 ) -> Result<Plan, Memory>
     requires grounded { FirstUngrounded source.now None }
     requires resolution { source.now.resolution ≡ target.now.resolution }
@@ -134,6 +139,9 @@ pub fn lower(
     ensures alone { length plan.commands ≡ 1 → IfOk result (λ it. it.commands ≡ plan.commands) }
 {
     if plan.commands.as_slice().len() == 1 {
+        return Ok(plan);
+    }
+    if u64::from(plan.steps) > affordable(source.resolution(), ceiling).saturating_add(FLIPS) {
         return Ok(plan);
     }
     let proposal = lowered(alloc, source, profile, plan.commands.as_slice())?;

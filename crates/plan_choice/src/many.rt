@@ -6,174 +6,146 @@ ghost use Rattle.nano_spec.specs.Profile.{full_profile, light_profile};
 ghost use Rattle.plan_tape.specs.Progress.{IsAccepted};
 ghost use Rattle.plan_choice.specs.Better.{MayStandFor};
 
-use crate::alone::{affordable, is_void};
+use crate::alone::is_void;
 use crate::bounds::Bounds;
-use crate::choice::{cheaper, improvement};
-use crate::extent::is_full_at;
-use nano_spec::{CommandList, Profile};
+use crate::trials::{Trial, cheapest};
+use nano_spec::Profile;
 use plan_tape::Plan;
-use squad_plans::{Manner, squads};
+use squad_plans::{Manner, Slabs};
 use std::alloc::Global;
-use vox_geom::{Coord, Memory};
+use vox_geom::{MOST_R, Memory};
 use vox_planes::Planes;
 
-/// Which single bots are tried: in lanes of three columns or of one, with x and z as they are or exchanged.
-const ALONE: [(u8, bool); 4] = [(3, false), (3, true), (1, false), (1, true)];
+/// The most bots that there can be: one, and the seeds that it has.
+pub(crate) const CREW: u8 = 40;
 
-/// One bot in lanes of three columns, with poles under what hangs.
-const ONE: Manner = Manner {
-    squads: 1,
+/// As many bots as the bounds allow, each by itself in lanes of three columns.
+const ALL: Manner = Manner {
+    squads: CREW,
     pairs: false,
     lane: 3,
     turned: false,
-    poles: true,
+    poles: false,
     down: false,
     most: 0,
 };
 
+/// One bot in lanes of three columns, with poles under what hangs.
+const ONE: Manner = Manner {
+    squads: 1,
+    poles: true,
+    ..ALL
+};
+
+/// Which single bots are tried: in lanes of three columns or of one, with x and z as they are or exchanged.
+const ALONE: [Trial; 4] = [
+    Trial::Squads(ALL),
+    Trial::Squads(Manner {
+        turned: true,
+        ..ALL
+    }),
+    Trial::Squads(Manner { lane: 1, ..ALL }),
+    Trial::Squads(Manner {
+        lane: 1,
+        turned: true,
+        ..ALL
+    }),
+];
+
+/// How one bot is tried.
+const BY_ONE: [Trial; 1] = [Trial::Squads(ONE)];
+
 /// How two bots are tried: together, with x and z as they are or exchanged, or with poles, or each by itself.
-const BY_TWO: [Manner; 4] = [
-    Manner {
+const BY_TWO: [Trial; 4] = [
+    Trial::Squads(Manner {
         pairs: true,
         poles: false,
         ..ONE
-    },
-    Manner {
+    }),
+    Trial::Squads(Manner {
         pairs: true,
         turned: true,
         poles: false,
         ..ONE
-    },
-    Manner { pairs: true, ..ONE },
-    Manner {
+    }),
+    Trial::Squads(Manner { pairs: true, ..ONE }),
+    Trial::Squads(Manner {
         squads: 2,
         poles: false,
         ..ONE
-    },
+    }),
 ];
 
-/// Whether a layer is the same with x and z exchanged.
-fn is_symmetric_layer(planes: &Planes, y: u16) -> bool {
-    let r = u32::from(planes.resolution());
-    for place in 0..r * r {
-        let (x, z) = ((place / r) as u16, (place % r) as u16);
-        let one = is_full_at(planes, Coord { x, y, z });
-        if one != is_full_at(planes, Coord { x: z, y, z: x }) {
-            return false;
-        }
-    }
-    true
-}
+/// How a crew is tried: in pairs or each by itself, with poles or without, with x and z as they are or exchanged.
+const CREWS: [Trial; 7] = [
+    Trial::Squads(Manner { pairs: true, ..ALL }),
+    Trial::Squads(Manner {
+        pairs: true,
+        turned: true,
+        ..ALL
+    }),
+    Trial::Squads(Manner {
+        pairs: true,
+        poles: true,
+        ..ALL
+    }),
+    Trial::Squads(Manner {
+        pairs: true,
+        turned: true,
+        poles: true,
+        ..ALL
+    }),
+    Trial::Squads(ALL),
+    Trial::Squads(Manner { poles: true, ..ALL }),
+    Trial::Squads(Manner { lane: 1, ..ALL }),
+];
 
-/// Whether a model is the same with x and z exchanged, so that nothing is won by it.
-fn is_symmetric(planes: &Planes) -> bool {
-    for y in 0..planes.resolution() {
-        if !is_symmetric_layer(planes, y) {
-            return false;
-        }
-    }
-    true
-}
-
-/// The cheapest commands of single bots by the light profile that cost less than so much energy and keep the bounds, if any do.
-fn cheapest_alone(
-    alloc: Global,
-    source: &Planes,
-    target: &Planes,
-    energy: i64,
-    most: Bounds,
-) -> Result<Option<CommandList>, Memory>
-    requires grounded { FirstUngrounded source.now None }
-    requires resolution { source.now.resolution ≡ target.now.resolution }
-{
-    let mut least = energy;
-    let mut best = None;
-    let is_symmetric = is_symmetric(target);
-    for (lane, turned) in ALONE {
-        if turned && is_symmetric {
-            continue;
-        }
-        let room = affordable(target.resolution(), least);
-        let manner = Manner {
-            squads: most.bots,
-            pairs: false,
-            lane,
-            turned,
-            poles: false,
-            down: false,
-            most: room.saturating_mul(u64::from(most.bots)),
-        };
-        let Some(proposal) = squads(alloc, target, manner)? else {
-            continue;
-        };
-        let slice = proposal.as_slice();
-        let better = improvement(alloc, source, target, Profile::light(), least, slice, most)?;
-        if let Some(cost) = better {
-            least = cost.energy;
-            best = Some(proposal);
-        }
-    }
-    Ok(best)
-}
-
-/// The commands of one or two bots in a manner that build the target from nothing, or take all of the source down.
-fn proposed_by_few(
-    alloc: Global,
-    source: &Planes,
-    target: &Planes,
-    manner: Manner,
-) -> Result<Option<CommandList>, Memory> {
-    if is_void(source) {
-        squads(alloc, target, manner)
-    } else {
-        let manner = Manner {
-            down: true,
-            ..manner
-        };
-        squads(alloc, source, manner)
-    }
-}
-
-/// The cheapest commands of one or two bots in these manners that cost less than so much energy and keep the bounds, if any do.
-fn cheapest_by_few(
-    alloc: Global,
-    source: &Planes,
-    target: &Planes,
-    manners: &[Manner],
-    energy: i64,
-    most: Bounds,
-) -> Result<Option<CommandList>, Memory>
-    requires grounded { FirstUngrounded source.now None }
-    requires resolution { source.now.resolution ≡ target.now.resolution }
-{
-    let mut least = energy;
-    let mut best = None;
-    let is_symmetric = is_symmetric(source) && is_symmetric(target);
-    for manner in manners {
-        if manner.turned && is_symmetric {
-            continue;
-        }
-        let room = affordable(target.resolution(), least).saturating_mul(2);
-        let manner = Manner {
-            most: room,
-            ..*manner
-        };
-        let Some(proposal) = proposed_by_few(alloc, source, target, manner)? else {
-            continue;
-        };
-        let slice = proposal.as_slice();
-        let better = improvement(alloc, source, target, Profile::full(), least, slice, most)?;
-        if let Some(cost) = better {
-            least = cost.energy;
-            best = Some(proposal);
-        }
-    }
-    Ok(best)
-}
+/// How a crew is tried that takes all down by slabs: thin ones keep overhangs off the air, thick ones need fewer ways.
+const BY_FOURS: [Trial; 8] = [
+    Trial::Fours(Slabs {
+        thick: 1,
+        turned: false,
+    }),
+    Trial::Fours(Slabs {
+        thick: 4,
+        turned: false,
+    }),
+    Trial::Fours(Slabs {
+        thick: 16,
+        turned: false,
+    }),
+    Trial::Fours(Slabs {
+        thick: MOST_R,
+        turned: false,
+    }),
+    Trial::Fours(Slabs {
+        thick: 1,
+        turned: true,
+    }),
+    Trial::Fours(Slabs {
+        thick: 4,
+        turned: true,
+    }),
+    Trial::Fours(Slabs {
+        thick: 16,
+        turned: true,
+    }),
+    Trial::Fours(Slabs {
+        thick: MOST_R,
+        turned: true,
+    }),
+];
 
 /// The plan from nothing, or one of up to as many bots as the bounds allow that each build a strip of columns, by the light profile,
-/// where that is cheaper and within the bounds. A plan of one command, which is a Halt alone, stands.
-pub fn by_squads(alloc: Global, target: &Planes, plan: Plan, most: Bounds) -> Result<Plan, Memory>
+/// where that is cheaper and within the bounds. A plan of one command, which is a Halt alone, stands. What cannot cost less than the
+/// ceiling need not be tried.
+pub fn by_squads(
+    alloc: Global,
+    target: &Planes,
+    plan: Plan,
+    most: Bounds,
+    ceiling: i64,
+) -> Result<Plan, Memory>
     requires accepted { IsAccepted (empty target.now.resolution) target.now plan.commands light_profile plan.energy plan.steps }
     ensures stands { IfOk result (λ it. MayStandFor (empty target.now.resolution) target.now light_profile most plan it) }
     ensures alone { length plan.commands ≡ 1 → IfOk result (λ it. it.commands ≡ plan.commands) }
@@ -182,16 +154,45 @@ pub fn by_squads(alloc: Global, target: &Planes, plan: Plan, most: Bounds) -> Re
         return Ok(plan);
     }
     let nothing = Planes::empty(alloc, target.resolution())?;
-    let Some(proposal) = cheapest_alone(alloc, &nothing, target, plan.energy, most)? else {
-        return Ok(plan);
-    };
     let profile = Profile::light();
-    cheaper(alloc, &nothing, target, profile, plan, proposal, most)
+    cheapest(
+        alloc, &nothing, target, profile, plan, &ALONE, most, ceiling,
+    )
 }
 
 /// The plan, or one of two bots that build from nothing or take all down, or of one bot where the bounds allow no more, where that is
-/// cheaper and within the bounds: with poles under what hangs, or without. A plan of one command, which is a Halt alone, stands.
+/// cheaper and within the bounds: with poles under what hangs, or without. A plan of one command, which is a Halt alone, stands. What
+/// cannot cost less than the ceiling need not be tried.
 pub fn by_few(
+    alloc: Global,
+    source: &Planes,
+    target: &Planes,
+    plan: Plan,
+    most: Bounds,
+    ceiling: i64,
+) -> Result<Plan, Memory>
+    requires grounded { FirstUngrounded source.now None }
+    requires resolution { source.now.resolution ≡ target.now.resolution }
+    requires accepted { IsAccepted source.now target.now plan.commands full_profile plan.energy plan.steps }
+    ensures stands { IfOk result (λ it. MayStandFor source.now target.now full_profile most plan it) }
+    ensures alone { length plan.commands ≡ 1 → IfOk result (λ it. it.commands ≡ plan.commands) }
+{
+    let is_alone = plan.commands.as_slice().len() == 1;
+    if is_alone || (!is_void(source) && !is_void(target)) {
+        return Ok(plan);
+    }
+    let trials = if most.bots > 1 {
+        BY_TWO.as_slice()
+    } else {
+        BY_ONE.as_slice()
+    };
+    let profile = Profile::full();
+    cheapest(alloc, source, target, profile, plan, trials, most, ceiling)
+}
+
+/// The plan, or one of a crew of as many bots as the bounds allow that builds from nothing or takes all down, where that is cheaper and
+/// within the bounds. A plan of one command, which is a Halt alone, stands.
+pub(crate) fn by_crew(
     alloc: Global,
     source: &Planes,
     target: &Planes,
@@ -204,21 +205,21 @@ pub fn by_few(
     ensures stands { IfOk result (λ it. MayStandFor source.now target.now full_profile most plan it) }
     ensures alone { length plan.commands ≡ 1 → IfOk result (λ it. it.commands ≡ plan.commands) }
 {
-    let is_alone = plan.commands.as_slice().len() == 1;
-    if is_alone || (!is_void(source) && !is_void(target)) {
+    if plan.commands.as_slice().len() == 1 {
         return Ok(plan);
     }
-    let (one, two) = ([ONE], BY_TWO);
-    let manners = if most.bots > 1 {
-        two.as_slice()
-    } else {
-        one.as_slice()
-    };
-    let energy = plan.energy;
-    let best = cheapest_by_few(alloc, source, target, manners, energy, most)?;
-    let Some(proposal) = best else {
+    if !is_void(source) && !is_void(target) {
         return Ok(plan);
-    };
+    }
+    let ceiling = plan.energy;
     let profile = Profile::full();
-    cheaper(alloc, source, target, profile, plan, proposal, most)
+    let plan = cheapest(alloc, source, target, profile, plan, &CREWS, most, ceiling)?;
+    if !is_void(target) {
+        return Ok(plan);
+    }
+    let ceiling = plan.energy;
+    let plan = cheapest(
+        alloc, source, target, profile, plan, &BY_FOURS, most, ceiling,
+    )?;
+    Ok(plan)
 }

@@ -4,10 +4,12 @@
 
 mod air;
 mod clearing;
+mod descents;
 mod links;
 mod pair;
 mod pieces;
 mod poles;
+mod quads;
 mod single;
 mod site;
 mod spots;
@@ -17,4 +19,5 @@ mod tasks;
 mod team;
 mod yard;
 
+pub use quads::{Slabs, slabs_by_squads};
 pub use team::{Manner, squads};

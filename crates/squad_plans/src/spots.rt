@@ -62,6 +62,11 @@ pub(crate) fn nowhere() -> Diff {
     }
 }
 
+/// A part of a whole, of so many that are about equal.
+pub(crate) fn share(whole: i16, parts: i16) -> i16 {
+    whole / parts.max(1)
+}
+
 /// How far two components lie apart.
 pub(crate) fn apart(a: i16, b: i16) -> i16 {
     let d = a.wrapping_sub(b);

@@ -20,6 +20,8 @@ pub(crate) enum Task {
     Run(Diff, i16),
     /// Voids a run in the same way.
     VoidRun(Diff, i16),
+    /// Voids a rectangle of a layer together with three other bots: from the voxel near this bot, so far along x and along z.
+    VoidPlane(Diff, i16, i16),
     /// Makes a bot there, which has that number, with so many seeds.
     Split(Diff, u8, u8),
     /// Takes up the bot that is there, which has that number and so many seeds.
@@ -55,7 +57,8 @@ pub(crate) fn opposite(d: Diff) -> Diff {
     }
 }
 
-/// What undoes what a bot does. A bot that is taken up is made anew by the one that takes it up, so it does nothing.
+/// What undoes what a bot does. A bot that is taken up is made anew by the one that takes it up, so it does nothing; nothing undoes the
+/// voiding of a rectangle.
 pub(crate) fn undoing(task: Task) -> Task {
     match task {
         Task::Wait => Task::Wait,
@@ -65,6 +68,7 @@ pub(crate) fn undoing(task: Task) -> Task {
         Task::Void(d) => Task::Fill(d),
         Task::Run(d, length) => Task::VoidRun(d, length),
         Task::VoidRun(d, length) => Task::Run(d, length),
+        Task::VoidPlane(_, _, _) => Task::Wait,
         Task::Split(d, child, seeds) => Task::Lead(d, child, seeds),
         Task::Lead(d, child, seeds) => Task::Split(d, child, seeds),
         Task::Join(_) => Task::Wait,
@@ -96,6 +100,10 @@ fn command_if_near(task: Task, turned: bool) -> Option<Command> {
         Task::VoidRun(d, length) => Some(Command::GVoid(
             Near::of(turn(d, turned))?,
             Far::of(turn(along_z(length), turned))?,
+        )),
+        Task::VoidPlane(d, dx, dz) => Some(Command::GVoid(
+            Near::of(turn(d, turned))?,
+            Far::of(turn(Diff { dx, dy: 0, dz }, turned))?,
         )),
         Task::Split(d, _, seeds) => Some(Command::Fission(Near::of(turn(d, turned))?, seeds)),
         Task::Lead(d, _, _) => Some(Command::FusionP(Near::of(turn(d, turned))?)),

@@ -45,16 +45,16 @@ struct Birth {
 
 /// Squads next to each other, before they spread, with the seeds of the first one's bot: from which one on.
 #[derive(Clone, Copy)]
-struct Troop {
-    low: usize,
+pub(crate) struct Troop {
+    pub(crate) low: usize,
     high: usize,
-    seed: u8,
+    pub(crate) seed: u8,
 }
 
 /// All squads, in rising order of columns, with how they came to be.
 #[derive(Drop)]
-struct Team {
-    yard: Yard,
+pub(crate) struct Team {
+    pub(crate) yard: Yard,
     squads: Vec<Squad>,
     births: Vec<Birth>,
     poles: Vec<Pole>,
@@ -91,8 +91,25 @@ impl Team {
         }))
     }
 
+    /// One squad for each of some strips, of so many bots each.
+    pub(crate) fn over(
+        alloc: Global,
+        yard: Yard,
+        strips: &[Strip],
+        each: u8,
+    ) -> Result<Team, Memory> {
+        Ok(Team {
+            squads: squads_over(alloc, &yard, strips)?,
+            yard,
+            births: Vec::new(alloc),
+            poles: Vec::new(alloc),
+            rounds: 0,
+            each,
+        })
+    }
+
     /// The bot that leads a squad.
-    fn lead(&self, number: usize) -> u8 {
+    pub(crate) fn lead(&self, number: usize) -> u8 {
         match self.squads.get(number) {
             Some(squad) => squad.lead,
             None => 0,
@@ -198,8 +215,9 @@ impl Team {
         }
     }
 
-    /// The first bot goes to its column, and each troop is split until all squads have a bot of their own.
-    fn spread(&mut self, alloc: Global) -> Result<(), Memory> {
+    /// The first bot goes to its column, and each troop is split until all squads have a bot of their own: the troops are of one squad each
+    /// then.
+    pub(crate) fn spread(&mut self, alloc: Global) -> Result<Vec<Troop>, Memory> {
         self.line_up()?;
         let mut troops = Vec::new(alloc);
         let all = Troop {
@@ -219,10 +237,7 @@ impl Team {
             self.rounds = self.rounds.saturating_add(1);
             self.line_up()?;
         }
-        if self.each > 1 {
-            self.pair_off(troops.as_slice())?;
-        }
-        Ok(())
+        Ok(troops)
     }
 
     /// The bot of each squad makes its mate.
@@ -348,7 +363,7 @@ impl Team {
     }
 
     /// All bots become one again, which goes home.
-    fn gather(&mut self) -> Result<(), Memory> {
+    pub(crate) fn gather(&mut self) -> Result<(), Memory> {
         for k in 0..self.rounds {
             let round = self.rounds.saturating_sub(1).saturating_sub(k);
             self.approach(round)?;
@@ -368,8 +383,13 @@ impl Team {
 fn squads_of(alloc: Global, yard: &Yard, count: u8, lane: u8) -> Result<Vec<Squad>, Memory> {
     let columns = Columns::of(alloc, yard.site(), i16::from(lane.max(1).min(3)))?;
     let strips = columns.strips(alloc, count)?;
+    squads_over(alloc, yard, strips.as_slice())
+}
+
+/// A squad for each of some strips.
+fn squads_over(alloc: Global, yard: &Yard, strips: &[Strip]) -> Result<Vec<Squad>, Memory> {
     let mut squads = Vec::with_capacity(alloc, strips.len())?;
-    for strip in strips.as_slice() {
+    for strip in strips {
         let squad = Squad::begin(alloc, yard, *strip)?;
         squads.push(squad).map_err(|_| Memory)?;
     }
@@ -386,7 +406,10 @@ pub fn squads(
     let Some(mut team) = Team::begin(alloc, target, manner)? else {
         return Ok(None);
     };
-    team.spread(alloc)?;
+    let troops = team.spread(alloc)?;
+    if manner.pairs {
+        team.pair_off(troops.as_slice())?;
+    }
     if !team.work(manner.most)? {
         return Ok(None);
     }

@@ -17,6 +17,16 @@ struct Worker {
     active: bool,
 }
 
+/// A bot and where it is to go, along one axis.
+#[derive(Clone, Copy, Debug)]
+pub(crate) struct Goal {
+    pub(crate) bot: u8,
+    pub(crate) to: Spot,
+}
+
+/// More moves than any way has.
+const MOST_MOVES: u32 = 100;
+
 /// What a bot did in a step.
 #[derive(Clone, Copy, Debug)]
 struct Doing {
@@ -145,6 +155,33 @@ impl Yard {
         };
         self.go(number, d);
         d != none
+    }
+
+    /// Bots move toward their goals in this step. Whether one does.
+    fn approach(&mut self, goals: &[Goal]) -> bool {
+        let mut moves = false;
+        for goal in goals {
+            let way = self.spot(goal.bot).to(goal.to);
+            let d = Diff {
+                dx: stride(way.dx),
+                dy: stride(way.dy),
+                dz: stride(way.dz),
+            };
+            self.go(goal.bot, d);
+            moves = moves || d != nowhere();
+        }
+        moves
+    }
+
+    /// Bots go to their goals at the same time.
+    pub(crate) fn go_all(&mut self, goals: &[Goal]) -> Result<(), Memory> {
+        for _ in 0..MOST_MOVES {
+            if !self.approach(goals) {
+                break;
+            }
+            self.step()?;
+        }
+        Ok(())
     }
 
     /// Keeps that a voxel is filled in this step.

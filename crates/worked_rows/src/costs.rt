@@ -19,7 +19,7 @@ const STRIPES: [u8; 44] = [
 const TWO_POSTS: [u8; 9] = [4, 0, 0, 2, 0, 4, 0, 0, 0];
 
 /// Plans over the file `B`, where they are stored too.
-const COSTS: [Row; 12] = [
+const COSTS: [Row; 16] = [
     (
         "plan layer E1 E1 B",
         &[],
@@ -73,6 +73,30 @@ const COSTS: [Row; 12] = [
         &STRIPES,
         Status::Done,
         "plan energy 15042 steps 14 commands 24 bytes 37\n",
+    ),
+    (
+        "plan crew E1 E1 B",
+        &[],
+        Status::Done,
+        "plan energy 23 steps 1 commands 1 bytes 1\n",
+    ),
+    (
+        "plan crew - P3 B",
+        &[],
+        Status::Done,
+        "plan energy 626 steps 6 commands 6 bytes 10\n",
+    ),
+    (
+        "plan crew P3 E3 B",
+        &[],
+        Status::Done,
+        "plan energy 602 steps 6 commands 6 bytes 10\n",
+    ),
+    (
+        "plan crew - B B",
+        &TWO_POSTS,
+        Status::Done,
+        "plan energy 1532 steps 7 commands 7 bytes 11\n",
     ),
     (
         "plan void P3 - B",

@@ -7,7 +7,7 @@ use std::test::Fail;
 use vox_depot::{MemoryDepot, MemorySink};
 
 /// Words of each row, over the files of the table, a trace `B`, a text `T` and a script `S`; what is stored is the file `C`.
-const ROWS: [&str; 14] = [
+const ROWS: [&str; 15] = [
     "run - P3 B",
     "run light - P3 B",
     "check P3",
@@ -17,6 +17,7 @@ const ROWS: [&str; 14] = [
     "plan layer P3 P3 C",
     "plan layer - P3 C",
     "plan group - P3 C",
+    "plan crew - P3 C",
     "plan void P3 - C",
     "plan low - P3 C",
     "plan swarm - P3 C",

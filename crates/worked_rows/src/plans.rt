@@ -86,7 +86,7 @@ fn is_within(planned: &[u8], stored: &[u8], most: Most) -> bool {
 type Planned = (&'static str, &'static str, &'static [&'static str], Most);
 
 /// The bounds of the plans are those of the planners: the house has 388 full voxels, 90 rows and 154 runs.
-const PLANS: [Planned; 10] = [
+const PLANS: [Planned; 13] = [
     ("layer", "- HOUSE", &["run"], Most::Bytes(64_200)),
     ("layer", "HOUSE -", &["run"], Most::Bytes(64_200)),
     ("layer", "- HOOK", &["run"], Most::Bytes(1_200)),
@@ -94,6 +94,9 @@ const PLANS: [Planned; 10] = [
     ("group", "- HOUSE", &["run"], Most::Steps(20_032)),
     ("group", "HOUSE -", &["run"], Most::Steps(20_032)),
     ("group", "- WP", &["run"], Most::Steps(50_768)),
+    ("crew", "- HOUSE", &["run"], Most::Bytes(1_073_741_824)),
+    ("crew", "HOUSE -", &["run"], Most::Bytes(1_073_741_824)),
+    ("crew", "- HOOK", &["run"], Most::Bytes(1_073_741_824)),
     ("void", "HOUSE -", &["run"], Most::Steps(520)),
     ("low", "- HOUSE", &["run", "run light"], Most::Steps(9_752)),
     (

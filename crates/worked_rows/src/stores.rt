@@ -23,7 +23,7 @@ const TRACE: &[u8] = &[0x14, 0x10, 0x73, 0x14, 0x0E, 0xFF];
 const LOOSE_TEXT: &[u8] =
     b"# four commands\r\n\r\n\tSMove < 1 ,0,\t00>\r\n  \nFill<0,0,1> # beside\nSMove <-1,0,0>\t\r\nHalt";
 
-const STORING: [Storing; 14] = [
+const STORING: [Storing; 15] = [
     Storing {
         words: "asm B C",
         bytes: TEXT,
@@ -95,6 +95,13 @@ const STORING: [Storing; 14] = [
         stored: &[0xFF],
     },
     Storing {
+        words: "plan crew P3 P3 B",
+        bytes: &[],
+        printed: "plan energy 101 steps 1 commands 1 bytes 1\n",
+        name: "B",
+        stored: &[0xFF],
+    },
+    Storing {
         words: "plan void E3 - C",
         bytes: &[],
         printed: "plan energy 101 steps 1 commands 1 bytes 1\n",
@@ -125,7 +132,7 @@ const STORING: [Storing; 14] = [
 ];
 
 /// Texts, traces and words that are refused.
-const REFUSED: [Row; 37] = [
+const REFUSED: [Row; 40] = [
     (
         "asm B C",
         b"Jump\n",
@@ -194,6 +201,19 @@ const REFUSED: [Row; 37] = [
         Status::Words,
         "words not understood\n",
     ),
+    (
+        "plan crew - - C",
+        &[],
+        Status::Words,
+        "words not understood\n",
+    ),
+    (
+        "plan crew P3 HOOK C",
+        &[],
+        Status::Model,
+        "resolutions 3 5\n",
+    ),
+    ("plan crew X P3 C", &[], Status::Depot, ""),
     (
         "plan void - - C",
         &[],

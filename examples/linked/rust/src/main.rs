@@ -51,6 +51,7 @@ fn main() -> std::io::Result<ExitCode> {
         ["check", model] => nanobot::check(&bytes_of(model)?),
         ["plan", "layer", source, target, trace] => plan(Planner::Layer, source, target, trace)?,
         ["plan", "group", source, target, trace] => plan(Planner::Group, source, target, trace)?,
+        ["plan", "crew", source, target, trace] => plan(Planner::Crew, source, target, trace)?,
         ["plan", "void", source, target, trace] => plan(Planner::Void, source, target, trace)?,
         ["plan", "low", source, target, trace] => plan(Planner::Low, source, target, trace)?,
         ["plan", "swarm", source, target, trace] => plan(Planner::Swarm, source, target, trace)?,

@@ -51,6 +51,16 @@ mod sys {
             size: *mut usize,
         ) -> u32;
 
+        pub fn nanobot_plan_crew(
+            source: *const u8,
+            source_size: usize,
+            target: *const u8,
+            target_size: usize,
+            plan: *mut u8,
+            room: usize,
+            size: *mut usize,
+        ) -> u32;
+
         pub fn nanobot_plan_group(
             source: *const u8,
             source_size: usize,
@@ -77,6 +87,7 @@ pub type Told = (u32, Vec<u8>);
 pub enum Planner {
     Layer,
     Group,
+    Crew,
     Void,
     Low,
     Swarm,
@@ -156,6 +167,7 @@ pub fn plan(planner: Planner, source: &[u8], target: &[u8]) -> Told {
     match planner {
         Planner::Layer => of_two(sys::nanobot_plan_layer, source, target),
         Planner::Group => of_two(sys::nanobot_plan_group, source, target),
+        Planner::Crew => of_two(sys::nanobot_plan_crew, source, target),
         Planner::Void => of_one(sys::nanobot_plan_void, source),
         Planner::Low => of_one(sys::nanobot_plan_low, target),
         Planner::Swarm => of_one(sys::nanobot_plan_swarm, target),

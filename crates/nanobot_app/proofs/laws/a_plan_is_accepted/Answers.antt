@@ -1,5 +1,5 @@
 use Rattle.nano_spec.specs.Profile.{full_profile, light_profile}
-use Rattle.nanobot_app.proofs.Plans.{group_is_accepted, layer_is_accepted, low_is_accepted, swarm_is_accepted, void_is_accepted}
+use Rattle.nanobot_app.proofs.Plans.{crew_is_accepted, group_is_accepted, layer_is_accepted, low_is_accepted, swarm_is_accepted, void_is_accepted}
 use Rattle.nanobot_app.proofs.laws.a_plan_is_accepted.Goals as goal
 
 pub returns-clause-layer : goal.returns-clause-layer
@@ -7,6 +7,9 @@ returns-clause-layer c = λ source target trace files reply first second answer 
 
 pub returns-clause-group : goal.returns-clause-group
 returns-clause-group c = λ source target trace files reply first second answer done. group_is_accepted c.a_model_is_whole.ensures.most source target trace files first second reply answer done
+
+pub returns-clause-crew : goal.returns-clause-crew
+returns-clause-crew c = λ source target trace files reply first second answer done. crew_is_accepted c.a_model_is_whole.ensures.most source target trace files first second reply answer done
 
 pub returns-clause-void : goal.returns-clause-void
 returns-clause-void c = λ source trace files reply other answer done. void_is_accepted c.a_model_is_whole.ensures.most source trace files other reply answer done

@@ -1,5 +1,5 @@
 use Rattle.nano_spec.proofs.Opening.{legal_is}
-use Rattle.nanobot_rows.proofs.Empty.{legal_where_empty}
+use Rattle.plan_choice.proofs.Empty.{legal_where_empty}
 use Rattle.nanobot_rows.proofs.exercise.judge_plan.Goals as goal
 
 pub judge-requires-clause-grounded : goal.judge-requires-clause-grounded

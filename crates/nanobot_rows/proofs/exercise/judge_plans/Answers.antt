@@ -1,9 +1,8 @@
-use Rattle.std.proofs.Common.{◌≡◌, ap, subst}
-use Rattle.nano_spec.specs.Cutting.{AreCommands}
+use Rattle.std.proofs.Common.{◌≡◌, ap}
 use Rattle.nano_spec.specs.Matrix.{Matrix}
-use Rattle.nanobot_rows.specs.Planners.{IsGroupPlan, IsLayerPlan}
-use Rattle.nanobot_rows.proofs.Empty.{legal_where_empty}
-use Rattle.nanobot_rows.proofs.Exercised.{costs_of, cubes, exercised}
+use Rattle.plan_choice.specs.Planners.{IsGroupPlan, IsLayerPlan}
+use Rattle.plan_choice.proofs.Empty.{legal_where_empty}
+use Rattle.nanobot_rows.proofs.Exercised.{costs_of, exercised}
 use Rattle.nanobot_rows.proofs.exercise.judge_plans.Goals as goal
 
 pub choose_layer_plan-requires-clause-source : goal.choose_layer_plan-requires-clause-source
@@ -20,25 +19,9 @@ returns g c =
     let empty_is = (c.in_ok-nothing.ensures {u = tt}).value in
     let same : target.resolution ≡ c.args.resolution = ap (λ (m : Matrix). m.resolution) is in
     let first = c.in_ok-first.first in
-    let these = c.in_ok-first.ensures {u = tt} in
     let second = c.in_ok-second.second in
-    let those = c.in_ok-second.ensures {u = tt} in
-    let layer_plan : IsLayerPlan nothing target first.commands first.energy first.steps = record {
-      are_commands = subst AreCommands c.as_slice.ensures c.know_all.ensures;
-      accepted = these.accepted;
-      bytes = cubes nothing.resolution _ these.bytes;
-      few_bots = these.few;
-      halt_alone = these.halt_alone;
-    } in
-    let group_plan : IsGroupPlan nothing target second.commands second.energy second.steps = record {
-      are_commands = subst AreCommands c.as_slice-2.ensures c.know_all-2.ensures;
-      accepted = those.accepted;
-      few_steps = those.steps;
-      few_commands = those.commands;
-      few_bytes = those.bytes;
-      few_bots = those.few;
-      halt_alone = those.halt_alone;
-    } in
+    let layer_plan : IsLayerPlan nothing target first.commands first.energy first.steps = c.in_ok-first.ensures {u = tt} in
+    let group_plan : IsGroupPlan nothing target second.commands second.energy second.steps = c.in_ok-second.ensures {u = tt} in
     record {
       ends = λ told before now. exercised told c.args.number c.args.resolution c.count.result target c.in_ok-layer.layer c.in_ok-group.group is
           (costs_of IsLayerPlan c.args.resolution nothing target first.commands first.energy first.steps c.in_ok-layer.layer empty_is same layer_plan (c.in_ok-layer.ensures {u = tt}))

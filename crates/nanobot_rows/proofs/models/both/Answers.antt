@@ -1,4 +1,4 @@
-use Rattle.nanobot_rows.proofs.Empty.{legal_where_empty}
+use Rattle.plan_choice.proofs.Empty.{legal_where_empty}
 use Rattle.nanobot_rows.proofs.models.both.Goals as goal
 
 pub returns-in_ok-source-in-None-Some-clause-source : goal.returns-in_ok-source-in-None-Some-clause-source

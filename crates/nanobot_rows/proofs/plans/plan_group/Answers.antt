@@ -1,7 +1,7 @@
 use Rattle.std.proofs.Common.{◌≡◌, ◌≤◌, rules, Err}
 use Rattle.group_planner.specs.Bounds.{most_bytes}
 use Rattle.nanobot_rows.specs.Answer.{OfGroupPlan, group_limit}
-use Rattle.nanobot_rows.specs.Planners.{IsGroupPlan}
+use Rattle.plan_choice.specs.Planners.{IsGroupPlan}
 use Rattle.nanobot_rows.specs.Effects.{reply_by}
 use Rattle.nanobot_words.specs.Parsing.{side_of}
 use Rattle.nanobot_rows.proofs.Replies.{one_named}
@@ -19,18 +19,7 @@ returns-clause-finishes g c =
     let t = c.in_ok-source.target in
     let plan = c.in_ok-plan.plan in
     let effect = c.in_ok-effect.effect in
-    let these = c.in_ok-plan.ensures {u = tt} in
     let fits : most_bytes s t ≤ group_limit = search rules in
     models_end _ (side_of c.args.source) (side_of c.args.target) (OfGroupPlan c.args.trace.now) (one_named _ _ c.requires.some) s t effect (c.in_ok-source.ensures {u = tt}).reads
     (λ files are_models. group_kept files c.args.trace.now s t (reply_by files effect) fits
-    (plan_kept IsGroupPlan s t c.args.trace.now plan.commands plan.energy plan.steps effect
-    (λ are. record {
-      are_commands = are;
-      accepted = these.accepted;
-      few_steps = these.steps;
-      few_commands = these.commands;
-      few_bytes = these.bytes;
-      few_bots = these.few;
-      halt_alone = these.halt_alone;
-    })
-    (c.in_ok-effect.ensures {u = tt}) files))
+    (plan_kept IsGroupPlan s t c.args.trace.now plan.commands plan.energy plan.steps effect (c.in_ok-plan.ensures {u = tt}) (c.in_ok-effect.ensures {u = tt}) files))

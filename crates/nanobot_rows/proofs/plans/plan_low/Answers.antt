@@ -1,9 +1,8 @@
-use Rattle.std.proofs.Common.{◌≡◌, ◌+◌, ◌*◌, ◌≤◌, ℕ, rules, subst, sym, Err}
+use Rattle.std.proofs.Common.{◌≡◌, rules, subst, sym, Err}
 use Rattle.std.specs.Prelude.{None, Some}
 use Rattle.nano_spec.specs.Matrix.{Matrix}
-use Rattle.nano_spec.specs.Model.{volume}
 use Rattle.nanobot_rows.specs.Answer.{OfLowPlan}
-use Rattle.nanobot_rows.specs.Planners.{IsLowPlan}
+use Rattle.plan_choice.specs.Planners.{IsLowPlan}
 use Rattle.nanobot_rows.proofs.Stored.{models_end, models_stop, nothing_here, plan_kept}
 use Rattle.nanobot_rows.proofs.plans.plan_low.Goals as goal
 
@@ -11,9 +10,6 @@ pub returns-in_err-nothing-clause-finishes : goal.returns-in_err-nothing-clause-
 returns-in_err-nothing-clause-finishes g c =
     let is : c.from_residual.result ≡ Err c.in_err-nothing.field-0.0 = search rules in
     rw is (models_stop _ None (Some c.args.target.now) (OfLowPlan c.args.trace.now) _ c.in_err-nothing.field-0.0 (c.in_err-nothing.ensures {u = tt}).reads)
-
-cubes : (r full steps : ℕ) → steps ≤ 4 * full + r * r * r + 200 → steps ≤ 4 * full + volume r + 200
-cubes r full steps h = h
 
 pub returns-clause-finishes : goal.returns-clause-finishes
 returns-clause-finishes g c =
@@ -27,14 +23,6 @@ returns-clause-finishes g c =
       None,
       these.supported,
       plan_kept IsLowPlan s t c.args.trace.now plan.commands plan.energy plan.steps effect
-          (λ are. subst (λ (m : Matrix). IsLowPlan m t plan.commands plan.energy plan.steps) (sym (nothing_here files c.args.target.now s t are_models)) (record {
-            are_commands = are;
-            accepted = these.accepted_in_full;
-            accepted_as_light = these.accepted;
-            plain = these.plain;
-            few_steps = these.steps;
-            few_bots = these.few;
-            halt_alone = these.halt_alone;
-          }))
+          (subst (λ (m : Matrix). IsLowPlan m t plan.commands plan.energy plan.steps) (sym (nothing_here files c.args.target.now s t are_models)) these.plan)
           (c.in_ok-effect.ensures {u = tt}) files,
     ))

@@ -2,7 +2,7 @@ use Rattle.std.proofs.Common.{◌≡◌, rules, subst, sym, Err}
 use Rattle.std.specs.Prelude.{None, Some}
 use Rattle.nano_spec.specs.Matrix.{Matrix}
 use Rattle.nanobot_rows.specs.Answer.{OfPlan}
-use Rattle.nanobot_rows.specs.Planners.{IsSwarmPlan}
+use Rattle.plan_choice.specs.Planners.{IsSwarmPlan}
 use Rattle.nanobot_rows.proofs.Stored.{models_end, models_stop, nothing_here, plan_kept}
 use Rattle.nanobot_rows.proofs.plans.plan_swarm.Goals as goal
 
@@ -17,15 +17,7 @@ returns-clause-finishes g c =
     let t = c.in_ok-nothing.target in
     let plan = c.in_ok-plan.plan in
     let effect = c.in_ok-effect.effect in
-    let these = c.in_ok-plan.ensures {u = tt} in
     models_end _ None (Some c.args.target.now) (OfPlan IsSwarmPlan c.args.trace.now) tt s t effect (c.in_ok-nothing.ensures {u = tt}).reads
     (λ files are_models. plan_kept IsSwarmPlan s t c.args.trace.now plan.commands plan.energy plan.steps effect
-    (λ are. subst (λ (m : Matrix). IsSwarmPlan m t plan.commands plan.energy plan.steps) (sym (nothing_here files c.args.target.now s t are_models)) (record {
-      are_commands = are;
-      accepted = these.full;
-      accepted_as_light = these.light;
-      few_steps = these.steps;
-      few_bots = these.few;
-      halt_alone = λ e. these.halt_alone (sym e);
-    }))
+    (subst (λ (m : Matrix). IsSwarmPlan m t plan.commands plan.energy plan.steps) (sym (nothing_here files c.args.target.now s t are_models)) (c.in_ok-plan.ensures {u = tt}))
     (c.in_ok-effect.ensures {u = tt}) files)

@@ -2,7 +2,7 @@ use Rattle.std.proofs.Common.{◌≡◌, rules, subst, sym, Err}
 use Rattle.std.specs.Prelude.{None, Some}
 use Rattle.nano_spec.specs.Matrix.{Matrix}
 use Rattle.nanobot_rows.specs.Answer.{OfPlan}
-use Rattle.nanobot_rows.specs.Planners.{IsVoidPlan}
+use Rattle.plan_choice.specs.Planners.{IsVoidPlan}
 use Rattle.nanobot_rows.proofs.Stored.{models_end, models_stop, nothing_there, plan_kept}
 use Rattle.nanobot_rows.proofs.plans.plan_void.Goals as goal
 
@@ -17,14 +17,7 @@ returns-clause-finishes g c =
     let t = c.in_ok-source.nothing in
     let plan = c.in_ok-plan.plan in
     let effect = c.in_ok-effect.effect in
-    let these = c.in_ok-plan.ensures {u = tt} in
     models_end _ (Some c.args.source.now) None (OfPlan IsVoidPlan c.args.trace.now) tt s t effect (c.in_ok-source.ensures {u = tt}).reads
     (λ files are_models. plan_kept IsVoidPlan s t c.args.trace.now plan.commands plan.energy plan.steps effect
-    (λ are. subst (λ (m : Matrix). IsVoidPlan s m plan.commands plan.energy plan.steps) (sym (nothing_there files c.args.source.now s t are_models)) (record {
-      are_commands = are;
-      accepted = these.accepted;
-      few_steps = these.steps;
-      few_bots = these.few;
-      halt_alone = these.halt_alone;
-    }))
+    (subst (λ (m : Matrix). IsVoidPlan s m plan.commands plan.energy plan.steps) (sym (nothing_there files c.args.source.now s t are_models)) (c.in_ok-plan.ensures {u = tt}))
     (c.in_ok-effect.ensures {u = tt}) files)

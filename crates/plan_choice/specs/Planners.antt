@@ -1,16 +1,17 @@
--- What is so of the plans that are stored or judged, planner by planner (docs/FORMATS.md, "Printed lines").
-use Rattle.std.specs.Prelude.{◌≡◌, ℕ, ◌+◌, ◌*◌, ◌≤◌, ℤ, All, List, [], ◌∷◌, length}
+-- What is so of the plans that are made, planner by planner (docs/FORMATS.md, "Printed lines").
+use Rattle.std.specs.Prelude.{◌≡◌, ℕ, ◌+◌, ◌*◌, ◌≤◌, ℤ, ◌≤ℤ◌, All, List, None, [], ◌∷◌, length}
 use Rattle.nano_spec.specs.declared.commands.Command.{Command}
 use Rattle.nano_spec.specs.declared.commands.Command.TheVariants.{Halt}
 use Rattle.nano_spec.specs.declared.outcomes.Verdict.TheVariants as verdict
 use Rattle.nano_spec.specs.Cutting.{AreCommands}
-use Rattle.nano_spec.specs.Matrix.{Matrix, full_count}
+use Rattle.nano_spec.specs.Matrix.{Matrix, empty, full_count}
 use Rattle.nano_spec.specs.Model.{volume}
 use Rattle.nano_spec.specs.Profile.{full_profile, light_profile}
 use Rattle.nano_spec.specs.Spelling.{spellings}
 use Rattle.nano_spec.specs.Verdict.{VerdictOf}
 use Rattle.group_planner.specs.Bounds as group
 use Rattle.low_planner.specs.Commands as low
+use Rattle.low_planner.specs.Supported.{FirstUnsupported}
 use Rattle.plan_tape.specs.Reaches.{HasAtMost}
 use Rattle.swarm_planner.specs.Bounds.{width}
 use Rattle.void_planner.specs.Bounds as void
@@ -72,3 +73,27 @@ pub record IsSwarmPlan (source target : Matrix) (commands : List Command) (energ
   pub few_steps : steps ≤ 4 * width target.resolution * target.resolution * target.resolution + 8 * target.resolution + 2000
   pub few_bots : HasAtMost source light_profile commands 20
   pub halt_alone : source ≡ target → commands ≡ Halt ∷ []
+
+-- the most bytes of a crew's plan
+abbrev pub crew_limit : ℕ
+crew_limit = 1073741824
+
+-- a plan of which this is so costs at least so much
+abbrev pub IsNoDearer : PlanFacts → Matrix → Matrix → ℤ → Type 0
+IsNoDearer Is source target energy = (commands : List Command) × (paid : ℤ) × (steps : ℕ) × Is source target commands paid steps × (energy ≤ℤ paid)
+
+-- a plan of the crew: the definitions accept the commands from the one model to the other with this energy in so many steps, their spellings
+-- are no longer than a trace that is run, and at most forty bots are active at once; where both models are the same, it is a Halt alone; each
+-- other planner that makes plans of such models has one that costs no less: of any models, of any whose group plan is not too long, to the empty
+-- model, or from it
+pub record IsCrewPlan (source target : Matrix) (commands : List Command) (energy : ℤ) (steps : ℕ) : Type 0 where
+  pub are_commands : AreCommands commands
+  pub accepted : VerdictOf source target commands full_profile (verdict.Accepted energy steps)
+  pub few_bytes : length (spellings commands) ≤ crew_limit
+  pub few_bots : HasAtMost source full_profile commands 40
+  pub halt_alone : source ≡ target → commands ≡ Halt ∷ []
+  pub as_layer : IsNoDearer IsLayerPlan source target energy
+  pub as_group : group.most_bytes source target ≤ crew_limit → IsNoDearer IsGroupPlan source target energy
+  pub as_void : target ≡ empty target.resolution → IsNoDearer IsVoidPlan source target energy
+  pub as_low : source ≡ empty source.resolution → FirstUnsupported target None → IsNoDearer IsLowPlan source target energy
+  pub as_swarm : source ≡ empty source.resolution → IsNoDearer IsSwarmPlan source target energy

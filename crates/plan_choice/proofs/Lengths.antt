@@ -9,6 +9,7 @@ use Rattle.nano_spec.specs.declared.outcomes.Verdict.{Verdict}
 use Rattle.nano_spec.specs.declared.outcomes.Verdict.TheVariants.{Accepted}
 use Rattle.nano_spec.specs.declared.system.Profile.{Profile}
 use Rattle.nano_spec.specs.Matrix.{Matrix}
+use Rattle.nano_spec.specs.Model.{volume}
 use Rattle.nano_spec.specs.Spelling.{spelling, spellings}
 use Rattle.nano_spec.specs.State.{State, opening}
 use Rattle.nano_spec.specs.Verdict.{Run, VerdictOf, breaks, compared, ending, ends, first_difference, goes}
@@ -18,7 +19,7 @@ use Rattle.swarm_planner.specs.Bounds.{width}
 use Rattle.void_planner.specs.Bounds.{most_void_steps, tiles_of}
 use Rattle.plan_tape.proofs.Reached.{enough}
 use Rattle.low_planner.proofs.Alone.{plain_more}
-use Rattle.nanobot_rows.specs.Answer.{run_limit}
+use Rattle.plan_choice.specs.Planners.{crew_limit}
 use Rattle.nano_spec.proofs.Lengths.{spelling_short}
 
 -- ---- commands
@@ -88,9 +89,13 @@ two_each (c ∷ more) h =
     let rest = two_each more (plain_more c more h) in
     omega (arith, sum, one, rest)
 
--- ---- within the limit of a run
+-- ---- within the limit of a crew's plan
 
-pub void_fits : (r steps commands size : ℕ) → r ≤ 400 → steps ≤ most_void_steps r → commands ≤ 4 * steps → size ≤ 4 * commands → size ≤ run_limit
+-- a plan of the layer planner
+pub layer_fits : (r size : ℕ) → r ≤ 400 → size ≤ 8 * volume r + 200 → size ≤ crew_limit
+layer_fits r size most bound = let cube : r * r * r ≤ 400 * 400 * 400 = mul-le-mul (mul-le-mul most most) most in omega (arith, cube, bound)
+
+pub void_fits : (r steps commands size : ℕ) → r ≤ 400 → steps ≤ most_void_steps r → commands ≤ 4 * steps → size ≤ 4 * commands → size ≤ crew_limit
 void_fits r steps commands size most few a b =
     let side : tiles_of r ≤ 13 = few_tiles r most in
     let square : tiles_of r * tiles_of r ≤ 13 * 13 = mul-le-mul side side in
@@ -103,14 +108,14 @@ void_fits r steps commands size most few a b =
     eight : (r : ℕ) → r ≤ 400 → 8 * r ≤ 3200
     eight r h = omega arith
 
-    by : (x : ℕ) → x ≤ 540800 → steps ≤ x + 8 * r + 200 → size ≤ run_limit
+    by : (x : ℕ) → x ≤ 540800 → steps ≤ x + 8 * r + 200 → size ≤ crew_limit
     by x h few = omega (arith, h, few, most, a, b)
 
-pub low_fits : (cube full steps commands size : ℕ) → cube ≤ 64000000 → full ≤ cube → steps ≤ 4 * full + cube + 200 → commands ≤ 1 * steps → size ≤ 2 * commands → size ≤ run_limit
+pub low_fits : (cube full steps commands size : ℕ) → cube ≤ 64000000 → full ≤ cube → steps ≤ 4 * full + cube + 200 → commands ≤ 1 * steps → size ≤ 2 * commands → size ≤ crew_limit
 low_fits cube full steps commands size most some few a b = omega arith
 
 -- a plan of the swarm planner
-pub swarm_fits : (r steps commands size : ℕ) → r ≤ 400 → steps ≤ 4 * width r * r * r + 8 * r + 2000 → commands ≤ 20 * steps → size ≤ 4 * commands → size ≤ run_limit
+pub swarm_fits : (r steps commands size : ℕ) → r ≤ 400 → steps ≤ 4 * width r * r * r + 8 * r + 2000 → commands ≤ 20 * steps → size ≤ 4 * commands → size ≤ crew_limit
 swarm_fits r steps commands size most few a b =
     let all : 4 * width r * r * r ≤ 80 * 400 * 400 = mul-le-mul (mul-le-mul (strip r most) most) most in
     by (4 * width r * r * r) all few
@@ -118,5 +123,5 @@ swarm_fits r steps commands size most few a b =
     strip : (r : ℕ) → r ≤ 400 → 4 * width r ≤ 80
     strip r h = omega arith
 
-    by : (all : ℕ) → all ≤ 80 * 400 * 400 → steps ≤ all + 8 * r + 2000 → size ≤ run_limit
+    by : (all : ℕ) → all ≤ 80 * 400 * 400 → steps ≤ all + 8 * r + 2000 → size ≤ crew_limit
     by all h k = omega arith

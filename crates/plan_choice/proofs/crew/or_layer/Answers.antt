@@ -1,0 +1,9 @@
+use Rattle.plan_choice.proofs.Crews.{either_crew, layer_crew}
+use Rattle.plan_choice.proofs.crew.or_layer.Goals as goal
+
+pub returns-clause-crew : goal.returns-clause-crew
+returns-clause-crew c =
+    let s = c.args.source.now in
+    let t = c.args.target.now in
+    let other = c.in_ok-other.other in
+    either_crew s t c.args.plan other c.cheaper_of.result c.requires.crew (layer_crew s t other c.know.ensures.whole.most c.in_ok-other.ensures) c.cheaper_of.ensures.either

@@ -1,0 +1,15 @@
+use Rattle.std.proofs.Common.{◌≡◌, ◌∙◌, rules, ap, subst, sym}
+use Rattle.nano_spec.specs.Matrix.{Matrix, empty}
+use Rattle.plan_choice.specs.Planners.{IsVoidPlan}
+use Rattle.plan_choice.proofs.Crews.{either_crew, void_crew}
+use Rattle.plan_choice.proofs.crew.or_void.Goals as goal
+
+pub returns-clause-crew : goal.returns-clause-crew
+returns-clause-crew c =
+    let s = c.args.source.now in
+    let t = c.args.target.now in
+    let other = c.in_ok-other.other in
+    let void : t ≡ c.in_ok-nothing.nothing = search rules in
+    let there : t ≡ empty s.resolution = void ∙ (c.in_ok-nothing.ensures.value ∙ ap empty (c.resolution.ensures.value ∙ sym c.requires.same)) in
+    let plan = subst (λ (m : Matrix). IsVoidPlan s m other.commands other.energy other.steps) (sym there) c.in_ok-other.ensures in
+    either_crew s t c.args.plan other c.cheaper_of.result c.requires.crew (void_crew s t other c.know.ensures.whole.most plan) c.cheaper_of.ensures.either

@@ -1,0 +1,29 @@
+use Rattle.std.proofs.Common.{◌+◌, ◌*◌, ◌≤◌, ℕ, rules, arith, length, subst, sym}
+use Rattle.nano_spec.specs.declared.system.Profile.{Profile}
+use Rattle.nano_spec.specs.Cutting.{AreCommands}
+use Rattle.nano_spec.specs.Model.{volume}
+use Rattle.nano_spec.specs.Spelling.{spellings}
+use Rattle.plan_tape.specs.Reaches.{HasAtMost}
+use Rattle.plan_choice.proofs.Chosen.{alone_stays}
+use Rattle.plan_choice.proofs.plans.layer_plan.Goals as goal
+
+cubes : (r size : ℕ) → size ≤ 8 * r * r * r + 200 → size ≤ 8 * volume r + 200
+cubes r size h = omega (arith, h)
+
+pub returns : goal.returns
+returns c =
+    let s = c.args.source.now in
+    let first = c.in_ok-plan.plan in
+    let it = c.in_ok-plan-4.plan in
+    let lowered = c.in_ok-plan-2.ensures in
+    let attached = c.in_ok-plan-3.ensures in
+    let few = c.in_ok-plan-4.ensures in
+    let one = subst (λ (p : Profile). HasAtMost s p first.commands 1) (sym c.full-profile.ensures) c.in_ok-plan.ensures.few in
+    let short : length (spellings it.commands) ≤ 8 * s.resolution * s.resolution * s.resolution + 200 = search rules in
+    record {
+      are_commands = subst AreCommands c.as_slice.ensures c.know_all.ensures;
+      accepted = few.stands.accepted;
+      bytes = cubes s.resolution (length (spellings it.commands)) short;
+      few_bots = few.stands.bots (subst (λ (p : Profile). HasAtMost s p c.in_ok-plan-3.plan.commands 1) c.full-profile.ensures (attached.stands.bots (lowered.stands.bots one)));
+      halt_alone = λ same. alone_stays _ _ (alone_stays _ _ (alone_stays _ _ (c.in_ok-plan.ensures.halt_alone same) lowered.alone) attached.alone) few.alone;
+    }

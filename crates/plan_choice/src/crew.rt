@@ -1,0 +1,163 @@
+//! The plan of a crew: the cheapest of its own proposals and of what the other planners make for the same models.
+ghost use Rattle.std.specs.Prelude.{◌≡◌, ◌≤◌, ◌≤ℤ◌, IfOk, None};
+ghost use Rattle.nano_spec.specs.Legal.{IsLegal};
+ghost use Rattle.nano_spec.specs.Matrix.{empty};
+ghost use Rattle.group_planner.specs.Bounds.{most_bytes};
+ghost use Rattle.low_planner.specs.Supported.{FirstUnsupported};
+ghost use Rattle.plan_choice.specs.Crew.{IsForCrew, Replaces};
+ghost use Rattle.plan_choice.specs.Planners.{crew_limit, IsCrewPlan, IsGroupPlan, IsLayerPlan, IsLowPlan, IsNoDearer, IsSwarmPlan, IsVoidPlan};
+
+use crate::bounds::Bounds;
+use crate::many::{CREW, by_crew};
+use crate::plans::{group_bounds, group_plan, layer_plan, low_plan, swarm_plan, void_plan};
+use crate::rebuild::by_rebuilding;
+use layer_planner::plan_layers;
+use low_planner::{LowFault, one_unsupported};
+use plan_tape::{Plan, lowest_difference, seeds_bound_the_bots};
+use std::alloc::Global;
+use system_state::know_all;
+use vox_geom::Memory;
+use vox_planes::Planes;
+
+/// The most bytes of a plan.
+const LIMIT: u64 = 1_073_741_824;
+
+/// The cheaper one of two plans: the first, where both cost the same.
+fn cheaper_of(first: Plan, second: Plan) -> Plan
+    ensures either { Replaces first second result }
+{
+    if second.energy < first.energy {
+        second
+    } else {
+        first
+    }
+}
+
+/// The plan, or the layer planner's, where that is cheaper.
+fn or_layer(alloc: Global, source: &Planes, target: &Planes, plan: Plan) -> Result<Plan, Memory>
+    requires source { IsLegal source.now }
+    requires target { IsLegal target.now }
+    requires same { source.now.resolution ≡ target.now.resolution }
+    requires crew { IsForCrew source.now target.now plan }
+    ensures crew { IfOk result (IsForCrew source.now target.now) }
+    ensures no_dearer { IfOk result (λ it. it.energy ≤ℤ plan.energy) }
+    ensures as_layer { IfOk result (λ it. IsNoDearer IsLayerPlan source.now target.now it.energy) }
+{
+    source.know();
+    let other = layer_plan(alloc, source, target, plan.energy)?;
+    Ok(cheaper_of(plan, other))
+}
+
+/// The plan, or the group planner's, where that may not be too long and is cheaper.
+fn or_group(alloc: Global, source: &Planes, target: &Planes, plan: Plan) -> Result<Plan, Memory>
+    requires source { IsLegal source.now }
+    requires target { IsLegal target.now }
+    requires same { source.now.resolution ≡ target.now.resolution }
+    requires crew { IsForCrew source.now target.now plan }
+    ensures crew { IfOk result (IsForCrew source.now target.now) }
+    ensures no_dearer { IfOk result (λ it. it.energy ≤ℤ plan.energy) }
+    ensures as_group { most_bytes source.now target.now ≤ crew_limit → IfOk result (λ it. IsNoDearer IsGroupPlan source.now target.now it.energy) }
+{
+    if group_bounds(source, target).bytes > LIMIT {
+        return Ok(plan);
+    }
+    let other = group_plan(alloc, source, target, plan.energy)?;
+    Ok(cheaper_of(plan, other))
+}
+
+/// The plan, or the void planner's, where the target is empty and that is cheaper.
+fn or_void(alloc: Global, source: &Planes, target: &Planes, plan: Plan) -> Result<Plan, Memory>
+    requires source { IsLegal source.now }
+    requires same { source.now.resolution ≡ target.now.resolution }
+    requires crew { IsForCrew source.now target.now plan }
+    ensures crew { IfOk result (IsForCrew source.now target.now) }
+    ensures no_dearer { IfOk result (λ it. it.energy ≤ℤ plan.energy) }
+    ensures as_void { target.now ≡ empty target.now.resolution → IfOk result (λ it. IsNoDearer IsVoidPlan source.now target.now it.energy) }
+{
+    let nothing = Planes::empty(alloc, target.resolution())?;
+    if lowest_difference(target, &nothing).is_some() {
+        return Ok(plan);
+    }
+    source.know();
+    let other = void_plan(alloc, source, plan.energy)?;
+    Ok(cheaper_of(plan, other))
+}
+
+/// The plan, or the low planner's, where the source is empty, all parts of the target are supported and that is cheaper.
+fn or_low(alloc: Global, source: &Planes, target: &Planes, plan: Plan) -> Result<Plan, Memory>
+    requires target { IsLegal target.now }
+    requires same { source.now.resolution ≡ target.now.resolution }
+    requires crew { IsForCrew source.now target.now plan }
+    ensures crew { IfOk result (IsForCrew source.now target.now) }
+    ensures no_dearer { IfOk result (λ it. it.energy ≤ℤ plan.energy) }
+    ensures as_low { source.now ≡ empty source.now.resolution → FirstUnsupported target.now None
+        → IfOk result (λ it. IsNoDearer IsLowPlan source.now target.now it.energy) }
+{
+    let nothing = Planes::empty(alloc, source.resolution())?;
+    if lowest_difference(source, &nothing).is_some() {
+        return Ok(plan);
+    }
+    source.know();
+    seeds_bound_the_bots();
+    one_unsupported();
+    match low_plan(alloc, target, plan.energy) {
+        Ok(other) => Ok(cheaper_of(plan, other)),
+        Err(LowFault::Unsupported { at }) => Ok(plan),
+        Err(LowFault::Memory) => Err(Memory),
+    }
+}
+
+/// The plan, or the swarm planner's, where the source is empty and that is cheaper.
+fn or_swarm(alloc: Global, source: &Planes, target: &Planes, plan: Plan) -> Result<Plan, Memory>
+    requires target { IsLegal target.now }
+    requires same { source.now.resolution ≡ target.now.resolution }
+    requires crew { IsForCrew source.now target.now plan }
+    ensures crew { IfOk result (IsForCrew source.now target.now) }
+    ensures no_dearer { IfOk result (λ it. it.energy ≤ℤ plan.energy) }
+    ensures as_swarm { source.now ≡ empty source.now.resolution → IfOk result (λ it. IsNoDearer IsSwarmPlan source.now target.now it.energy) }
+{
+    let nothing = Planes::empty(alloc, source.resolution())?;
+    if lowest_difference(source, &nothing).is_some() {
+        return Ok(plan);
+    }
+    source.know();
+    seeds_bound_the_bots();
+    let other = swarm_plan(alloc, target, plan.energy)?;
+    Ok(cheaper_of(plan, other))
+}
+
+/// The plan of a crew before the other planners are asked.
+fn proposed_by_crew(alloc: Global, source: &Planes, target: &Planes) -> Result<Plan, Memory>
+    requires source { IsLegal source.now }
+    requires target { IsLegal target.now }
+    requires same { source.now.resolution ≡ target.now.resolution }
+    ensures { IfOk result (IsForCrew source.now target.now) }
+{
+    source.know();
+    let plan = plan_layers(alloc, source, target)?;
+    let mut most = Bounds::none();
+    most.bytes = LIMIT;
+    let crew = Bounds { bots: CREW, ..most };
+    let plan = by_crew(alloc, source, target, plan, crew)?;
+    let plan = by_rebuilding(alloc, source, target, plan, most)?;
+    seeds_bound_the_bots();
+    know_all(plan.commands.as_slice());
+    Ok(plan)
+}
+
+/// The plan of up to forty bots that makes the target of the source: the cheapest of a crew's few proposals and of what the other
+/// planners that make plans of such models make.
+pub fn choose_crew_plan(alloc: Global, source: &Planes, target: &Planes) -> Result<Plan, Memory>
+    requires source { IsLegal source.now }
+    requires target { IsLegal target.now }
+    requires same { source.now.resolution ≡ target.now.resolution }
+    ensures { IfOk result (λ plan. IsCrewPlan source.now target.now plan.commands plan.energy plan.steps) }
+{
+    let plan = proposed_by_crew(alloc, source, target)?;
+    let plan = or_group(alloc, source, target, plan)?;
+    let plan = or_void(alloc, source, target, plan)?;
+    let plan = or_layer(alloc, source, target, plan)?;
+    let plan = or_low(alloc, source, target, plan)?;
+    let plan = or_swarm(alloc, source, target, plan)?;
+    Ok(plan)
+}

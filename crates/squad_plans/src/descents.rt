@@ -1,0 +1,202 @@
+//! What squads of four do that take a strip of columns down: tile by tile, slab by slab of several layers.
+use crate::site::Site;
+use crate::spots::{Spot, nowhere, share, stride};
+use crate::strips::Strip;
+use std::alloc::Global;
+use vox_geom::{Diff, Memory};
+
+/// The most voxels along a tile.
+const SIDE: i16 = 31;
+
+/// More moves than any way has.
+const MOST_MOVES: u32 = 100;
+
+/// More moves than any way within a layer has, however short they are.
+const MOST_SHORT_MOVES: u32 = 1000;
+
+/// Tiles along z: where the first one begins, how many voxels each has, how many there are, and where the last one begins.
+#[derive(Clone, Copy)]
+pub(crate) struct Rows {
+    pub(crate) first: i16,
+    side: i16,
+    count: i16,
+    last: i16,
+}
+
+impl Rows {
+    /// Tiles from low to high, all about equally long.
+    pub(crate) fn over(low: i16, high: i16) -> Rows {
+        let far = high.wrapping_sub(low).max(1).min(1000);
+        let count = far / SIDE + 1;
+        let side = share(far, count).wrapping_add(1).max(2);
+        Rows {
+            first: low,
+            side,
+            count,
+            last: high.wrapping_add(1).wrapping_sub(side).max(low),
+        }
+    }
+
+    /// Where a tile begins.
+    fn begin(self, k: i16) -> i16 {
+        let own = self.first.wrapping_add(k.wrapping_mul(self.side));
+        own.min(self.last)
+    }
+
+    /// How far the ends of a tile are apart.
+    pub(crate) fn far(self) -> i16 {
+        self.side.wrapping_sub(1)
+    }
+}
+
+/// What the four bots of a squad do in a step: all move alike, or void the tile right below them.
+#[derive(Clone, Copy)]
+pub(crate) enum Stroke {
+    Move(Diff),
+    Void,
+}
+
+/// Whether a tile of a strip has a full voxel in a layer.
+fn has_full(site: &Site, strip: Strip, y: i16, z: i16, end: i16) -> bool {
+    for x in strip.low..=strip.high {
+        for k in z..=end {
+            if site.is_target(Spot { x, y, z: k }) {
+                return true;
+            }
+        }
+    }
+    false
+}
+
+/// What a squad does, one stroke after another, and where its first bot is then.
+#[derive(Drop)]
+pub(crate) struct Descent {
+    strokes: Vec<Stroke>,
+    height: i16,
+    row: i16,
+    back: bool,
+}
+
+impl Descent {
+    /// Goes up or down.
+    fn climb(&mut self, to: i16) -> Result<(), Memory> {
+        for _ in 0..MOST_MOVES {
+            let dy = stride(to.wrapping_sub(self.height));
+            if dy == 0 {
+                break;
+            }
+            let d = Diff { dy, ..nowhere() };
+            self.strokes.push(Stroke::Move(d)).map_err(|_| Memory)?;
+            self.height = self.height.wrapping_add(dy);
+        }
+        Ok(())
+    }
+
+    /// Goes along z, never as far at once as its bots stand apart.
+    fn follow(&mut self, to: i16, far: i16) -> Result<(), Memory> {
+        let most = far.wrapping_sub(1).max(1);
+        for _ in 0..MOST_SHORT_MOVES {
+            let dz = stride(to.wrapping_sub(self.row))
+                .min(most)
+                .max(most.wrapping_neg());
+            if dz == 0 {
+                break;
+            }
+            let d = Diff { dz, ..nowhere() };
+            self.strokes.push(Stroke::Move(d)).map_err(|_| Memory)?;
+            self.row = self.row.wrapping_add(dz);
+        }
+        Ok(())
+    }
+
+    /// Voids a tile of a slab from its top down.
+    fn tile(
+        &mut self,
+        site: &Site,
+        strip: Strip,
+        rows: Rows,
+        z: i16,
+        low: i16,
+        high: i16,
+    ) -> Result<(), Memory> {
+        let end = z.wrapping_add(rows.far());
+        for k in 0..=high.wrapping_sub(low) {
+            let y = high.wrapping_sub(k);
+            if has_full(site, strip, y, z, end) {
+                if self.row != z {
+                    self.climb(self.height.max(high.wrapping_add(1)))?;
+                    self.follow(z, rows.far())?;
+                }
+                self.climb(y.wrapping_add(1))?;
+                self.strokes.push(Stroke::Void).map_err(|_| Memory)?;
+            }
+        }
+        Ok(())
+    }
+
+    /// Voids a slab, the other way along z than the one before.
+    fn slab(
+        &mut self,
+        site: &Site,
+        strip: Strip,
+        rows: Rows,
+        low: i16,
+        high: i16,
+    ) -> Result<(), Memory> {
+        for k in 0..rows.count {
+            let number = if self.back {
+                rows.count.wrapping_sub(1).wrapping_sub(k)
+            } else {
+                k
+            };
+            self.tile(site, strip, rows, rows.begin(number), low, high)?;
+        }
+        self.back = !self.back;
+        Ok(())
+    }
+
+    /// Voids all of a strip.
+    fn strip(
+        &mut self,
+        site: &Site,
+        strip: Strip,
+        rows: Rows,
+        top: i16,
+        thick: i16,
+    ) -> Result<(), Memory> {
+        let thick = thick.max(1);
+        for s in 0..=top / thick {
+            let high = top.wrapping_sub(s.wrapping_mul(thick));
+            let low = high.wrapping_add(1).wrapping_sub(thick).max(0);
+            self.slab(site, strip, rows, low, high)?;
+        }
+        Ok(())
+    }
+}
+
+/// What the squad of a strip does.
+pub(crate) fn descent_of(
+    alloc: Global,
+    site: &Site,
+    strip: Strip,
+    rows: Rows,
+    top: i16,
+    thick: i16,
+) -> Result<Descent, Memory> {
+    let mut descent = Descent {
+        strokes: Vec::new(alloc),
+        height: top.wrapping_add(1),
+        row: rows.first,
+        back: false,
+    };
+    descent.strip(site, strip, rows, top, thick)?;
+    Ok(descent)
+}
+
+/// What a squad does in a turn, if it has one of that number.
+pub(crate) fn stroke_of(descents: &[Descent], squad: usize, number: usize) -> Option<Stroke> {
+    match descents.get(squad)?.strokes.get(number) {
+        Some(stroke) => Some(*stroke),
+        None => None,
+    }
+}

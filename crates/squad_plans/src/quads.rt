@@ -1,0 +1,378 @@
+//! Squads of four bots that take a model down at the corners of tiles, each in a strip of columns of its own, by slabs of several
+//! layers.
+use crate::descents::{Descent, Rows, Stroke, descent_of, stroke_of};
+use crate::site::Site;
+use crate::spots::{Spot, nowhere, share};
+use crate::strips::Strip;
+use crate::tasks::Task;
+use crate::team::Team;
+use crate::yard::{Goal, Yard};
+use nano_spec::CommandList;
+use std::alloc::Global;
+use vox_geom::{Diff, Memory};
+use vox_planes::Planes;
+
+/// The most squads of four.
+const MOST_SQUADS: i16 = 10;
+
+/// The most bots.
+const MOST_BOTS: u8 = 40;
+
+/// More turns than any squad takes that is worth it.
+const MOST_TURNS: usize = 1_073_741_824;
+
+/// How squads of four are to take a model down: how many layers a slab has, and whether x and z are exchanged.
+#[derive(Clone, Copy, Debug)]
+pub struct Slabs {
+    pub thick: u16,
+    pub turned: bool,
+}
+
+/// Between which places full voxels lie, at least two wide and two long.
+#[derive(Clone, Copy)]
+struct Area {
+    low: Spot,
+    high: Spot,
+}
+
+/// The four bots of a squad: at the least corner, beside it along x, beside it along z, and opposite.
+#[derive(Clone, Copy)]
+struct Quad {
+    strip: Strip,
+    first: u8,
+    beside: u8,
+    behind: u8,
+    opposite: u8,
+}
+
+/// Where a bot is to go along one axis.
+#[derive(Clone, Copy)]
+enum Heading {
+    Column(i16),
+    Height(i16),
+    Row(i16),
+}
+
+/// Between which places full voxels lie.
+fn area_of(site: &Site) -> Area {
+    let side = site.side();
+    let mut low = Spot {
+        x: side,
+        y: side,
+        z: side,
+    };
+    let mut high = Spot::home();
+    for number in 0..site.count().min(64_000_000) {
+        let c = site.spot(number as u32);
+        if site.is_target(c) {
+            low = Spot {
+                x: low.x.min(c.x),
+                y: low.y.min(c.y),
+                z: low.z.min(c.z),
+            };
+            high = Spot {
+                x: high.x.max(c.x),
+                y: high.y.max(c.y),
+                z: high.z.max(c.z),
+            };
+        }
+    }
+    high.x = high.x.max(low.x.wrapping_add(1));
+    high.z = high.z.max(low.z.wrapping_add(1));
+    Area { low, high }
+}
+
+/// Strips of columns, all about equally wide, two or more and no more than a tile.
+fn strips_of(alloc: Global, area: Area) -> Result<Vec<Strip>, Memory> {
+    let columns = area.high.x.wrapping_sub(area.low.x).wrapping_add(1);
+    let count = (columns / 2).min(MOST_SQUADS).max(1);
+    let mut strips = Vec::new(alloc);
+    for k in 0..count {
+        let low = share(columns.wrapping_mul(k), count);
+        let end = share(columns.wrapping_mul(k.wrapping_add(1)), count);
+        let strip = Strip {
+            low: area.low.x.wrapping_add(low),
+            high: area.low.x.wrapping_add(end).wrapping_sub(1),
+            wide: 1,
+        };
+        strips.push(strip).map_err(|_| Memory)?;
+    }
+    Ok(strips)
+}
+
+/// A way along x.
+fn along_x(dx: i16) -> Diff {
+    Diff { dx, ..nowhere() }
+}
+
+/// A way along z.
+fn along_z(dz: i16) -> Diff {
+    Diff { dz, ..nowhere() }
+}
+
+/// What voids the tile below by a bot at the corner from which it goes so far along x and z.
+fn void_below(dx: i16, dz: i16) -> Task {
+    Task::VoidPlane(
+        Diff {
+            dy: -1,
+            ..nowhere()
+        },
+        dx,
+        dz,
+    )
+}
+
+impl Quad {
+    /// All four move alike, or void the tile below, which is so long.
+    fn act(self, yard: &mut Yard, stroke: Stroke, far: i16) {
+        match stroke {
+            Stroke::Move(d) => {
+                yard.go(self.first, d);
+                yard.go(self.beside, d);
+                yard.go(self.behind, d);
+                yard.go(self.opposite, d);
+            }
+            Stroke::Void => {
+                let wide = self.strip.high.wrapping_sub(self.strip.low);
+                let (left, back) = (wide.wrapping_neg(), far.wrapping_neg());
+                yard.order(self.first, void_below(wide, far));
+                yard.order(self.beside, void_below(left, far));
+                yard.order(self.behind, void_below(wide, back));
+                yard.order(self.opposite, void_below(left, back));
+            }
+        }
+    }
+}
+
+/// Where all squads go: up from the floor, apart along x, apart along z, to their first tile, and back.
+#[derive(Clone, Copy)]
+enum Leg {
+    Rise,
+    Widen,
+    Lengthen,
+    Advance,
+    Return,
+    Shorten,
+    Narrow,
+    Descend,
+}
+
+/// The place that an aim leads to from another one.
+fn aimed(at: Spot, aim: Heading) -> Spot {
+    match aim {
+        Heading::Column(x) => Spot { x, ..at },
+        Heading::Height(y) => Spot { y, ..at },
+        Heading::Row(z) => Spot { z, ..at },
+    }
+}
+
+/// The squads of four, with what they have in common.
+#[derive(Drop)]
+struct Quads {
+    team: Team,
+    quads: Vec<Quad>,
+    rows: Rows,
+    top: i16,
+}
+
+impl Quads {
+    /// The squads on the floor under High, each of one bot.
+    fn begin(alloc: Global, source: &Planes, turned: bool) -> Result<Quads, Memory> {
+        let yard = Yard::begin(alloc, source, MOST_BOTS, turned, false)?;
+        let area = area_of(yard.site());
+        let strips = strips_of(alloc, area)?;
+        let mut team = Team::over(alloc, yard, strips.as_slice(), 4)?;
+        team.yard.flip()?;
+        let mut quads = Vec::new(alloc);
+        for troop in team.spread(alloc)?.as_slice() {
+            if let Some(strip) = strips.as_slice().get(troop.low) {
+                let quad = Quad {
+                    strip: *strip,
+                    first: team.lead(troop.low),
+                    beside: troop.seed,
+                    behind: troop.seed.wrapping_add(2),
+                    opposite: troop.seed.wrapping_add(1),
+                };
+                quads.push(quad).map_err(|_| Memory)?;
+            }
+        }
+        Ok(Quads {
+            team,
+            quads,
+            rows: Rows::over(area.low.z, area.high.z),
+            top: area.high.y,
+        })
+    }
+
+    /// Which bots of a squad go, twice the same where one does, and where.
+    fn aim_of(&self, quad: Quad, leg: Leg) -> (u8, u8, Heading) {
+        let end = self.rows.first.wrapping_add(self.rows.far());
+        let beside = quad.strip.low.wrapping_add(1);
+        match leg {
+            Leg::Rise => (
+                quad.first,
+                quad.first,
+                Heading::Height(self.top.wrapping_add(1)),
+            ),
+            Leg::Widen => (quad.beside, quad.opposite, Heading::Column(quad.strip.high)),
+            Leg::Lengthen => (quad.behind, quad.opposite, Heading::Row(end)),
+            Leg::Advance => (quad.first, quad.beside, Heading::Row(self.rows.first)),
+            Leg::Return => (quad.first, quad.beside, Heading::Row(0)),
+            Leg::Shorten => (quad.behind, quad.opposite, Heading::Row(1)),
+            Leg::Narrow => (quad.beside, quad.beside, Heading::Column(beside)),
+            Leg::Descend => (quad.first, quad.first, Heading::Height(0)),
+        }
+    }
+
+    /// Where the bots of all squads are to go.
+    fn goals(&self, alloc: Global, leg: Leg) -> Result<Vec<Goal>, Memory> {
+        let mut goals = Vec::new(alloc);
+        for quad in self.quads.as_slice() {
+            let (one, other, aim) = self.aim_of(*quad, leg);
+            let to = aimed(self.team.yard.spot(one), aim);
+            goals.push(Goal { bot: one, to }).map_err(|_| Memory)?;
+            if other != one {
+                let to = aimed(self.team.yard.spot(other), aim);
+                goals.push(Goal { bot: other, to }).map_err(|_| Memory)?;
+            }
+        }
+        Ok(goals)
+    }
+
+    /// All squads go a leg.
+    fn go(&mut self, alloc: Global, leg: Leg) -> Result<(), Memory> {
+        let goals = self.goals(alloc, leg)?;
+        self.team.yard.go_all(goals.as_slice())
+    }
+
+    /// The squad with a number.
+    fn quad(&self, number: usize) -> Option<Quad> {
+        match self.quads.get(number) {
+            Some(quad) => Some(*quad),
+            None => None,
+        }
+    }
+
+    /// The bot of each squad makes the one beside it, and then both make one behind them.
+    fn split(&mut self) -> Result<(), Memory> {
+        for i in 0..self.quads.len() {
+            if let Some(quad) = self.quad(i) {
+                let task = Task::Split(along_x(1), quad.beside, 1);
+                self.team.yard.order(quad.first, task);
+            }
+        }
+        self.team.yard.step()?;
+        for i in 0..self.quads.len() {
+            if let Some(quad) = self.quad(i) {
+                let at = self.team.yard.spot(quad.first).plus(along_x(1));
+                self.team.yard.arrive(quad.beside, at);
+                let task = Task::Split(along_z(1), quad.behind, 0);
+                self.team.yard.order(quad.first, task);
+                let task = Task::Split(along_z(1), quad.opposite, 0);
+                self.team.yard.order(quad.beside, task);
+            }
+        }
+        self.team.yard.step()?;
+        self.arrive();
+        Ok(())
+    }
+
+    /// The bots behind the first ones are there.
+    fn arrive(&mut self) {
+        for i in 0..self.quads.len() {
+            if let Some(quad) = self.quad(i) {
+                let at = self.team.yard.spot(quad.first).plus(along_z(1));
+                self.team.yard.arrive(quad.behind, at);
+                let at = self.team.yard.spot(quad.beside).plus(along_z(1));
+                self.team.yard.arrive(quad.opposite, at);
+            }
+        }
+    }
+
+    /// The two bots behind are taken up by those before them.
+    fn close(&mut self) -> Result<(), Memory> {
+        for i in 0..self.quads.len() {
+            if let Some(quad) = self.quad(i) {
+                let yard = &mut self.team.yard;
+                yard.order(quad.first, Task::Lead(along_z(1), quad.behind, 0));
+                yard.order(quad.behind, Task::Join(along_z(-1)));
+                yard.order(quad.beside, Task::Lead(along_z(1), quad.opposite, 0));
+                yard.order(quad.opposite, Task::Join(along_z(-1)));
+            }
+        }
+        self.team.yard.step()
+    }
+
+    /// The bot beside the first one of each squad is taken up by it.
+    fn unite(&mut self) -> Result<(), Memory> {
+        for i in 0..self.quads.len() {
+            if let Some(quad) = self.quad(i) {
+                let yard = &mut self.team.yard;
+                yard.order(quad.first, Task::Lead(along_x(1), quad.beside, 1));
+                yard.order(quad.beside, Task::Join(along_x(-1)));
+            }
+        }
+        self.team.yard.step()
+    }
+
+    /// What all squads do.
+    fn descents(&self, alloc: Global, thick: i16) -> Result<Vec<Descent>, Memory> {
+        let mut descents = Vec::new(alloc);
+        for quad in self.quads.as_slice() {
+            let site = self.team.yard.site();
+            let descent = descent_of(alloc, site, quad.strip, self.rows, self.top, thick)?;
+            descents.push(descent).map_err(|_| Memory)?;
+        }
+        Ok(descents)
+    }
+
+    /// All squads take a turn of their descents. Whether one had any.
+    fn take_turn(&mut self, descents: &[Descent], number: usize) -> bool {
+        let far = self.rows.far();
+        let mut acts = false;
+        for i in 0..self.quads.len() {
+            let (Some(quad), Some(stroke)) = (self.quad(i), stroke_of(descents, i, number)) else {
+                continue;
+            };
+            quad.act(&mut self.team.yard, stroke, far);
+            acts = true;
+        }
+        acts
+    }
+
+    /// All squads take their strips down.
+    fn work(&mut self, descents: &[Descent]) -> Result<(), Memory> {
+        for number in 0..MOST_TURNS {
+            if !self.take_turn(descents, number) {
+                break;
+            }
+            self.team.yard.step()?;
+        }
+        Ok(())
+    }
+}
+
+/// The commands of squads of four under High that take all of a model down, each in a strip of columns, by slabs.
+pub fn slabs_by_squads(
+    alloc: Global,
+    source: &Planes,
+    manner: Slabs,
+) -> Result<CommandList, Memory> {
+    let mut all = Quads::begin(alloc, source, manner.turned)?;
+    let descents = all.descents(alloc, manner.thick.min(1000) as i16)?;
+    all.go(alloc, Leg::Rise)?;
+    all.split()?;
+    all.go(alloc, Leg::Widen)?;
+    all.go(alloc, Leg::Lengthen)?;
+    all.go(alloc, Leg::Advance)?;
+    all.work(descents.as_slice())?;
+    all.go(alloc, Leg::Return)?;
+    all.go(alloc, Leg::Shorten)?;
+    all.close()?;
+    all.go(alloc, Leg::Narrow)?;
+    all.unite()?;
+    all.go(alloc, Leg::Descend)?;
+    all.team.gather()?;
+    all.team.yard.flip()?;
+    all.team.yard.into_commands()
+}
