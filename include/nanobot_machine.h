@@ -229,6 +229,15 @@ uint32_t nanobot_machine_trace(nanobot_machine *machine, uint8_t *trace, size_t 
  */
 void nanobot_machine_end(nanobot_machine *machine);
 
+/* Tells how many commands the bytes of a trace spell; nanobot_cost tells its energy and steps. NANOBOT_TRACE: *offset is the first byte
+ * of a command that is bad or cut. What does not belong to the status is 0.
+ *
+ *     uint64_t commands, offset;
+ *     if (nanobot_commands(trace, trace_size, &commands, &offset) == NANOBOT_DONE)
+ *         printf("%llu commands\n", (unsigned long long)commands);
+ */
+uint32_t nanobot_commands(const uint8_t *trace, size_t trace_size, uint64_t *count, uint64_t *offset);
+
 /* The version of the library: ten thousand for each first number of NANOBOT_VERSION, a hundred for each second, one for each third.
  *
  *     printf("version %u\n", (unsigned)nanobot_version());              // version 900
