@@ -215,7 +215,7 @@ uint32_t nanobot_machine_differences(nanobot_machine *machine, const uint8_t *ta
  */
 uint32_t nanobot_machine_keep(nanobot_machine *machine);
 
-/* Gives the trace, if it is kept (else NANOBOT_NO_TRACE): nanobot_judge takes it from the source to where the machine stands.
+/* Gives the trace, if it is kept (else NANOBOT_NO_TRACE): its commands lead from the source to where the machine stands.
  *
  *     uint8_t made[1000];
  *     if (nanobot_machine_trace(&machine, made, sizeof made, &size) == NANOBOT_DONE) fwrite(made, 1, size, stdout);
