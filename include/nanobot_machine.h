@@ -215,7 +215,7 @@ uint32_t nanobot_machine_differences(nanobot_machine *machine, const uint8_t *ta
  */
 uint32_t nanobot_machine_keep(nanobot_machine *machine);
 
-/* Gives the trace, if it is kept (else NANOBOT_NO_TRACE): nanobot_judge takes it from the source to where the machine stands.
+/* Gives the trace, if it is kept (else NANOBOT_NO_TRACE): its commands lead from the source to where the machine stands.
  *
  *     uint8_t made[1000];
  *     if (nanobot_machine_trace(&machine, made, sizeof made, &size) == NANOBOT_DONE) fwrite(made, 1, size, stdout);
@@ -228,6 +228,15 @@ uint32_t nanobot_machine_trace(nanobot_machine *machine, uint8_t *trace, size_t 
  *     nanobot_machine_end(&machine);
  */
 void nanobot_machine_end(nanobot_machine *machine);
+
+/* Tells how many commands the bytes of a trace spell; nanobot_cost tells its energy and steps. NANOBOT_TRACE: *offset is the first byte
+ * of a command that is bad or cut. What does not belong to the status is 0.
+ *
+ *     uint64_t commands, offset;
+ *     if (nanobot_commands(trace, trace_size, &commands, &offset) == NANOBOT_DONE)
+ *         printf("%llu commands\n", (unsigned long long)commands);
+ */
+uint32_t nanobot_commands(const uint8_t *trace, size_t trace_size, uint64_t *count, uint64_t *offset);
 
 /* The version of the library: ten thousand for each first number of NANOBOT_VERSION, a hundred for each second, one for each third.
  *

@@ -108,6 +108,7 @@ static void check(nanobot_machine *made, nanobot_machine *scout, struct bytes tr
 {
     nanobot_state a, b;
     uint32_t full, count_a, count_b, level = 0;
+    uint64_t commands, offset;
     uint8_t text[18 * MOST_BYTES + 100], again[MOST_BYTES + 100];
     size_t size, size_again;
     must(nanobot_machine_tell(made, &a));
@@ -121,6 +122,9 @@ static void check(nanobot_machine *made, nanobot_machine *scout, struct bytes tr
         if (nanobot_machine_level(made, x, 0, 1, &level) != (full ? NANOBOT_DONE : NANOBOT_NO_LEVEL) || level != 0)
             abort();
     }
+    must(nanobot_commands(trace.at, trace.size, &commands, &offset));
+    if (commands != a.steps || offset != 0)
+        abort();
     must(nanobot_dis(trace.at, trace.size, text, sizeof text, &size));
     must(nanobot_asm(text, size, again, sizeof again, &size_again));
     if (size_again != trace.size || memcmp(again, trace.at, trace.size) != 0)

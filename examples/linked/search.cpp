@@ -143,6 +143,9 @@ static void check(Machine &made, Machine &scout, const Bytes &trace)
     require(a.energy == b.energy && a.steps == b.steps && made.count() == scout.count() && nanobot_version() >= 900);
     for (std::uint32_t x = 0; x < a.resolution; x++)
         require(made.full(x, 0, 1) == made.grounded(x, 0, 1));
+    std::uint64_t commands, offset;
+    must(nanobot_commands(trace.empty() ? NANOBOT_NONE : trace.data(), trace.size(), &commands, &offset));
+    require(commands == a.steps && offset == 0);
     Bytes text(18 * trace.size() + 100), again(trace.size() + 100);
     std::size_t size, size_again;
     must(nanobot_dis(trace.empty() ? NANOBOT_NONE : trace.data(), trace.size(), text.data(), text.size(), &size));

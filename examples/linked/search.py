@@ -57,7 +57,7 @@ def check(made, scout, trace):
     """Both machines stand alike, and the trace is that of its own text."""
     assert made.state[:5] == scout.state[:5] and made.count() == scout.count() and nanobot.version() >= "0.9.0"
     assert all(made.full((x, 0, 1)) == (made.level((x, 0, 1)) is not None) for x in range(made.state.resolution))
-    assert nanobot.asm(nanobot.dis(trace)) == trace
+    assert nanobot.asm(nanobot.dis(trace)) == trace and nanobot.count_commands(trace) == made.steps
 
 
 def main():

@@ -80,6 +80,7 @@ CALLS = {
     "nanobot_machine_keep": [MACHINE],
     "nanobot_machine_trace": [MACHINE] + GIVEN,
     "nanobot_machine_end": [MACHINE],
+    "nanobot_commands": BYTES + [POINTER(c_uint64), POINTER(c_uint64)],
     "nanobot_version": [],
 }
 

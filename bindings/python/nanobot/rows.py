@@ -2,12 +2,12 @@
 
 from __future__ import annotations
 
-from ctypes import byref, c_int64, c_uint32
+from ctypes import byref, c_int64, c_uint32, c_uint64
 from typing import NamedTuple, Optional
 
 from . import _library as lib
 from ._library import library
-from .errors import NanobotError
+from .errors import BadCommands, NanobotError
 from .machine import Source, bytes_of
 
 
@@ -61,6 +61,17 @@ def _stored(call, data: bytes, room: int) -> bytes:
     if status == lib.DONE:
         return made
     raise Refused(status, _said(status, made))
+
+
+def count_commands(trace: Source) -> int:
+    """How many commands a trace has; raises BadCommands with the first byte of one that is bad or cut."""
+    count, offset = c_uint64(), c_uint64()
+    status = library.commands(*lib.lend(bytes_of(trace)), byref(count), byref(offset))
+    if status == lib.MEMORY:
+        raise MemoryError
+    if status == lib.TRACE:
+        raise BadCommands(offset.value)
+    return count.value
 
 
 def asm(text: str | bytes) -> bytes:

@@ -192,6 +192,10 @@ class Rows(unittest.TestCase):
         self.assertEqual(nanobot.asm("SMove <0,0,1>\nHalt # done\n"), MOVE + HALT)
         self.assertEqual(nanobot.dis(MOVE + HALT), "SMove <0,0,1>\nHalt\n")
         self.assertEqual((nanobot.asm(b""), nanobot.dis(b"")), (b"", ""))
+        self.assertEqual((nanobot.count_commands(SPLIT + WAIT + WAIT), nanobot.count_commands(b"")), (3, 0))
+        with self.assertRaises(nanobot.BadCommands) as bad:
+            nanobot.count_commands(b"\xfe\x04")
+        self.assertEqual(bad.exception.offset, 1)
         with self.assertRaises(nanobot.Refused) as caught:
             nanobot.asm("Wait\nStop\n")
         self.assertEqual((caught.exception.status, caught.exception.line), (8, "text 2 UnknownWord line 2"))

@@ -1,7 +1,7 @@
 //! A search over two machines: `search T B` builds towards the model T with one bot, by steps that look best two moves deep, stores the
 //! trace that it made as B, and prints what `nanobot run - T B` prints of it.
 
-use nanobot::{asm, dis, version, Coord, Machine, Profile};
+use nanobot::{asm, count_commands, dis, version, Coord, Machine, Profile};
 use std::error::Error;
 use std::fs;
 use std::process::ExitCode;
@@ -57,6 +57,7 @@ fn check(made: &mut Machine, scout: &mut Machine, trace: &[u8]) -> Told<()> {
         assert_eq!(made.full(at), Some(made.level(at)?.is_some()));
     }
     assert_eq!(asm(&dis(trace)?)?, trace);
+    assert_eq!(count_commands(trace)?, u64::from(a.steps));
     assert!(version() >= 900);
     Ok(())
 }

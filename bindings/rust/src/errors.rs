@@ -47,6 +47,14 @@ pub enum UndoError {
     NothingNoted,
 }
 
+/// Why the commands of a trace were not counted.
+#[derive(Clone, Copy, PartialEq, Eq, Debug)]
+pub enum CommandsError {
+    /// The command that begins at this byte is bad or cut.
+    BadCommands { offset: u64 },
+    Memory,
+}
+
 /// Why no trace was given.
 #[derive(Clone, Copy, PartialEq, Eq, Debug)]
 pub enum TraceError {
@@ -171,6 +179,15 @@ impl fmt::Display for UndoError {
     }
 }
 
+impl fmt::Display for CommandsError {
+    fn fmt(&self, f: &mut fmt::Formatter<'_>) -> fmt::Result {
+        match self {
+            CommandsError::BadCommands { offset } => write!(f, "no command at byte {offset}"),
+            CommandsError::Memory => f.write_str("out of memory"),
+        }
+    }
+}
+
 impl fmt::Display for TraceError {
     fn fmt(&self, f: &mut fmt::Formatter<'_>) -> fmt::Result {
         f.write_str(match self {
@@ -203,5 +220,6 @@ impl Error for StartError {}
 impl Error for StepError {}
 impl Error for UndoError {}
 impl Error for TraceError {}
+impl Error for CommandsError {}
 impl Error for LevelError {}
 impl Error for TargetError {}

@@ -18,7 +18,7 @@ mod errors;
 mod rows;
 mod sys;
 
-pub use errors::{Broken, LevelError, StartError, StepError, TargetError, TraceError, UndoError};
+pub use errors::{Broken, CommandsError, LevelError, StartError, StepError, TargetError, TraceError, UndoError};
 pub use rows::{asm, check, dis, judge, plan, Cost, Planner, Refused};
 
 use std::marker::PhantomData;
@@ -266,6 +266,17 @@ impl Machine {
                 status => return Err(status),
             }
         }
+    }
+}
+
+/// How many commands a trace has.
+pub fn count_commands(trace: &[u8]) -> Result<u64, CommandsError> {
+    let (mut count, mut offset) = (0, 0);
+    // SAFETY: each pointer is that of a slice or a reference.
+    match unsafe { sys::nanobot_commands(trace.as_ptr(), trace.len(), &mut count, &mut offset) } {
+        sys::DONE => Ok(count),
+        sys::TRACE => Err(CommandsError::BadCommands { offset }),
+        _ => Err(CommandsError::Memory),
     }
 }
 

@@ -128,6 +128,7 @@ extern "C" {
     ) -> u32;
     pub fn nanobot_machine_keep(machine: *mut Handle) -> u32;
     pub fn nanobot_machine_trace(machine: *mut Handle, trace: *mut u8, room: usize, size: *mut usize) -> u32;
+    pub fn nanobot_commands(trace: *const u8, trace_size: usize, count: *mut u64, offset: *mut u64) -> u32;
     pub fn nanobot_version() -> u32;
     pub fn nanobot_machine_end(machine: *mut Handle);
 }

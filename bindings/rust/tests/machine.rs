@@ -1,7 +1,7 @@
 //! The binding, call by call. Expected numbers are those of the rules.
 
 use nanobot::{
-    asm, check, dis, judge, plan, Broken, Coord, Cost, Judged, LevelError, Machine, Planner, Profile, Refused, StartError, StepError,
+    asm, check, count_commands, dis, judge, plan, Broken, CommandsError, Coord, Cost, Judged, LevelError, Machine, Planner, Profile, Refused, StartError, StepError,
     TargetError, TraceError, UndoError,
 };
 
@@ -89,6 +89,8 @@ fn a_trace_is_kept() {
 fn a_text_is_read_and_spelled() {
     assert_eq!(asm("Wait\nHalt # done\n"), Ok(vec![0xfe, 0xff]));
     assert_eq!(dis(&[0xfe, 0xff]), Ok("Wait\nHalt\n".to_owned()));
+    assert_eq!((count_commands(&[0x75, 5, 0xfe]), count_commands(&[])), (Ok(2), Ok(0)));
+    assert_eq!(count_commands(&[0xfe, 4]), Err(CommandsError::BadCommands { offset: 1 }));
     assert_eq!(asm("Stop\n").unwrap_err().line, "text 2 UnknownWord line 1");
     assert_eq!(dis(&[4]).unwrap_err().status, 4);
 }

@@ -1,4 +1,5 @@
 pub mod Calls
+pub mod Commands
 pub mod Comparing
 pub mod Counting
 pub mod Judging

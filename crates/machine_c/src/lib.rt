@@ -2,6 +2,7 @@
 //! handle, makes one call of it, and puts it back.
 #![tactic(auto)]
 
+mod commands;
 mod comparing;
 mod counting;
 mod handle;

@@ -1,5 +1,6 @@
 //! Each export as a caller in C calls it. The energies are those of the rules: at resolution 3 a step costs 101 with one bot under
 //! low harmonics, a move 2 for each voxel, and a voxel that becomes full 12.
+use crate::commands::nanobot_commands;
 use crate::comparing::nanobot_machine_compare;
 use crate::counting::nanobot_machine_differences;
 use crate::handle::Handle;
@@ -343,4 +344,25 @@ fn differences_are_counted(rt: HostRuntime) -> Result<(), Fail> {
         11
     );
     Ok(())
+}
+
+#[test]
+fn commands_are_counted(rt: HostRuntime) {
+    let alloc = rt.alloc();
+    let mut count = 7;
+    let mut at = 7;
+    let trace = [0x75, 0x05, 0xFE, 0xFE, 0xFF];
+    assert_eq!(&rt; nanobot_commands(alloc, &trace, &mut count, &mut at), 0);
+    assert_eq!(&rt; count, 4);
+    assert_eq!(&rt; at, 0);
+    assert_eq!(&rt;
+        nanobot_commands(alloc, &trace[..1], &mut count, &mut at),
+        4
+    );
+    assert_eq!(&rt; count, 0);
+    assert_eq!(&rt;
+        nanobot_commands(alloc, &[0xFE, 0x04], &mut count, &mut at),
+        4
+    );
+    assert_eq!(&rt; at, 1);
 }
