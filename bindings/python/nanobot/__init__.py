@@ -16,7 +16,21 @@ from .errors import (
     WrongCount,
 )
 from .machine import Bot, Judged, Machine, State, Step, version
-from .rows import Cost, Refused, asm, check, count_commands, dis, judge, plan_crew, plan_group, plan_layer, plan_low, plan_swarm, plan_void
+from .rows import (
+    Cost,
+    Refused,
+    asm,
+    check,
+    count_commands,
+    dis,
+    judge,
+    plan_crew,
+    plan_group,
+    plan_layer,
+    plan_low,
+    plan_swarm,
+    plan_void,
+)
 
 __version__ = "0.9.0"
 
