@@ -8,11 +8,11 @@ use Rattle.vox_geom.specs.Point.{point}
 use Rattle.vox_geom.specs.Space.{coordinate_at, in_space, place}
 use Rattle.vox_geom.proofs.Firsts.{at_in_space}
 use Rattle.vox_geom.proofs.Places.{place-coordinate_at}
+use Rattle.vox_geom.proofs.Points.{in_space_is}
 use Rattle.nano_spec.specs.Matrix.{Matrix, differ_at, is_full}
 use Rattle.nano_spec.specs.Model.{bit, volume}
 use Rattle.vox_planes.specs.Places.{voxel_at}
 use Rattle.vox_planes.proofs.Totals.{both_ways, counted, one_if, ones-total, total, total-add, total-same}
-use Rattle.vox_planes.proofs.Voxels.{in_space-of}
 use Rattle.kept_machine.specs.Calls.{difference_count}
 
 -- how many of the first n places have voxels that differ
@@ -37,7 +37,7 @@ all_below m t = at_first m t (volume m.resolution) ∙ sym (counted (differ_at m
 full_at_place : (m : Matrix) (r p : ℕ) → m.resolution ≡ r → p < r * r * r → is_full m (coordinate_at r p) ≡ voxel_at m p
 full_at_place m r p e l =
     (λ i. in_space (e i) (point (coordinate_at r p)) && slice_index_or m.voxels (place (e i) (coordinate_at r p)) false)
-    ∙ (λ i. in_space-of r (coordinate_at r p) (at_in_space r p l) i && slice_index_or m.voxels (place-coordinate_at r p i) false)
+    ∙ (λ i. in_space_is r (coordinate_at r p) (at_in_space r p l) i && slice_index_or m.voxels (place-coordinate_at r p i) false)
 
 one_differs : (a b : ℕ) → a < 2 → b < 2 → (a + b) % 2 ≡ one_if (((a == 1) && not (b == 1)) || ((b == 1) && not (a == 1)))
 one_differs zero zero h k = refl
