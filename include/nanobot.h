@@ -19,8 +19,8 @@
  * returns. It returns for all bytes, junk too; time and memory are promised by no clause.
  *
  * A source or a target of length 0 is the empty model of the other's resolution, where the program has `-`; this is so of
- * nanobot_judge, nanobot_cost, nanobot_plan_layer and nanobot_plan_group. To the other calls it is a file of no bytes.
- * NANOBOT_NONE is the pointer to pass with it.
+ * nanobot_judge, nanobot_cost, nanobot_plan_layer, nanobot_plan_group and nanobot_plan_crew. To the other calls it is a file of no
+ * bytes. NANOBOT_NONE is the pointer to pass with it.
  *
  * What is given is written to the front of the caller's buffer of `room` bytes, with no byte 0 behind it, and `*size` is
  * how many bytes it is. Where they are more than `room` the status is NANOBOT_TOO_SMALL, `*size` is the room that is
