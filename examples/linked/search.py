@@ -61,6 +61,8 @@ def check(made, scout, trace):
 
 
 def main():
+    if len(sys.argv) != 3:
+        sys.exit(__doc__)
     target = bytes_of(sys.argv[1])
     with Machine(resolution=resolution_of(target), notes=2, trace=True) as made, made.copy() as scout:
         for _ in range(STEPS):
