@@ -1,7 +1,7 @@
 #!/usr/bin/env bash
 # How long it takes to judge the house, and a forged model of resolution 20 with its plan of one bot, ten thousand times: through
-# the static library, from C, and by starting the program as often. Then what calls of a machine take that is kept, and a step of
-# the program beside it: a million moves to and fro. Builds both where they are missing.
+# the static library, from C, and by starting the program as often. Then what calls of a machine take that is kept, from C, Rust and
+# Python, and a step of the program beside it: a million moves to and fro, and fills and voids. Builds both where they are missing.
 set -eu
 top=$(cd "$(dirname "$0")/../.." && pwd)
 # shellcheck source=scripts/linked_lib disable=SC2154
@@ -28,7 +28,19 @@ for resolution in 20 100 250; do
         ./machine "$resolution" "$notes"
     done
 done
+mkdir -p rust/src
+cp "$top/bench/linked/machine.rs" rust/src/main.rs
+printf '[package]\nname = "machine"\nversion = "0.0.0"\nedition = "2021"\n\n[dependencies]\nnanobot = { path = "%s" }\n' "$top/bindings/rust" > rust/Cargo.toml
+NANOBOT_LIB=$(dirname "$library") cargo build --quiet --release --offline --manifest-path rust/Cargo.toml
+cc -shared -o libnanobot.so -Wl,--whole-archive "$library" -Wl,--no-whole-archive
+for resolution in 20 250; do
+    rust/target/release/machine "$resolution"
+    NANOBOT_LIBRARY=$folder/libnanobot.so PYTHONPATH=$top/bindings/python python3 "$top/bench/linked/machine.py" "$resolution"
+done
 python3 -c 'import sys; sys.stdout.buffer.write(bytes([20]) + bytes(1000))' > empty.mdl
 python3 -c 'import sys; sys.stdout.buffer.write(bytes([0x34, 0x10, 0x34, 0x0E]) * 500000 + b"\xff")' > moves.nbt
 TIMEFORMAT="    the program: a million moves in %R s"
 time "$program" run empty.mdl empty.mdl moves.nbt
+python3 -c 'import sys; sys.stdout.buffer.write(b"\x73\x72" * 500000 + b"\xff")' > fills.nbt
+TIMEFORMAT="    the program: a million fills and voids in %R s"
+time "$program" run empty.mdl empty.mdl fills.nbt

@@ -187,6 +187,9 @@ static void judge(const Bytes &target, std::uint32_t r, const Bytes &trace, cons
     require(is_accepted({}, target, given(nanobot_group_room(r), NANOBOT_DONE, [&](auto... to) {
         return nanobot_plan_group(NANOBOT_NONE, 0, t, target.size(), to...);
     })));
+    require(is_accepted(target, {}, given(nanobot_layer_room(r), NANOBOT_DONE, [&](auto... to) {
+        return nanobot_plan_crew(t, target.size(), NANOBOT_NONE, 0, to...);
+    })));
     require(is_accepted({}, target, given(nanobot_swarm_room(r), NANOBOT_DONE, [&](auto... to) {
         return nanobot_plan_swarm(t, target.size(), to...);
     })));
