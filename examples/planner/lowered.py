@@ -4,8 +4,8 @@
 Usage: lowered.py MODEL TRACE
 
 Each command is judged before it is made; where it would break rule 12, a Flip is made first, and Low is tried again after each
-fill. Wants the Python package (docs/PLANNERS.md, "To install the Python package"). Takes some two seconds for the 34202
-voxels that `make 7 60` stores."""
+fill. Wants the Python package (bindings/python/README.md, "To install"). Takes some two seconds for the 34202 voxels that
+`make 7 60` stores."""
 import sys
 
 import nanobot
