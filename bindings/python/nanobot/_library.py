@@ -103,7 +103,11 @@ class _Library:
             if not os.path.exists(path):
                 raise ImportError(f"there is no {path}: build it with bindings/python/build_library, or name it in NANOBOT_LIBRARY")
             self._loaded = ctypes.CDLL(path)
-        call = getattr(self._loaded, "nanobot_" + name)
+        try:
+            call = getattr(self._loaded, "nanobot_" + name)
+        except AttributeError:
+            lacks = f"{_path()} has no nanobot_{name}: it is the library of another version"
+            raise ImportError(f"{lacks}; build it with bindings/python/build_library") from None
         call.argtypes = CALLS["nanobot_" + name]
         call.restype = None if name == "machine_end" else c_uint32
         setattr(self, name, call)

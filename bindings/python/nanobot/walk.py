@@ -8,6 +8,7 @@ from typing import List, Optional
 from .errors import BadCommands, BrokenRule, Coord, OutOfSpace
 from .explain import machine_of
 from .machine import Source, bytes_of
+from .rows import Refused, judge
 from .trace import next_step
 from .why import Row, described, groups_of, why
 
@@ -27,6 +28,7 @@ class Walk(cmd.Cmd):
         self.data = bytes_of(trace)
         self.ends: List[int] = [0]
         self.start = lambda: machine_of(source, target, light=light, notes=NOTES)
+        self.whole = lambda: judge(source, target, self.data, light=light)
         self.machine = self.start()
         self._ask()
 
@@ -49,11 +51,19 @@ class Walk(cmd.Cmd):
             self.say(str(bad))
             return []
 
+    def _end(self) -> None:
+        """Says that no step is left, and why the whole trace is refused all the same, where it is."""
+        self.say("ended")
+        try:
+            self.whole()
+        except Refused as refused:
+            self.say(refused.line)
+
     def _forwards(self) -> bool:
         """Makes one step, or says why none is made."""
         active = self.machine.state.active
         if not active:
-            self.say("ended")
+            self._end()
             return False
         try:
             row = self._row()
