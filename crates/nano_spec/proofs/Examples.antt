@@ -10,11 +10,11 @@ use Rattle.nano_spec.specs.Spelling.{spellings}
 use Rattle.nano_spec.specs.Worked.{diff, voxels_at}
 use Rattle.nano_spec.specs.WorkedBytes.{WorkedSpellings, WorkedTraces, WorkedMisreadings, WorkedModels, WorkedTexts}
 use Rattle.nano_spec.proofs.Heads.{bad, bad_whatever_follows, cut, too_wide}
+use Rattle.nano_spec.proofs.Grounding.{void_is}
 use Rattle.nano_spec.proofs.Island.{floats}
 use Rattle.nano_spec.proofs.Levels.{before, afterwards}
 use Rattle.nano_spec.proofs.Simulation.{legality_is}
 use Rattle.nano_spec.proofs.Traces.{suffix}
-use Rattle.nano_spec.proofs.WorkDone.{void_is}
 use Rattle.vox_geom.specs.Point.{coord}
 
 pub worked_spellings : WorkedSpellings
@@ -168,4 +168,8 @@ worked_texts = record {
   beside_the_letters = refl;
   beside_the_digits = refl;
   the_last_digit = refl;
+  a_line_and_its_end = refl;
+  a_line_without_its_end = refl;
+  an_empty_last_line = refl;
+  no_line = refl;
 }

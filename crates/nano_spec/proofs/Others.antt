@@ -1,10 +1,10 @@
--- Worked examples of the forge, of steps whose groups act one after another, of work and of names, each by computing.
+-- Worked examples of the forge, of steps whose groups act one after another, of work, of paths and of names, each by computing.
 use Rattle.std.proofs.Common.{refl}
 use Rattle.nano_spec.specs.declared.outcomes.Rule.TheVariants.{TraceEnds, OutOfSpace, Seeds}
 use Rattle.nano_spec.specs.State.{seed_numbers}
 use Rattle.nano_spec.specs.Work.{stops}
 use Rattle.nano_spec.proofs.WorkDone.{work_of_a_floating_voxel, work_of_a_refused_group, work_of_a_ring, work_of_another_post}
-use Rattle.nano_spec.specs.WorkedOthers.{WorkedForge, WorkedNames, WorkedOrders, WorkedWork}
+use Rattle.nano_spec.specs.WorkedOthers.{WorkedForge, WorkedNames, WorkedOrders, WorkedPaths, WorkedWork}
 use Rattle.nano_spec.specs.Next.{breaks_at_start}
 use Rattle.vox_geom.specs.Point.{coord}
 
@@ -43,6 +43,21 @@ worked_work = record {
   work_of_a_refused_group = work_of_a_refused_group;
   work_of_another_post = work_of_another_post;
   work_of_a_floating_voxel = work_of_a_floating_voxel;
+}
+
+pub worked_paths : WorkedPaths
+worked_paths = record {
+  on_the_floor = refl;
+  along_the_arm = refl;
+  up_and_down = refl;
+  no_coordinate = refl;
+  from_elsewhere = refl;
+  above_the_floor = refl;
+  from_a_void_voxel = refl;
+  through_a_void_voxel = refl;
+  to_a_void_voxel = refl;
+  over_an_edge = refl;
+  over_a_gap = refl;
 }
 
 pub worked_names : WorkedNames

@@ -10,7 +10,7 @@ use Rattle.nano_spec.specs.Matrix.{empty}
 use Rattle.nano_spec.specs.Model.{model, written, volume, of_runs, runs_in, run_lengths, voxels_of, four_bytes, NoByte, Resolution, Short, Long, WideHead, WideResolution, WideRun, WideShort, WideLong}
 use Rattle.nano_spec.specs.Printing.{print}
 use Rattle.nano_spec.specs.Line.{NotAscii, UnknownWord, Shape, Range}
-use Rattle.nano_spec.specs.Reading.{read}
+use Rattle.nano_spec.specs.Reading.{lines, read}
 use Rattle.nano_spec.specs.Worked.{Assembles, diff, hex, below_zero, voxels_at}
 use Rattle.vox_geom.specs.Point.{coord}
 
@@ -265,3 +265,8 @@ pub record WorkedTexts : Type 0 where
   pub beside_the_digits : map (λ b. read (codes "SMove <" ++ b ∷ codes ",0,0>")) (codes "/:") ≡ Err (record { fault = Shape; line = 1 }) ∷ Err (record { fault = Shape; line = 1 }) ∷ []
   -- 9 is a digit
   pub the_last_digit : read (codes "SMove <9,0,0>") ≡ Ok (SMove (diff (pos 9) (pos 0) (pos 0)) ∷ [])
+  -- what ends a line begins no other one, and a text may end without it
+  pub a_line_and_its_end : lines (codes "Wait\n") ≡ codes "Wait" ∷ []
+  pub a_line_without_its_end : lines (codes "Wait") ≡ codes "Wait" ∷ []
+  pub an_empty_last_line : lines (codes "Wait\n\n") ≡ codes "Wait" ∷ [] ∷ []
+  pub no_line : lines [] ≡ []

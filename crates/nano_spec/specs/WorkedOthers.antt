@@ -1,5 +1,5 @@
--- Worked examples of the forge, of steps whose groups act one after another, of work, of states, and of names.
-use Rattle.std.specs.Prelude.{◌≡◌, ℕ, ◌^◌, true, pos, List, [], ◌∷◌, ◌++◌, map, filter, flat_map, take, codes, Some, None}
+-- Worked examples of the forge, of steps whose groups act one after another, of work, of paths, of states, and of names.
+use Rattle.std.specs.Prelude.{◌≡◌, ℕ, ◌^◌, true, false, pos, List, [], ◌∷◌, ◌++◌, map, filter, flat_map, take, codes, Some, None}
 use Rattle.std.specs.List.{list_all}
 use Rattle.vox_geom.specs.declared.coordinate.Coord.{Coord}
 use Rattle.nano_spec.specs.declared.commands.Command.{Command}
@@ -11,6 +11,7 @@ use Rattle.nano_spec.specs.declared.system.Profile.{Profile}
 use Rattle.nano_spec.specs.declared.system.Harmonics.{Harmonics}
 use Rattle.nano_spec.specs.declared.system.Harmonics.TheVariants.{Low, High}
 use Rattle.nano_spec.specs.Forge.{forged, mixed}
+use Rattle.nano_spec.specs.Grounded.{is_path_from}
 use Rattle.nano_spec.specs.Matrix.{Matrix, empty}
 use Rattle.nano_spec.specs.Model.{written}
 use Rattle.nano_spec.specs.Profile.{full_profile, light_profile, is_allowed}
@@ -105,6 +106,29 @@ pub record WorkedWork : Type 0 where
   -- a post is voided and the voxel above it floats, so that the step is refused: its work is two volatile coordinates, one voxel that
   -- changes, and two whose levels change
   pub work_of_a_floating_voxel : Work (voxels_at 3 (coord 1 0 1 ∷ coord 1 1 1 ∷ [])) (Void (diff (pos 1) (pos 0) (pos 1)) ∷ []) full_profile 5
+
+-- a post of two voxels, an arm, and a voxel that hangs from it
+abbrev pub hanging : Matrix
+hanging = voxels_at 5 (coord 1 0 1 ∷ coord 1 1 1 ∷ coord 2 1 1 ∷ coord 2 0 1 ∷ coord 1 0 3 ∷ [])
+
+-- paths to the floor, and lists of coordinates that are none
+pub record WorkedPaths : Type 0 where
+  pub on_the_floor : is_path_from hanging (coord 1 0 1) (coord 1 0 1 ∷ []) ≡ true
+  pub along_the_arm : is_path_from hanging (coord 2 1 1) (coord 2 1 1 ∷ coord 1 1 1 ∷ coord 1 0 1 ∷ []) ≡ true
+  -- a path may rise
+  pub up_and_down : is_path_from hanging (coord 2 0 1) (coord 2 0 1 ∷ coord 2 1 1 ∷ coord 1 1 1 ∷ coord 1 0 1 ∷ []) ≡ true
+  pub no_coordinate : is_path_from hanging (coord 1 0 1) [] ≡ false
+  -- it begins at the coordinate
+  pub from_elsewhere : is_path_from hanging (coord 1 1 1) (coord 1 0 1 ∷ []) ≡ false
+  -- it ends on the floor
+  pub above_the_floor : is_path_from hanging (coord 2 1 1) (coord 2 1 1 ∷ coord 1 1 1 ∷ []) ≡ false
+  -- all its voxels are full: the first, one between, and the last
+  pub from_a_void_voxel : is_path_from hanging (coord 1 2 1) (coord 1 2 1 ∷ coord 1 1 1 ∷ coord 1 0 1 ∷ []) ≡ false
+  pub through_a_void_voxel : is_path_from hanging (coord 2 1 1) (coord 2 1 1 ∷ coord 3 1 1 ∷ coord 2 1 1 ∷ coord 1 1 1 ∷ coord 1 0 1 ∷ []) ≡ false
+  pub to_a_void_voxel : is_path_from hanging (coord 1 1 1) (coord 1 1 1 ∷ coord 1 1 2 ∷ coord 1 0 2 ∷ []) ≡ false
+  -- each is adjacent to the next
+  pub over_an_edge : is_path_from hanging (coord 2 1 1) (coord 2 1 1 ∷ coord 1 0 1 ∷ []) ≡ false
+  pub over_a_gap : is_path_from hanging (coord 1 0 1) (coord 1 0 1 ∷ coord 1 0 3 ∷ []) ≡ false
 
 -- a bot with seeds
 abbrev pub seeded : ℕ → Coord → List ℕ → Bot

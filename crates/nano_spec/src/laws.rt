@@ -27,7 +27,7 @@ ghost use Rattle.nano_spec.specs.State.{IsReady, IsWellFormed, State, opening};
 ghost use Rattle.nano_spec.specs.Verdict.{VerdictOf};
 ghost use Rattle.nano_spec.specs.Work.{Work};
 ghost use Rattle.nano_spec.specs.WorkedBytes.{WorkedSpellings, WorkedTraces, WorkedMisreadings, WorkedModels, WorkedTexts};
-ghost use Rattle.nano_spec.specs.WorkedOthers.{FloatingUnderHigh, WorkedForge, WorkedNames, WorkedOrders, WorkedStates, WorkedWork};
+ghost use Rattle.nano_spec.specs.WorkedOthers.{FloatingUnderHigh, WorkedForge, WorkedNames, WorkedOrders, WorkedPaths, WorkedStates, WorkedWork};
 ghost use Rattle.nano_spec.specs.WorkedRules.{MeetingGroups, OrderOfRules};
 ghost use Rattle.nano_spec.specs.WorkedRuns.{AcceptedRuns, RefusedRuns, LightRuns};
 ghost use Rattle.nano_spec.specs.WorkedStep.{EightBotsVoidABlock, FlipsPayByTheirStart};
@@ -151,11 +151,12 @@ pub fn worked_bytes()
     ensures texts { WorkedTexts }
 {}
 
-/// Worked examples of the forge, of steps whose groups act one after another, of work, of states, and of names.
+/// Worked examples of the forge, of steps whose groups act one after another, of work, of paths, of states, and of names.
 pub fn worked_others()
     ensures forge { WorkedForge }
     ensures orders { WorkedOrders }
     ensures work { WorkedWork }
+    ensures paths { WorkedPaths }
     ensures states { WorkedStates }
     ensures floating { FloatingUnderHigh }
     ensures names { WorkedNames }

@@ -1,5 +1,5 @@
 -- Worked examples of orders: where a rule is broken the order of the groups matters, and where none is it does not.
-use Rattle.std.specs.Prelude.{◌≡◌, pos, List, [], ◌∷◌, Some, None}
+use Rattle.std.specs.Prelude.{◌≡◌, ℕ, pos, List, [], ◌∷◌, Some, None}
 use Rattle.nano_spec.specs.declared.commands.Command.{Command}
 use Rattle.nano_spec.specs.declared.commands.Command.TheVariants.{SMove, Fill, Fission}
 use Rattle.nano_spec.specs.declared.outcomes.Rule.TheVariants.{Interference}
@@ -13,7 +13,9 @@ use Rattle.nano_spec.specs.State.{IsReady, State}
 use Rattle.nano_spec.specs.Step.{after}
 use Rattle.nano_spec.specs.Worked.{diff, below_zero}
 use Rattle.nano_spec.specs.Serial.{leader_bids, serial}
-use Rattle.vox_geom.specs.Point.{coord}
+use Rattle.step_order.specs.Apart.{LieApart}
+use Rattle.vox_geom.specs.Point.{coord, point}
+use Rattle.vox_geom.specs.Region.{Span, between}
 
 -- two bots in an empty space of resolution 3, of which the first has the seeds 5, 6 and 7
 abbrev pub worked_bot : Bot
@@ -47,3 +49,16 @@ OrderIsFree =
     × (leader_bids (acts two_bots.bots apart) ≡ 1 ∷ 2 ∷ [])
     × (serial two_bots apart (1 ∷ 2 ∷ []) ≡ Some (after two_bots apart))
     × (serial two_bots apart (2 ∷ 1 ∷ []) ≡ Some (after two_bots apart))
+
+-- a region along x
+abbrev pub along_x : ℕ → ℕ → Span
+along_x from to = between (point (coord from 0 0)) (point (coord to 0 0))
+
+-- regions of which neither ends before the other begins, whichever end is given first
+pub record RegionsThatMeet : Type 0 where
+  pub crossing : LieApart (along_x 0 3) (along_x 1 5) → ⊥
+  pub with_ends_that_fall : LieApart (along_x 3 0) (along_x 5 1) → ⊥
+  pub the_other_first : LieApart (along_x 5 1) (along_x 0 3) → ⊥
+  pub with_one_end_that_falls : LieApart (along_x 3 0) (along_x 2 5) → ⊥
+  pub at_one_coordinate : LieApart (along_x 0 2) (along_x 2 4) → ⊥
+  pub within : LieApart (along_x 0 5) (along_x 3 2) → ⊥

@@ -23,46 +23,54 @@ pub fn nothing_is_broken()
     ensures { (s : State) (commands : List Command) (step : ℕ) → IsReady s → length commands ≡ length s.bots
         → ((a : Act) (rule : Rule) → Contains (acts s.bots commands) a → fault s (acts s.bots commands) a rule ≡ None)
         →
-        ((a b : Act) → Contains (acts s.bots commands) a → Contains (acts s.bots commands) b → IsFalse (are_together a b) → (c : Coord)
-        → IsTrue (is_volatile_of (point c) a) → IsFalse (is_volatile_of (point c) b))
+        ((a b : Act) → Contains (acts s.bots commands) a → Contains (acts s.bots commands) b
+        → IsFalse (are_together a b) → (c : Coord) → IsTrue (is_volatile_of (point c) a)
+        → IsFalse (is_volatile_of (point c) b))
         → broken s commands step ≡ None }
 {}
 
 /// Where no bot has a group command, each has what it needs for its command, and any two fuse or have volatile regions that lie apart, a step breaks no rule.
 pub fn free_bots_break_no_rule()
-    ensures { (s : State) (commands : List Command) (step : ℕ) → IsReady s → length commands ≡ length s.bots → AreFree s (acts s.bots commands)
-        → broken s commands step ≡ None }
+    ensures { (s : State) (commands : List Command) (step : ℕ) → IsReady s → length commands ≡ length s.bots
+        → AreFree s (acts s.bots commands) → broken s commands step ≡ None }
 {}
 
 /// Where all bots make one region full or void together, a step breaks no rule.
 pub fn one_group_breaks_no_rule()
-    ensures { (s : State) (commands : List Command) (step : ℕ) (region : Span) (full : Bool) → IsReady s → length commands ≡ length s.bots
-        → AreOneGroup s region full (acts s.bots commands) → broken s commands step ≡ None }
+    ensures { (s : State) (commands : List Command) (step : ℕ) (region : Span) (full : Bool) → IsReady s
+        → length commands ≡ length s.bots → AreOneGroup s region full (acts s.bots commands)
+        → broken s commands step ≡ None }
 {}
 
 /// What a step makes: which voxels are full, and that all stay where no bot fills or voids; the bots, where each stays one, and what becomes of two that
 /// fuse; and that the harmonics stay where no bot flips them.
 pub fn bots_act()
     ensures voxels { (s : State) (commands : List Command) (c : Coord) → IsInSpace s.matrix.resolution c
-        → is_full (after s commands).matrix c ≡ (is_filled (acts s.bots commands) c || (is_full s.matrix c && not (is_voided (acts s.bots commands) c))) }
-    ensures still { (s : State) (commands : List Command) → IsReady s → AllByRecursion (λ a. IsTrue (leaves_voxels a.command)) (acts s.bots commands)
+        → is_full (after s commands).matrix c
+        ≡ (is_filled (acts s.bots commands) c || (is_full s.matrix c && not (is_voided (acts s.bots commands) c))) }
+    ensures still { (s : State) (commands : List Command) → IsReady s
+        → AllByRecursion (λ a. IsTrue (leaves_voxels a.command)) (acts s.bots commands)
         → (after s commands).matrix ≡ s.matrix }
     ensures gone { (s : State) (commands : List Command) → IsReady s → length commands ≡ length s.bots
-        → AllByRecursion (λ a. IsTrue (stays_one a.command)) (acts s.bots commands) → (after s commands).bots ≡ map gone (acts s.bots commands) }
+        → AllByRecursion (λ a. IsTrue (stays_one a.command)) (acts s.bots commands)
+        → (after s commands).bots ≡ map gone (acts s.bots commands) }
     ensures primary { (s : State) (commands : List Command) (a b : Act) → IsReady s → length commands ≡ length s.bots
         → Contains (acts s.bots commands) a → Contains (acts s.bots commands) b → IsTrue (is_pair a b)
         → successors (acts s.bots commands) a a.command ≡ fused a.bot b.bot ∷ [] }
     ensures secondary { (all : List Act) (a b : Act) → IsTrue (is_pair a b) → successors all b b.command ≡ [] }
-    ensures harmonics { (s : State) (commands : List Command) → AllByRecursion (λ a. IsFalse (is_flip a.command)) (acts s.bots commands)
+    ensures harmonics { (s : State) (commands : List Command)
+        → AllByRecursion (λ a. IsFalse (is_flip a.command)) (acts s.bots commands)
         → (after s commands).harmonics ≡ s.harmonics }
 {}
 
 /// A group of all bots makes its region full or void; all else, the bots and the harmonics stay.
 pub fn one_group_acts()
-    ensures matrix { (s : State) (commands : List Command) (region : Span) (full : Bool) → AreOneGroup s region full (acts s.bots commands)
+    ensures matrix { (s : State) (commands : List Command) (region : Span) (full : Bool)
+        → AreOneGroup s region full (acts s.bots commands)
         → (after s commands).matrix ≡ with_region s.matrix region full }
-    ensures bots { (s : State) (commands : List Command) (region : Span) (full : Bool) → IsReady s → length commands ≡ length s.bots
-        → AreOneGroup s region full (acts s.bots commands) → (after s commands).bots ≡ s.bots }
-    ensures harmonics { (s : State) (commands : List Command) (region : Span) (full : Bool) → AreOneGroup s region full (acts s.bots commands)
-        → (after s commands).harmonics ≡ s.harmonics }
+    ensures bots { (s : State) (commands : List Command) (region : Span) (full : Bool) → IsReady s
+        → length commands ≡ length s.bots → AreOneGroup s region full (acts s.bots commands)
+        → (after s commands).bots ≡ s.bots }
+    ensures harmonics { (s : State) (commands : List Command) (region : Span) (full : Bool)
+        → AreOneGroup s region full (acts s.bots commands) → (after s commands).harmonics ≡ s.harmonics }
 {}

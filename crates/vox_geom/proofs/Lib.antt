@@ -8,3 +8,4 @@ pub mod Truths
 pub mod Tests
 pub mod Sums
 pub mod Points
+pub mod Examples

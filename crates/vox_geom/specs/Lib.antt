@@ -3,3 +3,4 @@ pub mod Least
 pub mod Point
 pub mod Region
 pub mod Space
+pub mod Worked

@@ -5,6 +5,7 @@ ghost use Rattle.vox_geom.specs.Least.{LeastOf};
 ghost use Rattle.vox_geom.specs.Point.{point};
 ghost use Rattle.vox_geom.specs.Region.{Span, is_within, size};
 ghost use Rattle.vox_geom.specs.Space.{IsInSpace, coordinates, coordinate_at, is_before, place};
+ghost use Rattle.vox_geom.specs.Worked.{WorkedCoordinates, WorkedDifferences, WorkedRegions};
 
 /// The first of all coordinates of a matrix that passes a test is the least one that does.
 pub fn least_is_first()
@@ -21,4 +22,11 @@ pub fn places_rise()
 /// A region has at most as many coordinates of a matrix as its size says, also where it leaves the matrix.
 pub fn a_region_is_no_larger()
     ensures { (r : ℕ) (s : Span) → count_by (λ c. is_within s (point c)) (coordinates r) ≤ size s }
+{}
+
+/// Worked examples of differences, coordinates and regions.
+pub fn worked_geometry()
+    ensures differences { WorkedDifferences }
+    ensures coordinates { WorkedCoordinates }
+    ensures regions { WorkedRegions }
 {}
