@@ -1,6 +1,7 @@
 """`python -m nanobot explain [light] S T B` tells why a trace is refused, and `.. walk [light] S T B` walks it, by the lines of
-standard input (`help` lists them). S or T may be `-`, the empty model of the other's resolution. Ends with 0 where the trace is
-accepted or was walked, with 1 where it is refused, and with 2 where the words are not understood or a file cannot be read."""
+standard input (`help` lists them). One of S and T may be `-`, the empty model of the other's resolution. Ends with 0 where the
+trace is accepted or was walked, with 1 where it is refused, and with 2 where the words are not understood or a file cannot be
+read."""
 
 import sys
 
@@ -13,7 +14,7 @@ def main() -> int:
     words = sys.argv[1:]
     light = words[1:2] == ["light"] and len(words) == 5
     rest = words[2:] if light else words[1:]
-    if len(rest) != 3 or words[0] not in ("explain", "walk"):
+    if len(rest) != 3 or rest[:2] == ["-", "-"] or words[0] not in ("explain", "walk"):
         asked = bool({"-h", "--help"} & set(words))
         print(__doc__, file=sys.stdout if asked else sys.stderr)
         return 0 if asked else 2

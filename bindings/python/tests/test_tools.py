@@ -72,6 +72,11 @@ class Explaining(unittest.TestCase):
         self.assertEqual(told[0], "trace cut at 1")
         self.assertEqual(told[1:], ["the command at byte 1 is cut: ff [14]", "before it the last bot halts in step 1, which ends at byte 1"])
 
+    def test_words_that_are_not_understood(self):
+        for words in (["explain", "-", "-", "b"], ["walk", "light", "-", "-", "b"], ["explain", "-", "t"], ["judge", "-", "t", "b"]):
+            ran = subprocess.run([sys.executable, "-m", "nanobot", *words], cwd=HERE, stdin=subprocess.DEVNULL, capture_output=True, check=False)
+            self.assertEqual((ran.returncode, ran.stdout), (2, b""))
+
     def test_models_that_are_refused(self):
         self.assertEqual(lines(P3[:3], None, POST), ["source 3 Short want 5 have 3"])
         self.assertEqual(lines(E3, P3[:3], POST), ["target 3 Short want 5 have 3"])
