@@ -12,6 +12,7 @@ mod model_forge;
 mod nano_spec;
 mod plan_choice;
 mod plan_tape;
+mod voxel_reads;
 mod run_progress;
 mod shim;
 mod squad_plans;

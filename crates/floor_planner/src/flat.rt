@@ -2,9 +2,9 @@
 ghost use Rattle.std.specs.Prelude.{IsTrue};
 ghost use Rattle.floor_planner.specs.Floor.{IsFlat};
 
-use plan_tape::first_full;
 use vox_geom::{Coord, Region};
 use vox_planes::Planes;
+use voxel_reads::first_full;
 
 /// Whether each full voxel lies on the floor.
 pub fn is_flat(model: &Planes) -> bool

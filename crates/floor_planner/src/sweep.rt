@@ -3,9 +3,10 @@ ghost use Rattle.std.specs.Prelude.{◌≡◌, ◌+◌, ◌<◌, OnOk};
 ghost use Rattle.nano_spec.specs.Legal.{IsLegal};
 ghost use Rattle.floor_planner.specs.Floor.{IsFlat, IsSweptTo};
 
-use plan_tape::{Tape, is_full};
+use plan_tape::Tape;
 use vox_geom::{Coord, Memory, Near};
 use vox_planes::Planes;
+use voxel_reads::is_full;
 
 /// Fills the voxel of the floor at x and z, where the target has it.
 fn fill_voxel(tape: &mut Tape, target: &Planes, x: u16, z: u16) -> Result<(), Memory>

@@ -12,24 +12,11 @@ ghost use Rattle.group_planner.specs.Rows.{runs};
 
 use crate::opening::{gather, opened};
 use crate::sweep::{build, clear};
-use nano_spec::Command;
-use plan_tape::{Plan, Tape, lowest_difference};
+use nano_spec::{Command, Profile};
+use plan_tape::{Plan, Tape, halt_alone, lowest_difference};
 use std::alloc::Global;
 use vox_geom::{Coord, Memory};
 use vox_planes::Planes;
-
-/// The plan that changes nothing.
-fn only_halt(alloc: Global, source: Planes) -> Result<Plan, Memory>
-    requires legal { IsLegal source }
-    ensures accepted { IfOk result (λ plan. IsAccepted source source plan.commands full_profile plan.energy plan.steps) }
-    ensures commands { IfOk result (λ plan. plan.commands ≡ Command.Halt ∷ []) }
-    ensures steps { IfOk result (λ plan. plan.steps ≡ 1) }
-    ensures few { IfOk result (λ plan. HasAtMost source full_profile plan.commands 2) }
-{
-    let mut tape = Tape::start(alloc, source)?;
-    tape.halt()?;
-    Ok(tape.finish())
-}
 
 /// Voids the source down to a layer and builds the target from there.
 fn rebuild(tape: &mut Tape, source: &Planes, target: &Planes, low: u16) -> Result<(), Memory>
@@ -83,7 +70,7 @@ pub fn plan_groups(alloc: Global, source: &Planes, target: &Planes) -> Result<Pl
     ensures halt_alone { source.now ≡ target.now → IfOk result (λ plan. plan.commands ≡ Command.Halt ∷ []) }
 {
     let Some(low) = lowest_difference(source, target) else {
-        return only_halt(alloc, source.copy(alloc)?);
+        return halt_alone(alloc, source.copy(alloc)?, Profile::full());
     };
     let mut tape = opened(alloc, source.copy(alloc)?)?;
     rebuild(&mut tape, source, target, low)?;

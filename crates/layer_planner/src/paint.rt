@@ -8,9 +8,10 @@ ghost use Rattle.plan_tape.specs.Parts.{below_layer, from_layer, layer, is_in_li
 ghost use Rattle.layer_planner.specs.Phases.{end};
 ghost use Rattle.vox_geom.specs.Point.{coord};
 
-use plan_tape::{Tape, is_full};
+use plan_tape::Tape;
 use vox_geom::{Coord, Memory, Near};
 use vox_planes::Planes;
+use voxel_reads::is_full;
 
 /// Makes one voxel that of the goal, where it is not so yet.
 fn paint_voxel(tape: &mut Tape, goal: &Planes, x: u16, y: u16, z: u16) -> Result<(), Memory>

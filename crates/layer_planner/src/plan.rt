@@ -9,8 +9,8 @@ ghost use Rattle.plan_tape.specs.Reaches.{HasAtMost};
 ghost use Rattle.layer_planner.specs.Phases.{IsOpened, IsRebuilt};
 
 use crate::paint::{build, clear};
-use nano_spec::Command;
-use plan_tape::{Plan, Tape, lowest_difference};
+use nano_spec::{Command, Profile};
+use plan_tape::{Plan, Tape, halt_alone, lowest_difference};
 use std::alloc::Global;
 use vox_geom::{Coord, Memory};
 use vox_planes::Planes;
@@ -66,18 +66,6 @@ fn closed(mut tape: Tape, target: &Planes) -> Result<Plan, Memory>
     Ok(tape.finish())
 }
 
-/// The plan that changes nothing.
-fn only_halt(alloc: Global, source: Planes) -> Result<Plan, Memory>
-    requires legal { IsLegal source }
-    ensures accepted { IfOk result (λ plan. IsAccepted source source plan.commands full_profile plan.energy plan.steps) }
-    ensures commands { IfOk result (λ plan. plan.commands ≡ Command.Halt ∷ []) }
-    ensures few { IfOk result (λ plan. HasAtMost source full_profile plan.commands 1) }
-{
-    let mut tape = Tape::start(alloc, source)?;
-    tape.halt()?;
-    Ok(tape.finish())
-}
-
 /// A plan that makes the target of the source, by one bot. Both models are legal. Its commands are spelled in at most
 /// 8 * r * r * r + 200 bytes at resolution r, and at no time is more than one bot active; where both models are the same, they
 /// are a Halt alone. Layers below the lowest one in which the models differ are left alone.
@@ -91,7 +79,7 @@ pub fn plan_layers(alloc: Global, source: &Planes, target: &Planes) -> Result<Pl
     ensures halt_alone { source.now ≡ target.now → IfOk result (λ plan. plan.commands ≡ Command.Halt ∷ []) }
 {
     let Some(low) = lowest_difference(source, target) else {
-        return only_halt(alloc, source.copy(alloc)?);
+        return halt_alone(alloc, source.copy(alloc)?, Profile::full());
     };
     let nothing = Planes::empty(alloc, target.resolution())?;
     let mut tape = opened(alloc, source.copy(alloc)?)?;

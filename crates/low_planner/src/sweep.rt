@@ -8,10 +8,10 @@ ghost use Rattle.low_planner.specs.Supported.{rests as rests_of};
 ghost use Rattle.low_planner.specs.Sweep.{AreAllSwept, AreSwept, AreBesideInLayer, IsNextFull, IsNextRow, IsPartStart, IsStartInRow, IsSweep, IsSweptRow, IsVoidRow, TakesVoxel, Visits};
 ghost use Rattle.vox_geom.specs.Point.{coord};
 
-use plan_tape::{first_full, is_full};
 use std::alloc::Global;
 use vox_geom::{Coord, Memory, Region};
 use vox_planes::Planes;
+use voxel_reads::{first_full, is_full};
 
 /// What a sweep comes to next.
 #[derive(Clone, Copy, Debug)]

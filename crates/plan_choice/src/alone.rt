@@ -14,10 +14,11 @@ use crate::flips::lowered;
 use crate::plain::are_plain;
 use crate::ways::backwards;
 use nano_spec::{Command, CommandList, Profile};
-use plan_tape::{Plan, first_full};
+use plan_tape::Plan;
 use std::alloc::Global;
 use vox_geom::{Coord, Memory, Region};
 use vox_planes::Planes;
+use voxel_reads::first_full;
 
 /// Whether no voxel is full.
 pub(crate) fn is_void(planes: &Planes) -> bool {

@@ -1,7 +1,7 @@
 //! Between which columns and rows the full voxels of a layer lie, or of a whole model.
-use plan_tape::is_full;
 use vox_geom::Coord;
 use vox_planes::Planes;
+use voxel_reads::is_full;
 
 /// Full voxels: how many, and the least and greatest components of them.
 #[derive(Clone, Copy)]

@@ -3,10 +3,11 @@
 use crate::extent::{Extent, extent_of};
 use crate::ways::{along, gap};
 use nano_spec::{Command, CommandList};
-use plan_tape::{Axis, first_full, next_stop};
+use plan_tape::{Axis, next_stop};
 use std::alloc::Global;
 use vox_geom::{Coord, Diff, Far, Memory, Near, Region};
 use vox_planes::Planes;
+use voxel_reads::first_full;
 
 /// The most voxels along a tile.
 const SIDE: u16 = 31;

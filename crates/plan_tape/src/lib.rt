@@ -6,13 +6,13 @@
 mod axis;
 mod costs;
 mod difference;
+mod halting;
 mod laws;
 mod several;
 mod tape;
-mod voxels;
 
 pub use axis::{Axis, next_stop, towards};
 pub use difference::lowest_difference;
+pub use halting::halt_alone;
 pub use laws::{fissions_bound_the_bots, runs_go_through_reached_states, seeds_bound_the_bots};
 pub use tape::{Plan, Tape};
-pub use voxels::{first_full, is_full};

@@ -27,7 +27,6 @@ ghost use Rattle.plan_tape.specs.Progress.{AreAlike, IsAccepted, IsAllowed, IsBo
 use crate::axis::{Axis, cost_of_way, moves_to, push_leg};
 use crate::costs::{charged, upkeep_of_steps};
 use crate::several::advance;
-use crate::voxels::is_full;
 use bot_crew::Crew;
 use nano_spec::{Command, CommandList, Harmonics, Profile};
 use std::alloc::Global;
@@ -36,6 +35,7 @@ use step_order::{bots_act, free_bots_break_no_rule, one_group_acts, one_group_br
 use system_state::{System, Turns, know_all};
 use vox_geom::{Coord, Diff, Memory, Near};
 use vox_planes::Planes;
+use voxel_reads::is_full;
 
 /// A plan: its commands, and the energy and the number of steps with which the definitions accept them.
 #[derive(Drop)]

@@ -1,9 +1,9 @@
 //! The voxels of a model in the making, a byte each.
 use crate::spots::Spot;
-use plan_tape::is_full;
 use std::alloc::Global;
 use vox_geom::{Coord, Memory};
 use vox_planes::Planes;
+use voxel_reads::is_full;
 
 /// More than any resolution.
 const MOST_SIDE: u16 = 1000;

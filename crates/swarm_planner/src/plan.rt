@@ -12,7 +12,7 @@ ghost use Rattle.swarm_planner.specs.Bounds.{width};
 use crate::crew::{gather, spread};
 use crate::paint::build;
 use nano_spec::{Command, Profile, full_accepts_what_light_accepts};
-use plan_tape::{Plan, Tape, lowest_difference, seeds_bound_the_bots};
+use plan_tape::{Plan, Tape, halt_alone, lowest_difference, seeds_bound_the_bots};
 use std::alloc::Global;
 use vox_geom::{Coord, Memory};
 use vox_planes::Planes;
@@ -64,21 +64,6 @@ fn closed(mut tape: Tape, target: &Planes) -> Result<Plan, Memory>
     Ok(tape.finish())
 }
 
-/// The plan that changes nothing.
-fn only_halt(alloc: Global, nothing: Planes) -> Result<Plan, Memory>
-    requires { IsVoidFrom nothing 0 }
-    ensures accepted { IfOk result (λ plan. IsAccepted nothing nothing plan.commands light_profile plan.energy plan.steps) }
-    ensures few { IfOk result (λ plan. HasAtMost nothing light_profile plan.commands 20) }
-    ensures commands { IfOk result (λ plan. plan.commands ≡ Command.Halt ∷ []) }
-    ensures steps { IfOk result (λ plan. plan.steps ≡ 1) }
-{
-    seeds_bound_the_bots();
-    nothing.know();
-    let mut tape = Tape::start_as(alloc, nothing, Profile::light())?;
-    tape.halt()?;
-    Ok(tape.finish())
-}
-
 /// The plan of the swarm for a target that is not empty.
 fn planned(alloc: Global, nothing: Planes, target: &Planes) -> Result<Plan, Memory>
     requires target { IsLegal target.now }
@@ -112,7 +97,7 @@ pub fn plan_swarm(alloc: Global, target: &Planes) -> Result<Plan, Memory>
     full_accepts_what_light_accepts();
     let nothing = Planes::empty(alloc, target.resolution())?;
     let Some(_) = lowest_difference(&nothing, target) else {
-        return only_halt(alloc, nothing);
+        return halt_alone(alloc, nothing, Profile::light());
     };
     planned(alloc, nothing, target)
 }

@@ -10,10 +10,11 @@ ghost use Rattle.swarm_planner.specs.Lineup.{InLine, Regroups, free_column, with
 
 use crate::strips::strip_width;
 use nano_spec::{Bot, Command};
-use plan_tape::{Axis, Tape, is_full, towards};
+use plan_tape::{Axis, Tape, towards};
 use std::alloc::Global;
 use vox_geom::{Coord, Diff, Memory, Near};
 use vox_planes::Planes;
+use voxel_reads::is_full;
 
 /// Adds a command.
 fn put(commands: &mut Vec<Command>, command: Command) -> Result<(), Memory>

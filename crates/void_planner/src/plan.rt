@@ -11,8 +11,8 @@ ghost use Rattle.void_planner.specs.Bounds.{most_void_steps};
 use crate::ends::{closed, gather, rise, spread};
 use crate::sweep::void_all;
 use crate::tiles::tiles;
-use nano_spec::Command;
-use plan_tape::{Plan, Tape};
+use nano_spec::{Command, Profile};
+use plan_tape::{Plan, Tape, halt_alone};
 use std::alloc::Global;
 use std::marker::Brand;
 use std::sync::ledger::{Blank, Ledger};
@@ -49,21 +49,6 @@ fn most_but_two(r: u16) -> u32
     8 * r * (n * n) + 8 * r + 198
 }
 
-/// The plan that changes nothing.
-fn only_halt(alloc: Global, source: Planes) -> Result<Plan, Memory>
-    requires legal { IsLegal source }
-    requires void { IsVoidModel source }
-    ensures accepted { IfOk result
-        (λ plan. (target : MatrixValue) → IsVoidModel target → IsAccepted source target plan.commands full_profile plan.energy plan.steps) }
-    ensures commands { IfOk result (λ plan. plan.commands ≡ Command.Halt ∷ []) }
-    ensures steps { IfOk result (λ plan. plan.steps ≡ 1) }
-    ensures few { IfOk result (λ plan. HasAtMost source full_profile plan.commands 4) }
-{
-    let mut tape = Tape::start(alloc, source)?;
-    tape.halt()?;
-    Ok(tape.finish())
-}
-
 /// The plan of four bots, where some voxel is full.
 fn with_four(alloc: Global, source: Planes) -> Result<Plan, Memory>
     requires legal { IsLegal source }
@@ -92,7 +77,7 @@ pub fn plan_void(alloc: Global, source: &Planes) -> Result<Plan, Memory>
 {
     source.know();
     if is_empty(source) {
-        return only_halt(alloc, source.copy(alloc)?);
+        return halt_alone(alloc, source.copy(alloc)?, Profile::full());
     }
     with_four(alloc, source.copy(alloc)?)
 }

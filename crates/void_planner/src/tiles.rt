@@ -3,9 +3,9 @@ ghost use Rattle.std.specs.Prelude.{◌≡◌, ◌+◌, ◌*◌, ◌<◌, ◌≤
 ghost use Rattle.void_planner.specs.Tiles.{IsVoidTile, far_of, place_of, turned as turned_of};
 ghost use Rattle.void_planner.specs.Bounds.{tiles_of};
 
-use plan_tape::first_full;
 use vox_geom::{Coord, MOST_R, Region};
 use vox_planes::Planes;
+use voxel_reads::first_full;
 
 /// The greatest number of voxels along a tile.
 const SIDE: u16 = 31;
