@@ -1,5 +1,5 @@
 -- What is left of the rules of a group command in space.
-use Rattle.std.proofs.Common.{◌≡◌, ℕ, zero, suc, ◌+◌, ◌<◌, refl, ap, ◌∙◌, sym, arith, Bool, true, false, ◌&&◌, ◌||◌, not, ◌==◌, ◌^◌, cond, List, [], ◌∷◌, ◌++◌, drop, get_or, length, Option, Some, None, find, pos, min, max, filter}
+use Rattle.std.proofs.Common.{◌≡◌, ℕ, ◌+◌, refl, ap, ◌∙◌, sym, arith, Bool, true, false, ◌&&◌, ◌||◌, not, ◌==◌, ◌^◌, cond, List, [], ◌∷◌, length, Option, Some, None, find, pos, min, max, filter}
 use Rattle.std.specs.Prelude.{IsTrue}
 use Rattle.std.specs.List.{list_any}
 use Rattle.std.proofs.lemmas.Bool.Decides.{nat_tests}
@@ -10,7 +10,7 @@ use Rattle.vox_geom.specs.Point.{Point, point, plus}
 use Rattle.vox_geom.specs.Region.{Corners, Span, between, corners, span, is_within, dimension, differs}
 use Rattle.vox_geom.specs.Space.{in_space}
 use Rattle.vox_geom.proofs.Truths.{or_false}
-use Rattle.nano_spec.specs.Act.{Act, acts, position}
+use Rattle.nano_spec.specs.Act.{Act, position}
 use Rattle.nano_spec.specs.First.{first_value}
 use Rattle.nano_spec.specs.Group.{are_together}
 use Rattle.nano_spec.specs.Matrix.{is_full, all_of}
@@ -69,27 +69,6 @@ dimension_is k a b p q e f g =
     (ap (λ c. dimension (span c)) e ∙ (λ i. axis a.x b.x i + axis a.y b.y i + axis a.z b.z i))
     ∙ (λ i. dimension (between (f i) (g i)))
 
--- ---- a bot whose corner is another
-
-not_first : (T : Point → Bool) (xs : List Point) (a : Act) (bs : List Act) → list_any T xs ≡ false → list_any T (xs ++ corner_list bs) ≡ list_any T (corner_list bs)
-not_first T xs a bs h = list_any-append T xs (corner_list bs) ∙ ap (λ b. b || list_any T (corner_list bs)) h
-
--- whether it is a member need not be asked
-skip_member : (T : Point → Bool) (P : Act → Bool) (a : Act) (bs : List Act) → list_any T (corners_of (position a) a.command) ≡ false →
-    list_any T (corner_list (filter P (a ∷ bs))) ≡ list_any T (corner_list (filter P bs))
-skip_member T P a bs h = by (P a)
-  where
-    by : (b : Bool) → list_any T (corner_list (cond b (a ∷ filter P bs) (filter P bs))) ≡ list_any T (corner_list (filter P bs))
-    by true = not_first T (corners_of (position a) a.command) a (filter P bs) h
-    by false = refl
-
-pub skip_corner : (T : Point → Bool) (P : Act → Bool) (bots : List Bot) (commands : List Command) (j : ℕ) (b : Bot) (k : Command) → j < length bots → length commands ≡ length bots → b ≡ get_or bots j b → k ≡ get_or commands j k →
-    list_any T (corners_of (point b.pos) k) ≡ false → list_any T (corner_list (filter P (acts (drop (j + 1) bots) (drop (j + 1) commands)))) ≡ list_any T (corner_list (filter P (acts (drop j bots) (drop j commands))))
-skip_corner T P [] commands j b k l e f g h = absurd (omega arith)
-skip_corner T P (x ∷ bots) [] j b k l e f g h = absurd (omega arith)
-skip_corner T P (x ∷ bots) (y ∷ commands) zero b k l e f g h =
-    sym (skip_member T P (act x y) (acts bots commands) (ap (λ (c : Bot). list_any T (corners_of (point c.pos) y)) (sym f) ∙ (ap (λ (c : Command). list_any T (corners_of (point b.pos) c)) (sym g) ∙ h)))
-skip_corner T P (x ∷ bots) (y ∷ commands) (suc j) b k l e f g h =
-    let n : suc j + 1 ≡ suc (j + 1) = omega arith in
-    ap (λ i. list_any T (corner_list (filter P (acts (drop i (x ∷ bots)) (drop i (y ∷ commands)))))) n
-    ∙ skip_corner T P bots commands j b k (omega arith) (omega arith) f g h
+-- a bot whose corner is another
+pub skip_corner : (T : Point → Bool) (a : Act) (bs : List Act) → list_any T (corners_of (position a) a.command) ≡ false → list_any T (corner_list (a ∷ bs)) ≡ list_any T (corner_list bs)
+skip_corner T a bs h = list_any-append T (corners_of (position a) a.command) (corner_list bs) ∙ ap (λ t. t || list_any T (corner_list bs)) h

@@ -42,6 +42,10 @@ pub in_middle : {X : Type 0} (xs ys : List X) (a : X) → In a (xs ++ a ∷ ys)
 in_middle [] ys a = inl refl
 in_middle (x ∷ xs) ys a = inr (in_middle xs ys a)
 
+pub in_back : {X : Type 0} (xs ys : List X) (a x : X) → In x ys → In x (xs ++ a ∷ ys)
+in_back [] ys a x i = inr i
+in_back (y ∷ xs) ys a x i = inr (in_back xs ys a x i)
+
 pub earlier_bid : (xs ys : List Act) (a x : Act) → Rising (map (λ (b : Act). b.bot) (xs ++ a ∷ ys)) → In x xs → x.bot.bid < a.bot.bid
 earlier_bid [] ys a x h i = absurd i
 earlier_bid (y ∷ xs) ys a x h (inl e) =
