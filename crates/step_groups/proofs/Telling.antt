@@ -182,9 +182,9 @@ module _ (all : List Act) (apart : AreApart all) where
       backwards : are_together a b ≡ true → (group_number all b == group_number all a) ≡ true
       backwards t =
           test_equal (group_number all b) (group_number all a) (same_place (are_together b) (are_together a) all (λ x k.
-              same_truth (are_together b x) (are_together a x)
-              (λ h. together_on all apart a b x i j k t h)
-              (λ h. together_on all apart b a x j i k (together_back a b t) h)))
+          same_truth (are_together b x) (are_together a x)
+          (λ h. together_on all apart a b x i j k t h)
+          (λ h. together_on all apart b a x j i k (together_back a b t) h)))
 
   tells : (a : Act) → In a all → TellsMembers all (map (group_number all) all) (group_number all a) a
   tells a i = with_map (group_number all) (are_together a) (group_number all a) all (λ b j. same_number a b i j)

@@ -97,7 +97,13 @@ impl Groups {
         if let Some(broken) = judge_bots(step, numbers, steps) {
             return Err(broken);
         }
-        list_groups(&mut self.groups, step.planes, step.bots, step.commands, numbers);
+        list_groups(
+            &mut self.groups,
+            step.planes,
+            step.bots,
+            step.commands,
+            numbers,
+        );
         if let Some(broken) = judge_pairs(self.groups.as_slice(), step.number) {
             self.groups.clear();
             return Err(broken);
@@ -128,7 +134,13 @@ impl Groups {
         self.groups.clear();
         let numbers = number_groups(step.bots, step.commands);
         let numbers = numbers.as_slice();
-        list_groups(&mut self.groups, step.planes, step.bots, step.commands, numbers);
+        list_groups(
+            &mut self.groups,
+            step.planes,
+            step.bots,
+            step.commands,
+            numbers,
+        );
         judge_pairs(self.groups.as_slice(), step.number)
     }
 }

@@ -27,18 +27,11 @@ pub(crate) fn acts_alone(command: &Command) -> bool
     ensures { result ≡ is_alone command.now }
 {
     match command {
-        Command::FusionP(_) => false,
-        Command::FusionS(_) => false,
-        Command::GFill(_, _) => false,
-        Command::GVoid(_, _) => false,
-        Command::Halt => true,
-        Command::Wait => true,
-        Command::Flip => true,
-        Command::SMove(_) => true,
-        Command::LMove(_, _) => true,
-        Command::Fission(_, _) => true,
-        Command::Fill(_) => true,
-        Command::Void(_) => true,
+        Command::FusionP(_) | Command::FusionS(_) => false,
+        Command::GFill(_, _) | Command::GVoid(_, _) => false,
+        Command::Halt | Command::Wait | Command::Flip => true,
+        Command::SMove(_) | Command::LMove(_, _) | Command::Fission(_, _) => true,
+        Command::Fill(_) | Command::Void(_) => true,
     }
 }
 

@@ -3,13 +3,13 @@ ghost use Rattle.std.specs.Prelude.{◌≡◌, ◌+◌, ◌≤◌, ◌&&◌, len
 ghost use Rattle.vox_geom.specs.Space.{IsInSpace, in_space};
 ghost use Rattle.vox_geom.specs.Point.{point, plus};
 ghost use Rattle.vox_geom.specs.Region.{corners, is_within, size, span};
-ghost use Rattle.nano_spec.specs.declared.commands.Command.TheVariants.{Halt, SMove, LMove, FusionP, FusionS, Fill, Void, GFill, GVoid};
+ghost use Rattle.nano_spec.specs.declared.commands.Command.TheVariants.{Halt, SMove, LMove, Fill, Void};
 ghost use Rattle.nano_spec.specs.Matrix.{all_of, is_full};
 ghost use Rattle.nano_spec.specs.Rules.{broken_by};
 ghost use Rattle.nano_spec.specs.State.{seed_list};
 ghost use Rattle.vox_geom.specs.Space.{is_before as is_before_of};
 ghost use Rattle.vox_planes.specs.Difference.{earlier as earlier_of};
-ghost use Rattle.step_groups.specs.Judging.{IsLaterFault, act, is_alone, rule_broken, judge_bot as judge_bot_of, judge_each, touches_of};
+ghost use Rattle.step_groups.specs.Judging.{IsFusion, IsGroupCommand, IsLaterFault, act, is_alone, rule_broken, judge_bot as judge_bot_of, judge_each, touches_of};
 ghost use Rattle.step_groups.specs.Numbers.{AreNumbers, TellsMembers};
 ghost use Rattle.step_groups.specs.Outlines.{IsHullFor};
 ghost use Rattle.step_groups.specs.Steps.{CanBeJudged, CanJudge, acts_of_step, later_fault, start_of_step};
@@ -220,8 +220,7 @@ pub(crate) fn named_by(planes: &Planes, step: u32, bot: Bot, d: Diff) -> Result<
 /// The first rule that a bot with `FusionP` or `FusionS` breaks.
 fn judge_fusion(step: &Step, bot: &Bot, command: &Command, d: Diff) -> Option<Broken>
     requires { CanJudge step.now bot.now }
-    ensures primary { command.now ≡ FusionP d → result ≡ later_fault step.now (act bot.now command.now) }
-    ensures secondary { command.now ≡ FusionS d → result ≡ later_fault step.now (act bot.now command.now) }
+    ensures { IsFusion command.now d → result ≡ later_fault step.now (act bot.now command.now) }
 {
     let Some(_to) = reached(step.planes, bot.pos, d) else {
         return broken_here(step.number, *bot, Rule::OutOfSpace);
@@ -243,8 +242,7 @@ fn judge_group(
     requires step { CanJudge step.now bot.now }
     requires numbers { length numbers.now ≡ length step.now.bots.now }
     requires members { TellsMembers (acts_of_step step.now) numbers.now number (act bot.now command.now) }
-    ensures fill { command.now ≡ GFill d f → result ≡ later_fault step.now (act bot.now command.now) }
-    ensures void { command.now ≡ GVoid d f → result ≡ later_fault step.now (act bot.now command.now) }
+    ensures { IsGroupCommand command.now d f → result ≡ later_fault step.now (act bot.now command.now) }
 {
     let Some(near) = reached(step.planes, bot.pos, d) else {
         return broken_here(step.number, *bot, Rule::OutOfSpace);
@@ -293,8 +291,24 @@ fn judge_later<L: Ledger>(
     match command {
         Command::FusionP(d) => judge_fusion(step, bot, command, d.diff()),
         Command::FusionS(d) => judge_fusion(step, bot, command, d.diff()),
-        Command::GFill(d, f) => judge_group(step, numbers, number, bot, command, d.diff(), f.diff()),
-        Command::GVoid(d, f) => judge_group(step, numbers, number, bot, command, d.diff(), f.diff()),
+        Command::GFill(d, f) => judge_group(
+            step,
+            numbers,
+            number,
+            bot,
+            command,
+            d.diff(),
+            f.diff(),
+        ),
+        Command::GVoid(d, f) => judge_group(
+            step,
+            numbers,
+            number,
+            bot,
+            command,
+            d.diff(),
+            f.diff(),
+        ),
         Command::Halt
         | Command::Wait
         | Command::Flip

@@ -47,17 +47,11 @@ fn harmonics_by(harmonics: Harmonics, command: &Command) -> Harmonics
 {
     match command {
         Command::Flip => harmonics.flipped(),
-        Command::Halt => harmonics,
-        Command::Wait => harmonics,
-        Command::SMove(_) => harmonics,
-        Command::LMove(_, _) => harmonics,
-        Command::FusionP(_) => harmonics,
-        Command::FusionS(_) => harmonics,
-        Command::Fission(_, _) => harmonics,
-        Command::Fill(_) => harmonics,
-        Command::Void(_) => harmonics,
-        Command::GFill(_, _) => harmonics,
-        Command::GVoid(_, _) => harmonics,
+        Command::Halt | Command::Wait => harmonics,
+        Command::SMove(_) | Command::LMove(_, _) | Command::Fission(_, _) => harmonics,
+        Command::FusionP(_) | Command::FusionS(_) => harmonics,
+        Command::Fill(_) | Command::Void(_) => harmonics,
+        Command::GFill(_, _) | Command::GVoid(_, _) => harmonics,
     }
 }
 

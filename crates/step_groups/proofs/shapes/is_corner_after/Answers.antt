@@ -21,7 +21,7 @@ loop-j-preserved-then-numbers-j c =
     let j = c.loop-j.j in
     let b = get_or bots j blank in
     sym (ap (λ xs. list_any (same_point (plus (point c.args.p) c.args.d)) (corner_list xs))
-        (without_it c.args.number bots c.args.commands.now c.args.numbers.now j b c.index-commands-j.result c.loop-j-test.true c.requires.lengths c.requires.numbers (get_or_default bots j blank b c.loop-j-test.true) c.index-commands-j.is (test_unequal _ _ c.if-numbers-j.true)))
+    (without_it c.args.number bots c.args.commands.now c.args.numbers.now j b c.index-commands-j.result c.loop-j-test.true c.requires.lengths c.requires.numbers (get_or_default bots j blank b c.loop-j-test.true) c.index-commands-j.is (test_unequal _ _ c.if-numbers-j.true)))
     ∙ c.loop-j.invariant
 
 pub loop-j-preserved : goal.loop-j-preserved
@@ -31,6 +31,6 @@ loop-j-preserved c =
     let b = get_or bots j blank in
     let k = c.index-commands-j.result in
     sym (ap (λ xs. list_any (same_point (plus (point c.args.p) c.args.d)) (corner_list xs))
-        (with_it c.args.number bots c.args.commands.now c.args.numbers.now j b k c.loop-j-test.true c.requires.lengths c.requires.numbers (get_or_default bots j blank b c.loop-j-test.true) c.index-commands-j.is (test_equal _ _ c.if-numbers-j.false))
+    (with_it c.args.number bots c.args.commands.now c.args.numbers.now j b k c.loop-j-test.true c.requires.lengths c.requires.numbers (get_or_default bots j blank b c.loop-j-test.true) c.index-commands-j.is (test_equal _ _ c.if-numbers-j.false))
     ∙ skip_corner (same_point (plus (point c.args.p) c.args.d)) (act b k) (with_number c.args.number (acts (drop (j + 1) bots) (drop (j + 1) c.args.commands.now)) (drop (j + 1) c.args.numbers.now)) (sym c.is_corner.ensures ∙ c.if-is_corner.false))
     ∙ c.loop-j.invariant
