@@ -21,6 +21,10 @@ use Rattle.step_groups.proofs.Spots.{of_partner, of_sharer, spot_of_partner, spo
 
 -- ---- the bots before a place and after it
 
+-- what reading gives past the end
+abbrev pub blank : Bot
+blank = record { bid = 0; pos = record { x = 0; y = 0; z = 0 }; seeds = 0 }
+
 pub split_at : (bots : List Bot) (commands : List Command) (i : ℕ) (b : Bot) (k : Command) → i < length bots → length commands ≡ length bots → b ≡ get_or bots i b → k ≡ get_or commands i k → acts bots commands ≡ acts (take i bots) (take i commands) ++ act b k ∷ acts (drop (i + 1) bots) (drop (i + 1) commands)
 split_at [] commands i b k h e f g = absurd (omega arith)
 split_at (x ∷ bots) [] i b k h e f g = absurd (omega arith)

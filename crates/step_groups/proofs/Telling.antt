@@ -1,7 +1,7 @@
 -- The numbers of the groups tell who leads, and who is of whose group.
 use Rattle.std.proofs.Common.{◌≡◌, ◌≢◌, ℕ, zero, suc, ◌+◌, ◌-◌, ◌<◌, refl, ap, sym, ◌∙◌, subst, arith, inl, inr, ◌⊎◌, Bool, true, false, ◌||◌, ◌==◌, not, cond, List, [], ◌∷◌, ◌++◌, filter, length, map, take, drop, get_or}
 use Rattle.std.specs.List.{list_any, position_or_len}
-use Rattle.std.proofs.lemmas.List.{drop-map, length-map}
+use Rattle.std.proofs.lemmas.List.{drop-map, get_or_default, length-map}
 use Rattle.std.proofs.lemmas.List.Sums.{passes_at_first}
 use Rattle.vox_geom.proofs.Tests.{equal_by_test, test_equal}
 use Rattle.vox_geom.proofs.Truths.{same_truth}
@@ -18,7 +18,7 @@ use Rattle.step_groups.specs.Judging.{act}
 use Rattle.step_groups.specs.Numbers.{AreNumbers, TellsMembers, group_number, with_number}
 use Rattle.step_groups.proofs.Joined.{bot_in}
 use Rattle.step_groups.proofs.Lists.{to_end}
-use Rattle.step_groups.proofs.Mates.{in_back, in_middle, split_at}
+use Rattle.step_groups.proofs.Mates.{blank, in_back, in_middle, split_at}
 
 -- ---- the first that passes
 
@@ -207,7 +207,13 @@ module _ (bots : List Bot) (commands : List Command) (lengths : length commands 
       by a b i j e (inr (inl f)) = absurd (f e)
       by a b i j e (inr (inr f)) = absurd (f (sym e))
 
-  module _ (numbers : List ℕ) (are : AreNumbers (acts bots commands) numbers) (i n : ℕ) (b : Bot) (k : Command) (lt : i < length bots) (bi : b ≡ get_or bots i b) (ki : k ≡ get_or commands i k) (ni : n ≡ get_or numbers i n) where
+  module _ (numbers : List ℕ) (are : AreNumbers (acts bots commands) numbers) (i : ℕ) (k : Command) (lt : i < length bots) (ki : k ≡ get_or commands i k) where
+    abbrev n : ℕ
+    n = get_or numbers i 0
+
+    abbrev b : Bot
+    b = get_or bots i blank
+
     abbrev a : Act
     a = act b k
 
@@ -217,21 +223,26 @@ module _ (bots : List Bot) (commands : List Command) (lengths : length commands 
     abbrev ys : List Act
     ys = acts (drop (i + 1) bots) (drop (i + 1) commands)
 
-    whole : acts bots commands ≡ xs ++ act b k ∷ ys
+    bi : get_or bots i blank ≡ get_or bots i (get_or bots i blank)
+    bi = get_or_default bots i blank b lt
+
+    whole : acts bots commands ≡ xs ++ act (get_or bots i blank) k ∷ ys
     whole = split_at bots commands i b k lt lengths bi ki
 
-    there : In (act b k) (acts bots commands)
+    there : In (act (get_or bots i blank) k) (acts bots commands)
     there = subst (λ (zs : List Act). In (act b k) zs) (sym whole) (in_middle xs ys a)
 
-    number_is : n ≡ group_number (acts bots commands) (act b k)
-    number_is = number_at (group_number all) bots commands i n b k lt lengths bi ki (ni ∙ ap (λ ns. get_or ns i n) are)
+    number_is : get_or numbers i 0 ≡ group_number (acts bots commands) (act (get_or bots i blank) k)
+    number_is =
+        let same = as_many_numbers bots commands numbers lengths are in
+        number_at (group_number all) bots commands i n b k lt lengths bi ki (get_or_default numbers i 0 n (omega (arith, same, lt)) ∙ ap (λ ns. get_or ns i n) are)
 
     -- the number of the bot at a place tells the members of its group
-    pub tells_members : TellsMembers (acts bots commands) numbers n (act b k)
+    pub tells_members : TellsMembers (acts bots commands) numbers (get_or numbers i 0) (act (get_or bots i blank) k)
     tells_members = (λ j. with_number (number_is j) all (are j)) ∙ tells all apart a there
 
     -- and those of them that are after it
-    pub tells_after : with_number n (take (length bots - (i + 1)) (drop (i + 1) bots)) (take (length numbers - (i + 1)) (drop (i + 1) numbers)) ≡ map (λ (x : Act). x.bot) (filter (are_together (act b k)) (acts (drop (i + 1) bots) (drop (i + 1) commands)))
+    pub tells_after : with_number (get_or numbers i 0) (take (length bots - (i + 1)) (drop (i + 1) bots)) (take (length numbers - (i + 1)) (drop (i + 1) numbers)) ≡ map (λ (x : Act). x.bot) (filter (are_together (act (get_or bots i blank) k)) (acts (drop (i + 1) bots) (drop (i + 1) commands)))
     tells_after =
         let rest : drop (i + 1) numbers ≡ map (group_number all) ys = ap (drop (i + 1)) are ∙ (drop-map (group_number all) (i + 1) all ∙ ap (map (group_number all)) (drop_acts bots commands (i + 1) lengths)) in
         let bots_are : drop (i + 1) bots ≡ map (λ (x : Act). x.bot) ys = sym (all_bots (drop (i + 1) bots) (drop (i + 1) commands) (rest_lengths bots commands (i + 1) lengths)) in
@@ -252,18 +263,18 @@ module _ (bots : List Bot) (commands : List Command) (lengths : length commands 
         taken (x ∷ bots) (y ∷ commands) zero h e = refl
         taken (x ∷ bots) (y ∷ commands) (suc i) h e = ap suc (taken bots commands i (omega arith) (omega arith))
 
-    pub number_before : n ≡ position_or_len (are_together (act b k)) (acts (take i bots) (take i commands))
+    pub number_before : get_or numbers i 0 ≡ position_or_len (are_together (act (get_or bots i blank) k)) (acts (take i bots) (take i commands))
     number_before = number_is ∙ sym (first_before bots commands i b k lt lengths bi ki)
 
     -- it leads its group where the number is its place
-    pub leads_by_number : n ≡ i → list_any (are_together (act b k)) (acts (take i bots) (take i commands)) ≡ false
+    pub leads_by_number : get_or numbers i 0 ≡ i → list_any (are_together (act (get_or bots i blank) k)) (acts (take i bots) (take i commands)) ≡ false
     leads_by_number e = by (list_any (are_together a) xs) refl
       where
         by : (t : Bool) → list_any (are_together a) xs ≡ t → t ≡ false
         by true h = absurd (let l = some_found (are_together a) xs h in let m = number_before in let o = before_are in omega arith)
         by false h = refl
 
-    pub follows_by_number : (n ≡ i → ⊥) → list_any (are_together (act b k)) (acts (take i bots) (take i commands)) ≡ true
+    pub follows_by_number : (get_or numbers i 0 ≡ i → ⊥) → list_any (are_together (act (get_or bots i blank) k)) (acts (take i bots) (take i commands)) ≡ true
     follows_by_number e = by (list_any (are_together a) xs) refl
       where
         by : (t : Bool) → list_any (are_together a) xs ≡ t → t ≡ true

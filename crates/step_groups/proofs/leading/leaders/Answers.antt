@@ -5,13 +5,10 @@ use Rattle.nano_spec.specs.declared.system.Bot.{Bot}
 use Rattle.nano_spec.specs.Act.{acts}
 use Rattle.bot_crew.specs.Crew.{IsCrew}
 use Rattle.step_groups.specs.Numbers.{AreNumbers}
+use Rattle.step_groups.proofs.Mates.{blank}
 use Rattle.step_groups.proofs.Led.{follows, leads_one}
 use Rattle.step_groups.proofs.Telling.{as_many_numbers, follows_by_number, leads_by_number}
 use Rattle.step_groups.proofs.leading.leaders.Goals as goal
-
--- what reading gives past the end
-abbrev blank : Bot
-blank = record { bid = 0; pos = record { x = 0; y = 0; z = 0 }; seeds = 0 }
 
 pub bounds-deref-i : goal.bounds-deref-i
 bounds-deref-i c =
@@ -34,14 +31,11 @@ loop-i-preserved-then-from-i c =
     let lengths : length commands ≡ length bots = c.requires ∙ sym (ap length c.bots-bots.ensures.value) in
     let crew : IsCrew bots = subst (λ (bs : List Bot). IsCrew bs) (sym c.bots-bots.ensures.value) c.bots-bots.ensures.crew in
     let are : AreNumbers (acts bots commands) numbers = c.deref.ensures.0 ∙ c.number_groups-numbers.ensures in
-    let same : length numbers ≡ length bots = as_many_numbers bots commands numbers lengths are in
-    let n = get_or numbers i 0 in
     let b = get_or bots i blank in
     let k = get_or commands i Wait in
     let here = get_or_default bots i blank b c.loop-i-test.true in
     let there = get_or_default commands i Wait k (omega (arith, lengths, c.loop-i-test.true)) in
-    let own = get_or_default numbers i 0 n (omega (arith, same, c.loop-i-test.true)) in
-    let behind = follows_by_number bots commands lengths crew numbers are i n b k c.loop-i-test.true here there own (λ e. c.if-from-i.true (c.from.ensures ∙ e)) in
+    let behind = follows_by_number bots commands lengths crew numbers are i k c.loop-i-test.true there (λ e. c.if-from-i.true (c.from.ensures ∙ e)) in
     record {
       bids = c.loop-i.invariant.bids ∙ sym (follows bots commands i b k c.loop-i-test.true lengths here there crew.rising behind);
       len = let l = c.loop-i.invariant.len in omega arith;
@@ -56,14 +50,11 @@ loop-i-preserved c =
     let lengths : length commands ≡ length bots = c.requires ∙ sym (ap length c.bots-bots.ensures.value) in
     let crew : IsCrew bots = subst (λ (bs : List Bot). IsCrew bs) (sym c.bots-bots.ensures.value) c.bots-bots.ensures.crew in
     let are : AreNumbers (acts bots commands) numbers = c.deref.ensures.0 ∙ c.number_groups-numbers.ensures in
-    let same : length numbers ≡ length bots = as_many_numbers bots commands numbers lengths are in
-    let n = get_or numbers i 0 in
     let b = get_or bots i blank in
     let k = get_or commands i Wait in
     let here = get_or_default bots i blank b c.loop-i-test.true in
     let there = get_or_default commands i Wait k (omega (arith, lengths, c.loop-i-test.true)) in
-    let own = get_or_default numbers i 0 n (omega (arith, same, c.loop-i-test.true)) in
-    let leads = leads_by_number bots commands lengths crew numbers are i n b k c.loop-i-test.true here there own (sym c.from.ensures ∙ c.if-from-i.false) in
+    let leads = leads_by_number bots commands lengths crew numbers are i k c.loop-i-test.true there (sym c.from.ensures ∙ c.if-from-i.false) in
     record {
       bids = c.push.ensures.items ∙ (ap (λ bids. bids ++ b.bid ∷ []) c.loop-i.invariant.bids ∙ sym (leads_one bots commands i b k c.loop-i-test.true lengths here there crew.rising leads));
       len = let l = c.loop-i.invariant.len in let m = c.push.ensures.len in omega arith;

@@ -1,14 +1,10 @@
 use Rattle.std.proofs.Common.{◌+◌, ◌∙◌, ap, arith, get_or, length, sym}
 use Rattle.std.proofs.lemmas.List.{get_or_default}
-use Rattle.nano_spec.specs.declared.system.Bot.{Bot}
+use Rattle.step_groups.proofs.Mates.{blank}
 use Rattle.step_groups.proofs.Lists.{to_end}
 use Rattle.step_groups.proofs.Pushed.{few_here, joined_here, none_here, stays_here}
 use Rattle.step_groups.proofs.Telling.{as_many_numbers, follows_by_number, leads_by_number, rest_lengths, tells_after}
 use Rattle.step_groups.proofs.members.push_group.Goals as goal
-
--- what reading gives past the end
-abbrev blank : Bot
-blank = record { bid = 0; pos = record { x = 0; y = 0; z = 0 }; seeds = 0 }
 
 pub bounds-numbers-i : goal.bounds-numbers-i
 bounds-numbers-i c =
@@ -31,9 +27,7 @@ returns-then-from-i-clause-groups c =
     let b = get_or bots i blank in
     let k = c.index-commands-i.result in
     let here = get_or_default bots i blank b c.requires.i in
-    let same = as_many_numbers bots commands numbers c.requires.lengths c.requires.numbers in
-    let own = get_or_default numbers i 0 n (omega (arith, same, c.requires.i)) in
-    let follows = follows_by_number bots commands c.requires.lengths c.requires.crew numbers c.requires.numbers i n b k c.requires.i here c.index-commands-i.is own (λ e. c.if-from-i.true (c.from.ensures ∙ e)) in
+    let follows = follows_by_number bots commands c.requires.lengths c.requires.crew numbers c.requires.numbers i k c.requires.i c.index-commands-i.is (λ e. c.if-from-i.true (c.from.ensures ∙ e)) in
     none_here c.args.planes.now.resolution bots commands i b k c.requires.i c.requires.lengths here c.index-commands-i.is c.requires.crew.rising c.args.groups.now.items follows
 
 pub join-requires-clause-lengths : goal.join-requires-clause-lengths
@@ -54,10 +48,8 @@ join-requires-clause-members c =
     let b = get_or bots i blank in
     let k = c.index-commands-i.result in
     let here = get_or_default bots i blank b c.requires.i in
-    let same = as_many_numbers bots commands numbers c.requires.lengths c.requires.numbers in
-    let own = get_or_default numbers i 0 n (omega (arith, same, c.requires.i)) in
-    let leads = leads_by_number bots commands c.requires.lengths c.requires.crew numbers c.requires.numbers i n b k c.requires.i here c.index-commands-i.is own (sym c.from.ensures ∙ c.if-from-i.false) in
-    let tell = tells_after bots commands c.requires.lengths c.requires.crew numbers c.requires.numbers i n b k c.requires.i here c.index-commands-i.is own in
+    let leads = leads_by_number bots commands c.requires.lengths c.requires.crew numbers c.requires.numbers i k c.requires.i c.index-commands-i.is (sym c.from.ensures ∙ c.if-from-i.false) in
+    let tell = tells_after bots commands c.requires.lengths c.requires.crew numbers c.requires.numbers i k c.requires.i c.index-commands-i.is in
     let few = few_here c.args.planes.now.resolution bots commands i b k c.requires.i c.requires.lengths here c.index-commands-i.is c.requires.crew.rising numbers n tell leads c.requires.judged.few in
     let one = ap length c.lone_group-group.ensures.members in
     omega (arith, one, few)
@@ -72,10 +64,8 @@ join-requires-clause-boxes c =
     let b = get_or bots i blank in
     let k = c.index-commands-i.result in
     let here = get_or_default bots i blank b c.requires.i in
-    let same = as_many_numbers bots commands numbers c.requires.lengths c.requires.numbers in
-    let own = get_or_default numbers i 0 n (omega (arith, same, c.requires.i)) in
-    let leads = leads_by_number bots commands c.requires.lengths c.requires.crew numbers c.requires.numbers i n b k c.requires.i here c.index-commands-i.is own (sym c.from.ensures ∙ c.if-from-i.false) in
-    let tell = tells_after bots commands c.requires.lengths c.requires.crew numbers c.requires.numbers i n b k c.requires.i here c.index-commands-i.is own in
+    let leads = leads_by_number bots commands c.requires.lengths c.requires.crew numbers c.requires.numbers i k c.requires.i c.index-commands-i.is (sym c.from.ensures ∙ c.if-from-i.false) in
+    let tell = tells_after bots commands c.requires.lengths c.requires.crew numbers c.requires.numbers i k c.requires.i c.index-commands-i.is in
     let few = few_here c.args.planes.now.resolution bots commands i b k c.requires.i c.requires.lengths here c.index-commands-i.is c.requires.crew.rising numbers n tell leads c.requires.judged.few in
     omega (arith, c.lone_group-group.ensures.few, few)
 
@@ -89,10 +79,8 @@ returns-clause-groups c =
     let b = get_or bots i blank in
     let k = c.index-commands-i.result in
     let here = get_or_default bots i blank b c.requires.i in
-    let same = as_many_numbers bots commands numbers c.requires.lengths c.requires.numbers in
-    let own = get_or_default numbers i 0 n (omega (arith, same, c.requires.i)) in
-    let leads = leads_by_number bots commands c.requires.lengths c.requires.crew numbers c.requires.numbers i n b k c.requires.i here c.index-commands-i.is own (sym c.from.ensures ∙ c.if-from-i.false) in
-    let tell = tells_after bots commands c.requires.lengths c.requires.crew numbers c.requires.numbers i n b k c.requires.i here c.index-commands-i.is own in
+    let leads = leads_by_number bots commands c.requires.lengths c.requires.crew numbers c.requires.numbers i k c.requires.i c.index-commands-i.is (sym c.from.ensures ∙ c.if-from-i.false) in
+    let tell = tells_after bots commands c.requires.lengths c.requires.crew numbers c.requires.numbers i k c.requires.i c.index-commands-i.is in
     let lone = c.lone_group-group.ensures in
     joined_here c.args.planes.now.resolution bots commands i b k c.requires.i c.requires.lengths here c.index-commands-i.is c.requires.crew.rising numbers n tell leads
     c.args.groups.now.items c.push.new.self.items c.lone_group-group.result c.join.new.group c.push.ensures.items lone.leader lone.members lone.boxes lone.space

@@ -1,16 +1,11 @@
 use Rattle.std.proofs.Common.{◌≡◌, ◌+◌, ◌∙◌, ◌++◌, ◌∷◌, [], ap, get_or, map, rules, sym, take}
 use Rattle.std.proofs.lemmas.List.{get_or_default, map-append}
-use Rattle.nano_spec.specs.declared.system.Bot.{Bot}
 use Rattle.nano_spec.specs.Act.{acts}
 use Rattle.step_groups.specs.Judging.{act}
 use Rattle.step_groups.specs.Numbers.{group_number}
-use Rattle.step_groups.proofs.Mates.{take_more}
+use Rattle.step_groups.proofs.Mates.{blank, take_more}
 use Rattle.step_groups.proofs.Telling.{first_before}
 use Rattle.step_groups.proofs.numbers.number_groups.Goals as goal
-
--- what reading gives past the end
-abbrev blank : Bot
-blank = record { bid = 0; pos = record { x = 0; y = 0; z = 0 }; seeds = 0 }
 
 pub loop-i-preserved : goal.loop-i-preserved
 loop-i-preserved c =

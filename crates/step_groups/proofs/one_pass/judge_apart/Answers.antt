@@ -1,16 +1,11 @@
 use Rattle.std.proofs.Common.{arith, get_or}
 use Rattle.std.proofs.lemmas.Grind.{common_steps}
 use Rattle.std.proofs.lemmas.List.{get_or_default}
-use Rattle.nano_spec.specs.declared.system.Bot.{Bot}
 use Rattle.step_groups.specs.Judging.{act, touches_of}
-use Rattle.step_groups.proofs.Mates.{take_more}
+use Rattle.step_groups.proofs.Mates.{blank, take_more}
 use Rattle.step_groups.proofs.Outlining.{outline_more}
 use Rattle.step_groups.proofs.Touching.{sum_at}
 use Rattle.step_groups.proofs.one_pass.judge_apart.Goals as goal
-
--- what reading gives past the end
-abbrev blank : Bot
-blank = record { bid = 0; pos = record { x = 0; y = 0; z = 0 }; seeds = 0 }
 
 pub returns-in-Some-clause-touches : goal.returns-in-Some-clause-touches
 returns-in-Some-clause-touches g c =

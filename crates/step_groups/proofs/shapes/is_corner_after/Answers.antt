@@ -3,17 +3,13 @@ use Rattle.std.specs.List.{list_any}
 use Rattle.std.proofs.lemmas.List.{get_or_default}
 use Rattle.vox_geom.proofs.Tests.{test_equal, test_unequal}
 use Rattle.vox_geom.specs.Point.{plus, point, same_point}
-use Rattle.nano_spec.specs.declared.system.Bot.{Bot}
 use Rattle.nano_spec.specs.Act.{acts}
 use Rattle.step_groups.specs.Judging.{act, corner_list}
 use Rattle.step_groups.specs.Numbers.{with_number}
+use Rattle.step_groups.proofs.Mates.{blank}
 use Rattle.step_groups.proofs.Corners.{skip_corner}
 use Rattle.step_groups.proofs.Telling.{with_it, without_it}
 use Rattle.step_groups.proofs.shapes.is_corner_after.Goals as goal
-
--- what reading gives past the end
-abbrev blank : Bot
-blank = record { bid = 0; pos = record { x = 0; y = 0; z = 0 }; seeds = 0 }
 
 pub loop-j-preserved-then-numbers-j : goal.loop-j-preserved-then-numbers-j
 loop-j-preserved-then-numbers-j c =

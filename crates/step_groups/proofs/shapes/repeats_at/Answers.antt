@@ -2,17 +2,13 @@ use Rattle.std.proofs.Common.{◌+◌, ◌++◌, ◌∙◌, ap, drop, get_or, sy
 use Rattle.std.proofs.lemmas.List.{get_or_default}
 use Rattle.vox_geom.proofs.Tests.{test_equal, test_unequal}
 use Rattle.vox_geom.specs.Point.{point}
-use Rattle.nano_spec.specs.declared.system.Bot.{Bot}
 use Rattle.nano_spec.specs.Act.{acts}
 use Rattle.nano_spec.specs.Rules.{repeats}
 use Rattle.step_groups.specs.Judging.{at_corner, corner_list}
 use Rattle.step_groups.specs.Numbers.{with_number}
+use Rattle.step_groups.proofs.Mates.{blank}
 use Rattle.step_groups.proofs.Telling.{with_it, without_it}
 use Rattle.step_groups.proofs.shapes.repeats_at.Goals as goal
-
--- what reading gives past the end
-abbrev blank : Bot
-blank = record { bid = 0; pos = record { x = 0; y = 0; z = 0 }; seeds = 0 }
 
 pub returns-then-numbers-i : goal.returns-then-numbers-i
 returns-then-numbers-i c =

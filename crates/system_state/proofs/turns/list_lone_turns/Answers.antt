@@ -1,16 +1,12 @@
 use Rattle.std.proofs.Common.{◌≡◌, ◌+◌, ◌∙◌, arith, ap, get_or, sym, subst, List, [], ◌∷◌, ◌++◌, length, take}
 use Rattle.std.proofs.lemmas.List.{get_or_default}
-use Rattle.nano_spec.specs.declared.system.Bot.{Bot}
 use Rattle.nano_spec.specs.Act.{Act, acts}
 use Rattle.system_state.specs.declared.turns.Turn.{Turn}
 use Rattle.system_state.specs.Turns.{AreTurns}
 use Rattle.step_groups.proofs.Telling.{acts_length}
+use Rattle.step_groups.proofs.Mates.{blank}
 use Rattle.system_state.proofs.Gathered.{lone_turn_more, take_whole}
 use Rattle.system_state.proofs.turns.list_lone_turns.Goals as goal
-
--- what reading gives past the end
-abbrev blank : Bot
-blank = record { bid = 0; pos = record { x = 0; y = 0; z = 0 }; seeds = 0 }
 
 pub loop-i-preserved : goal.loop-i-preserved
 loop-i-preserved c = record {

@@ -1,14 +1,10 @@
 use Rattle.std.proofs.Common.{◌∷◌, ◌++◌, ◌∙◌, [], ap, arith, get_or, sym}
 use Rattle.std.proofs.lemmas.List.{get_or_default}
 use Rattle.nano_spec.specs.declared.commands.Command.TheVariants.{Wait}
-use Rattle.nano_spec.specs.declared.system.Bot.{Bot}
 use Rattle.step_groups.proofs.Telling.{follows_by_number, leads_by_number, tells_after}
+use Rattle.step_groups.proofs.Mates.{blank}
 use Rattle.system_state.proofs.Listed.{no_turn_more, numbered_more}
 use Rattle.system_state.proofs.turns.push_turn.Goals as goal
-
--- what reading gives past the end
-abbrev blank : Bot
-blank = record { bid = 0; pos = record { x = 0; y = 0; z = 0 }; seeds = 0 }
 
 pub returns-then-from-i-clause-turns : goal.returns-then-from-i-clause-turns
 returns-then-from-i-clause-turns c = λ commands lengths are.
@@ -20,9 +16,8 @@ returns-then-from-i-clause-turns c = λ commands lengths are.
     let k = get_or commands i Wait in
     let here = get_or_default bots i blank b c.requires.i in
     let there = get_or_default commands i Wait k (omega (arith, lengths, c.requires.i)) in
-    let own = get_or_default numbers i 0 n (omega (arith, c.requires.lengths, c.requires.i)) in
     no_turn_more bots commands i b k c.requires.i lengths here there c.requires.crew.rising c.args.turns.now.items
-    (follows_by_number bots commands lengths c.requires.crew numbers are i n b k c.requires.i here there own (λ e. c.if-from-i.true (c.from.ensures ∙ e)))
+    (follows_by_number bots commands lengths c.requires.crew numbers are i k c.requires.i there (λ e. c.if-from-i.true (c.from.ensures ∙ e)))
 
 pub returns-clause-turns : goal.returns-clause-turns
 returns-clause-turns c = λ commands lengths are.
@@ -34,9 +29,8 @@ returns-clause-turns c = λ commands lengths are.
     let k = get_or commands i Wait in
     let here = get_or_default bots i blank b c.requires.i in
     let there = get_or_default commands i Wait k (omega (arith, lengths, c.requires.i)) in
-    let own = get_or_default numbers i 0 n (omega (arith, c.requires.lengths, c.requires.i)) in
     let first = sym c.from.ensures ∙ c.if-from-i.false in
-    let leads = leads_by_number bots commands lengths c.requires.crew numbers are i n b k c.requires.i here there own first in
-    let tell = tells_after bots commands lengths c.requires.crew numbers are i n b k c.requires.i here there own in
+    let leads = leads_by_number bots commands lengths c.requires.crew numbers are i k c.requires.i there first in
+    let tell = tells_after bots commands lengths c.requires.crew numbers are i k c.requires.i there in
     numbered_more bots commands i b k c.requires.i lengths here there c.requires.crew.rising c.args.turns.now.items c.push.new.self.items numbers n c.first_numbered.result
     (c.push.ensures.items ∙ ap (λ place. c.args.turns.now.items ++ record { leader = b.bid; place = place; partner = c.first_numbered.result } ∷ []) first) leads tell c.first_numbered.ensures
