@@ -10,7 +10,7 @@ use native.Mathlib.Decide.{ℕ_discrete}
 use Rattle.circular_buffer.specs.Buffer.{Buffer}
 use Rattle.vox_geom.specs.declared.coordinate.Coord.{Coord}
 use Rattle.vox_geom.specs.Point.{point}
-use Rattle.vox_geom.specs.Region.{is_within}
+use Rattle.vox_geom.specs.Region.{is_within, span}
 use Rattle.vox_geom.specs.Space.{IsInSpace}
 use Rattle.vox_geom.proofs.Truths.{false_by, or_by_first}
 use Rattle.nano_spec.specs.declared.commands.Command.{Command}
@@ -34,7 +34,7 @@ use Rattle.step_machine.proofs.Acting.{stays}
 use Rattle.step_machine.proofs.Changed.{is_changed, one_way, same_edit}
 use Rattle.step_machine.proofs.Regions.{edits_nothing, edits_region}
 use Rattle.system_state.specs.declared.edited.EditedRegion.{EditedRegion}
-use Rattle.system_state.specs.Edited.{IsEditedRegion, region_of}
+use Rattle.system_state.specs.Edited.{IsEditedRegion}
 use Rattle.step_debugger.specs.Debugging.{Debugging, debugging_of, point_of}
 use Rattle.step_debugger.specs.Kept.{IsKept}
 use Rattle.step_debugger.specs.Middle.{IsEditOf, matrix_after_some}
@@ -121,21 +121,21 @@ module _ (s : State) (all : List Act) (good : IsGood s all) (begun : List ℕ) (
 -- ---- what one command makes of a voxel
 
 module _ (r : ℕ) (b : Bot) (k : Command) (w : EditedRegion) (h : IsEditedRegion r b k w) (c : Coord) where
-  pub edit_within : is_within (region_of w) (point c) ≡ true → is_edited (not w.full) (act b k) c ≡ true
+  pub edit_within : is_within (span w.region) (point c) ≡ true → is_edited (not w.full) (act b k) c ≡ true
   edit_within e = sym (edits_region r b k w (not w.full) h (other w.full) c) ∙ e
     where
       other : (f : Bool) → beq f (not f) ≡ false
       other true = refl
       other false = refl
 
-  outside : is_within (region_of w) (point c) ≡ false → (full : Bool) → is_edited full (act b k) c ≡ false
+  outside : is_within (span w.region) (point c) ≡ false → (full : Bool) → is_edited full (act b k) c ≡ false
   outside e full = by (beq w.full full) refl
     where
       by : (t : Bool) → beq w.full full ≡ t → is_edited full (act b k) c ≡ false
       by true t = sym (edits_nothing r b k w full h t c)
       by false t = sym (edits_region r b k w full h t c) ∙ e
 
-  pub edit_outside : is_within (region_of w) (point c) ≡ false → IsEditOf (act b k) c None
+  pub edit_outside : is_within (span w.region) (point c) ≡ false → IsEditOf (act b k) c None
   edit_outside e = (outside e true, outside e false)
 
 -- ---- the acts, place by place

@@ -13,7 +13,6 @@ use Rattle.nano_spec.specs.Next.{Breaks, Goes, Next, Outcome, accepts, breaks_at
 use Rattle.nano_spec.specs.Rules.{broken}
 use Rattle.nano_spec.specs.Serial.{leader_bids}
 use Rattle.nano_spec.specs.State.{IsReady, State}
-use Rattle.nano_spec.specs.Step.{after}
 use Rattle.step_order.proofs.Facts.{bots_of, good_is, rising_is}
 use Rattle.step_order.proofs.Groups.{led}
 use Rattle.step_order.proofs.Lists.{In}

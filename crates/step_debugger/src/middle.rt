@@ -13,7 +13,7 @@ use nano_spec::{Bot, Command};
 use std::sync::ledger::Ledger;
 use step_machine::Machine;
 use system_state::edited_region;
-use vox_geom::{Coord, Region, Steps};
+use vox_geom::{Coord, Steps};
 
 /// What the command of a bot makes of a voxel, if it changes it: full or void.
 fn edit_of(r: u16, bot: &Bot, command: &Command, c: Coord) -> Option<bool>
@@ -21,9 +21,9 @@ fn edit_of(r: u16, bot: &Bot, command: &Command, c: Coord) -> Option<bool>
     requires stays { IsTrue (stays_in_space r (act bot.now command.now)) }
     ensures { IsEditOf (act bot.now command.now) c result }
 {
-    let work = edited_region(r, *bot, command)?;
-    if Region::of(work.near, work.far).has(c) {
-        return Some(work.full);
+    let edited = edited_region(r, *bot, command)?;
+    if edited.region.has(c) {
+        return Some(edited.full);
     }
     None
 }

@@ -21,7 +21,7 @@ use Rattle.vox_planes.specs.Difference.{earlier}
 use Rattle.vox_planes.proofs.Differences.{earlier-least}
 use Rattle.vox_geom.proofs.Firsts.{first_is, first_of}
 use Rattle.vox_geom.proofs.Truths.{and_false, or_false}
-use Rattle.step_groups.specs.Judging.{act, first_fault, later_rules}
+use Rattle.step_groups.specs.Judging.{IsFusion, act, first_fault, later_rules}
 use Rattle.nano_spec.specs.Rules.{here, broken_by}
 use Rattle.nano_spec.specs.declared.outcomes.Broken.{Broken}
 use Rattle.nano_spec.specs.declared.outcomes.Rule.{Rule}
@@ -185,14 +185,12 @@ past_space s step bot a d p i =
     last None = refl
     last (Some b) = refl
 
-pub fusion_p : (s : State) (all : List Act) (step : ℕ) (bot : Bot) (k : Command) (d : Diff) (h : Bool) → k ≡ FusionP d → IsTrue (in_space s.matrix.resolution (plus (point bot.pos) d)) → h ≡ list_any (are_partners (act bot k)) all → first_fault s all step (act bot k) later_rules ≡ broken_by step Partner bot.bid (cond (not h) (Some bot.pos) None)
-fusion_p s all step bot k d h e i f =
+pub fusion : (s : State) (all : List Act) (step : ℕ) (bot : Bot) (k : Command) (d : Diff) (h : Bool) → IsFusion k d → IsTrue (in_space s.matrix.resolution (plus (point bot.pos) d)) → h ≡ list_any (are_partners (act bot k)) all → first_fault s all step (act bot k) later_rules ≡ broken_by step Partner bot.bid (cond (not h) (Some bot.pos) None)
+fusion s all step bot k d h (inl e) i f =
     (ap (λ v. first_fault s all step (act bot v) later_rules) e
     ∙ past_space s step bot (act bot (FusionP d)) d (broken_by step Partner bot.bid (cond (not (list_any (are_partners (act bot (FusionP d))) all)) (Some bot.pos) None)) i)
     ∙ ap (λ b. broken_by step Partner bot.bid (cond (not b) (Some bot.pos) None)) (sym (f ∙ ap (λ v. list_any (are_partners (act bot v)) all) e))
-
-pub fusion_s : (s : State) (all : List Act) (step : ℕ) (bot : Bot) (k : Command) (d : Diff) (h : Bool) → k ≡ FusionS d → IsTrue (in_space s.matrix.resolution (plus (point bot.pos) d)) → h ≡ list_any (are_partners (act bot k)) all → first_fault s all step (act bot k) later_rules ≡ broken_by step Partner bot.bid (cond (not h) (Some bot.pos) None)
-fusion_s s all step bot k d h e i f =
+fusion s all step bot k d h (inr e) i f =
     (ap (λ v. first_fault s all step (act bot v) later_rules) e
     ∙ past_space s step bot (act bot (FusionS d)) d (broken_by step Partner bot.bid (cond (not (list_any (are_partners (act bot (FusionS d))) all)) (Some bot.pos) None)) i)
     ∙ ap (λ b. broken_by step Partner bot.bid (cond (not b) (Some bot.pos) None)) (sym (f ∙ ap (λ v. list_any (are_partners (act bot v)) all) e))

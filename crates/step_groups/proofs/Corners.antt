@@ -1,5 +1,5 @@
 -- What is left of the rules of a group command in space.
-use Rattle.std.proofs.Common.{◌≡◌, ℕ, zero, suc, ◌+◌, ◌<◌, refl, ap, ◌∙◌, sym, arith, Bool, true, false, ◌&&◌, ◌||◌, not, ◌==◌, ◌^◌, cond, List, [], ◌∷◌, ◌++◌, drop, get_or, length, Option, Some, None, find, pos, min, max, filter}
+use Rattle.std.proofs.Common.{◌≡◌, ℕ, ◌+◌, refl, ap, ◌∙◌, sym, arith, Bool, true, false, ◌&&◌, ◌||◌, not, cond, List, [], ◌∷◌, Option, Some, None, find, pos, min, max, subst, inl, inr}
 use Rattle.std.specs.Prelude.{IsTrue}
 use Rattle.std.specs.List.{list_any}
 use Rattle.std.proofs.lemmas.Bool.Decides.{nat_tests}
@@ -10,23 +10,23 @@ use Rattle.vox_geom.specs.Point.{Point, point, plus}
 use Rattle.vox_geom.specs.Region.{Corners, Span, between, corners, span, is_within, dimension, differs}
 use Rattle.vox_geom.specs.Space.{in_space}
 use Rattle.vox_geom.proofs.Truths.{or_false}
-use Rattle.nano_spec.specs.Act.{Act, acts, position}
+use Rattle.nano_spec.specs.Act.{Act, position}
 use Rattle.nano_spec.specs.First.{first_value}
-use Rattle.nano_spec.specs.Group.{are_together}
+use Rattle.nano_spec.specs.Group.{members}
 use Rattle.nano_spec.specs.Matrix.{is_full, all_of}
-use Rattle.nano_spec.specs.Rules.{here, broken_by, corners_of, repeats}
+use Rattle.nano_spec.specs.Rules.{here, broken_by, corners_of}
 use Rattle.nano_spec.specs.State.{State}
 use Rattle.nano_spec.specs.declared.commands.Command.{Command}
 use Rattle.nano_spec.specs.declared.commands.Command.TheVariants.{GFill, GVoid}
 use Rattle.nano_spec.specs.declared.outcomes.Broken.{Broken}
 use Rattle.nano_spec.specs.declared.outcomes.Rule.TheVariants.{OutOfSpace, Blocked, InRegion, GroupShape}
 use Rattle.nano_spec.specs.declared.system.Bot.{Bot}
-use Rattle.step_groups.specs.Judging.{act, first_fault, later_rules, corner_list}
-use Rattle.step_groups.proofs.BlockedWays.{skip, unblocked, within_two}
+use Rattle.step_groups.specs.Judging.{IsGroupCommand, act, are_misshapen, corner_list, first_fault, later_rules}
+use Rattle.step_groups.proofs.BlockedWays.{only_next, skip, unblocked, within_two}
 
 -- whether the members of a bot's group misfit a region
 abbrev pub misshape : List Act → Act → Span → Bool
-misshape all a s = not (length (filter (are_together a) all) == 2 ^ dimension s) || repeats (corner_list (filter (are_together a) all))
+misshape all a s = are_misshapen (members all a) (dimension s)
 
 last_two : (x y : Option Broken) → first_value (x ∷ None ∷ y ∷ []) ≡ first_value (x ∷ y ∷ [])
 last_two (Some b) y = refl
@@ -42,24 +42,6 @@ group_rest s step bot a P Q x y t u i j g h =
     ∙ (unblocked step bot.bid s.matrix (all_of s.matrix) (None ∷ I ∷ None ∷ G ∷ []) ∙ last_two I G))
     ∙ (λ n. first_value (broken_by step InRegion bot.bid (cond ((or_false x ∙ g) n) (Some bot.pos) None) ∷ broken_by step GroupShape bot.bid (cond ((or_false y ∙ h) n) (Some bot.pos) None) ∷ []))
 
-pub group_fill : (s : State) (all : List Act) (step : ℕ) (bot : Bot) (k : Command) (d f : Diff) (t u : Bool) → k ≡ GFill d f → IsTrue (in_space s.matrix.resolution (plus (point bot.pos) d)) → IsTrue (in_space s.matrix.resolution (plus (plus (point bot.pos) d) f)) → is_within (between (plus (point bot.pos) d) (plus (plus (point bot.pos) d) f)) (point bot.pos) ≡ t → misshape all (act bot k) (between (plus (point bot.pos) d) (plus (plus (point bot.pos) d) f)) ≡ u → first_fault s all step (act bot k) later_rules ≡ first_value (broken_by step InRegion bot.bid (cond t (Some bot.pos) None) ∷ broken_by step GroupShape bot.bid (cond u (Some bot.pos) None) ∷ [])
-group_fill s all step bot k d f t u e i j g h =
-    let P : Point = plus (point bot.pos) d in
-    let Q : Point = plus P f in
-    let a : Act = act bot (GFill d f) in
-    let h2 : misshape all a (between P Q) ≡ u = ap (λ v. misshape all (act bot v) (between P Q)) (sym e) ∙ h in
-    ap (λ v. first_fault s all step (act bot v) later_rules) e
-    ∙ group_rest s step bot a P Q (is_within (between P Q) (point bot.pos)) (misshape all a (between P Q)) t u i j g h2
-
-pub group_void : (s : State) (all : List Act) (step : ℕ) (bot : Bot) (k : Command) (d f : Diff) (t u : Bool) → k ≡ GVoid d f → IsTrue (in_space s.matrix.resolution (plus (point bot.pos) d)) → IsTrue (in_space s.matrix.resolution (plus (plus (point bot.pos) d) f)) → is_within (between (plus (point bot.pos) d) (plus (plus (point bot.pos) d) f)) (point bot.pos) ≡ t → misshape all (act bot k) (between (plus (point bot.pos) d) (plus (plus (point bot.pos) d) f)) ≡ u → first_fault s all step (act bot k) later_rules ≡ first_value (broken_by step InRegion bot.bid (cond t (Some bot.pos) None) ∷ broken_by step GroupShape bot.bid (cond u (Some bot.pos) None) ∷ [])
-group_void s all step bot k d f t u e i j g h =
-    let P : Point = plus (point bot.pos) d in
-    let Q : Point = plus P f in
-    let a : Act = act bot (GVoid d f) in
-    let h2 : misshape all a (between P Q) ≡ u = ap (λ v. misshape all (act bot v) (between P Q)) (sym e) ∙ h in
-    ap (λ v. first_fault s all step (act bot v) later_rules) e
-    ∙ group_rest s step bot a P Q (is_within (between P Q) (point bot.pos)) (misshape all a (between P Q)) t u i j g h2
-
 axis : (a b : ℕ) → differs (pos (min a b)) (pos (max a b)) ≡ differs (pos a) (pos b)
 axis a b = grind (arith, nat_tests)
 
@@ -69,27 +51,39 @@ dimension_is k a b p q e f g =
     (ap (λ c. dimension (span c)) e ∙ (λ i. axis a.x b.x i + axis a.y b.y i + axis a.z b.z i))
     ∙ (λ i. dimension (between (f i) (g i)))
 
--- ---- a bot whose corner is another
+-- ---- a group command whose region is in space
 
-not_first : (T : Point → Bool) (xs : List Point) (a : Act) (bs : List Act) → list_any T xs ≡ false → list_any T (xs ++ corner_list bs) ≡ list_any T (corner_list bs)
-not_first T xs a bs h = list_any-append T xs (corner_list bs) ∙ ap (λ b. b || list_any T (corner_list bs)) h
+module _ (s : State) (all : List Act) (step : ℕ) (bot : Bot) (k : Command) (d f : Diff) (named : IsGroupCommand k d f) (near far : Coord) (region : Corners) (near_is : point near ≡ plus (point bot.pos) d) (near_in : IsTrue (in_space s.matrix.resolution (plus (point bot.pos) d))) (far_is : point far ≡ plus (point near) f) (far_in : IsTrue (in_space s.matrix.resolution (plus (point near) f))) (covers : (p : Point) → is_within (span region) p ≡ is_within (between (point near) (point far)) p) (corners_are : region ≡ corners near far) where
+  abbrev P : Point
+  P = plus (point bot.pos) d
 
--- whether it is a member need not be asked
-skip_member : (T : Point → Bool) (P : Act → Bool) (a : Act) (bs : List Act) → list_any T (corners_of (position a) a.command) ≡ false →
-    list_any T (corner_list (filter P (a ∷ bs))) ≡ list_any T (corner_list (filter P bs))
-skip_member T P a bs h = by (P a)
-  where
-    by : (b : Bool) → list_any T (corner_list (cond b (a ∷ filter P bs) (filter P bs))) ≡ list_any T (corner_list (filter P bs))
-    by true = not_first T (corners_of (position a) a.command) a (filter P bs) h
-    by false = refl
+  abbrev Q : Point
+  Q = plus (plus (point bot.pos) d) f
 
-pub skip_corner : (T : Point → Bool) (P : Act → Bool) (bots : List Bot) (commands : List Command) (j : ℕ) (b : Bot) (k : Command) → j < length bots → length commands ≡ length bots → b ≡ get_or bots j b → k ≡ get_or commands j k →
-    list_any T (corners_of (point b.pos) k) ≡ false → list_any T (corner_list (filter P (acts (drop (j + 1) bots) (drop (j + 1) commands)))) ≡ list_any T (corner_list (filter P (acts (drop j bots) (drop j commands))))
-skip_corner T P [] commands j b k l e f g h = absurd (omega arith)
-skip_corner T P (x ∷ bots) [] j b k l e f g h = absurd (omega arith)
-skip_corner T P (x ∷ bots) (y ∷ commands) zero b k l e f g h =
-    sym (skip_member T P (act x y) (acts bots commands) (ap (λ (c : Bot). list_any T (corners_of (point c.pos) y)) (sym f) ∙ (ap (λ (c : Command). list_any T (corners_of (point b.pos) c)) (sym g) ∙ h)))
-skip_corner T P (x ∷ bots) (y ∷ commands) (suc j) b k l e f g h =
-    let n : suc j + 1 ≡ suc (j + 1) = omega arith in
-    ap (λ i. list_any T (corner_list (filter P (acts (drop i (x ∷ bots)) (drop i (y ∷ commands)))))) n
-    ∙ skip_corner T P bots commands j b k (omega arith) (omega arith) f g h
+  end : point far ≡ plus (plus (point bot.pos) d) f
+  end = far_is ∙ ap (λ w. plus w f) near_is
+
+  rest : (t u : Bool) → is_within (span region) (point bot.pos) ≡ t → misshape all (act bot k) (between P Q) ≡ u → first_fault s all step (act bot k) later_rules ≡ first_value (broken_by step InRegion bot.bid (cond t (Some bot.pos) None) ∷ broken_by step GroupShape bot.bid (cond u (Some bot.pos) None) ∷ [])
+  rest t u g h = by named
+    where
+      there : IsTrue (in_space s.matrix.resolution Q)
+      there = subst (λ (w : Point). IsTrue (in_space s.matrix.resolution (plus w f))) near_is far_in
+
+      inside_is : is_within (between P Q) (point bot.pos) ≡ t
+      inside_is = (λ i. is_within (between (sym near_is i) (sym end i)) (point bot.pos)) ∙ (sym (covers (point bot.pos)) ∙ g)
+
+      by : IsGroupCommand k d f → first_fault s all step (act bot k) later_rules ≡ first_value (broken_by step InRegion bot.bid (cond t (Some bot.pos) None) ∷ broken_by step GroupShape bot.bid (cond u (Some bot.pos) None) ∷ [])
+      by (inl e) = ap (λ v. first_fault s all step (act bot v) later_rules) e ∙ group_rest s step bot (act bot (GFill d f)) P Q (is_within (between P Q) (point bot.pos)) (misshape all (act bot (GFill d f)) (between P Q)) t u near_in there inside_is (ap (λ v. misshape all (act bot v) (between P Q)) (sym e) ∙ h)
+      by (inr e) = ap (λ v. first_fault s all step (act bot v) later_rules) e ∙ group_rest s step bot (act bot (GVoid d f)) P Q (is_within (between P Q) (point bot.pos)) (misshape all (act bot (GVoid d f)) (between P Q)) t u near_in there inside_is (ap (λ v. misshape all (act bot v) (between P Q)) (sym e) ∙ h)
+
+  pub stands_inside : is_within (span region) (point bot.pos) ≡ true → broken_by step InRegion bot.bid (Some bot.pos) ≡ first_fault s all step (act bot k) later_rules
+  stands_inside g = sym (rest true (misshape all (act bot k) (between P Q)) g refl)
+
+  pub stands_outside : is_within (span region) (point bot.pos) ≡ false → (shape : Bool) → shape ≡ are_misshapen (members all (act bot k)) (dimension (span region)) → broken_by step GroupShape bot.bid (cond shape (Some bot.pos) None) ≡ first_fault s all step (act bot k) later_rules
+  stands_outside g shape h = sym (
+      rest false shape g (ap (are_misshapen (members all (act bot k))) (sym (dimension_is region near far P Q corners_are near_is end)) ∙ sym h)
+      ∙ only_next step bot.bid InRegion None (broken_by step GroupShape bot.bid (cond shape (Some bot.pos) None)) refl)
+
+-- a bot whose corner is another
+pub skip_corner : (T : Point → Bool) (a : Act) (bs : List Act) → list_any T (corners_of (position a) a.command) ≡ false → list_any T (corner_list (a ∷ bs)) ≡ list_any T (corner_list bs)
+skip_corner T a bs h = list_any-append T (corners_of (position a) a.command) (corner_list bs) ∙ ap (λ t. t || list_any T (corner_list bs)) h

@@ -21,6 +21,10 @@ use Rattle.step_groups.proofs.Spots.{of_partner, of_sharer, spot_of_partner, spo
 
 -- ---- the bots before a place and after it
 
+-- what reading gives past the end
+abbrev pub blank : Bot
+blank = record { bid = 0; pos = record { x = 0; y = 0; z = 0 }; seeds = 0 }
+
 pub split_at : (bots : List Bot) (commands : List Command) (i : ℕ) (b : Bot) (k : Command) → i < length bots → length commands ≡ length bots → b ≡ get_or bots i b → k ≡ get_or commands i k → acts bots commands ≡ acts (take i bots) (take i commands) ++ act b k ∷ acts (drop (i + 1) bots) (drop (i + 1) commands)
 split_at [] commands i b k h e f g = absurd (omega arith)
 split_at (x ∷ bots) [] i b k h e f g = absurd (omega arith)
@@ -41,6 +45,10 @@ take_more (x ∷ bots) (y ∷ commands) (suc i) b k h e f g =
 pub in_middle : {X : Type 0} (xs ys : List X) (a : X) → In a (xs ++ a ∷ ys)
 in_middle [] ys a = inl refl
 in_middle (x ∷ xs) ys a = inr (in_middle xs ys a)
+
+pub in_back : {X : Type 0} (xs ys : List X) (a x : X) → In x ys → In x (xs ++ a ∷ ys)
+in_back [] ys a x i = inr i
+in_back (y ∷ xs) ys a x i = inr (in_back xs ys a x i)
 
 pub earlier_bid : (xs ys : List Act) (a x : Act) → Rising (map (λ (b : Act). b.bot) (xs ++ a ∷ ys)) → In x xs → x.bot.bid < a.bot.bid
 earlier_bid [] ys a x h i = absurd i

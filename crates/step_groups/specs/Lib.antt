@@ -4,3 +4,4 @@ pub mod Groups
 pub mod Apart
 pub mod Outlines
 pub mod Steps
+pub mod Numbers

@@ -7,10 +7,12 @@ ghost use Rattle.nano_spec.specs.Group.{leaders};
 ghost use Rattle.nano_spec.specs.Work.{volatile_total};
 ghost use Rattle.step_groups.specs.Groups.{AreGroups, AreLone};
 ghost use Rattle.step_groups.specs.Judging.{is_alone};
+ghost use Rattle.step_groups.specs.Numbers.{AreNumbers};
 ghost use Rattle.step_groups.specs.Steps.{CanBeJudged, acts_of_step, broken_in, first_broken};
 
 use crate::apart::are_apart;
 use crate::members::list_groups;
+use crate::numbers::number_groups;
 use crate::one_pass::judge_apart;
 use crate::pairs::judge_pairs;
 use crate::rules::judge_bots;
@@ -77,8 +79,14 @@ impl Groups {
     /// Judges a step by the rules that ask for no other state than the one at its start: for each bot whether its command is
     /// allowed and then the rules of single bots, and at last whether groups interfere. The groups are then those of the step;
     /// where a rule is broken there are none. A list of groups that is kept from step to step is not filled anew.
-    pub fn judge<L: Ledger>(&mut self, step: &Step, steps: &mut Steps<L>) -> Result<(), Broken>
-        requires { CanBeJudged step.now }
+    pub fn judge<L: Ledger>(
+        &mut self,
+        step: &Step,
+        numbers: &[u8],
+        steps: &mut Steps<L>,
+    ) -> Result<(), Broken>
+        requires step { CanBeJudged step.now }
+        requires numbers { AreNumbers (acts_of_step step.now) numbers.now }
         ensures broken { IfErr result (λ b. (energy : ℤ) → broken_in step.now energy ≡ Some b) }
         ensures unbroken { OnOk result ((energy : ℤ) → broken_in step.now energy ≡ None) }
         ensures groups { OnOk result (AreGroups step.now.planes.now.resolution (acts_of_step step.now) (leaders (acts_of_step step.now)) self.new) }
@@ -86,10 +94,16 @@ impl Groups {
         ensures touches { steps.new ≤ steps.old + 2 * volatile_total step.now.planes.now (acts_of_step step.now) }
     {
         self.groups.clear();
-        if let Some(broken) = judge_bots(step, steps) {
+        if let Some(broken) = judge_bots(step, numbers, steps) {
             return Err(broken);
         }
-        list_groups(&mut self.groups, step.planes, step.bots, step.commands);
+        list_groups(
+            &mut self.groups,
+            step.planes,
+            step.bots,
+            step.commands,
+            numbers,
+        );
         if let Some(broken) = judge_pairs(self.groups.as_slice(), step.number) {
             self.groups.clear();
             return Err(broken);
@@ -118,7 +132,15 @@ impl Groups {
             return None;
         }
         self.groups.clear();
-        list_groups(&mut self.groups, step.planes, step.bots, step.commands);
+        let numbers = number_groups(step.bots, step.commands);
+        let numbers = numbers.as_slice();
+        list_groups(
+            &mut self.groups,
+            step.planes,
+            step.bots,
+            step.commands,
+            numbers,
+        );
         judge_pairs(self.groups.as_slice(), step.number)
     }
 }
@@ -151,8 +173,9 @@ pub fn judge_groups<L: Ledger>(
         commands,
         number: step,
     };
+    let numbers = number_groups(step.bots, step.commands);
     let mut groups = Groups::new();
-    match groups.judge(&step, steps) {
+    match groups.judge(&step, numbers.as_slice(), steps) {
         Ok(()) => Ok(groups),
         Err(broken) => Err(broken),
     }

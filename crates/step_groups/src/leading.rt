@@ -3,7 +3,7 @@ ghost use Rattle.std.specs.Prelude.{◌≡◌, length};
 ghost use Rattle.nano_spec.specs.Act.{acts};
 ghost use Rattle.nano_spec.specs.Serial.{leader_bids};
 
-use crate::members::has_mate;
+use crate::numbers::number_groups;
 use arrayvec::ArrayVec;
 use bot_crew::{Crew, MOST_BOTS};
 use nano_spec::Command;
@@ -14,11 +14,13 @@ pub fn leaders(crew: &Crew, commands: &[Command]) -> ArrayVec<u8, MOST_BOTS>
     ensures { result.items ≡ leader_bids (acts crew.now commands.now) }
 {
     let bots = crew.bots();
+    let numbers = number_groups(bots, commands);
     let mut bids = ArrayVec::new();
     for i in 0..bots.len() {
-        if !has_mate(&bots[..i], &commands[..i], &bots[i], &commands[i]) {
-            bids.push(bots[i].bid);
+        if usize::from(numbers[i]) != i {
+            continue;
         }
+        bids.push(bots[i].bid);
     }
     bids
 }

@@ -1,20 +1,22 @@
 //! The judgement of bots each of which acts alone, and whether they are apart, in one pass: by one box around all that is
 //! volatile for the bots so far.
 ghost use Rattle.std.specs.Prelude.{◌≡◌, ◌+◌, ◌≤◌, ◌||◌, nat_lt, true, length, IfNone, IfOk, IsTrue, sum_by};
+ghost use Rattle.std.specs.List.{list_all};
 ghost use Rattle.vox_geom.specs.declared.coordinate.Coord.{Coord as Coordinate};
 ghost use Rattle.vox_geom.specs.Point.{point};
 ghost use Rattle.vox_geom.specs.Region.{is_within, span};
 ghost use Rattle.vox_geom.specs.Space.{IsInSpace};
-ghost use Rattle.nano_spec.specs.declared.commands.Command.TheVariants.{Fill, SMove, Void};
+ghost use Rattle.nano_spec.specs.declared.commands.Command.TheVariants.{Fill, Fission as FissionOf, Halt, SMove, Void};
 ghost use Rattle.step_groups.specs.Apart.{AreAllApart};
-ghost use Rattle.step_groups.specs.Judging.{IsLaterFault, act, judge_bot as judge_bot_of, judge_each, rule_broken, touches_of};
+ghost use Rattle.step_groups.specs.Judging.{IsLaterFault, act, is_alone, judge_bot as judge_bot_of, judge_each, rule_broken, touches_of};
 ghost use Rattle.step_groups.specs.Outlines.{IsHullFor, IsVolatileFor, LiesBetween, TakesIn};
 ghost use Rattle.step_groups.specs.Steps.{CanBeJudged, CanJudge, acts_of_step, later_fault, start_of_step};
 
 use crate::boxes::around;
-use crate::rules::{broken_here, end_of_move, hull_of_moves, judge_later, named_by};
+use crate::rules::{
+    breaks, broken_here, end_of_move, hull_of_moves, judge_halt, lacks_seeds, named_by, reached,
+};
 use crate::step::Step;
-use crate::volatile::own_hull;
 use nano_spec::{Bot, Broken, Command, Rule};
 use std::sync::ledger::Ledger;
 use vox_geom::{Coord, Diff, Region, Steps};
@@ -102,33 +104,54 @@ fn hull_of_edit(planes: &Planes, step: u32, bot: Bot, d: Diff) -> Result<Region,
     Ok(Region::of(bot.pos, at))
 }
 
-/// A box around all that is volatile for a bot, or the first rule after the one on the profile that it breaks.
-fn judge_other<L: Ledger>(
-    step: &Step,
-    bot: &Bot,
-    command: &Command,
-    steps: &mut Steps<L>,
-) -> Result<Region, Broken>
-    requires { CanJudge step.now bot.now }
-    ensures value { rule_broken result ≡ later_fault step.now (act bot.now command.now) }
-    ensures hull { IfOk result (IsHullFor (act bot.now command.now)) }
-    ensures touches { steps.new ≤ steps.old + touches_of step.now.planes.now (act bot.now command.now) }
+/// A box around a bot with `Halt`, or the first rule that it breaks.
+fn hull_of_halt(step: &Step, bot: Bot) -> Result<Region, Broken>
+    ensures value { rule_broken result ≡ later_fault step.now (act bot Halt) }
+    ensures hull { IfOk result (IsHullFor (act bot Halt)) }
 {
-    if let Some(broken) = judge_later(step, bot, command, steps) {
-        return Err(broken);
+    match judge_halt(step, bot) {
+        Some(broken) => Err(broken),
+        None => Ok(Region::of(bot.pos, bot.pos)),
     }
-    Ok(own_hull(step.planes, bot, command))
 }
 
-/// The same, where the commands that most of many bots have are judged at once.
+/// A box around a bot with `Fission` and its new bot, or the first rule that it breaks.
+fn hull_of_fission<L: Ledger>(
+    planes: &Planes,
+    step: u32,
+    bot: Bot,
+    d: Diff,
+    m: u8,
+    steps: &mut Steps<L>,
+) -> Result<Region, Broken>
+    requires { IsInSpace planes.now.resolution bot.pos }
+    ensures value { IsLaterFault planes.now step (act bot (FissionOf d m)) (rule_broken result) }
+    ensures hull { IfOk result (IsHullFor (act bot (FissionOf d m))) }
+    ensures touches { steps.new ≤ steps.old + touches_of planes.now (act bot (FissionOf d m)) }
+{
+    let Some(to) = reached(planes, bot.pos, d) else {
+        return Err(breaks(step, bot, Rule::OutOfSpace, bot.pos));
+    };
+    if let Some(at) = planes.region_full(&Region::of(to, to), steps) {
+        return Err(breaks(step, bot, Rule::Blocked, at));
+    }
+    if lacks_seeds(bot, m) {
+        return Err(breaks(step, bot, Rule::Seeds, bot.pos));
+    }
+    Ok(Region::of(bot.pos, to))
+}
+
+/// A box around all that is volatile for a bot whose command needs no other bot, or the first rule after the one on the profile
+/// that it breaks. The commands that most of many bots have are judged at once.
 #[inline(always)]
-fn judge_hull<L: Ledger>(
+pub(crate) fn judge_hull<L: Ledger>(
     step: &Step,
     bot: &Bot,
     command: &Command,
     steps: &mut Steps<L>,
 ) -> Result<Region, Broken>
-    requires { CanJudge step.now bot.now }
+    requires step { CanJudge step.now bot.now }
+    requires alone { IsTrue (is_alone command.now) }
     ensures value { rule_broken result ≡ later_fault step.now (act bot.now command.now) }
     ensures hull { IfOk result (IsHullFor (act bot.now command.now)) }
     ensures touches { steps.new ≤ steps.old + touches_of step.now.planes.now (act bot.now command.now) }
@@ -141,13 +164,13 @@ fn judge_hull<L: Ledger>(
         Command::LMove(d, e) => hull_of_moves(planes, number, *bot, d.diff(), e.diff(), steps),
         Command::Fill(d) => hull_of_edit(planes, number, *bot, d.diff()),
         Command::Void(d) => hull_of_edit(planes, number, *bot, d.diff()),
-        Command::Halt
-        | Command::Flip
-        | Command::FusionP(_)
-        | Command::FusionS(_)
-        | Command::Fission(_, _)
-        | Command::GFill(_, _)
-        | Command::GVoid(_, _) => judge_other(step, bot, command, steps),
+        Command::Halt => hull_of_halt(step, *bot),
+        Command::Flip => Ok(Region::of(bot.pos, bot.pos)),
+        Command::Fission(d, m) => hull_of_fission(planes, number, *bot, d.diff(), *m, steps),
+        // These need other bots, and are never judged here.
+        Command::FusionP(_) | Command::FusionS(_) | Command::GFill(_, _) | Command::GVoid(_, _) => {
+            Ok(Region::of(bot.pos, bot.pos))
+        }
     }
 }
 
@@ -160,7 +183,8 @@ fn judge_next<L: Ledger>(
     outline: &mut Outline,
     steps: &mut Steps<L>,
 ) -> Option<Broken>
-    requires { CanJudge step.now bot.now }
+    requires step { CanJudge step.now bot.now }
+    requires alone { IsTrue (is_alone command.now) }
     ensures value { result ≡ judge_bot_of (start_of_step step.now) (acts_of_step step.now) step.now.number (act bot.now command.now) }
     ensures outline { IfNone result (TakesIn (IsVolatileFor (act bot.now command.now)) outline.old outline.new) }
     ensures touches { steps.new ≤ steps.old + touches_of step.now.planes.now (act bot.now command.now) }
@@ -181,7 +205,8 @@ fn judge_next<L: Ledger>(
 /// its own the loop has all registers.
 #[inline(never)]
 pub(crate) fn judge_apart<L: Ledger>(step: &Step, steps: &mut Steps<L>) -> Result<bool, Broken>
-    requires { CanBeJudged step.now }
+    requires step { CanBeJudged step.now }
+    requires lone { IsTrue (list_all is_alone step.now.commands.now) }
     ensures value { rule_broken result ≡ judge_each (start_of_step step.now)
         (acts_of_step step.now) step.now.number (acts_of_step step.now) }
     ensures apart { IfOk result (λ apart. apart ≡ true → AreAllApart (acts_of_step step.now)) }

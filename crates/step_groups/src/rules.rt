@@ -1,20 +1,21 @@
 //! The rules that are judged for each bot.
-ghost use Rattle.std.specs.Prelude.{◌≡◌, ◌+◌, ◌≤◌, ◌&&◌, length, List, None, Some, IsTrue, IsFalse, IfOk, IfSome, IfNone, ℕ, Bool, true, cond, find, nat_le, sum_by};
+ghost use Rattle.std.specs.Prelude.{◌≡◌, ◌+◌, ◌≤◌, ◌&&◌, length, None, Some, IsTrue, IsFalse, IfOk, IfSome, IfNone, true, cond, find, nat_le, sum_by};
 ghost use Rattle.vox_geom.specs.Space.{IsInSpace, in_space};
 ghost use Rattle.vox_geom.specs.Point.{point, plus};
 ghost use Rattle.vox_geom.specs.Region.{corners, is_within, size, span};
-ghost use Rattle.nano_spec.specs.declared.commands.Command.TheVariants.{Halt, Wait, Flip, SMove, LMove, FusionP, FusionS, Fission as FissionOf, Fill, Void, GFill, GVoid};
-ghost use Rattle.nano_spec.specs.Act.{Act};
+ghost use Rattle.nano_spec.specs.declared.commands.Command.TheVariants.{Halt, SMove, LMove, Fill, Void};
 ghost use Rattle.nano_spec.specs.Matrix.{all_of, is_full};
 ghost use Rattle.nano_spec.specs.Rules.{broken_by};
-ghost use Rattle.nano_spec.specs.State.{State, seed_list};
+ghost use Rattle.nano_spec.specs.State.{seed_list};
 ghost use Rattle.vox_geom.specs.Space.{is_before as is_before_of};
 ghost use Rattle.vox_planes.specs.Difference.{earlier as earlier_of};
-ghost use Rattle.step_groups.specs.Judging.{IsLaterFault, act, rule_broken, first_fault, judge_bot as judge_bot_of, later_rules, judge_each, touches_of};
+ghost use Rattle.step_groups.specs.Judging.{IsFusion, IsGroupCommand, IsLaterFault, act, is_alone, rule_broken, judge_bot as judge_bot_of, judge_each, touches_of};
+ghost use Rattle.step_groups.specs.Numbers.{AreNumbers, TellsMembers};
 ghost use Rattle.step_groups.specs.Outlines.{IsHullFor};
 ghost use Rattle.step_groups.specs.Steps.{CanBeJudged, CanJudge, acts_of_step, later_fault, start_of_step};
 
 use crate::boxes::around;
+use crate::one_pass::judge_hull;
 use crate::partners::has_partner;
 use crate::shapes::is_misshapen;
 use crate::step::Step;
@@ -24,18 +25,15 @@ use std::sync::ledger::Ledger;
 use vox_geom::{Coord, Diff, Region, Steps};
 use vox_planes::Planes;
 
-/// The rule is broken at the coordinate, if there is one.
-fn broken_where(step: u32, bot: Bot, rule: Rule, at: Option<Coord>) -> Option<Broken>
-    ensures { result ≡ broken_by step rule bot.bid at }
+/// The rule is broken there.
+pub(crate) fn breaks(step: u32, bot: Bot, rule: Rule, at: Coord) -> Broken
+    ensures { Some result ≡ broken_by step rule bot.bid (Some at) }
 {
-    match at {
-        Some(at) => Some(Broken {
-            step,
-            bid: bot.bid,
-            rule,
-            at,
-        }),
-        None => None,
+    Broken {
+        step,
+        bid: bot.bid,
+        rule,
+        at,
     }
 }
 
@@ -43,7 +41,7 @@ fn broken_where(step: u32, bot: Bot, rule: Rule, at: Option<Coord>) -> Option<Br
 pub(crate) fn broken_here(step: u32, bot: Bot, rule: Rule) -> Option<Broken>
     ensures { result ≡ broken_by step rule bot.bid (Some bot.pos) }
 {
-    broken_where(step, bot, rule, Some(bot.pos))
+    Some(breaks(step, bot, rule, bot.pos))
 }
 
 /// The rule is broken where the bot stands, if the test says so.
@@ -70,7 +68,7 @@ pub(crate) fn reached(planes: &Planes, from: Coord, d: Diff) -> Option<Coord>
 }
 
 /// The first rule that a bot with `Halt` breaks.
-fn judge_halt(step: &Step, bot: Bot) -> Option<Broken>
+pub(crate) fn judge_halt(step: &Step, bot: Bot) -> Option<Broken>
     ensures { result ≡ later_fault step.now (act bot Halt) }
 {
     let origin = Coord { x: 0, y: 0, z: 0 };
@@ -82,18 +80,6 @@ fn judge_halt(step: &Step, bot: Bot) -> Option<Broken>
         broken_here(step.number, bot, Rule::HaltLow)
     } else {
         None
-    }
-}
-
-/// The rule is broken there.
-pub(crate) fn breaks(step: u32, bot: Bot, rule: Rule, at: Coord) -> Broken
-    ensures { Some result ≡ broken_by step rule bot.bid (Some at) }
-{
-    Broken {
-        step,
-        bid: bot.bid,
-        rule,
-        at,
     }
 }
 
@@ -154,21 +140,6 @@ pub(crate) fn is_clear_by_one<L: Ledger>(
     !planes.full_at(to, steps)
 }
 
-/// The first rule that a bot with `SMove` breaks.
-fn judge_smove<L: Ledger>(
-    planes: &Planes,
-    step: u32,
-    bot: Bot,
-    d: Diff,
-    steps: &mut Steps<L>,
-) -> Option<Broken>
-    requires { IsInSpace planes.now.resolution bot.pos }
-    ensures value { IsLaterFault planes.now step (act bot (SMove d)) result }
-    ensures touches { steps.new ≤ steps.old + touches_of planes.now (act bot (SMove d)) }
-{
-    end_of_move(planes, step, bot, d, false, steps).err()
-}
-
 /// Whether the one coordinate is before the other.
 fn is_before(a: Coord, b: Coord) -> bool
     ensures { result ≡ is_before_of a b }
@@ -224,57 +195,11 @@ pub(crate) fn hull_of_moves<L: Ledger>(
     }
 }
 
-/// The first rule that a bot with `LMove` breaks.
-fn judge_lmove<L: Ledger>(
-    planes: &Planes,
-    step: u32,
-    bot: Bot,
-    d: Diff,
-    e: Diff,
-    steps: &mut Steps<L>,
-) -> Option<Broken>
-    requires { IsInSpace planes.now.resolution bot.pos }
-    ensures value { IsLaterFault planes.now step (act bot (LMove d e)) result }
-    ensures touches { steps.new ≤ steps.old + touches_of planes.now (act bot (LMove d e)) }
-{
-    hull_of_moves(planes, step, bot, d, e, steps).err()
-}
-
 /// Whether a fission with m asks for more seeds than the bot has.
-fn lacks_seeds(bot: Bot, m: u8) -> bool
+pub(crate) fn lacks_seeds(bot: Bot, m: u8) -> bool
     ensures { result ≡ nat_le (length (seed_list bot.seeds)) m }
 {
     seeds_of(bot) <= m
-}
-
-/// The first rule that a bot with `Fission` breaks.
-fn judge_fission<L: Ledger>(
-    planes: &Planes,
-    step: u32,
-    bot: Bot,
-    d: Diff,
-    m: u8,
-    steps: &mut Steps<L>,
-) -> Option<Broken>
-    requires { IsInSpace planes.now.resolution bot.pos }
-    ensures value { IsLaterFault planes.now step (act bot (FissionOf d m)) result }
-    ensures touches { steps.new ≤ steps.old + touches_of planes.now (act bot (FissionOf d m)) }
-{
-    let Some(to) = reached(planes, bot.pos, d) else {
-        return broken_here(step, bot, Rule::OutOfSpace);
-    };
-    match planes.region_full(&Region::of(to, to), steps) {
-        Some(at) => broken_where(step, bot, Rule::Blocked, Some(at)),
-        None => broken_if(step, bot, Rule::Seeds, lacks_seeds(bot, m)),
-    }
-}
-
-/// The first rule that a bot with `Wait` or `Flip` breaks: none.
-pub(crate) fn judge_still(step: u32, bot: Bot) -> Option<Broken>
-    ensures wait { (s : State) (all : List Act) → result ≡ first_fault s all step (act bot Wait) later_rules }
-    ensures flip { (s : State) (all : List Act) → result ≡ first_fault s all step (act bot Flip) later_rules }
-{
-    None
 }
 
 /// Which voxel a bot with `Fill` or `Void` names, or the first rule that it breaks.
@@ -292,20 +217,10 @@ pub(crate) fn named_by(planes: &Planes, step: u32, bot: Bot, d: Diff) -> Result<
     Ok(at)
 }
 
-/// The first rule that a bot with `Fill` or `Void` breaks.
-fn judge_near(planes: &Planes, step: u32, bot: Bot, d: Diff) -> Option<Broken>
-    requires { IsInSpace planes.now.resolution bot.pos }
-    ensures fill { IsLaterFault planes.now step (act bot (Fill d)) result }
-    ensures void { IsLaterFault planes.now step (act bot (Void d)) result }
-{
-    named_by(planes, step, bot, d).err()
-}
-
 /// The first rule that a bot with `FusionP` or `FusionS` breaks.
 fn judge_fusion(step: &Step, bot: &Bot, command: &Command, d: Diff) -> Option<Broken>
     requires { CanJudge step.now bot.now }
-    ensures primary { command.now ≡ FusionP d → result ≡ later_fault step.now (act bot.now command.now) }
-    ensures secondary { command.now ≡ FusionS d → result ≡ later_fault step.now (act bot.now command.now) }
+    ensures { IsFusion command.now d → result ≡ later_fault step.now (act bot.now command.now) }
 {
     let Some(_to) = reached(step.planes, bot.pos, d) else {
         return broken_here(step.number, *bot, Rule::OutOfSpace);
@@ -315,10 +230,19 @@ fn judge_fusion(step: &Step, bot: &Bot, command: &Command, d: Diff) -> Option<Br
 }
 
 /// The first rule that a bot with a group command breaks.
-fn judge_group(step: &Step, bot: &Bot, command: &Command, d: Diff, f: Diff) -> Option<Broken>
-    requires { CanJudge step.now bot.now }
-    ensures fill { command.now ≡ GFill d f → result ≡ later_fault step.now (act bot.now command.now) }
-    ensures void { command.now ≡ GVoid d f → result ≡ later_fault step.now (act bot.now command.now) }
+fn judge_group(
+    step: &Step,
+    numbers: &[u8],
+    number: u8,
+    bot: &Bot,
+    command: &Command,
+    d: Diff,
+    f: Diff,
+) -> Option<Broken>
+    requires step { CanJudge step.now bot.now }
+    requires numbers { length numbers.now ≡ length step.now.bots.now }
+    requires members { TellsMembers (acts_of_step step.now) numbers.now number (act bot.now command.now) }
+    ensures { IsGroupCommand command.now d f → result ≡ later_fault step.now (act bot.now command.now) }
 {
     let Some(near) = reached(step.planes, bot.pos, d) else {
         return broken_here(step.number, *bot, Rule::OutOfSpace);
@@ -330,61 +254,103 @@ fn judge_group(step: &Step, bot: &Bot, command: &Command, d: Diff, f: Diff) -> O
     if region.has(bot.pos) {
         return broken_here(step.number, *bot, Rule::InRegion);
     }
-    let shape = is_misshapen(step.bots, step.commands, bot, command, region.dim());
+    let shape = is_misshapen(step.bots, step.commands, numbers, number, region.dim());
     broken_if(step.number, *bot, Rule::GroupShape, shape)
 }
 
-/// The first rule after the one on the profile that a bot breaks.
-pub(crate) fn judge_later<L: Ledger>(
+/// The first rule after the one on the profile that a bot breaks whose command needs no other bot.
+fn judge_alone<L: Ledger>(
     step: &Step,
     bot: &Bot,
     command: &Command,
     steps: &mut Steps<L>,
 ) -> Option<Broken>
-    requires { CanJudge step.now bot.now }
+    requires step { CanJudge step.now bot.now }
+    requires alone { IsTrue (is_alone command.now) }
     ensures value { result ≡ later_fault step.now (act bot.now command.now) }
     ensures touches { steps.new ≤ steps.old + touches_of step.now.planes.now (act bot.now command.now) }
 {
-    let planes = step.planes;
-    let number = step.number;
+    judge_hull(step, bot, command, steps).err()
+}
+
+/// The first rule after the one on the profile that a bot breaks. The members of its group have the number.
+fn judge_later<L: Ledger>(
+    step: &Step,
+    numbers: &[u8],
+    number: u8,
+    bot: &Bot,
+    command: &Command,
+    steps: &mut Steps<L>,
+) -> Option<Broken>
+    requires step { CanJudge step.now bot.now }
+    requires numbers { length numbers.now ≡ length step.now.bots.now }
+    requires members { TellsMembers (acts_of_step step.now) numbers.now number (act bot.now command.now) }
+    ensures value { result ≡ later_fault step.now (act bot.now command.now) }
+    ensures touches { steps.new ≤ steps.old + touches_of step.now.planes.now (act bot.now command.now) }
+{
     match command {
-        Command::Halt => judge_halt(step, *bot),
-        Command::Wait => judge_still(number, *bot),
-        Command::Flip => judge_still(number, *bot),
-        Command::SMove(d) => judge_smove(planes, number, *bot, d.diff(), steps),
-        Command::LMove(d, e) => judge_lmove(planes, number, *bot, d.diff(), e.diff(), steps),
         Command::FusionP(d) => judge_fusion(step, bot, command, d.diff()),
         Command::FusionS(d) => judge_fusion(step, bot, command, d.diff()),
-        Command::Fission(d, m) => judge_fission(planes, number, *bot, d.diff(), *m, steps),
-        Command::Fill(d) => judge_near(planes, number, *bot, d.diff()),
-        Command::Void(d) => judge_near(planes, number, *bot, d.diff()),
-        Command::GFill(d, f) => judge_group(step, bot, command, d.diff(), f.diff()),
-        Command::GVoid(d, f) => judge_group(step, bot, command, d.diff(), f.diff()),
+        Command::GFill(d, f) => judge_group(
+            step,
+            numbers,
+            number,
+            bot,
+            command,
+            d.diff(),
+            f.diff(),
+        ),
+        Command::GVoid(d, f) => judge_group(
+            step,
+            numbers,
+            number,
+            bot,
+            command,
+            d.diff(),
+            f.diff(),
+        ),
+        Command::Halt
+        | Command::Wait
+        | Command::Flip
+        | Command::SMove(_)
+        | Command::LMove(_, _)
+        | Command::Fission(_, _)
+        | Command::Fill(_)
+        | Command::Void(_) => judge_alone(step, bot, command, steps),
     }
 }
 
 /// The first rule that a bot breaks.
 fn judge_bot<L: Ledger>(
     step: &Step,
+    numbers: &[u8],
+    number: u8,
     bot: &Bot,
     command: &Command,
     steps: &mut Steps<L>,
 ) -> Option<Broken>
-    requires { CanJudge step.now bot.now }
+    requires step { CanJudge step.now bot.now }
+    requires numbers { length numbers.now ≡ length step.now.bots.now }
+    requires members { TellsMembers (acts_of_step step.now) numbers.now number (act bot.now command.now) }
     ensures value { result ≡ judge_bot_of (start_of_step step.now)
         (acts_of_step step.now) step.now.number (act bot.now command.now) }
     ensures touches { steps.new ≤ steps.old + touches_of step.now.planes.now (act bot.now command.now) }
 {
     if step.profile.allows(*command) {
-        judge_later(step, bot, command, steps)
+        judge_later(step, numbers, number, bot, command, steps)
     } else {
         broken_here(step.number, *bot, Rule::Forbidden)
     }
 }
 
-/// The first rule that one of the bots breaks.
-pub(crate) fn judge_bots<L: Ledger>(step: &Step, steps: &mut Steps<L>) -> Option<Broken>
-    requires { CanBeJudged step.now }
+/// The first rule that one of the bots breaks, whose groups have these numbers.
+pub(crate) fn judge_bots<L: Ledger>(
+    step: &Step,
+    numbers: &[u8],
+    steps: &mut Steps<L>,
+) -> Option<Broken>
+    requires step { CanBeJudged step.now }
+    requires numbers { AreNumbers (acts_of_step step.now) numbers.now }
     ensures value { result ≡ judge_each (start_of_step step.now)
         (acts_of_step step.now) step.now.number (acts_of_step step.now) }
     ensures touches { steps.new ≤ steps.old + sum_by (touches_of step.now.planes.now) (acts_of_step step.now) }
@@ -392,7 +358,7 @@ pub(crate) fn judge_bots<L: Ledger>(step: &Step, steps: &mut Steps<L>) -> Option
     let bots = step.bots;
     let commands = step.commands;
     for i in 0..bots.len() {
-        let broken = judge_bot(step, &bots[i], &commands[i], steps);
+        let broken = judge_bot(step, numbers, numbers[i], &bots[i], &commands[i], steps);
         if broken.is_some() {
             return broken;
         }

@@ -1,18 +1,18 @@
 -- A step with one group, which voids a region.
-use Rattle.std.proofs.Common.{◌≡◌, ℕ, ◌+◌, ◌*◌, ◌≤◌, refl, sym, ◌∙◌, ap, subst, inl, inr, arith, List, [], ◌∷◌, Bool, true, false, ◌&&◌, length}
+use Rattle.std.proofs.Common.{◌≡◌, ℕ, ◌+◌, ◌*◌, ◌≤◌, refl, sym, ◌∙◌, ap, subst, inl, inr, arith, List, [], ◌∷◌, Bool, true, false, ◌&&◌, cond, length}
 use Rattle.std.specs.Prelude.{IfSome, IsTrue, None, Option, Some, count_by, drop}
 use Rattle.std.specs.Bool.{beq}
 use Rattle.std.proofs.lemmas.List.{append-nil, drop_all}
 use Rattle.std.proofs.lemmas.List.Sums.{sum_by-cons}
 use Rattle.vox_geom.specs.declared.coordinate.Coord.{Coord}
-use Rattle.vox_geom.specs.Point.{point}
-use Rattle.vox_geom.specs.Region.{Corners, IsOrdered, corners, is_within, size, span}
+use Rattle.vox_geom.specs.Point.{Point, point}
+use Rattle.vox_geom.specs.Region.{Corners, Span, is_within, size, span}
 use Rattle.vox_geom.specs.Space.{IsInSpace}
 use Rattle.vox_geom.proofs.Truths.{second_of_two}
 use Rattle.nano_spec.specs.declared.commands.Command.{Command}
 use Rattle.nano_spec.specs.declared.commands.Command.TheVariants.{Fill, Void, GFill, GVoid}
 use Rattle.nano_spec.specs.declared.system.Bot.{Bot}
-use Rattle.nano_spec.specs.Act.{Act, acts}
+use Rattle.nano_spec.specs.Act.{Act, acts, voided}
 use Rattle.nano_spec.specs.Group.{is_leader, leaders}
 use Rattle.nano_spec.specs.Matrix.{Matrix, all_of, is_full}
 use Rattle.nano_spec.specs.Rules.{broken}
@@ -26,42 +26,35 @@ use Rattle.step_order.proofs.Lists.{In, both, filter_in, in_filter}
 use Rattle.step_order.proofs.Voxels.{in_coordinates}
 use Rattle.step_order.proofs.Turns.{held}
 use Rattle.step_groups.specs.Judging.{act}
-use Rattle.step_groups.proofs.Touching.{high_within}
 use Rattle.system_state.specs.declared.edited.EditedRegion.{EditedRegion}
-use Rattle.system_state.specs.Edited.{IsEditedRegion, region_of}
-use Rattle.step_machine.specs.Edits.{cells_of, cells_of_all, edit_count, edits_of, edits_total, is_change, is_edit, is_edited}
+use Rattle.system_state.specs.Edited.{IsEditedRegion}
+use Rattle.step_machine.specs.Edits.{cells_of, cells_of_all, edit_count, edits_of, edits_total, is_edit, is_edited}
 use Rattle.step_machine.specs.Settling.{IsOnlyRegion, IsRefitted, IsVoidedRegion}
 use Rattle.step_machine.proofs.Apart.{holds}
 use Rattle.step_machine.proofs.Cells.{IsRegionOf, no_cells, size_is}
 use Rattle.step_machine.proofs.Refitting.{cheap_none, counted, is_refitted, won_none}
-use Rattle.step_machine.proofs.Regions.{change_is_other, edits_nothing, edits_region}
+use Rattle.step_machine.proofs.Regions.{edits_nothing, edits_region}
 use Rattle.step_machine.proofs.Working.{edits_are_volatile}
 
 -- ---- what a command voids
 
-voids_is_edit : (k : Command) → is_change true k ≡ true → is_edit k ≡ true
-voids_is_edit (Fill d) h = refl
-voids_is_edit (Void d) h = refl
-voids_is_edit (GFill d f) h = refl
-voids_is_edit (GVoid d f) h = refl
-voids_is_edit k h = cc
+voids_is_edit : (p : Point) (k : Command) (s : Span) → voided p k ≡ s ∷ [] → is_edit k ≡ true
+voids_is_edit p (Fill d) s h = refl
+voids_is_edit p (Void d) s h = refl
+voids_is_edit p (GFill d f) s h = refl
+voids_is_edit p (GVoid d f) s h = refl
+voids_is_edit p k s h = cc
 
-other_way : (b : Bool) → beq b true ≡ false → beq b false ≡ true
-other_way true e = cc
-other_way false e = refl
-
-pub voided_region_is : (m : Matrix) (r : ℕ) (b : Bot) (command : Command) (w : EditedRegion) (k : Corners) → r ≡ m.resolution → IsOrdered k → ((c : Coord) → is_within (span k) (point c) ≡ is_within (region_of w) (point c)) → k ≡ corners w.near w.far → IsEditedRegion r b command w → is_change true command ≡ true → IsVoidedRegion m (act b command) k
-voided_region_is m r b command w k e o covers c h v =
-    let other = change_is_other r b command w true h v in
-    let region : IsRegionOf k true (act b command) = λ q. covers q ∙ edits_region r b command w true h other q in
-    let high = high_within r k w.near w.far c h.near h.far in
+pub voided_region_is : (m : Matrix) (r : ℕ) (b : Bot) (command : Command) (w : EditedRegion) → r ≡ m.resolution → IsEditedRegion r b command w → w.full ≡ false → IsVoidedRegion m (act b command) w.region
+voided_region_is m r b command w e h v =
+    let region : IsRegionOf w.region true (act b command) = edits_region r b command w true h (ap (λ f. beq f true) v) in
     record {
-      ordered = o;
-      within = subst (λ (n : ℕ). IsInSpace n k.high) e high;
+      ordered = h.ordered;
+      within = subst (λ (n : ℕ). IsInSpace n w.region.high) e h.within;
       covers = region;
-      fills = edits_nothing r b command w false h (other_way w.full other);
-      count = size_is m r true (act b command) k e o high region;
-      edits = voids_is_edit command v;
+      fills = edits_nothing r b command w false h (ap (λ f. beq f false) v);
+      count = size_is m r true (act b command) w.region e h.ordered h.within region;
+      edits = voids_is_edit (point b.pos) command h.named (h.voided ∙ ap (λ f. cond f [] (h.named ∷ [])) v);
     }
 
 -- ---- the only group

@@ -3,15 +3,15 @@ use Rattle.std.proofs.Common.{◌≡◌, ℕ, refl, sym, ◌∙◌, ap, List, []
 use Rattle.std.specs.Bool.{beq}
 use Rattle.std.specs.List.{list_any}
 use Rattle.vox_geom.specs.declared.coordinate.Coord.{Coord}
-use Rattle.vox_geom.specs.Point.{Point, point}
-use Rattle.vox_geom.specs.Region.{Span, is_within}
+use Rattle.vox_geom.specs.Point.{point}
+use Rattle.vox_geom.specs.Region.{Span, is_within, span}
 use Rattle.nano_spec.specs.declared.commands.Command.{Command}
 use Rattle.nano_spec.specs.declared.commands.Command.TheVariants.{Halt, Wait, Flip, SMove, LMove, FusionP, FusionS, Fission, Fill, Void, GFill, GVoid}
 use Rattle.nano_spec.specs.declared.system.Bot.{Bot}
 use Rattle.nano_spec.specs.Act.{Act, filled, voided}
 use Rattle.step_order.proofs.Lists.{not_both}
 use Rattle.system_state.specs.declared.edited.EditedRegion.{EditedRegion}
-use Rattle.system_state.specs.Edited.{IsIdle, IsEditedRegion, region_of}
+use Rattle.system_state.specs.Edited.{IsIdle, IsEditedRegion}
 use Rattle.step_machine.specs.Edits.{is_change, is_edited}
 use Rattle.step_groups.specs.Judging.{act}
 
@@ -26,46 +26,24 @@ none : (spans : List Span) (c : Coord) → spans ≡ [] → false ≡ list_any (
 none spans c e = ap (λ ts. list_any (λ t. is_within t (point c)) ts) (sym e)
 
 -- the region is edited so, where it is not as it is to be
-pub edits_region : (r : ℕ) (b : Bot) (k : Command) (w : EditedRegion) (full : Bool) → IsEditedRegion r b k w → beq w.full full ≡ false → (c : Coord) → is_within (region_of w) (point c) ≡ is_edited full (act b k) c
-edits_region r b k w full h e c = by w.full full h.filled h.voided e
+pub edits_region : (r : ℕ) (b : Bot) (k : Command) (w : EditedRegion) (full : Bool) → IsEditedRegion r b k w → beq w.full full ≡ false → (c : Coord) → is_within (span w.region) (point c) ≡ is_edited full (act b k) c
+edits_region r b k w full h e c = h.covers (point c) ∙ by w.full full h.filled h.voided e
   where
-    by : (f full : Bool) → filled (point b.pos) k ≡ cond f (region_of w ∷ []) [] → voided (point b.pos) k ≡ cond f [] (region_of w ∷ []) → beq f full ≡ false → is_within (region_of w) (point c) ≡ is_edited full (act b k) c
+    by : (f full : Bool) → filled (point b.pos) k ≡ cond f (h.named ∷ []) [] → voided (point b.pos) k ≡ cond f [] (h.named ∷ []) → beq f full ≡ false → is_within h.named (point c) ≡ is_edited full (act b k) c
     by true true p q e = cc
-    by true false p q e = one (region_of w) (filled (point b.pos) k) c p
-    by false true p q e = one (region_of w) (voided (point b.pos) k) c q
+    by true false p q e = one h.named (filled (point b.pos) k) c p
+    by false true p q e = one h.named (voided (point b.pos) k) c q
     by false false p q e = cc
 
 -- and else nothing is
 pub edits_nothing : (r : ℕ) (b : Bot) (k : Command) (w : EditedRegion) (full : Bool) → IsEditedRegion r b k w → beq w.full full ≡ true → (c : Coord) → false ≡ is_edited full (act b k) c
 edits_nothing r b k w full h e c = by w.full full h.filled h.voided e
   where
-    by : (f full : Bool) → filled (point b.pos) k ≡ cond f (region_of w ∷ []) [] → voided (point b.pos) k ≡ cond f [] (region_of w ∷ []) → beq f full ≡ true → false ≡ is_edited full (act b k) c
+    by : (f full : Bool) → filled (point b.pos) k ≡ cond f (h.named ∷ []) [] → voided (point b.pos) k ≡ cond f [] (h.named ∷ []) → beq f full ≡ true → false ≡ is_edited full (act b k) c
     by true true p q e = none (voided (point b.pos) k) c q
     by true false p q e = cc
     by false true p q e = cc
     by false false p q e = none (filled (point b.pos) k) c p
-
--- what changes so edits something so
-changes_some : (p : Point) (k : Command) (full : Bool) → is_change full k ≡ true → cond full (voided p k) (filled p k) ≡ [] → ⊥
-changes_some p (Fill d) true h e = cc
-changes_some p (Fill d) false h e = cc
-changes_some p (Void d) true h e = cc
-changes_some p (Void d) false h e = cc
-changes_some p (GFill d f) true h e = cc
-changes_some p (GFill d f) false h e = cc
-changes_some p (GVoid d f) true h e = cc
-changes_some p (GVoid d f) false h e = cc
-changes_some p k full h e = cc
-
--- what changes so is not so already
-pub change_is_other : (r : ℕ) (b : Bot) (k : Command) (w : EditedRegion) (full : Bool) → IsEditedRegion r b k w → is_change full k ≡ true → beq w.full full ≡ false
-change_is_other r b k w full h e = by w.full full h.filled h.voided e
-  where
-    by : (f full : Bool) → filled (point b.pos) k ≡ cond f (region_of w ∷ []) [] → voided (point b.pos) k ≡ cond f [] (region_of w ∷ []) → is_change full k ≡ true → beq f full ≡ false
-    by true true p q e = absurd (changes_some (point b.pos) k true e q)
-    by true false p q e = refl
-    by false true p q e = refl
-    by false false p q e = absurd (changes_some (point b.pos) k false e p)
 
 -- a command that does not change so edits nothing so
 pub not_change : (b : Bot) (k : Command) (full : Bool) → is_change full k ≡ false → (c : Coord) → false ≡ is_edited full (act b k) c

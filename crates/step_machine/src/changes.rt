@@ -57,18 +57,17 @@ fn list_change<L: Ledger>(
     ensures left { list.old.spare ≤ list.new.spare + edit_count matrix.now full (act bot.now command.now) }
     ensures touches { steps.new ≤ steps.old + edit_count matrix.now full (act bot.now command.now) }
 {
-    if !is_change(command, full) {
-        return;
-    }
-    let Some(work) = edited_region(matrix.resolution(), *bot, command) else {
+    let Some(edited) = edited_region(matrix.resolution(), *bot, command) else {
         return;
     };
-    let region = Region::of(work.near, work.far);
-    list_region(matrix, region, full, list, steps);
+    if edited.full == full {
+        return;
+    }
+    list_region(matrix, edited.region, full, list, steps);
 }
 
 /// Whether the command voids something, or else whether it fills something.
-pub(crate) fn is_change(command: &Command, full: bool) -> bool
+fn is_change(command: &Command, full: bool) -> bool
     ensures { result ≡ is_change full command.now }
 {
     match command {

@@ -9,7 +9,6 @@ ghost use Rattle.system_state.specs.Turns.{AreTurns};
 ghost use Rattle.step_machine.specs.Edits.{is_edit};
 ghost use Rattle.step_machine.specs.Settling.{IsOnlyRegion, IsRefitted, IsVoidedRegion};
 
-use crate::changes::is_change;
 use nano_spec::{Bot, Command};
 use std::sync::ledger::Ledger;
 use support_forest::Forest;
@@ -23,13 +22,13 @@ fn voided_region(matrix: &Planes, bot: &Bot, command: &Command) -> Option<Region
     requires stays { IsTrue (stays_in_space matrix.now.resolution (act bot.now command.now)) }
     ensures { IfSome result (IsVoidedRegion matrix.now (act bot.now command.now)) }
 {
-    if !is_change(command, true) {
-        return None;
-    }
-    let Some(work) = edited_region(matrix.resolution(), *bot, command) else {
+    let Some(edited) = edited_region(matrix.resolution(), *bot, command) else {
         return None;
     };
-    Some(Region::of(work.near, work.far))
+    if edited.full {
+        return None;
+    }
+    Some(edited.region)
 }
 
 /// The region that the only group of a step voids, where there is one group and it voids one.

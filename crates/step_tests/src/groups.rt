@@ -10,7 +10,7 @@ use std::marker::Brand;
 use std::process::Abort;
 use std::sync::ledger::{Blank, Ledger};
 use std::test::Fail;
-use step_groups::{Group, Groups, Step, judge_single};
+use step_groups::{Group, Groups, Step, judge_single, number_groups};
 use vox_geom::{Memory, Region, Steps};
 use vox_planes::Planes;
 
@@ -33,7 +33,8 @@ fn assert_judged<L: Ledger>(
         commands,
         number: 1,
     };
-    assert!(rt; groups.judge(&step, steps).is_ok());
+    let numbers = number_groups(crew.bots(), commands);
+    assert!(rt; groups.judge(&step, numbers.as_slice(), steps).is_ok());
 }
 
 /// A step of one bot breaks no rule.

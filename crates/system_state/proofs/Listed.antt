@@ -1,8 +1,7 @@
 -- The turns of the leaders up to a place, with one more bot.
 use Rattle.std.proofs.Common.{◌≡◌, ℕ, zero, suc, ◌+◌, ◌-◌, ◌<◌, refl, ap, sym, ◌∙◌, subst, arith, Bool, false, true, not, cond, List, [], ◌∷◌, ◌++◌, filter, length, map, take, drop, get_or}
-use Rattle.std.specs.Prelude.{AllPairs, IsTrue, Some, slice_get, slice_index_or}
+use Rattle.std.specs.Prelude.{AllPairs, Some, slice_get, slice_index_or}
 use Rattle.std.specs.List.{list_any}
-use Rattle.std.proofs.lemmas.List.{take_rest}
 use Rattle.vox_geom.proofs.Sums.{append_none}
 use Rattle.nano_spec.specs.declared.commands.Command.{Command}
 use Rattle.nano_spec.specs.declared.system.Bot.{Bot}
@@ -10,9 +9,11 @@ use Rattle.nano_spec.specs.Act.{Act, acts}
 use Rattle.nano_spec.specs.Group.{are_together, is_leader, members}
 use Rattle.step_order.proofs.Facts.{Rising, rising_is}
 use Rattle.step_order.proofs.Judgements.{all_bots}
-use Rattle.step_groups.specs.Judging.{act, is_alone}
+use Rattle.step_groups.specs.Judging.{act}
+use Rattle.step_groups.specs.Numbers.{with_number}
 use Rattle.step_groups.proofs.Joined.{with_leader}
-use Rattle.step_groups.proofs.Mates.{group, leads, none_after, none_before, split_at, take_more}
+use Rattle.step_groups.proofs.Mates.{group, leads, split_at, take_more}
+use Rattle.step_groups.proofs.Telling.{of_bots}
 use Rattle.system_state.specs.declared.turns.Turn.{Turn}
 use Rattle.system_state.specs.Turns.{AreTurns, first_mate}
 use Rattle.system_state.proofs.Gathered.{turn_more}
@@ -67,10 +68,10 @@ module _ (bots : List Bot) (commands : List Command) (i : ℕ) (b : Bot) (k : Co
         partner = second ∙ ap (λ (ms : List Act). slice_index_or (map bid_of ms) 1 0) (sym mates);
       })))
 
-  -- a bot whose command needs no other
-  pub alone_more : (turns next : List Turn) → next ≡ turns ++ record { leader = b.bid; place = i; partner = 0 } ∷ [] → IsTrue (is_alone k) → AreTurns (acts bots commands) (filter (is_leader (acts bots commands)) (acts (take i bots) (take i commands))) turns → AreTurns (acts bots commands) (filter (is_leader (acts bots commands)) (acts (take (i + 1) bots) (take (i + 1) commands))) next
-  alone_more turns next f alone h = leader_more turns next 0 f (none_before xs ys (act b k) up alone) (ap (λ (ms : List Act). slice_index_or (map bid_of ms) 0 0) (sym (none_after xs ys (act b k) up alone))) h
-
-  -- a bot that leads those after it, in the list to its end
-  pub joined_more : (turns next : List Turn) (partner : ℕ) → next ≡ turns ++ record { leader = b.bid; place = i; partner = partner } ∷ [] → list_any (are_together (act b k)) (acts (take i bots) (take i commands)) ≡ false → partner ≡ first_mate (act b k) (acts (take (length bots - (i + 1)) (drop (i + 1) bots)) (take (length commands - (i + 1)) (drop (i + 1) commands))) → AreTurns (acts bots commands) (filter (is_leader (acts bots commands)) (acts (take i bots) (take i commands))) turns → AreTurns (acts bots commands) (filter (is_leader (acts bots commands)) (acts (take (i + 1) bots) (take (i + 1) commands))) next
-  joined_more turns next partner f e second h = leader_more turns next partner f e (second ∙ (λ n. first_mate (act b k) (acts (take_rest bots (i + 1) n) (take_rest commands (i + 1) n)))) h
+  -- by the numbers of the bots behind it
+  pub numbered_more : (turns next : List Turn) (numbers : List ℕ) (n partner : ℕ) → next ≡ turns ++ record { leader = b.bid; place = i; partner = partner } ∷ [] → list_any (are_together (act b k)) (acts (take i bots) (take i commands)) ≡ false
+      → with_number n (take (length bots - (i + 1)) (drop (i + 1) bots)) (take (length numbers - (i + 1)) (drop (i + 1) numbers)) ≡ map (λ (x : Act). x.bot) (filter (are_together (act b k)) (acts (drop (i + 1) bots) (drop (i + 1) commands)))
+      → partner ≡ slice_index_or (map (λ (x : Bot). x.bid) (with_number n (take (length bots - (i + 1)) (drop (i + 1) bots)) (take (length numbers - (i + 1)) (drop (i + 1) numbers)))) 0 0
+      → AreTurns (acts bots commands) (filter (is_leader (acts bots commands)) (acts (take i bots) (take i commands))) turns → AreTurns (acts bots commands) (filter (is_leader (acts bots commands)) (acts (take (i + 1) bots) (take (i + 1) commands))) next
+  numbered_more turns next numbers n partner f e tell second h =
+      leader_more turns next partner f e (second ∙ ap (λ bids. slice_index_or bids 0 0) (ap (map (λ (x : Bot). x.bid)) tell ∙ of_bots (λ (x : Bot). x.bid) (filter (are_together (act b k)) ys))) h

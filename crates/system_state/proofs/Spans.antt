@@ -24,6 +24,12 @@ module _ (m : Matrix) (k : Corners) (s : Span) (same : (p : Point) → is_within
   pub same_painted : (full : Bool) → with_box m k full ≡ with_span m s full
   same_painted full = λ i. matrix_where m.resolution (λ d. cond (same (point d) i) full (is_full m d))
 
+  pub same_void : void_in m (span k) ≡ void_in m s
+  same_void = λ i. count_by (λ c. same (point c) i && not (is_full m c)) (all_of m)
+
+  pub same_full : full_in m (span k) ≡ full_in m s
+  same_full = λ i. count_by (λ c. same (point c) i && is_full m c) (all_of m)
+
   pub same_size : count_by (λ c. is_within (span k) (point c)) (all_of m) ≡ size_in m s
   same_size = λ i. count_by (λ c. same (point c) i) (all_of m)
 

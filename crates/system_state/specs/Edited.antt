@@ -1,29 +1,27 @@
 -- What a command makes full or void (docs/FORMATS.md, "Commands").
 use Rattle.std.specs.Prelude.{◌≡◌, ℕ, ◌≤◌, ℤ, pos, negsuc, Bool, cond, [], ◌∷◌}
-use Rattle.vox_geom.specs.Point.{point}
-use Rattle.vox_geom.specs.Region.{Span, between, size}
+use Rattle.vox_geom.specs.Point.{Point, point}
+use Rattle.vox_geom.specs.Region.{IsOrdered, Span, is_within, size, span}
 use Rattle.vox_geom.specs.Space.{IsInSpace}
 use Rattle.nano_spec.specs.declared.commands.Command.{Command}
 use Rattle.nano_spec.specs.declared.system.Bot.{Bot}
 use Rattle.nano_spec.specs.Act.{filled, voided}
 use Rattle.system_state.specs.declared.edited.EditedRegion.{EditedRegion}
 
--- the region
-abbrev pub region_of : EditedRegion → Span
-region_of w = between (point w.near) (point w.far)
-
 -- the command fills and voids nothing
 pub record IsIdle (bot : Bot) (command : Command) : Type 0 where
   pub filled : filled (point bot.pos) command ≡ []
   pub voided : voided (point bot.pos) command ≡ []
 
--- the command fills the region, or else voids it, and nothing else
+-- the command fills the region, or else voids it, and nothing else; it names the region by two of its corners
 pub record IsEditedRegion (r : ℕ) (bot : Bot) (command : Command) (w : EditedRegion) : Type 0 where
-  pub near : IsInSpace r w.near
-  pub far : IsInSpace r w.far
-  pub filled : filled (point bot.pos) command ≡ cond w.full (region_of w ∷ []) []
-  pub voided : voided (point bot.pos) command ≡ cond w.full [] (region_of w ∷ [])
-  pub small : size (region_of w) ≤ 29791
+  pub named : Span
+  pub filled : filled (point bot.pos) command ≡ cond w.full (named ∷ []) []
+  pub voided : voided (point bot.pos) command ≡ cond w.full [] (named ∷ [])
+  pub covers : (p : Point) → is_within (span w.region) p ≡ is_within named p
+  pub ordered : IsOrdered w.region
+  pub within : IsInSpace r w.region.high
+  pub small : size named ≤ 29791
 
 -- what filling a voxel that was full or void, or else voiding it, costs beside the upkeep
 abbrev pub edit_cost : Bool → Bool → ℤ

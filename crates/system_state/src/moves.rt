@@ -47,11 +47,8 @@ pub(crate) fn move_bots(crew: &mut Crew, r: u16, bot: Bot, partner: u8, command:
         Command::Fission(d, m) => crew.fission(bot.bid, target(r, bot.pos, d.diff()), *m),
         Command::FusionP(_) => crew.fusion(bot.bid, partner),
         Command::FusionS(_) => crew.fusion(partner, bot.bid),
-        Command::Wait => {}
-        Command::Flip => {}
-        Command::Fill(_) => {}
-        Command::Void(_) => {}
-        Command::GFill(_, _) => {}
-        Command::GVoid(_, _) => {}
+        Command::Wait | Command::Flip => {}
+        Command::Fill(_) | Command::Void(_) => {}
+        Command::GFill(_, _) | Command::GVoid(_, _) => {}
     }
 }

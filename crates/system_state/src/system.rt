@@ -36,7 +36,7 @@ use energy_sum::{space_upkeep, upkeep_by};
 use nano_spec::{Bot, Broken, Command, Harmonics, Profile, Rule};
 use std::marker::Model;
 use std::sync::ledger::Ledger;
-use step_groups::{Step, all_act_alone};
+use step_groups::{Step, all_act_alone, number_groups};
 use step_order::groups_take_turns;
 use vox_geom::{Coord, Long, Near, Short, Steps};
 use vox_planes::Planes;
@@ -47,17 +47,11 @@ fn harmonics_by(harmonics: Harmonics, command: &Command) -> Harmonics
 {
     match command {
         Command::Flip => harmonics.flipped(),
-        Command::Halt => harmonics,
-        Command::Wait => harmonics,
-        Command::SMove(_) => harmonics,
-        Command::LMove(_, _) => harmonics,
-        Command::FusionP(_) => harmonics,
-        Command::FusionS(_) => harmonics,
-        Command::Fission(_, _) => harmonics,
-        Command::Fill(_) => harmonics,
-        Command::Void(_) => harmonics,
-        Command::GFill(_, _) => harmonics,
-        Command::GVoid(_, _) => harmonics,
+        Command::Halt | Command::Wait => harmonics,
+        Command::SMove(_) | Command::LMove(_, _) | Command::Fission(_, _) => harmonics,
+        Command::FusionP(_) | Command::FusionS(_) => harmonics,
+        Command::Fill(_) | Command::Void(_) => harmonics,
+        Command::GFill(_, _) | Command::GVoid(_, _) => harmonics,
     }
 }
 
@@ -258,7 +252,9 @@ impl System {
         requires { length commands.now ≡ length self.now.bots }
         ensures { AreTurns (acts self.now.bots commands.now) (leaders (acts self.now.bots commands.now)) turns.new }
     {
-        list_turns(&mut turns.turns, self.crew.bots(), commands);
+        let bots = self.crew.bots();
+        let numbers = number_groups(bots, commands);
+        list_turns(&mut turns.turns, bots, numbers.as_slice());
     }
 
     /// The trace ends within the step, before the command of the bot at a place.

@@ -1,5 +1,5 @@
 //! The turns of the groups of a step.
-ghost use Rattle.std.specs.Prelude.{◌≡◌, ◌+◌, ◌*◌, ◌<◌, ◌≤◌, ℕ, ℤ, [], ◌∷◌, List, AllPairs, IfNone, IsPermutation, IsTrue, filter, length, map, slice_index_or, take};
+ghost use Rattle.std.specs.Prelude.{◌≡◌, ◌+◌, ◌*◌, ◌<◌, ◌≤◌, ℤ, [], ◌∷◌, List, AllPairs, IfNone, IsPermutation, IsTrue, filter, length, map, slice_index_or, take};
 ghost use Rattle.arrayvec.specs.ArrayVec.{array_vec_len};
 ghost use Rattle.std.specs.List.{Contains, list_all};
 ghost use Rattle.nano_spec.specs.declared.commands.Command.{Command};
@@ -7,17 +7,19 @@ ghost use Rattle.nano_spec.specs.declared.system.Bot.{Bot as ActiveBot};
 ghost use Rattle.nano_spec.specs.Act.{acts};
 ghost use Rattle.nano_spec.specs.Group.{is_leader, leaders};
 ghost use Rattle.nano_spec.specs.Work.{volatile_total};
-ghost use Rattle.step_groups.specs.Groups.{AreGroups, AreLone};
-ghost use Rattle.system_state.specs.Turns.{AreAllTurns, AreTurns, first_mate as first_mate_of, leader_of};
-ghost use Rattle.step_groups.specs.Judging.{act, is_alone};
+ghost use Rattle.bot_crew.specs.Crew.{IsCrew};
+ghost use Rattle.step_groups.specs.Groups.{AreLone};
+ghost use Rattle.step_groups.specs.Judging.{is_alone};
+ghost use Rattle.step_groups.specs.Numbers.{AreNumbers, with_number};
 ghost use Rattle.step_groups.specs.Steps.{CanBeJudged, acts_of_step, broken_in};
+ghost use Rattle.system_state.specs.Turns.{AreAllTurns, AreTurns, leader_of};
 
 use arrayvec::ArrayVec;
 use bot_crew::MOST_BOTS;
-use nano_spec::{Bot, Broken, Command};
+use nano_spec::{Bot, Broken};
 use std::marker::Model;
 use std::sync::ledger::Ledger;
-use step_groups::{Group, Groups, Step, acts_alone, are_together, has_mate, judge_single};
+use step_groups::{Groups, Step, judge_single, number_groups};
 use vox_geom::Steps;
 
 /// The turn of one group of a step: the bid of its leader, the leader's place among the bots at the step's start, and the
@@ -129,13 +131,9 @@ impl Turns {
         ensures turns { IfNone result (AreTurns (acts_of_step step.now) (leaders (acts_of_step step.now)) self.new) }
         ensures touches { steps.new ≤ steps.old + 2 * volatile_total step.now.planes.now (acts_of_step step.now) }
     {
-        match self.groups.judge(step, steps) {
-            Ok(()) => {
-                list_group_turns(&mut self.turns, self.groups.list(), step.bots);
-                None
-            }
-            Err(broken) => Some(broken),
-        }
+        let numbers = number_groups(step.bots, step.commands);
+        list_turns(&mut self.turns, step.bots, numbers.as_slice());
+        self.groups.judge(step, numbers.as_slice(), steps).err()
     }
 
     /// Puts the turns in the order of these leaders.
@@ -167,49 +165,6 @@ pub(crate) fn turn_of(turns: &[Turn], leader: u8) -> Turn
     Turn::default()
 }
 
-/// The bid of the second member, 0 where there is none.
-fn partner_of(group: &Group) -> u8
-    ensures { result ≡ slice_index_or group.now.members.items 1 0 }
-{
-    match group.members.get(1) {
-        Some(bid) => *bid,
-        None => 0,
-    }
-}
-
-/// The place of the bot with the bid, where there is one.
-fn place_of(bots: &[Bot], bid: u8) -> u8
-    requires { length bots.now ≤ 40 }
-    ensures { (k : ℕ) → k < length bots.now → (d : ActiveBot) → (slice_index_or bots.now k d).bid ≡ bid
-        → (result < length bots.now) × ((slice_index_or bots.now result d).bid ≡ bid) }
-{
-    for i in 0..bots.len() {
-        if bots[i].bid == bid {
-            return i as u8;
-        }
-    }
-    0
-}
-
-/// The turns of the groups of a step of these bots.
-fn list_group_turns(turns: &mut ArrayVec<Turn, MOST_BOTS>, groups: &[Group], bots: &[Bot])
-    requires bots { length bots.now ≤ 40 }
-    requires groups { length groups.now ≤ 40 }
-    requires rising { AllPairs (λ a b. a.bid < b.bid) bots.now }
-    ensures { (r : ℕ) (commands : List Command) → length commands ≡ length bots.now
-        → AreGroups r (acts bots.now commands) (leaders (acts bots.now commands)) groups.now
-        → AreTurns (acts bots.now commands) (leaders (acts bots.now commands)) turns.new.items }
-{
-    turns.clear();
-    for group in groups {
-        turns.push(Turn {
-            leader: group.leader,
-            place: place_of(bots, group.leader),
-            partner: partner_of(group),
-        });
-    }
-}
-
 /// The turns of bots each of which is a group of its own.
 fn list_lone_turns(turns: &mut ArrayVec<Turn, MOST_BOTS>, bots: &[Bot])
     requires { length bots.now ≤ 40 }
@@ -222,13 +177,13 @@ fn list_lone_turns(turns: &mut ArrayVec<Turn, MOST_BOTS>, bots: &[Bot])
     }
 }
 
-/// The bid of the first of these bots that is of the bot's group, 0 where there is none.
-fn first_mate(bots: &[Bot], commands: &[Command], bot: &Bot, command: &Command) -> u8
-    requires { length commands.now ≡ length bots.now }
-    ensures { result ≡ first_mate_of (act bot.now command.now) (acts bots.now commands.now) }
+/// The bid of the first of these bots that has the number, 0 where there is none.
+fn first_numbered(bots: &[Bot], numbers: &[u8], number: u8) -> u8
+    requires { length numbers.now ≡ length bots.now }
+    ensures { result ≡ slice_index_or (map (λ b. b.bid) (with_number number bots.now numbers.now)) 0 0 }
 {
     for i in 0..bots.len() {
-        if are_together(bot, command, &bots[i], &commands[i]) {
+        if numbers[i] == number {
             return bots[i].bid;
         }
     }
@@ -236,43 +191,37 @@ fn first_mate(bots: &[Bot], commands: &[Command], bot: &Bot, command: &Command) 
 }
 
 /// Adds the turn of the bot at a place, if the bot leads a group.
-fn push_turn(turns: &mut ArrayVec<Turn, MOST_BOTS>, bots: &[Bot], commands: &[Command], i: usize)
-    requires lengths { length commands.now ≡ length bots.now }
+fn push_turn(turns: &mut ArrayVec<Turn, MOST_BOTS>, bots: &[Bot], numbers: &[u8], i: usize)
+    requires lengths { length numbers.now ≡ length bots.now }
     requires i { i < length bots.now }
-    requires most { length bots.now ≤ 40 }
     requires room { array_vec_len turns.old ≤ i }
-    requires rising { AllPairs (λ a b. a.bid < b.bid) bots.now }
-    ensures turns { AreTurns (acts bots.now commands.now)
-        (filter (is_leader (acts bots.now commands.now)) (acts (take i bots.now) (take i commands.now))) turns.old.items
-        → AreTurns (acts bots.now commands.now)
-        (filter (is_leader (acts bots.now commands.now)) (acts (take (i + 1) bots.now) (take (i + 1) commands.now))) turns.new.items }
+    requires crew { IsCrew bots.now }
+    ensures turns { (commands : List Command) → length commands ≡ length bots.now → AreNumbers (acts bots.now commands) numbers.now
+        → AreTurns (acts bots.now commands)
+        (filter (is_leader (acts bots.now commands)) (acts (take i bots.now) (take i commands))) turns.old.items
+        → AreTurns (acts bots.now commands)
+        (filter (is_leader (acts bots.now commands)) (acts (take (i + 1) bots.now) (take (i + 1) commands))) turns.new.items }
     ensures len { array_vec_len turns.new ≤ i + 1 }
 {
-    let bot = &bots[i];
-    let command = &commands[i];
-    if acts_alone(command) {
-        turns.push(Turn::alone(bot.bid, i as u8));
-        return;
-    }
-    if has_mate(&bots[..i], &commands[..i], bot, command) {
+    if usize::from(numbers[i]) != i {
         return;
     }
     turns.push(Turn {
-        leader: bot.bid,
-        place: i as u8,
-        partner: first_mate(&bots[i + 1..], &commands[i + 1..], bot, command),
+        leader: bots[i].bid,
+        place: numbers[i],
+        partner: first_numbered(&bots[i + 1..], &numbers[i + 1..], numbers[i]),
     });
 }
 
-/// The turns of the groups of a step of these bots, from their commands alone.
-pub(crate) fn list_turns(turns: &mut ArrayVec<Turn, MOST_BOTS>, bots: &[Bot], commands: &[Command])
-    requires lengths { length commands.now ≡ length bots.now }
-    requires most { length bots.now ≤ 40 }
-    requires rising { AllPairs (λ a b. a.bid < b.bid) bots.now }
-    ensures { AreTurns (acts bots.now commands.now) (leaders (acts bots.now commands.now)) turns.new.items }
+/// The turns of the groups of a step of these bots, by the numbers of the groups.
+pub(crate) fn list_turns(turns: &mut ArrayVec<Turn, MOST_BOTS>, bots: &[Bot], numbers: &[u8])
+    requires lengths { length numbers.now ≡ length bots.now }
+    requires crew { IsCrew bots.now }
+    ensures { (commands : List Command) → length commands ≡ length bots.now → AreNumbers (acts bots.now commands) numbers.now
+        → AreTurns (acts bots.now commands) (leaders (acts bots.now commands)) turns.new.items }
 {
     turns.clear();
     for i in 0..bots.len() {
-        push_turn(turns, bots, commands, i);
+        push_turn(turns, bots, numbers, i);
     }
 }

@@ -1,6 +1,7 @@
 //! What the turn of a group does to the voxels, and what it costs.
 ghost use Rattle.std.specs.Prelude.{◌≡◌, ◌+◌, ◌-◌, ◌≤◌, ◌∷◌, [], cond, All, IsTrue};
 ghost use Rattle.vox_geom.specs.Point.{Point, point};
+ghost use Rattle.vox_geom.specs.Region.{IsOrdered, span};
 ghost use Rattle.vox_geom.specs.Space.{IsInSpace};
 ghost use Rattle.nano_spec.specs.Act.{stays_in_space};
 ghost use Rattle.nano_spec.specs.Energy.{group_cost};
@@ -8,7 +9,6 @@ ghost use Rattle.nano_spec.specs.Matrix.{Matrix};
 ghost use Rattle.nano_spec.specs.Step.{matrix_after};
 ghost use Rattle.energy_sum.specs.Costs.{met_full_count, void_count};
 ghost use Rattle.system_state.specs.Bounds.{IsTurnCost};
-ghost use Rattle.system_state.specs.Edited.{region_of};
 ghost use Rattle.system_state.specs.Painting.{full_in, met_count, size_in, void_in, with_cells, with_span};
 ghost use Rattle.vox_planes.specs.Voxel.{IsWhole};
 ghost use Rattle.step_groups.specs.Judging.{act};
@@ -18,7 +18,7 @@ use crate::known::know;
 use energy_sum::{a_group_costs_little, command_cost};
 use nano_spec::{Bot, Command};
 use std::sync::ledger::Ledger;
-use vox_geom::{Coord, Region, Steps};
+use vox_geom::{Coord, Steps};
 use vox_planes::Planes;
 
 /// Makes the cells full or void.
@@ -42,17 +42,16 @@ pub(crate) struct Met {
 
 /// Makes the region full or void, and tells what it met.
 fn change_region<L: Ledger>(matrix: &mut Planes, edited: EditedRegion, steps: &mut Steps<L>) -> Met
-    requires near { IsInSpace matrix.old.resolution edited.near }
-    requires far { IsInSpace matrix.old.resolution edited.far }
-    ensures matrix { matrix.new ≡ with_span matrix.old (region_of edited) edited.full }
-    ensures void { result.void ≡ void_in matrix.old (region_of edited) }
-    ensures full { result.full ≡ full_in matrix.old (region_of edited) }
-    ensures touches { steps.new ≤ steps.old + size_in matrix.old (region_of edited) }
+    requires ordered { IsOrdered edited.region }
+    requires within { IsInSpace matrix.old.resolution edited.region.high }
+    ensures matrix { matrix.new ≡ with_span matrix.old (span edited.region) edited.full }
+    ensures void { result.void ≡ void_in matrix.old (span edited.region) }
+    ensures full { result.full ≡ full_in matrix.old (span edited.region) }
+    ensures touches { steps.new ≤ steps.old + size_in matrix.old (span edited.region) }
 {
     matrix.know();
-    let region = Region::of(edited.near, edited.far);
-    let others = matrix.set_region(&region, edited.full, steps);
-    met_by(region.size(), others, edited.full)
+    let others = matrix.set_region(&edited.region, edited.full, steps);
+    met_by(edited.region.size(), others, edited.full)
 }
 
 /// What is met in a region of which so many voxels were not yet full, or else not yet void.
@@ -80,20 +79,10 @@ fn turn_cost(command: &Command, met: Met) -> i64
     ensures cost { (m : Matrix) (p : Point) → met.void ≡ void_count m p command.now → met.full ≡ met_full_count m p command.now
         → result ≡ group_cost m p command.now }
 {
-    match command {
-        Command::FusionS(d) => command_cost(Command::FusionP(*d), met.void, met.full),
-        Command::Halt => command_cost(Command::Halt, met.void, met.full),
-        Command::Wait => command_cost(Command::Wait, met.void, met.full),
-        Command::Flip => command_cost(Command::Flip, met.void, met.full),
-        Command::SMove(d) => command_cost(Command::SMove(*d), met.void, met.full),
-        Command::LMove(d, e) => command_cost(Command::LMove(*d, *e), met.void, met.full),
-        Command::FusionP(d) => command_cost(Command::FusionP(*d), met.void, met.full),
-        Command::Fission(d, m) => command_cost(Command::Fission(*d, *m), met.void, met.full),
-        Command::Fill(d) => command_cost(Command::Fill(*d), met.void, met.full),
-        Command::Void(d) => command_cost(Command::Void(*d), met.void, met.full),
-        Command::GFill(d, f) => command_cost(Command::GFill(*d, *f), met.void, met.full),
-        Command::GVoid(d, f) => command_cost(Command::GVoid(*d, *f), met.void, met.full),
+    if let Command::FusionS(d) = command {
+        return command_cost(Command::FusionP(*d), met.void, met.full);
     }
+    command_cost(*command, met.void, met.full)
 }
 
 /// Changes the voxels in the turn of the bot's group, and tells what its command met.

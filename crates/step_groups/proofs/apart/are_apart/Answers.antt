@@ -1,15 +1,10 @@
 use Rattle.std.proofs.Common.{arith, get_or}
 use Rattle.std.proofs.lemmas.List.{get_or_default}
-use Rattle.nano_spec.specs.declared.system.Bot.{Bot}
 use Rattle.step_groups.specs.Judging.{act}
 use Rattle.step_groups.proofs.Lone.{boxed_more}
-use Rattle.step_groups.proofs.Mates.{take_more}
+use Rattle.step_groups.proofs.Mates.{blank, take_more}
 use Rattle.step_groups.proofs.Pushed.{stays_here}
 use Rattle.step_groups.proofs.apart.are_apart.Goals as goal
-
--- what reading gives past the end
-abbrev blank : Bot
-blank = record { bid = 0; pos = record { x = 0; y = 0; z = 0 }; seeds = 0 }
 
 pub own_hull-hull-requires-clause-stays : goal.own_hull-hull-requires-clause-stays
 own_hull-hull-requires-clause-stays c =

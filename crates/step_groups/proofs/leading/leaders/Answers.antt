@@ -1,32 +1,61 @@
-use Rattle.std.proofs.Common.{◌≡◌, get_or, length, sym, ap, subst, ◌∙◌, arith, ◌++◌, ◌∷◌, [], List}
-use Rattle.std.specs.Prelude.{AllPairs, ◌<◌}
-use Rattle.arrayvec.specs.ArrayVec.{array_vec_len}
+use Rattle.std.proofs.Common.{◌≡◌, ◌++◌, ◌∙◌, ◌∷◌, [], ap, arith, get_or, length, subst, sym, List}
 use Rattle.std.proofs.lemmas.List.{get_or_default}
+use Rattle.nano_spec.specs.declared.commands.Command.TheVariants.{Wait}
 use Rattle.nano_spec.specs.declared.system.Bot.{Bot}
+use Rattle.nano_spec.specs.Act.{acts}
+use Rattle.bot_crew.specs.Crew.{IsCrew}
+use Rattle.step_groups.specs.Numbers.{AreNumbers}
+use Rattle.step_groups.proofs.Mates.{blank}
 use Rattle.step_groups.proofs.Led.{follows, leads_one}
+use Rattle.step_groups.proofs.Telling.{as_many_numbers, follows_by_number, leads_by_number}
 use Rattle.step_groups.proofs.leading.leaders.Goals as goal
-use Rattle.step_groups.proofs.leading.leaders.Goals.{then-not-has_mate, else-not-has_mate}
 
--- what reading gives past the end
-abbrev blank : Bot
-blank = record { bid = 0; pos = record { x = 0; y = 0; z = 0 }; seeds = 0 }
+pub bounds-deref-i : goal.bounds-deref-i
+bounds-deref-i c =
+    let bots = c.bots-bots.result.now in
+    let commands = c.args.commands.now in
+    let numbers = c.deref.result.now in
+    let i = c.loop-i.i in
+    let lengths : length commands ≡ length bots = c.requires ∙ sym (ap length c.bots-bots.ensures.value) in
+    let crew : IsCrew bots = subst (λ (bs : List Bot). IsCrew bs) (sym c.bots-bots.ensures.value) c.bots-bots.ensures.crew in
+    let are : AreNumbers (acts bots commands) numbers = c.deref.ensures.0 ∙ c.number_groups-numbers.ensures in
+    let same : length numbers ≡ length bots = as_many_numbers bots commands numbers lengths are in
+    omega (arith, same, c.loop-i-test.true)
+
+pub loop-i-preserved-then-from-i : goal.loop-i-preserved-then-from-i
+loop-i-preserved-then-from-i c =
+    let bots = c.bots-bots.result.now in
+    let commands = c.args.commands.now in
+    let numbers = c.deref.result.now in
+    let i = c.loop-i.i in
+    let lengths : length commands ≡ length bots = c.requires ∙ sym (ap length c.bots-bots.ensures.value) in
+    let crew : IsCrew bots = subst (λ (bs : List Bot). IsCrew bs) (sym c.bots-bots.ensures.value) c.bots-bots.ensures.crew in
+    let are : AreNumbers (acts bots commands) numbers = c.deref.ensures.0 ∙ c.number_groups-numbers.ensures in
+    let b = get_or bots i blank in
+    let k = get_or commands i Wait in
+    let here = get_or_default bots i blank b c.loop-i-test.true in
+    let there = get_or_default commands i Wait k (omega (arith, lengths, c.loop-i-test.true)) in
+    let behind = follows_by_number bots commands lengths crew numbers are i k c.loop-i-test.true there (λ e. c.if-from-i.true (c.from.ensures ∙ e)) in
+    record {
+      bids = c.loop-i.invariant.bids ∙ sym (follows bots commands i b k c.loop-i-test.true lengths here there crew.rising behind);
+      len = let l = c.loop-i.invariant.len in omega arith;
+    }
 
 pub loop-i-preserved : goal.loop-i-preserved
 loop-i-preserved c =
     let bots = c.bots-bots.result.now in
+    let commands = c.args.commands.now in
+    let numbers = c.deref.result.now in
     let i = c.loop-i.i in
-    let lengths : length c.args.commands.now ≡ length bots = c.requires ∙ sym (ap length c.bots-bots.ensures.value) in
-    let rising : AllPairs (λ a b. a.bid < b.bid) bots = subst (λ (bs : List Bot). AllPairs (λ a b. a.bid < b.bid) bs) (sym c.bots-bots.ensures.value) c.bots-bots.ensures.crew.rising in
-    let here = get_or_default bots i blank (get_or bots i blank) c.loop-i-test.true in
-    elim c.if-not-has_mate.branch [
-      | then-not-has_mate w ↦ record {
-        bids = ap (λ bs. bs.items) w.bids-is ∙ (w.push.ensures.items ∙ (ap (λ bids. bids ++ (get_or bots i blank).bid ∷ []) c.loop-i.invariant.bids
-            ∙ sym (leads_one bots c.args.commands.now i (get_or bots i blank) c.index-commands-i.result c.loop-i-test.true lengths here c.index-commands-i.is rising (sym c.has_mate.ensures ∙ w.if-not-has_mate.true))));
-        len = let n = w.push.ensures.len in let m = ap (λ bs. array_vec_len bs) w.bids-is in let l = c.loop-i.invariant.len in omega arith;
-      }
-      | else-not-has_mate w ↦ record {
-        bids = ap (λ bs. bs.items) w.bids-is ∙ (c.loop-i.invariant.bids
-            ∙ sym (follows bots c.args.commands.now i (get_or bots i blank) c.index-commands-i.result c.loop-i-test.true lengths here c.index-commands-i.is rising (sym c.has_mate.ensures ∙ w.if-not-has_mate.false)));
-        len = let m = ap (λ bs. array_vec_len bs) w.bids-is in let l = c.loop-i.invariant.len in omega arith;
-      }
-    ]
+    let lengths : length commands ≡ length bots = c.requires ∙ sym (ap length c.bots-bots.ensures.value) in
+    let crew : IsCrew bots = subst (λ (bs : List Bot). IsCrew bs) (sym c.bots-bots.ensures.value) c.bots-bots.ensures.crew in
+    let are : AreNumbers (acts bots commands) numbers = c.deref.ensures.0 ∙ c.number_groups-numbers.ensures in
+    let b = get_or bots i blank in
+    let k = get_or commands i Wait in
+    let here = get_or_default bots i blank b c.loop-i-test.true in
+    let there = get_or_default commands i Wait k (omega (arith, lengths, c.loop-i-test.true)) in
+    let leads = leads_by_number bots commands lengths crew numbers are i k c.loop-i-test.true there (sym c.from.ensures ∙ c.if-from-i.false) in
+    record {
+      bids = c.push.ensures.items ∙ (ap (λ bids. bids ++ b.bid ∷ []) c.loop-i.invariant.bids ∙ sym (leads_one bots commands i b k c.loop-i-test.true lengths here there crew.rising leads));
+      len = let l = c.loop-i.invariant.len in let m = c.push.ensures.len in omega arith;
+    }

@@ -1,15 +1,12 @@
 use Rattle.std.proofs.Common.{◌≡◌, ◌+◌, ◌∙◌, arith, ap, get_or, sym, subst, List, [], ◌∷◌, ◌++◌, length, take}
 use Rattle.std.proofs.lemmas.List.{get_or_default}
-use Rattle.nano_spec.specs.declared.system.Bot.{Bot}
 use Rattle.nano_spec.specs.Act.{Act, acts}
 use Rattle.system_state.specs.declared.turns.Turn.{Turn}
 use Rattle.system_state.specs.Turns.{AreTurns}
-use Rattle.system_state.proofs.Gathered.{acts_count, lone_turn_more, take_whole}
+use Rattle.step_groups.proofs.Telling.{acts_length}
+use Rattle.step_groups.proofs.Mates.{blank}
+use Rattle.system_state.proofs.Gathered.{lone_turn_more, take_whole}
 use Rattle.system_state.proofs.turns.list_lone_turns.Goals as goal
-
--- what reading gives past the end
-abbrev blank : Bot
-blank = record { bid = 0; pos = record { x = 0; y = 0; z = 0 }; seeds = 0 }
 
 pub loop-i-preserved : goal.loop-i-preserved
 loop-i-preserved c = record {
@@ -26,5 +23,5 @@ pub returns : goal.returns
 returns c = λ commands e lone.
     let all = acts c.args.bots.now commands in
     subst (λ (xs : List Act). AreTurns all xs c.loop-i.turns.items) (sym lone.leads)
-    (subst (λ (xs : List Act). AreTurns all xs c.loop-i.turns.items) (take_whole c.loop-i.i all (let n : length all ≡ length c.args.bots.now = acts_count c.args.bots.now commands e in let m = c.loop-i-test.false in omega arith))
+    (subst (λ (xs : List Act). AreTurns all xs c.loop-i.turns.items) (take_whole c.loop-i.i all (let n : length all ≡ length c.args.bots.now = acts_length c.args.bots.now commands e in let m = c.loop-i-test.false in omega arith))
     (c.loop-i.invariant.turns commands e lone.alone))

@@ -1,31 +1,36 @@
-use Rattle.std.proofs.Common.{ap, get_or, sym, ◌∙◌, [], ◌∷◌, ◌++◌}
+use Rattle.std.proofs.Common.{◌∷◌, ◌++◌, ◌∙◌, [], ap, arith, get_or, sym}
 use Rattle.std.proofs.lemmas.List.{get_or_default}
-use Rattle.nano_spec.specs.declared.system.Bot.{Bot}
-use Rattle.system_state.specs.declared.turns.Turn.{Turn}
-use Rattle.system_state.proofs.Listed.{alone_more, joined_more, no_turn_more}
+use Rattle.nano_spec.specs.declared.commands.Command.TheVariants.{Wait}
+use Rattle.step_groups.proofs.Telling.{follows_by_number, leads_by_number, tells_after}
+use Rattle.step_groups.proofs.Mates.{blank}
+use Rattle.system_state.proofs.Listed.{no_turn_more, numbered_more}
 use Rattle.system_state.proofs.turns.push_turn.Goals as goal
 
--- what reading gives past the end
-abbrev blank : Bot
-blank = record { bid = 0; pos = record { x = 0; y = 0; z = 0 }; seeds = 0 }
-
-pub returns-then-acts_alone-clause-turns : goal.returns-then-acts_alone-clause-turns
-returns-then-acts_alone-clause-turns c =
+pub returns-then-from-i-clause-turns : goal.returns-then-from-i-clause-turns
+returns-then-from-i-clause-turns c = λ commands lengths are.
     let bots = c.args.bots.now in
+    let numbers = c.args.numbers.now in
     let i = c.args.i in
-    alone_more bots c.args.commands.now i (get_or bots i blank) c.index-commands-i.result c.requires.i c.requires.lengths (get_or_default bots i blank (get_or bots i blank) c.requires.i) c.index-commands-i.is c.requires.rising
-    c.args.turns.now.items c.push.new.self.items (c.push.ensures.items ∙ ap (λ (t : Turn). c.args.turns.now.items ++ t ∷ []) c.alone.ensures) (sym c.acts_alone.ensures ∙ c.if-acts_alone.true)
-
-pub returns-then-has_mate-clause-turns : goal.returns-then-has_mate-clause-turns
-returns-then-has_mate-clause-turns c =
-    let bots = c.args.bots.now in
-    let i = c.args.i in
-    no_turn_more bots c.args.commands.now i (get_or bots i blank) c.index-commands-i.result c.requires.i c.requires.lengths (get_or_default bots i blank (get_or bots i blank) c.requires.i) c.index-commands-i.is c.requires.rising
-    c.args.turns.now.items (sym c.has_mate.ensures ∙ c.if-has_mate.true)
+    let n = get_or numbers i 0 in
+    let b = get_or bots i blank in
+    let k = get_or commands i Wait in
+    let here = get_or_default bots i blank b c.requires.i in
+    let there = get_or_default commands i Wait k (omega (arith, lengths, c.requires.i)) in
+    no_turn_more bots commands i b k c.requires.i lengths here there c.requires.crew.rising c.args.turns.now.items
+    (follows_by_number bots commands lengths c.requires.crew numbers are i k c.requires.i there (λ e. c.if-from-i.true (c.from.ensures ∙ e)))
 
 pub returns-clause-turns : goal.returns-clause-turns
-returns-clause-turns c =
+returns-clause-turns c = λ commands lengths are.
     let bots = c.args.bots.now in
+    let numbers = c.args.numbers.now in
     let i = c.args.i in
-    joined_more bots c.args.commands.now i (get_or bots i blank) c.index-commands-i.result c.requires.i c.requires.lengths (get_or_default bots i blank (get_or bots i blank) c.requires.i) c.index-commands-i.is c.requires.rising
-    c.args.turns.now.items c.push-2.new.self.items c.first_mate.result c.push-2.ensures.items (sym c.has_mate.ensures ∙ c.if-has_mate.false) c.first_mate.ensures
+    let n = get_or numbers i 0 in
+    let b = get_or bots i blank in
+    let k = get_or commands i Wait in
+    let here = get_or_default bots i blank b c.requires.i in
+    let there = get_or_default commands i Wait k (omega (arith, lengths, c.requires.i)) in
+    let first = sym c.from.ensures ∙ c.if-from-i.false in
+    let leads = leads_by_number bots commands lengths c.requires.crew numbers are i k c.requires.i there first in
+    let tell = tells_after bots commands lengths c.requires.crew numbers are i k c.requires.i there in
+    numbered_more bots commands i b k c.requires.i lengths here there c.requires.crew.rising c.args.turns.now.items c.push.new.self.items numbers n c.first_numbered.result
+    (c.push.ensures.items ∙ ap (λ place. c.args.turns.now.items ++ record { leader = b.bid; place = place; partner = c.first_numbered.result } ∷ []) first) leads tell c.first_numbered.ensures

@@ -1,30 +1,29 @@
-use Rattle.std.proofs.Common.{◌≡◌, ◌∙◌, arith, rules}
+use Rattle.std.proofs.Common.{◌≡◌, ◌∙◌, arith, refl}
 use Rattle.std.specs.Prelude.{count_by}
 use Rattle.vox_geom.specs.Point.{point}
 use Rattle.vox_geom.specs.Region.{is_within, size, span}
 use Rattle.nano_spec.specs.Matrix.{all_of}
 use Rattle.system_state.specs.Painting.{size_in}
-use Rattle.system_state.specs.Edited.{region_of}
 use Rattle.system_state.proofs.Spans.{full_met, same_painted, same_size, void_met}
 use Rattle.system_state.proofs.voxels.change_region.Goals as goal
 
 pub returns-clause-matrix : goal.returns-clause-matrix
-returns-clause-matrix g c = c.set_region-others.ensures.value ∙ same_painted c.args.matrix.now c.of-region.result (region_of c.args.edited) c.of-region.ensures.covers c.args.edited.full
+returns-clause-matrix g c = c.set_region-others.ensures.value ∙ same_painted c.args.matrix.now c.args.edited.region (span c.args.edited.region) (λ p. refl) c.args.edited.full
 
 pub returns-clause-void : goal.returns-clause-void
 returns-clause-void g c =
     c.met_by.ensures.void
-    ∙ void_met c.args.matrix.now c.of-region.result (region_of c.args.edited) c.of-region.ensures.covers c.args.edited.full c.set_region-others.result c.size.result c.set_region-others.ensures.count (c.size.ensures.counts c.args.matrix.now.resolution (search rules))
+    ∙ void_met c.args.matrix.now c.args.edited.region (span c.args.edited.region) (λ p. refl) c.args.edited.full c.set_region-others.result c.size.result c.set_region-others.ensures.count (c.size.ensures.counts c.args.matrix.now.resolution c.requires.within)
 
 pub returns-clause-full : goal.returns-clause-full
 returns-clause-full g c =
     c.met_by.ensures.full
-    ∙ full_met c.args.matrix.now c.of-region.result (region_of c.args.edited) c.of-region.ensures.covers c.args.edited.full c.set_region-others.result c.size.result c.set_region-others.ensures.count (c.size.ensures.counts c.args.matrix.now.resolution (search rules))
+    ∙ full_met c.args.matrix.now c.args.edited.region (span c.args.edited.region) (λ p. refl) c.args.edited.full c.set_region-others.result c.size.result c.set_region-others.ensures.count (c.size.ensures.counts c.args.matrix.now.resolution c.requires.within)
 
 pub returns-clause-touches : goal.returns-clause-touches
 returns-clause-touches g c =
     let t = c.set_region-others.ensures.touches in
-    let v : c.size.result ≡ size (span c.of-region.result) = c.size.ensures.value in
-    let n : c.size.result ≡ count_by (λ d. is_within (span c.of-region.result) (point d)) (all_of c.args.matrix.now) = c.size.ensures.counts c.args.matrix.now.resolution (search rules) in
-    let s : count_by (λ d. is_within (span c.of-region.result) (point d)) (all_of c.args.matrix.now) ≡ size_in c.args.matrix.now (region_of c.args.edited) = same_size c.args.matrix.now c.of-region.result (region_of c.args.edited) c.of-region.ensures.covers in
+    let v : c.size.result ≡ size (span c.args.edited.region) = c.size.ensures.value in
+    let n : c.size.result ≡ count_by (λ d. is_within (span c.args.edited.region) (point d)) (all_of c.args.matrix.now) = c.size.ensures.counts c.args.matrix.now.resolution c.requires.within in
+    let s : count_by (λ d. is_within (span c.args.edited.region) (point d)) (all_of c.args.matrix.now) ≡ size_in c.args.matrix.now (span c.args.edited.region) = same_size c.args.matrix.now c.args.edited.region (span c.args.edited.region) (λ p. refl) in
     omega arith

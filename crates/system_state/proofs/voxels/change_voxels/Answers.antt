@@ -1,29 +1,30 @@
 use Rattle.std.proofs.Common.{◌≡◌, ◌∙◌, arith}
+use Rattle.vox_geom.specs.Region.{span}
 use Rattle.system_state.specs.Painting.{met_count, size_in}
-use Rattle.system_state.specs.Edited.{region_of}
-use Rattle.system_state.proofs.Spans.{after_none, after_work, full_is, no_full, no_void, size_is, void_is}
+use Rattle.system_state.proofs.Spans.{after_none, after_work, full_is, no_full, no_void, same_full, same_painted, same_size, same_void, size_is, void_is}
 use Rattle.system_state.proofs.voxels.change_voxels.Goals as goal
 
 pub returns-in-Some-clause-matrix : goal.returns-in-Some-clause-matrix
 returns-in-Some-clause-matrix g c =
     let w = c.in-Some.ensures in
-    c.change_region.ensures.matrix ∙ after_work c.args.matrix.now c.args.bot c.args.command.now (region_of c.in-Some.edited) c.in-Some.edited.full w.filled w.voided
+    c.change_region.ensures.matrix ∙ (same_painted c.args.matrix.now c.in-Some.edited.region w.named w.covers c.in-Some.edited.full ∙ after_work c.args.matrix.now c.args.bot c.args.command.now w.named c.in-Some.edited.full w.filled w.voided)
 
 pub returns-in-Some-clause-void : goal.returns-in-Some-clause-void
 returns-in-Some-clause-void g c =
     let w = c.in-Some.ensures in
-    c.change_region.ensures.void ∙ void_is c.args.matrix.now c.args.bot c.args.command.now (region_of c.in-Some.edited) c.in-Some.edited.full w.filled w.voided
+    c.change_region.ensures.void ∙ (same_void c.args.matrix.now c.in-Some.edited.region w.named w.covers ∙ void_is c.args.matrix.now c.args.bot c.args.command.now w.named c.in-Some.edited.full w.filled w.voided)
 
 pub returns-in-Some-clause-full : goal.returns-in-Some-clause-full
 returns-in-Some-clause-full g c =
     let w = c.in-Some.ensures in
-    c.change_region.ensures.full ∙ full_is c.args.matrix.now c.args.bot c.args.command.now (region_of c.in-Some.edited) c.in-Some.edited.full w.filled w.voided
+    c.change_region.ensures.full ∙ (same_full c.args.matrix.now c.in-Some.edited.region w.named w.covers ∙ full_is c.args.matrix.now c.args.bot c.args.command.now w.named c.in-Some.edited.full w.filled w.voided)
 
 pub returns-in-Some-clause-touches : goal.returns-in-Some-clause-touches
 returns-in-Some-clause-touches g c =
     let w = c.in-Some.ensures in
     let t = c.change_region.ensures.touches in
-    let s : size_in c.args.matrix.now (region_of c.in-Some.edited) ≡ met_count c.args.matrix.now c.args.bot c.args.command.now = size_is c.args.matrix.now c.args.bot c.args.command.now (region_of c.in-Some.edited) c.in-Some.edited.full w.filled w.voided in
+    let r : size_in c.args.matrix.now (span c.in-Some.edited.region) ≡ size_in c.args.matrix.now w.named = same_size c.args.matrix.now c.in-Some.edited.region w.named w.covers in
+    let s : size_in c.args.matrix.now w.named ≡ met_count c.args.matrix.now c.args.bot c.args.command.now = size_is c.args.matrix.now c.args.bot c.args.command.now w.named c.in-Some.edited.full w.filled w.voided in
     omega arith
 
 pub returns-in-None-clause-matrix : goal.returns-in-None-clause-matrix

@@ -10,30 +10,30 @@ use Rattle.step_groups.proofs.Whole.{by_bot, by_pair}
 use Rattle.step_groups.proofs.groups.Groups.judge.Goals as goal
 
 pub returns-in-Some-clause-broken : goal.returns-in-Some-clause-broken
-returns-in-Some-clause-broken g c = by_bot c.args.step.now c.judge_bots.result c.in-Some.broken c.requires.lengths c.judge_bots.ensures.value c.in-Some.is
+returns-in-Some-clause-broken g c = by_bot c.args.step.now c.judge_bots.result c.in-Some.broken c.requires.step.lengths c.judge_bots.ensures.value c.in-Some.is
 
 pub returns-in-Some-clause-touches : goal.returns-in-Some-clause-touches
-returns-in-Some-clause-touches g c = touched c.args.step.now.planes.now c.args.step.now.bots.now c.args.step.now.commands.now c.args.steps.now c.judge_bots.new.steps c.requires.lengths c.requires.crew.rising c.judge_bots.ensures.touches
+returns-in-Some-clause-touches g c = touched c.args.step.now.planes.now c.args.step.now.bots.now c.args.step.now.commands.now c.args.steps.now c.judge_bots.new.steps c.requires.step.lengths c.requires.step.crew.rising c.judge_bots.ensures.touches
 
 pub list_groups-requires-clause-judged : goal.list_groups-requires-clause-judged
-list_groups-requires-clause-judged g c = judged c.args.step.now.bots.now c.args.step.now.commands.now c.requires.lengths c.requires.crew.rising c.requires.crew.positions (start_of_step c.args.step.now) c.args.step.now.number (sym c.judge_bots.ensures.value ∙ c.in_default.is)
+list_groups-requires-clause-judged g c = judged c.args.step.now.bots.now c.args.step.now.commands.now c.requires.step.lengths c.requires.step.crew.rising c.requires.step.crew.positions (start_of_step c.args.step.now) c.args.step.now.number (sym c.judge_bots.ensures.value ∙ c.in_default.is)
 
 pub returns-in-Some-judge_pairs-clause-broken : goal.returns-in-Some-judge_pairs-clause-broken
 returns-in-Some-judge_pairs-clause-broken g c =
     let m = c.args.step.now.planes.now in
     let all : List Act = acts_of_step c.args.step.now in
-    by_pair c.args.step.now c.judge_bots.result c.judge_pairs.result (Some c.in-Some-judge_pairs.broken) c.requires.lengths c.judge_bots.ensures.value c.in_default.is
+    by_pair c.args.step.now c.judge_bots.result c.judge_pairs.result (Some c.in-Some-judge_pairs.broken) c.requires.step.lengths c.judge_bots.ensures.value c.in_default.is
     (c.judge_pairs.ensures m all (leaders all) (subst (λ (gs : List Group). AreGroups m.resolution all (leaders all) gs) (sym c.as_slice.ensures.value) c.list_groups.ensures)) c.in-Some-judge_pairs.is
 
 pub returns-in-Some-judge_pairs-clause-touches : goal.returns-in-Some-judge_pairs-clause-touches
-returns-in-Some-judge_pairs-clause-touches g c = touched c.args.step.now.planes.now c.args.step.now.bots.now c.args.step.now.commands.now c.args.steps.now c.judge_bots.new.steps c.requires.lengths c.requires.crew.rising c.judge_bots.ensures.touches
+returns-in-Some-judge_pairs-clause-touches g c = touched c.args.step.now.planes.now c.args.step.now.bots.now c.args.step.now.commands.now c.args.steps.now c.judge_bots.new.steps c.requires.step.lengths c.requires.step.crew.rising c.judge_bots.ensures.touches
 
 pub returns-clause-unbroken : goal.returns-clause-unbroken
 returns-clause-unbroken g c =
     let m = c.args.step.now.planes.now in
     let all : List Act = acts_of_step c.args.step.now in
-    by_pair c.args.step.now c.judge_bots.result c.judge_pairs.result None c.requires.lengths c.judge_bots.ensures.value c.in_default.is
+    by_pair c.args.step.now c.judge_bots.result c.judge_pairs.result None c.requires.step.lengths c.judge_bots.ensures.value c.in_default.is
     (c.judge_pairs.ensures m all (leaders all) (subst (λ (gs : List Group). AreGroups m.resolution all (leaders all) gs) (sym c.as_slice.ensures.value) c.list_groups.ensures)) c.in_default-judge_pairs.is
 
 pub returns-clause-touches : goal.returns-clause-touches
-returns-clause-touches g c = touched c.args.step.now.planes.now c.args.step.now.bots.now c.args.step.now.commands.now c.args.steps.now c.judge_bots.new.steps c.requires.lengths c.requires.crew.rising c.judge_bots.ensures.touches
+returns-clause-touches g c = touched c.args.step.now.planes.now c.args.step.now.bots.now c.args.step.now.commands.now c.args.steps.now c.judge_bots.new.steps c.requires.step.lengths c.requires.step.crew.rising c.judge_bots.ensures.touches
