@@ -10,7 +10,7 @@ use Rattle.nano_spec.specs.Cutting.{Decoding, NoTrace, BadAt, CutAt}
 use Rattle.nano_spec.specs.Legal.{Legality, NotLegal}
 use Rattle.nano_spec.specs.Matrix.{Matrix, empty}
 use Rattle.nano_spec.specs.Model.{NoModel, model}
-use Rattle.nano_spec.specs.Profile.{full_profile, light_profile}
+use Rattle.nano_spec.specs.Profile.{full_profile}
 use Rattle.nano_spec.specs.Reading.{FaultyLine, read}
 use Rattle.nano_spec.specs.Verdict.{VerdictOf}
 use Rattle.group_planner.specs.Bounds.{most_bytes}
@@ -25,14 +25,16 @@ use Rattle.nanobot_rows.specs.declared.report.Who.{Who}
 use Rattle.nanobot_rows.specs.declared.report.Who.TheVariants as who
 use Rattle.nanobot_rows.specs.declared.status.Status.{Status}
 use Rattle.nanobot_rows.specs.declared.status.Status.TheVariants as is
-use Rattle.nanobot_rows.specs.Answer.{Answer, AnswerOf, AnswerOfRun, AskNoPlan, Judged, OfBytes, OfDecoding, OfGroupPlan, OfLines, OfLowPlan, OfPlan, OfReading, OfRun, OfScript, OfSession, OfText, OfTrace, Reply, WhereSupported, WithBoth, WithFile, WithModel, WithModels, WithSide, dis_limit, group_limit, run_limit, script_limit, text_limit}
-use Rattle.plan_choice.specs.Planners.{IsCrewPlan, IsGroupPlan, IsLayerPlan, IsLowPlan, IsSwarmPlan, IsVoidPlan, PlanFacts}
+use Rattle.nanobot_rows.specs.Answer.{Answer, AnswerOf, AnswerOfRun, AskNoPlan, OfBytes, OfPlan, OfRun, OfScript, OfSession, OfText, OfTrace, Reply, StoresPlan, WherePlanned, WithBoth, WithFile, WithModel, WithModels, WithSide, dis_limit, facts_of, group_limit, profile_of, run_limit, script_limit, text_limit}
 use Rattle.nanobot_app.specs.Outcome.{DepotRose, IsAnswer, LacksFile, CallOutcome, Outside, SinkRose}
 use Rattle.nanobot_rows.specs.Reading.{no_such_file, reply_of}
 use Rattle.nanobot_rows.specs.Lines.{no_model_line, not_legal_line, text_line}
-use Rattle.nanobot_words.specs.Rows.{Row, asm, check, debug, dis, exercise, light, make, plan_crew, plan_group, plan_layer, plan_low, plan_swarm, plan_void, run, IsRow, MakesPlans}
-use Rattle.nanobot_rows.proofs.Replies.{verdict_reply}
+use Rattle.nanobot_words.specs.declared.planner.Planner.{Planner}
+use Rattle.nanobot_words.specs.declared.planner.Planner.TheVariants.{Layer, Group, Crew, Void, Low, Swarm}
+use Rattle.nanobot_words.specs.Rows.{Row, asm, check, debug, dis, exercise, make, plan, run, IsRow, MakesPlans}
+use Rattle.nanobot_rows.proofs.Replies.{verdict_reply, verdict_told}
 use Rattle.nanobot_rows.proofs.Told.{if_some}
+use Rattle.nanobot_rows.proofs.Parts.{Judged, OfDecoding, OfLines, OfReading}
 
 -- ---- at most one reply, or one part of it
 
@@ -114,7 +116,7 @@ module _ {A : Type 0} (part : Reply → A) (laws : Laws) where
     both_once (Some a) (Some b) p f r s h k = choice_once (a.resolution == b.resolution) (p a b) (λ r. r ≡ reply_of files (report.Resolutions a.resolution b.resolution)) (f a b) (same_reply (reply_of files (report.Resolutions a.resolution b.resolution))) r s h k
 
     run_once : (profile : Profile) (source target : Matrix) (commands : List Command) → Once (OfRun profile files source target commands)
-    run_once profile source target commands r s h k = ap part (h.2 ∙ (ap (λ (v : Verdict). verdict_reply files v) (laws.verdicts source target commands profile h.0 k.0 h.1 k.1) ∙ sym k.2))
+    run_once profile source target commands r s h k = ap part (verdict_told files h.0 r h.2 ∙ (ap (λ (v : Verdict). verdict_reply files v) (laws.verdicts source target commands profile h.0 k.0 h.1 k.1) ∙ sym (verdict_told files k.0 s k.2)))
 
     decoded_once : (d : Result (List Command) NoTrace) (p : List Command → Reply → Type 0) → ((commands : List Command) → Once (p commands)) → Once (OfDecoding files d p)
     decoded_once (Ok commands) p f = f commands
@@ -163,38 +165,33 @@ module _ {A : Type 0} (part : Reply → A) (laws : Laws) where
     run_answer_once : (profile : Profile) (source target : Option (List ℕ)) (trace : List ℕ) → Once (AnswerOfRun profile source target trace files)
     run_answer_once profile source target trace = models_once source target _ (λ s t. file_once trace _ (λ bytes. trace_once run_limit bytes _ (λ commands. run_once profile s t commands)))
 
-    -- two plans have the same status at least
-    plan_once : ((r s : Reply) → r.status ≡ s.status → part r ≡ part s) → (Is : PlanFacts) (name : List ℕ) (source target : Matrix) → Once (OfPlan Is name files source target)
-    plan_once told Is name source target r s h k = told r s (ap (λ (x : Reply). x.status) h.4 ∙ sym (ap (λ (x : Reply). x.status) k.4))
-
-    group_once : ((r s : Reply) → r.status ≡ s.status → part r ≡ part s) → (name : List ℕ) (source target : Matrix) → Once (OfGroupPlan name files source target)
-    group_once told name source target =
-        choice_once (nat_lt group_limit (most_bytes source target)) (λ r. r ≡ reply_of files (report.GroupLong (runs source + runs target) (rows source + rows target))) (OfPlan IsGroupPlan name files source target)
-        (same_reply (reply_of files (report.GroupLong (runs source + runs target) (rows source + rows target)))) (plan_once told IsGroupPlan name source target)
-
-    supported_once : (at : Option Coord) (p : Reply → Type 0) → Once p → Once (WhereSupported files at p)
-    supported_once None p f = f
-    supported_once (Some at) p f = same_reply (reply_of files (report.Unsupported at))
-
-    low_once : ((r s : Reply) → r.status ≡ s.status → part r ≡ part s) → (name : List ℕ) (source target : Matrix) → Once (OfLowPlan name files source target)
-    low_once told name source target r s h k =
-        let p = OfPlan IsLowPlan name files source target in
+    planned_once : (planner : Planner) (source target : Matrix) (p : Reply → Type 0) → Once p → Once (WherePlanned planner files source target p)
+    planned_once Layer source target p f = f
+    planned_once Group source target p f =
+        choice_once (nat_lt group_limit (most_bytes source target)) (λ r. r ≡ reply_of files (report.GroupLong (runs source + runs target) (rows source + rows target))) p
+        (same_reply (reply_of files (report.GroupLong (runs source + runs target) (rows source + rows target)))) f
+    planned_once Crew source target p f = f
+    planned_once Void source target p f = f
+    planned_once Low source target p f = λ r s h k.
         let same = laws.unsupported target h.0 k.0 h.1 k.1 in
-        supported_once k.0 p (plan_once told IsLowPlan name source target) r s (subst (λ (at : Option Coord). WhereSupported files at p r) same h.2) k.2
+        by k.0 r s (subst (λ (at : Option Coord). MatchOption at (p r) (λ c. r ≡ reply_of files (report.Unsupported c))) same h.2) k.2
+      where
+        by : (at : Option Coord) → Once (λ r. MatchOption at (p r) (λ c. r ≡ reply_of files (report.Unsupported c)))
+        by None = f
+        by (Some at) = same_reply (reply_of files (report.Unsupported at))
+    planned_once Swarm source target p f = f
+
+    -- two plans have the same status at least
+    plan_once : ((r s : Reply) → r.status ≡ s.status → part r ≡ part s) → (planner : Planner) (name : List ℕ) (source target : Matrix) → Once (OfPlan planner name files source target)
+    plan_once told planner name source target = planned_once planner source target (StoresPlan (facts_of planner) name files source target) (λ r s h k. told r s (ap (λ (x : Reply). x.status) h.4 ∙ sym (ap (λ (x : Reply). x.status) k.4)))
 
     row_answer_once : (row : Row) → (MakesPlans row → (r s : Reply) → r.status ≡ s.status → part r ≡ part s) → Once (AnswerOf row files)
     row_answer_once (check name) told = model_once who.Model name _ (λ m. same_reply _)
-    row_answer_once (run source target trace) told = run_answer_once full_profile source target trace
-    row_answer_once (light source target trace) told = run_answer_once light_profile source target trace
+    row_answer_once (run round source target trace) told = run_answer_once (profile_of round) source target trace
     row_answer_once (asm text trace) told = file_once text _ (λ bytes. text_once bytes _ (λ commands. same_reply _))
     row_answer_once (dis trace text) told = file_once trace _ (λ bytes. trace_once dis_limit bytes _ (λ commands. same_reply _))
     row_answer_once (make number resolution name) told = same_reply _
-    row_answer_once (plan_layer source target trace) told = models_once source target _ (λ s t. plan_once (told tt) IsLayerPlan trace s t)
-    row_answer_once (plan_group source target trace) told = models_once source target _ (λ s t. group_once (told tt) trace s t)
-    row_answer_once (plan_crew source target trace) told = models_once source target _ (λ s t. plan_once (told tt) IsCrewPlan trace s t)
-    row_answer_once (plan_void source trace) told = models_once (Some source) None _ (λ s t. plan_once (told tt) IsVoidPlan trace s t)
-    row_answer_once (plan_low target trace) told = models_once None (Some target) _ (λ s t. low_once (told tt) trace s t)
-    row_answer_once (plan_swarm target trace) told = models_once None (Some target) _ (λ s t. plan_once (told tt) IsSwarmPlan trace s t)
+    row_answer_once (plan planner source target trace) told = models_once source target _ (λ s t. plan_once (told tt) planner trace s t)
     row_answer_once (exercise number resolution) told = λ r s h k. told tt r s (ap (λ (x : Reply). x.status) h.4 ∙ sym (ap (λ (x : Reply). x.status) k.4))
     row_answer_once (debug source trace script) told = model_once who.Source source _ (λ m. file_once trace _ (λ bytes. trace_once dis_limit bytes _ (λ commands. file_once script _ (λ text. script_once m.resolution text _ (λ lines. session_once m commands lines)))))
 

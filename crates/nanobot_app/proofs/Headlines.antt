@@ -20,17 +20,19 @@ use Rattle.nanobot_rows.specs.declared.report.Who.{Who}
 use Rattle.nanobot_rows.specs.declared.report.Who.TheVariants as who
 use Rattle.nanobot_rows.specs.declared.status.Status.{Status}
 use Rattle.nanobot_rows.specs.declared.status.Status.TheVariants as is
-use Rattle.nanobot_rows.specs.Answer.{Answer, AnswerOf, AnswerOfRun, AskNoPlan, Judged, OfBytes, OfDecoding, OfRun, OfTrace, Reply, WithBoth, WithFile, WithModel, WithModels, WithSide, run_limit}
+use Rattle.nanobot_rows.specs.Answer.{Answer, AnswerOf, AnswerOfRun, AskNoPlan, OfBytes, OfRun, OfTrace, Reply, WithBoth, WithFile, WithModel, WithModels, WithSide, run_limit}
 use Rattle.nanobot_app.specs.Headline.{IsCost, IsDoneWith, MachineTakes, TakesBytes}
 use Rattle.nanobot_app.specs.Outcome.{DepotRose, IsAnswer, CallOutcome, Outside, SinkRose}
 use Rattle.nanobot_rows.specs.Models.{AreModels, IsModelOf}
 use Rattle.nanobot_rows.specs.Reading.{AreBoth, HasSide, no_such_file, reply_of}
 use Rattle.nanobot_rows.specs.Lines.{accepted_line}
 use Rattle.nanobot_rows.specs.Report.{status_of}
+use Rattle.nanobot_words.specs.declared.row.Round.TheVariants.{Full}
 use Rattle.nanobot_words.specs.Rows.{HasName, Row, run, MakesPlans, IsRow, IsRunOf}
 use Rattle.nanobot_app.proofs.Determined.{AnswerLaw, RowLaw, StatusLaw, complete}
-use Rattle.nanobot_rows.proofs.Replies.{models_given, models_of, verdict_reply}
+use Rattle.nanobot_rows.proofs.Replies.{models_given, models_of, verdict_reply, verdict_told}
 use Rattle.nanobot_rows.proofs.Told.{if_some, weaker}
+use Rattle.nanobot_rows.proofs.Parts.{Judged, OfDecoding}
 
 -- ---- what a run that takes its trace answers
 
@@ -48,7 +50,7 @@ taken files source target trace energy steps h = by (content files trace) h
     by None h = absurd h
     by (Some bytes) h = of_bytes bytes h
 
-pub answers_taken : (files : Files) (source target : Option (List ℕ)) (trace : List ℕ) (energy : ℤ) (steps : ℕ) → MachineTakes files source target trace energy steps → AnswerOf (run source target trace) files (reply_of files (report.Accepted energy steps))
+pub answers_taken : (files : Files) (source target : Option (List ℕ)) (trace : List ℕ) (energy : ℤ) (steps : ℕ) → MachineTakes files source target trace energy steps → AnswerOf (run Full source target trace) files (reply_of files (report.Accepted energy steps))
 answers_taken files source target trace energy steps t =
     models_given files source target _ t.named t.from t.to _ t.models (taken files t.from t.to trace energy steps t.taken)
 
@@ -117,8 +119,9 @@ module _ (files : Files) (source target : Matrix) (reply : Reply) (done : reply.
 
   done_run : (bytes : List ℕ) (commands : List Command) → length bytes ≤ run_limit → Decoding bytes (Ok commands) → OfRun full_profile files source target commands reply → Found bytes
   done_run bytes commands fits cutting h =
-      let a = accepted files h.0 reply h.2 done in
-      (a.0, a.1, (fits, (commands, cutting, subst (λ (v : Verdict). VerdictOf source target commands full_profile v) a.2 h.1)), h.2 ∙ ap (λ (v : Verdict). verdict_reply files v) a.2)
+      let told = verdict_told files h.0 reply h.2 in
+      let a = accepted files h.0 reply told done in
+      (a.0, a.1, (fits, (commands, cutting, subst (λ (v : Verdict). VerdictOf source target commands full_profile v) a.2 h.1)), told ∙ ap (λ (v : Verdict). verdict_reply files v) a.2)
 
   done_decoding : (bytes : List ℕ) (d : Result (List Command) NoTrace) → length bytes ≤ run_limit → Decoding bytes d → OfDecoding files d (OfRun full_profile files source target) reply → Found bytes
   done_decoding bytes (Ok commands) fits decoding h = done_run bytes commands fits decoding h
@@ -138,7 +141,7 @@ module _ (files : Files) (source target : Matrix) (reply : Reply) (done : reply.
       by None h = absurd (not_gone files reply h done)
       by (Some bytes) h = let f = of_bytes bytes (nat_lt run_limit (length bytes)) refl h in (f.0, f.1, f.2, f.3)
 
-pub takes_done : (files : Files) (source target : Option (List ℕ)) (trace : List ℕ) (reply : Reply) → reply.status ≡ is.Done → AnswerOf (run source target trace) files reply
+pub takes_done : (files : Files) (source target : Option (List ℕ)) (trace : List ℕ) (reply : Reply) → reply.status ≡ is.Done → AnswerOf (run Full source target trace) files reply
     → (energy : ℤ) × (steps : ℕ) × MachineTakes files source target trace energy steps × (reply ≡ reply_of files (report.Accepted energy steps))
 takes_done files source target trace reply done h =
     let m = done_models files source target _ reply done h in
@@ -151,11 +154,11 @@ of_the_row one words row files reply is_row (inl h) = absurd (h.0 row is_row)
 of_the_row one words row files reply is_row (inr h) = subst (λ (r : Row). AnswerOf r files reply) (one words h.0 row h.1 is_row) h.2
 
 -- words that ask for a run ask for no plans
-run_is_no_plan : RowLaw → (words : List (List ℕ)) (source target : Option (List ℕ)) (trace : List ℕ) → IsRow words (run source target trace) → AskNoPlan words
-run_is_no_plan one words source target trace is row other plan = subst MakesPlans (one words row (run source target trace) other is) plan
+run_is_no_plan : RowLaw → (words : List (List ℕ)) (source target : Option (List ℕ)) (trace : List ℕ) → IsRow words (run Full source target trace) → AskNoPlan words
+run_is_no_plan one words source target trace is row other plan = subst MakesPlans (one words row (run Full source target trace) other is) plan
 
 -- the row of a run
-pub row_of_run : (words : List (List ℕ)) (source target : Option (List ℕ)) (trace : List ℕ) → IsRunOf words source target trace → IsRow words (run source target trace)
+pub row_of_run : (words : List (List ℕ)) (source target : Option (List ℕ)) (trace : List ℕ) → IsRunOf words source target trace → IsRow words (run Full source target trace)
 row_of_run words source target trace is = record { written = is.written; named = is.named; of_table = is.of_table }
 
 -- ---- both halves of the headline
@@ -167,7 +170,7 @@ abbrev pub ApartLaw : Type 0
 ApartLaw = (energy energy' : ℤ) (steps steps' : ℕ) → IsCost energy steps → IsCost energy' steps' → accepted_line energy steps ≡ accepted_line energy' steps' → (energy ≡ energy') × (steps ≡ steps')
 
 module _ {stores : List ℕ → Type 0} (one : RowLaw) (statuses : StatusLaw) (law : AnswerLaw) (small : SmallLaw) (words : List (List ℕ)) (old new : Outside) (result : Status) (o : CallOutcome (Answer words) stores old new result) (source target : Option (List ℕ)) (trace : List ℕ) (of_run : IsRunOf words source target trace) where
-  is_row : IsRow words (run source target trace)
+  is_row : IsRow words (run Full source target trace)
   is_row = row_of_run words source target trace of_run
 
   stood : (files : Files) → old.files ≡ Some files → IsAnswer result → (reply : Reply) × Answer words files reply × (new.files ≡ Some reply.after) × ((reply.status ≡ result) × (new.written ≡ append_known old.written reply.line))
@@ -176,7 +179,7 @@ module _ {stores : List ℕ → Type 0} (one : RowLaw) (statuses : StatusLaw) (l
   pub headline_where : (DepotRose old new → ⊥) → (SinkRose old new → ⊥) → (result ≡ is.Memory → ⊥) → IfSome old.files (λ files. (energy : ℤ) (steps : ℕ) → MachineTakes files source target trace energy steps → IsDoneWith result old.written new.written energy steps)
   headline_where no_depot no_sink no_memory = if_some old.files (λ files told energy steps takes.
       let reply = reply_of files (report.Accepted energy steps) in
-      let answer : Answer words files reply = inr (run source target trace, is_row, answers_taken files source target trace energy steps takes) in
+      let answer : Answer words files reply = inr (run Full source target trace, is_row, answers_taken files source target trace energy steps takes) in
       let all = complete statuses words old new result o no_depot no_sink in
       let here = subst (λ t. IfSome t (λ files. (reply : Reply) → Answer words files reply → (result ≡ reply.status) ⊎ (result ≡ is.Memory))) told all in
       done_with files told energy steps reply (small files source target trace energy steps takes) answer (here reply answer))
@@ -191,12 +194,12 @@ module _ {stores : List ℕ → Type 0} (one : RowLaw) (statuses : StatusLaw) (l
   pub headline_only : result ≡ is.Done → IfSome old.files (λ files. (energy : ℤ) × (steps : ℕ) × MachineTakes files source target trace energy steps × IsDoneWith result old.written new.written energy steps)
   headline_only done = if_some old.files (λ files told.
       let s = stood files told (subst IsAnswer (sym done) tt) in
-      let t = takes_done files source target trace s.0 (s.3.0 ∙ done) (of_the_row one words (run source target trace) files s.0 is_row s.1) in
+      let t = takes_done files source target trace s.0 (s.3.0 ∙ done) (of_the_row one words (run Full source target trace) files s.0 is_row s.1) in
       (t.0, t.1, t.2, (done, small files source target trace t.0 t.1 t.2, s.3.1 ∙ ap (λ (r : Reply). append_known old.written r.line) t.3)))
 
   -- what was answered, whatever it is
   pub refusal : IsAnswer result → IfSome old.files (λ files. (reply : Reply) × AnswerOfRun full_profile source target trace files reply × (result ≡ reply.status) × (new.written ≡ append_known old.written reply.line) × (new.files ≡ Some reply.after))
-  refusal a = weaker old.files (λ files s. (s.0, of_the_row one words (run source target trace) files s.0 is_row s.1, sym s.3.0, s.3.1, s.2)) (o.answer a)
+  refusal a = weaker old.files (λ files s. (s.0, of_the_row one words (run Full source target trace) files s.0 is_row s.1, sym s.3.0, s.3.1, s.2)) (o.answer a)
 
   -- both halves, where what is written is told: the line has one energy and one number of steps
   pub headline : ApartLaw → (DepotRose old new → ⊥) → (SinkRose old new → ⊥) → (result ≡ is.Memory → ⊥)

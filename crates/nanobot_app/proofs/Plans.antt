@@ -1,5 +1,5 @@
 -- A plan that was stored is accepted by `run`.
-use Rattle.std.proofs.Common.{◌≡◌, ℕ, ◌+◌, ◌*◌, ◌≤◌, List, Bool, true, false, cond, refl, sym, ap, ◌∙◌, subst, arith, nat_lt, length, mul-le-mul}
+use Rattle.std.proofs.Common.{◌≡◌, ℕ, ◌+◌, ◌≤◌, List, Bool, true, false, cond, refl, sym, ap, ◌∙◌, subst, arith, nat_lt, length}
 use Rattle.std.specs.Prelude.{ℤ, Option, Some, None, Result, Ok, IsSomeAnd, MatchBool, MatchOption}
 use Rattle.std.specs.FinMap.{get-insert}
 use Rattle.std.specs.Str.{bytes_eq}
@@ -20,21 +20,25 @@ use Rattle.nano_spec.specs.Spelling.{spellings}
 use Rattle.nano_spec.specs.Verdict.{VerdictOf}
 use Rattle.group_planner.specs.Bounds.{most_bytes}
 use Rattle.group_planner.specs.Rows.{rows, runs}
+use Rattle.low_planner.specs.Supported.{FirstUnsupported}
 use Rattle.vox_depot.specs.Files.{Files, content}
 use Rattle.nanobot_rows.specs.declared.report.Report.TheVariants as report
 use Rattle.nanobot_rows.specs.declared.status.Status.TheVariants as is
-use Rattle.nanobot_rows.specs.Answer.{AnswerOf, AnswerOfRun, OfDecoding, OfGroupPlan, OfLowPlan, OfPlan, OfRun, OfTrace, Reply, IsReply, Stores, WhereSupported, group_limit, run_limit, with_file}
-use Rattle.plan_choice.specs.Planners.{IsCrewPlan, IsGroupPlan, IsLayerPlan, IsLowPlan, IsSwarmPlan, IsVoidPlan}
-use Rattle.nanobot_app.specs.Plans.{IsRunOfPlan}
-use Rattle.nanobot_rows.specs.Lines.{group_long_line, planned_line}
+use Rattle.nanobot_rows.specs.Answer.{AnswerOf, AnswerOfRun, OfPlan, OfRun, OfTrace, Reply, IsReply, Stores, StoresPlan, WherePlanned, facts_of, group_limit, profile_of, run_limit, with_file}
+use Rattle.nanobot_app.specs.Plans.{IsRunOfPlan, PlansAsLight}
+use Rattle.nanobot_rows.specs.Lines.{group_long_line, planned_line, unsupported_line}
 use Rattle.nanobot_rows.specs.Models.{AreModels, IsModelOf, IsSide}
+use Rattle.nanobot_rows.specs.Plans.{RefusesPlan}
 use Rattle.nanobot_rows.specs.Reading.{no_such_file, reply_of}
-use Rattle.nanobot_words.specs.Rows.{HasName, plan_crew, plan_group, plan_layer, plan_low, plan_swarm, plan_void}
+use Rattle.nanobot_words.specs.declared.planner.Planner.{Planner}
+use Rattle.nanobot_words.specs.declared.planner.Planner.TheVariants.{Layer, Group, Crew, Void, Low, Swarm}
+use Rattle.nanobot_words.specs.declared.row.Round.{Round}
+use Rattle.nanobot_words.specs.Rows.{HasName, plan}
 use Rattle.low_planner.proofs.Builds.{full_most}
-use Rattle.plan_choice.proofs.Lengths.{few_commands, four_each, layer_fits, low_fits, swarm_fits, two_each, void_fits}
-use Rattle.nanobot_rows.proofs.Stored.{nothing_here}
+use Rattle.plan_choice.proofs.Lengths.{few_commands, four_each, layer_fits, low_fits, swarm_fits, two_each, void_fits, volume_most}
 use Rattle.nanobot_app.proofs.Headlines.{done_models, named_of}
 use Rattle.nanobot_rows.proofs.Replies.{models_given}
+use Rattle.nanobot_rows.proofs.Parts.{OfDecoding}
 
 -- ---- the files after one was stored
 
@@ -93,100 +97,94 @@ module _ (law : MostLaw) where
   most_of_models files None (Some name) s t named m = subst (λ (r : ℕ). r ≤ 400) (sym m.alike) (most_of files name t m.target_is)
   most_of_models files None None s t named m = absurd named
 
-  -- ---- the run
+-- ---- each planner's plans
 
-  module _ (source target : Option (List ℕ)) (trace : List ℕ) (files : Files) (first : source ≡ Some trace → ⊥) (second : target ≡ Some trace → ⊥) where
-    -- the file of a plan that is not too long is taken by a run
-    run_of_plan : (profile : Profile) (s t : Matrix) (commands : List Command) (energy : ℤ) (steps : ℕ) (reply : Reply) → HasName source target → AreModels source target files s t → AreCommands commands → VerdictOf s t commands profile (Accepted energy steps)
-        → length (spellings commands) ≤ run_limit → Stores (planned_line energy steps (length commands) (length (spellings commands))) trace (spellings commands) files reply → IsRunOfPlan profile source target trace reply
-    run_of_plan profile s t commands energy steps reply named models are accepted size e =
-        subst (λ (r : Reply). IsRunOfPlan profile source target trace r) (sym e) (record {
-          energy = energy;
-          steps = steps;
-          commands = length commands;
-          bytes = length (spellings commands);
-          told = refl;
-          accepted = runs_through profile (with_file files trace (spellings commands)) source target trace s t commands energy steps named (models_stay files trace (spellings commands) source target s t first second models)
-              (own_content files trace (spellings commands)) are accepted size;
-        })
+module _ (s t : Matrix) (commands : List Command) (energy : ℤ) (steps : ℕ) where
+  are_commands : (planner : Planner) → facts_of planner s t commands energy steps → AreCommands commands
+  are_commands Layer h = h.plan.are_commands
+  are_commands Group h = h.plan.are_commands
+  are_commands Crew h = h.plan.are_commands
+  are_commands Void h = h.plan.are_commands
+  are_commands Low h = h.plan.are_commands
+  are_commands Swarm h = h.plan.are_commands
 
-    pub layer_is_accepted : (reply : Reply) → AnswerOf (plan_layer source target trace) files reply → reply.status ≡ is.Done → IsRunOfPlan full_profile source target trace reply
-    layer_is_accepted reply answer done =
-        let named = named_of files source target (OfPlan IsLayerPlan trace files) reply answer in
-        let m = done_models files source target (OfPlan IsLayerPlan trace files) reply done answer in
-        let plan = m.3.3 in
-        let size = layer_fits m.0.resolution (length (spellings m.3.0)) (most_of_models files source target m.0 m.1 named m.2) plan.bytes in
-        run_of_plan full_profile m.0 m.1 m.3.0 m.3.1 m.3.2 reply named m.2 plan.are_commands plan.accepted size m.3.4
+  pub in_full : (planner : Planner) → facts_of planner s t commands energy steps → VerdictOf s t commands full_profile (Accepted energy steps)
+  in_full Layer h = h.plan.accepted
+  in_full Group h = h.plan.accepted
+  in_full Crew h = h.plan.accepted
+  in_full Void h = h.plan.accepted
+  in_full Low h = h.plan.accepted
+  in_full Swarm h = h.plan.accepted
 
-    pub crew_is_accepted : (reply : Reply) → AnswerOf (plan_crew source target trace) files reply → reply.status ≡ is.Done → IsRunOfPlan full_profile source target trace reply
-    crew_is_accepted reply answer done =
-        let named = named_of files source target (OfPlan IsCrewPlan trace files) reply answer in
-        let m = done_models files source target (OfPlan IsCrewPlan trace files) reply done answer in
-        let plan = m.3.3 in
-        run_of_plan full_profile m.0 m.1 m.3.0 m.3.1 m.3.2 reply named m.2 plan.are_commands plan.accepted plan.few_bytes m.3.4
+  pub as_light : (planner : Planner) → PlansAsLight planner → facts_of planner s t commands energy steps → VerdictOf s t commands light_profile (Accepted energy steps)
+  as_light Low light h = h.accepted_as_light
+  as_light Swarm light h = h.accepted_as_light
+  as_light Layer light h = absurd light
+  as_light Group light h = absurd light
+  as_light Crew light h = absurd light
+  as_light Void light h = absurd light
 
-    -- a plan of the group planner that is told is within the limit
-    group_done : (s t : Matrix) (reply : Reply) → reply.status ≡ is.Done → OfGroupPlan trace files s t reply → (most_bytes s t ≤ group_limit) × OfPlan IsGroupPlan trace files s t reply
-    group_done s t reply done h = by (nat_lt group_limit (most_bytes s t)) refl h
-      where
-        by : (b : Bool) → nat_lt group_limit (most_bytes s t) ≡ b → MatchBool b (IsReply is.Model (group_long_line (runs s + runs t) (rows s + rows t)) files reply) (OfPlan IsGroupPlan trace files s t reply) → (most_bytes s t ≤ group_limit) × OfPlan IsGroupPlan trace files s t reply
-        by true e h = absurd (let no : is.Model ≡ is.Done = sym (ap (λ (x : Reply). x.status) h) ∙ done in cc)
-        by false e h = (not_less_by_test group_limit (most_bytes s t) e, h)
+  -- no plan is longer than a trace that is run
+  fits : (planner : Planner) → s.resolution ≤ 400 → t.resolution ≤ 400 → RefusesPlan planner s t None → facts_of planner s t commands energy steps → length (spellings commands) ≤ run_limit
+  fits Layer most most' made h = layer_fits s.resolution (length (spellings commands)) most h.bytes
+  fits Group most most' made h = let few = h.few_bytes in omega (arith, few, made)
+  fits Crew most most' made h = h.few_bytes
+  fits Void most most' made h = void_fits s.resolution steps (length commands) (length (spellings commands)) most h.few_steps (few_commands s t full_profile commands 4 h.plan.few_bots energy steps h.plan.accepted) (four_each commands)
+  fits Low most most' made h = low_fits (volume t.resolution) (full_count t) steps (length commands) (length (spellings commands)) (volume_most t.resolution most') (full_most t) h.few_steps (few_commands s t light_profile commands 1 h.plan.few_bots energy steps h.accepted_as_light) (two_each commands h.plain)
+  fits Swarm most most' made h = swarm_fits t.resolution steps (length commands) (length (spellings commands)) most' h.few_steps (few_commands s t light_profile commands 20 h.plan.few_bots energy steps h.accepted_as_light) (four_each commands)
 
-    pub group_is_accepted : (reply : Reply) → AnswerOf (plan_group source target trace) files reply → reply.status ≡ is.Done → IsRunOfPlan full_profile source target trace reply
-    group_is_accepted reply answer done =
-        let named = named_of files source target (OfGroupPlan trace files) reply answer in
-        let m = done_models files source target (OfGroupPlan trace files) reply done answer in
-        let g = group_done m.0 m.1 reply done m.3 in
-        let plan = g.1.3 in
-        let size : length (spellings g.1.0) ≤ run_limit = omega (arith, plan.few_bytes, g.0) in
-        run_of_plan full_profile m.0 m.1 g.1.0 g.1.1 g.1.2 reply named m.2 plan.are_commands plan.accepted size g.1.4
-
-  -- ---- plans of one model
-
-  some_is : (a b : List ℕ) → Some a ≡ Some b → a ≡ b
-  some_is a b e = cc
-
-  none_is : (b : List ℕ) → None ≡ Some b → ⊥
-  none_is b e = cc
-
-  pub void_is_accepted : (source trace : List ℕ) (files : Files) → (source ≡ trace → ⊥) → (reply : Reply) → AnswerOf (plan_void source trace) files reply → reply.status ≡ is.Done → IsRunOfPlan full_profile (Some source) None trace reply
-  void_is_accepted source trace files other reply answer done =
-      let m = done_models files (Some source) None (OfPlan IsVoidPlan trace files) reply done answer in
-      let plan = m.3.3 in
-      let most = most_of_models files (Some source) None m.0 m.1 tt m.2 in
-      let few = few_commands m.0 m.1 full_profile m.3.0 4 plan.few_bots m.3.1 m.3.2 plan.accepted in
-      let size = void_fits m.0.resolution m.3.2 (length m.3.0) (length (spellings m.3.0)) most plan.few_steps few (four_each m.3.0) in
-      run_of_plan (Some source) None trace files (λ e. other (some_is source trace e)) (none_is trace) full_profile m.0 m.1 m.3.0 m.3.1 m.3.2 reply tt m.2 plan.are_commands plan.accepted size m.3.4
-
-  -- a plan of the low planner that is told has no unsupported part
-  low_done : (trace : List ℕ) (files : Files) (s t : Matrix) (reply : Reply) → reply.status ≡ is.Done → OfLowPlan trace files s t reply → OfPlan IsLowPlan trace files s t reply
-  low_done trace files s t reply done h = by h.0 h.2
+module _ (files : Files) (s t : Matrix) (p : Reply → Type 0) (reply : Reply) (done : reply.status ≡ is.Done) where
+  -- a plan that is told was made
+  was_made : (planner : Planner) → WherePlanned planner files s t p reply → RefusesPlan planner s t None × p reply
+  was_made Layer h = (tt, h)
+  was_made Group h = by (nat_lt group_limit (most_bytes s t)) refl h
     where
-      by : (at : Option Coord) → WhereSupported files at (OfPlan IsLowPlan trace files s t) reply → OfPlan IsLowPlan trace files s t reply
-      by None h = h
-      by (Some at) h = absurd (let no : is.Unsupported ≡ is.Done = sym (ap (λ (x : Reply). x.status) h) ∙ done in cc)
+      by : (b : Bool) → nat_lt group_limit (most_bytes s t) ≡ b → MatchBool b (IsReply is.Model (group_long_line (runs s + runs t) (rows s + rows t)) files reply) (p reply) → (most_bytes s t ≤ group_limit) × p reply
+      by true e h = absurd (let no : is.Model ≡ is.Done = sym (ap (λ (x : Reply). x.status) h) ∙ done in cc)
+      by false e h = (not_less_by_test group_limit (most_bytes s t) e, h)
+  was_made Crew h = (tt, h)
+  was_made Void h = (tt, h)
+  was_made Low h = by h.0 h.1 h.2
+    where
+      by : (at : Option Coord) → FirstUnsupported t at → MatchOption at (p reply) (λ c. IsReply is.Unsupported (unsupported_line c) files reply) → FirstUnsupported t None × p reply
+      by None first h = (first, h)
+      by (Some at) first h = absurd (let no : is.Unsupported ≡ is.Done = sym (ap (λ (x : Reply). x.status) h) ∙ done in cc)
+  was_made Swarm h = (tt, h)
 
-  cube : (r : ℕ) → r ≤ 400 → volume r ≤ 64000000
-  cube r h = mul-le-mul (mul-le-mul h h) h
+-- ---- the run
 
-  pub low_is_accepted : (profile : Profile) → ((s t : Matrix) (commands : List Command) (energy : ℤ) (steps : ℕ) → IsLowPlan s t commands energy steps → VerdictOf s t commands profile (Accepted energy steps)) → (target trace : List ℕ) (files : Files) → (target ≡ trace → ⊥) → (reply : Reply) → AnswerOf (plan_low target trace) files reply → reply.status ≡ is.Done → IsRunOfPlan profile None (Some target) trace reply
-  low_is_accepted profile accepts target trace files other reply answer done =
-      let m = done_models files None (Some target) (OfLowPlan trace files) reply done answer in
-      let g = low_done trace files m.0 m.1 reply done m.3 in
-      let plan = g.3 in
-      let same : m.0.resolution ≡ m.1.resolution = ap (λ (x : Matrix). x.resolution) (nothing_here files target m.0 m.1 m.2) in
-      let most : m.1.resolution ≤ 400 = subst (λ (r : ℕ). r ≤ 400) same (most_of_models files None (Some target) m.0 m.1 tt m.2) in
-      let few = few_commands m.0 m.1 light_profile g.0 1 plan.few_bots g.1 g.2 plan.accepted_as_light in
-      let size = low_fits (volume m.1.resolution) (full_count m.1) g.2 (length g.0) (length (spellings g.0)) (cube m.1.resolution most) (full_most m.1) plan.few_steps few (two_each g.0 plan.plain) in
-      run_of_plan None (Some target) trace files (none_is trace) (λ e. other (some_is target trace e)) profile m.0 m.1 g.0 g.1 g.2 reply tt m.2 plan.are_commands (accepts m.0 m.1 g.0 g.1 g.2 plan) size g.4
+-- the file of a plan that is not too long is taken by a run
+module _ (round : Round) (source target : Option (List ℕ)) (trace : List ℕ) (files : Files) (first : source ≡ Some trace → ⊥) (second : target ≡ Some trace → ⊥) where
+  run_of_stored : (s t : Matrix) (commands : List Command) (energy : ℤ) (steps : ℕ) (reply : Reply) → HasName source target → AreModels source target files s t → AreCommands commands
+      → VerdictOf s t commands (profile_of round) (Accepted energy steps) → length (spellings commands) ≤ run_limit
+      → Stores (planned_line energy steps (length commands) (length (spellings commands))) trace (spellings commands) files reply → IsRunOfPlan round source target trace reply
+  run_of_stored s t commands energy steps reply named models are accepted size e =
+      subst (λ (r : Reply). IsRunOfPlan round source target trace r) (sym e) (record {
+        energy = energy;
+        steps = steps;
+        commands = length commands;
+        bytes = length (spellings commands);
+        told = refl;
+        accepted = runs_through (profile_of round) (with_file files trace (spellings commands)) source target trace s t commands energy steps named
+            (models_stay files trace (spellings commands) source target s t first second models) (own_content files trace (spellings commands)) are accepted size;
+      })
 
-  pub swarm_is_accepted : (profile : Profile) → ((s t : Matrix) (commands : List Command) (energy : ℤ) (steps : ℕ) → IsSwarmPlan s t commands energy steps → VerdictOf s t commands profile (Accepted energy steps)) → (target trace : List ℕ) (files : Files) → (target ≡ trace → ⊥) → (reply : Reply) → AnswerOf (plan_swarm target trace) files reply → reply.status ≡ is.Done → IsRunOfPlan profile None (Some target) trace reply
-  swarm_is_accepted profile accepts target trace files other reply answer done =
-      let m = done_models files None (Some target) (OfPlan IsSwarmPlan trace files) reply done answer in
-      let plan = m.3.3 in
-      let same : m.0.resolution ≡ m.1.resolution = ap (λ (x : Matrix). x.resolution) (nothing_here files target m.0 m.1 m.2) in
-      let most : m.1.resolution ≤ 400 = subst (λ (r : ℕ). r ≤ 400) same (most_of_models files None (Some target) m.0 m.1 tt m.2) in
-      let few = few_commands m.0 m.1 light_profile m.3.0 20 plan.few_bots m.3.1 m.3.2 plan.accepted_as_light in
-      let size = swarm_fits m.1.resolution m.3.2 (length m.3.0) (length (spellings m.3.0)) most plan.few_steps few (four_each m.3.0) in
-      run_of_plan None (Some target) trace files (none_is trace) (λ e. other (some_is target trace e)) profile m.0 m.1 m.3.0 m.3.1 m.3.2 reply tt m.2 plan.are_commands (accepts m.0 m.1 m.3.0 m.3.1 m.3.2 plan) size m.3.4
+-- a run in a round in which the planner's plans are accepted takes the file of a plan
+pub run_of_plan : MostLaw → (round : Round) (planner : Planner)
+    → ((s t : Matrix) (commands : List Command) (energy : ℤ) (steps : ℕ) → facts_of planner s t commands energy steps → VerdictOf s t commands (profile_of round) (Accepted energy steps))
+    → (source target : Option (List ℕ)) (trace : List ℕ) (files : Files) (reply : Reply) → (source ≡ Some trace → ⊥) → (target ≡ Some trace → ⊥)
+    → AnswerOf (plan planner source target trace) files reply → reply.status ≡ is.Done → IsRunOfPlan round source target trace reply
+run_of_plan law round planner accepts source target trace files reply first second answer done =
+    let named = named_of files source target (OfPlan planner trace files) reply answer in
+    let found = done_models files source target (OfPlan planner trace files) reply done answer in
+    let s = found.0 in
+    let t = found.1 in
+    let models = found.2 in
+    let made = was_made files s t (StoresPlan (facts_of planner) trace files s t) reply done planner found.3 in
+    let commands = made.1.0 in
+    let energy = made.1.1 in
+    let steps = made.1.2 in
+    let facts = made.1.3 in
+    let most = most_of_models law files source target s t named models in
+    let size = fits s t commands energy steps planner most (subst (λ (r : ℕ). r ≤ 400) models.alike most) made.0 facts in
+    run_of_stored round source target trace files first second s t commands energy steps reply named models (are_commands s t commands energy steps planner facts) (accepts s t commands energy steps facts) size made.1.4

@@ -27,12 +27,13 @@ use Rattle.vox_depot.specs.Files.{Files, content}
 use Rattle.nanobot_rows.specs.declared.report.Report.TheVariants as report
 use Rattle.nanobot_rows.specs.declared.report.Who.{Who}
 use Rattle.nanobot_rows.specs.declared.report.Who.TheVariants as who
-use Rattle.nanobot_rows.specs.Answer.{AnswerOf, AnswerOfRun, Judged, OfBytes, OfDecoding, OfLines, OfReading, OfRun, OfScript, OfText, OfTrace, Reply, WithBoth, WithFile, WithModel, WithModels, dis_limit, run_limit, script_limit, text_limit}
+use Rattle.nanobot_rows.specs.Answer.{AnswerOf, AnswerOfRun, OfBytes, OfRun, OfScript, OfText, OfTrace, Reply, WithBoth, WithFile, WithModel, WithModels, dis_limit, run_limit, script_limit, text_limit}
 use Rattle.nanobot_rows.specs.Reading.{no_such_file, reply_of}
 use Rattle.nanobot_words.specs.Rows.{HasName, asm, check, debug, dis}
-use Rattle.nanobot_rows.proofs.Replies.{verdict_reply}
+use Rattle.nanobot_rows.proofs.Replies.{tells_verdict, verdict_reply}
 use Rattle.nanobot_app.proofs.Decodings.{decoding_of}
 use Rattle.plan_tape.proofs.Reached.{enough}
+use Rattle.nanobot_rows.proofs.Parts.{Judged, OfDecoding, OfLines, OfReading}
 
 -- ---- the laws of sessions
 
@@ -158,7 +159,7 @@ module _ (files : Files) where
       (reply_of files (report.TextLong text_limit), refl) (of_reading (read bytes) p f)
 
   of_run : (profile : Profile) (source target : Matrix) (commands : List Command) → IsAnswered (OfRun profile files source target commands)
-  of_run profile source target commands = let v = verdict_of source target commands profile in (verdict_reply files v.0, (v.0, v.1, refl))
+  of_run profile source target commands = let v = verdict_of source target commands profile in (verdict_reply files v.0, (v.0, v.1, tells_verdict files v.0 (verdict_reply files v.0) refl))
 
   pub run_answered : (profile : Profile) (source target : Option (List ℕ)) (trace : List ℕ) → HasName source target → IsAnswered (AnswerOfRun profile source target trace files)
   run_answered profile source target trace has = with_models source target _ has (λ s t. with_file trace _ (λ bytes. of_trace run_limit bytes _ (λ commands are. of_run profile s t commands)))

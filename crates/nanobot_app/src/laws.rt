@@ -1,12 +1,14 @@
 //! The laws of the answers.
-ghost use Rattle.std.specs.Prelude.{◌≡◌, ◌≢◌, ℕ, ℤ, List, Option, Some, None};
-ghost use Rattle.nano_spec.specs.Profile.{full_profile, light_profile};
+ghost use Rattle.std.specs.Prelude.{◌≡◌, ℕ, ℤ, List, Option, Some};
 ghost use Rattle.vox_depot.specs.Files.{Files};
 ghost use Rattle.nanobot_rows.specs.Answer.{Answer, AnswerOf, AskNoPlan, Reply};
 ghost use Rattle.nanobot_rows.specs.Lines.{accepted_line};
 ghost use Rattle.nanobot_app.specs.Headline.{IsCost, MachineTakes};
-ghost use Rattle.nanobot_app.specs.Plans.{IsRunOfPlan};
-ghost use Rattle.nanobot_words.specs.Rows.{HasName, IsInNoRow, asm, check, debug, dis, light, make, plan_crew, plan_group, plan_layer, plan_low, plan_swarm, plan_void, run};
+ghost use Rattle.nanobot_app.specs.Plans.{IsRunOfPlan, PlansAsLight};
+ghost use Rattle.nanobot_words.specs.Rows.{HasName, IsInNoRow, asm, check, debug, dis, make, plan, run};
+ghost use Rattle.nanobot_words.specs.declared.planner.Planner.{Planner};
+ghost use Rattle.nanobot_words.specs.declared.row.Round.{Round};
+ghost use Rattle.nanobot_words.specs.declared.row.Round.TheVariants.{Full, Light};
 ghost use Rattle.nanobot_rows.specs.declared.status.Status.TheVariants as status;
 
 use debug_script::{one_script, one_text, some_script, some_text};
@@ -34,10 +36,8 @@ pub fn one_answer()
 pub fn some_answer()
     ensures no_row { (words : List (List ℕ)) (files : Files) → IsInNoRow words → (reply : Reply) × Answer words files reply }
     ensures check { (model : List ℕ) (files : Files) → (reply : Reply) × AnswerOf (check model) files reply }
-    ensures run { (source target : Option (List ℕ)) (trace : List ℕ) (files : Files) → HasName source target
-        → (reply : Reply) × AnswerOf (run source target trace) files reply }
-    ensures light { (source target : Option (List ℕ)) (trace : List ℕ) (files : Files) → HasName source target
-        → (reply : Reply) × AnswerOf (light source target trace) files reply }
+    ensures run { (round : Round) (source target : Option (List ℕ)) (trace : List ℕ) (files : Files)
+        → HasName source target → (reply : Reply) × AnswerOf (run round source target trace) files reply }
     ensures asm { (text trace : List ℕ) (files : Files) → (reply : Reply) × AnswerOf (asm text trace) files reply }
     ensures dis { (trace text : List ℕ) (files : Files) → (reply : Reply) × AnswerOf (dis trace text) files reply }
     ensures make { (number resolution : ℕ) (model : List ℕ) (files : Files)
@@ -65,24 +65,14 @@ pub fn costs_are_told_apart()
 /// A plan that was stored under a name of its own is accepted by `run` over the files that it left, with the energy and
 /// the steps that were printed, one of the low planner or of the swarm also by `run light`.
 pub fn a_plan_is_accepted()
-    ensures layer { (source target : Option (List ℕ)) (trace : List ℕ) (files : Files) (reply : Reply) → (source ≡ Some trace → ⊥) → (target ≡ Some trace → ⊥)
-        → AnswerOf (plan_layer source target trace) files reply → reply.status ≡ status.Done → IsRunOfPlan full_profile source target trace reply }
-    ensures group { (source target : Option (List ℕ)) (trace : List ℕ) (files : Files) (reply : Reply) → (source ≡ Some trace → ⊥) → (target ≡ Some trace → ⊥)
-        → AnswerOf (plan_group source target trace) files reply → reply.status ≡ status.Done → IsRunOfPlan full_profile source target trace reply }
-    ensures crew { (source target : Option (List ℕ)) (trace : List ℕ) (files : Files) (reply : Reply) → (source ≡ Some trace → ⊥) → (target ≡ Some trace → ⊥)
-        → AnswerOf (plan_crew source target trace) files reply → reply.status ≡ status.Done → IsRunOfPlan full_profile source target trace reply }
-    ensures void { (source trace : List ℕ) (files : Files) (reply : Reply) → (source ≡ trace → ⊥) → AnswerOf (plan_void source trace) files reply
-        → reply.status ≡ status.Done → IsRunOfPlan full_profile (Some source) None trace reply }
-    ensures low { (target trace : List ℕ) (files : Files) (reply : Reply) → (target ≡ trace → ⊥) → AnswerOf (plan_low target trace) files reply
-        → reply.status ≡ status.Done → IsRunOfPlan full_profile None (Some target) trace reply }
-    ensures low_as_light { (target trace : List ℕ) (files : Files) (reply : Reply) → (target ≡ trace → ⊥)
-        → AnswerOf (plan_low target trace) files reply → reply.status ≡ status.Done → IsRunOfPlan light_profile None (Some target) trace reply }
-    ensures swarm { (target trace : List ℕ) (files : Files) (reply : Reply) → (target ≡ trace → ⊥) → AnswerOf (plan_swarm target trace) files reply
-        → reply.status ≡ status.Done
-        → IsRunOfPlan full_profile None (Some target) trace reply }
-    ensures swarm_as_light { (target trace : List ℕ) (files : Files) (reply : Reply) → (target ≡ trace → ⊥)
-        → AnswerOf (plan_swarm target trace) files reply → reply.status ≡ status.Done
-        → IsRunOfPlan light_profile None (Some target) trace reply }
+    ensures in_full { (planner : Planner) (source target : Option (List ℕ)) (trace : List ℕ)
+        (files : Files) (reply : Reply) → (source ≡ Some trace → ⊥) → (target ≡ Some trace → ⊥)
+        → AnswerOf (plan planner source target trace) files reply → reply.status ≡ status.Done
+        → IsRunOfPlan Full source target trace reply }
+    ensures as_light { (planner : Planner) (source target : Option (List ℕ)) (trace : List ℕ)
+        (files : Files) (reply : Reply) → PlansAsLight planner → (source ≡ Some trace → ⊥) → (target ≡ Some trace → ⊥)
+        → AnswerOf (plan planner source target trace) files reply → reply.status ≡ status.Done
+        → IsRunOfPlan Light source target trace reply }
 {
     a_model_is_whole();
 }

@@ -1,5 +1,5 @@
 -- What is given of an answer of a row.
-use Rattle.std.proofs.Common.{◌≡◌, ◌⊎◌, ℕ, List, [], Option, Some, None, refl, sym, ap, subst, inl, inr, arith, length, true, false, Bool}
+use Rattle.std.proofs.Common.{◌≡◌, ◌⊎◌, ℕ, List, [], Option, Some, None, refl, sym, ap, subst, inl, inr, arith, length, Bool}
 use Rattle.std.specs.Prelude.{IfSome}
 use Rattle.std.proofs.lemmas.Bool.{cases_lt}
 use Rattle.vox_depot.specs.Causes.{Rose}
@@ -13,10 +13,11 @@ use Rattle.nanobot_rows.specs.Answer.{AnswerOf, Reply}
 use Rattle.nanobot_rows.specs.Effects.{IsFor, bytes_by, files_with, reply_by, status_by}
 use Rattle.nanobot_rows.specs.Reading.{no_such_file, reply_of}
 use Rattle.nanobot_rows.specs.Report.{code_of, report_line, status_of}
-use Rattle.nanobot_words.specs.Rows.{Row, plan_crew, plan_group, plan_layer, stores_of}
-use Rattle.nanobot_c.specs.Calls.{GaveLineOf, GavePlanOf, Gives, bytes_in, stored_in}
+use Rattle.nanobot_words.specs.declared.planner.Planner.{Planner}
+use Rattle.nanobot_words.specs.Rows.{Row, plan, stores_of}
+use Rattle.nanobot_c.specs.Calls.{GaveLineOf, Gives, GivesPlanBetween, HasModel, HasNoModel, bytes_in, stored_in}
 use Rattle.nanobot_c.specs.Given.{Gave, IsDone, IsMemory, MayGive, file_or_line}
-use Rattle.nanobot_c.specs.Lent.{plan_name, run_row}
+use Rattle.nanobot_c.specs.Lent.{lent, plan_name, run_row, source_side, target_side}
 use Rattle.nanobot_c.proofs.Named.{own_content}
 use Rattle.nanobot_c.proofs.Statuses.{message_is_none, report_is_none}
 
@@ -79,19 +80,16 @@ module _ (row : Row) (files : Files) (old new : List ℕ) (size result : ℕ) wh
 -- a run stores nothing, so its line is given
 pub line_given : (light : Bool) (source target : List ℕ) (files : Files) (old new : List ℕ) (size result : ℕ) → Gives (run_row light source target) files old new size result → (IsMemory result → ⊥)
     → GaveLineOf (run_row light source target) files old new size result
-line_given true source target files old new size result g has = g.answer has
-line_given false source target files old new size result g has = g.answer has
+line_given light source target files old new size result g has = g.answer has
+
+-- where one of two models has bytes, not both have none
+some_model : (source target : List ℕ) → HasModel source target → HasNoModel source target → ⊥
+some_model source target has none = subst (λ s. HasModel s [] → ⊥) (sym none.0) (λ h. h) (subst (λ t. HasModel source t) none.1 has)
 
 -- the trace that a plan between two sides stores, or its line
-module _ (source source' target target' : Option (List ℕ)) (files : Files) (old new : List ℕ) (size result : ℕ) (same_source : source ≡ source') (same_target : target ≡ target') (has : IsMemory result → ⊥) where
-  pub layer_given : Gives (plan_layer source target plan_name) files old new size result → GavePlanOf (plan_layer source' target' plan_name) files old new size result
-  layer_given g = (subst (λ (s : Option (List ℕ)). Gives (plan_layer s target' plan_name) files old new size result) same_source
-      (subst (λ (t : Option (List ℕ)). Gives (plan_layer source t plan_name) files old new size result) same_target g)).answer has
-
-  pub group_given : Gives (plan_group source target plan_name) files old new size result → GavePlanOf (plan_group source' target' plan_name) files old new size result
-  group_given g = (subst (λ (s : Option (List ℕ)). Gives (plan_group s target' plan_name) files old new size result) same_source
-      (subst (λ (t : Option (List ℕ)). Gives (plan_group source t plan_name) files old new size result) same_target g)).answer has
-
-  pub crew_given : Gives (plan_crew source target plan_name) files old new size result → GavePlanOf (plan_crew source' target' plan_name) files old new size result
-  crew_given g = (subst (λ (s : Option (List ℕ)). Gives (plan_crew s target' plan_name) files old new size result) same_source
-      (subst (λ (t : Option (List ℕ)). Gives (plan_crew source t plan_name) files old new size result) same_target g)).answer has
+pub between_given : (planner : Planner) (source target : List ℕ) (s t : Option (List ℕ)) (old new : List ℕ) (size result : ℕ) → s ≡ source_side source → t ≡ target_side target → HasModel source target
+    → Gives (plan planner s t plan_name) (lent source target []) old new size result → GivesPlanBetween planner source target old new size result
+between_given planner source target s t old new size result same_source same_target has gives =
+    let given = subst (λ (a : Option (List ℕ)). Gives (plan planner a (target_side target) plan_name) (lent source target []) old new size result) same_source
+    (subst (λ (b : Option (List ℕ)). Gives (plan planner s b plan_name) (lent source target []) old new size result) same_target gives) in
+    record { answer = λ _. given.answer; no_model = λ none. absurd (some_model source target has none); memory = given.memory }

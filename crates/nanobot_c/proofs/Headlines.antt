@@ -9,6 +9,7 @@ use Rattle.nanobot_rows.specs.Answer.{AnswerOf, Reply}
 use Rattle.nanobot_rows.specs.Reading.{reply_of}
 use Rattle.nanobot_rows.specs.Lines.{accepted_line}
 use Rattle.nanobot_rows.specs.Report.{code_of}
+use Rattle.nanobot_words.specs.declared.row.Round.TheVariants.{Full}
 use Rattle.nanobot_words.specs.Rows.{IsName, IsRow, MakesPlans, Row, run, with_side, row_words}
 use Rattle.nanobot_app.proofs.Determined.{AnswerLaw, RowLaw, StatusLaw}
 use Rattle.nanobot_app.proofs.Headlines.{SmallLaw, answers_taken, takes_done}
@@ -47,7 +48,7 @@ names_are (s ∷ ss) (t ∷ ts) = with_name source_name (target_name ∷ trace_n
 
 module _ (one : RowLaw) (statuses : StatusLaw) (law : AnswerLaw) (source target trace : List ℕ) (has : HasModel source target) where
   abbrev row : Row
-  row = run (source_side source) (target_side target) trace_name
+  row = run Full (source_side source) (target_side target) trace_name
 
   abbrev words : List (List ℕ)
   words = row_words row

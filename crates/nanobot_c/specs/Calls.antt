@@ -10,9 +10,10 @@ use Rattle.nanobot_rows.specs.Reading.{reply_of}
 use Rattle.nanobot_rows.specs.Lines.{accepted_line}
 use Rattle.nanobot_rows.specs.Report.{code_of}
 use Rattle.nanobot_app.specs.Headline.{MachineTakes}
-use Rattle.nanobot_words.specs.Rows.{HasName, Row, stores_of}
-use Rattle.nanobot_c.specs.Given.{Gave, IsDone, IsMemory, file_or_line}
-use Rattle.nanobot_c.specs.Lent.{lent, plan_name, source_side, target_side, trace_name}
+use Rattle.nanobot_words.specs.declared.planner.Planner.{Planner}
+use Rattle.nanobot_words.specs.Rows.{HasName, Row, plan, stores_of}
+use Rattle.nanobot_c.specs.Given.{Gave, GaveNoRow, IsDone, IsMemory, file_or_line}
+use Rattle.nanobot_c.specs.Lent.{lent, plan_name, source_side, target_name, target_side, trace_name}
 
 -- one of the two models has bytes
 abbrev pub HasModel : List ℕ → List ℕ → Type 0
@@ -52,6 +53,20 @@ GaveFileOf name row files old new size result = (reply : Reply) × AnswerOf row 
 -- an answer of the row: the trace that it stores, or else its line, was given with its status
 abbrev pub GavePlanOf : Row → Files → List ℕ → List ℕ → ℕ → ℕ → Type 0
 GavePlanOf row files old new size result = GaveFileOf plan_name row files old new size result
+
+-- the answer of a planner between two models was given, of which one at least has bytes; or there was no memory, and nothing was
+pub record GivesPlanBetween (planner : Planner) (source target old new : List ℕ) (size result : ℕ) : Type 0 where
+  pub answer : HasModel source target → (IsMemory result → ⊥)
+      → GavePlanOf (plan planner (source_side source) (target_side target) plan_name) (lent source target [])
+      old new size result
+  pub no_model : HasNoModel source target → GaveNoRow old new size result
+  pub memory : IsMemory result → (new ≡ old) × (size ≡ 0)
+
+-- the same of a planner that builds a target
+pub record GivesPlanOfTarget (planner : Planner) (target old new : List ℕ) (size result : ℕ) : Type 0 where
+  pub answer : (IsMemory result → ⊥)
+      → GavePlanOf (plan planner None (Some target_name) plan_name) (lent [] target []) old new size result
+  pub memory : IsMemory result → (new ≡ old) × (size ≡ 0)
 
 -- the machine of the definitions takes the whole trace from the source to the target, with this energy in so many steps
 abbrev pub TakesAll : List ℕ → List ℕ → List ℕ → ℤ → ℕ → Type 0

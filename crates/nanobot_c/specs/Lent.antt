@@ -2,7 +2,9 @@
 use Rattle.std.specs.Prelude.{ℕ, Bool, true, false, List, [], ◌∷◌, codes, Option, Some, None}
 use Rattle.std.specs.FinMap as finite
 use Rattle.vox_depot.specs.Files.{Files}
-use Rattle.nanobot_words.specs.Rows.{Row, light, run}
+use Rattle.nanobot_words.specs.declared.row.Round.{Round}
+use Rattle.nanobot_words.specs.declared.row.Round.TheVariants.{Full, Light}
+use Rattle.nanobot_words.specs.Rows.{Row, run}
 use Rattle.nanobot_c.specs.declared.lent.Lent.{Lent}
 
 -- the names of the files, and of the one that a plan is stored as
@@ -36,7 +38,11 @@ source_side source = side_named source_name source
 abbrev pub target_side : List ℕ → Option (List ℕ)
 target_side target = side_named target_name target
 
--- the row that runs a trace, by the light profile or the full one
+-- the light round, or the full one
+abbrev pub round_of : Bool → Round
+round_of true = Light
+round_of false = Full
+
+-- the row that runs a trace in it
 abbrev pub run_row : Bool → List ℕ → List ℕ → Row
-run_row true source target = light (source_side source) (target_side target) trace_name
-run_row false source target = run (source_side source) (target_side target) trace_name
+run_row light source target = run (round_of light) (source_side source) (target_side target) trace_name

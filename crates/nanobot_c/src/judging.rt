@@ -7,13 +7,13 @@ ghost use Rattle.nanobot_words.specs.Parsing.{row_of};
 ghost use Rattle.nanobot_words.specs.Rows.{IsOfTable, check as check_row, stores_of};
 ghost use Rattle.nanobot_c.specs.Calls.{CostOf, GaveDone, GaveLineOf, HasModel, HasNoModel, IsRefused, TakesAll, ToldCostOf};
 ghost use Rattle.nanobot_c.specs.Given.{GaveNoRow, IsDone, IsMemory};
-ghost use Rattle.nanobot_c.specs.Lent.{lent_files, lent, run_row as run_row_of, source_name};
+ghost use Rattle.nanobot_c.specs.Lent.{lent_files, lent, round_of, run_row as run_row_of, source_name};
 
 use crate::call::{ask, call, code, give_no_row};
 use crate::lent::{Lent, side};
 use nanobot_app::{costs_are_told_apart, one_answer};
 use nanobot_rows::{Message, Report, Status, Stop};
-use nanobot_words::{Row, one_row};
+use nanobot_words::{Round, Row, one_row};
 use std::alloc::Global;
 
 /// One of the two models has bytes.
@@ -23,24 +23,25 @@ pub fn has_model(source: &[u8], target: &[u8]) -> bool
     !source.is_empty() || !target.is_empty()
 }
 
+/// The light round, or the full one.
+fn round_of(light: bool) -> Round
+    ensures { result ≡ round_of light }
+{
+    if light {
+        return Round::Light;
+    }
+    Round::Full
+}
+
 /// The row that runs a trace, by the light profile or the full one.
 fn run_row(source: &[u8], target: &[u8], light: bool) -> Row<'static>
     ensures { row_of result ≡ run_row_of light source.now target.now }
 {
-    let source = side("s", source);
-    let target = side("t", target);
-    let trace = "b";
-    if light {
-        return Row::Light {
-            source,
-            target,
-            trace,
-        };
-    }
     Row::Run {
-        source,
-        target,
-        trace,
+        round: round_of(light),
+        source: side("s", source),
+        target: side("t", target),
+        trace: "b",
     }
 }
 

@@ -1,15 +1,69 @@
 //! Plans.
-ghost use Rattle.std.specs.Prelude.{◌≡◌, []};
-ghost use Rattle.nanobot_words.specs.Rows.{plan_crew as crew_row, plan_group as group_row, plan_layer as layer_row, plan_low as low_row, plan_swarm as swarm_row, plan_void as void_row};
-ghost use Rattle.nanobot_c.specs.Calls.{GavePlanOf, HasModel, HasNoModel};
-ghost use Rattle.nanobot_c.specs.Given.{GaveNoRow, IsMemory};
-ghost use Rattle.nanobot_c.specs.Lent.{lent, plan_name, source_name, source_side, target_name, target_side};
+ghost use Rattle.std.specs.Prelude.{◌≡◌, ℕ, List, Option, Some, None, []};
+ghost use Rattle.nanobot_words.specs.Rows.{HasName, TakesSides, plan as plan_row};
+ghost use Rattle.nanobot_c.specs.Calls.{GavePlanOf, GivesPlanBetween, GivesPlanOfTarget};
+ghost use Rattle.nanobot_c.specs.Given.{IsMemory};
+ghost use Rattle.nanobot_c.specs.Lent.{lent, plan_name, source_name, target_name};
 
 use crate::call::{call, give_no_row};
 use crate::judging::has_model;
 use crate::lent::{Lent, side};
-use nanobot_words::Row;
+use nanobot_words::{Planner, Row, Side};
 use std::alloc::Global;
+
+/// Plans from the source to the target. A source or a target of no bytes is the empty model of the other's resolution.
+fn plan_between(
+    alloc: Global,
+    planner: Planner,
+    source: &[u8],
+    target: &[u8],
+    plan: &mut [u8],
+    size: &mut usize,
+) -> u32
+    requires any { (s t : Option (List ℕ)) → HasName s t → TakesSides planner s t }
+    ensures { GivesPlanBetween planner source.now target.now plan.old plan.new size.new result }
+{
+    if !has_model(source, target) {
+        return give_no_row(plan, size);
+    }
+    let row = Row::Plan {
+        planner,
+        source: side("s", source),
+        target: side("t", target),
+        trace: "p",
+    };
+    let lent = Lent {
+        source,
+        target,
+        trace: &[],
+    };
+    call(alloc, row, lent, plan, size)
+}
+
+/// Plans from the empty model to the target.
+fn plan_target(
+    alloc: Global,
+    planner: Planner,
+    target: &[u8],
+    plan: &mut [u8],
+    size: &mut usize,
+) -> u32
+    requires target { TakesSides planner None (Some target_name) }
+    ensures { GivesPlanOfTarget planner target.now plan.old plan.new size.new result }
+{
+    let row = Row::Plan {
+        planner,
+        source: Side::Empty,
+        target: Side::Named("t"),
+        trace: "p",
+    };
+    let lent = Lent {
+        source: &[],
+        target,
+        trace: &[],
+    };
+    call(alloc, row, lent, plan, size)
+}
 
 /// Plans with one bot from the source to the target, and gives the trace that `nanobot plan layer S T B` stores or,
 /// where it is refused, the line that the program prints. A source or a target of no bytes is the empty model of the
@@ -22,25 +76,9 @@ pub extern "C" fn nanobot_plan_layer(
     plan: &mut [u8],
     size: &mut usize,
 ) -> u32
-    ensures answer { HasModel source.now target.now → (IsMemory result → ⊥)
-        → GavePlanOf (layer_row (source_side source.now) (target_side target.now) plan_name) (lent source.now target.now []) plan.old plan.new size.new result }
-    ensures no_model { HasNoModel source.now target.now → GaveNoRow plan.old plan.new size.new result }
-    ensures memory { IsMemory result → (plan.new ≡ plan.old) × (size.new ≡ 0) }
+    ensures { GivesPlanBetween Planner.Layer source.now target.now plan.old plan.new size.new result }
 {
-    if !has_model(source, target) {
-        return give_no_row(plan, size);
-    }
-    let row = Row::PlanLayer {
-        source: side("s", source),
-        target: side("t", target),
-        trace: "p",
-    };
-    let lent = Lent {
-        source,
-        target,
-        trace: &[],
-    };
-    call(alloc, row, lent, plan, size)
+    plan_between(alloc, Planner::Layer, source, target, plan, size)
 }
 
 /// Plans with two bots from the source to the target, and gives the trace that `nanobot plan group S T B` stores or,
@@ -54,25 +92,9 @@ pub extern "C" fn nanobot_plan_group(
     plan: &mut [u8],
     size: &mut usize,
 ) -> u32
-    ensures answer { HasModel source.now target.now → (IsMemory result → ⊥)
-        → GavePlanOf (group_row (source_side source.now) (target_side target.now) plan_name) (lent source.now target.now []) plan.old plan.new size.new result }
-    ensures no_model { HasNoModel source.now target.now → GaveNoRow plan.old plan.new size.new result }
-    ensures memory { IsMemory result → (plan.new ≡ plan.old) × (size.new ≡ 0) }
+    ensures { GivesPlanBetween Planner.Group source.now target.now plan.old plan.new size.new result }
 {
-    if !has_model(source, target) {
-        return give_no_row(plan, size);
-    }
-    let row = Row::PlanGroup {
-        source: side("s", source),
-        target: side("t", target),
-        trace: "p",
-    };
-    let lent = Lent {
-        source,
-        target,
-        trace: &[],
-    };
-    call(alloc, row, lent, plan, size)
+    plan_between(alloc, Planner::Group, source, target, plan, size)
 }
 
 /// Plans with up to forty bots from the source to the target, and gives the trace that `nanobot plan crew S T B` stores or,
@@ -86,25 +108,9 @@ pub extern "C" fn nanobot_plan_crew(
     plan: &mut [u8],
     size: &mut usize,
 ) -> u32
-    ensures answer { HasModel source.now target.now → (IsMemory result → ⊥)
-        → GavePlanOf (crew_row (source_side source.now) (target_side target.now) plan_name) (lent source.now target.now []) plan.old plan.new size.new result }
-    ensures no_model { HasNoModel source.now target.now → GaveNoRow plan.old plan.new size.new result }
-    ensures memory { IsMemory result → (plan.new ≡ plan.old) × (size.new ≡ 0) }
+    ensures { GivesPlanBetween Planner.Crew source.now target.now plan.old plan.new size.new result }
 {
-    if !has_model(source, target) {
-        return give_no_row(plan, size);
-    }
-    let row = Row::PlanCrew {
-        source: side("s", source),
-        target: side("t", target),
-        trace: "p",
-    };
-    let lent = Lent {
-        source,
-        target,
-        trace: &[],
-    };
-    call(alloc, row, lent, plan, size)
+    plan_between(alloc, Planner::Crew, source, target, plan, size)
 }
 
 /// Plans with four bots that take the source down, and gives the trace that `nanobot plan void S - B` stores or, where
@@ -116,11 +122,15 @@ pub extern "C" fn nanobot_plan_void(
     plan: &mut [u8],
     size: &mut usize,
 ) -> u32
-    ensures answer { (IsMemory result → ⊥) → GavePlanOf (void_row source_name plan_name) (lent source.now [] []) plan.old plan.new size.new result }
+    ensures answer { (IsMemory result → ⊥)
+        → GavePlanOf (plan_row Planner.Void (Some source_name) None plan_name) (lent source.now [] [])
+        plan.old plan.new size.new result }
     ensures memory { IsMemory result → (plan.new ≡ plan.old) × (size.new ≡ 0) }
 {
-    let row = Row::PlanVoid {
-        source: "s",
+    let row = Row::Plan {
+        planner: Planner::Void,
+        source: Side::Named("s"),
+        target: Side::Empty,
         trace: "p",
     };
     let lent = Lent {
@@ -140,19 +150,9 @@ pub extern "C" fn nanobot_plan_low(
     plan: &mut [u8],
     size: &mut usize,
 ) -> u32
-    ensures answer { (IsMemory result → ⊥) → GavePlanOf (low_row target_name plan_name) (lent [] target.now []) plan.old plan.new size.new result }
-    ensures memory { IsMemory result → (plan.new ≡ plan.old) × (size.new ≡ 0) }
+    ensures { GivesPlanOfTarget Planner.Low target.now plan.old plan.new size.new result }
 {
-    let row = Row::PlanLow {
-        target: "t",
-        trace: "p",
-    };
-    let lent = Lent {
-        source: &[],
-        target,
-        trace: &[],
-    };
-    call(alloc, row, lent, plan, size)
+    plan_target(alloc, Planner::Low, target, plan, size)
 }
 
 /// Plans with up to twenty bots that build the target, and gives the trace that `nanobot plan swarm - T B` stores or,
@@ -164,17 +164,7 @@ pub extern "C" fn nanobot_plan_swarm(
     plan: &mut [u8],
     size: &mut usize,
 ) -> u32
-    ensures answer { (IsMemory result → ⊥) → GavePlanOf (swarm_row target_name plan_name) (lent [] target.now []) plan.old plan.new size.new result }
-    ensures memory { IsMemory result → (plan.new ≡ plan.old) × (size.new ≡ 0) }
+    ensures { GivesPlanOfTarget Planner.Swarm target.now plan.old plan.new size.new result }
 {
-    let row = Row::PlanSwarm {
-        target: "t",
-        trace: "p",
-    };
-    let lent = Lent {
-        source: &[],
-        target,
-        trace: &[],
-    };
-    call(alloc, row, lent, plan, size)
+    plan_target(alloc, Planner::Swarm, target, plan, size)
 }

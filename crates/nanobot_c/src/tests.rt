@@ -4,6 +4,7 @@ use crate::planning::{
     nanobot_plan_crew, nanobot_plan_group, nanobot_plan_layer, nanobot_plan_low,
     nanobot_plan_swarm, nanobot_plan_void,
 };
+use nanobot_words::Planner;
 use std::alloc::Global;
 use std::process::Abort;
 use std::test::Fail;
@@ -188,17 +189,6 @@ fn models_are_checked(rt: HostRuntime) -> Result<(), Fail> {
         assert_given(&rt, &buffer, size, line.as_bytes());
     }
     Ok(())
-}
-
-/// What a planner is to do.
-#[derive(Clone, Copy)]
-enum Planner {
-    Layer,
-    Group,
-    Crew,
-    Void,
-    Low,
-    Swarm,
 }
 
 /// What the planner's export answers, with a source or a target that it does not take left out.

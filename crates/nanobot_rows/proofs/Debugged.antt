@@ -17,13 +17,14 @@ use Rattle.nanobot_rows.specs.declared.report.Report.TheVariants as report
 use Rattle.nanobot_rows.specs.declared.report.Who.TheVariants as who
 use Rattle.nanobot_rows.specs.declared.stop.Stop.{Stop}
 use Rattle.nanobot_words.specs.Rows.{debug}
-use Rattle.nanobot_rows.specs.Answer.{AnswerOf, Answers, OfLines, OfScript, OfSession, OfTrace, Reply, WithFile, dis_limit, script_limit}
+use Rattle.nanobot_rows.specs.Answer.{AnswerOf, Answers, OfScript, OfSession, OfTrace, Reply, WithFile, dis_limit, script_limit}
 use Rattle.nanobot_rows.specs.Effects.{EndsStored, reply_by}
 use Rattle.nanobot_rows.specs.Models.{IsModelOf}
 use Rattle.nanobot_rows.specs.Reading.{IsScriptOf, IsTraceOf, Lacks, Reads, RefusesFile, RefusesLines, RefusesScript, RefusesTrace, reply_of}
 use Rattle.nanobot_rows.proofs.Replies.{both_told, model_given, model_lacks, model_refused, reply_told, rose_since, stops}
 use Rattle.nanobot_rows.proofs.Stored.{file_lacks, of_file, trace_given, trace_refused}
 use Rattle.nanobot_rows.proofs.Told.{if_some, weaker}
+use Rattle.nanobot_rows.proofs.Parts.{OfLines}
 
 -- ---- a script
 

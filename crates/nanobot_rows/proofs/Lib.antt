@@ -4,7 +4,9 @@ pub mod Debugged
 pub mod Examples
 pub mod Exercised
 pub mod Loads
+pub mod Parts
 pub mod Paying
+pub mod Planned
 pub mod Replies
 pub mod Running
 pub mod Stored

@@ -8,7 +8,7 @@ use Rattle.nano_spec.specs.declared.outcomes.Verdict.{Verdict}
 use Rattle.nano_spec.specs.declared.outcomes.Verdict.TheVariants as verdict
 use Rattle.nano_spec.specs.Cutting.{Decoding, NoTrace, BadAt, CutAt}
 use Rattle.nano_spec.specs.Legal.{IsLegal}
-use Rattle.nano_spec.specs.Matrix.{Matrix, empty}
+use Rattle.nano_spec.specs.Matrix.{Matrix, empty, full_count}
 use Rattle.nano_spec.specs.Model.{NoModel, model}
 use Rattle.vox_depot.specs.Causes.{Rose}
 use Rattle.vox_depot.specs.Files.{Files, content}
@@ -19,13 +19,15 @@ use Rattle.nanobot_rows.specs.declared.stop.Stop.{Stop}
 use Rattle.nanobot_rows.specs.declared.stop.Stop.TheVariants as stop
 use Rattle.nanobot_rows.specs.declared.report.Who.TheVariants as who
 use Rattle.nanobot_words.specs.Rows.{HasName, check}
-use Rattle.nanobot_rows.specs.Answer.{AnswerOf, AnswerOfRun, Answers, run_limit, OfBytes, OfDecoding, OfRun, OfTrace, Reply, WithBoth, WithFile, WithModel, WithModels, WithSide}
+use Rattle.nanobot_rows.specs.Answer.{AnswerOf, AnswerOfRun, Answers, IsReply, run_limit, OfBytes, OfRun, OfTrace, Reply, TellsVerdict, WithBoth, WithFile, WithModel, WithModels, WithSide}
 use Rattle.nanobot_rows.specs.Models.{AreModels, IsModelOf, IsSide}
 use Rattle.nanobot_rows.specs.Reading.{AreBoth, AreUnlike, EndsUnstored, HasSide, IsReportOf, Lacks, LacksModels, LacksSide, OnBytes, OnCommands, OnDecoding, OnFile, OnTrace, Reads, RefusesBytes, RefusesFile, RefusesModels, RefusesSide, by_both, by_source, by_target, no_such_file, lacks_source, lacks_target, reply_of, tells_nothing}
 use Rattle.nanobot_rows.specs.declared.status.Status.{Status}
-use Rattle.nanobot_rows.specs.Lines.{verdict_line, verdict_status}
+use Rattle.nanobot_rows.specs.declared.status.Status.TheVariants as is
+use Rattle.nanobot_rows.specs.Lines.{legal_line}
 use Rattle.nanobot_rows.specs.Report.{of_verdict}
 use Rattle.nanobot_rows.proofs.Told.{if_some, weaker}
+use Rattle.nanobot_rows.proofs.Parts.{OfDecoding}
 
 -- ---- counts of faults
 
@@ -168,17 +170,21 @@ module _ (files : Files) (source target : Option (List ℕ)) (p : Matrix → Mat
 
 -- ---- a trace
 
--- the reply of a verdict, and that of its report
+-- the reply of a verdict is that of its report
 abbrev pub verdict_reply : Files → Verdict → Reply
-verdict_reply files v = record { status = verdict_status v; line = verdict_line v; after = files }
+verdict_reply files v = reply_of files (of_verdict v)
 
-verdict_told : (files : Files) (v : Verdict) → verdict_reply files v ≡ reply_of files (of_verdict v)
-verdict_told files (verdict.Accepted energy steps) = refl
-verdict_told files (verdict.Refused broken) = refl
+pub verdict_told : (files : Files) (v : Verdict) (reply : Reply) → TellsVerdict v files reply → reply ≡ verdict_reply files v
+verdict_told files (verdict.Accepted energy steps) reply told = told
+verdict_told files (verdict.Refused broken) reply told = told
+
+pub tells_verdict : (files : Files) (v : Verdict) (reply : Reply) → reply ≡ verdict_reply files v → TellsVerdict v files reply
+tells_verdict files (verdict.Accepted energy steps) reply e = e
+tells_verdict files (verdict.Refused broken) reply e = e
 
 module _ (limit : ℕ) (profile : Profile) (files : Files) (source target : Matrix) where
   of_commands : (commands : List Command) (told : Report) → OnCommands profile source target commands told → OfRun profile files source target commands (reply_of files told)
-  of_commands commands told h = (h.0, h.1, ap (reply_of files) h.2 ∙ sym (verdict_told files h.0))
+  of_commands commands told h = (h.0, h.1, tells_verdict files h.0 (reply_of files told) (ap (reply_of files) h.2))
 
   of_decoding : (decoding : Result (List Command) NoTrace) (told : Report) → OnDecoding profile source target decoding told → OfDecoding files decoding (OfRun profile files source target) (reply_of files told)
   of_decoding (Ok commands) told h = of_commands commands told h
@@ -266,11 +272,15 @@ module _ (told : Option Files) (source target : Option (List ℕ)) where
 
 -- ---- `check`
 
+-- what is told of a legal model
+abbrev pub TellsLegal : Files → Matrix → Reply → Type 0
+TellsLegal files m = IsReply is.Done (legal_line m.resolution (full_count m)) files
+
 pub check_stops : (told : Option Files) (name : List ℕ) (rose : Type 0) (s : Stop)
     → Reads {A = Matrix} told rose (λ files m. IsModelOf files name m) (RefusesFile who.Model name) (Lacks name) (Err s) → EndsUnstored (AnswerOf (check name)) told rose (Err s)
 check_stops told name rose s reads =
     stops Report (λ files r. AnswerOf (check name) files (reply_of files r)) (AnswerOf (check name)) told rose rose (λ files m. IsModelOf files name m) (RefusesFile who.Model name) (Lacks name) s
-    reads (λ h. h) (if_some told (λ files _. ((λ r h. model_refused who.Model files name _ r h), (λ h. model_lacks who.Model files name _ h))))
+    reads (λ h. h) (if_some told (λ files _. ((λ r h. model_refused who.Model files name (TellsLegal files) r h), (λ h. model_lacks who.Model files name (TellsLegal files) h))))
 
 -- ---- `run`
 

@@ -1,15 +1,12 @@
 -- The answers of the rows that store a file, by what was found in the files.
-use Rattle.std.proofs.Common.{◌≡◌, ℕ, ◌+◌, ◌≤◌, List, length, refl, sym, ap, ◌∙◌, subst, Bool, true, false, nat_lt}
-use Rattle.std.specs.Prelude.{ℤ, Option, Some, None, Result, Ok, Err, MatchOption, MatchBool, IfSome, IsSomeAnd}
+use Rattle.std.proofs.Common.{◌≡◌, ℕ, ◌≤◌, List, length, refl, sym, ap, ◌∙◌, subst, Bool, true, false, nat_lt}
+use Rattle.std.specs.Prelude.{Option, Some, None, Result, Ok, Err, MatchOption, MatchBool, IfSome, IsSomeAnd}
 use Rattle.vox_geom.proofs.Tests.{test_not_less}
 use Rattle.nano_spec.specs.declared.commands.Command.{Command}
-use Rattle.nano_spec.specs.Cutting.{AreCommands, Cutting, Decoding, NoTrace}
-use Rattle.nano_spec.specs.Matrix.{Matrix, empty}
+use Rattle.nano_spec.specs.Cutting.{Cutting, Decoding, NoTrace}
+use Rattle.nano_spec.specs.Matrix.{Matrix}
 use Rattle.nano_spec.specs.Printing.{print}
 use Rattle.nano_spec.specs.Reading.{FaultyLine, read}
-use Rattle.nano_spec.specs.Spelling.{spellings}
-use Rattle.group_planner.specs.Bounds.{most_bytes}
-use Rattle.group_planner.specs.Rows.{rows, runs}
 use Rattle.vox_depot.specs.Files.{Files, content}
 use Rattle.nanobot_rows.specs.declared.effect.Effect.{Effect}
 use Rattle.nanobot_rows.specs.declared.effect.Message.TheVariants as message
@@ -17,17 +14,16 @@ use Rattle.nanobot_rows.specs.declared.effect.NewFile.{NewFile}
 use Rattle.nanobot_rows.specs.declared.report.Report.{Report}
 use Rattle.nanobot_rows.specs.declared.report.Report.TheVariants as report
 use Rattle.nanobot_rows.specs.declared.stop.Stop.{Stop}
-use Rattle.nanobot_rows.specs.Answer.{AnswerOf, Answers, OfDecoding, OfGroupPlan, OfPlan, OfReading, OfText, OfTrace, Reply, IsReply, Stores, WithFile, WithModels, dis_limit, group_limit, text_limit, with_file}
-use Rattle.plan_choice.specs.Planners.{IsGroupPlan, PlanFacts}
-use Rattle.nanobot_rows.specs.Effects.{EndsStored, KeepsPlan, bytes_by, files_with, reply_by, status_by}
+use Rattle.nanobot_rows.specs.Answer.{AnswerOf, Answers, OfText, OfTrace, Reply, Stores, WithFile, WithModels, dis_limit, text_limit, with_file}
+use Rattle.nanobot_rows.specs.Effects.{EndsStored, reply_by}
 use Rattle.nanobot_rows.specs.declared.status.Status.TheVariants as is
-use Rattle.nanobot_rows.specs.Lines.{group_long_line, stored_line, trace_line}
+use Rattle.nanobot_rows.specs.Lines.{stored_line, trace_line}
 use Rattle.nanobot_rows.specs.Models.{AreModels}
 use Rattle.nanobot_rows.specs.Reading.{IsReportOf, IsTextOf, IsTraceOf, Lacks, LacksModels, Reads, RefusesDecoding, RefusesModels, RefusesReading, RefusesText, RefusesTrace, no_such_file, reply_of}
-use Rattle.nanobot_rows.specs.Report.{report_line}
 use Rattle.nanobot_words.specs.Rows.{HasName, dis}
 use Rattle.nanobot_rows.proofs.Replies.{ReadsModels, models_given, reply_told, models_lack, models_refused, stops}
 use Rattle.nanobot_rows.proofs.Told.{if_some, weaker}
+use Rattle.nanobot_rows.proofs.Parts.{OfDecoding, OfReading}
 
 -- a file that is not there
 pub file_lacks : (files : Files) (name : List ℕ) (p : List ℕ → Reply → Type 0) → Lacks name files → WithFile files name p (no_such_file files)
@@ -93,24 +89,7 @@ module _ (told : Option Files) (trace text : List ℕ) where
       (stored_reply files effect (length commands) (length (print commands)) file text (print commands)
       (e ∙ (λ i. record { message = message.Line ((ec ∙ ap (λ xs. report.Stored (length commands) (length xs)) eb) i); file = Some file })) en eb)) found
 
--- ---- plans
-
--- what keeps a plan is answered so
-pub plan_kept : (Is : PlanFacts) (s t : Matrix) (name : List ℕ) (commands : List Command) (energy : ℤ) (steps : ℕ) (effect : Effect) → Is s t commands energy steps → KeepsPlan name commands energy steps effect
-    → (files : Files) → OfPlan Is name files s t (reply_by files effect)
-plan_kept Is s t name commands energy steps effect is keeps files = (commands, energy, steps, is, by effect.file keeps.file)
-  where
-    planned : Report
-    planned = report.Planned energy steps (length commands) (length (spellings commands))
-
-    by : (o : Option NewFile) → IsSomeAnd o (λ file. (file.name.now ≡ name) × (file.bytes.items ≡ spellings commands)) → Stores (report_line planned) name (spellings commands) files (record { status = status_by effect.message; line = bytes_by effect.message; after = files_with files o })
-    by None h = absurd h
-    by (Some file) h = λ i. record { status = status_by (keeps.told i); line = bytes_by (keeps.told i); after = with_file files (h.0 i) (h.1 i) }
-
--- a plan of the group planner that is within the limit
-pub group_kept : (files : Files) (name : List ℕ) (s t : Matrix) (reply : Reply) → most_bytes s t ≤ group_limit → OfPlan IsGroupPlan name files s t reply → OfGroupPlan name files s t reply
-group_kept files name s t reply fits plan =
-    subst (λ (b : Bool). MatchBool b (IsReply is.Model (group_long_line (runs s + runs t) (rows s + rows t)) files reply) (OfPlan IsGroupPlan name files s t reply)) (sym (test_not_less group_limit (most_bytes s t) fits)) plan
+-- ---- models
 
 -- an answer of a source and a target
 module _ (told : Option Files) (source target : Option (List ℕ)) (p : Files → Matrix → Matrix → Reply → Type 0) where
@@ -131,10 +110,3 @@ module _ (told : Option Files) (source target : Option (List ℕ)) (p : Files �
     -- they are refused
     pub models_tell : (s t : Matrix) (r : Report) → IfSome told (λ files. AreModels source target files s t) → ((files : Files) → p files s t (reply_of files r)) → IfSome told (λ files. OfModels files (reply_of files r))
     models_tell s t r found h = weaker told (λ files is. models_given files source target (p files) named s t (reply_of files r) is (h files)) found
-
--- what has no file is the empty model
-pub nothing_there : (files : Files) (name : List ℕ) (s t : Matrix) → AreModels (Some name) None files s t → t ≡ empty s.resolution
-nothing_there files name s t m = m.target_is
-
-pub nothing_here : (files : Files) (name : List ℕ) (s t : Matrix) → AreModels None (Some name) files s t → s ≡ empty t.resolution
-nothing_here files name s t m = m.source_is

@@ -1,9 +1,10 @@
 -- What is answered to the words over known files: a status, a line and the files afterwards (docs/FORMATS.md, "Printed lines").
-use Rattle.std.specs.Prelude.{◌≡◌, ◌⊎◌, ℕ, ◌+◌, ℤ, nat_lt, ◌==◌, List, [], length, Option, Some, None, Result, Ok, Err, MatchOption, MatchBool}
+use Rattle.std.specs.Prelude.{◌≡◌, ◌⊎◌, ℕ, ◌+◌, ℤ, nat_lt, ◌==◌, List, [], length, Option, Some, None, Result, MatchOption, MatchBool, MatchResult}
 use Rattle.std.specs.FinMap as finite
 use Rattle.vox_geom.specs.declared.coordinate.Coord.{Coord}
 use Rattle.nano_spec.specs.declared.commands.Command.{Command}
 use Rattle.nano_spec.specs.declared.outcomes.Verdict.{Verdict}
+use Rattle.nano_spec.specs.declared.outcomes.Verdict.TheVariants as verdict
 use Rattle.nano_spec.specs.declared.system.Profile.{Profile}
 use Rattle.nano_spec.specs.Cutting.{Decoding, NoTrace}
 use Rattle.nano_spec.specs.Forge.{forged}
@@ -20,6 +21,7 @@ use Rattle.group_planner.specs.Bounds as group
 use Rattle.group_planner.specs.Rows.{rows, runs}
 use Rattle.low_planner.specs.Supported.{FirstUnsupported}
 use Rattle.step_debugger.specs.Session.{DebugLine}
+use Rattle.debug_script.specs.Printing.{broken_line}
 use Rattle.debug_script.specs.Script.{ScriptSays}
 use Rattle.debug_script.specs.Sessions.{PrintsFrom}
 use Rattle.nanobot_rows.specs.declared.report.Cost.{Cost}
@@ -28,8 +30,12 @@ use Rattle.nanobot_rows.specs.declared.report.Who.TheVariants as who
 use Rattle.nanobot_rows.specs.declared.status.Status.{Status}
 use Rattle.nanobot_rows.specs.declared.status.Status.TheVariants as is
 use Rattle.plan_choice.specs.Planners.{IsCrewPlan, IsGroupPlan, IsLayerPlan, IsLowPlan, IsSwarmPlan, IsVoidPlan, PlanFacts}
-use Rattle.nanobot_rows.specs.Lines.{exercised_head, exercised_line, forged_line, group_long_line, legal_line, no_model_line, not_legal_line, planned_line, resolutions_line, stored_line, text_line, text_long_line, trace_line, trace_long_line, unsupported_line, verdict_line, verdict_status, words_line}
-use Rattle.nanobot_words.specs.Rows.{Row, asm, check, debug, dis, exercise, light, make, plan_crew, plan_group, plan_layer, plan_low, plan_swarm, plan_void, run, IsRow, IsInNoRow, MakesPlans}
+use Rattle.nanobot_rows.specs.Lines.{accepted_line, exercised_head, exercised_line, forged_line, group_long_line, legal_line, no_model_line, not_legal_line, planned_line, resolutions_line, stored_line, text_line, text_long_line, trace_line, trace_long_line, unsupported_line, words_line}
+use Rattle.nanobot_words.specs.declared.planner.Planner.{Planner}
+use Rattle.nanobot_words.specs.declared.planner.Planner.TheVariants.{Layer, Group, Crew, Void, Low, Swarm}
+use Rattle.nanobot_words.specs.declared.row.Round.{Round}
+use Rattle.nanobot_words.specs.declared.row.Round.TheVariants.{Full, Light}
+use Rattle.nanobot_words.specs.Rows.{Row, asm, check, debug, dis, exercise, make, plan, run, IsRow, IsInNoRow, MakesPlans}
 
 -- what is answered: a status, a line, which is empty where none is told, and the files afterwards
 pub record Reply : Type 0 where
@@ -53,29 +59,18 @@ with_file files name bytes = finite.insert files name bytes
 abbrev pub Stores : List ℕ → List ℕ → List ℕ → Files → Reply → Type 0
 Stores line name bytes files reply = reply ≡ record { status = is.Done; line = line; after = with_file files name bytes }
 
--- the words are in no row of the table
-abbrev pub IsNoRow : Files → Reply → Type 0
-IsNoRow files reply = IsReply is.Words words_line files reply
-
--- a file is not there: no line
-abbrev pub IsGone : Files → Reply → Type 0
-IsGone files reply = IsReply is.Depot [] files reply
-
--- p of the bytes of a file
+-- p of the bytes of a file, and no line where it is not there
 abbrev pub WithFile : Files → List ℕ → (List ℕ → Reply → Type 0) → Reply → Type 0
-WithFile files name p reply = MatchOption (content files name) (IsGone files reply) (λ bytes. p bytes reply)
+WithFile files name p reply = MatchOption (content files name) (IsReply is.Depot [] files reply) (λ bytes. p bytes reply)
 
 -- ---- models
 
--- p, where the model is legal, and else why it is not
-abbrev pub Judged : Who → Files → Option NotLegal → (Reply → Type 0) → Reply → Type 0
-Judged who files None p = p
-Judged who files (Some why) p = IsReply is.Model (not_legal_line who why) files
-
--- p of the model that the bytes say, where they do and it is legal
+-- p of the model that the bytes say, where they do and it is legal, and else why not
 abbrev pub OfBytes : Who → Files → Result Matrix NoModel → (Matrix → Reply → Type 0) → Reply → Type 0
-OfBytes who files (Err why) p reply = IsReply is.Model (no_model_line who why) files reply
-OfBytes who files (Ok m) p reply = (legality : Option NotLegal) × Legality m legality × Judged who files legality (p m) reply
+OfBytes who files said p reply = MatchResult said
+    (λ m. (legality : Option NotLegal) × Legality m legality
+    × MatchOption legality (p m reply) (λ why. IsReply is.Model (not_legal_line who why) files reply))
+    (λ why. IsReply is.Model (no_model_line who why) files reply)
 
 -- p of the legal model of a file
 abbrev pub WithModel : Who → Files → List ℕ → (Matrix → Reply → Type 0) → Reply → Type 0
@@ -99,68 +94,71 @@ WithModels files source target p = WithSide who.Source files source (λ s. WithS
 
 -- ---- traces
 
--- p of the commands of the bytes
-abbrev pub OfDecoding : Files → Result (List Command) NoTrace → (List Command → Reply → Type 0) → Reply → Type 0
-OfDecoding files (Ok commands) p = p commands
-OfDecoding files (Err why) p = IsReply is.Trace (trace_line why) files
-
--- the same of bytes that may be too many
+-- p of the commands of the bytes, where they are not too many and are a trace
 abbrev pub OfTrace : ℕ → Files → List ℕ → (List Command → Reply → Type 0) → Reply → Type 0
 OfTrace limit files bytes p reply =
-    MatchBool (nat_lt limit (length bytes))
-    (IsReply is.Trace (trace_long_line limit) files reply)
-    ((decoding : Result (List Command) NoTrace) × Decoding bytes decoding × OfDecoding files decoding p reply)
+    MatchBool (nat_lt limit (length bytes)) (IsReply is.Trace (trace_long_line limit) files reply)
+    ((decoding : Result (List Command) NoTrace) × Decoding bytes decoding
+    × MatchResult decoding (λ commands. p commands reply) (λ why. IsReply is.Trace (trace_line why) files reply))
 
 -- ---- texts
-
--- p of the commands that the text says
-abbrev pub OfReading : Files → Result (List Command) FaultyLine → (List Command → Reply → Type 0) → Reply → Type 0
-OfReading files (Ok commands) p = p commands
-OfReading files (Err faulty) p = IsReply is.Text (text_line faulty.fault faulty.line) files
 
 -- the most bytes of a text
 abbrev pub text_limit : ℕ
 text_limit = 1073741824
 
--- the same of a text that may be too long
+-- p of the commands that the text says, where it is not too long and has no faulty line
 abbrev pub OfText : Files → List ℕ → (List Command → Reply → Type 0) → Reply → Type 0
-OfText files bytes p reply = MatchBool (nat_lt text_limit (length bytes)) (IsReply is.Text (text_long_line text_limit) files reply) (OfReading files (read bytes) p reply)
+OfText files bytes p reply =
+    MatchBool (nat_lt text_limit (length bytes)) (IsReply is.Text (text_long_line text_limit) files reply)
+    (MatchResult (read bytes) (λ commands. p commands reply) (λ faulty. IsReply is.Text (text_line faulty.fault faulty.line) files reply))
 
 -- ---- runs
+
+-- what is told of a verdict
+abbrev pub TellsVerdict : Verdict → Files → Reply → Type 0
+TellsVerdict (verdict.Accepted energy steps) files reply = IsReply is.Done (accepted_line energy steps) files reply
+TellsVerdict (verdict.Refused broken) files reply = IsReply is.Broken (broken_line broken) files reply
 
 -- the verdict of the commands
 abbrev pub OfRun : Profile → Files → Matrix → Matrix → List Command → Reply → Type 0
 OfRun profile files source target commands reply = (verdict : Verdict) × VerdictOf source target commands profile verdict
-    × IsReply (verdict_status verdict) (verdict_line verdict) files reply
+    × TellsVerdict verdict files reply
 
 -- ---- plans
 
--- a plan of which this is so is stored as a trace of the name, and told with its numbers; which one is free
-abbrev pub OfPlan : PlanFacts → List ℕ → Files → Matrix → Matrix → Reply → Type 0
-OfPlan Is name files source target reply =
-    (commands : List Command) × (energy : ℤ) × (steps : ℕ) × Is source target commands energy steps
-    × Stores (planned_line energy steps (length commands) (length (spellings commands))) name (spellings commands) files reply
+-- what is so of a planner's plans
+abbrev pub facts_of : Planner → PlanFacts
+facts_of Layer = IsLayerPlan
+facts_of Group = IsGroupPlan
+facts_of Crew = IsCrewPlan
+facts_of Void = IsVoidPlan
+facts_of Low = IsLowPlan
+facts_of Swarm = IsSwarmPlan
 
 -- the most bytes of a plan of the group planner
 abbrev pub group_limit : ℕ
 group_limit = 1073741824
 
--- a plan of the group planner, where its bytes are within the limit by the runs and rows of both models
-abbrev pub OfGroupPlan : List ℕ → Files → Matrix → Matrix → Reply → Type 0
-OfGroupPlan name files source target reply =
+-- p, where the planner makes a plan: a group plan may be too long, by the runs and rows of both models, and a part of a low plan's target may
+-- be unsupported
+abbrev pub WherePlanned : Planner → Files → Matrix → Matrix → (Reply → Type 0) → Reply → Type 0
+WherePlanned Group files source target p reply =
     MatchBool (nat_lt group_limit (group.most_bytes source target))
-    (IsReply is.Model (group_long_line (runs source + runs target) (rows source + rows target)) files reply)
-    (OfPlan IsGroupPlan name files source target reply)
+    (IsReply is.Model (group_long_line (runs source + runs target) (rows source + rows target)) files reply) (p reply)
+WherePlanned Low files source target p reply = (at : Option Coord) × FirstUnsupported target at
+    × MatchOption at (p reply) (λ c. IsReply is.Unsupported (unsupported_line c) files reply)
+WherePlanned planner files source target p reply = p reply
 
--- what is so of the reply, where each part is supported
-abbrev pub WhereSupported : Files → Option Coord → (Reply → Type 0) → Reply → Type 0
-WhereSupported files None p = p
-WhereSupported files (Some at) p = IsReply is.Unsupported (unsupported_line at) files
+-- a plan of which this is so is stored as a trace of the name, and told with its numbers; which one is free
+abbrev pub StoresPlan : PlanFacts → List ℕ → Files → Matrix → Matrix → Reply → Type 0
+StoresPlan Is name files source target reply =
+    (commands : List Command) × (energy : ℤ) × (steps : ℕ) × Is source target commands energy steps
+    × Stores (planned_line energy steps (length commands) (length (spellings commands))) name (spellings commands) files reply
 
--- a plan of the low planner, where each part of the target is supported
-abbrev pub OfLowPlan : List ℕ → Files → Matrix → Matrix → Reply → Type 0
-OfLowPlan name files source target reply = (at : Option Coord) × FirstUnsupported target at
-    × WhereSupported files at (OfPlan IsLowPlan name files source target) reply
+-- a plan of the planner is stored so, where it makes one
+abbrev pub OfPlan : Planner → List ℕ → Files → Matrix → Matrix → Reply → Type 0
+OfPlan planner name files source target = WherePlanned planner files source target (StoresPlan (facts_of planner) name files source target)
 
 -- a plan of which this is so makes the target of the empty model at this cost
 abbrev pub Costs : PlanFacts → Matrix → Cost → Type 0
@@ -178,17 +176,12 @@ OfExercise number resolution target files reply =
 abbrev pub script_limit : ℕ
 script_limit = 65536
 
--- p of the lines of a script, which may have a faulty one
-abbrev pub OfLines : Files → Result (List DebugLine) FaultyLine → (List DebugLine → Reply → Type 0) → Reply → Type 0
-OfLines files (Ok lines) p = p lines
-OfLines files (Err faulty) p = IsReply is.Text (text_line faulty.fault faulty.line) files
-
--- the same of a script that may be too long, over a source of a resolution
+-- p of the lines of a script over a source of a resolution, where it is not too long and has no faulty line
 abbrev pub OfScript : ℕ → Files → List ℕ → (List DebugLine → Reply → Type 0) → Reply → Type 0
 OfScript r files bytes p reply =
-    MatchBool (nat_lt script_limit (length bytes))
-    (IsReply is.Text (text_long_line script_limit) files reply)
-    ((said : Result (List DebugLine) FaultyLine) × ScriptSays r bytes said × OfLines files said p reply)
+    MatchBool (nat_lt script_limit (length bytes)) (IsReply is.Text (text_long_line script_limit) files reply)
+    ((said : Result (List DebugLine) FaultyLine) × ScriptSays r bytes said
+    × MatchResult said (λ lines. p lines reply) (λ faulty. IsReply is.Text (text_line faulty.fault faulty.line) files reply))
 
 -- the lines of a session over the commands from the source on
 abbrev pub OfSession : Files → Matrix → List Command → List DebugLine → Reply → Type 0
@@ -212,10 +205,14 @@ AnswerOfRun profile source target trace files =
     WithFile files trace (λ bytes.
     OfTrace run_limit files bytes (OfRun profile files s t)))
 
+-- the profile of a round
+abbrev pub profile_of : Round → Profile
+profile_of Full = full_profile
+profile_of Light = light_profile
+
 abbrev pub AnswerOf : Row → Answers
 AnswerOf (check name) files = WithModel who.Model files name (λ m. IsReply is.Done (legal_line m.resolution (full_count m)) files)
-AnswerOf (run source target trace) files = AnswerOfRun full_profile source target trace files
-AnswerOf (light source target trace) files = AnswerOfRun light_profile source target trace files
+AnswerOf (run round source target trace) files = AnswerOfRun (profile_of round) source target trace files
 AnswerOf (asm text trace) files =
     WithFile files text (λ bytes.
     OfText files bytes (λ commands.
@@ -226,12 +223,7 @@ AnswerOf (dis trace text) files =
     Stores (stored_line (length commands) (length (print commands))) text (print commands) files))
 AnswerOf (make number resolution name) files = Stores (forged_line resolution (full_count (forged number resolution))) name
     (written (forged number resolution)) files
-AnswerOf (plan_layer source target trace) files = WithModels files source target (OfPlan IsLayerPlan trace files)
-AnswerOf (plan_group source target trace) files = WithModels files source target (OfGroupPlan trace files)
-AnswerOf (plan_crew source target trace) files = WithModels files source target (OfPlan IsCrewPlan trace files)
-AnswerOf (plan_void source trace) files = WithModels files (Some source) None (OfPlan IsVoidPlan trace files)
-AnswerOf (plan_low target trace) files = WithModels files None (Some target) (OfLowPlan trace files)
-AnswerOf (plan_swarm target trace) files = WithModels files None (Some target) (OfPlan IsSwarmPlan trace files)
+AnswerOf (plan planner source target trace) files = WithModels files source target (OfPlan planner trace files)
 AnswerOf (exercise number resolution) files = OfExercise number resolution (forged number resolution) files
 AnswerOf (debug source trace script) files =
     WithModel who.Source files source (λ m.
@@ -246,4 +238,4 @@ AskNoPlan words = (row : Row) → IsRow words row → MakesPlans row → ⊥
 
 -- the answer to the words
 abbrev pub Answer : List (List ℕ) → Answers
-Answer words files reply = (IsInNoRow words × IsNoRow files reply) ⊎ ((row : Row) × IsRow words row × AnswerOf row files reply)
+Answer words files reply = (IsInNoRow words × IsReply is.Words words_line files reply) ⊎ ((row : Row) × IsRow words row × AnswerOf row files reply)

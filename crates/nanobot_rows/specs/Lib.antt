@@ -3,6 +3,7 @@ pub mod Answer
 pub mod Effects
 pub mod Lines
 pub mod Models
+pub mod Plans
 pub mod Reading
 pub mod Report
 pub mod Taking

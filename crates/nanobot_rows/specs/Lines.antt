@@ -3,17 +3,12 @@ use Rattle.std.specs.Prelude.{ℕ, ℤ, List, [], ◌∷◌, codes, decimal}
 use Rattle.std.specs.Fmt.{signed_decimal}
 use Rattle.std.specs.List.{concat}
 use Rattle.vox_geom.specs.declared.coordinate.Coord.{Coord}
-use Rattle.nano_spec.specs.declared.outcomes.Verdict.{Verdict}
-use Rattle.nano_spec.specs.declared.outcomes.Verdict.TheVariants as verdict
 use Rattle.nano_spec.specs.Cutting.{BadAt, CutAt, NoTrace}
 use Rattle.nano_spec.specs.Legal.{NotLegal, Border, Floating}
 use Rattle.nano_spec.specs.Line as line
 use Rattle.nano_spec.specs.Line.{Fault}
 use Rattle.nano_spec.specs.Model as model
 use Rattle.nano_spec.specs.Model.{NoModel}
-use Rattle.debug_script.specs.Printing.{broken_line}
-use Rattle.nanobot_rows.specs.declared.status.Status.{Status}
-use Rattle.nanobot_rows.specs.declared.status.Status.TheVariants as is
 use Rattle.nanobot_rows.specs.declared.report.Cost.{Cost}
 use Rattle.nanobot_rows.specs.declared.report.Who.{Who}
 use Rattle.nanobot_rows.specs.declared.report.Who.TheVariants as who
@@ -117,12 +112,3 @@ exercised_line head layer group =
     concat
     (head ∷ codes " energy " ∷ signed_decimal layer.energy ∷ codes " steps " ∷ decimal layer.steps ∷ codes " group energy "
     ∷ signed_decimal group.energy ∷ codes " steps " ∷ decimal group.steps ∷ codes "\n" ∷ [])
-
--- the status and the line of a verdict
-abbrev pub verdict_status : Verdict → Status
-verdict_status (verdict.Accepted energy steps) = is.Done
-verdict_status (verdict.Refused broken) = is.Broken
-
-abbrev pub verdict_line : Verdict → List ℕ
-verdict_line (verdict.Accepted energy steps) = accepted_line energy steps
-verdict_line (verdict.Refused broken) = broken_line broken

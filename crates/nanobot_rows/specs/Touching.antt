@@ -4,14 +4,14 @@ use Rattle.nano_spec.specs.declared.commands.Command.{Command}
 use Rattle.nano_spec.specs.declared.system.Profile.{Profile}
 use Rattle.nano_spec.specs.Cutting.{AreCommands, RestOf}
 use Rattle.nano_spec.specs.Matrix.{Matrix}
-use Rattle.nano_spec.specs.Profile.{full_profile, light_profile}
 use Rattle.nano_spec.specs.Spelling.{spellings}
 use Rattle.trace_judge.specs.Payment.{IsPaid, IsWithinWorkOfRun}
 use Rattle.trace_codec.specs.Decoder.{DecoderState, HasTaken}
 use Rattle.vox_depot.specs.Files.{Files, content}
+use Rattle.nanobot_rows.specs.Answer.{profile_of}
 use Rattle.nanobot_rows.specs.Models.{AreModels}
 use Rattle.nanobot_rows.specs.Reading.{RunState}
-use Rattle.nanobot_words.specs.Rows.{Row, light, run}
+use Rattle.nanobot_words.specs.Rows.{Row, run}
 
 -- ---- the bound
 
@@ -43,8 +43,7 @@ IsRunWithin profile source target trace told before after = (files : Files) (fro
 
 -- the same of a row that runs a trace
 abbrev pub IsRowWithin : Row → Option Files → ℕ → ℕ → Type 0
-IsRowWithin (run source target trace) told before after = IsRunWithin full_profile source target trace told before after
-IsRowWithin (light source target trace) told before after = IsRunWithin light_profile source target trace told before after
+IsRowWithin (run round source target trace) told before after = IsRunWithin (profile_of round) source target trace told before after
 IsRowWithin row told before after = ⊤
 
 -- ---- a trace that comes in pieces

@@ -1,12 +1,15 @@
-//! The rows that store the trace of a plan.
-ghost use Rattle.std.specs.Prelude.{◌≡◌, ◌+◌, ◌<◌, ◌≤◌, ℕ, IfOk, List, MatchOption, Option, Some, None};
+//! The row `plan`: the trace of a planner's plan.
+ghost use Rattle.std.specs.Prelude.{◌≡◌, ◌+◌, ◌<◌, ◌≤◌, ℕ, IfOk, List, MatchOption, Some};
+ghost use Rattle.nano_spec.specs.Legal.{IsLegal};
+ghost use Rattle.nano_spec.specs.Matrix.{Matrix};
 ghost use Rattle.group_planner.specs.Bounds.{most_bytes};
 ghost use Rattle.group_planner.specs.Rows.{rows as rows_of, runs as runs_of};
 ghost use Rattle.vox_depot.specs.Causes.{Rose};
 ghost use Rattle.nanobot_words.specs.Parsing.{side_of};
-ghost use Rattle.nanobot_words.specs.Rows.{plan_crew as crew_row, plan_group as group_row, plan_layer as layer_row, plan_low as low_row, plan_swarm as swarm_row, plan_void as void_row};
+ghost use Rattle.nanobot_words.specs.Rows.{TakesSides, plan as plan_row};
 ghost use Rattle.nanobot_rows.specs.Answer.{AnswerOf};
 ghost use Rattle.nanobot_rows.specs.Effects.{EndsStored, IsFor, KeepsPlan};
+ghost use Rattle.nanobot_rows.specs.Plans.{Plans};
 ghost use Rattle.nanobot_rows.specs.declared.report.Report.TheVariants.{GroupLong};
 
 use crate::effect::Effect;
@@ -15,9 +18,10 @@ use crate::report::Report;
 use crate::stop::Stop;
 use group_planner::{rows, runs};
 use low_planner::LowFault;
-use nanobot_words::Side;
+use nanobot_words::{Planner, Side};
 use plan_choice::{
-    choose_crew_plan, choose_group_plan, choose_layer_plan, choose_swarm_plan, choose_void_plan,
+    choose_crew_plan, choose_group_plan, choose_layer_plan, choose_low_plan, choose_swarm_plan,
+    choose_void_plan,
 };
 use plan_tape::Plan;
 use std::alloc::Global;
@@ -38,30 +42,6 @@ fn keep_plan<'a>(alloc: Global, plan: &Plan, trace: &'a str) -> Result<Effect<'a
     Ok(Effect::storing(report, trace, bytes))
 }
 
-/// `plan layer`: the trace of a plan that makes the target of the source.
-pub fn plan_layer<'a, D: Depot>(
-    alloc: Global,
-    depot: &mut D,
-    source: Side<'_>,
-    target: Side<'_>,
-    trace: &'a str,
-) -> Result<Effect<'a>, Stop>
-    requires source { (name : List ℕ) → side_of source ≡ Some name → D.may_fetch name }
-    requires target { (name : List ℕ) → side_of target ≡ Some name → D.may_fetch name }
-    requires some { side_of source ≡ None → side_of target ≡ None → ⊥ }
-    ensures finishes { EndsStored (AnswerOf (layer_row (side_of source.entry) (side_of target.entry) trace.now)) (D.files depot.old)
-        (Rose (D.faults depot.old) (D.faults depot.new)) result }
-    ensures named { IfOk result (IsFor (Some trace.now)) }
-    ensures files { D.files depot.new ≡ D.files depot.old }
-    ensures later { D.faults depot.old ≤ D.faults depot.new }
-    ensures stores { D.failed_stores depot.new ≡ D.failed_stores depot.old }
-{
-    let (source, target) = load_models(alloc, depot, source, target)?;
-    let plan = choose_layer_plan(alloc, &source, &target)?;
-    let effect = keep_plan(alloc, &plan, trace)?;
-    Ok(effect)
-}
-
 /// The report on a plan of the group planner that may be too long.
 fn group_long(source: &Planes, target: &Planes) -> Option<Report>
     requires { source.now.resolution ≡ target.now.resolution }
@@ -77,117 +57,87 @@ fn group_long(source: &Planes, target: &Planes) -> Option<Report>
     None
 }
 
-/// `plan group`: the trace of a plan of two bots that makes the target of the source.
-pub fn plan_group<'a, D: Depot>(
-    alloc: Global,
-    depot: &mut D,
-    source: Side<'_>,
-    target: Side<'_>,
-    trace: &'a str,
-) -> Result<Effect<'a>, Stop>
-    requires source { (name : List ℕ) → side_of source ≡ Some name → D.may_fetch name }
-    requires target { (name : List ℕ) → side_of target ≡ Some name → D.may_fetch name }
-    requires some { side_of source ≡ None → side_of target ≡ None → ⊥ }
-    ensures finishes { EndsStored (AnswerOf (group_row (side_of source.entry) (side_of target.entry) trace.now)) (D.files depot.old)
-        (Rose (D.faults depot.old) (D.faults depot.new)) result }
-    ensures named { IfOk result (IsFor (Some trace.now)) }
-    ensures files { D.files depot.new ≡ D.files depot.old }
-    ensures later { D.faults depot.old ≤ D.faults depot.new }
-    ensures stores { D.failed_stores depot.new ≡ D.failed_stores depot.old }
+/// The plan of two bots, or the report that it may be too long.
+fn plan_group(alloc: Global, source: &Planes, target: &Planes) -> Result<Plan, Stop>
+    requires source { IsLegal source.now }
+    requires target { IsLegal target.now }
+    requires same { source.now.resolution ≡ target.now.resolution }
+    ensures { Plans Planner.Group source.now target.now result }
 {
-    let (source, target) = load_models(alloc, depot, source, target)?;
-    if let Some(report) = group_long(&source, &target) {
+    if let Some(report) = group_long(source, target) {
         return Err(Stop::Told(report));
     }
-    let plan = choose_group_plan(alloc, &source, &target)?;
-    let effect = keep_plan(alloc, &plan, trace)?;
-    Ok(effect)
+    let plan = choose_group_plan(alloc, source, target)?;
+    Ok(plan)
 }
 
-/// `plan crew`: the trace of a plan of up to forty bots that makes the target of the source.
-pub fn plan_crew<'a, D: Depot>(
+/// The plan of one bot under Low, or the report that a part of the target is unsupported.
+fn plan_low(alloc: Global, target: &Planes) -> Result<Plan, Stop>
+    requires { IsLegal target.now }
+    ensures { (source : Matrix) → Plans Planner.Low source target.now result }
+{
+    match choose_low_plan(alloc, target) {
+        Ok(plan) => Ok(plan),
+        Err(LowFault::Unsupported { at }) => Err(Stop::Told(Report::Unsupported { at })),
+        Err(LowFault::Memory) => Err(Stop::Memory),
+    }
+}
+
+/// The planner's plan from the source to the target, or why there is none.
+fn choose_plan(
+    alloc: Global,
+    planner: Planner,
+    source: &Planes,
+    target: &Planes,
+) -> Result<Plan, Stop>
+    requires source { IsLegal source.now }
+    requires target { IsLegal target.now }
+    requires same { source.now.resolution ≡ target.now.resolution }
+    ensures { Plans planner source.now target.now result }
+{
+    match planner {
+        Planner::Layer => {
+            let plan = choose_layer_plan(alloc, source, target)?;
+            Ok(plan)
+        }
+        Planner::Group => plan_group(alloc, source, target),
+        Planner::Crew => {
+            let plan = choose_crew_plan(alloc, source, target)?;
+            Ok(plan)
+        }
+        Planner::Void => {
+            let plan = choose_void_plan(alloc, source)?;
+            Ok(plan)
+        }
+        Planner::Low => plan_low(alloc, target),
+        Planner::Swarm => {
+            let plan = choose_swarm_plan(alloc, target)?;
+            Ok(plan)
+        }
+    }
+}
+
+/// `plan`: the trace of the planner's plan that makes the target of the source.
+pub fn plan<'a, D: Depot>(
     alloc: Global,
     depot: &mut D,
+    planner: Planner,
     source: Side<'_>,
     target: Side<'_>,
     trace: &'a str,
 ) -> Result<Effect<'a>, Stop>
     requires source { (name : List ℕ) → side_of source ≡ Some name → D.may_fetch name }
     requires target { (name : List ℕ) → side_of target ≡ Some name → D.may_fetch name }
-    requires some { side_of source ≡ None → side_of target ≡ None → ⊥ }
-    ensures finishes { EndsStored (AnswerOf (crew_row (side_of source.entry) (side_of target.entry) trace.now)) (D.files depot.old)
-        (Rose (D.faults depot.old) (D.faults depot.new)) result }
+    requires sides { TakesSides planner (side_of source) (side_of target) }
+    ensures finishes { EndsStored (AnswerOf (plan_row planner (side_of source.entry) (side_of target.entry) trace.now))
+        (D.files depot.old) (Rose (D.faults depot.old) (D.faults depot.new)) result }
     ensures named { IfOk result (IsFor (Some trace.now)) }
     ensures files { D.files depot.new ≡ D.files depot.old }
     ensures later { D.faults depot.old ≤ D.faults depot.new }
     ensures stores { D.failed_stores depot.new ≡ D.failed_stores depot.old }
 {
     let (source, target) = load_models(alloc, depot, source, target)?;
-    let plan = choose_crew_plan(alloc, &source, &target)?;
-    let effect = keep_plan(alloc, &plan, trace)?;
-    Ok(effect)
-}
-
-/// `plan void`: the trace of a plan that makes the empty model of the source.
-pub fn plan_void<'a, D: Depot>(
-    alloc: Global,
-    depot: &mut D,
-    source: &str,
-    trace: &'a str,
-) -> Result<Effect<'a>, Stop>
-    requires { D.may_fetch source.now }
-    ensures finishes { EndsStored (AnswerOf (void_row source.now trace.now)) (D.files depot.old) (Rose (D.faults depot.old) (D.faults depot.new)) result }
-    ensures named { IfOk result (IsFor (Some trace.now)) }
-    ensures files { D.files depot.new ≡ D.files depot.old }
-    ensures later { D.faults depot.old ≤ D.faults depot.new }
-    ensures stores { D.failed_stores depot.new ≡ D.failed_stores depot.old }
-{
-    let (source, nothing) = load_models(alloc, depot, Side::Named(source), Side::Empty)?;
-    let plan = choose_void_plan(alloc, &source)?;
-    let effect = keep_plan(alloc, &plan, trace)?;
-    Ok(effect)
-}
-
-/// `plan low`: the trace of a plan under Low that makes the target of the empty model.
-pub fn plan_low<'a, D: Depot>(
-    alloc: Global,
-    depot: &mut D,
-    target: &str,
-    trace: &'a str,
-) -> Result<Effect<'a>, Stop>
-    requires { D.may_fetch target.now }
-    ensures finishes { EndsStored (AnswerOf (low_row target.now trace.now)) (D.files depot.old) (Rose (D.faults depot.old) (D.faults depot.new)) result }
-    ensures named { IfOk result (IsFor (Some trace.now)) }
-    ensures files { D.files depot.new ≡ D.files depot.old }
-    ensures later { D.faults depot.old ≤ D.faults depot.new }
-    ensures stores { D.failed_stores depot.new ≡ D.failed_stores depot.old }
-{
-    let (nothing, target) = load_models(alloc, depot, Side::Empty, Side::Named(target))?;
-    let plan = match plan_choice::choose_low_plan(alloc, &target) {
-        Ok(plan) => plan,
-        Err(LowFault::Unsupported { at }) => return Err(Stop::Told(Report::Unsupported { at })),
-        Err(LowFault::Memory) => return Err(Stop::Memory),
-    };
-    let effect = keep_plan(alloc, &plan, trace)?;
-    Ok(effect)
-}
-
-/// `plan swarm`: the trace of a plan of many bots that makes the target of the empty model.
-pub fn plan_swarm<'a, D: Depot>(
-    alloc: Global,
-    depot: &mut D,
-    target: &str,
-    trace: &'a str,
-) -> Result<Effect<'a>, Stop>
-    requires { D.may_fetch target.now }
-    ensures finishes { EndsStored (AnswerOf (swarm_row target.now trace.now)) (D.files depot.old) (Rose (D.faults depot.old) (D.faults depot.new)) result }
-    ensures named { IfOk result (IsFor (Some trace.now)) }
-    ensures files { D.files depot.new ≡ D.files depot.old }
-    ensures later { D.faults depot.old ≤ D.faults depot.new }
-    ensures stores { D.failed_stores depot.new ≡ D.failed_stores depot.old }
-{
-    let (nothing, target) = load_models(alloc, depot, Side::Empty, Side::Named(target))?;
-    let plan = choose_swarm_plan(alloc, &target)?;
+    let plan = choose_plan(alloc, planner, &source, &target)?;
     let effect = keep_plan(alloc, &plan, trace)?;
     Ok(effect)
 }

@@ -4,7 +4,7 @@ ghost use Rattle.vox_depot.specs.Causes.{Rose};
 ghost use Rattle.vox_depot.specs.Files.{Files};
 ghost use Rattle.nanobot_words.specs.Parsing.{row_of, side_of};
 ghost use Rattle.nanobot_words.specs.Rows.{IsOfTable, asm as asm_row, check as check_row, dis as dis_row, make as make_row, reads_of, stores_of};
-ghost use Rattle.nanobot_rows.specs.Answer.{AnswerOf, AnswerOfRun};
+ghost use Rattle.nanobot_rows.specs.Answer.{AnswerOf, AnswerOfRun, profile_of};
 ghost use Rattle.nanobot_rows.specs.Effects.{EndsStored, IsFor};
 ghost use Rattle.nanobot_rows.specs.Reading.{EndsUnstored};
 ghost use Rattle.nanobot_rows.specs.Touching.{IsRowWithin, IsRunWithin};
@@ -14,14 +14,14 @@ use crate::debugging::debug;
 use crate::effect::Effect;
 use crate::exercise::exercise;
 use crate::models::{load_model, load_models};
-use crate::plans::{plan_crew, plan_group, plan_layer, plan_low, plan_swarm, plan_void};
+use crate::plans::plan;
 use crate::report::{Report, Who};
 use crate::stop::Stop;
 use crate::trace::run_trace;
 use model_file::write_model;
 use model_forge::forge;
 use nano_spec::Profile;
-use nanobot_words::{Row, Side};
+use nanobot_words::{Round, Row, Side};
 use std::alloc::Global;
 use std::sync::ledger::Ledger;
 use trace_codec::encode_all;
@@ -78,30 +78,42 @@ fn judge_run<D: Depot, L: Ledger>(
     run_trace(alloc, depot, trace, source, &target, profile, steps)
 }
 
-/// `run` and `run light`: the verdict of a trace from a source to a target, by a profile.
+/// The profile of a round.
+fn profile_of(round: Round) -> Profile
+    ensures value { result ≡ profile_of round }
+    ensures seeds { result.seeds ≤ 39 }
+{
+    match round {
+        Round::Full => Profile::full(),
+        Round::Light => Profile::light(),
+    }
+}
+
+/// `run`: the verdict of a trace from a source to a target, in a round.
 fn run<'a, D: Depot, L: Ledger>(
     alloc: Global,
     depot: &mut D,
+    round: Round,
     source: Side<'_>,
     target: Side<'_>,
     trace: &str,
-    profile: Profile,
     steps: &mut Steps<L>,
 ) -> Result<Effect<'a>, Stop>
     requires source { (name : List ℕ) → side_of source ≡ Some name → D.may_fetch name }
     requires target { (name : List ℕ) → side_of target ≡ Some name → D.may_fetch name }
     requires trace { D.may_fetch trace.now }
     requires some { side_of source ≡ None → side_of target ≡ None → ⊥ }
-    requires seeds { profile.seeds ≤ 39 }
-    ensures finishes { EndsStored (AnswerOfRun profile (side_of source.entry) (side_of target.entry) trace.now) (D.files depot.old)
-        (Rose (D.faults depot.old) (D.faults depot.new)) result }
+    ensures finishes { EndsStored (AnswerOfRun (profile_of round) (side_of source.entry) (side_of target.entry) trace.now)
+        (D.files depot.old) (Rose (D.faults depot.old) (D.faults depot.new)) result }
     ensures named { IfOk result (IsFor None) }
     ensures files { D.files depot.new ≡ D.files depot.old }
     ensures later { D.faults depot.old ≤ D.faults depot.new }
     ensures stores { D.failed_stores depot.new ≡ D.failed_stores depot.old }
     ensures within { (result ≡ Err Stop.Memory → ⊥)
-        → IsRunWithin profile (side_of source.entry) (side_of target.entry) trace.now (D.files depot.old) steps.old steps.new }
+        → IsRunWithin (profile_of round) (side_of source.entry) (side_of target.entry) trace.now (D.files depot.old)
+        steps.old steps.new }
 {
+    let profile = profile_of(round);
     let told = judge_run(alloc, depot, source, target, trace, profile, steps);
     Effect::telling(told)
 }
@@ -187,15 +199,11 @@ pub fn answer<'a, D: Depot, L: Ledger>(
     match row {
         Row::Check { model } => Effect::telling(check(alloc, depot, model, steps)),
         Row::Run {
+            round,
             source,
             target,
             trace,
-        } => run(alloc, depot, source, target, trace, Profile::full(), steps),
-        Row::Light {
-            source,
-            target,
-            trace,
-        } => run(alloc, depot, source, target, trace, Profile::light(), steps),
+        } => run(alloc, depot, round, source, target, trace, steps),
         Row::Asm { text, trace } => asm(alloc, depot, text, trace),
         Row::Dis { trace, text } => dis(alloc, depot, trace, text),
         Row::Make {
@@ -203,24 +211,12 @@ pub fn answer<'a, D: Depot, L: Ledger>(
             resolution,
             model,
         } => make(alloc, number, resolution, model, steps),
-        Row::PlanLayer {
+        Row::Plan {
+            planner,
             source,
             target,
             trace,
-        } => plan_layer(alloc, depot, source, target, trace),
-        Row::PlanGroup {
-            source,
-            target,
-            trace,
-        } => plan_group(alloc, depot, source, target, trace),
-        Row::PlanCrew {
-            source,
-            target,
-            trace,
-        } => plan_crew(alloc, depot, source, target, trace),
-        Row::PlanVoid { source, trace } => plan_void(alloc, depot, source, trace),
-        Row::PlanLow { target, trace } => plan_low(alloc, depot, target, trace),
-        Row::PlanSwarm { target, trace } => plan_swarm(alloc, depot, target, trace),
+        } => plan(alloc, depot, planner, source, target, trace),
         Row::Exercise { number, resolution } => exercise(alloc, number, resolution, steps),
         Row::Debug {
             source,

@@ -1,7 +1,7 @@
 -- The worked examples of the table of words, by computing.
 use Rattle.std.proofs.Common.{refl}
 use Rattle.std.specs.Fmt.{digits}
-use Rattle.nanobot_words.specs.Worked.{WorkedFiles, WorkedWords}
+use Rattle.nanobot_words.specs.Worked.{WorkedFiles, WorkedSides, WorkedWords}
 
 pub worked_words : WorkedWords
 unfolding digits
@@ -36,4 +36,19 @@ worked_files = record {
   its_text_is_stored = refl;
   a_forged_model_is_stored = refl;
   a_session_stores_nothing = refl;
+}
+
+pub worked_sides : WorkedSides
+worked_sides = record {
+  from_a_source = tt;
+  to_a_target = tt;
+  from_a_source_to_a_target = tt;
+  not_from_nothing_to_nothing = λ h. h;
+  void_from_a_source = tt;
+  void_to_no_target = λ h. h;
+  void_from_something = λ h. h;
+  low_to_a_target = tt;
+  low_from_no_source = λ h. h;
+  swarm_to_a_target = tt;
+  swarm_from_no_source = λ h. h;
 }

@@ -1,3 +1,4 @@
 pub mod Examples
 pub mod OneRow
 pub mod Parsed
+pub mod Sides

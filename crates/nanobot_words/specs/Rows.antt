@@ -1,21 +1,19 @@
 -- The table of words: each row as the words that it is written with (this project's own: docs/FORMATS.md, "Printed lines").
 use Rattle.std.specs.Prelude.{◌≡◌, ◌≢◌, ◌<◌, ◌≤◌, ◌^◌, ℕ, List, [], ◌∷◌, map, codes, decimal, Option, Some, None, String, string_bytes, All, ⊤}
 use Rattle.vox_geom.specs.declared.TheConstants.{MOST_R}
+use Rattle.nanobot_words.specs.declared.planner.Planner.{Planner}
+use Rattle.nanobot_words.specs.declared.planner.Planner.TheVariants.{Layer, Group, Crew, Void, Low, Swarm}
+use Rattle.nanobot_words.specs.declared.row.Round.{Round}
+use Rattle.nanobot_words.specs.declared.row.Round.TheVariants.{Full, Light}
 
 -- a source or a target is the file of a name, or by `None` the empty model of the other's resolution
 pub data Row : Type 0 where
   check : (model : List ℕ) → Row
-  run : (source target : Option (List ℕ)) (trace : List ℕ) → Row
-  light : (source target : Option (List ℕ)) (trace : List ℕ) → Row
+  run : (round : Round) (source target : Option (List ℕ)) (trace : List ℕ) → Row
   asm : (text trace : List ℕ) → Row
   dis : (trace text : List ℕ) → Row
   make : (number resolution : ℕ) (model : List ℕ) → Row
-  plan_layer : (source target : Option (List ℕ)) (trace : List ℕ) → Row
-  plan_group : (source target : Option (List ℕ)) (trace : List ℕ) → Row
-  plan_crew : (source target : Option (List ℕ)) (trace : List ℕ) → Row
-  plan_void : (source trace : List ℕ) → Row
-  plan_low : (target trace : List ℕ) → Row
-  plan_swarm : (target trace : List ℕ) → Row
+  plan : (planner : Planner) (source target : Option (List ℕ)) (trace : List ℕ) → Row
   exercise : (number resolution : ℕ) → Row
   debug : (source trace script : List ℕ) → Row
 
@@ -24,24 +22,28 @@ abbrev pub side_word : Option (List ℕ) → List ℕ
 side_word None = codes "-"
 side_word (Some name) = name
 
--- the words of a run
-abbrev pub run_words : Option (List ℕ) → Option (List ℕ) → List ℕ → List (List ℕ)
-run_words source target trace = codes "run" ∷ side_word source ∷ side_word target ∷ trace ∷ []
+-- the word of a round, before others: the full round has none
+abbrev pub with_round : Round → List (List ℕ) → List (List ℕ)
+with_round Full words = words
+with_round Light words = codes "light" ∷ words
+
+-- the word of a planner
+abbrev pub planner_word : Planner → List ℕ
+planner_word Layer = codes "layer"
+planner_word Group = codes "group"
+planner_word Crew = codes "crew"
+planner_word Void = codes "void"
+planner_word Low = codes "low"
+planner_word Swarm = codes "swarm"
 
 -- the words of a row
 abbrev pub row_words : Row → List (List ℕ)
 row_words (check model) = codes "check" ∷ model ∷ []
-row_words (run source target trace) = run_words source target trace
-row_words (light source target trace) = codes "run" ∷ codes "light" ∷ side_word source ∷ side_word target ∷ trace ∷ []
+row_words (run round source target trace) = codes "run" ∷ with_round round (side_word source ∷ side_word target ∷ trace ∷ [])
 row_words (asm text trace) = codes "asm" ∷ text ∷ trace ∷ []
 row_words (dis trace text) = codes "dis" ∷ trace ∷ text ∷ []
 row_words (make number resolution model) = codes "make" ∷ decimal number ∷ decimal resolution ∷ model ∷ []
-row_words (plan_layer source target trace) = codes "plan" ∷ codes "layer" ∷ side_word source ∷ side_word target ∷ trace ∷ []
-row_words (plan_group source target trace) = codes "plan" ∷ codes "group" ∷ side_word source ∷ side_word target ∷ trace ∷ []
-row_words (plan_crew source target trace) = codes "plan" ∷ codes "crew" ∷ side_word source ∷ side_word target ∷ trace ∷ []
-row_words (plan_void source trace) = codes "plan" ∷ codes "void" ∷ source ∷ codes "-" ∷ trace ∷ []
-row_words (plan_low target trace) = codes "plan" ∷ codes "low" ∷ codes "-" ∷ target ∷ trace ∷ []
-row_words (plan_swarm target trace) = codes "plan" ∷ codes "swarm" ∷ codes "-" ∷ target ∷ trace ∷ []
+row_words (plan planner source target trace) = codes "plan" ∷ planner_word planner ∷ side_word source ∷ side_word target ∷ trace ∷ []
 row_words (exercise number resolution) = codes "exercise" ∷ decimal number ∷ decimal resolution ∷ []
 row_words (debug source trace script) = codes "debug" ∷ source ∷ trace ∷ script ∷ []
 
@@ -53,36 +55,20 @@ with_side (Some name) names = name ∷ names
 -- the names of the files that it reads, in the order of reading
 abbrev pub reads_of : Row → List (List ℕ)
 reads_of (check model) = model ∷ []
-reads_of (run source target trace) = with_side source (with_side target (trace ∷ []))
-reads_of (light source target trace) = with_side source (with_side target (trace ∷ []))
+reads_of (run round source target trace) = with_side source (with_side target (trace ∷ []))
 reads_of (asm text trace) = text ∷ []
 reads_of (dis trace text) = trace ∷ []
-reads_of (make number resolution model) = []
-reads_of (plan_layer source target trace) = with_side source (with_side target [])
-reads_of (plan_group source target trace) = with_side source (with_side target [])
-reads_of (plan_crew source target trace) = with_side source (with_side target [])
-reads_of (plan_void source trace) = source ∷ []
-reads_of (plan_low target trace) = target ∷ []
-reads_of (plan_swarm target trace) = target ∷ []
-reads_of (exercise number resolution) = []
+reads_of (plan planner source target trace) = with_side source (with_side target [])
 reads_of (debug source trace script) = source ∷ trace ∷ script ∷ []
+reads_of row = []
 
 -- the name of the file that it stores
 abbrev pub stores_of : Row → Option (List ℕ)
-stores_of (check model) = None
-stores_of (run source target trace) = None
-stores_of (light source target trace) = None
 stores_of (asm text trace) = Some trace
 stores_of (dis trace text) = Some text
 stores_of (make number resolution model) = Some model
-stores_of (plan_layer source target trace) = Some trace
-stores_of (plan_group source target trace) = Some trace
-stores_of (plan_crew source target trace) = Some trace
-stores_of (plan_void source trace) = Some trace
-stores_of (plan_low target trace) = Some trace
-stores_of (plan_swarm target trace) = Some trace
-stores_of (exercise number resolution) = None
-stores_of (debug source trace script) = None
+stores_of (plan planner source target trace) = Some trace
+stores_of row = None
 
 -- the names in it
 abbrev pub names_of : Row → List (List ℕ)
@@ -93,35 +79,33 @@ abbrev pub HasName : Option (List ℕ) → Option (List ℕ) → Type 0
 HasName None None = ⊥
 HasName source target = ⊤
 
+-- the first of the two alone is the file of a name
+abbrev pub HasOnly : Option (List ℕ) → Option (List ℕ) → Type 0
+HasOnly (Some name) None = ⊤
+HasOnly side other = ⊥
+
+-- the planner plans between such a source and such a target: between any two, from a source alone, or to a target alone
+abbrev pub TakesSides : Planner → Option (List ℕ) → Option (List ℕ) → Type 0
+TakesSides Void source target = HasOnly source target
+TakesSides Low source target = HasOnly target source
+TakesSides Swarm source target = HasOnly target source
+TakesSides planner source target = HasName source target
+
 -- a number and a resolution of the forge
 abbrev pub CanForge : ℕ → ℕ → Type 0
 CanForge number resolution = (number < 2 ^ 32) × (1 ≤ resolution) × (resolution ≤ MOST_R)
 
 -- the row is of the table
 abbrev pub IsOfTable : Row → Type 0
-IsOfTable (check model) = ⊤
-IsOfTable (run source target trace) = HasName source target
-IsOfTable (light source target trace) = HasName source target
-IsOfTable (asm text trace) = ⊤
-IsOfTable (dis trace text) = ⊤
+IsOfTable (run round source target trace) = HasName source target
 IsOfTable (make number resolution model) = CanForge number resolution
-IsOfTable (plan_layer source target trace) = HasName source target
-IsOfTable (plan_group source target trace) = HasName source target
-IsOfTable (plan_crew source target trace) = HasName source target
-IsOfTable (plan_void source trace) = ⊤
-IsOfTable (plan_low target trace) = ⊤
-IsOfTable (plan_swarm target trace) = ⊤
+IsOfTable (plan planner source target trace) = TakesSides planner source target
 IsOfTable (exercise number resolution) = CanForge number resolution
-IsOfTable (debug source trace script) = ⊤
+IsOfTable row = ⊤
 
 -- the row asks for plans, of which any may be made that is as it should be
 abbrev pub MakesPlans : Row → Type 0
-MakesPlans (plan_layer source target trace) = ⊤
-MakesPlans (plan_group source target trace) = ⊤
-MakesPlans (plan_crew source target trace) = ⊤
-MakesPlans (plan_void source trace) = ⊤
-MakesPlans (plan_low target trace) = ⊤
-MakesPlans (plan_swarm target trace) = ⊤
+MakesPlans (plan planner source target trace) = ⊤
 MakesPlans (exercise number resolution) = ⊤
 MakesPlans row = ⊥
 
@@ -137,15 +121,9 @@ pub record AreOperands (x y z : List ℕ) (source target : Option (List ℕ)) (t
   pub named : All IsName (with_side source (with_side target (trace ∷ [])))
   pub of_table : HasName source target
 
--- five words are two given ones, and then written as this source, this target and this trace
-pub record AreWith (words : List (List ℕ)) (first second : List ℕ) (source target : Option (List ℕ)) (trace : List ℕ) : Type 0 where
-  pub written : words ≡ first ∷ second ∷ side_word source ∷ side_word target ∷ trace ∷ []
-  pub named : All IsName (with_side source (with_side target (trace ∷ [])))
-  pub of_table : HasName source target
-
--- the words are written as the run of a trace from a source to a target
+-- the words are written as the run of a trace from a source to a target in the full round
 pub record IsRunOf (words : List (List ℕ)) (source target : Option (List ℕ)) (trace : List ℕ) : Type 0 where
-  pub written : words ≡ run_words source target trace
+  pub written : words ≡ codes "run" ∷ side_word source ∷ side_word target ∷ trace ∷ []
   pub named : All IsName (with_side source (with_side target (trace ∷ [])))
   pub of_table : HasName source target
 

@@ -1,39 +1,55 @@
--- Worked examples of the table of words: how rows are written, and which files they read and store (docs/FORMATS.md, "Printed lines").
-use Rattle.std.specs.Prelude.{◌≡◌, ℕ, List, [], ◌∷◌, codes, Some, None}
-use Rattle.nanobot_words.specs.Rows.{Row, asm, check, debug, dis, exercise, light, make, plan_crew, plan_group, plan_layer, plan_low, plan_swarm, plan_void, run, reads_of, row_words, stores_of}
+-- Worked examples of the table of words: how rows are written, which files they read and store, and which sides planners take (docs/FORMATS.md, "Printed lines").
+use Rattle.std.specs.Prelude.{◌≡◌, [], ◌∷◌, codes, Some, None}
+use Rattle.nanobot_words.specs.declared.planner.Planner.TheVariants.{Layer, Group, Crew, Void, Low, Swarm}
+use Rattle.nanobot_words.specs.declared.row.Round.TheVariants.{Full, Light}
+use Rattle.nanobot_words.specs.Rows.{TakesSides, asm, check, debug, dis, exercise, make, plan, run, reads_of, row_words, stores_of}
 
 -- the words of each row
 pub record WorkedWords : Type 0 where
   pub a_check : row_words (check (codes "m")) ≡ codes "check" ∷ codes "m" ∷ []
-  pub a_run : row_words (run (Some (codes "s")) (Some (codes "t")) (codes "b")) ≡ codes "run" ∷ codes "s" ∷ codes "t" ∷ codes "b" ∷ []
-  pub a_run_from_nothing : row_words (run None (Some (codes "t")) (codes "b")) ≡ codes "run" ∷ codes "-" ∷ codes "t" ∷ codes "b" ∷ []
-  pub a_light_run_to_nothing : row_words (light (Some (codes "s")) None (codes "b"))
+  pub a_run : row_words (run Full (Some (codes "s")) (Some (codes "t")) (codes "b")) ≡ codes "run" ∷ codes "s" ∷ codes "t" ∷ codes "b" ∷ []
+  pub a_run_from_nothing : row_words (run Full None (Some (codes "t")) (codes "b")) ≡ codes "run" ∷ codes "-" ∷ codes "t" ∷ codes "b" ∷ []
+  pub a_light_run_to_nothing : row_words (run Light (Some (codes "s")) None (codes "b"))
       ≡ codes "run" ∷ codes "light" ∷ codes "s" ∷ codes "-" ∷ codes "b" ∷ []
   pub a_text : row_words (asm (codes "x") (codes "b")) ≡ codes "asm" ∷ codes "x" ∷ codes "b" ∷ []
   pub a_trace : row_words (dis (codes "b") (codes "x")) ≡ codes "dis" ∷ codes "b" ∷ codes "x" ∷ []
   pub a_forged_model : row_words (make 7 20 (codes "m")) ≡ codes "make" ∷ codes "7" ∷ codes "20" ∷ codes "m" ∷ []
-  pub a_layer_plan : row_words (plan_layer None (Some (codes "t")) (codes "b"))
+  pub a_layer_plan : row_words (plan Layer None (Some (codes "t")) (codes "b"))
       ≡ codes "plan" ∷ codes "layer" ∷ codes "-" ∷ codes "t" ∷ codes "b" ∷ []
-  pub a_group_plan : row_words (plan_group (Some (codes "s")) None (codes "b"))
+  pub a_group_plan : row_words (plan Group (Some (codes "s")) None (codes "b"))
       ≡ codes "plan" ∷ codes "group" ∷ codes "s" ∷ codes "-" ∷ codes "b" ∷ []
-  pub a_crew_plan : row_words (plan_crew (Some (codes "s")) (Some (codes "t")) (codes "b"))
+  pub a_crew_plan : row_words (plan Crew (Some (codes "s")) (Some (codes "t")) (codes "b"))
       ≡ codes "plan" ∷ codes "crew" ∷ codes "s" ∷ codes "t" ∷ codes "b" ∷ []
-  pub a_void_plan : row_words (plan_void (codes "s") (codes "b")) ≡ codes "plan" ∷ codes "void" ∷ codes "s" ∷ codes "-" ∷ codes "b" ∷ []
-  pub a_low_plan : row_words (plan_low (codes "t") (codes "b")) ≡ codes "plan" ∷ codes "low" ∷ codes "-" ∷ codes "t" ∷ codes "b" ∷ []
-  pub a_swarm_plan : row_words (plan_swarm (codes "t") (codes "b")) ≡ codes "plan" ∷ codes "swarm" ∷ codes "-" ∷ codes "t" ∷ codes "b" ∷ []
+  pub a_void_plan : row_words (plan Void (Some (codes "s")) None (codes "b")) ≡ codes "plan" ∷ codes "void" ∷ codes "s" ∷ codes "-" ∷ codes "b" ∷ []
+  pub a_low_plan : row_words (plan Low None (Some (codes "t")) (codes "b")) ≡ codes "plan" ∷ codes "low" ∷ codes "-" ∷ codes "t" ∷ codes "b" ∷ []
+  pub a_swarm_plan : row_words (plan Swarm None (Some (codes "t")) (codes "b")) ≡ codes "plan" ∷ codes "swarm" ∷ codes "-" ∷ codes "t" ∷ codes "b" ∷ []
   pub an_exercise : row_words (exercise 0 400) ≡ codes "exercise" ∷ codes "0" ∷ codes "400" ∷ []
   pub a_session : row_words (debug (codes "s") (codes "b") (codes "x")) ≡ codes "debug" ∷ codes "s" ∷ codes "b" ∷ codes "x" ∷ []
 
 -- the files of rows, read in this order, and stored
 pub record WorkedFiles : Type 0 where
-  pub a_run_reads : reads_of (run (Some (codes "s")) (Some (codes "t")) (codes "b")) ≡ codes "s" ∷ codes "t" ∷ codes "b" ∷ []
-  pub nothing_is_no_file : reads_of (light None (Some (codes "t")) (codes "b")) ≡ codes "t" ∷ codes "b" ∷ []
+  pub a_run_reads : reads_of (run Full (Some (codes "s")) (Some (codes "t")) (codes "b")) ≡ codes "s" ∷ codes "t" ∷ codes "b" ∷ []
+  pub nothing_is_no_file : reads_of (run Light None (Some (codes "t")) (codes "b")) ≡ codes "t" ∷ codes "b" ∷ []
   pub a_session_reads : reads_of (debug (codes "s") (codes "b") (codes "x")) ≡ codes "s" ∷ codes "b" ∷ codes "x" ∷ []
-  pub a_plan_reads_its_models : reads_of (plan_group (Some (codes "s")) (Some (codes "t")) (codes "b")) ≡ codes "s" ∷ codes "t" ∷ []
-  pub a_plan_stores_its_trace : stores_of (plan_group (Some (codes "s")) (Some (codes "t")) (codes "b")) ≡ Some (codes "b")
+  pub a_plan_reads_its_models : reads_of (plan Group (Some (codes "s")) (Some (codes "t")) (codes "b")) ≡ codes "s" ∷ codes "t" ∷ []
+  pub a_plan_stores_its_trace : stores_of (plan Group (Some (codes "s")) (Some (codes "t")) (codes "b")) ≡ Some (codes "b")
   pub a_text_is_read : reads_of (asm (codes "x") (codes "b")) ≡ codes "x" ∷ []
   pub its_trace_is_stored : stores_of (asm (codes "x") (codes "b")) ≡ Some (codes "b")
   pub a_trace_is_read : reads_of (dis (codes "b") (codes "x")) ≡ codes "b" ∷ []
   pub its_text_is_stored : stores_of (dis (codes "b") (codes "x")) ≡ Some (codes "x")
   pub a_forged_model_is_stored : stores_of (make 7 20 (codes "m")) ≡ Some (codes "m")
   pub a_session_stores_nothing : stores_of (debug (codes "s") (codes "b") (codes "x")) ≡ None
+
+-- the sides that planners take
+pub record WorkedSides : Type 0 where
+  pub from_a_source : TakesSides Layer (Some (codes "s")) None
+  pub to_a_target : TakesSides Group None (Some (codes "t"))
+  pub from_a_source_to_a_target : TakesSides Crew (Some (codes "s")) (Some (codes "t"))
+  pub not_from_nothing_to_nothing : TakesSides Crew None None → ⊥
+  pub void_from_a_source : TakesSides Void (Some (codes "s")) None
+  pub void_to_no_target : TakesSides Void (Some (codes "s")) (Some (codes "t")) → ⊥
+  pub void_from_something : TakesSides Void None (Some (codes "t")) → ⊥
+  pub low_to_a_target : TakesSides Low None (Some (codes "t"))
+  pub low_from_no_source : TakesSides Low (Some (codes "s")) (Some (codes "t")) → ⊥
+  pub swarm_to_a_target : TakesSides Swarm None (Some (codes "t"))
+  pub swarm_from_no_source : TakesSides Swarm (Some (codes "s")) None → ⊥

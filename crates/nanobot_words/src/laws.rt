@@ -1,15 +1,17 @@
 //! The law of the table of words, and worked examples of it.
 ghost use Rattle.std.specs.Prelude.{◌≡◌, ℕ, List};
 ghost use Rattle.nanobot_words.specs.Rows.{IsRow, Row};
-ghost use Rattle.nanobot_words.specs.Worked.{WorkedFiles, WorkedWords};
+ghost use Rattle.nanobot_words.specs.Worked.{WorkedFiles, WorkedSides, WorkedWords};
 
 /// Words are in one row of the table at most.
 pub fn one_row()
     ensures { (words : List (List ℕ)) (row row' : Row) → IsRow words row → IsRow words row' → row ≡ row' }
 {}
 
-/// Worked examples of rows: the words that they are written with, and the files that they read and store.
+/// Worked examples of rows: the words that they are written with, the files that they read and store, and the sides that
+/// planners take.
 pub fn worked_words()
     ensures words { WorkedWords }
     ensures files { WorkedFiles }
+    ensures sides { WorkedSides }
 {}

@@ -2,9 +2,11 @@
 #![tactic(auto)]
 
 mod laws;
+mod planner;
 mod row;
 mod words;
 
 pub use laws::{one_row, worked_words};
-pub use row::{Row, Side};
+pub use planner::Planner;
+pub use row::{Round, Row, Side};
 pub use words::parse;

@@ -1,10 +1,20 @@
 //! The rows of the table of words.
+use crate::planner::Planner;
 
 /// A source or a target: the file of a name, or the empty model of the other's resolution.
 #[derive(Clone, Copy)]
 pub enum Side<'a> {
     Empty,
     Named(&'a str),
+}
+
+/// By which profile a run is judged.
+#[derive(Clone, Copy, PartialEq, Eq, Debug)]
+pub enum Round {
+    /// The full round of the contest.
+    Full,
+    /// This project's light profile, after the lightning round.
+    Light,
 }
 
 /// What the words ask for.
@@ -14,14 +24,9 @@ pub enum Row<'a> {
     Check {
         model: &'a str,
     },
-    /// What comes of the trace from the source to the target?
+    /// What comes of the trace from the source to the target, in the round?
     Run {
-        source: Side<'a>,
-        target: Side<'a>,
-        trace: &'a str,
-    },
-    /// The same under the light profile.
-    Light {
+        round: Round,
         source: Side<'a>,
         target: Side<'a>,
         trace: &'a str,
@@ -42,37 +47,11 @@ pub enum Row<'a> {
         resolution: u16,
         model: &'a str,
     },
-    /// The trace of the layer planner from the source to the target, as a file.
-    PlanLayer {
+    /// The trace of the planner's plan from the source to the target, as a file.
+    Plan {
+        planner: Planner,
         source: Side<'a>,
         target: Side<'a>,
-        trace: &'a str,
-    },
-    /// The trace of the group planner from the source to the target, as a file.
-    PlanGroup {
-        source: Side<'a>,
-        target: Side<'a>,
-        trace: &'a str,
-    },
-    /// The trace of the crew's planner from the source to the target, as a file.
-    PlanCrew {
-        source: Side<'a>,
-        target: Side<'a>,
-        trace: &'a str,
-    },
-    /// The trace of the void planner from the source to the empty model, as a file.
-    PlanVoid {
-        source: &'a str,
-        trace: &'a str,
-    },
-    /// The trace of the low planner from the empty model to the target, as a file.
-    PlanLow {
-        target: &'a str,
-        trace: &'a str,
-    },
-    /// The trace of the swarm planner from the empty model to the target, as a file.
-    PlanSwarm {
-        target: &'a str,
         trace: &'a str,
     },
     /// What the layer planner's and the group planner's plans of a forged model come to.

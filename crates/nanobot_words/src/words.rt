@@ -1,9 +1,12 @@
 //! The words of the program.
 ghost use Rattle.std.specs.Prelude.{◌≡◌, ◌↔◌, ◌<◌, ◌≤◌, ◌^◌, ℕ, List, Option, [], ◌∷◌, IsTrue, MatchOption, codes, decimal};
-ghost use Rattle.nanobot_words.specs.Rows.{asm, check, debug, dis, exercise, light, make, plan_crew, plan_group, plan_layer, plan_low, plan_swarm, plan_void, run, side_word, AreOperands, AreWith, HasName, IsInNoRow, IsName, IsRow, MakesPlans, Row as RowOf, texts};
+ghost use Rattle.nanobot_words.specs.Rows.{asm, check, debug, dis, exercise, make, plan, planner_word, run, side_word, AreOperands, IsInNoRow, IsName, IsRow, texts};
+ghost use Rattle.nanobot_words.specs.declared.planner.Planner.{Planner as PlannerOf};
+ghost use Rattle.nanobot_words.specs.declared.row.Round.{Round as RoundOf};
 ghost use Rattle.nanobot_words.specs.Parsing.{row_of, side_of};
 
-use crate::row::{Row, Side};
+use crate::planner::{Planner, has_name};
+use crate::row::{Round, Row, Side};
 use itoa::Buffer;
 use vox_geom::MOST_R;
 
@@ -141,16 +144,6 @@ fn four(words: &[String]) -> Option<(&str, &str, &str, &str)>
     }
 }
 
-/// Whether one of the two is the file of a name.
-fn has_name(source: Side<'_>, target: Side<'_>) -> bool
-    ensures { IsTrue result ↔ HasName (side_of source.entry) (side_of target.entry) }
-{
-    match (source, target) {
-        (Side::Empty, Side::Empty) => false,
-        (Side::Empty, Side::Named(_)) | (Side::Named(_), _) => true,
-    }
-}
-
 /// The source and the target of two words, where a third is the name of a trace and one of the two is the file of a name.
 fn parse_sides<'a>(source: &'a str, target: &'a str, trace: &str) -> Option<(Side<'a>, Side<'a>)>
     ensures { MatchOption result ((s t : Option (List ℕ)) (b : List ℕ) → AreOperands source.now target.now trace.now s t b → ⊥)
@@ -167,23 +160,6 @@ fn parse_sides<'a>(source: &'a str, target: &'a str, trace: &str) -> Option<(Sid
     Some((first, second))
 }
 
-/// The source, the target and the trace after `run`.
-fn parse_run(words: &[String]) -> Option<Row<'_>>
-    ensures { MatchOption result ((s t : Option (List ℕ)) (b : List ℕ) → IsRow (texts words.now) (run s t b) → ⊥)
-        (λ row. IsRow (texts words.now) (row_of row)) }
-{
-    let (word, source, target, trace) = four(words)?;
-    if word != "run" {
-        return None;
-    }
-    let (source, target) = parse_sides(source, target, trace)?;
-    Some(Row::Run {
-        source,
-        target,
-        trace,
-    })
-}
-
 /// The words, where they are five.
 fn five(words: &[String]) -> Option<(&str, &str, &str, &str, &str)>
     ensures { MatchOption result ((a b c d e : List ℕ) → texts words.now ≡ a ∷ b ∷ c ∷ d ∷ e ∷ [] → ⊥)
@@ -195,148 +171,96 @@ fn five(words: &[String]) -> Option<(&str, &str, &str, &str, &str)>
     }
 }
 
-/// The source, the target and the trace behind two words, where the words are five and the first are those two.
-fn parse_operands<'a>(
-    words: &'a [String],
-    first: &str,
-    second: &str,
-) -> Option<(Side<'a>, Side<'a>, &'a str)>
-    ensures { MatchOption result ((s t : Option (List ℕ)) (b : List ℕ) → AreWith (texts words.now) first.now second.now s t b → ⊥)
-        (λ operands. AreWith (texts words.now) first.now second.now (side_of operands.0) (side_of operands.1) operands.2.now) }
+/// The source, the target and the trace after `run`.
+fn parse_full(words: &[String]) -> Option<Row<'_>>
+    ensures { MatchOption result
+        ((s t : Option (List ℕ)) (b : List ℕ) → IsRow (texts words.now) (run Round.Full s t b) → ⊥)
+        (λ row. IsRow (texts words.now) (row_of row)) }
 {
-    let (a, b, source, target, trace) = five(words)?;
-    if a != first {
-        return None;
-    }
-    if b != second {
+    let (word, source, target, trace) = four(words)?;
+    if word != "run" {
         return None;
     }
     let (source, target) = parse_sides(source, target, trace)?;
-    Some((source, target, trace))
+    Some(Row::Run {
+        round: Round::Full,
+        source,
+        target,
+        trace,
+    })
 }
 
 /// The source, the target and the trace after `run light`.
 fn parse_light(words: &[String]) -> Option<Row<'_>>
-    ensures { MatchOption result ((s t : Option (List ℕ)) (b : List ℕ) → IsRow (texts words.now) (light s t b) → ⊥)
+    ensures { MatchOption result
+        ((s t : Option (List ℕ)) (b : List ℕ) → IsRow (texts words.now) (run Round.Light s t b) → ⊥)
         (λ row. IsRow (texts words.now) (row_of row)) }
 {
-    let (source, target, trace) = parse_operands(words, "run", "light")?;
-    Some(Row::Light {
+    let (first, second, source, target, trace) = five(words)?;
+    if first != "run" {
+        return None;
+    }
+    if second != "light" {
+        return None;
+    }
+    let (source, target) = parse_sides(source, target, trace)?;
+    Some(Row::Run {
+        round: Round::Light,
         source,
         target,
         trace,
     })
 }
 
-/// The source, the target and the trace after `plan layer`.
-fn parse_plan_layer(words: &[String]) -> Option<Row<'_>>
-    ensures { MatchOption result ((s t : Option (List ℕ)) (b : List ℕ) → IsRow (texts words.now) (plan_layer s t b) → ⊥)
+/// The round, the source, the target and the trace of a run.
+fn parse_run(words: &[String]) -> Option<Row<'_>>
+    ensures { MatchOption result
+        ((round : RoundOf) (s t : Option (List ℕ)) (b : List ℕ) → IsRow (texts words.now) (run round s t b) → ⊥)
         (λ row. IsRow (texts words.now) (row_of row)) }
 {
-    let (source, target, trace) = parse_operands(words, "plan", "layer")?;
-    Some(Row::PlanLayer {
-        source,
-        target,
-        trace,
-    })
+    if let Some(row) = parse_full(words) {
+        return Some(row);
+    }
+    parse_light(words)
 }
 
-/// The source, the target and the trace after `plan group`.
-fn parse_plan_group(words: &[String]) -> Option<Row<'_>>
-    ensures { MatchOption result ((s t : Option (List ℕ)) (b : List ℕ) → IsRow (texts words.now) (plan_group s t b) → ⊥)
-        (λ row. IsRow (texts words.now) (row_of row)) }
+/// The planner of a word.
+fn parse_planner(word: &str) -> Option<Planner>
+    ensures { MatchOption result ((planner : PlannerOf) → planner_word planner ≡ word.now → ⊥)
+        (λ planner. planner_word planner ≡ word.now) }
 {
-    let (source, target, trace) = parse_operands(words, "plan", "group")?;
-    Some(Row::PlanGroup {
-        source,
-        target,
-        trace,
-    })
+    match word {
+        "layer" => Some(Planner::Layer),
+        "group" => Some(Planner::Group),
+        "crew" => Some(Planner::Crew),
+        "void" => Some(Planner::Void),
+        "low" => Some(Planner::Low),
+        "swarm" => Some(Planner::Swarm),
+        _ => None,
+    }
 }
 
-/// The source, the target and the trace after `plan crew`.
-fn parse_plan_crew(words: &[String]) -> Option<Row<'_>>
-    ensures { MatchOption result ((s t : Option (List ℕ)) (b : List ℕ) → IsRow (texts words.now) (plan_crew s t b) → ⊥)
+/// The planner, the source, the target and the trace after `plan`.
+fn parse_plan(words: &[String]) -> Option<Row<'_>>
+    ensures { MatchOption result
+        ((planner : PlannerOf) (s t : Option (List ℕ)) (b : List ℕ) → IsRow (texts words.now) (plan planner s t b) → ⊥)
         (λ row. IsRow (texts words.now) (row_of row)) }
-{
-    let (source, target, trace) = parse_operands(words, "plan", "crew")?;
-    Some(Row::PlanCrew {
-        source,
-        target,
-        trace,
-    })
-}
-
-/// The source and the trace after `plan`, a planner's word and `S - B`.
-fn parse_source<'a>(words: &'a [String], planner: &str) -> Option<(&'a str, &'a str)>
-    ensures { MatchOption result ((s b : List ℕ) → texts words.now ≡ codes "plan" ∷ planner.now ∷ s ∷ codes "-" ∷ b ∷ [] → IsName b → IsName s → ⊥)
-        (λ names. (texts words.now ≡ codes "plan" ∷ planner.now ∷ names.0.now ∷ codes "-" ∷ names.1.now ∷ []) × IsName names.1.now × IsName names.0.now) }
 {
     let (first, second, source, target, trace) = five(words)?;
     if first != "plan" {
         return None;
     }
-    if second != planner {
+    let planner = parse_planner(second)?;
+    let (source, target) = parse_sides(source, target, trace)?;
+    if !planner.takes(source, target) {
         return None;
     }
-    if target != "-" {
-        return None;
-    }
-    if !is_name(source) {
-        return None;
-    }
-    if !is_name(trace) {
-        return None;
-    }
-    Some((source, trace))
-}
-
-/// The source and the trace after `plan void`.
-fn parse_plan_void(words: &[String]) -> Option<Row<'_>>
-    ensures { MatchOption result ((s b : List ℕ) → IsRow (texts words.now) (plan_void s b) → ⊥) (λ row. IsRow (texts words.now) (row_of row)) }
-{
-    let (source, trace) = parse_source(words, "void")?;
-    Some(Row::PlanVoid { source, trace })
-}
-
-/// The target and the trace after `plan`, a planner's word and `- T B`.
-fn parse_target<'a>(words: &'a [String], planner: &str) -> Option<(&'a str, &'a str)>
-    ensures { MatchOption result ((t b : List ℕ) → texts words.now ≡ codes "plan" ∷ planner.now ∷ codes "-" ∷ t ∷ b ∷ [] → IsName b → IsName t → ⊥)
-        (λ names. (texts words.now ≡ codes "plan" ∷ planner.now ∷ codes "-" ∷ names.0.now ∷ names.1.now ∷ []) × IsName names.1.now × IsName names.0.now) }
-{
-    let (first, second, source, target, trace) = five(words)?;
-    if first != "plan" {
-        return None;
-    }
-    if second != planner {
-        return None;
-    }
-    if source != "-" {
-        return None;
-    }
-    if !is_name(target) {
-        return None;
-    }
-    if !is_name(trace) {
-        return None;
-    }
-    Some((target, trace))
-}
-
-/// The target and the trace after `plan low`.
-fn parse_plan_low(words: &[String]) -> Option<Row<'_>>
-    ensures { MatchOption result ((t b : List ℕ) → IsRow (texts words.now) (plan_low t b) → ⊥) (λ row. IsRow (texts words.now) (row_of row)) }
-{
-    let (target, trace) = parse_target(words, "low")?;
-    Some(Row::PlanLow { target, trace })
-}
-
-/// The target and the trace after `plan swarm`.
-fn parse_plan_swarm(words: &[String]) -> Option<Row<'_>>
-    ensures { MatchOption result ((t b : List ℕ) → IsRow (texts words.now) (plan_swarm t b) → ⊥) (λ row. IsRow (texts words.now) (row_of row)) }
-{
-    let (target, trace) = parse_target(words, "swarm")?;
-    Some(Row::PlanSwarm { target, trace })
+    Some(Row::Plan {
+        planner,
+        source,
+        target,
+        trace,
+    })
 }
 
 /// The number and the resolution after `exercise`.
@@ -376,31 +300,6 @@ fn parse_debug(words: &[String]) -> Option<Row<'_>>
     })
 }
 
-/// The row of words that ask for plans.
-fn parse_plans(words: &[String]) -> Option<Row<'_>>
-    ensures { MatchOption result ((row : RowOf) → MakesPlans row → IsRow (texts words.now) row → ⊥) (λ row. IsRow (texts words.now) (row_of row)) }
-{
-    if let Some(row) = parse_plan_layer(words) {
-        return Some(row);
-    }
-    if let Some(row) = parse_plan_group(words) {
-        return Some(row);
-    }
-    if let Some(row) = parse_plan_crew(words) {
-        return Some(row);
-    }
-    if let Some(row) = parse_plan_void(words) {
-        return Some(row);
-    }
-    if let Some(row) = parse_plan_low(words) {
-        return Some(row);
-    }
-    if let Some(row) = parse_plan_swarm(words) {
-        return Some(row);
-    }
-    parse_exercise(words)
-}
-
 /// The row of the words.
 pub fn parse(words: &[String]) -> Option<Row<'_>>
     ensures { MatchOption result (IsInNoRow (texts words.now)) (λ row. IsRow (texts words.now) (row_of row)) }
@@ -409,9 +308,6 @@ pub fn parse(words: &[String]) -> Option<Row<'_>>
         return Some(Row::Check { model });
     }
     if let Some(row) = parse_run(words) {
-        return Some(row);
-    }
-    if let Some(row) = parse_light(words) {
         return Some(row);
     }
     if let Some(row) = parse_asm(words) {
@@ -423,8 +319,11 @@ pub fn parse(words: &[String]) -> Option<Row<'_>>
     if let Some(row) = parse_make(words) {
         return Some(row);
     }
-    if let Some(row) = parse_debug(words) {
+    if let Some(row) = parse_plan(words) {
         return Some(row);
     }
-    parse_plans(words)
+    if let Some(row) = parse_exercise(words) {
+        return Some(row);
+    }
+    parse_debug(words)
 }

@@ -1,5 +1,5 @@
 -- A crew's plan in the making, by the plans of which it is one.
-use Rattle.std.proofs.Common.{◌≡◌, ◌⊎◌, ◌∙◌, ℕ, ◌≤◌, List, inl, inr, sym, ap, subst, arith, length, mul-le-mul}
+use Rattle.std.proofs.Common.{◌≡◌, ◌⊎◌, ◌∙◌, ℕ, ◌≤◌, List, inl, inr, sym, ap, subst, arith, length}
 use Rattle.std.specs.Prelude.{ℤ, ◌≤ℤ◌}
 use Rattle.std.proofs.lemmas.Int.{ints}
 use Rattle.nano_spec.specs.declared.commands.Command.{Command}
@@ -8,13 +8,11 @@ use Rattle.nano_spec.specs.Model.{volume}
 use Rattle.nano_spec.specs.Profile.{full_profile, light_profile}
 use Rattle.nano_spec.specs.Spelling.{spellings}
 use Rattle.group_planner.specs.Bounds.{most_bytes}
-use Rattle.low_planner.specs.Commands.{IsEmpty}
 use Rattle.low_planner.proofs.Builds.{full_most}
 use Rattle.plan_tape.specs.declared.tape.Plan.{Plan}
 use Rattle.plan_tape.specs.Reaches.{HasAtMost}
-use Rattle.plan_tape.proofs.LegalModels.{empty_is_void}
 use Rattle.plan_choice.specs.Crew.{IsForCrew, Replaces}
-use Rattle.plan_choice.proofs.Lengths.{few_commands, four_each, layer_fits, low_fits, swarm_fits, two_each, void_fits}
+use Rattle.plan_choice.proofs.Lengths.{few_commands, four_each, layer_fits, low_fits, swarm_fits, two_each, void_fits, volume_most}
 use Rattle.plan_choice.specs.Planners.{crew_limit, IsGroupPlan, IsLayerPlan, IsLowPlan, IsNoDearer, IsSwarmPlan, IsVoidPlan, PlanFacts}
 
 -- ---- the one of two plans that stands
@@ -39,56 +37,63 @@ cheaper_still Is source target energy paid l h = (h.0, h.1, h.2, h.3, let k = h.
 pub fewer : (source : Matrix) (commands : List Command) (n : ℕ) → n ≤ 40 → HasAtMost source full_profile commands n → HasAtMost source full_profile commands 40
 fewer source commands n l h = λ before rest s steps e r. let k = h before rest s steps e r in omega (arith, k, l)
 
-cube : (r : ℕ) → r ≤ 400 → volume r ≤ 64000000
-cube r h = mul-le-mul (mul-le-mul h h) h
-
 module _ (source target : Matrix) (plan : Plan) where
   pub layer_crew : source.resolution ≤ 400 → IsLayerPlan source target plan.commands plan.energy plan.steps → IsForCrew source target plan
   layer_crew most h = record {
-    are_commands = h.are_commands;
-    accepted = h.accepted;
+    plan = record {
+      are_commands = h.plan.are_commands;
+      accepted = h.plan.accepted;
+      few_bots = fewer source plan.commands 1 (omega arith) h.plan.few_bots;
+      halt_alone = h.plan.halt_alone;
+    };
     few_bytes = layer_fits source.resolution (length (spellings plan.commands)) most h.bytes;
-    few_bots = fewer source plan.commands 1 (omega arith) h.few_bots;
-    halt_alone = h.halt_alone;
   }
 
   pub group_crew : most_bytes source target ≤ crew_limit → IsGroupPlan source target plan.commands plan.energy plan.steps → IsForCrew source target plan
   group_crew fits h = record {
-    are_commands = h.are_commands;
-    accepted = h.accepted;
+    plan = record {
+      are_commands = h.plan.are_commands;
+      accepted = h.plan.accepted;
+      few_bots = fewer source plan.commands 2 (omega arith) h.plan.few_bots;
+      halt_alone = h.plan.halt_alone;
+    };
     few_bytes = let few = h.few_bytes in omega (arith, few, fits);
-    few_bots = fewer source plan.commands 2 (omega arith) h.few_bots;
-    halt_alone = h.halt_alone;
   }
 
   pub void_crew : source.resolution ≤ 400 → IsVoidPlan source target plan.commands plan.energy plan.steps → IsForCrew source target plan
   void_crew most h = record {
-    are_commands = h.are_commands;
-    accepted = h.accepted;
+    plan = record {
+      are_commands = h.plan.are_commands;
+      accepted = h.plan.accepted;
+      few_bots = fewer source plan.commands 4 (omega arith) h.plan.few_bots;
+      halt_alone = h.plan.halt_alone;
+    };
     few_bytes = void_fits source.resolution plan.steps (length plan.commands) (length (spellings plan.commands)) most h.few_steps
-        (few_commands source target full_profile plan.commands 4 h.few_bots plan.energy plan.steps h.accepted) (four_each plan.commands);
-    few_bots = fewer source plan.commands 4 (omega arith) h.few_bots;
-    halt_alone = h.halt_alone;
+        (few_commands source target full_profile plan.commands 4 h.plan.few_bots plan.energy plan.steps h.plan.accepted) (four_each plan.commands);
   }
 
-  pub low_crew : target.resolution ≤ 400 → (r : ℕ) → source ≡ empty r → HasAtMost source full_profile plan.commands 40 → IsLowPlan source target plan.commands plan.energy plan.steps → IsForCrew source target plan
-  low_crew most r e few h = record {
-    are_commands = h.are_commands;
-    accepted = h.accepted;
-    few_bytes = low_fits (volume target.resolution) (full_count target) plan.steps (length plan.commands) (length (spellings plan.commands)) (cube target.resolution most) (full_most target) h.few_steps
-        (few_commands source target light_profile plan.commands 1 h.few_bots plan.energy plan.steps h.accepted_as_light) (two_each plan.commands h.plain);
-    few_bots = few;
-    halt_alone = λ same. h.halt_alone (subst IsEmpty (sym e ∙ same) (empty_is_void r));
+  pub low_crew : target.resolution ≤ 400 → HasAtMost source full_profile plan.commands 40 → IsLowPlan source target plan.commands plan.energy plan.steps → IsForCrew source target plan
+  low_crew most few h = record {
+    plan = record {
+      are_commands = h.plan.are_commands;
+      accepted = h.plan.accepted;
+      few_bots = few;
+      halt_alone = h.plan.halt_alone;
+    };
+    few_bytes = low_fits (volume target.resolution) (full_count target) plan.steps (length plan.commands) (length (spellings plan.commands)) (volume_most target.resolution most) (full_most target) h.few_steps
+        (few_commands source target light_profile plan.commands 1 h.plan.few_bots plan.energy plan.steps h.accepted_as_light) (two_each plan.commands h.plain);
   }
 
   pub swarm_crew : target.resolution ≤ 400 → HasAtMost source full_profile plan.commands 40 → IsSwarmPlan source target plan.commands plan.energy plan.steps → IsForCrew source target plan
   swarm_crew most few h = record {
-    are_commands = h.are_commands;
-    accepted = h.accepted;
+    plan = record {
+      are_commands = h.plan.are_commands;
+      accepted = h.plan.accepted;
+      few_bots = few;
+      halt_alone = h.plan.halt_alone;
+    };
     few_bytes = swarm_fits target.resolution plan.steps (length plan.commands) (length (spellings plan.commands)) most h.few_steps
-        (few_commands source target light_profile plan.commands 20 h.few_bots plan.energy plan.steps h.accepted_as_light) (four_each plan.commands);
-    few_bots = few;
-    halt_alone = h.halt_alone;
+        (few_commands source target light_profile plan.commands 20 h.plan.few_bots plan.energy plan.steps h.accepted_as_light) (four_each plan.commands);
   }
 
 -- ---- to the empty model, or from it

@@ -111,6 +111,10 @@ void_fits r steps commands size most few a b =
     by : (x : ℕ) → x ≤ 540800 → steps ≤ x + 8 * r + 200 → size ≤ crew_limit
     by x h few = omega (arith, h, few, most, a, b)
 
+-- a model has few voxels
+pub volume_most : (r : ℕ) → r ≤ 400 → volume r ≤ 64000000
+volume_most r h = mul-le-mul (mul-le-mul h h) h
+
 pub low_fits : (cube full steps commands size : ℕ) → cube ≤ 64000000 → full ≤ cube → steps ≤ 4 * full + cube + 200 → commands ≤ 1 * steps → size ≤ 2 * commands → size ≤ crew_limit
 low_fits cube full steps commands size most some few a b = omega arith
 

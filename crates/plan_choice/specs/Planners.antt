@@ -3,6 +3,7 @@ use Rattle.std.specs.Prelude.{◌≡◌, ℕ, ◌+◌, ◌*◌, ◌≤◌, ℤ, 
 use Rattle.nano_spec.specs.declared.commands.Command.{Command}
 use Rattle.nano_spec.specs.declared.commands.Command.TheVariants.{Halt}
 use Rattle.nano_spec.specs.declared.outcomes.Verdict.TheVariants as verdict
+use Rattle.nano_spec.specs.declared.system.Profile.{Profile}
 use Rattle.nano_spec.specs.Cutting.{AreCommands}
 use Rattle.nano_spec.specs.Matrix.{Matrix, empty, full_count}
 use Rattle.nano_spec.specs.Model.{volume}
@@ -20,59 +21,45 @@ use Rattle.void_planner.specs.Bounds as void
 abbrev pub PlanFacts : Type 1
 PlanFacts = Matrix → Matrix → List Command → ℤ → ℕ → Type 0
 
--- a plan of the layer planner: the definitions accept the commands from the one model to the other with this energy in so many steps, their
--- spellings have at most 8 bytes for each voxel and 200 more, and at most one bot is active at once; where both models are the same, it is a
--- Halt alone
+-- every plan: the definitions accept the commands from the one model to the other with this energy in so many steps, by the profile at most so
+-- many bots are active at once, and where both models are the same, it is a Halt alone
+pub record IsPlan (profile : Profile) (most : ℕ) (source target : Matrix) (commands : List Command) (energy : ℤ) (steps : ℕ) : Type 0 where
+  pub are_commands : AreCommands commands
+  pub accepted : VerdictOf source target commands full_profile (verdict.Accepted energy steps)
+  pub few_bots : HasAtMost source profile commands most
+  pub halt_alone : source ≡ target → commands ≡ Halt ∷ []
+
+-- a plan of the layer planner, of one bot: its spellings have at most 8 bytes for each voxel and 200 more
 pub record IsLayerPlan (source target : Matrix) (commands : List Command) (energy : ℤ) (steps : ℕ) : Type 0 where
-  pub are_commands : AreCommands commands
-  pub accepted : VerdictOf source target commands full_profile (verdict.Accepted energy steps)
+  pub plan : IsPlan full_profile 1 source target commands energy steps
   pub bytes : length (spellings commands) ≤ 8 * volume source.resolution + 200
-  pub few_bots : HasAtMost source full_profile commands 1
-  pub halt_alone : source ≡ target → commands ≡ Halt ∷ []
 
--- a plan of the void planner: the definitions accept the commands from the source to the empty model with this energy in so many steps, of
--- which there are few, and at most four bots are active at once; where the source is empty, it is a Halt alone
+-- a plan of the void planner, of four bots at most, to the empty model: its steps are few
 pub record IsVoidPlan (source target : Matrix) (commands : List Command) (energy : ℤ) (steps : ℕ) : Type 0 where
-  pub are_commands : AreCommands commands
-  pub accepted : VerdictOf source target commands full_profile (verdict.Accepted energy steps)
+  pub plan : IsPlan full_profile 4 source target commands energy steps
   pub few_steps : steps ≤ void.most_void_steps source.resolution
-  pub few_bots : HasAtMost source full_profile commands 4
-  pub halt_alone : source ≡ target → commands ≡ Halt ∷ []
 
--- a plan of the group planner: the definitions accept the commands from the one model to the other with this energy in so many steps, and
--- steps, commands and bytes are few, by the runs and rows of both models, and at most two bots are active at once; where both models are the
--- same, it is a Halt alone
+-- a plan of the group planner, of two bots at most: steps, commands and bytes are few, by the runs and rows of both models
 pub record IsGroupPlan (source target : Matrix) (commands : List Command) (energy : ℤ) (steps : ℕ) : Type 0 where
-  pub are_commands : AreCommands commands
-  pub accepted : VerdictOf source target commands full_profile (verdict.Accepted energy steps)
+  pub plan : IsPlan full_profile 2 source target commands energy steps
   pub few_steps : steps ≤ group.most_group_steps source target
   pub few_commands : length commands ≤ 2 * group.most_group_steps source target
   pub few_bytes : length (spellings commands) ≤ group.most_bytes source target
-  pub few_bots : HasAtMost source full_profile commands 2
-  pub halt_alone : source ≡ target → commands ≡ Halt ∷ []
 
--- a plan of the low planner: the definitions accept the commands from the empty model to the target under both profiles with this energy in
--- so many steps, of which there are few, none is a Flip or a Fission, and at most one bot is active at once; where the target is empty, it is
--- a Halt alone
+-- a plan of the low planner, of one bot, from the empty model: the light profile takes it too, none of its commands is a Flip, a Fission or
+-- one of a group, and its steps are few
 pub record IsLowPlan (source target : Matrix) (commands : List Command) (energy : ℤ) (steps : ℕ) : Type 0 where
-  pub are_commands : AreCommands commands
-  pub accepted : VerdictOf source target commands full_profile (verdict.Accepted energy steps)
+  pub plan : IsPlan light_profile 1 source target commands energy steps
   pub accepted_as_light : VerdictOf source target commands light_profile (verdict.Accepted energy steps)
   pub plain : All low.IsPlain commands
   pub few_steps : steps ≤ 4 * full_count target + volume target.resolution + 200
-  pub few_bots : HasAtMost source light_profile commands 1
-  pub halt_alone : low.IsEmpty target → commands ≡ Halt ∷ []
 
--- a plan of the swarm planner: the definitions accept the commands from the empty model to the target under both profiles with this energy in
--- so many steps, of which there are few, by the width of the widest strip, and at most twenty bots are active at once; where the target is
--- empty, it is a Halt alone
+-- a plan of the swarm planner, of twenty bots at most, from the empty model: the light profile takes it too, and its steps are few, by the
+-- width of the widest strip
 pub record IsSwarmPlan (source target : Matrix) (commands : List Command) (energy : ℤ) (steps : ℕ) : Type 0 where
-  pub are_commands : AreCommands commands
-  pub accepted : VerdictOf source target commands full_profile (verdict.Accepted energy steps)
+  pub plan : IsPlan light_profile 20 source target commands energy steps
   pub accepted_as_light : VerdictOf source target commands light_profile (verdict.Accepted energy steps)
   pub few_steps : steps ≤ 4 * width target.resolution * target.resolution * target.resolution + 8 * target.resolution + 2000
-  pub few_bots : HasAtMost source light_profile commands 20
-  pub halt_alone : source ≡ target → commands ≡ Halt ∷ []
 
 -- the most bytes of a crew's plan
 abbrev pub crew_limit : ℕ
@@ -82,16 +69,11 @@ crew_limit = 1073741824
 abbrev pub IsNoDearer : PlanFacts → Matrix → Matrix → ℤ → Type 0
 IsNoDearer Is source target energy = (commands : List Command) × (paid : ℤ) × (steps : ℕ) × Is source target commands paid steps × (energy ≤ℤ paid)
 
--- a plan of the crew: the definitions accept the commands from the one model to the other with this energy in so many steps, their spellings
--- are no longer than a trace that is run, and at most forty bots are active at once; where both models are the same, it is a Halt alone; each
--- other planner that makes plans of such models has one that costs no less: of any models, of any whose group plan is not too long, to the empty
--- model, or from it
+-- a plan of the crew, of forty bots at most: its spellings are no longer than a trace that is run, and each other planner that makes plans of
+-- such models has one that costs no less: of any models, of any whose group plan is not too long, to the empty model, or from it
 pub record IsCrewPlan (source target : Matrix) (commands : List Command) (energy : ℤ) (steps : ℕ) : Type 0 where
-  pub are_commands : AreCommands commands
-  pub accepted : VerdictOf source target commands full_profile (verdict.Accepted energy steps)
+  pub plan : IsPlan full_profile 40 source target commands energy steps
   pub few_bytes : length (spellings commands) ≤ crew_limit
-  pub few_bots : HasAtMost source full_profile commands 40
-  pub halt_alone : source ≡ target → commands ≡ Halt ∷ []
   pub as_layer : IsNoDearer IsLayerPlan source target energy
   pub as_group : group.most_bytes source target ≤ crew_limit → IsNoDearer IsGroupPlan source target energy
   pub as_void : target ≡ empty target.resolution → IsNoDearer IsVoidPlan source target energy

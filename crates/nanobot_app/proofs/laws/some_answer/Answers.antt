@@ -1,5 +1,5 @@
 use Rattle.std.proofs.Common.{inl, refl}
-use Rattle.nano_spec.specs.Profile.{full_profile, light_profile}
+use Rattle.nanobot_rows.specs.Answer.{profile_of}
 use Rattle.nanobot_app.proofs.SomeAnswer.{asm_answered, check_answered, debug_answered, dis_answered, run_answered}
 use Rattle.nanobot_app.proofs.laws.some_answer.Goals as goal
 
@@ -10,10 +10,7 @@ pub returns-clause-check : goal.returns-clause-check
 returns-clause-check c = λ model files. check_answered files model
 
 pub returns-clause-run : goal.returns-clause-run
-returns-clause-run c = λ source target trace files has. run_answered files full_profile source target trace has
-
-pub returns-clause-light : goal.returns-clause-light
-returns-clause-light c = λ source target trace files has. run_answered files light_profile source target trace has
+returns-clause-run c = λ round source target trace files has. run_answered files (profile_of round) source target trace has
 
 pub returns-clause-asm : goal.returns-clause-asm
 returns-clause-asm c = λ text trace files. asm_answered files text trace

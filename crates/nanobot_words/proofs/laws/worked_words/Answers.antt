@@ -1,4 +1,4 @@
-use Rattle.nanobot_words.proofs.Examples.{worked_files, worked_words}
+use Rattle.nanobot_words.proofs.Examples.{worked_files, worked_sides, worked_words}
 use Rattle.nanobot_words.proofs.laws.worked_words.Goals as goal
 
 pub returns-clause-words : goal.returns-clause-words
@@ -6,3 +6,6 @@ returns-clause-words c = worked_words
 
 pub returns-clause-files : goal.returns-clause-files
 returns-clause-files c = worked_files
+
+pub returns-clause-sides : goal.returns-clause-sides
+returns-clause-sides c = worked_sides

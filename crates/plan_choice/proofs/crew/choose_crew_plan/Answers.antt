@@ -23,11 +23,8 @@ returns c =
     let from_group : it.plan.energy ≤ℤ group.plan.energy = omega (arith, ints, from_void, void_costs) in
     let crew = it.ensures.crew in
     record {
-      are_commands = crew.are_commands;
-      accepted = crew.accepted;
+      plan = crew.plan;
       few_bytes = crew.few_bytes;
-      few_bots = crew.few_bots;
-      halt_alone = crew.halt_alone;
       as_layer = cheaper_still IsLayerPlan s t it.plan.energy layer.plan.energy from_layer layer.ensures.as_layer;
       as_group = λ fits. cheaper_still IsGroupPlan s t it.plan.energy group.plan.energy from_group (group.ensures.as_group fits);
       as_void = λ there. cheaper_still IsVoidPlan s t it.plan.energy void.plan.energy from_void (void.ensures.as_void there);

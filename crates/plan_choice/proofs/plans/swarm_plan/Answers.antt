@@ -27,11 +27,13 @@ returns c =
     (subst (λ (p : Profile). IsAccepted c.in_ok-nothing.nothing t it.commands p it.energy it.steps) c.light-profile.ensures lowered.stands.accepted) in
     let steps : it.steps ≤ 4 * width t.resolution * t.resolution * t.resolution + 8 * t.resolution + 2000 = search rules in
     record {
-      are_commands = subst AreCommands c.as_slice.ensures c.know_all.ensures;
-      accepted = c.full_accepts_what_light_accepts.ensures (empty t.resolution) t it.commands it.energy it.steps light;
+      plan = record {
+        are_commands = subst AreCommands c.as_slice.ensures c.know_all.ensures;
+        accepted = c.full_accepts_what_light_accepts.ensures (empty t.resolution) t it.commands it.energy it.steps light;
+        few_bots = subst (λ (p : Profile). HasAtMost (empty t.resolution) p it.commands 20) c.light-profile.ensures
+            (subst (λ (m : Matrix). HasAtMost m c.light-profile.result it.commands 20) void (lowered.stands.bots before));
+        halt_alone = λ same. alone_stays _ _ (alone_stays _ _ (c.in_ok-plan.ensures.halt_alone (sym same)) squads.alone) lowered.alone;
+      };
       accepted_as_light = light;
       few_steps = steps;
-      few_bots = subst (λ (p : Profile). HasAtMost (empty t.resolution) p it.commands 20) c.light-profile.ensures
-          (subst (λ (m : Matrix). HasAtMost m c.light-profile.result it.commands 20) void (lowered.stands.bots before));
-      halt_alone = λ same. alone_stays _ _ (alone_stays _ _ (c.in_ok-plan.ensures.halt_alone (sym same)) squads.alone) lowered.alone;
     }

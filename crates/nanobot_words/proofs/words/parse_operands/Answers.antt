@@ -1,8 +1,0 @@
-use Rattle.std.proofs.Common.{◌≡◌, None, rules}
-use Rattle.nanobot_words.proofs.Parsed.{operands_of}
-use Rattle.nanobot_words.proofs.words.parse_operands.Goals as goal
-
-pub returns-in_err-source : goal.returns-in_err-source
-returns-in_err-source c =
-    let none : c.from_residual-in_err-source.result ≡ None = search rules in
-    rw none (λ s t b row. c.in_err-source.ensures {u = tt} s t b (operands_of _ _ _ _ _ _ _ _ (c.in_ok-a.ensures {u = tt}) s t b row))

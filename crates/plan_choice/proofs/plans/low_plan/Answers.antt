@@ -1,0 +1,27 @@
+use Rattle.std.proofs.Common.{◌+◌, ◌*◌, ◌≤◌, rules, subst}
+use Rattle.nano_spec.specs.Cutting.{AreCommands}
+use Rattle.nano_spec.specs.Matrix.{empty, full_count}
+use Rattle.nano_spec.specs.Model.{volume}
+use Rattle.low_planner.specs.Commands.{IsEmpty}
+use Rattle.plan_tape.proofs.LegalModels.{empty_is_void}
+use Rattle.plan_choice.proofs.Chosen.{alone_stays}
+use Rattle.plan_choice.proofs.plans.low_plan.Goals as goal
+
+pub returns-clause-plan : goal.returns-clause-plan
+returns-clause-plan c =
+    let t = c.args.target.now in
+    let first = c.in_ok-plan.ensures in
+    let it = c.in_ok-plan-2.plan in
+    let attached = c.in_ok-plan-2.ensures in
+    let steps : it.steps ≤ 4 * full_count t + volume t.resolution + 200 = search rules in
+    record {
+      plan = record {
+        are_commands = subst AreCommands c.as_slice.ensures c.know_all.ensures;
+        accepted = c.full_accepts_what_light_accepts.ensures (empty t.resolution) t it.commands it.energy it.steps attached.stands.accepted;
+        few_bots = attached.stands.bots first.few;
+        halt_alone = λ same. alone_stays _ _ (first.halt_alone (subst IsEmpty same (empty_is_void t.resolution))) attached.alone;
+      };
+      accepted_as_light = attached.stands.accepted;
+      plain = attached.plain first.plain;
+      few_steps = steps;
+    }
