@@ -3,4 +3,5 @@ pub mod Counting
 pub mod Crews
 pub mod Empty
 pub mod Lengths
+pub mod OwnLayer
 pub mod Scanned

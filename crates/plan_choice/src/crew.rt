@@ -7,7 +7,9 @@ ghost use Rattle.low_planner.specs.Supported.{FirstUnsupported};
 ghost use Rattle.plan_choice.specs.Crew.{IsForCrew, Replaces};
 ghost use Rattle.plan_choice.specs.Planners.{crew_limit, IsCrewPlan, IsGroupPlan, IsLayerPlan, IsLowPlan, IsNoDearer, IsSwarmPlan, IsVoidPlan};
 
+use crate::alone::affordable;
 use crate::bounds::Bounds;
+use crate::extent::extent_of;
 use crate::many::{CREW, by_crew};
 use crate::plans::{group_bounds, group_plan, layer_plan, low_plan, swarm_plan, void_plan};
 use crate::rebuild::by_rebuilding;
@@ -33,16 +35,26 @@ fn cheaper_of(first: Plan, second: Plan) -> Plan
     }
 }
 
-/// The plan, or the layer planner's, where that is cheaper.
+/// Whether one bot, which fills or voids no more than one voxel a step, may make the target of the source for less than that.
+fn may_pay_alone(source: &Planes, target: &Planes, energy: i64) -> bool {
+    let (here, there) = (extent_of(source).count, extent_of(target).count);
+    let least = here.max(there).saturating_sub(here.min(there));
+    u64::from(least) <= affordable(source.resolution(), energy)
+}
+
+/// The plan, or the layer planner's, where that may be cheaper and is.
 fn or_layer(alloc: Global, source: &Planes, target: &Planes, plan: Plan) -> Result<Plan, Memory>
     requires source { IsLegal source.now }
     requires target { IsLegal target.now }
     requires same { source.now.resolution ≡ target.now.resolution }
     requires crew { IsForCrew source.now target.now plan }
+    requires as_layer { IsNoDearer IsLayerPlan source.now target.now plan.energy }
     ensures crew { IfOk result (IsForCrew source.now target.now) }
-    ensures no_dearer { IfOk result (λ it. it.energy ≤ℤ plan.energy) }
     ensures as_layer { IfOk result (λ it. IsNoDearer IsLayerPlan source.now target.now it.energy) }
 {
+    if !may_pay_alone(source, target, plan.energy) {
+        return Ok(plan);
+    }
     source.know();
     let other = layer_plan(alloc, source, target, plan.energy)?;
     Ok(cheaper_of(plan, other))
@@ -126,15 +138,17 @@ fn or_swarm(alloc: Global, source: &Planes, target: &Planes, plan: Plan) -> Resu
     Ok(cheaper_of(plan, other))
 }
 
-/// The plan of a crew before the other planners are asked.
+/// The plan of a crew before the other planners are asked, which costs no more than the one that the layer planner is proved to make.
 fn proposed_by_crew(alloc: Global, source: &Planes, target: &Planes) -> Result<Plan, Memory>
     requires source { IsLegal source.now }
     requires target { IsLegal target.now }
     requires same { source.now.resolution ≡ target.now.resolution }
-    ensures { IfOk result (IsForCrew source.now target.now) }
+    ensures crew { IfOk result (IsForCrew source.now target.now) }
+    ensures as_layer { IfOk result (λ it. IsNoDearer IsLayerPlan source.now target.now it.energy) }
 {
     source.know();
     let plan = plan_layers(alloc, source, target)?;
+    know_all(plan.commands.as_slice());
     let mut most = Bounds::none();
     most.bytes = LIMIT;
     let crew = Bounds { bots: CREW, ..most };
@@ -154,9 +168,9 @@ pub fn choose_crew_plan(alloc: Global, source: &Planes, target: &Planes) -> Resu
     ensures { IfOk result (λ plan. IsCrewPlan source.now target.now plan.commands plan.energy plan.steps) }
 {
     let plan = proposed_by_crew(alloc, source, target)?;
+    let plan = or_layer(alloc, source, target, plan)?;
     let plan = or_group(alloc, source, target, plan)?;
     let plan = or_void(alloc, source, target, plan)?;
-    let plan = or_layer(alloc, source, target, plan)?;
     let plan = or_low(alloc, source, target, plan)?;
     let plan = or_swarm(alloc, source, target, plan)?;
     Ok(plan)

@@ -52,16 +52,11 @@ pub(crate) fn is_full_at(planes: &Planes, c: Coord) -> bool {
     c.x < r && c.y < r && c.z < r && is_full(planes, c)
 }
 
-/// The full voxels of a layer.
-pub(crate) fn extent_of_layer(planes: &Planes, y: u16) -> Extent {
-    let r = u32::from(planes.resolution());
+/// The full voxels of a row along z.
+fn extent_of_row(planes: &Planes, x: u16, y: u16) -> Extent {
     let mut extent = Extent::none();
-    for place in 0..r * r {
-        let c = Coord {
-            x: (place / r) as u16,
-            y,
-            z: (place % r) as u16,
-        };
+    for z in 0..planes.resolution() {
+        let c = Coord { x, y, z };
         if is_full_at(planes, c) {
             extent = extent.with(Extent {
                 count: 1,
@@ -69,6 +64,15 @@ pub(crate) fn extent_of_layer(planes: &Planes, y: u16) -> Extent {
                 high: c,
             });
         }
+    }
+    extent
+}
+
+/// The full voxels of a layer.
+pub(crate) fn extent_of_layer(planes: &Planes, y: u16) -> Extent {
+    let mut extent = Extent::none();
+    for x in 0..planes.resolution() {
+        extent = extent.with(extent_of_row(planes, x, y));
     }
     extent
 }

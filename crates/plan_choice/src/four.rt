@@ -13,17 +13,25 @@ use std::alloc::Global;
 use vox_geom::{MOST_R, Memory};
 use vox_planes::Planes;
 
-/// How many layers the slabs have that are tried: thin ones keep overhangs off the air, thick ones need fewer ways.
-/// Tiles of each are as wide as they can be, or all about equally wide.
-const SLABS: [Trial; 8] = [
-    Trial::Slabs(1, false),
-    Trial::Slabs(4, false),
-    Trial::Slabs(16, false),
-    Trial::Slabs(MOST_R, false),
-    Trial::Slabs(1, true),
-    Trial::Slabs(4, true),
-    Trial::Slabs(16, true),
+/// How many layers the slabs have that are tried: thick ones need fewer ways, so they come first, thin ones keep overhangs off the air.
+/// Tiles of each are all about equally wide, or as wide as they can be. Then the same with poles under what hangs.
+const SLABS: [Trial; 16] = [
     Trial::Slabs(MOST_R, true),
+    Trial::Slabs(MOST_R, false),
+    Trial::Slabs(16, true),
+    Trial::Slabs(16, false),
+    Trial::Slabs(4, true),
+    Trial::Slabs(4, false),
+    Trial::Slabs(1, true),
+    Trial::Slabs(1, false),
+    Trial::PoledSlabs(MOST_R, true),
+    Trial::PoledSlabs(MOST_R, false),
+    Trial::PoledSlabs(16, true),
+    Trial::PoledSlabs(16, false),
+    Trial::PoledSlabs(4, true),
+    Trial::PoledSlabs(4, false),
+    Trial::PoledSlabs(1, true),
+    Trial::PoledSlabs(1, false),
 ];
 
 /// The plan, or one of four bots that void slab by slab, where that is cheaper and within the bounds. A plan of one command, which

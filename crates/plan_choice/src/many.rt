@@ -11,7 +11,7 @@ use crate::bounds::Bounds;
 use crate::trials::{Trial, cheapest};
 use nano_spec::Profile;
 use plan_tape::Plan;
-use squad_plans::{Manner, Slabs};
+use squad_plans::Manner;
 use std::alloc::Global;
 use vox_geom::{MOST_R, Memory};
 use vox_planes::Planes;
@@ -76,64 +76,43 @@ const BY_TWO: [Trial; 4] = [
     }),
 ];
 
-/// How a crew is tried: in pairs or each by itself, with poles or without, with x and z as they are or exchanged.
-const CREWS: [Trial; 7] = [
-    Trial::Squads(Manner { pairs: true, ..ALL }),
+/// A crew in pairs.
+const PAIRS: Manner = Manner { pairs: true, ..ALL };
+
+/// How a crew is tried: by fours, in pairs or each by itself, with poles or without, with x and z as they are or exchanged.
+const CREWS: [Trial; 9] = [
+    Trial::Fours(MOST_R, false),
+    Trial::Fours(MOST_R, true),
+    Trial::Squads(PAIRS),
     Trial::Squads(Manner {
-        pairs: true,
         turned: true,
-        ..ALL
+        ..PAIRS
     }),
     Trial::Squads(Manner {
-        pairs: true,
         poles: true,
-        ..ALL
+        ..PAIRS
     }),
     Trial::Squads(Manner {
-        pairs: true,
         turned: true,
         poles: true,
-        ..ALL
+        ..PAIRS
     }),
     Trial::Squads(ALL),
     Trial::Squads(Manner { poles: true, ..ALL }),
     Trial::Squads(Manner { lane: 1, ..ALL }),
 ];
 
-/// How a crew is tried that takes all down by slabs: thin ones keep overhangs off the air, thick ones need fewer ways.
+/// How a crew is tried that takes all down by slabs: thick ones need fewer ways, so they come first, thin ones keep overhangs off the
+/// air.
 const BY_FOURS: [Trial; 8] = [
-    Trial::Fours(Slabs {
-        thick: 1,
-        turned: false,
-    }),
-    Trial::Fours(Slabs {
-        thick: 4,
-        turned: false,
-    }),
-    Trial::Fours(Slabs {
-        thick: 16,
-        turned: false,
-    }),
-    Trial::Fours(Slabs {
-        thick: MOST_R,
-        turned: false,
-    }),
-    Trial::Fours(Slabs {
-        thick: 1,
-        turned: true,
-    }),
-    Trial::Fours(Slabs {
-        thick: 4,
-        turned: true,
-    }),
-    Trial::Fours(Slabs {
-        thick: 16,
-        turned: true,
-    }),
-    Trial::Fours(Slabs {
-        thick: MOST_R,
-        turned: true,
-    }),
+    Trial::Fours(MOST_R, false),
+    Trial::Fours(MOST_R, true),
+    Trial::Fours(16, false),
+    Trial::Fours(16, true),
+    Trial::Fours(4, false),
+    Trial::Fours(4, true),
+    Trial::Fours(1, false),
+    Trial::Fours(1, true),
 ];
 
 /// The plan from nothing, or one of up to as many bots as the bounds allow that each build a strip of columns, by the light profile,
@@ -213,13 +192,13 @@ pub(crate) fn by_crew(
     }
     let ceiling = plan.energy;
     let profile = Profile::full();
-    let plan = cheapest(alloc, source, target, profile, plan, &CREWS, most, ceiling)?;
     if !is_void(target) {
+        let plan = cheapest(alloc, source, target, profile, plan, &CREWS, most, ceiling)?;
         return Ok(plan);
     }
-    let ceiling = plan.energy;
     let plan = cheapest(
         alloc, source, target, profile, plan, &BY_FOURS, most, ceiling,
     )?;
+    let plan = cheapest(alloc, source, target, profile, plan, &CREWS, most, ceiling)?;
     Ok(plan)
 }

@@ -17,7 +17,11 @@ use vox_geom::Memory;
 use vox_planes::Planes;
 
 /// The first commands but for their Halt, and then the second.
-fn joined(alloc: Global, first: &[Command], second: &[Command]) -> Result<CommandList, Memory> {
+pub(crate) fn joined(
+    alloc: Global,
+    first: &[Command],
+    second: &[Command],
+) -> Result<CommandList, Memory> {
     let mut commands = CommandList::new(alloc);
     for command in first {
         if *command != Command::Halt {

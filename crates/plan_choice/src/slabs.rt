@@ -12,6 +12,9 @@ use voxel_reads::first_full;
 /// The most voxels along a tile.
 const SIDE: u16 = 31;
 
+/// How many bots there are.
+const BOTS: u64 = 4;
+
 /// More moves than any leg has.
 const MOST_MOVES: u32 = 100;
 
@@ -243,13 +246,14 @@ impl Square {
 }
 
 /// The commands of four bots under High that take all of a model down by slabs of so many layers, in tiles as wide as they can be, or
-/// all about equally wide.
+/// all about equally wide. There are none where they take more steps than that.
 pub(crate) fn slabs(
     alloc: Global,
     source: &Planes,
     thick: u16,
     even: bool,
-) -> Result<CommandList, Memory> {
+    most: u64,
+) -> Result<Option<CommandList>, Memory> {
     let extent = extent_of(source);
     let mut square = Square::begin(alloc, extent, even);
     let top = extent.high.y;
@@ -258,7 +262,10 @@ pub(crate) fn slabs(
         let high = top.saturating_sub(s.saturating_mul(thick));
         let low = high.saturating_add(1).saturating_sub(thick);
         square.slab(source, low, high)?;
+        if square.commands.as_slice().len() as u64 / BOTS > most {
+            return Ok(None);
+        }
     }
     square.close()?;
-    Ok(square.commands)
+    Ok(Some(square.commands))
 }

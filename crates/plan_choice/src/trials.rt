@@ -9,10 +9,11 @@ use crate::bounds::Bounds;
 use crate::choice::cheaper;
 use crate::extent::is_full_at;
 use crate::flips::lowered;
+use crate::rebuild::joined;
 use crate::slabs::slabs;
 use nano_spec::{CommandList, Profile};
 use plan_tape::Plan;
-use squad_plans::{Manner, Slabs, slabs_by_squads, squads};
+use squad_plans::{Manner, Poled, Slabs, slabs_by_squads, squads, with_poles};
 use std::alloc::Global;
 use vox_geom::{Coord, Memory};
 use vox_planes::Planes;
@@ -25,15 +26,19 @@ pub(crate) enum Trial {
     /// Four bots that take all of the source down by slabs of so many layers, in tiles as wide as they can be, or all about equally
     /// wide.
     Slabs(u16, bool),
-    /// Squads of four that take all of the source down by slabs.
-    Fours(Slabs),
+    /// The same, once one bot has put poles under what hangs.
+    PoledSlabs(u16, bool),
+    /// Squads of four that take all of the source down by slabs of so many layers, or build the target by the same backwards, with x and z
+    /// as they are or exchanged.
+    Fours(u16, bool),
 }
 
-/// Whether a layer is the same with x and z exchanged.
-fn is_symmetric_layer(planes: &Planes, y: u16) -> bool {
-    let r = u32::from(planes.resolution());
-    for place in 0..r * r {
-        let (x, z) = ((place / r) as u16, (place % r) as u16);
+/// More steps than voids of all voxels of a model pay for under Low, each of which gives 12 where a step takes 3 for each voxel.
+const PAID_BY_VOIDS: u64 = 4;
+
+/// Whether a row along z is the same with x and z exchanged, as far as its voxels lie before x.
+fn is_symmetric_row(planes: &Planes, x: u16, y: u16) -> bool {
+    for z in 0..x {
         let one = is_full_at(planes, Coord { x, y, z });
         if one != is_full_at(planes, Coord { x: z, y, z: x }) {
             return false;
@@ -42,8 +47,21 @@ fn is_symmetric_layer(planes: &Planes, y: u16) -> bool {
     true
 }
 
+/// Whether a layer is the same with x and z exchanged.
+fn is_symmetric_layer(planes: &Planes, y: u16) -> bool {
+    for x in 0..planes.resolution() {
+        if !is_symmetric_row(planes, x, y) {
+            return false;
+        }
+    }
+    true
+}
+
 /// Whether a model is the same with x and z exchanged, so that nothing is won by it.
 fn is_symmetric(planes: &Planes) -> bool {
+    if is_void(planes) {
+        return true;
+    }
     for y in 0..planes.resolution() {
         if !is_symmetric_layer(planes, y) {
             return false;
@@ -58,7 +76,7 @@ fn by_manner(
     source: &Planes,
     target: &Planes,
     manner: Manner,
-    room: u64,
+    steps: u64,
     bots: u8,
 ) -> Result<Option<CommandList>, Memory> {
     let most = if manner.pairs { bots / 2 } else { bots };
@@ -66,36 +84,77 @@ fn by_manner(
     let manner = Manner {
         squads: manner.squads.min(most),
         down,
-        most: room,
+        most: steps,
         ..manner
     };
     squads(alloc, if down { source } else { target }, manner)
 }
 
-/// The commands of a trial, if there are any: no more than there is room for, where they are those of squads.
+/// The commands of four bots that take all down by slabs once one bot has put up poles, if they are to be had.
+fn poled_slabs(
+    alloc: Global,
+    poled: &Option<Poled>,
+    thick: u16,
+    even: bool,
+    steps: u64,
+) -> Result<Option<CommandList>, Memory> {
+    let Some(poled) = poled else {
+        return Ok(None);
+    };
+    let first = poled.commands.as_slice();
+    let Some(later) = slabs(alloc, &poled.planes, thick, even, steps)? else {
+        return Ok(None);
+    };
+    Ok(Some(joined(alloc, first, later.as_slice())?))
+}
+
+/// The commands under High of a trial by slabs, if there are any that take no more steps than that.
+fn by_trial(
+    alloc: Global,
+    source: &Planes,
+    target: &Planes,
+    poled: &Option<Poled>,
+    trial: Trial,
+    most: u64,
+) -> Result<Option<CommandList>, Memory> {
+    match trial {
+        Trial::Squads(_) => Ok(None),
+        Trial::Slabs(thick, even) => slabs(alloc, source, thick, even, most),
+        Trial::PoledSlabs(thick, even) => poled_slabs(alloc, poled, thick, even, most),
+        Trial::Fours(thick, turned) => {
+            let up = is_void(source);
+            let manner = Slabs {
+                thick,
+                turned,
+                up,
+                most,
+            };
+            slabs_by_squads(alloc, if up { target } else { source }, manner)
+        }
+    }
+}
+
+/// The commands of a trial, if there are any that take no more steps than that.
 fn proposed(
     alloc: Global,
     source: &Planes,
     target: &Planes,
     profile: Profile,
+    poled: &Option<Poled>,
     trial: Trial,
-    room: u64,
+    steps: u64,
     bots: u8,
 ) -> Result<Option<CommandList>, Memory>
     requires grounded { FirstUngrounded source.now None }
     requires seeds { profile.seeds ≤ 39 }
 {
-    match trial {
-        Trial::Squads(manner) => by_manner(alloc, source, target, manner, room, bots),
-        Trial::Slabs(thick, even) => {
-            let commands = slabs(alloc, source, thick, even)?;
-            Ok(Some(lowered(alloc, source, profile, commands.as_slice())?))
-        }
-        Trial::Fours(manner) => {
-            let commands = slabs_by_squads(alloc, source, manner)?;
-            Ok(Some(lowered(alloc, source, profile, commands.as_slice())?))
-        }
+    if let Trial::Squads(manner) = trial {
+        return by_manner(alloc, source, target, manner, steps, bots);
     }
+    let Some(commands) = by_trial(alloc, source, target, poled, trial, steps)? else {
+        return Ok(None);
+    };
+    Ok(Some(lowered(alloc, source, profile, commands.as_slice())?))
 }
 
 /// Whether a trial is another one with x and z exchanged.
@@ -103,8 +162,37 @@ fn is_turned(trial: Trial) -> bool {
     match trial {
         Trial::Squads(manner) => manner.turned,
         Trial::Slabs(_, _) => false,
-        Trial::Fours(manner) => manner.turned,
+        Trial::PoledSlabs(_, _) => false,
+        Trial::Fours(_, turned) => turned,
     }
+}
+
+/// Whether one of the trials wants poles.
+fn some_want_poles(trials: &[Trial]) -> bool {
+    for trial in trials {
+        if let Trial::PoledSlabs(_, _) = *trial {
+            return true;
+        }
+    }
+    false
+}
+
+/// The source with poles under what hangs, if a trial wants them and they take no more steps than that.
+fn poled_for(
+    alloc: Global,
+    source: &Planes,
+    trials: &[Trial],
+    most: u64,
+) -> Result<Option<Poled>, Memory> {
+    if !some_want_poles(trials) {
+        return Ok(None);
+    }
+    with_poles(alloc, source, most)
+}
+
+/// The most steps of a plan that costs less than that.
+fn worth_trying(resolution: u16, energy: i64) -> u64 {
+    affordable(resolution, energy).saturating_add(PAID_BY_VOIDS)
 }
 
 /// The plan, or the cheapest of the trials that cost less and keep the bounds, if any do. What cannot cost less than the ceiling need
@@ -126,14 +214,17 @@ pub(crate) fn cheapest(
     ensures { IfOk result (λ it. MayStandFor source.now target.now profile most plan it) }
 {
     let symmetric = is_symmetric(source) && is_symmetric(target);
+    let steps = worth_trying(source.resolution(), plan.energy.min(ceiling));
+    let poled = poled_for(alloc, source, trials, steps)?;
     let mut best = plan;
     for trial in trials {
         if symmetric && is_turned(*trial) {
             continue;
         }
-        let steps = affordable(target.resolution(), best.energy.min(ceiling));
-        let room = steps.saturating_mul(u64::from(most.bots));
-        let made = proposed(alloc, source, target, profile, *trial, room, most.bots)?;
+        let steps = worth_trying(source.resolution(), best.energy.min(ceiling));
+        let made = proposed(
+            alloc, source, target, profile, &poled, *trial, steps, most.bots,
+        )?;
         let Some(proposal) = made else {
             continue;
         };

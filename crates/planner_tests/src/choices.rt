@@ -156,6 +156,15 @@ fn a_pole_holds_what_hangs(rt: HostRuntime) -> Result<(), Fail> {
     Ok(())
 }
 
+/// Four bots take it down under Low all the time, once the first one has put a pole of one voxel below the one that hangs.
+#[test]
+fn four_bots_take_down_what_a_pole_holds(rt: HostRuntime) -> Result<(), Fail> {
+    let alloc = rt.alloc();
+    let model = hanging(alloc)?;
+    costs(&rt, &choose_void_plan(alloc, &model)?, 9542, 23);
+    Ok(())
+}
+
 /// Squads of one bot each; once all of them wait, what hangs is filled under High, which the light profile's bots stay until it is
 /// joined. Two bots of all commands have a pole for it, and each way of theirs is the other backwards.
 #[test]

@@ -84,6 +84,14 @@ impl Air {
         Ok(())
     }
 
+    /// Whether the place to get to is got to, if there is one.
+    fn has_goal(&self, site: &Site, to: Option<Spot>) -> bool {
+        match to {
+            Some(to) => self.has(site, to),
+            None => false,
+        }
+    }
+
     /// Adds all that is got to from the voxels so far by moves of that length.
     fn spread(&mut self, site: &Site, most: i16, to: Option<Spot>) -> Result<(), Memory> {
         for i in 0..site.count() {
@@ -91,11 +99,11 @@ impl Air {
                 Some(at) => *at,
                 None => break,
             };
-            if Some(at) == to {
-                break;
-            }
             for axis in AXES {
                 self.add_line(site, at, axis, most)?;
+            }
+            if self.has_goal(site, to) {
+                break;
             }
         }
         Ok(())

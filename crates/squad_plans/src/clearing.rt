@@ -1,6 +1,7 @@
 //! One bot takes poles away, each from its top down.
 use crate::air::Air;
 use crate::poles::{Pole, SIDES};
+use crate::routes::direct;
 use crate::spots::{Spot, apart, nowhere, stride};
 use crate::yard::Yard;
 use std::alloc::Global;
@@ -30,10 +31,28 @@ fn is_free(yard: &Yard, low: Spot, high: i16) -> bool {
     true
 }
 
+/// The moves from one place to another: along the axes or, where something is in the way, by a search, as long as searches do not take
+/// too long.
+fn way_around(
+    alloc: Global,
+    yard: &mut Yard,
+    from: Spot,
+    to: Spot,
+) -> Result<Option<Vec<Diff>>, Memory> {
+    let straight = direct(alloc, yard.site(), from, to)?;
+    if straight.is_some() {
+        return Ok(straight);
+    }
+    if !yard.may_search() {
+        return Ok(None);
+    }
+    Air::way(alloc, yard.site(), from, to)
+}
+
 /// The bot goes there, if there is a way. Whether it does.
 pub(crate) fn go_around(alloc: Global, yard: &mut Yard, to: Spot) -> Result<bool, Memory> {
     let from = yard.spot(0);
-    let Some(mut moves) = Air::way(alloc, yard.site(), from, to)? else {
+    let Some(mut moves) = way_around(alloc, yard, from, to)? else {
         return Ok(false);
     };
     for _ in 0..moves.len() {
@@ -109,8 +128,13 @@ fn nearest(poles: &[Pole], open: &[bool], at: Spot) -> Option<usize> {
     best
 }
 
-/// The only bot takes all poles away, the nearest first. Whether it can.
-pub(crate) fn clear_all(alloc: Global, yard: &mut Yard, poles: &[Pole]) -> Result<bool, Memory> {
+/// The only bot takes all poles away, the nearest first. Whether it can, before so many steps were made.
+pub(crate) fn clear_all(
+    alloc: Global,
+    yard: &mut Yard,
+    poles: &[Pole],
+    most: u64,
+) -> Result<bool, Memory> {
     let mut open = vec![in alloc; true; poles.len()]?;
     for _ in 0..poles.len() {
         let at = yard.spot(0);
@@ -120,7 +144,7 @@ pub(crate) fn clear_all(alloc: Global, yard: &mut Yard, poles: &[Pole]) -> Resul
         let Some(pole) = poles.get(i) else {
             break;
         };
-        if !clear(alloc, yard, *pole)? {
+        if yard.steps() > most || !clear(alloc, yard, *pole)? {
             return Ok(false);
         }
         if let Some(it) = open.get_mut(i) {

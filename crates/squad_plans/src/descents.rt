@@ -14,46 +14,60 @@ const MOST_MOVES: u32 = 100;
 /// More moves than any way within a layer has, however short they are.
 const MOST_SHORT_MOVES: u32 = 1000;
 
-/// Tiles along z: where the first one begins, how many voxels each has, how many there are, and where the last one begins.
+/// Tiles along z: where the first one begins, how many voxels all have, how many there are, and how many voxels each has: the same, where the
+/// last one may overlap the one before, or up to one less, where none may.
 #[derive(Clone, Copy)]
 pub(crate) struct Rows {
     pub(crate) first: i16,
-    side: i16,
+    length: i16,
     count: i16,
-    last: i16,
+    side: i16,
+    apart: bool,
 }
 
 impl Rows {
-    /// Tiles from low to high, all about equally long.
-    pub(crate) fn over(low: i16, high: i16) -> Rows {
+    /// Tiles from low to high, all about equally long, which overlap or do not.
+    pub(crate) fn over(low: i16, high: i16, apart: bool) -> Rows {
         let far = high.wrapping_sub(low).max(1).min(1000);
         let count = far / SIDE + 1;
-        let side = share(far, count).wrapping_add(1).max(2);
         Rows {
             first: low,
-            side,
+            length: far.wrapping_add(1),
             count,
-            last: high.wrapping_add(1).wrapping_sub(side).max(low),
+            side: share(far, count).wrapping_add(1).max(2),
+            apart,
         }
     }
 
     /// Where a tile begins.
     fn begin(self, k: i16) -> i16 {
-        let own = self.first.wrapping_add(k.wrapping_mul(self.side));
-        own.min(self.last)
+        let own = if self.apart {
+            share(self.length.wrapping_mul(k), self.count)
+        } else {
+            let last = self.length.wrapping_sub(self.side).max(0);
+            k.wrapping_mul(self.side).min(last)
+        };
+        self.first.wrapping_add(own)
     }
 
     /// How far the ends of a tile are apart.
-    pub(crate) fn far(self) -> i16 {
-        self.side.wrapping_sub(1)
+    pub(crate) fn far(self, k: i16) -> i16 {
+        if self.apart {
+            let next = self.begin(k.wrapping_add(1));
+            next.wrapping_sub(self.begin(k)).wrapping_sub(1)
+        } else {
+            self.side.wrapping_sub(1)
+        }
     }
 }
 
-/// What the four bots of a squad do in a step: all move alike, or void the tile right below them.
+/// What the four bots of a squad do in a step: all move alike, the two behind move, or all void the tile right below them, which is so
+/// long.
 #[derive(Clone, Copy)]
 pub(crate) enum Stroke {
     Move(Diff),
-    Void,
+    Stretch(Diff),
+    Void(i16),
 }
 
 /// Whether a tile of a strip has a full voxel in a layer.
@@ -68,12 +82,27 @@ fn has_full(site: &Site, strip: Strip, y: i16, z: i16, end: i16) -> bool {
     false
 }
 
-/// What a squad does, one stroke after another, and where its first bot is then.
+/// Whether a tile of a strip has a void voxel in a layer.
+fn has_void(site: &Site, strip: Strip, y: i16, z: i16, end: i16) -> bool {
+    for x in strip.low..=strip.high {
+        for k in z..=end {
+            if !site.is_target(Spot { x, y, z: k }) {
+                return true;
+            }
+        }
+    }
+    false
+}
+
+/// What a squad does, one stroke after another, where its first bot is then, how far the bots behind are apart from it, and whether a tile
+/// that it takes down is not all full.
 #[derive(Drop)]
 pub(crate) struct Descent {
     strokes: Vec<Stroke>,
+    ragged: bool,
     height: i16,
     row: i16,
+    far: i16,
     back: bool,
 }
 
@@ -93,8 +122,8 @@ impl Descent {
     }
 
     /// Goes along z, never as far at once as its bots stand apart.
-    fn follow(&mut self, to: i16, far: i16) -> Result<(), Memory> {
-        let most = far.wrapping_sub(1).max(1);
+    fn follow(&mut self, to: i16) -> Result<(), Memory> {
+        let most = self.far.wrapping_sub(1).max(1);
         for _ in 0..MOST_SHORT_MOVES {
             let dz = stride(to.wrapping_sub(self.row))
                 .min(most)
@@ -109,26 +138,45 @@ impl Descent {
         Ok(())
     }
 
+    /// The bots behind go on or back, so that all stand at the corners of a tile that is so long.
+    fn stretch(&mut self, far: i16) -> Result<(), Memory> {
+        let dz = far.wrapping_sub(self.far);
+        if dz != 0 {
+            let d = Diff { dz, ..nowhere() };
+            self.strokes.push(Stroke::Stretch(d)).map_err(|_| Memory)?;
+            self.far = far;
+        }
+        Ok(())
+    }
+
+    /// Goes to a row, from no lower than this height.
+    fn go(&mut self, to: i16, far: i16, height: i16) -> Result<(), Memory> {
+        if self.row != to {
+            self.climb(self.height.max(height))?;
+            self.stretch(far)?;
+            self.follow(to)?;
+        }
+        Ok(())
+    }
+
     /// Voids a tile of a slab from its top down.
     fn tile(
         &mut self,
         site: &Site,
         strip: Strip,
-        rows: Rows,
         z: i16,
+        far: i16,
         low: i16,
         high: i16,
     ) -> Result<(), Memory> {
-        let end = z.wrapping_add(rows.far());
+        let end = z.wrapping_add(far);
         for k in 0..=high.wrapping_sub(low) {
             let y = high.wrapping_sub(k);
             if has_full(site, strip, y, z, end) {
-                if self.row != z {
-                    self.climb(self.height.max(high.wrapping_add(1)))?;
-                    self.follow(z, rows.far())?;
-                }
+                self.go(z, far, high.wrapping_add(1))?;
                 self.climb(y.wrapping_add(1))?;
-                self.strokes.push(Stroke::Void).map_err(|_| Memory)?;
+                self.strokes.push(Stroke::Void(far)).map_err(|_| Memory)?;
+                self.ragged = self.ragged || has_void(site, strip, y, z, end);
             }
         }
         Ok(())
@@ -149,7 +197,8 @@ impl Descent {
             } else {
                 k
             };
-            self.tile(site, strip, rows, rows.begin(number), low, high)?;
+            let (z, far) = (rows.begin(number), rows.far(number));
+            self.tile(site, strip, z, far, low, high)?;
         }
         self.back = !self.back;
         Ok(())
@@ -185,8 +234,10 @@ pub(crate) fn descent_of(
 ) -> Result<Descent, Memory> {
     let mut descent = Descent {
         strokes: Vec::new(alloc),
+        ragged: false,
         height: top.wrapping_add(1),
         row: rows.first,
+        far: rows.far(0),
         back: false,
     };
     descent.strip(site, strip, rows, top, thick)?;
@@ -199,4 +250,23 @@ pub(crate) fn stroke_of(descents: &[Descent], squad: usize, number: usize) -> Op
         Some(stroke) => Some(*stroke),
         None => None,
     }
+}
+
+/// How many turns the longest of some descents has.
+pub(crate) fn longest(descents: &[Descent]) -> u64 {
+    let mut most = 0;
+    for descent in descents {
+        most = most.max(descent.strokes.len() as u64);
+    }
+    most
+}
+
+/// Whether one of some descents takes a tile down that is not all full.
+pub(crate) fn some_are_ragged(descents: &[Descent]) -> bool {
+    for descent in descents {
+        if descent.ragged {
+            return true;
+        }
+    }
+    false
 }

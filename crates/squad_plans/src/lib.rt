@@ -8,8 +8,10 @@ mod descents;
 mod links;
 mod pair;
 mod pieces;
+mod poled;
 mod poles;
 mod quads;
+mod routes;
 mod single;
 mod site;
 mod spots;
@@ -19,5 +21,6 @@ mod tasks;
 mod team;
 mod yard;
 
+pub use poled::{Poled, with_poles};
 pub use quads::{Slabs, slabs_by_squads};
 pub use team::{Manner, squads};

@@ -20,12 +20,17 @@ pub(crate) struct Links {
 }
 
 impl Links {
-    /// Each voxel by itself; none of them counts yet.
+    /// What was filled holds to the floor; each other voxel is by itself, and none of them counts yet.
     pub(crate) fn begin(alloc: Global, site: &Site) -> Result<Links, Memory> {
         let floor = site.count().min(MOST_CELLS) as u32;
         let mut links = Vec::with_capacity(alloc, floor as usize)?;
         for number in 0..floor {
-            links.push(number).map_err(|_| Memory)?;
+            let head = if site.is_number_made(number) {
+                floor
+            } else {
+                number
+            };
+            links.push(head).map_err(|_| Memory)?;
         }
         Ok(Links {
             links,

@@ -147,14 +147,22 @@ fn plant(site: &mut Site, pole: Pole) {
     }
 }
 
+/// Whether a voxel is one of the target's, and the one below is not: each voxel of a part that hangs is such.
+fn is_bare(site: &Site, c: Spot) -> bool {
+    site.is_target(c) && !site.is_target(c.below())
+}
+
 /// Whether a part of a layer hangs.
 fn hangs_in_layer(site: &Site, parts: &mut HangingParts, y: i16) -> Result<bool, Memory> {
     let side = site.side();
     for x in 0..side {
         for z in 0..side {
-            parts.gather(site, Spot { x, y, z })?;
-            if !parts.is_supported(site) {
-                return Ok(true);
+            let c = Spot { x, y, z };
+            if is_bare(site, c) {
+                parts.gather(site, c)?;
+                if !parts.is_supported(site) {
+                    return Ok(true);
+                }
             }
         }
     }
@@ -183,7 +191,11 @@ fn plant_layer(
     let side = site.side();
     for x in 0..side {
         for z in 0..side {
-            parts.gather(site, Spot { x, y, z })?;
+            let c = Spot { x, y, z };
+            if !is_bare(site, c) {
+                continue;
+            }
+            parts.gather(site, c)?;
             if !parts.is_supported(site) {
                 let Some(pole) = parts.pole(site, air) else {
                     return Ok(false);

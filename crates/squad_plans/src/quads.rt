@@ -1,6 +1,6 @@
 //! Squads of four bots that take a model down at the corners of tiles, each in a strip of columns of its own, by slabs of several
 //! layers.
-use crate::descents::{Descent, Rows, Stroke, descent_of, stroke_of};
+use crate::descents::{Descent, Rows, Stroke, descent_of, longest, some_are_ragged, stroke_of};
 use crate::site::Site;
 use crate::spots::{Spot, nowhere, share};
 use crate::strips::Strip;
@@ -21,11 +21,14 @@ const MOST_BOTS: u8 = 40;
 /// More turns than any squad takes that is worth it.
 const MOST_TURNS: usize = 1_073_741_824;
 
-/// How squads of four are to take a model down: how many layers a slab has, and whether x and z are exchanged.
+/// How squads of four are to take a model down, or to build it by the same backwards: how many layers a slab has, whether x and z are
+/// exchanged, whether it is built, and how many steps they may take.
 #[derive(Clone, Copy, Debug)]
 pub struct Slabs {
     pub thick: u16,
     pub turned: bool,
+    pub up: bool,
+    pub most: u64,
 }
 
 /// Between which places full voxels lie, at least two wide and two long.
@@ -53,33 +56,53 @@ enum Heading {
     Row(i16),
 }
 
+impl Area {
+    /// The area with the full voxels of a row along z.
+    fn with_row(self, site: &Site, x: i16, y: i16) -> Area {
+        let Area { mut low, mut high } = self;
+        for z in 0..site.side() {
+            if site.is_target(Spot { x, y, z }) {
+                low = Spot {
+                    x: low.x.min(x),
+                    y: low.y.min(y),
+                    z: low.z.min(z),
+                };
+                high = Spot {
+                    x: high.x.max(x),
+                    y: high.y.max(y),
+                    z: high.z.max(z),
+                };
+            }
+        }
+        Area { low, high }
+    }
+
+    /// The area with the full voxels of the columns of one x.
+    fn with_columns(self, site: &Site, x: i16) -> Area {
+        let mut area = self;
+        for y in 0..site.side() {
+            area = area.with_row(site, x, y);
+        }
+        area
+    }
+}
+
 /// Between which places full voxels lie.
 fn area_of(site: &Site) -> Area {
     let side = site.side();
-    let mut low = Spot {
+    let low = Spot {
         x: side,
         y: side,
         z: side,
     };
-    let mut high = Spot::home();
-    for number in 0..site.count().min(64_000_000) {
-        let c = site.spot(number as u32);
-        if site.is_target(c) {
-            low = Spot {
-                x: low.x.min(c.x),
-                y: low.y.min(c.y),
-                z: low.z.min(c.z),
-            };
-            high = Spot {
-                x: high.x.max(c.x),
-                y: high.y.max(c.y),
-                z: high.z.max(c.z),
-            };
-        }
+    let high = Spot::home();
+    let mut area = Area { low, high };
+    for x in 0..side {
+        area = area.with_columns(site, x);
     }
-    high.x = high.x.max(low.x.wrapping_add(1));
-    high.z = high.z.max(low.z.wrapping_add(1));
-    Area { low, high }
+    area.high.x = area.high.x.max(area.low.x.wrapping_add(1));
+    area.high.z = area.high.z.max(area.low.z.wrapping_add(1));
+    area
 }
 
 /// Strips of columns, all about equally wide, two or more and no more than a tile.
@@ -123,8 +146,8 @@ fn void_below(dx: i16, dz: i16) -> Task {
 }
 
 impl Quad {
-    /// All four move alike, or void the tile below, which is so long.
-    fn act(self, yard: &mut Yard, stroke: Stroke, far: i16) {
+    /// All four move alike, the two behind move, or all void the tile below, which is so long.
+    fn act(self, yard: &mut Yard, stroke: Stroke) {
         match stroke {
             Stroke::Move(d) => {
                 yard.go(self.first, d);
@@ -132,7 +155,11 @@ impl Quad {
                 yard.go(self.behind, d);
                 yard.go(self.opposite, d);
             }
-            Stroke::Void => {
+            Stroke::Stretch(d) => {
+                yard.go(self.behind, d);
+                yard.go(self.opposite, d);
+            }
+            Stroke::Void(far) => {
                 let wide = self.strip.high.wrapping_sub(self.strip.low);
                 let (left, back) = (wide.wrapping_neg(), far.wrapping_neg());
                 yard.order(self.first, void_below(wide, far));
@@ -177,8 +204,8 @@ struct Quads {
 
 impl Quads {
     /// The squads on the floor under High, each of one bot.
-    fn begin(alloc: Global, source: &Planes, turned: bool) -> Result<Quads, Memory> {
-        let yard = Yard::begin(alloc, source, MOST_BOTS, turned, false)?;
+    fn begin(alloc: Global, source: &Planes, manner: Slabs) -> Result<Quads, Memory> {
+        let yard = Yard::begin(alloc, source, MOST_BOTS, manner.turned, manner.up)?;
         let area = area_of(yard.site());
         let strips = strips_of(alloc, area)?;
         let mut team = Team::over(alloc, yard, strips.as_slice(), 4)?;
@@ -199,14 +226,14 @@ impl Quads {
         Ok(Quads {
             team,
             quads,
-            rows: Rows::over(area.low.z, area.high.z),
+            rows: Rows::over(area.low.z, area.high.z, manner.up),
             top: area.high.y,
         })
     }
 
     /// Which bots of a squad go, twice the same where one does, and where.
     fn aim_of(&self, quad: Quad, leg: Leg) -> (u8, u8, Heading) {
-        let end = self.rows.first.wrapping_add(self.rows.far());
+        let end = self.rows.first.wrapping_add(self.rows.far(0));
         let beside = quad.strip.low.wrapping_add(1);
         match leg {
             Leg::Rise => (
@@ -328,13 +355,12 @@ impl Quads {
 
     /// All squads take a turn of their descents. Whether one had any.
     fn take_turn(&mut self, descents: &[Descent], number: usize) -> bool {
-        let far = self.rows.far();
         let mut acts = false;
         for i in 0..self.quads.len() {
             let (Some(quad), Some(stroke)) = (self.quad(i), stroke_of(descents, i, number)) else {
                 continue;
             };
-            quad.act(&mut self.team.yard, stroke, far);
+            quad.act(&mut self.team.yard, stroke);
             acts = true;
         }
         acts
@@ -352,14 +378,32 @@ impl Quads {
     }
 }
 
-/// The commands of squads of four under High that take all of a model down, each in a strip of columns, by slabs.
+impl Quads {
+    /// The commands, once all bots are one again, which is home.
+    fn finish(self) -> Result<CommandList, Memory> {
+        let mut team = self.team;
+        team.gather()?;
+        team.yard.flip()?;
+        team.yard.into_commands()
+    }
+}
+
+/// The commands of squads of four under High that take all of a model down, each in a strip of columns, by slabs, or that build it by the
+/// same backwards. There are none where they take more steps than the manner allows, or where it is to be built and has a tile that is
+/// neither void nor all full.
 pub fn slabs_by_squads(
     alloc: Global,
     source: &Planes,
     manner: Slabs,
-) -> Result<CommandList, Memory> {
-    let mut all = Quads::begin(alloc, source, manner.turned)?;
+) -> Result<Option<CommandList>, Memory> {
+    let mut all = Quads::begin(alloc, source, manner)?;
     let descents = all.descents(alloc, manner.thick.min(1000) as i16)?;
+    if longest(descents.as_slice()) > manner.most {
+        return Ok(None);
+    }
+    if manner.up && some_are_ragged(descents.as_slice()) {
+        return Ok(None);
+    }
     all.go(alloc, Leg::Rise)?;
     all.split()?;
     all.go(alloc, Leg::Widen)?;
@@ -372,7 +416,5 @@ pub fn slabs_by_squads(
     all.go(alloc, Leg::Narrow)?;
     all.unite()?;
     all.go(alloc, Leg::Descend)?;
-    all.team.gather()?;
-    all.team.yard.flip()?;
-    all.team.yard.into_commands()
+    Ok(Some(all.finish()?))
 }

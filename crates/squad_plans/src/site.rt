@@ -19,36 +19,65 @@ pub(crate) enum Cell {
     Made,
 }
 
-/// A cube of voxels.
+/// Whether the voxel of a model is full; beyond it none is.
+fn is_full_at(planes: &Planes, c: Coord) -> bool {
+    let r = planes.resolution();
+    c.x < r && c.y < r && c.z < r && is_full(planes, c)
+}
+
+/// A cube of voxels, and how many of them were to be filled.
 #[derive(Drop)]
 pub(crate) struct Site {
     side: i16,
     width: u16,
     cells: Vec<Cell>,
+    wanted: u64,
 }
 
 impl Site {
     /// The voxels of a target, with x and z exchanged, if they are to be.
     pub(crate) fn of(alloc: Global, target: &Planes, turned: bool) -> Result<Site, Memory> {
-        let r = target.resolution();
-        let side = r.min(MOST_SIDE);
+        let side = target.resolution().min(MOST_SIDE);
         let n = usize::from(side);
-        let mut cells = vec![in alloc; Cell::Blank; n * n * n]?;
-        for i in 0..cells.len() {
-            let (a, b) = ((i / (n * n).max(1)) as u16, (i % n.max(1)) as u16);
-            let y = (i / n.max(1) % n.max(1)) as u16;
-            let (x, z) = if turned { (b, a) } else { (a, b) };
-            if x < r && y < r && z < r && is_full(target, Coord { x, y, z }) {
-                if let Some(cell) = cells.get_mut(i) {
-                    *cell = Cell::Wanted;
-                }
-            }
-        }
-        Ok(Site {
+        let mut site = Site {
             side: side as i16,
             width: side,
-            cells,
-        })
+            cells: Vec::with_capacity(alloc, n * n * n)?,
+            wanted: 0,
+        };
+        for x in 0..side {
+            site.add_columns(target, x, turned)?;
+        }
+        Ok(site)
+    }
+
+    /// Adds the voxels of a target in the columns of one x, row after row.
+    fn add_columns(&mut self, target: &Planes, x: u16, turned: bool) -> Result<(), Memory> {
+        for y in 0..self.width {
+            self.add_row(target, x, y, turned)?;
+        }
+        Ok(())
+    }
+
+    /// Adds the voxels of a target in a row along z.
+    fn add_row(&mut self, target: &Planes, x: u16, y: u16, turned: bool) -> Result<(), Memory> {
+        for z in 0..self.width {
+            let c = if turned {
+                Coord { x: z, y, z: x }
+            } else {
+                Coord { x, y, z }
+            };
+            let full = is_full_at(target, c);
+            let cell = if full { Cell::Wanted } else { Cell::Blank };
+            self.cells.push(cell).map_err(|_| Memory)?;
+            self.wanted = self.wanted.wrapping_add(u64::from(full));
+        }
+        Ok(())
+    }
+
+    /// How many voxels the target had.
+    pub(crate) fn wanted(&self) -> u64 {
+        self.wanted
     }
 
     /// How many voxels it has along each axis.
@@ -104,6 +133,14 @@ impl Site {
         self.cell(c) == Cell::Wanted
     }
 
+    /// Whether the voxel with a number was filled.
+    pub(crate) fn is_number_made(&self, number: u32) -> bool {
+        match self.cells.get(number as usize) {
+            Some(cell) => *cell == Cell::Made,
+            None => false,
+        }
+    }
+
     /// Whether a voxel was filled.
     pub(crate) fn is_made(&self, c: Spot) -> bool {
         self.cell(c) == Cell::Made
@@ -146,6 +183,17 @@ impl Site {
     /// Keeps that a voxel was filled.
     pub(crate) fn make(&mut self, c: Spot) {
         self.set(c, Cell::Made);
+    }
+
+    /// Keeps that all that was to be filled was.
+    pub(crate) fn make_all(&mut self) {
+        for i in 0..self.cells.len() {
+            if let Some(cell) = self.cells.get_mut(i) {
+                if *cell == Cell::Wanted {
+                    *cell = Cell::Made;
+                }
+            }
+        }
     }
 
     /// Keeps that a voxel is void again, to stay so.

@@ -22,6 +22,8 @@ pub(crate) enum Task {
     VoidRun(Diff, i16),
     /// Voids a rectangle of a layer together with three other bots: from the voxel near this bot, so far along x and along z.
     VoidPlane(Diff, i16, i16),
+    /// Fills a rectangle in the same way.
+    FillPlane(Diff, i16, i16),
     /// Makes a bot there, which has that number, with so many seeds.
     Split(Diff, u8, u8),
     /// Takes up the bot that is there, which has that number and so many seeds.
@@ -57,8 +59,7 @@ pub(crate) fn opposite(d: Diff) -> Diff {
     }
 }
 
-/// What undoes what a bot does. A bot that is taken up is made anew by the one that takes it up, so it does nothing; nothing undoes the
-/// voiding of a rectangle.
+/// What undoes what a bot does. A bot that is taken up is made anew by the one that takes it up, so it does nothing.
 pub(crate) fn undoing(task: Task) -> Task {
     match task {
         Task::Wait => Task::Wait,
@@ -68,7 +69,8 @@ pub(crate) fn undoing(task: Task) -> Task {
         Task::Void(d) => Task::Fill(d),
         Task::Run(d, length) => Task::VoidRun(d, length),
         Task::VoidRun(d, length) => Task::Run(d, length),
-        Task::VoidPlane(_, _, _) => Task::Wait,
+        Task::VoidPlane(d, dx, dz) => Task::FillPlane(d, dx, dz),
+        Task::FillPlane(d, dx, dz) => Task::VoidPlane(d, dx, dz),
         Task::Split(d, child, seeds) => Task::Lead(d, child, seeds),
         Task::Lead(d, child, seeds) => Task::Split(d, child, seeds),
         Task::Join(_) => Task::Wait,
@@ -102,6 +104,10 @@ fn command_if_near(task: Task, turned: bool) -> Option<Command> {
             Far::of(turn(along_z(length), turned))?,
         )),
         Task::VoidPlane(d, dx, dz) => Some(Command::GVoid(
+            Near::of(turn(d, turned))?,
+            Far::of(turn(Diff { dx, dy: 0, dz }, turned))?,
+        )),
+        Task::FillPlane(d, dx, dz) => Some(Command::GFill(
             Near::of(turn(d, turned))?,
             Far::of(turn(Diff { dx, dy: 0, dz }, turned))?,
         )),

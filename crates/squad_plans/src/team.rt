@@ -17,12 +17,15 @@ const MOST_STEPS: u32 = 1_073_741_824;
 /// More moves than any way along x has.
 const MOST_MOVES: u32 = 100;
 
+/// The most voxels that a squad of two fills in a step.
+const MOST_RUN: u64 = 31;
+
 /// The most squads.
 const MOST_SQUADS: u8 = 40;
 
 /// How squads are to build: how many there are at most, whether each has two bots, how many columns wide their lanes are, from 1 to
-/// 3, whether x and z are exchanged, whether parts that hang get poles, whether
-/// all is taken down in place of built, and how many commands they may have.
+/// 3, whether x and z are exchanged, whether parts that hang get poles, whether all is taken down in place of built, and how many steps
+/// they may take.
 #[derive(Clone, Copy, Debug)]
 pub struct Manner {
     pub squads: u8,
@@ -62,18 +65,29 @@ pub(crate) struct Team {
     each: u8,
 }
 
+/// The most voxels that squads fill in the steps that they may take.
+fn most_filled(manner: Manner) -> u64 {
+    let each = if manner.pairs { MOST_RUN } else { 1 };
+    let squads = u64::from(manner.squads.min(MOST_SQUADS));
+    manner.most.saturating_mul(squads).saturating_mul(each)
+}
+
 /// A way along x.
 fn along_x(dx: i16) -> Diff {
     Diff { dx, ..nowhere() }
 }
 
 impl Team {
-    /// Before the first step. None where poles are wanted, and none are to be had or are of use.
+    /// Before the first step. None where there are more voxels than can be filled in time, or where poles are wanted, and none are to be
+    /// had or are of use.
     fn begin(alloc: Global, target: &Planes, manner: Manner) -> Result<Option<Team>, Memory> {
         let each = if manner.pairs { 2 } else { 1 };
         let count = manner.squads.min(MOST_SQUADS);
         let bots = count.saturating_mul(each);
         let mut yard = Yard::begin(alloc, target, bots, manner.turned, manner.down)?;
+        if yard.site().wanted() > most_filled(manner) {
+            return Ok(None);
+        }
         let mut poles = Vec::new(alloc);
         if manner.poles {
             match yard.plant(alloc)? {
@@ -293,8 +307,8 @@ impl Team {
         Ok(())
     }
 
-    /// All squads build and come home. Whether they do, by at most so many commands.
-    fn work(&mut self, most: u64) -> Result<bool, Memory> {
+    /// All squads build and come home. Whether they do, in at most so many steps.
+    fn work(&mut self, alloc: Global, most: u64) -> Result<bool, Memory> {
         for _ in 0..MOST_STEPS {
             let (acts, home) = self.turns()?;
             if home {
@@ -306,9 +320,10 @@ impl Team {
             } else if self.yard.is_high() {
                 return Ok(false);
             } else {
+                self.yard.watch(alloc)?;
                 self.yard.flip()?;
             }
-            if self.yard.count() as u64 > most {
+            if self.yard.steps() > most {
                 return Ok(false);
             }
         }
@@ -397,7 +412,7 @@ fn squads_over(alloc: Global, yard: &Yard, strips: &[Strip]) -> Result<Vec<Squad
 }
 
 /// The commands of squads that build a target from nothing, or, undone, take it down: under Low but where nothing more can be filled that is attached. There
-/// are none where they are more than the manner allows, or where it wants poles and none are to be had or are of use.
+/// are none where they take more steps than the manner allows, or where it wants poles and none are to be had or are of use.
 pub fn squads(
     alloc: Global,
     target: &Planes,
@@ -410,11 +425,11 @@ pub fn squads(
     if manner.pairs {
         team.pair_off(troops.as_slice())?;
     }
-    if !team.work(manner.most)? {
+    if !team.work(alloc, manner.most)? {
         return Ok(None);
     }
     team.gather()?;
-    if !clear_all(alloc, &mut team.yard, team.poles.as_slice())? {
+    if !clear_all(alloc, &mut team.yard, team.poles.as_slice(), manner.most)? {
         return Ok(None);
     }
     if team.yard.is_high() {

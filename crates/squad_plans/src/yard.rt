@@ -27,6 +27,9 @@ pub(crate) struct Goal {
 /// More moves than any way has.
 const MOST_MOVES: u32 = 100;
 
+/// The most voxels that are searched for ways.
+const MOST_SEARCHED: u64 = 40_000_000;
+
 /// What a bot did in a step.
 #[derive(Clone, Copy, Debug)]
 struct Doing {
@@ -39,7 +42,7 @@ struct Doing {
 #[derive(Drop)]
 pub(crate) struct Yard {
     site: Site,
-    links: Links,
+    links: Option<Links>,
     workers: Vec<Worker>,
     commands: CommandList,
     turned: bool,
@@ -47,6 +50,8 @@ pub(crate) struct Yard {
     keeps: bool,
     doings: Vec<Doing>,
     ends: Vec<usize>,
+    steps: u64,
+    searched: u64,
 }
 
 impl Yard {
@@ -59,7 +64,6 @@ impl Yard {
         down: bool,
     ) -> Result<Yard, Memory> {
         let site = Site::of(alloc, target, turned)?;
-        let links = Links::begin(alloc, &site)?;
         let worker = Worker {
             at: Spot::home(),
             task: Task::Wait,
@@ -67,7 +71,7 @@ impl Yard {
         };
         let mut yard = Yard {
             site,
-            links,
+            links: None,
             workers: vec![in alloc; worker; usize::from(bots)]?,
             commands: CommandList::new(alloc),
             turned,
@@ -75,6 +79,8 @@ impl Yard {
             keeps: down,
             doings: Vec::new(alloc),
             ends: Vec::new(alloc),
+            steps: 0,
+            searched: 0,
         };
         yard.arrive(0, Spot::home());
         Ok(yard)
@@ -90,14 +96,25 @@ impl Yard {
         self.high
     }
 
-    /// Whether some full voxel is not grounded.
-    pub(crate) fn some_float(&self) -> bool {
-        self.links.some_float()
+    /// From now on it is known whether something floats. Until then nothing does.
+    pub(crate) fn watch(&mut self, alloc: Global) -> Result<(), Memory> {
+        if self.links.is_none() {
+            self.links = Some(Links::begin(alloc, &self.site)?);
+        }
+        Ok(())
     }
 
-    /// How many commands there are, or doings.
-    pub(crate) fn count(&self) -> usize {
-        self.commands.as_slice().len().max(self.doings.len())
+    /// Whether some full voxel is not grounded.
+    pub(crate) fn some_float(&self) -> bool {
+        match &self.links {
+            Some(links) => links.some_float(),
+            None => false,
+        }
+    }
+
+    /// How many steps were made.
+    pub(crate) fn steps(&self) -> u64 {
+        self.steps
     }
 
     /// Where a bot is.
@@ -187,7 +204,21 @@ impl Yard {
     /// Keeps that a voxel is filled in this step.
     pub(crate) fn make(&mut self, c: Spot) {
         self.site.make(c);
-        self.links.add(&self.site, c);
+        if let Some(links) = &mut self.links {
+            links.add(&self.site, c);
+        }
+    }
+
+    /// Whether all voxels may be searched for a way once more.
+    pub(crate) fn may_search(&mut self) -> bool {
+        let count = self.site.count() as u64;
+        self.searched = self.searched.saturating_add(count);
+        self.searched <= MOST_SEARCHED
+    }
+
+    /// All voxels of the target were filled.
+    pub(crate) fn make_all(&mut self) {
+        self.site.make_all();
     }
 
     /// A bot fills a voxel in this step.
@@ -237,6 +268,7 @@ impl Yard {
         for number in 0..self.workers.len().min(100) {
             self.finish(number as u8)?;
         }
+        self.steps = self.steps.wrapping_add(1);
         if self.keeps {
             let end = self.doings.len();
             self.ends.push(end).map_err(|_| Memory)?;

@@ -9,18 +9,18 @@ pub returns : goal.returns
 returns c =
     let s = c.args.source.now in
     let t = c.args.target.now in
-    let group = c.in_ok-plan-2 in
-    let void = c.in_ok-plan-3 in
-    let layer = c.in_ok-plan-4 in
+    let layer = c.in_ok-plan-2 in
+    let group = c.in_ok-plan-3 in
+    let void = c.in_ok-plan-4 in
     let low = c.in_ok-plan-5 in
     let it = c.in_ok-plan-6 in
     let swarm_costs = it.ensures.no_dearer in
     let low_costs = low.ensures.no_dearer in
-    let layer_costs = layer.ensures.no_dearer in
     let void_costs = void.ensures.no_dearer in
-    let from_layer : it.plan.energy ≤ℤ layer.plan.energy = omega (arith, ints, swarm_costs, low_costs) in
-    let from_void : it.plan.energy ≤ℤ void.plan.energy = omega (arith, ints, from_layer, layer_costs) in
+    let group_costs = group.ensures.no_dearer in
+    let from_void : it.plan.energy ≤ℤ void.plan.energy = omega (arith, ints, swarm_costs, low_costs) in
     let from_group : it.plan.energy ≤ℤ group.plan.energy = omega (arith, ints, from_void, void_costs) in
+    let from_layer : it.plan.energy ≤ℤ layer.plan.energy = omega (arith, ints, from_group, group_costs) in
     let crew = it.ensures.crew in
     record {
       plan = crew.plan;

@@ -6,5 +6,5 @@ use Rattle.plan_choice.proofs.many.by_crew.Goals as goal
 
 pub returns-clause-stands : goal.returns-clause-stands
 returns-clause-stands c =
-    subst (λ (p : Profile). MayStandFor c.args.source.now c.args.target.now p c.args.most c.args.plan c.in_ok-plan-2.plan) c.full-profile.ensures
-    (in_turn _ _ _ _ _ _ _ c.in_ok-plan.ensures c.in_ok-plan-2.ensures)
+    subst (λ (p : Profile). MayStandFor c.args.source.now c.args.target.now p c.args.most c.args.plan c.in_ok-plan-3.plan) c.full-profile.ensures
+    (in_turn _ _ _ _ _ _ _ c.in_ok-plan-2.ensures c.in_ok-plan-3.ensures)

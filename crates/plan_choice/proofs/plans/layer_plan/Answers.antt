@@ -1,14 +1,11 @@
-use Rattle.std.proofs.Common.{◌+◌, ◌*◌, ◌≤◌, ℕ, rules, arith, length, subst, sym}
+use Rattle.std.proofs.Common.{◌+◌, ◌*◌, ◌≤◌, rules, length, subst, sym}
 use Rattle.nano_spec.specs.declared.system.Profile.{Profile}
 use Rattle.nano_spec.specs.Cutting.{AreCommands}
-use Rattle.nano_spec.specs.Model.{volume}
 use Rattle.nano_spec.specs.Spelling.{spellings}
 use Rattle.plan_tape.specs.Reaches.{HasAtMost}
 use Rattle.plan_choice.proofs.Chosen.{alone_stays}
+use Rattle.plan_choice.proofs.OwnLayer.{eight_each}
 use Rattle.plan_choice.proofs.plans.layer_plan.Goals as goal
-
-cubes : (r size : ℕ) → size ≤ 8 * r * r * r + 200 → size ≤ 8 * volume r + 200
-cubes r size h = omega (arith, h)
 
 pub returns : goal.returns
 returns c =
@@ -27,5 +24,5 @@ returns c =
         few_bots = few.stands.bots (subst (λ (p : Profile). HasAtMost s p c.in_ok-plan-3.plan.commands 1) c.full-profile.ensures (attached.stands.bots (lowered.stands.bots one)));
         halt_alone = λ same. alone_stays _ _ (alone_stays _ _ (alone_stays _ _ (c.in_ok-plan.ensures.halt_alone same) lowered.alone) attached.alone) few.alone;
       };
-      bytes = cubes s.resolution (length (spellings it.commands)) short;
+      bytes = eight_each s.resolution (length (spellings it.commands)) short;
     }

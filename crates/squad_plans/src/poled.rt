@@ -1,0 +1,67 @@
+//! Poles that one bot puts up under all parts of a model that hang, before it is taken down.
+use crate::clearing::clear_all;
+use crate::poles::Pole;
+use crate::yard::Yard;
+use nano_spec::CommandList;
+use std::alloc::Global;
+use vox_geom::{Coord, Memory};
+use vox_planes::Planes;
+
+/// A model with poles, and the commands of one bot that puts them up, and halts at home.
+#[derive(Drop)]
+pub struct Poled {
+    pub commands: CommandList,
+    pub planes: Planes,
+}
+
+/// Makes the voxel of a model full, if it has one there.
+fn fill(planes: &mut Planes, x: i16, y: i16, z: i16) {
+    let r = planes.resolution();
+    if x < 0 || y < 0 || z < 0 {
+        return;
+    }
+    let c = Coord {
+        x: x as u16,
+        y: y as u16,
+        z: z as u16,
+    };
+    if c.x < r && c.y < r && c.z < r {
+        planes.set(c, true);
+    }
+}
+
+/// Makes the voxels of a pole full.
+fn fill_pole(planes: &mut Planes, pole: Pole) {
+    for y in pole.foot.y..=pole.high {
+        fill(planes, pole.foot.x, y, pole.foot.z);
+    }
+}
+
+/// The model with the voxels of all poles.
+fn filled(alloc: Global, source: &Planes, poles: &[Pole]) -> Result<Planes, Memory> {
+    let mut planes = source.copy(alloc)?;
+    for pole in poles {
+        fill_pole(&mut planes, *pole);
+    }
+    Ok(planes)
+}
+
+/// A model with a pole under each part that hangs. None where nothing hangs, where a part can get no pole, where the bot does not come
+/// to one, or where it takes more steps than that.
+pub fn with_poles(alloc: Global, source: &Planes, most: u64) -> Result<Option<Poled>, Memory> {
+    let mut yard = Yard::begin(alloc, source, 1, false, true)?;
+    let Some(poles) = yard.plant(alloc)? else {
+        return Ok(None);
+    };
+    if poles.as_slice().is_empty() {
+        return Ok(None);
+    }
+    yard.make_all();
+    if !clear_all(alloc, &mut yard, poles.as_slice(), most)? {
+        return Ok(None);
+    }
+    Ok(Some(Poled {
+        commands: yard.into_commands()?,
+        planes: filled(alloc, source, poles.as_slice())?,
+    }))
+}
