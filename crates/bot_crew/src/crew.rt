@@ -127,7 +127,8 @@ impl Crew {
     pub fn move_to(&mut self, bid: u8, c: Coord)
         requires active { IsActive self.old bid }
         requires free { IfSome (bot_at self.old c) (λ b. b.bid ≡ bid) }
-        ensures moved { IfSome (bot_of self.old bid) (λ b. self.new ≡ replaced self.old (bid ∷ []) (moved b (point c) ∷ [])) }
+        ensures moved { IfSome (bot_of self.old bid)
+            (λ b. self.new ≡ replaced self.old (bid ∷ []) (moved b (point c) ∷ [])) }
     {
         let place = place_among(&self.bots, bid);
         self.bots[place].pos = c;
@@ -148,7 +149,8 @@ impl Crew {
         requires active { IsActive self.old bid }
         requires free { IsNone (bot_at self.old c) }
         requires seeds { IfSome (bot_of self.old bid) (λ b. m + 1 ≤ length (seed_list b.seeds)) }
-        ensures split { IfSome (bot_of self.old bid) (λ b. self.new ≡ replaced self.old (bid ∷ []) (parent b m ∷ newborn b (point c) m ∷ [])) }
+        ensures split { IfSome (bot_of self.old bid)
+            (λ b. self.new ≡ replaced self.old (bid ∷ []) (parent b m ∷ newborn b (point c) m ∷ [])) }
     {
         let old = place_of(&self.bots, bid);
         let seeds = split_seeds(self.bots[old].seeds, m);
@@ -170,7 +172,8 @@ impl Crew {
         requires secondary { IsActive self.old secondary }
         requires two { primary ≢ secondary }
         ensures fused { IfSome (bot_of self.old primary)
-            (λ b. IfSome (bot_of self.old secondary) (λ other. self.new ≡ replaced self.old (primary ∷ secondary ∷ []) (fused b other ∷ []))) }
+            (λ b. IfSome (bot_of self.old secondary)
+            (λ other. self.new ≡ replaced self.old (primary ∷ secondary ∷ []) (fused b other ∷ []))) }
     {
         let end = place_of(&self.bots, secondary);
         let other = self.bots.remove(end);

@@ -16,5 +16,6 @@ pub fn crew_is_ready()
 /// The acts of one group replace the bots of the group by those that come of their commands.
 pub fn group_is_replaced()
     ensures { (s : State) (group : List Act)
-        → (after_group s group).bots ≡ replaced s.bots (map (λ a. a.bot.bid) group) (flat_map (λ a. successors group a a.command) group) }
+        → (after_group s group).bots
+        ≡ replaced s.bots (map (λ a. a.bot.bid) group) (flat_map (λ a. successors group a a.command) group) }
 {}

@@ -89,7 +89,8 @@ impl Words {
     /// Writes one word into the places of a row, from `index` on, whether or not they were written before.
     pub(crate) fn set_row(&mut self, index: usize, word: u32)
         requires { index + ROW_WORDS ≤ CHUNK_WORDS }
-        ensures { SetsRange (Some word) None self.old.words self.new.words index (index + ROW_WORDS) × (self.new.at ≡ self.old.at) }
+        ensures { SetsRange (Some word) None self.old.words self.new.words index (index + ROW_WORDS)
+            × (self.new.at ≡ self.old.at) }
     {
         unsafe { (self.at.add(index) as *mut [u32; ROW_WORDS]).write([word; ROW_WORDS]) }
     }

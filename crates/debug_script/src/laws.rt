@@ -17,7 +17,8 @@ use step_order::{some_groups, stays_ready};
 
 /// A script says one thing at most.
 pub fn one_script()
-    ensures { (r : ℕ) (bytes : List ℕ) (a b : Result (List DebugLine) FaultyLine) → ScriptSays r bytes a → ScriptSays r bytes b → a ≡ b }
+    ensures { (r : ℕ) (bytes : List ℕ) (a b : Result (List DebugLine) FaultyLine) → ScriptSays r bytes a
+        → ScriptSays r bytes b → a ≡ b }
 {}
 
 /// The lines of a script print one text at most.

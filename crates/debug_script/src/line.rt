@@ -26,7 +26,8 @@ pub enum ScriptLine {
 /// The first part of a line, and what follows its space, where it has one.
 #[tactic(auto, using(crate::proofs::Parts::one_part, crate::proofs::Parts::first_part))]
 fn cut_part(line: &[u8]) -> (&[u8], Option<&[u8]>)
-    ensures { MatchOption result.1 (line_parts line.now ≡ result.0.now ∷ []) (λ rest. line_parts line.now ≡ result.0.now ∷ line_parts rest.now) }
+    ensures { MatchOption result.1 (line_parts line.now ≡ result.0.now ∷ [])
+        (λ rest. line_parts line.now ≡ result.0.now ∷ line_parts rest.now) }
 {
     let end = find_byte(b' ', line);
     if end == line.len() {
@@ -37,7 +38,8 @@ fn cut_part(line: &[u8]) -> (&[u8], Option<&[u8]>)
 
 /// The number that the part has in at most five decimal digits, without sign or leading zeros.
 fn number(part: &[u8]) -> Option<u32>
-    ensures { MatchOption result ((n : ℕ) → HasFewDigits n → part.now ≡ decimal n → ⊥) (λ n. HasFewDigits n × (part.now ≡ decimal n)) }
+    ensures { MatchOption result ((n : ℕ) → HasFewDigits n → part.now ≡ decimal n → ⊥)
+        (λ n. HasFewDigits n × (part.now ≡ decimal n)) }
 {
     let Ok(text) = str::from_utf8(part) else {
         return None;
@@ -82,7 +84,9 @@ fn one_number(rest: &[u8]) -> Option<u32>
 
 /// The number behind a word, and what follows its space.
 fn first_number(rest: &[u8]) -> Option<(u32, &[u8])>
-    ensures { MatchOption result ((n : ℕ) (next : List ℕ) (more : List (List ℕ)) → HasFewDigits n → line_parts rest.now ≡ decimal n ∷ next ∷ more → ⊥)
+    ensures { MatchOption result
+        ((n : ℕ) (next : List ℕ) (more : List (List ℕ)) → HasFewDigits n
+        → line_parts rest.now ≡ decimal n ∷ next ∷ more → ⊥)
         (λ first. HasFewDigits first.0 × (line_parts rest.now ≡ decimal first.0 ∷ line_parts first.1.now)) }
 {
     let (part, more) = cut_part(rest);
@@ -112,8 +116,10 @@ fn read_group(rest: &[u8], number: u32) -> Result<ScriptLine, TextRefusal>
 /// Three numbers behind a word.
 fn three_numbers(rest: &[u8]) -> Option<(u32, u32, u32)>
     ensures { MatchOption result
-        ((x y z : ℕ) → HasFewDigits x → HasFewDigits y → HasFewDigits z → line_parts rest.now ≡ decimal x ∷ decimal y ∷ decimal z ∷ [] → ⊥)
-        (λ n. HasFewDigits n.0 × HasFewDigits n.1 × HasFewDigits n.2 × (line_parts rest.now ≡ decimal n.0 ∷ decimal n.1 ∷ decimal n.2 ∷ [])) }
+        ((x y z : ℕ) → HasFewDigits x → HasFewDigits y → HasFewDigits z
+        → line_parts rest.now ≡ decimal x ∷ decimal y ∷ decimal z ∷ [] → ⊥)
+        (λ n. HasFewDigits n.0 × HasFewDigits n.1 × HasFewDigits n.2 ×
+        (line_parts rest.now ≡ decimal n.0 ∷ decimal n.1 ∷ decimal n.2 ∷ [])) }
 {
     let (x, rest) = first_number(rest)?;
     let (y, rest) = first_number(rest)?;

@@ -72,7 +72,9 @@ fn put_made(
     made: StepOk,
 ) -> Result<(), Memory>
     requires { debugger.now.spent ≡ false }
-    ensures { OnOk result (text.new.items ≡ text.old.items ++ printed_report (Made debugger.now.session.point.steps made.energy made.halted)) }
+    ensures { OnOk result
+        (text.new.items
+        ≡ text.old.items ++ printed_report (Made debugger.now.session.point.steps made.energy made.halted)) }
 {
     let steps = debugger.machine().steps_done();
     let line = made_line(alloc, steps, made.energy, made.halted)?;
@@ -103,7 +105,8 @@ fn put_begun(
     leader: u8,
 ) -> Result<(), Memory>
     requires { debugger.now.spent ≡ false }
-    ensures { OnOk result (text.new.items ≡ text.old.items ++ printed_report (Begun leader (debugger.now.session.point.steps + 1))) }
+    ensures { OnOk result
+        (text.new.items ≡ text.old.items ++ printed_report (Begun leader (debugger.now.session.point.steps + 1))) }
 {
     let step = debugger.machine().steps_done() + 1;
     let line = begun_line(alloc, leader, step)?;

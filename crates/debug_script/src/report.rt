@@ -27,8 +27,8 @@ fn rule_line(
 ) -> Result<String, AllocError>
     ensures { IfOk result
         (λ s. string_bytes s ≡ concat
-        (codes "broken " ∷ decimal number ∷ codes " " ∷ name.now ∷ codes " step " ∷ decimal step ∷ codes " bid " ∷ decimal bid ∷ codes " at "
-        ∷ place.now ∷ codes "\n" ∷ [])) }
+        (codes "broken " ∷ decimal number ∷ codes " " ∷ name.now ∷ codes " step " ∷ decimal step ∷ codes " bid "
+        ∷ decimal bid ∷ codes " at " ∷ place.now ∷ codes "\n" ∷ [])) }
 {
     format!(in alloc; "broken {number} {name} step {step} bid {bid} at {place}\n")
 }
@@ -52,7 +52,8 @@ pub fn broken_line(alloc: Global, broken: &Broken) -> Result<String, AllocError>
 /// The line of a bot by its parts.
 fn bot_parts(alloc: Global, bid: u8, place: &str, seeds: u8) -> Result<String, AllocError>
     ensures { IfOk result
-        (λ s. string_bytes s ≡ concat (codes "bot " ∷ decimal bid ∷ codes " at " ∷ place.now ∷ codes " seeds " ∷ decimal seeds ∷ codes "\n" ∷ [])) }
+        (λ s. string_bytes s ≡ concat
+        (codes "bot " ∷ decimal bid ∷ codes " at " ∷ place.now ∷ codes " seeds " ∷ decimal seeds ∷ codes "\n" ∷ [])) }
 {
     format!(in alloc; "bot {bid} at {place} seeds {seeds}\n")
 }

@@ -27,7 +27,8 @@ fn closed(mut tape: Tape, target: &Planes) -> Result<Plan, Memory>
     requires legal { IsLegal target.now }
     requires flat { IsFlat target.now }
     requires swept { IsSweptTo tape target.now target.now.resolution 0 }
-    ensures accepted { IfOk result (λ plan. IsAccepted (empty target.now.resolution) target.now plan.commands full_profile plan.energy plan.steps) }
+    ensures accepted { IfOk result
+        (λ plan. IsAccepted (empty target.now.resolution) target.now plan.commands full_profile plan.energy plan.steps) }
 {
     target.know();
     tape.go(Coord { x: 0, y: 0, z: 0 })?;
@@ -40,7 +41,8 @@ fn closed(mut tape: Tape, target: &Planes) -> Result<Plan, Memory>
 pub fn plan_floor(alloc: Global, target: &Planes) -> Result<Plan, Memory>
     requires legal { IsLegal target.now }
     requires flat { IsFlat target.now }
-    ensures accepted { IfOk result (λ plan. IsAccepted (empty target.now.resolution) target.now plan.commands full_profile plan.energy plan.steps) }
+    ensures accepted { IfOk result
+        (λ plan. IsAccepted (empty target.now.resolution) target.now plan.commands full_profile plan.energy plan.steps) }
 {
     let mut tape = opened(alloc, target)?;
     fill_floor(&mut tape, target)?;

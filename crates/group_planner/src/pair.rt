@@ -39,7 +39,8 @@ fn both_move(tape: &mut Tape, axis: Axis, at: u16, next: u16) -> Result<(), Memo
     requires within { next < tape.old.matrix.resolution }
     requires free { IsVoidFrom tape.old.matrix (put axis (rear_of tape.old) next).y }
     requires limit { tape.old.steps < 1073741824 }
-    ensures { OnOk result (PairGoes tape.old tape.new (put axis (rear_of tape.old) next) (put axis (front_of tape.old) next) 1) }
+    ensures { OnOk result
+        (PairGoes tape.old tape.new (put axis (rear_of tape.old) next) (put axis (front_of tape.old) next) 1) }
 {
     tape.know_whole();
     tape.move_all(&[
@@ -85,7 +86,8 @@ fn both_go(tape: &mut Tape, axis: Axis, from: u16, to: u16) -> Result<(), Memory
     requires within { to < tape.old.matrix.resolution }
     requires free { IsVoidFrom tape.old.matrix (put axis (rear_of tape.old) to).y }
     requires limit { tape.old.steps + moves from to ≤ 1073741824 }
-    ensures { OnOk result (PairGoes tape.old tape.new (put axis (rear_of tape.old) to) (put axis (front_of tape.old) to) (moves from to)) }
+    ensures { OnOk result
+        (PairGoes tape.old tape.new (put axis (rear_of tape.old) to) (put axis (front_of tape.old) to) (moves from to)) }
 {
     let mut at = from;
     while at != to {
@@ -104,7 +106,8 @@ pub fn go_to_row(tape: &mut Tape, x: u16, y: u16) -> Result<(), Memory>
     requires free { IsVoidFrom tape.old.matrix y }
     requires limit { tape.old.steps + moves (rear_of tape.old).x x + moves (rear_of tape.old).y y ≤ 1073741824 }
     ensures { OnOk result
-        (PairGoes tape.old tape.new (record { x = x; y = y; z = (rear_of tape.old).z }) (record { x = x; y = y; z = (front_of tape.old).z })
+        (PairGoes tape.old tape.new (record { x = x; y = y; z = (rear_of tape.old).z })
+        (record { x = x; y = y; z = (front_of tape.old).z })
         (moves (rear_of tape.old).x x + moves (rear_of tape.old).y y)) }
 {
     let from = rear(tape);
@@ -118,7 +121,9 @@ pub fn front_goes(tape: &mut Tape, to: u16) -> Result<(), Memory>
     requires within { to < tape.old.matrix.resolution }
     requires past { (rear_of tape.old).z < to }
     requires limit { tape.old.steps + moves (front_of tape.old).z to ≤ 1073741824 }
-    ensures { OnOk result (PairGoes tape.old tape.new (rear_of tape.old) (put Axis.Z (front_of tape.old) to) (moves (front_of tape.old).z to)) }
+    ensures { OnOk result
+        (PairGoes tape.old tape.new (rear_of tape.old) (put Axis.Z (front_of tape.old) to)
+        (moves (front_of tape.old).z to)) }
 {
     let mut at = front(tape).z;
     while at != to {
@@ -134,7 +139,9 @@ pub fn rear_goes(tape: &mut Tape, to: u16) -> Result<(), Memory>
     requires pair { IsPair tape.old }
     requires before { to < (front_of tape.old).z }
     requires limit { tape.old.steps + moves (rear_of tape.old).z to ≤ 1073741824 }
-    ensures { OnOk result (PairGoes tape.old tape.new (put Axis.Z (rear_of tape.old) to) (front_of tape.old) (moves (rear_of tape.old).z to)) }
+    ensures { OnOk result
+        (PairGoes tape.old tape.new (put Axis.Z (rear_of tape.old) to) (front_of tape.old)
+        (moves (rear_of tape.old).z to)) }
 {
     let mut at = rear(tape).z;
     while at != to {
@@ -165,7 +172,9 @@ fn both_slide(
     requires past { behind < front_next }
     requires order { rear_next < front_next }
     requires limit { tape.old.steps < 1073741824 }
-    ensures { OnOk result (PairGoes tape.old tape.new (put Axis.Z (rear_of tape.old) rear_next) (put Axis.Z (front_of tape.old) front_next) 1) }
+    ensures { OnOk result
+        (PairGoes tape.old tape.new (put Axis.Z (rear_of tape.old) rear_next)
+        (put Axis.Z (front_of tape.old) front_next) 1) }
 {
     tape.know_whole();
     tape.move_all(&[
@@ -202,7 +211,8 @@ fn next_slide(behind: u16, rear_to: u16, ahead: u16, front_to: u16) -> Option<(u
 fn slide(tape: &mut Tape, rear_to: u16, front_to: u16) -> Result<(), Memory>
     requires pair { IsPair tape.old }
     requires within { front_to < tape.old.matrix.resolution }
-    requires limit { tape.old.steps + moves (rear_of tape.old).z rear_to + moves (front_of tape.old).z front_to ≤ 1073741824 }
+    requires limit { tape.old.steps + moves (rear_of tape.old).z rear_to + moves (front_of tape.old).z front_to
+        ≤ 1073741824 }
     ensures { OnOk result (Slides tape.old tape.new rear_to front_to) }
 {
     let mut behind = rear(tape).z;
@@ -221,7 +231,8 @@ pub fn spread(tape: &mut Tape, rear_to: u16, front_to: u16) -> Result<(), Memory
     requires pair { IsPair tape.old }
     requires order { rear_to < front_to }
     requires within { front_to < tape.old.matrix.resolution }
-    requires limit { tape.old.steps + moves (rear_of tape.old).z rear_to + moves (front_of tape.old).z front_to ≤ 1073741824 }
+    requires limit { tape.old.steps + moves (rear_of tape.old).z rear_to + moves (front_of tape.old).z front_to
+        ≤ 1073741824 }
     ensures { OnOk result
         (PairGoes tape.old tape.new (put Axis.Z (rear_of tape.old) rear_to) (put Axis.Z (front_of tape.old) front_to)
         (moves (rear_of tape.old).z rear_to + moves (front_of tape.old).z front_to)) }

@@ -40,10 +40,12 @@ fn closed(mut tape: Tape, target: &Planes) -> Result<Plan, Memory>
     requires rebuilt { PairHasRebuilt tape target.now }
     requires source { tape.source.resolution ≡ target.now.resolution }
     requires legal { IsLegal target.now }
-    ensures accepted { IfOk result (λ plan. IsAccepted tape.source target.now plan.commands full_profile plan.energy plan.steps) }
+    ensures accepted { IfOk result
+        (λ plan. IsAccepted tape.source target.now plan.commands full_profile plan.energy plan.steps) }
     ensures steps { IfOk result (λ plan. plan.steps ≤ plan_steps tape.source target.now + 120) }
     ensures commands { IfOk result (λ plan. length plan.commands ≤ 2 * plan.steps) }
-    ensures bytes { IfOk result (λ plan. length (spellings plan.commands) ≤ 4 * plan.steps + 4 * (runs tape.source + runs target.now)) }
+    ensures bytes { IfOk result
+        (λ plan. length (spellings plan.commands) ≤ 4 * plan.steps + 4 * (runs tape.source + runs target.now)) }
     ensures few { IfOk result (λ plan. HasAtMost tape.source full_profile plan.commands 2) }
 {
     target.know();
@@ -62,7 +64,8 @@ pub fn plan_groups(alloc: Global, source: &Planes, target: &Planes) -> Result<Pl
     requires source { IsLegal source.now }
     requires target { IsLegal target.now }
     requires same { source.now.resolution ≡ target.now.resolution }
-    ensures accepted { IfOk result (λ plan. IsAccepted source.now target.now plan.commands full_profile plan.energy plan.steps) }
+    ensures accepted { IfOk result
+        (λ plan. IsAccepted source.now target.now plan.commands full_profile plan.energy plan.steps) }
     ensures steps { IfOk result (λ plan. plan.steps ≤ most_group_steps source.now target.now) }
     ensures commands { IfOk result (λ plan. length plan.commands ≤ 2 * most_group_steps source.now target.now) }
     ensures bytes { IfOk result (λ plan. length (spellings plan.commands) ≤ most_bytes source.now target.now) }

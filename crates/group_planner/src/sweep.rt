@@ -38,9 +38,11 @@ fn write_runs(tape: &mut Tape, model: &Planes, full: bool, x: u16, y: u16) -> Re
     requires x { (rear_of tape.old).x ≡ x }
     requires y { (rear_of tape.old).y ≡ y + 1 }
     requires limit { work_to tape.old 0 + 45 * runs_of_row model.now x y + 2 * tape.old.matrix.resolution ≤ most_work }
-    ensures stamps { OnOk result (Stamps tape.old tape.new model.now full (is_in_line x y) (runs_of_row model.now x y)) }
+    ensures stamps { OnOk result
+        (Stamps tape.old tape.new model.now full (is_in_line x y) (runs_of_row model.now x y)) }
     ensures height { OnOk result ((rear_of tape.new).y ≡ y + 1) }
-    ensures steps { OnOk result (15 * tape.new.steps ≤ work_to tape.old 0 + 45 * runs_of_row model.now x y + 2 * tape.old.matrix.resolution) }
+    ensures steps { OnOk result
+        (15 * tape.new.steps ≤ work_to tape.old 0 + 45 * runs_of_row model.now x y + 2 * tape.old.matrix.resolution) }
 {
     let mut z = 0;
     while let Some(run) = next_run(model, x, y, z) {
@@ -64,11 +66,16 @@ fn write_runs_back(
     requires y { (rear_of tape.old).y ≡ y + 1 }
     requires within { z ≤ model.now.resolution }
     requires cut { IsCut model.now x y z }
-    requires limit { work_to tape.old model.now.resolution + 45 * runs_from model.now x y z + 2 * (model.now.resolution - z) ≤ most_work }
-    ensures stamps { OnOk result (Stamps tape.old tape.new model.now full (in_part x y z model.now.resolution) (runs_from model.now x y z)) }
+    requires limit { work_to tape.old model.now.resolution + 45 * runs_from model.now x y z
+        + 2 * (model.now.resolution - z)
+        ≤ most_work }
+    ensures stamps { OnOk result
+        (Stamps tape.old tape.new model.now full (in_part x y z model.now.resolution) (runs_from model.now x y z)) }
     ensures line { OnOk result ((rear_of tape.new).x ≡ x) }
     ensures height { OnOk result ((rear_of tape.new).y ≡ y + 1) }
-    ensures work { OnOk result (work_to tape.new z ≤ work_to tape.old model.now.resolution + 45 * runs_from model.now x y z + 2 * (model.now.resolution - z)) }
+    ensures work { OnOk result
+        (work_to tape.new z
+        ≤ work_to tape.old model.now.resolution + 45 * runs_from model.now x y z + 2 * (model.now.resolution - z)) }
 {
     match next_run(model, x, y, z) {
         None => Ok(()),
@@ -114,9 +121,11 @@ fn write_line(
     requires y { (rear_of tape.old).y ≡ y + 1 }
     requires first { IsRun model.now x y first }
     requires limit { 15 * tape.old.steps + 45 * runs_of_row model.now x y + 4 * tape.old.matrix.resolution ≤ most_work }
-    ensures stamps { OnOk result (Stamps tape.old tape.new model.now full (is_in_line x y) (runs_of_row model.now x y)) }
+    ensures stamps { OnOk result
+        (Stamps tape.old tape.new model.now full (is_in_line x y) (runs_of_row model.now x y)) }
     ensures height { OnOk result ((rear_of tape.new).y ≡ y + 1) }
-    ensures steps { OnOk result (15 * tape.new.steps ≤ 15 * tape.old.steps + 45 * runs_of_row model.now x y + 4 * tape.old.matrix.resolution) }
+    ensures steps { OnOk result
+        (15 * tape.new.steps ≤ 15 * tape.old.steps + 45 * runs_of_row model.now x y + 4 * tape.old.matrix.resolution) }
 {
     if is_nearer_to_last(tape, model, x, y, first) {
         write_runs_back(tape, model, full, x, y, 0)
@@ -138,8 +147,10 @@ fn go_and_write(
     requires x { x < tape.old.matrix.resolution }
     requires first { IsRun model.now x y first }
     requires limit { climb_to tape.old (y + 1) + (135 + 3 * runs_of_row model.now x y) ≤ 1073741824 }
-    ensures stamps { OnOk result (Stamps tape.old tape.new model.now full (is_in_line x y) (runs_of_row model.now x y)) }
-    ensures climb { OnOk result (climb_to tape.new (y + 1) ≤ climb_to tape.old (y + 1) + (135 + 3 * runs_of_row model.now x y)) }
+    ensures stamps { OnOk result
+        (Stamps tape.old tape.new model.now full (is_in_line x y) (runs_of_row model.now x y)) }
+    ensures climb { OnOk result
+        (climb_to tape.new (y + 1) ≤ climb_to tape.old (y + 1) + (135 + 3 * runs_of_row model.now x y)) }
 {
     tape.know_whole();
     go_to_row(tape, x, y + 1)?;
@@ -151,7 +162,8 @@ fn write_row(tape: &mut Tape, model: &Planes, full: bool, x: u16, y: u16) -> Res
     requires ready { CanStamp tape.old model.now y }
     requires x { x < tape.old.matrix.resolution }
     requires limit { climb_to tape.old (y + 1) + row_steps model.now x y ≤ 1073741824 }
-    ensures stamps { OnOk result (Stamps tape.old tape.new model.now full (is_in_line x y) (runs_of_row model.now x y)) }
+    ensures stamps { OnOk result
+        (Stamps tape.old tape.new model.now full (is_in_line x y) (runs_of_row model.now x y)) }
     ensures climb { OnOk result (climb_to tape.new (y + 1) ≤ climb_to tape.old (y + 1) + row_steps model.now x y) }
 {
     match next_run(model, x, y, 0) {
@@ -177,13 +189,15 @@ fn write_layer(tape: &mut Tape, model: &Planes, full: bool, y: u16) -> Result<()
 pub fn clear(tape: &mut Tape, source: &Planes, low: u16) -> Result<(), Memory>
     requires ready { CanVoidModel tape.old source.now }
     requires low { low < tape.old.matrix.resolution }
-    requires limit { climb_to tape.old
-        (tape.old.matrix.resolution - 1) + tape.old.matrix.resolution + steps_below source.now tape.old.matrix.resolution ≤ 1073741824 }
+    requires limit { climb_to tape.old (tape.old.matrix.resolution - 1) + tape.old.matrix.resolution
+        + steps_below source.now tape.old.matrix.resolution
+        ≤ 1073741824 }
     ensures stamps { OnOk result (Stamps tape.old tape.new source.now false (from_layer low) (runs_of source.now)) }
     ensures free { OnOk result (IsVoidFrom tape.new.matrix low) }
     ensures climb { OnOk result
-        (climb_to tape.new low ≤ climb_to tape.old
-        (tape.old.matrix.resolution - 1) + tape.old.matrix.resolution + steps_below source.now tape.old.matrix.resolution) }
+        (climb_to tape.new low
+        ≤ climb_to tape.old (tape.old.matrix.resolution - 1) + tape.old.matrix.resolution
+        + steps_below source.now tape.old.matrix.resolution) }
 {
     let mut y = source.resolution() - 1;
     while y > low {
@@ -199,10 +213,16 @@ pub fn build(tape: &mut Tape, target: &Planes, low: u16) -> Result<(), Memory>
     requires same { target.now.resolution ≡ tape.old.matrix.resolution }
     requires low { low < tape.old.matrix.resolution }
     requires free { IsVoidFrom tape.old.matrix low }
-    requires limit { climb_to tape.old (low + 1) + tape.old.matrix.resolution + steps_below target.now tape.old.matrix.resolution ≤ 1073741824 }
-    ensures stamps { OnOk result (Stamps tape.old tape.new target.now true (between_layers low (tape.old.matrix.resolution - 1)) (runs_of target.now)) }
+    requires limit { climb_to tape.old (low + 1) + tape.old.matrix.resolution
+        + steps_below target.now tape.old.matrix.resolution
+        ≤ 1073741824 }
+    ensures stamps { OnOk result
+        (Stamps tape.old tape.new target.now true (between_layers low (tape.old.matrix.resolution - 1))
+        (runs_of target.now)) }
     ensures steps { OnOk result
-        (tape.new.steps ≤ climb_to tape.old (low + 1) + tape.old.matrix.resolution + steps_below target.now tape.old.matrix.resolution) }
+        (tape.new.steps
+        ≤ climb_to tape.old (low + 1) + tape.old.matrix.resolution
+        + steps_below target.now tape.old.matrix.resolution) }
 {
     for y in low..target.resolution() - 1 {
         write_layer(tape, target, true, y)?;

@@ -89,8 +89,8 @@ fn rear_writes(tape: &mut Tape, full: bool) -> Result<(), Memory>
     requires above { 1 ≤ (rear_of tape.old).y }
     requires limit { tape.old.steps < 1073741824 }
     ensures { OnOk result
-        (Sets tape.old tape.new (rear_of tape.old).x ((rear_of tape.old).y - 1) (rear_of tape.old).z ((rear_of tape.old).z + 1) full
-        (rear_of tape.old) (front_of tape.old) 1 0) }
+        (Sets tape.old tape.new (rear_of tape.old).x ((rear_of tape.old).y - 1) (rear_of tape.old).z
+        ((rear_of tape.old).z + 1) full (rear_of tape.old) (front_of tape.old) 1 0) }
 {
     bots_act();
     tape.know_ready();
@@ -103,8 +103,8 @@ fn front_writes(tape: &mut Tape, full: bool) -> Result<(), Memory>
     requires above { 1 ≤ (rear_of tape.old).y }
     requires limit { tape.old.steps < 1073741824 }
     ensures { OnOk result
-        (Sets tape.old tape.new (rear_of tape.old).x ((rear_of tape.old).y - 1) (front_of tape.old).z ((front_of tape.old).z + 1) full
-        (rear_of tape.old) (front_of tape.old) 1 0) }
+        (Sets tape.old tape.new (rear_of tape.old).x ((rear_of tape.old).y - 1) (front_of tape.old).z
+        ((front_of tape.old).z + 1) full (rear_of tape.old) (front_of tape.old) 1 0) }
 {
     bots_act();
     tape.know_ready();
@@ -118,8 +118,8 @@ fn both_write(tape: &mut Tape, full: bool) -> Result<(), Memory>
     requires near { (front_of tape.old).z ≤ (rear_of tape.old).z + 30 }
     requires limit { tape.old.steps < 1073741824 }
     ensures { OnOk result
-        (Sets tape.old tape.new (rear_of tape.old).x ((rear_of tape.old).y - 1) (rear_of tape.old).z ((front_of tape.old).z + 1) full
-        (rear_of tape.old) (front_of tape.old) 1 1) }
+        (Sets tape.old tape.new (rear_of tape.old).x ((rear_of tape.old).y - 1) (rear_of tape.old).z
+        ((front_of tape.old).z + 1) full (rear_of tape.old) (front_of tape.old) 1 1) }
 {
     let first = rear(tape).z;
     let last = front(tape).z;

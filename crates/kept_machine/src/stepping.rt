@@ -36,7 +36,8 @@ pub(crate) fn start_over<L: Ledger>(
     requires parts { blank.parts ≡ L.parts }
     requires some { 0 < L.parts }
     ensures legal { IfOk result (λ _. IsLegal source) }
-    ensures machine { IfOk result (λ made. made.0 ≡ record { state = opening source profile; steps = 0; spent = false }) }
+    ensures machine { IfOk result
+        (λ made. made.0 ≡ record { state = opening source profile; steps = 0; spent = false }) }
     ensures notes { IfOk result (λ made. made.1 ≡ buffer [] room) }
     ensures refused { IfErr result (λ fault. Judges source (Err fault)) }
 {

@@ -40,7 +40,8 @@ fn paint_row(tape: &mut Tape, goal: &Planes, x: u16, y: u16) -> Result<(), Memor
     requires x { x < tape.old.matrix.resolution }
     requires limit { sweep_steps_to tape.old (coord x (y + 1) 0) + 3 * tape.old.matrix.resolution < 1073741824 }
     ensures { OnOk result
-        (Paints tape.old tape.new goal.now (is_in_line x y) (coord x (y + 1) 0) (coord x (y + 1) tape.old.matrix.resolution) (3 * tape.old.matrix.resolution)) }
+        (Paints tape.old tape.new goal.now (is_in_line x y) (coord x (y + 1) 0)
+        (coord x (y + 1) tape.old.matrix.resolution) (3 * tape.old.matrix.resolution)) }
 {
     for z in 0..goal.resolution() {
         paint_voxel(tape, goal, x, y, z)?;
@@ -51,7 +52,9 @@ fn paint_row(tape: &mut Tape, goal: &Planes, x: u16, y: u16) -> Result<(), Memor
 /// Makes the layer of y that of the goal.
 fn paint_layer(tape: &mut Tape, goal: &Planes, y: u16) -> Result<(), Memory>
     requires ready { CanPaint tape.old goal.now y }
-    requires limit { sweep_steps_to tape.old (coord 0 (y + 1) 0) + tape.old.matrix.resolution * row_bytes tape.old.matrix.resolution < 1073741824 }
+    requires limit { sweep_steps_to tape.old (coord 0 (y + 1) 0)
+        + tape.old.matrix.resolution * row_bytes tape.old.matrix.resolution
+        < 1073741824 }
     ensures { OnOk result
         (Paints tape.old tape.new goal.now (layer y) (coord 0 (y + 1) 0) (coord tape.old.matrix.resolution (y + 1) 0)
         (tape.old.matrix.resolution * row_bytes tape.old.matrix.resolution)) }
@@ -68,7 +71,9 @@ pub fn clear(tape: &mut Tape, nothing: &Planes, low: u16) -> Result<(), Memory>
     requires top { IsVoidFrom tape.old.matrix (tape.old.matrix.resolution - 1) }
     requires nothing { IsVoidFrom nothing.now 0 }
     requires low { low < tape.old.matrix.resolution }
-    requires limit { sweep_steps_to tape.old (top tape.old.matrix) + (tape.old.matrix.resolution - 1) * layer_bytes tape.old.matrix.resolution < 1073741824 }
+    requires limit { sweep_steps_to tape.old (top tape.old.matrix)
+        + (tape.old.matrix.resolution - 1) * layer_bytes tape.old.matrix.resolution
+        < 1073741824 }
     ensures { OnOk result
         (Paints tape.old tape.new nothing.now (from_layer low) (top tape.old.matrix) (coord 0 low 0)
         ((tape.old.matrix.resolution - 1) * layer_bytes tape.old.matrix.resolution)) }
@@ -87,10 +92,12 @@ pub fn build(tape: &mut Tape, goal: &Planes, low: u16) -> Result<(), Memory>
     requires low { low < tape.old.matrix.resolution }
     requires below { (c : Coordinate) → c.y < low → is_full_of tape.old.matrix c ≡ is_full_of goal.now c }
     requires void { IsVoidFrom tape.old.matrix low }
-    requires limit { sweep_steps_to tape.old (coord 0 (low + 1) 0) + (tape.old.matrix.resolution - 1) * layer_bytes tape.old.matrix.resolution < 1073741824 }
+    requires limit { sweep_steps_to tape.old (coord 0 (low + 1) 0)
+        + (tape.old.matrix.resolution - 1) * layer_bytes tape.old.matrix.resolution
+        < 1073741824 }
     ensures { OnOk result
-        (Paints tape.old tape.new goal.now (below_layer (tape.old.matrix.resolution - 1)) (coord 0 (low + 1) 0) (end tape.old.matrix)
-        ((tape.old.matrix.resolution - 1) * layer_bytes tape.old.matrix.resolution)) }
+        (Paints tape.old tape.new goal.now (below_layer (tape.old.matrix.resolution - 1)) (coord 0 (low + 1) 0)
+        (end tape.old.matrix) ((tape.old.matrix.resolution - 1) * layer_bytes tape.old.matrix.resolution)) }
 {
     for y in low..goal.resolution() - 1 {
         paint_layer(tape, goal, y)?;

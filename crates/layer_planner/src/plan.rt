@@ -54,8 +54,11 @@ fn rebuild(tape: &mut Tape, nothing: &Planes, target: &Planes, low: u16) -> Resu
 fn closed(mut tape: Tape, target: &Planes) -> Result<Plan, Memory>
     requires rebuilt { IsRebuilt tape target.now }
     requires target { IsLegal target.now }
-    ensures accepted { IfOk result (λ plan. IsAccepted tape.source target.now plan.commands full_profile plan.energy plan.steps) }
-    ensures bytes { IfOk result (λ plan. length (spellings plan.commands) ≤ 8 * target.now.resolution * target.now.resolution * target.now.resolution + 200) }
+    ensures accepted { IfOk result
+        (λ plan. IsAccepted tape.source target.now plan.commands full_profile plan.energy plan.steps) }
+    ensures bytes { IfOk result
+        (λ plan. length (spellings plan.commands) ≤ 8 * target.now.resolution * target.now.resolution *
+        target.now.resolution + 200) }
     ensures few { IfOk result (λ plan. HasAtMost tape.source full_profile plan.commands 1) }
 {
     target.know();
@@ -73,8 +76,11 @@ pub fn plan_layers(alloc: Global, source: &Planes, target: &Planes) -> Result<Pl
     requires source { IsLegal source.now }
     requires target { IsLegal target.now }
     requires same { source.now.resolution ≡ target.now.resolution }
-    ensures accepted { IfOk result (λ plan. IsAccepted source.now target.now plan.commands full_profile plan.energy plan.steps) }
-    ensures bytes { IfOk result (λ plan. length (spellings plan.commands) ≤ 8 * source.now.resolution * source.now.resolution * source.now.resolution + 200) }
+    ensures accepted { IfOk result
+        (λ plan. IsAccepted source.now target.now plan.commands full_profile plan.energy plan.steps) }
+    ensures bytes { IfOk result
+        (λ plan. length (spellings plan.commands) ≤ 8 * source.now.resolution * source.now.resolution *
+        source.now.resolution + 200) }
     ensures few { IfOk result (λ plan. HasAtMost source.now full_profile plan.commands 1) }
     ensures halt_alone { source.now ≡ target.now → IfOk result (λ plan. plan.commands ≡ Command.Halt ∷ []) }
 {

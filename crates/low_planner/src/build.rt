@@ -29,7 +29,8 @@ pub fn go(tape: &mut Tape, to: Coord) -> Result<(), Memory>
 /// Goes to the coordinate right above a voxel.
 fn go_above(tape: &mut Tape, c: Coord) -> Result<(), Memory>
     requires { CanGoAbove tape.old c }
-    ensures { OnOk result (Works tape.old tape.new (above c) tape.old.matrix (moves_to (spot tape.old.bots) (above c))) }
+    ensures { OnOk result
+        (Works tape.old tape.new (above c) tape.old.matrix (moves_to (spot tape.old.bots) (above c))) }
 {
     tape.know_whole();
     go(tape, Coord { y: c.y + 1, ..c })
@@ -38,7 +39,9 @@ fn go_above(tape: &mut Tape, c: Coord) -> Result<(), Memory>
 /// Goes to the coordinate right above a voxel, and fills it.
 fn fill(tape: &mut Tape, c: Coord) -> Result<(), Memory>
     requires { CanFill tape.old c }
-    ensures { OnOk result (Works tape.old tape.new (above c) (with_voxel tape.old.matrix c true) (moves_to (spot tape.old.bots) (above c) + 1)) }
+    ensures { OnOk result
+        (Works tape.old tape.new (above c) (with_voxel tape.old.matrix c true)
+        (moves_to (spot tape.old.bots) (above c) + 1)) }
 {
     tape.know_ready();
     go_above(tape, c)?;

@@ -44,9 +44,13 @@ fn built(alloc: Global, target: &Planes) -> Result<Tape, Memory>
 fn closed(mut tape: Tape, target: &Planes) -> Result<Plan, Memory>
     requires finished { IsFinished target.now tape }
     requires legal { IsLegal target.now }
-    ensures accepted { IfOk result (λ plan. IsAccepted (empty target.now.resolution) target.now plan.commands light_profile plan.energy plan.steps) }
+    ensures accepted { IfOk result
+        (λ plan. IsAccepted (empty target.now.resolution) target.now plan.commands light_profile plan.energy
+        plan.steps) }
     ensures plain { IfOk result (λ plan. All IsPlain plan.commands) }
-    ensures steps { IfOk result (λ plan. plan.steps ≤ 4 * full_count target.now + target.now.resolution * target.now.resolution * target.now.resolution + 200) }
+    ensures steps { IfOk result
+        (λ plan. plan.steps ≤ 4 * full_count target.now + target.now.resolution * target.now.resolution *
+        target.now.resolution + 200) }
     ensures halt_alone { IsEmpty target.now → IfOk result (λ plan. plan.commands ≡ Command.Halt ∷ []) }
 {
     target.know();
@@ -62,10 +66,15 @@ pub fn plan_low(alloc: Global, target: &Planes) -> Result<Plan, LowFault>
     requires { IsLegal target.now }
     ensures unsupported { IfErr result (HasCause target.now) }
     ensures supported { IfOk result (λ _. FirstUnsupported target.now None) }
-    ensures accepted { IfOk result (λ plan. IsAccepted (empty target.now.resolution) target.now plan.commands light_profile plan.energy plan.steps) }
-    ensures accepted_in_full { IfOk result (λ plan. IsAccepted (empty target.now.resolution) target.now plan.commands full_profile plan.energy plan.steps) }
+    ensures accepted { IfOk result
+        (λ plan. IsAccepted (empty target.now.resolution) target.now plan.commands light_profile plan.energy
+        plan.steps) }
+    ensures accepted_in_full { IfOk result
+        (λ plan. IsAccepted (empty target.now.resolution) target.now plan.commands full_profile plan.energy plan.steps) }
     ensures plain { IfOk result (λ plan. All IsPlain plan.commands) }
-    ensures steps { IfOk result (λ plan. plan.steps ≤ 4 * full_count target.now + target.now.resolution * target.now.resolution * target.now.resolution + 200) }
+    ensures steps { IfOk result
+        (λ plan. plan.steps ≤ 4 * full_count target.now + target.now.resolution * target.now.resolution *
+        target.now.resolution + 200) }
     ensures few { IfOk result (λ plan. HasAtMost (empty target.now.resolution) light_profile plan.commands 1) }
     ensures halt_alone { IsEmpty target.now → IfOk result (λ plan. plan.commands ≡ Command.Halt ∷ []) }
 {

@@ -88,14 +88,16 @@ impl Sweep {
 
     /// The last coordinate of the trail.
     fn last(&self) -> Option<Coord>
-        ensures { MatchOption result (self.now.trail.items ≡ []) (λ c. (most : List Coordinate) × (self.now.trail.items ≡ most ++ c ∷ [])) }
+        ensures { MatchOption result (self.now.trail.items ≡ [])
+            (λ c. (most : List Coordinate) × (self.now.trail.items ≡ most ++ c ∷ [])) }
     {
         self.trail.last().copied()
     }
 
     /// Leaves the last coordinate of the trail.
     fn shorten(&mut self)
-        ensures trail { (most : List Coordinate) (c : Coordinate) → self.old.trail.items ≡ most ++ c ∷ [] → self.new.trail.items ≡ most }
+        ensures trail { (most : List Coordinate) (c : Coordinate) → self.old.trail.items ≡ most ++ c ∷ []
+            → self.new.trail.items ≡ most }
         ensures remaining { self.new.remaining ≡ self.old.remaining }
         ensures at { self.new.at ≡ self.old.at }
     {
@@ -151,7 +153,8 @@ impl Sweep {
     fn start_in_row(&self, target: &Planes, from: Coord) -> Option<Coord>
         requires within { IsInSpace target.now.resolution from }
         requires same { self.now.remaining.resolution ≡ target.now.resolution }
-        ensures { MatchOption result (IsSweptRow target.now self.now.remaining from target.now.resolution) (IsStartInRow target.now self.now.remaining from) }
+        ensures { MatchOption result (IsSweptRow target.now self.now.remaining from target.now.resolution)
+            (IsStartInRow target.now self.now.remaining from) }
     {
         let end = target.resolution() - 1;
         let mut at = from;

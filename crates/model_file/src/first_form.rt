@@ -72,7 +72,9 @@ fn set_words(planes: &mut Planes, bytes: &[u8]) -> u32
 /// Makes the voxels those that the bytes say.
 fn set_voxels(planes: &mut Planes, bytes: &[u8])
     requires { length bytes.now ≡ wanted_of planes.old.resolution }
-    ensures { planes.new ≡ record { resolution = planes.old.resolution; voxels = map (voxel_bit bytes.now) (numbers_below (volume_of planes.old.resolution)) } }
+    ensures { planes.new
+        ≡ record
+        { resolution = planes.old.resolution; voxels = map (voxel_bit bytes.now) (numbers_below (volume_of planes.old.resolution)) } }
 {
     let places = volume(planes.resolution());
     let mut from = set_words(planes, bytes);
@@ -112,7 +114,8 @@ pub fn write_first<L: Ledger>(
 ) -> Result<Vec<u8>, Memory>
     requires { planes.now.resolution ≤ FIRST_FORM_MOST_R }
     ensures { IfOk result
-        (λ bytes. bytes.items ≡ planes.now.resolution ∷ map (byte_at planes.now.voxels) (numbers_below ((volume_of planes.now.resolution + 7) / 8))) }
+        (λ bytes. bytes.items ≡ planes.now.resolution ∷ map (byte_at planes.now.voxels)
+        (numbers_below ((volume_of planes.now.resolution + 7) / 8))) }
 {
     let r = planes.resolution();
     let places = volume(r);

@@ -37,8 +37,11 @@ impl Flood {
         steps: &mut Steps<L>,
     ) -> Result<(), Memory>
         requires { first.z % 64 ≡ 0 }
-        ensures takes { IfOk result (λ _. TakesOut (IsAmong (record { first = first; bits = bits })) self.old self.new) }
-        ensures gone { IfOk result (λ _. (d : Coordinate) → IsAmong (record { first = first; bits = bits }) d → is_full self.new.remaining d ≡ false) }
+        ensures takes { IfOk result
+            (λ _. TakesOut (IsAmong (record { first = first; bits = bits })) self.old self.new) }
+        ensures gone { IfOk result
+            (λ _. (d : Coordinate) → IsAmong (record { first = first; bits = bits }) d → is_full self.new.remaining d
+            ≡ false) }
     {
         let r = self.remaining.resolution();
         if r <= first.x || r <= first.y || r <= first.z {
@@ -64,8 +67,11 @@ impl Flood {
     ) -> Result<(), Memory>
         requires start { IsStart MOST_R (record { first = first; bits = bits }) }
         requires most { self.old.remaining.resolution ≤ MOST_R }
-        ensures takes { IfOk result (λ _. TakesOut (IsBeside (record { first = first; bits = bits })) self.old self.new) }
-        ensures gone { IfOk result (λ _. (d : Coordinate) → IsBeside (record { first = first; bits = bits }) d → is_full self.new.remaining d ≡ false) }
+        ensures takes { IfOk result
+            (λ _. TakesOut (IsBeside (record { first = first; bits = bits })) self.old self.new) }
+        ensures gone { IfOk result
+            (λ _. (d : Coordinate) → IsBeside (record { first = first; bits = bits }) d → is_full self.new.remaining d
+            ≡ false) }
     {
         let Coord { x, y, z } = first;
         self.take(Coord { x: x + 1, y, z }, bits, steps)?;
@@ -119,7 +125,8 @@ impl Flood {
             → s.found.items ≡ self.old.found.items ++ record { first = first; bits = bits } ∷ [] → IsFlood m self.new) }
         ensures resolution { IfOk result (λ _. self.new.remaining.resolution ≡ self.old.remaining.resolution) }
         ensures starts { IfOk result
-            (λ _. All (IsStart self.old.remaining.resolution) self.old.found.items → All (IsStart self.old.remaining.resolution) self.new.found.items) }
+            (λ _. All (IsStart self.old.remaining.resolution) self.old.found.items → All
+            (IsStart self.old.remaining.resolution) self.new.found.items) }
         ensures weighs { IfOk result (λ _. weight self.new ≤ weight self.old) }
     {
         let count = u32::from(self.remaining.resolution() - first.z).min(64);
@@ -141,7 +148,8 @@ impl Flood {
 
     /// Whether voxels of a stretch are left.
     fn is_left<L: Ledger>(&self, first: Coord, bits: u64, steps: &mut Steps<L>) -> bool
-        ensures { result ≡ false → (d : Coordinate) → IsAmong (record { first = first; bits = bits }) d → is_full self.now.remaining d ≡ false }
+        ensures { result ≡ false → (d : Coordinate) → IsAmong (record { first = first; bits = bits }) d
+            → is_full self.now.remaining d ≡ false }
     {
         let r = self.remaining.resolution();
         if bits == 0 {
@@ -157,7 +165,8 @@ impl Flood {
     /// Whether voxels beside those of a stretch are left.
     fn is_left_around<L: Ledger>(&self, first: Coord, bits: u64, steps: &mut Steps<L>) -> bool
         requires { IsStart MOST_R (record { first = first; bits = bits }) }
-        ensures { result ≡ false → (d : Coordinate) → IsBeside (record { first = first; bits = bits }) d → is_full self.now.remaining d ≡ false }
+        ensures { result ≡ false → (d : Coordinate) → IsBeside (record { first = first; bits = bits }) d
+            → is_full self.now.remaining d ≡ false }
     {
         let Coord { x, y, z } = first;
         let left = x.wrapping_sub(1);

@@ -10,7 +10,8 @@ ghost use Rattle.model_file.specs.Padding.{without_padding};
 
 /// A model that is written is read as the same model, and one that was read is written as the same bytes with their padding bits 0.
 pub fn reading_and_writing()
-    ensures read { (m : Matrix) (answer : Result Matrix ModelFault) → IsWhole m → ReadsModel (model (written m)) answer → answer ≢ Err fault.Memory
-        → answer ≡ Ok m }
-    ensures written { (bytes : List ℕ) (m : Matrix) → All (λ b. b < 256) bytes → ReadsModel (model bytes) (Ok m) → written m ≡ without_padding bytes }
+    ensures read { (m : Matrix) (answer : Result Matrix ModelFault) → IsWhole m
+        → ReadsModel (model (written m)) answer → answer ≢ Err fault.Memory → answer ≡ Ok m }
+    ensures written { (bytes : List ℕ) (m : Matrix) → All (λ b. b < 256) bytes → ReadsModel (model bytes) (Ok m)
+        → written m ≡ without_padding bytes }
 {}

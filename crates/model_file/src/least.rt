@@ -42,7 +42,8 @@ fn first_outside_in<L: Ledger>(planes: &Planes, blank: Blank) -> Option<Coord>
     requires name { blank.name ≡ L.name }
     requires parts { blank.parts ≡ L.parts }
     requires some { 0 < L.parts }
-    ensures { LeastOf planes.now.resolution (λ c. is_full planes.now c && not (in_legal_box planes.now.resolution c)) result }
+    ensures { LeastOf planes.now.resolution (λ c. is_full planes.now c && not (in_legal_box planes.now.resolution c))
+        result }
 {
     let mut steps: Steps<L> = Steps::new(blank);
     let end = planes.resolution() - 1;
@@ -63,7 +64,8 @@ fn first_outside_in<L: Ledger>(planes: &Planes, blank: Blank) -> Option<Coord>
 
 /// The least full voxel outside the legal box.
 pub fn first_outside(planes: &Planes) -> Option<Coord>
-    ensures { LeastOf planes.now.resolution (λ c. is_full planes.now c && not (in_legal_box planes.now.resolution c)) result }
+    ensures { LeastOf planes.now.resolution (λ c. is_full planes.now c && not (in_legal_box planes.now.resolution c))
+        result }
 {
     first_outside_in::<Brand>(planes, Blank::new(1))
 }

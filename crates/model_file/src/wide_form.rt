@@ -21,7 +21,8 @@ const WIDE_FORM_LEAST_R: u16 = 251;
 /// The number in four bytes, the most significant first.
 fn number_at(bytes: &[u8], at: usize) -> u32
     requires { at + 4 ≤ length bytes.now }
-    ensures { result ≡ number_of_four (slice_index bytes.now at) (slice_index bytes.now (at + 1)) (slice_index bytes.now (at + 2))
+    ensures { result
+        ≡ number_of_four (slice_index bytes.now at) (slice_index bytes.now (at + 1)) (slice_index bytes.now (at + 2))
         (slice_index bytes.now (at + 3)) }
 {
     let first = u32::from(bytes[at]) * 256 + u32::from(bytes[at + 1]);
@@ -33,7 +34,8 @@ fn number_at(bytes: &[u8], at: usize) -> u32
 fn fill_run(planes: &mut Planes, from: u32, end: u32, full: bool)
     requires order { from ≤ end }
     requires within { end ≤ volume_of planes.old.resolution }
-    ensures places { (p : ℕ) → voxel_at planes.new p ≡ ((full && is_from from (end - from) p) || voxel_at planes.old p) }
+    ensures places { (p : ℕ)
+        → voxel_at planes.new p ≡ ((full && is_from from (end - from) p) || voxel_at planes.old p) }
     ensures resolution { planes.new.resolution ≡ planes.old.resolution }
     ensures whole { IsWhole planes.old → IsWhole planes.new }
 {
@@ -125,8 +127,8 @@ impl RunWriter {
     fn add(&mut self, full: bool) -> Result<(), Memory>
         requires { self.old.run + 1 < 2 ^ 32 }
         ensures same { IfOk result
-            (λ _. (more : List Bool)
-            → with_runs self.new.bytes.items self.new.run self.new.full more ≡ with_runs self.old.bytes.items self.old.run self.old.full (full ∷ more)) }
+            (λ _. (more : List Bool) → with_runs self.new.bytes.items self.new.run self.new.full more ≡ with_runs
+            self.old.bytes.items self.old.run self.old.full (full ∷ more)) }
         ensures run { IfOk result (λ _. self.new.run ≤ self.old.run + 1) }
     {
         if full == self.full {

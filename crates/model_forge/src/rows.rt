@@ -28,7 +28,9 @@ fn put_columns(planes: &mut Planes, from: u32, heights: &[u16], y: u16)
     requires within { from + length heights.now ≤ volume planes.old.resolution }
     requires small { from + length heights.now < 2 ^ 32 }
     ensures places { (p : ℕ)
-        → voxel_at planes.new p ≡ cond (is_from from (length heights.now) p) (nat_lt y (slice_index heights.now (p - from))) (voxel_at planes.old p) }
+        → voxel_at planes.new p
+        ≡ cond (is_from from (length heights.now) p) (nat_lt y (slice_index heights.now (p - from)))
+        (voxel_at planes.old p) }
     ensures resolution { planes.new.resolution ≡ planes.old.resolution }
     ensures whole { IsWhole planes.new }
 {
@@ -49,7 +51,9 @@ fn put_roof(planes: &mut Planes, from: u32, count: u32, x: u16, z: u16)
     requires small { from + count < 2 ^ 32 }
     requires low { 1 ≤ z }
     requires high { z ≤ count }
-    ensures places { (p : ℕ) → voxel_at planes.new p ≡ ((is_from from count p && (x % 2 == 0 || p + 1 == from + z)) || voxel_at planes.old p) }
+    ensures places { (p : ℕ)
+        → voxel_at planes.new p
+        ≡ ((is_from from count p && (x % 2 == 0 || p + 1 == from + z)) || voxel_at planes.old p) }
     ensures resolution { planes.new.resolution ≡ planes.old.resolution }
     ensures whole { IsWhole planes.new }
 {

@@ -36,13 +36,14 @@ use vox_geom::MOST_R;
 
 /// A trace has one verdict at most.
 pub fn one_verdict()
-    ensures { (source target : Matrix) (commands : List Command) (profile : Profile) (v w : Verdict) → VerdictOf source target commands profile v
-        → VerdictOf source target commands profile w → v ≡ w }
+    ensures { (source target : Matrix) (commands : List Command) (profile : Profile) (v w : Verdict)
+        → VerdictOf source target commands profile v → VerdictOf source target commands profile w → v ≡ w }
 {}
 
 /// A step has one outcome at most.
 pub fn one_outcome()
-    ensures { (s : State) (commands : List Command) (step : ℕ) (o p : Outcome) → Next s commands step o → Next s commands step p → o ≡ p }
+    ensures { (s : State) (commands : List Command) (step : ℕ) (o p : Outcome) → Next s commands step o
+        → Next s commands step p → o ≡ p }
 {}
 
 /// A model is legal, or it is refused in one way.
@@ -64,7 +65,8 @@ pub fn a_model_is_whole()
 
 /// The opening of a model with a voxel for each coordinate is ready.
 pub fn opening_is_ready()
-    ensures { (m : Matrix) (profile : Profile) → 1 ≤ m.resolution → length m.voxels ≡ volume m.resolution → IsReady (opening m profile) }
+    ensures { (m : Matrix) (profile : Profile) → 1 ≤ m.resolution → length m.voxels ≡ volume m.resolution
+        → IsReady (opening m profile) }
 {}
 
 /// A ready state is well-formed where it is grounded and its bots stand in void voxels.
@@ -83,7 +85,8 @@ pub fn one_level()
 
 /// No spelling begins another, and no command has two.
 pub fn one_spelling()
-    ensures { (c d : Command) (x y : List ℕ) → IsCommand c → IsCommand d → spelling c ++ x ≡ spelling d ++ y → (c ≡ d) × (x ≡ y) }
+    ensures { (c d : Command) (x y : List ℕ) → IsCommand c → IsCommand d → spelling c ++ x ≡ spelling d ++ y
+        → (c ≡ d) × (x ≡ y) }
 {}
 
 /// Bytes have one cutting, or they are refused in one way.
@@ -99,8 +102,8 @@ pub fn one_reading()
 /// A line of text says a command exactly where it is of its form, is ASCII and is not skipped.
 pub fn a_line_says_its_command()
     ensures says { (line : List ℕ) (command : Command) → line_of line ≡ Says command → IsLineOf line command }
-    ensures is_said { (line : List ℕ) (command : Command) → IsFalse (has_high_byte line) → IsFalse (is_skipped line) → IsLineOf line command
-        → line_of line ≡ Says command }
+    ensures is_said { (line : List ℕ) (command : Command) → IsFalse (has_high_byte line) → IsFalse (is_skipped line)
+        → IsLineOf line command → line_of line ≡ Says command }
 {}
 
 /// A trace has one work at most.
@@ -111,7 +114,8 @@ pub fn one_work()
 
 /// A model that is written is read back as the same model.
 pub fn written_is_read_back()
-    ensures { (m : Matrix) → 1 ≤ m.resolution → m.resolution ≤ 400 → length m.voxels ≡ volume m.resolution → model (written m) ≡ Ok m }
+    ensures { (m : Matrix) → 1 ≤ m.resolution → m.resolution ≤ 400 → length m.voxels ≡ volume m.resolution
+        → model (written m) ≡ Ok m }
 {}
 
 /// Commands that are printed are read back as the same commands.

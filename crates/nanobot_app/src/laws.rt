@@ -20,8 +20,10 @@ use plan_tape::seeds_bound_the_bots;
 
 /// Words have one status at most over the same files; where they ask for no plans, they have one answer at most.
 pub fn one_answer()
-    ensures status { (words : List (List ℕ)) (files : Files) (r s : Reply) → Answer words files r → Answer words files s → r.status ≡ s.status }
-    ensures answer { (words : List (List ℕ)) (files : Files) (r s : Reply) → AskNoPlan words → Answer words files r → Answer words files s → r ≡ s }
+    ensures status { (words : List (List ℕ)) (files : Files) (r s : Reply) → Answer words files r
+        → Answer words files s → r.status ≡ s.status }
+    ensures answer { (words : List (List ℕ)) (files : Files) (r s : Reply) → AskNoPlan words → Answer words files r
+        → Answer words files s → r ≡ s }
 {
     one_decoding();
     one_legality();
@@ -34,7 +36,8 @@ pub fn one_answer()
 
 /// Words that are in no row have an answer over all files, and so has each row that makes no plans.
 pub fn some_answer()
-    ensures no_row { (words : List (List ℕ)) (files : Files) → IsInNoRow words → (reply : Reply) × Answer words files reply }
+    ensures no_row { (words : List (List ℕ)) (files : Files) → IsInNoRow words
+        → (reply : Reply) × Answer words files reply }
     ensures check { (model : List ℕ) (files : Files) → (reply : Reply) × AnswerOf (check model) files reply }
     ensures run { (round : Round) (source target : Option (List ℕ)) (trace : List ℕ) (files : Files)
         → HasName source target → (reply : Reply) × AnswerOf (run round source target trace) files reply }

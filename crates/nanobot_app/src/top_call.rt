@@ -21,7 +21,8 @@ use vox_geom::Steps;
 
 /// Writes the line, in one put, and answers the status.
 fn print<O: Sink>(out: &mut O, status: Status, line: &[u8]) -> Status
-    ensures { Printed status line.now (O.written out.old) (O.written out.new) (O.faults out.old) (O.faults out.new) result }
+    ensures { Printed status line.now (O.written out.old) (O.written out.new) (O.faults out.old) (O.faults out.new)
+        result }
 {
     match out.put(line) {
         Ok(()) => status,
@@ -99,7 +100,8 @@ fn run_row<D: Depot, O: Sink, L: Ledger>(
         (outside D.files D.faults D.failed_stores O.written O.faults depot.old out.old)
         (outside D.files D.faults D.failed_stores O.written O.faults depot.new out.new) result }
     ensures words { result ≡ Status.Words → ⊥ }
-    ensures within { (result ≡ Status.Memory → ⊥) → IsRowWithin (row_of row.entry) (D.files depot.old) steps.old steps.new }
+    ensures within { (result ≡ Status.Memory → ⊥)
+        → IsRowWithin (row_of row.entry) (D.files depot.old) steps.old steps.new }
 {
     match answer(alloc, row, depot, steps) {
         Ok(effect) => finish(alloc, depot, out, &effect),
@@ -124,7 +126,8 @@ fn run<D: Depot, O: Sink, L: Ledger>(
         (outside D.files D.faults D.failed_stores O.written O.faults depot.new out.new) result }
     ensures words { result ≡ Status.Words → IsInNoRow (texts words.now) }
     ensures in_no_row { IsInNoRow (texts words.now) → (result ≡ Status.Words) ⊎ (result ≡ Status.Sink) }
-    ensures within { (row : RowOf) → IsRow (texts words.now) row → (result ≡ Status.Memory → ⊥) → IsRowWithin row (D.files depot.old) steps.old steps.new }
+    ensures within { (row : RowOf) → IsRow (texts words.now) row → (result ≡ Status.Memory → ⊥)
+        → IsRowWithin row (D.files depot.old) steps.old steps.new }
 {
     one_row();
     match parse(words) {
@@ -185,15 +188,19 @@ pub fn drive<D: Depot, O: Sink, L: Ledger>(
         (outside D.files D.faults D.failed_stores O.written O.faults depot.new out.new)) }
 
     // Where files are told and no count rose, it is the answer's status or 7.
-    ensures complete { (Rose (D.faults depot.old) (D.faults depot.new) → ⊥) → (Rose (O.faults out.old) (O.faults out.new) → ⊥)
-        → IfSome (D.files depot.old) (λ files. (reply : Reply) → Answer (texts words.now) files reply
-        → (result ≡ reply.status) ⊎ (result ≡ Status.Memory)) }
+    ensures complete { (Rose (D.faults depot.old) (D.faults depot.new) → ⊥)
+        → (Rose (O.faults out.old) (O.faults out.new) → ⊥)
+        → IfSome (D.files depot.old)
+        (λ files. (reply : Reply) → Answer (texts words.now) files reply → (result ≡ reply.status) ⊎
+        (result ≡ Status.Memory)) }
 
     // Each status comes by its cause.
     ensures words { result ≡ Status.Words → IsInNoRow (texts words.now) }
     ensures in_no_row { IsInNoRow (texts words.now) → (result ≡ Status.Words) ⊎ (result ≡ Status.Sink) }
-    ensures depot { result ≡ Status.Depot → Rose (D.faults depot.old) (D.faults depot.new)
-        ⊎ IsSomeAnd (D.files depot.old) (λ files. Answer (texts words.now) files (record { status = Status.Depot; line = []; after = files })) }
+    ensures depot { result ≡ Status.Depot
+        → Rose (D.faults depot.old) (D.faults depot.new)
+        ⊎ IsSomeAnd (D.files depot.old)
+        (λ files. Answer (texts words.now) files (record { status = Status.Depot; line = []; after = files })) }
     ensures sink { result ≡ Status.Sink → Rose (O.faults out.old) (O.faults out.new) }
 
     // What stands after a fault and after want of memory.
@@ -210,7 +217,8 @@ pub fn drive<D: Depot, O: Sink, L: Ledger>(
     ensures memory_line { result ≡ Status.Memory → O.written out.new ≡ O.written out.old }
 
     // A run makes at most a hundred touches for each voxel of its source and for each part of the work of its trace.
-    ensures touches { (row : RowOf) → IsRow (texts words.now) row → (result ≡ Status.Memory → ⊥) → IsRowWithin row (D.files depot.old) steps.old steps.new }
+    ensures touches { (row : RowOf) → IsRow (texts words.now) row → (result ≡ Status.Memory → ⊥)
+        → IsRowWithin row (D.files depot.old) steps.old steps.new }
 {
     one_row();
     one_answer();

@@ -59,14 +59,17 @@ pub extern "C" fn nanobot_judge(
 ) -> u32
     // With the full profile it answers 0 and gives energy and step count exactly when the specification's machine takes the
     // whole trace from the source to a halt at the origin in the target, with this energy in so many steps.
-    ensures headline_where { light ≡ false → (IsMemory result → ⊥) → (energy : ℤ) (count : ℕ) → TakesAll source.now target.now trace.now energy count
+    ensures headline_where { light ≡ false → (IsMemory result → ⊥) → (energy : ℤ) (count : ℕ)
+        → TakesAll source.now target.now trace.now energy count
         → GaveDone energy count line.old line.new size.new result }
     ensures headline_only { light ≡ false → IsDone result
-        → (energy : ℤ) × (count : ℕ) × TakesAll source.now target.now trace.now energy count × GaveDone energy count line.old line.new size.new result }
+        → (energy : ℤ) × (count : ℕ) × TakesAll source.now target.now trace.now energy count
+        × GaveDone energy count line.old line.new size.new result }
 
     // With both profiles it gives the whole answer of the row.
     ensures answer { HasModel source.now target.now → (IsMemory result → ⊥)
-        → GaveLineOf (run_row_of light source.now target.now) (lent source.now target.now trace.now) line.old line.new size.new result }
+        → GaveLineOf (run_row_of light source.now target.now) (lent source.now target.now trace.now) line.old line.new
+        size.new result }
     ensures no_model { HasNoModel source.now target.now → GaveNoRow line.old line.new size.new result }
     ensures memory { IsMemory result → (line.new ≡ line.old) × (size.new ≡ 0) }
 {
@@ -139,7 +142,8 @@ pub extern "C" fn nanobot_cost(
 
     // With both profiles it has the status and the numbers of the whole answer of the row.
     ensures answer { HasModel source.now target.now → (IsMemory result → ⊥)
-        → ToldCostOf (run_row_of light source.now target.now) (lent source.now target.now trace.now) energy.new steps.new result }
+        → ToldCostOf (run_row_of light source.now target.now) (lent source.now target.now trace.now) energy.new
+        steps.new result }
     ensures no_model { HasNoModel source.now target.now → result ≡ code_of is.Words }
     ensures refused { (IsDone result → ⊥) → (energy.new ≡ pos 0) × (steps.new ≡ 0) }
 {
@@ -175,7 +179,8 @@ pub extern "C" fn nanobot_check(
     line: &mut [u8],
     size: &mut usize,
 ) -> u32
-    ensures answer { (IsMemory result → ⊥) → GaveLineOf (check_row source_name) (lent model.now [] []) line.old line.new size.new result }
+    ensures answer { (IsMemory result → ⊥)
+        → GaveLineOf (check_row source_name) (lent model.now [] []) line.old line.new size.new result }
     ensures memory { IsMemory result → (line.new ≡ line.old) × (size.new ≡ 0) }
 {
     let lent = Lent {

@@ -14,7 +14,8 @@ use std::alloc::Global;
 #[unsafe(no_mangle)]
 pub extern "C" fn nanobot_asm(alloc: Global, text: &[u8], trace: &mut [u8], size: &mut usize) -> u32
     ensures answer { (IsMemory result → ⊥)
-        → GaveFileOf plan_name (asm_row source_name plan_name) (lent text.now [] []) trace.old trace.new size.new result }
+        → GaveFileOf plan_name (asm_row source_name plan_name) (lent text.now [] []) trace.old trace.new size.new
+        result }
     ensures memory { IsMemory result → (trace.new ≡ trace.old) × (size.new ≡ 0) }
 {
     let row = Row::Asm {

@@ -20,8 +20,8 @@ const TRACE_LIMIT: u64 = 50_000_000;
 /// The commands that the text of a file says. One byte past the limit shows that it is too long, and then no line is read.
 pub fn load_text<D: Depot>(alloc: Global, depot: &mut D, name: &str) -> Result<CommandList, Stop>
     requires { D.may_fetch name.now }
-    ensures reads { Reads (D.files depot.old) (Rose (D.faults depot.old) (D.faults depot.new)) (λ files commands. IsTextOf files name.now commands)
-        (RefusesText name.now) (Lacks name.now) result }
+    ensures reads { Reads (D.files depot.old) (Rose (D.faults depot.old) (D.faults depot.new))
+        (λ files commands. IsTextOf files name.now commands) (RefusesText name.now) (Lacks name.now) result }
     ensures files { D.files depot.new ≡ D.files depot.old }
     ensures later { D.faults depot.old ≤ D.faults depot.new }
     ensures stores { D.failed_stores depot.new ≡ D.failed_stores depot.old }
@@ -39,8 +39,8 @@ pub fn load_text<D: Depot>(alloc: Global, depot: &mut D, name: &str) -> Result<C
 /// The commands of the trace of a file. A trace that is too long is refused so also where it has a bad byte.
 pub fn load_trace<D: Depot>(alloc: Global, depot: &mut D, name: &str) -> Result<CommandList, Stop>
     requires { D.may_fetch name.now }
-    ensures reads { Reads (D.files depot.old) (Rose (D.faults depot.old) (D.faults depot.new)) (λ files commands. IsTraceOf files name.now commands)
-        (RefusesTrace name.now) (Lacks name.now) result }
+    ensures reads { Reads (D.files depot.old) (Rose (D.faults depot.old) (D.faults depot.new))
+        (λ files commands. IsTraceOf files name.now commands) (RefusesTrace name.now) (Lacks name.now) result }
     ensures few { IfOk result (λ commands. length commands ≤ 50000000) }
     ensures files { D.files depot.new ≡ D.files depot.old }
     ensures later { D.faults depot.old ≤ D.faults depot.new }

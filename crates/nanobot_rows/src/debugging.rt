@@ -29,7 +29,8 @@ fn load_script<D: Depot>(
 ) -> Result<Vec<ScriptLine>, Stop>
     requires { D.may_fetch name.now }
     ensures reads { Reads (D.files depot.old) (Rose (D.faults depot.old) (D.faults depot.new))
-        (λ files script. IsScriptOf files name.now resolution script.items) (RefusesScript name.now resolution) (Lacks name.now) result }
+        (λ files script. IsScriptOf files name.now resolution script.items) (RefusesScript name.now resolution)
+        (Lacks name.now) result }
     ensures files { D.files depot.new ≡ D.files depot.old }
     ensures later { D.faults depot.old ≤ D.faults depot.new }
     ensures stores { D.failed_stores depot.new ≡ D.failed_stores depot.old }

@@ -57,7 +57,8 @@ impl<'a> Effect<'a> {
 
     /// A report and a file.
     pub fn storing(report: Report, name: &'a str, bytes: Vec<u8>) -> Effect<'a>
-        ensures { result ≡ record { message = Message.Line report; file = Some (record { name = name.entry; bytes = bytes }) } }
+        ensures { result
+            ≡ record { message = Message.Line report; file = Some (record { name = name.entry; bytes = bytes }) } }
     {
         Effect {
             message: Message::Line(report),

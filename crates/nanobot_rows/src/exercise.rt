@@ -35,7 +35,8 @@ fn judge_plan<L: Ledger>(
     plan: &Plan,
     steps: &mut Steps<L>,
 ) -> Result<Cost, Memory>
-    requires accepted { VerdictOf (empty target.now.resolution) target.now plan.now.commands full_profile (Accepted plan.now.energy plan.now.steps) }
+    requires accepted { VerdictOf (empty target.now.resolution) target.now plan.now.commands full_profile
+        (Accepted plan.now.energy plan.now.steps) }
     ensures { IfOk result (λ cost. cost ≡ record { energy = plan.now.energy; steps = plan.now.steps }) }
 {
     one_verdict();
@@ -62,7 +63,8 @@ fn judge_plans<L: Ledger>(
 ) -> Result<Report, Stop>
     requires some { 1 ≤ resolution }
     requires most { resolution ≤ MOST_R }
-    ensures ends { (told : Option Files) (before now : ℕ) → EndsUnstored (AnswerOf (exercise_row number resolution)) told (Rose before now) result }
+    ensures ends { (told : Option Files) (before now : ℕ)
+        → EndsUnstored (AnswerOf (exercise_row number resolution)) told (Rose before now) result }
 {
     let target = forge(alloc, number, resolution)?;
     let nothing = Planes::empty(alloc, resolution)?;
@@ -88,7 +90,8 @@ pub fn exercise<'a, L: Ledger>(
 ) -> Result<Effect<'a>, Stop>
     requires some { 1 ≤ resolution }
     requires most { resolution ≤ MOST_R }
-    ensures finishes { (told : Option Files) (before now : ℕ) → EndsStored (AnswerOf (exercise_row number resolution)) told (Rose before now) result }
+    ensures finishes { (told : Option Files) (before now : ℕ)
+        → EndsStored (AnswerOf (exercise_row number resolution)) told (Rose before now) result }
     ensures named { IfOk result (IsFor None) }
 {
     Effect::telling(judge_plans(alloc, number, resolution, steps))

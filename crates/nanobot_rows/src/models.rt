@@ -26,8 +26,8 @@ pub fn load_model<D: Depot>(
     who: Who,
 ) -> Result<Planes, Stop>
     requires { D.may_fetch name.now }
-    ensures reads { Reads (D.files depot.old) (Rose (D.faults depot.old) (D.faults depot.new)) (λ files m. IsModelOf files name.now m)
-        (RefusesFile who name.now) (Lacks name.now) result }
+    ensures reads { Reads (D.files depot.old) (Rose (D.faults depot.old) (D.faults depot.new))
+        (λ files m. IsModelOf files name.now m) (RefusesFile who name.now) (Lacks name.now) result }
     ensures files { D.files depot.new ≡ D.files depot.old }
     ensures later { D.faults depot.old ≤ D.faults depot.new }
     ensures stores { D.failed_stores depot.new ≡ D.failed_stores depot.old }
@@ -52,8 +52,8 @@ fn load_side<D: Depot>(
     who: Who,
 ) -> Result<Option<Planes>, Stop>
     requires { (name : List ℕ) → side_of side ≡ Some name → D.may_fetch name }
-    ensures reads { Reads (D.files depot.old) (Rose (D.faults depot.old) (D.faults depot.new)) (HasSide (side_of side.entry))
-        (RefusesSide who (side_of side.entry)) (LacksSide (side_of side.entry)) result }
+    ensures reads { Reads (D.files depot.old) (Rose (D.faults depot.old) (D.faults depot.new))
+        (HasSide (side_of side.entry)) (RefusesSide who (side_of side.entry)) (LacksSide (side_of side.entry)) result }
     ensures files { D.files depot.new ≡ D.files depot.old }
     ensures later { D.faults depot.old ≤ D.faults depot.new }
     ensures stores { D.failed_stores depot.new ≡ D.failed_stores depot.old }
@@ -116,7 +116,8 @@ pub fn load_models<D: Depot>(
     requires some { side_of source ≡ None → side_of target ≡ None → ⊥ }
     ensures reads { Reads (D.files depot.old) (Rose (D.faults depot.old) (D.faults depot.new))
         (λ files models. AreModels (side_of source.entry) (side_of target.entry) files models.0 models.1)
-        (RefusesModels (side_of source.entry) (side_of target.entry)) (LacksModels (side_of source.entry) (side_of target.entry)) result }
+        (RefusesModels (side_of source.entry) (side_of target.entry))
+        (LacksModels (side_of source.entry) (side_of target.entry)) result }
     ensures files { D.files depot.new ≡ D.files depot.old }
     ensures later { D.faults depot.old ≤ D.faults depot.new }
     ensures stores { D.failed_stores depot.new ≡ D.failed_stores depot.old }

@@ -126,7 +126,8 @@ impl Who {
 fn at_line(alloc: Global, who: &str, refusal: &str, at: Coord) -> Result<String, AllocError>
     ensures { IfOk result
         (λ s. string_bytes s ≡ concat
-        (who.now ∷ refusal.now ∷ codes " " ∷ decimal at.x ∷ codes " " ∷ decimal at.y ∷ codes " " ∷ decimal at.z ∷ codes "\n" ∷ [])) }
+        (who.now ∷ refusal.now ∷ codes " " ∷ decimal at.x ∷ codes " " ∷ decimal at.y ∷ codes " " ∷ decimal at.z
+        ∷ codes "\n" ∷ [])) }
 {
     format!(in alloc; "{who}{refusal} {} {} {}\n", at.x, at.y, at.z)
 }
@@ -203,7 +204,8 @@ fn exercised_line(
     layer: Cost,
     group: Cost,
 ) -> Result<String, AllocError>
-    ensures { IfOk result (λ s. string_bytes s ≡ exercised_line_of (exercised_head_of number resolution full) layer group) }
+    ensures { IfOk result
+        (λ s. string_bytes s ≡ exercised_line_of (exercised_head_of number resolution full) layer group) }
 {
     let head = exercised_head(alloc, number, resolution, full)?;
     with_costs(alloc, head.as_str(), layer, group)

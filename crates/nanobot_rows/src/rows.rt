@@ -38,7 +38,8 @@ fn check<D: Depot, L: Ledger>(
     steps: &mut Steps<L>,
 ) -> Result<Report, Stop>
     requires { D.may_fetch model.now }
-    ensures ends { EndsUnstored (AnswerOf (check_row model.now)) (D.files depot.old) (Rose (D.faults depot.old) (D.faults depot.new)) result }
+    ensures ends { EndsUnstored (AnswerOf (check_row model.now)) (D.files depot.old)
+        (Rose (D.faults depot.old) (D.faults depot.new)) result }
     ensures files { D.files depot.new ≡ D.files depot.old }
     ensures later { D.faults depot.old ≤ D.faults depot.new }
     ensures stores { D.failed_stores depot.new ≡ D.failed_stores depot.old }
@@ -65,13 +66,14 @@ fn judge_run<D: Depot, L: Ledger>(
     requires trace { D.may_fetch trace.now }
     requires some { side_of source ≡ None → side_of target ≡ None → ⊥ }
     requires seeds { profile.seeds ≤ 39 }
-    ensures ends { EndsUnstored (AnswerOfRun profile (side_of source.entry) (side_of target.entry) trace.now) (D.files depot.old)
-        (Rose (D.faults depot.old) (D.faults depot.new)) result }
+    ensures ends { EndsUnstored (AnswerOfRun profile (side_of source.entry) (side_of target.entry) trace.now)
+        (D.files depot.old) (Rose (D.faults depot.old) (D.faults depot.new)) result }
     ensures files { D.files depot.new ≡ D.files depot.old }
     ensures later { D.faults depot.old ≤ D.faults depot.new }
     ensures stores { D.failed_stores depot.new ≡ D.failed_stores depot.old }
     ensures within { (result ≡ Err Stop.Memory → ⊥)
-        → IsRunWithin profile (side_of source.entry) (side_of target.entry) trace.now (D.files depot.old) steps.old steps.new }
+        → IsRunWithin profile (side_of source.entry) (side_of target.entry) trace.now (D.files depot.old) steps.old
+        steps.new }
 {
     every_run_has_work();
     let (source, target) = load_models(alloc, depot, source, target)?;
@@ -103,8 +105,9 @@ fn run<'a, D: Depot, L: Ledger>(
     requires target { (name : List ℕ) → side_of target ≡ Some name → D.may_fetch name }
     requires trace { D.may_fetch trace.now }
     requires some { side_of source ≡ None → side_of target ≡ None → ⊥ }
-    ensures finishes { EndsStored (AnswerOfRun (profile_of round) (side_of source.entry) (side_of target.entry) trace.now)
-        (D.files depot.old) (Rose (D.faults depot.old) (D.faults depot.new)) result }
+    ensures finishes { EndsStored
+        (AnswerOfRun (profile_of round) (side_of source.entry) (side_of target.entry) trace.now) (D.files depot.old)
+        (Rose (D.faults depot.old) (D.faults depot.new)) result }
     ensures named { IfOk result (IsFor None) }
     ensures files { D.files depot.new ≡ D.files depot.old }
     ensures later { D.faults depot.old ≤ D.faults depot.new }
@@ -126,7 +129,8 @@ fn asm<'a, D: Depot>(
     trace: &'a str,
 ) -> Result<Effect<'a>, Stop>
     requires { D.may_fetch text.now }
-    ensures finishes { EndsStored (AnswerOf (asm_row text.now trace.now)) (D.files depot.old) (Rose (D.faults depot.old) (D.faults depot.new)) result }
+    ensures finishes { EndsStored (AnswerOf (asm_row text.now trace.now)) (D.files depot.old)
+        (Rose (D.faults depot.old) (D.faults depot.new)) result }
     ensures named { IfOk result (IsFor (Some trace.now)) }
     ensures files { D.files depot.new ≡ D.files depot.old }
     ensures later { D.faults depot.old ≤ D.faults depot.new }
@@ -146,7 +150,8 @@ fn dis<'a, D: Depot>(
     text: &'a str,
 ) -> Result<Effect<'a>, Stop>
     requires { D.may_fetch trace.now }
-    ensures finishes { EndsStored (AnswerOf (dis_row trace.now text.now)) (D.files depot.old) (Rose (D.faults depot.old) (D.faults depot.new)) result }
+    ensures finishes { EndsStored (AnswerOf (dis_row trace.now text.now)) (D.files depot.old)
+        (Rose (D.faults depot.old) (D.faults depot.new)) result }
     ensures named { IfOk result (IsFor (Some text.now)) }
     ensures files { D.files depot.new ≡ D.files depot.old }
     ensures later { D.faults depot.old ≤ D.faults depot.new }
@@ -168,7 +173,8 @@ fn make<'a, L: Ledger>(
 ) -> Result<Effect<'a>, Stop>
     requires some { 1 ≤ resolution }
     requires most { resolution ≤ MOST_R }
-    ensures finishes { (told : Option Files) (before now : ℕ) → EndsStored (AnswerOf (make_row number resolution model.now)) told (Rose before now) result }
+    ensures finishes { (told : Option Files) (before now : ℕ)
+        → EndsStored (AnswerOf (make_row number resolution model.now)) told (Rose before now) result }
     ensures named { IfOk result (IsFor (Some model.now)) }
 {
     let planes = forge(alloc, number, resolution)?;
@@ -189,12 +195,14 @@ pub fn answer<'a, D: Depot, L: Ledger>(
 ) -> Result<Effect<'a>, Stop>
     requires may_fetch { All D.may_fetch (reads_of (row_of row)) }
     requires of_table { IsOfTable (row_of row) }
-    ensures finishes { EndsStored (AnswerOf (row_of row.entry)) (D.files depot.old) (Rose (D.faults depot.old) (D.faults depot.new)) result }
+    ensures finishes { EndsStored (AnswerOf (row_of row.entry)) (D.files depot.old)
+        (Rose (D.faults depot.old) (D.faults depot.new)) result }
     ensures named { IfOk result (IsFor (stores_of (row_of row.entry))) }
     ensures files { D.files depot.new ≡ D.files depot.old }
     ensures later { D.faults depot.old ≤ D.faults depot.new }
     ensures stores { D.failed_stores depot.new ≡ D.failed_stores depot.old }
-    ensures within { (result ≡ Err Stop.Memory → ⊥) → IsRowWithin (row_of row.entry) (D.files depot.old) steps.old steps.new }
+    ensures within { (result ≡ Err Stop.Memory → ⊥)
+        → IsRowWithin (row_of row.entry) (D.files depot.old) steps.old steps.new }
 {
     match row {
         Row::Check { model } => Effect::telling(check(alloc, depot, model, steps)),

@@ -42,7 +42,8 @@ pub fn run_trace<D: Depot, L: Ledger>(
     ensures files { D.files depot.new ≡ D.files depot.old }
     ensures later { D.faults depot.old ≤ D.faults depot.new }
     ensures stores { D.failed_stores depot.new ≡ D.failed_stores depot.old }
-    ensures within { (result ≡ Err Stop.Memory → ⊥) → IsWithinFile profile source (D.files depot.old) name.now steps.old steps.new }
+    ensures within { (result ≡ Err Stop.Memory → ⊥)
+        → IsWithinFile profile source (D.files depot.old) name.now steps.old steps.new }
 {
     the_work_pays();
     every_run_has_work();

@@ -184,7 +184,8 @@ fn push<L: Ledger>(
     requires stands { runner.old.spent ≡ false }
     requires steps { runner.old.progress.steps < 1073741824 }
     ensures gets { IfOk result (λ n. Gets runner.old fed count n runner.new steps.old steps.new) }
-    ensures counted { (decoder : DecoderState) (piece : List ℕ) → AnswersPiece decoder piece fed → runner.old.progress.steps ≤ decoder.offset
+    ensures counted { (decoder : DecoderState) (piece : List ℕ) → AnswersPiece decoder piece fed
+        → runner.old.progress.steps ≤ decoder.offset
         → runner.new.progress.steps ≤ (decoder_after decoder piece fed).offset }
 {
     match fed {

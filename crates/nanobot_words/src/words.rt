@@ -31,7 +31,8 @@ fn parse_side(word: &str) -> Side<'_>
 
 /// The model after `check`.
 fn parse_check(words: &[String]) -> Option<&str>
-    ensures { MatchOption result ((model : List ℕ) → IsRow (texts words.now) (check model) → ⊥) (λ model. IsRow (texts words.now) (check model.now)) }
+    ensures { MatchOption result ((model : List ℕ) → IsRow (texts words.now) (check model) → ⊥)
+        (λ model. IsRow (texts words.now) (check model.now)) }
 {
     if let [word, model] = words {
         if word.as_str() == "check" && is_name(model.as_str()) {
@@ -43,7 +44,8 @@ fn parse_check(words: &[String]) -> Option<&str>
 
 /// The words, where they are three.
 fn three(words: &[String]) -> Option<(&str, &str, &str)>
-    ensures { MatchOption result ((a b c : List ℕ) → texts words.now ≡ a ∷ b ∷ c ∷ [] → ⊥) (λ r. texts words.now ≡ r.0.now ∷ r.1.now ∷ r.2.now ∷ []) }
+    ensures { MatchOption result ((a b c : List ℕ) → texts words.now ≡ a ∷ b ∷ c ∷ [] → ⊥)
+        (λ r. texts words.now ≡ r.0.now ∷ r.1.now ∷ r.2.now ∷ []) }
 {
     match words {
         [a, b, c] => Some((a.as_str(), b.as_str(), c.as_str())),
@@ -54,7 +56,8 @@ fn three(words: &[String]) -> Option<(&str, &str, &str)>
 /// The two names behind a word, where the words are three and the first is that word.
 fn parse_names<'a>(words: &'a [String], word: &str) -> Option<(&'a str, &'a str)>
     ensures { MatchOption result ((a b : List ℕ) → texts words.now ≡ word.now ∷ a ∷ b ∷ [] → IsName a → IsName b → ⊥)
-        (λ names. (texts words.now ≡ word.now ∷ names.0.now ∷ names.1.now ∷ []) × IsName names.0.now × IsName names.1.now) }
+        (λ names. (texts words.now ≡ word.now ∷ names.0.now ∷ names.1.now ∷ []) × IsName names.0.now × IsName
+        names.1.now) }
 {
     let (first, a, b) = three(words)?;
     if first != word {
@@ -71,7 +74,8 @@ fn parse_names<'a>(words: &'a [String], word: &str) -> Option<(&'a str, &'a str)
 
 /// The text and the trace after `asm`.
 fn parse_asm(words: &[String]) -> Option<Row<'_>>
-    ensures { MatchOption result ((x b : List ℕ) → IsRow (texts words.now) (asm x b) → ⊥) (λ row. IsRow (texts words.now) (row_of row)) }
+    ensures { MatchOption result ((x b : List ℕ) → IsRow (texts words.now) (asm x b) → ⊥)
+        (λ row. IsRow (texts words.now) (row_of row)) }
 {
     let (text, trace) = parse_names(words, "asm")?;
     Some(Row::Asm { text, trace })
@@ -79,7 +83,8 @@ fn parse_asm(words: &[String]) -> Option<Row<'_>>
 
 /// The trace and the text after `dis`.
 fn parse_dis(words: &[String]) -> Option<Row<'_>>
-    ensures { MatchOption result ((b x : List ℕ) → IsRow (texts words.now) (dis b x) → ⊥) (λ row. IsRow (texts words.now) (row_of row)) }
+    ensures { MatchOption result ((b x : List ℕ) → IsRow (texts words.now) (dis b x) → ⊥)
+        (λ row. IsRow (texts words.now) (row_of row)) }
 {
     let (trace, text) = parse_names(words, "dis")?;
     Some(Row::Dis { trace, text })
@@ -101,7 +106,8 @@ fn parse_number(word: &str) -> Option<u32>
 
 /// The resolution of a model that the word has in decimal digits, without sign or leading zero.
 fn parse_resolution(word: &str) -> Option<u16>
-    ensures { MatchOption result ((r : ℕ) → 1 ≤ r → r ≤ MOST_R → word.now ≡ decimal r → ⊥) (λ r. (word.now ≡ decimal r) × (1 ≤ r) × (r ≤ MOST_R)) }
+    ensures { MatchOption result ((r : ℕ) → 1 ≤ r → r ≤ MOST_R → word.now ≡ decimal r → ⊥)
+        (λ r. (word.now ≡ decimal r) × (1 ≤ r) × (r ≤ MOST_R)) }
 {
     let number = parse_number(word)?;
     if number < 1 {
@@ -115,7 +121,8 @@ fn parse_resolution(word: &str) -> Option<u16>
 
 /// The number, the resolution and the model after `make`.
 fn parse_make(words: &[String]) -> Option<Row<'_>>
-    ensures { MatchOption result ((n r : ℕ) (m : List ℕ) → IsRow (texts words.now) (make n r m) → ⊥) (λ row. IsRow (texts words.now) (row_of row)) }
+    ensures { MatchOption result ((n r : ℕ) (m : List ℕ) → IsRow (texts words.now) (make n r m) → ⊥)
+        (λ row. IsRow (texts words.now) (row_of row)) }
 {
     let (word, number, resolution, model) = four(words)?;
     if word != "make" {
@@ -146,7 +153,8 @@ fn four(words: &[String]) -> Option<(&str, &str, &str, &str)>
 
 /// The source and the target of two words, where a third is the name of a trace and one of the two is the file of a name.
 fn parse_sides<'a>(source: &'a str, target: &'a str, trace: &str) -> Option<(Side<'a>, Side<'a>)>
-    ensures { MatchOption result ((s t : Option (List ℕ)) (b : List ℕ) → AreOperands source.now target.now trace.now s t b → ⊥)
+    ensures { MatchOption result
+        ((s t : Option (List ℕ)) (b : List ℕ) → AreOperands source.now target.now trace.now s t b → ⊥)
         (λ sides. AreOperands source.now target.now trace.now (side_of sides.0) (side_of sides.1) trace.now) }
 {
     if !is_name(trace) {
@@ -265,7 +273,8 @@ fn parse_plan(words: &[String]) -> Option<Row<'_>>
 
 /// The number and the resolution after `exercise`.
 fn parse_exercise(words: &[String]) -> Option<Row<'_>>
-    ensures { MatchOption result ((n r : ℕ) → IsRow (texts words.now) (exercise n r) → ⊥) (λ row. IsRow (texts words.now) (row_of row)) }
+    ensures { MatchOption result ((n r : ℕ) → IsRow (texts words.now) (exercise n r) → ⊥)
+        (λ row. IsRow (texts words.now) (row_of row)) }
 {
     let (word, number, resolution) = three(words)?;
     if word != "exercise" {
@@ -278,7 +287,8 @@ fn parse_exercise(words: &[String]) -> Option<Row<'_>>
 
 /// The source, the trace and the script after `debug`.
 fn parse_debug(words: &[String]) -> Option<Row<'_>>
-    ensures { MatchOption result ((s b x : List ℕ) → IsRow (texts words.now) (debug s b x) → ⊥) (λ row. IsRow (texts words.now) (row_of row)) }
+    ensures { MatchOption result ((s b x : List ℕ) → IsRow (texts words.now) (debug s b x) → ⊥)
+        (λ row. IsRow (texts words.now) (row_of row)) }
 {
     let (word, source, trace, script) = four(words)?;
     if word != "debug" {

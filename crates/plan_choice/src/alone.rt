@@ -101,8 +101,10 @@ pub fn attach_low(
     most: Bounds,
     ceiling: i64,
 ) -> Result<Plan, Memory>
-    requires accepted { IsAccepted (empty target.now.resolution) target.now plan.commands light_profile plan.energy plan.steps }
-    ensures stands { IfOk result (λ it. MayStandFor (empty target.now.resolution) target.now light_profile most plan it) }
+    requires accepted { IsAccepted (empty target.now.resolution) target.now plan.commands light_profile plan.energy
+        plan.steps }
+    ensures stands { IfOk result
+        (λ it. MayStandFor (empty target.now.resolution) target.now light_profile most plan it) }
     ensures plain { All IsPlain plan.commands → IfOk result (λ it. All IsPlain it.commands) }
     ensures alone { length plan.commands ≡ 1 → IfOk result (λ it. it.commands ≡ plan.commands) }
 {

@@ -68,7 +68,8 @@ fn or_group(alloc: Global, source: &Planes, target: &Planes, plan: Plan) -> Resu
     requires crew { IsForCrew source.now target.now plan }
     ensures crew { IfOk result (IsForCrew source.now target.now) }
     ensures no_dearer { IfOk result (λ it. it.energy ≤ℤ plan.energy) }
-    ensures as_group { most_bytes source.now target.now ≤ crew_limit → IfOk result (λ it. IsNoDearer IsGroupPlan source.now target.now it.energy) }
+    ensures as_group { most_bytes source.now target.now ≤ crew_limit
+        → IfOk result (λ it. IsNoDearer IsGroupPlan source.now target.now it.energy) }
 {
     if group_bounds(source, target).bytes > LIMIT {
         return Ok(plan);
@@ -84,7 +85,8 @@ fn or_void(alloc: Global, source: &Planes, target: &Planes, plan: Plan) -> Resul
     requires crew { IsForCrew source.now target.now plan }
     ensures crew { IfOk result (IsForCrew source.now target.now) }
     ensures no_dearer { IfOk result (λ it. it.energy ≤ℤ plan.energy) }
-    ensures as_void { target.now ≡ empty target.now.resolution → IfOk result (λ it. IsNoDearer IsVoidPlan source.now target.now it.energy) }
+    ensures as_void { target.now ≡ empty target.now.resolution
+        → IfOk result (λ it. IsNoDearer IsVoidPlan source.now target.now it.energy) }
 {
     let nothing = Planes::empty(alloc, target.resolution())?;
     if lowest_difference(target, &nothing).is_some() {
@@ -126,7 +128,8 @@ fn or_swarm(alloc: Global, source: &Planes, target: &Planes, plan: Plan) -> Resu
     requires crew { IsForCrew source.now target.now plan }
     ensures crew { IfOk result (IsForCrew source.now target.now) }
     ensures no_dearer { IfOk result (λ it. it.energy ≤ℤ plan.energy) }
-    ensures as_swarm { source.now ≡ empty source.now.resolution → IfOk result (λ it. IsNoDearer IsSwarmPlan source.now target.now it.energy) }
+    ensures as_swarm { source.now ≡ empty source.now.resolution
+        → IfOk result (λ it. IsNoDearer IsSwarmPlan source.now target.now it.energy) }
 {
     let nothing = Planes::empty(alloc, source.resolution())?;
     if lowest_difference(source, &nothing).is_some() {

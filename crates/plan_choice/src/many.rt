@@ -125,8 +125,10 @@ pub fn by_squads(
     most: Bounds,
     ceiling: i64,
 ) -> Result<Plan, Memory>
-    requires accepted { IsAccepted (empty target.now.resolution) target.now plan.commands light_profile plan.energy plan.steps }
-    ensures stands { IfOk result (λ it. MayStandFor (empty target.now.resolution) target.now light_profile most plan it) }
+    requires accepted { IsAccepted (empty target.now.resolution) target.now plan.commands light_profile plan.energy
+        plan.steps }
+    ensures stands { IfOk result
+        (λ it. MayStandFor (empty target.now.resolution) target.now light_profile most plan it) }
     ensures alone { length plan.commands ≡ 1 → IfOk result (λ it. it.commands ≡ plan.commands) }
 {
     if plan.commands.as_slice().len() == 1 {

@@ -115,7 +115,8 @@ pub fn choose_group_plan(alloc: Global, source: &Planes, target: &Planes) -> Res
 /// A plan of four bots that makes the empty model of the source, where it need be no cheaper than any that costs so much.
 pub(crate) fn void_plan(alloc: Global, source: &Planes, ceiling: i64) -> Result<Plan, Memory>
     requires { IsLegal source.now }
-    ensures { IfOk result (λ plan. IsVoidPlan source.now (empty source.now.resolution) plan.commands plan.energy plan.steps) }
+    ensures { IfOk result
+        (λ plan. IsVoidPlan source.now (empty source.now.resolution) plan.commands plan.energy plan.steps) }
 {
     let plan = plan_void(alloc, source)?;
     let nothing = Planes::empty(alloc, source.resolution())?;
@@ -134,7 +135,8 @@ pub(crate) fn void_plan(alloc: Global, source: &Planes, ceiling: i64) -> Result<
 /// The plan of four bots that makes the empty model of the source.
 pub fn choose_void_plan(alloc: Global, source: &Planes) -> Result<Plan, Memory>
     requires { IsLegal source.now }
-    ensures { IfOk result (λ plan. IsVoidPlan source.now (empty source.now.resolution) plan.commands plan.energy plan.steps) }
+    ensures { IfOk result
+        (λ plan. IsVoidPlan source.now (empty source.now.resolution) plan.commands plan.energy plan.steps) }
 {
     void_plan(alloc, source, i64::MAX)
 }
@@ -143,7 +145,8 @@ pub fn choose_void_plan(alloc: Global, source: &Planes) -> Result<Plan, Memory>
 /// costs so much.
 pub(crate) fn swarm_plan(alloc: Global, target: &Planes, ceiling: i64) -> Result<Plan, Memory>
     requires { IsLegal target.now }
-    ensures { IfOk result (λ plan. IsSwarmPlan (empty target.now.resolution) target.now plan.commands plan.energy plan.steps) }
+    ensures { IfOk result
+        (λ plan. IsSwarmPlan (empty target.now.resolution) target.now plan.commands plan.energy plan.steps) }
 {
     full_accepts_what_light_accepts();
     let plan = plan_swarm(alloc, target)?;
@@ -165,7 +168,8 @@ pub(crate) fn swarm_plan(alloc: Global, target: &Planes, ceiling: i64) -> Result
 /// The plan of up to twenty bots that builds the target from nothing, under the light profile.
 pub fn choose_swarm_plan(alloc: Global, target: &Planes) -> Result<Plan, Memory>
     requires { IsLegal target.now }
-    ensures { IfOk result (λ plan. IsSwarmPlan (empty target.now.resolution) target.now plan.commands plan.energy plan.steps) }
+    ensures { IfOk result
+        (λ plan. IsSwarmPlan (empty target.now.resolution) target.now plan.commands plan.energy plan.steps) }
 {
     swarm_plan(alloc, target, i64::MAX)
 }
@@ -176,7 +180,8 @@ pub(crate) fn low_plan(alloc: Global, target: &Planes, ceiling: i64) -> Result<P
     requires { IsLegal target.now }
     ensures unsupported { IfErr result (HasCause target.now) }
     ensures supported { IfOk result (λ _. FirstUnsupported target.now None) }
-    ensures plan { IfOk result (λ plan. IsLowPlan (empty target.now.resolution) target.now plan.commands plan.energy plan.steps) }
+    ensures plan { IfOk result
+        (λ plan. IsLowPlan (empty target.now.resolution) target.now plan.commands plan.energy plan.steps) }
 {
     full_accepts_what_light_accepts();
     let plan = plan_low(alloc, target)?;
@@ -193,7 +198,8 @@ pub fn choose_low_plan(alloc: Global, target: &Planes) -> Result<Plan, LowFault>
     requires { IsLegal target.now }
     ensures unsupported { IfErr result (HasCause target.now) }
     ensures supported { IfOk result (λ _. FirstUnsupported target.now None) }
-    ensures plan { IfOk result (λ plan. IsLowPlan (empty target.now.resolution) target.now plan.commands plan.energy plan.steps) }
+    ensures plan { IfOk result
+        (λ plan. IsLowPlan (empty target.now.resolution) target.now plan.commands plan.energy plan.steps) }
 {
     low_plan(alloc, target, i64::MAX)
 }

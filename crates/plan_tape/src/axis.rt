@@ -131,7 +131,8 @@ pub fn push_leg(commands: &mut Vec<Command>, axis: Axis, from: u16, to: u16)
     requires from { from ≤ MOST_R }
     requires to { to ≤ MOST_R }
     requires room { vec_len commands.old + moves_of from to ≤ vec_capacity commands.old }
-    ensures leg { (moves : List CommandOf) × IsLeastLeg axis from to moves × (commands.new.items ≡ commands.old.items ++ moves) }
+    ensures leg { (moves : List CommandOf) × IsLeastLeg axis from to moves
+        × (commands.new.items ≡ commands.old.items ++ moves) }
     ensures len { vec_len commands.new ≡ vec_len commands.old + moves_of from to }
     ensures capacity { vec_capacity commands.new ≡ vec_capacity commands.old }
 {

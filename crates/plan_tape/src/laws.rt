@@ -28,11 +28,14 @@ pub fn fissions_bound_the_bots()
 /// that a first part reaches (onward); each verdict falls at such a state (decided); and the definitions accept a trace exactly where all of it
 /// reaches a state without bots whose voxels are those of the target (accepted).
 pub fn runs_go_through_reached_states()
-    ensures onward { (source target : Matrix) (profile : Profile) (before rest : List Command) (s : State) (done : ℕ) (verdict : Verdict)
+    ensures onward { (source target : Matrix) (profile : Profile) (before rest : List Command) (s : State) (done : ℕ)
+        (verdict : Verdict)
         → Reaches source profile before s done
         → (VerdictOf source target (before ++ rest) profile verdict ↔ Run target s rest done verdict) }
     ensures decided { (source target : Matrix) (profile : Profile) (commands : List Command) (verdict : Verdict)
         → VerdictOf source target commands profile verdict → IsDecided source target profile commands verdict }
     ensures accepted { (source target : Matrix) (profile : Profile) (commands : List Command) (energy : ℤ) (steps : ℕ)
-        → (VerdictOf source target commands profile (Accepted energy steps) ↔ ReachesTarget source target profile commands energy steps) }
+        →
+        (VerdictOf source target commands profile (Accepted energy steps)
+        ↔ ReachesTarget source target profile commands energy steps) }
 {}

@@ -206,7 +206,8 @@ impl Tape {
         requires some { 1 ≤ length self.old.bots }
         requires commands { length commands.now ≡ length self.old.bots }
         requires unbroken { broken_of (state_of self.old) commands.now (self.old.steps + 1) ≡ None }
-        requires held { IsHeld (tape_stepped self.old commands.now).harmonics (tape_stepped self.old commands.now).matrix }
+        requires held { IsHeld (tape_stepped self.old commands.now).harmonics
+            (tape_stepped self.old commands.now).matrix }
         requires limit { self.old.steps < 1073741824 }
         ensures ok { OnOk result (self.new ≡ tape_stepped self.old commands.now) }
         ensures bytes { OnOk result (bytes self.new ≡ bytes self.old + length (spellings commands.now)) }
@@ -220,7 +221,8 @@ impl Tape {
 
     /// The state is the one that the definitions reach from the source by the commands, every step accepted.
     pub fn know_reached(&self)
-        ensures reached { Reaches self.now.source self.now.profile self.now.commands (state_of self.now) self.now.steps }
+        ensures reached { Reaches self.now.source self.now.profile self.now.commands (state_of self.now)
+            self.now.steps }
     {
         let _ = &self.source;
     }
@@ -246,7 +248,9 @@ impl Tape {
         requires commands { length commands.now ≡ length self.old.bots }
         requires moves { CanMoveAll self.old commands.now }
         requires limit { self.old.steps < 1073741824 }
-        ensures ok { OnOk result (AllStep self.old self.new commands.now self.old.matrix self.old.harmonics (bots_gone self.old.bots commands.now)) }
+        ensures ok { OnOk result
+            (AllStep self.old self.new commands.now self.old.matrix self.old.harmonics
+            (bots_gone self.old.bots commands.now)) }
         ensures err { OnErr result (self.new ≡ self.old) }
     {
         free_bots_break_no_rule();
@@ -263,8 +267,10 @@ impl Tape {
         requires high { self.old.harmonics ≡ Harmonics.High }
         requires limit { self.old.steps < 1073741824 }
         ensures ok { OnOk result
-            ((region : Span) (full : Bool) → AreOneGroup (state_of self.old) region full (acts self.old.bots commands.now)
-            → AllStep self.old self.new commands.now (with_region self.old.matrix region full) self.old.harmonics self.old.bots) }
+            ((region : Span) (full : Bool)
+            → AreOneGroup (state_of self.old) region full (acts self.old.bots commands.now)
+            → AllStep self.old self.new commands.now (with_region self.old.matrix region full) self.old.harmonics
+            self.old.bots) }
         ensures err { OnErr result (self.new ≡ self.old) }
     {
         one_group_breaks_no_rule();
@@ -282,7 +288,8 @@ impl Tape {
         requires held { IsHeld self.old.harmonics (with_fills self.old.matrix (acts self.old.bots fills.now)) }
         requires limit { self.old.steps < 1073741824 }
         ensures ok { OnOk result
-            (AllStep self.old self.new fills.now (with_fills self.old.matrix (acts self.old.bots fills.now)) self.old.harmonics self.old.bots) }
+            (AllStep self.old self.new fills.now (with_fills self.old.matrix (acts self.old.bots fills.now))
+            self.old.harmonics self.old.bots) }
         ensures err { OnErr result (self.new ≡ self.old) }
     {
         free_bots_break_no_rule();
@@ -298,7 +305,9 @@ impl Tape {
         requires splits { AllByRecursion SplitsOrWaits splits.now }
         requires free { AreFree (state_of self.old) (acts self.old.bots splits.now) }
         requires limit { self.old.steps < 1073741824 }
-        ensures ok { OnOk result (AllStep self.old self.new splits.now self.old.matrix self.old.harmonics (bots_split self.old.bots splits.now)) }
+        ensures ok { OnOk result
+            (AllStep self.old self.new splits.now self.old.matrix self.old.harmonics
+            (bots_split self.old.bots splits.now)) }
         ensures err { OnErr result (self.new ≡ self.old) }
     {
         free_bots_break_no_rule();
@@ -314,9 +323,12 @@ impl Tape {
         requires fuses { AllByRecursion FusesOrWaits fusions.now }
         requires free { AreFree (state_of self.old) (acts self.old.bots fusions.now) }
         requires limit { self.old.steps < 1073741824 }
-        ensures ok { OnOk result (AllStep self.old self.new fusions.now self.old.matrix self.old.harmonics (bots_fused self.old.bots fusions.now)) }
-        ensures primary { (first second : Act) → Contains (acts self.old.bots fusions.now) first → Contains (acts self.old.bots fusions.now) second
-            → IsTrue (is_pair first second) → successors (acts self.old.bots fusions.now) first first.command ≡ fused first.bot second.bot ∷ [] }
+        ensures ok { OnOk result
+            (AllStep self.old self.new fusions.now self.old.matrix self.old.harmonics
+            (bots_fused self.old.bots fusions.now)) }
+        ensures primary { (first second : Act) → Contains (acts self.old.bots fusions.now) first
+            → Contains (acts self.old.bots fusions.now) second → IsTrue (is_pair first second)
+            → successors (acts self.old.bots fusions.now) first first.command ≡ fused first.bot second.bot ∷ [] }
         ensures err { OnErr result (self.new ≡ self.old) }
     {
         free_bots_break_no_rule();
@@ -331,7 +343,8 @@ impl Tape {
         requires allowed { IsAllowed self.old Command.Flip }
         requires held { IsHeld (flipped self.old.harmonics) self.old.matrix }
         requires limit { self.old.steps < 1073741824 }
-        ensures ok { OnOk result (Writes self.old self.new Command.Flip self.old.matrix (flipped self.old.harmonics) self.old.bots (pos 0)) }
+        ensures ok { OnOk result
+            (Writes self.old self.new Command.Flip self.old.matrix (flipped self.old.harmonics) self.old.bots (pos 0)) }
         ensures err { OnErr result (self.new ≡ self.old) }
     {
         let energy = self.energy_after(1, 0);
@@ -350,7 +363,8 @@ impl Tape {
         requires held { IsHeld self.old.harmonics (with_voxel self.old.matrix (beside_of self.old d) true) }
         requires limit { self.old.steps < 1073741824 }
         ensures ok { OnOk result
-            (Writes self.old self.new (Command.Fill d) (with_voxel self.old.matrix (beside_of self.old d) true) self.old.harmonics self.old.bots
+            (Writes self.old self.new (Command.Fill d) (with_voxel self.old.matrix (beside_of self.old d) true)
+            self.old.harmonics self.old.bots
             (cond (is_full_of self.old.matrix (beside_of self.old d)) (pos 6) (pos 12))) }
         ensures err { OnErr result (self.new ≡ self.old) }
     {
@@ -372,7 +386,8 @@ impl Tape {
         requires held { IsHeld self.old.harmonics (with_voxel self.old.matrix (beside_of self.old d) false) }
         requires limit { self.old.steps < 1073741824 }
         ensures ok { OnOk result
-            (Writes self.old self.new (Command.Void d) (with_voxel self.old.matrix (beside_of self.old d) false) self.old.harmonics self.old.bots
+            (Writes self.old self.new (Command.Void d) (with_voxel self.old.matrix (beside_of self.old d) false)
+            self.old.harmonics self.old.bots
             (cond (is_full_of self.old.matrix (beside_of self.old d)) (negsuc 11) (pos 3))) }
         ensures err { OnErr result (self.new ≡ self.old) }
     {

@@ -9,6 +9,8 @@ ghost use Rattle.run_progress.specs.Progress.{Comes, Finishes, Progress};
 
 /// The progress that commands make one after another from the opening is finished by the verdict of the whole trace.
 pub fn the_progress_is_the_verdict()
-    ensures { (source target : Matrix) (profile : Profile) (commands : List Command) (progress : Progress) (verdict : Verdict)
-        → Comes source profile commands progress → Finishes target progress verdict → VerdictOf source target commands profile verdict }
+    ensures { (source target : Matrix) (profile : Profile) (commands : List Command) (progress : Progress)
+        (verdict : Verdict)
+        → Comes source profile commands progress → Finishes target progress verdict
+        → VerdictOf source target commands profile verdict }
 {}

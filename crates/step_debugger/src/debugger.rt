@@ -71,7 +71,8 @@ impl Debugger {
         requires seeds { profile.seeds ≤ 39 }
         requires void { IsFalse (is_full source origin) }
         requires few { length commands < 1073741824 }
-        ensures { IfOk result (λ d. d ≡ record { session = opened source profile; commands = commands; spent = false }) }
+        ensures { IfOk result
+            (λ d. d ≡ record { session = opened source profile; commands = commands; spent = false }) }
     {
         let machine = Machine::start(alloc, source, profile, steps)?;
         let history = HeapCircularBuffer::with_capacity(alloc, MOST_HISTORY)?;
@@ -148,11 +149,14 @@ impl Debugger {
     /// Makes the next step: first the groups that are begun, and then the others in rising order of their leaders.
     pub fn step<L: Ledger>(&mut self, steps: &mut Steps<L>) -> Result<StepOk, DebugFault>
         requires { self.old.spent ≡ false }
-        ensures session { IfSome (step_report self.new.session.point.steps result) (AnswersLine self.old.commands Step self.old.session self.new.session) }
+        ensures session { IfSome (step_report self.new.session.point.steps result)
+            (AnswersLine self.old.commands Step self.old.session self.new.session) }
         ensures commands { self.new.commands ≡ self.old.commands }
         ensures spent { result ≡ Err DebugFault.Memory ↔ self.new.spent ≡ true }
-        ensures touches { IfOk result (λ _. IsWithinWorkOf 100 self.old.commands self.old.session.point steps.old steps.new) }
-        ensures touches_refused { IfRefused result (λ b. IsRefusedWithin 100 self.old.commands self.old.session.point b steps.old steps.new) }
+        ensures touches { IfOk result
+            (λ _. IsWithinWorkOf 100 self.old.commands self.old.session.point steps.old steps.new) }
+        ensures touches_refused { IfRefused result
+            (λ b. IsRefusedWithin 100 self.old.commands self.old.session.point b steps.old steps.new) }
     {
         self.ready()?;
         let order = self.order();
@@ -163,7 +167,8 @@ impl Debugger {
     fn ready(&self) -> Result<(), DebugFault>
         requires { self.now.spent ≡ false }
         ensures some { OnOk result (1 ≤ length self.now.session.point.state.bots) }
-        ensures all { OnOk result (length (next_of self.now.commands self.now.session.point) ≡ length self.now.session.point.state.bots) }
+        ensures all { OnOk result
+            (length (next_of self.now.commands self.now.session.point) ≡ length self.now.session.point.state.bots) }
         ensures unready { IfErr result (IsUnready self.now.commands self.now.session.point) }
     {
         let count = self.machine.active();
@@ -180,7 +185,8 @@ impl Debugger {
     /// The order in which the groups of the next step are applied: first those that are begun, and then the others.
     fn order(&self) -> ArrayVec<u8, MOST_BOTS>
         requires stands { self.now.spent ≡ false }
-        requires all { length (next_of self.now.commands self.now.session.point) ≡ length self.now.session.point.state.bots }
+        requires all { length (next_of self.now.commands self.now.session.point)
+            ≡ length self.now.session.point.state.bots }
         ensures { IsPermutation (next_leaders self.now.commands self.now.session.point) result.items }
     {
         self.machine.know();
@@ -200,13 +206,17 @@ impl Debugger {
     fn make<L: Ledger>(&mut self, order: &[u8], steps: &mut Steps<L>) -> Result<StepOk, DebugFault>
         requires stands { self.old.spent ≡ false }
         requires some { 1 ≤ length self.old.session.point.state.bots }
-        requires all { length (next_of self.old.commands self.old.session.point) ≡ length self.old.session.point.state.bots }
+        requires all { length (next_of self.old.commands self.old.session.point)
+            ≡ length self.old.session.point.state.bots }
         requires order { IsPermutation (next_leaders self.old.commands self.old.session.point) order.now }
-        ensures session { IfSome (step_report self.new.session.point.steps result) (StepsOf self.old.commands self.old.session self.new.session) }
+        ensures session { IfSome (step_report self.new.session.point.steps result)
+            (StepsOf self.old.commands self.old.session self.new.session) }
         ensures commands { self.new.commands ≡ self.old.commands }
         ensures spent { result ≡ Err DebugFault.Memory ↔ self.new.spent ≡ true }
-        ensures touches { IfOk result (λ _. IsWithinWorkOf 100 self.old.commands self.old.session.point steps.old steps.new) }
-        ensures touches_refused { IfRefused result (λ b. IsRefusedWithin 100 self.old.commands self.old.session.point b steps.old steps.new) }
+        ensures touches { IfOk result
+            (λ _. IsWithinWorkOf 100 self.old.commands self.old.session.point steps.old steps.new) }
+        ensures touches_refused { IfRefused result
+            (λ b. IsRefusedWithin 100 self.old.commands self.old.session.point b steps.old steps.new) }
     {
         let count = self.machine.active();
         let next = next_commands(self.commands.as_slice(), self.taken, count);
@@ -246,8 +256,10 @@ impl Debugger {
             (AnswersLine self.old.commands (Group leader) self.old.session self.new.session) }
         ensures commands { self.new.commands ≡ self.old.commands }
         ensures spent { result ≡ Err DebugFault.Memory ↔ self.new.spent ≡ true }
-        ensures touches { IfOk result (λ _. IsWithinWorkOf 102 self.old.commands self.old.session.point steps.old steps.new) }
-        ensures touches_refused { IfRefused result (λ b. IsRefusedWithin 102 self.old.commands self.old.session.point b steps.old steps.new) }
+        ensures touches { IfOk result
+            (λ _. IsWithinWorkOf 102 self.old.commands self.old.session.point steps.old steps.new) }
+        ensures touches_refused { IfRefused result
+            (λ b. IsRefusedWithin 102 self.old.commands self.old.session.point b steps.old steps.new) }
     {
         self.ready()?;
         let mut turns = Turns::new();
@@ -273,11 +285,15 @@ impl Debugger {
     fn judge<L: Ledger>(&self, turns: &mut Turns, steps: &mut Steps<L>) -> Option<Broken>
         requires stands { self.now.spent ≡ false }
         requires some { 1 ≤ length self.now.session.point.state.bots }
-        requires all { length (next_of self.now.commands self.now.session.point) ≡ length self.now.session.point.state.bots }
-        ensures value { result ≡ broken self.now.session.point.state (next_of self.now.commands self.now.session.point) (self.now.session.point.steps + 1) }
+        requires all { length (next_of self.now.commands self.now.session.point)
+            ≡ length self.now.session.point.state.bots }
+        ensures value { result
+            ≡ broken self.now.session.point.state (next_of self.now.commands self.now.session.point)
+            (self.now.session.point.steps + 1) }
         ensures turns { IfNone result
             (AreTurns (acts self.now.session.point.state.bots (next_of self.now.commands self.now.session.point))
-            (leaders (acts self.now.session.point.state.bots (next_of self.now.commands self.now.session.point))) turns.new) }
+            (leaders (acts self.now.session.point.state.bots (next_of self.now.commands self.now.session.point)))
+            turns.new) }
         ensures touches { steps.new ≤ steps.old + 2 * volatile_total self.now.session.point.state.matrix
             (acts self.now.session.point.state.bots (next_of self.now.commands self.now.session.point)) }
     {
@@ -290,9 +306,12 @@ impl Debugger {
     /// The leaders of the groups that are not begun.
     fn left(&self) -> ArrayVec<u8, MOST_BOTS>
         requires stands { self.now.spent ≡ false }
-        requires all { length (next_of self.now.commands self.now.session.point) ≡ length self.now.session.point.state.bots }
-        ensures leaders { IsPermutation (next_leaders self.now.commands self.now.session.point) (self.now.session.begun ++ result.items) }
-        ensures differ { (bid : ℕ) → count_by (λ k. k == bid) (next_leaders self.now.commands self.now.session.point) ≤ 1 }
+        requires all { length (next_of self.now.commands self.now.session.point)
+            ≡ length self.now.session.point.state.bots }
+        ensures leaders { IsPermutation (next_leaders self.now.commands self.now.session.point)
+            (self.now.session.begun ++ result.items) }
+        ensures differ { (bid : ℕ)
+            → count_by (λ k. k == bid) (next_leaders self.now.commands self.now.session.point) ≤ 1 }
         ensures few { length self.now.session.begun + length result.items ≤ MOST_BOTS }
     {
         self.machine.know();
@@ -309,15 +328,21 @@ impl Debugger {
 
     /// The group at a place among those that are not begun is begun.
     fn begin(&mut self, leader: u8, left: ArrayVec<u8, MOST_BOTS>, place: usize, turns: &Turns)
-        requires turns { AreTurns (acts self.old.session.point.state.bots (next_of self.old.commands self.old.session.point))
-            (leaders (acts self.old.session.point.state.bots (next_of self.old.commands self.old.session.point))) turns.now }
+        requires turns { AreTurns
+            (acts self.old.session.point.state.bots (next_of self.old.commands self.old.session.point))
+            (leaders (acts self.old.session.point.state.bots (next_of self.old.commands self.old.session.point)))
+            turns.now }
         requires stands { self.old.spent ≡ false }
-        requires keeps { broken self.old.session.point.state (next_of self.old.commands self.old.session.point) (self.old.session.point.steps + 1) ≡ None }
-        requires leaders { IsPermutation (next_leaders self.old.commands self.old.session.point) (self.old.session.begun ++ left.items) }
+        requires keeps { broken self.old.session.point.state (next_of self.old.commands self.old.session.point)
+            (self.old.session.point.steps + 1)
+            ≡ None }
+        requires leaders { IsPermutation (next_leaders self.old.commands self.old.session.point)
+            (self.old.session.begun ++ left.items) }
         requires few { length self.old.session.begun + length left.items ≤ MOST_BOTS }
         requires place { place < length left.items }
         requires leader { slice_index left.items place ≡ leader }
-        ensures { self.new ≡ record self.old { session = record self.old.session { begun = self.old.session.begun ++ leader ∷ [] } } }
+        ensures { self.new
+            ≡ record self.old { session = record self.old.session { begun = self.old.session.begun ++ leader ∷ [] } } }
     {
         groups_take_turns();
         self.machine.know();
@@ -333,10 +358,13 @@ impl Debugger {
     /// Drops the groups that are begun, or else takes the last step back.
     pub fn back<L: Ledger>(&mut self, steps: &mut Steps<L>) -> Result<(), DebugFault>
         requires { self.old.spent ≡ false }
-        ensures session { IfSome (back_report self.new.session.point result) (AnswersLine self.old.commands Back self.old.session self.new.session) }
+        ensures session { IfSome (back_report self.new.session.point result)
+            (AnswersLine self.old.commands Back self.old.session self.new.session) }
         ensures commands { self.new.commands ≡ self.old.commands }
         ensures spent { result ≡ Err DebugFault.Memory ↔ self.new.spent ≡ true }
-        ensures touches { IfOk result (λ _. IsTouchedBack self.old.session.point.state.matrix self.new.session.point.state.matrix steps.old steps.new) }
+        ensures touches { IfOk result
+            (λ _. IsTouchedBack self.old.session.point.state.matrix self.new.session.point.state.matrix steps.old
+            steps.new) }
     {
         if !self.begun.is_empty() {
             self.begun.clear();

@@ -8,23 +8,32 @@ ghost use Rattle.step_debugger.specs.Session.{AnswersLine, Back, DebugLine, Made
 
 /// A line of a session has one answer at most.
 pub fn one_answer()
-    ensures { (commands : List CommandOf) (line : DebugLine) (s t u : Session) (r q : DebugReport) → AnswersLine commands line s t r
-        → AnswersLine commands line s u q → (t ≡ u) × (r ≡ q) }
+    ensures { (commands : List CommandOf) (line : DebugLine) (s t u : Session) (r q : DebugReport)
+        → AnswersLine commands line s t r → AnswersLine commands line s u q → (t ≡ u) × (r ≡ q) }
 {}
 
 /// A step that was made, by whatever line, is taken back: the point and the past stand again, the past without its oldest point where no more are kept.
 pub fn back_restores()
-    ensures point { (commands : List CommandOf) (line : DebugLine) (s t u : Session) (steps : ℕ) (energy : ℤ) (ended : Bool) (report : DebugReport)
-        → AnswersLine commands line s t (Made steps energy ended) → AnswersLine commands Back t u report → u.point ≡ s.point }
-    ensures past { (commands : List CommandOf) (line : DebugLine) (s t u : Session) (steps : ℕ) (energy : ℤ) (ended : Bool) (report : DebugReport)
-        → AnswersLine commands line s t (Made steps energy ended) → AnswersLine commands Back t u report → length s.past < most_past
-        → u.past ≡ s.past }
-    ensures most { (commands : List CommandOf) (line : DebugLine) (s t u : Session) (steps : ℕ) (energy : ℤ) (ended : Bool) (report : DebugReport)
-        → AnswersLine commands line s t (Made steps energy ended) → AnswersLine commands Back t u report → u.past ≡ latest 4095 s.past }
-    ensures begun { (commands : List CommandOf) (line : DebugLine) (s t u : Session) (steps : ℕ) (energy : ℤ) (ended : Bool) (report : DebugReport)
-        → AnswersLine commands line s t (Made steps energy ended) → AnswersLine commands Back t u report → u.begun ≡ [] }
-    ensures report { (commands : List CommandOf) (line : DebugLine) (s t u : Session) (steps : ℕ) (energy : ℤ) (ended : Bool) (report : DebugReport)
-        → AnswersLine commands line s t (Made steps energy ended) → AnswersLine commands Back t u report → report ≡ is_returned s.point }
+    ensures point { (commands : List CommandOf) (line : DebugLine) (s t u : Session) (steps : ℕ) (energy : ℤ)
+        (ended : Bool) (report : DebugReport)
+        → AnswersLine commands line s t (Made steps energy ended) → AnswersLine commands Back t u report
+        → u.point ≡ s.point }
+    ensures past { (commands : List CommandOf) (line : DebugLine) (s t u : Session) (steps : ℕ) (energy : ℤ)
+        (ended : Bool) (report : DebugReport)
+        → AnswersLine commands line s t (Made steps energy ended) → AnswersLine commands Back t u report
+        → length s.past < most_past → u.past ≡ s.past }
+    ensures most { (commands : List CommandOf) (line : DebugLine) (s t u : Session) (steps : ℕ) (energy : ℤ)
+        (ended : Bool) (report : DebugReport)
+        → AnswersLine commands line s t (Made steps energy ended) → AnswersLine commands Back t u report
+        → u.past ≡ latest 4095 s.past }
+    ensures begun { (commands : List CommandOf) (line : DebugLine) (s t u : Session) (steps : ℕ) (energy : ℤ)
+        (ended : Bool) (report : DebugReport)
+        → AnswersLine commands line s t (Made steps energy ended) → AnswersLine commands Back t u report
+        → u.begun ≡ [] }
+    ensures report { (commands : List CommandOf) (line : DebugLine) (s t u : Session) (steps : ℕ) (energy : ℤ)
+        (ended : Bool) (report : DebugReport)
+        → AnswersLine commands line s t (Made steps energy ended) → AnswersLine commands Back t u report
+        → report ≡ is_returned s.point }
 {}
 
 /// Lines that begin the groups of all leaders of a step, in whatever order, make that step: the session is then as after the line of the step.
@@ -32,8 +41,9 @@ pub fn every_order_makes_the_step()
     ensures step { (commands : List CommandOf) (order : List ℕ) (s t : Session) → IsReady s.point.state → s.begun ≡ []
         → IsPermutation (next_leaders commands s.point) order → BeginEach commands order s t
         → (report : DebugReport) × AnswersLine commands Step s t report }
-    ensures orders { (commands : List CommandOf) (first second : List ℕ) (s t u : Session) → IsReady s.point.state → s.begun ≡ []
-        → IsPermutation (next_leaders commands s.point) first → IsPermutation (next_leaders commands s.point) second → BeginEach commands first s t
+    ensures orders { (commands : List CommandOf) (first second : List ℕ) (s t u : Session) → IsReady s.point.state
+        → s.begun ≡ [] → IsPermutation (next_leaders commands s.point) first
+        → IsPermutation (next_leaders commands s.point) second → BeginEach commands first s t
         → BeginEach commands second s u → t ≡ u }
 {}
 

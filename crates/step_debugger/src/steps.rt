@@ -110,9 +110,11 @@ pub(crate) fn take_back<L: Ledger>(
     requires stands { machine.old.spent ≡ false }
     requires may { MayUndo machine.old.state undo }
     ensures count { IfOk result (λ n. n ≡ length undo.crew) }
-    ensures value { IfOk result (λ _. machine.new ≡ record { state = state_before machine.old.state undo; steps = undo.steps; spent = false }) }
+    ensures value { IfOk result
+        (λ _. machine.new ≡ record { state = state_before machine.old.state undo; steps = undo.steps; spent = false }) }
     ensures memory { IfErr result (λ _. machine.new ≡ record machine.old { spent = true }) }
-    ensures touches { IfOk result (λ _. IsUndoneBy machine.old.state.matrix undo.filled.items undo.voided.items steps.old steps.new) }
+    ensures touches { IfOk result
+        (λ _. IsUndoneBy machine.old.state.matrix undo.filled.items undo.voided.items steps.old steps.new) }
 {
     machine.undo(&undo, steps)?;
     Ok(undo.crew.count())

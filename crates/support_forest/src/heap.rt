@@ -35,7 +35,8 @@ fn stack<L: Ledger>(
 ) -> bool
     requires can { CanStack cells.old c }
     requires slots { AreBrickSlots cells.old c own below }
-    ensures { MatchBool result (HaveStacked cells.old cells.new c steps.old steps.new) (cells.new ≡ cells.old × steps.new ≤ steps.old + 7) }
+    ensures { MatchBool result (HaveStacked cells.old cells.new c steps.old steps.new)
+        (cells.new ≡ cells.old × steps.new ≤ steps.old + 7) }
 {
     cells.recall();
     if c.y == 0 {
@@ -159,7 +160,8 @@ fn pile_row<L: Ledger>(
     requires full { (k : ℕ) → k < 8 → IsTrue (voxel_at planes.now (place_of planes.now.resolution first + k)) }
     requires stands { RowStands (word_at cells.old) first 8 }
     requires heap { IsSomeHeap planes.now cells.old (place_of planes.now.resolution first) }
-    ensures heaped { (rest : List Coordinate) → IsHeaped planes.now cells.old (place_of planes.now.resolution first) rest
+    ensures heaped { (rest : List Coordinate)
+        → IsHeaped planes.now cells.old (place_of planes.now.resolution first) rest
         → IsHeaped planes.now cells.new (place_of planes.now.resolution first + 8) rest }
     ensures touches { steps.new ≤ steps.old + 8 }
 {
@@ -185,7 +187,8 @@ fn stack_each<L: Ledger>(
     requires bits { AreBits planes.now (place_of planes.now.resolution first) count bits }
     requires slots { AreBrickSlots cells.old first own below }
     requires heaped { IsHeaped planes.now cells.old (place_of planes.now.resolution first) rest.old.items }
-    ensures heaped { IfOk result (λ _. IsHeaped planes.now cells.new (place_of planes.now.resolution first + count) rest.new.items) }
+    ensures heaped { IfOk result
+        (λ _. IsHeaped planes.now cells.new (place_of planes.now.resolution first + count) rest.new.items) }
     ensures touches { IfOk result (λ _. steps.new ≤ steps.old + 7 * count) }
 {
     for k in 0..count {
@@ -220,7 +223,8 @@ fn stack_part<L: Ledger>(
     requires row { first.z + count ≤ planes.now.resolution }
     requires bits { AreBits planes.now (place_of planes.now.resolution first) count bits }
     requires heaped { IsHeaped planes.now cells.old (place_of planes.now.resolution first) rest.old.items }
-    ensures heaped { IfOk result (λ _. IsHeaped planes.now cells.new (place_of planes.now.resolution first + count) rest.new.items) }
+    ensures heaped { IfOk result
+        (λ _. IsHeaped planes.now cells.new (place_of planes.now.resolution first + count) rest.new.items) }
     ensures touches { IfOk result (λ _. steps.new ≤ steps.old + 8 * count) }
 {
     planes.know();
@@ -249,7 +253,8 @@ fn stack_some<L: Ledger>(
     requires within { IsInSpace planes.now.resolution first }
     requires row { first.z + count ≤ planes.now.resolution }
     requires heaped { IsHeaped planes.now cells.old (place_of planes.now.resolution first) rest.old.items }
-    ensures heaped { IfOk result (λ _. IsHeaped planes.now cells.new (place_of planes.now.resolution first + count) rest.new.items) }
+    ensures heaped { IfOk result
+        (λ _. IsHeaped planes.now cells.new (place_of planes.now.resolution first + count) rest.new.items) }
     ensures touches { IfOk result (λ _. steps.new ≤ steps.old + 9 * count) }
 {
     let from = place(first, planes.resolution());
@@ -283,8 +288,11 @@ fn stack_row<L: Ledger>(
 ) -> Result<(), AllocError>
     requires x { x < planes.now.resolution }
     requires y { y < planes.now.resolution }
-    requires heaped { IsHeaped planes.now cells.old ((x * planes.now.resolution + y) * planes.now.resolution) rest.old.items }
-    ensures heaped { IfOk result (λ _. IsHeaped planes.now cells.new ((x * planes.now.resolution + y + 1) * planes.now.resolution) rest.new.items) }
+    requires heaped { IsHeaped planes.now cells.old ((x * planes.now.resolution + y) * planes.now.resolution)
+        rest.old.items }
+    ensures heaped { IfOk result
+        (λ _. IsHeaped planes.now cells.new ((x * planes.now.resolution + y + 1) * planes.now.resolution)
+        rest.new.items) }
     ensures touches { IfOk result (λ _. steps.new ≤ steps.old + 9 * planes.now.resolution) }
 {
     let r = planes.resolution();

@@ -6,6 +6,8 @@ ghost use Rattle.support_forest.specs.Edits.{Edit, AreEdited, is_left};
 
 /// After any list of `add` and `remove` a voxel is full or void as the last that names it says, or as it was before all.
 pub fn edits_leave()
-    ensures full { (edits : List Edit) (old new : Matrix) (c : Coord) → AreEdited old edits new → is_full new c ≡ is_left edits c (is_full old c) }
-    ensures resolution { (edits : List Edit) (old new : Matrix) → AreEdited old edits new → new.resolution ≡ old.resolution }
+    ensures full { (edits : List Edit) (old new : Matrix) (c : Coord) → AreEdited old edits new
+        → is_full new c ≡ is_left edits c (is_full old c) }
+    ensures resolution { (edits : List Edit) (old new : Matrix) → AreEdited old edits new
+        → new.resolution ≡ old.resolution }
 {}

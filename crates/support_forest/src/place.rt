@@ -23,7 +23,8 @@ pub struct Around {
 
 /// What is known with one more neighbour, of this word.
 fn with_neighbor(around: Around, d: u8, word: u32) -> Around
-    ensures { (w : Coord → ℕ) (c : Coord) → IsWordToward w c d word → IsAround w c around d → IsAround w c result (d + 1) }
+    ensures { (w : Coord → ℕ) (c : Coord) → IsWordToward w c d word → IsAround w c around d
+        → IsAround w c result (d + 1) }
 {
     if word == 0 {
         return around;
@@ -113,7 +114,8 @@ fn place_beside<L: Ledger>(
 ) -> Result<bool, AllocError>
     requires can { CanPlace cells.old c }
     requires words { AreBesideWords (word_at cells.old) c beside }
-    ensures { IfOk result (λ done. (before : ℕ) → steps.old ≤ before + 6 → PlacesOrStays done cells.old cells.new c before steps.new) }
+    ensures { IfOk result
+        (λ done. (before : ℕ) → steps.old ≤ before + 6 → PlacesOrStays done cells.old cells.new c before steps.new) }
 {
     cells.recall();
     let around = look_around(c, beside);

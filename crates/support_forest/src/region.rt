@@ -59,7 +59,8 @@ fn list_part<L: Ledger>(
 ) -> Result<(), AllocError>
     requires row { IsBrickRow cells.now own first count }
     requires exact { AreExact cells.now.resolution (word_at cells.now) }
-    ensures listed { IfOk result (λ _. AreVoided cells.now cells.now (IsInRow first count) count rest.old.items rest.new.items) }
+    ensures listed { IfOk result
+        (λ _. AreVoided cells.now cells.now (IsInRow first count) count rest.old.items rest.new.items) }
     ensures touches { IfOk result (λ _. steps.new ≤ steps.old + count) }
 {
     let mut left = count;
@@ -89,7 +90,8 @@ fn take_part<L: Ledger>(
     requires some { 0 < count }
     requires row { LieInRow cells.old first count }
     requires exact { AreExact cells.old.resolution (word_at cells.old) }
-    ensures voided { IfOk result (λ _. AreVoided cells.old cells.new (IsInRow first count) count rest.old.items rest.new.items) }
+    ensures voided { IfOk result
+        (λ _. AreVoided cells.old cells.new (IsInRow first count) count rest.old.items rest.new.items) }
     ensures touches { IfOk result (λ _. steps.new ≤ steps.old + 40 * count) }
 {
     let Some(own) = cells.slot(first) else {
@@ -117,7 +119,9 @@ fn take_row<L: Ledger>(
     requires order { first.z ≤ end }
     requires end { end ≤ cells.old.resolution }
     requires exact { AreExact cells.old.resolution (word_at cells.old) }
-    ensures voided { IfOk result (λ _. AreVoided cells.old cells.new (IsInRow first (end - first.z)) (end - first.z) rest.old.items rest.new.items) }
+    ensures voided { IfOk result
+        (λ _. AreVoided cells.old cells.new (IsInRow first (end - first.z)) (end - first.z) rest.old.items
+        rest.new.items) }
     ensures touches { IfOk result (λ _. steps.new ≤ steps.old + 40 * (end - first.z)) }
 {
     let mut left = end;
@@ -140,7 +144,9 @@ fn take_wall<L: Ledger>(
     requires within { IsInSpace cells.old.resolution b.now.high }
     requires high { x ≤ b.now.high.x }
     requires exact { AreExact cells.old.resolution (word_at cells.old) }
-    ensures voided { IfOk result (λ _. AreVoided cells.old cells.new (IsInWall b.now x b.now.low.y) (wall_size b.now) rest.old.items rest.new.items) }
+    ensures voided { IfOk result
+        (λ _. AreVoided cells.old cells.new (IsInWall b.now x b.now.low.y) (wall_size b.now) rest.old.items
+        rest.new.items) }
     ensures touches { IfOk result (λ _. steps.new ≤ steps.old + 40 * wall_size b.now) }
 {
     cells.recall();
@@ -163,7 +169,8 @@ pub fn take_region<L: Ledger>(
 ) -> Result<(), AllocError>
     requires within { IsInSpace cells.old.resolution b.now.high }
     requires exact { AreExact cells.old.resolution (word_at cells.old) }
-    ensures voided { IfOk result (λ _. AreVoided cells.old cells.new (IsInRegion b.now) (size (span b.now)) rest.old.items rest.new.items) }
+    ensures voided { IfOk result
+        (λ _. AreVoided cells.old cells.new (IsInRegion b.now) (size (span b.now)) rest.old.items rest.new.items) }
     ensures touches { IfOk result (λ _. steps.new ≤ steps.old + 40 * size (span b.now)) }
 {
     cells.recall();

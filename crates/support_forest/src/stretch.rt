@@ -25,7 +25,8 @@ fn stretch_before(gone: &[Coord], end: usize) -> u16
     requires within { end ≤ length gone.now }
     ensures some { 0 < result }
     ensures below { result ≤ end }
-    ensures stretch { (c : Coord) → c ≡ slice_index_or gone.now (end - result) c → IsStretch gone.now (end - result) result c }
+    ensures stretch { (c : Coord) → c ≡ slice_index_or gone.now (end - result) c
+        → IsStretch gone.now (end - result) result c }
 {
     let last = gone[end - 1];
     let most = last.z % BRICK_SIDE + 1;
@@ -381,7 +382,8 @@ fn list_voxels(
     requires order { start ≤ end }
     requires within { end ≤ length gone.now }
     ensures { (now : Grid) (steps : ℕ)
-        → IfOk result (λ _. TakesMore now now gone.now end start rest.old.items rest.new.items steps (steps + 6 * (end - start))) }
+        → IfOk result
+        (λ _. TakesMore now now gone.now end start rest.old.items rest.new.items steps (steps + 6 * (end - start))) }
 {
     let mut left = end;
     while left > start {
@@ -405,7 +407,8 @@ pub fn take_stretch<L: Ledger>(
     requires exact { AreExact cells.old.resolution (word_at cells.old) }
     requires full { (k : ℕ) (c : Coord) → k < end → c ≡ slice_index_or gone.now k c → 0 < word_at cells.old c }
     ensures before { IfOk result (λ start. start < end) }
-    ensures taken { IfOk result (λ start. TakesMore cells.old cells.new gone.now end start rest.old.items rest.new.items steps.old steps.new) }
+    ensures taken { IfOk result
+        (λ start. TakesMore cells.old cells.new gone.now end start rest.old.items rest.new.items steps.old steps.new) }
 {
     let count = stretch_before(gone, end);
     let start = end - usize::from(count);

@@ -19,7 +19,8 @@ fn send_last(alloc: Global, tape: &mut Tape, to: u16) -> Result<(), Memory>
     requires free { free_column 1 (places tape.old.bots) ≤ to }
     requires within { to < tape.old.matrix.resolution }
     requires limit { tape.old.steps + gap (last_column (places tape.old.bots)) to ≤ 1073741824 }
-    ensures goes { OnOk result (CrewGoes tape.old tape.new (sent (places tape.old.bots) to) (gap (last_column (places tape.old.bots)) to)) }
+    ensures goes { OnOk result
+        (CrewGoes tape.old tape.new (sent (places tape.old.bots) to) (gap (last_column (places tape.old.bots)) to)) }
     ensures line { OnOk result (InLine tape.new) }
 {
     let mut at = last_place(tape);
@@ -69,8 +70,11 @@ fn free_place(tape: &Tape) -> u16
 fn gather_one(alloc: Global, tape: &mut Tape) -> Result<(), Memory>
     requires line { InLine tape.old }
     requires two { 2 ≤ length tape.old.bots }
-    requires limit { tape.old.steps + gap (last_column (places tape.old.bots)) (free_column 1 (places tape.old.bots)) < 1073741824 }
-    ensures { OnOk result (Gathers tape.old tape.new (gap (last_column (places tape.old.bots)) (free_column 1 (places tape.old.bots)) + 1)) }
+    requires limit { tape.old.steps + gap (last_column (places tape.old.bots)) (free_column 1 (places tape.old.bots))
+        < 1073741824 }
+    ensures { OnOk result
+        (Gathers tape.old tape.new
+        (gap (last_column (places tape.old.bots)) (free_column 1 (places tape.old.bots)) + 1)) }
 {
     let to = free_place(tape);
     send_last(alloc, tape, to)?;

@@ -32,7 +32,9 @@ fn go_along(alloc: Global, tape: &mut Tape, axis: Axis, to: u16) -> Result<(), M
     requires leads { MayLead tape.old.matrix.resolution (put axis (spot tape.old.bots) to) }
     requires up { (spot tape.old.bots).y ≤ (put axis (spot tape.old.bots) to).y }
     requires limit { tape.old.steps + gap (component_of axis (spot tape.old.bots)) to ≤ 1073741824 }
-    ensures { OnOk result (RowGoes tape.old tape.new (put axis (spot tape.old.bots) to) (gap (component_of axis (spot tape.old.bots)) to)) }
+    ensures { OnOk result
+        (RowGoes tape.old tape.new (put axis (spot tape.old.bots) to)
+        (gap (component_of axis (spot tape.old.bots)) to)) }
 {
     let from = first_place(tape);
     let mut at = component(axis, from);
@@ -94,7 +96,9 @@ fn paint_cell(
     requires wide { x ≤ width tape.old.matrix.resolution }
     requires z { z < tape.old.matrix.resolution }
     requires limit { crew_steps_to tape.old (coord x (y + 1) z) < 1073741824 }
-    ensures { OnOk result (Builds tape.old tape.new goal.now (cell tape.old.matrix.resolution x y z) (coord x (y + 1) z) (coord x (y + 1) z) 1) }
+    ensures { OnOk result
+        (Builds tape.old tape.new goal.now (cell tape.old.matrix.resolution x y z) (coord x (y + 1) z)
+        (coord x (y + 1) z) 1) }
 {
     let to = Coord { x, y: y + 1, z };
     if !has_work(tape, goal, to) {
@@ -111,8 +115,8 @@ fn paint_line(alloc: Global, tape: &mut Tape, goal: &Planes, x: u16, y: u16) -> 
     requires wide { x ≤ width tape.old.matrix.resolution }
     requires limit { crew_steps_to tape.old (coord x (y + 1) 0) + 2 * tape.old.matrix.resolution < 1073741824 }
     ensures { OnOk result
-        (Builds tape.old tape.new goal.now (line tape.old.matrix.resolution x y) (coord x (y + 1) 0) (coord x (y + 1) tape.old.matrix.resolution)
-        (2 * tape.old.matrix.resolution)) }
+        (Builds tape.old tape.new goal.now (line tape.old.matrix.resolution x y) (coord x (y + 1) 0)
+        (coord x (y + 1) tape.old.matrix.resolution) (2 * tape.old.matrix.resolution)) }
 {
     for z in 0..goal.resolution() {
         paint_cell(alloc, tape, goal, x, y, z)?;
@@ -123,10 +127,14 @@ fn paint_line(alloc: Global, tape: &mut Tape, goal: &Planes, x: u16, y: u16) -> 
 /// Builds the layer of y.
 fn paint_layer(alloc: Global, tape: &mut Tape, goal: &Planes, y: u16) -> Result<(), Memory>
     requires ready { CanFillLayer tape.old goal.now y }
-    requires limit { crew_steps_to tape.old (coord 1 (y + 1) 0) + width tape.old.matrix.resolution * line_steps tape.old.matrix.resolution < 1073741824 }
+    requires limit { crew_steps_to tape.old (coord 1 (y + 1) 0)
+        + width tape.old.matrix.resolution * line_steps tape.old.matrix.resolution
+        < 1073741824 }
     ensures { OnOk result
-        (Builds tape.old tape.new goal.now (in_first_lines tape.old.matrix.resolution (width tape.old.matrix.resolution) y) (coord 1 (y + 1) 0)
-        (coord (width tape.old.matrix.resolution + 1) (y + 1) 0) (width tape.old.matrix.resolution * line_steps tape.old.matrix.resolution)) }
+        (Builds tape.old tape.new goal.now
+        (in_first_lines tape.old.matrix.resolution (width tape.old.matrix.resolution) y) (coord 1 (y + 1) 0)
+        (coord (width tape.old.matrix.resolution + 1) (y + 1) 0)
+        (width tape.old.matrix.resolution * line_steps tape.old.matrix.resolution)) }
 {
     for x in 0..strip_width(goal.resolution()) {
         paint_line(alloc, tape, goal, x + 1, y)?;
@@ -139,10 +147,13 @@ pub fn build(alloc: Global, tape: &mut Tape, goal: &Planes) -> Result<(), Memory
     requires ready { CanBuild tape.old goal.now }
     requires void { IsVoidFrom tape.old.matrix 0 }
     requires low { (spot tape.old.bots).y ≤ 1 }
-    requires limit { crew_steps_to tape.old (coord 1 1 0) + (tape.old.matrix.resolution - 1) * swarm_layer_steps tape.old.matrix.resolution < 1073741824 }
+    requires limit { crew_steps_to tape.old (coord 1 1 0)
+        + (tape.old.matrix.resolution - 1) * swarm_layer_steps tape.old.matrix.resolution
+        < 1073741824 }
     ensures { OnOk result
-        (Builds tape.old tape.new goal.now (layers tape.old.matrix.resolution (tape.old.matrix.resolution - 1)) (coord 1 1 0)
-        (coord 1 tape.old.matrix.resolution 0) ((tape.old.matrix.resolution - 1) * swarm_layer_steps tape.old.matrix.resolution)) }
+        (Builds tape.old tape.new goal.now (layers tape.old.matrix.resolution (tape.old.matrix.resolution - 1))
+        (coord 1 1 0) (coord 1 tape.old.matrix.resolution 0)
+        ((tape.old.matrix.resolution - 1) * swarm_layer_steps tape.old.matrix.resolution)) }
 {
     for y in 0..goal.resolution() - 1 {
         paint_layer(alloc, tape, goal, y)?;

@@ -50,10 +50,12 @@ fn closed(mut tape: Tape, target: &Planes) -> Result<Plan, Memory>
     requires erected { IsErected tape target.now }
     requires target { IsLegal target.now }
     requires whole { IsWhole tape.source }
-    ensures accepted { IfOk result (λ plan. IsAccepted tape.source target.now plan.commands light_profile plan.energy plan.steps) }
+    ensures accepted { IfOk result
+        (λ plan. IsAccepted tape.source target.now plan.commands light_profile plan.energy plan.steps) }
     ensures few { IfOk result (λ plan. HasAtMost tape.source light_profile plan.commands 20) }
     ensures steps { IfOk result
-        (λ plan. plan.steps ≤ 4 * width target.now.resolution * target.now.resolution * target.now.resolution + 8 * target.now.resolution + 2000) }
+        (λ plan. plan.steps ≤ 4 * width target.now.resolution * target.now.resolution * target.now.resolution + 8 *
+        target.now.resolution + 2000) }
 {
     seeds_bound_the_bots();
     target.know();
@@ -70,10 +72,12 @@ fn planned(alloc: Global, nothing: Planes, target: &Planes) -> Result<Plan, Memo
     requires same { nothing.resolution ≡ target.now.resolution }
     requires void { IsVoidFrom nothing 0 }
     requires differ { nothing ≢ target.now }
-    ensures accepted { IfOk result (λ plan. IsAccepted nothing target.now plan.commands light_profile plan.energy plan.steps) }
+    ensures accepted { IfOk result
+        (λ plan. IsAccepted nothing target.now plan.commands light_profile plan.energy plan.steps) }
     ensures few { IfOk result (λ plan. HasAtMost nothing light_profile plan.commands 20) }
     ensures steps { IfOk result
-        (λ plan. plan.steps ≤ 4 * width target.now.resolution * target.now.resolution * target.now.resolution + 8 * target.now.resolution + 2000) }
+        (λ plan. plan.steps ≤ 4 * width target.now.resolution * target.now.resolution * target.now.resolution + 8 *
+        target.now.resolution + 2000) }
 {
     nothing.know();
     target.know();
@@ -87,12 +91,17 @@ fn planned(alloc: Global, nothing: Planes, target: &Planes) -> Result<Plan, Memo
 /// bots at a time; where the target is empty, its commands are a Halt alone.
 pub fn plan_swarm(alloc: Global, target: &Planes) -> Result<Plan, Memory>
     requires { IsLegal target.now }
-    ensures light { IfOk result (λ plan. IsAccepted (empty target.now.resolution) target.now plan.commands light_profile plan.energy plan.steps) }
-    ensures full { IfOk result (λ plan. IsAccepted (empty target.now.resolution) target.now plan.commands full_profile plan.energy plan.steps) }
+    ensures light { IfOk result
+        (λ plan. IsAccepted (empty target.now.resolution) target.now plan.commands light_profile plan.energy
+        plan.steps) }
+    ensures full { IfOk result
+        (λ plan. IsAccepted (empty target.now.resolution) target.now plan.commands full_profile plan.energy plan.steps) }
     ensures steps { IfOk result
-        (λ plan. plan.steps ≤ 4 * width target.now.resolution * target.now.resolution * target.now.resolution + 8 * target.now.resolution + 2000) }
+        (λ plan. plan.steps ≤ 4 * width target.now.resolution * target.now.resolution * target.now.resolution + 8 *
+        target.now.resolution + 2000) }
     ensures few { IfOk result (λ plan. HasAtMost (empty target.now.resolution) light_profile plan.commands 20) }
-    ensures halt_alone { target.now ≡ empty target.now.resolution → IfOk result (λ plan. plan.commands ≡ Command.Halt ∷ []) }
+    ensures halt_alone { target.now ≡ empty target.now.resolution
+        → IfOk result (λ plan. plan.commands ≡ Command.Halt ∷ []) }
 {
     full_accepts_what_light_accepts();
     let nothing = Planes::empty(alloc, target.resolution())?;

@@ -115,7 +115,8 @@ fn along_z(component: i16) -> Diff
 /// The far difference whose components and 30 are the three numbers.
 #[inline(always)]
 pub(crate) fn far_at(x: u8, y: u8, z: u8) -> Option<Far>
-    ensures { MatchOption result ((d : Diff) → IsFar d → far_bytes d ≢ x ∷ y ∷ z ∷ []) (λ d. IsFar d × (far_bytes d ≡ x ∷ y ∷ z ∷ [])) }
+    ensures { MatchOption result ((d : Diff) → IsFar d → far_bytes d ≢ x ∷ y ∷ z ∷ [])
+        (λ d. IsFar d × (far_bytes d ≡ x ∷ y ∷ z ∷ [])) }
 {
     Far::of(lowered(x, y, z))
 }

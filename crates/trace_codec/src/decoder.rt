@@ -63,7 +63,8 @@ impl Decoder {
         ensures only { (other : Fed) → AnswersPiece self.old piece.now other → other ≡ result }
         ensures after { self.new ≡ decoder_after self.old piece.now result }
         ensures held { length self.new.held ≤ 3 }
-        ensures taken { self.new.offset + length self.new.held ≡ self.old.offset + length self.old.held + bytes_taken piece.now result }
+        ensures taken { self.new.offset + length self.new.held
+            ≡ self.old.offset + length self.old.held + bytes_taken piece.now result }
     {
         if self.failed {
             return Fed::Bad {
@@ -90,7 +91,8 @@ impl Decoder {
         requires few { self.old.offset + length self.old.held + length piece.now < 2 ^ 63 }
         ensures answer { AnswersPiece self.old piece.now result }
         ensures after { self.new ≡ decoder_after self.old piece.now result }
-        ensures taken { self.new.offset + length self.new.held ≡ self.old.offset + length self.old.held + bytes_taken piece.now result }
+        ensures taken { self.new.offset + length self.new.held
+            ≡ self.old.offset + length self.old.held + bytes_taken piece.now result }
     {
         match decode_by(head, piece) {
             One::Got { command, len } => {
@@ -130,7 +132,8 @@ impl Decoder {
         ensures answer { AnswersPiece self.old piece.now result }
         ensures after { self.new ≡ decoder_after self.old piece.now result }
         ensures held { length self.new.held ≤ 3 }
-        ensures taken { self.new.offset + length self.new.held ≡ self.old.offset + length self.old.held + bytes_taken piece.now result }
+        ensures taken { self.new.offset + length self.new.held
+            ≡ self.old.offset + length self.old.held + bytes_taken piece.now result }
     {
         match front {
             One::Got { command, len } => {

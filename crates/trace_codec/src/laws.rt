@@ -15,9 +15,11 @@ ghost use Rattle.trace_codec.specs.Whole.{Decodes};
 /// ends.
 pub fn pieces_decode()
     ensures start { HasTaken [] [] fresh }
-    ensures got { (bytes piece : List ℕ) (commands : List Command) (decoder : DecoderState) (command : Command) (used : ℕ) →
-        HasTaken bytes commands decoder → AnswersPiece decoder piece (fed.Got command used) →
-        HasTaken (bytes ++ take used piece) (commands ++ command ∷ []) (decoder_after decoder piece (fed.Got command used)) }
+    ensures got { (bytes piece : List ℕ) (commands : List Command) (decoder : DecoderState) (command : Command)
+        (used : ℕ)
+        → HasTaken bytes commands decoder → AnswersPiece decoder piece (fed.Got command used)
+        → HasTaken (bytes ++ take used piece) (commands ++ command ∷ [])
+        (decoder_after decoder piece (fed.Got command used)) }
     ensures all { (bytes piece : List ℕ) (commands : List Command) (decoder : DecoderState) →
         HasTaken bytes commands decoder → AnswersPiece decoder piece fed.All →
         HasTaken (bytes ++ piece) commands (decoder_after decoder piece fed.All) }
@@ -32,8 +34,9 @@ pub fn pieces_decode()
     // Where no more bytes come.
     ensures whole { (bytes : List ℕ) (commands : List Command) (decoder : DecoderState) →
         HasTaken bytes commands decoder → EndsTrace {A = Unit {0}} decoder (Ok tt) → Decodes bytes (Ok commands) }
-    ensures cut { (bytes : List ℕ) (commands : List Command) (decoder : DecoderState) (refusal : TraceRefusal) →
-        HasTaken bytes commands decoder → EndsTrace {A = Unit {0}} decoder (Err refusal) → Decodes bytes (Err (fault.Refused refusal)) }
+    ensures cut { (bytes : List ℕ) (commands : List Command) (decoder : DecoderState) (refusal : TraceRefusal)
+        → HasTaken bytes commands decoder → EndsTrace {A = Unit {0}} decoder (Err refusal)
+        → Decodes bytes (Err (fault.Refused refusal)) }
 {}
 
 /// Commands that are encoded are decoded as the same commands, and a trace that is decoded is encoded as the same bytes.

@@ -13,16 +13,22 @@ ghost use Rattle.trace_judge.specs.Payment.{IsPaid, Touches};
 pub fn every_run_has_work()
     ensures levels { (m : Matrix) → (levels : List (Option ℕ)) × Levels m levels }
     ensures step { (s : State) (commands : List CommandOf) (step : ℕ) → (n : ℕ) × WorkOfStep s commands step n }
-    ensures run { (source : Matrix) (commands : List CommandOf) (profile : Profile) → (n : ℕ) × Work source commands profile n }
+    ensures run { (source : Matrix) (commands : List CommandOf) (profile : Profile)
+        → (n : ℕ) × Work source commands profile n }
 {}
 
 /// The work of a run pays for its touches, command by command: from its opening on, after each more command, and so in
 /// all, but for one search of the matrix.
 pub fn the_work_pays()
-    ensures first { (source : Matrix) (profile : Profile) (p : Progress) (start : ℕ) → p ≡ begun source profile → IsPaid source profile [] p start start }
-    ensures push { (source : Matrix) (profile : Profile) (commands : List CommandOf) (p q : Progress) (command : CommandOf) (start before after : ℕ)
+    ensures first { (source : Matrix) (profile : Profile) (p : Progress) (start : ℕ) → p ≡ begun source profile
+        → IsPaid source profile [] p start start }
+    ensures push { (source : Matrix) (profile : Profile) (commands : List CommandOf) (p q : Progress)
+        (command : CommandOf) (start before after : ℕ)
         → p.state.matrix.resolution ≡ source.resolution → Pushes p command q → Touches p q command before after
-        → IsPaid source profile commands p start before → IsPaid source profile (commands ++ command ∷ []) q start after }
-    ensures all { (source : Matrix) (profile : Profile) (commands rest : List CommandOf) (p : Progress) (start now n : ℕ)
-        → IsPaid source profile commands p start now → Work source (commands ++ rest) profile n → now ≤ start + 100 * n + volume source.resolution }
+        → IsPaid source profile commands p start before
+        → IsPaid source profile (commands ++ command ∷ []) q start after }
+    ensures all { (source : Matrix) (profile : Profile) (commands rest : List CommandOf) (p : Progress)
+        (start now n : ℕ)
+        → IsPaid source profile commands p start now → Work source (commands ++ rest) profile n
+        → now ≤ start + 100 * n + volume source.resolution }
 {}

@@ -103,7 +103,8 @@ impl Runner {
         ensures lacks { IfOk result (λ _. LacksCommands self.new.progress) }
         ensures untouched { MakesNoStep self.old.progress → steps.new ≡ steps.old }
         ensures touches { IfOk result
-            (λ _. IsWithinWork self.old.progress.state (self.old.progress.pending ++ command ∷ []) (self.old.progress.steps + 1)
+            (λ _. IsWithinWork self.old.progress.state (self.old.progress.pending ++ command ∷ [])
+            (self.old.progress.steps + 1)
             (steps.old + searched_by self.new.progress.mark self.old.progress.state.matrix) steps.new) }
     {
         match self.mark {

@@ -34,9 +34,11 @@ pub(crate) fn take<L: Ledger>(
     ensures full { result ≢ Taken.Waits → length pending.old + 1 ≡ length machine.old.state.bots }
     ensures stepped { IfSome (answer_to result machine.new.state fault.new)
         (λ answer. Stepped machine.old machine.new (pending.old ++ command ∷ []) answer steps.old steps.new) }
-    ensures cleared { IfSome (answer_to result machine.new.state fault.new) (λ answer. IfOk answer (λ _. pending.new ≡ [])) }
+    ensures cleared { IfSome (answer_to result machine.new.state fault.new)
+        (λ answer. IfOk answer (λ _. pending.new ≡ [])) }
     ensures kept { result ≡ Taken.Refused → pending.new ≡ pending.old ++ command ∷ [] }
-    ensures memory { result ≡ Taken.Refused → fault.new ≡ StepFault.Memory → 1 ≤ count_by is_edit (pending.old ++ command ∷ []) }
+    ensures memory { result ≡ Taken.Refused → fault.new ≡ StepFault.Memory
+        → 1 ≤ count_by is_edit (pending.old ++ command ∷ []) }
     ensures lacks { result ≡ Taken.Waits → length pending.old + 1 < length machine.old.state.bots }
     ensures joins { result ≡ Taken.Waits → pending.new ≡ pending.old ++ command ∷ [] }
     ensures stays { result ≡ Taken.Waits → machine.new ≡ machine.old }

@@ -95,7 +95,8 @@ impl<'a> Rest<'a> {
     #[tactic(auto, using(crate::proofs::Readings::without_blanks))]
     pub(crate) fn skip_blanks(&mut self)
         ensures bytes { self.new.bytes.now ≡ drop (prefix_len is_blank_byte self.old.bytes.now) self.old.bytes.now }
-        ensures readings { (parts : List Part) → IsTrue (is_sharp parts) → readings (Blanks ∷ parts) self.old.bytes.now ≡ readings parts self.new.bytes.now }
+        ensures readings { (parts : List Part) → IsTrue (is_sharp parts)
+            → readings (Blanks ∷ parts) self.old.bytes.now ≡ readings parts self.new.bytes.now }
     {
         let (_, more) = self.bytes.split_at(blanks(self.bytes));
         self.bytes = more;
@@ -113,9 +114,11 @@ impl<'a> Rest<'a> {
 
     /// Takes the mark, if it stands at the front.
     fn mark(&mut self, mark: u8) -> bool
-        ensures readings { (parts : List Part) → readings (Mark mark ∷ parts) self.old.bytes.now ≡ cond result (readings parts self.new.bytes.now) [] }
+        ensures readings { (parts : List Part)
+            → readings (Mark mark ∷ parts) self.old.bytes.now ≡ cond result (readings parts self.new.bytes.now) [] }
         ensures yes { IsTrue result → self.old.bytes.now ≡ mark ∷ self.new.bytes.now }
-        ensures no { IsFalse result → (self.new.bytes.now ≡ self.old.bytes.now) × (begins_with mark self.old.bytes.now ≡ false) }
+        ensures no { IsFalse result
+            → (self.new.bytes.now ≡ self.old.bytes.now) × (begins_with mark self.old.bytes.now ≡ false) }
     {
         let [first, more @ ..] = self.bytes else {
             return false;
@@ -158,7 +161,8 @@ impl<'a> Rest<'a> {
 
     /// Takes a number: a minus sign or none, and one to three digits, as many as stand there.
     pub(crate) fn number(&mut self) -> Option<i16>
-        ensures { (parts : List Part) → IsTrue (is_free parts) → readings (Number ∷ parts) self.old.bytes.now ≡ after_number result parts self.new.bytes.now }
+        ensures { (parts : List Part) → IsTrue (is_free parts)
+            → readings (Number ∷ parts) self.old.bytes.now ≡ after_number result parts self.new.bytes.now }
     {
         if self.mark(b'-') {
             let number = self.digits()?;
@@ -174,7 +178,8 @@ impl<'a> Rest<'a> {
         requires no_blank { IsFalse (is_blank_byte mark) }
         requires no_digit { IsFalse (is_digit mark) }
         ensures { (parts : List Part)
-            → readings (Blanks ∷ Number ∷ Blanks ∷ Mark mark ∷ parts) self.old.bytes.now ≡ after_number result parts self.new.bytes.now }
+            → readings (Blanks ∷ Number ∷ Blanks ∷ Mark mark ∷ parts) self.old.bytes.now
+            ≡ after_number result parts self.new.bytes.now }
     {
         self.skip_blanks();
         let number = self.number()?;
@@ -187,7 +192,9 @@ impl<'a> Rest<'a> {
 
     /// Takes blanks and a difference.
     pub(crate) fn difference(&mut self) -> Option<Diff>
-        ensures { (parts : List Part) → readings (difference_parts ++ parts) self.old.bytes.now ≡ after_difference result parts self.new.bytes.now }
+        ensures { (parts : List Part)
+            → readings (difference_parts ++ parts) self.old.bytes.now
+            ≡ after_difference result parts self.new.bytes.now }
     {
         self.skip_blanks();
         if !self.mark(b'<') {

@@ -134,7 +134,8 @@ pub fn closed(mut tape: Tape, most: u32) -> Result<Plan, Memory>
     requires gathered { IsGathered tape most }
     requires limit { most + 2 ≤ 1073741824 }
     ensures accepted { IfOk result
-        (λ plan. (target : MatrixValue) → IsVoidModel target → IsAccepted tape.source target plan.commands full_profile plan.energy plan.steps) }
+        (λ plan. (target : MatrixValue) → IsVoidModel target → IsAccepted tape.source target plan.commands
+        full_profile plan.energy plan.steps) }
     ensures steps { IfOk result (λ plan. plan.steps ≤ most + 2) }
     ensures fissions { IfOk result (λ plan. count_by is_fission plan.commands ≡ fissions tape) }
 {

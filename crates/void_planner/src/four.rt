@@ -37,10 +37,12 @@ fn shift(tape: &mut Tape, axis: Axis, at: u16, next: u16) -> Result<(), Memory>
     requires at { component_of axis (spot tape.old.bots) ≡ at }
     requires differ { at ≢ next }
     requires near { (next ≤ at + 15) × (at ≤ next + 15) }
-    requires stand { CanStand tape.old.matrix (far_of tape.old.matrix.resolution) (far_of tape.old.matrix.resolution) (put axis (spot tape.old.bots) next) }
+    requires stand { CanStand tape.old.matrix (far_of tape.old.matrix.resolution) (far_of tape.old.matrix.resolution)
+        (put axis (spot tape.old.bots) next) }
     requires limit { tape.old.steps < 1073741824 }
     ensures { OnOk result
-        (FourGo tape.old tape.new (far_of tape.old.matrix.resolution) (far_of tape.old.matrix.resolution) (put axis (spot tape.old.bots) next) 1) }
+        (FourGo tape.old tape.new (far_of tape.old.matrix.resolution) (far_of tape.old.matrix.resolution)
+        (put axis (spot tape.old.bots) next) 1) }
 {
     tape.know_whole();
     tape.move_all(&[
@@ -54,11 +56,12 @@ fn shift(tape: &mut Tape, axis: Axis, at: u16, next: u16) -> Result<(), Memory>
 /// All four go along an axis until the first bot is there.
 fn go_along(tape: &mut Tape, axis: Axis, to: u16) -> Result<(), Memory>
     requires square { IsRectangle tape.old (far_of tape.old.matrix.resolution) (far_of tape.old.matrix.resolution) }
-    requires stand { CanStand tape.old.matrix (far_of tape.old.matrix.resolution) (far_of tape.old.matrix.resolution) (put axis (spot tape.old.bots) to) }
+    requires stand { CanStand tape.old.matrix (far_of tape.old.matrix.resolution) (far_of tape.old.matrix.resolution)
+        (put axis (spot tape.old.bots) to) }
     requires limit { tape.old.steps + moves_of (component_of axis (spot tape.old.bots)) to ≤ 1073741824 }
     ensures { OnOk result
-        (FourGo tape.old tape.new (far_of tape.old.matrix.resolution) (far_of tape.old.matrix.resolution) (put axis (spot tape.old.bots) to)
-        (moves_of (component_of axis (spot tape.old.bots)) to)) }
+        (FourGo tape.old tape.new (far_of tape.old.matrix.resolution) (far_of tape.old.matrix.resolution)
+        (put axis (spot tape.old.bots) to) (moves_of (component_of axis (spot tape.old.bots)) to)) }
 {
     let mut at = component(axis, corner(tape));
     while at != to {
@@ -72,10 +75,12 @@ fn go_along(tape: &mut Tape, axis: Axis, to: u16) -> Result<(), Memory>
 /// All four go until the first bot is there.
 pub fn go(tape: &mut Tape, to: Coord) -> Result<(), Memory>
     requires square { IsRectangle tape.old (far_of tape.old.matrix.resolution) (far_of tape.old.matrix.resolution) }
-    requires stand { CanStand tape.old.matrix (far_of tape.old.matrix.resolution) (far_of tape.old.matrix.resolution) to }
+    requires stand { CanStand tape.old.matrix (far_of tape.old.matrix.resolution) (far_of tape.old.matrix.resolution)
+        to }
     requires limit { tape.old.steps + moves_to_of (spot tape.old.bots) to ≤ 1073741824 }
     ensures { OnOk result
-        (FourGo tape.old tape.new (far_of tape.old.matrix.resolution) (far_of tape.old.matrix.resolution) to (moves_to_of (spot tape.old.bots) to)) }
+        (FourGo tape.old tape.new (far_of tape.old.matrix.resolution) (far_of tape.old.matrix.resolution) to
+        (moves_to_of (spot tape.old.bots) to)) }
 {
     go_along(tape, Axis::X, to.x)?;
     go_along(tape, Axis::Y, to.y)?;
@@ -143,7 +148,8 @@ pub fn set_depth(tape: &mut Tape, from: u16, to: u16) -> Result<(), Memory>
     requires some { 1 ≤ to }
     requires within { (spot tape.old.bots).z + to < tape.old.matrix.resolution }
     requires limit { tape.old.steps + moves_of from to ≤ 1073741824 }
-    ensures { OnOk result (FourGo tape.old tape.new (far_of tape.old.matrix.resolution) to (spot tape.old.bots) (moves_of from to)) }
+    ensures { OnOk result
+        (FourGo tape.old tape.new (far_of tape.old.matrix.resolution) to (spot tape.old.bots) (moves_of from to)) }
 {
     let mut at = from;
     while at != to {
@@ -183,8 +189,10 @@ pub fn void_below(tape: &mut Tape, far: u16) -> Result<(), Memory>
     requires above { 1 ≤ (spot tape.old.bots).y }
     requires limit { tape.old.steps < 1073741824 }
     ensures { OnOk result
-        (FourVoid tape.old tape.new far (tile far (coord (spot tape.old.bots).x ((spot tape.old.bots).y - 1) (spot tape.old.bots).z))
-        (with_region tape.old.matrix (tile far (coord (spot tape.old.bots).x ((spot tape.old.bots).y - 1) (spot tape.old.bots).z)) false)) }
+        (FourVoid tape.old tape.new far
+        (tile far (coord (spot tape.old.bots).x ((spot tape.old.bots).y - 1) (spot tape.old.bots).z))
+        (with_region tape.old.matrix
+        (tile far (coord (spot tape.old.bots).x ((spot tape.old.bots).y - 1) (spot tape.old.bots).z)) false)) }
 {
     let far = far as i16;
     tape.paint_all(&[

@@ -54,7 +54,8 @@ fn with_four(alloc: Global, source: Planes) -> Result<Plan, Memory>
     requires legal { IsLegal source }
     requires some { 2 ≤ source.resolution }
     ensures accepted { IfOk result
-        (λ plan. (target : MatrixValue) → IsVoidModel target → IsAccepted source target plan.commands full_profile plan.energy plan.steps) }
+        (λ plan. (target : MatrixValue) → IsVoidModel target → IsAccepted source target plan.commands full_profile
+        plan.energy plan.steps) }
     ensures steps { IfOk result (λ plan. plan.steps ≤ most_void_steps source.resolution) }
     ensures few { IfOk result (λ plan. HasAtMost source full_profile plan.commands 4) }
 {
@@ -70,10 +71,12 @@ fn with_four(alloc: Global, source: Planes) -> Result<Plan, Memory>
 /// the square of (r + 30) / 31 in whole numbers; where no voxel is full, its commands are a Halt alone.
 pub fn plan_void(alloc: Global, source: &Planes) -> Result<Plan, Memory>
     requires { IsLegal source.now }
-    ensures accepted { IfOk result (λ plan. IsAccepted source.now (empty source.now.resolution) plan.commands full_profile plan.energy plan.steps) }
+    ensures accepted { IfOk result
+        (λ plan. IsAccepted source.now (empty source.now.resolution) plan.commands full_profile plan.energy plan.steps) }
     ensures steps { IfOk result (λ plan. plan.steps ≤ most_void_steps source.now.resolution) }
     ensures few { IfOk result (λ plan. HasAtMost source.now full_profile plan.commands 4) }
-    ensures halt_alone { source.now ≡ empty source.now.resolution → IfOk result (λ plan. plan.commands ≡ Command.Halt ∷ []) }
+    ensures halt_alone { source.now ≡ empty source.now.resolution
+        → IfOk result (λ plan. plan.commands ≡ Command.Halt ∷ []) }
 {
     source.know();
     if is_empty(source) {

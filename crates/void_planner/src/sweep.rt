@@ -32,11 +32,14 @@ fn void_tile(tape: &mut Tape, x: u16, y: u16, z: u16) -> Result<(), Memory>
 fn void_strip(tape: &mut Tape, x: u16, y: u16, back: bool) -> Result<(), Memory>
     requires ready { CanVoidLayers tape.old y }
     requires x { x + far_of tape.old.matrix.resolution < tape.old.matrix.resolution }
-    requires limit { steps_to tape.old (coord x (y + 1) (edge tape.old.matrix.resolution back)) + 4 * tiles_of tape.old.matrix.resolution < 1073741824 }
+    requires limit { steps_to tape.old (coord x (y + 1) (edge tape.old.matrix.resolution back))
+        + 4 * tiles_of tape.old.matrix.resolution
+        < 1073741824 }
     ensures clears { OnOk result
         (Clears tape.old tape.new (coord x (y + 1) (edge tape.old.matrix.resolution back))
         (coord x (y + 1) (edge tape.old.matrix.resolution (not back))) (4 * tiles_of tape.old.matrix.resolution)) }
-    ensures void { OnOk result (IsVoidStrip tape.new.matrix (far_of tape.old.matrix.resolution) x y tape.old.matrix.resolution) }
+    ensures void { OnOk result
+        (IsVoidStrip tape.new.matrix (far_of tape.old.matrix.resolution) x y tape.old.matrix.resolution) }
 {
     let r = tape.matrix().resolution();
     let count = tiles(r);
@@ -51,10 +54,12 @@ fn void_strip(tape: &mut Tape, x: u16, y: u16, back: bool) -> Result<(), Memory>
 fn void_layer(tape: &mut Tape, y: u16, turn: bool, back: bool) -> Result<bool, Memory>
     requires ready { CanVoidLayers tape.old y }
     requires limit { steps_to tape.old
-        (coord (edge tape.old.matrix.resolution turn) (y + 1)
-        (edge tape.old.matrix.resolution back)) + strip_steps tape.old.matrix.resolution * tiles_of tape.old.matrix.resolution < 1073741824 }
+        (coord (edge tape.old.matrix.resolution turn) (y + 1) (edge tape.old.matrix.resolution back))
+        + strip_steps tape.old.matrix.resolution * tiles_of tape.old.matrix.resolution
+        < 1073741824 }
     ensures clears { IfOk result
-        (λ next. Clears tape.old tape.new (coord (edge tape.old.matrix.resolution turn) (y + 1) (edge tape.old.matrix.resolution back))
+        (λ next. Clears tape.old tape.new
+        (coord (edge tape.old.matrix.resolution turn) (y + 1) (edge tape.old.matrix.resolution back))
         (coord (edge tape.old.matrix.resolution (not turn)) (y + 1) (edge tape.old.matrix.resolution next))
         (strip_steps tape.old.matrix.resolution * tiles_of tape.old.matrix.resolution)) }
     ensures void { IfOk result (λ next. IsVoidBefore tape.new.matrix tape.old.matrix.resolution y) }

@@ -120,7 +120,8 @@ impl Region {
     pub fn size(&self) -> u32
         requires { IsInSpace MOST_R self.now.high }
         ensures value { result ≡ size_of (span self.now) }
-        ensures counts { (r : ℕ) → IsInSpace r self.now.high → result ≡ count_by (λ c. is_within (span self.now) (point c)) (coordinates r) }
+        ensures counts { (r : ℕ) → IsInSpace r self.now.high
+            → result ≡ count_by (λ c. is_within (span self.now) (point c)) (coordinates r) }
         ensures most { result ≤ MOST_R * MOST_R * MOST_R }
     {
         let x = extent(self.low.x, self.high.x);

@@ -9,13 +9,15 @@ ghost use Rattle.vox_geom.specs.Worked.{WorkedCoordinates, WorkedDifferences, Wo
 
 /// The first of all coordinates of a matrix that passes a test is the least one that does.
 pub fn least_is_first()
-    ensures found { (r : ℕ) (test : Coord → Bool) (least : Option Coord) → LeastOf r test least → find test (coordinates r) ≡ least }
+    ensures found { (r : ℕ) (test : Coord → Bool) (least : Option Coord) → LeastOf r test least
+        → find test (coordinates r) ≡ least }
     ensures is_least { (r : ℕ) (test : Coord → Bool) → LeastOf r test (find test (coordinates r)) }
 {}
 
 /// Places rise as their coordinates do, and each place below the volume is that of a coordinate in space.
 pub fn places_rise()
-    ensures rise { (r : ℕ) (a b : Coord) → IsInSpace r a → IsInSpace r b → IsTrue (is_before a b) ↔ (place r a < place r b) }
+    ensures rise { (r : ℕ) (a b : Coord) → IsInSpace r a → IsInSpace r b
+        → IsTrue (is_before a b) ↔ (place r a < place r b) }
     ensures within { (r p : ℕ) → p < r * r * r → IsInSpace r (coordinate_at r p) }
 {}
 

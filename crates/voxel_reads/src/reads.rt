@@ -36,7 +36,8 @@ fn first_full_in<L: Ledger>(planes: &Planes, region: &Region, blank: Blank) -> O
     requires name { blank.name ≡ L.name }
     requires parts { blank.parts ≡ L.parts }
     requires some { 0 < L.parts }
-    ensures { result ≡ find (λ c. is_full_of planes.now c && is_within (span region.now) (point c)) (all_of planes.now) }
+    ensures { result
+        ≡ find (λ c. is_full_of planes.now c && is_within (span region.now) (point c)) (all_of planes.now) }
 {
     let mut steps: Steps<L> = Steps::new(blank);
     planes.region_full(region, &mut steps)
@@ -45,7 +46,8 @@ fn first_full_in<L: Ledger>(planes: &Planes, region: &Region, blank: Blank) -> O
 /// The least full voxel of a region, where nobody counts the touches: `None` exactly where the region is void.
 pub fn first_full(planes: &Planes, region: &Region) -> Option<Coord>
     requires { IsInSpace planes.now.resolution region.now.high }
-    ensures { result ≡ find (λ c. is_full_of planes.now c && is_within (span region.now) (point c)) (all_of planes.now) }
+    ensures { result
+        ≡ find (λ c. is_full_of planes.now c && is_within (span region.now) (point c)) (all_of planes.now) }
 {
     first_full_in::<Brand>(planes, region, Blank::new(1))
 }

@@ -60,7 +60,8 @@ fn assert_marked<L: Ledger>(
     but: (u32, u32),
     steps: &mut Steps<L>,
 )
-    requires { (k : ℕ) → k < 70 → slice_index slots k ≢ but.0 → slice_index slots k ≢ but.1 → IsLive bricks.now (slice_index slots k) }
+    requires { (k : ℕ) → k < 70 → slice_index slots k ≢ but.0 → slice_index slots k ≢ but.1
+        → IsLive bricks.now (slice_index slots k) }
 {
     let mut marked = 0u32;
     for k in 0..70usize {

@@ -22,7 +22,8 @@ impl Planes {
         requires within { from + most ≤ volume self.old.resolution }
         ensures some { 1 ≤ result }
         ensures most { result ≤ most }
-        ensures places { (p : ℕ) → voxel_at self.new p ≡ cond (is_from from result p) (bit bits (p - from)) (voxel_at self.old p) }
+        ensures places { (p : ℕ)
+            → voxel_at self.new p ≡ cond (is_from from result p) (bit bits (p - from)) (voxel_at self.old p) }
         ensures resolution { self.new.resolution ≡ self.old.resolution }
         ensures whole { IsWhole self.new }
     {
@@ -37,7 +38,8 @@ impl Planes {
     pub fn set_places(&mut self, from: u32, count: u32, bits: u64)
         requires few { count ≤ 64 }
         requires within { from + count ≤ volume self.old.resolution }
-        ensures places { (p : ℕ) → voxel_at self.new p ≡ cond (is_from from count p) (bit bits (p - from)) (voxel_at self.old p) }
+        ensures places { (p : ℕ)
+            → voxel_at self.new p ≡ cond (is_from from count p) (bit bits (p - from)) (voxel_at self.old p) }
         ensures resolution { self.new.resolution ≡ self.old.resolution }
         ensures whole { IsWhole self.new }
     {
@@ -96,9 +98,11 @@ impl Planes {
         requires few { count ≤ 64 }
         requires within { IsInSpace self.old.resolution first }
         requires row { first.z + count ≤ self.old.resolution }
-        ensures was { (k : ℕ) → k < count → bit result k ≡ (bit bits k && is_full self.old (in_row first (first.z + k))) }
+        ensures was { (k : ℕ) → k < count
+            → bit result k ≡ (bit bits k && is_full self.old (in_row first (first.z + k))) }
         ensures below { result < 2 ^ count }
-        ensures left { (d : Coordinate) → is_full self.new d ≡ (is_full self.old d && not (is_marked first count bits d)) }
+        ensures left { (d : Coordinate)
+            → is_full self.new d ≡ (is_full self.old d && not (is_marked first count bits d)) }
         ensures resolution { self.new.resolution ≡ self.old.resolution }
         ensures whole { IsWhole self.new }
         ensures touches { steps.new ≤ steps.old + count }
@@ -119,7 +123,8 @@ impl Planes {
         requires few { count ≤ 64 }
         requires within { IsInSpace self.now.resolution first }
         requires row { first.z + count ≤ self.now.resolution }
-        ensures full { (k : ℕ) → k < count → bit result k ≡ (bit bits k && is_full self.now (in_row first (first.z + k))) }
+        ensures full { (k : ℕ) → k < count
+            → bit result k ≡ (bit bits k && is_full self.now (in_row first (first.z + k))) }
         ensures below { result < 2 ^ count }
         ensures touches { steps.new ≤ steps.old + count }
     {
@@ -185,7 +190,8 @@ fn take_part(words: &mut [u64], index: usize, count: u32, bits: u64) -> u64
     requires word { index % 64 + count ≤ 64 }
     ensures was { (k : ℕ) → k < count → bit result k ≡ (bit bits k && is_set_of words.old (index + k)) }
     ensures below { result < 2 ^ count }
-    ensures left { (j : ℕ) → is_set_of words.new j ≡ (is_set_of words.old j && not (is_from index count j && bit bits (j - index))) }
+    ensures left { (j : ℕ)
+        → is_set_of words.new j ≡ (is_set_of words.old j && not (is_from index count j && bit bits (j - index))) }
 {
     let present = bits_at(words, index, count);
     put_bits(words, index, count, present & !bits);
@@ -205,7 +211,8 @@ fn take_bits<L: Ledger>(
     requires small { index < 2 ^ 32 }
     ensures was { (k : ℕ) → k < count → bit result k ≡ (bit bits k && is_set_of words.old (index + k)) }
     ensures below { result < 2 ^ count }
-    ensures left { (j : ℕ) → is_set_of words.new j ≡ (is_set_of words.old j && not (is_from index count j && bit bits (j - index))) }
+    ensures left { (j : ℕ)
+        → is_set_of words.new j ≡ (is_set_of words.old j && not (is_from index count j && bit bits (j - index))) }
     ensures touches { steps.new ≤ steps.old + count }
 {
     let mut taken = 0;

@@ -46,8 +46,10 @@ impl Planes {
         requires high { x ≤ b.now.high.x }
         ensures value { option_or result
             (find (passes_in b.now (is_full self.now))
-            (coordinates_from self.now.resolution (place self.now.resolution (row_start b.now (x + 1) b.now.low.y)))) ≡ find
-            (passes_in b.now (is_full self.now)) (coordinates_from self.now.resolution (place self.now.resolution (row_start b.now x b.now.low.y))) }
+            (coordinates_from self.now.resolution
+            (place self.now.resolution (row_start b.now (x + 1) b.now.low.y))))
+            ≡ find (passes_in b.now (is_full self.now))
+            (coordinates_from self.now.resolution (place self.now.resolution (row_start b.now x b.now.low.y))) }
         ensures touches { steps.new ≤ steps.old + wall_size b.now }
     {
         let low = b.low();
@@ -148,7 +150,9 @@ impl Planes {
         requires room { wall_size b.now ≤ list.old.spare }
         ensures items { list.new.items
             ++ filter (passes_in b.now (is_state self.now full))
-            (coordinates_from self.now.resolution (place self.now.resolution (row_start b.now (x + 1) b.now.low.y))) ≡ list.old.items
+            (coordinates_from self.now.resolution
+            (place self.now.resolution (row_start b.now (x + 1) b.now.low.y)))
+            ≡ list.old.items
             ++ filter (passes_in b.now (is_state self.now full))
             (coordinates_from self.now.resolution (place self.now.resolution (row_start b.now x b.now.low.y))) }
         ensures room { list.old.spare + length list.old.items ≤ list.new.spare + length list.new.items }
@@ -172,7 +176,8 @@ impl Planes {
     )
         requires within { IsInSpace self.now.resolution b.now.high }
         requires room { size (span b.now) ≤ list.old.spare }
-        ensures items { list.new.items ≡ list.old.items ++ filter (passes_in b.now (is_state self.now full)) (all_of self.now) }
+        ensures items { list.new.items
+            ≡ list.old.items ++ filter (passes_in b.now (is_state self.now full)) (all_of self.now) }
         ensures room { list.old.spare + length list.old.items ≤ list.new.spare + length list.new.items }
         ensures touches { steps.new ≤ steps.old + size (span b.now) }
     {
@@ -187,7 +192,9 @@ impl Planes {
     pub fn list_void<L: Ledger>(&self, b: &Region, list: &mut ChangeList, steps: &mut Steps<L>)
         requires within { IsInSpace self.now.resolution b.now.high }
         requires room { size (span b.now) ≤ list.old.spare }
-        ensures items { list.new.items ≡ list.old.items ++ filter (λ c. not (is_full self.now c) && is_within (span b.now) (point c)) (all_of self.now) }
+        ensures items { list.new.items
+            ≡ list.old.items
+            ++ filter (λ c. not (is_full self.now c) && is_within (span b.now) (point c)) (all_of self.now) }
         ensures room { list.old.spare + length list.old.items ≤ list.new.spare + length list.new.items }
         ensures touches { steps.new ≤ steps.old + size (span b.now) }
     {
@@ -198,7 +205,8 @@ impl Planes {
     pub fn list_full<L: Ledger>(&self, b: &Region, list: &mut ChangeList, steps: &mut Steps<L>)
         requires within { IsInSpace self.now.resolution b.now.high }
         requires room { size (span b.now) ≤ list.old.spare }
-        ensures items { list.new.items ≡ list.old.items ++ filter (λ c. is_full self.now c && is_within (span b.now) (point c)) (all_of self.now) }
+        ensures items { list.new.items
+            ≡ list.old.items ++ filter (λ c. is_full self.now c && is_within (span b.now) (point c)) (all_of self.now) }
         ensures room { list.old.spare + length list.old.items ≤ list.new.spare + length list.new.items }
         ensures touches { steps.new ≤ steps.old + size (span b.now) }
     {

@@ -123,7 +123,8 @@ fn going<L: Ledger>(full: &[u64], left: &[u64], layer: usize, i: usize, steps: &
 fn drop_stacked<L: Ledger>(left: &mut [u64], full: &[u64], layer: usize, steps: &mut Steps<L>)
     requires some { 1 ≤ layer }
     requires same { length left.old ≡ length full.now }
-    ensures left { (j : ℕ) → j < length full.now * 64 → is_set_of left.new j ≡ (is_set_of left.old j && not (goes full.now left.new layer j)) }
+    ensures left { (j : ℕ) → j < length full.now * 64
+        → is_set_of left.new j ≡ (is_set_of left.old j && not (goes full.now left.new layer j)) }
     ensures touches { steps.new ≤ steps.old + 4 * length full.now }
 {
     for i in 0..full.len() {
@@ -146,7 +147,8 @@ fn is_before(a: Coord, b: Coord) -> bool
 pub fn earlier(a: Option<Coord>, b: Option<Coord>) -> Option<Coord>
     ensures value { result ≡ earlier_of a b }
     // The least coordinates that pass two tests give the least that passes either.
-    ensures least { (r : ℕ) (f g : Coordinate → Bool) → LeastOf r f a → LeastOf r g b → LeastOf r (λ c. f c || g c) result }
+    ensures least { (r : ℕ) (f g : Coordinate → Bool) → LeastOf r f a → LeastOf r g b
+        → LeastOf r (λ c. f c || g c) result }
 {
     match (a, b) {
         (Some(c), Some(d)) => Some(if is_before(d, c) { d } else { c }),
