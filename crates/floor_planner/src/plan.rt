@@ -28,7 +28,8 @@ fn closed(mut tape: Tape, target: &Planes) -> Result<Plan, Memory>
     requires flat { IsFlat target.now }
     requires swept { IsSweptTo tape target.now target.now.resolution 0 }
     ensures accepted { IfOk result
-        (λ plan. IsAccepted (empty target.now.resolution) target.now plan.commands full_profile plan.energy plan.steps) }
+        (λ plan. IsAccepted (empty target.now.resolution) target.now plan.commands
+        full_profile plan.energy plan.steps) }
 {
     target.know();
     tape.go(Coord { x: 0, y: 0, z: 0 })?;
@@ -42,7 +43,8 @@ pub fn plan_floor(alloc: Global, target: &Planes) -> Result<Plan, Memory>
     requires legal { IsLegal target.now }
     requires flat { IsFlat target.now }
     ensures accepted { IfOk result
-        (λ plan. IsAccepted (empty target.now.resolution) target.now plan.commands full_profile plan.energy plan.steps) }
+        (λ plan. IsAccepted (empty target.now.resolution) target.now plan.commands
+        full_profile plan.energy plan.steps) }
 {
     let mut tape = opened(alloc, target)?;
     fill_floor(&mut tape, target)?;

@@ -87,7 +87,8 @@ fn both_go(tape: &mut Tape, axis: Axis, from: u16, to: u16) -> Result<(), Memory
     requires free { IsVoidFrom tape.old.matrix (put axis (rear_of tape.old) to).y }
     requires limit { tape.old.steps + moves from to ≤ 1073741824 }
     ensures { OnOk result
-        (PairGoes tape.old tape.new (put axis (rear_of tape.old) to) (put axis (front_of tape.old) to) (moves from to)) }
+        (PairGoes tape.old tape.new (put axis (rear_of tape.old) to) (put axis (front_of tape.old) to)
+        (moves from to)) }
 {
     let mut at = from;
     while at != to {

@@ -70,7 +70,8 @@ pub fn plan_low(alloc: Global, target: &Planes) -> Result<Plan, LowFault>
         (λ plan. IsAccepted (empty target.now.resolution) target.now plan.commands light_profile plan.energy
         plan.steps) }
     ensures accepted_in_full { IfOk result
-        (λ plan. IsAccepted (empty target.now.resolution) target.now plan.commands full_profile plan.energy plan.steps) }
+        (λ plan. IsAccepted (empty target.now.resolution) target.now plan.commands
+        full_profile plan.energy plan.steps) }
     ensures plain { IfOk result (λ plan. All IsPlain plan.commands) }
     ensures steps { IfOk result
         (λ plan. plan.steps ≤ 4 * full_count target.now + target.now.resolution * target.now.resolution *

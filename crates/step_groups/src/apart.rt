@@ -34,7 +34,8 @@ pub fn all_act_alone(commands: &[Command]) -> bool
 /// Whether the box has no coordinate that one of the others has, which are all within the one around them.
 fn is_apart(hull: &Region, all: &Region, others: &[Region]) -> bool
     requires { IsHull all.now others.now }
-    ensures { result ≡ true → (c : Coordinate) → IsTrue (is_within (span hull.now) (point c)) → IsTrue (in_boxes others.now c) → ⊥ }
+    ensures { result ≡ true → (c : Coordinate) → IsTrue (is_within (span hull.now) (point c))
+        → IsTrue (in_boxes others.now c) → ⊥ }
 {
     if hull.meets(all).is_none() {
         return true;

@@ -12,7 +12,8 @@ use vox_geom::{Coord, Region};
 
 /// The least coordinate of the box that one of the boxes has.
 fn clash_box(s: &Region, boxes: &[Region]) -> Option<Coord>
-    ensures { (r : ℕ) → IsBoxIn r s.now → LeastOf r (λ c. is_within (span s.now) (point c) && in_boxes boxes.now c) result }
+    ensures { (r : ℕ) → IsBoxIn r s.now
+        → LeastOf r (λ c. is_within (span s.now) (point c) && in_boxes boxes.now c) result }
 {
     let mut least = None;
     for j in 0..boxes.len() {
@@ -36,8 +37,10 @@ pub(crate) fn clash(first: &[Region], second: &[Region]) -> Option<Coord>
 
 /// The box around two boxes.
 pub(crate) fn around(a: &Region, b: &Region) -> Region
-    ensures first { (c : Coordinate) → IsTrue (is_within (span a.now) (point c)) → IsTrue (is_within (span result) (point c)) }
-    ensures second { (c : Coordinate) → IsTrue (is_within (span b.now) (point c)) → IsTrue (is_within (span result) (point c)) }
+    ensures first { (c : Coordinate) → IsTrue (is_within (span a.now) (point c))
+        → IsTrue (is_within (span result) (point c)) }
+    ensures second { (c : Coordinate) → IsTrue (is_within (span b.now) (point c))
+        → IsTrue (is_within (span result) (point c)) }
 {
     let low = a.low();
     let high = a.high();

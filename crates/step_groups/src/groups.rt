@@ -89,7 +89,9 @@ impl Groups {
         requires numbers { AreNumbers (acts_of_step step.now) numbers.now }
         ensures broken { IfErr result (λ b. (energy : ℤ) → broken_in step.now energy ≡ Some b) }
         ensures unbroken { OnOk result ((energy : ℤ) → broken_in step.now energy ≡ None) }
-        ensures groups { OnOk result (AreGroups step.now.planes.now.resolution (acts_of_step step.now) (leaders (acts_of_step step.now)) self.new) }
+        ensures groups { OnOk result
+            (AreGroups step.now.planes.now.resolution (acts_of_step step.now) (leaders (acts_of_step step.now))
+            self.new) }
         ensures none { OnErr result (self.new ≡ []) }
         ensures touches { steps.new ≤ steps.old + 2 * volatile_total step.now.planes.now (acts_of_step step.now) }
     {

@@ -41,7 +41,8 @@ fn lone_group(planes: &Planes, bot: &Bot, command: &Command) -> Group
     requires stays { IsTrue (stays_in_space planes.now.resolution (act bot.now command.now)) }
     ensures leader { result.leader ≡ bot.now.bid }
     ensures members { result.members.items ≡ bot.now.bid ∷ [] }
-    ensures boxes { (c : Coordinate) → in_boxes result.boxes.items c ≡ is_volatile_of (point c) (act bot.now command.now) }
+    ensures boxes { (c : Coordinate)
+        → in_boxes result.boxes.items c ≡ is_volatile_of (point c) (act bot.now command.now) }
     ensures space { AreBoxesIn planes.now.resolution result.boxes.items }
     ensures few { array_vec_len result.boxes ≤ 2 }
 {
@@ -61,8 +62,10 @@ fn join(group: &mut Group, bots: &[Bot], numbers: &[u8], number: u8)
     requires members { array_vec_len group.old.members + length (with_number number bots.now numbers.now) ≤ 8 }
     requires boxes { array_vec_len group.old.boxes + length (with_number number bots.now numbers.now) ≤ 9 }
     ensures leader { group.new.leader ≡ group.old.leader }
-    ensures members { group.new.members.items ≡ group.old.members.items ++ map (λ b. b.bid) (with_number number bots.now numbers.now) }
-    ensures boxes { group.new.boxes.items ≡ group.old.boxes.items ++ map (λ b. corners b.pos b.pos) (with_number number bots.now numbers.now) }
+    ensures members { group.new.members.items
+        ≡ group.old.members.items ++ map (λ b. b.bid) (with_number number bots.now numbers.now) }
+    ensures boxes { group.new.boxes.items
+        ≡ group.old.boxes.items ++ map (λ b. corners b.pos b.pos) (with_number number bots.now numbers.now) }
 {
     for i in 0..bots.len() {
         if numbers[i] != number {
@@ -90,9 +93,11 @@ fn push_group(
     requires judged { AreJudged planes.now.resolution (acts bots.now commands.now) }
     requires numbers { AreNumbers (acts bots.now commands.now) numbers.now }
     ensures groups { AreGroups planes.now.resolution (acts bots.now commands.now)
-        (filter (is_leader (acts bots.now commands.now)) (acts (take i bots.now) (take i commands.now))) groups.old.items
+        (filter (is_leader (acts bots.now commands.now)) (acts (take i bots.now) (take i commands.now)))
+        groups.old.items
         → AreGroups planes.now.resolution (acts bots.now commands.now)
-        (filter (is_leader (acts bots.now commands.now)) (acts (take (i + 1) bots.now) (take (i + 1) commands.now))) groups.new.items }
+        (filter (is_leader (acts bots.now commands.now))
+        (acts (take (i + 1) bots.now) (take (i + 1) commands.now))) groups.new.items }
     ensures len { array_vec_len groups.new ≤ array_vec_len groups.old + 1 }
 {
     let bot = &bots[i];
@@ -119,7 +124,8 @@ pub(crate) fn list_groups(
     requires within { All (λ b. IsInSpace planes.now.resolution b.pos) bots.now }
     requires judged { AreJudged planes.now.resolution (acts bots.now commands.now) }
     requires numbers { AreNumbers (acts bots.now commands.now) numbers.now }
-    ensures { AreGroups planes.now.resolution (acts bots.now commands.now) (leaders (acts bots.now commands.now)) groups.new.items }
+    ensures { AreGroups planes.now.resolution (acts bots.now commands.now) (leaders (acts bots.now commands.now))
+        groups.new.items }
 {
     for i in 0..bots.len() {
         push_group(groups, planes, bots, commands, numbers, i);

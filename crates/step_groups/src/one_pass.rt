@@ -185,7 +185,8 @@ fn judge_next<L: Ledger>(
 ) -> Option<Broken>
     requires step { CanJudge step.now bot.now }
     requires alone { IsTrue (is_alone command.now) }
-    ensures value { result ≡ judge_bot_of (start_of_step step.now) (acts_of_step step.now) step.now.number (act bot.now command.now) }
+    ensures value { result
+        ≡ judge_bot_of (start_of_step step.now) (acts_of_step step.now) step.now.number (act bot.now command.now) }
     ensures outline { IfNone result (TakesIn (IsVolatileFor (act bot.now command.now)) outline.old outline.new) }
     ensures touches { steps.new ≤ steps.old + touches_of step.now.planes.now (act bot.now command.now) }
 {

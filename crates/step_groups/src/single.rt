@@ -44,7 +44,9 @@ pub fn judge_move<L: Ledger>(
 ) -> Result<Coord, Broken>
     requires within { IsInSpace planes.now.resolution bot.pos }
     ensures value { (harmonics : HarmonicsOf) (energy : ℤ)
-        → rule_broken result ≡ broken (record (start_of planes.now harmonics profile (bot ∷ [])) { energy = energy }) (SMove d ∷ []) step }
+        → rule_broken result
+        ≡ broken (record (start_of planes.now harmonics profile (bot ∷ [])) { energy = energy }) (SMove d ∷ [])
+        step }
     ensures sum { IfOk result (λ to. point to ≡ plus (point bot.pos) d) }
     ensures stays { IfOk result (λ to. IsInSpace planes.now.resolution to) }
     ensures touches { steps.new ≤ steps.old + 2 * volatile_total planes.now (acts (bot ∷ []) (SMove d ∷ [])) }
@@ -66,8 +68,9 @@ pub fn moves_by_one<L: Ledger>(
     steps: &mut Steps<L>,
 ) -> Option<Coord>
     requires within { IsInSpace planes.now.resolution bot.pos }
-    ensures keeps { IfSome result (λ _. (harmonics : HarmonicsOf) (energy : ℤ) (step : ℕ)
-        → None ≡ broken (record (start_of planes.now harmonics profile (bot ∷ [])) { energy = energy }) (SMove d ∷ []) step) }
+    ensures keeps { IfSome result
+        (λ _. (harmonics : HarmonicsOf) (energy : ℤ) (step : ℕ) → None ≡ broken
+        (record (start_of planes.now harmonics profile (bot ∷ [])) { energy = energy }) (SMove d ∷ []) step) }
     ensures sum { IfSome result (λ to. point to ≡ plus (point bot.pos) d) }
     ensures stays { IfSome result (λ to. IsInSpace planes.now.resolution to) }
     ensures touches { steps.new ≤ steps.old + volatile_total planes.now (acts (bot ∷ []) (SMove d ∷ [])) }
@@ -99,7 +102,9 @@ pub fn judge_edit(
 ) -> Result<Coord, Broken>
     requires within { IsInSpace planes.now.resolution bot.pos }
     ensures value { (harmonics : HarmonicsOf) (energy : ℤ)
-        → rule_broken result ≡ broken (record (start_of planes.now harmonics profile (bot ∷ [])) { energy = energy }) (edit_of full d ∷ []) step }
+        → rule_broken result
+        ≡ broken (record (start_of planes.now harmonics profile (bot ∷ [])) { energy = energy })
+        (edit_of full d ∷ []) step }
     ensures sum { IfOk result (λ at. point at ≡ plus (point bot.pos) d) }
     ensures stays { IfOk result (λ at. IsInSpace planes.now.resolution at) }
 {

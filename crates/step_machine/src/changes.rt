@@ -29,7 +29,9 @@ fn list_region<L: Ledger>(
 )
     requires within { IsInSpace matrix.now.resolution region.high }
     requires room { size (span region) ≤ list.old.spare }
-    ensures items { list.new.items ≡ list.old.items ++ filter (λ c. is_state matrix.now full c && is_within (span region) (point c)) (all_of matrix.now) }
+    ensures items { list.new.items
+        ≡ list.old.items
+        ++ filter (λ c. is_state matrix.now full c && is_within (span region) (point c)) (all_of matrix.now) }
     ensures room { list.old.spare + length list.old.items ≤ list.new.spare + length list.new.items }
     ensures touches { steps.new ≤ steps.old + size (span region) }
 {
@@ -96,12 +98,16 @@ pub(crate) fn list_changes<L: Ledger>(
     steps: &mut Steps<L>,
 )
     requires judged { (step : ℕ) × (broken_of system.now commands.now step ≡ None) }
-    requires turns { AreTurns (acts system.now.bots commands.now) (leaders (acts system.now.bots commands.now)) turns.now }
+    requires turns { AreTurns (acts system.now.bots commands.now) (leaders (acts system.now.bots commands.now))
+        turns.now }
     requires room { edits_total system.now.matrix full (leaders (acts system.now.bots commands.now)) ≤ list.old.spare }
-    ensures items { list.new.items ≡ list.old.items ++ cells_of_all system.now.matrix full (leaders (acts system.now.bots commands.now)) }
+    ensures items { list.new.items
+        ≡ list.old.items ++ cells_of_all system.now.matrix full (leaders (acts system.now.bots commands.now)) }
     ensures room { list.old.spare + length list.old.items ≤ list.new.spare + length list.new.items }
-    ensures left { list.old.spare ≤ list.new.spare + edits_total system.now.matrix full (leaders (acts system.now.bots commands.now)) }
-    ensures touches { steps.new ≤ steps.old + edits_total system.now.matrix full (leaders (acts system.now.bots commands.now)) }
+    ensures left { list.old.spare
+        ≤ list.new.spare + edits_total system.now.matrix full (leaders (acts system.now.bots commands.now)) }
+    ensures touches { steps.new
+        ≤ steps.old + edits_total system.now.matrix full (leaders (acts system.now.bots commands.now)) }
 {
     if !some_change(commands, full) {
         return;

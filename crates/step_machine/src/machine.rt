@@ -94,7 +94,8 @@ fn know_step(system: &System, commands: &[Command])
     ensures commands { AreCommands commands.now }
     ensures rises { (after system.now commands.now).energy <ℤ (system.now.energy +ℤ pos 3000000000) }
     ensures falls { system.now.energy <ℤ ((after system.now commands.now).energy +ℤ pos 3000000000) }
-    ensures well_formed { (t : State) (step : ℕ) → IsWellFormed system.now → Next system.now commands.now step (Goes t) → IsWellFormed t }
+    ensures well_formed { (t : State) (step : ℕ) → IsWellFormed system.now
+        → Next system.now commands.now step (Goes t) → IsWellFormed t }
 {
     a_step_changes_the_energy_by_little();
     stays_well_formed();
@@ -157,7 +158,9 @@ impl Machine {
         steps: &mut Steps<L>,
     ) -> Result<Machine, Memory>
         requires { IsMachineState (state_with matrix crew harmonics energy profile) steps_done }
-        ensures value { IfOk result (λ m. m ≡ record { state = state_with matrix crew harmonics energy profile; steps = steps_done; spent = false }) }
+        ensures value { IfOk result
+            (λ m. m ≡ record
+            { state = state_with matrix crew harmonics energy profile; steps = steps_done; spent = false }) }
         ensures touches { IfOk result (λ _. steps.new ≤ steps.old + 91 * volume matrix.resolution) }
     {
         let forest = Forest::of(alloc, &matrix, steps)?;

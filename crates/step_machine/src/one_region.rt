@@ -34,7 +34,8 @@ fn voided_region(matrix: &Planes, bot: &Bot, command: &Command) -> Option<Region
 /// The region that the only group of a step voids, where there is one group and it voids one.
 pub(crate) fn only_region(system: &System, commands: &[Command], turns: &Turns) -> Option<Region>
     requires judged { (step : ℕ) × (broken_of system.now commands.now step ≡ None) }
-    requires turns { AreTurns (acts system.now.bots commands.now) (leaders (acts system.now.bots commands.now)) turns.now }
+    requires turns { AreTurns (acts system.now.bots commands.now) (leaders (acts system.now.bots commands.now))
+        turns.now }
     ensures { IfSome result (IsOnlyRegion system.now commands.now) }
 {
     let matrix = system.matrix();

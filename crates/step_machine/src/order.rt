@@ -23,7 +23,8 @@ pub(crate) fn take_turns<L: Ledger>(
     steps: &mut Steps<L>,
 )
     requires judged { (step : ℕ) × (broken_of system.old commands.now step ≡ None) }
-    requires turns { AreTurns (acts system.old.bots commands.now) (leaders (acts system.old.bots commands.now)) turns.old }
+    requires turns { AreTurns (acts system.old.bots commands.now) (leaders (acts system.old.bots commands.now))
+        turns.old }
     requires commands { IfSome order (λ _. length commands.now ≡ length system.old.bots) }
     requires order { IfSome order (λ o. IsPermutation (leader_bids (acts system.old.bots commands.now)) o.now) }
     requires payable { IsPayable system.old.energy }

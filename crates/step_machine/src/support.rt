@@ -83,7 +83,8 @@ fn list_edits<L: Ledger>(
     steps: &mut Steps<L>,
 ) -> usize
     requires judged { (step : ℕ) × (broken_of system.now commands.now step ≡ None) }
-    requires turns { AreTurns (acts system.now.bots commands.now) (leaders (acts system.now.bots commands.now)) turns.now }
+    requires turns { AreTurns (acts system.now.bots commands.now) (leaders (acts system.now.bots commands.now))
+        turns.now }
     requires commands { AreCommands commands.now }
     requires room { MOST_CHANGED ≤ list.old.spare + length list.old.items }
     ensures items { list.new.items ≡ edits_of system.now commands.now true ++ edits_of system.now commands.now false }
@@ -182,9 +183,11 @@ fn change_cell<L: Ledger>(
     requires stands { forest.old.spent ≡ false }
     requires cell { MatchBool full (MayAdd forest.old.matrix (cell ∷ [])) (MayRemove forest.old.matrix (cell ∷ [])) }
     ensures value { IfOk result
-        (λ _. MatchBool full (AreAdded forest.old.matrix forest.new.matrix (cell ∷ [])) (AreRemoved forest.old.matrix forest.new.matrix (cell ∷ []))) }
+        (λ _. MatchBool full (AreAdded forest.old.matrix forest.new.matrix (cell ∷ []))
+        (AreRemoved forest.old.matrix forest.new.matrix (cell ∷ []))) }
     ensures stands { IfOk result (λ _. forest.new.spent ≡ false) }
-    ensures touches { IfOk result (λ _. IsCheap forest.old.matrix forest.new.matrix (cell ∷ []) 100 steps.old steps.new) }
+    ensures touches { IfOk result
+        (λ _. IsCheap forest.old.matrix forest.new.matrix (cell ∷ []) 100 steps.old steps.new) }
 {
     if full {
         return match forest.add_one(cell, steps) {
@@ -238,7 +241,8 @@ fn change_at_once<L: Ledger>(
     requires stands { forest.old.spent ≡ false }
     requires cell { MatchBool full (MayAdd forest.old.matrix (cell ∷ [])) (MayRemove forest.old.matrix (cell ∷ [])) }
     ensures value { result ≡ true
-        → MatchBool full (AreAdded forest.old.matrix forest.new.matrix (cell ∷ [])) (AreRemoved forest.old.matrix forest.new.matrix (cell ∷ [])) }
+        → MatchBool full (AreAdded forest.old.matrix forest.new.matrix (cell ∷ []))
+        (AreRemoved forest.old.matrix forest.new.matrix (cell ∷ [])) }
     ensures held { result ≡ true → FirstUngrounded forest.old.matrix None → FirstUngrounded forest.new.matrix None }
     ensures stays { result ≡ false → forest.new ≡ forest.old }
     ensures stands { forest.new.spent ≡ false }
@@ -315,9 +319,11 @@ fn settle_refitted<L: Ledger>(
     requires stands { forest.now.spent ≡ false }
     requires matrix { forest.now.matrix ≡ (after system.now commands.now).matrix }
     ensures settled { IfOk result
-        (λ _. (before : ℕ) → IsPaidBy system.now commands.now before steps.old → IsSettled system.now commands.now step forest.now before steps.new) }
+        (λ _. (before : ℕ) → IsPaidBy system.now commands.now before steps.old → IsSettled system.now commands.now
+        step forest.now before steps.new) }
     ensures unsettled { IfErr result
-        (λ fault. (before : ℕ) → IsPaidBy system.now commands.now before steps.old → IsUnsettled system.now commands.now step fault before steps.new) }
+        (λ fault. (before : ℕ) → IsPaidBy system.now commands.now before steps.old → IsUnsettled system.now
+        commands.now step fault before steps.new) }
     ensures memory { result ≡ Err StepFault.Memory → ⊥ }
 {
     let harmonics = harmonics_after(system.harmonics(), commands);
@@ -400,9 +406,11 @@ pub(crate) fn settle_one<L: Ledger>(
     requires stands { forest.old.spent ≡ false }
     requires tied { forest.old.matrix ≡ system.now.matrix }
     ensures settled { IfOk result
-        (λ _. (before : ℕ) → steps.old ≤ before + 9 → IsSettled system.now commands.now step forest.new before steps.new) }
+        (λ _. (before : ℕ) → steps.old ≤ before + 9 → IsSettled system.now commands.now step forest.new before
+        steps.new) }
     ensures unsettled { IfErr result
-        (λ fault. (before : ℕ) → steps.old ≤ before + 9 → IsUnsettled system.now commands.now step fault before steps.new) }
+        (λ fault. (before : ℕ) → steps.old ≤ before + 9 → IsUnsettled system.now commands.now step fault before
+        steps.new) }
     ensures was { IfOk result (λ was. was ≡ is_full system.now.matrix at) }
 {
     let was = refit_one(system, commands, d, at, full, forest, steps)?;

@@ -95,7 +95,8 @@ pub fn plan_swarm(alloc: Global, target: &Planes) -> Result<Plan, Memory>
         (λ plan. IsAccepted (empty target.now.resolution) target.now plan.commands light_profile plan.energy
         plan.steps) }
     ensures full { IfOk result
-        (λ plan. IsAccepted (empty target.now.resolution) target.now plan.commands full_profile plan.energy plan.steps) }
+        (λ plan. IsAccepted (empty target.now.resolution) target.now plan.commands
+        full_profile plan.energy plan.steps) }
     ensures steps { IfOk result
         (λ plan. plan.steps ≤ 4 * width target.now.resolution * target.now.resolution * target.now.resolution + 8 *
         target.now.resolution + 2000) }

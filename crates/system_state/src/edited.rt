@@ -24,7 +24,8 @@ fn edited_voxel(r: u16, bot: Bot, d: Near, full: bool) -> EditedRegion
     requires within { IsInSpace r bot.pos }
     requires at { IsTrue (in_space r (plus (point bot.pos) d)) }
     ensures { (command : Trace) → filled (point bot.pos) command ≡ cond full (just (plus (point bot.pos) d) ∷ []) []
-        → voided (point bot.pos) command ≡ cond full [] (just (plus (point bot.pos) d) ∷ []) → IsEditedRegion r bot command result }
+        → voided (point bot.pos) command ≡ cond full [] (just (plus (point bot.pos) d) ∷ [])
+        → IsEditedRegion r bot command result }
 {
     let at = target(r, bot.pos, d.diff());
     EditedRegion {
@@ -38,8 +39,10 @@ fn edited_box(r: u16, bot: Bot, d: Near, f: Far, full: bool) -> EditedRegion
     requires within { IsInSpace r bot.pos }
     requires near { IsTrue (in_space r (plus (point bot.pos) d)) }
     requires far { IsTrue (in_space r (plus (plus (point bot.pos) d) f)) }
-    ensures { (command : Trace) → filled (point bot.pos) command ≡ cond full (between_corners (point bot.pos) d f ∷ []) []
-        → voided (point bot.pos) command ≡ cond full [] (between_corners (point bot.pos) d f ∷ []) → IsEditedRegion r bot command result }
+    ensures { (command : Trace)
+        → filled (point bot.pos) command ≡ cond full (between_corners (point bot.pos) d f ∷ []) []
+        → voided (point bot.pos) command ≡ cond full [] (between_corners (point bot.pos) d f ∷ [])
+        → IsEditedRegion r bot command result }
 {
     let near = target(r, bot.pos, d.diff());
     let far = target(r, near, f.diff());

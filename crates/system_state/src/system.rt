@@ -145,7 +145,8 @@ impl System {
         profile: Profile,
     ) -> System
         requires { All (λ b. IsInSpace matrix.resolution b.pos) crew }
-        ensures { result ≡ record { matrix = matrix; harmonics = harmonics; bots = crew; energy = energy; profile = profile } }
+        ensures { result
+            ≡ record { matrix = matrix; harmonics = harmonics; bots = crew; energy = energy; profile = profile } }
     {
         let space = space_upkeep(matrix.resolution(), harmonics);
         System {
@@ -222,7 +223,8 @@ impl System {
         requires some { 1 ≤ length self.now.bots }
         requires few { length commands.now ≤ length self.now.bots }
         ensures value { result ≡ broken_of self.now commands.now step }
-        ensures turns { IfNone result (AreTurns (acts self.now.bots commands.now) (leaders (acts self.now.bots commands.now)) turns.new) }
+        ensures turns { IfNone result
+            (AreTurns (acts self.now.bots commands.now) (leaders (acts self.now.bots commands.now)) turns.new) }
         ensures touches { steps.new ≤ steps.old + 2 * volatile_total self.now.matrix (acts self.now.bots commands.now) }
         ensures ends { length commands.now < length self.now.bots → steps.new ≡ steps.old }
     {
@@ -298,11 +300,14 @@ impl System {
     /// are, are made at once.
     #[inline(always)]
     fn take_turn<L: Ledger>(&mut self, turn: Turn, command: &Command, steps: &mut Steps<L>)
-        requires may { IfSome (bot_of self.old.bots turn.leader) (λ bot. MayTake self.old.matrix.resolution self.old.bots bot turn.partner command.now) }
+        requires may { IfSome (bot_of self.old.bots turn.leader)
+            (λ bot. MayTake self.old.matrix.resolution self.old.bots bot turn.partner command.now) }
         requires payable { IsTurnPayable self.old.energy }
-        ensures value { IfSome (bot_of self.old.bots turn.leader) (λ bot. self.new ≡ after_turn self.old bot turn.partner command.now) }
+        ensures value { IfSome (bot_of self.old.bots turn.leader)
+            (λ bot. self.new ≡ after_turn self.old bot turn.partner command.now) }
         ensures within { IsAfterTurn self.old.energy self.new.energy }
-        ensures touches { IfSome (bot_of self.old.bots turn.leader) (λ bot. steps.new ≤ steps.old + met_count self.old.matrix bot command.now) }
+        ensures touches { IfSome (bot_of self.old.bots turn.leader)
+            (λ bot. steps.new ≤ steps.old + met_count self.old.matrix bot command.now) }
     {
         self.matrix.know();
         let Some(bot) = self.crew.bot(turn.leader) else {
@@ -372,7 +377,9 @@ impl System {
     fn edit_voxel(&mut self, at: Coord, full: bool, was_full: bool)
         requires at { IsInSpace self.old.matrix.resolution at }
         requires payable { IsTurnPayable self.old.energy }
-        ensures value { self.new ≡ record self.old { matrix = with_voxel self.old.matrix at full; energy = self.old.energy +ℤ edit_cost full was_full } }
+        ensures value { self.new
+            ≡ record self.old
+            { matrix = with_voxel self.old.matrix at full; energy = self.old.energy +ℤ edit_cost full was_full } }
         ensures within { IsAfterTurn self.old.energy self.new.energy }
     {
         self.set_voxel(at, full);
@@ -424,7 +431,8 @@ impl System {
     /// order of their leaders.
     pub fn advance<L: Ledger>(&mut self, commands: &[Command], turns: &Turns, steps: &mut Steps<L>)
         requires judged { (step : ℕ) × (broken_of self.old commands.now step ≡ None) }
-        requires turns { AreTurns (acts self.old.bots commands.now) (leaders (acts self.old.bots commands.now)) turns.now }
+        requires turns { AreTurns (acts self.old.bots commands.now) (leaders (acts self.old.bots commands.now))
+            turns.now }
         requires payable { IsPayable self.old.energy }
         ensures value { self.new ≡ after self.old commands.now }
         ensures touches { steps.new ≤ steps.old + volatile_total self.old.matrix (acts self.old.bots commands.now) }
@@ -442,7 +450,8 @@ impl System {
     )
         requires commands { length commands.now ≡ length self.old.bots }
         requires judged { (step : ℕ) × (broken_of self.old commands.now step ≡ None) }
-        requires turns { AreTurns (acts self.old.bots commands.now) (leaders (acts self.old.bots commands.now)) turns.old }
+        requires turns { AreTurns (acts self.old.bots commands.now) (leaders (acts self.old.bots commands.now))
+            turns.old }
         requires order { IsPermutation (leader_bids (acts self.old.bots commands.now)) order.now }
         requires payable { IsPayable self.old.energy }
         ensures value { self.new ≡ after self.old commands.now }
@@ -457,9 +466,11 @@ impl System {
     /// What the turn of one group more makes of the bots of a step that breaks no rule, after the turns of some others.
     pub fn move_group(&self, crew: &mut Crew, commands: &[Command], turns: &Turns, leader: u8)
         requires judged { (step : ℕ) × (broken_of self.now commands.now step ≡ None) }
-        requires turns { AreTurns (acts self.now.bots commands.now) (leaders (acts self.now.bots commands.now)) turns.now }
+        requires turns { AreTurns (acts self.now.bots commands.now) (leaders (acts self.now.bots commands.now))
+            turns.now }
         requires within { All (λ b. IsInSpace self.now.matrix.resolution b.pos) crew.old }
-        requires next { (before : List ℕ) × (rest : List ℕ) × FollowsOn self.now commands.now before leader rest crew.old }
+        requires next { (before : List ℕ) × (rest : List ℕ)
+            × FollowsOn self.now commands.now before leader rest crew.old }
         ensures bots { (before rest : List ℕ) → FollowsOn self.now commands.now before leader rest crew.old
             → crew.new ≡ bots_after_some self.now commands.now (before ++ leader ∷ []) }
         ensures within { All (λ b. IsInSpace self.now.matrix.resolution b.pos) crew.new }

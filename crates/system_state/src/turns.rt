@@ -140,8 +140,9 @@ impl Turns {
     pub(crate) fn arrange(&mut self, order: &[u8])
         requires { IsPermutation (map leader_of self.old) order.now }
         ensures leaders { map leader_of self.new ≡ order.now }
-        ensures groups { (bots : List ActiveBot) (commands : List Command) → AllPairs (λ a b. a.bid < b.bid) bots → length commands ≡ length bots
-            → AreTurns (acts bots commands) (leaders (acts bots commands)) self.old → AreAllTurns (acts bots commands) self.new }
+        ensures groups { (bots : List ActiveBot) (commands : List Command) → AllPairs (λ a b. a.bid < b.bid) bots
+            → length commands ≡ length bots → AreTurns (acts bots commands) (leaders (acts bots commands)) self.old
+            → AreAllTurns (acts bots commands) self.new }
     {
         let mut arranged = ArrayVec::new();
         for leader in order {
@@ -196,11 +197,13 @@ fn push_turn(turns: &mut ArrayVec<Turn, MOST_BOTS>, bots: &[Bot], numbers: &[u8]
     requires i { i < length bots.now }
     requires room { array_vec_len turns.old ≤ i }
     requires crew { IsCrew bots.now }
-    ensures turns { (commands : List Command) → length commands ≡ length bots.now → AreNumbers (acts bots.now commands) numbers.now
+    ensures turns { (commands : List Command) → length commands ≡ length bots.now
+        → AreNumbers (acts bots.now commands) numbers.now
         → AreTurns (acts bots.now commands)
         (filter (is_leader (acts bots.now commands)) (acts (take i bots.now) (take i commands))) turns.old.items
         → AreTurns (acts bots.now commands)
-        (filter (is_leader (acts bots.now commands)) (acts (take (i + 1) bots.now) (take (i + 1) commands))) turns.new.items }
+        (filter (is_leader (acts bots.now commands)) (acts (take (i + 1) bots.now) (take (i + 1) commands)))
+        turns.new.items }
     ensures len { array_vec_len turns.new ≤ i + 1 }
 {
     if usize::from(numbers[i]) != i {
@@ -217,7 +220,8 @@ fn push_turn(turns: &mut ArrayVec<Turn, MOST_BOTS>, bots: &[Bot], numbers: &[u8]
 pub(crate) fn list_turns(turns: &mut ArrayVec<Turn, MOST_BOTS>, bots: &[Bot], numbers: &[u8])
     requires lengths { length numbers.now ≡ length bots.now }
     requires crew { IsCrew bots.now }
-    ensures { (commands : List Command) → length commands ≡ length bots.now → AreNumbers (acts bots.now commands) numbers.now
+    ensures { (commands : List Command) → length commands ≡ length bots.now
+        → AreNumbers (acts bots.now commands) numbers.now
         → AreTurns (acts bots.now commands) (leaders (acts bots.now commands)) turns.new.items }
 {
     turns.clear();

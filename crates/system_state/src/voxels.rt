@@ -76,8 +76,8 @@ fn met_by(size: u32, others: u32, full: bool) -> Met
 
 /// What the turn of a group costs, by its leader's command.
 fn turn_cost(command: &Command, met: Met) -> i64
-    ensures cost { (m : Matrix) (p : Point) → met.void ≡ void_count m p command.now → met.full ≡ met_full_count m p command.now
-        → result ≡ group_cost m p command.now }
+    ensures cost { (m : Matrix) (p : Point) → met.void ≡ void_count m p command.now
+        → met.full ≡ met_full_count m p command.now → result ≡ group_cost m p command.now }
 {
     if let Command::FusionS(d) = command {
         return command_cost(Command::FusionP(*d), met.void, met.full);

@@ -72,7 +72,8 @@ fn with_four(alloc: Global, source: Planes) -> Result<Plan, Memory>
 pub fn plan_void(alloc: Global, source: &Planes) -> Result<Plan, Memory>
     requires { IsLegal source.now }
     ensures accepted { IfOk result
-        (λ plan. IsAccepted source.now (empty source.now.resolution) plan.commands full_profile plan.energy plan.steps) }
+        (λ plan. IsAccepted source.now (empty source.now.resolution) plan.commands
+        full_profile plan.energy plan.steps) }
     ensures steps { IfOk result (λ plan. plan.steps ≤ most_void_steps source.now.resolution) }
     ensures few { IfOk result (λ plan. HasAtMost source.now full_profile plan.commands 4) }
     ensures halt_alone { source.now ≡ empty source.now.resolution

@@ -51,7 +51,8 @@ impl Machine {
         requires one { length self.old.state.bots ≡ 1 }
         requires held { self.old.state.harmonics ≡ Low → FirstUngrounded self.old.state.matrix None }
         requires steps { self.old.steps < 1073741824 }
-        ensures stepped { Stepped self.old self.new (SMove d ∷ []) (answer_of result self.new.state fault.new) steps.old steps.new }
+        ensures stepped { Stepped self.old self.new (SMove d ∷ []) (answer_of result self.new.state fault.new)
+            steps.old steps.new }
         ensures memory { result ≡ false → fault.new ≡ StepFault.Memory → is_edit (SMove d) ≡ true }
     {
         if self.move_by_one(d, steps) {
@@ -70,7 +71,8 @@ impl Machine {
         ensures made { result ≡ true → (fault : Fault)
             → Stepped self.old self.new (SMove d ∷ []) (answer_of true self.new.state fault) steps.old steps.new }
         ensures stays { result ≡ false → self.new ≡ self.old }
-        ensures touches { steps.new ≤ steps.old + volatile_total self.old.state.matrix (acts self.old.state.bots (SMove d ∷ [])) }
+        ensures touches { steps.new
+            ≤ steps.old + volatile_total self.old.state.matrix (acts self.old.state.bots (SMove d ∷ [])) }
     {
         let step = self.steps + 1;
         self.system.know();
@@ -89,7 +91,8 @@ impl Machine {
         requires one { length self.old.state.bots ≡ 1 }
         requires held { self.old.state.harmonics ≡ Low → FirstUngrounded self.old.state.matrix None }
         requires steps { self.old.steps < 1073741824 }
-        ensures stepped { (began : ℕ) → steps.old ≤ began + volatile_total self.old.state.matrix (acts self.old.state.bots (SMove d ∷ []))
+        ensures stepped { (began : ℕ)
+            → steps.old ≤ began + volatile_total self.old.state.matrix (acts self.old.state.bots (SMove d ∷ []))
             → Stepped self.old self.new (SMove d ∷ []) (answer_of result self.new.state fault.new) began steps.new }
         ensures memory { result ≡ false → fault.new ≡ StepFault.Memory → is_edit (SMove d) ≡ true }
     {
@@ -113,9 +116,11 @@ impl Machine {
         requires held { self.old.state.harmonics ≡ Low → FirstUngrounded self.old.state.matrix None }
         requires steps { self.old.steps < 1073741824 }
         ensures made { result ≡ true → (fault : Fault)
-            → Stepped self.old self.new (edit_of FULL d ∷ []) (answer_of true self.new.state fault) steps.old steps.new }
+            → Stepped self.old self.new (edit_of FULL d ∷ []) (answer_of true self.new.state fault) steps.old
+            steps.new }
         ensures stays { result ≡ false → self.new ≡ self.old }
-        ensures declined { result ≡ false → IsDeclined self.old.state (edit_of FULL d ∷ []) (self.old.steps + 1) steps.old steps.new }
+        ensures declined { result ≡ false
+            → IsDeclined self.old.state (edit_of FULL d ∷ []) (self.old.steps + 1) steps.old steps.new }
     {
         let step = self.steps + 1;
         let commands = [edit(d, FULL)];
@@ -145,7 +150,8 @@ impl Machine {
         requires one { length self.old.state.bots ≡ 1 }
         requires steps { self.old.steps < 1073741824 }
         ensures { (began : ℕ) → IsDeclined self.old.state (edit_of FULL d ∷ []) (self.old.steps + 1) began steps.old
-            → Stepped self.old self.new (edit_of FULL d ∷ []) (answer_of result self.new.state fault.new) began steps.new }
+            → Stepped self.old self.new (edit_of FULL d ∷ []) (answer_of result self.new.state fault.new) began
+            steps.new }
     {
         let step = self.steps + 1;
         let commands = [edit(d, FULL)];
@@ -183,7 +189,8 @@ impl Machine {
         requires one { length self.old.state.bots ≡ 1 }
         requires held { self.old.state.harmonics ≡ Low → FirstUngrounded self.old.state.matrix None }
         requires steps { self.old.steps < 1073741824 }
-        ensures { Stepped self.old self.new (edit_of FULL d ∷ []) (answer_of result self.new.state fault.new) steps.old steps.new }
+        ensures { Stepped self.old self.new (edit_of FULL d ∷ []) (answer_of result self.new.state fault.new)
+            steps.old steps.new }
     {
         if self.edit_at_once::<FULL, L>(d, steps) {
             return true;
@@ -211,8 +218,11 @@ impl Machine {
         steps: &mut Steps<L>,
     ) -> Tried
         requires steps { self.old.steps < 1073741824 }
-        ensures made { result ≡ Tried.Made → Stepped self.old self.new (command.now ∷ []) (answer_of true self.new.state fault.new) steps.old steps.new }
-        ensures refused { result ≡ Tried.Refused → Stepped self.old self.new (command.now ∷ []) (Err fault.new) steps.old steps.new }
+        ensures made { result ≡ Tried.Made
+            → Stepped self.old self.new (command.now ∷ []) (answer_of true self.new.state fault.new) steps.old
+            steps.new }
+        ensures refused { result ≡ Tried.Refused
+            → Stepped self.old self.new (command.now ∷ []) (Err fault.new) steps.old steps.new }
         ensures memory { result ≡ Tried.Refused → fault.new ≡ StepFault.Memory → is_edit command.now ≡ true }
         ensures one { result ≢ Tried.Declined → length self.old.state.bots ≡ 1 }
         ensures stays { result ≡ Tried.Declined → self.new ≡ self.old }
@@ -234,8 +244,11 @@ impl Machine {
     ) -> Tried
         requires alone { IsSolo self.old }
         requires steps { self.old.steps < 1073741824 }
-        ensures made { result ≡ Tried.Made → Stepped self.old self.new (command.now ∷ []) (answer_of true self.new.state fault.new) steps.old steps.new }
-        ensures refused { result ≡ Tried.Refused → Stepped self.old self.new (command.now ∷ []) (Err fault.new) steps.old steps.new }
+        ensures made { result ≡ Tried.Made
+            → Stepped self.old self.new (command.now ∷ []) (answer_of true self.new.state fault.new) steps.old
+            steps.new }
+        ensures refused { result ≡ Tried.Refused
+            → Stepped self.old self.new (command.now ∷ []) (Err fault.new) steps.old steps.new }
         ensures memory { result ≡ Tried.Refused → fault.new ≡ StepFault.Memory → is_edit command.now ≡ true }
         ensures alone { result ≡ Tried.Made → IsSolo self.new }
         ensures stays { result ≡ Tried.Declined → self.new ≡ self.old }

@@ -114,9 +114,12 @@ impl Machine {
     pub fn undo<L: Ledger>(&mut self, undo: &Undo, steps: &mut Steps<L>) -> Result<(), Memory>
         requires stands { self.old.spent ≡ false }
         requires may { MayUndo self.old.state undo.now }
-        ensures value { IfOk result (λ _. self.new ≡ record { state = state_before self.old.state undo.now; steps = undo.now.steps; spent = false }) }
+        ensures value { IfOk result
+            (λ _. self.new ≡ record
+            { state = state_before self.old.state undo.now; steps = undo.now.steps; spent = false }) }
         ensures memory { IfErr result (λ _. self.new ≡ record self.old { spent = true }) }
-        ensures touches { IfOk result (λ _. IsUndoneBy self.old.state.matrix undo.now.filled.items undo.now.voided.items steps.old steps.new) }
+        ensures touches { IfOk result
+            (λ _. IsUndoneBy self.old.state.matrix undo.now.filled.items undo.now.voided.items steps.old steps.new) }
     {
         let filled = undo.filled.as_slice();
         let voided = undo.voided.as_slice();

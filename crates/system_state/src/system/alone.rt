@@ -71,7 +71,8 @@ impl System {
         ensures moved { IfNone result (self.new ≡ after self.old (SMove d ∷ [])) }
         ensures one { IfNone result (length self.new.bots ≡ 1) }
         ensures stays { IfSome result (λ _. self.new ≡ self.old) }
-        ensures touches { steps.new ≤ steps.old + 2 * volatile_total self.old.matrix (acts self.old.bots (SMove d ∷ [])) }
+        ensures touches { steps.new
+            ≤ steps.old + 2 * volatile_total self.old.matrix (acts self.old.bots (SMove d ∷ [])) }
     {
         self.know();
         let bot = self.only_bot();

@@ -75,7 +75,8 @@ impl System {
     pub(super) fn move_only(&mut self, c: Coord)
         requires one { length self.old.bots ≡ 1 }
         requires within { IsInSpace self.old.matrix.resolution c }
-        ensures { (b : ActiveBot) → self.old.bots ≡ b ∷ [] → self.new ≡ record self.old { bots = moved b (point c) ∷ [] } }
+        ensures { (b : ActiveBot) → self.old.bots ≡ b ∷ []
+            → self.new ≡ record self.old { bots = moved b (point c) ∷ [] } }
     {
         self.crew.move_only(c);
     }
