@@ -10,7 +10,7 @@ use Rattle.vox_geom.specs.Space.{coordinate}
 use Rattle.vox_geom.proofs.Truths.{false_by, first_of_two, not_is_false, one_of_two, or_false, second_of_two}
 use Rattle.vox_geom.proofs.Tests.{equal_by_test}
 use Rattle.nano_spec.specs.declared.commands.Command.{Command}
-use Rattle.nano_spec.specs.declared.commands.Command.TheVariants.{Halt, Wait, Flip, SMove, LMove, FusionP, FusionS, Fission, Fill, Void, GFill, GVoid}
+use Rattle.nano_spec.specs.declared.commands.Command.TheVariants.{FusionP, FusionS, GFill, GVoid}
 use Rattle.nano_spec.specs.declared.outcomes.Rule.{Rule}
 use Rattle.nano_spec.specs.declared.outcomes.Rule.TheVariants.{OutOfSpace, GroupShape}
 use Rattle.nano_spec.specs.declared.system.Bot.{Bot}
@@ -162,16 +162,7 @@ module _ (bots : List Bot) (commands : List Command) (lengths : length commands 
   few_by : (s : State) (b : Bot) (k : Command) → fault s (acts bots commands) (act b k) GroupShape ≡ None → length (members (acts bots commands) (act b k)) ≤ 8
   few_by s b (GFill d f) e = fits _ (between (plus (position (act b (GFill d f))) d) (plus (plus (position (act b (GFill d f))) d) f)) _ (here_false (act b (GFill d f)) _ e)
   few_by s b (GVoid d f) e = fits _ (between (plus (position (act b (GVoid d f))) d) (plus (plus (position (act b (GVoid d f))) d) f)) _ (here_false (act b (GVoid d f)) _ e)
-  few_by s b Halt e = pair_at_most (act b Halt) (λ x. refl)
-  few_by s b Wait e = pair_at_most (act b Wait) (λ x. refl)
-  few_by s b Flip e = pair_at_most (act b Flip) (λ x. refl)
-  few_by s b (SMove d) e = pair_at_most (act b (SMove d)) (λ x. refl)
-  few_by s b (LMove d f) e = pair_at_most (act b (LMove d f)) (λ x. refl)
-  few_by s b (FusionP d) e = pair_at_most (act b (FusionP d)) (λ x. refl)
-  few_by s b (FusionS d) e = pair_at_most (act b (FusionS d)) (λ x. refl)
-  few_by s b (Fission d m) e = pair_at_most (act b (Fission d m)) (λ x. refl)
-  few_by s b (Fill d) e = pair_at_most (act b (Fill d)) (λ x. refl)
-  few_by s b (Void d) e = pair_at_most (act b (Void d)) (λ x. refl)
+  few_by s b k e = pair_at_most (act b k) (λ x. refl)
 
   -- what the rules of single bots say, where none is broken
   pub judged : (s : State) (step : ℕ) → judge_each s (acts bots commands) step (acts bots commands) ≡ None → AreJudged s.matrix.resolution (acts bots commands)

@@ -1,6 +1,8 @@
 -- The boxes of a group, and the groups of the leaders so far.
+use Rattle.vox_geom.proofs.Truths.{or_false}
+use Rattle.step_groups.specs.Judging.{is_alone}
 use Rattle.std.proofs.Common.{◌≡◌, ℕ, ◌<◌, ◌≤◌, refl, ap, sym, ◌∙◌, subst, arith, inl, inr, Bool, true, false, ◌||◌, not, cond, List, [], ◌∷◌, ◌++◌, filter, length, map, min, max}
-use Rattle.std.specs.Prelude.{All}
+use Rattle.std.specs.Prelude.{All, IsTrue}
 use Rattle.std.specs.List.{list_any}
 use Rattle.std.proofs.lemmas.List.Folds.{list_any-append}
 use Rattle.std.proofs.lemmas.List.Elements.{filter-append}
@@ -19,7 +21,7 @@ use Rattle.step_order.proofs.Lists.{In, in_place, place_in}
 use Rattle.step_groups.specs.Boxes.{AreBoxesIn, IsBoxIn, in_boxes}
 use Rattle.step_groups.specs.Groups.{AreGroups, IsGroup, bid_of, box_of_bot}
 use Rattle.step_groups.specs.declared.groups.Group.{Group}
-use Rattle.step_groups.proofs.Mates.{group, leads, volatile}
+use Rattle.step_groups.proofs.Mates.{group, leads, volatile, none_after, none_before}
 
 -- ---- boxes
 
@@ -114,6 +116,15 @@ module _ (r : ℕ) (all xs ys : List Act) (a : Act) (whole : all ≡ xs ++ a ∷
       } in
       subst (λ (ls : List Act). AreGroups r all ls next) (sym (ap (filter (is_leader all)) e ∙ with_leader all xs a true (leads_all ∙ ap not h)))
       (subst (λ (gs : List Group). AreGroups r all (filter (is_leader all) xs ++ a ∷ []) gs) (sym f) (one_more r all (filter (is_leader all) xs) groups a g k one))
+
+  -- a bot that is alone
+  pub add_alone : (more : List Act) (groups next : List Group) (g : Group) → more ≡ xs ++ a ∷ [] → next ≡ groups ++ g ∷ [] → IsTrue (is_alone a.command) → g.leader ≡ a.bot.bid → g.members.items ≡ a.bot.bid ∷ [] → ((c : Coord) → in_boxes g.boxes.items c ≡ is_volatile_of (point c) a) → AreBoxesIn r g.boxes.items → AreGroups r all (filter (is_leader all) xs) groups → AreGroups r all (filter (is_leader all) more) next
+  add_alone more groups next g e f h leader mates boxes space k =
+      let after : filter (are_together a) ys ≡ [] = none_after xs ys a rise h in
+      add_joined more groups next g e f (none_before xs ys a rise h) leader
+      (mates ∙ ap (λ zs. a.bot.bid ∷ map bid_of zs) (sym after))
+      (λ c. boxes c ∙ (sym (or_false (is_volatile_of (point c) a)) ∙ ap (λ zs. is_volatile_of (point c) a || list_any (λ b. is_within (span (box_of_bot b)) (point c)) zs) (sym after)))
+      space k
 
   -- a leader of no more than eight has seven after it
   pub few_after : list_any (are_together a) xs ≡ false → length (members all a) ≤ 8 → length (filter (are_together a) ys) ≤ 7

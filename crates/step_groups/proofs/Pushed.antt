@@ -17,10 +17,10 @@ use Rattle.step_order.proofs.Lists.{In, filter_in}
 use Rattle.step_order.proofs.Judgements.{all_bots}
 use Rattle.step_groups.specs.Boxes.{AreBoxesIn, in_boxes}
 use Rattle.step_groups.specs.Groups.{AreGroups, box_of_bot}
-use Rattle.step_groups.specs.Judging.{act}
+use Rattle.step_groups.specs.Judging.{act, is_alone}
 use Rattle.step_groups.specs.Numbers.{with_number}
 use Rattle.step_groups.specs.declared.groups.Group.{Group}
-use Rattle.step_groups.proofs.Joined.{acts_within, add_joined, add_none, all_in, few_after, in_more, more_in}
+use Rattle.step_groups.proofs.Joined.{acts_within, add_alone, add_joined, add_none, all_in, few_after, in_more, more_in}
 use Rattle.step_groups.proofs.Mates.{in_back, in_middle, split_at, take_more}
 use Rattle.step_groups.proofs.Telling.{of_bots}
 
@@ -58,6 +58,9 @@ module _ (r : ℕ) (bots : List Bot) (commands : List Command) (i : ℕ) (b : Bo
 
     pub none_here : (groups : List Group) → list_any (are_together (act b k)) (acts (take i bots) (take i commands)) ≡ true → AreGroups r (acts bots commands) (filter (is_leader (acts bots commands)) (acts (take i bots) (take i commands))) groups → AreGroups r (acts bots commands) (filter (is_leader (acts bots commands)) (acts (take (i + 1) bots) (take (i + 1) commands))) groups
     none_here groups e h = add_none r all xs ys a whole up more groups one_more e h
+
+    pub alone_here : (groups next : List Group) (g : Group) → next ≡ groups ++ g ∷ [] → IsTrue (is_alone k) → g.leader ≡ b.bid → g.members.items ≡ b.bid ∷ [] → ((c : Coord) → in_boxes g.boxes.items c ≡ is_volatile_of (point c) (act b k)) → AreBoxesIn r g.boxes.items → AreGroups r (acts bots commands) (filter (is_leader (acts bots commands)) (acts (take i bots) (take i commands))) groups → AreGroups r (acts bots commands) (filter (is_leader (acts bots commands)) (acts (take (i + 1) bots) (take (i + 1) commands))) next
+    alone_here groups next g f alone leader mates boxes space h = add_alone r all xs ys a whole up more groups next g one_more f alone leader mates boxes space h
 
     -- the bots behind a leader that have its number
     module _ (ns : List ℕ) (n : ℕ) (tell : with_number n (take (length bots - (i + 1)) (drop (i + 1) bots)) (take (length ns - (i + 1)) (drop (i + 1) ns)) ≡ map (λ (x : Act). x.bot) (filter (are_together (act b k)) (acts (drop (i + 1) bots) (drop (i + 1) commands)))) (leads : list_any (are_together (act b k)) (acts (take i bots) (take i commands)) ≡ false) where

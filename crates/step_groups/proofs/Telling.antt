@@ -1,4 +1,5 @@
 -- The numbers of the groups tell who leads, and who is of whose group.
+use Rattle.std.specs.Prelude.{AllPairs, IsTrue}
 use Rattle.std.proofs.Common.{◌≡◌, ◌≢◌, ℕ, zero, suc, ◌+◌, ◌-◌, ◌<◌, refl, ap, sym, ◌∙◌, subst, arith, inl, inr, ◌⊎◌, Bool, true, false, ◌||◌, ◌==◌, not, cond, List, [], ◌∷◌, ◌++◌, filter, length, map, take, drop, get_or}
 use Rattle.std.specs.List.{list_any, position_or_len}
 use Rattle.std.proofs.lemmas.List.{drop-map, get_or_default, length-map}
@@ -14,11 +15,11 @@ use Rattle.step_order.proofs.Facts.{Rising, pairs_in, rising_is}
 use Rattle.step_order.proofs.Judgements.{all_bots}
 use Rattle.step_order.proofs.Lists.{In, in_map, place_in}
 use Rattle.step_order.proofs.Together.{AreApart, together_back, together_on, with_itself}
-use Rattle.step_groups.specs.Judging.{act}
+use Rattle.step_groups.specs.Judging.{act, is_alone}
 use Rattle.step_groups.specs.Numbers.{AreNumbers, TellsMembers, group_number, with_number}
 use Rattle.step_groups.proofs.Joined.{bot_in}
 use Rattle.step_groups.proofs.Lists.{to_end}
-use Rattle.step_groups.proofs.Mates.{blank, in_back, in_middle, split_at}
+use Rattle.step_groups.proofs.Mates.{blank, in_back, in_middle, none_before, split_at}
 
 -- ---- the first that passes
 
@@ -40,7 +41,7 @@ pub place_before : {X : Type 0} (p : X → Bool) (xs ys : List X) (a : X) → p 
 place_before p [] ys a e = rw e refl
 place_before p (x ∷ xs) ys a e = ap (λ n. cond (not (p x)) (1 + n) 0) (place_before p xs ys a e)
 
-none_found : {X : Type 0} (p : X → Bool) (xs : List X) → list_any p xs ≡ false → position_or_len p xs ≡ length xs
+pub none_found : {X : Type 0} (p : X → Bool) (xs : List X) → list_any p xs ≡ false → position_or_len p xs ≡ length xs
 none_found p [] e = refl
 none_found p (x ∷ xs) e = none_step (p x) (list_any p xs) (position_or_len p xs) (length xs) e (none_found p xs)
   where
@@ -76,6 +77,19 @@ rest_lengths [] [] (suc i) e = refl
 rest_lengths [] (y ∷ ys) (suc i) e = absurd (omega arith)
 rest_lengths (x ∷ xs) [] (suc i) e = absurd (omega arith)
 rest_lengths (x ∷ xs) (y ∷ ys) (suc i) e = rest_lengths xs ys i (omega arith)
+
+-- none of the bots before it is of the group of a bot that acts alone
+pub alone_before : (bots : List Bot) (commands : List Command) (i : ℕ) (b : Bot) (k : Command) → i < length bots → length commands ≡ length bots → b ≡ get_or bots i b → k ≡ get_or commands i k → AllPairs (λ a b. a.bid < b.bid) bots → IsTrue (is_alone k) → list_any (are_together (act b k)) (acts (take i bots) (take i commands)) ≡ false
+alone_before bots commands i b k lt lengths bi ki rising h =
+    let up : Rising (map (λ (x : Act). x.bot) (acts bots commands)) = subst (λ (bs : List Bot). Rising bs) (sym (all_bots bots commands lengths)) (rising_is bots rising) in
+    none_before (acts (take i bots) (take i commands)) (acts (drop (i + 1) bots) (drop (i + 1) commands)) (act b k) (subst (λ (xs : List Act). Rising (map (λ (x : Act). x.bot) xs)) (split_at bots commands i b k lt lengths bi ki) up) h
+
+-- the number of the only bot
+pub only_number : (bots : List Bot) (commands : List Command) → length bots ≡ 1 → length commands ≡ length bots → AreNumbers (acts bots commands) (0 ∷ [])
+only_number [] commands e f = absurd (omega arith)
+only_number (b ∷ []) [] e f = absurd (omega arith)
+only_number (b ∷ []) (k ∷ commands) e f = λ i. cond (not (sym (with_itself (act b k)) i)) (1 + 0) 0 ∷ []
+only_number (b ∷ c ∷ bots) commands e f = absurd (omega arith)
 
 -- the number of the bot at a place is told by the bots before it
 pub first_before : (bots : List Bot) (commands : List Command) (i : ℕ) (b : Bot) (k : Command) → i < length bots → length commands ≡ length bots → b ≡ get_or bots i b → k ≡ get_or commands i k → position_or_len (are_together (act b k)) (acts (take i bots) (take i commands)) ≡ group_number (acts bots commands) (act b k)

@@ -106,6 +106,10 @@ fn push_group(
         return;
     }
     let mut group = lone_group(planes, bot, command);
+    if acts_alone(command) {
+        groups.push(group);
+        return;
+    }
     join(&mut group, &bots[i + 1..], &numbers[i + 1..], numbers[i]);
     groups.push(group);
 }

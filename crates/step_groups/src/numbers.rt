@@ -1,22 +1,29 @@
 //! The numbers of a step's groups: each bot has the place of the first bot of its group.
-ghost use Rattle.std.specs.Prelude.{◌≡◌, ◌≤◌, length};
-ghost use Rattle.std.specs.List.{position_or_len};
+ghost use Rattle.std.specs.Prelude.{◌≡◌, ◌≤◌, IsTrue, false, length};
+ghost use Rattle.std.specs.List.{list_any, position_or_len};
 ghost use Rattle.nano_spec.specs.Act.{acts};
 ghost use Rattle.nano_spec.specs.Group.{are_together as are_together_of};
-ghost use Rattle.step_groups.specs.Judging.{act};
+ghost use Rattle.bot_crew.specs.Crew.{IsCrew};
+ghost use Rattle.step_groups.specs.Judging.{act, is_alone};
 ghost use Rattle.step_groups.specs.Numbers.{AreNumbers};
 
+use crate::members::acts_alone;
 use crate::partners::are_together;
 use arrayvec::ArrayVec;
 use bot_crew::MOST_BOTS;
 use nano_spec::{Bot, Command};
 
-/// The place of the first of these bots that is of the bot's group, or how many they are.
+/// The place of the first of these bots that is of the bot's group, or how many they are. None is where the bot acts alone.
 fn first_mate(bots: &[Bot], commands: &[Command], bot: &Bot, command: &Command) -> usize
-    requires { length commands.now ≡ length bots.now }
+    requires lengths { length commands.now ≡ length bots.now }
+    requires alone { IsTrue (is_alone command.now)
+        → list_any (are_together_of (act bot.now command.now)) (acts bots.now commands.now) ≡ false }
     ensures value { result ≡ position_or_len (are_together_of (act bot.now command.now)) (acts bots.now commands.now) }
     ensures most { result ≤ length bots.now }
 {
+    if acts_alone(command) {
+        return bots.len();
+    }
     for i in 0..bots.len() {
         if are_together(bot, command, &bots[i], &commands[i]) {
             return i;
@@ -28,7 +35,7 @@ fn first_mate(bots: &[Bot], commands: &[Command], bot: &Bot, command: &Command) 
 /// The numbers of the groups, also where the step breaks a rule.
 pub fn number_groups(bots: &[Bot], commands: &[Command]) -> ArrayVec<u8, MOST_BOTS>
     requires lengths { length commands.now ≡ length bots.now }
-    requires most { length bots.now ≤ 40 }
+    requires crew { IsCrew bots.now }
     ensures { AreNumbers (acts bots.now commands.now) result.items }
 {
     let mut numbers = ArrayVec::new();

@@ -11,7 +11,6 @@ ghost use Rattle.step_groups.specs.Groups.{AreLone};
 ghost use Rattle.step_groups.specs.Judging.{edit_of, rule_broken, start_of};
 ghost use Rattle.step_groups.specs.Steps.{CanBeJudged, acts_of_step, broken_in};
 
-use crate::numbers::number_groups;
 use crate::rules::{breaks, end_of_move, is_clear_by_one, judge_bots, named_by, reached};
 use crate::step::Step;
 use nano_spec::{Bot, Broken, Command, Profile, Rule};
@@ -28,8 +27,7 @@ pub fn judge_single<L: Ledger>(step: &Step, steps: &mut Steps<L>) -> Option<Brok
     ensures lone { AreLone (acts_of_step step.now) }
     ensures touches { steps.new ≤ steps.old + 2 * volatile_total step.now.planes.now (acts_of_step step.now) }
 {
-    let numbers = number_groups(step.bots, step.commands);
-    judge_bots(step, numbers.as_slice(), steps)
+    judge_bots(step, &[0], steps)
 }
 
 /// Where the only bot gets to by a straight move, or the first rule that the step breaks. The way is read once.

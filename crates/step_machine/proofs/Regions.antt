@@ -72,18 +72,11 @@ empties _ = false
 
 -- a command that voids fills nothing, and the other way round
 pub other_edit : (b : Bot) (command : Command) (c : Coord) → is_edited (not (empties command)) (act b command) c ≡ false
-other_edit b Halt c = refl
-other_edit b Wait c = refl
-other_edit b Flip c = refl
-other_edit b (SMove d) c = refl
-other_edit b (LMove d e) c = refl
-other_edit b (FusionP d) c = refl
-other_edit b (FusionS d) c = refl
-other_edit b (Fission d m) c = refl
 other_edit b (Fill d) c = refl
 other_edit b (Void d) c = refl
 other_edit b (GFill d f) c = refl
 other_edit b (GVoid d f) c = refl
+other_edit b k c = refl
 
 -- no coordinate is both voided and filled by one act
 pub one_edit : (a : Act) (c : Coord) → is_edited true a c ≡ true → is_edited false a c ≡ true → ⊥

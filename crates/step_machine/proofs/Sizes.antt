@@ -103,14 +103,6 @@ fits_is : (n k : ℕ) → (not (n == k) || false) ≡ false → n ≡ k
 fits_is n k h = grind (arith, nat_tests)
 
 pub act_most : (m : Matrix) (b : Bot) (k : Command) (n : ℕ) → is_command k ≡ true → Fits (act b k) n → 8 * edits_of m (act b k) ≤ 29791 * n
-act_most m b Halt n h f = none_most m n
-act_most m b Wait n h f = none_most m n
-act_most m b Flip n h f = none_most m n
-act_most m b (SMove d) n h f = none_most m n
-act_most m b (LMove d e) n h f = none_most m n
-act_most m b (FusionP d) n h f = none_most m n
-act_most m b (FusionS d) n h f = none_most m n
-act_most m b (Fission d k) n h f = none_most m n
 act_most m b (Fill d) n h f =
     let e = count_none (all_of m) in let l = count_one m (just (plus (point b.pos) d)) in let o = just_one (plus (point b.pos) d) in let p = f.1 in omega (arith, e, l, o, p)
 act_most m b (Void d) n h f =
@@ -127,6 +119,7 @@ act_most m b (GVoid d f) n h g =
     let k = far_most (plus (point b.pos) d) f (second_of_two (is_near d) (is_far f) h) in
     let p = fits_is n (2 ^ dimension (between (plus (point b.pos) d) (plus (plus (point b.pos) d) f))) g.0 in
     omega (arith, e, l, k, p)
+act_most m b k n h f = none_most m n
 
 -- ---- a list whose elements differ and are of another list
 

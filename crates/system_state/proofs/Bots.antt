@@ -7,7 +7,7 @@ use Rattle.vox_geom.specs.Point.{point, plus}
 use Rattle.vox_geom.specs.Space.{IsInSpace, in_space}
 use Rattle.vox_geom.proofs.Truths.{first_of_two, second_of_two}
 use Rattle.nano_spec.specs.declared.commands.Command.{Command}
-use Rattle.nano_spec.specs.declared.commands.Command.TheVariants.{Halt, Wait, Flip, SMove, LMove, FusionP, FusionS, Fission, Fill, Void, GFill, GVoid}
+use Rattle.nano_spec.specs.declared.commands.Command.TheVariants.{Halt, SMove, LMove, FusionP, FusionS, Fission, GFill, GVoid}
 use Rattle.nano_spec.specs.declared.system.Bot.{Bot}
 use Rattle.nano_spec.specs.Act.{stays_in_space}
 use Rattle.nano_spec.specs.Bots.{fused, in_rising_order, moved, newborn, parent, successors}
@@ -115,17 +115,12 @@ module _ (r : ℕ) (bots : List Bot) (within : (b : Bot) → In b bots → IsInS
   -- the bots after a turn stand in space
   pub after_within : (partner : ℕ) (command : Command) → stays_in_space r (act bot command) ≡ true → (b : Bot) → In b (bots_after_turn bots bot partner command) → IsInSpace r b.pos
   after_within partner Halt e b i = absurd i
-  after_within partner Wait e b i = within b i
-  after_within partner Flip e b i = within b i
   after_within partner (SMove d) e b i = all_replaced (λ (c : Bot). IsInSpace r c.pos) bots (bot.bid ∷ []) (moved bot (plus (point bot.pos) d) ∷ []) within (one (moved bot (plus (point bot.pos) d)) (space_is r (plus (point bot.pos) d) (first_of_two (in_space r (plus (point bot.pos) d)) true e)).0) b i
   after_within partner (LMove d f) e b i = all_replaced (λ (c : Bot). IsInSpace r c.pos) bots (bot.bid ∷ []) (moved bot (plus (plus (point bot.pos) d) f) ∷ []) within (one (moved bot (plus (plus (point bot.pos) d) f)) (space_is r (plus (plus (point bot.pos) d) f) (first_of_two (in_space r (plus (plus (point bot.pos) d) f)) true (second_of_two (in_space r (plus (point bot.pos) d)) (in_space r (plus (plus (point bot.pos) d) f) && true) e))).0) b i
   after_within partner (FusionP d) e b i = joined partner (bot.bid ∷ partner ∷ []) (λ other. fused bot other) (λ other j. here) b i
   after_within partner (FusionS d) e b i = joined partner (partner ∷ bot.bid ∷ []) (λ other. fused other bot) (λ other j. within other j) b i
   after_within partner (Fission d m) e b i = all_replaced (λ (c : Bot). IsInSpace r c.pos) bots (bot.bid ∷ []) (parent bot m ∷ newborn bot (plus (point bot.pos) d) m ∷ []) within (two (parent bot m) (newborn bot (plus (point bot.pos) d) m) here (space_is r (plus (point bot.pos) d) (first_of_two (in_space r (plus (point bot.pos) d)) true e)).0) b i
-  after_within partner (Fill d) e b i = within b i
-  after_within partner (Void d) e b i = within b i
-  after_within partner (GFill d f) e b i = within b i
-  after_within partner (GVoid d f) e b i = within b i
+  after_within partner command e b i = within b i
 
 -- ---- bots that are groups of their own
 
@@ -144,17 +139,14 @@ alone_bots bots bot partner command h rising i lone = by command h lone
 
     by : (c : Command) → is_alone c ≡ true → (c ≡ Halt → bots ≡ bot ∷ []) → replaced bots (bot.bid ∷ []) (successors (act bot c ∷ []) (act bot c) c ++ []) ≡ bots_after_turn bots bot partner c
     by Halt e l = ap (λ (bs : List Bot). in_rising_order (without bs (bot.bid ∷ []))) (l refl) ∙ halted bot
-    by Wait e l = still
-    by Flip e l = still
     by (SMove d) e l = refl
     by (LMove d f) e l = refl
     by (FusionP d) e l = cc
     by (FusionS d) e l = cc
     by (Fission d m) e l = refl
-    by (Fill d) e l = still
-    by (Void d) e l = still
     by (GFill d f) e l = cc
     by (GVoid d f) e l = cc
+    by c e l = still
 
 -- ---- all bots after a turn
 

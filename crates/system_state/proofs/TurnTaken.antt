@@ -14,7 +14,7 @@ use Rattle.vox_geom.specs.Space.{IsInSpace, coordinate, in_space}
 use Rattle.vox_geom.proofs.Truths.{false_by, first_of_two, one_of_two, same_truth}
 use Rattle.vox_geom.proofs.Tests.{not_at_most_by_test}
 use Rattle.nano_spec.specs.declared.commands.Command.{Command}
-use Rattle.nano_spec.specs.declared.commands.Command.TheVariants.{Halt, Wait, Flip, SMove, LMove, FusionP, FusionS, Fission, Fill, Void, GFill, GVoid}
+use Rattle.nano_spec.specs.declared.commands.Command.TheVariants.{Halt, SMove, LMove, FusionP, FusionS, Fission, GFill, GVoid}
 use Rattle.nano_spec.specs.declared.system.Bot.{Bot}
 use Rattle.nano_spec.specs.Act.{Act, filled, is_flip, is_fusion, named_points, position, voided}
 use Rattle.nano_spec.specs.Bots.{fused, in_rising_order, moved, newborn, successors, after_fusion}
@@ -45,18 +45,11 @@ use Rattle.step_groups.specs.Groups.{bid_of}
 
 -- a bot acts alone, in a fusion, or in a group command
 kind : (c : Command) → (is_alone c ≡ true) ⊎ ((is_fusion c ≡ true) ⊎ (is_group c ≡ true))
-kind Halt = inl refl
-kind Wait = inl refl
-kind Flip = inl refl
-kind (SMove d) = inl refl
-kind (LMove d e) = inl refl
 kind (FusionP d) = inr (inl refl)
 kind (FusionS d) = inr (inl refl)
-kind (Fission d m) = inl refl
-kind (Fill d) = inl refl
-kind (Void d) = inl refl
 kind (GFill d f) = inr (inr refl)
 kind (GVoid d f) = inr (inr refl)
+kind c = inl refl
 
 no_work : (p : Point) (c : Command) → is_fusion c ≡ true → (filled p c ≡ []) × (voided p c ≡ [])
 no_work p (FusionP d) h = (refl, refl)
@@ -178,8 +171,6 @@ module _ (s : State) (all : List Act) (good : IsGood s all) (l : Act) (leads : I
       let few : length t.bots ≤ 1 = at_most_one (length t.bots) (halts_alone t (members all l) keeps l itself_in e) in
       let some : 1 ≤ length t.bots = some_of l.bot t.bots (bot_there l itself_in) in
       omega arith
-  needs known Wait e = tt
-  needs known Flip e = tt
   needs known (SMove d) e = free_for t.bots l.bot (coordinate (plus (point l.bot.pos) d)) (comes (SMove d) e (moved l.bot (plus (point l.bot.pos) d)) (inl refl))
   needs known (LMove d f) e = free_for t.bots l.bot (coordinate (plus (plus (point l.bot.pos) d) f)) (comes (LMove d f) e (moved l.bot (plus (plus (point l.bot.pos) d) f)) (inl refl))
   needs known (Fission d m) e = (
@@ -199,10 +190,7 @@ module _ (s : State) (all : List Act) (good : IsGood s all) (l : Act) (leads : I
   needs known (FusionS d) e =
       let w = couple s all good l leads (ap is_fusion e) in
       (is_active_partner w.0 w.3, λ k. let u : l.bot.bid < w.0.bot.bid = w.2 in let v : partner ≡ w.0.bot.bid = partner_of w.0 w.3 in omega arith)
-  needs known (Fill d) e = tt
-  needs known (Void d) e = tt
-  needs known (GFill d f) e = tt
-  needs known (GVoid d f) e = tt
+  needs known c e = tt
 
   pub may_take : is_command l.command ≡ true → MayTake t.matrix.resolution t.bots l.bot partner l.command
   may_take known = record {

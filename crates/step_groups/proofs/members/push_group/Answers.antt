@@ -2,7 +2,7 @@ use Rattle.std.proofs.Common.{◌+◌, ◌∙◌, ap, arith, get_or, length, sym
 use Rattle.std.proofs.lemmas.List.{get_or_default}
 use Rattle.step_groups.proofs.Mates.{blank}
 use Rattle.step_groups.proofs.Lists.{to_end}
-use Rattle.step_groups.proofs.Pushed.{few_here, joined_here, none_here, stays_here}
+use Rattle.step_groups.proofs.Pushed.{alone_here, few_here, joined_here, none_here, stays_here}
 use Rattle.step_groups.proofs.Telling.{as_many_numbers, follows_by_number, leads_by_number, rest_lengths, tells_after}
 use Rattle.step_groups.proofs.members.push_group.Goals as goal
 
@@ -29,6 +29,15 @@ returns-then-from-i-clause-groups c =
     let here = get_or_default bots i blank b c.requires.i in
     let follows = follows_by_number bots commands c.requires.lengths c.requires.crew numbers c.requires.numbers i k c.requires.i c.index-commands-i.is (λ e. c.if-from-i.true (c.from.ensures ∙ e)) in
     none_here c.args.planes.now.resolution bots commands i b k c.requires.i c.requires.lengths here c.index-commands-i.is c.requires.crew.rising c.args.groups.now.items follows
+
+pub returns-then-acts_alone-clause-groups : goal.returns-then-acts_alone-clause-groups
+returns-then-acts_alone-clause-groups c =
+    let bots = c.args.bots.now in
+    let i = c.args.i in
+    let b = get_or bots i blank in
+    let lone = c.lone_group-group.ensures in
+    alone_here c.args.planes.now.resolution bots c.args.commands.now i b c.index-commands-i.result c.requires.i c.requires.lengths (get_or_default bots i blank b c.requires.i) c.index-commands-i.is c.requires.crew.rising
+    c.args.groups.now.items c.push.new.self.items c.lone_group-group.result c.push.ensures.items (sym c.acts_alone.ensures ∙ c.if-acts_alone.true) lone.leader lone.members lone.boxes lone.space
 
 pub join-requires-clause-lengths : goal.join-requires-clause-lengths
 join-requires-clause-lengths c =
@@ -83,5 +92,5 @@ returns-clause-groups c =
     let tell = tells_after bots commands c.requires.lengths c.requires.crew numbers c.requires.numbers i k c.requires.i c.index-commands-i.is in
     let lone = c.lone_group-group.ensures in
     joined_here c.args.planes.now.resolution bots commands i b k c.requires.i c.requires.lengths here c.index-commands-i.is c.requires.crew.rising numbers n tell leads
-    c.args.groups.now.items c.push.new.self.items c.lone_group-group.result c.join.new.group c.push.ensures.items lone.leader lone.members lone.boxes lone.space
+    c.args.groups.now.items c.push-2.new.self.items c.lone_group-group.result c.join.new.group c.push-2.ensures.items lone.leader lone.members lone.boxes lone.space
     c.join.ensures.leader c.join.ensures.members c.join.ensures.boxes c.requires.within

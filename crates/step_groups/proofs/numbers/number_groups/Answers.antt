@@ -4,8 +4,15 @@ use Rattle.nano_spec.specs.Act.{acts}
 use Rattle.step_groups.specs.Judging.{act}
 use Rattle.step_groups.specs.Numbers.{group_number}
 use Rattle.step_groups.proofs.Mates.{blank, take_more}
-use Rattle.step_groups.proofs.Telling.{first_before}
+use Rattle.step_groups.proofs.Telling.{alone_before, first_before}
 use Rattle.step_groups.proofs.numbers.number_groups.Goals as goal
+
+pub first_mate-first-requires-clause-alone : goal.first_mate-first-requires-clause-alone
+first_mate-first-requires-clause-alone c =
+    let bots = c.args.bots.now in
+    let i = c.loop-i.i in
+    let b = get_or bots i blank in
+    alone_before bots c.args.commands.now i b c.index-commands-i.result c.loop-i-test.true c.requires.lengths (get_or_default bots i blank b c.loop-i-test.true) c.index-commands-i.is c.requires.crew.rising
 
 pub loop-i-preserved : goal.loop-i-preserved
 loop-i-preserved c =
