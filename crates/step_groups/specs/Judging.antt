@@ -5,7 +5,7 @@ use Rattle.std.specs.Option.{option_or}
 use Rattle.vox_geom.specs.declared.difference.Diff.{Diff}
 use Rattle.vox_geom.specs.Point.{Point, point, plus}
 use Rattle.nano_spec.specs.declared.commands.Command.{Command}
-use Rattle.nano_spec.specs.declared.commands.Command.TheVariants.{Fill, FusionP, FusionS, GFill, GVoid, Void}
+use Rattle.nano_spec.specs.declared.commands.Command.TheVariants.{Fill, FusionP, FusionS, GFill, GVoid, LMove, SMove, Void, Wait}
 use Rattle.nano_spec.specs.declared.outcomes.Broken.{Broken}
 use Rattle.nano_spec.specs.declared.outcomes.Rule.{Rule}
 use Rattle.nano_spec.specs.declared.outcomes.Rule.TheVariants.{HaltAlone, HaltOrigin, HaltLow, OutOfSpace, Blocked, Seeds, InRegion, Partner, GroupShape}
@@ -77,6 +77,15 @@ is_alone (FusionS d) = false
 is_alone (GFill d f) = false
 is_alone (GVoid d f) = false
 is_alone _ = true
+
+-- whether the command is one of those that few of many bots have: no wait, no move, no fill and no void of one voxel
+abbrev pub is_rare : Command → Bool
+is_rare Wait = false
+is_rare (SMove d) = false
+is_rare (LMove d e) = false
+is_rare (Fill d) = false
+is_rare (Void d) = false
+is_rare _ = true
 
 -- the command is a half of a fusion with the difference
 abbrev pub IsFusion : Command → Diff → Type 0

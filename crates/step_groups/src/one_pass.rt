@@ -8,7 +8,7 @@ ghost use Rattle.vox_geom.specs.Region.{is_within, span};
 ghost use Rattle.vox_geom.specs.Space.{IsInSpace};
 ghost use Rattle.nano_spec.specs.declared.commands.Command.TheVariants.{Fill, Fission as FissionOf, Halt, SMove, Void};
 ghost use Rattle.step_groups.specs.Apart.{AreAllApart};
-ghost use Rattle.step_groups.specs.Judging.{IsLaterFault, act, is_alone, judge_bot as judge_bot_of, judge_each, rule_broken, touches_of};
+ghost use Rattle.step_groups.specs.Judging.{IsLaterFault, act, is_alone, is_rare, judge_bot as judge_bot_of, judge_each, rule_broken, touches_of};
 ghost use Rattle.step_groups.specs.Outlines.{IsHullFor, IsVolatileFor, LiesBetween, TakesIn};
 ghost use Rattle.step_groups.specs.Steps.{CanBeJudged, CanJudge, acts_of_step, later_fault, start_of_step};
 
@@ -141,8 +141,42 @@ fn hull_of_fission<L: Ledger>(
     Ok(Region::of(bot.pos, to))
 }
 
-/// A box around all that is volatile for a bot whose command needs no other bot, or the first rule after the one on the profile
-/// that it breaks. The commands that most of many bots have are judged at once.
+/// A box around all that is volatile for a bot whose command needs no other bot and is one that few bots have, or the first rule after
+/// the one on the profile that it breaks. One call for all of them leaves the loop its registers.
+#[inline(never)]
+fn judge_rare<L: Ledger>(
+    step: &Step,
+    bot: &Bot,
+    command: &Command,
+    steps: &mut Steps<L>,
+) -> Result<Region, Broken>
+    requires step { CanJudge step.now bot.now }
+    requires alone { IsTrue (is_alone command.now) }
+    requires rare { IsTrue (is_rare command.now) }
+    ensures value { rule_broken result ≡ later_fault step.now (act bot.now command.now) }
+    ensures hull { IfOk result (IsHullFor (act bot.now command.now)) }
+    ensures touches { steps.new ≤ steps.old + touches_of step.now.planes.now (act bot.now command.now) }
+{
+    match command {
+        Command::Halt => hull_of_halt(step, *bot),
+        Command::Flip => Ok(Region::of(bot.pos, bot.pos)),
+        Command::Fission(d, m) => {
+            hull_of_fission(step.planes, step.number, *bot, d.diff(), *m, steps)
+        }
+        // These need other bots, or are frequent, and are never judged here.
+        Command::Wait
+        | Command::SMove(_)
+        | Command::LMove(_, _)
+        | Command::Fill(_)
+        | Command::Void(_)
+        | Command::FusionP(_)
+        | Command::FusionS(_)
+        | Command::GFill(_, _)
+        | Command::GVoid(_, _) => Ok(Region::of(bot.pos, bot.pos)),
+    }
+}
+
+/// The same of every command that needs no other bot. Those that most of many bots have are judged at once.
 #[inline(always)]
 pub(crate) fn judge_hull<L: Ledger>(
     step: &Step,
@@ -164,13 +198,13 @@ pub(crate) fn judge_hull<L: Ledger>(
         Command::LMove(d, e) => hull_of_moves(planes, number, *bot, d.diff(), e.diff(), steps),
         Command::Fill(d) => hull_of_edit(planes, number, *bot, d.diff()),
         Command::Void(d) => hull_of_edit(planes, number, *bot, d.diff()),
-        Command::Halt => hull_of_halt(step, *bot),
-        Command::Flip => Ok(Region::of(bot.pos, bot.pos)),
-        Command::Fission(d, m) => hull_of_fission(planes, number, *bot, d.diff(), *m, steps),
-        // These need other bots, and are never judged here.
-        Command::FusionP(_) | Command::FusionS(_) | Command::GFill(_, _) | Command::GVoid(_, _) => {
-            Ok(Region::of(bot.pos, bot.pos))
-        }
+        Command::Halt
+        | Command::Flip
+        | Command::FusionP(_)
+        | Command::FusionS(_)
+        | Command::Fission(_, _)
+        | Command::GFill(_, _)
+        | Command::GVoid(_, _) => judge_rare(step, bot, command, steps),
     }
 }
 
