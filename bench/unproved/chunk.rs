@@ -28,6 +28,12 @@ impl Chunk {
     }
 
     #[inline(always)]
+    pub fn word_behind<L: Ledger>(&self, index: usize, behind: usize, steps: &mut Steps<L>) -> u32 {
+        steps.tick();
+        unsafe { *self.words.get_unchecked(index + behind) }
+    }
+
+    #[inline(always)]
     pub fn set_word(&mut self, index: usize, word: u32) {
         unsafe { *self.words.get_unchecked_mut(index) = word }
     }

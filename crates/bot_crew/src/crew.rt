@@ -6,7 +6,7 @@ ghost use Rattle.nano_spec.specs.Bots.{fused, moved, newborn, parent};
 ghost use Rattle.nano_spec.specs.State.{first_bot, seed_list};
 ghost use Rattle.bot_crew.specs.Crew.{IsActive, IsCrew, bot_at, bot_of, replaced};
 
-use crate::seeds::{first_seeds, split_seeds, united};
+use crate::seeds::{first_seeds, split_seeds, unite};
 use arrayvec::ArrayVec;
 use nano_spec::{Bot, Profile};
 use std::marker::Model;
@@ -87,7 +87,7 @@ impl Crew {
 
     /// Does nothing: it recalls what the bots keep.
     #[inline(always)]
-    pub fn know(&self)
+    pub fn recall(&self)
         ensures crew { IsCrew self.now }
     {
         let _ = &self.bots;
@@ -178,7 +178,7 @@ impl Crew {
         let end = place_of(&self.bots, secondary);
         let other = self.bots.remove(end);
         let place = place_of(&self.bots, primary);
-        self.bots[place].seeds = united(self.bots[place].seeds, other.seeds, other.bid);
+        self.bots[place].seeds = unite(self.bots[place].seeds, other.seeds, other.bid);
     }
 
     /// The last bot halts: no bot is left.

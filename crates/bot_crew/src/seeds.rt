@@ -21,7 +21,7 @@ pub(crate) fn first_seeds(count: u8) -> u64
 }
 
 /// The seeds of one set, those of another, and one more.
-pub(crate) fn united(seeds: u64, others: u64, bid: u8) -> u64
+pub(crate) fn unite(seeds: u64, others: u64, bid: u8) -> u64
     requires { bid < 64 }
     ensures { result ≡ seed_set (filter (λ k. is_seed seeds k || is_seed others k || k == bid) seed_numbers) }
 {

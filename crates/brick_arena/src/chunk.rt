@@ -86,6 +86,14 @@ impl Words {
         unsafe { *self.at.add(index) }
     }
 
+    /// The word so many places behind one, where it was written.
+    pub(crate) fn get_behind(&self, index: usize, behind: usize) -> u32
+        requires { IsFilled self.now.words (index + behind) }
+        ensures { slice_index_or self.now.words (index + behind) None ≡ Some result }
+    {
+        unsafe { *self.at.add(index).add(behind) }
+    }
+
     /// Writes one word into the places of a row, from `index` on, whether or not they were written before.
     pub(crate) fn set_row(&mut self, index: usize, word: u32)
         requires { index + ROW_WORDS ≤ CHUNK_WORDS }
@@ -154,6 +162,18 @@ impl Chunk {
     {
         steps.tick();
         self.peek(index)
+    }
+
+    /// The word so many places behind one, by one touch. Of a loop over the places behind one the compiler sees that the words follow
+    /// one another, which it may not see of a loop over sums.
+    #[inline(always)]
+    pub fn word_behind<L: Ledger>(&self, index: usize, behind: usize, steps: &mut Steps<L>) -> u32
+        requires { index + behind < length self.now }
+        ensures value { result ≡ slice_index self.now (index + behind) }
+        ensures touch { steps.new ≡ steps.old + 1 }
+    {
+        steps.tick();
+        self.words.get_behind(index, behind)
     }
 
     pub(crate) fn set_word(&mut self, index: usize, word: u32)

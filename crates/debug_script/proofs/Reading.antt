@@ -2,6 +2,7 @@
 use Rattle.std.proofs.Common.{◌≡◌, ◌<◌, ◌≤◌, ◌∙◌, ℕ, ◌+◌, List, [], ◌∷◌, ◌++◌, length, refl, arith, sym, ap, subst}
 use Rattle.std.specs.Prelude.{Result, Ok, Err, Vec}
 use Rattle.std.proofs.lemmas.List.{map-append}
+use Rattle.nano_spec.specs.First.{with_first}
 use Rattle.nano_spec.specs.Line.{Fault}
 use Rattle.nano_spec.specs.Reading.{FaultyLine, lines}
 use Rattle.trace_text.specs.Text.{faulty_line}
@@ -9,25 +10,25 @@ use Rattle.trace_text.specs.declared.fault.TextFault.TheVariants.{Refused}
 use Rattle.trace_text.specs.declared.fault.TextRefusal.{TextRefusal}
 use Rattle.step_debugger.specs.Session.{DebugLine}
 use Rattle.debug_script.specs.Calls.{IsReadBy, ReadsScript, script_line_is, lines_are}
-use Rattle.debug_script.specs.Script.{LineSays, LinesSay, ScriptSays, with_first_line}
+use Rattle.debug_script.specs.Script.{LineSays, LinesSay, ScriptSays}
 use Rattle.debug_script.specs.declared.line.ScriptLine.{ScriptLine}
 
 -- lines before what is read after them
 abbrev with_all : List DebugLine → Result (List DebugLine) FaultyLine → Result (List DebugLine) FaultyLine
 with_all [] answer = answer
-with_all (x ∷ xs) answer = with_first_line x (with_all xs answer)
+with_all (x ∷ xs) answer = with_first x (with_all xs answer)
 
 all_ok : (xs : List DebugLine) → with_all xs (Ok []) ≡ Ok xs
 all_ok [] = refl
-all_ok (x ∷ xs) = ap (with_first_line x) (all_ok xs)
+all_ok (x ∷ xs) = ap (with_first x) (all_ok xs)
 
 all_err : (xs : List DebugLine) (e : FaultyLine) → with_all xs (Err e) ≡ Err e
 all_err [] e = refl
-all_err (x ∷ xs) e = ap (with_first_line x) (all_err xs e)
+all_err (x ∷ xs) e = ap (with_first x) (all_err xs e)
 
-one_more : (xs : List DebugLine) (x : DebugLine) (answer : Result (List DebugLine) FaultyLine) → with_all xs (with_first_line x answer) ≡ with_all (xs ++ x ∷ []) answer
+one_more : (xs : List DebugLine) (x : DebugLine) (answer : Result (List DebugLine) FaultyLine) → with_all xs (with_first x answer) ≡ with_all (xs ++ x ∷ []) answer
 one_more [] x answer = refl
-one_more (y ∷ xs) x answer = ap (with_first_line y) (one_more xs x answer)
+one_more (y ∷ xs) x answer = ap (with_first y) (one_more xs x answer)
 
 -- the lines were read, and whatever the lines that are left come to, all lines come to these and that
 pub record IsReading (r : ℕ) (bytes : List ℕ) (script : List ScriptLine) (left : List ℕ) (number : ℕ) : Type 0 where
@@ -41,7 +42,7 @@ module _ (r : ℕ) (bytes : List ℕ) (script : List ScriptLine) (left : List �
   pub line_read : (said : ScriptLine) (now : List ScriptLine) → length more < length left → now ≡ script ++ said ∷ [] → LineSays r first (Ok (script_line_is said)) → IsReading r bytes now more (number + 1)
   line_read said now shorter e says = record {
     goes_on = λ answer rest.
-        let all = so_far.goes_on (with_first_line (script_line_is said) answer) (subst (λ (ls : List (List ℕ)). LinesSay r (number + 1) ls (with_first_line (script_line_is said) answer)) (sym cut) (Ok (script_line_is said), says, (answer, rest, refl))) in
+        let all = so_far.goes_on (with_first (script_line_is said) answer) (subst (λ (ls : List (List ℕ)). LinesSay r (number + 1) ls (with_first (script_line_is said) answer)) (sym cut) (Ok (script_line_is said), says, (answer, rest, refl))) in
         let same : lines_are now ≡ lines_are script ++ script_line_is said ∷ [] = ap lines_are e ∙ map-append script_line_is script (said ∷ []) in
         subst (ScriptSays r bytes) (one_more (lines_are script) (script_line_is said) answer ∙ ap (λ (xs : List DebugLine). with_all xs answer) (sym same)) all;
     few = let n = so_far.few in omega (arith, n, shorter);

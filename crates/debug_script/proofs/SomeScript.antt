@@ -4,13 +4,14 @@ use Rattle.std.specs.Prelude.{MatchBool, Result, Ok, Err}
 use Rattle.std.specs.Str.{bytes_eq}
 use Rattle.std.proofs.lemmas.Bool.{cases_lt}
 use Rattle.std.proofs.lemmas.Slice.Eq.{bytes_eq-Decides}
+use Rattle.nano_spec.specs.First.{with_first}
 use Rattle.nano_spec.specs.Line.{Fault, NotAscii, UnknownWord, Shape, Range, has_high_byte}
 use Rattle.nano_spec.specs.Reading.{FaultyLine, lines}
 use Rattle.step_debugger.specs.Session.{Back, Bots, DebugLine, Group, Step, Voxel}
 use Rattle.debug_script.specs.declared.word.ScriptWord.{ScriptWord}
 use Rattle.debug_script.specs.declared.word.ScriptWord.TheVariants as word
 use Rattle.debug_script.specs.Calls.{all_words, script_letters}
-use Rattle.debug_script.specs.Script.{HasFewDigits, ArePartsOf, LineSays, LinesSay, PartsSay, ScriptSays, is_in_range, has_unknown_word, line_parts, with_first_line}
+use Rattle.debug_script.specs.Script.{HasFewDigits, ArePartsOf, LineSays, LinesSay, PartsSay, ScriptSays, is_in_range, has_unknown_word, line_parts}
 use Rattle.debug_script.proofs.Forms.{no_back, no_bots, no_group, no_step, no_voxel, parts_some, word_found, word_missed}
 
 -- ---- a part is a number of few digits or not
@@ -114,7 +115,7 @@ module _ (r : ℕ) where
   lines_say n (line ∷ more) = let said = line_says line in by said.0 said.1 (lines_say (n + 1) more)
     where
       by : (what : Result DebugLine Fault) → LineSays r line what → (rest : Result (List DebugLine) FaultyLine) × LinesSay r (n + 1) more rest → (answer : Result (List DebugLine) FaultyLine) × LinesSay r n (line ∷ more) answer
-      by (Ok what) says rest = (with_first_line what rest.0, (Ok what, says, (rest.0, rest.1, refl)))
+      by (Ok what) says rest = (with_first what rest.0, (Ok what, says, (rest.0, rest.1, refl)))
       by (Err fault) says rest = (Err (record { fault = fault; line = n }), (Err fault, says, refl))
 
   pub script_says : (bytes : List ℕ) → (said : Result (List DebugLine) FaultyLine) × ScriptSays r bytes said

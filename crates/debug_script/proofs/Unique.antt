@@ -5,11 +5,12 @@ use Rattle.std.specs.Str.{bytes_eq}
 use Rattle.std.proofs.lemmas.Fmt.{decimal_injective}
 use Rattle.vox_geom.proofs.Truths.{true_and_false}
 use Rattle.nano_spec.specs.declared.commands.Command.{Command}
+use Rattle.nano_spec.specs.First.{with_first}
 use Rattle.nano_spec.specs.Line.{Fault, NotAscii, UnknownWord, Shape, Range, has_high_byte}
 use Rattle.nano_spec.specs.Reading.{FaultyLine}
 use Rattle.step_debugger.specs.Session.{AnswersLine, Back, Bots, DebugLine, DebugReport, Group, Session, Step, Voxel}
 use Rattle.debug_script.specs.Printing.{printed_report}
-use Rattle.debug_script.specs.Script.{FollowsLine, HasFewDigits, ArePartsOf, LineSays, LinesSay, PartsSay, has_unknown_word, is_in_range, line_parts, parts_of, with_first_line}
+use Rattle.debug_script.specs.Script.{FollowsLine, HasFewDigits, ArePartsOf, LineSays, LinesSay, PartsSay, has_unknown_word, is_in_range, line_parts, parts_of}
 use Rattle.debug_script.specs.Sessions.{Prints}
 
 -- ---- parts are those of one line
@@ -78,7 +79,7 @@ one_line_says r line a b h k = by (has_high_byte line) h k
 -- ---- a script says one thing
 
 one_rest : (P : Result (List DebugLine) FaultyLine → Type 0) → ((a b : Result (List DebugLine) FaultyLine) → P a → P b → a ≡ b) → (n : ℕ) (a b : Result (List DebugLine) FaultyLine) (what : Result DebugLine Fault) → FollowsLine P n what a → FollowsLine P n what b → a ≡ b
-one_rest P once n a b (Ok what) h k = h.2 ∙ (ap (with_first_line what) (once h.0 k.0 h.1 k.1) ∙ sym k.2)
+one_rest P once n a b (Ok what) h k = h.2 ∙ (ap (with_first what) (once h.0 k.0 h.1 k.1) ∙ sym k.2)
 one_rest P once n a b (Err fault) h k = h ∙ sym k
 
 pub one_reading : (r n : ℕ) (lines : List (List ℕ)) (a b : Result (List DebugLine) FaultyLine) → LinesSay r n lines a → LinesSay r n lines b → a ≡ b

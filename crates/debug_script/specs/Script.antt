@@ -2,6 +2,7 @@
 use Rattle.std.specs.Prelude.{◌≡◌, ℕ, ◌+◌, ◌<◌, nat_lt, ◌&&◌, ◌==◌, Bool, true, false, not, ⊤, List, [], ◌∷◌, codes, decimal, Result, Ok, Err, MatchBool, IsTrue, IsFalse}
 use Rattle.std.specs.List.{list_any, slice_split}
 use Rattle.std.specs.Str.{bytes_eq}
+use Rattle.nano_spec.specs.First.{with_first}
 use Rattle.nano_spec.specs.Line.{Fault, NotAscii, UnknownWord, Shape, Range, has_high_byte}
 use Rattle.nano_spec.specs.Reading.{FaultyLine, lines}
 use Rattle.step_debugger.specs.Session.{DebugLine, Step, Group, Back, Bots, Voxel}
@@ -60,14 +61,9 @@ PartsSay r parts (Err Range) = (line : DebugLine) × ArePartsOf parts line × Is
 abbrev pub LineSays : ℕ → List ℕ → Result DebugLine Fault → Type 0
 LineSays r line answer = MatchBool (has_high_byte line) (answer ≡ Err NotAscii) (PartsSay r (line_parts line) answer)
 
--- one more line before those that were read
-abbrev pub with_first_line : DebugLine → Result (List DebugLine) FaultyLine → Result (List DebugLine) FaultyLine
-with_first_line what (Ok lines) = Ok (what ∷ lines)
-with_first_line what (Err faulty) = Err faulty
-
 -- what follows a line of this number that says this: the rest is read, or the line is the first faulty one
 abbrev pub FollowsLine : (Result (List DebugLine) FaultyLine → Type 0) → ℕ → Result DebugLine Fault → Result (List DebugLine) FaultyLine → Type 0
-FollowsLine P n (Ok what) answer = (rest : Result (List DebugLine) FaultyLine) × P rest × (answer ≡ with_first_line what rest)
+FollowsLine P n (Ok what) answer = (rest : Result (List DebugLine) FaultyLine) × P rest × (answer ≡ with_first what rest)
 FollowsLine P n (Err fault) answer = answer ≡ Err (record { fault = fault; line = n })
 
 -- what the lines say, from the line of this number on: the lines, or the first faulty one

@@ -1,14 +1,12 @@
 -- What is full in a legal model, in one that lies on the floor, and in the empty one.
-use Rattle.std.proofs.Common.{◌≡◌, ℕ, ◌+◌, ◌<◌, ◌≤◌, sym, ◌∙◌, arith, Bool, true, false, ◌&&◌, not, None}
+use Rattle.std.proofs.Common.{◌≡◌, ℕ, ◌+◌, ◌≤◌, sym, ◌∙◌, arith, Bool, true, false, ◌&&◌, None}
 use Rattle.std.specs.Prelude.{find, pos}
 use Rattle.std.proofs.lemmas.Bool.Decides.{nat_tests}
 use Rattle.vox_geom.specs.declared.coordinate.Coord.{Coord}
 use Rattle.vox_geom.specs.Point.{Point, point, coord}
 use Rattle.vox_geom.specs.Region.{Span, between, is_between, is_within}
 use Rattle.vox_geom.proofs.Truths.{false_by, first_of_two, second_of_two}
-use Rattle.nano_spec.specs.Legal.{IsLegal, in_legal_box}
 use Rattle.nano_spec.specs.Matrix.{Matrix, all_of, is_full, matrix_where}
-use Rattle.nano_spec.proofs.Opening.{legal_is}
 use Rattle.step_order.proofs.Lists.{both, find_none, none_find, not_both}
 use Rattle.step_order.proofs.Voxels.{full_where, in_coordinates}
 use Rattle.plan_tape.proofs.LegalModels.{full_within}
@@ -21,24 +19,6 @@ full_passes r test c f = sym (full_where r test c (full_within (matrix_where r t
 -- where none of the coordinates passes two tests and the first is passed, the second is not
 second_fails : (m : Matrix) (test : Coord → Bool) (c : Coord) → find (λ d. is_full m d && test d) (all_of m) ≡ None → is_full m c ≡ true → test c ≡ false
 second_fails m test c none f = false_by (test c) (λ t. not_both (both f t) (find_none (λ d. is_full m d && test d) c (all_of m) none (in_coordinates m.resolution c (full_within m c f))))
-
--- ---- legal models
-
-off_border : (r : ℕ) (c : Coord) → not (in_legal_box r c) ≡ false → 1 ≤ c.x
-off_border r c e = grind (arith, nat_tests)
-
-below_top : (r : ℕ) (c : Coord) → not (in_legal_box r c) ≡ false → c.y + 1 < r
-below_top r c e = grind (arith, nat_tests)
-
-in_box : (m : Matrix) (c : Coord) → IsLegal m → is_full m c ≡ true → not (in_legal_box m.resolution c) ≡ false
-in_box m c h f = second_fails m (λ d. not (in_legal_box m.resolution d)) c (legal_is m h).0 f
-
--- there is a layer above each full voxel
-pub layer_above : (m : Matrix) (c : Coord) → IsLegal m → is_full m c ≡ true → c.y + 1 < m.resolution
-layer_above m c h f = below_top m.resolution c (in_box m c h f)
-
-pub border_is_void : (m : Matrix) (c : Coord) → IsLegal m → c.x ≡ 0 → is_full m c ≡ false
-border_is_void m c h e = false_by (is_full m c) (λ f. let l = off_border m.resolution c (in_box m c h f) in omega arith)
 
 -- ---- flat models
 
@@ -61,5 +41,3 @@ void_where m most region l covers flat = none_find (λ c. is_full m c && is_with
 
 pub flat_if_low : (m : Matrix) → m.resolution ≤ 1 → IsFlat m
 flat_if_low m l = λ c f. let i = full_within m c f in let y = i.y in omega arith
-
--- ---- the empty model

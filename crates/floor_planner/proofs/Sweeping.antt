@@ -1,5 +1,5 @@
 -- The sweep over the floor: how it begins, how it goes on, and what it leaves at its end.
-use Rattle.std.proofs.Common.{◌≡◌, ◌⊎◌, inl, inr, ℕ, ◌+◌, ◌*◌, ◌<◌, ◌≤◌, refl, sym, ◌∙◌, ap, subst, arith, Bool, true, false, cond, ◌&&◌, ◌||◌, ◌==◌, nat_lt, length}
+use Rattle.std.proofs.Common.{◌≡◌, ℕ, ◌+◌, ◌*◌, ◌<◌, ◌≤◌, refl, sym, ◌∙◌, ap, subst, arith, mul-le-mul, Bool, true, false, cond, ◌&&◌, ◌||◌, ◌==◌, nat_lt, length}
 use Rattle.std.specs.Prelude.{ℤ, pos}
 use Rattle.std.proofs.lemmas.Bool.Decides.{nat_tests}
 use Rattle.vox_geom.specs.declared.coordinate.Coord.{Coord}
@@ -19,10 +19,9 @@ use Rattle.vox_planes.proofs.Voxels.{same_point-is}
 use Rattle.plan_tape.specs.Leg.{AreVoidTo, Moves, moves_to}
 use Rattle.plan_tape.specs.Progress.{TapeState, Writes, beside, spot, starting}
 use Rattle.floor_planner.specs.Floor.{IsFlat, IsSweptTo, is_passed, swept}
-use Rattle.floor_planner.proofs.Models.{border_is_void, full_passes, layer_above}
-use Rattle.floor_planner.proofs.ClearWays.{area, ways_are_void}
-use Rattle.plan_tape.proofs.ClearWays.{moves_most}
-use Rattle.plan_tape.proofs.LegalModels.{empty_is_void, full_within}
+use Rattle.floor_planner.proofs.Models.{full_passes}
+use Rattle.plan_tape.proofs.ClearWays.{ways_between, moves_most}
+use Rattle.plan_tape.proofs.LegalModels.{empty_is_void, full_in_box, full_within}
 
 -- ---- which coordinates are passed
 
@@ -96,7 +95,10 @@ skipped t target x z flat s void = goes_on t target x z x (z + 1) s (λ c f. ap 
 pub place_above : (r : ℕ) (target : Matrix) (x z : ℕ) → IsLegal target → r ≡ target.resolution → is_full target (coord x 0 z) ≡ true → IsInSpace r (coord x 1 z)
 place_above r target x z legal e wanted =
     let i = full_within target (coord x 0 z) wanted in
-    subst (λ n. IsInSpace n (coord x 1 z)) (sym e) (record { x = i.x; y = layer_above target (coord x 0 z) legal wanted; z = i.z })
+    subst (λ n. IsInSpace n (coord x 1 z)) (sym e) (record { x = i.x; y = (full_in_box target (coord x 0 z) legal wanted).y_end; z = i.z })
+
+area : (x r : ℕ) → x ≤ r → r ≤ 400 → x * r ≤ 160000
+area x r h l = let k : x ≤ 400 = omega arith in mul-le-mul k l
 
 -- no way takes the tape past its limit
 pub room_left : (t : TapeState) (target : Matrix) (x z : ℕ) (to : Coord) → IsSweptTo t target x z → x ≤ target.resolution → z ≤ target.resolution → target.resolution ≤ 400 → IsInSpace target.resolution to → t.steps + moves_to (spot t.bots) to + 2 < 1073741824
@@ -104,11 +106,7 @@ room_left t target x z to s h k most i = let few = s.few in omega (arith, area x
 
 -- the ways to above a voxel of the floor
 pub ways_above : (t : TapeState) (target : Matrix) (x z : ℕ) → IsFlat target → IsSweptTo t target x z → AreVoidTo t.matrix (spot t.bots) (coord x 1 z)
-ways_above t target x z flat s = ways_are_void t.matrix (spot t.bots) (coord x 1 z) s.above (λ c e h. by c h)
-  where
-    by : (c : Coord) → ((spot t.bots).y ≤ c.y) ⊎ (1 ≤ c.y) → is_full t.matrix c ≡ false
-    by c (inl h) = s.above c h
-    by c (inr h) = clear t.matrix target x z flat s.matrix c h
+ways_above t target x z flat s = ways_between t.matrix (spot t.bots) (coord x 1 z) s.above (clear t.matrix target x z flat s.matrix)
 
 below : (p : TapeState) (x z : ℕ) → spot p.bots ≡ coord x 1 z → beside p down ≡ coord x 0 z
 below p x z e = ap (λ (c : Coord). coordinate (plus (point c) down)) e ∙ (λ i. record { x = unsigned_plus_none x i; y = 0; z = unsigned_plus_none z i })
@@ -148,6 +146,3 @@ begins t u nothing target k cost n some e w =
 
 pub matrix_is : (t : TapeState) (target : Matrix) → IsSweptTo t target target.resolution 0 → IsWhole target → t.matrix ≡ target
 matrix_is t target s w = s.matrix ∙ all_swept target w
-
-pub ways_home : (t : TapeState) (target : Matrix) → IsLegal target → IsWhole target → IsSweptTo t target target.resolution 0 → AreVoidTo t.matrix (spot t.bots) (coord 0 0 0)
-ways_home t target legal w s = ways_are_void t.matrix (spot t.bots) (coord 0 0 0) s.above (λ c e h. ap (λ (m : Matrix). is_full m c) (matrix_is t target s w) ∙ border_is_void target c legal e)

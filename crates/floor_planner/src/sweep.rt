@@ -17,7 +17,7 @@ fn fill_voxel(tape: &mut Tape, target: &Planes, x: u16, z: u16) -> Result<(), Me
     requires swept { IsSweptTo tape.old target.now x z }
     ensures { OnOk result (IsSweptTo tape.new target.now x (z + 1)) }
 {
-    target.know();
+    target.recall();
     if !is_full(target, Coord { x, y: 0, z }) {
         return Ok(());
     }

@@ -1,31 +1,25 @@
 -- The ways of the only bot, and whole plans.
-use Rattle.std.proofs.Common.{◌≡◌, ℕ, ◌+◌, ◌-◌, ◌*◌, ◌<◌, ◌≤◌, ◌∙◌, ap, arith, List, [], ◌∷◌, ◌++◌, length, length-append, mul-le-mul}
-use Rattle.vox_geom.specs.declared.coordinate.Coord.{Coord}
-use Rattle.nano_spec.specs.declared.commands.Command.{Command}
+use Rattle.std.proofs.Common.{◌≡◌, ℕ, ◌+◌, ◌-◌, ◌*◌, ◌<◌, ◌≤◌, ap, arith, mul-le-mul}
 use Rattle.nano_spec.specs.Matrix.{Matrix}
-use Rattle.plan_tape.specs.Leg.{Moves, moves, moves_to}
-use Rattle.plan_tape.specs.Progress.{TapeState, spot}
+use Rattle.vox_planes.specs.Voxel.{IsWhole}
+use Rattle.plan_tape.specs.Frame.{HasRisen}
+use Rattle.plan_tape.specs.Leg.{moves, moves_to}
+use Rattle.plan_tape.specs.Progress.{TapeState, top}
 use Rattle.group_planner.specs.Rows.{is_row, rows, rows_of_layer, runs, runs_of_layer, runs_of_row}
 use Rattle.group_planner.proofs.Counts.{count_below-most, sum_below-most}
 use Rattle.vox_geom.specs.Point.{coord}
 
 -- ---- the only bot
 
-pub push_length : (old new : List Command) (k : Command) → new ≡ old ++ k ∷ [] → length new ≡ length old + 1
-push_length old new k e = ap length e ∙ length-append old (k ∷ [])
-
-pub legs_length : (p q : TapeState) (to : Coord) → Moves p q to → length q.commands ≡ length p.commands + moves_to (spot p.bots) to
-legs_length p q to m =
-    let l = m.legs in
-    let added = ap length m.added ∙ length-append p.commands m.commands in
-    let joined = ap length l.joined ∙ (length-append (l.x ++ l.y) l.z ∙ ap (λ n. n + length l.z) (length-append l.x l.y)) in
-    let x = l.along_x.least in
-    let y = l.along_y.least in
-    let z = l.along_z.least in
-    omega (arith, added, joined, x, y, z)
-
-pub up_moves : (r : ℕ) → 1 ≤ r → r ≤ 400 → moves_to (coord 0 0 0) (coord 0 (r - 1) 0) ≤ 27
+up_moves : (r : ℕ) → 1 ≤ r → r ≤ 400 → moves_to (coord 0 0 0) (coord 0 (r - 1) 0) ≤ 27
 up_moves r h l = omega arith
+
+-- at most 28 steps lead to the top
+pub risen_few : (t : TapeState) (source : Matrix) → HasRisen t → t.source ≡ source → IsWhole source → t.steps ≤ 28
+risen_few t source h e w =
+    let steps = h.steps in
+    let way = ap (λ (m : Matrix). moves_to (coord 0 0 0) (top m)) e in
+    omega (arith, steps, way, up_moves source.resolution w.some w.most)
 
 pub down_moves : (y r : ℕ) → y < r → r ≤ 400 → moves_to (coord 0 y 0) (coord 0 0 0) ≤ 27
 down_moves y r h l = omega arith

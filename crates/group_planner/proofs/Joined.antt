@@ -19,14 +19,16 @@ use Rattle.nano_spec.specs.Profile.{full_profile}
 use Rattle.nano_spec.specs.State.{first_bot, seed_list, seed_numbers}
 use Rattle.nano_spec.specs.Step.{after}
 use Rattle.step_order.specs.Acting.{leaves_voxels}
-use Rattle.step_order.specs.Unbroken.{AreFree, IsFreeWay}
+use Rattle.step_order.specs.Unbroken.{AreFree}
 use Rattle.plan_tape.specs.Fissions.{fissions}
 use Rattle.plan_tape.specs.Progress.{TapeState, spot, state_of, IsVoidFrom}
 use Rattle.plan_tape.proofs.Fissions.{fissions_more}
+use Rattle.plan_tape.proofs.ClearWays.{free_place}
 use Rattle.group_planner.specs.Pair.{IsPair, front, rear, second_spot}
 use Rattle.group_planner.specs.Phases.{PairJoins, Splits, first_at}
-use Rattle.group_planner.specs.Writing.{AreCalm, CalmStep, ahead}
-use Rattle.group_planner.proofs.Pairs.{all_allowed, both_bots, front_within, rear_within, still_one, void_way}
+use Rattle.plan_tape.specs.Crowd.{AreCalm, CalmStep}
+use Rattle.group_planner.specs.Writing.{ahead}
+use Rattle.group_planner.proofs.Pairs.{all_allowed, both_bots, front_within, rear_within, still_one}
 
 next_is : (c : Coord) → plus (point c) (ahead (pos 1)) ≡ point (coord c.x c.y (c.z + 1))
 next_is c = λ i. record { x = plus_none c.x i; y = plus_none c.y i; z = plus_one c.z i }
@@ -57,7 +59,7 @@ module _ (p : TapeState) (d : Diff) (e : d ≡ ahead (pos 1)) (alone : p.bots �
   pub split_calm : AreCalm p (Fission d 0 ∷ [])
   split_calm = record {
     free = subst (λ (bots : List Bot). AreFree (state_of p) (acts bots (Fission d 0 ∷ []))) (sym alone) (record {
-      each = (record { allowed = all_allowed p.profile (Fission d 0) full refl; may = (subst (λ (q : Point). IsFreeWay p.matrix q q) (sym leads) (record { within = in_space_is p.matrix.resolution beside (record { x = within.x; y = within.y; z = room }); void = void_way p.matrix beside beside free free }), seeds_enough) }, tt);
+      each = (record { allowed = all_allowed p.profile (Fission d 0) full refl; may = (free_place p.matrix beside _ leads (record { x = within.x; y = within.y; z = room }) free, seeds_enough) }, tt);
       untangled = (tt, tt);
     });
     calm = subst (λ (bots : List Bot). AllByRecursion (λ x. IsFalse (is_flip x.command)) (acts bots (Fission d 0 ∷ []))) (sym alone) (refl, tt);

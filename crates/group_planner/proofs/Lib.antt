@@ -1,4 +1,3 @@
-pub mod Calm
 pub mod Closing
 pub mod Counts
 pub mod Found

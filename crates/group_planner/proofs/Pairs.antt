@@ -1,26 +1,24 @@
 -- Steps of the pair in which each bot waits or moves.
-use Rattle.std.proofs.Common.{◌≡◌, ℕ, ◌+◌, ◌*◌, ◌<◌, ◌≤◌, refl, sym, ◌∙◌, ap, subst, arith, inl, inr, List, [], ◌∷◌, ◌++◌, false, length, length-append, lit≤}
+use Rattle.std.proofs.Common.{◌≡◌, ℕ, ◌+◌, ◌*◌, ◌<◌, ◌≤◌, refl, sym, ◌∙◌, ap, subst, arith, inl, inr, List, [], ◌∷◌, ◌++◌, length, length-append, lit≤}
 use Rattle.std.specs.Prelude.{◌⊎◌, pos, ◌-ℤ◌, IsTrue, count_by}
 use Rattle.std.specs.List.{AllByRecursion}
 use Rattle.std.proofs.lemmas.Int.{ints}
 use Rattle.vox_geom.specs.declared.coordinate.Coord.{Coord}
 use Rattle.vox_geom.specs.declared.difference.Diff.{Diff}
 use Rattle.vox_geom.specs.Point.{Point, point, plus}
-use Rattle.vox_geom.specs.Region.{between, is_between}
+use Rattle.vox_geom.specs.Region.{between}
 use Rattle.vox_geom.specs.Space.{IsInSpace, coordinate}
 use Rattle.vox_geom.proofs.Truths.{second_of_three as second}
-use Rattle.vox_geom.proofs.Points.{from_one_end, in_space_is}
 use Rattle.nano_spec.specs.declared.commands.Command.{Command}
 use Rattle.nano_spec.specs.declared.commands.Command.TheVariants.{Wait, SMove}
 use Rattle.nano_spec.specs.declared.system.Bot.{Bot}
 use Rattle.nano_spec.specs.declared.system.Profile.{Profile}
 use Rattle.nano_spec.specs.Act.{acts}
-use Rattle.nano_spec.specs.Matrix.{Matrix, is_full}
+use Rattle.nano_spec.specs.Matrix.{Matrix}
 use Rattle.nano_spec.specs.Profile.{full_profile, is_allowed}
 use Rattle.nano_spec.specs.Spelling.{spellings}
 use Rattle.step_order.specs.Acting.{goal_of}
 use Rattle.step_order.specs.Apart.{LieApart, before_z}
-use Rattle.step_order.specs.Unbroken.{IsFreeWay, IsVoid}
 use Rattle.plan_tape.specs.declared.axis.Axis.{Axis}
 use Rattle.plan_tape.specs.declared.axis.Axis.TheVariants.{X, Y, Z}
 use Rattle.plan_tape.specs.Crowd.{AllStep, AreWaysApart, CanGo, CanMoveAll, MayGo, bots_gone}
@@ -29,6 +27,7 @@ use Rattle.plan_tape.specs.Leg.{along, component_of, put}
 use Rattle.plan_tape.specs.Progress.{TapeState, spot, IsVoidFrom}
 use Rattle.plan_tape.proofs.Fissions.{fissions_more}
 use Rattle.plan_tape.proofs.Legs.{plus-along, put-component_of}
+use Rattle.plan_tape.proofs.ClearWays.{free_way}
 use Rattle.group_planner.specs.Pair.{AreInRow, PairGoes, IsPair, Spends, front, rear, second_spot}
 
 -- ---- two bots
@@ -107,19 +106,6 @@ moved_pair p q k l a b h s ea eb row free few none =
       spends = spends p q k l p.matrix _ 0 s (omega (arith, few));
     }
 
--- ---- ways where all is void
-
--- where all is void from both heights on, so is what lies between
-pub void_way : (m : Matrix) (a b : Coord) → IsVoidFrom m a.y → IsVoidFrom m b.y → IsVoid m (between (point a) (point b))
-void_way m a b v w = λ c t. by c (from_one_end a.y b.y c.y (second (is_between (pos a.x) (pos b.x) (pos c.x)) (is_between (pos a.y) (pos b.y) (pos c.y)) (is_between (pos a.z) (pos b.z) (pos c.z)) t))
-  where
-    by : (c : Coord) → (a.y ≤ c.y) ⊎ (b.y ≤ c.y) → is_full m c ≡ false
-    by c (inl h) = v c h
-    by c (inr h) = w c h
-
-pub free_way : (m : Matrix) (a b : Coord) (d : Diff) → plus (point a) d ≡ point b → IsInSpace m.resolution b → IsVoidFrom m a.y → IsVoidFrom m b.y → IsFreeWay m (point a) (plus (point a) d)
-free_way m a b d e i v w = subst (λ (q : Point). IsFreeWay m (point a) q) (sym e) (record { within = in_space_is m.resolution b i; void = void_way m a b v w })
-
 -- where a difference along an axis leads
 pub led : (axis : Axis) (c : Coord) (at next : ℕ) (d : Diff) → component_of axis c ≡ at → d ≡ along axis (pos next -ℤ pos at) → plus (point c) d ≡ point (put axis c next)
 led axis c at next d e f =
@@ -183,8 +169,8 @@ module _ (p : TapeState) (axis : Axis) (at next : ℕ) (d e : Diff) (h : IsPair 
       let a = put axis (rear p) next in
       let b = put axis (front p) next in
       can_move p (SMove d) (SMove e) h refl refl
-      (free_way p.matrix (rear p) a d rear_led (rear_within r a b there_in_row) h.free free)
-      (free_way p.matrix (front p) b e front_led (front_within r a b there_in_row) (front_free p h) (subst (IsVoidFrom p.matrix) (sym there_in_row.same_y) free))
+      (free_way p.matrix (rear p) a _ rear_led (rear_within r a b there_in_row) h.free free)
+      (free_way p.matrix (front p) b _ front_led (front_within r a b there_in_row) (front_free p h) (subst (IsVoidFrom p.matrix) (sym there_in_row.same_y) free))
       (subst (λ (q : Point). LieApart (between (point (rear p)) q) (between (point (front p)) (plus (point (front p)) e))) (sym rear_led)
       (subst (λ (q : Point). LieApart (between (point (rear p)) (point a)) (between (point (front p)) q)) (sym front_led)
       (both_apart r axis (rear p) (front p) next flat h.in_row)))
@@ -206,7 +192,7 @@ module _ (p : TapeState) (at next : ℕ) (d : Diff) (h : IsPair p) (here : (fron
       let b = put Z (front p) next in
       let order = h.in_row.order in
       can_move p Wait (SMove d) h refl refl tt
-      (free_way p.matrix (front p) b d ahead_led (front_within p.matrix.resolution (rear p) b ahead_in_row) (front_free p h) (front_free p h))
+      (free_way p.matrix (front p) b _ ahead_led (front_within p.matrix.resolution (rear p) b ahead_in_row) (front_free p h) (front_free p h))
       (subst (λ (q : Point). LieApart (between (point (rear p)) (point (rear p))) (between (point (front p)) q)) (sym ahead_led)
       (apart_z (rear p) (rear p) (front p) b order past order past))
 
@@ -225,7 +211,7 @@ module _ (p : TapeState) (at next : ℕ) (d : Diff) (h : IsPair p) (here : (rear
       let a = put Z (rear p) next in
       let order = h.in_row.order in
       can_move p (SMove d) Wait h refl refl
-      (free_way p.matrix (rear p) a d behind_led (rear_within p.matrix.resolution a (front p) behind_in_row) h.free h.free) tt
+      (free_way p.matrix (rear p) a _ behind_led (rear_within p.matrix.resolution a (front p) behind_in_row) h.free h.free) tt
       (subst (λ (q : Point). LieApart (between (point (rear p)) q) (between (point (front p)) (point (front p)))) (sym behind_led)
       (apart_z (rear p) a (front p) (front p) order order before before))
 
@@ -250,8 +236,8 @@ module _ (p : TapeState) (behind rear_next ahead front_next : ℕ) (d e : Diff) 
       let a = put Z (rear p) rear_next in
       let b = put Z (front p) front_next in
       can_move p (SMove d) (SMove e) h refl refl
-      (free_way p.matrix (rear p) a d slid_rear (rear_within r a b slid_in_row) h.free h.free)
-      (free_way p.matrix (front p) b e slid_front (front_within r a b slid_in_row) (front_free p h) (front_free p h))
+      (free_way p.matrix (rear p) a _ slid_rear (rear_within r a b slid_in_row) h.free h.free)
+      (free_way p.matrix (front p) b _ slid_front (front_within r a b slid_in_row) (front_free p h) (front_free p h))
       (subst (λ (q : Point). LieApart (between (point (rear p)) q) (between (point (front p)) (plus (point (front p)) e))) (sym slid_rear)
       (subst (λ (q : Point). LieApart (between (point (rear p)) (point a)) (between (point (front p)) q)) (sym slid_front)
       (apart_z (rear p) a (front p) b h.in_row.order (omega (arith, rear_here, past)) (omega (arith, front_here, clear)) order)))

@@ -20,11 +20,11 @@ use Rattle.nano_spec.specs.Volatile.{volatile_regions}
 use Rattle.step_order.specs.Acting.{goal_of, stays_one}
 use Rattle.step_order.specs.Apart.{LieApart}
 use Rattle.step_order.specs.Unbroken.{AreFree, MayAct}
-use Rattle.plan_tape.specs.Crowd.{AllStep, bots_gone}
+use Rattle.plan_tape.specs.Crowd.{AreCalm, CalmStep, AllStep, bots_gone}
 use Rattle.plan_tape.specs.Fissions.{is_fission}
 use Rattle.plan_tape.specs.Progress.{TapeState, spot, state_of}
 use Rattle.group_planner.specs.Pair.{AreSet, IsPair, Sets, front, in_part, rear, second_spot}
-use Rattle.group_planner.specs.Writing.{AreCalm, CalmStep, one_below}
+use Rattle.group_planner.specs.Writing.{one_below}
 use Rattle.group_planner.proofs.Pairs.{all_allowed, apart_z, both_bots, front_within, rear_within, spends, still_one, there}
 use Rattle.group_planner.proofs.Written.{below, set_by, still_free}
 

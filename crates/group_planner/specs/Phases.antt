@@ -7,7 +7,7 @@ use Rattle.nano_spec.specs.Matrix.{Matrix}
 use Rattle.nano_spec.specs.Profile.{full_profile}
 use Rattle.nano_spec.specs.State.{first_bot}
 use Rattle.plan_tape.specs.Fissions.{fissions}
-use Rattle.plan_tape.specs.Progress.{AreAlike, TapeState, bots_at, bytes, spot}
+use Rattle.plan_tape.specs.Progress.{TapeState, bots_at, bytes, spot}
 use Rattle.group_planner.specs.Pair.{IsPair, Spends, rear}
 use Rattle.group_planner.specs.Rows.{rows, runs}
 use Rattle.vox_geom.specs.Point.{coord}
@@ -50,11 +50,11 @@ pub record PairIsOpened (t : TapeState) : Type 0 where
 abbrev pub plan_steps : Matrix → Matrix → ℕ
 plan_steps source target = 3 * (runs source + runs target) + 135 * (rows source + rows target) + 3 * source.resolution + 40
 
--- the voxels are those of the target, written by the pair
-pub record PairHasRebuilt (t : TapeState) (target : Matrix) : Type 0 where
-  pub matrix : AreAlike t.matrix target
-  pub same : t.matrix.resolution ≡ target.resolution
+-- the voxels of the source have become those of the target, written by the pair
+pub record PairHasRebuilt (t : TapeState) (old target : Matrix) : Type 0 where
+  pub source : t.source ≡ old
+  pub matrix : t.matrix ≡ target
   pub pair : IsPair t
-  pub steps_are : t.steps ≤ plan_steps t.source target
+  pub steps_are : t.steps ≤ plan_steps old target
   pub commands_are : length t.commands ≤ 2 * t.steps
-  pub bytes_are : bytes t ≤ 4 * t.steps + 4 * (runs t.source + runs target)
+  pub bytes_are : bytes t ≤ 4 * t.steps + 4 * (runs old + runs target)

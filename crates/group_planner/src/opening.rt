@@ -1,5 +1,5 @@
 //! One bot becomes two, and two become one.
-ghost use Rattle.std.specs.Prelude.{◌≡◌, ◌+◌, ◌-◌, ◌*◌, ◌<◌, ◌≤◌, cond, IfOk, OnOk, pos, neg_ℤ};
+ghost use Rattle.std.specs.Prelude.{◌≡◌, ◌+◌, ◌-◌, ◌<◌, ◌≤◌, IfOk, OnOk};
 ghost use Rattle.vox_geom.specs.Space.{IsInSpace};
 ghost use Rattle.nano_spec.specs.declared.system.Harmonics.TheVariants.{High};
 ghost use Rattle.nano_spec.specs.Legal.{IsLegal};
@@ -9,45 +9,15 @@ ghost use Rattle.plan_tape.specs.Leg.{moves};
 ghost use Rattle.plan_tape.specs.Progress.{spot, IsVoidFrom};
 ghost use Rattle.group_planner.specs.Pair.{IsPair, front as front_of, rear as rear_of};
 ghost use Rattle.group_planner.specs.Phases.{PairIsOpened, PairJoins, Splits, first_at};
-ghost use Rattle.group_planner.specs.Writing.{ahead};
 ghost use Rattle.vox_geom.specs.Point.{coord};
 
 use crate::pair::{go_to_row, rear, spread};
-use crate::write::step_calmly;
 use nano_spec::Command;
-use plan_tape::Tape;
+use plan_tape::{Axis, Tape, ahead, behind, rise};
 use std::alloc::Global;
 use step_order::bots_act;
-use vox_geom::{Coord, Diff, Memory, Near};
+use vox_geom::Memory;
 use vox_planes::Planes;
-
-/// The difference along z to the next voxel.
-fn next() -> Near
-    ensures { result ≡ ahead (pos 1) }
-{
-    let Some(near) = Near::of(Diff {
-        dx: 0,
-        dy: 0,
-        dz: 1,
-    }) else {
-        unreachable!()
-    };
-    near
-}
-
-/// The difference along z to the voxel before.
-fn last() -> Near
-    ensures { result ≡ ahead (neg_ℤ (pos 1)) }
-{
-    let Some(near) = Near::of(Diff {
-        dx: 0,
-        dy: 0,
-        dz: -1,
-    }) else {
-        unreachable!()
-    };
-    near
-}
 
 /// The only bot makes another one, next to it along z.
 fn split(tape: &mut Tape) -> Result<(), Memory>
@@ -62,8 +32,8 @@ fn split(tape: &mut Tape) -> Result<(), Memory>
     ensures { OnOk result (Splits tape.old tape.new) }
 {
     bots_act();
-    tape.know_ready();
-    step_calmly(tape, &[Command::Fission(next(), 0)])
+    tape.recall_ready();
+    tape.act_all(&[Command::Fission(ahead(Axis::Z), 0)])
 }
 
 /// The bots, one next to the other, become one.
@@ -74,25 +44,22 @@ fn join(tape: &mut Tape) -> Result<(), Memory>
     ensures { OnOk result (PairJoins tape.old tape.new (rear_of tape.old) 1) }
 {
     bots_act();
-    tape.know_ready();
-    step_calmly(tape, &[Command::FusionP(next()), Command::FusionS(last())])
+    tape.recall_ready();
+    tape.act_all(&[
+        Command::FusionP(ahead(Axis::Z)),
+        Command::FusionS(behind(Axis::Z)),
+    ])
 }
 
 /// The tape with two bots at the top above the origin, under High.
-pub fn opened(alloc: Global, source: Planes) -> Result<Tape, Memory>
+pub fn open(alloc: Global, source: Planes) -> Result<Tape, Memory>
     requires legal { IsLegal source }
     requires room { 2 ≤ source.resolution }
     ensures source { IfOk result (λ t. t.source ≡ source) }
     ensures opened { IfOk result PairIsOpened }
 {
-    let r = source.resolution();
-    let mut tape = Tape::start(alloc, source)?;
-    tape.flip()?;
-    tape.go(Coord {
-        x: 0,
-        y: r - 1,
-        z: 0,
-    })?;
+    source.recall();
+    let mut tape = rise(alloc, source)?;
     split(&mut tape)?;
     Ok(tape)
 }

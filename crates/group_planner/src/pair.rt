@@ -15,7 +15,7 @@ pub fn rear(tape: &Tape) -> Coord
     ensures value { result ≡ rear_of tape.now }
     ensures most { tape.now.matrix.resolution ≤ MOST_R }
 {
-    tape.know_whole();
+    tape.recall_whole();
     tape.crew().bots()[0].pos
 }
 
@@ -25,7 +25,7 @@ pub fn front(tape: &Tape) -> Coord
     ensures value { result ≡ front_of tape.now }
     ensures most { tape.now.matrix.resolution ≤ MOST_R }
 {
-    tape.know_whole();
+    tape.recall_whole();
     tape.crew().bots()[1].pos
 }
 
@@ -42,7 +42,7 @@ fn both_move(tape: &mut Tape, axis: Axis, at: u16, next: u16) -> Result<(), Memo
     ensures { OnOk result
         (PairGoes tape.old tape.new (put axis (rear_of tape.old) next) (put axis (front_of tape.old) next) 1) }
 {
-    tape.know_whole();
+    tape.recall_whole();
     tape.move_all(&[
         Command::SMove(towards(axis, at, next)),
         Command::SMove(towards(axis, at, next)),
@@ -60,7 +60,7 @@ fn front_moves(tape: &mut Tape, at: u16, next: u16) -> Result<(), Memory>
     requires limit { tape.old.steps < 1073741824 }
     ensures { OnOk result (PairGoes tape.old tape.new (rear_of tape.old) (put Axis.Z (front_of tape.old) next) 1) }
 {
-    tape.know_whole();
+    tape.recall_whole();
     tape.move_all(&[Command::Wait, Command::SMove(towards(Axis::Z, at, next))])
 }
 
@@ -74,7 +74,7 @@ fn rear_moves(tape: &mut Tape, at: u16, next: u16) -> Result<(), Memory>
     requires limit { tape.old.steps < 1073741824 }
     ensures { OnOk result (PairGoes tape.old tape.new (put Axis.Z (rear_of tape.old) next) (front_of tape.old) 1) }
 {
-    tape.know_whole();
+    tape.recall_whole();
     tape.move_all(&[Command::SMove(towards(Axis::Z, at, next)), Command::Wait])
 }
 
@@ -177,7 +177,7 @@ fn both_slide(
         (PairGoes tape.old tape.new (put Axis.Z (rear_of tape.old) rear_next)
         (put Axis.Z (front_of tape.old) front_next) 1) }
 {
-    tape.know_whole();
+    tape.recall_whole();
     tape.move_all(&[
         Command::SMove(towards(Axis::Z, behind, rear_next)),
         Command::SMove(towards(Axis::Z, ahead, front_next)),

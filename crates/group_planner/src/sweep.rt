@@ -152,7 +152,7 @@ fn go_and_write(
     ensures climb { OnOk result
         (climb_to tape.new (y + 1) ≤ climb_to tape.old (y + 1) + (135 + 3 * runs_of_row model.now x y)) }
 {
-    tape.know_whole();
+    tape.recall_whole();
     go_to_row(tape, x, y + 1)?;
     write_line(tape, model, full, x, y, first)
 }

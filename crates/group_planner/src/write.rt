@@ -1,16 +1,14 @@
 //! How the pair writes: one voxel by one bot, or the voxels of a row by both.
-ghost use Rattle.std.specs.Prelude.{◌≡◌, ◌≢◌, ◌⊎◌, ◌+◌, ◌*◌, ◌-◌, ◌<◌, ◌≤◌, OnOk, length, pos, neg_ℤ, ◌≤ℤ◌, ◌-ℤ◌};
+ghost use Rattle.std.specs.Prelude.{◌≡◌, ◌≢◌, ◌+◌, ◌-◌, ◌<◌, ◌≤◌, OnOk, pos, neg_ℤ, ◌≤ℤ◌, ◌-ℤ◌};
 ghost use Rattle.vox_geom.specs.declared.TheConstants.{MOST_R};
-ghost use Rattle.nano_spec.specs.declared.system.Harmonics.TheVariants.{High};
-ghost use Rattle.plan_tape.specs.Leg.{moves, put};
 ghost use Rattle.group_planner.specs.Pair.{IsPair, Sets, front as front_of, rear as rear_of};
 ghost use Rattle.group_planner.specs.Stamping.{WritesRun, most_work, work_at};
-ghost use Rattle.group_planner.specs.Writing.{AreCalm, CalmStep, ahead, all_below as all_below_of, one_below as one_below_of};
+ghost use Rattle.group_planner.specs.Writing.{ahead, all_below as all_below_of, one_below as one_below_of};
 
 use crate::pair::{front, front_goes, rear, rear_goes, spread};
 use nano_spec::Command;
-use plan_tape::{Axis, Tape};
-use step_order::{bots_act, free_bots_break_no_rule};
+use plan_tape::Tape;
+use step_order::bots_act;
 use vox_geom::{Diff, Far, Memory, Near};
 
 /// What leads along z from one end of a run to the other.
@@ -68,21 +66,6 @@ fn all_below(full: bool, from: u16, to: u16) -> Command
     }
 }
 
-/// A step of bots that each act on their own, or fuse, under High.
-pub fn step_calmly(tape: &mut Tape, commands: &[Command]) -> Result<(), Memory>
-    requires some { 1 ≤ length tape.old.bots }
-    requires commands { length commands.now ≡ length tape.old.bots }
-    requires calm { AreCalm tape.old commands.now }
-    requires high { tape.old.harmonics ≡ High }
-    requires limit { tape.old.steps < 1073741824 }
-    ensures { OnOk result (CalmStep tape.old tape.new commands.now) }
-{
-    free_bots_break_no_rule();
-    bots_act();
-    tape.know_ready();
-    tape.step(commands)
-}
-
 /// The rear bot makes the voxel below it full or void, and the front one waits.
 fn rear_writes(tape: &mut Tape, full: bool) -> Result<(), Memory>
     requires pair { IsPair tape.old }
@@ -93,8 +76,8 @@ fn rear_writes(tape: &mut Tape, full: bool) -> Result<(), Memory>
         ((rear_of tape.old).z + 1) full (rear_of tape.old) (front_of tape.old) 1 0) }
 {
     bots_act();
-    tape.know_ready();
-    step_calmly(tape, &[one_below(full), Command::Wait])
+    tape.recall_ready();
+    tape.act_all(&[one_below(full), Command::Wait])
 }
 
 /// The front bot makes the voxel below it full or void, and the rear one waits.
@@ -107,8 +90,8 @@ fn front_writes(tape: &mut Tape, full: bool) -> Result<(), Memory>
         ((front_of tape.old).z + 1) full (rear_of tape.old) (front_of tape.old) 1 0) }
 {
     bots_act();
-    tape.know_ready();
-    step_calmly(tape, &[Command::Wait, one_below(full)])
+    tape.recall_ready();
+    tape.act_all(&[Command::Wait, one_below(full)])
 }
 
 /// Both bots make the voxels below them, and all between these, full or void.

@@ -12,7 +12,7 @@ fn volume(matrix: &Planes) -> u32
     ensures value { result ≡ volume_of matrix.now.resolution }
     ensures most { result ≤ 64000000 }
 {
-    matrix.know();
+    matrix.recall();
     let side = u32::from(matrix.resolution());
     side * side * side
 }

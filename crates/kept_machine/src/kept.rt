@@ -100,7 +100,7 @@ impl KeptMachine {
         if self.machine.steps_done() > 0 {
             return false;
         }
-        self.trace = Trace::begun(self.alloc);
+        self.trace = Trace::begin(self.alloc);
         true
     }
 

@@ -165,7 +165,7 @@ fn step_and_note<L: Ledger>(
     ensures tries { (trace : Option (List Spoken)) → Tries (kept_of machine.old notes.old trace) commands.now
         (kept_of machine.new notes.new (tried trace commands.now result)) result }
 {
-    machine.know();
+    machine.recall();
     let order = machine.leaders(commands);
     match machine.step_noted(commands, order.as_slice(), steps) {
         Ok((ok, undo)) => {
@@ -241,7 +241,7 @@ fn step_and_restore<L: Ledger>(
     ensures answer { (notes : Buffer Note) (trace : Option (List Spoken))
         → WouldAnswer (kept_of machine.old notes trace) commands.now result }
 {
-    machine.know();
+    machine.recall();
     let order = machine.leaders(commands);
     match machine.step_noted(commands, order.as_slice(), steps) {
         Ok((ok, undo)) => {

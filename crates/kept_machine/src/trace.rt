@@ -25,7 +25,7 @@ impl Trace {
     }
 
     /// The trace before the first command.
-    pub fn begun(alloc: Global) -> Trace
+    pub fn begin(alloc: Global) -> Trace
         ensures { trace_of result ≡ Some [] }
     {
         Trace {

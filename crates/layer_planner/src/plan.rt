@@ -1,40 +1,24 @@
 //! The plan.
-ghost use Rattle.std.specs.Prelude.{◌≡◌, ◌+◌, ◌*◌, ◌<◌, ◌≤◌, [], ◌∷◌, IfOk, OnOk, length};
+ghost use Rattle.std.specs.Prelude.{◌≡◌, ◌+◌, ◌*◌, ◌≤◌, [], ◌∷◌, IfOk, OnOk, length};
 ghost use Rattle.nano_spec.specs.Legal.{IsLegal};
 ghost use Rattle.nano_spec.specs.Profile.{full_profile};
 ghost use Rattle.nano_spec.specs.Spelling.{spellings};
+ghost use Rattle.plan_tape.specs.Frame.{HasRisen};
 ghost use Rattle.plan_tape.specs.Progress.{IsAccepted, IsVoidFrom};
 ghost use Rattle.plan_tape.specs.Lowest.{IsLowest};
 ghost use Rattle.plan_tape.specs.Reaches.{HasAtMost};
-ghost use Rattle.layer_planner.specs.Phases.{IsOpened, IsRebuilt};
+ghost use Rattle.layer_planner.specs.Phases.{IsRebuilt};
 
 use crate::paint::{build, clear};
 use nano_spec::{Command, Profile};
-use plan_tape::{Plan, Tape, halt_alone, lowest_difference};
+use plan_tape::{Plan, Tape, close, halt_alone, lowest_difference, rise};
 use std::alloc::Global;
-use vox_geom::{Coord, Memory};
+use vox_geom::Memory;
 use vox_planes::Planes;
-
-/// The tape with the bot at the top above the origin, under High.
-fn opened(alloc: Global, source: Planes) -> Result<Tape, Memory>
-    requires legal { IsLegal source }
-    ensures source { IfOk result (λ t. t.source ≡ source) }
-    ensures opened { IfOk result IsOpened }
-{
-    let r = source.resolution();
-    let mut tape = Tape::start(alloc, source)?;
-    tape.flip()?;
-    tape.go(Coord {
-        x: 0,
-        y: r - 1,
-        z: 0,
-    })?;
-    Ok(tape)
-}
 
 /// Voids the source down to the lowest layer in which it differs from the target, and builds the target from there.
 fn rebuild(tape: &mut Tape, nothing: &Planes, target: &Planes, low: u16) -> Result<(), Memory>
-    requires opened { IsOpened tape.old }
+    requires risen { HasRisen tape.old }
     requires source { IsLegal tape.old.source }
     requires target { IsLegal target.now }
     requires same { target.now.resolution ≡ tape.old.source.resolution }
@@ -44,29 +28,11 @@ fn rebuild(tape: &mut Tape, nothing: &Planes, target: &Planes, low: u16) -> Resu
     ensures source { OnOk result (tape.new.source ≡ tape.old.source) }
     ensures rebuilt { OnOk result (IsRebuilt tape.new target.now) }
 {
-    target.know();
+    target.recall();
     clear(tape, nothing, low)?;
     build(tape, target, low)?;
+    tape.recall_whole();
     Ok(())
-}
-
-/// The plan, once the bot is home.
-fn closed(mut tape: Tape, target: &Planes) -> Result<Plan, Memory>
-    requires rebuilt { IsRebuilt tape target.now }
-    requires target { IsLegal target.now }
-    ensures accepted { IfOk result
-        (λ plan. IsAccepted tape.source target.now plan.commands full_profile plan.energy plan.steps) }
-    ensures bytes { IfOk result
-        (λ plan. length (spellings plan.commands) ≤ 8 * target.now.resolution * target.now.resolution *
-        target.now.resolution + 200) }
-    ensures few { IfOk result (λ plan. HasAtMost tape.source full_profile plan.commands 1) }
-{
-    target.know();
-    tape.know_whole();
-    tape.go(Coord { x: 0, y: 0, z: 0 })?;
-    tape.flip()?;
-    tape.halt()?;
-    Ok(tape.finish())
 }
 
 /// A plan that makes the target of the source, by one bot. Both models are legal. Its commands are spelled in at most
@@ -88,7 +54,7 @@ pub fn plan_layers(alloc: Global, source: &Planes, target: &Planes) -> Result<Pl
         return halt_alone(alloc, source.copy(alloc)?, Profile::full());
     };
     let nothing = Planes::empty(alloc, target.resolution())?;
-    let mut tape = opened(alloc, source.copy(alloc)?)?;
+    let mut tape = rise(alloc, source.copy(alloc)?)?;
     rebuild(&mut tape, &nothing, target, low)?;
-    closed(tape, target)
+    close(tape)
 }

@@ -7,7 +7,6 @@ use Rattle.vox_geom.specs.Point.{are_adjacent, point, same_point}
 use Rattle.vox_geom.proofs.Truths.{first_of_two, second_of_two}
 use Rattle.vox_geom.proofs.Tests.{test_equal}
 use Rattle.vox_geom.proofs.Points.{coordinate_by_test, point_itself}
-use Rattle.nano_spec.specs.Grounded as grounded
 use Rattle.nano_spec.specs.Matrix.{Matrix, is_full}
 use Rattle.low_planner.specs.Sweep.{AreBesideInLayer}
 use Rattle.low_planner.specs.Supported.{IsSupported, is_layer_path, rests}

@@ -32,7 +32,7 @@ fn go_above(tape: &mut Tape, c: Coord) -> Result<(), Memory>
     ensures { OnOk result
         (Works tape.old tape.new (above c) tape.old.matrix (moves_to (spot tape.old.bots) (above c))) }
 {
-    tape.know_whole();
+    tape.recall_whole();
     go(tape, Coord { y: c.y + 1, ..c })
 }
 
@@ -43,7 +43,7 @@ fn fill(tape: &mut Tape, c: Coord) -> Result<(), Memory>
         (Works tape.old tape.new (above c) (with_voxel tape.old.matrix c true)
         (moves_to (spot tape.old.bots) (above c) + 1)) }
 {
-    tape.know_ready();
+    tape.recall_ready();
     go_above(tape, c)?;
     tape.fill(Near::down())
 }
@@ -56,7 +56,7 @@ pub fn build(tape: &mut Tape, sweep: &mut Sweep, target: &Planes) -> Result<(), 
     requires built { IsBuilt target.now sweep.old tape.old }
     ensures { OnOk result (IsFinished target.now tape.new) }
 {
-    target.know();
+    target.recall();
     while let Some(visit) = sweep.next(target)? {
         match visit {
             Visit::First(c) => fill(tape, c)?,

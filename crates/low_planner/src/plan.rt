@@ -21,7 +21,7 @@ use vox_geom::{Coord, Memory};
 use vox_planes::Planes;
 
 /// The tape before the first command, over the empty model of this resolution.
-fn started(alloc: Global, target: &Planes) -> Result<Tape, Memory>
+fn start(alloc: Global, target: &Planes) -> Result<Tape, Memory>
     ensures { IfOk result (λ t. t ≡ starting (empty target.now.resolution) light_profile) }
 {
     let nothing = Planes::empty(alloc, target.resolution())?;
@@ -29,19 +29,19 @@ fn started(alloc: Global, target: &Planes) -> Result<Tape, Memory>
 }
 
 /// The tape once all is built.
-fn built(alloc: Global, target: &Planes) -> Result<Tape, Memory>
+fn erect(alloc: Global, target: &Planes) -> Result<Tape, Memory>
     requires legal { IsLegal target.now }
     requires supported { FirstUnsupported target.now None }
     ensures { IfOk result (IsFinished target.now) }
 {
-    let mut tape = started(alloc, target)?;
+    let mut tape = start(alloc, target)?;
     let mut sweep = Sweep::begin(alloc, target)?;
     build(&mut tape, &mut sweep, target)?;
     Ok(tape)
 }
 
 /// The plan, once the bot is home.
-fn closed(mut tape: Tape, target: &Planes) -> Result<Plan, Memory>
+fn close(mut tape: Tape, target: &Planes) -> Result<Plan, Memory>
     requires finished { IsFinished target.now tape }
     requires legal { IsLegal target.now }
     ensures accepted { IfOk result
@@ -53,7 +53,7 @@ fn closed(mut tape: Tape, target: &Planes) -> Result<Plan, Memory>
         target.now.resolution + 200) }
     ensures halt_alone { IsEmpty target.now → IfOk result (λ plan. plan.commands ≡ Command.Halt ∷ []) }
 {
-    target.know();
+    target.recall();
     go(&mut tape, Coord { x: 0, y: 0, z: 0 })?;
     tape.halt()?;
     Ok(tape.finish())
@@ -83,6 +83,6 @@ pub fn plan_low(alloc: Global, target: &Planes) -> Result<Plan, LowFault>
     if let Some(at) = first_unsupported(alloc, target)? {
         return Err(LowFault::Unsupported { at });
     }
-    let plan = closed(built(alloc, target)?, target)?;
+    let plan = close(erect(alloc, target)?, target)?;
     Ok(plan)
 }

@@ -118,7 +118,7 @@ impl Sweep {
         ensures { MatchOption result ((d : Coordinate) → AreBesideInLayer c d → is_full_of self.now.remaining d ≡ false)
             (λ d. AreBesideInLayer c d × IsTrue (is_full_of self.now.remaining d)) }
     {
-        self.remaining.know();
+        self.remaining.recall();
         let Coord { x, y, z } = c;
         if self.is_left(x, y, z + 1) {
             return Some(Coord { x, y, z: z + 1 });

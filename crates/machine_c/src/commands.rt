@@ -28,7 +28,7 @@ fn count_status(answer: Result<u64, TraceFault>) -> u32
 }
 
 /// How many commands there are, 0 where the bytes are none.
-fn counted(answer: Result<u64, TraceFault>) -> u64
+fn count_of(answer: Result<u64, TraceFault>) -> u64
     ensures { result ≡ commands_by answer }
 {
     match answer {
@@ -59,7 +59,7 @@ pub extern "C" fn nanobot_commands(
     ensures { AreCommandsTold trace.now count.new at.new result }
 {
     let answer = count_commands(alloc, trace);
-    *count = counted(answer);
+    *count = count_of(answer);
     *at = offset(answer);
     count_status(answer)
 }

@@ -148,11 +148,11 @@ impl ModelTold {
     pub fn none() -> ModelTold
         ensures { result ≡ record { number = 0; want = 0; have = 0; x = 0; y = 0; z = 0 } }
     {
-        ModelTold::sized(0, 0, 0)
+        ModelTold::with_sizes(0, 0, 0)
     }
 
     /// A refusal that has numbers.
-    fn sized(number: u32, want: u32, have: u32) -> ModelTold
+    fn with_sizes(number: u32, want: u32, have: u32) -> ModelTold
         ensures { result ≡ record { number = number; want = want; have = have; x = 0; y = 0; z = 0 } }
     {
         ModelTold {
@@ -166,7 +166,7 @@ impl ModelTold {
     }
 
     /// A refusal that has a voxel.
-    fn placed(number: u32, at: Coord) -> ModelTold
+    fn with_place(number: u32, at: Coord) -> ModelTold
         ensures { result ≡ record { number = number; want = 0; have = 0; x = at.x; y = at.y; z = at.z } }
     {
         ModelTold {
@@ -195,17 +195,17 @@ impl ModelTold {
     {
         let number = u32::from(refusal.number());
         match refusal {
-            ModelRefusal::NoByte => ModelTold::sized(number, 0, 0),
-            ModelRefusal::Resolution { r } => ModelTold::sized(number, 0, u32::from(r)),
-            ModelRefusal::Short { want, have } => ModelTold::sized(number, want, have),
-            ModelRefusal::Long { want } => ModelTold::sized(number, want, 0),
-            ModelRefusal::Border { at } => ModelTold::placed(number, at),
-            ModelRefusal::Floating { at } => ModelTold::placed(number, at),
-            ModelRefusal::WideHead { have } => ModelTold::sized(number, 0, have),
-            ModelRefusal::WideResolution { r } => ModelTold::sized(number, 0, u32::from(r)),
-            ModelRefusal::WideRun { index } => ModelTold::sized(number, 0, index),
-            ModelRefusal::WideShort { have } => ModelTold::sized(number, 0, have),
-            ModelRefusal::WideLong => ModelTold::sized(number, 0, 0),
+            ModelRefusal::NoByte => ModelTold::with_sizes(number, 0, 0),
+            ModelRefusal::Resolution { r } => ModelTold::with_sizes(number, 0, u32::from(r)),
+            ModelRefusal::Short { want, have } => ModelTold::with_sizes(number, want, have),
+            ModelRefusal::Long { want } => ModelTold::with_sizes(number, want, 0),
+            ModelRefusal::Border { at } => ModelTold::with_place(number, at),
+            ModelRefusal::Floating { at } => ModelTold::with_place(number, at),
+            ModelRefusal::WideHead { have } => ModelTold::with_sizes(number, 0, have),
+            ModelRefusal::WideResolution { r } => ModelTold::with_sizes(number, 0, u32::from(r)),
+            ModelRefusal::WideRun { index } => ModelTold::with_sizes(number, 0, index),
+            ModelRefusal::WideShort { have } => ModelTold::with_sizes(number, 0, have),
+            ModelRefusal::WideLong => ModelTold::with_sizes(number, 0, 0),
         }
     }
 }

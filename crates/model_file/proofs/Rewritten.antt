@@ -10,8 +10,9 @@ use Rattle.std.proofs.lemmas.Nat.{pow_pos}
 use Rattle.std.proofs.lemmas.Nat.Bits.{bit_at_cat_low}
 use Rattle.vox_geom.specs.Space.{numbers_below}
 use Rattle.vox_geom.proofs.Tests.{between_by_tests, not_less_by_test}
+use Rattle.nano_spec.specs.First.{with_first}
 use Rattle.nano_spec.specs.Matrix.{Matrix}
-use Rattle.nano_spec.specs.Model.{NoModel, Resolution, Short, Long, WideResolution, WideRun, WideShort, WideLong, bit, byte_at, first_form, four_bytes, is_no_run, model, number_of_four, of_runs, run_lengths, runs_in, volume, voxel_bit, voxels_of, wanted, wide_form, wide_model, with_run, written}
+use Rattle.nano_spec.specs.Model.{NoModel, Resolution, Short, Long, WideResolution, WideRun, WideShort, WideLong, bit, byte_at, first_form, four_bytes, is_no_run, model, number_of_four, of_runs, run_lengths, runs_in, volume, voxel_bit, voxels_of, wanted, wide_form, wide_model, written}
 use Rattle.vox_planes.proofs.Voxels.{get_or-numbers}
 use Rattle.model_file.specs.Padding.{cut_last, used_bits, without_padding}
 use Rattle.model_file.proofs.FirstForms.{byte_of, length-numbers}
@@ -84,7 +85,7 @@ said total (a ∷ b ∷ c ∷ d ∷ more) index sum ns bound h =
     }
 
     by : (lt no_run : Bool) → is_no_run total index sum (number_of_four a b c d) ≡ no_run → (rest : Result (List ℕ) NoModel) → ((ms : List ℕ) → rest ≡ Ok ms → IsSaid (index + 1) more ms) →
-        ◌≡◌ {A = Result (List ℕ) NoModel} (elim lt [ false ↦ Err WideLong | true ↦ elim no_run [ true ↦ Err (WideRun index) | false ↦ with_run (number_of_four a b c d) rest ] ]) (Ok ns) → IsSaid index (a ∷ b ∷ c ∷ d ∷ more) ns
+        ◌≡◌ {A = Result (List ℕ) NoModel} (elim lt [ false ↦ Err WideLong | true ↦ elim no_run [ true ↦ Err (WideRun index) | false ↦ with_first (number_of_four a b c d) rest ] ]) (Ok ns) → IsSaid index (a ∷ b ∷ c ∷ d ∷ more) ns
     by false n e rest later k = cc
     by true true e rest later k = cc
     by true false e (Err f) later k = cc
@@ -133,7 +134,7 @@ none_said total (a ∷ b ∷ c ∷ []) p h = by (nat_lt 0 total) h
     by false k = cc
 none_said total (a ∷ b ∷ c ∷ d ∷ more) p h = by (nat_lt 0 total) (is_no_run total 0 0 (number_of_four a b c d)) (runs_in total (0 + 1) (0 + number_of_four a b c d) more) h
   where
-    by : (lt no_run : Bool) (rest : Result (List ℕ) NoModel) → ◌≡◌ {A = Result (List ℕ) NoModel} (elim lt [ false ↦ Err WideLong | true ↦ elim no_run [ true ↦ Err (WideRun 0) | false ↦ with_run (number_of_four a b c d) rest ] ]) (Ok []) → ⊥
+    by : (lt no_run : Bool) (rest : Result (List ℕ) NoModel) → ◌≡◌ {A = Result (List ℕ) NoModel} (elim lt [ false ↦ Err WideLong | true ↦ elim no_run [ true ↦ Err (WideRun 0) | false ↦ with_first (number_of_four a b c d) rest ] ]) (Ok []) → ⊥
     by false n rest k = cc
     by true true rest k = cc
     by true false (Err f) k = cc

@@ -8,8 +8,9 @@ use Rattle.std.proofs.Math.Seq.{get_or-append_right}
 use Rattle.vox_geom.specs.Space.{coordinates}
 use Rattle.vox_geom.proofs.Truths.{and_false}
 use Rattle.vox_geom.proofs.Tests.{test_less, test_not_less}
+use Rattle.nano_spec.specs.First.{with_first}
 use Rattle.nano_spec.specs.Matrix.{Matrix, empty}
-use Rattle.nano_spec.specs.Model.{NoModel, WideRun, WideShort, WideLong, is_no_run, number_of_four, of_runs, runs_in, volume, voxels_of, wide_form, wide_model, with_run}
+use Rattle.nano_spec.specs.Model.{NoModel, WideRun, WideShort, WideLong, is_no_run, number_of_four, of_runs, runs_in, volume, voxels_of, wide_form, wide_model}
 use Rattle.nano_spec.proofs.EmptyModel.{none_there}
 use Rattle.nano_spec.proofs.Writing.{is_run}
 use Rattle.vox_planes.specs.Places.{is_from, voxel_at}
@@ -20,19 +21,19 @@ use Rattle.vox_planes.proofs.Placed.{after_these, before_these, one_of_these}
 
 abbrev before : List ℕ → Result (List ℕ) NoModel → Result (List ℕ) NoModel
 before [] rest = rest
-before (run ∷ runs) rest = with_run run (before runs rest)
+before (run ∷ runs) rest = with_first run (before runs rest)
 
-before-push : (runs : List ℕ) (run : ℕ) (rest : Result (List ℕ) NoModel) → before (runs ++ run ∷ []) rest ≡ before runs (with_run run rest)
+before-push : (runs : List ℕ) (run : ℕ) (rest : Result (List ℕ) NoModel) → before (runs ++ run ∷ []) rest ≡ before runs (with_first run rest)
 before-push [] run rest = refl
-before-push (n ∷ runs) run rest = ap (with_run n) (before-push runs run rest)
+before-push (n ∷ runs) run rest = ap (with_first n) (before-push runs run rest)
 
 before-err : (runs : List ℕ) (e : NoModel) → before runs (Err e) ≡ Err e
 before-err [] e = refl
-before-err (n ∷ runs) e = ap (with_run n) (before-err runs e)
+before-err (n ∷ runs) e = ap (with_first n) (before-err runs e)
 
 before-ok : (runs more : List ℕ) → before runs (Ok more) ≡ Ok (runs ++ more)
 before-ok [] more = refl
-before-ok (n ∷ runs) more = ap (with_run n) (before-ok runs more)
+before-ok (n ∷ runs) more = ap (with_first n) (before-ok runs more)
 
 -- ---- what is left of the bytes
 
@@ -59,7 +60,7 @@ next_run bytes at = number_of_four (slice_index bytes at) (slice_index bytes (at
 
 -- what comes of a run, and of the bytes behind it
 abbrev taken : ℕ → ℕ → ℕ → ℕ → List ℕ → Result (List ℕ) NoModel
-taken total index sum run rest = elim (is_no_run total index sum run) [ true ↦ Err (WideRun index) | false ↦ with_run run (runs_in total (index + 1) (sum + run) rest) ]
+taken total index sum run rest = elim (is_no_run total index sum run) [ true ↦ Err (WideRun index) | false ↦ with_first run (runs_in total (index + 1) (sum + run) rest) ]
 
 four_of : (rest : List ℕ) (total index sum : ℕ) → 4 ≤ length rest → sum < total → runs_in total index sum rest ≡ taken total index sum (next_run rest 0) (drop 4 rest)
 four_of [] total index sum l h = absurd (omega arith)
@@ -156,7 +157,7 @@ run_more r bytes old new at index sum run full h four less er nz fits set resolu
   done = h.done ++ run ∷ [];
   reads =
       h.reads
-      ∙ (ap (before h.done) (next_taken bytes (volume r) at index sum run four less er ∙ ap (λ b. elim b [ true ↦ Err (WideRun index) | false ↦ with_run run (runs_in (volume r) (index + 1) (sum + run) (drop (at + 4) bytes)) ]) (is_run (volume r) index sum run nz fits))
+      ∙ (ap (before h.done) (next_taken bytes (volume r) at index sum run four less er ∙ ap (λ b. elim b [ true ↦ Err (WideRun index) | false ↦ with_first run (runs_in (volume r) (index + 1) (sum + run) (drop (at + 4) bytes)) ]) (is_run (volume r) index sum run nz fits))
       ∙ sym (before-push h.done run (runs_in (volume r) (index + 1) (sum + run) (drop (at + 4) bytes))));
   within = four;
   few = few run nz;
@@ -190,7 +191,7 @@ refused r bytes m at index sum full e h s = ap (of_runs r) (h.reads ∙ (ap (bef
 pub bad_run : (r : ℕ) (bytes : List ℕ) (m : Matrix) (at index sum run : ℕ) (full : Bool) → HasRuns r bytes m at index sum full → at + 4 ≤ length bytes → sum < volume r → run ≡ next_run bytes at → is_no_run (volume r) index sum run ≡ true → of_runs r (runs_in (volume r) 0 0 bytes) ≡ Err (WideRun index)
 bad_run r bytes m at index sum run full h four less er bad =
     refused r bytes m at index sum full (WideRun index) h
-    (next_taken bytes (volume r) at index sum run four less er ∙ ap (λ b. elim b [ true ↦ Err (WideRun index) | false ↦ with_run run (runs_in (volume r) (index + 1) (sum + run) (drop (at + 4) bytes)) ]) bad)
+    (next_taken bytes (volume r) at index sum run four less er ∙ ap (λ b. elim b [ true ↦ Err (WideRun index) | false ↦ with_first run (runs_in (volume r) (index + 1) (sum + run) (drop (at + 4) bytes)) ]) bad)
 
 pub void_run : (total index sum run : ℕ) → run ≡ 0 → 0 < index → is_no_run total index sum run ≡ true
 void_run total index sum run e l = grind (arith, nat_tests)

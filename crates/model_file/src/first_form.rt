@@ -29,7 +29,7 @@ pub fn volume(r: u16) -> u32
 }
 
 /// How many bytes this form takes at a resolution.
-fn wanted(r: u16) -> u32
+fn count_wanted(r: u16) -> u32
     requires { r ≤ MOST_R }
     ensures { result ≡ wanted_of r }
 {
@@ -73,8 +73,10 @@ fn set_words(planes: &mut Planes, bytes: &[u8]) -> u32
 fn set_voxels(planes: &mut Planes, bytes: &[u8])
     requires { length bytes.now ≡ wanted_of planes.old.resolution }
     ensures { planes.new
-        ≡ record
-        { resolution = planes.old.resolution; voxels = map (voxel_bit bytes.now) (numbers_below (volume_of planes.old.resolution)) } }
+        ≡ record {
+          resolution = planes.old.resolution;
+          voxels = map (voxel_bit bytes.now) (numbers_below (volume_of planes.old.resolution));
+        } }
 {
     let places = volume(planes.resolution());
     let mut from = set_words(planes, bytes);
@@ -91,7 +93,7 @@ pub fn read_first(alloc: Global, r: u8, bytes: &[u8]) -> Result<Planes, ModelFau
     if r == 0 || r > FIRST_FORM_MOST_R {
         return Err(ModelFault::Refused(ModelRefusal::Resolution { r }));
     }
-    let want = wanted(u16::from(r));
+    let want = count_wanted(u16::from(r));
     if bytes.len() < want as usize {
         return Err(ModelFault::Refused(ModelRefusal::Short {
             want,

@@ -7,7 +7,7 @@ use vox_geom::MOST_R;
 
 /// What the number says of the column at x and z.
 #[tactic(auto, using(crate::proofs::Sizes::product_most))]
-fn mixed(number: u32, x: u16, z: u16) -> u16
+fn mix(number: u32, x: u16, z: u16) -> u16
     requires x { x ≤ MOST_R }
     requires z { z ≤ MOST_R }
     ensures { result ≡ mixed_of number x z }
@@ -26,7 +26,7 @@ pub fn height(number: u32, r: u16, x: u16, z: u16) -> u16
     ensures value { result ≡ height_of number r x z }
     ensures below { result < r }
 {
-    let mixed = mixed(number, x, z);
+    let mixed = mix(number, x, z);
     if mixed % 3 == 0 {
         1 + mixed % (r - 1)
     } else {

@@ -34,7 +34,7 @@ fn put_columns(planes: &mut Planes, from: u32, heights: &[u16], y: u16)
     ensures resolution { planes.new.resolution ≡ planes.old.resolution }
     ensures whole { IsWhole planes.new }
 {
-    planes.know();
+    planes.recall();
     let mut done = 0;
     while done < heights.len() {
         let count = (heights.len() - done).min(64) as u32;

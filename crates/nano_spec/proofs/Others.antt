@@ -1,10 +1,14 @@
 -- Worked examples of the forge, of steps whose groups act one after another, of work, of paths and of names, each by computing.
-use Rattle.std.proofs.Common.{refl}
+use Rattle.std.proofs.Common.{refl, ◌<◌, arith, List, [], ◌∷◌, length}
+use Rattle.std.specs.Prelude.{IsTrue}
+use Rattle.vox_geom.specs.declared.coordinate.Coord.{Coord}
 use Rattle.nano_spec.specs.declared.outcomes.Rule.TheVariants.{TraceEnds, OutOfSpace, Seeds}
+use Rattle.nano_spec.specs.Grounded.{is_path_from}
+use Rattle.nano_spec.specs.Matrix.{Matrix}
 use Rattle.nano_spec.specs.State.{seed_numbers}
 use Rattle.nano_spec.specs.Work.{stops}
 use Rattle.nano_spec.proofs.WorkDone.{work_of_a_floating_voxel, work_of_a_refused_group, work_of_a_ring, work_of_another_post}
-use Rattle.nano_spec.specs.WorkedOthers.{WorkedForge, WorkedNames, WorkedOrders, WorkedPaths, WorkedWork}
+use Rattle.nano_spec.specs.WorkedOthers.{WorkedForge, WorkedNames, WorkedOrders, WorkedPaths, WorkedWork, hanging}
 use Rattle.nano_spec.specs.Next.{breaks_at_start}
 use Rattle.vox_geom.specs.Point.{coord}
 
@@ -45,6 +49,10 @@ worked_work = record {
   work_of_a_floating_voxel = work_of_a_floating_voxel;
 }
 
+has_a_coordinate : (m : Matrix) (c : Coord) (path : List Coord) → IsTrue (is_path_from m c path) → 0 < length path
+has_a_coordinate m c [] t = cc
+has_a_coordinate m c (a ∷ path) t = omega arith
+
 pub worked_paths : WorkedPaths
 worked_paths = record {
   on_the_floor = refl;
@@ -58,6 +66,7 @@ worked_paths = record {
   to_a_void_voxel = refl;
   over_an_edge = refl;
   over_a_gap = refl;
+  level_on_the_floor = ((coord 1 0 1 ∷ [], refl, refl), has_a_coordinate hanging (coord 1 0 1));
 }
 
 pub worked_names : WorkedNames

@@ -17,10 +17,11 @@ use Rattle.nano_spec.specs.declared.commands.Command.{Command}
 use Rattle.nano_spec.specs.declared.commands.Command.TheVariants.{Halt, Wait, Flip, SMove, LMove, FusionP, FusionS, Fission, Fill, Void, GFill, GVoid}
 use Rattle.nano_spec.specs.Command.{IsCommand}
 use Rattle.nano_spec.specs.Cutting.{AreCommands}
+use Rattle.nano_spec.specs.First.{with_first}
 use Rattle.nano_spec.specs.Printing.{print, printed, printed_difference, spaced}
 use Rattle.nano_spec.specs.Line.{word_of, from_word, after_word, Says, line_content, has_high_byte, line_of, without_return}
 use Rattle.nano_spec.specs.LineForm.{Blanks, Mark, Number, Part, Read, Word, after_blanks, difference_parts, digits, is_blank, is_digit, negative, numbers, readings}
-use Rattle.nano_spec.specs.Reading.{read, read_lines, with_first, without_last_empty}
+use Rattle.nano_spec.specs.Reading.{read, read_lines, without_last_empty}
 use Rattle.nano_spec.proofs.Lines.{is_says}
 use Rattle.nano_spec.proofs.Decimals.{at_number, same_bytes}
 

@@ -6,8 +6,9 @@ use Rattle.std.proofs.lemmas.List.{length-map, length-replicate}
 use Rattle.vox_geom.specs.Space.{numbers_below}
 use Rattle.vox_geom.proofs.Tests.{between_by_tests}
 use Rattle.vox_geom.proofs.Sums.{numbers_length}
+use Rattle.nano_spec.specs.First.{with_first}
 use Rattle.nano_spec.specs.Matrix.{Matrix}
-use Rattle.nano_spec.specs.Model.{NoModel, Resolution, Short, Long, WideResolution, WideRun, WideShort, WideLong, first_form, is_no_run, model, number_of_four, of_runs, runs_in, volume, voxel_bit, voxels_of, wanted, wide_form, wide_model, with_run}
+use Rattle.nano_spec.specs.Model.{NoModel, Resolution, Short, Long, WideResolution, WideRun, WideShort, WideLong, first_form, is_no_run, model, number_of_four, of_runs, runs_in, volume, voxel_bit, voxels_of, wanted, wide_form, wide_model}
 
 -- the resolution is 1 to 400, and the model has a voxel for each coordinate
 pub record IsWhole (m : Matrix) : Type 0 where
@@ -87,7 +88,7 @@ runs_sum (a ∷ b ∷ c ∷ d ∷ more) total index sum runs l h =
     by (nat_lt sum total) (is_no_run total index sum (number_of_four a b c d)) refl (runs_in total (index + 1) (sum + number_of_four a b c d) more) (λ ns m. runs_sum more total (index + 1) (sum + number_of_four a b c d) ns m) h
   where
     by : (p q : Bool) → is_no_run total index sum (number_of_four a b c d) ≡ q → (rest : Result (List ℕ) NoModel) → ((ns : List ℕ) → sum + number_of_four a b c d ≤ total → rest ≡ Ok ns → (sum + number_of_four a b c d) + sum_of ns ≡ total)
-        → ◌≡◌ {A = Result (List ℕ) NoModel} (elim p [ false ↦ Err WideLong | true ↦ elim q [ true ↦ Err (WideRun index) | false ↦ with_run (number_of_four a b c d) rest ] ]) (Ok runs)
+        → ◌≡◌ {A = Result (List ℕ) NoModel} (elim p [ false ↦ Err WideLong | true ↦ elim q [ true ↦ Err (WideRun index) | false ↦ with_first (number_of_four a b c d) rest ] ]) (Ok runs)
         → sum + sum_of runs ≡ total
     by false q e rest later k = cc
     by true true e rest later k = cc

@@ -2,6 +2,7 @@
 -- the refusals, the wide form and its runs are this project's own: docs/FORMATS.md, "Model files").
 use Rattle.std.specs.Prelude.{ℕ, ◌+◌, ◌*◌, ◌/◌, ◌%◌, ◌^◌, Bool, true, false, cond, ◌&&◌, ◌||◌, not, nat_le, nat_lt, ◌==◌, List, [], ◌∷◌, ◌++◌, length, slice_index, slice_index_or, map, flat_map, sum_by, Result, Ok, Err, replicate}
 use Rattle.vox_geom.specs.Space.{numbers_below}
+use Rattle.nano_spec.specs.First.{with_first}
 use Rattle.nano_spec.specs.Matrix.{Matrix}
 
 -- why bytes are no model. In the first form: no byte; a resolution that is not 1 to 250; fewer bytes than wanted; more.
@@ -60,11 +61,6 @@ is_no_run total index sum run = (nat_lt 0 index && run == 0) || nat_lt total (su
 abbrev pub number_of_four : ℕ → ℕ → ℕ → ℕ → ℕ
 number_of_four a b c d = ((a * 256 + b) * 256 + c) * 256 + d
 
--- one more run before the others
-abbrev pub with_run : ℕ → Result (List ℕ) NoModel → Result (List ℕ) NoModel
-with_run run (Ok runs) = Ok (run ∷ runs)
-with_run run (Err e) = Err e
-
 -- the runs in the bytes from the run of an index on, with this sum of the runs before it; they are taken while the sum is below the total
 abbrev pub runs_in : ℕ → ℕ → ℕ → List ℕ → Result (List ℕ) NoModel
 runs_in total index sum (a ∷ b ∷ c ∷ d ∷ more) =
@@ -72,7 +68,7 @@ runs_in total index sum (a ∷ b ∷ c ∷ d ∷ more) =
       | false ↦ Err WideLong
       | true ↦ elim (is_no_run total index sum (number_of_four a b c d)) [
         | true ↦ Err (WideRun index)
-        | false ↦ with_run (number_of_four a b c d) (runs_in total (index + 1) (sum + number_of_four a b c d) more)
+        | false ↦ with_first (number_of_four a b c d) (runs_in total (index + 1) (sum + number_of_four a b c d) more)
       ]
     ]
 runs_in total index sum [] = elim (nat_lt sum total) [ true ↦ Err (WideShort sum) | false ↦ Ok [] ]

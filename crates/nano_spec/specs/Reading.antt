@@ -2,6 +2,7 @@
 use Rattle.std.specs.Prelude.{ℕ, ◌+◌, ◌==◌, List, [], ◌∷◌, map, Result, Ok, Err}
 use Rattle.std.specs.List.{slice_split}
 use Rattle.nano_spec.specs.declared.commands.Command.{Command}
+use Rattle.nano_spec.specs.First.{with_first}
 use Rattle.nano_spec.specs.Line.{Fault, Line, line_of, Skipped, Says, Faulty}
 
 -- the lines without the empty one behind the last line feed
@@ -18,11 +19,6 @@ lines text = without_last_empty (slice_split (λ b. b == 10) text)
 pub record FaultyLine : Type 0 where
   pub fault : Fault
   pub line : ℕ
-
--- one more command before those that were read
-abbrev pub with_first : Command → Result (List Command) FaultyLine → Result (List Command) FaultyLine
-with_first command (Ok commands) = Ok (command ∷ commands)
-with_first command (Err e) = Err e
 
 -- what the lines say, from the line of this number on: the commands, or the first faulty line
 abbrev pub read_lines : ℕ → List Line → Result (List Command) FaultyLine

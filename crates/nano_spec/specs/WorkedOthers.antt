@@ -12,6 +12,7 @@ use Rattle.nano_spec.specs.declared.system.Harmonics.{Harmonics}
 use Rattle.nano_spec.specs.declared.system.Harmonics.TheVariants.{Low, High}
 use Rattle.nano_spec.specs.Forge.{forged, mixed}
 use Rattle.nano_spec.specs.Grounded.{is_path_from}
+use Rattle.nano_spec.specs.Level.{Level}
 use Rattle.nano_spec.specs.Matrix.{Matrix, empty}
 use Rattle.nano_spec.specs.Model.{written}
 use Rattle.nano_spec.specs.Profile.{full_profile, light_profile, is_allowed}
@@ -129,6 +130,8 @@ pub record WorkedPaths : Type 0 where
   -- each is adjacent to the next
   pub over_an_edge : is_path_from hanging (coord 2 1 1) (coord 2 1 1 ∷ coord 1 0 1 ∷ []) ≡ false
   pub over_a_gap : is_path_from hanging (coord 1 0 1) (coord 1 0 1 ∷ coord 1 0 3 ∷ []) ≡ false
+  -- on the floor the level is 0, by the path of the voxel itself
+  pub level_on_the_floor : Level hanging (coord 1 0 1) (Some 0)
 
 -- a bot with seeds
 abbrev pub seeded : ℕ → Coord → List ℕ → Bot

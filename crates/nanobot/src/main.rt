@@ -38,7 +38,7 @@ fn words(rt: &HostRuntime) -> Result<Vec<String>, NoWords> {
 }
 
 /// Does what the words say, with a counter of this ledger.
-fn counted<D: Depot, O: Sink, L: Ledger>(
+fn run_counted<D: Depot, O: Sink, L: Ledger>(
     alloc: Global,
     words: &[String],
     depot: &mut D,
@@ -92,7 +92,7 @@ fn main(rt: HostRuntime) -> ExitCode {
     };
     let mut depot = HostDepot::new(&rt, alloc);
     let mut out = HostSink::new(rt.stdout());
-    let status = counted::<_, _, Brand>(alloc, &words, &mut depot, &mut out, Blank::new(1));
+    let status = run_counted::<_, _, Brand>(alloc, &words, &mut depot, &mut out, Blank::new(1));
     tell_status(&rt, status);
     ExitCode::from(status.code())
 }

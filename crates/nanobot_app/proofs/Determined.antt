@@ -1,15 +1,18 @@
 -- The answer to the words is one only, and what follows from it.
 use Rattle.std.proofs.Common.{◌≡◌, ◌⊎◌, ◌==◌, ℕ, ◌+◌, List, [], Option, Some, None, Bool, true, false, refl, sym, ap, ◌∙◌, subst, inl, inr, nat_lt, length}
-use Rattle.std.specs.Prelude.{Result, Ok, Err, MatchOption, MatchBool, IfSome, IsSomeAnd}
+use Rattle.std.specs.Result.{result_map_both}
+use Rattle.std.specs.Prelude.{Result, Ok, Err, MatchOption, MatchResult, MatchBool, IfSome, IsSomeAnd}
 use Rattle.std.specs.Io.KnownBytes.{append_known}
 use Rattle.vox_geom.specs.declared.coordinate.Coord.{Coord}
 use Rattle.nano_spec.specs.declared.commands.Command.{Command}
 use Rattle.nano_spec.specs.declared.outcomes.Verdict.{Verdict}
 use Rattle.nano_spec.specs.declared.system.Profile.{Profile}
-use Rattle.nano_spec.specs.Cutting.{Decoding, NoTrace, BadAt, CutAt}
+use Rattle.nano_spec.specs.Cutting.{Decoding, NoTrace}
 use Rattle.nano_spec.specs.Legal.{Legality, NotLegal}
-use Rattle.nano_spec.specs.Matrix.{Matrix, empty}
-use Rattle.nano_spec.specs.Model.{NoModel, model}
+use Rattle.nano_spec.specs.Matrix.{Matrix, empty, full_count}
+use Rattle.nano_spec.specs.Printing.{print}
+use Rattle.nano_spec.specs.Spelling.{spellings}
+use Rattle.nano_spec.specs.Model.{model}
 use Rattle.nano_spec.specs.Profile.{full_profile}
 use Rattle.nano_spec.specs.Reading.{FaultyLine, read}
 use Rattle.nano_spec.specs.Verdict.{VerdictOf}
@@ -19,24 +22,22 @@ use Rattle.low_planner.specs.Supported.{FirstUnsupported}
 use Rattle.step_debugger.specs.Session.{DebugLine}
 use Rattle.debug_script.specs.Script.{ScriptSays}
 use Rattle.debug_script.specs.Sessions.{PrintsFrom}
-use Rattle.vox_depot.specs.Files.{Files, content}
-use Rattle.nanobot_rows.specs.declared.report.Report.TheVariants as report
+use Rattle.vox_depot.specs.Files.{Files}
 use Rattle.nanobot_rows.specs.declared.report.Who.{Who}
 use Rattle.nanobot_rows.specs.declared.report.Who.TheVariants as who
 use Rattle.nanobot_rows.specs.declared.status.Status.{Status}
 use Rattle.nanobot_rows.specs.declared.status.Status.TheVariants as is
-use Rattle.nanobot_rows.specs.Answer.{Answer, AnswerOf, AnswerOfRun, AskNoPlan, OfBytes, OfPlan, OfRun, OfScript, OfSession, OfText, OfTrace, Reply, StoresPlan, WherePlanned, WithBoth, WithFile, WithModel, WithModels, WithSide, dis_limit, facts_of, group_limit, profile_of, run_limit, script_limit, text_limit}
+use Rattle.nanobot_rows.specs.Answer.{Answer, AnswerOf, AnswerOfRun, Answers, AskNoPlan, CanPlan, DecodingOf, FileOf, FileUpTo, Finding, Found, IsReply, LegalOf, ModelOf, ModelsOf, OfPlan, OfResult, OfRun, OfSession, Reply, ScriptOf, Stores, StoresPlan, TextOf, TraceOf, Upon, With, dis_limit, facts_of, group_limit, profile_of, run_limit, script_limit, text_limit, with_file}
 use Rattle.nanobot_app.specs.Outcome.{DepotRose, IsAnswer, LacksFile, CallOutcome, Outside, SinkRose}
-use Rattle.nanobot_rows.specs.Reading.{no_such_file, reply_of}
-use Rattle.nanobot_rows.specs.Lines.{no_model_line, not_legal_line, text_line}
+use Rattle.nanobot_rows.specs.Report.{faulty_text_line}
+use Rattle.nanobot_rows.specs.Lines.{group_long_line, legal_line, no_model_line, not_legal_line, resolutions_line, stored_line, text_long_line, trace_line, trace_long_line, unsupported_line}
 use Rattle.nanobot_words.specs.declared.planner.Planner.{Planner}
 use Rattle.nanobot_words.specs.declared.planner.Planner.TheVariants.{Layer, Group, Crew, Void, Low, Swarm}
 use Rattle.nanobot_words.specs.Rows.{Row, asm, check, debug, dis, exercise, make, plan, run, IsRow, MakesPlans}
-use Rattle.nanobot_rows.proofs.Replies.{verdict_reply, verdict_told}
+use Rattle.nanobot_rows.proofs.Replies.{Alike, verdict_reply, verdict_told}
 use Rattle.nanobot_rows.proofs.Told.{if_some}
-use Rattle.nanobot_rows.proofs.Parts.{Judged, OfDecoding, OfLines, OfReading}
 
--- ---- at most one reply, or one part of it
+-- ---- what the definitions determine
 
 abbrev LegalityLaw : Type 0
 LegalityLaw = (m : Matrix) (a b : Option NotLegal) → Legality m a → Legality m b → a ≡ b
@@ -59,7 +60,7 @@ ScriptLaw = (r : ℕ) (bytes : List ℕ) (a b : Result (List DebugLine) FaultyLi
 abbrev TextLaw : Type 0
 TextLaw = (source : Matrix) (profile : Profile) (commands : List Command) (script : List DebugLine) (a b : List ℕ) → PrintsFrom source profile commands script a → PrintsFrom source profile commands script b → a ≡ b
 
--- what the definitions determine
+-- all of it
 pub record Laws : Type 0 where
   pub rows : RowLaw
   pub legality : LegalityLaw
@@ -68,6 +69,93 @@ pub record Laws : Type 0 where
   pub unsupported : UnsupportedLaw
   pub scripts : ScriptLaw
   pub sessions : TextLaw
+
+-- ---- at most one thing is found
+
+abbrev Sure : {A : Type 0} → Finding A → Type 0
+Sure {A} X = (files : Files) (a b : Found A) → X files a → X files b → a ≡ b
+
+-- what is found after this was
+abbrev After : {A B : Type 0} → (A → Finding B) → Files → Found A → Found B → Type 0
+After p files x found = MatchResult x (λ v. p v files found) (λ end. found ≡ Err end)
+
+with_sure : {A B : Type 0} (X : Finding A) (p : A → Finding B) → Sure X → ((a : A) → Sure (p a)) → Sure (With X p)
+with_sure {A} X p first rest files a b h k = by k.0 (subst (λ (x : Found A). After p files x a) (first files h.0 k.0 h.1 k.1) h.2) k.2
+  where
+    by : (x : Found A) → After p files x a → After p files x b → a ≡ b
+    by (Ok v) h k = rest v files a b h k
+    by (Err end) h k = h ∙ sym k
+
+result_sure : {A W : Type 0} (status : Status) (line : W → List ℕ) (said : Result A W) → Sure (OfResult status line said)
+result_sure status line said files a b h k = h ∙ sym k
+
+optional_sure : {A C : Type 0} (o : Option C) (x a b : A) (y : C → A) → MatchOption o (a ≡ x) (λ c. a ≡ y c) → MatchOption o (b ≡ x) (λ c. b ≡ y c) → a ≡ b
+optional_sure None x a b y h k = h ∙ sym k
+optional_sure (Some c) x a b y h k = h ∙ sym k
+
+choice_sure : {A : Type 0} (t : Bool) (x y a b : A) → MatchBool t (a ≡ x) (a ≡ y) → MatchBool t (b ≡ x) (b ≡ y) → a ≡ b
+choice_sure true x y a b h k = h ∙ sym k
+choice_sure false x y a b h k = h ∙ sym k
+
+file_sure : (name : List ℕ) → Sure (FileOf name)
+file_sure name files a b h k = h ∙ sym k
+
+up_to_sure : (limit : ℕ) (status : Status) (line name : List ℕ) → Sure (FileUpTo limit status line name)
+up_to_sure limit status line name = with_sure (FileOf name) (λ bytes files found. MatchBool (nat_lt limit (length bytes)) (found ≡ Err (status, line)) (found ≡ Ok bytes)) (file_sure name) (λ bytes files a b. choice_sure (nat_lt limit (length bytes)) (Err (status, line)) (Ok bytes) a b)
+
+module _ (laws : Laws) where
+  legal_sure : (w : Who) (m : Matrix) → Sure (LegalOf w m)
+  legal_sure w m files a b h k =
+      optional_sure k.0 (Ok m) a b (λ why. Err (is.Model, not_legal_line w why))
+      (subst (λ (o : Option NotLegal). MatchOption o (a ≡ Ok m) (λ why. a ≡ Err (is.Model, not_legal_line w why))) (laws.legality m h.0 k.0 h.1 k.1) h.2) k.2
+
+  model_sure : (w : Who) (name : List ℕ) → Sure (ModelOf w name)
+  model_sure w name =
+      with_sure (FileOf name) (λ bytes. With (OfResult is.Model (no_model_line w) (model bytes)) (LegalOf w)) (file_sure name)
+      (λ bytes. with_sure (OfResult is.Model (no_model_line w) (model bytes)) (LegalOf w) (result_sure is.Model (no_model_line w) (model bytes)) (legal_sure w))
+
+  models_sure : (source target : Option (List ℕ)) → Sure (ModelsOf source target)
+  models_sure None None files a b h k = absurd h
+  models_sure (Some source) None files a b h k = with_sure (ModelOf who.Source source) (λ s _ both. both ≡ Ok (s, empty s.resolution)) (model_sure who.Source source) (λ s files a b h k. h ∙ sym k) files a b h k
+  models_sure None (Some target) files a b h k = with_sure (ModelOf who.Target target) (λ t _ both. both ≡ Ok (empty t.resolution, t)) (model_sure who.Target target) (λ t files a b h k. h ∙ sym k) files a b h k
+  models_sure (Some source) (Some target) files a b h k =
+      with_sure (ModelOf who.Source source) (λ s. With (ModelOf who.Target target) (Alike s)) (model_sure who.Source source)
+      (λ s. with_sure (ModelOf who.Target target) (Alike s) (model_sure who.Target target)
+      (λ t files a b. choice_sure (s.resolution == t.resolution) (Ok (s, t)) (Err (is.Model, resolutions_line s.resolution t.resolution)) a b)) files a b h k
+
+  decoding_sure : (bytes : List ℕ) → Sure (DecodingOf bytes)
+  decoding_sure bytes files a b h k =
+      h.2 ∙ (ap (λ (d : Result (List Command) NoTrace). result_map_both (λ x. x) (λ why. (is.Trace, trace_line why)) d) (laws.decoding bytes h.0 k.0 h.1 k.1) ∙ sym k.2)
+
+  trace_sure : (limit : ℕ) (name : List ℕ) → Sure (TraceOf limit name)
+  trace_sure limit name = with_sure (FileUpTo limit is.Trace (trace_long_line limit) name) DecodingOf (up_to_sure limit is.Trace (trace_long_line limit) name) decoding_sure
+
+  text_sure : (name : List ℕ) → Sure (TextOf name)
+  text_sure name =
+      with_sure (FileUpTo text_limit is.Text (text_long_line text_limit) name) (λ bytes. OfResult is.Text faulty_text_line (read bytes)) (up_to_sure text_limit is.Text (text_long_line text_limit) name)
+      (λ bytes. result_sure is.Text faulty_text_line (read bytes))
+
+  abbrev LinesOf : ℕ → List ℕ → Finding (List DebugLine)
+  LinesOf r bytes files found = (said : Result (List DebugLine) FaultyLine) × ScriptSays r bytes said × OfResult is.Text faulty_text_line said files found
+
+  script_sure : (r : ℕ) (name : List ℕ) → Sure (ScriptOf r name)
+  script_sure r name =
+      with_sure (FileUpTo script_limit is.Text (text_long_line script_limit) name) (LinesOf r) (up_to_sure script_limit is.Text (text_long_line script_limit) name)
+      (λ bytes files a b h k.
+      h.2 ∙ (ap (λ (said : Result (List DebugLine) FaultyLine). result_map_both (λ x. x) (λ why. (is.Text, faulty_text_line why)) said) (laws.scripts r bytes h.0 k.0 h.1 k.1) ∙ sym k.2))
+
+  plan_sure : (planner : Planner) (source target : Matrix) → Sure (CanPlan planner source target)
+  plan_sure Layer source target files a b h k = h ∙ sym k
+  plan_sure Group source target files a b h k =
+      choice_sure (nat_lt group_limit (most_bytes source target)) (Err (is.Model, group_long_line (runs source + runs target) (rows source + rows target))) (Ok tt) a b h k
+  plan_sure Crew source target files a b h k = h ∙ sym k
+  plan_sure Void source target files a b h k = h ∙ sym k
+  plan_sure Low source target files a b h k =
+      optional_sure k.0 (Ok tt) a b (λ c. Err (is.Unsupported, unsupported_line c))
+      (subst (λ (o : Option Coord). MatchOption o (a ≡ Ok tt) (λ c. a ≡ Err (is.Unsupported, unsupported_line c))) (laws.unsupported target h.0 k.0 h.1 k.1) h.2) k.2
+  plan_sure Swarm source target files a b h k = h ∙ sym k
+
+-- ---- at most one reply, or one part of it
 
 module _ {A : Type 0} (part : Reply → A) (laws : Laws) where
   abbrev Once : (Reply → Type 0) → Type 0
@@ -78,122 +166,55 @@ module _ {A : Type 0} (part : Reply → A) (laws : Laws) where
 
   module _ (files : Files) where
     -- the reply with this status and this line
-    abbrev says : Status → List ℕ → Reply
-    says status line = record { status = status; line = line; after = files }
+    abbrev replied : Status → List ℕ → Reply
+    replied status line = record { status = status; line = line; after = files }
 
-    file_once : (name : List ℕ) (p : List ℕ → Reply → Type 0) → ((bytes : List ℕ) → Once (p bytes)) → Once (WithFile files name p)
-    file_once name p f = by (content files name)
+    -- what is answered after this was found
+    abbrev Follows : {B : Type 0} → (B → Answers) → Found B → Reply → Type 0
+    Follows p x reply = MatchResult x (λ v. p v files reply) (λ end. reply ≡ replied end.0 end.1)
+
+    says_once : {B : Type 0} (X : Finding B) (p : B → Answers) → Sure X → ((b : B) → Once (p b files)) → Once (Upon X p files)
+    says_once {B} X p first rest r s h k = by k.0 (subst (λ (x : Found B). Follows p x r) (first files h.0 k.0 h.1 k.1) h.2) k.2
       where
-        by : (o : Option (List ℕ)) → Once (λ r. MatchOption o (r ≡ no_such_file files) (λ bytes. p bytes r))
-        by None = same_reply (no_such_file files)
-        by (Some bytes) = f bytes
+        by : (x : Found B) → Follows p x r → Follows p x s → part r ≡ part s
+        by (Ok v) h k = rest v r s h k
+        by (Err end) h k = same_reply (replied end.0 end.1) r s h k
 
-    judged_once : (w : Who) (a : Option NotLegal) (p : Reply → Type 0) → Once p → Once (Judged w files a p)
-    judged_once w None p f = f
-    judged_once w (Some why) p f = same_reply (says is.Model (not_legal_line w why))
-
-    bytes_once : (w : Who) (said : Result Matrix NoModel) (p : Matrix → Reply → Type 0) → ((m : Matrix) → Once (p m)) → Once (OfBytes w files said p)
-    bytes_once w (Err why) p f r s h k = same_reply (says is.Model (no_model_line w why)) r s h k
-    bytes_once w (Ok m) p f r s h k =
-        let same = laws.legality m h.0 k.0 h.1 k.1 in
-        judged_once w k.0 (p m) (f m) r s (subst (λ (a : Option NotLegal). Judged w files a (p m) r) same h.2) k.2
-
-    model_once : (w : Who) (name : List ℕ) (p : Matrix → Reply → Type 0) → ((m : Matrix) → Once (p m)) → Once (WithModel w files name p)
-    model_once w name p f = file_once name (λ bytes. OfBytes w files (model bytes) p) (λ bytes. bytes_once w (model bytes) p f)
-
-    side_once : (w : Who) (name : Option (List ℕ)) (p : Option Matrix → Reply → Type 0) → ((a : Option Matrix) → Once (p a)) → Once (WithSide w files name p)
-    side_once w None p f = f None
-    side_once w (Some name) p f = model_once w name (λ m. p (Some m)) (λ m. f (Some m))
-
-    choice_once : (t : Bool) (p q : Reply → Type 0) → Once p → Once q → Once (λ r. MatchBool t (p r) (q r))
-    choice_once true p q f g = f
-    choice_once false p q f g = g
-
-    both_once : (a b : Option Matrix) (p : Matrix → Matrix → Reply → Type 0) → ((s t : Matrix) → Once (p s t)) → Once (WithBoth files a b p)
-    both_once None None p f r s h k = absurd h
-    both_once (Some a) None p f r s h k = f a (empty a.resolution) r s h k
-    both_once None (Some b) p f r s h k = f (empty b.resolution) b r s h k
-    both_once (Some a) (Some b) p f r s h k = choice_once (a.resolution == b.resolution) (p a b) (λ r. r ≡ reply_of files (report.Resolutions a.resolution b.resolution)) (f a b) (same_reply (reply_of files (report.Resolutions a.resolution b.resolution))) r s h k
-
-    run_once : (profile : Profile) (source target : Matrix) (commands : List Command) → Once (OfRun profile files source target commands)
+    run_once : (profile : Profile) (source target : Matrix) (commands : List Command) → Once (OfRun profile source target commands files)
     run_once profile source target commands r s h k = ap part (verdict_told files h.0 r h.2 ∙ (ap (λ (v : Verdict). verdict_reply files v) (laws.verdicts source target commands profile h.0 k.0 h.1 k.1) ∙ sym (verdict_told files k.0 s k.2)))
 
-    decoded_once : (d : Result (List Command) NoTrace) (p : List Command → Reply → Type 0) → ((commands : List Command) → Once (p commands)) → Once (OfDecoding files d p)
-    decoded_once (Ok commands) p f = f commands
-    decoded_once (Err (BadAt offset)) p f = same_reply (reply_of files (report.TraceBad offset))
-    decoded_once (Err (CutAt offset)) p f = same_reply (reply_of files (report.TraceCut offset))
-
-    decoding_once : (bytes : List ℕ) (p : List Command → Reply → Type 0) → ((commands : List Command) → Once (p commands)) → Once (λ r. (d : Result (List Command) NoTrace) × Decoding bytes d × OfDecoding files d p r)
-    decoding_once bytes p f r s h k =
-        let same = laws.decoding bytes h.0 k.0 h.1 k.1 in
-        decoded_once k.0 p f r s (subst (λ (d : Result (List Command) NoTrace). OfDecoding files d p r) same h.2) k.2
-
-    trace_once : (limit : ℕ) (bytes : List ℕ) (p : List Command → Reply → Type 0) → ((commands : List Command) → Once (p commands)) → Once (OfTrace limit files bytes p)
-    trace_once limit bytes p f =
-        choice_once (nat_lt limit (length bytes)) (λ r. r ≡ reply_of files (report.TraceLong limit)) (λ r. (d : Result (List Command) NoTrace) × Decoding bytes d × OfDecoding files d p r)
-        (same_reply (reply_of files (report.TraceLong limit))) (decoding_once bytes p f)
-
-    reading_once : (d : Result (List Command) FaultyLine) (p : List Command → Reply → Type 0) → ((commands : List Command) → Once (p commands)) → Once (OfReading files d p)
-    reading_once (Ok commands) p f = f commands
-    reading_once (Err faulty) p f = same_reply (says is.Text (text_line faulty.fault faulty.line))
-
-    text_once : (bytes : List ℕ) (p : List Command → Reply → Type 0) → ((commands : List Command) → Once (p commands)) → Once (OfText files bytes p)
-    text_once bytes p f =
-        choice_once (nat_lt text_limit (length bytes)) (λ r. r ≡ reply_of files (report.TextLong text_limit)) (OfReading files (read bytes) p)
-        (same_reply (reply_of files (report.TextLong text_limit))) (reading_once (read bytes) p f)
-
-    lines_once : (said : Result (List DebugLine) FaultyLine) (p : List DebugLine → Reply → Type 0) → ((lines : List DebugLine) → Once (p lines)) → Once (OfLines files said p)
-    lines_once (Ok lines) p f = f lines
-    lines_once (Err faulty) p f = same_reply (says is.Text (text_line faulty.fault faulty.line))
-
-    said_once : (r : ℕ) (bytes : List ℕ) (p : List DebugLine → Reply → Type 0) → ((lines : List DebugLine) → Once (p lines)) → Once (λ x. (said : Result (List DebugLine) FaultyLine) × ScriptSays r bytes said × OfLines files said p x)
-    said_once r bytes p f x y h k =
-        let same = laws.scripts r bytes h.0 k.0 h.1 k.1 in
-        lines_once k.0 p f x y (subst (λ (said : Result (List DebugLine) FaultyLine). OfLines files said p x) same h.2) k.2
-
-    script_once : (r : ℕ) (bytes : List ℕ) (p : List DebugLine → Reply → Type 0) → ((lines : List DebugLine) → Once (p lines)) → Once (OfScript r files bytes p)
-    script_once r bytes p f =
-        choice_once (nat_lt script_limit (length bytes)) (λ x. x ≡ reply_of files (report.TextLong script_limit)) (λ x. (said : Result (List DebugLine) FaultyLine) × ScriptSays r bytes said × OfLines files said p x)
-        (same_reply (reply_of files (report.TextLong script_limit))) (said_once r bytes p f)
-
-    session_once : (source : Matrix) (commands : List Command) (script : List DebugLine) → Once (OfSession files source commands script)
-    session_once source commands script x y h k = ap part (h.2 ∙ (ap (says is.Done) (laws.sessions source full_profile commands script h.0 k.0 h.1 k.1) ∙ sym k.2))
-
-    models_once : (source target : Option (List ℕ)) (p : Matrix → Matrix → Reply → Type 0) → ((s t : Matrix) → Once (p s t)) → Once (WithModels files source target p)
-    models_once source target p f = side_once who.Source source _ (λ a. side_once who.Target target _ (λ b. both_once a b p f))
+    session_once : (source : Matrix) (commands : List Command) (script : List DebugLine) → Once (OfSession source commands script files)
+    session_once source commands script x y h k = ap part (h.2 ∙ (ap (replied is.Done) (laws.sessions source full_profile commands script h.0 k.0 h.1 k.1) ∙ sym k.2))
 
     run_answer_once : (profile : Profile) (source target : Option (List ℕ)) (trace : List ℕ) → Once (AnswerOfRun profile source target trace files)
-    run_answer_once profile source target trace = models_once source target _ (λ s t. file_once trace _ (λ bytes. trace_once run_limit bytes _ (λ commands. run_once profile s t commands)))
-
-    planned_once : (planner : Planner) (source target : Matrix) (p : Reply → Type 0) → Once p → Once (WherePlanned planner files source target p)
-    planned_once Layer source target p f = f
-    planned_once Group source target p f =
-        choice_once (nat_lt group_limit (most_bytes source target)) (λ r. r ≡ reply_of files (report.GroupLong (runs source + runs target) (rows source + rows target))) p
-        (same_reply (reply_of files (report.GroupLong (runs source + runs target) (rows source + rows target)))) f
-    planned_once Crew source target p f = f
-    planned_once Void source target p f = f
-    planned_once Low source target p f = λ r s h k.
-        let same = laws.unsupported target h.0 k.0 h.1 k.1 in
-        by k.0 r s (subst (λ (at : Option Coord). MatchOption at (p r) (λ c. r ≡ reply_of files (report.Unsupported c))) same h.2) k.2
-      where
-        by : (at : Option Coord) → Once (λ r. MatchOption at (p r) (λ c. r ≡ reply_of files (report.Unsupported c)))
-        by None = f
-        by (Some at) = same_reply (reply_of files (report.Unsupported at))
-    planned_once Swarm source target p f = f
+    run_answer_once profile source target trace =
+        says_once (ModelsOf source target) (λ models. Upon (TraceOf run_limit trace) (OfRun profile models.0 models.1)) (models_sure laws source target)
+        (λ models. says_once (TraceOf run_limit trace) (OfRun profile models.0 models.1) (trace_sure laws run_limit trace) (run_once profile models.0 models.1))
 
     -- two plans have the same status at least
-    plan_once : ((r s : Reply) → r.status ≡ s.status → part r ≡ part s) → (planner : Planner) (name : List ℕ) (source target : Matrix) → Once (OfPlan planner name files source target)
-    plan_once told planner name source target = planned_once planner source target (StoresPlan (facts_of planner) name files source target) (λ r s h k. told r s (ap (λ (x : Reply). x.status) h.4 ∙ sym (ap (λ (x : Reply). x.status) k.4)))
+    plan_once : ((r s : Reply) → r.status ≡ s.status → part r ≡ part s) → (planner : Planner) (name : List ℕ) (source target : Matrix) → Once (OfPlan planner name source target files)
+    plan_once told planner name source target =
+        says_once (CanPlan planner source target) (λ _. StoresPlan (facts_of planner) name source target) (plan_sure laws planner source target)
+        (λ _ r s h k. told r s (ap (λ (x : Reply). x.status) h.4 ∙ sym (ap (λ (x : Reply). x.status) k.4)))
 
     row_answer_once : (row : Row) → (MakesPlans row → (r s : Reply) → r.status ≡ s.status → part r ≡ part s) → Once (AnswerOf row files)
-    row_answer_once (check name) told = model_once who.Model name _ (λ m. same_reply _)
+    row_answer_once (check name) told =
+        says_once (ModelOf who.Model name) (λ m. IsReply is.Done (legal_line m.resolution (full_count m))) (model_sure laws who.Model name) (λ m. same_reply (replied is.Done (legal_line m.resolution (full_count m))))
     row_answer_once (run round source target trace) told = run_answer_once (profile_of round) source target trace
-    row_answer_once (asm text trace) told = file_once text _ (λ bytes. text_once bytes _ (λ commands. same_reply _))
-    row_answer_once (dis trace text) told = file_once trace _ (λ bytes. trace_once dis_limit bytes _ (λ commands. same_reply _))
+    row_answer_once (asm text trace) told =
+        says_once (TextOf text) (λ commands. Stores (stored_line (length commands) (length (spellings commands))) trace (spellings commands)) (text_sure laws text)
+        (λ commands. same_reply (record { status = is.Done; line = stored_line (length commands) (length (spellings commands)); after = with_file files trace (spellings commands) }))
+    row_answer_once (dis trace text) told =
+        says_once (TraceOf dis_limit trace) (λ commands. Stores (stored_line (length commands) (length (print commands))) text (print commands)) (trace_sure laws dis_limit trace)
+        (λ commands. same_reply (record { status = is.Done; line = stored_line (length commands) (length (print commands)); after = with_file files text (print commands) }))
     row_answer_once (make number resolution name) told = same_reply _
-    row_answer_once (plan planner source target trace) told = models_once source target _ (λ s t. plan_once (told tt) planner trace s t)
+    row_answer_once (plan planner source target trace) told =
+        says_once (ModelsOf source target) (λ models. OfPlan planner trace models.0 models.1) (models_sure laws source target) (λ models. plan_once (told tt) planner trace models.0 models.1)
     row_answer_once (exercise number resolution) told = λ r s h k. told tt r s (ap (λ (x : Reply). x.status) h.4 ∙ sym (ap (λ (x : Reply). x.status) k.4))
-    row_answer_once (debug source trace script) told = model_once who.Source source _ (λ m. file_once trace _ (λ bytes. trace_once dis_limit bytes _ (λ commands. file_once script _ (λ text. script_once m.resolution text _ (λ lines. session_once m commands lines)))))
+    row_answer_once (debug source trace script) told =
+        says_once (ModelOf who.Source source) (λ m. Upon (TraceOf dis_limit trace) (λ commands. Upon (ScriptOf m.resolution script) (OfSession m commands))) (model_sure laws who.Source source)
+        (λ m. says_once (TraceOf dis_limit trace) (λ commands. Upon (ScriptOf m.resolution script) (OfSession m commands)) (trace_sure laws dis_limit trace)
+        (λ commands. says_once (ScriptOf m.resolution script) (OfSession m commands) (script_sure laws m.resolution script) (session_once m commands)))
 
   part_once : (words : List (List ℕ)) (files : Files) (r s : Reply) → ((row : Row) → IsRow words row → MakesPlans row → (r s : Reply) → r.status ≡ s.status → part r ≡ part s) → Answer words files r → Answer words files s → part r ≡ part s
   part_once words files r s told (inl h) (inl k) = ap part (h.1 ∙ sym k.1)

@@ -1,5 +1,6 @@
 pub mod Decodings
 pub mod Determined
+pub mod Finding
 pub mod Headlines
 pub mod Numbers
 pub mod Outcomes

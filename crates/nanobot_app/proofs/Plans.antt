@@ -1,17 +1,16 @@
 -- A plan that was stored is accepted by `run`.
 use Rattle.std.proofs.Common.{◌≡◌, ℕ, ◌+◌, ◌≤◌, List, Bool, true, false, cond, refl, sym, ap, ◌∙◌, subst, arith, nat_lt, length}
-use Rattle.std.specs.Prelude.{ℤ, Option, Some, None, Result, Ok, IsSomeAnd, MatchBool, MatchOption}
+use Rattle.std.specs.Prelude.{ℤ, Option, Some, None, Ok, Err, IsSomeAnd, MatchBool, ⊤}
 use Rattle.std.specs.FinMap.{get-insert}
 use Rattle.std.specs.Str.{bytes_eq}
 use Rattle.std.proofs.lemmas.Cmp.{nat_list_cmp_total}
 use Rattle.std.proofs.lemmas.Map.Text.{is_eq-slice_cmp}
 use Rattle.std.proofs.lemmas.Slice.Eq.{bytes_eq-Decides}
-use Rattle.vox_geom.specs.declared.coordinate.Coord.{Coord}
-use Rattle.vox_geom.proofs.Tests.{not_less_by_test, test_not_less}
+use Rattle.vox_geom.proofs.Tests.{not_less_by_test}
 use Rattle.nano_spec.specs.declared.commands.Command.{Command}
 use Rattle.nano_spec.specs.declared.system.Profile.{Profile}
 use Rattle.nano_spec.specs.declared.outcomes.Verdict.TheVariants.{Accepted}
-use Rattle.nano_spec.specs.Cutting.{AreCommands, Decoding, NoTrace}
+use Rattle.nano_spec.specs.Cutting.{AreCommands}
 use Rattle.nano_spec.specs.Legal.{IsLegal}
 use Rattle.nano_spec.specs.Matrix.{Matrix, full_count}
 use Rattle.nano_spec.specs.Model.{model, volume}
@@ -20,25 +19,23 @@ use Rattle.nano_spec.specs.Spelling.{spellings}
 use Rattle.nano_spec.specs.Verdict.{VerdictOf}
 use Rattle.group_planner.specs.Bounds.{most_bytes}
 use Rattle.group_planner.specs.Rows.{rows, runs}
-use Rattle.low_planner.specs.Supported.{FirstUnsupported}
 use Rattle.vox_depot.specs.Files.{Files, content}
 use Rattle.nanobot_rows.specs.declared.report.Report.TheVariants as report
 use Rattle.nanobot_rows.specs.declared.status.Status.TheVariants as is
-use Rattle.nanobot_rows.specs.Answer.{AnswerOf, AnswerOfRun, OfPlan, OfRun, OfTrace, Reply, IsReply, Stores, StoresPlan, WherePlanned, facts_of, group_limit, profile_of, run_limit, with_file}
+use Rattle.nanobot_rows.specs.Answer.{AnswerOf, AnswerOfRun, CanPlan, Found, OfPlan, Reply, Stores, StoresPlan, facts_of, group_limit, profile_of, run_limit, with_file}
 use Rattle.nanobot_app.specs.Plans.{IsRunOfPlan, PlansAsLight}
-use Rattle.nanobot_rows.specs.Lines.{group_long_line, planned_line, unsupported_line}
+use Rattle.nanobot_rows.specs.Lines.{group_long_line, planned_line}
 use Rattle.nanobot_rows.specs.Models.{AreModels, IsModelOf, IsSide}
-use Rattle.nanobot_rows.specs.Plans.{RefusesPlan}
-use Rattle.nanobot_rows.specs.Reading.{no_such_file, reply_of}
+use Rattle.nanobot_rows.specs.Reading.{reply_of}
 use Rattle.nanobot_words.specs.declared.planner.Planner.{Planner}
 use Rattle.nanobot_words.specs.declared.planner.Planner.TheVariants.{Layer, Group, Crew, Void, Low, Swarm}
 use Rattle.nanobot_words.specs.declared.row.Round.{Round}
 use Rattle.nanobot_words.specs.Rows.{HasName, plan}
 use Rattle.low_planner.proofs.Builds.{full_most}
 use Rattle.plan_choice.proofs.Lengths.{few_commands, four_each, layer_fits, low_fits, swarm_fits, two_each, void_fits, volume_most}
-use Rattle.nanobot_app.proofs.Headlines.{done_models, named_of}
-use Rattle.nanobot_rows.proofs.Replies.{models_given}
-use Rattle.nanobot_rows.proofs.Parts.{OfDecoding}
+use Rattle.nanobot_app.proofs.Finding.{done_says, finds_trace, plan_undone}
+use Rattle.nanobot_app.proofs.Headlines.{done_models}
+use Rattle.nanobot_rows.proofs.Replies.{finds_models}
 
 -- ---- the files after one was stored
 
@@ -76,13 +73,11 @@ MostLaw = (bytes : List ℕ) (m : Matrix) → model bytes ≡ Ok m → m.resolut
 -- a run takes a file that has the spellings of commands that are accepted
 runs_through : (profile : Profile) (files : Files) (source target : Option (List ℕ)) (trace : List ℕ) (s t : Matrix) (commands : List Command) (energy : ℤ) (steps : ℕ) → HasName source target → AreModels source target files s t → content files trace ≡ Some (spellings commands)
     → AreCommands commands → VerdictOf s t commands profile (Accepted energy steps) → length (spellings commands) ≤ run_limit → AnswerOfRun profile source target trace files (reply_of files (report.Accepted energy steps))
-runs_through profile files source target trace s t commands energy steps named models there are accepted size =
-    let reply = reply_of files (report.Accepted energy steps) in
-    let bytes = spellings commands in
-    models_given files source target _ named s t reply models
-    (subst (λ (o : Option (List ℕ)). MatchOption o (reply ≡ no_such_file files) (λ bytes. OfTrace run_limit files bytes (OfRun profile files s t) reply)) (sym there)
-    (subst (λ (b : Bool). MatchBool b (reply ≡ reply_of files (report.TraceLong run_limit)) ((d : Result (List Command) NoTrace) × Decoding bytes d × OfDecoding files d (OfRun profile files s t) reply)) (sym (test_not_less run_limit (length bytes) size))
-    (Ok commands, (are, refl), (Accepted energy steps, accepted, refl))))
+runs_through profile files source target trace s t commands energy steps named models there are accepted size = (
+  Ok (s, t),
+  finds_models files source target s t named models,
+  (Ok commands, finds_trace run_limit files trace commands (spellings commands, there, size, (are, refl)), (Accepted energy steps, accepted, refl)),
+)
 
 module _ (law : MostLaw) where
   most_of : (files : Files) (name : List ℕ) (m : Matrix) → IsModelOf files name m → m.resolution ≤ 400
@@ -98,6 +93,19 @@ module _ (law : MostLaw) where
   most_of_models files None None s t named m = absurd named
 
 -- ---- each planner's plans
+
+-- the planner makes a plan of these models, whatever files there are
+abbrev MakesPlan : Planner → Matrix → Matrix → Type 0
+MakesPlan planner source target = (files : Files) × CanPlan planner source target files (Ok tt)
+
+-- a group plan that is made is not too long
+few_bytes : (s t : Matrix) → MakesPlan Group s t → most_bytes s t ≤ group_limit
+few_bytes s t made = by (nat_lt group_limit (most_bytes s t)) refl made.1
+  where
+    by : (long : Bool) → nat_lt group_limit (most_bytes s t) ≡ long
+        → MatchBool long (◌≡◌ {A = Found ⊤} (Ok tt) (Err (is.Model, group_long_line (runs s + runs t) (rows s + rows t)))) (◌≡◌ {A = Found ⊤} (Ok tt) (Ok tt)) → most_bytes s t ≤ group_limit
+    by true test e = absurd (cc)
+    by false test e = not_less_by_test group_limit (most_bytes s t) test
 
 module _ (s t : Matrix) (commands : List Command) (energy : ℤ) (steps : ℕ) where
   are_commands : (planner : Planner) → facts_of planner s t commands energy steps → AreCommands commands
@@ -125,31 +133,13 @@ module _ (s t : Matrix) (commands : List Command) (energy : ℤ) (steps : ℕ) w
   as_light Void light h = absurd light
 
   -- no plan is longer than a trace that is run
-  fits : (planner : Planner) → s.resolution ≤ 400 → t.resolution ≤ 400 → RefusesPlan planner s t None → facts_of planner s t commands energy steps → length (spellings commands) ≤ run_limit
+  fits : (planner : Planner) → s.resolution ≤ 400 → t.resolution ≤ 400 → MakesPlan planner s t → facts_of planner s t commands energy steps → length (spellings commands) ≤ run_limit
   fits Layer most most' made h = layer_fits s.resolution (length (spellings commands)) most h.bytes
-  fits Group most most' made h = let few = h.few_bytes in omega (arith, few, made)
+  fits Group most most' made h = let few = h.few_bytes in let short = few_bytes s t made in omega (arith, few, short)
   fits Crew most most' made h = h.few_bytes
   fits Void most most' made h = void_fits s.resolution steps (length commands) (length (spellings commands)) most h.few_steps (few_commands s t full_profile commands 4 h.plan.few_bots energy steps h.plan.accepted) (four_each commands)
   fits Low most most' made h = low_fits (volume t.resolution) (full_count t) steps (length commands) (length (spellings commands)) (volume_most t.resolution most') (full_most t) h.few_steps (few_commands s t light_profile commands 1 h.plan.few_bots energy steps h.accepted_as_light) (two_each commands h.plain)
   fits Swarm most most' made h = swarm_fits t.resolution steps (length commands) (length (spellings commands)) most' h.few_steps (few_commands s t light_profile commands 20 h.plan.few_bots energy steps h.accepted_as_light) (four_each commands)
-
-module _ (files : Files) (s t : Matrix) (p : Reply → Type 0) (reply : Reply) (done : reply.status ≡ is.Done) where
-  -- a plan that is told was made
-  was_made : (planner : Planner) → WherePlanned planner files s t p reply → RefusesPlan planner s t None × p reply
-  was_made Layer h = (tt, h)
-  was_made Group h = by (nat_lt group_limit (most_bytes s t)) refl h
-    where
-      by : (b : Bool) → nat_lt group_limit (most_bytes s t) ≡ b → MatchBool b (IsReply is.Model (group_long_line (runs s + runs t) (rows s + rows t)) files reply) (p reply) → (most_bytes s t ≤ group_limit) × p reply
-      by true e h = absurd (let no : is.Model ≡ is.Done = sym (ap (λ (x : Reply). x.status) h) ∙ done in cc)
-      by false e h = (not_less_by_test group_limit (most_bytes s t) e, h)
-  was_made Crew h = (tt, h)
-  was_made Void h = (tt, h)
-  was_made Low h = by h.0 h.1 h.2
-    where
-      by : (at : Option Coord) → FirstUnsupported t at → MatchOption at (p reply) (λ c. IsReply is.Unsupported (unsupported_line c) files reply) → FirstUnsupported t None × p reply
-      by None first h = (first, h)
-      by (Some at) first h = absurd (let no : is.Unsupported ≡ is.Done = sym (ap (λ (x : Reply). x.status) h) ∙ done in cc)
-  was_made Swarm h = (tt, h)
 
 -- ---- the run
 
@@ -175,16 +165,16 @@ pub run_of_plan : MostLaw → (round : Round) (planner : Planner)
     → (source target : Option (List ℕ)) (trace : List ℕ) (files : Files) (reply : Reply) → (source ≡ Some trace → ⊥) → (target ≡ Some trace → ⊥)
     → AnswerOf (plan planner source target trace) files reply → reply.status ≡ is.Done → IsRunOfPlan round source target trace reply
 run_of_plan law round planner accepts source target trace files reply first second answer done =
-    let named = named_of files source target (OfPlan planner trace files) reply answer in
-    let found = done_models files source target (OfPlan planner trace files) reply done answer in
+    let found = done_models files source target (λ models. OfPlan planner trace models.0 models.1) reply done answer in
     let s = found.0 in
     let t = found.1 in
     let models = found.2 in
-    let made = was_made files s t (StoresPlan (facts_of planner) trace files s t) reply done planner found.3 in
-    let commands = made.1.0 in
-    let energy = made.1.1 in
-    let steps = made.1.2 in
-    let facts = made.1.3 in
+    let named = found.3 in
+    let made = done_says (CanPlan planner s t) (λ _. StoresPlan (facts_of planner) trace s t) files reply (plan_undone planner s t) done found.4 in
+    let commands = made.2.0 in
+    let energy = made.2.1 in
+    let steps = made.2.2 in
+    let facts = made.2.3 in
     let most = most_of_models law files source target s t named models in
-    let size = fits s t commands energy steps planner most (subst (λ (r : ℕ). r ≤ 400) models.alike most) made.0 facts in
-    run_of_stored round source target trace files first second s t commands energy steps reply named models (are_commands s t commands energy steps planner facts) (accepts s t commands energy steps facts) size made.1.4
+    let size = fits s t commands energy steps planner most (subst (λ (r : ℕ). r ≤ 400) models.alike most) (files, made.1) facts in
+    run_of_stored round source target trace files first second s t commands energy steps reply named models (are_commands s t commands energy steps planner facts) (accepts s t commands energy steps facts) size made.2.4

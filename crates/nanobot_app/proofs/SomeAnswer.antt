@@ -1,6 +1,6 @@
 -- Some reply is an answer: models have a legality, bytes a decoding, commands a verdict, scripts a reading, and sessions a text.
 use Rattle.std.proofs.Common.{◌≡◌, ◌==◌, ℕ, zero, suc, ◌+◌, ◌≤◌, Bool, true, false, List, [], ◌∷◌, refl, ap, arith, length, take, drop, nat_lt}
-use Rattle.std.specs.Prelude.{Option, Some, None, Result, Ok, Err, MatchBool, MatchOption}
+use Rattle.std.specs.Prelude.{Option, Some, None, Result, Ok, Err, MatchBool, IsSomeAnd}
 use Rattle.std.proofs.lemmas.List.{length-drop, length-take}
 use Rattle.vox_geom.specs.declared.coordinate.Coord.{Coord}
 use Rattle.nano_spec.specs.declared.commands.Command.{Command}
@@ -8,11 +8,13 @@ use Rattle.nano_spec.specs.declared.outcomes.Verdict.{Verdict}
 use Rattle.nano_spec.specs.declared.outcomes.Verdict.TheVariants.{Refused}
 use Rattle.nano_spec.specs.declared.system.Bot.{Bot}
 use Rattle.nano_spec.specs.declared.system.Profile.{Profile}
-use Rattle.nano_spec.specs.Cutting.{AreCommands, BadAt, CutAt, Decoding, NoTrace}
+use Rattle.nano_spec.specs.Cutting.{AreCommands}
 use Rattle.nano_spec.specs.Grounded.{FirstUngrounded}
-use Rattle.nano_spec.specs.Legal.{Border, Floating, Legality, NotLegal, first_outside, floats_inside, leaves_box, stands_inside}
-use Rattle.nano_spec.specs.Matrix.{Matrix, empty}
-use Rattle.nano_spec.specs.Model.{NoModel, model, volume}
+use Rattle.nano_spec.specs.Legal.{Border, Floating, IsLegal, Legality, NotLegal, first_outside, floats_inside, leaves_box, stands_inside}
+use Rattle.nano_spec.specs.Matrix.{Matrix, empty, full_count}
+use Rattle.nano_spec.specs.Printing.{print}
+use Rattle.nano_spec.specs.Spelling.{spellings}
+use Rattle.nano_spec.specs.Model.{model, volume}
 use Rattle.nano_spec.specs.Next.{Breaks, Goes, Next, Outcome}
 use Rattle.nano_spec.specs.Profile.{full_profile}
 use Rattle.nano_spec.specs.Reading.{FaultyLine, read}
@@ -24,16 +26,18 @@ use Rattle.debug_script.specs.Sessions.{PrintsFrom}
 use Rattle.step_machine.proofs.Reaching.{first_ungrounded}
 use Rattle.step_machine.proofs.Weighing.{next_of}
 use Rattle.vox_depot.specs.Files.{Files, content}
-use Rattle.nanobot_rows.specs.declared.report.Report.TheVariants as report
+use Rattle.nanobot_rows.specs.declared.status.Status.{Status}
+use Rattle.nanobot_rows.specs.declared.status.Status.TheVariants as is
 use Rattle.nanobot_rows.specs.declared.report.Who.{Who}
 use Rattle.nanobot_rows.specs.declared.report.Who.TheVariants as who
-use Rattle.nanobot_rows.specs.Answer.{AnswerOf, AnswerOfRun, OfBytes, OfRun, OfScript, OfText, OfTrace, Reply, WithBoth, WithFile, WithModel, WithModels, dis_limit, run_limit, script_limit, text_limit}
-use Rattle.nanobot_rows.specs.Reading.{no_such_file, reply_of}
+use Rattle.nanobot_rows.specs.Answer.{AnswerOf, AnswerOfRun, Answers, DecodingOf, FileOf, FileUpTo, Finding, Found, IsReply, LegalOf, ModelOf, ModelsOf, OfResult, OfRun, OfSession, Reply, ScriptOf, Stores, TextOf, TraceOf, Upon, With, dis_limit, run_limit, script_limit, text_limit}
+use Rattle.nanobot_rows.specs.Report.{faulty_text_line}
+use Rattle.nanobot_rows.specs.Lines.{legal_line, no_model_line, not_legal_line, resolutions_line, stored_line, text_long_line, trace_long_line}
 use Rattle.nanobot_words.specs.Rows.{HasName, asm, check, debug, dis}
-use Rattle.nanobot_rows.proofs.Replies.{tells_verdict, verdict_reply}
+use Rattle.nanobot_rows.proofs.Replies.{Alike, model_found, tells_verdict, verdict_reply}
 use Rattle.nanobot_app.proofs.Decodings.{decoding_of}
+use Rattle.nanobot_app.proofs.Finding.{trace_found}
 use Rattle.plan_tape.proofs.Reached.{enough}
-use Rattle.nanobot_rows.proofs.Parts.{Judged, OfDecoding, OfLines, OfReading}
 
 -- ---- the laws of sessions
 
@@ -96,103 +100,116 @@ module _ (target : Matrix) where
 verdict_of : (source target : Matrix) (commands : List Command) (profile : Profile) → (v : Verdict) × VerdictOf source target commands profile v
 verdict_of source target commands profile = verdict_from target (length commands) (opening source profile) commands 0 (omega arith)
 
--- ---- the rows
+-- ---- what is found
 
-abbrev IsAnswered : (Reply → Type 0) → Type 0
-IsAnswered p = (reply : Reply) × p reply
+abbrev IsFound : {A : Type 0} → Finding A → Files → Type 0
+IsFound {A} X files = (found : Found A) × X files found
+
+abbrev IsAnswered : Answers → Files → Type 0
+IsAnswered answers files = (reply : Reply) × answers files reply
 
 module _ (files : Files) where
-  with_file : (name : List ℕ) (p : List ℕ → Reply → Type 0) → ((bytes : List ℕ) → IsAnswered (p bytes)) → IsAnswered (WithFile files name p)
-  with_file name p f = by (content files name)
+  with_some : {A B : Type 0} (X : Finding A) (p : A → Finding B) → IsFound X files → ((a : A) → IsFound (p a) files) → IsFound (With X p) files
+  with_some {A} X p first rest = by first.0 first.1
     where
-      by : (o : Option (List ℕ)) → IsAnswered (λ reply. MatchOption o (reply ≡ no_such_file files) (λ bytes. p bytes reply))
-      by None = (no_such_file files, refl)
-      by (Some bytes) = f bytes
+      by : (found : Found A) → X files found → IsFound (With X p) files
+      by (Ok a) h = let next = rest a in (next.0, (Ok a, h, next.1))
+      by (Err end) h = (Err end, (Err end, h, refl))
 
-  judged : (w : Who) (m : Matrix) (p : Matrix → Reply → Type 0) → IsAnswered (p m) → (answer : Option NotLegal) → Legality m answer → IsAnswered (λ reply. (a : Option NotLegal) × Legality m a × Judged w files a (p m) reply)
-  judged w m p f None l = (f.0, (None, l, f.1))
-  judged w m p f (Some why) l = (_, (Some why, l, refl))
+  says_some : {A : Type 0} (X : Finding A) (p : A → Answers) → IsFound X files → ((a : A) → X files (Ok a) → IsAnswered (p a) files) → IsAnswered (Upon X p) files
+  says_some {A} X p first rest = by first.0 first.1
+    where
+      by : (found : Found A) → X files found → IsAnswered (Upon X p) files
+      by (Ok a) h = let next = rest a h in (next.0, (Ok a, h, next.1))
+      by (Err end) h = (record { status = end.0; line = end.1; after = files }, (Err end, h, refl))
 
-  of_bytes : (w : Who) (said : Result Matrix NoModel) (p : Matrix → Reply → Type 0) → ((m : Matrix) → said ≡ Ok m → IsAnswered (p m)) → IsAnswered (OfBytes w files said p)
-  of_bytes w (Err why) p f = (_, refl)
-  of_bytes w (Ok m) p f = let l = legality_of m in judged w m p (f m refl) l.0 l.1
+  choice_some : {A : Type 0} (t : Bool) (x y : A) → (found : A) × MatchBool t (found ≡ x) (found ≡ y)
+  choice_some true x y = (x, refl)
+  choice_some false x y = (y, refl)
 
-  with_model_said : (w : Who) (name : List ℕ) (p : Matrix → Reply → Type 0) → ((bytes : List ℕ) (m : Matrix) → model bytes ≡ Ok m → IsAnswered (p m)) → IsAnswered (WithModel w files name p)
-  with_model_said w name p f = with_file name (λ bytes. OfBytes w files (model bytes) p) (λ bytes. of_bytes w (model bytes) p (f bytes))
+  up_to_some : (limit : ℕ) (status : Status) (line name : List ℕ) → IsFound (FileUpTo limit status line name) files
+  up_to_some limit status line name =
+      with_some (FileOf name) (λ bytes files found. MatchBool (nat_lt limit (length bytes)) (found ≡ Err (status, line)) (found ≡ Ok bytes)) (_, refl)
+      (λ bytes. choice_some (nat_lt limit (length bytes)) (Err (status, line)) (Ok bytes))
 
-  with_model : (w : Who) (name : List ℕ) (p : Matrix → Reply → Type 0) → ((m : Matrix) → IsAnswered (p m)) → IsAnswered (WithModel w files name p)
-  with_model w name p f = with_model_said w name p (λ bytes m said. f m)
+  legal_some : (w : Who) (m : Matrix) → IsFound (LegalOf w m) files
+  legal_some w m = let judged = legality_of m in by judged.0 judged.1
+    where
+      by : (why : Option NotLegal) → Legality m why → IsFound (LegalOf w m) files
+      by None l = (Ok m, (None, l, refl))
+      by (Some why) l = (Err (is.Model, not_legal_line w why), (Some why, l, refl))
 
-  choice : (t : Bool) (p q : Reply → Type 0) → IsAnswered p → IsAnswered q → IsAnswered (λ reply. MatchBool t (p reply) (q reply))
-  choice true p q f g = f
-  choice false p q f g = g
+  model_some : (w : Who) (name : List ℕ) → IsFound (ModelOf w name) files
+  model_some w name =
+      with_some (FileOf name) (λ bytes. With (OfResult is.Model (no_model_line w) (model bytes)) (LegalOf w)) (_, refl)
+      (λ bytes. with_some (OfResult is.Model (no_model_line w) (model bytes)) (LegalOf w) (_, refl) (legal_some w))
 
-  with_both : (a b : Matrix) (p : Matrix → Matrix → Reply → Type 0) → IsAnswered (p a b) → IsAnswered (WithBoth files (Some a) (Some b) p)
-  with_both a b p f = choice (a.resolution == b.resolution) (p a b) (λ reply. reply ≡ reply_of files (report.Resolutions a.resolution b.resolution)) f (reply_of files (report.Resolutions a.resolution b.resolution), refl)
+  models_some : (source target : Option (List ℕ)) → HasName source target → IsFound (ModelsOf source target) files
+  models_some None None has = absurd has
+  models_some (Some source) None has = with_some (ModelOf who.Source source) (λ s _ both. both ≡ Ok (s, empty s.resolution)) (model_some who.Source source) (λ s. (_, refl))
+  models_some None (Some target) has = with_some (ModelOf who.Target target) (λ t _ both. both ≡ Ok (empty t.resolution, t)) (model_some who.Target target) (λ t. (_, refl))
+  models_some (Some source) (Some target) has =
+      with_some (ModelOf who.Source source) (λ s. With (ModelOf who.Target target) (Alike s)) (model_some who.Source source)
+      (λ s. with_some (ModelOf who.Target target) (Alike s) (model_some who.Target target)
+      (λ t. choice_some (s.resolution == t.resolution) (Ok (s, t)) (Err (is.Model, resolutions_line s.resolution t.resolution))))
 
-  with_models : (source target : Option (List ℕ)) (p : Matrix → Matrix → Reply → Type 0) → HasName source target → ((s t : Matrix) → IsAnswered (p s t)) → IsAnswered (WithModels files source target p)
-  with_models None None p has f = absurd has
-  with_models (Some source) None p has f = with_model who.Source source (λ m. p m (empty m.resolution)) (λ m. f m (empty m.resolution))
-  with_models None (Some target) p has f = with_model who.Target target (λ m. p (empty m.resolution) m) (λ m. f (empty m.resolution) m)
-  with_models (Some source) (Some target) p has f =
-      with_model who.Source source (λ a. WithModel who.Target files target (λ b. WithBoth files (Some a) (Some b) p)) (λ a. with_model who.Target target (λ b. WithBoth files (Some a) (Some b) p) (λ b. with_both a b p (f a b)))
+  trace_some : (limit : ℕ) (name : List ℕ) → IsFound (TraceOf limit name) files
+  trace_some limit name =
+      with_some (FileUpTo limit is.Trace (trace_long_line limit) name) DecodingOf (up_to_some limit is.Trace (trace_long_line limit) name) (λ bytes. let d = decoding_of bytes in (_, (d.0, d.1, refl)))
 
-  decoded : (bytes : List ℕ) (p : List Command → Reply → Type 0) → ((commands : List Command) → AreCommands commands → IsAnswered (p commands)) → (d : Result (List Command) NoTrace) → Decoding bytes d
-      → IsAnswered (λ reply. (e : Result (List Command) NoTrace) × Decoding bytes e × OfDecoding files e p reply)
-  decoded bytes p f (Ok commands) h = let r = f commands h.0 in (r.0, (Ok commands, h, r.1))
-  decoded bytes p f (Err (BadAt offset)) h = (reply_of files (report.TraceBad offset), (Err (BadAt offset), h, refl))
-  decoded bytes p f (Err (CutAt offset)) h = (reply_of files (report.TraceCut offset), (Err (CutAt offset), h, refl))
+  text_some : (name : List ℕ) → IsFound (TextOf name) files
+  text_some name =
+      with_some (FileUpTo text_limit is.Text (text_long_line text_limit) name) (λ bytes. OfResult is.Text faulty_text_line (read bytes)) (up_to_some text_limit is.Text (text_long_line text_limit) name) (λ bytes. (_, refl))
 
-  of_trace : (limit : ℕ) (bytes : List ℕ) (p : List Command → Reply → Type 0) → ((commands : List Command) → AreCommands commands → IsAnswered (p commands)) → IsAnswered (OfTrace limit files bytes p)
-  of_trace limit bytes p f =
-      let d = decoding_of bytes in
-      choice (nat_lt limit (length bytes)) (λ reply. reply ≡ reply_of files (report.TraceLong limit)) (λ reply. (e : Result (List Command) NoTrace) × Decoding bytes e × OfDecoding files e p reply)
-      (reply_of files (report.TraceLong limit), refl) (decoded bytes p f d.0 d.1)
+  script_some : ScriptLaw → (r : ℕ) (name : List ℕ) → IsFound (ScriptOf r name) files
+  script_some law r name =
+      with_some (FileUpTo script_limit is.Text (text_long_line script_limit) name)
+      (λ bytes files found. (said : Result (List DebugLine) FaultyLine) × ScriptSays r bytes said × OfResult is.Text faulty_text_line said files found)
+      (up_to_some script_limit is.Text (text_long_line script_limit) name) (λ bytes. let said = law r bytes in (_, (said.0, said.1, refl)))
 
-  of_reading : (said : Result (List Command) FaultyLine) (p : List Command → Reply → Type 0) → ((commands : List Command) → IsAnswered (p commands)) → IsAnswered (OfReading files said p)
-  of_reading (Ok commands) p f = f commands
-  of_reading (Err faulty) p f = (_, refl)
+  -- ---- the rows
 
-  of_text : (bytes : List ℕ) (p : List Command → Reply → Type 0) → ((commands : List Command) → IsAnswered (p commands)) → IsAnswered (OfText files bytes p)
-  of_text bytes p f =
-      choice (nat_lt text_limit (length bytes)) (λ reply. reply ≡ reply_of files (report.TextLong text_limit)) (OfReading files (read bytes) p)
-      (reply_of files (report.TextLong text_limit), refl) (of_reading (read bytes) p f)
-
-  of_run : (profile : Profile) (source target : Matrix) (commands : List Command) → IsAnswered (OfRun profile files source target commands)
+  of_run : (profile : Profile) (source target : Matrix) (commands : List Command) → IsAnswered (OfRun profile source target commands) files
   of_run profile source target commands = let v = verdict_of source target commands profile in (verdict_reply files v.0, (v.0, v.1, tells_verdict files v.0 (verdict_reply files v.0) refl))
 
-  pub run_answered : (profile : Profile) (source target : Option (List ℕ)) (trace : List ℕ) → HasName source target → IsAnswered (AnswerOfRun profile source target trace files)
-  run_answered profile source target trace has = with_models source target _ has (λ s t. with_file trace _ (λ bytes. of_trace run_limit bytes _ (λ commands are. of_run profile s t commands)))
+  pub run_answered : (profile : Profile) (source target : Option (List ℕ)) (trace : List ℕ) → HasName source target → IsAnswered (AnswerOfRun profile source target trace) files
+  run_answered profile source target trace has =
+      says_some (ModelsOf source target) (λ models. Upon (TraceOf run_limit trace) (OfRun profile models.0 models.1)) (models_some source target has)
+      (λ models _. says_some (TraceOf run_limit trace) (OfRun profile models.0 models.1) (trace_some run_limit trace) (λ commands _. of_run profile models.0 models.1 commands))
 
-  pub check_answered : (name : List ℕ) → IsAnswered (AnswerOf (check name) files)
-  check_answered name = with_model who.Model name _ (λ m. (_, refl))
+  pub check_answered : (name : List ℕ) → IsAnswered (AnswerOf (check name)) files
+  check_answered name = says_some (ModelOf who.Model name) (λ m. IsReply is.Done (legal_line m.resolution (full_count m))) (model_some who.Model name) (λ m _. (_, refl))
 
-  pub asm_answered : (text trace : List ℕ) → IsAnswered (AnswerOf (asm text trace) files)
-  asm_answered text trace = with_file text _ (λ bytes. of_text bytes _ (λ commands. (_, refl)))
+  pub asm_answered : (text trace : List ℕ) → IsAnswered (AnswerOf (asm text trace)) files
+  asm_answered text trace =
+      says_some (TextOf text) (λ commands. Stores (stored_line (length commands) (length (spellings commands))) trace (spellings commands)) (text_some text) (λ commands _. (_, refl))
 
-  pub dis_answered : (trace text : List ℕ) → IsAnswered (AnswerOf (dis trace text) files)
-  dis_answered trace text = with_file trace _ (λ bytes. of_trace dis_limit bytes _ (λ commands are. (_, refl)))
+  pub dis_answered : (trace text : List ℕ) → IsAnswered (AnswerOf (dis trace text)) files
+  dis_answered trace text =
+      says_some (TraceOf dis_limit trace) (λ commands. Stores (stored_line (length commands) (length (print commands))) text (print commands)) (trace_some dis_limit trace) (λ commands _. (_, refl))
 
   -- ---- the row of a session
 
-  of_lines : (said : Result (List DebugLine) FaultyLine) (p : List DebugLine → Reply → Type 0) → ((script : List DebugLine) → IsAnswered (p script)) → IsAnswered (OfLines files said p)
-  of_lines (Ok script) p f = f script
-  of_lines (Err faulty) p f = (_, refl)
+  -- the source of a file is whole, as each model of bytes is
+  module _ (laws : HaveSessions) (name : List ℕ) (m : Matrix) where
+    abbrev IsWhole : Type 0
+    IsWhole = (1 ≤ m.resolution) × (length m.voxels ≡ volume m.resolution)
 
-  of_script : ScriptLaw → (r : ℕ) (bytes : List ℕ) (p : List DebugLine → Reply → Type 0) → ((script : List DebugLine) → IsAnswered (p script)) → IsAnswered (OfScript r files bytes p)
-  of_script law r bytes p f =
-      let s = law r bytes in
-      let reply = of_lines s.0 p f in
-      choice (nat_lt script_limit (length bytes)) (λ reply. reply ≡ reply_of files (report.TextLong script_limit))
-      (λ reply. (said : Result (List DebugLine) FaultyLine) × ScriptSays r bytes said × OfLines files said p reply)
-      (reply_of files (report.TextLong script_limit), refl) (reply.0, (s.0, s.1, reply.1))
+    is_whole : ModelOf who.Source name files (Ok m) → IsWhole
+    is_whole h = by (content files name) (model_found who.Source files name m h)
+      where
+        by : (o : Option (List ℕ)) → IsSomeAnd o (λ bytes. (model bytes ≡ Ok m) × IsLegal m) → IsWhole
+        by None there = absurd there
+        by (Some bytes) there = (laws.some bytes m there.0, laws.whole bytes m there.0)
 
-  pub debug_answered : HaveSessions → (source trace script : List ℕ) → IsAnswered (AnswerOf (debug source trace script) files)
+  of_session : HaveSessions → (m : Matrix) (commands : List Command) (lines : List DebugLine) → (1 ≤ m.resolution) × (length m.voxels ≡ volume m.resolution) → AreCommands commands → IsAnswered (OfSession m commands lines) files
+  of_session laws m commands lines whole are =
+      let printed = laws.texts m full_profile commands lines whole.0 whole.1 are in
+      (record { status = is.Done; line = printed.0; after = files }, (printed.0, printed.1, refl))
+
+  pub debug_answered : HaveSessions → (source trace script : List ℕ) → IsAnswered (AnswerOf (debug source trace script)) files
   debug_answered laws source trace script =
-      with_model_said who.Source source _ (λ bytes m said.
-      with_file trace _ (λ codes.
-      of_trace dis_limit codes _ (λ commands are.
-      with_file script _ (λ text.
-      of_script laws.scripts m.resolution text _ (λ lines.
-      let printed = laws.texts m full_profile commands lines (laws.some bytes m said) (laws.whole bytes m said) are in
-      (_, (printed.0, printed.1, refl)))))))
+      says_some (ModelOf who.Source source) (λ m. Upon (TraceOf dis_limit trace) (λ commands. Upon (ScriptOf m.resolution script) (OfSession m commands))) (model_some who.Source source) (λ m found.
+      says_some (TraceOf dis_limit trace) (λ commands. Upon (ScriptOf m.resolution script) (OfSession m commands)) (trace_some dis_limit trace) (λ commands cut.
+      says_some (ScriptOf m.resolution script) (OfSession m commands) (script_some laws.scripts m.resolution script) (λ lines _.
+      of_session laws m commands lines (is_whole laws source m found) (trace_found dis_limit files trace commands cut).3.0)))

@@ -20,6 +20,7 @@ pub record Outside : Type 0 where
   pub written : Option (List ℕ)
   pub sink_faults : ℕ
 
+-- those of a depot and a sink, by what their traits tell
 abbrev pub outside : {D O : Type 0} → (D → Option Files) → (D → ℕ) → (D → ℕ) → (O → Option (List ℕ)) → (O → ℕ) → D → O → Outside
 outside files depot_faults failed_stores written sink_faults depot out = record {
   files = files depot;

@@ -83,7 +83,7 @@ fn give_effect(alloc: Global, effect: &Effect<'_>, out: &mut [u8], size: &mut us
 
 /// What the row comes to over the lent bytes, with a counter of this ledger. No fault is counted, since none is stored, but
 /// no contract below says so: one would be told as want of memory.
-fn counted<L: Ledger>(
+fn ask_counted<L: Ledger>(
     alloc: Global,
     row: Row<'static>,
     lent: Lent<'_>,
@@ -111,7 +111,7 @@ pub fn ask(alloc: Global, row: Row<'static>, lent: Lent<'_>) -> Result<Effect<'s
     ensures finishes { EndsStored (AnswerOf (row_of row.entry)) (Some (lent_files lent.entry)) (Rose 0 0) result }
     ensures named { IfOk result (IsFor (stores_of (row_of row.entry))) }
 {
-    counted::<Brand>(alloc, row, lent, Blank::new(1))
+    ask_counted::<Brand>(alloc, row, lent, Blank::new(1))
 }
 
 /// Gives what the row comes to over the lent bytes: the file that it stores, or else what it tells.

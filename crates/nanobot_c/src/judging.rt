@@ -89,7 +89,7 @@ pub extern "C" fn nanobot_judge(
 
 /// The number of a status that a run ends with where it is not accepted. No such run is done, but no contract below says so:
 /// done would be told as want of memory.
-fn refused(status: Status) -> u32
+fn refuse(status: Status) -> u32
     ensures { IsRefused status result }
 {
     if status == Status::Done {
@@ -105,7 +105,7 @@ fn told_cost(message: &Message) -> Result<(i64, u32), u32>
 {
     match message {
         Message::Line(Report::Accepted { energy, steps }) => Ok((*energy, *steps)),
-        _ => Err(refused(message.status())),
+        _ => Err(refuse(message.status())),
     }
 }
 
@@ -117,7 +117,7 @@ fn cost(alloc: Global, row: Row<'static>, lent: Lent<'_>) -> Result<(i64, u32), 
 {
     match ask(alloc, row, lent) {
         Ok(effect) => told_cost(&effect.message),
-        Err(Stop::Told(report)) => Err(refused(report.status())),
+        Err(Stop::Told(report)) => Err(refuse(report.status())),
         Err(Stop::Depot) => Err(code(Status::Depot)),
         Err(Stop::Memory) => Err(code(Status::Memory)),
     }

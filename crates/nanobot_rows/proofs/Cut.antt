@@ -5,10 +5,11 @@ use Rattle.std.proofs.lemmas.Bool.Decides.{nat_tests}
 use Rattle.std.proofs.lemmas.List.{length-take, take-append-drop, take_all}
 use Rattle.std.proofs.lemmas.Bool.{cases_lt}
 use Rattle.std.proofs.Math.Nat.{mul-le-mul}
+use Rattle.nano_spec.specs.First.{with_first}
 use Rattle.nano_spec.specs.Matrix.{Matrix}
 use Rattle.vox_geom.specs.Space.{numbers_below}
 use Rattle.vox_geom.proofs.Tests.{test_less}
-use Rattle.nano_spec.specs.Model.{NoModel, Long, Resolution, Short, WideLong, WideResolution, WideRun, WideShort, model, first_form, is_no_run, number_of_four, of_runs, runs_in, volume, voxel_bit, wanted, wide_form, wide_model, with_run}
+use Rattle.nano_spec.specs.Model.{NoModel, Long, Resolution, Short, WideLong, WideResolution, WideRun, WideShort, model, first_form, is_no_run, number_of_four, of_runs, runs_in, volume, voxel_bit, wanted, wide_form, wide_model}
 
 -- ---- choices
 
@@ -32,7 +33,7 @@ ended total index sum x (a ∷ []) e = ap (choose (Err (WideShort sum)) (Err Wid
 ended total index sum x (a ∷ b ∷ []) e = ap (choose (Err (WideShort sum)) (Err WideLong)) e
 ended total index sum x (a ∷ b ∷ c ∷ more) e =
     let run = number_of_four x a b c in
-    ap (choose (choose (Err (WideRun index)) (with_run run (runs_in total (index + 1) (sum + run) more)) (is_no_run total index sum run)) (Err WideLong)) e
+    ap (choose (choose (Err (WideRun index)) (with_first run (runs_in total (index + 1) (sum + run) more)) (is_no_run total index sum run)) (Err WideLong)) e
 
 full : (total sum : ℕ) → total ≤ sum → nat_lt sum total ≡ false
 full total sum h = grind (arith, nat_tests)
@@ -52,10 +53,10 @@ later_same total index sum left (a ∷ b ∷ c ∷ []) ys i t h = let e = full t
 later_same total index sum left (a ∷ b ∷ c ∷ d ∷ more) ys i t h =
     let run = number_of_four a b c d in
     where_both (nat_lt sum total) (is_no_run total index sum run) (Err (WideRun index)) (Err WideLong)
-    (with_run run (runs_in total (index + 1) (sum + run) (more ++ ys))) (with_run run (runs_in total (index + 1) (sum + run) more))
+    (with_first run (runs_in total (index + 1) (sum + run) (more ++ ys))) (with_first run (runs_in total (index + 1) (sum + run) more))
     (λ e f. let w = wanting total sum e in
     let s = some_run total index sum run i f in
-    ap (with_run run) (later_same total (index + 1) (sum + run) (left - 1) more ys (omega arith) (omega arith) (omega arith)))
+    ap (with_first run) (later_same total (index + 1) (sum + run) (left - 1) more ys (omega arith) (omega arith) (omega arith)))
 
 first_same : (total left : ℕ) (xs ys : List ℕ) → total ≤ left → 4 * left + 4 < length xs → runs_in total 0 0 (xs ++ ys) ≡ runs_in total 0 0 xs
 first_same total left [] ys t h = absurd (omega arith)
@@ -65,8 +66,8 @@ first_same total left (a ∷ b ∷ c ∷ []) ys t h = absurd (omega arith)
 first_same total left (a ∷ b ∷ c ∷ d ∷ more) ys t h =
     let run = number_of_four a b c d in
     where_both (nat_lt 0 total) (is_no_run total 0 0 run) (Err (WideRun 0)) (Err WideLong)
-    (with_run run (runs_in total (0 + 1) (0 + run) (more ++ ys))) (with_run run (runs_in total (0 + 1) (0 + run) more))
-    (λ e f. ap (with_run run) (later_same total (0 + 1) (0 + run) left more ys (omega arith) (omega arith) (omega arith)))
+    (with_first run (runs_in total (0 + 1) (0 + run) (more ++ ys))) (with_first run (runs_in total (0 + 1) (0 + run) more))
+    (λ e f. ap (with_first run) (later_same total (0 + 1) (0 + run) left more ys (omega arith) (omega arith) (omega arith)))
 
 wide_same : (r n : ℕ) (runs : List ℕ) → 256000004 < n → n ≤ length runs → wide_model r (take n runs) ≡ wide_model r runs
 wide_same r n runs h l =

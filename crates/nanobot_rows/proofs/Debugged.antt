@@ -1,103 +1,56 @@
 -- The answers of `debug`, by what was found in the files.
-use Rattle.std.proofs.Common.{◌≡◌, ℕ, ◌≤◌, List, length, sym, ap, subst, Bool, true, false, nat_lt}
-use Rattle.std.specs.Prelude.{Option, Result, Ok, Err, MatchBool, IfSome}
-use Rattle.vox_geom.proofs.Tests.{test_not_less}
+use Rattle.std.proofs.Common.{◌≡◌, ℕ, ◌≤◌, Global, List, Vec, refl, subst}
+use Rattle.std.specs.Prelude.{Option, Ok, Err, IfSome}
 use Rattle.nano_spec.specs.declared.commands.Command.{Command}
 use Rattle.nano_spec.specs.Matrix.{Matrix}
-use Rattle.nano_spec.specs.Reading.{FaultyLine}
 use Rattle.vox_depot.specs.Causes.{Rose}
 use Rattle.vox_depot.specs.Files.{Files}
-use Rattle.step_debugger.specs.Session.{DebugLine}
 use Rattle.debug_script.specs.Calls.{lines_are}
-use Rattle.debug_script.specs.Script.{ScriptSays}
 use Rattle.debug_script.specs.declared.line.ScriptLine.{ScriptLine}
 use Rattle.nanobot_rows.specs.declared.effect.Effect.{Effect}
-use Rattle.nanobot_rows.specs.declared.report.Report.{Report}
-use Rattle.nanobot_rows.specs.declared.report.Report.TheVariants as report
 use Rattle.nanobot_rows.specs.declared.report.Who.TheVariants as who
 use Rattle.nanobot_rows.specs.declared.stop.Stop.{Stop}
 use Rattle.nanobot_words.specs.Rows.{debug}
-use Rattle.nanobot_rows.specs.Answer.{AnswerOf, Answers, OfScript, OfSession, OfTrace, Reply, WithFile, dis_limit, script_limit}
+use Rattle.nanobot_rows.specs.Answer.{AnswerOf, Answers, ModelOf, OfSession, ScriptOf, TraceOf, Upon, dis_limit}
 use Rattle.nanobot_rows.specs.Effects.{EndsStored, reply_by}
-use Rattle.nanobot_rows.specs.Models.{IsModelOf}
-use Rattle.nanobot_rows.specs.Reading.{IsScriptOf, IsTraceOf, Lacks, Reads, RefusesFile, RefusesLines, RefusesScript, RefusesTrace, reply_of}
-use Rattle.nanobot_rows.proofs.Replies.{both_told, model_given, model_lacks, model_refused, reply_told, rose_since, stops}
-use Rattle.nanobot_rows.proofs.Stored.{file_lacks, of_file, trace_given, trace_refused}
-use Rattle.nanobot_rows.proofs.Told.{if_some, weaker}
-use Rattle.nanobot_rows.proofs.Parts.{OfLines}
+use Rattle.nanobot_rows.specs.Reading.{Finds}
+use Rattle.nanobot_rows.proofs.Loads.{OfScript}
+use Rattle.nanobot_rows.proofs.Replies.{both_told, says_found, says_stops, unviewed}
+use Rattle.nanobot_rows.proofs.Told.{weaker}
 
--- ---- a script
-
-module _ (files : Files) (name : List ℕ) (r : ℕ) (p : List DebugLine → Reply → Type 0) where
-  pub script_given : (script : List ScriptLine) (reply : Reply) → IsScriptOf files name r script → p (lines_are script) reply → WithFile files name (λ bytes. OfScript r files bytes p) reply
-  script_given script reply is h = of_file files name (λ bytes. (length bytes ≤ script_limit) × ScriptSays r bytes (Ok (lines_are script))) (λ bytes. OfScript r files bytes p) reply (λ bytes g.
-      subst (λ b. MatchBool b (reply ≡ reply_of files (report.TextLong script_limit)) ((said : Result (List DebugLine) FaultyLine) × ScriptSays r bytes said × OfLines files said p reply)) (sym (test_not_less script_limit (length bytes) g.0))
-      (Ok (lines_are script), g.1, h)) is
-
-  pub script_refused : (told : Report) → RefusesScript name r files told → WithFile files name (λ bytes. OfScript r files bytes p) (reply_of files told)
-  script_refused told refuses = of_file files name (λ bytes. MatchBool (nat_lt script_limit (length bytes)) (told ≡ report.TextLong script_limit) (RefusesLines r bytes told)) (λ bytes. OfScript r files bytes p) (reply_of files told) (λ bytes g. by bytes (nat_lt script_limit (length bytes)) g) refuses
-    where
-      by : (bytes : List ℕ) (b : Bool) → MatchBool b (told ≡ report.TextLong script_limit) (RefusesLines r bytes told)
-          → MatchBool b (reply_of files told ≡ reply_of files (report.TextLong script_limit)) ((said : Result (List DebugLine) FaultyLine) × ScriptSays r bytes said × OfLines files said p (reply_of files told))
-      by bytes true e = ap (reply_of files) e
-      by bytes false w = (Err w.0, w.1, reply_told files told _ _ w.2)
-
--- ---- `debug`
-
-module _ (told : Option Files) (source trace script : List ℕ) where
+module _ (source trace script : List ℕ) (m : Matrix) where
   abbrev OfDebug : Answers
   OfDebug = AnswerOf (debug source trace script)
 
-  abbrev OfText : Files → Matrix → List Command → List ℕ → Reply → Type 0
-  OfText files m commands text reply = OfScript m.resolution files text (OfSession files m commands) reply
+  abbrev OfScripts : List Command → Answers
+  OfScripts commands = Upon (ScriptOf m.resolution script) (OfSession m commands)
 
-  abbrev OfCommands : Files → Matrix → List Command → Reply → Type 0
-  OfCommands files m commands reply = WithFile files script (OfText files m commands) reply
+  abbrev OfTraces : Answers
+  OfTraces = Upon (TraceOf dis_limit trace) OfScripts
 
-  abbrev OfSource : Files → Matrix → Reply → Type 0
-  OfSource files m reply = WithFile files trace (λ bytes. OfTrace dis_limit files bytes (OfCommands files m)) reply
+  -- what comes after the source
+  module _ (told later : Option Files) (before between now : ℕ) (found : IfSome told (λ files. ModelOf who.Source source files (Ok m))) (same : later ≡ told) (since : before ≤ between) where
+    of_source : (s : Stop) → EndsStored OfTraces later (Rose between now) (Err s) → EndsStored OfDebug told (Rose before now) (Err s)
+    of_source s = says_found (ModelOf who.Source source) (λ n. Upon (TraceOf dis_limit trace) (λ commands. Upon (ScriptOf n.resolution script) (OfSession n commands))) reply_by m told later before between now (Err s) found same since
 
-  -- the source stops the call
-  pub source_stops : (rose : Type 0) (s : Stop) → Reads {A = Matrix} told rose (λ files m. IsModelOf files source m) (RefusesFile who.Source source) (Lacks source) (Err s) → EndsStored OfDebug told rose (Err s)
-  source_stops rose s reads =
-      stops Effect (λ files effect. OfDebug files (reply_by files effect)) OfDebug told rose rose (λ files m. IsModelOf files source m) (RefusesFile who.Source source) (Lacks source) s reads (λ h. h)
-      (if_some told (λ files _. ((λ r h. model_refused who.Source files source (OfSource files) r h), (λ h. model_lacks who.Source files source (OfSource files) h))))
+    -- the trace stops the call
+    pub trace_stops : (s : Stop) → Finds (TraceOf dis_limit trace) later (Rose between now) (Err s) → EndsStored OfDebug told (Rose before now) (Err s)
+    trace_stops s h = of_source s (says_stops (TraceOf dis_limit trace) OfTraces reply_by (λ files end e. (Err end, e, refl)) later (Rose between now) s h)
 
-  module _ (m : Matrix) (found : IfSome told (λ files. IsModelOf files source m)) (before : ℕ) where
-    -- the trace stops it
-    pub trace_stops : (later : Option Files) (between now : ℕ) (s : Stop) → later ≡ told → before ≤ between
-        → Reads {A = List Command} later (Rose between now) (λ files commands. IsTraceOf files trace commands) (RefusesTrace trace) (Lacks trace) (Err s) → EndsStored OfDebug told (Rose before now) (Err s)
-    trace_stops later between now s same l reads =
-        stops Effect (λ files effect. OfDebug files (reply_by files effect)) OfDebug told (Rose between now) (Rose before now) (λ files commands. IsTraceOf files trace commands) (RefusesTrace trace) (Lacks trace) s
-        (subst (λ (o : Option Files). Reads {A = List Command} o (Rose between now) (λ files commands. IsTraceOf files trace commands) (RefusesTrace trace) (Lacks trace) (Err s)) same reads)
-        (rose_since before between now l)
-        (weaker told (λ files is. (
-          (λ r h. model_given who.Source files source (OfSource files) m (reply_of files r) is (trace_refused files trace (OfCommands files m) r h)),
-          (λ h. model_given who.Source files source (OfSource files) m _ is (file_lacks files trace (λ bytes. OfTrace dis_limit files bytes (OfCommands files m)) h)),
-        )) found)
+    -- the script stops it
+    pub script_stops : (commands : List Command) → IfSome later (λ files. TraceOf dis_limit trace files (Ok commands)) → (last : Option Files) (third : ℕ) → last ≡ later → between ≤ third → (r : ℕ) → r ≡ m.resolution
+        → (s : Stop) → OfScript r script last (Rose third now) (Err s) → EndsStored OfDebug told (Rose before now) (Err s)
+    script_stops commands also last third same_last since_third r high s h =
+        of_source s (says_found (TraceOf dis_limit trace) OfScripts reply_by commands later last between third now (Err s) also same_last since_third
+        (says_stops (ScriptOf m.resolution script) (OfScripts commands) reply_by (λ files end e. (Err end, e, refl)) last (Rose third now) s
+        (unviewed (λ (lines : Vec ScriptLine Global). lines_are lines.items) (ScriptOf m.resolution script) last (Rose third now) s (subst (λ (n : ℕ). OfScript n script last (Rose third now) (Err s)) high h))))
 
-    module _ (commands : List Command) (also : IfSome told (λ files. IsTraceOf files trace commands)) where
-      -- what the commands come to is answered
-      with_commands : (files : Files) (reply : Reply) → IsModelOf files source m × IsTraceOf files trace commands → OfCommands files m commands reply → OfDebug files reply
-      with_commands files reply is h = model_given who.Source files source (OfSource files) m reply is.0 (trace_given files trace (OfCommands files m) commands reply is.1 h)
-
-      -- the script stops it
-      module _ (A : Type 0) (P : Files → A → Type 0) (r : ℕ) where
-        pub script_stops : r ≡ m.resolution → (later : Option Files) (between now : ℕ) (s : Stop) → later ≡ told → before ≤ between
-            → Reads {A = A} later (Rose between now) P (RefusesScript script r) (Lacks script) (Err s) → EndsStored OfDebug told (Rose before now) (Err s)
-        script_stops high later between now s same l reads =
-            stops Effect (λ files effect. OfDebug files (reply_by files effect)) OfDebug told (Rose between now) (Rose before now) P (RefusesScript script r) (Lacks script) s
-            (subst (λ (o : Option Files). Reads {A = A} o (Rose between now) P (RefusesScript script r) (Lacks script) (Err s)) same reads)
-            (rose_since before between now l)
-            (weaker told (λ files is. (
-              (λ t h. with_commands files (reply_of files t) is (script_refused files script m.resolution (OfSession files m commands) t (subst (λ n. RefusesScript script n files t) high h))),
-              (λ h. with_commands files _ is (file_lacks files script (OfText files m commands) h)),
-            )) (both_told _ _ told found also))
-
-      -- the session is told
-      pub session_ends : (later : Option Files) (lines : List ScriptLine) (effect : Effect) → later ≡ told → IfSome later (λ files. IsScriptOf files script m.resolution lines)
-          → ((files : Files) → OfSession files m commands (lines_are lines) (reply_by files effect)) → IfSome told (λ files. OfDebug files (reply_by files effect))
-      session_ends later lines effect same is h =
-          let here = subst (λ (o : Option Files). IfSome o (λ files. IsScriptOf files script m.resolution lines)) same is in
-          weaker told (λ files these. with_commands files (reply_by files effect) these.0 (script_given files script m.resolution (OfSession files m commands) lines (reply_by files effect) these.1 (h files)))
-          (both_told _ _ told (both_told _ _ told found also) here)
+  -- the session is told
+  pub session_ends : (told later last : Option Files) → IfSome told (λ files. ModelOf who.Source source files (Ok m)) → later ≡ told → (commands : List Command) → IfSome later (λ files. TraceOf dis_limit trace files (Ok commands))
+      → last ≡ later → (r : ℕ) → r ≡ m.resolution → (lines : List ScriptLine) → IfSome last (λ files. ScriptOf r script files (Ok (lines_are lines)))
+      → (effect : Effect) → ((files : Files) → OfSession m commands (lines_are lines) files (reply_by files effect)) → IfSome told (λ files. OfDebug files (reply_by files effect))
+  session_ends told later last found same commands also same_last r high lines read effect h =
+      let third = subst (λ (n : ℕ). IfSome last (λ files. ScriptOf n script files (Ok (lines_are lines)))) high read in
+      let second = subst (λ (o : Option Files). IfSome o (λ files. OfScripts commands files (reply_by files effect))) same_last (weaker {Q = λ files. OfScripts commands files (reply_by files effect)} last (λ files x. (Ok (lines_are lines), x, h files)) third) in
+      let first = subst (λ (o : Option Files). IfSome o (λ files. OfTraces files (reply_by files effect))) same (both_told {R = λ files. OfTraces files (reply_by files effect)} later (λ files x y. (Ok commands, x, y)) also second) in
+      both_told told (λ files x y. (Ok m, x, y)) found first

@@ -1,28 +1,17 @@
 -- The answers of `exercise`.
 use Rattle.std.proofs.Common.{◌≡◌, ◌∙◌, ℕ, List, sym, ap, subst}
-use Rattle.std.specs.Prelude.{ℤ, Option, Result, Ok, Err, IfSome}
+use Rattle.std.specs.Prelude.{ℤ, Option, IfSome}
 use Rattle.nano_spec.specs.declared.commands.Command.{Command}
 use Rattle.nano_spec.specs.Forge.{forged}
 use Rattle.nano_spec.specs.Matrix.{Matrix, empty, full_count}
 use Rattle.vox_depot.specs.Files.{Files}
 use Rattle.nanobot_rows.specs.declared.report.Cost.{Cost}
-use Rattle.nanobot_rows.specs.declared.report.Report.{Report}
 use Rattle.nanobot_rows.specs.declared.report.Report.TheVariants.{Exercised}
-use Rattle.nanobot_rows.specs.declared.stop.Stop.{Stop}
-use Rattle.nanobot_rows.specs.declared.stop.Stop.TheVariants as stop
 use Rattle.nanobot_words.specs.Rows.{exercise}
-use Rattle.nanobot_rows.specs.Answer.{AnswerOf, Answers, Costs}
-use Rattle.nanobot_rows.specs.Effects.{EndsStored, alone}
+use Rattle.nanobot_rows.specs.Answer.{AnswerOf, Costs}
 use Rattle.plan_choice.specs.Planners.{IsGroupPlan, IsLayerPlan, PlanFacts}
-use Rattle.nanobot_rows.specs.Reading.{EndsUnstored, reply_of}
+use Rattle.nanobot_rows.specs.Reading.{reply_of}
 use Rattle.nanobot_rows.proofs.Told.{if_some}
-
--- a report alone finishes as it ends
-pub ends_finish : (answers : Answers) (told : Option Files) (rose : Type 0) (r : Result Report Stop) → EndsUnstored answers told rose r → EndsStored answers told rose (alone r)
-ends_finish answers told rose (Ok report) h = h
-ends_finish answers told rose (Err (stop.Told report)) h = h
-ends_finish answers told rose (Err stop.Depot) h = h
-ends_finish answers told rose (Err stop.Memory) h = h
 
 -- both plans cost what is told
 pub exercised : (told : Option Files) (number resolution full : ℕ) (target : Matrix) (layer group : Cost) → target ≡ forged number resolution → Costs IsLayerPlan target layer → Costs IsGroupPlan target group → full ≡ full_count target

@@ -4,12 +4,10 @@ pub mod Debugged
 pub mod Examples
 pub mod Exercised
 pub mod Loads
-pub mod Parts
 pub mod Paying
 pub mod Planned
 pub mod Replies
 pub mod Running
-pub mod Stored
 pub mod TakenBytes
 pub mod Told
 pub mod Tracing

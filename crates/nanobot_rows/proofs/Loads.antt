@@ -1,44 +1,62 @@
 -- What a file that was loaded says, of which one byte past the limit was asked for.
-use Rattle.std.proofs.Common.{◌≡◌, ℕ, ◌+◌, ◌<◌, ◌≤◌, ◌∙◌, Global, List, [], ◌∷◌, length, take, refl, sym, ap, subst, arith, true, nat_lt}
-use Rattle.std.specs.Prelude.{Option, Result, Ok, Err, MatchBool, IfSome}
+use Rattle.std.proofs.Common.{◌≡◌, ℕ, ◌+◌, ◌<◌, ◌≤◌, ◌∙◌, Global, Vec, List, [], ◌∷◌, length, take, refl, sym, ap, subst, arith, Bool}
+use Rattle.std.specs.Prelude.{Option, Some, Result, Ok, Err, MatchBool, IfSome}
+use Rattle.std.specs.Result.{result_map_both}
 use Rattle.std.proofs.lemmas.List.{length-append, length-take, take_all}
 use Rattle.vox_geom.proofs.Tests.{test_less, test_not_less}
 use Rattle.nano_spec.specs.declared.commands.Command.{Command}
 use Rattle.nano_spec.specs.Spelling.{spelling, spellings}
-use Rattle.nano_spec.specs.Cutting.{BadAt, CutAt, Cutting, Decoding, NoTrace}
-use Rattle.nano_spec.specs.Reading.{FaultyLine, read}
+use Rattle.nano_spec.specs.Cutting.{BadAt, CutAt, Cutting}
+use Rattle.nano_spec.specs.Reading.{read}
 use Rattle.trace_codec.specs.declared.fault.TraceFault.{TraceFault}
 use Rattle.trace_codec.specs.declared.fault.TraceFault.TheVariants as trace
 use Rattle.trace_codec.specs.declared.fault.TraceRefusal.TheVariants.{Bad, Cut}
 use Rattle.trace_codec.specs.Whole.{Decodes}
 use Rattle.trace_text.specs.declared.fault.TextFault.{TextFault}
 use Rattle.trace_text.specs.declared.fault.TextFault.TheVariants as text
-use Rattle.trace_text.specs.declared.fault.TextRefusal.{TextRefusal}
 use Rattle.trace_text.specs.Text as said
 use Rattle.trace_text.specs.Text.{faulty_line}
-use Rattle.vox_depot.specs.Files.{Files, IfTold}
-use Rattle.nanobot_rows.specs.declared.report.Report.{Report}
-use Rattle.nanobot_rows.specs.declared.report.Report.TheVariants.{Text, TextLong, TraceBad, TraceCut, TraceLong}
+use Rattle.vox_depot.specs.Files.{Files, IfTold, IsMissing, content}
+use Rattle.vox_depot.specs.declared.whole.LoadFault.{LoadFault}
+use Rattle.vox_depot.specs.declared.whole.LoadFault.TheVariants as load
 use Rattle.debug_script.specs.Calls as script
-use Rattle.debug_script.specs.Calls.{lines_are}
 use Rattle.debug_script.specs.Script.{ScriptSays}
+use Rattle.step_debugger.specs.Session.{DebugLine}
+use Rattle.debug_script.specs.Calls.{lines_are}
 use Rattle.debug_script.specs.declared.line.ScriptLine.{ScriptLine}
-use Rattle.nanobot_rows.specs.Answer.{dis_limit, script_limit, text_limit}
-use Rattle.nanobot_rows.specs.Reading.{IsReportOf, IsScriptOf, IsTextOf, IsTraceOf, Lacks, Reads, RefusesDecoding, RefusesLines, RefusesReading, RefusesScript, RefusesText, RefusesTrace, of_text, of_trace}
+use Rattle.nanobot_rows.specs.declared.stop.Stop.{Stop}
+use Rattle.nanobot_rows.specs.Answer.{FileUpTo, Finding, Found, OfResult, ScriptOf, TextOf, TraceOf, script_limit, text_limit}
+use Rattle.nanobot_rows.specs.Report.{faulty_text_line}
+use Rattle.nanobot_rows.specs.Reading.{Finds, FindsAs, of_load, of_text, of_trace}
+use Rattle.nanobot_rows.specs.declared.status.Status.{Status}
 use Rattle.nanobot_rows.specs.declared.status.Status.TheVariants as is
-use Rattle.nanobot_rows.specs.Lines.{trace_line}
-use Rattle.nanobot_rows.proofs.Told.{told_weaker}
+use Rattle.nanobot_rows.specs.Lines.{text_long_line, trace_long_line}
+use Rattle.nanobot_rows.proofs.Replies.{stops, unviewed, viewed}
+use Rattle.nanobot_rows.proofs.Told.{finds_file, not_loaded, weaker, with_file}
 use Rattle.nano_spec.proofs.Lengths.{spelling_some}
 
-module _ (told : Option Files) (name v : List ℕ) (limit most : ℕ) (one_more : most ≡ limit + 1) (loaded : IfTold told name (λ file. v ≡ take most file)) where
-  too_long : limit < length v → IfTold told name (λ file. nat_lt limit (length file) ≡ true)
-  too_long l = told_weaker told name _ _ (λ file e. test_less limit (length file) (more file e)) loaded
+-- ---- files up to a limit
+
+module _ (files : Files) (name bytes : List ℕ) (limit : ℕ) (status : Status) (line : List ℕ) where
+  abbrev Choice : Bool → Found (List ℕ) → Type 0
+  Choice long found = MatchBool long (found ≡ Err (status, line)) (found ≡ Ok bytes)
+
+  module _ (there : content files name ≡ Some bytes) where
+    pub fits : length bytes ≤ limit → FileUpTo limit status line name files (Ok bytes)
+    fits few = (Ok bytes, finds_file files name bytes there, subst (λ (t : Bool). Choice t (Ok bytes)) (sym (test_not_less limit (length bytes) few)) refl)
+
+    pub exceeds : limit < length bytes → FileUpTo limit status line name files (Err (status, line))
+    exceeds many = (Ok bytes, finds_file files name bytes there, subst (λ (t : Bool). Choice t (Err (status, line))) (sym (test_less limit (length bytes) many)) refl)
+
+module _ (told : Option Files) (name v : List ℕ) (limit most : ℕ) (status : Status) (line : List ℕ) (one_more : most ≡ limit + 1) (loaded : IfTold told name (λ file. v ≡ take most file)) where
+  pub too_long : limit < length v → IfSome told (λ files. FileUpTo limit status line name files (Err (status, line)))
+  too_long l = with_file told name _ loaded (λ files file _ there e. exceeds files name file limit status line there (more file e))
     where
       more : (file : List ℕ) → v ≡ take most file → limit < length file
       more file e = let n = ap length e ∙ length-take most file in omega arith
 
-  is_whole : length v ≤ limit → IfTold told name (λ file. (length file ≤ limit) × (file ≡ v))
-  is_whole l = told_weaker told name _ _ (λ file e. (few file e, sym (e ∙ take_all most file (less file e)))) loaded
+  pub is_whole : length v ≤ limit → IfSome told (λ files. FileUpTo limit status line name files (Ok v))
+  is_whole l = with_file told name _ loaded (λ files file _ there e. subst (λ (bytes : List ℕ). FileUpTo limit status line name files (Ok bytes)) (sym (e ∙ take_all most file (less file e))) (fits files name file limit status line there (few file e)))
     where
       few : (file : List ℕ) → v ≡ take most file → length file ≤ limit
       few file e = let n = ap length e ∙ length-take most file in omega arith
@@ -46,66 +64,67 @@ module _ (told : Option Files) (name v : List ℕ) (limit most : ℕ) (one_more 
       less : (file : List ℕ) → v ≡ take most file → length file ≤ most
       less file e = let n = few file e in omega arith
 
--- ---- texts
+-- ---- a file that was not loaded, or is too long, ends the call
 
-module _ (told : Option Files) (name v : List ℕ) (most : ℕ) (one_more : most ≡ text_limit + 1) (loaded : IfTold told name (λ file. v ≡ take most file)) where
-  abbrev Refuses : Report → List ℕ → Type 0
-  Refuses report file = MatchBool (nat_lt text_limit (length file)) (report ≡ TextLong text_limit) (RefusesReading (read file) report)
+-- what is found of the bytes of a vector
+abbrev pub OfBytes : Finding (List ℕ) → Option Files → Type 0 → Result (Vec ℕ Global) Stop → Type 0
+OfBytes X told rose result = FindsAs (λ bytes. bytes.items) X told rose result
 
-  pub text_too_long : text_limit < length v → IfSome told (λ files. RefusesText name files (TextLong text_limit))
-  text_too_long l = told_weaker told name _ _ (λ file e. subst (λ b. MatchBool b (TextLong text_limit ≡ TextLong text_limit) (RefusesReading (read file) (TextLong text_limit))) (sym e) refl) (too_long told name v text_limit most one_more loaded l)
+pub file_not_loaded : (limit : ℕ) (status : Status) (line : List ℕ) (told : Option Files) (name : List ℕ) (rose : Type 0) (fault : LoadFault) → (fault ≡ load.Missing → IsMissing told name) → (fault ≡ load.Failed → rose)
+    → OfBytes (FileUpTo limit status line name) told rose (Err (of_load fault))
+file_not_loaded limit status line told name rose fault missing failed =
+    viewed {V = Vec ℕ Global} (λ bytes. bytes.items) (FileUpTo limit status line name) told rose (of_load fault) (not_loaded (FileUpTo limit status line name) told name rose (λ files h. (Err (is.Depot, []), h, refl)) fault missing failed)
 
-  module _ (fits : length v ≤ text_limit) where
-    pub text_found : (commands : List Command) → read v ≡ Ok commands → IfSome told (λ files. IsTextOf files name commands)
-    text_found commands e = told_weaker told name _ _ (λ file h. (h.0, ap read h.1 ∙ e)) (is_whole told name v text_limit most one_more loaded fits)
+module _ {A : Type 0} (limit : ℕ) (status : Status) (line name : List ℕ) (X : Finding A) (ends : (files : Files) (end : Status × List ℕ) → FileUpTo limit status line name files (Err end) → X files (Err end)) where
+  bytes_stop : (told : Option Files) (rose : Type 0) (s : Stop) → OfBytes (FileUpTo limit status line name) told rose (Err s) → Finds X told rose (Err s)
+  bytes_stop told rose s h = stops (FileUpTo limit status line name) X told rose rose s ends (λ h. h) (unviewed {V = Vec ℕ Global} (λ bytes. bytes.items) (FileUpTo limit status line name) told rose s h)
 
-    refused : (refusal : TextRefusal) → read v ≡ Err (faulty_line refusal) → IfSome told (λ files. RefusesText name files (Text refusal))
-    refused refusal e = told_weaker told name _ _ (λ file h.
-        subst (λ b. MatchBool b (Text refusal ≡ TextLong text_limit) (RefusesReading (read file) (Text refusal))) (sym (test_not_less text_limit (length file) h.0))
-        (subst (λ (r : Result (List Command) FaultyLine). RefusesReading r (Text refusal)) (sym (ap read h.1 ∙ e)) (refl, refl))) (is_whole told name v text_limit most one_more loaded fits)
+pub text_stops : (name : List ℕ) (told : Option Files) (rose : Type 0) (s : Stop) → OfBytes (FileUpTo text_limit is.Text (text_long_line text_limit) name) told rose (Err s) → Finds (TextOf name) told rose (Err s)
+text_stops name = bytes_stop text_limit is.Text (text_long_line text_limit) name (TextOf name) (λ files end h. (Err end, h, refl))
 
-    pub text_refused : (rose : Type 0) (f : TextFault) → said.ReadsText v (Err f) → Reads {A = List Command} told rose (λ files commands. IsTextOf files name commands) (RefusesText name) (Lacks name) (Err (of_text f))
-    text_refused rose (text.Refused refusal) h = refused refusal h
-    text_refused rose text.Memory h = tt
+pub trace_stops : (limit : ℕ) (name : List ℕ) (told : Option Files) (rose : Type 0) (s : Stop) → OfBytes (FileUpTo limit is.Trace (trace_long_line limit) name) told rose (Err s) → Finds (TraceOf limit name) told rose (Err s)
+trace_stops limit name = bytes_stop limit is.Trace (trace_long_line limit) name (TraceOf limit name) (λ files end h. (Err end, h, refl))
 
--- ---- scripts
+-- what is found of the lines of a script
+abbrev pub OfScript : ℕ → List ℕ → Option Files → Type 0 → Result (Vec ScriptLine Global) Stop → Type 0
+OfScript r name told rose result = FindsAs (λ script. lines_are script.items) (ScriptOf r name) told rose result
 
-module _ (told : Option Files) (name v : List ℕ) (r most : ℕ) (one_more : most ≡ script_limit + 1) (loaded : IfTold told name (λ file. v ≡ take most file)) where
-  pub script_too_long : script_limit < length v → IfSome told (λ files. RefusesScript name r files (TextLong script_limit))
-  script_too_long l = told_weaker told name _ _ (λ file e. subst (λ b. MatchBool b (TextLong script_limit ≡ TextLong script_limit) (RefusesLines r file (TextLong script_limit))) (sym e) refl) (too_long told name v script_limit most one_more loaded l)
+pub script_stops : (r : ℕ) (name : List ℕ) (told : Option Files) (rose : Type 0) (s : Stop) → OfBytes (FileUpTo script_limit is.Text (text_long_line script_limit) name) told rose (Err s) → OfScript r name told rose (Err s)
+script_stops r name told rose s h =
+    viewed {V = Vec ScriptLine Global} (λ script. lines_are script.items) (ScriptOf r name) told rose s
+    (bytes_stop script_limit is.Text (text_long_line script_limit) name (ScriptOf r name) (λ files end h. (Err end, h, refl)) told rose s h)
 
-  module _ (fits : length v ≤ script_limit) where
-    pub script_found : (script : List ScriptLine) → ScriptSays r v (Ok (lines_are script)) → IfSome told (λ files. IsScriptOf files name r script)
-    script_found script h = told_weaker told name _ _ (λ file g. (g.0, subst (λ (bytes : List ℕ). ScriptSays r bytes (Ok (lines_are script))) (sym g.1) h)) (is_whole told name v script_limit most one_more loaded fits)
+-- ---- what the bytes say
 
-    faulty : (refusal : TextRefusal) → ScriptSays r v (Err (faulty_line refusal)) → IfSome told (λ files. RefusesScript name r files (Text refusal))
-    faulty refusal h = told_weaker told name _ _ (λ file g.
-        subst (λ b. MatchBool b (Text refusal ≡ TextLong script_limit) (RefusesLines r file (Text refusal))) (sym (test_not_less script_limit (length file) g.0))
-        (faulty_line refusal, subst (λ (bytes : List ℕ). ScriptSays r bytes (Err (faulty_line refusal))) (sym g.1) h, (refl, refl))) (is_whole told name v script_limit most one_more loaded fits)
+-- what is said is found
+as_said : {A W : Type 0} (status : Status) (line : W → List ℕ) (files : Files) (is_said r : Result A W) → is_said ≡ r → OfResult status line is_said files (result_map_both (λ a. a) (λ why. (status, line why)) r)
+as_said status line files is_said r e = ap (λ x. result_map_both (λ a. a) (λ why. (status, line why)) x) (sym e)
 
-    pub script_refused : (rose : Type 0) (f : TextFault) → script.ReadsScript {Y = Global} r v (Err f) → Reads {A = List ScriptLine} told rose (λ files lines. IsScriptOf files name r lines) (RefusesScript name r) (Lacks name) (Err (of_text f))
-    script_refused rose (text.Refused refusal) h = faulty refusal h
-    script_refused rose text.Memory h = tt
+module _ (told : Option Files) (name v : List ℕ) where
+  module _ (whole : IfSome told (λ files. FileUpTo text_limit is.Text (text_long_line text_limit) name files (Ok v))) where
+    pub text_found : (commands : List Command) → read v ≡ Ok commands → IfSome told (λ files. TextOf name files (Ok commands))
+    text_found commands e = weaker told (λ files h. (Ok v, h, as_said is.Text faulty_text_line files (read v) (Ok commands) e)) whole
 
--- ---- traces
+    pub text_refused : (rose : Type 0) (f : TextFault) → said.ReadsText v (Err f) → Finds (TextOf name) told rose (Err (of_text f))
+    text_refused rose (text.Refused refusal) e = weaker told (λ files h. (Ok v, h, as_said is.Text faulty_text_line files (read v) (Err (faulty_line refusal)) e)) whole
+    text_refused rose text.Memory e = tt
 
-module _ (told : Option Files) (name v : List ℕ) (most : ℕ) (one_more : most ≡ dis_limit + 1) (loaded : IfTold told name (λ file. v ≡ take most file)) where
-  pub trace_too_long : dis_limit < length v → IfSome told (λ files. RefusesTrace name files (TraceLong dis_limit))
-  trace_too_long l = told_weaker told name _ _ (λ file e. subst (λ b. MatchBool b (TraceLong dis_limit ≡ TraceLong dis_limit) (RefusesDecoding file (TraceLong dis_limit))) (sym e) refl) (too_long told name v dis_limit most one_more loaded l)
+  module _ (r : ℕ) (whole : IfSome told (λ files. FileUpTo script_limit is.Text (text_long_line script_limit) name files (Ok v))) where
+    pub script_found : (lines : List DebugLine) → ScriptSays r v (Ok lines) → IfSome told (λ files. ScriptOf r name files (Ok lines))
+    script_found lines says = weaker told (λ files h. (Ok v, h, (Ok lines, says, refl))) whole
 
-  module _ (fits : length v ≤ dis_limit) where
-    pub trace_found : (commands : List Command) → Cutting v commands → IfSome told (λ files. IsTraceOf files name commands)
-    trace_found commands cutting = told_weaker told name _ _ (λ file h. (h.0, subst (λ (bytes : List ℕ). Cutting bytes commands) (sym h.1) cutting)) (is_whole told name v dis_limit most one_more loaded fits)
+    pub script_refused : (rose : Type 0) (f : TextFault) → script.ReadsScript {Y = Global} r v (Err f) → OfScript r name told rose (Err (of_text f))
+    script_refused rose (text.Refused refusal) says = weaker told (λ files h. (Ok v, h, (Err (faulty_line refusal), says, refl))) whole
+    script_refused rose text.Memory says = tt
 
-    no_cutting : (why : NoTrace) (r : Report) → IsReportOf r is.Trace (trace_line why) → Decoding v (Err why) → IfSome told (λ files. RefusesTrace name files r)
-    no_cutting why r e decoding = told_weaker told name _ _ (λ file h.
-        subst (λ b. MatchBool b (r ≡ TraceLong dis_limit) (RefusesDecoding file r)) (sym (test_not_less dis_limit (length file) h.0))
-        (why, subst (λ (bytes : List ℕ). Decoding bytes (Err why)) (sym h.1) decoding, e)) (is_whole told name v dis_limit most one_more loaded fits)
+  module _ (limit : ℕ) (whole : IfSome told (λ files. FileUpTo limit is.Trace (trace_long_line limit) name files (Ok v))) where
+    pub trace_found : (commands : List Command) → Cutting v commands → IfSome told (λ files. TraceOf limit name files (Ok commands))
+    trace_found commands cutting = weaker told (λ files h. (Ok v, h, (Ok commands, cutting, refl))) whole
 
-    pub trace_refused : (rose : Type 0) (f : TraceFault) → Decodes v (Err f) → Reads {A = List Command} told rose (λ files commands. IsTraceOf files name commands) (RefusesTrace name) (Lacks name) (Err (of_trace f))
-    trace_refused rose (trace.Refused (Bad offset)) h = no_cutting (BadAt offset) (TraceBad offset) (refl, refl) h
-    trace_refused rose (trace.Refused (Cut offset)) h = no_cutting (CutAt offset) (TraceCut offset) (refl, refl) h
-    trace_refused rose trace.Memory h = tt
+    pub trace_refused : (rose : Type 0) (f : TraceFault) → Decodes v (Err f) → Finds (TraceOf limit name) told rose (Err (of_trace f))
+    trace_refused rose (trace.Refused (Bad offset)) decoding = weaker told (λ files h. (Ok v, h, (Err (BadAt offset), decoding, refl))) whole
+    trace_refused rose (trace.Refused (Cut offset)) decoding = weaker told (λ files h. (Ok v, h, (Err (CutAt offset), decoding, refl))) whole
+    trace_refused rose trace.Memory decoding = tt
 
 -- ---- how many commands there are
 

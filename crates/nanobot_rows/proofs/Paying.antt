@@ -20,10 +20,12 @@ use Rattle.trace_codec.specs.Decoder.{AnswersPiece, DecoderState, HasTaken, deco
 use Rattle.trace_codec.specs.declared.decoder.Fed.TheVariants.{Got, All, Bad}
 use Rattle.vox_depot.specs.Files.{Files, IfTold, IsPiece, content}
 use Rattle.vox_depot.proofs.Loading.{from_told}
+use Rattle.nanobot_rows.specs.Answer.{ModelsOf}
 use Rattle.nanobot_rows.specs.Models.{AreModels, IsModelOf}
 use Rattle.nanobot_rows.specs.Reading.{RunState}
 use Rattle.nanobot_rows.specs.Touching.{AreInFront, BeginWith, HasGiven, HasPaid, IsRunWithin, IsWithinFile}
 use Rattle.nanobot_rows.proofs.Running.{AllLaw, GotLaw}
+use Rattle.nanobot_rows.proofs.Replies.{models_found}
 use Rattle.nanobot_rows.proofs.Tracing.{piece_has}
 use Rattle.nano_spec.proofs.Lengths.{spelling_some}
 
@@ -173,10 +175,10 @@ told_is : (told : Option Files) (P : Files → Type 0) (files : Files) → told 
 told_is told P files e h = subst (λ (o : Option Files). IfSome o P) e h
 
 module _ (profile : Profile) (told : Option Files) (source target : Option (List ℕ)) (trace : List ℕ) where
-  pub run_within : HasName source target → (s t : Matrix) (later : Option Files) (before now : ℕ) → IfSome told (λ files. AreModels source target files s t) → later ≡ told → IsWithinFile profile s later trace before now → IsRunWithin profile source target trace told before now
+  pub run_within : HasName source target → (s t : Matrix) (later : Option Files) (before now : ℕ) → IfSome told (λ files. ModelsOf source target files (Ok (s, t))) → later ≡ told → IsWithinFile profile s later trace before now → IsRunWithin profile source target trace told before now
   run_within named s t later before now found same w = λ files from to e these.
       let here : IsWithinFile profile s told trace before now = subst (λ (o : Option Files). IsWithinFile profile s o trace before now) same w in
-      subst (λ (m : Matrix). IsWithinFile profile m told trace before now) (models_once files source target s t from to named (told_is told (λ files. AreModels source target files s t) files e found) these) here
+      subst (λ (m : Matrix). IsWithinFile profile m told trace before now) (models_once files source target s t from to named (models_found files source target s t (told_is told (λ files. ModelsOf source target files (Ok (s, t))) files e found)) these) here
 
   pub run_untouched : (works : WorkLaw) (before now : ℕ) → now ≡ before → IsRunWithin profile source target trace told before now
   run_untouched works before now same = λ files from to e these others bytes t c.

@@ -1,34 +1,29 @@
 -- The answers of the rows that store a plan.
-use Rattle.std.proofs.Common.{◌≡◌, ℕ, ◌+◌, List, length, sym, ap, subst, Bool}
-use Rattle.std.specs.Prelude.{ℤ, Option, Some, None, Ok, Err, MatchBool, IfSome, IsSomeAnd}
-use Rattle.vox_geom.proofs.Tests.{test_less, test_not_less}
+use Rattle.std.proofs.Common.{◌≡◌, ℕ, List, length, refl}
+use Rattle.std.specs.Prelude.{ℤ, Option, Some, None, Ok, Err, IfSome, IsSomeAnd}
 use Rattle.nano_spec.specs.declared.commands.Command.{Command}
 use Rattle.nano_spec.specs.Matrix.{Matrix}
 use Rattle.nano_spec.specs.Spelling.{spellings}
-use Rattle.group_planner.specs.Bounds.{most_bytes}
-use Rattle.group_planner.specs.Rows.{rows, runs}
 use Rattle.plan_choice.specs.Planners.{PlanFacts}
 use Rattle.plan_tape.specs.declared.tape.Plan.{Plan}
 use Rattle.vox_depot.specs.Files.{Files}
 use Rattle.nanobot_words.specs.declared.planner.Planner.{Planner}
 use Rattle.nanobot_words.specs.declared.planner.Planner.TheVariants.{Layer, Group, Crew, Void, Low, Swarm}
 use Rattle.nanobot_words.specs.Rows.{HasName, TakesSides, plan}
-use Rattle.nanobot_words.proofs.Sides.{takes_a_name}
 use Rattle.nanobot_rows.specs.declared.effect.Effect.{Effect}
 use Rattle.nanobot_rows.specs.declared.effect.NewFile.{NewFile}
 use Rattle.nanobot_rows.specs.declared.report.Report.{Report}
 use Rattle.nanobot_rows.specs.declared.report.Report.TheVariants as report
-use Rattle.nanobot_rows.specs.declared.status.Status.TheVariants as is
 use Rattle.nanobot_rows.specs.declared.stop.Stop.{Stop}
 use Rattle.nanobot_rows.specs.declared.stop.Stop.TheVariants as stop
-use Rattle.nanobot_rows.specs.Answer.{AnswerOf, IsReply, OfPlan, Reply, Stores, StoresPlan, WherePlanned, facts_of, group_limit, with_file}
+use Rattle.nanobot_rows.specs.Answer.{AnswerOf, ModelsOf, Stores, StoresPlan, facts_of, with_file}
 use Rattle.nanobot_rows.specs.Effects.{EndsStored, KeepsPlan, bytes_by, files_with, reply_by, status_by}
-use Rattle.nanobot_rows.specs.Lines.{group_long_line}
 use Rattle.nanobot_rows.specs.Models.{AreModels}
-use Rattle.nanobot_rows.specs.Plans.{Plans, RefusesPlan, TakesModels}
-use Rattle.nanobot_rows.specs.Reading.{reply_of}
+use Rattle.nanobot_rows.specs.Plans.{Plans, TakesModels}
+use Rattle.nanobot_rows.specs.Reading.{end_of}
 use Rattle.nanobot_rows.specs.Report.{report_line}
-use Rattle.nanobot_rows.proofs.Stored.{models_end, models_tell}
+use Rattle.nanobot_rows.proofs.Replies.{models_found}
+use Rattle.nanobot_rows.proofs.Told.{weaker}
 
 -- where one of two sides is named, they are not both none
 pub some_named : (source target : Option (List ℕ)) → HasName source target → source ≡ None → target ≡ None → ⊥
@@ -38,7 +33,7 @@ some_named (Some s) target named first second = absurd (cc)
 
 -- what keeps a plan is answered so
 plan_kept : (Is : PlanFacts) (s t : Matrix) (name : List ℕ) (commands : List Command) (energy : ℤ) (steps : ℕ) (effect : Effect) → Is s t commands energy steps → KeepsPlan name commands energy steps effect
-    → (files : Files) → StoresPlan Is name files s t (reply_by files effect)
+    → (files : Files) → StoresPlan Is name s t files (reply_by files effect)
 plan_kept Is s t name commands energy steps effect is keeps files = (commands, energy, steps, is, by effect.file keeps.file)
   where
     planned : Report
@@ -47,27 +42,6 @@ plan_kept Is s t name commands energy steps effect is keeps files = (commands, e
     by : (o : Option NewFile) → IsSomeAnd o (λ file. (file.name.now ≡ name) × (file.bytes.items ≡ spellings commands)) → Stores (report_line planned) name (spellings commands) files (record { status = status_by effect.message; line = bytes_by effect.message; after = files_with files o })
     by None h = absurd h
     by (Some file) h = λ i. record { status = status_by (keeps.told i); line = bytes_by (keeps.told i); after = with_file files (h.0 i) (h.1 i) }
-
-module _ (files : Files) (s t : Matrix) (p : Reply → Type 0) where
-  -- a plan is made
-  made : (planner : Planner) (reply : Reply) → RefusesPlan planner s t None → p reply → WherePlanned planner files s t p reply
-  made Layer reply can h = h
-  made Group reply can h = subst (λ (b : Bool). MatchBool b (IsReply is.Model (group_long_line (runs s + runs t) (rows s + rows t)) files reply) (p reply)) (sym (test_not_less group_limit (most_bytes s t) can)) h
-  made Crew reply can h = h
-  made Void reply can h = h
-  made Low reply can h = (None, can, h)
-  made Swarm reply can h = h
-
-  -- none is made
-  refused : (planner : Planner) (told : Report) → RefusesPlan planner s t (Some told) → WherePlanned planner files s t p (reply_of files told)
-  refused Layer told why = absurd why
-  refused Group told why =
-      subst (λ (b : Bool). MatchBool b (IsReply is.Model (group_long_line (runs s + runs t) (rows s + rows t)) files (reply_of files told)) (p (reply_of files told))) (sym (test_less group_limit (most_bytes s t) why.0))
-      (ap (reply_of files) why.1)
-  refused Crew told why = absurd why
-  refused Void told why = absurd why
-  refused Low told why = (Some why.0, why.1, ap (reply_of files) why.2)
-  refused Swarm told why = absurd why
 
 -- what has no file is the empty model
 takes_models : (planner : Planner) (source target : Option (List ℕ)) (files : Files) (s t : Matrix) → TakesSides planner source target → AreModels source target files s t → TakesModels planner s t
@@ -86,19 +60,15 @@ takes_models Swarm (Some source) None files s t takes models = absurd takes
 takes_models Swarm (Some source) (Some target) files s t takes models = absurd takes
 takes_models Swarm None None files s t takes models = absurd takes
 
-module _ (planner : Planner) (told : Option Files) (source target : Option (List ℕ)) (trace : List ℕ) (takes : TakesSides planner source target) (s t : Matrix) (found : IfSome told (λ files. AreModels source target files s t)) where
-  abbrev named : HasName source target
-  named = takes_a_name planner source target takes
-
+module _ (planner : Planner) (told : Option Files) (source target : Option (List ℕ)) (trace : List ℕ) (s t : Matrix) (found : IfSome told (λ files. ModelsOf source target files (Ok (s, t)))) where
   -- the planner stops the call
   pub plan_stops : (rose : Type 0) (x : Stop) → Plans planner s t (Err x) → EndsStored (AnswerOf (plan planner source target trace)) told rose (Err x)
-  plan_stops rose (stop.Told r) why = models_tell told source target (OfPlan planner trace) named s t r found (λ files. refused files s t (StoresPlan (facts_of planner) trace files s t) planner r why)
+  plan_stops rose (stop.Told r) why = weaker told (λ files models. (Ok (s, t), models, (Err (end_of r), why files, refl))) found
   plan_stops rose stop.Depot why = absurd why
   plan_stops rose stop.Memory why = tt
 
   -- its plan is kept
-  pub plan_ends : (it : Plan) (effect : Effect) → Plans planner s t (Ok it) → KeepsPlan trace it.commands it.energy it.steps effect → IfSome told (λ files. AnswerOf (plan planner source target trace) files (reply_by files effect))
-  plan_ends it effect plans keeps =
-      models_end told source target (OfPlan planner trace) named s t effect found (λ files models.
-      made files s t (StoresPlan (facts_of planner) trace files s t) planner (reply_by files effect) plans.0
-      (plan_kept (facts_of planner) s t trace it.commands it.energy it.steps effect (plans.1 (takes_models planner source target files s t takes models)) keeps files))
+  pub plan_ends : TakesSides planner source target → (it : Plan) (effect : Effect) → Plans planner s t (Ok it) → KeepsPlan trace it.commands it.energy it.steps effect → IfSome told (λ files. AnswerOf (plan planner source target trace) files (reply_by files effect))
+  plan_ends takes it effect plans keeps = weaker told (λ files models.
+      let facts = plans.1 (takes_models planner source target files s t takes (models_found files source target s t models)) in
+      (Ok (s, t), models, (Ok tt, plans.0 files, plan_kept (facts_of planner) s t trace it.commands it.energy it.steps effect facts keeps files))) found

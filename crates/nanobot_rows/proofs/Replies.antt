@@ -1,33 +1,30 @@
--- The answers of the rows, by what was found in the files.
-use Rattle.std.proofs.Common.{◌≡◌, ℕ, ◌≤◌, List, length, refl, sym, ap, subst, inl, inr, arith, Bool, true, false, nat_lt, ◌∙◌}
-use Rattle.std.specs.Prelude.{Option, Some, None, Result, Ok, Err, MatchOption, MatchBool, IfOk, IfSome, IsSomeAnd}
-use Rattle.vox_geom.proofs.Tests.{test_equal, test_unequal}
-use Rattle.nano_spec.specs.declared.commands.Command.{Command}
-use Rattle.nano_spec.specs.declared.system.Profile.{Profile}
+-- What is found and answered after more files were read.
+use Rattle.std.proofs.Common.{◌≡◌, ◌==◌, ◌≢◌, ℕ, ◌≤◌, List, [], refl, sym, ap, subst, inl, inr, arith, Bool, true, false, ◌∙◌}
+use Rattle.std.specs.Result.{result_map_both}
+use Rattle.std.specs.Prelude.{Option, Some, None, Result, Ok, Err, MatchOption, MatchResult, MatchBool, IfSome, IsSomeAnd}
+use Rattle.vox_geom.proofs.Tests.{equal_by_test, test_equal, test_unequal}
 use Rattle.nano_spec.specs.declared.outcomes.Verdict.{Verdict}
 use Rattle.nano_spec.specs.declared.outcomes.Verdict.TheVariants as verdict
-use Rattle.nano_spec.specs.Cutting.{Decoding, NoTrace, BadAt, CutAt}
-use Rattle.nano_spec.specs.Legal.{IsLegal}
-use Rattle.nano_spec.specs.Matrix.{Matrix, empty, full_count}
+use Rattle.nano_spec.specs.Legal.{IsLegal, Legality, NotLegal}
+use Rattle.nano_spec.specs.Matrix.{Matrix, empty}
 use Rattle.nano_spec.specs.Model.{NoModel, model}
 use Rattle.vox_depot.specs.Causes.{Rose}
 use Rattle.vox_depot.specs.Files.{Files, content}
 use Rattle.nanobot_rows.specs.declared.report.Report.{Report}
-use Rattle.nanobot_rows.specs.declared.report.Report.TheVariants as report
 use Rattle.nanobot_rows.specs.declared.report.Who.{Who}
-use Rattle.nanobot_rows.specs.declared.stop.Stop.{Stop}
-use Rattle.nanobot_rows.specs.declared.stop.Stop.TheVariants as stop
 use Rattle.nanobot_rows.specs.declared.report.Who.TheVariants as who
-use Rattle.nanobot_words.specs.Rows.{HasName, check}
-use Rattle.nanobot_rows.specs.Answer.{AnswerOf, AnswerOfRun, Answers, IsReply, run_limit, OfBytes, OfRun, OfTrace, Reply, TellsVerdict, WithBoth, WithFile, WithModel, WithModels, WithSide}
-use Rattle.nanobot_rows.specs.Models.{AreModels, IsModelOf, IsSide}
-use Rattle.nanobot_rows.specs.Reading.{AreBoth, AreUnlike, EndsUnstored, HasSide, IsReportOf, Lacks, LacksModels, LacksSide, OnBytes, OnCommands, OnDecoding, OnFile, OnTrace, Reads, RefusesBytes, RefusesFile, RefusesModels, RefusesSide, by_both, by_source, by_target, no_such_file, lacks_source, lacks_target, reply_of, tells_nothing}
 use Rattle.nanobot_rows.specs.declared.status.Status.{Status}
 use Rattle.nanobot_rows.specs.declared.status.Status.TheVariants as is
-use Rattle.nanobot_rows.specs.Lines.{legal_line}
+use Rattle.nanobot_rows.specs.declared.stop.Stop.{Stop}
+use Rattle.nanobot_rows.specs.declared.stop.Stop.TheVariants as stop
+use Rattle.nanobot_words.specs.Rows.{HasName}
+use Rattle.nanobot_rows.specs.Answer.{Answers, FileOf, Finding, Found, LegalOf, ModelOf, ModelsOf, OfResult, Reply, TellsVerdict, Upon, With}
+use Rattle.nanobot_rows.specs.Lines.{no_model_line, not_legal_line, resolutions_line}
+use Rattle.nanobot_rows.specs.Models.{AreModels, IsModelOf}
+use Rattle.nanobot_rows.specs.Reading.{EndsUnstored, Finds, FindsAs, Settles, end_of, reply_of, reply_to}
+use Rattle.nanobot_rows.specs.Effects.{EndsStored, alone}
 use Rattle.nanobot_rows.specs.Report.{of_verdict}
-use Rattle.nanobot_rows.proofs.Told.{if_some, weaker}
-use Rattle.nanobot_rows.proofs.Parts.{OfDecoding}
+use Rattle.nanobot_rows.proofs.Told.{file_found, finds_file, weaker, weaker_and}
 
 -- ---- counts of faults
 
@@ -37,114 +34,113 @@ rose_later a b c h l = omega (arith, h)
 pub rose_since : (a b c : ℕ) → a ≤ b → Rose b c → Rose a c
 rose_since a b c l h = omega (arith, h)
 
--- ---- what a report tells
+-- ---- what a call finds
 
--- the reply of a report with this status and this line
-pub reply_told : (files : Files) (r : Report) (status : Status) (line : List ℕ) → IsReportOf r status line → reply_of files r ≡ record { status = status; line = line; after = files }
-reply_told files r status line e = λ i. record { status = e.0 i; line = e.1 i; after = files }
+-- a stop, seen by another call
+pub stops : {A B : Type 0} (X : Finding A) (Y : Finding B) (told : Option Files) (rose wider : Type 0) (s : Stop) → ((files : Files) (end : Status × List ℕ) → X files (Err end) → Y files (Err end)) → (rose → wider)
+    → Finds X told rose (Err s) → Finds Y told wider (Err s)
+stops X Y told rose wider (stop.Told r) ends since h = weaker told (λ files x. ends files (end_of r) x) h
+stops X Y told rose wider stop.Depot ends since (inl h) = inl (since h)
+stops X Y told rose wider stop.Depot ends since (inr h) = inr (weaker_and told (λ files x. ends files (is.Depot, []) x) h)
+stops X Y told rose wider stop.Memory ends since h = tt
 
--- ---- one model
+-- a stop of a call that has another view of its value
+module _ {A V : Type 0} (view : V → A) (X : Finding A) (told : Option Files) (rose : Type 0) (s : Stop) where
+  pub viewed : Finds X told rose (Err s) → FindsAs view X told rose (Err s)
+  viewed = stops X (λ files found. X files (result_map_both view (λ end. end) found)) told rose rose s (λ files end h. h) (λ h. h)
 
-module _ (who : Who) (files : Files) (name : List ℕ) (p : Matrix → Reply → Type 0) where
-  pub model_given : (m : Matrix) (reply : Reply) → IsModelOf files name m → p m reply → WithModel who files name p reply
-  model_given m reply is h = by (content files name) is
+  pub unviewed : FindsAs view X told rose (Err s) → Finds X told rose (Err s)
+  unviewed = stops (λ files found. X files (result_map_both view (λ end. end) found)) X told rose rose s (λ files end h. h) (λ h. h)
+
+pub both_told : {P Q R : Files → Type 0} (told : Option Files) → ((files : Files) → P files → Q files → R files) → IfSome told P → IfSome told Q → IfSome told R
+both_told None f h k = tt
+both_told (Some files) f h k = f files h k
+
+and_told : {P Q R : Files → Type 0} (told : Option Files) → ((files : Files) → P files → Q files → R files) → IfSome told P → IsSomeAnd told Q → IsSomeAnd told R
+and_told None f h k = absurd k
+and_told (Some files) f h k = f files h k
+
+-- what a call finds, seen by one that knows more of the files
+module _ {A : Type 0} (X Y : Finding A) (P : Files → Type 0) (more : (files : Files) → P files → (found : Found A) → X files found → Y files found) where
+  widens : (told : Option Files) (rose wider : Type 0) (r : Result A Stop) → IfSome told P → (rose → wider) → Finds X told rose r → Finds Y told wider r
+  widens told rose wider (Ok a) known since h = both_told told (λ files k x. more files k (Ok a) x) known h
+  widens told rose wider (Err (stop.Told r)) known since h = both_told told (λ files k x. more files k (Err (end_of r)) x) known h
+  widens told rose wider (Err stop.Depot) known since (inl h) = inl (since h)
+  widens told rose wider (Err stop.Depot) known since (inr h) = inr (and_told told (λ files k x. more files k (Err (is.Depot, [])) x) known h)
+  widens told rose wider (Err stop.Memory) known since h = tt
+
+  -- the same later
+  pub widens_since : (told later : Option Files) (before between now : ℕ) (r : Result A Stop) → IfSome told P → later ≡ told → before ≤ between → Finds X later (Rose between now) r → Finds Y told (Rose before now) r
+  widens_since told later before between now r known same l h =
+      widens told (Rose between now) (Rose before now) r known (rose_since before between now l) (subst (λ (o : Option Files). Finds X o (Rose between now) r) same h)
+
+-- ---- one finding after another
+
+module _ {A B : Type 0} (X : Finding A) (p : A → Finding B) where
+  pub with_stops : (told : Option Files) (rose : Type 0) (s : Stop) → Finds X told rose (Err s) → Finds (With X p) told rose (Err s)
+  with_stops told rose s = stops X (With X p) told rose rose s (λ files end h. (Err end, h, refl)) (λ h. h)
+
+  pub with_found : (a : A) (told later : Option Files) (before between now : ℕ) (r : Result B Stop) → IfSome told (λ files. X files (Ok a)) → later ≡ told → before ≤ between
+      → Finds (p a) later (Rose between now) r → Finds (With X p) told (Rose before now) r
+  with_found a = widens_since (p a) (With X p) (λ files. X files (Ok a)) (λ files h found rest. (Ok a, h, rest))
+
+  -- a value that is found comes of one that was found first
+  pub with_ok : (files : Files) (b : B) → With X p files (Ok b) → (a : A) × X files (Ok a) × p a files (Ok b)
+  with_ok files b h = by h.0 h.1 h.2
     where
-      by : (o : Option (List ℕ)) → IsSomeAnd o (λ bytes. (model bytes ≡ Ok m) × IsLegal m) → MatchOption o (reply ≡ no_such_file files) (λ bytes. OfBytes who files (model bytes) p reply)
-      by None is = absurd is
-      by (Some bytes) is = subst (λ (r : Result Matrix NoModel). OfBytes who files r p reply) (sym is.0) (None, is.1, h)
+      by : (first : Found A) → X files first → MatchResult first (λ a. p a files (Ok b)) (λ end. Ok b ≡ Err end) → (a : A) × X files (Ok a) × p a files (Ok b)
+      by (Ok a) x rest = (a, x, rest)
+      by (Err end) x rest = absurd (cc)
 
-  pub model_refused : (told : Report) → RefusesFile who name files told → WithModel who files name p (reply_of files told)
-  model_refused told h = by (content files name) h
+-- the stop of a call is answered
+pub says_stops : {A V : Type 0} (X : Finding A) (answers : Answers) (reply : Files → V → Reply) → ((files : Files) (end : Status × List ℕ) → X files (Err end) → answers files (record { status = end.0; line = end.1; after = files }))
+    → (told : Option Files) (rose : Type 0) (s : Stop) → Finds X told rose (Err s) → Settles reply answers told rose (Err s)
+says_stops X answers reply ends told rose s = stops X (λ files found. answers files (reply_to reply files found)) told rose rose s ends (λ h. h)
+
+-- what comes after a value that was found is answered
+pub says_found : {A V : Type 0} (X : Finding A) (p : A → Answers) (reply : Files → V → Reply) (a : A) (told later : Option Files) (before between now : ℕ) (r : Result V Stop) → IfSome told (λ files. X files (Ok a)) → later ≡ told → before ≤ between
+    → Settles reply (p a) later (Rose between now) r → Settles reply (Upon X p) told (Rose before now) r
+says_found X p reply a = widens_since (λ files found. p a files (reply_to reply files found)) (λ files found. Upon X p files (reply_to reply files found)) (λ files. X files (Ok a)) (λ files h found rest. (Ok a, h, rest))
+
+-- a report alone finishes as it ends
+pub ends_finish : (answers : Answers) (told : Option Files) (rose : Type 0) (r : Result Report Stop) → EndsUnstored answers told rose r → EndsStored answers told rose (alone r)
+ends_finish answers told rose (Ok report) h = h
+ends_finish answers told rose (Err (stop.Told report)) h = h
+ends_finish answers told rose (Err stop.Depot) h = h
+ends_finish answers told rose (Err stop.Memory) h = h
+
+-- ---- models
+
+module _ (who : Who) (files : Files) (name : List ℕ) (m : Matrix) where
+  abbrev Said : List ℕ → Finding Matrix
+  Said bytes = OfResult is.Model (no_model_line who) (model bytes)
+
+  -- a file of a legal model says it
+  pub finds_model : IsModelOf files name m → ModelOf who name files (Ok m)
+  finds_model is_model = by (content files name) refl is_model
     where
-      of_bytes : (r : Result Matrix NoModel) → RefusesBytes who r told → OfBytes who files r p (reply_of files told)
-      of_bytes (Err why) e = reply_told files told _ _ e
-      of_bytes (Ok m) refuses = (Some refuses.0, refuses.1, reply_told files told _ _ refuses.2)
+      by : (o : Option (List ℕ)) → content files name ≡ o → IsSomeAnd o (λ bytes. (model bytes ≡ Ok m) × IsLegal m) → ModelOf who name files (Ok m)
+      by None e h = absurd h
+      by (Some bytes) e h = (
+        Ok bytes,
+        finds_file files name bytes e,
+        (Ok m, sym (ap (λ (r : Result Matrix NoModel). result_map_both (λ a. a) (λ why. (is.Model, no_model_line who why)) r) h.0), (None, h.1, refl)),
+      )
 
-      by : (o : Option (List ℕ)) → IsSomeAnd o (λ bytes. RefusesBytes who (model bytes) told) → MatchOption o (reply_of files told ≡ no_such_file files) (λ bytes. OfBytes who files (model bytes) p (reply_of files told))
-      by None h = absurd h
-      by (Some bytes) h = of_bytes (model bytes) h
-
-  pub model_lacks : Lacks name files → WithModel who files name p (no_such_file files)
-  model_lacks h = subst (λ (o : Option (List ℕ)). MatchOption o (no_such_file files ≡ no_such_file files) (λ bytes. OfBytes who files (model bytes) p (no_such_file files))) (sym h) refl
-
--- ---- a source or a target
-
-module _ (who : Who) (files : Files) (p : Option Matrix → Reply → Type 0) where
-  pub side_given : (name : Option (List ℕ)) (side : Option Matrix) (reply : Reply) → HasSide name files side → p side reply → WithSide who files name p reply
-  side_given None None reply is h = h
-  side_given None (Some m) reply is h = absurd is
-  side_given (Some name) None reply is h = absurd is
-  side_given (Some name) (Some m) reply is h = model_given who files name (λ m. p (Some m)) m reply is h
-
-  pub side_refused : (name : Option (List ℕ)) (told : Report) → RefusesSide who name files told → WithSide who files name p (reply_of files told)
-  side_refused None told h = absurd h
-  side_refused (Some name) told h = model_refused who files name (λ m. p (Some m)) told h
-
-  pub side_lacks : (name : Option (List ℕ)) → LacksSide name files → WithSide who files name p (no_such_file files)
-  side_lacks None h = absurd h
-  side_lacks (Some name) h = model_lacks who files name (λ m. p (Some m)) h
-
--- ---- both
-
-module _ (files : Files) (p : Matrix → Matrix → Reply → Type 0) where
-  pub both_given : (a b : Option Matrix) (s t : Matrix) (reply : Reply) → AreBoth a b s t → p s t reply → WithBoth files a b p reply
-  both_given None None s t reply are h = are
-  both_given (Some a) None s t reply are h = subst (λ (m : Matrix). p a m reply) are.1 (subst (λ (m : Matrix). p m t reply) are.0 h)
-  both_given None (Some b) s t reply are h = subst (λ (m : Matrix). p m b reply) are.0 (subst (λ (m : Matrix). p s m reply) are.1 h)
-  both_given (Some a) (Some b) s t reply are h =
-      subst (λ w. MatchBool w (p a b reply) (reply ≡ reply_of files (report.Resolutions a.resolution b.resolution))) (sym (test_equal a.resolution b.resolution are.2))
-      (subst (λ (m : Matrix). p a m reply) are.1 (subst (λ (m : Matrix). p m t reply) are.0 h))
-
-  pub both_unlike : (a b : Option Matrix) (told : Report) → AreUnlike a b told → WithBoth files a b p (reply_of files told)
-  both_unlike None None told h = absurd h
-  both_unlike (Some a) None told h = absurd h
-  both_unlike None (Some b) told h = absurd h
-  both_unlike (Some a) (Some b) told h =
-      subst (λ w. MatchBool w (p a b (reply_of files told)) (reply_of files told ≡ reply_of files (report.Resolutions a.resolution b.resolution))) (sym (test_unequal a.resolution b.resolution h.0)) (ap (reply_of files) h.1)
-
--- ---- the models of a source and a target
-
--- what a source or a target of this model has in its file
-abbrev side_with : Option (List ℕ) → Matrix → Option Matrix
-side_with None m = None
-side_with (Some name) m = Some m
-
-has_side : (files : Files) (name : Option (List ℕ)) (m other : Matrix) → IsSide files name m other → HasSide name files (side_with name m)
-has_side files None m other is = tt
-has_side files (Some name) m other is = is
-
-are_both : (files : Files) (source target : Option (List ℕ)) (s t : Matrix) → HasName source target → AreModels source target files s t → AreBoth (side_with source s) (side_with target t) s t
-are_both files None None s t named m = named
-are_both files (Some a) None s t named m = (refl, m.target_is)
-are_both files None (Some b) s t named m = (m.source_is, refl)
-are_both files (Some a) (Some b) s t named m = (refl, refl, m.alike)
-
--- the models of two sides that were found
-pub models_of : (files : Files) (source target : Option (List ℕ)) (a b : Option Matrix) (s t : Matrix) → HasSide source files a → HasSide target files b → AreBoth a b s t → AreModels source target files s t
-models_of files None None None None s t h k are = absurd are
-models_of files None None None (Some m) s t h k are = absurd k
-models_of files None None (Some m) b s t h k are = absurd h
-models_of files None (Some y) (Some m) b s t h k are = absurd h
-models_of files None (Some y) None None s t h k are = absurd k
-models_of files None (Some y) None (Some m) s t h k are = record {
-  source_is = are.0 ∙ ap (λ (x : Matrix). empty x.resolution) (sym are.1);
-  target_is = subst (λ (x : Matrix). IsModelOf files y x) (sym are.1) k;
-  alike = ap (λ (x : Matrix). x.resolution) are.0 ∙ ap (λ (x : Matrix). x.resolution) (sym are.1);
-}
-models_of files (Some x) None None b s t h k are = absurd h
-models_of files (Some x) None (Some m) (Some n) s t h k are = absurd k
-models_of files (Some x) None (Some m) None s t h k are = record {
-  source_is = subst (λ (y : Matrix). IsModelOf files x y) (sym are.0) h;
-  target_is = are.1 ∙ ap (λ (y : Matrix). empty y.resolution) (sym are.0);
-  alike = ap (λ (y : Matrix). y.resolution) are.0 ∙ ap (λ (y : Matrix). y.resolution) (sym are.1);
-}
-models_of files (Some x) (Some y) None b s t h k are = absurd h
-models_of files (Some x) (Some y) (Some m) None s t h k are = absurd k
-models_of files (Some x) (Some y) (Some m) (Some n) s t h k are = record {
-  source_is = subst (λ (z : Matrix). IsModelOf files x z) (sym are.0) h;
-  target_is = subst (λ (z : Matrix). IsModelOf files y z) (sym are.1) k;
-  alike = ap (λ (z : Matrix). z.resolution) are.0 ∙ (are.2 ∙ ap (λ (z : Matrix). z.resolution) (sym are.1));
-}
+  pub model_found : ModelOf who name files (Ok m) → IsModelOf files name m
+  model_found h =
+      let read = with_ok (FileOf name) (λ bytes. With (Said bytes) (LegalOf who)) files m h in
+      let judged = with_ok (Said read.0) (LegalOf who) files m read.2 in
+      subst (λ (o : Option (List ℕ)). IsSomeAnd o (λ bytes. (model bytes ≡ Ok m) × IsLegal m)) (sym (file_found files name read.0 read.1))
+      (by (model read.0) judged.0 judged.1 judged.2.0 judged.2.1 judged.2.2)
+    where
+      by : (r : Result Matrix NoModel) (n : Matrix) → ◌≡◌ {A = Found Matrix} (Ok n) (result_map_both (λ a. a) (λ why. (is.Model, no_model_line who why)) r)
+          → (why : Option NotLegal) → Legality n why → MatchOption why (◌≡◌ {A = Found Matrix} (Ok m) (Ok n)) (λ w. ◌≡◌ {A = Found Matrix} (Ok m) (Err (is.Model, not_legal_line who w))) → (r ≡ Ok m) × IsLegal m
+      by (Err none) n f why l g = absurd (cc)
+      by (Ok k) n f (Some w) l g = absurd (cc)
+      by (Ok k) n f None l g =
+          let same : n ≡ m = cc in
+          (cc, subst IsLegal same l)
 
 -- of two names that are not both missing one is there
 pub one_named : (source target : Option (List ℕ)) → (source ≡ None → target ≡ None → ⊥) → HasName source target
@@ -152,23 +148,94 @@ one_named None None h = h refl refl
 one_named None (Some b) h = tt
 one_named (Some a) target h = tt
 
-module _ (files : Files) (source target : Option (List ℕ)) (p : Matrix → Matrix → Reply → Type 0) where
-  pub models_given : HasName source target → (s t : Matrix) (reply : Reply) → AreModels source target files s t → p s t reply → WithModels files source target p reply
-  models_given named s t reply m h =
-      side_given who.Source files _ source (side_with source s) reply (has_side files source s t m.source_is)
-      (side_given who.Target files _ target (side_with target t) reply (has_side files target t s m.target_is)
-      (both_given files p (side_with source s) (side_with target t) s t reply (are_both files source target s t named m) h))
+-- the pairs of two values that were found are one
+pair_is : (s t a b : Matrix) → ◌≡◌ {A = Found (Matrix × Matrix)} (Ok (s, t)) (Ok (a, b)) → (s ≡ a) × (t ≡ b)
+pair_is s t a b e = let same : (s, t) ≡ (a, b) = cc in (ap (λ (x : Matrix × Matrix). x.0) same, ap (λ (x : Matrix × Matrix). x.1) same)
 
-  pub models_refused : (told : Report) → RefusesModels source target files told → WithModels files source target p (reply_of files told)
-  models_refused told (by_source refuses) = side_refused who.Source files _ source told refuses
-  models_refused told (by_target s is refuses) = side_given who.Source files _ source s (reply_of files told) is (side_refused who.Target files _ target told refuses)
-  models_refused told (by_both s t is are unlike) = side_given who.Source files _ source s (reply_of files told) is (side_given who.Target files _ target t (reply_of files told) are (both_unlike files p s t told unlike))
+-- both models, where they are of one resolution
+abbrev Choice : Matrix → Matrix → Bool → Found (Matrix × Matrix) → Type 0
+Choice s t alike both = MatchBool alike (both ≡ Ok (s, t)) (both ≡ Err (is.Model, resolutions_line s.resolution t.resolution))
 
-  pub models_lack : LacksModels source target files → WithModels files source target p (no_such_file files)
-  models_lack (lacks_source lacks) = side_lacks who.Source files _ source lacks
-  models_lack (lacks_target s is lacks) = side_given who.Source files _ source s (no_such_file files) is (side_lacks who.Target files _ target lacks)
+abbrev pub Alike : Matrix → Matrix → Finding (Matrix × Matrix)
+Alike s t files both = Choice s t (s.resolution == t.resolution) both
 
--- ---- a trace
+module _ (s t : Matrix) (files : Files) where
+  alike : s.resolution ≡ t.resolution → Alike s t files (Ok (s, t))
+  alike e = subst (λ (b : Bool). Choice s t b (Ok (s, t))) (sym (test_equal s.resolution t.resolution e)) refl
+
+  unlike : s.resolution ≢ t.resolution → Alike s t files (Err (is.Model, resolutions_line s.resolution t.resolution))
+  unlike e = subst (λ (b : Bool). Choice s t b (Err (is.Model, resolutions_line s.resolution t.resolution))) (sym (test_unequal s.resolution t.resolution e)) refl
+
+module _ (files : Files) where
+  -- the models of a source and a target are found
+  pub finds_models : (source target : Option (List ℕ)) (s t : Matrix) → HasName source target → AreModels source target files s t → ModelsOf source target files (Ok (s, t))
+  finds_models None None s t named are = named
+  finds_models (Some source) None s t named are = (Ok s, finds_model who.Source files source s are.source_is, ap (λ (m : Matrix). Ok (s, m)) are.target_is)
+  finds_models None (Some target) s t named are = (Ok t, finds_model who.Target files target t are.target_is, ap (λ (m : Matrix). Ok (m, t)) are.source_is)
+  finds_models (Some source) (Some target) s t named are =
+      (Ok s, finds_model who.Source files source s are.source_is, (Ok t, finds_model who.Target files target t are.target_is, alike s t files are.alike))
+
+  pub models_found : (source target : Option (List ℕ)) (s t : Matrix) → ModelsOf source target files (Ok (s, t)) → AreModels source target files s t
+  models_found None None s t h = absurd h
+  models_found (Some source) None s t h =
+      let one = with_ok (ModelOf who.Source source) (λ m _ both. both ≡ Ok (m, empty m.resolution)) files (s, t) h in
+      let are = pair_is s t one.0 (empty one.0.resolution) one.2 in
+      record {
+        source_is = subst (λ (m : Matrix). IsModelOf files source m) (sym are.0) (model_found who.Source files source one.0 one.1);
+        target_is = are.1 ∙ ap (λ (m : Matrix). empty m.resolution) (sym are.0);
+        alike = ap (λ (m : Matrix). m.resolution) are.0 ∙ ap (λ (m : Matrix). m.resolution) (sym are.1);
+      }
+  models_found None (Some target) s t h =
+      let one = with_ok (ModelOf who.Target target) (λ m _ both. both ≡ Ok (empty m.resolution, m)) files (s, t) h in
+      let are = pair_is s t (empty one.0.resolution) one.0 one.2 in
+      record {
+        source_is = are.0 ∙ ap (λ (m : Matrix). empty m.resolution) (sym are.1);
+        target_is = subst (λ (m : Matrix). IsModelOf files target m) (sym are.1) (model_found who.Target files target one.0 one.1);
+        alike = ap (λ (m : Matrix). m.resolution) are.0 ∙ ap (λ (m : Matrix). m.resolution) (sym are.1);
+      }
+  models_found (Some source) (Some target) s t h =
+      let one = with_ok (ModelOf who.Source source) (λ a. With (ModelOf who.Target target) (Alike a)) files (s, t) h in
+      let two = with_ok (ModelOf who.Target target) (Alike one.0) files (s, t) one.2 in
+      by one.0 two.0 (model_found who.Source files source one.0 one.1) (model_found who.Target files target two.0 two.1) (one.0.resolution == two.0.resolution) refl two.2
+    where
+      by : (a b : Matrix) → IsModelOf files source a → IsModelOf files target b → (same : Bool) → (a.resolution == b.resolution) ≡ same → Choice a b same (Ok (s, t)) → AreModels (Some source) (Some target) files s t
+      by a b first second false test e = absurd (cc)
+      by a b first second true test e =
+          let are = pair_is s t a b e in
+          record {
+            source_is = subst (λ (m : Matrix). IsModelOf files source m) (sym are.0) first;
+            target_is = subst (λ (m : Matrix). IsModelOf files target m) (sym are.1) second;
+            alike = ap (λ (m : Matrix). m.resolution) are.0 ∙ (equal_by_test a.resolution b.resolution test ∙ ap (λ (m : Matrix). m.resolution) (sym are.1));
+          }
+
+-- ---- two models that are loaded, each of its file
+
+module _ (source target : List ℕ) (told : Option Files) where
+  abbrev Reads : Type 0 → Result (Matrix × Matrix) Stop → Type 0
+  Reads rose result = Finds (ModelsOf (Some source) (Some target)) told rose result
+
+  pub source_stops : (rose : Type 0) (x : Stop) → Finds (ModelOf who.Source source) told rose (Err x) → Reads rose (Err x)
+  source_stops rose x = stops (ModelOf who.Source source) (ModelsOf (Some source) (Some target)) told rose rose x (λ files end h. (Err end, h, refl)) (λ h. h)
+
+  module _ (s : Matrix) (first : IfSome told (λ files. ModelOf who.Source source files (Ok s))) (later : Option Files) (same : later ≡ told) where
+    pub target_stops : (before between now : ℕ) (x : Stop) → before ≤ between → Finds (ModelOf who.Target target) later (Rose between now) (Err x) → Reads (Rose before now) (Err x)
+    target_stops before between now x l h =
+        with_found (ModelOf who.Source source) (λ a. With (ModelOf who.Target target) (Alike a)) s told later before between now (Err x) first same l
+        (stops (ModelOf who.Target target) (With (ModelOf who.Target target) (Alike s)) later (Rose between now) (Rose between now) x (λ files end e. (Err end, e, refl)) (λ h. h) h)
+
+    module _ (t : Matrix) (second : IfSome later (λ files. ModelOf who.Target target files (Ok t))) where
+      of_both : (found : Found (Matrix × Matrix)) → ((files : Files) → Alike s t files found) → IfSome told (λ files. ModelsOf (Some source) (Some target) files found)
+      of_both found h = both_told told (λ files x y. (Ok s, x, (Ok t, y, h files))) first (subst (λ (o : Option Files). IfSome o (λ files. ModelOf who.Target target files (Ok t))) same second)
+
+      pub both_alike : s.resolution ≡ t.resolution → IfSome told (λ files. ModelsOf (Some source) (Some target) files (Ok (s, t)))
+      both_alike e = of_both (Ok (s, t)) (λ files. alike s t files e)
+
+      pub both_unlike : (r q : ℕ) → r ≡ s.resolution → q ≡ t.resolution → r ≢ q → IfSome told (λ files. ModelsOf (Some source) (Some target) files (Err (is.Model, resolutions_line r q)))
+      both_unlike r q r_is q_is differ =
+          subst (λ (end : Status × List ℕ). IfSome told (λ files. ModelsOf (Some source) (Some target) files (Err end))) (λ i. (is.Model, resolutions_line (sym r_is i) (sym q_is i)))
+          (of_both (Err (is.Model, resolutions_line s.resolution t.resolution)) (λ files. unlike s t files (λ e. differ (r_is ∙ (e ∙ sym q_is)))))
+
+-- ---- verdicts
 
 -- the reply of a verdict is that of its report
 abbrev pub verdict_reply : Files → Verdict → Reply
@@ -181,124 +248,3 @@ verdict_told files (verdict.Refused broken) reply told = told
 pub tells_verdict : (files : Files) (v : Verdict) (reply : Reply) → reply ≡ verdict_reply files v → TellsVerdict v files reply
 tells_verdict files (verdict.Accepted energy steps) reply e = e
 tells_verdict files (verdict.Refused broken) reply e = e
-
-module _ (limit : ℕ) (profile : Profile) (files : Files) (source target : Matrix) where
-  of_commands : (commands : List Command) (told : Report) → OnCommands profile source target commands told → OfRun profile files source target commands (reply_of files told)
-  of_commands commands told h = (h.0, h.1, tells_verdict files h.0 (reply_of files told) (ap (reply_of files) h.2))
-
-  of_decoding : (decoding : Result (List Command) NoTrace) (told : Report) → OnDecoding profile source target decoding told → OfDecoding files decoding (OfRun profile files source target) (reply_of files told)
-  of_decoding (Ok commands) told h = of_commands commands told h
-  of_decoding (Err (BadAt offset)) told h = ap (reply_of files) h
-  of_decoding (Err (CutAt offset)) told h = ap (reply_of files) h
-
-  of_trace : (bytes : List ℕ) (told : Report) → OnTrace limit profile source target bytes told → OfTrace limit files bytes (OfRun profile files source target) (reply_of files told)
-  of_trace bytes told h = by (nat_lt limit (length bytes)) h
-    where
-      by : (t : Bool) → MatchBool t (told ≡ report.TraceLong limit) (OnBytes profile source target bytes told)
-          → MatchBool t (reply_of files told ≡ reply_of files (report.TraceLong limit)) ((decoding : Result (List Command) NoTrace) × Decoding bytes decoding × OfDecoding files decoding (OfRun profile files source target) (reply_of files told))
-      by true h = ap (reply_of files) h
-      by false h = (h.0, h.1, of_decoding h.0 told h.2)
-
-  pub trace_given : (name : List ℕ) (told : Report) → OnFile limit profile source target name files told → WithFile files name (λ bytes. OfTrace limit files bytes (OfRun profile files source target)) (reply_of files told)
-  trace_given name told h = by (content files name) h
-    where
-      by : (o : Option (List ℕ)) → IsSomeAnd o (λ bytes. OnTrace limit profile source target bytes told)
-          → MatchOption o (reply_of files told ≡ no_such_file files) (λ bytes. OfTrace limit files bytes (OfRun profile files source target) (reply_of files told))
-      by None h = absurd h
-      by (Some bytes) h = of_trace bytes told h
-
-  pub trace_lacks : (name : List ℕ) → Lacks name files → WithFile files name (λ bytes. OfTrace limit files bytes (OfRun profile files source target)) (no_such_file files)
-  trace_lacks name h = subst (λ (o : Option (List ℕ)). MatchOption o (no_such_file files ≡ no_such_file files) (λ bytes. OfTrace limit files bytes (OfRun profile files source target) (no_such_file files))) (sym h) refl
-
--- ---- where a call ends
-
--- an early stop, seen by another call
-pub stops_as : {A : Type 0} (B : Type 0) (told : Option Files) (rose wider : Type 0) (P : Files → A → Type 0) (Q : Files → B → Type 0) (R S : Files → Report → Type 0) (M N : Files → Type 0) (s : Stop) → Reads told rose P R M (Err s) → (rose → wider)
-    → IfSome told (λ files. ((r : Report) → R files r → S files r) × (M files → N files)) → Reads told wider Q S N (Err s)
-stops_as B told rose wider P Q R S M N (stop.Told r) reads w f = elim told as (λ o. IfSome o (λ files. R files r) → IfSome o (λ files. ((r : Report) → R files r → S files r) × (M files → N files)) → IfSome o (λ files. S files r)) [
-  | None ↦ λ a b. tt
-  | Some files ↦ λ a b. b.0 r a
-] reads f
-stops_as B told rose wider P Q R S M N stop.Depot (inl h) w f = inl (w h)
-stops_as B told rose wider P Q R S M N stop.Depot (inr h) w f = inr (elim told as (λ o. IsSomeAnd o M → IfSome o (λ files. ((r : Report) → R files r → S files r) × (M files → N files)) → IsSomeAnd o N) [
-  | None ↦ λ a b. a
-  | Some files ↦ λ a b. b.1 a
-] h f)
-stops_as B told rose wider P Q R S M N stop.Memory reads w f = tt
-
--- the same, told as an answer
-pub stops : {A : Type 0} (B : Type 0) (Q : Files → B → Type 0) (answers : Answers) (told : Option Files) (rose wider : Type 0) (P : Files → A → Type 0) (R : Files → Report → Type 0) (M : Files → Type 0) (s : Stop) → Reads told rose P R M (Err s) → (rose → wider)
-    → IfSome told (λ files. ((r : Report) → R files r → answers files (reply_of files r)) × (M files → answers files (no_such_file files))) → Reads told wider Q (λ files r. answers files (reply_of files r)) (λ files. answers files (no_such_file files)) (Err s)
-stops B Q answers told rose wider P R M s = stops_as B told rose wider P Q R (λ files r. answers files (reply_of files r)) M (λ files. answers files (no_such_file files)) s
-
-pub both_told : (P Q : Files → Type 0) (told : Option Files) → IfSome told P → IfSome told Q → IfSome told (λ files. P files × Q files)
-both_told P Q None a b = tt
-both_told P Q (Some files) a b = (a, b)
-
--- ---- what is read of a source and a target
-
-module _ (told : Option Files) (source target : Option (List ℕ)) where
-  abbrev AreOf : Files → Matrix × Matrix → Type 0
-  AreOf files models = AreModels source target files models.0 models.1
-
-  abbrev pub ReadsModels : Type 0 → Result (Matrix × Matrix) Stop → Type 0
-  ReadsModels rose result = Reads told rose AreOf (RefusesModels source target) (LacksModels source target) result
-
-  pub source_stops : (rose : Type 0) (s : Stop) → Reads {A = Option Matrix} told rose (HasSide source) (RefusesSide who.Source source) (LacksSide source) (Err s) → ReadsModels rose (Err s)
-  source_stops rose s reads = stops_as (Matrix × Matrix) told rose rose (HasSide source) AreOf (RefusesSide who.Source source) (RefusesModels source target) (LacksSide source) (LacksModels source target) s reads (λ h. h) (if_some told (λ files _. ((λ r h. by_source h), (λ h. lacks_source h))))
-
-  module _ (a : Option Matrix) (first : IfSome told (λ files. HasSide source files a)) where
-    pub target_stops : (later : Option Files) (before between now : ℕ) (s : Stop) → later ≡ told → before ≤ between
-        → Reads {A = Option Matrix} later (Rose between now) (HasSide target) (RefusesSide who.Target target) (LacksSide target) (Err s) → ReadsModels (Rose before now) (Err s)
-    target_stops later before between now s same l reads =
-        stops_as (Matrix × Matrix) told (Rose between now) (Rose before now) (HasSide target) AreOf (RefusesSide who.Target target) (RefusesModels source target) (LacksSide target) (LacksModels source target) s
-        (subst (λ (o : Option Files). Reads {A = Option Matrix} o (Rose between now) (HasSide target) (RefusesSide who.Target target) (LacksSide target) (Err s)) same reads)
-        (rose_since before between now l)
-        (weaker told (λ files is. ((λ r h. by_target a is h), (λ h. lacks_target a is h))) first)
-
-    module _ (b : Option Matrix) (second : IfSome told (λ files. HasSide target files b)) where
-      both_stop : (rose : Type 0) (s : Stop) → ((r : Report) → s ≡ stop.Told r → AreUnlike a b r) → (s ≡ stop.Depot → ⊥) → ReadsModels rose (Err s)
-      both_stop rose (stop.Told r) unlike depot = weaker told (λ files is. by_both a b is.0 is.1 (unlike r refl)) (both_told _ _ told first second)
-      both_stop rose stop.Depot unlike depot = absurd (depot refl)
-      both_stop rose stop.Memory unlike depot = tt
-
-      both_read : (s t : Matrix) → AreBoth a b s t → IfSome told (λ files. AreModels source target files s t)
-      both_read s t are = weaker told (λ files is. models_of files source target a b s t is.0 is.1 are) (both_told _ _ told first second)
-
-      -- what both models come to
-      pub both_ends : (rose : Type 0) (r : Result (Matrix × Matrix) Stop) → IfOk r (λ models. AreBoth a b models.0 models.1) → ((report : Report) → r ≡ Err (stop.Told report) → AreUnlike a b report) → (r ≡ Err stop.Depot → ⊥) → ReadsModels rose r
-      both_ends rose (Ok models) are unlike depot = both_read models.0 models.1 are
-      both_ends rose (Err s) are unlike depot = both_stop rose s (λ report e. unlike report (ap (λ (x : Stop). Err x) e)) (λ e. depot (ap (λ (x : Stop). Err x) e))
-
--- ---- `check`
-
--- what is told of a legal model
-abbrev pub TellsLegal : Files → Matrix → Reply → Type 0
-TellsLegal files m = IsReply is.Done (legal_line m.resolution (full_count m)) files
-
-pub check_stops : (told : Option Files) (name : List ℕ) (rose : Type 0) (s : Stop)
-    → Reads {A = Matrix} told rose (λ files m. IsModelOf files name m) (RefusesFile who.Model name) (Lacks name) (Err s) → EndsUnstored (AnswerOf (check name)) told rose (Err s)
-check_stops told name rose s reads =
-    stops Report (λ files r. AnswerOf (check name) files (reply_of files r)) (AnswerOf (check name)) told rose rose (λ files m. IsModelOf files name m) (RefusesFile who.Model name) (Lacks name) s
-    reads (λ h. h) (if_some told (λ files _. ((λ r h. model_refused who.Model files name (TellsLegal files) r h), (λ h. model_lacks who.Model files name (TellsLegal files) h))))
-
--- ---- `run`
-
-module _ (profile : Profile) (told : Option Files) (source target : Option (List ℕ)) (trace : List ℕ) where
-  -- the models stop the call
-  pub run_stops : (rose : Type 0) (s : Stop) → ReadsModels told source target rose (Err s) → EndsUnstored (AnswerOfRun profile source target trace) told rose (Err s)
-  run_stops rose s reads =
-      stops Report (λ files r. AnswerOfRun profile source target trace files (reply_of files r)) (AnswerOfRun profile source target trace) told rose rose (λ files (models : Matrix × Matrix). AreModels source target files models.0 models.1) (RefusesModels source target) (LacksModels source target) s
-      reads (λ h. h) (if_some told (λ files _. ((λ r h. models_refused files source target _ r h), (λ h. models_lack files source target _ h))))
-
-  -- the trace
-  pub run_ends : HasName source target → (later : Option Files) (before between now : ℕ) (s t : Matrix) (r : Result Report Stop) → IfSome told (λ files. AreModels source target files s t) → later ≡ told → before ≤ between
-      → Reads later (Rose between now) (OnFile run_limit profile s t trace) tells_nothing (Lacks trace) r → EndsUnstored (AnswerOfRun profile source target trace) told (Rose before now) r
-  run_ends named later before between now s t (Ok r) found same l reads =
-      let here = subst (λ (o : Option Files). IfSome o (λ files. OnFile run_limit profile s t trace files r)) same reads in
-      weaker told (λ files is. models_given files source target _ named s t _ is.0 (trace_given run_limit profile files s t trace r is.1)) (both_told _ _ told found here)
-  run_ends named later before between now s t (Err x) found same l reads =
-      stops Report (λ files r. AnswerOfRun profile source target trace files (reply_of files r)) (AnswerOfRun profile source target trace) told (Rose between now) (Rose before now) (OnFile run_limit profile s t trace) tells_nothing (Lacks trace) x
-      (subst (λ (o : Option Files). Reads o (Rose between now) (OnFile run_limit profile s t trace) tells_nothing (Lacks trace) (Err x)) same reads)
-      (rose_since before between now l)
-      (weaker told (λ files is. ((λ r h. absurd h), (λ h. models_given files source target _ named s t _ is (trace_lacks run_limit profile files s t trace h)))) found)

@@ -17,8 +17,13 @@ use Rattle.trace_codec.specs.declared.decoder.Fed.TheVariants.{Got, All, Bad}
 use Rattle.trace_codec.specs.declared.fault.TraceFault.TheVariants.{Refused}
 use Rattle.trace_codec.specs.declared.fault.TraceRefusal.{TraceRefusal}
 use Rattle.trace_codec.specs.declared.fault.TraceRefusal.TheVariants as refusal
+use Rattle.vox_depot.specs.Files.{Files}
+use Rattle.nanobot_rows.specs.declared.report.Report.{Report}
 use Rattle.nanobot_rows.specs.declared.report.Report.TheVariants.{TraceBad, TraceCut}
-use Rattle.nanobot_rows.specs.Reading.{AreBad, HasRun, OnBytes, RunState, RunStands}
+use Rattle.nanobot_rows.specs.declared.status.Status.TheVariants as is
+use Rattle.nanobot_rows.specs.Lines.{trace_line}
+use Rattle.nanobot_rows.specs.Reading.{AnswerOfBytes, AreBad, HasRun, RunState, RunStands, reply_of}
+use Rattle.nanobot_rows.proofs.Replies.{tells_verdict, verdict_reply}
 use Rattle.nanobot_rows.specs.Report.{of_verdict}
 
 -- ---- pieces
@@ -88,19 +93,23 @@ WholeLaw = (bytes : List ℕ) (commands : List Command) (decoder : DecoderState)
 abbrev pub CutLaw : Type 0
 CutLaw = (bytes : List ℕ) (commands : List Command) (decoder : DecoderState) (refusal : TraceRefusal) → HasTaken bytes commands decoder → EndsTrace {A = Unit {0}} decoder (Err refusal) → Decodes bytes (Err (Refused refusal))
 
-module _ (source target : Matrix) (profile : Profile) (bytes : List ℕ) (s : RunState) (run : HasRun source profile bytes s) where
-  pub ends_bad : (offset : ℕ) → EndsTrace {A = Unit {0}} s.decoder (Err (refusal.Bad offset)) → OnBytes profile source target bytes (TraceBad offset)
+module _ (source target : Matrix) (profile : Profile) (bytes : List ℕ) (s : RunState) (run : HasRun source profile bytes s) (files : Files) where
+  abbrev IsTold : Report → Type 0
+  IsTold report = AnswerOfBytes profile source target bytes files (reply_of files report)
+
+  pub ends_bad : (offset : ℕ) → EndsTrace {A = Unit {0}} s.decoder (Err (refusal.Bad offset)) → IsTold (TraceBad offset)
   ends_bad offset ends =
       let bad = subst (λ t. MatchBool t (AreBad bytes s.decoder.offset) (RunStands source profile bytes s)) ends.0 run in
-      (Err (BadAt offset), subst (λ (n : ℕ). Decoding bytes (Err (BadAt n))) (sym ends.1) (subst (λ (b : List ℕ). Decoding b (Err (BadAt s.decoder.offset))) (append-nil bytes) (bad [])), refl)
+      let decoding : Decoding bytes (Err (BadAt offset)) = subst (λ (n : ℕ). Decoding bytes (Err (BadAt n))) (sym ends.1) (subst (λ (b : List ℕ). Decoding b (Err (BadAt s.decoder.offset))) (append-nil bytes) (bad [])) in
+      (Err (is.Trace, trace_line (BadAt offset)), (Err (BadAt offset), decoding, refl), refl)
 
-  pub ends_cut : (law : CutLaw) (offset : ℕ) → EndsTrace {A = Unit {0}} s.decoder (Err (refusal.Cut offset)) → OnBytes profile source target bytes (TraceCut offset)
+  pub ends_cut : (law : CutLaw) (offset : ℕ) → EndsTrace {A = Unit {0}} s.decoder (Err (refusal.Cut offset)) → IsTold (TraceCut offset)
   ends_cut law offset ends =
       let st = stands_of source profile bytes s ends.0 run in
-      (Err (CutAt offset), law bytes st.commands s.decoder (refusal.Cut offset) st.taken ends, refl)
+      (Err (is.Trace, trace_line (CutAt offset)), (Err (CutAt offset), law bytes st.commands s.decoder (refusal.Cut offset) st.taken ends, refl), refl)
 
   pub ends_run : (law : WholeLaw) (verdicts : (commands : List Command) (p : Progress) (v : Verdict) → Comes source profile commands p → Finishes target p v → VerdictOf source target commands profile v)
-      (v : Verdict) → EndsTrace {A = Unit {0}} s.decoder (Ok tt) → Finishes target s.run.progress v → OnBytes profile source target bytes (of_verdict v)
+      (v : Verdict) → EndsTrace {A = Unit {0}} s.decoder (Ok tt) → Finishes target s.run.progress v → IsTold (of_verdict v)
   ends_run law verdicts v ends f =
       let st = stands_of source profile bytes s ends.0 run in
-      (Ok st.commands, law bytes st.commands s.decoder st.taken ends, (v, verdicts st.commands s.run.progress v st.progress_is f, refl))
+      (Ok st.commands, (Ok st.commands, law bytes st.commands s.decoder st.taken ends, refl), (v, verdicts st.commands s.run.progress v st.progress_is f, tells_verdict files v (verdict_reply files v) refl))

@@ -1,16 +1,21 @@
 -- A run of a trace that is fetched piece by piece.
-use Rattle.std.proofs.Common.{◌≡◌, ℕ, ◌+◌, ◌<◌, ◌≤◌, List, [], ◌++◌, length, take, drop, refl, sym, ap, ◌∙◌, subst, arith, length-take, length-drop, true, false, nat_lt}
-use Rattle.std.specs.Prelude.{Option, Some, IfSome, MatchBool}
-use Rattle.std.proofs.lemmas.Bool.Decides.{nat_tests}
+use Rattle.std.proofs.Common.{◌≡◌, ℕ, ◌+◌, ◌<◌, ◌≤◌, List, [], ◌++◌, length, take, drop, refl, sym, ap, ◌∙◌, subst, arith, length-take, length-drop}
+use Rattle.std.specs.Prelude.{Option, Some, Ok, Err, IfSome}
 use Rattle.std.proofs.lemmas.List.{take_all}
 use Rattle.std.proofs.Math.Seq.{take-add}
 use Rattle.nano_spec.specs.declared.system.Profile.{Profile}
 use Rattle.nano_spec.specs.Matrix.{Matrix}
 use Rattle.vox_depot.specs.Files.{Files, IfTold, IsPiece, content}
-use Rattle.vox_depot.proofs.Loading.{from_told, to_told}
+use Rattle.vox_depot.proofs.Loading.{from_told}
 use Rattle.nanobot_rows.specs.declared.report.Report.{Report}
 use Rattle.nanobot_rows.specs.declared.report.Report.TheVariants.{TraceLong}
-use Rattle.nanobot_rows.specs.Reading.{HasRun, OnBytes, OnFile, RunState}
+use Rattle.nanobot_rows.specs.declared.status.Status.{Status}
+use Rattle.nanobot_rows.specs.declared.status.Status.TheVariants as is
+use Rattle.nanobot_rows.specs.Answer.{run_limit}
+use Rattle.nanobot_rows.specs.Lines.{trace_long_line}
+use Rattle.nanobot_rows.specs.Reading.{AnswerOfBytes, AnswerOfTrace, HasRun, RunState, reply_of}
+use Rattle.nanobot_rows.proofs.Loads.{exceeds, fits}
+use Rattle.nanobot_rows.proofs.Told.{with_file}
 
 -- where the file is told, its first bytes were taken
 pub record IsUnderway (told : Option Files) (name : List ℕ) (source : Matrix) (profile : Profile) (at : ℕ) (run : RunState) : Type 0 where
@@ -29,7 +34,7 @@ piece_has file buf at n fits p h =
     omega (arith, e, a, b, d)
 
 module _ (told : Option Files) (name : List ℕ) (source : Matrix) (profile : Profile) (at n : ℕ) (buf : List ℕ) (run : RunState)
-    (so_far : IsUnderway told name source profile at run) (piece : IfTold told name (λ file. IsPiece file at n buf)) (fits : n ≤ length buf) where
+    (so_far : IsUnderway told name source profile at run) (piece : IfTold told name (λ file. IsPiece file at n buf)) (room_is : n ≤ length buf) where
   -- the piece was fed
   pub underway_next : (next : RunState) → ((bytes : List ℕ) → HasRun source profile bytes run → HasRun source profile (bytes ++ take n buf) next) → IsUnderway told name source profile (at + n) next
   underway_next next fed = record {
@@ -37,33 +42,25 @@ module _ (told : Option Files) (name : List ℕ) (source : Matrix) (profile : Pr
         let p : IsPiece file at n buf = from_told told name _ piece files file t c in
         let old = so_far.front files file t c in
         let joined : take at file ++ take n buf ≡ take (at + n) file = ap (λ b. take at file ++ b) p.same ∙ sym (take-add at n file) in
-        (piece_has file buf at n fits p old.0, subst (λ (b : List ℕ). HasRun source profile b next) joined (fed (take at file) old.1));
+        (piece_has file buf at n room_is p old.0, subst (λ (b : List ℕ). HasRun source profile b next) joined (fed (take at file) old.1));
   }
 
   -- no byte came: the trace is whole
-  pub underway_end : (target : Matrix) (report : Report) → 0 < length buf → n ≡ 0 → at ≤ 1073741824 → ((bytes : List ℕ) → HasRun source profile bytes run → OnBytes profile source target bytes report)
-      → IfSome told (λ files. OnFile 1073741824 profile source target name files report)
+  pub underway_end : (target : Matrix) (report : Report) → 0 < length buf → n ≡ 0 → at ≤ 1073741824 → ((bytes : List ℕ) → HasRun source profile bytes run → (files : Files) → AnswerOfBytes profile source target bytes files (reply_of files report))
+      → IfSome told (λ files. AnswerOfTrace profile source target name files (reply_of files report))
   underway_end target report room none within done =
-      to_told told name _ _ piece (λ files file t c.
-      let p : IsPiece file at n buf = from_told told name _ piece files file t c in
+      with_file told name _ piece (λ files file t c p.
       let old = so_far.front files file t c in
-      let all : take at file ≡ file = take_all at file (p.ends none room) in
-      let short : nat_lt 1073741824 (length file) ≡ false = not_longer 1073741824 (length file) (let e = p.ends none room in omega arith) in
-      subst (λ b. MatchBool b (report ≡ TraceLong 1073741824) (OnBytes profile source target file report)) (sym short)
-      (subst (λ (b : List ℕ). OnBytes profile source target b report) all (done (take at file) old.1)))
-    where
-      not_longer : (limit size : ℕ) → size ≤ limit → nat_lt limit size ≡ false
-      not_longer limit size h = grind (arith, nat_tests)
+      let end = p.ends none room in
+      let all : take at file ≡ file = take_all at file end in
+      let answer = subst (λ (b : List ℕ). AnswerOfBytes profile source target b files (reply_of files report)) all (done (take at file) old.1 files) in
+      (answer.0, (Ok file, fits files name file run_limit is.Trace (trace_long_line run_limit) c (omega (arith, end, within)), answer.1), answer.2))
 
   -- a byte past the limit came
-  pub underway_long : (target : Matrix) → 1073741824 < at + n → IfSome told (λ files. OnFile 1073741824 profile source target name files (TraceLong 1073741824))
+  pub underway_long : (target : Matrix) → 1073741824 < at + n → IfSome told (λ files. AnswerOfTrace profile source target name files (reply_of files (TraceLong 1073741824)))
   underway_long target past =
-      to_told told name _ _ piece (λ files file t c.
-      let p : IsPiece file at n buf = from_told told name _ piece files file t c in
+      with_file told name _ piece (λ files file t c p.
       let old = so_far.front files file t c in
-      let size = piece_has file buf at n fits p old.0 in
-      let long : nat_lt 1073741824 (length file) ≡ true = longer 1073741824 (length file) (omega arith) in
-      subst (λ b. MatchBool b (TraceLong 1073741824 ≡ TraceLong 1073741824) (OnBytes profile source target file (TraceLong 1073741824))) (sym long) refl)
-    where
-      longer : (limit size : ℕ) → limit < size → nat_lt limit size ≡ true
-      longer limit size h = grind (arith, nat_tests)
+      let size = piece_has file buf at n room_is p old.0 in
+      let end : Status × List ℕ = (is.Trace, trace_long_line run_limit) in
+      (Err end, (Err end, exceeds files name file run_limit is.Trace (trace_long_line run_limit) c (omega (arith, size, past)), refl), refl))

@@ -1,5 +1,6 @@
 -- What is answered to the words over known files: a status, a line and the files afterwards (docs/FORMATS.md, "Printed lines").
-use Rattle.std.specs.Prelude.{◌≡◌, ◌⊎◌, ℕ, ◌+◌, ℤ, nat_lt, ◌==◌, List, [], length, Option, Some, None, Result, MatchOption, MatchBool, MatchResult}
+use Rattle.std.specs.Prelude.{◌≡◌, ◌⊎◌, ℕ, ◌+◌, ℤ, nat_lt, ◌==◌, List, [], length, Option, Some, None, ok_or, Result, Ok, Err, MatchOption, MatchBool, MatchResult, ⊤}
+use Rattle.std.specs.Result.{result_map_both}
 use Rattle.std.specs.FinMap as finite
 use Rattle.vox_geom.specs.declared.coordinate.Coord.{Coord}
 use Rattle.nano_spec.specs.declared.commands.Command.{Command}
@@ -10,7 +11,7 @@ use Rattle.nano_spec.specs.Cutting.{Decoding, NoTrace}
 use Rattle.nano_spec.specs.Forge.{forged}
 use Rattle.nano_spec.specs.Legal.{Legality, NotLegal}
 use Rattle.nano_spec.specs.Matrix.{Matrix, empty, full_count}
-use Rattle.nano_spec.specs.Model.{NoModel, model, written}
+use Rattle.nano_spec.specs.Model.{model, written}
 use Rattle.nano_spec.specs.Printing.{print}
 use Rattle.nano_spec.specs.Profile.{full_profile, light_profile}
 use Rattle.nano_spec.specs.Reading.{FaultyLine, read}
@@ -30,7 +31,8 @@ use Rattle.nanobot_rows.specs.declared.report.Who.TheVariants as who
 use Rattle.nanobot_rows.specs.declared.status.Status.{Status}
 use Rattle.nanobot_rows.specs.declared.status.Status.TheVariants as is
 use Rattle.plan_choice.specs.Planners.{IsCrewPlan, IsGroupPlan, IsLayerPlan, IsLowPlan, IsSwarmPlan, IsVoidPlan, PlanFacts}
-use Rattle.nanobot_rows.specs.Lines.{accepted_line, exercised_head, exercised_line, forged_line, group_long_line, legal_line, no_model_line, not_legal_line, planned_line, resolutions_line, stored_line, text_line, text_long_line, trace_line, trace_long_line, unsupported_line, words_line}
+use Rattle.nanobot_rows.specs.Report.{faulty_text_line}
+use Rattle.nanobot_rows.specs.Lines.{accepted_line, exercised_head, exercised_line, forged_line, group_long_line, legal_line, no_model_line, not_legal_line, planned_line, resolutions_line, stored_line, text_long_line, trace_line, trace_long_line, unsupported_line, words_line}
 use Rattle.nanobot_words.specs.declared.planner.Planner.{Planner}
 use Rattle.nanobot_words.specs.declared.planner.Planner.TheVariants.{Layer, Group, Crew, Void, Low, Swarm}
 use Rattle.nanobot_words.specs.declared.row.Round.{Round}
@@ -48,7 +50,7 @@ abbrev pub Answers : Type 1
 Answers = Files → Reply → Type 0
 
 -- this status and this line, and the files as they were
-abbrev pub IsReply : Status → List ℕ → Files → Reply → Type 0
+abbrev pub IsReply : Status → List ℕ → Answers
 IsReply status line files reply = reply ≡ record { status = status; line = line; after = files }
 
 -- the files, of which that of the name now has these bytes
@@ -56,74 +58,94 @@ abbrev pub with_file : Files → List ℕ → List ℕ → Files
 with_file files name bytes = finite.insert files name bytes
 
 -- it is done, with this line, and the file of the name now has these bytes
-abbrev pub Stores : List ℕ → List ℕ → List ℕ → Files → Reply → Type 0
+abbrev pub Stores : List ℕ → List ℕ → List ℕ → Answers
 Stores line name bytes files reply = reply ≡ record { status = is.Done; line = line; after = with_file files name bytes }
 
--- p of the bytes of a file, and no line where it is not there
-abbrev pub WithFile : Files → List ℕ → (List ℕ → Reply → Type 0) → Reply → Type 0
-WithFile files name p reply = MatchOption (content files name) (IsReply is.Depot [] files reply) (λ bytes. p bytes reply)
+-- ---- what files say
+
+-- what is found: a value, or the status and the line that end the call
+abbrev pub Found : Type 0 → Type 0
+Found A = Result A (Status × List ℕ)
+
+-- what may be found in files
+abbrev pub Finding : Type 0 → Type 1
+Finding A = Files → Found A → Type 0
+
+-- first X is found, and then what p says of its value; where X ends the call, its end is found
+abbrev pub With : {A B : Type 0} → Finding A → (A → Finding B) → Finding B
+With {A} X p files found = (first : Found A) × X files first × MatchResult first (λ a. p a files found) (λ end. found ≡ Err end)
+
+-- first X is found, and then what p says of its value is answered; where X ends the call, its end is answered
+abbrev pub Upon : {A : Type 0} → Finding A → (A → Answers) → Answers
+Upon {A} X p files reply = (first : Found A) × X files first × MatchResult first (λ a. p a files reply) (λ end. IsReply end.0 end.1 files reply)
+
+-- the value, or with this status the line of why there is none
+abbrev pub OfResult : {A W : Type 0} → Status → (W → List ℕ) → Result A W → Finding A
+OfResult status line said files found = found ≡ result_map_both (λ a. a) (λ why. (status, line why)) said
+
+-- the bytes of a file; where it is not there no line is told
+abbrev pub FileOf : List ℕ → Finding (List ℕ)
+FileOf name files found = found ≡ ok_or (content files name) (is.Depot, [])
+
+-- the bytes of a file that has at most so many, or else this status and this line
+abbrev pub FileUpTo : ℕ → Status → List ℕ → List ℕ → Finding (List ℕ)
+FileUpTo limit status line name = With (FileOf name) (λ bytes _ found. MatchBool (nat_lt limit (length bytes)) (found ≡ Err (status, line)) (found ≡ Ok bytes))
 
 -- ---- models
 
--- p of the model that the bytes say, where they do and it is legal, and else why not
-abbrev pub OfBytes : Who → Files → Result Matrix NoModel → (Matrix → Reply → Type 0) → Reply → Type 0
-OfBytes who files said p reply = MatchResult said
-    (λ m. (legality : Option NotLegal) × Legality m legality
-    × MatchOption legality (p m reply) (λ why. IsReply is.Model (not_legal_line who why) files reply))
-    (λ why. IsReply is.Model (no_model_line who why) files reply)
+-- the model, where it is legal
+abbrev pub LegalOf : Who → Matrix → Finding Matrix
+LegalOf who m files found = (why : Option NotLegal) × Legality m why × MatchOption why (found ≡ Ok m) (λ w. found ≡ Err (is.Model, not_legal_line who w))
 
--- p of the legal model of a file
-abbrev pub WithModel : Who → Files → List ℕ → (Matrix → Reply → Type 0) → Reply → Type 0
-WithModel who files name p = WithFile files name (λ bytes. OfBytes who files (model bytes) p)
+-- the legal model of a file
+abbrev pub ModelOf : Who → List ℕ → Finding Matrix
+ModelOf who name = With (FileOf name) (λ bytes. With (OfResult is.Model (no_model_line who) (model bytes)) (LegalOf who))
 
--- the same of a source or a target: by `None` it has no file of its own
-abbrev pub WithSide : Who → Files → Option (List ℕ) → (Option Matrix → Reply → Type 0) → Reply → Type 0
-WithSide who files None p = p None
-WithSide who files (Some name) p = WithModel who files name (λ m. p (Some m))
+-- the models of a source and a target, of one resolution: by `None` it has no file, and is the empty model of the other's
+abbrev pub ModelsOf : Option (List ℕ) → Option (List ℕ) → Finding (Matrix × Matrix)
+ModelsOf None None files found = ⊥
+ModelsOf (Some source) None files found = With (ModelOf who.Source source) (λ s _ both. both ≡ Ok (s, empty s.resolution)) files found
+ModelsOf None (Some target) files found = With (ModelOf who.Target target) (λ t _ both. both ≡ Ok (empty t.resolution, t)) files found
+ModelsOf (Some source) (Some target) files found = With (ModelOf who.Source source) (λ s. With (ModelOf who.Target target) (λ t _ both.
+    MatchBool (s.resolution == t.resolution) (both ≡ Ok (s, t)) (both ≡ Err (is.Model, resolutions_line s.resolution t.resolution)))) files found
 
--- p of both models, where they are of one resolution
-abbrev pub WithBoth : Files → Option Matrix → Option Matrix → (Matrix → Matrix → Reply → Type 0) → Reply → Type 0
-WithBoth files None None p reply = ⊥
-WithBoth files (Some s) None p reply = p s (empty s.resolution) reply
-WithBoth files None (Some t) p reply = p (empty t.resolution) t reply
-WithBoth files (Some s) (Some t) p reply = MatchBool (s.resolution == t.resolution) (p s t reply) (IsReply is.Model (resolutions_line s.resolution t.resolution) files reply)
+-- ---- commands
 
--- p of the models of a source and a target: what has no file is the empty model of the other's resolution
-abbrev pub WithModels : Files → Option (List ℕ) → Option (List ℕ) → (Matrix → Matrix → Reply → Type 0) → Reply → Type 0
-WithModels files source target p = WithSide who.Source files source (λ s. WithSide who.Target files target (λ t. WithBoth files s t p))
+-- the commands of the bytes of a trace
+abbrev pub DecodingOf : List ℕ → Finding (List Command)
+DecodingOf bytes files found = (decoding : Result (List Command) NoTrace) × Decoding bytes decoding × OfResult is.Trace trace_line decoding files found
 
--- ---- traces
-
--- p of the commands of the bytes, where they are not too many and are a trace
-abbrev pub OfTrace : ℕ → Files → List ℕ → (List Command → Reply → Type 0) → Reply → Type 0
-OfTrace limit files bytes p reply =
-    MatchBool (nat_lt limit (length bytes)) (IsReply is.Trace (trace_long_line limit) files reply)
-    ((decoding : Result (List Command) NoTrace) × Decoding bytes decoding
-    × MatchResult decoding (λ commands. p commands reply) (λ why. IsReply is.Trace (trace_line why) files reply))
-
--- ---- texts
+-- the commands of the trace of a file, where it is not too long
+abbrev pub TraceOf : ℕ → List ℕ → Finding (List Command)
+TraceOf limit name = With (FileUpTo limit is.Trace (trace_long_line limit) name) DecodingOf
 
 -- the most bytes of a text
 abbrev pub text_limit : ℕ
 text_limit = 1073741824
 
--- p of the commands that the text says, where it is not too long and has no faulty line
-abbrev pub OfText : Files → List ℕ → (List Command → Reply → Type 0) → Reply → Type 0
-OfText files bytes p reply =
-    MatchBool (nat_lt text_limit (length bytes)) (IsReply is.Text (text_long_line text_limit) files reply)
-    (MatchResult (read bytes) (λ commands. p commands reply) (λ faulty. IsReply is.Text (text_line faulty.fault faulty.line) files reply))
+-- the commands that the text of a file says
+abbrev pub TextOf : List ℕ → Finding (List Command)
+TextOf name = With (FileUpTo text_limit is.Text (text_long_line text_limit) name) (λ bytes. OfResult is.Text faulty_text_line (read bytes))
+
+-- the most bytes of a script
+abbrev pub script_limit : ℕ
+script_limit = 65536
+
+-- the lines that the script of a file says over a source of a resolution
+abbrev pub ScriptOf : ℕ → List ℕ → Finding (List DebugLine)
+ScriptOf r name = With (FileUpTo script_limit is.Text (text_long_line script_limit) name) (λ bytes files found.
+    (said : Result (List DebugLine) FaultyLine) × ScriptSays r bytes said × OfResult is.Text faulty_text_line said files found)
 
 -- ---- runs
 
 -- what is told of a verdict
-abbrev pub TellsVerdict : Verdict → Files → Reply → Type 0
+abbrev pub TellsVerdict : Verdict → Answers
 TellsVerdict (verdict.Accepted energy steps) files reply = IsReply is.Done (accepted_line energy steps) files reply
 TellsVerdict (verdict.Refused broken) files reply = IsReply is.Broken (broken_line broken) files reply
 
 -- the verdict of the commands
-abbrev pub OfRun : Profile → Files → Matrix → Matrix → List Command → Reply → Type 0
-OfRun profile files source target commands reply = (verdict : Verdict) × VerdictOf source target commands profile verdict
-    × TellsVerdict verdict files reply
+abbrev pub OfRun : Profile → Matrix → Matrix → List Command → Answers
+OfRun profile source target commands files reply = (verdict : Verdict) × VerdictOf source target commands profile verdict × TellsVerdict verdict files reply
 
 -- ---- plans
 
@@ -140,25 +162,25 @@ facts_of Swarm = IsSwarmPlan
 abbrev pub group_limit : ℕ
 group_limit = 1073741824
 
--- p, where the planner makes a plan: a group plan may be too long, by the runs and rows of both models, and a part of a low plan's target may
--- be unsupported
-abbrev pub WherePlanned : Planner → Files → Matrix → Matrix → (Reply → Type 0) → Reply → Type 0
-WherePlanned Group files source target p reply =
+-- that the planner makes a plan: a group plan may be too long, by the runs and rows of both models, and a part of a low plan's target may be
+-- unsupported
+abbrev pub CanPlan : Planner → Matrix → Matrix → Finding ⊤
+CanPlan Group source target files found =
     MatchBool (nat_lt group_limit (group.most_bytes source target))
-    (IsReply is.Model (group_long_line (runs source + runs target) (rows source + rows target)) files reply) (p reply)
-WherePlanned Low files source target p reply = (at : Option Coord) × FirstUnsupported target at
-    × MatchOption at (p reply) (λ c. IsReply is.Unsupported (unsupported_line c) files reply)
-WherePlanned planner files source target p reply = p reply
+    (found ≡ Err (is.Model, group_long_line (runs source + runs target) (rows source + rows target))) (found ≡ Ok tt)
+CanPlan Low source target files found =
+    (at : Option Coord) × FirstUnsupported target at × MatchOption at (found ≡ Ok tt) (λ c. found ≡ Err (is.Unsupported, unsupported_line c))
+CanPlan planner source target files found = found ≡ Ok tt
 
 -- a plan of which this is so is stored as a trace of the name, and told with its numbers; which one is free
-abbrev pub StoresPlan : PlanFacts → List ℕ → Files → Matrix → Matrix → Reply → Type 0
-StoresPlan Is name files source target reply =
+abbrev pub StoresPlan : PlanFacts → List ℕ → Matrix → Matrix → Answers
+StoresPlan Is name source target files reply =
     (commands : List Command) × (energy : ℤ) × (steps : ℕ) × Is source target commands energy steps
     × Stores (planned_line energy steps (length commands) (length (spellings commands))) name (spellings commands) files reply
 
 -- a plan of the planner is stored so, where it makes one
-abbrev pub OfPlan : Planner → List ℕ → Files → Matrix → Matrix → Reply → Type 0
-OfPlan planner name files source target = WherePlanned planner files source target (StoresPlan (facts_of planner) name files source target)
+abbrev pub OfPlan : Planner → List ℕ → Matrix → Matrix → Answers
+OfPlan planner name source target = Upon (CanPlan planner source target) (λ _. StoresPlan (facts_of planner) name source target)
 
 -- a plan of which this is so makes the target of the empty model at this cost
 abbrev pub Costs : PlanFacts → Matrix → Cost → Type 0
@@ -172,20 +194,9 @@ OfExercise number resolution target files reply =
 
 -- ---- sessions
 
--- the most bytes of a script
-abbrev pub script_limit : ℕ
-script_limit = 65536
-
--- p of the lines of a script over a source of a resolution, where it is not too long and has no faulty line
-abbrev pub OfScript : ℕ → Files → List ℕ → (List DebugLine → Reply → Type 0) → Reply → Type 0
-OfScript r files bytes p reply =
-    MatchBool (nat_lt script_limit (length bytes)) (IsReply is.Text (text_long_line script_limit) files reply)
-    ((said : Result (List DebugLine) FaultyLine) × ScriptSays r bytes said
-    × MatchResult said (λ lines. p lines reply) (λ faulty. IsReply is.Text (text_line faulty.fault faulty.line) files reply))
-
 -- the lines of a session over the commands from the source on
-abbrev pub OfSession : Files → Matrix → List Command → List DebugLine → Reply → Type 0
-OfSession files source commands script reply =
+abbrev pub OfSession : Matrix → List Command → List DebugLine → Answers
+OfSession source commands script files reply =
     (text : List ℕ) × PrintsFrom source full_profile commands script text × IsReply is.Done text files reply
 
 -- ---- the rows
@@ -200,37 +211,29 @@ dis_limit = 50000000
 
 -- the verdict of a trace from a source to a target, by a profile
 abbrev pub AnswerOfRun : Profile → Option (List ℕ) → Option (List ℕ) → List ℕ → Answers
-AnswerOfRun profile source target trace files =
-    WithModels files source target (λ s t.
-    WithFile files trace (λ bytes.
-    OfTrace run_limit files bytes (OfRun profile files s t)))
+AnswerOfRun profile source target trace = Upon (ModelsOf source target) (λ models. Upon (TraceOf run_limit trace) (OfRun profile models.0 models.1))
 
 -- the profile of a round
 abbrev pub profile_of : Round → Profile
 profile_of Full = full_profile
 profile_of Light = light_profile
 
+-- what is answered to a row: what it reads is found in the order of its words
 abbrev pub AnswerOf : Row → Answers
-AnswerOf (check name) files = WithModel who.Model files name (λ m. IsReply is.Done (legal_line m.resolution (full_count m)) files)
-AnswerOf (run round source target trace) files = AnswerOfRun (profile_of round) source target trace files
-AnswerOf (asm text trace) files =
-    WithFile files text (λ bytes.
-    OfText files bytes (λ commands.
-    Stores (stored_line (length commands) (length (spellings commands))) trace (spellings commands) files))
-AnswerOf (dis trace text) files =
-    WithFile files trace (λ bytes.
-    OfTrace dis_limit files bytes (λ commands.
-    Stores (stored_line (length commands) (length (print commands))) text (print commands) files))
-AnswerOf (make number resolution name) files = Stores (forged_line resolution (full_count (forged number resolution))) name
-    (written (forged number resolution)) files
-AnswerOf (plan planner source target trace) files = WithModels files source target (OfPlan planner trace files)
-AnswerOf (exercise number resolution) files = OfExercise number resolution (forged number resolution) files
-AnswerOf (debug source trace script) files =
-    WithModel who.Source files source (λ m.
-    WithFile files trace (λ bytes.
-    OfTrace dis_limit files bytes (λ commands.
-    WithFile files script (λ text.
-    OfScript m.resolution files text (OfSession files m commands)))))
+AnswerOf (check name) = Upon (ModelOf who.Model name) (λ m. IsReply is.Done (legal_line m.resolution (full_count m)))
+AnswerOf (run round source target trace) = AnswerOfRun (profile_of round) source target trace
+AnswerOf (asm text trace) = Upon (TextOf text) (λ commands.
+    Stores (stored_line (length commands) (length (spellings commands))) trace (spellings commands))
+AnswerOf (dis trace text) = Upon (TraceOf dis_limit trace) (λ commands.
+    Stores (stored_line (length commands) (length (print commands))) text (print commands))
+AnswerOf (make number resolution name) = Stores (forged_line resolution (full_count (forged number resolution))) name
+    (written (forged number resolution))
+AnswerOf (plan planner source target trace) = Upon (ModelsOf source target) (λ models. OfPlan planner trace models.0 models.1)
+AnswerOf (exercise number resolution) = OfExercise number resolution (forged number resolution)
+AnswerOf (debug source trace script) =
+    Upon (ModelOf who.Source source) (λ m.
+    Upon (TraceOf dis_limit trace) (λ commands.
+    Upon (ScriptOf m.resolution script) (OfSession m commands)))
 
 -- the words ask for no plans
 abbrev pub AskNoPlan : List (List ℕ) → Type 0

@@ -14,7 +14,7 @@ use Rattle.nanobot_rows.specs.declared.status.Status.{Status}
 use Rattle.nanobot_rows.specs.declared.status.Status.TheVariants as is
 use Rattle.nanobot_rows.specs.declared.stop.Stop.{Stop}
 use Rattle.nanobot_rows.specs.Answer.{Answers, Reply, with_file}
-use Rattle.nanobot_rows.specs.Reading.{Reads, no_such_file, reply_of}
+use Rattle.nanobot_rows.specs.Reading.{Settles}
 use Rattle.nanobot_rows.specs.Report.{report_line, status_of}
 
 -- the status and the bytes of a message: those of a report and its line, or those of the lines of a session
@@ -48,8 +48,7 @@ pub record KeepsPlan (name : List ℕ) (commands : List Command) (energy : ℤ) 
 
 -- what is answered where a file may be stored
 abbrev pub EndsStored : Answers → Option Files → Type 0 → Result Effect Stop → Type 0
-EndsStored answers told rose result = Reads told rose (λ files effect. answers files (reply_by files effect))
-    (λ files report. answers files (reply_of files report)) (λ files. answers files (no_such_file files)) result
+EndsStored answers told rose result = Settles reply_by answers told rose result
 
 -- a file that the effect stores has this name, and is stored where the call is done
 abbrev pub IsFor : Option (List ℕ) → Effect → Type 0

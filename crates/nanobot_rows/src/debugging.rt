@@ -2,25 +2,27 @@
 ghost use Rattle.std.specs.Prelude.{◌≡◌, ◌≤◌, IfOk, None};
 ghost use Rattle.vox_depot.specs.Causes.{Rose};
 ghost use Rattle.nanobot_words.specs.Rows.{debug as debug_row};
-ghost use Rattle.nanobot_rows.specs.Answer.{AnswerOf};
+ghost use Rattle.debug_script.specs.Calls.{lines_are};
+ghost use Rattle.nanobot_rows.specs.Answer.{AnswerOf, ScriptOf};
 ghost use Rattle.nanobot_rows.specs.Effects.{EndsStored, IsFor};
-ghost use Rattle.nanobot_rows.specs.Reading.{IsScriptOf, Lacks, Reads, RefusesScript};
+ghost use Rattle.nanobot_rows.specs.Reading.{FindsAs};
 
 use crate::commands::load_trace;
 use crate::effect::{Effect, Message};
+use crate::limited::load_file;
 use crate::models::load_model;
 use crate::report::{Report, Who};
 use crate::stop::Stop;
 use debug_script::{ScriptLine, print_session, read_script};
 use std::alloc::Global;
 use std::sync::ledger::Ledger;
-use vox_depot::{Depot, load};
+use vox_depot::Depot;
 use vox_geom::Steps;
 
 /// The most bytes of a script.
 const SCRIPT_LIMIT: u64 = 65_536;
 
-/// The lines that the script of a file says. One byte past the limit shows that it is too long, and then no line is read.
+/// The lines that the script of a file says. Of a script that is too long no line is read.
 fn load_script<D: Depot>(
     alloc: Global,
     depot: &mut D,
@@ -28,19 +30,16 @@ fn load_script<D: Depot>(
     resolution: u16,
 ) -> Result<Vec<ScriptLine>, Stop>
     requires { D.may_fetch name.now }
-    ensures reads { Reads (D.files depot.old) (Rose (D.faults depot.old) (D.faults depot.new))
-        (λ files script. IsScriptOf files name.now resolution script.items) (RefusesScript name.now resolution)
-        (Lacks name.now) result }
+    ensures reads { FindsAs (λ script. lines_are script.items) (ScriptOf resolution name.now) (D.files depot.old)
+        (Rose (D.faults depot.old) (D.faults depot.new)) result }
     ensures files { D.files depot.new ≡ D.files depot.old }
     ensures later { D.faults depot.old ≤ D.faults depot.new }
     ensures stores { D.failed_stores depot.new ≡ D.failed_stores depot.old }
 {
-    let bytes = load(alloc, depot, name, SCRIPT_LIMIT + 1)?;
-    if bytes.len() as u64 > SCRIPT_LIMIT {
-        return Err(Stop::Told(Report::TextLong {
-            limit: SCRIPT_LIMIT,
-        }));
-    }
+    let long = Report::TextLong {
+        limit: SCRIPT_LIMIT,
+    };
+    let bytes = load_file(alloc, depot, name, SCRIPT_LIMIT, long)?;
     match read_script(alloc, bytes.as_slice(), resolution) {
         Ok(script) => Ok(script),
         Err(fault) => Err(Stop::of_text(fault)),

@@ -7,6 +7,7 @@ mod debugging;
 mod effect;
 mod exercise;
 mod laws;
+mod limited;
 mod models;
 mod plans;
 mod report;

@@ -1,11 +1,10 @@
 //! Models of files.
-ghost use Rattle.std.specs.Prelude.{◌≡◌, ◌≤◌, ℕ, List, Some, None, Err, IfOk, IfSome};
+ghost use Rattle.std.specs.Prelude.{◌≡◌, ◌≤◌, ℕ, List, Some, None, IfOk};
 ghost use Rattle.nano_spec.specs.Legal.{IsLegal};
-ghost use Rattle.nanobot_rows.specs.declared.report.Report.{Report as ReportOf};
 ghost use Rattle.vox_depot.specs.Causes.{Rose};
 ghost use Rattle.nanobot_words.specs.Parsing.{side_of};
-ghost use Rattle.nanobot_rows.specs.Models.{AreModels, IsModelOf};
-ghost use Rattle.nanobot_rows.specs.Reading.{AreBoth, AreUnlike, HasSide, Lacks, LacksModels, LacksSide, Reads, RefusesFile, RefusesModels, RefusesSide};
+ghost use Rattle.nanobot_rows.specs.Answer.{ModelOf, ModelsOf};
+ghost use Rattle.nanobot_rows.specs.Reading.{Finds};
 
 use crate::report::{Report, Who};
 use crate::stop::Stop;
@@ -26,8 +25,8 @@ pub fn load_model<D: Depot>(
     who: Who,
 ) -> Result<Planes, Stop>
     requires { D.may_fetch name.now }
-    ensures reads { Reads (D.files depot.old) (Rose (D.faults depot.old) (D.faults depot.new))
-        (λ files m. IsModelOf files name.now m) (RefusesFile who name.now) (Lacks name.now) result }
+    ensures reads { Finds (ModelOf who name.now) (D.files depot.old)
+        (Rose (D.faults depot.old) (D.faults depot.new)) result }
     ensures files { D.files depot.new ≡ D.files depot.old }
     ensures later { D.faults depot.old ≤ D.faults depot.new }
     ensures stores { D.failed_stores depot.new ≡ D.failed_stores depot.old }
@@ -44,67 +43,36 @@ pub fn load_model<D: Depot>(
     }
 }
 
-/// The legal model of a source or a target, or none where it has no file.
-fn load_side<D: Depot>(
+/// The legal models of a source and a target that both have a file, of one resolution.
+fn load_both<D: Depot>(
     alloc: Global,
     depot: &mut D,
-    side: Side<'_>,
-    who: Who,
-) -> Result<Option<Planes>, Stop>
-    requires { (name : List ℕ) → side_of side ≡ Some name → D.may_fetch name }
-    ensures reads { Reads (D.files depot.old) (Rose (D.faults depot.old) (D.faults depot.new))
-        (HasSide (side_of side.entry)) (RefusesSide who (side_of side.entry)) (LacksSide (side_of side.entry)) result }
+    source: &str,
+    target: &str,
+) -> Result<(Planes, Planes), Stop>
+    requires source { D.may_fetch source.now }
+    requires target { D.may_fetch target.now }
+    ensures reads { Finds (ModelsOf (Some source.now) (Some target.now)) (D.files depot.old)
+        (Rose (D.faults depot.old) (D.faults depot.new)) result }
     ensures files { D.files depot.new ≡ D.files depot.old }
     ensures later { D.faults depot.old ≤ D.faults depot.new }
     ensures stores { D.failed_stores depot.new ≡ D.failed_stores depot.old }
-    ensures named { IfOk result (λ loaded. loaded ≡ None → side_of side.entry ≡ None) }
-    ensures legal { IfOk result (λ loaded. IfSome loaded IsLegal) }
+    ensures resolutions { IfOk result (λ models. models.0.resolution ≡ models.1.resolution) }
+    ensures source { IfOk result (λ models. IsLegal models.0) }
+    ensures target { IfOk result (λ models. IsLegal models.1) }
 {
-    match side {
-        Side::Empty => Ok(None),
-        Side::Named(name) => Ok(Some(load_model(alloc, depot, name, who)?)),
+    let source = load_model(alloc, depot, source, Who::Source)?;
+    let target = load_model(alloc, depot, target, Who::Target)?;
+    if source.resolution() != target.resolution() {
+        return Err(Stop::Told(Report::Resolutions {
+            source: source.resolution(),
+            target: target.resolution(),
+        }));
     }
+    Ok((source, target))
 }
 
-/// The source and the target: what has no file is the empty model of the other's resolution.
-fn both(
-    alloc: Global,
-    source: Option<Planes>,
-    target: Option<Planes>,
-) -> Result<(Planes, Planes), Stop>
-    requires some { source ≡ None → target ≡ None → ⊥ }
-    requires source { IfSome source IsLegal }
-    requires target { IfSome target IsLegal }
-    ensures models { IfOk result (λ pair. AreBoth source target pair.0 pair.1) }
-    ensures unlike { (report : ReportOf) → result ≡ Err (Stop.Told report) → AreUnlike source target report }
-    ensures depot { result ≡ Err Stop.Depot → ⊥ }
-    ensures resolutions { IfOk result (λ pair. pair.0.resolution ≡ pair.1.resolution) }
-    ensures source { IfOk result (λ pair. IsLegal pair.0) }
-    ensures target { IfOk result (λ pair. IsLegal pair.1) }
-{
-    match (source, target) {
-        (Some(source), Some(target)) => {
-            if source.resolution() != target.resolution() {
-                return Err(Stop::Told(Report::Resolutions {
-                    source: source.resolution(),
-                    target: target.resolution(),
-                }));
-            }
-            Ok((source, target))
-        }
-        (Some(source), None) => {
-            let target = Planes::empty(alloc, source.resolution())?;
-            Ok((source, target))
-        }
-        (None, Some(target)) => {
-            let source = Planes::empty(alloc, target.resolution())?;
-            Ok((source, target))
-        }
-        (None, None) => unreachable!(),
-    }
-}
-
-/// The legal models of a source and a target, of one resolution.
+/// The legal models of a source and a target, of one resolution: what has no file is the empty model of the other's.
 pub fn load_models<D: Depot>(
     alloc: Global,
     depot: &mut D,
@@ -114,10 +82,8 @@ pub fn load_models<D: Depot>(
     requires source { (name : List ℕ) → side_of source ≡ Some name → D.may_fetch name }
     requires target { (name : List ℕ) → side_of target ≡ Some name → D.may_fetch name }
     requires some { side_of source ≡ None → side_of target ≡ None → ⊥ }
-    ensures reads { Reads (D.files depot.old) (Rose (D.faults depot.old) (D.faults depot.new))
-        (λ files models. AreModels (side_of source.entry) (side_of target.entry) files models.0 models.1)
-        (RefusesModels (side_of source.entry) (side_of target.entry))
-        (LacksModels (side_of source.entry) (side_of target.entry)) result }
+    ensures reads { Finds (ModelsOf (side_of source.entry) (side_of target.entry)) (D.files depot.old)
+        (Rose (D.faults depot.old) (D.faults depot.new)) result }
     ensures files { D.files depot.new ≡ D.files depot.old }
     ensures later { D.faults depot.old ≤ D.faults depot.new }
     ensures stores { D.failed_stores depot.new ≡ D.failed_stores depot.old }
@@ -125,7 +91,18 @@ pub fn load_models<D: Depot>(
     ensures source { IfOk result (λ models. IsLegal models.0) }
     ensures target { IfOk result (λ models. IsLegal models.1) }
 {
-    let source = load_side(alloc, depot, source, Who::Source)?;
-    let target = load_side(alloc, depot, target, Who::Target)?;
-    both(alloc, source, target)
+    match (source, target) {
+        (Side::Named(source), Side::Named(target)) => load_both(alloc, depot, source, target),
+        (Side::Named(source), Side::Empty) => {
+            let source = load_model(alloc, depot, source, Who::Source)?;
+            let target = Planes::empty(alloc, source.resolution())?;
+            Ok((source, target))
+        }
+        (Side::Empty, Side::Named(target)) => {
+            let target = load_model(alloc, depot, target, Who::Target)?;
+            let source = Planes::empty(alloc, target.resolution())?;
+            Ok((source, target))
+        }
+        (Side::Empty, Side::Empty) => unreachable!(),
+    }
 }

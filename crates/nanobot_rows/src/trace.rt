@@ -2,8 +2,7 @@
 ghost use Rattle.std.specs.Prelude.{◌≡◌, ◌≤◌, Err, None};
 ghost use Rattle.nano_spec.specs.Grounded.{FirstUngrounded};
 ghost use Rattle.vox_depot.specs.Causes.{Rose};
-ghost use Rattle.nanobot_rows.specs.Answer.{run_limit};
-ghost use Rattle.nanobot_rows.specs.Reading.{Lacks, OnFile, Reads, tells_nothing};
+ghost use Rattle.nanobot_rows.specs.Reading.{AnswerOfTrace, EndsUnstored};
 ghost use Rattle.nanobot_rows.specs.Touching.{IsWithinFile};
 
 use crate::report::Report;
@@ -37,8 +36,8 @@ pub fn run_trace<D: Depot, L: Ledger>(
     requires grounded { FirstUngrounded source None }
     requires seeds { profile.seeds ≤ 39 }
     requires resolutions { source.resolution ≡ target.now.resolution }
-    ensures reads { Reads (D.files depot.old) (Rose (D.faults depot.old) (D.faults depot.new))
-        (OnFile run_limit profile source target.now name.now) tells_nothing (Lacks name.now) result }
+    ensures ends { EndsUnstored (AnswerOfTrace profile source target.now name.now) (D.files depot.old)
+        (Rose (D.faults depot.old) (D.faults depot.new)) result }
     ensures files { D.files depot.new ≡ D.files depot.old }
     ensures later { D.faults depot.old ≤ D.faults depot.new }
     ensures stores { D.failed_stores depot.new ≡ D.failed_stores depot.old }

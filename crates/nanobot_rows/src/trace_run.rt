@@ -5,7 +5,8 @@ ghost use Rattle.nano_spec.specs.Grounded.{FirstUngrounded};
 ghost use Rattle.nano_spec.specs.Matrix.{Matrix};
 ghost use Rattle.nano_spec.specs.Model.{volume};
 ghost use Rattle.trace_codec.specs.Decoder.{AnswersPiece, DecoderState, IsBetween, decoder_after};
-ghost use Rattle.nanobot_rows.specs.Reading.{HasRun, OnBytes};
+ghost use Rattle.vox_depot.specs.Files.{Files};
+ghost use Rattle.nanobot_rows.specs.Reading.{AnswerOfBytes, HasRun, reply_of};
 ghost use Rattle.nanobot_rows.specs.Taking.{Gets, Takes, TakesFront};
 ghost use Rattle.nanobot_rows.specs.Touching.{HasPaid};
 
@@ -160,7 +161,7 @@ impl TraceRun {
         requires stands { self.run.spent ≡ false }
         requires resolution { self.run.progress.state.matrix.resolution ≡ target.now.resolution }
         ensures report { (source : Matrix) (profile : ProfileOf) (bytes : List ℕ) → HasRun source profile bytes self
-            → OnBytes profile source target.now bytes result }
+            → (files : Files) → AnswerOfBytes profile source target.now bytes files (reply_of files result) }
         ensures touches { steps.new ≤ steps.old + 2 * volume target.now.resolution }
     {
         pieces_decode();

@@ -8,9 +8,9 @@ ghost use Rattle.plan_tape.specs.Progress.{IsAccepted};
 ghost use Rattle.plan_choice.specs.Better.{MayStandFor};
 
 use crate::bounds::Bounds;
-use crate::builder::attached;
+use crate::builder::build_attached;
 use crate::choice::cheaper;
-use crate::flips::lowered;
+use crate::flips::lower_commands;
 use crate::plain::are_plain;
 use crate::ways::backwards;
 use nano_spec::{Command, CommandList, Profile};
@@ -46,12 +46,12 @@ fn alone(
     most: u64,
 ) -> Result<Option<CommandList>, Memory> {
     if is_void(source) {
-        return attached(alloc, target, true, most);
+        return build_attached(alloc, target, true, most);
     }
     if !is_void(target) {
         return Ok(None);
     }
-    let Some(commands) = attached(alloc, source, true, most)? else {
+    let Some(commands) = build_attached(alloc, source, true, most)? else {
         return Ok(None);
     };
     Ok(Some(backwards(alloc, commands.as_slice())?))
@@ -86,7 +86,7 @@ pub fn attach(
     let proposal = if are_plain(commands.as_slice()) {
         commands
     } else {
-        lowered(alloc, source, profile, commands.as_slice())?
+        lower_commands(alloc, source, profile, commands.as_slice())?
     };
     cheaper(alloc, source, target, profile, plan, proposal, most)
 }
@@ -112,7 +112,7 @@ pub fn attach_low(
         return Ok(plan);
     }
     let room = affordable(target.resolution(), plan.energy.min(ceiling));
-    let Some(proposal) = attached(alloc, target, false, room)? else {
+    let Some(proposal) = build_attached(alloc, target, false, room)? else {
         return Ok(plan);
     };
     if !are_plain(proposal.as_slice()) {

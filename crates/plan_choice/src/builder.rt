@@ -17,7 +17,7 @@ const MOST_SWEEPS: u32 = 16;
 const MOST_PASSES: u32 = 64;
 
 /// The component so far from another one.
-fn moved(at: u16, by: i16) -> u16 {
+fn shift(at: u16, by: i16) -> u16 {
     if by < 0 {
         at.wrapping_sub(by.unsigned_abs())
     } else {
@@ -28,9 +28,9 @@ fn moved(at: u16, by: i16) -> u16 {
 /// The coordinate so far beside another one.
 fn beside(c: Coord, dx: i16, dz: i16) -> Coord {
     Coord {
-        x: moved(c.x, dx),
+        x: shift(c.x, dx),
         y: c.y,
-        z: moved(c.z, dz),
+        z: shift(c.z, dz),
     }
 }
 
@@ -266,7 +266,7 @@ impl Builder {
 
 /// The commands of one bot that builds the target, and stays under High from the first layer on that has a part that hangs.
 /// There are none where High is not allowed and something hangs, or where there are more than `most`.
-pub fn attached(
+pub fn build_attached(
     alloc: Global,
     target: &Planes,
     may_rise: bool,

@@ -52,7 +52,7 @@ fn judged_in<L: Ledger>(
 }
 
 /// The verdict of the commands by a profile, where nobody counts the touches.
-fn judged(
+fn judge_proposal(
     alloc: Global,
     source: &Planes,
     target: &Planes,
@@ -96,7 +96,7 @@ pub fn improvement(
     if bytes_of(proposal) > most.bytes || fissions_of(proposal) >= u32::from(most.bots) {
         return Ok(None);
     }
-    let verdict = judged(alloc, source, target, profile, proposal)?;
+    let verdict = judge_proposal(alloc, source, target, profile, proposal)?;
     let Verdict::Accepted {
         energy: paid,
         steps,

@@ -17,7 +17,7 @@ use layer_planner::plan_layers;
 use low_planner::{LowFault, one_unsupported};
 use plan_tape::{Plan, lowest_difference, seeds_bound_the_bots};
 use std::alloc::Global;
-use system_state::know_all;
+use system_state::recall_all;
 use vox_geom::Memory;
 use vox_planes::Planes;
 
@@ -55,7 +55,7 @@ fn or_layer(alloc: Global, source: &Planes, target: &Planes, plan: Plan) -> Resu
     if !may_pay_alone(source, target, plan.energy) {
         return Ok(plan);
     }
-    source.know();
+    source.recall();
     let other = layer_plan(alloc, source, target, plan.energy)?;
     Ok(cheaper_of(plan, other))
 }
@@ -92,7 +92,7 @@ fn or_void(alloc: Global, source: &Planes, target: &Planes, plan: Plan) -> Resul
     if lowest_difference(target, &nothing).is_some() {
         return Ok(plan);
     }
-    source.know();
+    source.recall();
     let other = void_plan(alloc, source, plan.energy)?;
     Ok(cheaper_of(plan, other))
 }
@@ -111,7 +111,7 @@ fn or_low(alloc: Global, source: &Planes, target: &Planes, plan: Plan) -> Result
     if lowest_difference(source, &nothing).is_some() {
         return Ok(plan);
     }
-    source.know();
+    source.recall();
     seeds_bound_the_bots();
     one_unsupported();
     match low_plan(alloc, target, plan.energy) {
@@ -135,7 +135,7 @@ fn or_swarm(alloc: Global, source: &Planes, target: &Planes, plan: Plan) -> Resu
     if lowest_difference(source, &nothing).is_some() {
         return Ok(plan);
     }
-    source.know();
+    source.recall();
     seeds_bound_the_bots();
     let other = swarm_plan(alloc, target, plan.energy)?;
     Ok(cheaper_of(plan, other))
@@ -149,16 +149,16 @@ fn proposed_by_crew(alloc: Global, source: &Planes, target: &Planes) -> Result<P
     ensures crew { IfOk result (IsForCrew source.now target.now) }
     ensures as_layer { IfOk result (λ it. IsNoDearer IsLayerPlan source.now target.now it.energy) }
 {
-    source.know();
+    source.recall();
     let plan = plan_layers(alloc, source, target)?;
-    know_all(plan.commands.as_slice());
+    recall_all(plan.commands.as_slice());
     let mut most = Bounds::none();
     most.bytes = LIMIT;
     let crew = Bounds { bots: CREW, ..most };
     let plan = by_crew(alloc, source, target, plan, crew)?;
     let plan = by_rebuilding(alloc, source, target, plan, most)?;
     seeds_bound_the_bots();
-    know_all(plan.commands.as_slice());
+    recall_all(plan.commands.as_slice());
     Ok(plan)
 }
 

@@ -108,7 +108,7 @@ fn lowered_in<L: Ledger>(
 
 /// A plan's commands with other Flips: harmonics are High only while some full voxel is not grounded. It is a proposal: whether the
 /// definitions accept it, [`cheaper`] finds out.
-pub fn lowered(
+pub fn lower_commands(
     alloc: Global,
     source: &Planes,
     profile: Profile,
@@ -144,6 +144,6 @@ pub fn lower(
     if u64::from(plan.steps) > affordable(source.resolution(), ceiling).saturating_add(FLIPS) {
         return Ok(plan);
     }
-    let proposal = lowered(alloc, source, profile, plan.commands.as_slice())?;
+    let proposal = lower_commands(alloc, source, profile, plan.commands.as_slice())?;
     cheaper(alloc, source, target, profile, plan, proposal, most)
 }

@@ -20,10 +20,10 @@ mod ways;
 
 pub use alone::{attach, attach_low};
 pub use bounds::Bounds;
-pub use builder::attached;
+pub use builder::build_attached;
 pub use choice::{Price, cheaper, improvement};
 pub use crew::choose_crew_plan;
-pub use flips::{lower, lowered};
+pub use flips::{lower, lower_commands};
 pub use four::by_slabs;
 pub use many::{by_few, by_squads};
 pub use plans::{

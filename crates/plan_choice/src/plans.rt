@@ -19,7 +19,7 @@ use nano_spec::{Profile, full_accepts_what_light_accepts};
 use plan_tape::Plan;
 use std::alloc::Global;
 use swarm_planner::plan_swarm;
-use system_state::know_all;
+use system_state::recall_all;
 use void_planner::plan_void;
 use vox_geom::Memory;
 use vox_planes::Planes;
@@ -45,7 +45,7 @@ pub(crate) fn layer_plan(
     let plan = lower(alloc, source, target, profile, plan, most, ceiling)?;
     let plan = attach(alloc, source, target, profile, plan, most, ceiling)?;
     let plan = by_few(alloc, source, target, plan, most, ceiling)?;
-    know_all(plan.commands.as_slice());
+    recall_all(plan.commands.as_slice());
     Ok(plan)
 }
 
@@ -98,7 +98,7 @@ pub(crate) fn group_plan(
     let ceiling = if plan.energy < energy { 0 } else { ceiling };
     let profile = Profile::full();
     let plan = lower(alloc, source, target, profile, plan, most, ceiling)?;
-    know_all(plan.commands.as_slice());
+    recall_all(plan.commands.as_slice());
     Ok(plan)
 }
 
@@ -128,7 +128,7 @@ pub(crate) fn void_plan(alloc: Global, source: &Planes, ceiling: i64) -> Result<
     let profile = Profile::full();
     let plan = lower(alloc, source, &nothing, profile, plan, most, ceiling)?;
     let plan = by_slabs(alloc, source, &nothing, plan, most, ceiling)?;
-    know_all(plan.commands.as_slice());
+    recall_all(plan.commands.as_slice());
     Ok(plan)
 }
 
@@ -161,7 +161,7 @@ pub(crate) fn swarm_plan(alloc: Global, target: &Planes, ceiling: i64) -> Result
     let nothing = Planes::empty(alloc, target.resolution())?;
     let profile = Profile::light();
     let plan = lower(alloc, &nothing, target, profile, plan, most, ceiling)?;
-    know_all(plan.commands.as_slice());
+    recall_all(plan.commands.as_slice());
     Ok(plan)
 }
 
@@ -189,7 +189,7 @@ pub(crate) fn low_plan(alloc: Global, target: &Planes, ceiling: i64) -> Result<P
     most.steps = u64::from(plan.steps);
     most.bots = 1;
     let plan = attach_low(alloc, target, plan, most, ceiling)?;
-    know_all(plan.commands.as_slice());
+    recall_all(plan.commands.as_slice());
     Ok(plan)
 }
 

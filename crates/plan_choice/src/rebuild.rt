@@ -17,7 +17,7 @@ use vox_geom::Memory;
 use vox_planes::Planes;
 
 /// The first commands but for their Halt, and then the second.
-pub(crate) fn joined(
+pub(crate) fn join(
     alloc: Global,
     first: &[Command],
     second: &[Command],
@@ -51,7 +51,7 @@ fn rebuilt(
     let down = by_crew(alloc, source, &nothing, plan, most)?;
     let plan = plan_layers(alloc, &nothing, target)?;
     let up = by_crew(alloc, &nothing, target, plan, most)?;
-    joined(alloc, down.commands.as_slice(), up.commands.as_slice())
+    join(alloc, down.commands.as_slice(), up.commands.as_slice())
 }
 
 /// The plan, or one of a crew that takes the source down and then builds the target, where neither is empty and that is cheaper and

@@ -61,7 +61,7 @@ fn has_full(planes: &Planes, low: Coord, high: Coord) -> bool {
 }
 
 /// The k-th of n, counted forth or back.
-fn turned(n: u16, back: bool, k: u16) -> u16 {
+fn turn_number(n: u16, back: bool, k: u16) -> u16 {
     if back {
         n.saturating_sub(1).saturating_sub(k)
     } else {
@@ -227,7 +227,7 @@ impl Square {
         let count = self.along_z.count;
         let back = self.back;
         for k in 0..count {
-            self.tile(source, i, turned(count, back, k), low, high)?;
+            self.tile(source, i, turn_number(count, back, k), low, high)?;
         }
         self.back = !back;
         Ok(())
@@ -238,7 +238,7 @@ impl Square {
         let count = self.along_x.count;
         let turn = self.turn;
         for i in 0..count {
-            self.strip(source, turned(count, turn, i), low, high)?;
+            self.strip(source, turn_number(count, turn, i), low, high)?;
         }
         self.turn = !turn;
         Ok(())

@@ -8,8 +8,8 @@ use crate::alone::{affordable, is_void};
 use crate::bounds::Bounds;
 use crate::choice::cheaper;
 use crate::extent::is_full_at;
-use crate::flips::lowered;
-use crate::rebuild::joined;
+use crate::flips::lower_commands;
+use crate::rebuild::join;
 use crate::slabs::slabs;
 use nano_spec::{CommandList, Profile};
 use plan_tape::Plan;
@@ -105,7 +105,7 @@ fn poled_slabs(
     let Some(later) = slabs(alloc, &poled.planes, thick, even, steps)? else {
         return Ok(None);
     };
-    Ok(Some(joined(alloc, first, later.as_slice())?))
+    Ok(Some(join(alloc, first, later.as_slice())?))
 }
 
 /// The commands under High of a trial by slabs, if there are any that take no more steps than that.
@@ -135,7 +135,7 @@ fn by_trial(
 }
 
 /// The commands of a trial, if there are any that take no more steps than that.
-fn proposed(
+fn propose(
     alloc: Global,
     source: &Planes,
     target: &Planes,
@@ -154,7 +154,7 @@ fn proposed(
     let Some(commands) = by_trial(alloc, source, target, poled, trial, steps)? else {
         return Ok(None);
     };
-    Ok(Some(lowered(alloc, source, profile, commands.as_slice())?))
+    Ok(Some(lower_commands(alloc, source, profile, commands.as_slice())?))
 }
 
 /// Whether a trial is another one with x and z exchanged.
@@ -222,7 +222,7 @@ pub(crate) fn cheapest(
             continue;
         }
         let steps = worth_trying(source.resolution(), best.energy.min(ceiling));
-        let made = proposed(
+        let made = propose(
             alloc, source, target, profile, &poled, *trial, steps, most.bots,
         )?;
         let Some(proposal) = made else {

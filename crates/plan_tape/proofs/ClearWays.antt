@@ -1,17 +1,19 @@
--- Ways along which all is void, how many moves they take, the ways home of a legal model, and that High asks for no grounding.
+-- Ways along which all is void, which are free, how many moves they take, the ways home of a legal model, and that High asks for no grounding.
 use Rattle.std.proofs.Common.{◌≡◌, ◌⊎◌, inl, inr, ℕ, ◌+◌, ◌≤◌, sym, ◌∙◌, subst, arith, Bool, false, ◌&&◌}
 use Rattle.std.specs.Prelude.{pos, IsTrue}
 use Rattle.vox_geom.specs.declared.coordinate.Coord.{Coord}
-use Rattle.vox_geom.specs.Region.{is_between}
+use Rattle.vox_geom.specs.Point.{Point, point}
+use Rattle.vox_geom.specs.Region.{between, is_between}
 use Rattle.vox_geom.specs.Space.{IsInSpace}
 use Rattle.vox_geom.proofs.Truths.{first_of_three, second_of_three}
-use Rattle.vox_geom.proofs.Points.{between_zeros, from_both_ends, from_one_end}
+use Rattle.vox_geom.proofs.Points.{between_zeros, from_both_ends, from_one_end, in_space_is}
 use Rattle.nano_spec.specs.declared.system.Harmonics.{Harmonics}
 use Rattle.nano_spec.specs.declared.system.Harmonics.TheVariants.{Low, High}
 use Rattle.nano_spec.specs.Legal.{IsLegal}
 use Rattle.nano_spec.specs.Matrix.{Matrix, is_full}
-use Rattle.plan_tape.specs.Leg.{AreVoidTo, IsVoidAlong, moves, moves_to}
-use Rattle.plan_tape.specs.declared.axis.Axis.TheVariants.{X}
+use Rattle.step_order.specs.Unbroken.{IsFreeWay, IsVoid}
+use Rattle.plan_tape.specs.Leg.{AreVoidTo, IsVoidAlong, moves, moves_to, put}
+use Rattle.plan_tape.specs.declared.axis.Axis.TheVariants.{X, Y}
 use Rattle.plan_tape.specs.Progress.{IsHeld, IsVoidFrom}
 use Rattle.plan_tape.proofs.LegalModels.{void_at_border}
 
@@ -24,17 +26,29 @@ held_high h m e = λ l. absurd (high_low (sym e ∙ l))
 
 -- ---- where all is void
 
-void_between : (m : Matrix) (a b : ℕ) (c : Coord) → IsVoidFrom m a → IsVoidFrom m b → (a ≤ c.y) ⊎ (b ≤ c.y) → is_full m c ≡ false
-void_between m a b c v w (inl h) = v c h
-void_between m a b c v w (inr h) = w c h
+-- where all is void from the heights of two coordinates on, so is all between them
+pub void_between : (m : Matrix) (a b : Coord) → IsVoidFrom m a.y → IsVoidFrom m b.y → IsVoid m (between (point a) (point b))
+void_between m a b v w = λ c t. by c (from_one_end a.y b.y c.y (second_of_three (is_between (pos a.x) (pos b.x) (pos c.x)) _ _ t))
+  where
+    by : (c : Coord) → (a.y ≤ c.y) ⊎ (b.y ≤ c.y) → is_full m c ≡ false
+    by c (inl h) = v c h
+    by c (inr h) = w c h
 
--- where all is void from the height of either end on, so are the ways
+-- so are the ways
 pub ways_between : (m : Matrix) (a b : Coord) → IsVoidFrom m a.y → IsVoidFrom m b.y → AreVoidTo m a b
 ways_between m a b v w = record {
-  x = λ c t. void_between m a.y a.y c v v (from_one_end a.y a.y c.y (second_of_three (is_between (pos a.x) (pos b.x) (pos c.x)) _ _ t));
-  y = λ c t. void_between m a.y b.y c v w (from_one_end a.y b.y c.y (second_of_three (is_between (pos b.x) (pos b.x) (pos c.x)) _ _ t));
-  z = λ c t. void_between m b.y b.y c w w (from_one_end b.y b.y c.y (second_of_three (is_between (pos b.x) (pos b.x) (pos c.x)) _ _ t));
+  x = void_between m a (put X a b.x) v v;
+  y = void_between m (put X a b.x) (put Y (put X a b.x) b.y) v w;
+  z = void_between m (put Y (put X a b.x) b.y) b w w;
 }
+
+-- and a way to a point in space is free
+pub free_way : (m : Matrix) (a b : Coord) (q : Point) → q ≡ point b → IsInSpace m.resolution b → IsVoidFrom m a.y → IsVoidFrom m b.y → IsFreeWay m (point a) q
+free_way m a b q e i v w = subst (λ (u : Point). IsFreeWay m (point a) u) (sym e) (record { within = in_space_is m.resolution b i; void = void_between m a b v w })
+
+-- as is the point alone
+pub free_place : (m : Matrix) (b : Coord) (q : Point) → q ≡ point b → IsInSpace m.resolution b → IsVoidFrom m b.y → IsFreeWay m q q
+free_place m b q e i v = subst (λ (u : Point). IsFreeWay m u q) (sym e) (free_way m b b q e i v v)
 
 -- where the way along x is void, and all is void where x is 0, so are the ways to an end there
 ways_by_x : (m : Matrix) (a b : Coord) → b.x ≡ 0 → IsVoidAlong m X a b.x → ((c : Coord) → c.x ≡ 0 → is_full m c ≡ false) → AreVoidTo m a b

@@ -108,3 +108,7 @@ stepped_is p q k m h bots e em eh eb = record {
   steps = ap (λ (x : TapeState). x.steps) e;
   bytes_are = bytes_stepped p q k e;
 }
+
+-- what such a step leaves, told in other words
+pub step_as : (p q : TapeState) (k : List Command) (m n : Matrix) (h : Harmonics) (xs ys : List Bot) → m ≡ n → xs ≡ ys → AllStep p q k m h xs → AllStep p q k n h ys
+step_as p q k m n h xs ys e f s = subst (λ (x : Matrix). AllStep p q k x h ys) e (subst (λ (bots : List Bot). AllStep p q k m h bots) f s)

@@ -1,18 +1,18 @@
--- Where a legal model is void, when two models are the same, and which are grounded.
-use Rattle.std.proofs.Common.{◌≡◌, ℕ, ◌+◌, ◌-◌, ◌≤◌, nat_le, nat_lt, refl, sym, ◌∙◌, ap, subst, arith, List, [], ◌∷◌, Bool, true, false, ◌&&◌, not}
+-- Where a legal model is void and where its full voxels are, when two models are the same, and which are grounded.
+use Rattle.std.proofs.Common.{◌≡◌, ℕ, ◌+◌, ◌-◌, ◌<◌, ◌≤◌, nat_le, nat_lt, refl, sym, ◌∙◌, ap, subst, arith, List, [], ◌∷◌, Bool, true, false, ◌&&◌, not}
 use Rattle.std.specs.Prelude.{IsTrue, None}
-use Rattle.std.proofs.lemmas.Bool.Decides.{nat_tests}
 use Rattle.vox_geom.specs.declared.coordinate.Coord.{Coord}
 use Rattle.vox_geom.specs.Point.{point}
 use Rattle.vox_geom.specs.Space.{IsInSpace, in_space}
-use Rattle.vox_geom.proofs.Truths.{first_of_two, no_first, second_by_and_not}
+use Rattle.vox_geom.proofs.Truths.{false_by, first_of_two, no_first, second_by_and_not}
+use Rattle.vox_geom.proofs.Tests.{at_most_by_test, less_by_test}
 use Rattle.vox_geom.proofs.Points.{space_by_test}
 use Rattle.nano_spec.specs.First.{FirstFailing}
 use Rattle.nano_spec.specs.Grounded.{FirstUngrounded, Grounded}
-use Rattle.nano_spec.specs.Legal.{IsLegal, in_legal_box}
+use Rattle.nano_spec.specs.Legal.{IsLegal, in_legal_box, stands_inside}
 use Rattle.nano_spec.specs.Matrix.{Matrix, all_of, empty, is_full, matrix_where}
 use Rattle.nano_spec.proofs.Opening.{legal_is}
-use Rattle.step_order.proofs.Lists.{find_none}
+use Rattle.step_order.proofs.Lists.{find_none, none_find}
 use Rattle.step_order.proofs.Voxels.{as_it_is, full_where, in_coordinates, matrix_same}
 use Rattle.vox_planes.specs.Voxel.{IsWhole}
 use Rattle.plan_tape.specs.Progress.{IsVoidFrom}
@@ -31,34 +31,39 @@ void_by_space m c h = by (in_space m.resolution (point c)) refl
 
 -- ---- legal models
 
+-- the sides of the legal box
+pub record IsInBox (r : ℕ) (c : Coord) : Type 0 where
+  pub x : 1 ≤ c.x
+  pub x_end : c.x + 1 < r
+  pub y_end : c.y + 1 < r
+  pub z : 1 ≤ c.z
+  pub z_end : c.z + 1 < r
+
+five : (a b c d e : Bool) → (a && b && c && d && e) ≡ true → (a ≡ true) × (b ≡ true) × (c ≡ true) × (d ≡ true) × (e ≡ true)
+five true true true true true h = (refl, refl, refl, refl, refl)
+five true true true true false h = cc
+five true true true false e h = cc
+five true true false d e h = cc
+five true false c d e h = cc
+five false b c d e h = cc
+
 -- a full voxel of a legal model is in the legal box
-pub legal_box : (m : Matrix) (c : Coord) → IsLegal m → is_full m c ≡ true → in_legal_box m.resolution c ≡ true
-legal_box m c h f =
-    second_by_and_not (is_full m c) (in_legal_box m.resolution c)
-    (find_none (λ d. is_full m d && not (in_legal_box m.resolution d)) c (all_of m) (legal_is m h).0 (in_coordinates m.resolution c (full_within m c f))) f
+pub full_in_box : (m : Matrix) (c : Coord) → IsLegal m → is_full m c ≡ true → IsInBox m.resolution c
+full_in_box m c h f =
+    let r = m.resolution in
+    let inside = second_by_and_not (is_full m c) (in_legal_box r c) (find_none (λ d. is_full m d && not (in_legal_box r d)) c (all_of m) (legal_is m h).0 (in_coordinates r c (full_within m c f))) f in
+    let t = five (nat_le 1 c.x) (nat_lt (c.x + 1) r) (nat_lt (c.y + 1) r) (nat_le 1 c.z) (nat_lt (c.z + 1) r) inside in
+    record { x = at_most_by_test 1 c.x t.0; x_end = less_by_test (c.x + 1) r t.1; y_end = less_by_test (c.y + 1) r t.2; z = at_most_by_test 1 c.z t.3; z_end = less_by_test (c.z + 1) r t.4 }
 
-void_unless : (full box : Bool) → (full ≡ true → box ≡ true) → box ≡ false → full ≡ false
-void_unless true box f e = let g = f refl in cc
-void_unless false box f e = refl
-
--- a voxel outside the legal box is void
-pub outside_is_void : (m : Matrix) (c : Coord) → IsLegal m → in_legal_box m.resolution c ≡ false → is_full m c ≡ false
-outside_is_void m c h e = void_unless (is_full m c) (in_legal_box m.resolution c) (legal_box m c h) e
-
-at_border : (r : ℕ) (c : Coord) → c.x ≡ 0 → in_legal_box r c ≡ false
-at_border r c e = rw e refl
-
-above_box : (a b : Bool) (r y : ℕ) (d e : Bool) → r - 1 ≤ y → (a && b && nat_lt (y + 1) r && d && e) ≡ false
-above_box true true r y d e h = let f : nat_lt (y + 1) r ≡ false = grind (arith, nat_tests) in rw f refl
-above_box true false r y d e h = refl
-above_box false b r y d e h = refl
+-- so a voxel that cannot be there is void
+pub outside_is_void : (m : Matrix) (c : Coord) → IsLegal m → (IsInBox m.resolution c → ⊥) → is_full m c ≡ false
+outside_is_void m c h out = false_by (is_full m c) (λ f. absurd (out (full_in_box m c h f)))
 
 pub void_at_border : (m : Matrix) → IsLegal m → (c : Coord) → c.x ≡ 0 → is_full m c ≡ false
-void_at_border m h c e = outside_is_void m c h (at_border m.resolution c e)
+void_at_border m h c e = outside_is_void m c h (λ b. let x = b.x in omega arith)
 
 pub void_at_top : (m : Matrix) → IsLegal m → IsVoidFrom m (m.resolution - 1)
-void_at_top m h = λ c l.
-    outside_is_void m c h (above_box (nat_le 1 c.x) (nat_lt (c.x + 1) m.resolution) m.resolution c.y (nat_le 1 c.z) (nat_lt (c.z + 1) m.resolution) l)
+void_at_top m h = λ c l. outside_is_void m c h (λ b. let y = b.y_end in omega arith)
 
 -- a matrix that is a legal model is grounded
 pub grounded_at : (m n : Matrix) → m ≡ n → IsLegal n → FirstUngrounded m None
@@ -77,6 +82,10 @@ void_is_grounded m v = all (all_of m)
     all : (cs : List Coord) → FirstFailing (λ c. IsTrue (is_full m c) → Grounded m c) cs None
     all [] = tt
     all (c ∷ cs) = ((λ t. absurd (let e = sym (v c) ∙ t in cc)), all cs)
+
+-- and legal
+pub void_is_legal : (m : Matrix) → ((c : Coord) → is_full m c ≡ false) → IsLegal m
+void_is_legal m v = stands_inside (none_find (λ c. is_full m c && not (in_legal_box m.resolution c)) (all_of m) (λ c i. ap (λ b. b && not (in_legal_box m.resolution c)) (v c))) (void_is_grounded m v) refl
 
 -- ---- the same models
 

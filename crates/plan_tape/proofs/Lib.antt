@@ -2,6 +2,7 @@ pub mod Crowds
 pub mod Faults
 pub mod Runs
 pub mod Legs
+pub mod Lengths
 pub mod Steps
 pub mod Written
 pub mod AfterMoves
@@ -15,3 +16,4 @@ pub mod LegalModels
 pub mod Parts
 pub mod Lowest
 pub mod Bytes
+pub mod Closing

@@ -19,7 +19,6 @@ use Rattle.nano_spec.specs.Matrix.{Matrix}
 use Rattle.nano_spec.specs.Next.{Breaks, Goes, Next}
 use Rattle.nano_spec.specs.Rules.{judge_bots, judge_pairs}
 use Rattle.nano_spec.specs.State.{State, opening}
-use Rattle.nano_spec.specs.Step.{after}
 use Rattle.nano_spec.specs.Verdict.{Run, VerdictOf, breaks, compared, ending, ends, first_difference, goes}
 use Rattle.nano_spec.proofs.Unique.{Next-unique}
 use Rattle.nano_spec.proofs.Accepted.{accepted_step}

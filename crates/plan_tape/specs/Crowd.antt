@@ -1,5 +1,5 @@
 -- Steps of all bots: each moves, fills, splits or fuses, or waits, or all make one region full or void together (docs/FORMATS.md, "Commands" and "Groups").
-use Rattle.std.specs.Prelude.{◌≡◌, ◌+◌, ◌+ℤ◌, pos, Bool, ◌||◌, List, [], ◌∷◌, ◌++◌, length, map, flat_map}
+use Rattle.std.specs.Prelude.{◌≡◌, ◌+◌, ◌+ℤ◌, pos, Bool, ◌||◌, List, [], ◌∷◌, ◌++◌, length, map, flat_map, IsFalse}
 use Rattle.std.specs.List.{AllByRecursion}
 use Rattle.vox_geom.specs.Point.{Point, plus}
 use Rattle.vox_geom.specs.Region.{Span, between}
@@ -7,15 +7,15 @@ use Rattle.nano_spec.specs.declared.commands.Command.{Command}
 use Rattle.nano_spec.specs.declared.commands.Command.TheVariants.{Wait, SMove, FusionP, FusionS, Fission, Fill}
 use Rattle.nano_spec.specs.declared.system.Bot.{Bot}
 use Rattle.nano_spec.specs.declared.system.Harmonics.{Harmonics}
-use Rattle.nano_spec.specs.Act.{Act, acts, position}
+use Rattle.nano_spec.specs.Act.{Act, acts, is_flip, position}
 use Rattle.nano_spec.specs.Bots.{in_rising_order, newborn, parent, successors}
 use Rattle.nano_spec.specs.Energy.{groups_cost}
 use Rattle.nano_spec.specs.Matrix.{Matrix, is_full, matrix_where}
 use Rattle.nano_spec.specs.Spelling.{spellings}
-use Rattle.nano_spec.specs.Step.{is_filled}
+use Rattle.nano_spec.specs.Step.{after, is_filled}
 use Rattle.step_order.specs.Acting.{goal_of, gone}
 use Rattle.step_order.specs.Apart.{LieApart}
-use Rattle.step_order.specs.Unbroken.{AreOneGroup, IsFreeWay}
+use Rattle.step_order.specs.Unbroken.{AreFree, AreOneGroup, IsFreeWay}
 use Rattle.plan_tape.specs.Progress.{IsAllowed, TapeState, bytes, state_of, upkeep_of_step}
 
 -- what a bot at a point needs to wait, or to move along an axis
@@ -54,6 +54,15 @@ pub record AllStep (old new : TapeState) (commands : List Command) (m : Matrix) 
   pub energy : new.energy ≡ (old.energy +ℤ pos (upkeep_of_step old)) +ℤ groups_cost old.matrix (acts old.bots commands)
   pub steps : new.steps ≡ old.steps + 1
   pub bytes_are : bytes new ≡ bytes old + length (spellings commands)
+
+-- no bot has a group command or a Flip, each has what it needs, and any two fuse or are apart
+pub record AreCalm (p : TapeState) (commands : List Command) : Type 0 where
+  pub free : AreFree (state_of p) (acts p.bots commands)
+  pub calm : AllByRecursion (λ a. IsFalse (is_flip a.command)) (acts p.bots commands)
+
+-- the tape after a step of such bots
+abbrev pub CalmStep : TapeState → TapeState → List Command → Type 0
+CalmStep old new commands = AllStep old new commands (after (state_of old) commands).matrix old.harmonics (after (state_of old) commands).bots
 
 -- the bots where they have gone
 abbrev pub bots_gone : List Bot → List Command → List Bot

@@ -1,11 +1,11 @@
-//! Moves along an axis.
+//! An axis: components, differences and moves along it.
 ghost use Rattle.std.specs.Prelude.{◌≡◌, ◌≢◌, ◌⊎◌, ℕ, ◌+◌, ◌*◌, List, ◌++◌, pos, neg_ℤ, ◌≤ℤ◌, ◌-ℤ◌, ◌<◌, ◌≤◌, vec_capacity, vec_len};
 ghost use Rattle.vox_geom.specs.Space.{IsInSpace};
 ghost use Rattle.nano_spec.specs.declared.commands.Command.{Command as CommandOf};
-ghost use Rattle.plan_tape.specs.Leg.{IsLeastLeg, IsOnward, along, distance as distance_of, gap as gap_of, moves as moves_of, moves_to as moves_to_of};
+ghost use Rattle.plan_tape.specs.Leg.{IsLeastLeg, IsOnward, along, component_of, put, distance as distance_of, gap as gap_of, moves as moves_of, moves_to as moves_to_of};
 
 use nano_spec::Command;
-use vox_geom::{Coord, Diff, Long, MOST_R};
+use vox_geom::{Coord, Diff, Long, MOST_R, Near};
 
 /// An axis.
 #[derive(Clone, Copy, PartialEq, Eq, Debug)]
@@ -13,6 +13,28 @@ pub enum Axis {
     X,
     Y,
     Z,
+}
+
+/// The component of a coordinate on an axis.
+pub fn component(axis: Axis, c: Coord) -> u16
+    ensures { result ≡ component_of axis c }
+{
+    match axis {
+        Axis::X => c.x,
+        Axis::Y => c.y,
+        Axis::Z => c.z,
+    }
+}
+
+/// The coordinate with another component on an axis.
+pub fn with_component(axis: Axis, c: Coord, v: u16) -> Coord
+    ensures { result ≡ put axis c v }
+{
+    match axis {
+        Axis::X => Coord { x: v, ..c },
+        Axis::Y => Coord { y: v, ..c },
+        Axis::Z => Coord { z: v, ..c },
+    }
 }
 
 /// The most that one move goes.
@@ -92,10 +114,7 @@ fn step(at: u16, next: u16) -> i16
 }
 
 /// The difference along an axis.
-fn difference(axis: Axis, by: i16) -> Long
-    requires some { by ≢ pos 0 }
-    requires low { neg_ℤ (pos 15) ≤ℤ by }
-    requires high { by ≤ℤ pos 15 }
+fn difference(axis: Axis, by: i16) -> Diff
     ensures { result ≡ along axis by }
 {
     let none = Diff {
@@ -103,15 +122,11 @@ fn difference(axis: Axis, by: i16) -> Long
         dy: 0,
         dz: 0,
     };
-    let d = match axis {
+    match axis {
         Axis::X => Diff { dx: by, ..none },
         Axis::Y => Diff { dy: by, ..none },
         Axis::Z => Diff { dz: by, ..none },
-    };
-    let Some(long) = Long::of(d) else {
-        unreachable!()
-    };
-    long
+    }
 }
 
 /// The difference from one component to another along an axis.
@@ -122,8 +137,30 @@ pub fn towards(axis: Axis, at: u16, next: u16) -> Long
     requires near { (next ≤ at + 15) × (at ≤ next + 15) }
     ensures { result ≡ along axis (pos next -ℤ pos at) }
 {
-    let by = step(at, next);
-    difference(axis, by)
+    let Some(long) = Long::of(difference(axis, step(at, next))) else {
+        unreachable!()
+    };
+    long
+}
+
+/// The difference along an axis to the next voxel.
+pub fn ahead(axis: Axis) -> Near
+    ensures { result ≡ along axis (pos 1) }
+{
+    let Some(near) = Near::of(difference(axis, 1)) else {
+        unreachable!()
+    };
+    near
+}
+
+/// The difference along an axis to the voxel before.
+pub fn behind(axis: Axis) -> Near
+    ensures { result ≡ along axis (neg_ℤ (pos 1)) }
+{
+    let Some(near) = Near::of(difference(axis, -1)) else {
+        unreachable!()
+    };
+    near
 }
 
 /// Adds the least moves along an axis from one component to another. There is room for them.

@@ -29,7 +29,7 @@ pub fn upkeep_of_steps(count: u32, resolution: u16, harmonics: Harmonics) -> i64
 }
 
 /// The energy after so many more steps with this upkeep, which cost this together beside it.
-pub fn charged(energy: i64, steps: u32, count: u32, upkeep: i64, cost: i64) -> i64
+pub fn charge(energy: i64, steps: u32, count: u32, upkeep: i64, cost: i64) -> i64
     requires steps { steps + count ≤ 1073741824 }
     requires bounded { IsBounded energy steps }
     requires least { pos 0 ≤ℤ upkeep }

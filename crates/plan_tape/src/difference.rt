@@ -28,7 +28,7 @@ pub fn lowest_difference(source: &Planes, target: &Planes) -> Option<u16>
     ensures found { IfSome result (IsLowest source.now target.now) }
     ensures none { IfNone result (source.now ≡ target.now) }
 {
-    target.know();
+    target.recall();
     for y in 0..source.resolution() {
         match difference_in::<Brand>(source, target, y, Blank::new(1)) {
             Some(_) => return Some(y),

@@ -6,13 +6,15 @@
 mod axis;
 mod costs;
 mod difference;
+mod frame;
 mod halting;
 mod laws;
 mod several;
 mod tape;
 
-pub use axis::{Axis, next_stop, towards};
+pub use axis::{Axis, ahead, behind, component, next_stop, towards, with_component};
 pub use difference::lowest_difference;
+pub use frame::{close, rise};
 pub use halting::halt_alone;
 pub use laws::{fissions_bound_the_bots, runs_go_through_reached_states, seeds_bound_the_bots};
 pub use tape::{Plan, Tape};

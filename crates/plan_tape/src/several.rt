@@ -10,7 +10,7 @@ use energy_sum::a_step_changes_the_energy_by_little;
 use nano_spec::Command;
 use std::marker::Brand;
 use std::sync::ledger::{Blank, Ledger};
-use system_state::{System, Turns, know_all};
+use system_state::{System, Turns, recall_all};
 use vox_geom::Steps;
 
 /// The groups take their turns, counted in a ledger of its own. Nothing is judged.
@@ -40,8 +40,8 @@ pub fn advance(system: &mut System, turns: &mut Turns, commands: &[Command])
     ensures falls { system.old.energy <ℤ (system.new.energy +ℤ pos 3000000000) }
 {
     a_step_changes_the_energy_by_little();
-    know_all(commands);
-    system.know();
+    recall_all(commands);
+    system.recall();
     advance_in::<Brand>(system, turns, commands, Blank::new(1));
-    system.know();
+    system.recall();
 }

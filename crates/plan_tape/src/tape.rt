@@ -14,25 +14,25 @@ ghost use Rattle.nano_spec.specs.Profile.{full_profile};
 ghost use Rattle.nano_spec.specs.Rules.{broken as broken_of};
 ghost use Rattle.nano_spec.specs.Spelling.{spellings};
 ghost use Rattle.nano_spec.specs.State.{IsReady, origin};
-ghost use Rattle.nano_spec.specs.Step.{flipped};
+ghost use Rattle.nano_spec.specs.Step.{after, flipped};
 ghost use Rattle.vox_planes.specs.Voxel.{IsWhole, with_voxel};
 ghost use Rattle.bot_crew.specs.Crew.{IsCrew};
 ghost use Rattle.step_order.specs.Acting.{with_region};
 ghost use Rattle.step_order.specs.Unbroken.{AreFree, AreOneGroup};
-ghost use Rattle.plan_tape.specs.Crowd.{AllStep, CanMoveAll, CanPaintAll, FillsOrWaits, FusesOrWaits, SplitsOrWaits, bots_fused, bots_gone, bots_split, with_fills};
+ghost use Rattle.plan_tape.specs.Crowd.{AllStep, AreCalm, CalmStep, CanMoveAll, CanPaintAll, FillsOrWaits, FusesOrWaits, SplitsOrWaits, bots_fused, bots_gone, bots_split, with_fills};
 ghost use Rattle.plan_tape.specs.Leg.{AreVoidTo, MayMove, Moves, moves_to as moves_to_of};
 ghost use Rattle.plan_tape.specs.Reaches.{Reaches};
 ghost use Rattle.plan_tape.specs.Progress.{AreAlike, IsAccepted, IsAllowed, IsBounded, IsHeld, IsReachable, Writes, beside as beside_of, bytes, spot, starting, state_of, tape_stepped, upkeep_of_step};
 
 use crate::axis::{Axis, cost_of_way, moves_to, push_leg};
-use crate::costs::{charged, upkeep_of_steps};
+use crate::costs::{charge, upkeep_of_steps};
 use crate::several::advance;
 use bot_crew::Crew;
 use nano_spec::{Command, CommandList, Harmonics, Profile};
 use std::alloc::Global;
 use std::marker::Model;
 use step_order::{bots_act, free_bots_break_no_rule, one_group_acts, one_group_breaks_no_rule};
-use system_state::{System, Turns, know_all};
+use system_state::{System, Turns, recall_all};
 use vox_geom::{Coord, Diff, Memory, Near};
 use vox_planes::Planes;
 use voxel_reads::is_full;
@@ -198,7 +198,7 @@ impl Tape {
     {
         let resolution = self.system.matrix().resolution();
         let upkeep = upkeep_of_steps(count, resolution, self.system.harmonics());
-        charged(self.system.energy(), self.steps, count, upkeep, cost)
+        charge(self.system.energy(), self.steps, count, upkeep, cost)
     }
 
     /// One step of all bots: the i-th command is for the i-th bot. Where harmonics are Low then, each full voxel is grounded.
@@ -220,7 +220,7 @@ impl Tape {
     }
 
     /// The state is the one that the definitions reach from the source by the commands, every step accepted.
-    pub fn know_reached(&self)
+    pub fn recall_reached(&self)
         ensures reached { Reaches self.now.source self.now.profile self.now.commands (state_of self.now)
             self.now.steps }
     {
@@ -228,18 +228,35 @@ impl Tape {
     }
 
     /// The matrix has a voxel for each coordinate of a resolution of 1 to 400.
-    pub fn know_whole(&self)
+    pub fn recall_whole(&self)
         ensures whole { IsWhole self.now.matrix }
     {
-        self.system.know();
+        self.system.recall();
     }
 
     /// The state is ready for a step.
-    pub fn know_ready(&self)
+    pub fn recall_ready(&self)
         ensures ready { IsReady (state_of self.now) }
         ensures held { IsHeld self.now.harmonics self.now.matrix }
     {
-        self.system.know();
+        self.system.recall();
+    }
+
+    /// No bot flips or acts in a group but to fuse: each has what it needs, and any two fuse or lie apart. Under Low, each full
+    /// voxel is grounded then.
+    pub fn act_all(&mut self, commands: &[Command]) -> Result<(), Memory>
+        requires some { 1 ≤ length self.old.bots }
+        requires commands { length commands.now ≡ length self.old.bots }
+        requires calm { AreCalm self.old commands.now }
+        requires held { IsHeld self.old.harmonics (after (state_of self.old) commands.now).matrix }
+        requires limit { self.old.steps < 1073741824 }
+        ensures ok { OnOk result (CalmStep self.old self.new commands.now) }
+        ensures err { OnErr result (self.new ≡ self.old) }
+    {
+        free_bots_break_no_rule();
+        bots_act();
+        self.recall_ready();
+        self.step(commands)
     }
 
     /// Each bot waits or makes a move along an axis. The ways are free, and lie apart.
@@ -253,10 +270,9 @@ impl Tape {
             (bots_gone self.old.bots commands.now)) }
         ensures err { OnErr result (self.new ≡ self.old) }
     {
-        free_bots_break_no_rule();
         bots_act();
-        self.know_ready();
-        self.step(commands)
+        self.recall_ready();
+        self.act_all(commands)
     }
 
     /// All bots make one region full or void together, under High.
@@ -275,7 +291,7 @@ impl Tape {
     {
         one_group_breaks_no_rule();
         one_group_acts();
-        self.know_ready();
+        self.recall_ready();
         self.step(commands)
     }
 
@@ -292,10 +308,9 @@ impl Tape {
             self.old.harmonics self.old.bots) }
         ensures err { OnErr result (self.new ≡ self.old) }
     {
-        free_bots_break_no_rule();
         bots_act();
-        self.know_ready();
-        self.step(fills)
+        self.recall_ready();
+        self.act_all(fills)
     }
 
     /// Each bot splits or waits; what they name lies apart.
@@ -310,10 +325,9 @@ impl Tape {
             (bots_split self.old.bots splits.now)) }
         ensures err { OnErr result (self.new ≡ self.old) }
     {
-        free_bots_break_no_rule();
         bots_act();
-        self.know_ready();
-        self.step(splits)
+        self.recall_ready();
+        self.act_all(splits)
     }
 
     /// Each bot fuses with another or waits; what those name that do not fuse with one another lies apart.
@@ -331,10 +345,9 @@ impl Tape {
             → successors (acts self.old.bots fusions.now) first first.command ≡ fused first.bot second.bot ∷ [] }
         ensures err { OnErr result (self.new ≡ self.old) }
     {
-        free_bots_break_no_rule();
         bots_act();
-        self.know_ready();
-        self.step(fusions)
+        self.recall_ready();
+        self.act_all(fusions)
     }
 
     /// The only bot changes the harmonics. Where they are Low then, each full voxel is grounded.
@@ -453,7 +466,7 @@ impl Tape {
         ensures accepted { (target : MatrixValue) → AreAlike self.matrix target
             → IsAccepted self.source target result.commands self.profile result.energy result.steps }
     {
-        know_all(&self.commands);
+        recall_all(&self.commands);
         Plan {
             commands: CommandList::from_vec(self.commands),
             energy: self.system.energy(),

@@ -7,7 +7,7 @@ use crate::models::{at, model, put};
 use low_planner::LowFault;
 use model_file::legal;
 use plan_choice::{
-    attached, backwards, choose_group_plan, choose_layer_plan, choose_low_plan, choose_swarm_plan,
+    backwards, build_attached, choose_group_plan, choose_layer_plan, choose_low_plan, choose_swarm_plan,
     choose_void_plan,
 };
 use plan_tape::Plan;
@@ -184,9 +184,9 @@ fn squads_wait_for_what_hangs(rt: HostRuntime) -> Result<(), Fail> {
 fn what_hangs_takes_a_flip(rt: HostRuntime) -> Result<(), Fail> {
     let alloc = rt.alloc();
     let model = hanging(alloc)?;
-    assert!(&rt; attached(alloc, &model, false, 100)?.is_none());
-    assert!(&rt; attached(alloc, &model, true, 1)?.is_none());
-    if let Some(commands) = attached(alloc, &model, true, 100)? {
+    assert!(&rt; build_attached(alloc, &model, false, 100)?.is_none());
+    assert!(&rt; build_attached(alloc, &model, true, 1)?.is_none());
+    if let Some(commands) = build_attached(alloc, &model, true, 100)? {
         assert_eq!(&rt; commands.as_slice().len(), 16);
         assert_eq!(&rt; backwards(alloc, commands.as_slice())?.as_slice().len(), 16);
     }

@@ -38,7 +38,7 @@ fn fill_pole(planes: &mut Planes, pole: Pole) {
 }
 
 /// The model with the voxels of all poles.
-fn filled(alloc: Global, source: &Planes, poles: &[Pole]) -> Result<Planes, Memory> {
+fn fill_poles(alloc: Global, source: &Planes, poles: &[Pole]) -> Result<Planes, Memory> {
     let mut planes = source.copy(alloc)?;
     for pole in poles {
         fill_pole(&mut planes, *pole);
@@ -62,6 +62,6 @@ pub fn with_poles(alloc: Global, source: &Planes, most: u64) -> Result<Option<Po
     }
     Ok(Some(Poled {
         commands: yard.into_commands()?,
-        planes: filled(alloc, source, poles.as_slice())?,
+        planes: fill_poles(alloc, source, poles.as_slice())?,
     }))
 }

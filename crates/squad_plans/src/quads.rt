@@ -185,7 +185,7 @@ enum Leg {
 }
 
 /// The place that an aim leads to from another one.
-fn aimed(at: Spot, aim: Heading) -> Spot {
+fn aim_at(at: Spot, aim: Heading) -> Spot {
     match aim {
         Heading::Column(x) => Spot { x, ..at },
         Heading::Height(y) => Spot { y, ..at },
@@ -256,10 +256,10 @@ impl Quads {
         let mut goals = Vec::new(alloc);
         for quad in self.quads.as_slice() {
             let (one, other, aim) = self.aim_of(*quad, leg);
-            let to = aimed(self.team.yard.spot(one), aim);
+            let to = aim_at(self.team.yard.spot(one), aim);
             goals.push(Goal { bot: one, to }).map_err(|_| Memory)?;
             if other != one {
-                let to = aimed(self.team.yard.spot(other), aim);
+                let to = aim_at(self.team.yard.spot(other), aim);
                 goals.push(Goal { bot: other, to }).map_err(|_| Memory)?;
             }
         }

@@ -118,7 +118,7 @@ impl Debugger {
         ensures { IsSomeAnd (middle_state self.now.commands self.now.session) (λ m. result.now ≡ m.bots) }
     {
         some_groups();
-        self.machine.know();
+        self.machine.recall();
         &self.middle
     }
 
@@ -130,7 +130,7 @@ impl Debugger {
         ensures touches { steps.new ≤ steps.old + 1 }
     {
         some_groups();
-        self.machine.know();
+        self.machine.recall();
         if self.begun.is_empty() {
             return self.machine.matrix().full_at(c, steps);
         }
@@ -189,7 +189,7 @@ impl Debugger {
             ≡ length self.now.session.point.state.bots }
         ensures { IsPermutation (next_leaders self.now.commands self.now.session.point) result.items }
     {
-        self.machine.know();
+        self.machine.recall();
         if self.begun.is_empty() {
             let count = self.machine.active();
             return self
@@ -314,7 +314,7 @@ impl Debugger {
             → count_by (λ k. k == bid) (next_leaders self.now.commands self.now.session.point) ≤ 1 }
         ensures few { length self.now.session.begun + length result.items ≤ MOST_BOTS }
     {
-        self.machine.know();
+        self.machine.recall();
         if self.begun.is_empty() {
             let count = self.machine.active();
             return self
@@ -345,7 +345,7 @@ impl Debugger {
             ≡ record self.old { session = record self.old.session { begun = self.old.session.begun ++ leader ∷ [] } } }
     {
         groups_take_turns();
-        self.machine.know();
+        self.machine.recall();
         let count = self.machine.active();
         let next = next_commands(self.commands.as_slice(), self.taken, count);
         let system = self.machine.system();

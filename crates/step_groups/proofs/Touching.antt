@@ -70,11 +70,15 @@ two_reads m a k j old mid new alone h i n le lf =
 abbrev Covers : Corners → Span → Type 0
 Covers k s = (p : Point) → is_within (span k) p ≡ is_within s p
 
+-- a box that covers the way of a move has volatile coordinates alone
+on_way : (bot : Bot) (d : Diff) (k : Corners) (to : Coord) → point to ≡ plus (point bot.pos) d → Covers k (between (point bot.pos) (point to)) → (c : Coord) → IsTrue (in_box k c) → IsTrue (is_volatile_of (point c) (act bot (SMove d)))
+on_way bot d k to sum covers c t = or_by_first (is_within (between (point bot.pos) (plus (point bot.pos) d)) (point c)) false (sym (covers (point c) ∙ ap (λ q. is_within (between (point bot.pos) q) (point c)) sum) ∙ t)
+
+pub smove_reads : (m : Matrix) (bot : Bot) (d : Diff) (k : Corners) (to : Coord) (old new : ℕ) → IsTrue (in_space m.resolution (plus (point bot.pos) d)) → point to ≡ plus (point bot.pos) d → Covers k (between (point bot.pos) (point to)) → new ≤ old + count_by (in_box k) (all_of m) → new ≤ old + touches_of m (act bot (SMove d))
+smove_reads m bot d k to old new inside sum covers most = one_read m (act bot (SMove d)) k old new refl (both_true (in_space m.resolution (plus (point bot.pos) d)) true inside refl) (on_way bot d k to sum covers) most
+
 pub smove_reads_twice : (m : Matrix) (bot : Bot) (d : Diff) (k j : Corners) (to : Coord) (old half new : ℕ) → IsTrue (in_space m.resolution (plus (point bot.pos) d)) → point to ≡ plus (point bot.pos) d → Covers k (between (point bot.pos) (point to)) → Covers j (between (point bot.pos) (point to)) → half ≤ old + count_by (in_box k) (all_of m) → new ≤ half + count_by (in_box j) (all_of m) → new ≤ old + touches_of m (act bot (SMove d))
-smove_reads_twice m bot d k j to old half new i e h l le lf = two_reads m (act bot (SMove d)) k j old half new refl (both_true (in_space m.resolution (plus (point bot.pos) d)) true i refl) (on_way k h) (on_way j l) le lf
-  where
-    on_way : (w : Corners) → Covers w (between (point bot.pos) (point to)) → (c : Coord) → IsTrue (in_box w c) → IsTrue (is_volatile_of (point c) (act bot (SMove d)))
-    on_way w v c t = or_by_first (is_within (between (point bot.pos) (plus (point bot.pos) d)) (point c)) false (sym (v (point c) ∙ ap (λ q. is_within (between (point bot.pos) q) (point c)) e) ∙ t)
+smove_reads_twice m bot d k j to old half new inside sum first second le lf = two_reads m (act bot (SMove d)) k j old half new refl (both_true (in_space m.resolution (plus (point bot.pos) d)) true inside refl) (on_way bot d k to sum first) (on_way bot d j to sum second) le lf
 
 pub fission_reads : (m : Matrix) (bot : Bot) (d : Diff) (n : ℕ) (k : Corners) (to : Coord) (old new : ℕ) → IsTrue (in_space m.resolution (plus (point bot.pos) d)) → point to ≡ plus (point bot.pos) d → Covers k (between (point to) (point to)) → new ≤ old + count_by (in_box k) (all_of m) → new ≤ old + touches_of m (act bot (Fission d n))
 fission_reads m bot d n k to old new i e h le =

@@ -20,5 +20,5 @@ pub use apart::all_act_alone;
 pub use groups::{Group, Groups, judge_groups};
 pub use leading::leaders;
 pub use numbers::number_groups;
-pub use single::{judge_edit, judge_move, judge_single, moves_by_one};
+pub use single::{judge_edit, judge_move, judge_single, moves_at_once};
 pub use step::Step;

@@ -14,7 +14,7 @@ ghost use Rattle.step_groups.specs.Steps.{CanBeJudged, CanJudge, acts_of_step, l
 
 use crate::boxes::around;
 use crate::rules::{
-    breaks, broken_here, end_of_move, hull_of_moves, judge_halt, lacks_seeds, named_by, reached,
+    breaks, broken_here, end_of_move, hull_of_moves, judge_halt, lacks_seeds, named_by, reach,
 };
 use crate::step::Step;
 use nano_spec::{Bot, Broken, Command, Rule};
@@ -87,7 +87,7 @@ fn hull_of_move<L: Ledger>(
     ensures hull { IfOk result (IsHullFor (act bot (SMove d))) }
     ensures touches { steps.new ≤ steps.old + touches_of planes.now (act bot (SMove d)) }
 {
-    let to = end_of_move(planes, step, bot, d, false, steps)?;
+    let to = end_of_move(planes, step, bot, d, steps)?;
     Ok(Region::of(bot.pos, to))
 }
 
@@ -129,7 +129,7 @@ fn hull_of_fission<L: Ledger>(
     ensures hull { IfOk result (IsHullFor (act bot (FissionOf d m))) }
     ensures touches { steps.new ≤ steps.old + touches_of planes.now (act bot (FissionOf d m)) }
 {
-    let Some(to) = reached(planes, bot.pos, d) else {
+    let Some(to) = reach(planes, bot.pos, d) else {
         return Err(breaks(step, bot, Rule::OutOfSpace, bot.pos));
     };
     if let Some(at) = planes.region_full(&Region::of(to, to), steps) {

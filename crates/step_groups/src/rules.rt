@@ -57,7 +57,7 @@ fn broken_if(step: u32, bot: Bot, rule: Rule, is_broken: bool) -> Option<Broken>
 
 /// Where a difference leads to: `None` exactly where it leads out of the matrix.
 #[inline(always)]
-pub(crate) fn reached(planes: &Planes, from: Coord, d: Diff) -> Option<Coord>
+pub(crate) fn reach(planes: &Planes, from: Coord, d: Diff) -> Option<Coord>
     requires { IsInSpace planes.now.resolution from }
     ensures some { IfSome result (λ to. IsTrue (in_space planes.now.resolution (plus (point from) d))) }
     ensures sum { IfSome result (λ to. point to ≡ plus (point from) d) }
@@ -83,14 +83,13 @@ pub(crate) fn judge_halt(step: &Step, bot: Bot) -> Option<Broken>
     }
 }
 
-/// Where a bot with `SMove` gets to, or the first rule that it breaks. Where most ways are by one, `tries_by_one` saves their search.
+/// Where a bot with `SMove` gets to, or the first rule that it breaks.
 #[inline(always)]
 pub(crate) fn end_of_move<L: Ledger>(
     planes: &Planes,
     step: u32,
     bot: Bot,
     d: Diff,
-    tries_by_one: bool,
     steps: &mut Steps<L>,
 ) -> Result<Coord, Broken>
     requires { IsInSpace planes.now.resolution bot.pos }
@@ -99,26 +98,22 @@ pub(crate) fn end_of_move<L: Ledger>(
     ensures within { IfOk result (λ to. IsInSpace planes.now.resolution to) }
     ensures touches { steps.new ≤ steps.old + touches_of planes.now (act bot (SMove d)) }
 {
-    let Some(to) = reached(planes, bot.pos, d) else {
+    let Some(to) = reach(planes, bot.pos, d) else {
         return Err(breaks(step, bot, Rule::OutOfSpace, bot.pos));
     };
-    if is_clear_by_one(planes, bot.pos, to, d, tries_by_one, steps) {
-        return Ok(to);
-    }
     match planes.region_full(&Region::of(bot.pos, to), steps) {
         None => Ok(to),
         Some(at) => Err(breaks(step, bot, Rule::Blocked, at)),
     }
 }
 
-/// Whether a way is by one coordinate and its two voxels are void, where that is tried: then no row is searched.
+/// Whether a way is seen to be void with no search of a row: it lies above all full voxels, or is by one coordinate.
 #[inline(always)]
-pub(crate) fn is_clear_by_one<L: Ledger>(
+pub(crate) fn is_clear_at_once<L: Ledger>(
     planes: &Planes,
     from: Coord,
     to: Coord,
     d: Diff,
-    tried: bool,
     steps: &mut Steps<L>,
 ) -> bool
     requires from { IsInSpace planes.now.resolution from }
@@ -128,8 +123,8 @@ pub(crate) fn is_clear_by_one<L: Ledger>(
         → find (λ c. is_full planes.now c && is_within (span (corners from to)) (point c)) (all_of planes.now) ≡ None }
     ensures touches { steps.new ≤ steps.old + size (span (corners from to)) }
 {
-    if !tried {
-        return false;
+    if planes.is_void_from(from.y.min(to.y), steps) {
+        return true;
     }
     if d.mlen() != 1 {
         return false;
@@ -179,10 +174,10 @@ pub(crate) fn hull_of_moves<L: Ledger>(
     ensures hull { IfOk result (IsHullFor (act bot (LMove d e))) }
     ensures touches { steps.new ≤ steps.old + touches_of planes.now (act bot (LMove d e)) }
 {
-    let Some(mid) = reached(planes, bot.pos, d) else {
+    let Some(mid) = reach(planes, bot.pos, d) else {
         return Err(breaks(step, bot, Rule::OutOfSpace, bot.pos));
     };
-    let Some(to) = reached(planes, mid, e) else {
+    let Some(to) = reach(planes, mid, e) else {
         return Err(breaks(step, bot, Rule::OutOfSpace, bot.pos));
     };
     let first_way = Region::of(bot.pos, mid);
@@ -211,7 +206,7 @@ pub(crate) fn named_by(planes: &Planes, step: u32, bot: Bot, d: Diff) -> Result<
     ensures sum { IfOk result (λ at. point at ≡ plus (point bot.pos) d) }
     ensures within { IfOk result (λ at. IsInSpace planes.now.resolution at) }
 {
-    let Some(at) = reached(planes, bot.pos, d) else {
+    let Some(at) = reach(planes, bot.pos, d) else {
         return Err(breaks(step, bot, Rule::OutOfSpace, bot.pos));
     };
     Ok(at)
@@ -222,7 +217,7 @@ fn judge_fusion(step: &Step, bot: &Bot, command: &Command, d: Diff) -> Option<Br
     requires { CanJudge step.now bot.now }
     ensures { IsFusion command.now d → result ≡ later_fault step.now (act bot.now command.now) }
 {
-    let Some(_to) = reached(step.planes, bot.pos, d) else {
+    let Some(_to) = reach(step.planes, bot.pos, d) else {
         return broken_here(step.number, *bot, Rule::OutOfSpace);
     };
     let has = has_partner(step.bots, step.commands, bot, command);
@@ -244,10 +239,10 @@ fn judge_group(
     requires members { TellsMembers (acts_of_step step.now) numbers.now number (act bot.now command.now) }
     ensures { IsGroupCommand command.now d f → result ≡ later_fault step.now (act bot.now command.now) }
 {
-    let Some(near) = reached(step.planes, bot.pos, d) else {
+    let Some(near) = reach(step.planes, bot.pos, d) else {
         return broken_here(step.number, *bot, Rule::OutOfSpace);
     };
-    let Some(far) = reached(step.planes, near, f) else {
+    let Some(far) = reach(step.planes, near, f) else {
         return broken_here(step.number, *bot, Rule::OutOfSpace);
     };
     let region = Region::of(near, far);

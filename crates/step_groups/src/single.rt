@@ -11,7 +11,7 @@ ghost use Rattle.step_groups.specs.Groups.{AreLone};
 ghost use Rattle.step_groups.specs.Judging.{edit_of, rule_broken, start_of};
 ghost use Rattle.step_groups.specs.Steps.{CanBeJudged, acts_of_step, broken_in};
 
-use crate::rules::{breaks, end_of_move, is_clear_by_one, judge_bots, named_by, reached};
+use crate::rules::{breaks, end_of_move, is_clear_at_once, judge_bots, named_by, reach};
 use crate::step::Step;
 use nano_spec::{Bot, Broken, Command, Profile, Rule};
 use std::sync::ledger::Ledger;
@@ -50,15 +50,15 @@ pub fn judge_move<L: Ledger>(
     ensures touches { steps.new ≤ steps.old + 2 * volatile_total planes.now (acts (bot ∷ []) (SMove d ∷ [])) }
 {
     if profile.allows(Command::SMove(d)) {
-        end_of_move(planes, step, bot, d.diff(), false, steps)
+        end_of_move(planes, step, bot, d.diff(), steps)
     } else {
         Err(breaks(step, bot, Rule::Forbidden, bot.pos))
     }
 }
 
-/// Where the only bot gets to by a straight move by one that breaks no rule, `None` where that is to be judged.
+/// Where the only bot gets to by a straight move whose way is seen to be void at once, `None` where that is to be judged.
 #[inline(always)]
-pub fn moves_by_one<L: Ledger>(
+pub fn moves_at_once<L: Ledger>(
     planes: &Planes,
     profile: Profile,
     bot: Bot,
@@ -73,16 +73,13 @@ pub fn moves_by_one<L: Ledger>(
     ensures stays { IfSome result (λ to. IsInSpace planes.now.resolution to) }
     ensures touches { steps.new ≤ steps.old + volatile_total planes.now (acts (bot ∷ []) (SMove d ∷ [])) }
 {
-    if d.diff().mlen() != 1 {
-        return None;
-    }
     if !profile.allows(Command::SMove(d)) {
         return None;
     }
-    let Some(to) = reached(planes, bot.pos, d.diff()) else {
+    let Some(to) = reach(planes, bot.pos, d.diff()) else {
         return None;
     };
-    if is_clear_by_one(planes, bot.pos, to, d.diff(), true, steps) {
+    if is_clear_at_once(planes, bot.pos, to, d.diff(), steps) {
         return Some(to);
     }
     None

@@ -15,7 +15,7 @@ use Rattle.vox_geom.proofs.Counts.{region_count_most}
 use Rattle.vox_geom.proofs.Truths.{false_by, or_by_first, or_false, second_of_two}
 use Rattle.vox_geom.proofs.Tests.{at_most_by_test}
 use Rattle.nano_spec.specs.declared.commands.Command.{Command}
-use Rattle.nano_spec.specs.declared.commands.Command.TheVariants.{Halt, Wait, Flip, SMove, LMove, FusionP, FusionS, Fission, Fill, Void, GFill, GVoid}
+use Rattle.nano_spec.specs.declared.commands.Command.TheVariants.{Fill, Void, GFill, GVoid}
 use Rattle.nano_spec.specs.declared.system.Bot.{Bot}
 use Rattle.nano_spec.specs.Act.{Act, acts, group_regions, position}
 use Rattle.nano_spec.specs.Command.{is_command}

@@ -2,6 +2,7 @@
 #![tactic(auto)]
 
 mod changes;
+mod grounding;
 mod machine;
 mod one_region;
 mod order;

@@ -36,7 +36,7 @@ use std::sync::ledger::Ledger;
 use step_groups::leaders;
 use step_order::{every_order, stays_well_formed};
 use support_forest::Forest;
-use system_state::{System, Turns, know_all};
+use system_state::{System, Turns, recall_all};
 use vox_geom::{Coord, Memory, Steps};
 use vox_planes::{ChangeList, Planes};
 
@@ -90,7 +90,7 @@ impl Model for Machine {
 
 /// What every step keeps: it changes the energy by little, and it leads from a well-formed state to such a state.
 #[inline(always)]
-fn know_step(system: &System, commands: &[Command])
+fn recall_step(system: &System, commands: &[Command])
     ensures commands { AreCommands commands.now }
     ensures rises { (after system.now commands.now).energy <ℤ (system.now.energy +ℤ pos 3000000000) }
     ensures falls { system.now.energy <ℤ ((after system.now commands.now).energy +ℤ pos 3000000000) }
@@ -99,13 +99,13 @@ fn know_step(system: &System, commands: &[Command])
 {
     a_step_changes_the_energy_by_little();
     stays_well_formed();
-    know_all(commands);
-    system.know();
+    recall_all(commands);
+    system.recall();
 }
 
 /// What a step answers that leads to the system's state.
 #[inline(always)]
-fn made(system: &System) -> StepOk
+fn tell_made(system: &System) -> StepOk
     ensures energy { result.energy ≡ system.now.energy }
     ensures halted { result.halted ≡ true ↔ system.now.bots ≡ [] }
 {
@@ -131,7 +131,7 @@ impl Machine {
     {
         opening_is_ready();
         ready_and_well_formed();
-        source.know();
+        source.recall();
         let forest = Forest::of(alloc, &source, steps)?;
         let changed = ChangeList::with_room(alloc, MOST_CHANGED)?;
         let system = System::opening(source, profile);
@@ -222,7 +222,7 @@ impl Machine {
         ensures serial { IfOk result (λ _. serial self.old.state commands.now order.now ≡ Some self.new.state) }
     {
         every_order();
-        self.know();
+        self.recall();
         self.make_step(commands, Some(order), steps)
     }
 
@@ -253,7 +253,7 @@ impl Machine {
             return Err(StepFault::Spent);
         }
         let step = self.steps + 1;
-        know_step(&self.system, commands);
+        recall_step(&self.system, commands);
         if let Some(broken) = self.system.judge(commands, step, &mut self.turns, steps) {
             return Err(StepFault::Broken(broken));
         }
@@ -274,18 +274,18 @@ impl Machine {
         }
         take_turns(&mut self.system, commands, &mut self.turns, order, steps);
         self.steps = step;
-        Ok(made(&self.system))
+        Ok(tell_made(&self.system))
     }
 
     /// Does nothing: it recalls what the state keeps. Its bots are a crew, it is ready for a step, and its profile gives no more
     /// seeds than there are bids.
     #[inline(always)]
-    pub fn know(&self)
+    pub fn recall(&self)
         ensures crew { IsCrew self.now.state.bots }
         ensures ready { IsReady self.now.state }
         ensures seeds { self.now.state.profile.seeds ≤ 39 }
     {
-        self.system.know();
+        self.system.recall();
     }
 
     /// How many bots are active.
@@ -308,7 +308,7 @@ impl Machine {
         ensures value { result ≡ self.now.state.profile }
         ensures seeds { self.now.state.profile.seeds ≤ 39 }
     {
-        self.know();
+        self.recall();
         self.system.profile()
     }
 

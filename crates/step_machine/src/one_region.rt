@@ -63,7 +63,7 @@ pub(crate) fn refit_region<L: Ledger>(
     ensures refitted { IfOk result (λ _. IsRefitted system.now commands.now forest.new steps.old steps.new) }
     ensures edits { IfErr result (λ _. 1 ≤ count_by is_edit commands.now) }
 {
-    system.know();
+    system.recall();
     match forest.remove_region(b, steps) {
         Ok(()) => Ok(()),
         Err(_) => Err(Memory),

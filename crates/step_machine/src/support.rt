@@ -1,15 +1,13 @@
 //! How the full voxels are held up.
-ghost use Rattle.std.specs.Prelude.{◌≡◌, ℕ, ◌+◌, ◌*◌, ◌≤◌, ◌%◌, ◌==◌, [], ◌∷◌, ◌++◌, true, false, length, count_by, cond, IfOk, IfErr, IfSome, IfNone, MatchBool, None, Err};
+ghost use Rattle.std.specs.Prelude.{◌≡◌, ℕ, ◌+◌, ◌≤◌, ◌==◌, [], ◌∷◌, ◌++◌, true, false, length, count_by, IfOk, IfErr, IfSome, IfNone, MatchBool, None, Err};
 ghost use Rattle.nano_spec.specs.declared.system.Harmonics.TheVariants.{Low};
-ghost use Rattle.nano_spec.specs.Act.{acts, is_flip};
+ghost use Rattle.nano_spec.specs.Act.{acts};
 ghost use Rattle.nano_spec.specs.Cutting.{AreCommands};
 ghost use Rattle.nano_spec.specs.Grounded.{FirstUngrounded};
 ghost use Rattle.nano_spec.specs.Group.{leaders};
 ghost use Rattle.nano_spec.specs.Matrix.{is_full};
-ghost use Rattle.nano_spec.specs.Model.{volume};
 ghost use Rattle.nano_spec.specs.Rules.{broken as broken_of};
-ghost use Rattle.nano_spec.specs.State.{is_high};
-ghost use Rattle.nano_spec.specs.Step.{after, flipped};
+ghost use Rattle.nano_spec.specs.Step.{after};
 ghost use Rattle.nano_spec.specs.Work.{volatile_total};
 ghost use Rattle.support_forest.specs.Standing.{AreAdded, AreRemoved, IsCheap, MayAdd, MayRemove};
 ghost use Rattle.step_machine.specs.Edits.{edits_of, is_edit};
@@ -20,14 +18,15 @@ ghost use Rattle.step_machine.specs.declared.TheConstants.{MOST_CHANGED};
 
 use crate::MOST_CHANGED;
 use crate::changes::list_changes;
+use crate::grounding::{find_ungrounded, harmonics_after};
 use crate::machine::StepFault;
 use crate::one_region::{only_region, refit_region};
-use nano_spec::{Broken, Command, Harmonics, Rule};
+use nano_spec::{Broken, Command, Rule};
 use std::sync::ledger::Ledger;
 use support_forest::Forest;
 use system_state::{System, Turns};
 use vox_geom::{Coord, Memory, Near, Steps};
-use vox_planes::{ChangeList, Planes};
+use vox_planes::ChangeList;
 
 /// Cells that become void. Memory may be refused only where there are some.
 #[inline(always)]
@@ -43,7 +42,7 @@ fn remove<L: Ledger>(
     ensures touches { IfOk result (λ _. IsCheap forest.old.matrix forest.new.matrix cells.now 100 steps.old steps.new) }
     ensures some { IfErr result (λ _. 1 ≤ length cells.now) }
 {
-    forest.know();
+    forest.recall();
     if cells.is_empty() {
         return Ok(());
     }
@@ -63,7 +62,7 @@ fn add<L: Ledger>(forest: &mut Forest, cells: &[Coord], steps: &mut Steps<L>) ->
     ensures stands { IfOk result (λ _. forest.new.spent ≡ false) }
     ensures some { IfErr result (λ _. 1 ≤ length cells.now) }
 {
-    forest.know();
+    forest.recall();
     if !cells.is_empty() {
         return match forest.add(cells, steps) {
             Ok(()) => Ok(()),
@@ -92,7 +91,7 @@ fn list_edits<L: Ledger>(
     ensures room { MOST_CHANGED ≤ list.new.spare + length list.new.items }
     ensures touches { steps.new ≤ steps.old + volatile_total system.now.matrix (acts system.now.bots commands.now) }
 {
-    system.know();
+    system.recall();
     list.clear();
     list_changes(system, commands, turns, true, list, steps);
     let voided = list.as_slice().len();
@@ -121,7 +120,7 @@ fn refit_cells<L: Ledger>(
         → IsRefitted system.now commands.now forest.new before steps.new) }
     ensures edits { IfErr result (λ _. 1 ≤ count_by is_edit commands.now) }
 {
-    system.know();
+    system.recall();
     remove(forest, removed, steps)?;
     add(forest, added, steps)?;
     Ok(())
@@ -221,7 +220,7 @@ fn refit_one<L: Ledger>(
         (λ _. (before : ℕ) → steps.old ≤ before + 9 → IsRefitted system.now commands.now forest.new before steps.new) }
     ensures was { IfOk result (λ was. was ≡ is_full system.now.matrix at) }
 {
-    system.know();
+    system.recall();
     let was = system.matrix().full_at(at, steps);
     if was == full {
         return Ok(was);
@@ -276,7 +275,7 @@ pub(crate) fn settle_at_once<L: Ledger>(
     ensures stays { IfNone result (forest.new ≡ forest.old) }
     ensures touches { IfNone result (steps.new ≤ steps.old + 9) }
 {
-    system.know();
+    system.recall();
     let was = system.matrix().full_at(at, steps);
     if was == full {
         return Some(was);
@@ -327,7 +326,7 @@ fn settle_refitted<L: Ledger>(
     ensures memory { result ≡ Err StepFault.Memory → ⊥ }
 {
     let harmonics = harmonics_after(system.harmonics(), commands);
-    match ungrounded(forest, harmonics, steps) {
+    match find_ungrounded(forest, harmonics, steps) {
         None => Ok(()),
         Some(at) => Err(StepFault::Broken(Broken {
             step,
@@ -414,7 +413,7 @@ pub(crate) fn settle_one<L: Ledger>(
     ensures was { IfOk result (λ was. was ≡ is_full system.now.matrix at) }
 {
     let was = refit_one(system, commands, d, at, full, forest, steps)?;
-    match ungrounded(forest, system.harmonics(), steps) {
+    match find_ungrounded(forest, system.harmonics(), steps) {
         None => Ok(was),
         Some(at) => Err(StepFault::Broken(Broken {
             step,
@@ -422,46 +421,5 @@ pub(crate) fn settle_one<L: Ledger>(
             rule: Rule::Ungrounded,
             at,
         })),
-    }
-}
-
-/// The harmonics after a step: the others where the number of Flips is odd.
-fn harmonics_after(harmonics: Harmonics, commands: &[Command]) -> Harmonics
-    ensures { result ≡ cond (count_by is_flip commands.now % 2 == 1) (flipped harmonics) harmonics }
-{
-    let flips = commands.iter().filter(|command| is_flip(command)).count();
-    if flips % 2 == 1 {
-        harmonics.flipped()
-    } else {
-        harmonics
-    }
-}
-
-/// Whether the command is a Flip.
-fn is_flip(command: &Command) -> bool
-    ensures { result ≡ is_flip command.now }
-{
-    matches!(command, Command::Flip)
-}
-
-/// The least full voxel that is not held up, under Low, where each has to be. Only where there is one are voxels read.
-fn ungrounded<L: Ledger>(
-    forest: &Forest,
-    harmonics: Harmonics,
-    steps: &mut Steps<L>,
-) -> Option<Coord>
-    requires { forest.now.spent ≡ false }
-    ensures value { MatchBool (is_high harmonics) (result ≡ None) (FirstUngrounded forest.now.matrix result) }
-    ensures grounded { IfNone result (steps.new ≡ steps.old) }
-    ensures touches { steps.new ≤ steps.old + volume forest.now.matrix.resolution }
-{
-    match harmonics {
-        Harmonics::High => None,
-        Harmonics::Low => {
-            if forest.floating() == 0 {
-                return None;
-            }
-            forest.first_floating(steps)
-        }
     }
 }

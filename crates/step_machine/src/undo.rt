@@ -91,7 +91,7 @@ pub(crate) fn settle_noted<L: Ledger>(
     ensures note { IfOk result (λ undo. IsNote system.now commands.now step undo) }
     ensures room { MOST_CHANGED ≤ list.new.spare + length list.new.items }
 {
-    system.know();
+    system.recall();
     let voided = settle(system, commands, step, turns, list, forest, steps)?;
     let undo = note(alloc, system, step - 1, list.as_slice(), voided)?;
     Ok(undo)

@@ -1,10 +1,10 @@
 -- A whole row of a brick that gets one word.
-use Rattle.std.proofs.Common.{◌≡◌, ℕ, zero, suc, ◌+◌, ◌-◌, ◌*◌, ◌%◌, ◌<◌, ◌≤◌, ◌⊎◌, inl, inr, refl, sym, ◌∙◌, ap, subst, arith, true, false, get_or, set, Some}
+use Rattle.std.proofs.Common.{◌≡◌, ℕ, zero, suc, ◌+◌, ◌-◌, ◌%◌, ◌<◌, ◌≤◌, inl, inr, refl, sym, ◌∙◌, ap, subst, arith, false, get_or, Some}
 use Rattle.std.specs.Prelude.{◌≢◌, ◌==◌}
 use Rattle.std.proofs.lemmas.Bool.{cases_eq, cases_lt}
 use Rattle.std.proofs.lemmas.Bool.Decides.{nat_tests}
 use Rattle.vox_geom.specs.declared.coordinate.Coord.{Coord}
-use Rattle.vox_geom.specs.Space.{IsInSpace, coordinate_at, place}
+use Rattle.vox_geom.specs.Space.{IsInSpace, place}
 use Rattle.vox_geom.proofs.Firsts.{place_below}
 use Rattle.vox_geom.proofs.Places.{coordinate_at-place}
 use Rattle.nano_spec.specs.Model.{volume}

@@ -137,6 +137,28 @@ pub fn word_near<L: Ledger>(
     word_beyond(cells, c, d, steps)
 }
 
+/// The word of a voxel. `chunk` has the words of the slot of its brick, from `start` on: where those beside it are read too, it
+/// is looked for once.
+#[inline(always)]
+pub fn word_here<L: Ledger>(
+    cells: &Cells,
+    c: Coord,
+    slot: u32,
+    chunk: &Chunk,
+    start: usize,
+    steps: &mut Steps<L>,
+) -> u32
+    requires within { IsInSpace cells.now.resolution c }
+    requires slot { slot_of cells.now c ≡ Some slot }
+    requires chunk { HasSlot cells.now.bricks slot chunk.now }
+    requires start { start ≡ start_in_chunk_of slot }
+    ensures value { result ≡ word_at cells.now c }
+    ensures touch { steps.new ≤ steps.old + 1 }
+{
+    cells.recall();
+    chunk.word(start + usize::from(word_index(c)), steps)
+}
+
 /// The words of the neighbours of a voxel whose brick has no slot.
 #[inline(never)]
 pub fn words_beyond<L: Ledger>(cells: &Cells, c: Coord, steps: &mut Steps<L>) -> Beside

@@ -76,7 +76,7 @@ fn words_are_full<L: Ledger>(chunk: &Chunk, from: usize, count: u16, steps: &mut
 {
     let mut full = true;
     for k in 0..count {
-        if chunk.word(from + usize::from(k), steps) != 0 {
+        if chunk.word_behind(from, usize::from(k), steps) != 0 {
             continue;
         }
         full = false;
@@ -227,7 +227,7 @@ fn stack_part<L: Ledger>(
         (λ _. IsHeaped planes.now cells.new (place_of planes.now.resolution first + count) rest.new.items) }
     ensures touches { IfOk result (λ _. steps.new ≤ steps.old + 8 * count) }
 {
-    planes.know();
+    planes.recall();
     if bits % 256 == 0 {
         return Ok(());
     }
@@ -344,7 +344,7 @@ pub fn fill_cells<L: Ledger>(
     ensures matrix { IfOk result (λ _. matrix_of cells.new ≡ planes.now) }
     ensures touches { IfOk result (λ _. steps.new ≤ steps.old + 91 * volume planes.now.resolution) }
 {
-    planes.know();
+    planes.recall();
     let mut rest = lists.take_rest(alloc);
     stack_all(cells, planes, &mut rest, steps)?;
     add_cells(alloc, cells, rest.as_slice(), lists, steps)?;

@@ -1,8 +1,8 @@
 //! The lists that calls fill and empty.
 use crate::candidate::Candidate;
 use crate::orphan::Orphan;
+use crate::queues::Queue;
 use std::alloc::Global;
-use std::collections::VecDeque;
 use std::mem;
 use vox_geom::Coord;
 
@@ -13,7 +13,7 @@ pub struct Lists {
     pub fresh: Vec<Coord>,
     pub rest: Vec<Coord>,
     pub seeds: Vec<Candidate>,
-    pub found: VecDeque<Candidate>,
+    pub found: Queue,
 }
 
 impl Lists {
@@ -26,7 +26,7 @@ impl Lists {
             fresh: Vec::new(alloc),
             rest: Vec::new(alloc),
             seeds: Vec::new(alloc),
-            found: VecDeque::new(alloc),
+            found: Queue::new(alloc),
         }
     }
 
@@ -67,10 +67,10 @@ impl Lists {
     }
 
     /// Takes the queue of candidates out, emptied.
-    pub fn take_found(&mut self, alloc: Global) -> VecDeque<Candidate>
-        ensures { result.items ≡ [] }
+    pub fn take_found(&mut self, alloc: Global) -> Queue
+        ensures { result ≡ [] }
     {
-        let mut found = mem::replace(&mut self.found, VecDeque::new(alloc));
+        let mut found = mem::replace(&mut self.found, Queue::new(alloc));
         found.clear();
         found
     }

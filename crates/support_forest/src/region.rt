@@ -25,7 +25,7 @@ fn words_are_void<L: Ledger>(chunk: &Chunk, from: usize, count: u16, steps: &mut
 {
     let mut void = true;
     for k in 0..count {
-        if chunk.word(from + usize::from(k), steps) == 0 {
+        if chunk.word_behind(from, usize::from(k), steps) == 0 {
             continue;
         }
         void = false;

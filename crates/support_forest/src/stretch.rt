@@ -57,7 +57,7 @@ fn words_hang_not<L: Ledger>(
 {
     let mut none = true;
     for k in 0..count {
-        let word = chunk.word(from + usize::from(k), steps);
+        let word = chunk.word_behind(from, usize::from(k), steps);
         if !hangs(word, toward) {
             continue;
         }

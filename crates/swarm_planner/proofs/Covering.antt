@@ -11,7 +11,7 @@ use Rattle.plan_tape.specs.Progress.{AreAlike, IsVoidFrom}
 use Rattle.swarm_planner.specs.Building.{IsRaised, in_line, in_lines, is_column, layers}
 use Rattle.swarm_planner.specs.Strips.{count, last}
 use Rattle.swarm_planner.specs.Bounds.{width}
-use Rattle.swarm_planner.proofs.Legality.{full_in_box}
+use Rattle.plan_tape.proofs.LegalModels.{full_in_box}
 
 column_at : (w l n a i x : ℕ) → i < n → x ≡ a + w * i → x ≤ l → is_column w l n a x ≡ true
 column_at w l zero a i x h e k = absurd (omega arith)
@@ -52,7 +52,7 @@ in_layers m c h f =
     let y = b.y_end in
     both_true (in_lines m.resolution (width m.resolution) c.x) (nat_lt c.y (m.resolution - 1)) (covered m.resolution c.x (omega arith) x e) (test_less c.y (m.resolution - 1) (omega arith))
 
-all_there : (full done goal : Bool) → full ≡ false → (goal ≡ true → done ≡ true) → (full || (done && goal)) ≡ goal
+all_there : (full done target : Bool) → full ≡ false → (target ≡ true → done ≡ true) → (full || (done && target)) ≡ target
 all_there full done true e h = rw (e, h refl) refl
 all_there full true false e h = rw e refl
 all_there full false false e h = rw e refl

@@ -66,34 +66,34 @@ with_true true b h = h refl
 with_true false b h = refl
 
 -- what one bot fills
-fills_one : (m goal : Matrix) (p c : Coord) → 1 ≤ p.y → list_any (λ s. is_within s (point c)) (filled (point p) (fill m goal p)) ≡ (is_below p c && (is_full goal c && not (is_full m c)))
-fills_one m goal p c h = by (is_wanted m goal p) refl
+fills_one : (m target : Matrix) (p c : Coord) → 1 ≤ p.y → list_any (λ s. is_within s (point c)) (filled (point p) (fill m target p)) ≡ (is_below p c && (is_full target c && not (is_full m c)))
+fills_one m target p c h = by (is_wanted m target p) refl
   where
-    at : is_below p c ≡ true → (is_full goal c && not (is_full m c)) ≡ is_wanted m goal p
-    at e = ap (λ (d : Coord). is_full goal d && not (is_full m d)) (is_below-is p c e)
+    at : is_below p c ≡ true → (is_full target c && not (is_full m c)) ≡ is_wanted m target p
+    at e = ap (λ (d : Coord). is_full target d && not (is_full m d)) (is_below-is p c e)
 
-    by : (t : Bool) → is_wanted m goal p ≡ t → list_any (λ s. is_within s (point c)) (filled (point p) (cond t (Fill down) Wait)) ≡ (is_below p c && (is_full goal c && not (is_full m c)))
-    by true e = or_false (is_within (just (plus (point p) down)) (point c)) ∙ (within_below p c h ∙ sym (with_true (is_below p c) (is_full goal c && not (is_full m c)) (λ f. at f ∙ e)))
-    by false e = sym (and_with (is_below p c) (is_full goal c && not (is_full m c)) (λ f. at f ∙ e))
+    by : (t : Bool) → is_wanted m target p ≡ t → list_any (λ s. is_within s (point c)) (filled (point p) (cond t (Fill down) Wait)) ≡ (is_below p c && (is_full target c && not (is_full m c)))
+    by true e = or_false (is_within (just (plus (point p) down)) (point c)) ∙ (within_below p c h ∙ sym (with_true (is_below p c) (is_full target c && not (is_full m c)) (λ f. at f ∙ e)))
+    by false e = sym (and_with (is_below p c) (is_full target c && not (is_full m c)) (λ f. at f ∙ e))
 
-fill_waits : (m goal : Matrix) (p : Coord) → FillsOrWaits (fill m goal p)
-fill_waits m goal p = by (is_wanted m goal p)
+fill_waits : (m target : Matrix) (p : Coord) → FillsOrWaits (fill m target p)
+fill_waits m target p = by (is_wanted m target p)
   where
     by : (t : Bool) → FillsOrWaits (cond t (Fill down) Wait)
     by true = tt
     by false = tt
 
-allowed : (profile : Profile) (m goal : Matrix) (p : Coord) → profile ≡ light_profile → IsTrue (is_allowed profile (fill m goal p))
-allowed profile m goal p e = subst (λ (k : Profile). IsTrue (is_allowed k (fill m goal p))) (sym e) (by (is_wanted m goal p))
+allowed : (profile : Profile) (m target : Matrix) (p : Coord) → profile ≡ light_profile → IsTrue (is_allowed profile (fill m target p))
+allowed profile m target p e = subst (λ (k : Profile). IsTrue (is_allowed k (fill m target p))) (sym e) (by (is_wanted m target p))
   where
     by : (t : Bool) → IsTrue (is_allowed light_profile (cond t (Fill down) Wait))
     by true = refl
     by false = refl
 
-may_fill : (s : State) (all : List Act) (goal : Matrix) (b : Bot) → IsInSpace s.matrix.resolution b.pos → 1 ≤ b.pos.y → MayAct s all (record { bot = b; command = fill s.matrix goal b.pos }) (fill s.matrix goal b.pos)
-may_fill s all goal b i h = by (is_wanted s.matrix goal b.pos)
+may_fill : (s : State) (all : List Act) (target : Matrix) (b : Bot) → IsInSpace s.matrix.resolution b.pos → 1 ≤ b.pos.y → MayAct s all (record { bot = b; command = fill s.matrix target b.pos }) (fill s.matrix target b.pos)
+may_fill s all target b i h = by (is_wanted s.matrix target b.pos)
   where
-    by : (t : Bool) → MayAct s all (record { bot = b; command = fill s.matrix goal b.pos }) (cond t (Fill down) Wait)
+    by : (t : Bool) → MayAct s all (record { bot = b; command = fill s.matrix target b.pos }) (cond t (Fill down) Wait)
     by true = subst (λ (q : Point). IsTrue (in_space s.matrix.resolution q)) (sym (below_is b.pos h)) (in_space_is s.matrix.resolution (below b.pos) (let y = i.y in record { x = i.x; y = omega arith; z = i.z }))
     by false = tt
 
@@ -104,8 +104,8 @@ just_in low high q n e l h =
     let b : q.x ≤ℤ pos high = rw e (omega (arith, ints)) in
     record { from_low = a; from_high = b; to_low = a; to_high = b }
 
-fenced : (m goal : Matrix) (low high : ℕ) (b : Bot) → low ≤ b.pos.x → b.pos.x ≤ high → IsFenced low high (record { bot = b; command = fill m goal b.pos })
-fenced m goal low high b l h = by (is_wanted m goal b.pos)
+fenced : (m target : Matrix) (low high : ℕ) (b : Bot) → low ≤ b.pos.x → b.pos.x ≤ high → IsFenced low high (record { bot = b; command = fill m target b.pos })
+fenced m target low high b l h = by (is_wanted m target b.pos)
   where
     by : (t : Bool) → AllByRecursion (IsInColumns low high) (volatile_regions (point b.pos) (cond t (Fill down) Wait))
     by true = (just_in low high (point b.pos) b.pos.x refl l h, (just_in low high (plus (point b.pos) down) b.pos.x (plus_none b.pos.x) l h, tt))
@@ -113,44 +113,44 @@ fenced m goal low high b l h = by (is_wanted m goal b.pos)
 
 -- ---- all bots
 
-pub fills_length : (m goal : Matrix) (bots : List Bot) → length (fills m goal bots) ≡ length bots
-fills_length m goal [] = refl
-fills_length m goal (b ∷ bots) = ap suc (fills_length m goal bots)
+pub fills_length : (m target : Matrix) (bots : List Bot) → length (fills m target bots) ≡ length bots
+fills_length m target [] = refl
+fills_length m target (b ∷ bots) = ap suc (fills_length m target bots)
 
-fills_wait : (m goal : Matrix) (bots : List Bot) → AllByRecursion FillsOrWaits (fills m goal bots)
-fills_wait m goal [] = tt
-fills_wait m goal (b ∷ bots) = (fill_waits m goal b.pos, fills_wait m goal bots)
+fills_wait : (m target : Matrix) (bots : List Bot) → AllByRecursion FillsOrWaits (fills m target bots)
+fills_wait m target [] = tt
+fills_wait m target (b ∷ bots) = (fill_waits m target b.pos, fills_wait m target bots)
 
-module _ (s : State) (goal : Matrix) (light : s.profile ≡ light_profile) where
-  each_free : (all : List Act) (bots : List Bot) (low : ℕ) → AreLed s.matrix.resolution 1 Z low (places bots) (places bots) → AllByRecursion (IsFree s all) (acts bots (fills s.matrix goal bots))
+module _ (s : State) (target : Matrix) (light : s.profile ≡ light_profile) where
+  each_free : (all : List Act) (bots : List Bot) (low : ℕ) → AreLed s.matrix.resolution 1 Z low (places bots) (places bots) → AllByRecursion (IsFree s all) (acts bots (fills s.matrix target bots))
   each_free all [] low k = tt
-  each_free all (b ∷ bots) low k = (record { allowed = allowed s.profile s.matrix goal b.pos light; may = may_fill s all goal b k.0.from k.0.high_from }, each_free all bots (max b.pos.x b.pos.x + 1) k.1)
+  each_free all (b ∷ bots) low k = (record { allowed = allowed s.profile s.matrix target b.pos light; may = may_fill s all target b k.0.from k.0.high_from }, each_free all bots (max b.pos.x b.pos.x + 1) k.1)
 
-  all_fenced : (bots : List Bot) (low : ℕ) → AreLed s.matrix.resolution 1 Z low (places bots) (places bots) → AreFenced low (acts bots (fills s.matrix goal bots))
+  all_fenced : (bots : List Bot) (low : ℕ) → AreLed s.matrix.resolution 1 Z low (places bots) (places bots) → AreFenced low (acts bots (fills s.matrix target bots))
   all_fenced [] low k = AreFenced.none
   all_fenced (b ∷ bots) low k =
       let l = k.0.low_from in
-      AreFenced.one (max b.pos.x b.pos.x) (omega arith) (fenced s.matrix goal low (max b.pos.x b.pos.x) b l (omega arith)) (all_fenced bots (max b.pos.x b.pos.x + 1) k.1)
+      AreFenced.one (max b.pos.x b.pos.x) (omega arith) (fenced s.matrix target low (max b.pos.x b.pos.x) b l (omega arith)) (all_fenced bots (max b.pos.x b.pos.x + 1) k.1)
 
-  pub fills_free : (bots : List Bot) (low : ℕ) → AreLed s.matrix.resolution 1 Z low (places bots) (places bots) → AreFree s (acts bots (fills s.matrix goal bots))
-  fills_free bots low k = record { each = each_free (acts bots (fills s.matrix goal bots)) bots low k; untangled = untangled (all_fenced bots low k) }
+  pub fills_free : (bots : List Bot) (low : ℕ) → AreLed s.matrix.resolution 1 Z low (places bots) (places bots) → AreFree s (acts bots (fills s.matrix target bots))
+  fills_free bots low k = record { each = each_free (acts bots (fills s.matrix target bots)) bots low k; untangled = untangled (all_fenced bots low k) }
 
 -- ---- the matrix
 
-all_filled : (m goal : Matrix) (c : Coord) (r low : ℕ) (bots : List Bot) → AreLed r 1 Z low (places bots) (places bots) → is_filled (acts bots (fills m goal bots)) c ≡ (is_under (places bots) c && (is_full goal c && not (is_full m c)))
-all_filled m goal c r low [] k = refl
-all_filled m goal c r low (b ∷ bots) k =
-    let here = fills_one m goal b.pos c k.0.high_from in
-    let more = all_filled m goal c r (max b.pos.x b.pos.x + 1) bots k.1 in
-    (λ i. here i || more i) ∙ or_of_and (is_below b.pos c) (is_under (places bots) c) (is_full goal c && not (is_full m c))
+all_filled : (m target : Matrix) (c : Coord) (r low : ℕ) (bots : List Bot) → AreLed r 1 Z low (places bots) (places bots) → is_filled (acts bots (fills m target bots)) c ≡ (is_under (places bots) c && (is_full target c && not (is_full m c)))
+all_filled m target c r low [] k = refl
+all_filled m target c r low (b ∷ bots) k =
+    let here = fills_one m target b.pos c k.0.high_from in
+    let more = all_filled m target c r (max b.pos.x b.pos.x + 1) bots k.1 in
+    (λ i. here i || more i) ∙ or_of_and (is_below b.pos c) (is_under (places bots) c) (is_full target c && not (is_full m c))
 
-together : (under goal full : Bool) → ((under && (goal && not full)) || full) ≡ (full || (under && goal))
+together : (under target full : Bool) → ((under && (target && not full)) || full) ≡ (full || (under && target))
 together true true true = refl
 together true true false = refl
 together true false true = refl
 together true false false = refl
-together false goal true = refl
-together false goal false = refl
+together false target true = refl
+together false target false = refl
 
 nothing : (a b u : Bool) → a ≡ false → b ≡ false → false ≡ (a || (u && b))
 nothing a b true e f = sym (λ i. e i || f i)
@@ -162,17 +162,17 @@ outside n r c e o = no (in_space n.resolution (point c)) _ (ap (λ k. in_space k
     no : (a b : Bool) → a ≡ false → (a && b) ≡ false
     no a b f = rw f refl
 
-pub raised_by : (m goal : Matrix) (bots : List Bot) (low : ℕ) → goal.resolution ≡ m.resolution → AreLed m.resolution 1 Z low (places bots) (places bots) → IsRaised (with_fills m (acts bots (fills m goal bots))) m goal (is_under (places bots))
-raised_by m goal bots low e k = λ c. by c (in_space m.resolution (point c)) refl
+pub raised_by : (m target : Matrix) (bots : List Bot) (low : ℕ) → target.resolution ≡ m.resolution → AreLed m.resolution 1 Z low (places bots) (places bots) → IsRaised (with_fills m (acts bots (fills m target bots))) m target (is_under (places bots))
+raised_by m target bots low e k = λ c. by c (in_space m.resolution (point c)) refl
   where
-    by : (c : Coord) (t : Bool) → in_space m.resolution (point c) ≡ t → is_full (with_fills m (acts bots (fills m goal bots))) c ≡ (is_full m c || (is_under (places bots) c && is_full goal c))
+    by : (c : Coord) (t : Bool) → in_space m.resolution (point c) ≡ t → is_full (with_fills m (acts bots (fills m target bots))) c ≡ (is_full m c || (is_under (places bots) c && is_full target c))
     by c true i =
-        full_where m.resolution (λ d. is_filled (acts bots (fills m goal bots)) d || is_full m d) c (space_by_test m.resolution c i)
-        ∙ ((λ j. all_filled m goal c m.resolution low bots k j || is_full m c)
-        ∙ together (is_under (places bots) c) (is_full goal c) (is_full m c))
+        full_where m.resolution (λ d. is_filled (acts bots (fills m target bots)) d || is_full m d) c (space_by_test m.resolution c i)
+        ∙ ((λ j. all_filled m target c m.resolution low bots k j || is_full m c)
+        ∙ together (is_under (places bots) c) (is_full target c) (is_full m c))
     by c false o =
-        outside (with_fills m (acts bots (fills m goal bots))) m.resolution c refl o
-        ∙ nothing (is_full m c) (is_full goal c) (is_under (places bots) c) (outside m m.resolution c refl o) (outside goal m.resolution c e o)
+        outside (with_fills m (acts bots (fills m target bots))) m.resolution c refl o
+        ∙ nothing (is_full m c) (is_full target c) (is_under (places bots) c) (outside m m.resolution c refl o) (outside target m.resolution c e o)
 
 -- ---- the tape
 
@@ -187,19 +187,19 @@ module _ (p : TapeState) (swarm : IsSwarm p) (row : InRow p) (up : 1 ≤ (spot p
       all [] low k = tt
       all (b ∷ bots) low k = ((k.0.from, k.0.high_from), all bots (max b.pos.x b.pos.x + 1) k.1)
 
-  module _ (goal : Matrix) (ks : List Command) (e : ks ≡ fills p.matrix goal p.bots) where
+  module _ (target : Matrix) (ks : List Command) (e : ks ≡ fills p.matrix target p.bots) where
     pub fills_are_free : AreFree (state_of p) (acts p.bots ks)
-    fills_are_free = subst (λ (k : List Command). AreFree (state_of p) (acts p.bots k)) (sym e) (fills_free (state_of p) goal swarm.light p.bots 1 standing)
+    fills_are_free = subst (λ (k : List Command). AreFree (state_of p) (acts p.bots k)) (sym e) (fills_free (state_of p) target swarm.light p.bots 1 standing)
 
     pub only_fills : AllByRecursion FillsOrWaits ks
-    only_fills = subst (λ (k : List Command). AllByRecursion FillsOrWaits k) (sym e) (fills_wait p.matrix goal p.bots)
+    only_fills = subst (λ (k : List Command). AllByRecursion FillsOrWaits k) (sym e) (fills_wait p.matrix target p.bots)
 
-    pub has_filled : (q : TapeState) → goal.resolution ≡ p.matrix.resolution → AllStep p q ks (with_fills p.matrix (acts p.bots ks)) p.harmonics p.bots → Fills p q goal
+    pub has_filled : (q : TapeState) → target.resolution ≡ p.matrix.resolution → AllStep p q ks (with_fills p.matrix (acts p.bots ks)) p.harmonics p.bots → Fills p q target
     has_filled q equal_by_test s = record {
       source = s.source;
       swarm = record { high = s.harmonics ∙ swarm.high; light = s.profile ∙ swarm.light };
       bots = s.bots_are;
       resolution = ap (λ (m : Matrix). m.resolution) s.matrix;
-      raised = subst (λ (m : Matrix). IsRaised m p.matrix goal (is_under (places p.bots))) (sym (s.matrix ∙ ap (λ (k : List Command). with_fills p.matrix (acts p.bots k)) e)) (raised_by p.matrix goal p.bots 1 equal_by_test standing);
+      raised = subst (λ (m : Matrix). IsRaised m p.matrix target (is_under (places p.bots))) (sym (s.matrix ∙ ap (λ (k : List Command). with_fills p.matrix (acts p.bots k)) e)) (raised_by p.matrix target p.bots 1 equal_by_test standing);
       steps = s.steps;
     }

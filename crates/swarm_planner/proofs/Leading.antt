@@ -1,30 +1,28 @@
 -- Bots that are led along an axis.
-use Rattle.std.proofs.Common.{◌≡◌, ℕ, suc, ◌+◌, ◌<◌, ◌≤◌, ◌⊎◌, inl, inr, refl, sym, ◌∙◌, ap, subst, arith, Bool, true, false, cond, ◌==◌, max, List, [], ◌∷◌, length, map}
+use Rattle.std.proofs.Common.{◌≡◌, ℕ, suc, ◌+◌, ◌<◌, ◌≤◌, refl, sym, ◌∙◌, ap, subst, arith, Bool, true, false, cond, ◌==◌, max, List, [], ◌∷◌, length, map}
 use Rattle.std.specs.Prelude.{pos, ◌-ℤ◌, IsTrue}
 use Rattle.std.specs.List.{AllByRecursion}
 use Rattle.std.proofs.lemmas.Int.{ints}
 use Rattle.vox_geom.specs.declared.coordinate.Coord.{Coord}
-use Rattle.vox_geom.specs.Point.{Point, plus, point}
-use Rattle.vox_geom.specs.Region.{Span, between, is_between, is_within}
+use Rattle.vox_geom.specs.Point.{plus, point}
+use Rattle.vox_geom.specs.Region.{Span, between}
 use Rattle.vox_geom.specs.Space.{coordinate}
-use Rattle.vox_geom.proofs.Truths.{second_of_three}
 use Rattle.vox_geom.proofs.Tests.{equal_by_test}
-use Rattle.vox_geom.proofs.Points.{from_one_end, in_space_is}
 use Rattle.nano_spec.specs.declared.commands.Command.TheVariants.{SMove, Wait}
 use Rattle.nano_spec.specs.declared.system.Bot.{Bot}
 use Rattle.nano_spec.specs.declared.system.Profile.{Profile}
 use Rattle.nano_spec.specs.Act.{acts}
-use Rattle.nano_spec.specs.Matrix.{Matrix, is_full}
+use Rattle.nano_spec.specs.Matrix.{Matrix}
 use Rattle.nano_spec.specs.Profile.{is_allowed, light_profile}
 use Rattle.step_order.specs.Acting.{goal_of, gone}
 use Rattle.step_order.specs.Apart.{LieApart}
-use Rattle.step_order.specs.Unbroken.{IsFreeWay}
 use Rattle.plan_tape.specs.declared.axis.Axis.{Axis}
 use Rattle.plan_tape.specs.declared.axis.Axis.TheVariants.{X, Y, Z}
 use Rattle.plan_tape.specs.Crowd.{AreWaysApart, CanGo, MayGo, way}
 use Rattle.plan_tape.specs.Leg.{along, component_of, put}
 use Rattle.plan_tape.specs.Progress.{TapeState, IsVoidFrom}
 use Rattle.plan_tape.proofs.Legs.{plus-along, put-component_of}
+use Rattle.plan_tape.proofs.ClearWays.{free_way}
 use Rattle.swarm_planner.specs.Crew.{AreAlong, AreLed, IsLed, lead, led, placed, places}
 
 -- ---- one bot
@@ -51,20 +49,12 @@ goal_is axis p q h = by (component_of axis p == component_of axis q) refl
     by true e = ap point (stays_there axis p q h e)
     by false e = move_ends axis p q h
 
-from_height : (h a b v : ℕ) → h ≤ a → h ≤ b → (a ≤ v) ⊎ (b ≤ v) → h ≤ v
-from_height h a b v l m (inl k) = omega arith
-from_height h a b v l m (inr k) = omega arith
-
--- between two places all is void from their height on
-pub void_way : (m : Matrix) (h : ℕ) (p q c : Coord) → IsVoidFrom m h → h ≤ p.y → h ≤ q.y → IsTrue (is_within (between (point p) (point q)) (point c)) → is_full m c ≡ false
-void_way m h p q c void l k t = void c (from_height h p.y q.y c.y l k (from_one_end p.y q.y c.y (second_of_three (is_between (pos p.x) (pos q.x) (pos c.x)) (is_between (pos p.y) (pos q.y) (pos c.y)) (is_between (pos p.z) (pos q.z) (pos c.z)) t)))
-
 pub may_go : (m : Matrix) (h : ℕ) (axis : Axis) (low : ℕ) (p q : Coord) → IsVoidFrom m h → IsLed m.resolution h axis low p q → MayGo m (point p) (lead axis p q)
 may_go m h axis low p q void k = by (component_of axis p == component_of axis q)
   where
     by : (t : Bool) → MayGo m (point p) (cond t Wait (SMove (along axis (pos (component_of axis q) -ℤ pos (component_of axis p)))))
     by true = tt
-    by false = subst (λ (e : Point). IsFreeWay m (point p) e) (sym (move_ends axis p q k.line)) (record { within = in_space_is m.resolution q k.to; void = λ c t. void_way m h p q c void k.high_from k.high_to t })
+    by false = let from = k.high_from in let to = k.high_to in free_way m p q _ (move_ends axis p q k.line) k.to (λ c l. void c (omega arith)) (λ c l. void c (omega arith))
 
 pub allowed : (profile : Profile) (axis : Axis) (p q : Coord) → profile ≡ light_profile → IsTrue (is_allowed profile (lead axis p q))
 allowed profile axis p q e = subst (λ (k : Profile). IsTrue (is_allowed k (lead axis p q))) (sym e) (by (component_of axis p == component_of axis q))

@@ -2,9 +2,11 @@
 use Rattle.std.proofs.Common.{◌≡◌, ℕ, ◌+◌, ◌-◌, ◌*◌, ◌<◌, ◌≤◌, sym, ◌∙◌, ap, subst, arith, mul-le-mul}
 use Rattle.vox_geom.specs.declared.coordinate.Coord.{Coord}
 use Rattle.nano_spec.specs.Legal.{IsLegal}
-use Rattle.nano_spec.specs.Matrix.{Matrix}
+use Rattle.nano_spec.specs.Matrix.{Matrix, is_full}
+use Rattle.vox_planes.specs.Voxel.{IsWhole}
 use Rattle.plan_tape.specs.Leg.{distance}
-use Rattle.plan_tape.specs.Progress.{AreAlike, TapeState, spot}
+use Rattle.plan_tape.specs.Progress.{IsVoidFrom, TapeState, spot}
+use Rattle.plan_tape.proofs.LegalModels.{alike_is_same}
 use Rattle.swarm_planner.specs.Building.{Builds, CanBuild, swarm_layer_steps, layers, crew_steps_to}
 use Rattle.swarm_planner.specs.Crew.{MayLead, places}
 use Rattle.swarm_planner.specs.Lineup.{HasGathered, IsSpreadOver, SpreadsOver}
@@ -66,8 +68,8 @@ module _ (a b : TapeState) (most : ℕ) (spread : SpreadsOver a b (count a.matri
 
 -- ---- the target is built
 
-pub erected : (a b c d : TapeState) (target : Matrix) → a.steps ≤ 3 → SpreadsOver a b (count a.matrix.resolution) 400 → IsLegal target → target.resolution ≡ a.matrix.resolution → Builds b c target (layers b.matrix.resolution (b.matrix.resolution - 1)) (coord 1 1 0) (coord 1 b.matrix.resolution 0) ((b.matrix.resolution - 1) * swarm_layer_steps b.matrix.resolution) → HasGathered c d ((spot c.bots).z + 420) → IsErected d target
-erected a b c d target few s h same k g =
+pub erected : (a b c d : TapeState) (target : Matrix) → a.steps ≤ 3 → SpreadsOver a b (count a.matrix.resolution) 400 → IsLegal target → IsWhole d.matrix → IsWhole target → target.resolution ≡ a.matrix.resolution → Builds b c target (layers b.matrix.resolution (b.matrix.resolution - 1)) (coord 1 1 0) (coord 1 b.matrix.resolution 0) ((b.matrix.resolution - 1) * swarm_layer_steps b.matrix.resolution) → HasGathered c d ((spot c.bots).z + 420) → IsErected d target
+erected a b c d target few s h wd wt same k g =
     let er : b.matrix.resolution ≡ target.resolution = ap (λ (m : Matrix). m.resolution) s.matrix ∙ sym same in
     let wide : c.matrix.resolution ≡ target.resolution = k.resolution ∙ er in
     let leads = k.ready.row.leads in
@@ -80,13 +82,14 @@ erected a b c d target few s h same k g =
     let gs = g.steps_are in
     let gx = ap (λ (q : Coord). q.x) g.there in
     let gy = ap (λ (q : Coord). q.y) g.there in
+    let gz = ap (λ (q : Coord). q.z) g.there in
+    let most = together d.steps c.steps b.steps a.steps (spot d.bots).x (spot d.bots).y (spot c.bots) (distance (spot b.bots) (coord 1 1 0)) ((target.resolution - 1) * swarm_layer_steps target.resolution) target.resolution gs gx gy ks ss few none (omega (arith, x, n)) (omega (arith, y, wide)) in
     record {
       swarm = g.swarm;
       alone = g.alone;
-      built = subst (λ (m : Matrix). AreAlike m target) (sym g.matrix) (built_is c.matrix b.matrix target b.matrix.resolution h er s.spread.void k.raised);
-      same = sym (ap (λ (m : Matrix). m.resolution) g.matrix ∙ wide);
-      depth = ap (λ (q : Coord). q.z) g.there;
-      steps_are = together d.steps c.steps b.steps a.steps (spot d.bots).x (spot d.bots).y (spot c.bots) (distance (spot b.bots) (coord 1 1 0)) ((target.resolution - 1) * swarm_layer_steps target.resolution) target.resolution gs gx gy ks ss few none (omega (arith, x, n)) (omega (arith, y, wide));
+      matrix = alike_is_same d.matrix target wd wt (ap (λ (m : Matrix). m.resolution) g.matrix ∙ wide) (λ q _. ap (λ (m : Matrix). is_full m q) g.matrix ∙ built_is c.matrix b.matrix target b.matrix.resolution h er s.spread.void k.raised q);
+      clear = subst (λ (m : Matrix). IsVoidFrom m (spot d.bots).y) (sym g.matrix) (subst (λ y. IsVoidFrom c.matrix y) (sym gy) k.ready.here);
+      steps_are = omega (arith, most, gz);
     }
   where
     together : (d c b a x y : ℕ) (q : Coord) (way n r : ℕ) → d ≤ c + (q.z + 420) → x ≡ q.x → y ≡ q.y → c + distance q (coord 1 r 0) ≤ b + way + n → b ≤ a + 400 → a ≤ 3 → way ≡ 0 → q.x ≤ 20 → q.y < r → d + x + y ≤ n + 823 + 20 + r

@@ -3,10 +3,9 @@ use Rattle.std.proofs.Common.{◌≡◌, ℕ, zero, suc, ◌+◌, ◌-◌, ◌<�
 use Rattle.std.specs.Prelude.{pos, IsTrue, flat_map, slice_index}
 use Rattle.std.specs.List.{AllByRecursion}
 use Rattle.vox_geom.specs.declared.coordinate.Coord.{Coord}
-use Rattle.vox_geom.specs.Point.{Point, plus, point}
+use Rattle.vox_geom.specs.Point.{plus, point}
 use Rattle.vox_geom.specs.Space.{coordinate, numbers_from}
 use Rattle.vox_geom.proofs.Sums.{numbers_length, plus_none, plus_one}
-use Rattle.vox_geom.proofs.Points.{in_space_is}
 use Rattle.nano_spec.specs.declared.commands.Command.{Command}
 use Rattle.nano_spec.specs.declared.commands.Command.TheVariants.{Fission, Wait}
 use Rattle.nano_spec.specs.declared.system.Bot.{Bot}
@@ -23,11 +22,11 @@ use Rattle.step_order.proofs.Facts.{Rising}
 use Rattle.step_order.proofs.Lists.{In}
 use Rattle.plan_tape.specs.Crowd.{AllStep, SplitsOrWaits, bots_split, parts}
 use Rattle.plan_tape.specs.Progress.{TapeState, spot, state_of, IsVoidFrom}
+use Rattle.plan_tape.proofs.ClearWays.{free_place}
 use Rattle.swarm_planner.specs.Crew.{IsSwarm, places}
 use Rattle.swarm_planner.specs.Lineup.{AreLined, InLine, Regroups, next_along_x, ends, last_column, lined_up, right, seeds_after, split}
 use Rattle.swarm_planner.proofs.Fences.{AreFenced, untangled}
 use Rattle.swarm_planner.proofs.Filling.{just_in}
-use Rattle.swarm_planner.proofs.Leading.{void_way}
 use Rattle.swarm_planner.proofs.Lines.{waits_then}
 use Rattle.swarm_planner.proofs.Rows.{length-places}
 
@@ -52,10 +51,7 @@ allowed_split profile m e = subst (λ (k : Profile). IsTrue (is_allowed k (Fissi
 
 module _ (s : State) (light : s.profile ≡ light_profile) (y z : ℕ) (void : IsVoidFrom s.matrix y) (below : y < s.matrix.resolution) (deep : z < s.matrix.resolution) (m : ℕ) where
   free_beside : (p : Coord) → p.x + 1 < s.matrix.resolution → p.y ≡ y → p.z ≡ z → IsFreeWay s.matrix (plus (point p) right) (plus (point p) right)
-  free_beside p h e f = subst (λ (q : Point). IsFreeWay s.matrix q q) (sym (right_is p)) (record {
-    within = in_space_is s.matrix.resolution (next_along_x p) (record { x = h; y = omega arith; z = omega arith });
-    void = λ c t. void_way s.matrix y (next_along_x p) (next_along_x p) c void (omega arith) (omega arith) t;
-  })
+  free_beside p h e f = free_place s.matrix (next_along_x p) _ (right_is p) (record { x = h; y = omega arith; z = omega arith }) (λ c l. void c (omega arith))
 
   each_free : (all : List Act) (bots : List Bot) (low : ℕ) → AreLined s.matrix.resolution y z low (places bots) → last_column (places bots) + 1 < s.matrix.resolution → m < length (seed_list (last_seeds bots)) → AllByRecursion (IsFree s all) (acts bots (ends (Fission right m) bots))
   each_free all [] low k h l = tt

@@ -1,5 +1,5 @@
--- What a part of the plan has built: some voxels that are full in the goal are full, and all others are as they were.
-use Rattle.std.specs.Prelude.{◌≡◌, ℕ, ◌+◌, ◌-◌, ◌*◌, ◌≤◌, ◌<◌, ◌==◌, Bool, false, ◌&&◌, ◌||◌, not, cond, nat_lt, zero, suc, min, List, [], ◌∷◌}
+-- What a part of the plan has built: some voxels that are full in the target are full, and all others are as they were.
+use Rattle.std.specs.Prelude.{◌≡◌, ℕ, ◌+◌, ◌*◌, ◌≤◌, ◌<◌, ◌==◌, Bool, false, ◌&&◌, ◌||◌, not, cond, nat_lt, zero, suc, min, List, [], ◌∷◌}
 use Rattle.vox_geom.specs.declared.coordinate.Coord.{Coord}
 use Rattle.nano_spec.specs.declared.commands.Command.{Command}
 use Rattle.nano_spec.specs.declared.commands.Command.TheVariants.{Fill, Wait}
@@ -23,35 +23,35 @@ abbrev pub is_under : List Coord → Coord → Bool
 is_under [] c = false
 is_under (p ∷ ps) c = is_below p c || is_under ps c
 
--- whether the voxel below a place is full in the goal and not yet in the matrix
+-- whether the voxel below a place is full in the target and not yet in the matrix
 abbrev pub is_wanted : Matrix → Matrix → Coord → Bool
-is_wanted m goal p = is_full goal (below p) && not (is_full m (below p))
+is_wanted m target p = is_full target (below p) && not (is_full m (below p))
 
 -- whether one of the voxels below places is
 abbrev pub are_wanted : Matrix → Matrix → List Coord → Bool
-are_wanted m goal [] = false
-are_wanted m goal (p ∷ ps) = is_wanted m goal p || are_wanted m goal ps
+are_wanted m target [] = false
+are_wanted m target (p ∷ ps) = is_wanted m target p || are_wanted m target ps
 
 -- the bot fills the voxel below its place where it is wanted, and waits elsewhere
 abbrev pub fill : Matrix → Matrix → Coord → Command
-fill m goal p = cond (is_wanted m goal p) (Fill down) Wait
+fill m target p = cond (is_wanted m target p) (Fill down) Wait
 
 -- the commands of all bots
 abbrev pub fills : Matrix → Matrix → List Bot → List Command
-fills m goal [] = []
-fills m goal (b ∷ bots) = fill m goal b.pos ∷ fills m goal bots
+fills m target [] = []
+fills m target (b ∷ bots) = fill m target b.pos ∷ fills m target bots
 
--- where the test says so voxels that are full in the goal have become full, and all others are as they were
+-- where the test says so voxels that are full in the target have become full, and all others are as they were
 abbrev pub IsRaised : Matrix → Matrix → Matrix → (Coord → Bool) → Type 0
-IsRaised new old goal done = (c : Coord) → is_full new c ≡ (is_full old c || (done c && is_full goal c))
+IsRaised new old target done = (c : Coord) → is_full new c ≡ (is_full old c || (done c && is_full target c))
 
--- the tape after one step, by which all voxels below the bots are as the goal has them
-pub record Fills (old new : TapeState) (goal : Matrix) : Type 0 where
+-- the tape after one step, by which all voxels below the bots are as the target has them
+pub record Fills (old new : TapeState) (target : Matrix) : Type 0 where
   pub source : new.source ≡ old.source
   pub swarm : IsSwarm new
   pub bots : new.bots ≡ old.bots
   pub resolution : new.matrix.resolution ≡ old.matrix.resolution
-  pub raised : IsRaised new.matrix old.matrix goal (is_under (places old.bots))
+  pub raised : IsRaised new.matrix old.matrix target (is_under (places old.bots))
   pub steps : new.steps ≡ old.steps + 1
 
 -- ---- lines and layers
@@ -93,15 +93,15 @@ layers r y c = in_lines r (width r) c.x && nat_lt c.y y
 -- ---- the tape
 
 -- the swarm stands in a row, and all is void from its height on
-pub record CanBuild (p : TapeState) (goal : Matrix) : Type 0 where
+pub record CanBuild (p : TapeState) (target : Matrix) : Type 0 where
   pub swarm : IsSwarm p
   pub row : InRow p
-  pub same : goal.resolution ≡ p.matrix.resolution
+  pub same : target.resolution ≡ p.matrix.resolution
   pub here : IsVoidFrom p.matrix (spot p.bots).y
 
 -- moreover it stands no higher than above the layer of y, and all is void from there on
-pub record CanFillLayer (p : TapeState) (goal : Matrix) (y : ℕ) : Type 0 where
-  pub ready : CanBuild p goal
+pub record CanFillLayer (p : TapeState) (target : Matrix) (y : ℕ) : Type 0 where
+  pub ready : CanBuild p target
   pub within : y + 1 < p.matrix.resolution
   pub above : IsVoidFrom p.matrix (y + 1)
   pub below : (spot p.bots).y ≤ y + 1
@@ -111,11 +111,11 @@ abbrev pub crew_steps_to : TapeState → Coord → ℕ
 crew_steps_to p c = p.steps + distance (spot p.bots) c
 
 -- the tape has built the voxels of which the test says so; with the way to a place it has so many steps more at most than it had with the way to another
-pub record Builds (old new : TapeState) (goal : Matrix) (done : Coord → Bool) (from to : Coord) (most : ℕ) : Type 0 where
+pub record Builds (old new : TapeState) (target : Matrix) (done : Coord → Bool) (from to : Coord) (most : ℕ) : Type 0 where
   pub source : new.source ≡ old.source
   pub resolution : new.matrix.resolution ≡ old.matrix.resolution
-  pub raised : IsRaised new.matrix old.matrix goal done
-  pub ready : CanBuild new goal
+  pub raised : IsRaised new.matrix old.matrix target done
+  pub ready : CanBuild new target
   pub low : (spot new.bots).y ≤ to.y
   pub steps_are : crew_steps_to new to ≤ crew_steps_to old from + most
 

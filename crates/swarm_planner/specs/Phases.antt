@@ -1,7 +1,9 @@
 -- The tape after each phase of the plan.
 use Rattle.std.specs.Prelude.{◌≡◌, ◌+◌, ◌-◌, ◌*◌, ◌≤◌, ℕ, length}
 use Rattle.nano_spec.specs.Matrix.{Matrix}
-use Rattle.plan_tape.specs.Progress.{AreAlike, TapeState, spot}
+use Rattle.nano_spec.specs.State.{origin}
+use Rattle.plan_tape.specs.Leg.{moves_to}
+use Rattle.plan_tape.specs.Progress.{IsVoidFrom, TapeState, spot}
 use Rattle.swarm_planner.specs.Building.{swarm_layer_steps}
 use Rattle.swarm_planner.specs.Crew.{IsSwarm}
 use Rattle.swarm_planner.specs.Lineup.{IsSpreadOver}
@@ -17,11 +19,10 @@ pub record SwarmIsOpened (t : TapeState) (nothing : Matrix) : Type 0 where
 abbrev pub phase_steps : ℕ → ℕ
 phase_steps r = (r - 1) * swarm_layer_steps r + 823
 
--- the target is built, and one bot is left, at z = 0; with the way home there are so many steps at most
+-- the target is built, and one bot is left, with all void from its height on; with the way home there are so many steps at most
 pub record IsErected (t : TapeState) (target : Matrix) : Type 0 where
   pub swarm : IsSwarm t
   pub alone : length t.bots ≡ 1
-  pub built : AreAlike t.matrix target
-  pub same : target.resolution ≡ t.matrix.resolution
-  pub depth : (spot t.bots).z ≡ 0
-  pub steps_are : t.steps + (spot t.bots).x + (spot t.bots).y ≤ phase_steps target.resolution + 20 + target.resolution
+  pub matrix : t.matrix ≡ target
+  pub clear : IsVoidFrom t.matrix (spot t.bots).y
+  pub steps_are : t.steps + moves_to (spot t.bots) origin ≤ phase_steps target.resolution + 20 + target.resolution

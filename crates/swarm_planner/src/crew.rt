@@ -3,11 +3,11 @@ ghost use Rattle.std.specs.Prelude.{◌≡◌, ◌+◌, ◌*◌, ◌≤◌, ◌<
 ghost use Rattle.plan_tape.specs.Leg.{gap};
 ghost use Rattle.plan_tape.specs.Progress.{spot, IsVoidFrom};
 ghost use Rattle.swarm_planner.specs.Crew.{CrewGoes, InRow, IsSwarm, places};
-ghost use Rattle.swarm_planner.specs.Lineup.{Gathers, InLine, HasGathered, IsSpreadOver, SpreadsOver, free_column, last_column, sent};
+ghost use Rattle.swarm_planner.specs.Lineup.{Gathers, InLine, HasGathered, IsSpreadOver, SpreadsOver, free_column, last_column as last_column_of, sent};
 ghost use Rattle.swarm_planner.specs.Strips.{count as count_of};
 
 use crate::paint::{first_place, go};
-use crate::steps::{fuse_last, last_place, move_last, split_last};
+use crate::steps::{fuse_last, last_column, move_last, split_last};
 use crate::strips::{strip_count, strip_width};
 use plan_tape::{Tape, next_stop};
 use std::alloc::Global;
@@ -18,12 +18,12 @@ fn send_last(alloc: Global, tape: &mut Tape, to: u16) -> Result<(), Memory>
     requires line { InLine tape.old }
     requires free { free_column 1 (places tape.old.bots) ≤ to }
     requires within { to < tape.old.matrix.resolution }
-    requires limit { tape.old.steps + gap (last_column (places tape.old.bots)) to ≤ 1073741824 }
+    requires limit { tape.old.steps + gap (last_column_of (places tape.old.bots)) to ≤ 1073741824 }
     ensures goes { OnOk result
-        (CrewGoes tape.old tape.new (sent (places tape.old.bots) to) (gap (last_column (places tape.old.bots)) to)) }
+        (CrewGoes tape.old tape.new (sent (places tape.old.bots) to) (gap (last_column_of (places tape.old.bots)) to)) }
     ensures line { OnOk result (InLine tape.new) }
 {
-    let mut at = last_place(tape);
+    let mut at = last_column(tape);
     while at != to {
         at = next_stop(at, to);
         move_last(alloc, tape, at)?;
@@ -39,7 +39,7 @@ fn spread_one(alloc: Global, tape: &mut Tape, count: u16) -> Result<(), Memory>
     requires limit { tape.old.steps + 20 ≤ 1073741824 }
     ensures { OnOk result (SpreadsOver tape.old tape.new (count + 1) 20) }
 {
-    let to = last_place(tape) + strip_width(tape.matrix().resolution());
+    let to = last_column(tape) + strip_width(tape.matrix().resolution());
     split_last(alloc, tape, (19 - count) as u8)?;
     send_last(alloc, tape, to)
 }
@@ -70,11 +70,11 @@ fn free_place(tape: &Tape) -> u16
 fn gather_one(alloc: Global, tape: &mut Tape) -> Result<(), Memory>
     requires line { InLine tape.old }
     requires two { 2 ≤ length tape.old.bots }
-    requires limit { tape.old.steps + gap (last_column (places tape.old.bots)) (free_column 1 (places tape.old.bots))
+    requires limit { tape.old.steps + gap (last_column_of (places tape.old.bots)) (free_column 1 (places tape.old.bots))
         < 1073741824 }
     ensures { OnOk result
         (Gathers tape.old tape.new
-        (gap (last_column (places tape.old.bots)) (free_column 1 (places tape.old.bots)) + 1)) }
+        (gap (last_column_of (places tape.old.bots)) (free_column 1 (places tape.old.bots)) + 1)) }
 {
     let to = free_place(tape);
     send_last(alloc, tape, to)?;

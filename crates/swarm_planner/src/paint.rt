@@ -8,9 +8,9 @@ ghost use Rattle.swarm_planner.specs.Strips.{strip_row};
 ghost use Rattle.swarm_planner.specs.Bounds.{width};
 ghost use Rattle.vox_geom.specs.Point.{coord};
 
-use crate::steps::{component, fill_below, is_wanted, move_row, with_component};
+use crate::steps::{fill_below, is_wanted, move_row};
 use crate::strips::{strip_count, strip_width};
-use plan_tape::{Axis, Tape, next_stop};
+use plan_tape::{Axis, Tape, component, next_stop, with_component};
 use std::alloc::Global;
 use vox_geom::{Coord, Memory};
 use vox_planes::Planes;
@@ -61,20 +61,20 @@ pub fn go(alloc: Global, tape: &mut Tape, to: Coord) -> Result<(), Memory>
 }
 
 /// Whether a bot has a voxel to fill, once the row has gone there.
-fn has_work(tape: &Tape, goal: &Planes, to: Coord) -> bool
-    requires same { goal.now.resolution ≡ tape.now.matrix.resolution }
+fn has_wanted(tape: &Tape, target: &Planes, to: Coord) -> bool
+    requires same { target.now.resolution ≡ tape.now.matrix.resolution }
     requires leads { MayLead tape.now.matrix.resolution to }
     requires up { 1 ≤ to.y }
-    ensures { result ≡ are_wanted tape.now.matrix goal.now (strip_row tape.now.matrix.resolution to) }
+    ensures { result ≡ are_wanted tape.now.matrix target.now (strip_row tape.now.matrix.resolution to) }
 {
-    let r = goal.resolution();
+    let r = target.resolution();
     let mut x = to.x;
     for _strip in 0..strip_count(r) {
         let place = Coord {
             x: x.min(r - 2),
             ..to
         };
-        if is_wanted(tape.matrix(), goal, place) {
+        if is_wanted(tape.matrix(), target, place) {
             return true;
         }
         x += strip_width(r);
@@ -86,77 +86,77 @@ fn has_work(tape: &Tape, goal: &Planes, to: Coord) -> bool
 fn paint_cell(
     alloc: Global,
     tape: &mut Tape,
-    goal: &Planes,
+    target: &Planes,
     x: u16,
     y: u16,
     z: u16,
 ) -> Result<(), Memory>
-    requires ready { CanFillLayer tape.old goal.now y }
+    requires ready { CanFillLayer tape.old target.now y }
     requires first { 1 ≤ x }
     requires wide { x ≤ width tape.old.matrix.resolution }
     requires z { z < tape.old.matrix.resolution }
     requires limit { crew_steps_to tape.old (coord x (y + 1) z) < 1073741824 }
     ensures { OnOk result
-        (Builds tape.old tape.new goal.now (cell tape.old.matrix.resolution x y z) (coord x (y + 1) z)
+        (Builds tape.old tape.new target.now (cell tape.old.matrix.resolution x y z) (coord x (y + 1) z)
         (coord x (y + 1) z) 1) }
 {
     let to = Coord { x, y: y + 1, z };
-    if !has_work(tape, goal, to) {
+    if !has_wanted(tape, target, to) {
         return Ok(());
     }
     go(alloc, tape, to)?;
-    fill_below(alloc, tape, goal)
+    fill_below(alloc, tape, target)
 }
 
 /// Builds in all strips the line of y that the row meets where its first bot is at x.
-fn paint_line(alloc: Global, tape: &mut Tape, goal: &Planes, x: u16, y: u16) -> Result<(), Memory>
-    requires ready { CanFillLayer tape.old goal.now y }
+fn paint_line(alloc: Global, tape: &mut Tape, target: &Planes, x: u16, y: u16) -> Result<(), Memory>
+    requires ready { CanFillLayer tape.old target.now y }
     requires first { 1 ≤ x }
     requires wide { x ≤ width tape.old.matrix.resolution }
     requires limit { crew_steps_to tape.old (coord x (y + 1) 0) + 2 * tape.old.matrix.resolution < 1073741824 }
     ensures { OnOk result
-        (Builds tape.old tape.new goal.now (line tape.old.matrix.resolution x y) (coord x (y + 1) 0)
+        (Builds tape.old tape.new target.now (line tape.old.matrix.resolution x y) (coord x (y + 1) 0)
         (coord x (y + 1) tape.old.matrix.resolution) (2 * tape.old.matrix.resolution)) }
 {
-    for z in 0..goal.resolution() {
-        paint_cell(alloc, tape, goal, x, y, z)?;
+    for z in 0..target.resolution() {
+        paint_cell(alloc, tape, target, x, y, z)?;
     }
     Ok(())
 }
 
 /// Builds the layer of y.
-fn paint_layer(alloc: Global, tape: &mut Tape, goal: &Planes, y: u16) -> Result<(), Memory>
-    requires ready { CanFillLayer tape.old goal.now y }
+fn paint_layer(alloc: Global, tape: &mut Tape, target: &Planes, y: u16) -> Result<(), Memory>
+    requires ready { CanFillLayer tape.old target.now y }
     requires limit { crew_steps_to tape.old (coord 1 (y + 1) 0)
         + width tape.old.matrix.resolution * line_steps tape.old.matrix.resolution
         < 1073741824 }
     ensures { OnOk result
-        (Builds tape.old tape.new goal.now
+        (Builds tape.old tape.new target.now
         (in_first_lines tape.old.matrix.resolution (width tape.old.matrix.resolution) y) (coord 1 (y + 1) 0)
         (coord (width tape.old.matrix.resolution + 1) (y + 1) 0)
         (width tape.old.matrix.resolution * line_steps tape.old.matrix.resolution)) }
 {
-    for x in 0..strip_width(goal.resolution()) {
-        paint_line(alloc, tape, goal, x + 1, y)?;
+    for x in 0..strip_width(target.resolution()) {
+        paint_line(alloc, tape, target, x + 1, y)?;
     }
     Ok(())
 }
 
 /// Builds all layers, from the floor up.
-pub fn build(alloc: Global, tape: &mut Tape, goal: &Planes) -> Result<(), Memory>
-    requires ready { CanBuild tape.old goal.now }
+pub fn build(alloc: Global, tape: &mut Tape, target: &Planes) -> Result<(), Memory>
+    requires ready { CanBuild tape.old target.now }
     requires void { IsVoidFrom tape.old.matrix 0 }
     requires low { (spot tape.old.bots).y ≤ 1 }
     requires limit { crew_steps_to tape.old (coord 1 1 0)
         + (tape.old.matrix.resolution - 1) * swarm_layer_steps tape.old.matrix.resolution
         < 1073741824 }
     ensures { OnOk result
-        (Builds tape.old tape.new goal.now (layers tape.old.matrix.resolution (tape.old.matrix.resolution - 1))
+        (Builds tape.old tape.new target.now (layers tape.old.matrix.resolution (tape.old.matrix.resolution - 1))
         (coord 1 1 0) (coord 1 tape.old.matrix.resolution 0)
         ((tape.old.matrix.resolution - 1) * swarm_layer_steps tape.old.matrix.resolution)) }
 {
-    for y in 0..goal.resolution() - 1 {
-        paint_layer(alloc, tape, goal, y)?;
+    for y in 0..target.resolution() - 1 {
+        paint_layer(alloc, tape, target, y)?;
     }
     Ok(())
 }

@@ -3,7 +3,6 @@ ghost use Rattle.std.specs.Prelude.{◌≡◌, ◌≢◌, ◌+◌, ◌*◌, ◌<
 ghost use Rattle.nano_spec.specs.Legal.{IsLegal};
 ghost use Rattle.nano_spec.specs.Matrix.{empty};
 ghost use Rattle.nano_spec.specs.Profile.{full_profile, light_profile};
-ghost use Rattle.vox_planes.specs.Voxel.{IsWhole};
 ghost use Rattle.plan_tape.specs.Progress.{IsAccepted, IsVoidFrom};
 ghost use Rattle.plan_tape.specs.Reaches.{HasAtMost};
 ghost use Rattle.swarm_planner.specs.Phases.{IsErected, SwarmIsOpened};
@@ -12,18 +11,18 @@ ghost use Rattle.swarm_planner.specs.Bounds.{width};
 use crate::crew::{gather, spread};
 use crate::paint::build;
 use nano_spec::{Command, Profile, full_accepts_what_light_accepts};
-use plan_tape::{Plan, Tape, halt_alone, lowest_difference, seeds_bound_the_bots};
+use plan_tape::{Plan, Tape, close, halt_alone, lowest_difference, seeds_bound_the_bots};
 use std::alloc::Global;
 use vox_geom::{Coord, Memory};
 use vox_planes::Planes;
 
 /// The tape with the bot in the first column, above the floor, under High.
-fn opened(alloc: Global, nothing: Planes) -> Result<Tape, Memory>
+fn open(alloc: Global, nothing: Planes) -> Result<Tape, Memory>
     requires some { 3 ≤ nothing.resolution }
     requires void { IsVoidFrom nothing 0 }
     ensures { IfOk result (λ t. SwarmIsOpened t nothing) }
 {
-    nothing.know();
+    nothing.recall();
     let mut tape = Tape::start_as(alloc, nothing, Profile::light())?;
     tape.flip()?;
     tape.go(Coord { x: 1, y: 1, z: 0 })?;
@@ -38,36 +37,16 @@ fn erect(alloc: Global, tape: &mut Tape, target: &Planes) -> Result<(), Memory>
     ensures source { OnOk result (tape.new.source ≡ tape.old.source) }
     ensures erected { OnOk result (IsErected tape.new target.now) }
 {
-    target.know();
+    target.recall();
     spread(alloc, tape)?;
     build(alloc, tape, target)?;
     gather(alloc, tape)?;
+    tape.recall_whole();
     Ok(())
 }
 
-/// The plan, once the only bot is left at z = 0.
-fn closed(mut tape: Tape, target: &Planes) -> Result<Plan, Memory>
-    requires erected { IsErected tape target.now }
-    requires target { IsLegal target.now }
-    requires whole { IsWhole tape.source }
-    ensures accepted { IfOk result
-        (λ plan. IsAccepted tape.source target.now plan.commands light_profile plan.energy plan.steps) }
-    ensures few { IfOk result (λ plan. HasAtMost tape.source light_profile plan.commands 20) }
-    ensures steps { IfOk result
-        (λ plan. plan.steps ≤ 4 * width target.now.resolution * target.now.resolution * target.now.resolution + 8 *
-        target.now.resolution + 2000) }
-{
-    seeds_bound_the_bots();
-    target.know();
-    tape.know_whole();
-    tape.go(Coord { x: 0, y: 0, z: 0 })?;
-    tape.flip()?;
-    tape.halt()?;
-    Ok(tape.finish())
-}
-
 /// The plan of the swarm for a target that is not empty.
-fn planned(alloc: Global, nothing: Planes, target: &Planes) -> Result<Plan, Memory>
+fn plan_from(alloc: Global, nothing: Planes, target: &Planes) -> Result<Plan, Memory>
     requires target { IsLegal target.now }
     requires same { nothing.resolution ≡ target.now.resolution }
     requires void { IsVoidFrom nothing 0 }
@@ -79,11 +58,12 @@ fn planned(alloc: Global, nothing: Planes, target: &Planes) -> Result<Plan, Memo
         (λ plan. plan.steps ≤ 4 * width target.now.resolution * target.now.resolution * target.now.resolution + 8 *
         target.now.resolution + 2000) }
 {
-    nothing.know();
-    target.know();
-    let mut tape = opened(alloc, nothing)?;
+    seeds_bound_the_bots();
+    nothing.recall();
+    target.recall();
+    let mut tape = open(alloc, nothing)?;
     erect(alloc, &mut tape, target)?;
-    closed(tape, target)
+    close(tape)
 }
 
 /// A plan that builds a target from nothing by up to 20 bots, under the light profile, and so under the full one. The target is
@@ -109,5 +89,5 @@ pub fn plan_swarm(alloc: Global, target: &Planes) -> Result<Plan, Memory>
     let Some(_) = lowest_difference(&nothing, target) else {
         return halt_alone(alloc, nothing, Profile::light());
     };
-    planned(alloc, nothing, target)
+    plan_from(alloc, nothing, target)
 }

@@ -1,18 +1,18 @@
 //! Steps of the crew.
 ghost use Rattle.std.specs.List.{AllByRecursion};
 ghost use Rattle.std.specs.Prelude.{◌≡◌, ◌-◌, ◌+◌, ◌++◌, ◌≤◌, ◌<◌, ◌≢◌, [], ◌∷◌, replicate, IfOk, OnErr, OnOk, length, vec_capacity, vec_len};
-ghost use Rattle.plan_tape.specs.Leg.{component_of, gap, put as put_of};
+ghost use Rattle.plan_tape.specs.Leg.{component_of, gap};
 ghost use Rattle.plan_tape.specs.Progress.{spot, IsVoidFrom};
 ghost use Rattle.vox_geom.specs.Space.{IsInSpace};
 ghost use Rattle.swarm_planner.specs.Building.{Fills, fills as fills_of, is_wanted as is_wanted_of};
 ghost use Rattle.swarm_planner.specs.Crew.{AreAlong, AreNear, CrewGoes, InRow, IsNearOn, IsSwarm, MayLead, RowGoes, lead as lead_of, places, row_led};
-ghost use Rattle.swarm_planner.specs.Lineup.{InLine, Regroups, free_column, without_last, last_column, left as left_of, lined_up, right as right_of, sent, split};
+ghost use Rattle.swarm_planner.specs.Lineup.{InLine, Regroups, free_column, without_last, last_column as last_column_of, lined_up, sent, split};
 
 use crate::strips::strip_width;
 use nano_spec::{Bot, Command};
-use plan_tape::{Axis, Tape, towards};
+use plan_tape::{Axis, Tape, ahead, behind, component, towards};
 use std::alloc::Global;
-use vox_geom::{Coord, Diff, Memory, Near};
+use vox_geom::{Coord, Memory, Near};
 use vox_planes::Planes;
 use voxel_reads::is_full;
 
@@ -23,28 +23,6 @@ fn put(commands: &mut Vec<Command>, command: Command) -> Result<(), Memory>
     commands.reserve(1)?;
     commands.push_reserved(command);
     Ok(())
-}
-
-/// The component of a coordinate on an axis.
-pub fn component(axis: Axis, c: Coord) -> u16
-    ensures { result ≡ component_of axis c }
-{
-    match axis {
-        Axis::X => c.x,
-        Axis::Y => c.y,
-        Axis::Z => c.z,
-    }
-}
-
-/// The coordinate with another component on an axis.
-pub fn with_component(axis: Axis, c: Coord, v: u16) -> Coord
-    ensures { result ≡ put_of axis c v }
-{
-    match axis {
-        Axis::X => Coord { x: v, ..c },
-        Axis::Y => Coord { y: v, ..c },
-        Axis::Z => Coord { z: v, ..c },
-    }
 }
 
 /// The command that leads a bot along an axis from one place to another.
@@ -119,9 +97,9 @@ fn waits(alloc: Global, count: usize) -> Result<Vec<Command>, Memory>
 }
 
 /// Where the last bot is.
-pub fn last_place(tape: &Tape) -> u16
+pub fn last_column(tape: &Tape) -> u16
     requires { InLine tape.now }
-    ensures value { result ≡ last_column (places tape.now.bots) }
+    ensures value { result ≡ last_column_of (places tape.now.bots) }
     ensures within { result < tape.now.matrix.resolution }
 {
     let bots = tape.crew().bots();
@@ -133,57 +111,29 @@ pub fn move_last(alloc: Global, tape: &mut Tape, to: u16) -> Result<(), Memory>
     requires line { InLine tape.old }
     requires free { free_column 1 (places tape.old.bots) ≤ to }
     requires within { to < tape.old.matrix.resolution }
-    requires differ { last_column (places tape.old.bots) ≢ to }
-    requires near { gap (last_column (places tape.old.bots)) to ≤ 15 }
+    requires differ { last_column_of (places tape.old.bots) ≢ to }
+    requires near { gap (last_column_of (places tape.old.bots)) to ≤ 15 }
     requires limit { tape.old.steps < 1073741824 }
     ensures { OnOk result (CrewGoes tape.old tape.new (sent (places tape.old.bots) to) 1) }
 {
-    let at = last_place(tape);
+    let at = last_column(tape);
     let mut commands = waits(alloc, tape.crew().bots().len() - 1)?;
     put(&mut commands, Command::SMove(towards(Axis::X, at, to)))?;
     tape.move_all(&commands)
 }
 
-/// The difference to the next column.
-fn right() -> Near
-    ensures { result ≡ right_of }
-{
-    let Some(near) = Near::of(Diff {
-        dx: 1,
-        dy: 0,
-        dz: 0,
-    }) else {
-        unreachable!()
-    };
-    near
-}
-
-/// The difference to the column before.
-fn left() -> Near
-    ensures { result ≡ left_of }
-{
-    let Some(near) = Near::of(Diff {
-        dx: -1,
-        dy: 0,
-        dz: 0,
-    }) else {
-        unreachable!()
-    };
-    near
-}
-
-/// Whether the voxel below a place is full in the goal and not yet here.
-pub fn is_wanted(planes: &Planes, goal: &Planes, place: Coord) -> bool
-    requires same { goal.now.resolution ≡ planes.now.resolution }
+/// Whether the voxel below a place is full in the target and not yet here.
+pub fn is_wanted(planes: &Planes, target: &Planes, place: Coord) -> bool
+    requires same { target.now.resolution ≡ planes.now.resolution }
     requires within { IsInSpace planes.now.resolution place }
     requires up { 1 ≤ place.y }
-    ensures { result ≡ is_wanted_of planes.now goal.now place }
+    ensures { result ≡ is_wanted_of planes.now target.now place }
 {
     let below = Coord {
         y: place.y - 1,
         ..place
     };
-    is_full(goal, below) && !is_full(planes, below)
+    is_full(target, below) && !is_full(planes, below)
 }
 
 /// The commands by which each bot fills the voxel below it, where it is wanted, and waits elsewhere.
@@ -191,15 +141,15 @@ fn fills(
     alloc: Global,
     bots: &[Bot],
     planes: &Planes,
-    goal: &Planes,
+    target: &Planes,
 ) -> Result<Vec<Command>, Memory>
-    requires same { goal.now.resolution ≡ planes.now.resolution }
+    requires same { target.now.resolution ≡ planes.now.resolution }
     requires within { AllByRecursion (λ b. IsInSpace planes.now.resolution b.pos × (1 ≤ b.pos.y)) bots.now }
-    ensures { IfOk result (λ commands. commands.items ≡ fills_of planes.now goal.now bots.now) }
+    ensures { IfOk result (λ commands. commands.items ≡ fills_of planes.now target.now bots.now) }
 {
     let mut commands = Vec::new(alloc);
     for bot in bots {
-        let command = if is_wanted(planes, goal, bot.pos) {
+        let command = if is_wanted(planes, target, bot.pos) {
             Command::Fill(Near::down())
         } else {
             Command::Wait
@@ -210,15 +160,15 @@ fn fills(
 }
 
 /// Each bot fills the voxel below it, where it is wanted.
-pub fn fill_below(alloc: Global, tape: &mut Tape, goal: &Planes) -> Result<(), Memory>
+pub fn fill_below(alloc: Global, tape: &mut Tape, target: &Planes) -> Result<(), Memory>
     requires swarm { IsSwarm tape.old }
     requires row { InRow tape.old }
-    requires same { goal.now.resolution ≡ tape.old.matrix.resolution }
+    requires same { target.now.resolution ≡ tape.old.matrix.resolution }
     requires up { 1 ≤ (spot tape.old.bots).y }
     requires limit { tape.old.steps < 1073741824 }
-    ensures { OnOk result (Fills tape.old tape.new goal.now) }
+    ensures { OnOk result (Fills tape.old tape.new target.now) }
 {
-    let commands = fills(alloc, tape.crew().bots(), tape.matrix(), goal)?;
+    let commands = fills(alloc, tape.crew().bots(), tape.matrix(), target)?;
     tape.fill_all(&commands)
 }
 
@@ -227,13 +177,13 @@ pub fn split_last(alloc: Global, tape: &mut Tape, seeds: u8) -> Result<(), Memor
     requires line { InLine tape.old }
     requires bots { tape.old.bots ≡ lined_up 1 (places tape.old.bots) }
     requires seeds { seeds + 1 + length tape.old.bots ≡ 20 }
-    requires within { last_column (places tape.old.bots) + 1 < tape.old.matrix.resolution }
+    requires within { last_column_of (places tape.old.bots) + 1 < tape.old.matrix.resolution }
     requires limit { tape.old.steps < 1073741824 }
     ensures regroups { OnOk result (Regroups tape.old tape.new) }
     ensures bots { OnOk result (tape.new.bots ≡ lined_up 1 (split (places tape.old.bots))) }
 {
     let mut commands = waits(alloc, tape.crew().bots().len() - 1)?;
-    put(&mut commands, Command::Fission(right(), seeds))?;
+    put(&mut commands, Command::Fission(ahead(Axis::X), seeds))?;
     tape.split_all(&commands)
 }
 
@@ -241,13 +191,13 @@ pub fn split_last(alloc: Global, tape: &mut Tape, seeds: u8) -> Result<(), Memor
 pub fn fuse_last(alloc: Global, tape: &mut Tape) -> Result<(), Memory>
     requires line { InLine tape.old }
     requires two { 2 ≤ length tape.old.bots }
-    requires beside { last_column (places tape.old.bots) ≡ free_column 1 (places tape.old.bots) }
+    requires beside { last_column_of (places tape.old.bots) ≡ free_column 1 (places tape.old.bots) }
     requires limit { tape.old.steps < 1073741824 }
     ensures regroups { OnOk result (Regroups tape.old tape.new) }
     ensures places { OnOk result (places tape.new.bots ≡ without_last (places tape.old.bots)) }
 {
     let mut commands = waits(alloc, tape.crew().bots().len() - 2)?;
-    put(&mut commands, Command::FusionP(right()))?;
-    put(&mut commands, Command::FusionS(left()))?;
+    put(&mut commands, Command::FusionP(ahead(Axis::X)))?;
+    put(&mut commands, Command::FusionS(behind(Axis::X)))?;
     tape.fuse_all(&commands)
 }

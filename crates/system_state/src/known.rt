@@ -5,7 +5,7 @@ ghost use Rattle.nano_spec.specs.Cutting.{AreCommands};
 use nano_spec::Command;
 
 /// The differences of the command are of their kinds.
-pub fn know(command: &Command)
+pub fn recall(command: &Command)
     ensures { IsCommand command.now }
 {
     match command {
@@ -43,10 +43,10 @@ pub fn know(command: &Command)
 }
 
 /// The differences of all commands are of their kinds.
-pub fn know_all(commands: &[Command])
+pub fn recall_all(commands: &[Command])
     ensures { AreCommands commands.now }
 {
     for command in commands {
-        know(command);
+        recall(command);
     }
 }

@@ -5,11 +5,12 @@
 mod edited;
 mod known;
 mod moves;
+mod prices;
 mod system;
 mod turns;
 mod voxels;
 
 pub use edited::{EditedRegion, edited_region};
-pub use known::{know, know_all};
+pub use known::{recall, recall_all};
 pub use system::System;
 pub use turns::{Turn, Turns};

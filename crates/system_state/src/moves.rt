@@ -9,7 +9,7 @@ use nano_spec::{Bot, Command};
 use vox_geom::{Coord, Diff};
 
 /// A component and what is added to it, where the sum is from 0 to r - 1.
-fn shifted(r: u16, v: u16, by: i16) -> u16
+fn shift(r: u16, v: u16, by: i16) -> u16
     requires { IsTrue (in_range r (pos v +ℤ by)) }
     ensures sum { pos result ≡ (pos v +ℤ by) }
     ensures below { result < r }
@@ -26,9 +26,9 @@ pub(crate) fn target(r: u16, from: Coord, d: Diff) -> Coord
     ensures stays { IsInSpace r result }
 {
     Coord {
-        x: shifted(r, from.x, d.dx),
-        y: shifted(r, from.y, d.dy),
-        z: shifted(r, from.z, d.dz),
+        x: shift(r, from.x, d.dx),
+        y: shift(r, from.y, d.dy),
+        z: shift(r, from.z, d.dz),
     }
 }
 

@@ -1,7 +1,5 @@
 //! The state of the system.
-ghost use Rattle.std.specs.Prelude.{◌≡◌, ℕ, ◌+◌, ◌*◌, ◌≤◌, ◌<◌, pos, ◌+ℤ◌, ◌≤ℤ◌, [], ◌∷◌, ◌++◌, List, length, map, All, IfNone, IfSome, IsPermutation, IsTrue, None, Some};
-ghost use Rattle.std.specs.List.{list_all};
-ghost use Rattle.vox_geom.specs.Difference.{mlen};
+ghost use Rattle.std.specs.Prelude.{◌≡◌, ℕ, ◌+◌, ◌*◌, ◌≤◌, ◌<◌, pos, ◌+ℤ◌, [], ◌∷◌, ◌++◌, List, length, map, All, IfNone, IfSome, IsPermutation, None, Some};
 ghost use Rattle.vox_geom.specs.Space.{IsInSpace};
 ghost use Rattle.nano_spec.specs.declared.commands.Command.{Command as Trace};
 ghost use Rattle.nano_spec.specs.declared.commands.Command.TheVariants.{LMove, SMove};
@@ -15,7 +13,7 @@ ghost use Rattle.nano_spec.specs.State.{IsReady, opening as opening_of};
 ghost use Rattle.nano_spec.specs.Step.{after, harmonics_after};
 ghost use Rattle.nano_spec.specs.Work.{volatile_total};
 ghost use Rattle.bot_crew.specs.Crew.{IsCrew, bot_of};
-ghost use Rattle.step_groups.specs.Judging.{is_alone, act, edit_of};
+ghost use Rattle.step_groups.specs.Judging.{act, edit_of};
 ghost use Rattle.vox_planes.specs.Voxel.{IsWhole, with_voxel};
 ghost use Rattle.system_state.specs.Bounds.{IsAfterTurn, IsPayable, IsTurnCost, IsTurnPayable, IsWithin};
 ghost use Rattle.system_state.specs.Edited.{edit_cost};
@@ -26,13 +24,14 @@ ghost use Rattle.system_state.specs.Turns.{AreAllTurns, AreTurns, FollowsOn, bot
 mod alone;
 mod parts;
 
-use crate::known::know_all;
+use crate::known::recall_all;
 use crate::moves::{move_bots, target};
+use crate::prices::{add_cost, cost_of_moves, upkeep_at};
 use crate::turns::{Turn, Turns, list_turns, turn_of};
 use crate::voxels::pay_turn;
 use alone::{cost_of_edit, cost_of_move};
 use bot_crew::{Crew, crew_is_ready, group_is_replaced};
-use energy_sum::{space_upkeep, upkeep_by};
+use energy_sum::space_upkeep;
 use nano_spec::{Bot, Broken, Command, Harmonics, Profile, Rule};
 use std::marker::Model;
 use std::sync::ledger::Ledger;
@@ -55,45 +54,6 @@ fn harmonics_by(harmonics: Harmonics, command: &Command) -> Harmonics
     }
 }
 
-/// The upkeep of a step, which is less than 2 to the power of 31, by what the space costs in it.
-#[inline(always)]
-fn upkeep_at(space: u32, bots: u8) -> i64
-    requires space { space ≤ 1920000000 }
-    requires bots { bots ≤ 40 }
-    ensures value { result ≡ pos (space + 20 * bots) }
-    ensures low { pos 0 ≤ℤ result }
-    ensures high { result ≤ℤ pos 2000000000 }
-{
-    upkeep_by(space, bots)
-}
-
-/// How long a short move is.
-#[inline(always)]
-fn length_of(d: Short) -> u32
-    ensures value { result ≡ mlen d }
-    ensures most { result ≤ 5 }
-{
-    d.diff().mlen()
-}
-
-/// What two moves cost beside the upkeep.
-#[inline(always)]
-fn cost_of_moves(d: Short, e: Short) -> i64
-    ensures value { result ≡ pos (2 * (mlen d + 2 + mlen e)) }
-    ensures small { IsTurnCost result }
-{
-    2 * i64::from(length_of(d) + 2 + length_of(e))
-}
-
-/// The energy after a cost.
-fn paid(energy: i64, cost: i64) -> i64
-    requires energy { IsTurnPayable energy }
-    requires cost { IsWithin 2000000000 cost }
-    ensures { result ≡ energy +ℤ cost }
-{
-    energy + cost
-}
-
 /// The state of the system. Contracts see the state of the definitions; it is ready for a step at all times.
 #[derive(Drop)]
 pub struct System {
@@ -114,9 +74,16 @@ impl Model for System {
 
     ghost Value = { State };
 
-    ghost view = { λ s. record { matrix = s.matrix; harmonics = s.harmonics; bots = s.crew; energy = s.energy; profile = s.profile } };
+    ghost view = { λ s. record {
+      matrix = s.matrix;
+      harmonics = s.harmonics;
+      bots = s.crew;
+      energy = s.energy;
+      profile = s.profile;
+    } };
 
-    ghost invariant = { λ s. All (λ b. IsInSpace s.matrix.resolution b.pos) s.crew × (s.space ≡ space_upkeep s.matrix.resolution s.harmonics) };
+    ghost invariant = { λ s. All (λ b. IsInSpace s.matrix.resolution b.pos) s.crew
+        × (s.space ≡ space_upkeep s.matrix.resolution s.harmonics) };
 }
 
 impl System {
@@ -164,7 +131,7 @@ impl System {
         ensures value { result.now ≡ self.now.matrix }
         ensures whole { IsWhole self.now.matrix }
     {
-        self.know();
+        self.recall();
         &self.matrix
     }
 
@@ -174,20 +141,20 @@ impl System {
         ensures crew { IsCrew self.now.bots }
         ensures ready { IsReady self.now }
     {
-        self.know();
+        self.recall();
         &self.crew
     }
 
     /// Does nothing: it recalls what the state keeps. Its matrix is whole, its bots are a crew, and it is ready for a step.
     #[inline(always)]
-    pub fn know(&self)
+    pub fn recall(&self)
         ensures whole { IsWhole self.now.matrix }
         ensures crew { IsCrew self.now.bots }
         ensures ready { IsReady self.now }
     {
         crew_is_ready();
-        self.matrix.know();
-        self.crew.know();
+        self.matrix.recall();
+        self.crew.recall();
     }
 
     /// The harmonics.
@@ -280,9 +247,9 @@ impl System {
         ensures value { self.new ≡ record self.old { energy = self.old.energy +ℤ upkeep_of self.old } }
         ensures within { IsWithin 4611686020427387904 self.new.energy }
     {
-        self.matrix.know();
+        self.matrix.recall();
         let upkeep = upkeep_at(self.space, self.crew.count());
-        self.energy = paid(self.energy, upkeep);
+        self.energy = add_cost(self.energy, upkeep);
     }
 
     /// What a turn costs is paid.
@@ -293,7 +260,7 @@ impl System {
         ensures value { self.new ≡ record self.old { energy = self.old.energy +ℤ cost } }
         ensures within { IsAfterTurn self.old.energy self.new.energy }
     {
-        self.energy = paid(self.energy, cost);
+        self.energy = add_cost(self.energy, cost);
     }
 
     /// The turn of a group, by the command of its leader. Waits, moves and edits of one voxel, which most commands of many bots
@@ -309,7 +276,7 @@ impl System {
         ensures touches { IfSome (bot_of self.old.bots turn.leader)
             (λ bot. steps.new ≤ steps.old + met_count self.old.matrix bot command.now) }
     {
-        self.matrix.know();
+        self.matrix.recall();
         let Some(bot) = self.crew.bot(turn.leader) else {
             return;
         };
@@ -416,13 +383,13 @@ impl System {
         ensures value { self.new ≡ after self.old commands.now }
         ensures touches { steps.new ≤ steps.old + volatile_total self.old.matrix (acts self.old.bots commands.now) }
     {
-        know_all(commands);
+        recall_all(commands);
         groups_take_turns();
         group_is_replaced();
-        self.know();
+        self.recall();
         self.pay_upkeep();
         for turn in turns.list() {
-            self.know();
+            self.recall();
             self.take_turn(*turn, &commands[usize::from(turn.place)], steps);
         }
     }
@@ -458,7 +425,7 @@ impl System {
         ensures arranged { map leader_of turns.new ≡ order.now }
         ensures touches { steps.new ≤ steps.old + volatile_total self.old.matrix (acts self.old.bots commands.now) }
     {
-        self.know();
+        self.recall();
         turns.arrange(order);
         self.take_turns(commands, turns, steps);
     }
@@ -475,11 +442,11 @@ impl System {
             → crew.new ≡ bots_after_some self.now commands.now (before ++ leader ∷ []) }
         ensures within { All (λ b. IsInSpace self.now.matrix.resolution b.pos) crew.new }
     {
-        know_all(commands);
+        recall_all(commands);
         groups_take_turns();
         group_is_replaced();
-        self.know();
-        crew.know();
+        self.recall();
+        crew.recall();
         let turn = turn_of(turns.list(), leader);
         let Some(bot) = crew.bot(leader) else {
             return;

@@ -14,7 +14,7 @@ ghost use Rattle.vox_planes.specs.Voxel.{IsWhole};
 ghost use Rattle.step_groups.specs.Judging.{act};
 
 use crate::edited::{EditedRegion, edited_region};
-use crate::known::know;
+use crate::known::recall;
 use energy_sum::{a_group_costs_little, command_cost};
 use nano_spec::{Bot, Command};
 use std::sync::ledger::Ledger;
@@ -49,7 +49,7 @@ fn change_region<L: Ledger>(matrix: &mut Planes, edited: EditedRegion, steps: &m
     ensures full { result.full ≡ full_in matrix.old (span edited.region) }
     ensures touches { steps.new ≤ steps.old + size_in matrix.old (span edited.region) }
 {
-    matrix.know();
+    matrix.recall();
     let others = matrix.set_region(&edited.region, edited.full, steps);
     met_by(edited.region.size(), others, edited.full)
 }
@@ -120,7 +120,7 @@ pub(crate) fn pay_turn<L: Ledger>(
     ensures touches { steps.new ≤ steps.old + met_count matrix.old bot command.now }
 {
     a_group_costs_little();
-    know(command);
+    recall(command);
     let met = change_voxels(matrix, bot, command, steps);
     turn_cost(command, met)
 }

@@ -118,12 +118,12 @@ pub(crate) fn far_at(x: u8, y: u8, z: u8) -> Option<Far>
     ensures { MatchOption result ((d : Diff) → IsFar d → far_bytes d ≢ x ∷ y ∷ z ∷ [])
         (λ d. IsFar d × (far_bytes d ≡ x ∷ y ∷ z ∷ [])) }
 {
-    Far::of(lowered(x, y, z))
+    Far::of(lower_far(x, y, z))
 }
 
 /// The difference whose components and 30 are the three numbers.
 #[inline(always)]
-fn lowered(x: u8, y: u8, z: u8) -> Diff
+fn lower_far(x: u8, y: u8, z: u8) -> Diff
     ensures { result ≡ record { dx = pos x -ℤ pos 30; dy = pos y -ℤ pos 30; dz = pos z -ℤ pos 30 } }
 {
     Diff {

@@ -69,9 +69,9 @@ fn group_bytes(head: u8, far: Far) -> ArrayVec<u8, 4>
 {
     let d = far.diff();
     let mut bytes = one_byte(head);
-    bytes.push(raised(d.dx, 30));
-    bytes.push(raised(d.dy, 30));
-    bytes.push(raised(d.dz, 30));
+    bytes.push(raise(d.dx, 30));
+    bytes.push(raise(d.dy, 30));
+    bytes.push(raise(d.dz, 30));
     bytes
 }
 
@@ -92,7 +92,7 @@ fn near_code(near: Near) -> u8
     ensures kind { IsNear near }
 {
     let d = near.diff();
-    9 * raised(d.dx, 1) + 3 * raised(d.dy, 1) + raised(d.dz, 1)
+    9 * raise(d.dx, 1) + 3 * raise(d.dy, 1) + raise(d.dz, 1)
 }
 
 /// The axis of a linear difference: 1 for x, 2 for y, 3 for z.
@@ -115,7 +115,7 @@ fn long_code(long: Long) -> u8
     ensures below { result ≤ 30 }
     ensures kind { IsLong long }
 {
-    raised(component(long.diff()), 15)
+    raise(component(long.diff()), 15)
 }
 
 /// The number that stands for a short difference beside its axis.
@@ -124,7 +124,7 @@ fn short_code(short: Short) -> u8
     ensures below { result ≤ 10 }
     ensures kind { IsShort short }
 {
-    raised(component(short.diff()), 5)
+    raise(component(short.diff()), 5)
 }
 
 /// The one component of a linear difference that is not 0.
@@ -138,7 +138,7 @@ fn component(d: Diff) -> i16
 
 /// A component with what is added to it, so that it is not negative.
 #[tactic(auto, using(nano_spec::proofs::Codes::raised_small))]
-fn raised(component: i16, by: u8) -> u8
+fn raise(component: i16, by: u8) -> u8
     requires within { unsigned_abs component ≤ by }
     requires small { by ≤ 30 }
     ensures value { result ≡ raised_by component by }

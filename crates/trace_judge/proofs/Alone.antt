@@ -7,7 +7,7 @@ use Rattle.nano_spec.specs.Next.{Breaks, Goes, Next}
 use Rattle.nano_spec.specs.State.{State}
 use Rattle.nano_spec.proofs.Accepted.{accepted_step}
 use Rattle.run_progress.specs.Progress as progress
-use Rattle.run_progress.specs.Progress.{Progress, Pushes}
+use Rattle.run_progress.specs.Progress.{Progress}
 use Rattle.step_machine.specs.Situation.{Situation}
 use Rattle.step_machine.specs.Stepped.{IsWithinWork, Stepped, answer_of}
 use Rattle.step_machine.specs.declared.machine.StepFault.{StepFault}

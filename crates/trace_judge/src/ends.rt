@@ -15,7 +15,7 @@ use vox_geom::{Coord, Steps};
 use vox_planes::Planes;
 
 /// The verdict of a run by its parts, where no further command comes. The runner is dropped at one place then, and not at each end.
-pub(crate) fn ended<L: Ledger>(
+pub(crate) fn judge_end<L: Ledger>(
     machine: &Machine,
     pending: &Pending,
     mark: Mark,
@@ -37,9 +37,9 @@ pub(crate) fn ended<L: Ledger>(
                 energy: machine.energy(),
                 steps: steps_done,
             },
-            Some(at) => refused(steps_done, 0, Rule::WrongResult, at),
+            Some(at) => refuse(steps_done, 0, Rule::WrongResult, at),
         },
-        Mark::Followed => refused(steps_done, 0, Rule::AfterHalt, Coord { x: 0, y: 0, z: 0 }),
+        Mark::Followed => refuse(steps_done, 0, Rule::AfterHalt, Coord { x: 0, y: 0, z: 0 }),
     }
 }
 
@@ -50,11 +50,11 @@ fn trace_ends(machine: &Machine, pending: &Pending) -> Verdict
     ensures { (target : Matrix) → Finishes target (course_of machine.now pending.now Mark.Running).progress result }
 {
     let bot = machine.crew().bots()[pending.as_slice().len()];
-    refused(machine.steps_done() + 1, bot.bid, Rule::TraceEnds, bot.pos)
+    refuse(machine.steps_done() + 1, bot.bid, Rule::TraceEnds, bot.pos)
 }
 
 /// The verdict of a rule that is broken.
-fn refused(step: u32, bid: u8, rule: Rule, at: Coord) -> Verdict
+fn refuse(step: u32, bid: u8, rule: Rule, at: Coord) -> Verdict
     ensures { result ≡ Verdict.Refused (record { step = step; bid = bid; rule = rule; at = at }) }
 {
     Verdict::Refused(Broken {

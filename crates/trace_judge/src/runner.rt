@@ -11,7 +11,7 @@ ghost use Rattle.trace_judge.specs.Alone.{HasPushed, RunsAlone};
 ghost use Rattle.trace_judge.specs.Course.{IsAfterEnd, LacksCommands, MakesEdits, MakesNoStep, searched_by};
 ghost use Rattle.trace_judge.specs.Payment.{IsWithinWorkOfRun};
 
-use crate::ends::ended;
+use crate::ends::judge_end;
 use crate::pending::Pending;
 use crate::taking::{Taken, take};
 use nano_spec::{Broken, Command, Profile, Verdict};
@@ -54,7 +54,7 @@ impl Model for Runner {
 /// The mark after a command where no steps are made any more. In a function of its own what a run asks at each command is one
 /// test.
 #[inline(never)]
-fn passed(mark: Mark) -> Mark
+fn next_mark(mark: Mark) -> Mark
     requires ended { mark ≡ Mark.Running → ⊥ }
     ensures { IsAfterEnd mark result }
 {
@@ -110,7 +110,7 @@ impl Runner {
         match self.mark {
             Mark::Running => {}
             Mark::Refused(_) | Mark::Halted | Mark::Followed => {
-                let mark = passed(self.mark);
+                let mark = next_mark(self.mark);
                 self.mark = mark;
                 return Ok(());
             }
@@ -211,7 +211,7 @@ impl Runner {
         ensures value { Finishes target.now self.progress result }
         ensures touches { steps.new ≤ steps.old + 2 * volume target.now.resolution }
     {
-        ended(&self.machine, &self.pending, self.mark, target, steps)
+        judge_end(&self.machine, &self.pending, self.mark, target, steps)
     }
 }
 

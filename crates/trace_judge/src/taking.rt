@@ -44,7 +44,7 @@ pub(crate) fn take<L: Ledger>(
     ensures stays { result ≡ Taken.Waits → machine.new ≡ machine.old }
     ensures untouched { result ≡ Taken.Waits → steps.new ≡ steps.old }
 {
-    machine.know();
+    machine.recall();
     pending.push(command);
     if pending.as_slice().len() < usize::from(machine.active()) {
         return Taken::Waits;

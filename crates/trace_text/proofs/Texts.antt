@@ -3,8 +3,9 @@ use Rattle.std.proofs.Common.{◌≡◌, ℕ, ◌+◌, ◌<◌, ◌≤◌, refl,
 use Rattle.std.specs.Prelude.{Result, Ok, Err}
 use Rattle.std.proofs.lemmas.List.{append_assoc}
 use Rattle.nano_spec.specs.declared.commands.Command.{Command}
+use Rattle.nano_spec.specs.First.{with_first}
 use Rattle.nano_spec.specs.Line.{Fault, Line, Skipped, Says, Faulty, line_of}
-use Rattle.nano_spec.specs.Reading.{FaultyLine, lines, read, read_lines, with_first}
+use Rattle.nano_spec.specs.Reading.{FaultyLine, lines, read, read_lines}
 use Rattle.trace_text.specs.declared.fault.TextFault.TheVariants.{Refused}
 use Rattle.trace_text.specs.declared.fault.TextRefusal.{TextRefusal}
 use Rattle.trace_text.specs.Text.{ReadsText, faulty_line}

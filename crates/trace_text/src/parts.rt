@@ -75,7 +75,7 @@ pub fn find_byte(byte: u8, bytes: &[u8]) -> usize
 }
 
 /// The number, which has three digits at most, with a sign.
-fn signed(number: u16) -> i16
+fn to_signed(number: u16) -> i16
     requires { number ≤ 999 }
     ensures { result ≡ pos number }
 {
@@ -87,7 +87,7 @@ fn negative(number: u16) -> i16
     requires { number ≤ 999 }
     ensures { result ≡ neg_ℤ (pos number) }
 {
-    -signed(number)
+    -to_signed(number)
 }
 
 impl<'a> Rest<'a> {
@@ -169,7 +169,7 @@ impl<'a> Rest<'a> {
             return Some(negative(number));
         }
         let number = self.digits()?;
-        Some(signed(number))
+        Some(to_signed(number))
     }
 
     /// Takes a number and the mark behind it, with blanks round the number.

@@ -1,27 +1,25 @@
 -- Steps of four bots that wait or move.
-use Rattle.std.proofs.Common.{◌≡◌, ℕ, ◌+◌, ◌-◌, ◌^◌, ◌<◌, ◌≤◌, refl, sym, ◌∙◌, ap, subst, inl, inr, ◌⊎◌, arith, List, [], ◌∷◌, true, false}
+use Rattle.std.proofs.Common.{◌≡◌, ℕ, ◌+◌, ◌-◌, ◌^◌, ◌<◌, ◌≤◌, refl, sym, ◌∙◌, ap, subst, arith, List, [], ◌∷◌, true}
 use Rattle.std.specs.Prelude.{count_by, pos, ◌+ℤ◌, ◌-ℤ◌, IsTrue}
 use Rattle.std.specs.List.{AllByRecursion}
 use Rattle.std.proofs.lemmas.Int.{ints}
 use Rattle.vox_geom.specs.declared.coordinate.Coord.{Coord}
 use Rattle.vox_geom.specs.declared.difference.Diff.{Diff}
 use Rattle.vox_geom.specs.Point.{Point, point, plus, coord}
-use Rattle.vox_geom.specs.Region.{Span, between, is_between}
-use Rattle.vox_geom.specs.Space.{IsInSpace, coordinate, in_space}
+use Rattle.vox_geom.specs.Region.{Span, between}
+use Rattle.vox_geom.specs.Space.{IsInSpace, coordinate}
 use Rattle.vox_geom.proofs.Truths.{second_of_three as second}
 use Rattle.vox_geom.proofs.Sums.{plus_none}
-use Rattle.vox_geom.proofs.Points.{from_one_end, in_space_is}
 use Rattle.nano_spec.specs.declared.commands.Command.{Command}
 use Rattle.nano_spec.specs.declared.commands.Command.TheVariants.{Wait, SMove}
 use Rattle.nano_spec.specs.declared.system.Bot.{Bot}
 use Rattle.nano_spec.specs.declared.system.Harmonics.TheVariants.{High}
 use Rattle.nano_spec.specs.declared.system.Profile.{Profile}
 use Rattle.nano_spec.specs.Act.{Act, acts}
-use Rattle.nano_spec.specs.Matrix.{Matrix, is_full}
+use Rattle.nano_spec.specs.Matrix.{Matrix}
 use Rattle.nano_spec.specs.Profile.{full_profile, is_allowed}
 use Rattle.step_order.specs.Acting.{gone}
 use Rattle.step_order.specs.Apart.{AreBelow, LieApart, after_x, before_x, before_z}
-use Rattle.step_order.specs.Unbroken.{IsVoid}
 use Rattle.plan_tape.specs.declared.axis.Axis.{Axis}
 use Rattle.plan_tape.specs.declared.axis.Axis.TheVariants.{X, Y, Z}
 use Rattle.plan_tape.specs.Crowd.{AllStep, AreWaysApart, CanGo, CanMoveAll, bots_gone, way}
@@ -32,6 +30,7 @@ use Rattle.void_planner.specs.Square.{CanStand, FourGo, IsRectangle, bot_with, f
 use Rattle.void_planner.specs.Tiles.{far_of}
 use Rattle.void_planner.proofs.Corners.{point_by}
 use Rattle.plan_tape.proofs.Fissions.{fissions_more}
+use Rattle.plan_tape.proofs.ClearWays.{free_way}
 
 -- ---- one bot
 
@@ -43,14 +42,6 @@ pub data Goes (b : Bot) (k : Command) (q : Coord) : Type 0 where
   waits : k ≡ Wait → q ≡ b.pos → Goes b k q
   moves : (d : Diff) → k ≡ SMove d → plus (point b.pos) d ≡ point q → Goes b k q
 
--- where all is void from both heights on, so is the region between two coordinates
-pub void_between : (m : Matrix) (a b : Coord) → IsVoidFrom m a.y → IsVoidFrom m b.y → IsVoid m (between (point a) (point b))
-void_between m a b v w = λ c t. by c (from_one_end a.y b.y c.y (second (is_between (pos a.x) (pos b.x) (pos c.x)) (is_between (pos a.y) (pos b.y) (pos c.y)) (is_between (pos a.z) (pos b.z) (pos c.z)) t))
-  where
-    by : (c : Coord) → (a.y ≤ c.y) ⊎ (b.y ≤ c.y) → is_full m c ≡ false
-    by c (inl h) = v c h
-    by c (inr h) = w c h
-
 module _ (p : TapeState) (full : p.profile ≡ full_profile) (b : Bot) (k : Command) (q : Coord) where
   allowed : is_allowed full_profile k ≡ true → IsTrue (is_allowed p.profile k)
   allowed e = ap (λ (f : Profile). is_allowed f k) full ∙ e
@@ -59,10 +50,7 @@ module _ (p : TapeState) (full : p.profile ≡ full_profile) (b : Bot) (k : Comm
   can_go (waits e f) i v w = record { allowed = allowed (ap (is_allowed full_profile) e); may = rw e tt }
   can_go (moves d e f) i v w = record {
     allowed = allowed (ap (is_allowed full_profile) e);
-    may = rw e (record {
-      within = ap (in_space p.matrix.resolution) f ∙ in_space_is p.matrix.resolution q i;
-      void = subst (λ (u : Point). IsVoid p.matrix (between (point b.pos) u)) (sym f) (void_between p.matrix b.pos q v w);
-    });
+    may = rw e (free_way p.matrix b.pos q _ f i v w);
   }
 
 pub way_is : (b : Bot) (k : Command) (q : Coord) → Goes b k q → way (act b k) ≡ between (point b.pos) (point q)

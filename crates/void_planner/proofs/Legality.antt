@@ -1,40 +1,18 @@
 -- Where a legal model is void.
-use Rattle.std.proofs.Common.{◌≡◌, ℕ, ◌+◌, ◌<◌, ◌≤◌, refl, ◌∙◌, ap, inl, inr, ◌⊎◌, arith, List, [], ◌∷◌, Bool, true, false, cond, ◌&&◌, nat_le, nat_lt}
-use Rattle.std.specs.Prelude.{count_by, pos}
-use Rattle.std.proofs.lemmas.Bool.Decides.{nat_tests}
+use Rattle.std.proofs.Common.{◌≡◌, ℕ, ◌<◌, ◌≤◌, refl, ◌∙◌, ap, inl, inr, ◌⊎◌, arith, List, [], ◌∷◌, Bool, true, false, cond}
+use Rattle.std.specs.Prelude.{count_by}
 use Rattle.std.proofs.lemmas.List.Sums.{sum_by-cons}
 use Rattle.vox_geom.specs.declared.coordinate.Coord.{Coord}
-use Rattle.vox_geom.specs.Region.{is_between}
 use Rattle.nano_spec.specs.Legal.{IsLegal}
 use Rattle.nano_spec.specs.Matrix.{Matrix, all_of, is_full}
 use Rattle.step_order.proofs.Lists.{In}
 use Rattle.step_order.proofs.Voxels.{in_coordinates}
-use Rattle.plan_tape.specs.Leg.{AreVoidTo}
 use Rattle.void_planner.specs.Phases.{IsVoidModel}
-use Rattle.vox_geom.specs.Point.{coord}
-use Rattle.vox_geom.proofs.Truths.{first_of_three}
-use Rattle.vox_geom.proofs.Points.{between_zeros}
-use Rattle.plan_tape.specs.Progress.{top}
-use Rattle.plan_tape.proofs.LegalModels.{outside_is_void, void_at_border, void_by_space}
-
-no_box : (r x : ℕ) (b d e : Bool) → r ≤ 2 → (nat_le 1 x && nat_lt (x + 1) r && b && d && e) ≡ false
-no_box r x b d e h = let f : (nat_le 1 x && nat_lt (x + 1) r) ≡ false = grind (arith, nat_tests) in rw f refl
+use Rattle.plan_tape.proofs.LegalModels.{outside_is_void, void_by_space}
 
 -- a small legal model is void
 pub small_is_void : (m : Matrix) → IsLegal m → m.resolution ≤ 2 → IsVoidModel m
-small_is_void m h l = λ c. outside_is_void m c h (no_box m.resolution c.x (nat_lt (c.y + 1) m.resolution) (nat_le 1 c.z) (nat_lt (c.z + 1) m.resolution) l)
-
--- the way up above the origin
-pub way_up : (m : Matrix) → IsLegal m → AreVoidTo m (coord 0 0 0) (top m)
-way_up m h = record {
-  x = λ c t. void_at_border m h c (between_zeros c.x (first_of_three (is_between (pos 0) (pos 0) (pos c.x)) _ _ t));
-  y = λ c t. void_at_border m h c (between_zeros c.x (first_of_three (is_between (pos 0) (pos 0) (pos c.x)) _ _ t));
-  z = λ c t. void_at_border m h c (between_zeros c.x (first_of_three (is_between (pos 0) (pos 0) (pos c.x)) _ _ t));
-}
-
--- where all is void, all ways are
-pub ways_void : (m : Matrix) (a b : Coord) → IsVoidModel m → AreVoidTo m a b
-ways_void m a b v = record { x = λ c t. v c; y = λ c t. v c; z = λ c t. v c }
+small_is_void m h l = λ c. outside_is_void m c h (λ b. let x = b.x in let end = b.x_end in omega arith)
 
 -- ---- how many voxels are full
 

@@ -29,7 +29,7 @@ use Rattle.plan_tape.specs.Progress.{TapeState, state_of}
 use Rattle.plan_tape.specs.Fissions.{is_fission}
 use Rattle.void_planner.specs.Square.{Becomes, CanStand, bot_with, four, one, two}
 use Rattle.plan_tape.proofs.Fissions.{fissions_more}
-use Rattle.void_planner.proofs.Fours.{void_between}
+use Rattle.plan_tape.proofs.ClearWays.{free_place}
 use Rattle.void_planner.proofs.Corners.{point_by}
 
 -- ---- what a step makes
@@ -65,7 +65,7 @@ back_z c = point_by (coord c.x c.y (c.z + 1)) (to (pos 0) (negsuc 0)) c (plus_no
 
 -- a way of one coordinate that is in space, where all is void from its height on
 free_spot : (m : Matrix) (w d : ℕ) (c q : Coord) (u : Point) → CanStand m w d c → u ≡ point q → IsInSpace m.resolution q → q.y ≡ c.y → IsFreeWay m u u
-free_spot m w d c q u stand e i same = subst (λ (v : Point). IsFreeWay m v v) (sym e) (record { within = in_space_is m.resolution q i; void = void_between m q q (λ a l. stand.above a (omega arith)) (λ a l. stand.above a (omega arith)) })
+free_spot m w d c q u stand e i same = free_place m q u e i (λ a l. stand.above a (omega arith))
 
 below : (a b : ℕ) → a < b → AreBelow (pos a) (pos a) (pos b) (pos b)
 below a b h = record { near = omega (arith, ints); far = omega (arith, ints); next_near = omega (arith, ints); next_far = omega (arith, ints) }

@@ -1,5 +1,5 @@
 -- The tape after each phase of the plan.
-use Rattle.std.specs.Prelude.{◌≡◌, ℕ, ◌+◌, ◌*◌, ◌≤◌, false}
+use Rattle.std.specs.Prelude.{◌≡◌, ℕ, ◌+◌, ◌≤◌, false}
 use Rattle.vox_geom.specs.declared.coordinate.Coord.{Coord}
 use Rattle.nano_spec.specs.declared.system.Harmonics.TheVariants.{High}
 use Rattle.nano_spec.specs.Matrix.{Matrix, is_full}
@@ -13,14 +13,6 @@ use Rattle.vox_geom.specs.Point.{coord}
 -- no voxel is full
 abbrev pub IsVoidModel : Matrix → Type 0
 IsVoidModel m = (c : Coord) → is_full m c ≡ false
-
--- under High, nothing is changed, and the only bot is at the top above the origin
-pub record IsRisen (t : TapeState) : Type 0 where
-  pub matrix : t.matrix ≡ t.source
-  pub high : t.harmonics ≡ High
-  pub full : t.profile ≡ full_profile
-  pub bots_are : t.bots ≡ one (top t.source)
-  pub steps_are : t.steps ≤ 28
 
 -- there are four bots, above the corners of a tile
 pub record IsSpread (t : TapeState) : Type 0 where

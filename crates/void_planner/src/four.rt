@@ -1,6 +1,6 @@
 //! Steps of four bots at the corners of a rectangle.
-ghost use Rattle.std.specs.Prelude.{◌≡◌, ◌≢◌, ◌+◌, ◌-◌, ◌<◌, ◌≤◌, ◌≤ℤ◌, OnOk, false, neg_ℤ, pos, length, IsTrue};
-ghost use Rattle.vox_geom.specs.Difference.{is_far, is_near};
+ghost use Rattle.std.specs.Prelude.{◌≡◌, ◌≢◌, ◌+◌, ◌-◌, ◌<◌, ◌≤◌, OnOk, false, pos, length, IsTrue};
+ghost use Rattle.vox_geom.specs.Difference.{is_far};
 ghost use Rattle.plan_tape.specs.Leg.{component_of, moves as moves_of, moves_to as moves_to_of, put};
 ghost use Rattle.plan_tape.specs.Progress.{spot};
 ghost use Rattle.step_order.specs.Acting.{with_region};
@@ -9,7 +9,7 @@ ghost use Rattle.void_planner.specs.Tiles.{far_of, tile};
 ghost use Rattle.vox_geom.specs.Point.{coord};
 
 use nano_spec::Command;
-use plan_tape::{Axis, Tape, next_stop, towards};
+use plan_tape::{Axis, Tape, component, next_stop, towards};
 use vox_geom::{Coord, Diff, Far, Memory, Near};
 
 /// Where the first bot is.
@@ -18,17 +18,6 @@ pub fn corner(tape: &Tape) -> Coord
     ensures { result ≡ spot tape.now.bots }
 {
     tape.crew().bots()[0].pos
-}
-
-/// The component of a coordinate on an axis.
-fn component(axis: Axis, c: Coord) -> u16
-    ensures { result ≡ component_of axis c }
-{
-    match axis {
-        Axis::X => c.x,
-        Axis::Y => c.y,
-        Axis::Z => c.z,
-    }
 }
 
 /// All four make the same move along an axis.
@@ -44,7 +33,7 @@ fn shift(tape: &mut Tape, axis: Axis, at: u16, next: u16) -> Result<(), Memory>
         (FourGo tape.old tape.new (far_of tape.old.matrix.resolution) (far_of tape.old.matrix.resolution)
         (put axis (spot tape.old.bots) next) 1) }
 {
-    tape.know_whole();
+    tape.recall_whole();
     tape.move_all(&[
         Command::SMove(towards(axis, at, next)),
         Command::SMove(towards(axis, at, next)),
@@ -97,7 +86,7 @@ fn widen(tape: &mut Tape, at: u16, next: u16) -> Result<(), Memory>
     requires limit { tape.old.steps < 1073741824 }
     ensures { OnOk result (FourGo tape.old tape.new next 1 (spot tape.old.bots) 1) }
 {
-    tape.know_whole();
+    tape.recall_whole();
     tape.move_all(&[
         Command::Wait,
         Command::SMove(towards(Axis::X, at, next)),
@@ -116,7 +105,7 @@ fn deepen(tape: &mut Tape, at: u16, next: u16) -> Result<(), Memory>
     requires limit { tape.old.steps < 1073741824 }
     ensures { OnOk result (FourGo tape.old tape.new (far_of tape.old.matrix.resolution) next (spot tape.old.bots) 1) }
 {
-    tape.know_whole();
+    tape.recall_whole();
     tape.move_all(&[
         Command::Wait,
         Command::Wait,
@@ -160,17 +149,6 @@ pub fn set_depth(tape: &mut Tape, from: u16, to: u16) -> Result<(), Memory>
     Ok(())
 }
 
-/// A difference of small components to an adjacent voxel.
-pub fn near(dx: i16, dy: i16, dz: i16) -> Near
-    requires { IsTrue (is_near (record { dx = dx; dy = dy; dz = dz })) }
-    ensures { result ≡ record { dx = dx; dy = dy; dz = dz } }
-{
-    let Some(near) = Near::of(Diff { dx, dy, dz }) else {
-        unreachable!()
-    };
-    near
-}
-
 /// The difference from a corner of a tile to the one across.
 fn across(dx: i16, dz: i16) -> Far
     requires { IsTrue (is_far (record { dx = dx; dy = pos 0; dz = dz })) }
@@ -196,9 +174,9 @@ pub fn void_below(tape: &mut Tape, far: u16) -> Result<(), Memory>
 {
     let far = far as i16;
     tape.paint_all(&[
-        Command::GVoid(near(0, -1, 0), across(far, far)),
-        Command::GVoid(near(0, -1, 0), across(-far, far)),
-        Command::GVoid(near(0, -1, 0), across(-far, -far)),
-        Command::GVoid(near(0, -1, 0), across(far, -far)),
+        Command::GVoid(Near::down(), across(far, far)),
+        Command::GVoid(Near::down(), across(-far, far)),
+        Command::GVoid(Near::down(), across(-far, -far)),
+        Command::GVoid(Near::down(), across(far, -far)),
     ])
 }

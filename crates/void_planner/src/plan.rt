@@ -1,22 +1,21 @@
 //! The plan.
-ghost use Rattle.std.specs.Prelude.{◌≡◌, ◌≢◌, ◌+◌, ◌<◌, ◌≤◌, ◌↔◌, [], ◌∷◌, IfOk, IsFalse, IsTrue};
+ghost use Rattle.std.specs.Prelude.{◌≡◌, ◌<◌, ◌≤◌, ◌↔◌, [], ◌∷◌, IfOk, IsTrue};
 ghost use Rattle.nano_spec.specs.Legal.{IsLegal};
-ghost use Rattle.nano_spec.specs.Matrix.{Matrix as MatrixValue, empty, full_count};
+ghost use Rattle.nano_spec.specs.Matrix.{empty, full_count};
 ghost use Rattle.nano_spec.specs.Profile.{full_profile};
 ghost use Rattle.plan_tape.specs.Progress.{IsAccepted};
 ghost use Rattle.plan_tape.specs.Reaches.{HasAtMost};
 ghost use Rattle.void_planner.specs.Phases.{IsVoidModel};
 ghost use Rattle.void_planner.specs.Bounds.{most_void_steps};
 
-use crate::ends::{closed, gather, rise, spread};
+use crate::ends::{gather, spread};
 use crate::sweep::void_all;
-use crate::tiles::tiles;
 use nano_spec::{Command, Profile};
-use plan_tape::{Plan, Tape, halt_alone};
+use plan_tape::{Plan, close, halt_alone, rise};
 use std::alloc::Global;
 use std::marker::Brand;
 use std::sync::ledger::{Blank, Ledger};
-use vox_geom::{MOST_R, Memory, Steps};
+use vox_geom::{Memory, Steps};
 use vox_planes::Planes;
 
 /// Whether no voxel is full, counted in a ledger of its own.
@@ -38,35 +37,6 @@ fn is_empty(planes: &Planes) -> bool
     is_empty_in::<Brand>(planes, Blank::new(1))
 }
 
-/// How many steps a plan takes at most but for its last two, at resolution r.
-fn most_but_two(r: u16) -> u32
-    requires { r ≤ MOST_R }
-    ensures value { result + 2 ≡ most_void_steps r }
-    ensures limit { result + 2 ≤ 1073741824 }
-{
-    let r = u32::from(r);
-    let n = u32::from(tiles(r as u16));
-    8 * r * (n * n) + 8 * r + 198
-}
-
-/// The plan of four bots, where some voxel is full.
-fn with_four(alloc: Global, source: Planes) -> Result<Plan, Memory>
-    requires legal { IsLegal source }
-    requires some { 2 ≤ source.resolution }
-    ensures accepted { IfOk result
-        (λ plan. (target : MatrixValue) → IsVoidModel target → IsAccepted source target plan.commands full_profile
-        plan.energy plan.steps) }
-    ensures steps { IfOk result (λ plan. plan.steps ≤ most_void_steps source.resolution) }
-    ensures few { IfOk result (λ plan. HasAtMost source full_profile plan.commands 4) }
-{
-    let most = most_but_two(source.resolution());
-    let mut tape = rise(alloc, source)?;
-    spread(&mut tape)?;
-    void_all(&mut tape)?;
-    gather(&mut tape)?;
-    closed(tape, most)
-}
-
 /// A plan that makes the empty model of the source, which is legal. At resolution r it takes at most 8 * r * t + 8 * r + 200 steps, where t is
 /// the square of (r + 30) / 31 in whole numbers; where no voxel is full, its commands are a Halt alone.
 pub fn plan_void(alloc: Global, source: &Planes) -> Result<Plan, Memory>
@@ -79,9 +49,13 @@ pub fn plan_void(alloc: Global, source: &Planes) -> Result<Plan, Memory>
     ensures halt_alone { source.now ≡ empty source.now.resolution
         → IfOk result (λ plan. plan.commands ≡ Command.Halt ∷ []) }
 {
-    source.know();
+    source.recall();
     if is_empty(source) {
         return halt_alone(alloc, source.copy(alloc)?, Profile::full());
     }
-    with_four(alloc, source.copy(alloc)?)
+    let mut tape = rise(alloc, source.copy(alloc)?)?;
+    spread(&mut tape)?;
+    void_all(&mut tape)?;
+    gather(&mut tape)?;
+    close(tape)
 }

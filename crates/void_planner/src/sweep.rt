@@ -7,7 +7,7 @@ ghost use Rattle.vox_geom.specs.Point.{coord};
 ghost use Rattle.plan_tape.specs.Progress.{IsVoidFrom};
 
 use crate::four::{go, void_below};
-use crate::tiles::{far, is_void, place, tiles, turned};
+use crate::tiles::{far, is_void, place, tiles, turn_number};
 use plan_tape::Tape;
 use vox_geom::{Coord, Memory};
 
@@ -44,7 +44,7 @@ fn void_strip(tape: &mut Tape, x: u16, y: u16, back: bool) -> Result<(), Memory>
     let r = tape.matrix().resolution();
     let count = tiles(r);
     for k in 0..count {
-        void_tile(tape, x, y, place(r, turned(count, back, k)))?;
+        void_tile(tape, x, y, place(r, turn_number(count, back, k)))?;
     }
     Ok(())
 }
@@ -68,7 +68,7 @@ fn void_layer(tape: &mut Tape, y: u16, turn: bool, back: bool) -> Result<bool, M
     let count = tiles(r);
     let mut next = back;
     for k in 0..count {
-        void_strip(tape, place(r, turned(count, turn, k)), y, next)?;
+        void_strip(tape, place(r, turn_number(count, turn, k)), y, next)?;
         next = !next;
     }
     Ok(next)

@@ -38,7 +38,7 @@ pub fn place(r: u16, k: u16) -> u16
 }
 
 /// The k-th of n, counted forth or back.
-pub fn turned(n: u16, back: bool, k: u16) -> u16
+pub fn turn_number(n: u16, back: bool, k: u16) -> u16
     requires { k < n }
     ensures { result ≡ turned_of n back k }
 {

@@ -17,7 +17,7 @@ pub struct Coord {
 
 /// A component and what is added to it, where the sum is from 0 to r - 1.
 #[inline(always)]
-fn shifted(v: u16, by: i16, r: u16) -> Option<u16>
+fn shift(v: u16, by: i16, r: u16) -> Option<u16>
     ensures { SomeIff result (IsTrue (in_range r (pos v +ℤ by))) (unsigned_abs (pos v +ℤ by)) }
 {
     let sum = i32::from(v) + i32::from(by);
@@ -37,9 +37,9 @@ impl Coord {
         ensures sum { IfSome result (λ c. point c ≡ point_plus (point self) d) }
     {
         match (
-            shifted(self.x, d.dx, r),
-            shifted(self.y, d.dy, r),
-            shifted(self.z, d.dz, r),
+            shift(self.x, d.dx, r),
+            shift(self.y, d.dy, r),
+            shift(self.z, d.dz, r),
         ) {
             (Some(x), Some(y), Some(z)) => Some(Coord { x, y, z }),
             _ => None,

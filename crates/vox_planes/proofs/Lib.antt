@@ -2,6 +2,7 @@ pub mod Bits
 pub mod Differences
 pub mod Parts
 pub mod Searches
+pub mod Ends
 pub mod Totals
 pub mod Voxels
 pub mod Walks

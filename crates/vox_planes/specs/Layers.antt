@@ -1,5 +1,5 @@
 -- How bits in words stand for the voxels of a matrix: one layer of y after another, each in whole words.
-use Rattle.std.specs.Prelude.{◌≡◌, ℕ, ◌+◌, ◌*◌, ◌/◌, ◌%◌, ◌<◌, ◌≤◌, Bool, IsFalse, List, length, slice_index}
+use Rattle.std.specs.Prelude.{◌≡◌, ℕ, ◌+◌, ◌*◌, ◌/◌, ◌%◌, ◌<◌, ◌≤◌, Bool, true, IsFalse, List, length, slice_index}
 use Rattle.vox_geom.specs.declared.coordinate.Coord.{Coord}
 use Rattle.vox_geom.specs.declared.TheConstants.{MOST_R}
 use Rattle.nano_spec.specs.Matrix.{Matrix, matrix_where}
@@ -27,3 +27,8 @@ pub record IsLayered (r : ℕ) (words : List ℕ) : Type 0 where
   pub most : r ≤ MOST_R
   pub whole : length words ≡ r * layer_words r
   pub unused : (y i : ℕ) → y < r → r * r ≤ i → i < layer_words r * 64 → IsFalse (is_set words (y * layer_words r * 64 + i))
+
+-- no bit is 1 from the word of this index on
+pub record AreZeroFrom (words : List ℕ) (end : ℕ) : Type 0 where
+  pub few : end ≤ length words
+  pub below : (i : ℕ) → i < length words * 64 → is_set words i ≡ true → i < end * 64

@@ -1,9 +1,9 @@
 //! Bit planes: which voxels of a matrix are full.
-ghost use Rattle.std.specs.Prelude.{◌≡◌, ◌≢◌, ℕ, ◌+◌, ◌*◌, ◌/◌, ◌%◌, ◌<◌, ◌≤◌, IfOk, length};
+ghost use Rattle.std.specs.Prelude.{◌≡◌, ◌≢◌, ℕ, ◌+◌, ◌*◌, ◌/◌, ◌%◌, ◌<◌, ◌≤◌, IfOk, cond, false, length, max, true};
 ghost use Rattle.vox_geom.specs.declared.coordinate.Coord.{Coord as Coordinate};
 ghost use Rattle.vox_geom.specs.Space.{IsInSpace};
 ghost use Rattle.nano_spec.specs.Matrix.{empty as empty_of, is_full};
-ghost use Rattle.vox_planes.specs.Layers.{bit_index as bit_index_of, is_set as is_set_of, layer_words as layer_words_of};
+ghost use Rattle.vox_planes.specs.Layers.{AreZeroFrom, bit_index as bit_index_of, is_set as is_set_of, layer_words as layer_words_of};
 ghost use Rattle.vox_planes.specs.Voxel.{IsWhole, with_voxel};
 
 mod lines;
@@ -21,6 +21,9 @@ pub use whole::earlier;
 /// The bits of a word.
 const WORD_BITS: usize = 64;
 
+/// How many words of 0 a change of voxels passes at most on the way to the last word that is not 0.
+const MOST_TRIMMED: u8 = 8;
+
 /// Which voxels of a matrix are full, one bit each. Contracts see the matrix: its resolution and, in the order of places, its voxels.
 #[derive(Drop)]
 pub struct Planes {
@@ -28,18 +31,21 @@ pub struct Planes {
     // How many words a layer takes: each index asks for it.
     layer: usize,
     words: Vec<u64>,
+    // From the word of this index on all words are 0.
+    end: usize,
 }
 
 impl Model for Planes {
     ghost use Rattle.nano_spec.specs.Matrix.{Matrix};
     ghost use Rattle.std.specs.Prelude.{◌≡◌};
-    ghost use Rattle.vox_planes.specs.Layers.{IsLayered, layer_words, layered};
+    ghost use Rattle.vox_planes.specs.Layers.{AreZeroFrom, IsLayered, layer_words, layered};
 
     ghost Value = { Matrix };
 
     ghost view = { λ p. layered p.resolution p.words.items };
 
-    ghost invariant = { λ p. IsLayered p.resolution p.words.items × (p.layer ≡ layer_words p.resolution) };
+    ghost invariant = { λ p. IsLayered p.resolution p.words.items × (p.layer ≡ layer_words p.resolution)
+        × AreZeroFrom p.words.items p.end };
 }
 
 /// How many words a layer takes.
@@ -92,6 +98,42 @@ fn set_bit(words: &mut [u64], i: usize, value: bool)
     }
 }
 
+/// From which word on all are 0, looked for among the last few before an end from which on they are.
+#[inline(never)]
+fn trim(words: &[u64], end: usize) -> usize
+    requires { AreZeroFrom words.now end }
+    ensures { AreZeroFrom words.now result }
+{
+    let mut left = end;
+    for _ in 0..MOST_TRIMMED {
+        if left == 0 {
+            return left;
+        }
+        if words[left - 1] != 0 {
+            return left;
+        }
+        left -= 1;
+    }
+    left
+}
+
+/// From which word on all are 0, once bits up to the word at an index were made 1, or else 0. An end that lies further behind is
+/// moved in part at each call.
+#[inline(always)]
+fn end_after(words: &[u64], end: usize, at: usize, full: bool) -> usize
+    requires at { at < length words.now }
+    requires zero { AreZeroFrom words.now (cond full (max end (at + 1)) end) }
+    ensures { AreZeroFrom words.now result }
+{
+    if full {
+        return end.max(at + 1);
+    }
+    if words[at] != 0 {
+        return end;
+    }
+    trim(words, end)
+}
+
 impl Planes {
     /// The matrix of a resolution in which every voxel is void.
     pub fn empty(alloc: Global, r: u16) -> Result<Planes, Memory>
@@ -107,6 +149,7 @@ impl Planes {
             resolution: r,
             layer,
             words,
+            end: 0,
         })
     }
 
@@ -121,6 +164,7 @@ impl Planes {
             resolution: self.resolution,
             layer: self.layer,
             words,
+            end: self.end,
         })
     }
 
@@ -129,16 +173,29 @@ impl Planes {
         ensures value { result ≡ self.now.resolution }
         ensures whole { IsWhole self.now }
     {
-        self.know();
+        self.recall();
         self.resolution
     }
 
     /// Does nothing: it recalls what a matrix keeps.
     #[inline(always)]
-    pub fn know(&self)
+    pub fn recall(&self)
         ensures whole { IsWhole self.now }
     {
         let _ = &self.resolution;
+    }
+
+    /// Whether it is known that all is void from the layer of y on: one touch where it is, and none where it is not known.
+    #[inline(always)]
+    pub fn is_void_from<L: Ledger>(&self, y: u16, steps: &mut Steps<L>) -> bool
+        ensures void { result ≡ true → (c : Coordinate) → y ≤ c.y → is_full self.now c ≡ false }
+        ensures touches { steps.new ≤ steps.old + cond result 1 0 }
+    {
+        if self.end > usize::from(y) * self.layer {
+            return false;
+        }
+        steps.tick();
+        true
     }
 
     /// Whether the voxel at the coordinate is full: one touch.
@@ -164,5 +221,6 @@ impl Planes {
     {
         let i = bit_index(c, self.resolution, self.layer);
         set_bit(&mut self.words, i, full);
+        self.end = end_after(&self.words, self.end, i / WORD_BITS, full);
     }
 }

@@ -23,7 +23,7 @@ fn assert_listed<L: Ledger>(
 )
     requires { IsInSpace planes.now.resolution b.now.high }
 {
-    planes.know();
+    planes.recall();
     list.clear();
     assert!(rt; b.size() <= list.spare());
     if full {

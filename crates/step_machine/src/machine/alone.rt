@@ -12,7 +12,7 @@ ghost use Rattle.step_machine.specs.Settling.{IsDeclined};
 ghost use Rattle.step_machine.specs.Stepped.{Stepped, answer_of};
 ghost use Rattle.step_machine.specs.declared.machine.StepFault.{StepFault as Fault};
 
-use super::{Machine, StepFault, know_step};
+use super::{Machine, StepFault, recall_step};
 use crate::support::{settle_at_once, settle_one};
 use nano_spec::{Command, Harmonics};
 use std::sync::ledger::Ledger;
@@ -39,7 +39,7 @@ impl Machine {
         }
     }
 
-    /// The step of the only bot by a straight move. Most are by one and break no rule, and are made at once.
+    /// The step of the only bot by a straight move. Most are by one, or above all full voxels, and are made at once.
     #[inline(always)]
     fn move_alone<L: Ledger>(
         &mut self,
@@ -55,15 +55,15 @@ impl Machine {
             steps.old steps.new }
         ensures memory { result ≡ false → fault.new ≡ StepFault.Memory → is_edit (SMove d) ≡ true }
     {
-        if self.move_by_one(d, steps) {
+        if self.move_at_once(d, steps) {
             return true;
         }
         self.move_far(d, fault, steps)
     }
 
-    /// The step of the only bot by a straight move by one that breaks no rule: whether it was made. Otherwise all stays.
+    /// The step of the only bot by a straight move whose way is seen to be void at once: whether it was made. Otherwise all stays.
     #[inline(always)]
-    fn move_by_one<L: Ledger>(&mut self, d: Long, steps: &mut Steps<L>) -> bool
+    fn move_at_once<L: Ledger>(&mut self, d: Long, steps: &mut Steps<L>) -> bool
         requires stands { self.old.spent ≡ false }
         requires one { length self.old.state.bots ≡ 1 }
         requires held { self.old.state.harmonics ≡ Low → FirstUngrounded self.old.state.matrix None }
@@ -75,16 +75,16 @@ impl Machine {
             ≤ steps.old + volatile_total self.old.state.matrix (acts self.old.state.bots (SMove d ∷ [])) }
     {
         let step = self.steps + 1;
-        self.system.know();
-        know_step(&self.system, &[Command::SMove(d)]);
-        if !self.system.move_by_one(d, steps) {
+        self.system.recall();
+        recall_step(&self.system, &[Command::SMove(d)]);
+        if !self.system.move_at_once(d, steps) {
             return false;
         }
         self.steps = step;
         true
     }
 
-    /// The step of the only bot by a straight move, after a try by one.
+    /// The step of the only bot by a straight move, after a try at once.
     #[inline(never)]
     fn move_far<L: Ledger>(&mut self, d: Long, fault: &mut StepFault, steps: &mut Steps<L>) -> bool
         requires stands { self.old.spent ≡ false }
@@ -97,8 +97,8 @@ impl Machine {
         ensures memory { result ≡ false → fault.new ≡ StepFault.Memory → is_edit (SMove d) ≡ true }
     {
         let step = self.steps + 1;
-        self.system.know();
-        know_step(&self.system, &[Command::SMove(d)]);
+        self.system.recall();
+        recall_step(&self.system, &[Command::SMove(d)]);
         if let Some(broken) = self.system.move_alone(d, step, steps) {
             *fault = StepFault::Broken(broken);
             return false;
@@ -124,7 +124,7 @@ impl Machine {
     {
         let step = self.steps + 1;
         let commands = [edit(d, FULL)];
-        know_step(&self.system, &commands);
+        recall_step(&self.system, &commands);
         let Ok(at) = self.system.judge_edit(d, FULL, step) else {
             return false;
         };
@@ -155,7 +155,7 @@ impl Machine {
     {
         let step = self.steps + 1;
         let commands = [edit(d, FULL)];
-        know_step(&self.system, &commands);
+        recall_step(&self.system, &commands);
         let at = match self.system.judge_edit(d, FULL, step) {
             Ok(at) => at,
             Err(broken) => {

@@ -7,7 +7,7 @@ ghost use Rattle.step_machine.specs.Stepped.{Stepped};
 ghost use Rattle.support_forest.specs.Standing.{MayAdd, MayRemove};
 ghost use Rattle.step_machine.specs.Undoing.{HaveChanged, IsUndoneBy, MayUndo, matrix_before, state_before, without_filled, without_note};
 
-use super::{Machine, StepFault, StepOk, know_step, made};
+use super::{Machine, StepFault, StepOk, recall_step, tell_made};
 use crate::order::take_turns;
 use crate::support::refit_back;
 use crate::undo::{Undo, settle_noted};
@@ -78,8 +78,8 @@ impl Machine {
             return Err(StepFault::Spent);
         }
         let step = self.steps + 1;
-        self.system.know();
-        know_step(&self.system, commands);
+        self.system.recall();
+        recall_step(&self.system, commands);
         if let Some(broken) = self.system.judge(commands, step, &mut self.turns, steps) {
             return Err(StepFault::Broken(broken));
         }
@@ -107,7 +107,7 @@ impl Machine {
             steps,
         );
         self.steps = step;
-        Ok((made(&self.system), undo))
+        Ok((tell_made(&self.system), undo))
     }
 
     /// Takes the step of a note back: the machine is in the state that the note tells. Memory spends the machine.
@@ -123,7 +123,7 @@ impl Machine {
     {
         let filled = undo.filled.as_slice();
         let voided = undo.voided.as_slice();
-        self.system.know();
+        self.system.recall();
         match refit_back(&mut self.forest, filled, voided, steps) {
             Ok(()) => {}
             Err(Memory) => {

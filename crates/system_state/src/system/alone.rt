@@ -18,7 +18,7 @@ ghost use Rattle.system_state.specs.Edited.{edit_cost};
 use super::System;
 use nano_spec::{Bot, Broken};
 use std::sync::ledger::Ledger;
-use step_groups::{judge_edit, judge_move, moves_by_one};
+use step_groups::{judge_edit, judge_move, moves_at_once};
 use vox_geom::{Coord, Long, Near, Steps};
 
 impl System {
@@ -29,14 +29,14 @@ impl System {
         ensures only { self.now.bots ≡ result ∷ [] }
         ensures within { IsInSpace self.now.matrix.resolution result.pos }
     {
-        self.know();
+        self.recall();
         self.crew.bots()[0]
     }
 
-    /// The step of the only bot by a straight move by one that breaks no rule, with all effects and costs: whether it was made. Otherwise
-    /// all stays. The rule of grounding is not judged.
+    /// The step of the only bot by a straight move whose way is seen to be void at once, with all effects and costs: whether it was
+    /// made. Otherwise all stays. The rule of grounding is not judged.
     #[inline(always)]
-    pub fn move_by_one<L: Ledger>(&mut self, d: Long, steps: &mut Steps<L>) -> bool
+    pub fn move_at_once<L: Ledger>(&mut self, d: Long, steps: &mut Steps<L>) -> bool
         requires one { length self.old.bots ≡ 1 }
         requires payable { IsPayable self.old.energy }
         ensures keeps { result ≡ true → (step : ℕ) → broken_of self.old (SMove d ∷ []) step ≡ None }
@@ -45,9 +45,9 @@ impl System {
         ensures stays { result ≡ false → self.new ≡ self.old }
         ensures touches { steps.new ≤ steps.old + volatile_total self.old.matrix (acts self.old.bots (SMove d ∷ [])) }
     {
-        self.know();
+        self.recall();
         let bot = self.only_bot();
-        let Some(to) = moves_by_one(&self.matrix, self.profile, bot, d, steps) else {
+        let Some(to) = moves_at_once(&self.matrix, self.profile, bot, d, steps) else {
             return false;
         };
         self.pay_upkeep();
@@ -74,7 +74,7 @@ impl System {
         ensures touches { steps.new
             ≤ steps.old + 2 * volatile_total self.old.matrix (acts self.old.bots (SMove d ∷ [])) }
     {
-        self.know();
+        self.recall();
         let bot = self.only_bot();
         match judge_move(&self.matrix, self.profile, bot, d, step, steps) {
             Ok(to) => {

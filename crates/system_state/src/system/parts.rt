@@ -31,7 +31,7 @@ impl System {
         requires { All (λ c. IsInSpace self.old.matrix.resolution c) cells.now }
         ensures { self.new ≡ record self.old { matrix = with_cells self.old.matrix cells.now full } }
     {
-        self.matrix.know();
+        self.matrix.recall();
         set_cells(&mut self.matrix, cells, full);
     }
 

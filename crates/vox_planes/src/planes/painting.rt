@@ -11,7 +11,7 @@ ghost use Rattle.vox_planes.specs.Voxel.{IsWhole};
 ghost use Rattle.vox_planes.specs.Walk.{layer_size};
 
 use super::places::{bits_at, part, put_bits};
-use super::{Planes, bit_index};
+use super::{Planes, WORD_BITS, bit_index, end_after};
 use std::sync::ledger::Ledger;
 use vox_geom::{Coord, Region, Steps};
 
@@ -35,7 +35,10 @@ impl Planes {
     {
         let index = bit_index(first, self.resolution, self.layer);
         let count = u32::from(last - first.z) + 1;
-        set_bits(&mut self.words, index, count, full, steps)
+        let changed = set_bits(&mut self.words, index, count, full, steps);
+        let end = index + usize::from(last - first.z);
+        self.end = end_after(&self.words, self.end, end / WORD_BITS, full);
+        changed
     }
 
     /// Makes the coordinates of the region with this y full or void. How many voxels changed.
@@ -49,7 +52,7 @@ impl Planes {
         ensures whole { IsWhole self.new }
         ensures touches { steps.new ≤ steps.old + layer_size b.now }
     {
-        self.know();
+        self.recall();
         let low = b.low();
         let high = b.high();
         let mut changed = 0;
@@ -69,8 +72,8 @@ impl Planes {
         ensures whole { IsWhole self.new }
         ensures touches { steps.new ≤ steps.old + size (span b.now) }
     {
-        self.know();
-        know_size(b);
+        self.recall();
+        recall_size(b);
         let low = b.low();
         let high = b.high();
         let mut changed = 0;
@@ -83,7 +86,7 @@ impl Planes {
 
 /// Does nothing: it recalls that a region has few coordinates.
 #[inline(always)]
-fn know_size(b: &Region)
+fn recall_size(b: &Region)
     requires { IsInSpace MOST_R b.now.high }
     ensures { size (span b.now) ≤ MOST_R * MOST_R * MOST_R }
 {

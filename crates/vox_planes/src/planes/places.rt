@@ -9,7 +9,7 @@ ghost use Rattle.vox_planes.specs.Places.{is_from, is_marked, voxel_at};
 ghost use Rattle.vox_planes.specs.Voxel.{IsWhole};
 ghost use Rattle.vox_planes.specs.Walk.{at as in_row};
 
-use super::{Planes, WORD_BITS, bit_index};
+use super::{Planes, WORD_BITS, bit_index, end_after};
 use std::sync::ledger::Ledger;
 use vox_geom::{Coord, Steps};
 
@@ -31,6 +31,7 @@ impl Planes {
         let index = bit_index(c, self.resolution, self.layer);
         let count = part(u32::from(self.resolution - c.z), index, most);
         put_bits(&mut self.words, index, count, bits);
+        self.end = end_after(&self.words, self.end, index / WORD_BITS, bits != 0);
         count
     }
 
@@ -43,7 +44,7 @@ impl Planes {
         ensures resolution { self.new.resolution ≡ self.old.resolution }
         ensures whole { IsWhole self.new }
     {
-        self.know();
+        self.recall();
         let mut done = 0;
         while done < count {
             done += self.set_part(from + done, count - done, bits >> done);
@@ -58,7 +59,7 @@ impl Planes {
         ensures resolution { self.new.resolution ≡ self.old.resolution }
         ensures whole { IsWhole self.new }
     {
-        self.know();
+        self.recall();
         let mut at = from;
         while at < end {
             at += self.set_part(at, (end - at).min(64), u64::MAX);

@@ -89,6 +89,9 @@ impl Planes {
         ensures touches { steps.new ≤ steps.old + size (span b.now) }
     {
         let low = b.low();
+        if self.is_void_from(low.y, steps) {
+            return None;
+        }
         let high = b.high();
         if low.z == high.z {
             if low.y == high.y {
@@ -240,7 +243,7 @@ fn list_bits(bits: u64, first: Coord, last: u16, list: &mut ChangeList)
 }
 
 /// A word whose bits are 1 where those of the given one have the value.
-fn marked(word: u64, value: bool) -> u64
+fn mark(word: u64, value: bool) -> u64
     ensures { IsMarked word result value }
 {
     if value { word } else { !word }
@@ -252,7 +255,7 @@ fn bits_from(words: &[u64], at: usize, value: bool) -> u64
     requires { at / 64 < length words.now }
     ensures { AreBitsFrom words.now at result value }
 {
-    marked(words[at / WORD_BITS], value) >> (at % WORD_BITS)
+    mark(words[at / WORD_BITS], value) >> (at % WORD_BITS)
 }
 
 /// The first bit of a value from one index on and before an end.
@@ -275,7 +278,7 @@ fn next_bit<L: Ledger>(
     let mut at = from;
     while at < end {
         steps.tick();
-        let bits = marked(words[at / WORD_BITS], value) >> (at % WORD_BITS);
+        let bits = mark(words[at / WORD_BITS], value) >> (at % WORD_BITS);
         if bits != 0 {
             let found = at + bits.trailing_zeros() as usize;
             return if found < end { Some(found) } else { None };

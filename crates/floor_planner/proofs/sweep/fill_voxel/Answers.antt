@@ -18,7 +18,7 @@ pub fill-requires-clause-limit : goal.fill-requires-clause-limit
 fill-requires-clause-limit c =
     let target = c.args.target.now in
     let at = place_above target.resolution target c.args.x c.args.z c.requires.legal refl cc in
-    let room = room_left c.args.tape.now target c.args.x c.args.z (coord c.args.x 1 c.args.z) c.requires.swept (omega arith) (omega arith) c.know.ensures.whole.most at in
+    let room = room_left c.args.tape.now target c.args.x c.args.z (coord c.args.x 1 c.args.z) c.requires.swept (omega arith) (omega arith) c.recall.ensures.whole.most at in
     let way = c.in_ok-go.ensures.ok.steps in
     omega arith
 
@@ -29,5 +29,5 @@ returns c =
     let wanted : is_full target (coord c.args.x 0 c.args.z) ≡ true = cc in
     on_ok_weaker c.fill.result
     (λ (w : Writes b c.fill.new.self (Fill c.down.result) (with_voxel b.matrix (beside b c.down.result) true) b.harmonics b.bots _).
-    filled_one c.args.tape.now b c.fill.new.self target (Fill down) _ c.args.x c.args.z c.requires.legal c.requires.flat c.know.ensures.whole.most c.requires.swept wanted c.in_ok-go.ensures.ok (rw c.down.ensures at w))
+    filled_one c.args.tape.now b c.fill.new.self target (Fill down) _ c.args.x c.args.z c.requires.legal c.requires.flat c.recall.ensures.whole.most c.requires.swept wanted c.in_ok-go.ensures.ok (rw c.down.ensures at w))
     c.fill.ensures.ok

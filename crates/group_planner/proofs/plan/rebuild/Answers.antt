@@ -16,7 +16,7 @@ clear-requires-clause-limit c =
     let same = ap (λ (m : Matrix). m.resolution) (c.requires.opened.matrix ∙ c.requires.source) in
     let top = top_climb a s c.requires.opened c.requires.source in
     let sum = ap (steps_below s) same ∙ model_sum s in
-    let fits = plan_fits s c.args.target.now c.know.ensures.whole.most c.requires.same in
+    let fits = plan_fits s c.args.target.now c.recall.ensures.whole.most c.requires.same in
     omega (arith, same, top, sum, fits)
 
 pub build-requires-clause-limit : goal.build-requires-clause-limit
@@ -31,12 +31,12 @@ build-requires-clause-limit c =
     let top = top_climb a s c.requires.opened c.requires.source in
     let sum = ap (steps_below s) same ∙ model_sum s in
     let more = ap (steps_below t) (now ∙ (same ∙ sym c.requires.same)) ∙ model_sum t in
-    let fits = plan_fits s t c.know.ensures.whole.most c.requires.same in
+    let fits = plan_fits s t c.recall.ensures.whole.most c.requires.same in
     let climb = p.climb in
     omega (arith, same, now, top, sum, more, fits, climb)
 
-pub returns-clause-rebuilt : goal.returns-clause-rebuilt
-returns-clause-rebuilt c =
+pub returns : goal.returns
+returns c =
     let p = c.in_ok-clear.ensures in
     let q = c.in_ok-build.ensures in
-    rebuilt c.args.tape.now c.clear.new.tape c.build.new.tape c.args.source.now c.args.target.now c.args.low c.requires.opened c.requires.source c.requires.legal_target c.requires.same c.requires.lowest p.stamps p.climb q.stamps q.steps
+    rebuilt c.args.tape.now c.clear.new.tape c.build.new.tape c.args.source.now c.args.target.now c.args.low c.requires.opened c.requires.source c.requires.legal_target c.recall_whole.ensures.whole c.recall-2.ensures.whole c.requires.same c.requires.lowest p.stamps p.climb q.stamps q.steps

@@ -1,23 +1,35 @@
-use Rattle.std.proofs.Common.{◌∙◌, ap, subst}
-use Rattle.std.specs.Prelude.{IfOk}
+use Rattle.std.proofs.Common.{sym, ◌∙◌, ap, subst, arith}
 use Rattle.std.proofs.lemmas.Result.{IfOk-weaker}
-use Rattle.nano_spec.specs.declared.system.Profile.{Profile}
+use Rattle.nano_spec.specs.Legal.{IsLegal}
 use Rattle.nano_spec.specs.Matrix.{Matrix, is_full}
 use Rattle.nano_spec.specs.Profile.{full_profile}
-use Rattle.plan_tape.specs.Progress.{IsAccepted}
+use Rattle.plan_tape.proofs.Closing.{accepted_to, few_made}
+use Rattle.plan_tape.proofs.LegalModels.{empty_is_void}
 use Rattle.plan_tape.proofs.Lowest.{not_same}
 use Rattle.layer_planner.proofs.plan.plan_layers.Goals as goal
-use Rattle.plan_tape.proofs.LegalModels.{empty_is_void}
 
 pub rebuild-requires-clause-nothing : goal.rebuild-requires-clause-nothing
 rebuild-requires-clause-nothing c = λ d l. ap (λ (m : Matrix). is_full m d) c.in_ok-nothing.ensures.value ∙ empty_is_void c.resolution.result d
+
+pub close-requires-clause-legal : goal.close-requires-clause-legal
+close-requires-clause-legal c = subst IsLegal (sym c.in_ok-rebuild.ensures.rebuilt.matrix) c.requires.target
+
+pub returns-clause-accepted : goal.returns-clause-accepted
+returns-clause-accepted c =
+    let t = c.rebuild.new.tape in
+    let k = c.in_ok-rebuild.ensures.rebuilt in
+    let source = c.in_ok-rebuild.ensures.source ∙ (c.in_ok-tape.ensures.source ∙ c.in_ok-copy-2.ensures.value) in
+    accepted_to c.close.result t.source c.args.source.now t.matrix c.args.target.now t.profile full_profile source (λ q. ap (λ (m : Matrix). is_full m q) k.matrix) k.ready.full c.close.ensures.accepted
+
+pub returns-clause-bytes : goal.returns-clause-bytes
+returns-clause-bytes c = IfOk-weaker c.close.result _ _ (λ plan e. let k = c.in_ok-rebuild.ensures.rebuilt.bytes_are in let same = c.requires.same in rw same (omega (arith, e, k))) c.close.ensures.bytes
+
+pub returns-clause-few : goal.returns-clause-few
+returns-clause-few c = few_made c.close.result c.args.source.now full_profile _ 1 (let none = c.in_ok-rebuild.ensures.rebuilt.ready.unsplit in omega (arith, none)) c.close.ensures.fissions
 
 pub returns-clause-halt_alone : goal.returns-clause-halt_alone
 returns-clause-halt_alone c = λ e. absurd (not_same c.args.source.now c.args.target.now _ c.in-Some.ensures.found e)
 
 pub returns-in_default-clause-accepted : goal.returns-in_default-clause-accepted
 returns-in_default-clause-accepted c =
-    let same = c.in_ok-copy.ensures.value ∙ c.in_default.ensures.none in
-    subst (λ (k : Profile). IfOk c.halt_alone.result (λ plan. IsAccepted c.args.source.now c.args.target.now plan.commands k plan.energy plan.steps)) c.full.ensures
-    (subst (λ (m : Matrix). IfOk c.halt_alone.result (λ plan. IsAccepted m c.args.target.now plan.commands c.full.result plan.energy plan.steps)) c.in_ok-copy.ensures.value
-    (IfOk-weaker c.halt_alone.result _ _ (λ plan accepted. accepted c.args.target.now (λ q. ap (λ (m : Matrix). is_full m q) same)) c.halt_alone.ensures.accepted))
+    accepted_to c.halt_alone.result c.in_ok-copy.field-0 c.args.source.now c.in_ok-copy.field-0 c.args.target.now c.full.result full_profile c.in_ok-copy.ensures.value (λ q. ap (λ (m : Matrix). is_full m q) (c.in_ok-copy.ensures.value ∙ c.in_default.ensures.none)) c.full.ensures c.halt_alone.ensures.accepted

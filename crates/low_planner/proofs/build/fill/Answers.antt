@@ -16,7 +16,7 @@ fill-requires-clause-held c = λ _.
     let b = c.go_above.new.tape in
     let at = c.args.c in
     let went = c.in_ok-go_above.ensures in
-    let held = filled_is_grounded a.matrix at (lower_in_space a.matrix.resolution at c.requires.can_go.within) (c.know_ready.ensures.held c.requires.can_go.working.low) c.requires.carried in
+    let held = filled_is_grounded a.matrix at (lower_in_space a.matrix.resolution at c.requires.can_go.within) (c.recall_ready.ensures.held c.requires.can_go.working.low) c.requires.carried in
     let here : beside b c.down.result ≡ at = ap (beside b) c.down.ensures ∙ below_spot b at went.there in
     let same : with_voxel b.matrix (beside b c.down.result) true ≡ with_voxel a.matrix at true = (λ i. with_voxel (went.matrix i) (here i) true) in
     subst (λ (m : Matrix). FirstUngrounded m None) (sym same) held

@@ -9,7 +9,7 @@ returns-in-Ok c = cost_of _ _ c.in-Ok.effect _ c.requires.stores_none c.in-Ok.en
 
 pub returns-in-Err-Told : goal.returns-in-Err-Told
 returns-in-Err-Told c =
-    let is = subst (λ (s : Status). IsRefused s c.refused.result) c.status.ensures c.refused.ensures in
+    let is = subst (λ (s : Status). IsRefused s c.refuse.result) c.status.ensures c.refuse.ensures in
     refused_report _ _ c.in-Err-Told.report _ (rw c.in-Err-Told.field-0-is at c.in-Err-Told.ensures.finishes) is
 
 pub returns-in-Err-Depot : goal.returns-in-Err-Depot

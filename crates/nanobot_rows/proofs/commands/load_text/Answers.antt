@@ -1,17 +1,19 @@
-use Rattle.std.proofs.Common.{◌∙◌, arith, refl}
-use Rattle.nanobot_rows.proofs.Loads.{text_found, text_refused, text_too_long}
-use Rattle.nanobot_rows.proofs.Told.{told_weaker}
+use Rattle.std.proofs.Common.{◌≡◌, ℕ, Err, List, rules, subst}
+use Rattle.trace_text.specs.Text.{ReadsText}
+use Rattle.nanobot_rows.proofs.Loads.{text_found, text_refused, text_stops}
 use Rattle.nanobot_rows.proofs.commands.load_text.Goals as goal
 
-pub returns-then-len-gt-TEXT_LIMIT-clause-reads : goal.returns-then-len-gt-TEXT_LIMIT-clause-reads
-returns-then-len-gt-TEXT_LIMIT-clause-reads g c = text_too_long _ _ c.in_ok-bytes.bytes.items _ refl c.in_ok-bytes.ensures.bytes (omega (arith, c.if-len-gt-TEXT_LIMIT.true, c.len.ensures))
+pub returns-in_err-bytes-clause-reads : goal.returns-in_err-bytes-clause-reads
+returns-in_err-bytes-clause-reads g c =
+    let is : c.from_residual.result ≡ Err c.in_err-bytes.field-0.0 = search rules in
+    rw is (text_stops c.args.name.now _ _ c.in_err-bytes.field-0.0 c.in_err-bytes.ensures.reads)
 
 pub returns-in-Ok-clause-reads : goal.returns-in-Ok-clause-reads
 returns-in-Ok-clause-reads g c =
-    let loaded = told_weaker _ _ _ _ (λ file e. c.as_slice.ensures.value ∙ e) c.in_ok-bytes.ensures.bytes in
-    text_found _ _ c.as_slice.result.now _ refl loaded (omega (arith, c.if-len-gt-TEXT_LIMIT.false, c.len.ensures, c.as_slice.ensures.len)) c.in-Ok.commands c.in-Ok.ensures
+    let whole = c.in_ok-bytes.ensures.reads in
+    text_found _ _ c.in_ok-bytes.bytes.items whole c.in-Ok.commands (rw c.as_slice.ensures.value at c.in-Ok.ensures)
 
 pub returns-clause-reads : goal.returns-clause-reads
 returns-clause-reads g c =
-    let loaded = told_weaker _ _ _ _ (λ file e. c.as_slice.ensures.value ∙ e) c.in_ok-bytes.ensures.bytes in
-    rw c.of_text.ensures (text_refused _ _ c.as_slice.result.now _ refl loaded (omega (arith, c.if-len-gt-TEXT_LIMIT.false, c.len.ensures, c.as_slice.ensures.len)) _ c.in-Err.fault c.in-Err.ensures)
+    let whole = c.in_ok-bytes.ensures.reads in
+    rw c.of_text.ensures (text_refused _ _ c.in_ok-bytes.bytes.items whole _ c.in-Err.fault (subst (λ (b : List ℕ). ReadsText b (Err c.in-Err.fault)) c.as_slice.ensures.value c.in-Err.ensures))

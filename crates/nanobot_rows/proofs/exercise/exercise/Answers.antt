@@ -1,7 +1,7 @@
 use Rattle.vox_depot.specs.Causes.{Rose}
 use Rattle.nanobot_words.specs.Rows.{exercise}
 use Rattle.nanobot_rows.specs.Answer.{AnswerOf}
-use Rattle.nanobot_rows.proofs.Exercised.{ends_finish}
+use Rattle.nanobot_rows.proofs.Replies.{ends_finish}
 use Rattle.nanobot_rows.proofs.exercise.exercise.Goals as goal
 
 pub returns-clause-finishes : goal.returns-clause-finishes

@@ -5,7 +5,7 @@ use Rattle.vox_depot.specs.Causes.{Rose}
 use Rattle.nanobot_rows.specs.Answer.{AnswerOfRun}
 use Rattle.nanobot_rows.specs.Effects.{EndsStored, alone}
 use Rattle.nanobot_rows.specs.Touching.{IsRunWithin}
-use Rattle.nanobot_rows.proofs.Exercised.{ends_finish}
+use Rattle.nanobot_rows.proofs.Replies.{ends_finish}
 use Rattle.nanobot_rows.proofs.rows.run.Goals as goal
 
 pub returns-clause-finishes : goal.returns-clause-finishes

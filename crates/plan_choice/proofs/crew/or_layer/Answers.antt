@@ -6,4 +6,4 @@ returns-clause-crew c =
     let s = c.args.source.now in
     let t = c.args.target.now in
     let other = c.in_ok-other.other in
-    either_crew s t c.args.plan other c.cheaper_of.result c.requires.crew (layer_crew s t other c.know.ensures.whole.most c.in_ok-other.ensures) c.cheaper_of.ensures.either
+    either_crew s t c.args.plan other c.cheaper_of.result c.requires.crew (layer_crew s t other c.recall.ensures.whole.most c.in_ok-other.ensures) c.cheaper_of.ensures.either

@@ -13,6 +13,6 @@ returns-clause-crew c =
     let void : s ≡ c.in_ok-nothing.nothing = search rules in
     let here : s ≡ empty t.resolution = void ∙ (c.in_ok-nothing.ensures.value ∙ ap empty (c.resolution.ensures.value ∙ c.requires.same)) in
     let plan = subst (λ (m : Matrix). IsSwarmPlan m t other.commands other.energy other.steps) (sym here) c.in_ok-other.ensures in
-    let few = c.seeds_bound_the_bots.ensures s full_profile other.commands c.know.ensures.whole plan.plan.are_commands in
-    let most : t.resolution ≤ 400 = subst (λ (r : ℕ). r ≤ 400) c.requires.same c.know.ensures.whole.most in
+    let few = c.seeds_bound_the_bots.ensures s full_profile other.commands c.recall.ensures.whole plan.plan.are_commands in
+    let most : t.resolution ≤ 400 = subst (λ (r : ℕ). r ≤ 400) c.requires.same c.recall.ensures.whole.most in
     either_crew s t c.args.plan other c.cheaper_of.result c.requires.crew (swarm_crew s t other most few plan) c.cheaper_of.ensures.either

@@ -12,4 +12,4 @@ returns-clause-crew c =
     let void : t ≡ c.in_ok-nothing.nothing = search rules in
     let there : t ≡ empty s.resolution = void ∙ (c.in_ok-nothing.ensures.value ∙ ap empty (c.resolution.ensures.value ∙ sym c.requires.same)) in
     let plan = subst (λ (m : Matrix). IsVoidPlan s m other.commands other.energy other.steps) (sym there) c.in_ok-other.ensures in
-    either_crew s t c.args.plan other c.cheaper_of.result c.requires.crew (void_crew s t other c.know.ensures.whole.most plan) c.cheaper_of.ensures.either
+    either_crew s t c.args.plan other c.cheaper_of.result c.requires.crew (void_crew s t other c.recall.ensures.whole.most plan) c.cheaper_of.ensures.either

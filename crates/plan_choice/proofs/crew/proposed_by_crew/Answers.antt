@@ -17,6 +17,6 @@ returns-clause-as_layer c =
     let built_costs = c.in_ok-plan-2.ensures.stands.energy in
     let it_costs = c.in_ok-plan-3.ensures.stands.energy in
     let less : it.energy ≤ℤ own.energy = omega (arith, ints, built_costs, it_costs) in
-    let commands = subst AreCommands c.as_slice.ensures c.know_all.ensures in
+    let commands = subst AreCommands c.as_slice.ensures c.recall_all.ensures in
     let facts = c.in_ok-plan.ensures in
     no_dearer IsLayerPlan s t own it.energy (own_layer s t own commands facts.accepted facts.bytes facts.few facts.halt_alone) less

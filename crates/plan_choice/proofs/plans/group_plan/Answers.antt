@@ -23,7 +23,7 @@ returns c =
     let bytes : length (spellings it.commands) ≤ most_bytes s t = search rules in
     record {
       plan = record {
-        are_commands = subst AreCommands c.as_slice.ensures c.know_all.ensures;
+        are_commands = subst AreCommands c.as_slice.ensures c.recall_all.ensures;
         accepted = subst (λ (p : Profile). IsAccepted s t it.commands p it.energy it.steps) c.full-profile.ensures lowered.stands.accepted;
         few_bots = subst (λ n. HasAtMost s full_profile it.commands n) c.group_bounds-most.ensures.bots (subst (λ (p : Profile). HasAtMost s p it.commands c.group_bounds-most.result.bots) c.full-profile.ensures low);
         halt_alone = λ same. alone_stays _ _ (alone_stays _ _ (c.in_ok-plan.ensures.halt_alone same) few.alone) lowered.alone;

@@ -19,7 +19,7 @@ returns c =
     let short : length (spellings it.commands) ≤ 8 * s.resolution * s.resolution * s.resolution + 200 = search rules in
     record {
       plan = record {
-        are_commands = subst AreCommands c.as_slice.ensures c.know_all.ensures;
+        are_commands = subst AreCommands c.as_slice.ensures c.recall_all.ensures;
         accepted = few.stands.accepted;
         few_bots = few.stands.bots (subst (λ (p : Profile). HasAtMost s p c.in_ok-plan-3.plan.commands 1) c.full-profile.ensures (attached.stands.bots (lowered.stands.bots one)));
         halt_alone = λ same. alone_stays _ _ (alone_stays _ _ (alone_stays _ _ (c.in_ok-plan.ensures.halt_alone same) lowered.alone) attached.alone) few.alone;

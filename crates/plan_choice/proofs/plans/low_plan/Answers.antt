@@ -16,7 +16,7 @@ returns-clause-plan c =
     let steps : it.steps ≤ 4 * full_count t + volume t.resolution + 200 = search rules in
     record {
       plan = record {
-        are_commands = subst AreCommands c.as_slice.ensures c.know_all.ensures;
+        are_commands = subst AreCommands c.as_slice.ensures c.recall_all.ensures;
         accepted = c.full_accepts_what_light_accepts.ensures (empty t.resolution) t it.commands it.energy it.steps attached.stands.accepted;
         few_bots = attached.stands.bots first.few;
         halt_alone = λ same. alone_stays _ _ (first.halt_alone (subst IsEmpty same (empty_is_void t.resolution))) attached.alone;

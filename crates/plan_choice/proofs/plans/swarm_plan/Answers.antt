@@ -28,7 +28,7 @@ returns c =
     let steps : it.steps ≤ 4 * width t.resolution * t.resolution * t.resolution + 8 * t.resolution + 2000 = search rules in
     record {
       plan = record {
-        are_commands = subst AreCommands c.as_slice.ensures c.know_all.ensures;
+        are_commands = subst AreCommands c.as_slice.ensures c.recall_all.ensures;
         accepted = c.full_accepts_what_light_accepts.ensures (empty t.resolution) t it.commands it.energy it.steps light;
         few_bots = subst (λ (p : Profile). HasAtMost (empty t.resolution) p it.commands 20) c.light-profile.ensures
             (subst (λ (m : Matrix). HasAtMost m c.light-profile.result it.commands 20) void (lowered.stands.bots before));

@@ -21,7 +21,7 @@ returns c =
     let steps : it.steps ≤ most_void_steps s.resolution = search rules in
     record {
       plan = record {
-        are_commands = subst AreCommands c.as_slice.ensures c.know_all.ensures;
+        are_commands = subst AreCommands c.as_slice.ensures c.recall_all.ensures;
         accepted = subst (λ (m : Matrix). IsAccepted s m it.commands full_profile it.energy it.steps) void slabs.stands.accepted;
         few_bots = slabs.stands.bots (subst (λ (p : Profile). HasAtMost s p c.in_ok-plan-2.plan.commands 4) c.full-profile.ensures (lowered.stands.bots four));
         halt_alone = λ same. alone_stays _ _ (alone_stays _ _ (c.in_ok-plan.ensures.halt_alone same) lowered.alone) slabs.alone;

@@ -9,4 +9,4 @@ pub returns-in-Some-clause-found : goal.returns-in-Some-clause-found
 returns-in-Some-clause-found c = lowest_at c.args.source.now c.args.target.now c.loop-y.y _ (omega arith) c.loop-y.invariant c.in-Some.ensures
 
 pub returns-clause-none : goal.returns-clause-none
-returns-clause-none c = all_same c.args.source.now c.args.target.now c.loop-y.y c.resolution-y-end.ensures.whole c.know.ensures.whole c.requires.same (omega arith) c.loop-y.invariant
+returns-clause-none c = all_same c.args.source.now c.args.target.now c.loop-y.y c.resolution-y-end.ensures.whole c.recall.ensures.whole c.requires.same (omega arith) c.loop-y.invariant

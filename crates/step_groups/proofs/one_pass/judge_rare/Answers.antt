@@ -1,4 +1,4 @@
-use Rattle.std.proofs.Common.{◌+◌, ◌≤◌, ap, ◌∙◌, sym, subst, List, None}
+use Rattle.std.proofs.Common.{◌+◌, ◌≤◌, ◌∙◌, sym, subst, List, None}
 use Rattle.nano_spec.specs.Act.{Act}
 use Rattle.nano_spec.specs.State.{State}
 use Rattle.nano_spec.specs.declared.commands.Command.TheVariants.{Fission, Flip, Halt}

@@ -1,23 +1,9 @@
-use Rattle.std.proofs.Common.{◌∙◌, ap, refl, sym, arith}
-use Rattle.vox_geom.specs.Region.{corners}
-use Rattle.vox_geom.proofs.Covers.{covers}
+use Rattle.std.proofs.Common.{◌∙◌, ap, sym}
 use Rattle.nano_spec.specs.Rules.{broken_by}
 use Rattle.nano_spec.specs.declared.outcomes.Rule.TheVariants.{Blocked}
-use Rattle.step_groups.proofs.ClearSteps.{ordered_corners}
-use Rattle.step_groups.proofs.Touching.{counted, smove_reads_twice}
+use Rattle.step_groups.proofs.Touching.{counted, smove_reads}
 use Rattle.step_groups.proofs.BlockedWays.{smove}
 use Rattle.step_groups.proofs.rules.end_of_move.Goals as goal
-
-pub returns-then-is_clear_by_one-clause-value : goal.returns-then-is_clear_by_one-clause-value
-returns-then-is_clear_by_one-clause-value g c = λ s all.
-    ap (broken_by c.args.step Blocked c.args.bot.bid) (sym (c.is_clear_by_one.ensures.clear c.if-is_clear_by_one.true))
-    ∙ sym (smove (record s { matrix = c.args.planes.now }) all c.args.step c.args.bot c.args.d (corners c.args.bot.pos c.in-Some.to) c.in-Some.to c.in-Some.ensures.some c.in-Some.ensures.sum (λ p. covers (corners c.args.bot.pos c.in-Some.to) c.args.bot.pos c.in-Some.to p refl))
-
-pub returns-then-is_clear_by_one-clause-touches : goal.returns-then-is_clear_by_one-clause-touches
-returns-then-is_clear_by_one-clause-touches g c =
-    smove_reads_twice c.args.planes.now c.args.bot c.args.d (corners c.args.bot.pos c.in-Some.to) (corners c.args.bot.pos c.in-Some.to) c.in-Some.to c.args.steps.now c.is_clear_by_one.new.steps c.is_clear_by_one.new.steps c.in-Some.ensures.some c.in-Some.ensures.sum (λ p. covers (corners c.args.bot.pos c.in-Some.to) c.args.bot.pos c.in-Some.to p refl) (λ p. covers (corners c.args.bot.pos c.in-Some.to) c.args.bot.pos c.in-Some.to p refl)
-    (counted c.args.planes.now (corners c.args.bot.pos c.in-Some.to) c.args.bot.pos c.in-Some.to c.args.steps.now c.is_clear_by_one.new.steps refl (ordered_corners c.args.bot.pos c.in-Some.to) c.requires c.in-Some.ensures.within c.is_clear_by_one.ensures.touches)
-    (omega arith)
 
 pub returns-in-None-clause-value : goal.returns-in-None-clause-value
 returns-in-None-clause-value g c = λ s all.
@@ -26,9 +12,8 @@ returns-in-None-clause-value g c = λ s all.
 
 pub returns-in-None-clause-touches : goal.returns-in-None-clause-touches
 returns-in-None-clause-touches g c =
-    smove_reads_twice c.args.planes.now c.args.bot c.args.d (corners c.args.bot.pos c.in-Some.to) c.of.result c.in-Some.to c.args.steps.now c.is_clear_by_one.new.steps c.region_full.new.steps c.in-Some.ensures.some c.in-Some.ensures.sum (λ p. covers (corners c.args.bot.pos c.in-Some.to) c.args.bot.pos c.in-Some.to p refl) c.of.ensures.covers
-    (counted c.args.planes.now (corners c.args.bot.pos c.in-Some.to) c.args.bot.pos c.in-Some.to c.args.steps.now c.is_clear_by_one.new.steps refl (ordered_corners c.args.bot.pos c.in-Some.to) c.requires c.in-Some.ensures.within c.is_clear_by_one.ensures.touches)
-    (counted c.args.planes.now c.of.result c.args.bot.pos c.in-Some.to c.is_clear_by_one.new.steps c.region_full.new.steps c.of.ensures.corners c.of.ensures.ordered c.requires c.in-Some.ensures.within c.region_full.ensures.touches)
+    smove_reads c.args.planes.now c.args.bot c.args.d c.of.result c.in-Some.to c.args.steps.now c.region_full.new.steps c.in-Some.ensures.some c.in-Some.ensures.sum c.of.ensures.covers
+    (counted c.args.planes.now c.of.result c.args.bot.pos c.in-Some.to c.args.steps.now c.region_full.new.steps c.of.ensures.corners c.of.ensures.ordered c.requires c.in-Some.ensures.within c.region_full.ensures.touches)
 
 pub returns-in-Some-region_full-clause-value : goal.returns-in-Some-region_full-clause-value
 returns-in-Some-region_full-clause-value g c = λ s all.
@@ -38,6 +23,5 @@ returns-in-Some-region_full-clause-value g c = λ s all.
 
 pub returns-in-Some-region_full-clause-touches : goal.returns-in-Some-region_full-clause-touches
 returns-in-Some-region_full-clause-touches g c =
-    smove_reads_twice c.args.planes.now c.args.bot c.args.d (corners c.args.bot.pos c.in-Some.to) c.of.result c.in-Some.to c.args.steps.now c.is_clear_by_one.new.steps c.region_full.new.steps c.in-Some.ensures.some c.in-Some.ensures.sum (λ p. covers (corners c.args.bot.pos c.in-Some.to) c.args.bot.pos c.in-Some.to p refl) c.of.ensures.covers
-    (counted c.args.planes.now (corners c.args.bot.pos c.in-Some.to) c.args.bot.pos c.in-Some.to c.args.steps.now c.is_clear_by_one.new.steps refl (ordered_corners c.args.bot.pos c.in-Some.to) c.requires c.in-Some.ensures.within c.is_clear_by_one.ensures.touches)
-    (counted c.args.planes.now c.of.result c.args.bot.pos c.in-Some.to c.is_clear_by_one.new.steps c.region_full.new.steps c.of.ensures.corners c.of.ensures.ordered c.requires c.in-Some.ensures.within c.region_full.ensures.touches)
+    smove_reads c.args.planes.now c.args.bot c.args.d c.of.result c.in-Some.to c.args.steps.now c.region_full.new.steps c.in-Some.ensures.some c.in-Some.ensures.sum c.of.ensures.covers
+    (counted c.args.planes.now c.of.result c.args.bot.pos c.in-Some.to c.args.steps.now c.region_full.new.steps c.of.ensures.corners c.of.ensures.ordered c.requires c.in-Some.ensures.within c.region_full.ensures.touches)

@@ -9,8 +9,8 @@ remove_region-requires g c e = subst (λ (m : Matrix). IsInSpace m.resolution c.
 
 pub returns-in-Ok-clause-refitted : goal.returns-in-Ok-clause-refitted
 returns-in-Ok-clause-refitted g c =
-    region_refitted c.args.system.now c.args.commands.now c.requires.judged.0 c.know.ensures.ready c.requires.judged.1 c.args.b.now c.requires.region
+    region_refitted c.args.system.now c.args.commands.now c.requires.judged.0 c.recall.ensures.ready c.requires.judged.1 c.args.b.now c.requires.region
     c.args.forest.now.matrix c.remove_region.new.self c.args.steps.now c.remove_region.new.steps c.requires.tied c.in-Ok.ensures.value c.in-Ok.ensures.touches c.in-Ok.ensures.stands.1
 
 pub returns-in-Err-clause-edits : goal.returns-in-Err-clause-edits
-returns-in-Err-clause-edits g c = some_edit c.args.system.now c.args.commands.now c.requires.judged.0 c.know.ensures.ready c.requires.judged.1 c.args.b.now c.requires.region
+returns-in-Err-clause-edits g c = some_edit c.args.system.now c.args.commands.now c.requires.judged.0 c.recall.ensures.ready c.requires.judged.1 c.args.b.now c.requires.region

@@ -1,4 +1,4 @@
-use Rattle.std.proofs.Common.{◌≡◌, ◌+◌, ◌*◌, ◌≤◌, ℕ, arith, inl, inr, subst}
+use Rattle.std.proofs.Common.{◌≡◌, ℕ, arith, inl, inr, subst}
 use Rattle.std.proofs.lemmas.Bool.{cases_lt}
 use Rattle.vox_geom.specs.Space.{IsInSpace}
 use Rattle.support_forest.proofs.Stacking.{CanPile, piled, void_to_come}

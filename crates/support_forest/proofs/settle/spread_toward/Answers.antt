@@ -9,7 +9,7 @@ pub accept-requires-clause-stands : goal.accept-requires-clause-stands
 accept-requires-clause-stands g c = sym (c.requires.word.each _ c.in-Some.ensures.0)
 
 pub accept-requires-clause-improves : goal.accept-requires-clause-improves
-accept-requires-clause-improves g c = subst (λ (m : ℕ). (0 < m) × ((m < 8) ⊎ (c.args.c.height + 1 < m / 8))) (sym (c.requires.word.each _ c.in-Some.ensures.0)) c.if-not-improves.ensures
+accept-requires-clause-improves g c = subst (λ (m : ℕ). (0 < m) × ((m < 8) ⊎ (c.args.c.height + 1 < m / 8))) (sym (c.requires.word.each _ c.in-Some.ensures.0)) c.if-not-improves_next.ensures
 
 pub returns-in_ok-accept-clause-further : goal.returns-in_ok-accept-clause-further
 returns-in_ok-accept-clause-further g c =
@@ -24,9 +24,9 @@ returns-in_ok-accept-clause-spreads g c = λ old start before limit s.
     let m = c.in_ok-accept.ensures.touch in
     direction_offered _ _ _ _ _ _ _ _ _ _ _ _ _ s t (record { toward = c.opposite.ensures _ _ t; height = refl; within = within }) (inr (c.in_ok-accept.ensures.accepted (c.args.steps.now + c.args.d - 7) (c.accept.new.steps + (c.args.d + 1) - 7) (omega arith)))
 
-pub returns-then-not-improves-clause-spreads : goal.returns-then-not-improves-clause-spreads
-returns-then-not-improves-clause-spreads g c = λ old start before limit s.
-    direction_idle _ _ _ _ _ _ _ _ _ _ _ c.requires.direction s c.requires.word c.if-not-improves.ensures (omega arith)
+pub returns-then-not-improves_next-clause-spreads : goal.returns-then-not-improves_next-clause-spreads
+returns-then-not-improves_next-clause-spreads g c = λ old start before limit s.
+    direction_idle _ _ _ _ _ _ _ _ _ _ _ c.requires.direction s c.requires.word c.if-not-improves_next.ensures (omega arith)
 
 pub returns-in_default-clause-spreads : goal.returns-in_default-clause-spreads
 returns-in_default-clause-spreads g c = λ old start before limit s.

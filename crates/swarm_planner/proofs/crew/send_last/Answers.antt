@@ -11,8 +11,8 @@ pub loop-at-init : goal.loop-at-init
 loop-at-init c =
     let p = c.args.tape.now in
     let k = c.requires.line in
-    let e = c.last_place-at.ensures.value in
-    let g = goes_nowhere p c.last_place-at.result k e in
+    let e = c.last_column-at.ensures.value in
+    let g = goes_nowhere p c.last_column-at.result k e in
     let some = k.some in
     let n = length-places p.bots in
     let f = last_free p.matrix.resolution _ _ 1 (places p.bots) k.lined (omega arith) in

@@ -20,8 +20,8 @@ at_one_less p n h s = subst (λ k. IsSpreadOver p k) (one_less n h) s
 more_one_less : (r n : ℕ) → 1 ≤ n → n < count r → suc (n - 1) < count r
 more_one_less r n h l = subst (λ k. k < count r) (one_less n h) l
 
-pub last_place-requires : goal.last_place-requires
-last_place-requires c =
+pub last_column-requires : goal.last_column-requires
+last_column-requires c =
     let p = c.args.tape.now in
     spread_line p (c.args.count - 1) (at_one_less p c.args.count c.requires.some c.requires.spread) (more_one_less p.matrix.resolution c.args.count c.requires.some c.requires.more)
 
@@ -64,7 +64,7 @@ send_last-requires-clause-free c =
     let p = c.args.tape.now in
     let f = born_free p (c.args.count - 1) (at_one_less p c.args.count c.requires.some c.requires.spread) (more_one_less p.matrix.resolution c.args.count c.requires.some c.requires.more) c.split_last.new.tape c.in_ok-split_last.ensures.regroups c.in_ok-split_last.ensures.bots in
     let w : c.strip_width.result ≡ width p.matrix.resolution = c.strip_width.ensures ∙ ap width (c.resolution.ensures.value ∙ ap (λ m. m.resolution) c.matrix.ensures.value) in
-    let l = c.last_place.ensures.value in
+    let l = c.last_column.ensures.value in
     omega (arith, f, w, l)
 
 pub send_last-requires-clause-within : goal.send_last-requires-clause-within
@@ -73,7 +73,7 @@ send_last-requires-clause-within c =
     let s = at_one_less p c.args.count c.requires.some c.requires.spread in
     let r = spread_room p (c.args.count - 1) s (more_one_less p.matrix.resolution c.args.count c.requires.some c.requires.more) in
     let w : c.strip_width.result ≡ width p.matrix.resolution = c.strip_width.ensures ∙ ap width (c.resolution.ensures.value ∙ ap (λ m. m.resolution) c.matrix.ensures.value) in
-    let l = c.last_place.ensures.value in
+    let l = c.last_column.ensures.value in
     let size = ap (λ m. m.resolution) c.in_ok-split_last.ensures.regroups.matrix in
     let o = s.some in
     omega (arith, r, w, l, size, o)
@@ -84,7 +84,7 @@ send_last-requires-clause-limit c =
     let s = at_one_less p c.args.count c.requires.some c.requires.spread in
     let e = born_last p (c.args.count - 1) s (more_one_less p.matrix.resolution c.args.count c.requires.some c.requires.more) c.split_last.new.tape c.in_ok-split_last.ensures.regroups c.in_ok-split_last.ensures.bots in
     let w : c.strip_width.result ≡ width p.matrix.resolution = c.strip_width.ensures ∙ ap width (c.resolution.ensures.value ∙ ap (λ m. m.resolution) c.matrix.ensures.value) in
-    let l = c.last_place.ensures.value in
+    let l = c.last_column.ensures.value in
     let n = narrow p.matrix.resolution s.most in
     let t = c.in_ok-split_last.ensures.regroups.steps in
     let h = c.requires.limit in
@@ -102,10 +102,10 @@ returns c =
     let m = more_one_less p.matrix.resolution c.args.count c.requires.some c.requires.more in
     let g = c.in_ok-split_last.ensures.regroups in
     let b = c.in_ok-split_last.ensures.bots in
-    let x = c.last_place.result + c.strip_width.result in
+    let x = c.last_column.result + c.strip_width.result in
     let w : c.strip_width.result ≡ width p.matrix.resolution = c.strip_width.ensures ∙ ap width (c.resolution.ensures.value ∙ ap (λ m. m.resolution) c.matrix.ensures.value) in
-    let to : x ≡ last_column (places p.bots) + width p.matrix.resolution = λ i. c.last_place.ensures.value i + w i in
-    let steps = near (last_column (places q.bots)) (last_column (places p.bots)) (width p.matrix.resolution) c.last_place.result c.strip_width.result (born_last p (c.args.count - 1) s m q g b) c.last_place.ensures.value w (omega arith) (narrow p.matrix.resolution s.most) in
+    let to : x ≡ last_column (places p.bots) + width p.matrix.resolution = λ i. c.last_column.ensures.value i + w i in
+    let steps = near (last_column (places q.bots)) (last_column (places p.bots)) (width p.matrix.resolution) c.last_column.result c.strip_width.result (born_last p (c.args.count - 1) s m q g b) c.last_column.ensures.value w (omega arith) (narrow p.matrix.resolution s.most) in
     let one_more : suc (suc (c.args.count - 1)) ≡ c.args.count + 1 = let o = c.requires.some in omega arith in
     on_ok_weaker c.send_last.result
     (λ (h : CrewGoes q t (sent (places q.bots) x) (gap (last_column (places q.bots)) x)).

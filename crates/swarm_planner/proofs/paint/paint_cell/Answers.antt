@@ -6,15 +6,15 @@ use Rattle.swarm_planner.proofs.Building.{cell_already, cell_built}
 use Rattle.swarm_planner.proofs.paint.paint_cell.Goals as goal
 use Rattle.vox_geom.specs.Point.{coord}
 
-pub returns-then-not-has_work : goal.returns-then-not-has_work
-returns-then-not-has_work c =
+pub returns-then-not-has_wanted : goal.returns-then-not-has_wanted
+returns-then-not-has_wanted c =
     let p = c.args.tape.now in
-    let none : are_wanted p.matrix c.args.goal.now (strip_row p.matrix.resolution (coord c.args.x (c.args.y + 1) c.args.z)) ≡ false = let h = c.has_work.ensures in let t = c.if-not-has_work.true in cc in
-    cell_already p c.args.goal.now c.args.x c.args.y c.args.z c.requires.ready none
+    let none : are_wanted p.matrix c.args.target.now (strip_row p.matrix.resolution (coord c.args.x (c.args.y + 1) c.args.z)) ≡ false = let h = c.has_wanted.ensures in let t = c.if-not-has_wanted.true in cc in
+    cell_already p c.args.target.now c.args.x c.args.y c.args.z c.requires.ready none
 
 pub returns : goal.returns
 returns c =
     on_ok_weaker c.fill_below.result
-    (λ (f : Fills c.go.new.tape c.fill_below.new.tape c.args.goal.now).
-    cell_built c.args.tape.now c.go.new.tape c.fill_below.new.tape c.args.goal.now c.args.x c.args.y c.args.z c.requires.ready c.in_ok-go.ensures f)
+    (λ (f : Fills c.go.new.tape c.fill_below.new.tape c.args.target.now).
+    cell_built c.args.tape.now c.go.new.tape c.fill_below.new.tape c.args.target.now c.args.x c.args.y c.args.z c.requires.ready c.in_ok-go.ensures f)
     c.fill_below.ensures

@@ -6,5 +6,5 @@ use Rattle.vox_geom.specs.Point.{coord}
 -- the first x lines of the layer are built
 abbrev pub invariant-loop-x : goal.invariant-loop-x
 invariant-loop-x l = record {
-  builds : Builds l.initial.tape l.tape l.goal (in_first_lines l.initial.tape.matrix.resolution l.x l.y) (coord 1 (l.y + 1) 0) (coord (l.x + 1) (l.y + 1) 0) (l.x * line_steps l.initial.tape.matrix.resolution);
+  builds : Builds l.initial.tape l.tape l.target (in_first_lines l.initial.tape.matrix.resolution l.x l.y) (coord 1 (l.y + 1) 0) (coord (l.x + 1) (l.y + 1) 0) (l.x * line_steps l.initial.tape.matrix.resolution);
 }

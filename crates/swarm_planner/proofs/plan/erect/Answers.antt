@@ -29,4 +29,4 @@ gather-requires-clause-limit c =
 
 pub returns-clause-erected : goal.returns-clause-erected
 returns-clause-erected c =
-    erected c.args.tape.now c.spread.new.tape c.build.new.tape c.gather.new.tape c.args.target.now c.requires.opened.steps_are c.in_ok-spread.ensures c.requires.target (c.requires.same ∙ sym (ap (λ (m : Matrix). m.resolution) c.requires.opened.matrix)) c.in_ok-build.ensures c.in_ok-gather.ensures
+    erected c.args.tape.now c.spread.new.tape c.build.new.tape c.gather.new.tape c.args.target.now c.requires.opened.steps_are c.in_ok-spread.ensures c.requires.target c.recall_whole.ensures.whole c.recall.ensures.whole (c.requires.same ∙ sym (ap (λ (m : Matrix). m.resolution) c.requires.opened.matrix)) c.in_ok-build.ensures c.in_ok-gather.ensures

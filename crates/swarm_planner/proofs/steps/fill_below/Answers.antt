@@ -27,19 +27,19 @@ fills-requires-clause-within c =
 pub fill_all-requires-clause-commands : goal.fill_all-requires-clause-commands
 fill_all-requires-clause-commands c =
     let p = c.args.tape.now in
-    ap length (c.deref.ensures.value ∙ (c.in_ok-commands.ensures ∙ are p c.matrix.result.now c.args.goal.now c.bots.result.now c.matrix.ensures.value (c.bots.ensures.value ∙ c.crew.ensures.value))) ∙ fills_length p.matrix c.args.goal.now p.bots
+    ap length (c.deref.ensures.value ∙ (c.in_ok-commands.ensures ∙ are p c.matrix.result.now c.args.target.now c.bots.result.now c.matrix.ensures.value (c.bots.ensures.value ∙ c.crew.ensures.value))) ∙ fills_length p.matrix c.args.target.now p.bots
 
 pub fill_all-requires-clause-fills : goal.fill_all-requires-clause-fills
 fill_all-requires-clause-fills c =
     let p = c.args.tape.now in
-    only_fills p c.requires.swarm c.requires.row c.requires.up c.args.goal.now c.deref.result.now
-    (c.deref.ensures.value ∙ (c.in_ok-commands.ensures ∙ are p c.matrix.result.now c.args.goal.now c.bots.result.now c.matrix.ensures.value (c.bots.ensures.value ∙ c.crew.ensures.value)))
+    only_fills p c.requires.swarm c.requires.row c.requires.up c.args.target.now c.deref.result.now
+    (c.deref.ensures.value ∙ (c.in_ok-commands.ensures ∙ are p c.matrix.result.now c.args.target.now c.bots.result.now c.matrix.ensures.value (c.bots.ensures.value ∙ c.crew.ensures.value)))
 
 pub fill_all-requires-clause-free : goal.fill_all-requires-clause-free
 fill_all-requires-clause-free c =
     let p = c.args.tape.now in
-    fills_are_free p c.requires.swarm c.requires.row c.requires.up c.args.goal.now c.deref.result.now
-    (c.deref.ensures.value ∙ (c.in_ok-commands.ensures ∙ are p c.matrix.result.now c.args.goal.now c.bots.result.now c.matrix.ensures.value (c.bots.ensures.value ∙ c.crew.ensures.value)))
+    fills_are_free p c.requires.swarm c.requires.row c.requires.up c.args.target.now c.deref.result.now
+    (c.deref.ensures.value ∙ (c.in_ok-commands.ensures ∙ are p c.matrix.result.now c.args.target.now c.bots.result.now c.matrix.ensures.value (c.bots.ensures.value ∙ c.crew.ensures.value)))
 
 pub fill_all-requires-clause-held : goal.fill_all-requires-clause-held
 fill_all-requires-clause-held c =
@@ -50,8 +50,8 @@ pub returns : goal.returns
 returns c =
     let p = c.args.tape.now in
     let k = c.deref.result.now in
-    let e = c.deref.ensures.value ∙ (c.in_ok-commands.ensures ∙ are p c.matrix.result.now c.args.goal.now c.bots.result.now c.matrix.ensures.value (c.bots.ensures.value ∙ c.crew.ensures.value)) in
+    let e = c.deref.ensures.value ∙ (c.in_ok-commands.ensures ∙ are p c.matrix.result.now c.args.target.now c.bots.result.now c.matrix.ensures.value (c.bots.ensures.value ∙ c.crew.ensures.value)) in
     on_ok_weaker c.fill_all.result
     (λ (s : AllStep p c.fill_all.new.self k (with_fills p.matrix (acts p.bots k)) p.harmonics p.bots).
-    has_filled p c.requires.swarm c.requires.row c.requires.up c.args.goal.now c.deref.result.now e c.fill_all.new.self c.requires.same s)
+    has_filled p c.requires.swarm c.requires.row c.requires.up c.args.target.now c.deref.result.now e c.fill_all.new.self c.requires.same s)
     c.fill_all.ensures.ok

@@ -7,6 +7,6 @@ use Rattle.swarm_planner.proofs.steps.fills.Given as goal
 -- the commands so far and those of the bots that are left
 abbrev pub invariant-loop-bot : goal.invariant-loop-bot
 invariant-loop-bot l = record {
-  whole : l.commands.items ++ fills l.planes l.goal (drop l.bot-index l.bots) ≡ fills l.planes l.goal l.bots;
+  whole : l.commands.items ++ fills l.planes l.target (drop l.bot-index l.bots) ≡ fills l.planes l.target l.bots;
   within : AllByRecursion (λ b. IsInSpace l.planes.resolution b.pos × (1 ≤ b.pos.y)) (drop l.bot-index l.bots);
 }

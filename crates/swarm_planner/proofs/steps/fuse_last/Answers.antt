@@ -13,21 +13,21 @@ fuse_all-requires-clause-commands c =
     let p = c.args.tape.now in
     let q = c.requires in
     is_long p q.line q.two q.beside c.deref.result.now
-    (pair_ends_are p.bots c.bots.result.now c.in_ok-commands.commands.items c.put.new.commands.items c.deref.result.now _ _ (c.bots.ensures.value ∙ c.crew.ensures.value) q.two c.in_ok-commands.ensures c.in_ok-put.ensures (c.deref.ensures.value ∙ c.in_ok-put-2.ensures) ∙ (λ i. pair_ends (FusionP (c.right.ensures i)) (FusionS (c.left.ensures i)) p.bots))
+    (pair_ends_are p.bots c.bots.result.now c.in_ok-commands.commands.items c.put.new.commands.items c.deref.result.now _ _ (c.bots.ensures.value ∙ c.crew.ensures.value) q.two c.in_ok-commands.ensures c.in_ok-put.ensures (c.deref.ensures.value ∙ c.in_ok-put-2.ensures) ∙ (λ i. pair_ends (FusionP (c.ahead.ensures i)) (FusionS (c.behind.ensures i)) p.bots))
 
 pub fuse_all-requires-clause-fuses : goal.fuse_all-requires-clause-fuses
 fuse_all-requires-clause-fuses c =
     let p = c.args.tape.now in
     let q = c.requires in
     only_fuses p q.line q.two q.beside c.deref.result.now
-    (pair_ends_are p.bots c.bots.result.now c.in_ok-commands.commands.items c.put.new.commands.items c.deref.result.now _ _ (c.bots.ensures.value ∙ c.crew.ensures.value) q.two c.in_ok-commands.ensures c.in_ok-put.ensures (c.deref.ensures.value ∙ c.in_ok-put-2.ensures) ∙ (λ i. pair_ends (FusionP (c.right.ensures i)) (FusionS (c.left.ensures i)) p.bots))
+    (pair_ends_are p.bots c.bots.result.now c.in_ok-commands.commands.items c.put.new.commands.items c.deref.result.now _ _ (c.bots.ensures.value ∙ c.crew.ensures.value) q.two c.in_ok-commands.ensures c.in_ok-put.ensures (c.deref.ensures.value ∙ c.in_ok-put-2.ensures) ∙ (λ i. pair_ends (FusionP (c.ahead.ensures i)) (FusionS (c.behind.ensures i)) p.bots))
 
 pub fuse_all-requires-clause-free : goal.fuse_all-requires-clause-free
 fuse_all-requires-clause-free c =
     let p = c.args.tape.now in
     let q = c.requires in
     is_free p q.line q.two q.beside c.deref.result.now
-    (pair_ends_are p.bots c.bots.result.now c.in_ok-commands.commands.items c.put.new.commands.items c.deref.result.now _ _ (c.bots.ensures.value ∙ c.crew.ensures.value) q.two c.in_ok-commands.ensures c.in_ok-put.ensures (c.deref.ensures.value ∙ c.in_ok-put-2.ensures) ∙ (λ i. pair_ends (FusionP (c.right.ensures i)) (FusionS (c.left.ensures i)) p.bots))
+    (pair_ends_are p.bots c.bots.result.now c.in_ok-commands.commands.items c.put.new.commands.items c.deref.result.now _ _ (c.bots.ensures.value ∙ c.crew.ensures.value) q.two c.in_ok-commands.ensures c.in_ok-put.ensures (c.deref.ensures.value ∙ c.in_ok-put-2.ensures) ∙ (λ i. pair_ends (FusionP (c.ahead.ensures i)) (FusionS (c.behind.ensures i)) p.bots))
 
 pub returns-clause-regroups : goal.returns-clause-regroups
 returns-clause-regroups c =
@@ -40,5 +40,5 @@ returns-clause-places c =
     let p = c.args.tape.now in
     let q = c.requires in
     let k = c.deref.result.now in
-    let e = pair_ends_are p.bots c.bots.result.now c.in_ok-commands.commands.items c.put.new.commands.items c.deref.result.now _ _ (c.bots.ensures.value ∙ c.crew.ensures.value) q.two c.in_ok-commands.ensures c.in_ok-put.ensures (c.deref.ensures.value ∙ c.in_ok-put-2.ensures) ∙ (λ i. pair_ends (FusionP (c.right.ensures i)) (FusionS (c.left.ensures i)) p.bots) in
+    let e = pair_ends_are p.bots c.bots.result.now c.in_ok-commands.commands.items c.put.new.commands.items c.deref.result.now _ _ (c.bots.ensures.value ∙ c.crew.ensures.value) q.two c.in_ok-commands.ensures c.in_ok-put.ensures (c.deref.ensures.value ∙ c.in_ok-put-2.ensures) ∙ (λ i. pair_ends (FusionP (c.ahead.ensures i)) (FusionS (c.behind.ensures i)) p.bots) in
     on_ok_weaker c.fuse_all.result (λ (s : AllStep p c.fuse_all.new.self k p.matrix p.harmonics (bots_fused p.bots k)). ap places s.bots_are ∙ has_fused p q.line q.two q.beside c.deref.result.now e c.fuse_all.ensures.primary) c.fuse_all.ensures.ok

@@ -11,21 +11,21 @@ split_all-requires-clause-commands c =
     let p = c.args.tape.now in
     let q = c.requires in
     is_long p q.line c.args.seeds q.bots q.seeds q.within c.deref.result.now
-    (ends_are p.bots c.bots.result.now c.in_ok-commands.commands.items c.deref.result.now _ (c.bots.ensures.value ∙ c.crew.ensures.value) q.line.some c.in_ok-commands.ensures (c.deref.ensures.value ∙ c.in_ok-put.ensures) ∙ ap (λ d. ends (Fission d c.args.seeds) p.bots) c.right.ensures)
+    (ends_are p.bots c.bots.result.now c.in_ok-commands.commands.items c.deref.result.now _ (c.bots.ensures.value ∙ c.crew.ensures.value) q.line.some c.in_ok-commands.ensures (c.deref.ensures.value ∙ c.in_ok-put.ensures) ∙ ap (λ d. ends (Fission d c.args.seeds) p.bots) c.ahead.ensures)
 
 pub split_all-requires-clause-splits : goal.split_all-requires-clause-splits
 split_all-requires-clause-splits c =
     let p = c.args.tape.now in
     let q = c.requires in
     only_splits p q.line c.args.seeds q.bots q.seeds q.within c.deref.result.now
-    (ends_are p.bots c.bots.result.now c.in_ok-commands.commands.items c.deref.result.now _ (c.bots.ensures.value ∙ c.crew.ensures.value) q.line.some c.in_ok-commands.ensures (c.deref.ensures.value ∙ c.in_ok-put.ensures) ∙ ap (λ d. ends (Fission d c.args.seeds) p.bots) c.right.ensures)
+    (ends_are p.bots c.bots.result.now c.in_ok-commands.commands.items c.deref.result.now _ (c.bots.ensures.value ∙ c.crew.ensures.value) q.line.some c.in_ok-commands.ensures (c.deref.ensures.value ∙ c.in_ok-put.ensures) ∙ ap (λ d. ends (Fission d c.args.seeds) p.bots) c.ahead.ensures)
 
 pub split_all-requires-clause-free : goal.split_all-requires-clause-free
 split_all-requires-clause-free c =
     let p = c.args.tape.now in
     let q = c.requires in
     is_free p q.line c.args.seeds q.bots q.seeds q.within c.deref.result.now
-    (ends_are p.bots c.bots.result.now c.in_ok-commands.commands.items c.deref.result.now _ (c.bots.ensures.value ∙ c.crew.ensures.value) q.line.some c.in_ok-commands.ensures (c.deref.ensures.value ∙ c.in_ok-put.ensures) ∙ ap (λ d. ends (Fission d c.args.seeds) p.bots) c.right.ensures)
+    (ends_are p.bots c.bots.result.now c.in_ok-commands.commands.items c.deref.result.now _ (c.bots.ensures.value ∙ c.crew.ensures.value) q.line.some c.in_ok-commands.ensures (c.deref.ensures.value ∙ c.in_ok-put.ensures) ∙ ap (λ d. ends (Fission d c.args.seeds) p.bots) c.ahead.ensures)
 
 pub returns-clause-regroups : goal.returns-clause-regroups
 returns-clause-regroups c =
@@ -38,5 +38,5 @@ returns-clause-bots c =
     let p = c.args.tape.now in
     let q = c.requires in
     let k = c.deref.result.now in
-    let e = ends_are p.bots c.bots.result.now c.in_ok-commands.commands.items c.deref.result.now _ (c.bots.ensures.value ∙ c.crew.ensures.value) q.line.some c.in_ok-commands.ensures (c.deref.ensures.value ∙ c.in_ok-put.ensures) ∙ ap (λ d. ends (Fission d c.args.seeds) p.bots) c.right.ensures in
+    let e = ends_are p.bots c.bots.result.now c.in_ok-commands.commands.items c.deref.result.now _ (c.bots.ensures.value ∙ c.crew.ensures.value) q.line.some c.in_ok-commands.ensures (c.deref.ensures.value ∙ c.in_ok-put.ensures) ∙ ap (λ d. ends (Fission d c.args.seeds) p.bots) c.ahead.ensures in
     on_ok_weaker c.split_all.result (λ (s : AllStep p c.split_all.new.self k p.matrix p.harmonics (bots_split p.bots k)). s.bots_are ∙ has_split p q.line c.args.seeds q.bots q.seeds q.within c.deref.result.now e) c.split_all.ensures.ok

@@ -14,18 +14,18 @@ fuse_all-requires-clause-commands c = sym (ap (λ (bs : List Bot). length bs) c.
 pub fuse_all-requires-clause-free : goal.fuse_all-requires-clause-free
 fuse_all-requires-clause-free c =
     let p = c.args.tape.now in
-    fuse_both_free p (spot p.bots) c.near.result c.near-2.result c.near-3.result c.near-4.result c.requires.bots c.requires.full c.requires.stand c.near.ensures c.near-2.ensures c.near-3.ensures c.near-4.ensures
+    fuse_both_free p (spot p.bots) c.ahead.result c.ahead-2.result c.behind.result c.behind-2.result c.requires.bots c.requires.full c.requires.stand c.ahead.ensures c.ahead-2.ensures c.behind.ensures c.behind-2.ensures
 
 pub returns : goal.returns
 returns c =
     let p = c.args.tape.now in
-    let k = FusionP c.near.result ∷ FusionP c.near-2.result ∷ FusionS c.near-3.result ∷ FusionS c.near-4.result ∷ [] in
-    let a = one_of_four p (spot p.bots) c.near.result c.near-2.result c.near-3.result c.near-4.result c.requires.bots c.requires.full c.requires.stand c.near.ensures c.near-2.ensures c.near-3.ensures c.near-4.ensures in
-    let b = two_of_four p (spot p.bots) c.near.result c.near-2.result c.near-3.result c.near-4.result c.requires.bots c.requires.full c.requires.stand c.near.ensures c.near-2.ensures c.near-3.ensures c.near-4.ensures in
-    let d = three_of_four p (spot p.bots) c.near.result c.near-2.result c.near-3.result c.near-4.result c.requires.bots c.requires.full c.requires.stand c.near.ensures c.near-2.ensures c.near-3.ensures c.near-4.ensures in
-    let f = four_of_four p (spot p.bots) c.near.result c.near-2.result c.near-3.result c.near-4.result c.requires.bots c.requires.full c.requires.stand c.near.ensures c.near-2.ensures c.near-3.ensures c.near-4.ensures in
-    let left = successors_as p.bots (four (spot p.bots) 1 1) k a _ c.requires.bots (c.fuse_all.ensures.primary a f (contains_as p.bots (four (spot p.bots) 1 1) k a c.requires.bots (0, lit< tt, refl)) (contains_as p.bots (four (spot p.bots) 1 1) k f c.requires.bots (3, lit< tt, refl)) (left_pair p (spot p.bots) c.near.result c.near-2.result c.near-3.result c.near-4.result c.requires.bots c.requires.full c.requires.stand c.near.ensures c.near-2.ensures c.near-3.ensures c.near-4.ensures)) in
-    let right = successors_as p.bots (four (spot p.bots) 1 1) k b _ c.requires.bots (c.fuse_all.ensures.primary b d (contains_as p.bots (four (spot p.bots) 1 1) k b c.requires.bots (1, lit< tt, refl)) (contains_as p.bots (four (spot p.bots) 1 1) k d c.requires.bots (2, lit< tt, refl)) (right_pair p (spot p.bots) c.near.result c.near-2.result c.near-3.result c.near-4.result c.requires.bots c.requires.full c.requires.stand c.near.ensures c.near-2.ensures c.near-3.ensures c.near-4.ensures)) in
+    let k = FusionP c.ahead.result ∷ FusionP c.ahead-2.result ∷ FusionS c.behind.result ∷ FusionS c.behind-2.result ∷ [] in
+    let a = one_of_four p (spot p.bots) c.ahead.result c.ahead-2.result c.behind.result c.behind-2.result c.requires.bots c.requires.full c.requires.stand c.ahead.ensures c.ahead-2.ensures c.behind.ensures c.behind-2.ensures in
+    let b = two_of_four p (spot p.bots) c.ahead.result c.ahead-2.result c.behind.result c.behind-2.result c.requires.bots c.requires.full c.requires.stand c.ahead.ensures c.ahead-2.ensures c.behind.ensures c.behind-2.ensures in
+    let d = three_of_four p (spot p.bots) c.ahead.result c.ahead-2.result c.behind.result c.behind-2.result c.requires.bots c.requires.full c.requires.stand c.ahead.ensures c.ahead-2.ensures c.behind.ensures c.behind-2.ensures in
+    let f = four_of_four p (spot p.bots) c.ahead.result c.ahead-2.result c.behind.result c.behind-2.result c.requires.bots c.requires.full c.requires.stand c.ahead.ensures c.ahead-2.ensures c.behind.ensures c.behind-2.ensures in
+    let left = successors_as p.bots (four (spot p.bots) 1 1) k a _ c.requires.bots (c.fuse_all.ensures.primary a f (contains_as p.bots (four (spot p.bots) 1 1) k a c.requires.bots (0, lit< tt, refl)) (contains_as p.bots (four (spot p.bots) 1 1) k f c.requires.bots (3, lit< tt, refl)) (left_pair p (spot p.bots) c.ahead.result c.ahead-2.result c.behind.result c.behind-2.result c.requires.bots c.requires.full c.requires.stand c.ahead.ensures c.ahead-2.ensures c.behind.ensures c.behind-2.ensures)) in
+    let right = successors_as p.bots (four (spot p.bots) 1 1) k b _ c.requires.bots (c.fuse_all.ensures.primary b d (contains_as p.bots (four (spot p.bots) 1 1) k b c.requires.bots (1, lit< tt, refl)) (contains_as p.bots (four (spot p.bots) 1 1) k d c.requires.bots (2, lit< tt, refl)) (right_pair p (spot p.bots) c.ahead.result c.ahead-2.result c.behind.result c.behind-2.result c.requires.bots c.requires.full c.requires.stand c.ahead.ensures c.ahead-2.ensures c.behind.ensures c.behind-2.ensures)) in
     on_ok_weaker c.fuse_all.result
-    (λ (s : AllStep p c.fuse_all.new.self k p.matrix p.harmonics (bots_fused p.bots k)). becomes p c.fuse_all.new.self k (bots_fused p.bots k) (two (spot p.bots)) 0 refl (fuse_both_makes p (spot p.bots) c.near.result c.near-2.result c.near-3.result c.near-4.result c.requires.bots c.requires.full c.requires.stand c.near.ensures c.near-2.ensures c.near-3.ensures c.near-4.ensures left right) c.requires.high c.requires.full s)
+    (λ (s : AllStep p c.fuse_all.new.self k p.matrix p.harmonics (bots_fused p.bots k)). becomes p c.fuse_all.new.self k (bots_fused p.bots k) (two (spot p.bots)) 0 refl (fuse_both_makes p (spot p.bots) c.ahead.result c.ahead-2.result c.behind.result c.behind-2.result c.requires.bots c.requires.full c.requires.stand c.ahead.ensures c.ahead-2.ensures c.behind.ensures c.behind-2.ensures left right) c.requires.high c.requires.full s)
     c.fuse_all.ensures.ok

@@ -14,7 +14,7 @@ void_strip-requires-clause-limit c =
     let r = a.matrix.resolution in
     let size = c.resolution-r.ensures.value ∙ ap (λ (m : Matrix). m.resolution) c.matrix.ensures.value in
     let count = c.tiles-count.ensures.value ∙ ap tiles_of size in
-    let x : c.place.result ≡ place_of r (turned (tiles_of r) c.args.turn c.loop-k.k) = c.place.ensures ∙ ((λ i. place_of (size i) c.turned.result) ∙ ap (place_of r) (c.turned.ensures ∙ ap (λ n. turned n c.args.turn c.loop-k.k) count)) in
+    let x : c.place.result ≡ place_of r (turned (tiles_of r) c.args.turn c.loop-k.k) = c.place.ensures ∙ ((λ i. place_of (size i) c.turn_number.result) ∙ ap (place_of r) (c.turn_number.ensures ∙ ap (λ n. turned n c.args.turn c.loop-k.k) count)) in
     let t = c.loop-k-test.true in
     subst (λ s. steps_to b (coord c.place.result (c.args.y + 1) (edge s c.loop-k.next)) + 4 * tiles_of s < 1073741824) (sym c.loop-k.invariant.clears.resolution)
     (subst (λ v. steps_to b (coord v (c.args.y + 1) (edge r c.loop-k.next)) + 4 * tiles_of r < 1073741824) (sym x)
@@ -28,7 +28,7 @@ loop-k-preserved c =
     let r = a.matrix.resolution in
     let size = c.resolution-r.ensures.value ∙ ap (λ (m : Matrix). m.resolution) c.matrix.ensures.value in
     let count = c.tiles-count.ensures.value ∙ ap tiles_of size in
-    let x : c.place.result ≡ place_of r (turned (tiles_of r) c.args.turn c.loop-k.k) = c.place.ensures ∙ ((λ i. place_of (size i) c.turned.result) ∙ ap (place_of r) (c.turned.ensures ∙ ap (λ n. turned n c.args.turn c.loop-k.k) count)) in
+    let x : c.place.result ≡ place_of r (turned (tiles_of r) c.args.turn c.loop-k.k) = c.place.ensures ∙ ((λ i. place_of (size i) c.turn_number.result) ∙ ap (place_of r) (c.turn_number.ensures ∙ ap (λ n. turned n c.args.turn c.loop-k.k) count)) in
     let e = c.in_ok-void_strip.ensures in
     let same = c.loop-k.invariant.clears.resolution in
     record {

@@ -26,7 +26,7 @@ loop-k-preserved c =
     let y = c.args.y in
     let size = c.resolution-r.ensures.value ∙ ap (λ (m : Matrix). m.resolution) c.matrix.ensures.value in
     let count = c.tiles-count.ensures.value ∙ ap tiles_of size in
-    let z : c.place.result ≡ place_of r (turned (tiles_of r) c.args.back c.loop-k.k) = c.place.ensures ∙ ((λ i. place_of (size i) c.turned.result) ∙ ap (place_of r) (c.turned.ensures ∙ ap (λ n. turned n c.args.back c.loop-k.k) count)) in
+    let z : c.place.result ≡ place_of r (turned (tiles_of r) c.args.back c.loop-k.k) = c.place.ensures ∙ ((λ i. place_of (size i) c.turn_number.result) ∙ ap (place_of r) (c.turn_number.ensures ∙ ap (λ n. turned n c.args.back c.loop-k.k) count)) in
     let e = c.in_ok-void_tile.ensures in
     record {
       clears = strip_on a b d r c.args.back x y c.loop-k.k c.loop-k.invariant.clears (subst (λ v. Clears b d (coord x (y + 1) v) (coord x (y + 1) v) 1) z e.clears);

@@ -10,7 +10,7 @@ pub step-requires-clause-unbroken : goal.step-requires-clause-unbroken
 step-requires-clause-unbroken c =
     let p = c.args.self.now in
     let g = c.requires.group in
-    c.one_group_breaks_no_rule.ensures (state_of p) c.args.commands.now (p.steps + 1) g.region g.full c.know_ready.ensures.ready c.requires.commands g.group
+    c.one_group_breaks_no_rule.ensures (state_of p) c.args.commands.now (p.steps + 1) g.region g.full c.recall_ready.ensures.ready c.requires.commands g.group
 
 pub step-requires-clause-held : goal.step-requires-clause-held
 step-requires-clause-held c =
@@ -25,5 +25,5 @@ returns-clause-ok c =
     (λ (e : c.step.new.self ≡ tape_stepped p c.args.commands.now) region full group. stepped_is p c.step.new.self c.args.commands.now (with_region p.matrix region full) p.harmonics p.bots e
     (c.one_group_acts.ensures.matrix (state_of p) c.args.commands.now region full group)
     (c.one_group_acts.ensures.harmonics (state_of p) c.args.commands.now region full group)
-    (c.one_group_acts.ensures.bots (state_of p) c.args.commands.now region full c.know_ready.ensures.ready c.requires.commands group))
+    (c.one_group_acts.ensures.bots (state_of p) c.args.commands.now region full c.recall_ready.ensures.ready c.requires.commands group))
     c.step.ensures.ok

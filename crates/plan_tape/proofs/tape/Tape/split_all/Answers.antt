@@ -1,33 +1,27 @@
-use Rattle.std.proofs.Common.{◌≡◌, ◌+◌}
+use Rattle.std.proofs.Common.{sym, subst}
 use Rattle.std.proofs.lemmas.Result.{on_ok_weaker}
-use Rattle.nano_spec.specs.Step.{after}
-use Rattle.plan_tape.specs.Crowd.{bots_split}
-use Rattle.plan_tape.specs.Progress.{state_of, tape_stepped}
-use Rattle.plan_tape.proofs.Crowds.{held_as, stepped_is}
+use Rattle.nano_spec.specs.Matrix.{Matrix}
+use Rattle.plan_tape.specs.Crowd.{CalmStep, bots_split}
+use Rattle.plan_tape.specs.Progress.{IsHeld, state_of}
+use Rattle.plan_tape.proofs.Crowds.{step_as}
 use Rattle.plan_tape.proofs.Works.{splits_flip_not, splits_leave, splits_part}
 use Rattle.plan_tape.proofs.tape.Tape.split_all.Goals as goal
 
-pub step-requires-clause-unbroken : goal.step-requires-clause-unbroken
-step-requires-clause-unbroken c =
+pub act_all-requires-clause-calm : goal.act_all-requires-clause-calm
+act_all-requires-clause-calm c =
     let p = c.args.self.now in
-    c.free_bots_break_no_rule.ensures (state_of p) c.args.splits.now (p.steps + 1) c.know_ready.ensures.ready c.requires.commands c.requires.free
+    record { free = c.requires.free; calm = splits_flip_not p.bots c.args.splits.now c.requires.splits }
 
-pub step-requires-clause-held : goal.step-requires-clause-held
-step-requires-clause-held c =
+pub act_all-requires-clause-held : goal.act_all-requires-clause-held
+act_all-requires-clause-held c =
     let p = c.args.self.now in
     let k = c.args.splits.now in
-    held_as (state_of p) (after (state_of p) k)
-    (c.bots_act.ensures.still (state_of p) k c.know_ready.ensures.ready (splits_leave p.bots k c.requires.splits))
-    (c.bots_act.ensures.harmonics (state_of p) k (splits_flip_not p.bots k c.requires.splits))
-    c.know_ready.ensures.held
+    subst (λ (m : Matrix). IsHeld p.harmonics m) (sym (c.bots_act.ensures.still (state_of p) k c.recall_ready.ensures.ready (splits_leave p.bots k c.requires.splits))) c.recall_ready.ensures.held
 
 pub returns-clause-ok : goal.returns-clause-ok
 returns-clause-ok c =
     let p = c.args.self.now in
     let k = c.args.splits.now in
-    on_ok_weaker c.step.result
-    (λ (e : c.step.new.self ≡ tape_stepped p k). stepped_is p c.step.new.self k p.matrix p.harmonics (bots_split p.bots k) e
-    (c.bots_act.ensures.still (state_of p) k c.know_ready.ensures.ready (splits_leave p.bots k c.requires.splits))
-    (c.bots_act.ensures.harmonics (state_of p) k (splits_flip_not p.bots k c.requires.splits))
-    (splits_part p.bots k c.requires.splits))
-    c.step.ensures.ok
+    on_ok_weaker c.act_all.result
+    (λ (s : CalmStep p c.act_all.new.self k). step_as p c.act_all.new.self k _ (p.matrix) p.harmonics _ (bots_split p.bots k) (c.bots_act.ensures.still (state_of p) k c.recall_ready.ensures.ready (splits_leave p.bots k c.requires.splits)) (splits_part p.bots k c.requires.splits) s)
+    c.act_all.ensures.ok

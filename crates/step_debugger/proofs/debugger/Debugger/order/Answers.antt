@@ -5,7 +5,7 @@ use Rattle.step_debugger.proofs.debugger.Debugger.order.Goals as goal
 pub append-requires-2 : goal.append-requires-2
 append-requires-2 c =
     let fits = order_fits c.self.inside.machine c.self.inside.history c.self.inside.commands c.self.inside.taken c.self.inside.begun.items c.self.inside.left.items c.self.inside.middle c.args.self.now c.self.view_is c.self.invariant c.requires.stands
-    (begun_some c.self.inside.begun.items c.is_empty.result c.is_empty.ensures c.if-is_empty.false) (let most = c.know.ensures.crew.most in omega (arith, most)) in
+    (begun_some c.self.inside.begun.items c.is_empty.result c.is_empty.ensures c.if-is_empty.false) (let most = c.recall.ensures.crew.most in omega (arith, most)) in
     let begun = ap length c.append.ensures in
     let none = ap length c.new-order.ensures in
     let parts = length-append c.new-order.result.items c.as_slice-2.result.now in

@@ -36,8 +36,8 @@ pub invariant_of-self-2 : goal.invariant_of-self-2
 invariant_of-self-2 g c =
     let s : State = c.self.inside.system in
     let h = settled g c in
-    let rises = subst (λ (k : Command). (after s (k ∷ [])).energy <ℤ (s.energy +ℤ pos 3000000000)) c.edit.ensures c.know_step.ensures.rises in
-    let falls = subst (λ (k : Command). s.energy <ℤ ((after s (k ∷ [])).energy +ℤ pos 3000000000)) c.edit.ensures c.know_step.ensures.falls in
+    let rises = subst (λ (k : Command). (after s (k ∷ [])).energy <ℤ (s.energy +ℤ pos 3000000000)) c.edit.ensures c.recall_step.ensures.rises in
+    let falls = subst (λ (k : Command). s.energy <ℤ ((after s (k ∷ [])).energy +ℤ pos 3000000000)) c.edit.ensures c.recall_step.ensures.falls in
     sound_on s c.edit_alone.new.self (edit_of (full_of g) c.args.d ∷ []) c.self.inside.forest c.settle_at_once.new.forest c.self.inside.changed c.self.inside.changed c.self.inside.steps c.self.inside.spent c.args.self.now c.self.invariant c.self.view_is c.requires.steps
     (changed g c) h.stands h.tied c.self.invariant.room rises falls
 
@@ -46,7 +46,7 @@ returns-clause-made g c = λ _ fault.
     let s : State = c.self.inside.system in
     let commands : List Command = edit_of (full_of g) c.args.d ∷ [] in
     let h = settled g c in
-    let formed = subst (λ (k : Command). (t : State) (step : ℕ) → IsWellFormed s → Next s (k ∷ []) step (Goes t) → IsWellFormed t) c.edit.ensures c.know_step.ensures.well_formed in
+    let formed = subst (λ (k : Command). (t : State) (step : ℕ) → IsWellFormed s → Next s (k ∷ []) step (Goes t) → IsWellFormed t) c.edit.ensures c.recall_step.ensures.well_formed in
     made s commands c.self.inside.steps c.self.inside.spent c.args.self.now c.self.view_is (ap (λ (v : Situation). v.spent) c.self.view_is ∙ c.requires.stands) c.args.steps.now
     c.args.steps.now (keeps g c) (omega arith)
     c.edit_alone.new.self c.settle_at_once.new.forest (record { energy = c.edit_alone.new.self.energy; halted = false }) c.settle_at_once.new.steps c.settle_at_once.new.steps h (changed g c) refl (bots_left c.edit_alone.new.self.bots (one_left g c))

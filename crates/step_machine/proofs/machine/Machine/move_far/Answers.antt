@@ -29,7 +29,7 @@ returns-in-Some-clause-stepped g c = λ began touched.
 settled : (g : Over) (c : goal.After-self-1 g) → IsSettled c.self.inside.system (SMove c.args.d ∷ []) (c.self.inside.steps + 1) c.self.inside.forest c.move_alone.new.steps c.move_alone.new.steps
 settled g c =
     let stands : c.self.inside.spent ≡ false = ap (λ (v : Situation). v.spent) c.self.view_is ∙ c.requires.stands in
-    still c.self.inside.system c.args.d (ap (λ (v : Situation). length v.state.bots) c.self.view_is ∙ c.requires.one) c.know.ensures.whole (c.self.inside.steps + 1) c.self.inside.forest c.move_alone.new.steps
+    still c.self.inside.system c.args.d (ap (λ (v : Situation). length v.state.bots) c.self.view_is ∙ c.requires.one) c.recall.ensures.whole (c.self.inside.steps + 1) c.self.inside.forest c.move_alone.new.steps
     (sym c.move_alone.ensures.value ∙ c.in_default.is)
     (subst (λ (v : Situation). v.state.harmonics ≡ Low → FirstUngrounded v.state.matrix None) (sym c.self.view_is) c.requires.held)
     (c.self.invariant.tied stands) (c.self.invariant.stands stands)
@@ -38,7 +38,7 @@ pub invariant_of-self-2 : goal.invariant_of-self-2
 invariant_of-self-2 g c =
     let h = settled g c in
     sound_on c.self.inside.system c.move_alone.new.self (SMove c.args.d ∷ []) c.self.inside.forest c.self.inside.forest c.self.inside.changed c.self.inside.changed c.self.inside.steps c.self.inside.spent c.args.self.now c.self.invariant c.self.view_is c.requires.steps
-    c.in_default.ensures.moved h.stands h.tied c.self.invariant.room c.know_step.ensures.rises c.know_step.ensures.falls
+    c.in_default.ensures.moved h.stands h.tied c.self.invariant.room c.recall_step.ensures.rises c.recall_step.ensures.falls
 
 pub returns-clause-stepped : goal.returns-clause-stepped
 returns-clause-stepped g c = λ began touched.
@@ -48,5 +48,5 @@ returns-clause-stepped g c = λ began touched.
     made s (SMove c.args.d ∷ []) c.self.inside.steps c.self.inside.spent c.args.self.now c.self.view_is (ap (λ (v : Situation). v.spent) c.self.view_is ∙ c.requires.stands) began
     c.move_alone.new.steps (sym c.move_alone.ensures.value ∙ c.in_default.is) (omega (arith, few, c.move_alone.ensures.touches))
     c.move_alone.new.self c.self.inside.forest (record { energy = c.move_alone.new.self.energy; halted = false }) c.move_alone.new.steps c.move_alone.new.steps h c.in_default.ensures.moved refl (bots_left c.move_alone.new.self.bots c.in_default.ensures.one)
-    (formed_on s c.move_alone.new.self (SMove c.args.d ∷ []) (c.self.inside.steps + 1) c.know_step.ensures.well_formed h.goes c.in_default.ensures.moved)
+    (formed_on s c.move_alone.new.self (SMove c.args.d ∷ []) (c.self.inside.steps + 1) c.recall_step.ensures.well_formed h.goes c.in_default.ensures.moved)
     (omega arith)

@@ -20,22 +20,22 @@ pub returns-clause-stepped : goal.returns-clause-stepped
 returns-clause-stepped g c =
     made c.self.inside.system c.args.commands.now c.self.inside.steps c.self.inside.spent c.args.self.now c.self.view_is c.if-self.false c.args.steps.now
     c.judge.new.steps (sym c.judge.ensures.value ∙ c.in_default.is) (omega (arith, c.judge.ensures.touches))
-    c.take_turns.new.system c.settle_noted.new.forest c.made.result c.settle_noted.new.steps c.take_turns.new.steps c.in-Ok.ensures.settled c.take_turns.ensures.value c.made.ensures.energy c.made.ensures.halted
-    (formed_on c.self.inside.system c.take_turns.new.system c.args.commands.now (c.self.inside.steps + 1) c.know_step.ensures.well_formed c.in-Ok.ensures.settled.goes c.take_turns.ensures.value)
+    c.take_turns.new.system c.settle_noted.new.forest c.tell_made.result c.settle_noted.new.steps c.take_turns.new.steps c.in-Ok.ensures.settled c.take_turns.ensures.value c.tell_made.ensures.energy c.tell_made.ensures.halted
+    (formed_on c.self.inside.system c.take_turns.new.system c.args.commands.now (c.self.inside.steps + 1) c.recall_step.ensures.well_formed c.in-Ok.ensures.settled.goes c.take_turns.ensures.value)
     c.take_turns.ensures.touches
 
 pub returns-clause-voxels : goal.returns-clause-voxels
 returns-clause-voxels g c =
-    note_holds c.self.inside.system c.args.commands.now (c.self.inside.steps + 1) c.know.ensures.ready (sym c.judge.ensures.value ∙ c.in_default.is) c.take_turns.new.system c.in-Ok.undo c.take_turns.ensures.value c.in-Ok.ensures.note
+    note_holds c.self.inside.system c.args.commands.now (c.self.inside.steps + 1) c.recall.ensures.ready (sym c.judge.ensures.value ∙ c.in_default.is) c.take_turns.new.system c.in-Ok.undo c.take_turns.ensures.value c.in-Ok.ensures.note
 
 pub returns-clause-before : goal.returns-clause-before
 returns-clause-before g c =
-    state_is_back c.self.inside.system c.args.commands.now (c.self.inside.steps + 1) c.know.ensures.ready (sym c.judge.ensures.value ∙ c.in_default.is) c.take_turns.new.system c.in-Ok.undo c.take_turns.ensures.value c.in-Ok.ensures.note
+    state_is_back c.self.inside.system c.args.commands.now (c.self.inside.steps + 1) c.recall.ensures.ready (sym c.judge.ensures.value ∙ c.in_default.is) c.take_turns.new.system c.in-Ok.undo c.take_turns.ensures.value c.in-Ok.ensures.note
     ∙ ap (λ (v : Situation). v.state) c.self.view_is
 
 pub returns-clause-undo : goal.returns-clause-undo
 returns-clause-undo g c =
-    note_may_undo c.self.inside.system c.args.commands.now (c.self.inside.steps + 1) c.know.ensures.ready (sym c.judge.ensures.value ∙ c.in_default.is) c.take_turns.new.system c.in-Ok.undo c.take_turns.ensures.value c.in-Ok.ensures.note
+    note_may_undo c.self.inside.system c.args.commands.now (c.self.inside.steps + 1) c.recall.ensures.ready (sym c.judge.ensures.value ∙ c.in_default.is) c.take_turns.new.system c.in-Ok.undo c.take_turns.ensures.value c.in-Ok.ensures.note
     c.self.inside.forest c.self.inside.changed c.self.inside.steps c.self.inside.spent c.args.self.now c.self.invariant c.self.view_is (c.in-Ok.ensures.note.steps)
 
 pub returns-then-self-clause-stepped : goal.returns-then-self-clause-stepped
@@ -51,7 +51,7 @@ settle_noted-requires-clause-few g c =
 
 pub settle_noted-requires-clause-prepared : goal.settle_noted-requires-clause-prepared
 settle_noted-requires-clause-prepared g c = record {
-  commands = c.know_step.ensures.commands;
+  commands = c.recall_step.ensures.commands;
   turns = c.in_default.ensures.turns;
   room = c.self.invariant.room;
   stands = c.self.invariant.stands c.if-self.false;
@@ -62,7 +62,7 @@ pub invariant_of-self-2 : goal.invariant_of-self-2
 invariant_of-self-2 g c =
     let h = c.in-Ok.ensures.settled in
     sound_on c.self.inside.system c.take_turns.new.system c.args.commands.now c.self.inside.forest c.settle_noted.new.forest c.self.inside.changed c.settle_noted.new.list c.self.inside.steps c.self.inside.spent c.args.self.now c.self.invariant c.self.view_is c.requires.steps
-    c.take_turns.ensures.value h.stands h.tied c.settle_noted.ensures.room c.know_step.ensures.rises c.know_step.ensures.falls
+    c.take_turns.ensures.value h.stands h.tied c.settle_noted.ensures.room c.recall_step.ensures.rises c.recall_step.ensures.falls
 
 pub invariant_of-self-in-Err : goal.invariant_of-self-in-Err
 invariant_of-self-in-Err g c = sound_spent c.self.inside.system c.self.inside.forest c.settle_noted.new.forest c.self.inside.changed c.settle_noted.new.list c.self.inside.steps c.self.inside.spent c.self.invariant c.settle_noted.ensures.room

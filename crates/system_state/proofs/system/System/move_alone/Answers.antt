@@ -21,7 +21,7 @@ returns-in-Ok-clause-moved g c =
     ∙ ap (λ z. record s { energy = (s.energy +ℤ upkeep s) +ℤ z }) (same ∙ c.cost_of_move.ensures.value)) in
     let gone : c.move_only.new.self ≡ record c.pay.new.self { bots = there } =
     c.move_only.ensures b (ap (λ (t : State). t.bots) payment ∙ c.only_bot-bot.ensures.only) in
-    gone ∙ (ap (λ (t : State). record t { bots = there }) payment ∙ moved_on s b c.args.d c.in-Ok.to c.only_bot-bot.ensures.only c.know.ensures.whole c.in-Ok.ensures.sum)
+    gone ∙ (ap (λ (t : State). record t { bots = there }) payment ∙ moved_on s b c.args.d c.in-Ok.to c.only_bot-bot.ensures.only c.recall.ensures.whole c.in-Ok.ensures.sum)
 
 pub returns-in-Ok-clause-one : goal.returns-in-Ok-clause-one
 returns-in-Ok-clause-one g c =

@@ -14,7 +14,7 @@ returns-in-Wait-clause-value g c =
     let old : State = record { matrix = c.self.inside.matrix; harmonics = c.self.inside.harmonics; bots = c.self.inside.crew; energy = c.self.inside.energy; profile = c.self.inside.profile } in
     subst (λ (t : State). IfSome (bot_of t.bots c.args.turn.leader) (λ bot. t ≡ after_turn t bot c.args.turn.partner c.args.command.now)) c.self.view_is
     (subst (λ (o : Option Bot). IfSome o (λ bot. old ≡ after_turn old bot c.args.turn.partner c.args.command.now)) c.in-Some.ensures
-    (waited old c.in-Some.bot c.args.turn.partner c.know.ensures.whole.voxels ∙ ap (after_turn old c.in-Some.bot c.args.turn.partner) (sym c.in-Wait.is)))
+    (waited old c.in-Some.bot c.args.turn.partner c.recall.ensures.whole.voxels ∙ ap (after_turn old c.in-Some.bot c.args.turn.partner) (sym c.in-Wait.is)))
 
 pub returns-in-SMove-clause-value : goal.returns-in-SMove-clause-value
 returns-in-SMove-clause-value g c =

@@ -17,7 +17,7 @@ use Rattle.system_state.proofs.system.System.take_turns.Goals as goal
 
 pub loop-turn-init : goal.loop-turn-init
 loop-turn-init g c = record {
-  taken = λ order perm are. c.pay_upkeep.ensures.value ∙ c.groups_take_turns.ensures.first c.args.self.now c.args.commands.now c.requires.judged.0 c.know.ensures.ready c.requires.judged.1;
+  taken = λ order perm are. c.pay_upkeep.ensures.value ∙ c.groups_take_turns.ensures.first c.args.self.now c.args.commands.now c.requires.judged.0 c.recall.ensures.ready c.requires.judged.1;
   within = c.pay_upkeep.ensures.within;
   touches = λ order perm are. let z : sum [] ≡ 0 = refl in omega arith;
 }
@@ -28,9 +28,9 @@ bounds-commands-from g c =
     let lt : c.loop-turn.turn-index < length c.args.turns.now = subst (λ (ts : List Turn). c.loop-turn.turn-index < length ts) items c.loop-turn-test.true in
     let law = turns_of c.groups_take_turns.ensures.bots c.groups_take_turns.ensures.rules c.groups_take_turns.ensures.places c.groups_take_turns.ensures.next in
     subst (λ n. n < length c.args.commands.now) (sym (c.from.ensures ∙ ap (λ (ts : List Turn). (get_or ts c.loop-turn.turn-index (no_turn)).place) items))
-    (place_below c.args.self.now c.args.commands.now c.requires.judged.0 c.know.ensures.ready c.requires.judged.1 c.know_all.ensures c.requires.turns.order c.requires.turns.groups c.args.turns.now c.requires.turns.each c.loop-turn.turn-index lt (no_turn)
+    (place_below c.args.self.now c.args.commands.now c.requires.judged.0 c.recall.ensures.ready c.requires.judged.1 c.recall_all.ensures c.requires.turns.order c.requires.turns.groups c.args.turns.now c.requires.turns.each c.loop-turn.turn-index lt (no_turn)
     law
-    c.loop-turn.self (c.loop-turn.invariant.taken c.requires.turns.order c.requires.turns.groups c.requires.turns.each) c.know-in-loop-turn.ensures.ready)
+    c.loop-turn.self (c.loop-turn.invariant.taken c.requires.turns.order c.requires.turns.groups c.requires.turns.each) c.recall-in-loop-turn.ensures.ready)
 
 pub take_turn-requires-clause-may : goal.take_turn-requires-clause-may
 take_turn-requires-clause-may g c =
@@ -39,9 +39,9 @@ take_turn-requires-clause-may g c =
     let place : c.from.result ≡ (get_or c.args.turns.now c.loop-turn.turn-index (no_turn)).place = c.from.ensures ∙ ap (λ (ts : List Turn). (get_or ts c.loop-turn.turn-index (no_turn)).place) items in
     let law = turns_of c.groups_take_turns.ensures.bots c.groups_take_turns.ensures.rules c.groups_take_turns.ensures.places c.groups_take_turns.ensures.next in
     subst (λ (ts : List Turn). IfSome (bot_of c.loop-turn.self.bots (get_or ts c.loop-turn.turn-index (no_turn)).leader) (λ bot. MayTake c.loop-turn.self.matrix.resolution c.loop-turn.self.bots bot (get_or ts c.loop-turn.turn-index (no_turn)).partner c.index-commands-from.result)) (sym items)
-    (may_now c.args.self.now c.args.commands.now c.requires.judged.0 c.know.ensures.ready c.requires.judged.1 c.know_all.ensures c.requires.turns.order c.requires.turns.groups c.args.turns.now c.requires.turns.each c.loop-turn.turn-index lt (no_turn)
+    (may_now c.args.self.now c.args.commands.now c.requires.judged.0 c.recall.ensures.ready c.requires.judged.1 c.recall_all.ensures c.requires.turns.order c.requires.turns.groups c.args.turns.now c.requires.turns.each c.loop-turn.turn-index lt (no_turn)
     law
-    c.loop-turn.self (c.loop-turn.invariant.taken c.requires.turns.order c.requires.turns.groups c.requires.turns.each) c.know-in-loop-turn.ensures.ready c.index-commands-from.result (c.index-commands-from.is ∙ ap (λ n. get_or c.args.commands.now n c.index-commands-from.result) place))
+    c.loop-turn.self (c.loop-turn.invariant.taken c.requires.turns.order c.requires.turns.groups c.requires.turns.each) c.recall-in-loop-turn.ensures.ready c.index-commands-from.result (c.index-commands-from.is ∙ ap (λ n. get_or c.args.commands.now n c.index-commands-from.result) place))
 
 pub take_turn-requires-clause-payable : goal.take_turn-requires-clause-payable
 take_turn-requires-clause-payable g c =
@@ -51,7 +51,7 @@ take_turn-requires-clause-payable g c =
     let same : length c.requires.turns.order ≡ length (leaders all) = length_permutation (leaders all) c.requires.turns.order c.requires.turns.groups in
     let few : length (leaders all) ≤ length all = leaders_most all in
     let fewer : length all ≤ length c.args.self.now.bots = acts_most c.args.self.now.bots c.args.commands.now in
-    let most = c.know.ensures.crew.most in
+    let most = c.recall.ensures.crew.most in
     let lt = c.loop-turn-test.true in
     within_wider (4611686020427387904 + 357492 * c.loop-turn.turn-index) 9000000000000000000 c.loop-turn.self.energy (omega arith) c.loop-turn.invariant.within
 
@@ -63,10 +63,10 @@ loop-turn-preserved g c =
     let command = c.index-commands-from.is ∙ ap (λ n. get_or c.args.commands.now n c.index-commands-from.result) place in
     let law = turns_of c.groups_take_turns.ensures.bots c.groups_take_turns.ensures.rules c.groups_take_turns.ensures.places c.groups_take_turns.ensures.next in
     record {
-      taken = λ order perm are. taken_more c.args.self.now c.args.commands.now c.requires.judged.0 c.know.ensures.ready c.requires.judged.1 c.know_all.ensures order perm c.args.turns.now are c.loop-turn.turn-index lt (no_turn) law c.loop-turn.self (c.loop-turn.invariant.taken order perm are) c.know-in-loop-turn.ensures.ready c.group_is_replaced.ensures c.index-commands-from.result command c.take_turn.new.self
+      taken = λ order perm are. taken_more c.args.self.now c.args.commands.now c.requires.judged.0 c.recall.ensures.ready c.requires.judged.1 c.recall_all.ensures order perm c.args.turns.now are c.loop-turn.turn-index lt (no_turn) law c.loop-turn.self (c.loop-turn.invariant.taken order perm are) c.recall-in-loop-turn.ensures.ready c.group_is_replaced.ensures c.index-commands-from.result command c.take_turn.new.self
           (subst (λ (ts : List Turn). IfSome (bot_of c.loop-turn.self.bots (get_or ts c.loop-turn.turn-index (no_turn)).leader) (λ bot. c.take_turn.new.self ≡ after_turn c.loop-turn.self bot (get_or ts c.loop-turn.turn-index (no_turn)).partner c.index-commands-from.result)) items c.take_turn.ensures.value);
       within = subst (λ k. IsWithin k c.take_turn.new.self.energy) (let e : 4611686020427387904 + 357492 * c.loop-turn.turn-index + 357492 ≡ 4611686020427387904 + 357492 * (c.loop-turn.turn-index + 1) = omega arith in e) (c.take_turn.ensures.within (4611686020427387904 + 357492 * c.loop-turn.turn-index) c.loop-turn.invariant.within);
-      touches = λ order perm are. touched_more c.args.self.now c.args.commands.now c.requires.judged.0 c.know.ensures.ready c.requires.judged.1 c.know_all.ensures order perm c.args.turns.now are c.loop-turn.turn-index lt (no_turn) law c.loop-turn.self (c.loop-turn.invariant.taken order perm are) c.know-in-loop-turn.ensures.ready c.index-commands-from.result command c.loop-turn.steps c.take_turn.new.steps c.args.steps.now
+      touches = λ order perm are. touched_more c.args.self.now c.args.commands.now c.requires.judged.0 c.recall.ensures.ready c.requires.judged.1 c.recall_all.ensures order perm c.args.turns.now are c.loop-turn.turn-index lt (no_turn) law c.loop-turn.self (c.loop-turn.invariant.taken order perm are) c.recall-in-loop-turn.ensures.ready c.index-commands-from.result command c.loop-turn.steps c.take_turn.new.steps c.args.steps.now
           (subst (λ (ts : List Turn). IfSome (bot_of c.loop-turn.self.bots (get_or ts c.loop-turn.turn-index (no_turn)).leader) (λ bot. c.take_turn.new.steps ≤ c.loop-turn.steps + met_count c.loop-turn.self.matrix bot c.index-commands-from.result)) items c.take_turn.ensures.touches)
           (c.loop-turn.invariant.touches order perm are);
     }
@@ -80,7 +80,7 @@ returns-clause-value g c =
     let past = c.loop-turn-test.false in
     c.loop-turn.invariant.taken order c.requires.turns.groups c.requires.turns.each
     ∙ (ap (after_some c.args.self.now all) (take_whole c.loop-turn.turn-index order (omega arith))
-    ∙ c.groups_take_turns.ensures.last c.args.self.now c.args.commands.now c.requires.judged.0 c.know.ensures.ready c.requires.judged.1 order c.requires.turns.groups)
+    ∙ c.groups_take_turns.ensures.last c.args.self.now c.args.commands.now c.requires.judged.0 c.recall.ensures.ready c.requires.judged.1 order c.requires.turns.groups)
 
 pub returns-clause-touches : goal.returns-clause-touches
 returns-clause-touches g c =

@@ -13,12 +13,12 @@ use Rattle.trace_judge.proofs.runner.Runner.push.Goals as goal
 pub returns-in-Refused-clause-progress : goal.returns-in-Refused-clause-progress
 returns-in-Refused-clause-progress g c =
     let seen : Course = course_of c.self.inside.machine c.self.inside.pending c.self.inside.mark in
-    subst (λ (v : Course). Pushes v.progress c.args.command (record seen.progress { mark = mark_by c.passed-mark.result })) c.self.view_is (c.passed-mark.ensures.pushes seen.progress c.args.command refl)
+    subst (λ (v : Course). Pushes v.progress c.args.command (record seen.progress { mark = mark_by c.next_mark-mark.result })) c.self.view_is (c.next_mark-mark.ensures.pushes seen.progress c.args.command refl)
 
 pub returns-in-Refused-clause-touches : goal.returns-in-Refused-clause-touches
 returns-in-Refused-clause-touches g c =
     let p = c.args.self.now.progress in
-    untouched_within p.state (p.pending ++ c.args.command ∷ []) (p.steps + 1) (searched_by (mark_by c.passed-mark.result) p.state.matrix) c.args.steps.now c.args.steps.now refl
+    untouched_within p.state (p.pending ++ c.args.command ∷ []) (p.steps + 1) (searched_by (mark_by c.next_mark-mark.result) p.state.matrix) c.args.steps.now c.args.steps.now refl
 
 pub returns-in-Waits-clause-touches : goal.returns-in-Waits-clause-touches
 returns-in-Waits-clause-touches g c =
@@ -47,7 +47,7 @@ returns-in-Broken-clause-progress g c =
     (λ i. record { state = stepped.stays.0 i; steps = stepped.stays.1 i; pending = c.in-Refused-take.ensures.kept refl i; mark = progress.Refused c.in-Broken.broken })
 
 pub invariant_of-self : goal.invariant_of-self
-invariant_of-self g c = ended_on c.self.inside.machine c.self.inside.pending c.passed-mark.result c.passed-mark.ensures.ended
+invariant_of-self g c = ended_on c.self.inside.machine c.self.inside.pending c.next_mark-mark.result c.next_mark-mark.ensures.ended
 
 pub invariant_of-self-in-Waits : goal.invariant_of-self-in-Waits
 invariant_of-self-in-Waits g c = waits_on c.self.inside.machine c.take.new.machine c.self.inside.pending c.take.new.pending c.args.command c.self.inside.mark (c.in-Waits.ensures.stays refl) (c.in-Waits.ensures.joins refl) (c.in-Waits.ensures.lacks refl) c.in-Running.is

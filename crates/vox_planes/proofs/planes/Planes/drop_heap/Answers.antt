@@ -1,10 +1,12 @@
 use Rattle.std.proofs.Common.{◌≡◌, ◌+◌, ◌*◌, ◌<◌, ◌≤◌, ℕ, List, sym, ◌∙◌, ap, subst, arith, length, not, ◌&&◌}
 use Rattle.std.proofs.lemmas.List.{with_items_is}
+use Rattle.vox_geom.proofs.Truths.{first_of_two}
 use Rattle.nano_spec.specs.Matrix.{Matrix, is_full}
 use Rattle.nano_spec.specs.Model.{volume}
 use Rattle.vox_planes.specs.Heap.{goes, is_stacked}
 use Rattle.vox_planes.specs.Layers.{IsLayered, is_set, layer_words, layered}
 use Rattle.vox_planes.proofs.Stacks.{stacked_go, stacked_layered}
+use Rattle.vox_planes.proofs.Ends.{zero_of_less}
 use Rattle.vox_planes.proofs.Totals.{words_most}
 use Rattle.vox_planes.proofs.Voxels.{layered_whole}
 use Rattle.vox_planes.proofs.planes.Planes.drop_heap.Given.{Over}
@@ -55,7 +57,14 @@ kept g c =
     (λ y i l m n. c.self.invariant.0.unused y i l m n)
 
 pub invariant_of-self : goal.invariant_of-self
-invariant_of-self g c = (kept g c, c.self.invariant.1)
+invariant_of-self g c = (
+  kept g c,
+  c.self.invariant.1,
+  zero_of_less c.self.inside.words.items (left g c) c.self.inside.end c.self.invariant.2 same_size (λ i l t. first_of_two _ _ (sym (dropped g c i (omega (arith, l, ap (λ n. n * 64) (size g c)))) ∙ t)),
+)
+  where
+    same_size : length (left g c) ≡ length c.self.inside.words.items
+    same_size = size g c ∙ ((let layered_full = layers g c in layered_full.whole) ∙ sym c.self.invariant.0.whole)
 
 pub returns-clause-left : goal.returns-clause-left
 returns-clause-left g c = λ d.

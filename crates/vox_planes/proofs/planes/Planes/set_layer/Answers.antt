@@ -11,9 +11,9 @@ loop-x-init g c =
     let k = c.args.b.now in
     let e = ap (λ (d : Coord). d.x) c.low-low.ensures.value in
     record {
-      painted = painted_none c.args.self.now _ c.args.full c.know.ensures.whole (λ d. ap (λ x. is_in_layer k c.args.y x d) e ∙ layer_none k c.args.y d);
+      painted = painted_none c.args.self.now _ c.args.full c.recall.ensures.whole (λ d. ap (λ x. is_in_layer k c.args.y x d) e ∙ layer_none k c.args.y d);
       resolution = refl;
-      whole = c.know.ensures.whole;
+      whole = c.recall.ensures.whole;
       most = rw e (omega arith);
       touches = rw e (omega arith);
     }

@@ -11,9 +11,9 @@ loop-y-init g c =
     let k = c.args.b.now in
     let e = ap (λ (d : Coord). d.y) c.low-low.ensures.value in
     record {
-      painted = painted_none c.args.self.now _ c.args.full c.know.ensures.whole (λ d. ap (λ y. is_in_layers k y d) e ∙ layers_none k d);
+      painted = painted_none c.args.self.now _ c.args.full c.recall.ensures.whole (λ d. ap (λ y. is_in_layers k y d) e ∙ layers_none k d);
       resolution = refl;
-      whole = c.know.ensures.whole;
+      whole = c.recall.ensures.whole;
       most = rw e (omega (arith, size-layers k c.low-low.ensures.ordered));
       touches = rw e (omega (arith, size-layers k c.low-low.ensures.ordered));
     }

@@ -1,12 +1,14 @@
 use Rattle.std.proofs.Common.{◌≡◌, ◌+◌, ◌≤◌, ◌&&◌, not, ℕ, sym, ◌∙◌, ap, subst, length}
 use Rattle.std.proofs.lemmas.List.{with_items_is}
 use Rattle.vox_geom.specs.Space.{IsInSpace}
+use Rattle.vox_geom.proofs.Truths.{first_of_two}
 use Rattle.nano_spec.specs.Matrix.{Matrix, is_full}
 use Rattle.nano_spec.specs.Model.{bit}
 use Rattle.vox_planes.specs.Layers.{bit_index}
 use Rattle.vox_planes.specs.Places.{is_marked}
 use Rattle.vox_planes.specs.Walk.{at}
 use Rattle.vox_planes.proofs.TakenBits.{AreTaken, row_layered, row_left, row_was, taken_by}
+use Rattle.vox_planes.proofs.Ends.{zero_of_less}
 use Rattle.vox_planes.proofs.Voxels.{layered_whole}
 use Rattle.vox_planes.proofs.planes.Planes.take_row.Given.{Over}
 use Rattle.vox_planes.proofs.planes.Planes.take_row.Goals as goal
@@ -31,7 +33,11 @@ row : (g : Over) (c : goal.After-self-1 g) → c.args.first.z + c.args.count ≤
 row g c = subst (λ (n : ℕ). c.args.first.z + c.args.count ≤ n) (same g c) c.requires.row
 
 pub invariant_of-self : goal.invariant_of-self
-invariant_of-self g c = (row_layered c.self.inside.resolution c.self.inside.words.items _ c.args.first c.args.count c.args.bits c.take_bits.result (within g c) (row g c) c.requires.few (taken g c) (size g c) c.self.invariant.0, c.self.invariant.1)
+invariant_of-self g c = (
+  row_layered c.self.inside.resolution c.self.inside.words.items _ c.args.first c.args.count c.args.bits c.take_bits.result (within g c) (row g c) c.requires.few (taken g c) (size g c) c.self.invariant.0,
+  c.self.invariant.1,
+  zero_of_less c.self.inside.words.items _ c.self.inside.end c.self.invariant.2 (size g c) (λ i l t. first_of_two _ _ (sym ((taken g c).left i) ∙ t)),
+)
 
 pub returns-clause-was : goal.returns-clause-was
 returns-clause-was g c = λ k l.

@@ -1,0 +1,36 @@
+//! Files that have at most so many bytes.
+ghost use Rattle.std.specs.Prelude.{◌≡◌, ◌≤◌, IfOk, vec_len};
+ghost use Rattle.vox_depot.specs.Causes.{Rose};
+ghost use Rattle.nanobot_rows.specs.Answer.{FileUpTo};
+ghost use Rattle.nanobot_rows.specs.Reading.{FindsAs};
+ghost use Rattle.nanobot_rows.specs.Report.{report_line, status_of};
+
+use crate::report::Report;
+use crate::stop::Stop;
+use std::alloc::Global;
+use vox_depot::{Depot, load};
+
+/// The bytes of a file, or this report where it has more than the limit. One byte past the limit shows that.
+pub fn load_file<D: Depot>(
+    alloc: Global,
+    depot: &mut D,
+    name: &str,
+    limit: u64,
+    too_long: Report,
+) -> Result<Vec<u8>, Stop>
+    requires may_fetch { D.may_fetch name.now }
+    requires small { limit ≤ 1073741824 }
+    ensures reads { FindsAs (λ bytes. bytes.items)
+        (FileUpTo limit (status_of too_long) (report_line too_long) name.now) (D.files depot.old)
+        (Rose (D.faults depot.old) (D.faults depot.new)) result }
+    ensures size { IfOk result (λ bytes. vec_len bytes ≤ limit) }
+    ensures files { D.files depot.new ≡ D.files depot.old }
+    ensures later { D.faults depot.old ≤ D.faults depot.new }
+    ensures stores { D.failed_stores depot.new ≡ D.failed_stores depot.old }
+{
+    let bytes = load(alloc, depot, name, limit + 1)?;
+    if bytes.len() as u64 > limit {
+        return Err(Stop::Told(too_long));
+    }
+    Ok(bytes)
+}

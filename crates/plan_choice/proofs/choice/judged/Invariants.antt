@@ -1,4 +1,0 @@
-use Rattle.plan_choice.proofs.choice.judged.Given as goal
-
-abbrev pub ghosts-judged_in : goal.ghosts-judged_in
-ghosts-judged_in a = record { name = a.blank.name; parts = a.blank.parts }
