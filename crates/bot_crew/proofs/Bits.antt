@@ -45,7 +45,8 @@ unfolding ones
 ones_are a [] h = refl
 ones_are a (j ∷ ks) h = by (multiple (j + 1) ks h.1) (ones_are (j + 1) ks h.1)
   where
-    by : (q : ℕ) × (seed_set ks ≡ q * 2 ^ (j + 1)) → count_ones (seed_set ks) ≡ length ks → count_ones (seed_set (j ∷ ks)) ≡ suc (length ks)
+    by : (q : ℕ) × (seed_set ks ≡ q * 2 ^ (j + 1)) → count_ones (seed_set ks) ≡ length ks
+        → count_ones (seed_set (j ∷ ks)) ≡ suc (length ks)
     by (q, e) later =
         let above : count_ones (seed_set ks) ≡ count_ones q + count_ones 0 = ap count_ones (e ∙ omega arith) ∙ ones_cat (j + 1) q 0 (pow_pos (j + 1)) in
         let one : 1 < 2 ^ 1 = omega arith in
@@ -68,7 +69,8 @@ number_in : (a n k : ℕ) → a ≤ k → k < a + n → contains (numbers_from a
 number_in a zero k l m = absurd (omega arith)
 number_in a (suc n) k l m = by (cases_order k a) (λ e. number_in (a + 1) n k (omega arith) (omega arith))
   where
-    by : (k ≡ a) ⊎ ((k < a) ⊎ (a < k)) → (a < k → contains (numbers_from (a + 1) n) k ≡ true) → (k == a || contains (numbers_from (a + 1) n) k) ≡ true
+    by : (k ≡ a) ⊎ ((k < a) ⊎ (a < k)) → (a < k → contains (numbers_from (a + 1) n) k ≡ true)
+        → (k == a || contains (numbers_from (a + 1) n) k) ≡ true
     by (inl e) later = let f : (k == a) ≡ true = test_equal k a e in rw f refl
     by (inr (inl e)) later = absurd (omega arith)
     by (inr (inr e)) later = let f : (k == a) ≡ false = test_unequal k a (λ g. omega arith) in rw f (later e)
@@ -92,7 +94,8 @@ pub same_list : (a b : ℕ) → ((k : ℕ) → is_seed a k ≡ is_seed b k) → 
 unfolding seed_numbers
 same_list a b h = same_filter (is_seed a) (is_seed b) 0 64 (λ k l m. h k)
 
-back : (a n : ℕ) (ks : List ℕ) → Rising a ks → ((k : ℕ) → contains ks k ≡ true → k < a + n) → filter (contains ks) (numbers_from a n) ≡ ks
+back : (a n : ℕ) (ks : List ℕ) → Rising a ks → ((k : ℕ) → contains ks k ≡ true → k < a + n)
+    → filter (contains ks) (numbers_from a n) ≡ ks
 back a zero [] h w = refl
 back a zero (j ∷ ks) h w = let l : j < a + 0 = w j (let e : (j == j) ≡ true = test_equal j j refl in rw e refl) in absurd (omega (arith, h.0))
 back a (suc n) [] h w = nothing_left (λ k. false) a (suc n) (λ k l m. refl)
@@ -101,7 +104,9 @@ back a (suc n) (j ∷ ks) h w =
     (λ e. back (a + 1) n ks (weaker (j + 1) (a + 1) ks (omega arith) h.1) (λ k g. let l : k < a + suc n = w k (or_by_second (k == j) (contains ks k) g) in omega arith))
     (λ l. back (a + 1) n (j ∷ ks) (omega arith, h.1) (λ k g. let m : k < a + suc n = w k g in omega arith))
   where
-    by : (a ≡ j) ⊎ ((a < j) ⊎ (j < a)) → (a ≡ j → filter (contains ks) (numbers_from (a + 1) n) ≡ ks) → (a < j → filter (contains (j ∷ ks)) (numbers_from (a + 1) n) ≡ j ∷ ks) → filter (contains (j ∷ ks)) (a ∷ numbers_from (a + 1) n) ≡ j ∷ ks
+    by : (a ≡ j) ⊎ ((a < j) ⊎ (j < a)) → (a ≡ j → filter (contains ks) (numbers_from (a + 1) n) ≡ ks)
+        → (a < j → filter (contains (j ∷ ks)) (numbers_from (a + 1) n) ≡ j ∷ ks)
+        → filter (contains (j ∷ ks)) (a ∷ numbers_from (a + 1) n) ≡ j ∷ ks
     by (inl e) at above =
         let here : (a == j) ≡ true = test_equal a j e in
         let one : contains (j ∷ ks) a ≡ true = rw here refl in
@@ -134,7 +139,8 @@ list_below n k e = by (within k)
 fewer : (n j : ℕ) (ks : List ℕ) → n < 2 ^ 64 → seed_list n ≡ j ∷ ks → n ≡ 2 ^ j + seed_set ks
 fewer n j ks h e = sym (set_of_list n h) ∙ (ap seed_set e ∙ seed_more j ks)
 
-parts : (n j : ℕ) (ks : List ℕ) → seed_list n ≡ j ∷ ks → Rising 0 (j ∷ ks) × ((k : ℕ) → contains (j ∷ ks) k ≡ true → k < 64)
+parts : (n j : ℕ) (ks : List ℕ) → seed_list n ≡ j ∷ ks
+    → Rising 0 (j ∷ ks) × ((k : ℕ) → contains (j ∷ ks) k ≡ true → k < 64)
 parts n j ks e = (subst (λ v. Rising 0 v) e (list_rises n), λ k f. list_below n k (ap (λ v. contains v k) e ∙ f))
 
 -- the set without its least seed
@@ -155,7 +161,9 @@ least_is n j ks h e = by (cases_order (trailing_zeros w64 n) j) (bit_at-trailing
     seed : (k : ℕ) → is_seed n k ≡ contains (j ∷ ks) k
     seed k = ap (λ v. is_seed v k) (sym (set_of_list n h) ∙ ap seed_set e) ∙ seed_is 0 (j ∷ ks) (parts n j ks e).0 k
 
-    by : (trailing_zeros w64 n ≡ j) ⊎ ((trailing_zeros w64 n < j) ⊎ (j < trailing_zeros w64 n)) → (trailing_zeros w64 n < 64) × (bit_at n (trailing_zeros w64 n) ≡ 1) × ((i : ℕ) → i < trailing_zeros w64 n → bit_at n i ≡ 0) → trailing_zeros w64 n ≡ j
+    by : (trailing_zeros w64 n ≡ j) ⊎ ((trailing_zeros w64 n < j) ⊎ (j < trailing_zeros w64 n))
+        → (trailing_zeros w64 n < 64) × (bit_at n (trailing_zeros w64 n) ≡ 1)
+        × ((i : ℕ) → i < trailing_zeros w64 n → bit_at n i ≡ 0) → trailing_zeros w64 n ≡ j
     by (inl f) t = f
     by (inr (inl l)) t = absurd (not_both (ap (λ v. v == 1) t.1) (seed (trailing_zeros w64 n) ∙ none_below j (j ∷ ks) (omega arith, (parts n j ks e).0.1) (trailing_zeros w64 n) l))
     by (inr (inr l)) t = absurd (not_both (seed j ∙ (let f : (j == j) ≡ true = test_equal j j refl in rw f refl)) (ap (λ v. v == 1) (t.2 j l)))

@@ -57,7 +57,8 @@ module _ (bots : List Bot) (c : Coord) where
       by (Some b) g n = cc
 
   -- all bots at a coordinate have the bid of the one that is found there
-  pub only_there : (bid : ℕ) → IsKin bots → IfSome (bot_at bots c) (λ b. b.bid ≡ bid) → (e : Bot) → In e bots → e.pos ≡ c → e.bid ≡ bid
+  pub only_there : (bid : ℕ) → IsKin bots → IfSome (bot_at bots c) (λ b. b.bid ≡ bid) → (e : Bot) → In e bots
+      → e.pos ≡ c → e.bid ≡ bid
   only_there bid kin h e i f = by (bot_at bots c) refl h
     where
       by : (o : Option Bot) → bot_at bots c ≡ o → IfSome o (λ b. b.bid ≡ bid) → e.bid ≡ bid
@@ -66,7 +67,8 @@ module _ (bots : List Bot) (c : Coord) where
 
 -- ---- seeds
 
-cut_apart : (m a : ℕ) (ks : List ℕ) (k : ℕ) → NumbersRise a ks → contains (take m ks) k ≡ true → contains (drop m ks) k ≡ true → ⊥
+cut_apart : (m a : ℕ) (ks : List ℕ) (k : ℕ) → NumbersRise a ks → contains (take m ks) k ≡ true
+    → contains (drop m ks) k ≡ true → ⊥
 cut_apart zero a ks k r e f = cc
 cut_apart (suc m) a [] k r e f = cc
 cut_apart (suc m) a (j ∷ ks) k r e f = by (one_of_two (k == j) (contains (take m ks) k) e) (λ g. cut_apart m (j + 1) ks k r.1 g f)
@@ -84,7 +86,8 @@ one_in a b e = let f : (a == b) ≡ true = test_equal a b e in rw f refl
 
 -- ---- a move
 
-pub move_heir : (bots : List Bot) (kin : IsKin bots) (b : Bot) (c : Coord) → In b bots → ((e : Bot) → In e bots → e.pos ≡ c → e.bid ≡ b.bid) → IsHeir bots (b.bid ∷ []) (moved b (point c) ∷ [])
+pub move_heir : (bots : List Bot) (kin : IsKin bots) (b : Bot) (c : Coord) → In b bots
+    → ((e : Bot) → In e bots → e.pos ≡ c → e.bid ≡ b.bid) → IsHeir bots (b.bid ∷ []) (moved b (point c) ∷ [])
 move_heir bots kin b c i free = record {
   differ = ((λ x j e. j), tt);
   apart = λ x y j k e. bid_of x j ∙ sym (bid_of y k);
@@ -147,7 +150,8 @@ module _ (bots : List Bot) (kin : IsKin bots) (b : Bot) (c : Coord) (m : ℕ) (i
   own_apart k (inr e) (inl f) = not_both e (ap (is_seed (parent b m).seeds) f ∙ least_kept)
   own_apart k (inr e) (inr f) = not_shared k e f
 
-  owns_of : (x y : Bot) (k : ℕ) → In x (parent b m ∷ newborn b (point c) m ∷ []) → In y (parent b m ∷ newborn b (point c) m ∷ []) → Own x k → Own y k → x.bid ≡ y.bid
+  owns_of : (x y : Bot) (k : ℕ) → In x (parent b m ∷ newborn b (point c) m ∷ [])
+      → In y (parent b m ∷ newborn b (point c) m ∷ []) → Own x k → Own y k → x.bid ≡ y.bid
   owns_of x y k (inl e) (inl f) o p = ap (λ (v : Bot). v.bid) (e ∙ sym f)
   owns_of x y k (inl e) (inr (inl f)) o p = absurd (own_apart k (subst (λ (v : Bot). Own v k) e o) (subst (λ (v : Bot). Own v k) f p))
   owns_of x y k (inl e) (inr (inr f)) o p = absurd f
@@ -179,7 +183,8 @@ module _ (bots : List Bot) (kin : IsKin bots) (b : Bot) (c : Coord) (m : ℕ) (i
   place_of x (inr (inl e)) = inr (ap (λ (v : Bot). v.pos) e)
   place_of x (inr (inr e)) = absurd e
 
-  apart_of : (x y : Bot) → In x (parent b m ∷ newborn b (point c) m ∷ []) → In y (parent b m ∷ newborn b (point c) m ∷ []) → x.pos ≡ y.pos → x.bid ≡ y.bid
+  apart_of : (x y : Bot) → In x (parent b m ∷ newborn b (point c) m ∷ [])
+      → In y (parent b m ∷ newborn b (point c) m ∷ []) → x.pos ≡ y.pos → x.bid ≡ y.bid
   apart_of x y (inl e) (inl f) g = ap (λ (v : Bot). v.bid) (e ∙ sym f)
   apart_of x y (inl e) (inr (inl f)) g = absurd (free b i (sym (ap (λ (v : Bot). v.pos) e) ∙ (g ∙ ap (λ (v : Bot). v.pos) f)))
   apart_of x y (inl e) (inr (inr f)) g = absurd f
@@ -248,7 +253,8 @@ module _ (bots : List Bot) (kin : IsKin bots) (a b : Bot) (i : In a bots) (j : I
       by true e = refl
       by false e = e
 
-  heir_from : (k : ℕ) → Own a k ⊎ Own b k → (o : Bot) × In o bots × (list_any (λ n. n == o.bid) (a.bid ∷ b.bid ∷ []) ≡ true) × Own o k
+  heir_from : (k : ℕ) → Own a k ⊎ Own b k
+      → (o : Bot) × In o bots × (list_any (λ n. n == o.bid) (a.bid ∷ b.bid ∷ []) ≡ true) × Own o k
   heir_from k (inl o) = (a, i, first_in a.bid refl, o)
   heir_from k (inr o) = (b, j, second_in, o)
 
@@ -280,7 +286,8 @@ row_within : (a n k : ℕ) → contains (numbers_from a n) k ≡ true → (a ≤
 row_within a zero k e = cc
 row_within a (suc n) k e = by (one_of_two (k == a) (contains (numbers_from (a + 1) n) k) e) (λ f. row_within (a + 1) n k f)
   where
-    by : ((k == a) ≡ true) ⊎ (contains (numbers_from (a + 1) n) k ≡ true) → (contains (numbers_from (a + 1) n) k ≡ true → (a + 1 ≤ k) × (k < a + 1 + n)) → (a ≤ k) × (k < a + suc n)
+    by : ((k == a) ≡ true) ⊎ (contains (numbers_from (a + 1) n) k ≡ true)
+        → (contains (numbers_from (a + 1) n) k ≡ true → (a + 1 ≤ k) × (k < a + 1 + n)) → (a ≤ k) × (k < a + suc n)
     by (inl f) later = let g : k ≡ a = (Decides-eqb k a).0 f in (omega arith, omega arith)
     by (inr f) later = let r = later f in (omega arith, omega arith)
 

@@ -38,7 +38,8 @@ module _ (bots : List Bot) (crew : IsCrew bots) where
   active : (a b : Bot) → In a bots → In b bots → is_seed a.seeds b.bid ≡ false
   active a b i j = all_in (λ b. IsFalse (is_seed a.seeds b.bid)) bots (all_in (λ a. All (λ b. IsFalse (is_seed a.seeds b.bid)) bots) bots crew.unborn a i) b j
 
-  crew_seeds : (a b : Bot) (k : ℕ) → is_seed a.seeds k ≡ true → is_seed b.seeds k ≡ true → (a ≡ b) ⊎ (AreDisjoint a.seeds b.seeds ⊎ AreDisjoint b.seeds a.seeds) → a.bid ≡ b.bid
+  crew_seeds : (a b : Bot) (k : ℕ) → is_seed a.seeds k ≡ true → is_seed b.seeds k ≡ true
+      → (a ≡ b) ⊎ (AreDisjoint a.seeds b.seeds ⊎ AreDisjoint b.seeds a.seeds) → a.bid ≡ b.bid
   crew_seeds a b k e f (inl g) = ap (λ (x : Bot). x.bid) g
   crew_seeds a b k e f (inr (inl g)) = absurd (not_both f (g k e))
   crew_seeds a b k e f (inr (inr g)) = absurd (not_both e (g k f))
@@ -66,14 +67,16 @@ module _ (bots : List Bot) (crew : IsCrew bots) where
 
 -- ---- a crew from its members
 
-pub rising_pairs : (bots : List Bot) → Rising bots → (i j : ℕ) (d : Bot) → i < j → j < length bots → (get_or bots i d).bid < (get_or bots j d).bid
+pub rising_pairs : (bots : List Bot) → Rising bots → (i j : ℕ) (d : Bot) → i < j → j < length bots
+    → (get_or bots i d).bid < (get_or bots j d).bid
 rising_pairs [] r i j d l m = absurd (omega arith)
 rising_pairs (x ∷ xs) r zero zero d l m = absurd (omega arith)
 rising_pairs (x ∷ xs) r zero (suc j) d l m = r.0 (get_or xs j d) (place_in d xs j (omega arith))
 rising_pairs (x ∷ xs) r (suc i) zero d l m = absurd (omega arith)
 rising_pairs (x ∷ xs) r (suc i) (suc j) d l m = rising_pairs xs r.1 i j d (omega arith) (omega arith)
 
-few : (least : ℕ) (bots : List Bot) → least ≤ 41 → Rising bots → ((c : Bot) → In c bots → (least ≤ c.bid) × (c.bid ≤ 40)) → length bots + least ≤ 41
+few : (least : ℕ) (bots : List Bot) → least ≤ 41 → Rising bots
+    → ((c : Bot) → In c bots → (least ≤ c.bid) × (c.bid ≤ 40)) → length bots + least ≤ 41
 few least [] l r h = omega arith
 few least (x ∷ xs) l r h =
     let b = h x (inl refl) in
@@ -106,7 +109,8 @@ pub record IsHeir (bots : List Bot) (bids : List ℕ) (news : List Bot) : Type 0
   pub owns : (a b : Bot) (k : ℕ) → In a news → In b news → Own a k → Own b k → a.bid ≡ b.bid
   pub unborn : (a : Bot) → In a news → is_seed a.seeds a.bid ≡ false
   -- their numbers were those of the bots that they replace
-  pub heirs : (a : Bot) (k : ℕ) → In a news → Own a k → (b : Bot) × In b bots × (list_any (λ j. j == b.bid) bids ≡ true) × Own b k
+  pub heirs : (a : Bot) (k : ℕ) → In a news → Own a k
+      → (b : Bot) × In b bots × (list_any (λ j. j == b.bid) bids ≡ true) × Own b k
   -- and where they stand no other does
   pub free : (a b : Bot) → In a news → In b bots → a.pos ≡ b.pos → list_any (λ j. j == b.bid) bids ≡ true
 
@@ -133,13 +137,15 @@ module _ (bots : List Bot) (rising : Rising bots) (kin : IsKin bots) (bids : Lis
   part : (c : Bot) → In c (replaced bots bids news) → In c news ⊎ In c (without bots bids)
   part c i = in_either c news (without bots bids) (order_in (news ++ without bots bids) c i)
 
-  by_apart : (a b : Bot) → a.pos ≡ b.pos → In a news ⊎ In a (without bots bids) → In b news ⊎ In b (without bots bids) → a.bid ≡ b.bid
+  by_apart : (a b : Bot) → a.pos ≡ b.pos → In a news ⊎ In a (without bots bids) → In b news ⊎ In b (without bots bids)
+      → a.bid ≡ b.bid
   by_apart a b e (inl i) (inl j) = heir.apart a b i j e
   by_apart a b e (inl i) (inr j) = absurd (clear a b i j e)
   by_apart a b e (inr i) (inl j) = absurd (clear b a j i (sym e))
   by_apart a b e (inr i) (inr j) = kin.apart a b (kept a i).0 (kept b j).0 e
 
-  by_owns : (a b : Bot) (k : ℕ) → Own a k → Own b k → In a news ⊎ In a (without bots bids) → In b news ⊎ In b (without bots bids) → a.bid ≡ b.bid
+  by_owns : (a b : Bot) (k : ℕ) → Own a k → Own b k → In a news ⊎ In a (without bots bids)
+      → In b news ⊎ In b (without bots bids) → a.bid ≡ b.bid
   by_owns a b k o p (inl i) (inl j) = heir.owns a b k i j o p
   by_owns a b k o p (inl i) (inr j) = absurd (cross a b k i j o p)
   by_owns a b k o p (inr i) (inl j) = absurd (cross b a k j i p o)

@@ -21,7 +21,9 @@ pub record IsPlace (bots : List Bot) (bid i : ℕ) : Type 0 where
   pub before : (k : ℕ) (d : Bot) → k < i → (get_or bots k d).bid < bid
   pub from : (d : Bot) → i < length bots → bid ≤ (get_or bots i d).bid
 
-pub found_at : (bots : List Bot) (bid i : ℕ) (d : Bot) → i < length bots → ((k : ℕ) → k < i → (get_or bots k d).bid < bid) → (get_or bots i d).bid ≡ bid → bot_of bots bid ≡ Some (get_or bots i d)
+pub found_at : (bots : List Bot) (bid i : ℕ) (d : Bot) → i < length bots
+    → ((k : ℕ) → k < i → (get_or bots k d).bid < bid) → (get_or bots i d).bid ≡ bid
+    → bot_of bots bid ≡ Some (get_or bots i d)
 found_at [] bid i d l b e = absurd (omega arith)
 found_at (x ∷ xs) bid zero d l b e = let f : (x.bid == bid) ≡ true = test_equal x.bid bid e in rw f refl
 found_at (x ∷ xs) bid (suc i) d l b e =
@@ -29,7 +31,8 @@ found_at (x ∷ xs) bid (suc i) d l b e =
     let f : (x.bid == bid) ≡ false = test_unequal x.bid bid (λ g. omega arith) in
     rw f (found_at xs bid i d (omega arith) (λ k n. b (suc k) (omega arith)) e)
 
-pub none_at : (bots : List Bot) (bid i : ℕ) → Rising bots → IsPlace bots bid i → ((d : Bot) → i < length bots → (get_or bots i d).bid ≡ bid → ⊥) → (c : Bot) → In c bots → c.bid ≡ bid → ⊥
+pub none_at : (bots : List Bot) (bid i : ℕ) → Rising bots → IsPlace bots bid i
+    → ((d : Bot) → i < length bots → (get_or bots i d).bid ≡ bid → ⊥) → (c : Bot) → In c bots → c.bid ≡ bid → ⊥
 none_at bots bid i r p h c j e = let w = in_place c c bots j in by w.0 w.1 (ap (λ (x : Bot). x.bid) w.2 ∙ e) (cases_order w.0 i)
   where
     by : (k : ℕ) → k < length bots → (get_or bots k c).bid ≡ bid → (k ≡ i) ⊎ ((k < i) ⊎ (i < k)) → ⊥
@@ -38,24 +41,31 @@ none_at bots bid i r p h c j e = let w = in_place c c bots j in by w.0 w.1 (ap (
     by k l f (inr (inr g)) = let m : (get_or bots i c).bid < (get_or bots k c).bid = rising_pairs bots r i k c g l in let n : bid ≤ (get_or bots i c).bid = p.from c (omega arith) in omega arith
 
 -- no bot with the bid is active where none stands at its place
-pub none_found : (bots : List Bot) (bid i : ℕ) → Rising bots → IsPlace bots bid i → ((d : Bot) → i < length bots → (get_or bots i d).bid ≡ bid → ⊥) → bot_of bots bid ≡ None
+pub none_found : (bots : List Bot) (bid i : ℕ) → Rising bots → IsPlace bots bid i
+    → ((d : Bot) → i < length bots → (get_or bots i d).bid ≡ bid → ⊥) → bot_of bots bid ≡ None
 none_found bots bid i r p h = none_find (λ b. b.bid == bid) bots (λ c j. test_unequal c.bid bid (none_at bots bid i r p h c j))
 
-decided : (bots : List Bot) (bid i : ℕ) → ((i < length bots) × ((d : Bot) → (get_or bots i d).bid ≡ bid)) ⊎ ((d : Bot) → i < length bots → (get_or bots i d).bid ≡ bid → ⊥)
+decided : (bots : List Bot) (bid i : ℕ) → ((i < length bots) × ((d : Bot) → (get_or bots i d).bid ≡ bid))
+    ⊎ ((d : Bot) → i < length bots → (get_or bots i d).bid ≡ bid → ⊥)
 decided [] bid i = inr (λ d l e. absurd (omega arith))
 decided (x ∷ xs) bid zero = by (x.bid == bid) refl
   where
-    by : (b : Bool) → (x.bid == bid) ≡ b → ((0 < length (x ∷ xs)) × ((d : Bot) → x.bid ≡ bid)) ⊎ ((d : Bot) → 0 < length (x ∷ xs) → x.bid ≡ bid → ⊥)
+    by : (b : Bool) → (x.bid == bid) ≡ b
+        → ((0 < length (x ∷ xs)) × ((d : Bot) → x.bid ≡ bid)) ⊎ ((d : Bot) → 0 < length (x ∷ xs) → x.bid ≡ bid → ⊥)
     by true e = inl (omega arith, λ d. (Decides-eqb x.bid bid).0 e)
     by false e = inr (λ d l f. not_both (test_equal x.bid bid f) e)
 decided (x ∷ xs) bid (suc i) = by (decided xs bid i)
   where
-    by : ((i < length xs) × ((d : Bot) → (get_or xs i d).bid ≡ bid)) ⊎ ((d : Bot) → i < length xs → (get_or xs i d).bid ≡ bid → ⊥) → ((suc i < length (x ∷ xs)) × ((d : Bot) → (get_or xs i d).bid ≡ bid)) ⊎ ((d : Bot) → suc i < length (x ∷ xs) → (get_or xs i d).bid ≡ bid → ⊥)
+    by : ((i < length xs) × ((d : Bot) → (get_or xs i d).bid ≡ bid))
+        ⊎ ((d : Bot) → i < length xs → (get_or xs i d).bid ≡ bid → ⊥)
+        → ((suc i < length (x ∷ xs)) × ((d : Bot) → (get_or xs i d).bid ≡ bid))
+        ⊎ ((d : Bot) → suc i < length (x ∷ xs) → (get_or xs i d).bid ≡ bid → ⊥)
     by (inl h) = inl (omega (arith, h.0), h.1)
     by (inr h) = inr (λ d l e. h d (omega arith) e)
 
 -- an active bot stands at the place of its bid
-pub placed : (bots : List Bot) (bid i : ℕ) → Rising bots → IsPlace bots bid i → IsSome (bot_of bots bid) → (i < length bots) × ((d : Bot) → (get_or bots i d).bid ≡ bid)
+pub placed : (bots : List Bot) (bid i : ℕ) → Rising bots → IsPlace bots bid i → IsSome (bot_of bots bid)
+    → (i < length bots) × ((d : Bot) → (get_or bots i d).bid ≡ bid)
 placed bots bid i r p s = by (decided bots bid i)
   where
     nothing : bot_of bots bid ≡ None → ⊥
@@ -64,7 +74,9 @@ placed bots bid i r p s = by (decided bots bid i)
         none_some : IsSome {T = Bot} None → ⊥
         none_some h = cc
 
-    by : ((i < length bots) × ((d : Bot) → (get_or bots i d).bid ≡ bid)) ⊎ ((d : Bot) → i < length bots → (get_or bots i d).bid ≡ bid → ⊥) → (i < length bots) × ((d : Bot) → (get_or bots i d).bid ≡ bid)
+    by : ((i < length bots) × ((d : Bot) → (get_or bots i d).bid ≡ bid))
+        ⊎ ((d : Bot) → i < length bots → (get_or bots i d).bid ≡ bid → ⊥)
+        → (i < length bots) × ((d : Bot) → (get_or bots i d).bid ≡ bid)
     by (inl h) = h
     by (inr h) = absurd (nothing (none_found bots bid i r p h))
 
@@ -77,7 +89,8 @@ not_kept : (bid : ℕ) (x : Bot) → bid ≡ x.bid → not (list_any (λ k. k ==
 not_kept bid x h = let e : (bid == x.bid) ≡ true = test_equal bid x.bid h in rw e refl
 
 -- a removal
-pub remove_is : (bots : List Bot) (bid i : ℕ) → Rising bots → i < length bots → ((d : Bot) → (get_or bots i d).bid ≡ bid) → remove bots i ≡ without bots (bid ∷ [])
+pub remove_is : (bots : List Bot) (bid i : ℕ) → Rising bots → i < length bots
+    → ((d : Bot) → (get_or bots i d).bid ≡ bid) → remove bots i ≡ without bots (bid ∷ [])
 remove_is [] bid i r l e = absurd (omega arith)
 remove_is (x ∷ xs) bid zero r l e =
     rw (not_kept bid x (sym (e x))) (sym (filter_every (λ b. not (list_any (λ k. k == b.bid) (bid ∷ []))) xs (λ c j. is_kept bid c (λ f. let m : x.bid < c.bid = r.0 c j in let g : x.bid ≡ bid = e x in omega arith))))
@@ -95,7 +108,9 @@ without_rises (x ∷ xs) bids r = by (not (list_any (λ k. k == x.bid) bids)) (w
     by false later = later
 
 -- a write that keeps the bid
-pub set_is : (bots : List Bot) (bid i : ℕ) (new : Bot) → Rising bots → i < length bots → ((d : Bot) → (get_or bots i d).bid ≡ bid) → new.bid ≡ bid → set bots i new ≡ in_rising_order (new ∷ without bots (bid ∷ []))
+pub set_is : (bots : List Bot) (bid i : ℕ) (new : Bot) → Rising bots → i < length bots
+    → ((d : Bot) → (get_or bots i d).bid ≡ bid) → new.bid ≡ bid
+    → set bots i new ≡ in_rising_order (new ∷ without bots (bid ∷ []))
 set_is [] bid i new r l e n = absurd (omega arith)
 set_is (x ∷ xs) bid zero new r l e n =
     let same : new.bid ≡ x.bid = n ∙ sym (e x) in
@@ -121,7 +136,8 @@ insert_with (x ∷ xs) (suc i) new l b f =
     rw m (ap (λ ys. x ∷ ys) (insert_with xs i new (omega arith) (λ k d h. b (suc k) d (omega arith)) (λ d h. f d (omega arith))))
 
 -- an insertion at the place of a bid that no bot has
-pub insert_is : (bots : List Bot) (i : ℕ) (new : Bot) → Rising bots → IsPlace bots new.bid i → ((c : Bot) → In c bots → c.bid ≡ new.bid → ⊥) → insert bots i new ≡ in_rising_order (new ∷ bots)
+pub insert_is : (bots : List Bot) (i : ℕ) (new : Bot) → Rising bots → IsPlace bots new.bid i
+    → ((c : Bot) → In c bots → c.bid ≡ new.bid → ⊥) → insert bots i new ≡ in_rising_order (new ∷ bots)
 insert_is bots i new r p h =
     insert_with bots i new p.within p.before (λ d l. let m : new.bid ≤ (get_or bots i d).bid = p.from d l in let n : (get_or bots i d).bid ≡ new.bid → ⊥ = h (get_or bots i d) (place_in d bots i l) in strict new.bid (get_or bots i d).bid m n)
     ∙ ap (λ ys. with_bot new ys) (sym (rising_itself bots r))
@@ -136,7 +152,8 @@ swapped_in a b c xs (inl e) = inr (inl e)
 swapped_in a b c xs (inr (inl e)) = inl e
 swapped_in a b c xs (inr (inr i)) = inr (inr i)
 
-pub order_swap : (a b : Bot) (xs : List Bot) → Differing (a ∷ b ∷ xs) → in_rising_order (b ∷ a ∷ xs) ≡ in_rising_order (a ∷ b ∷ xs)
+pub order_swap : (a b : Bot) (xs : List Bot) → Differing (a ∷ b ∷ xs)
+    → in_rising_order (b ∷ a ∷ xs) ≡ in_rising_order (a ∷ b ∷ xs)
 order_swap a b xs d =
     rising_same (in_rising_order (b ∷ a ∷ xs)) (in_rising_order (a ∷ b ∷ xs)) (rising_order (b ∷ a ∷ xs) other) (rising_order (a ∷ b ∷ xs) d)
     (λ c i. in_order (a ∷ b ∷ xs) c (swapped_in b a c xs (order_in (b ∷ a ∷ xs) c i)))

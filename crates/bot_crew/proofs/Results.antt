@@ -30,14 +30,17 @@ nothing_after (x ∷ xs) [] e = absurd (omega arith)
 nothing_after (x ∷ xs) (y ∷ ys) e = ap (λ zs. x ∷ zs) (nothing_after xs ys (omega arith))
 
 -- a list that is written through a slice of all of it
-pub written : (bots now : List Bot) (i : ℕ) (new : Bot) → now ≡ bots → refill (length bots) bots (set now i new) ≡ set bots i new
+pub written : (bots now : List Bot) (i : ℕ) (new : Bot) → now ≡ bots
+    → refill (length bots) bots (set now i new) ≡ set bots i new
 written bots now i new e = ap (λ ws. refill (length bots) bots (set ws i new)) e ∙ (ap (λ ws. take (length bots) ws) (nothing_after (set bots i new) bots same) ∙ (ap (λ n. take n (set bots i new)) (sym same) ∙ take_length (set bots i new)))
   where
     same : length (set bots i new) ≡ length bots
     same = length-set bots i new
 
 -- the place of a bid, in a list that is lent
-pub place_is : (bots now : List Bot) (bid i : ℕ) → now ≡ bots → i ≤ length now → ((k : ℕ) (d : Bot) → k < i → (get_or now k d).bid < bid) → ((d : Bot) → i < length now → bid ≤ (get_or now i d).bid) → IsPlace bots bid i
+pub place_is : (bots now : List Bot) (bid i : ℕ) → now ≡ bots → i ≤ length now
+    → ((k : ℕ) (d : Bot) → k < i → (get_or now k d).bid < bid)
+    → ((d : Bot) → i < length now → bid ≤ (get_or now i d).bid) → IsPlace bots bid i
 place_is bots now bid i e l b f = subst (λ v. IsPlace v bid i) e (record { within = l; before = b; from = f })
 
 -- ---- a bot at its place
@@ -67,7 +70,8 @@ module _ (bots : List Bot) (crew : IsCrew bots) (bid i : ℕ) (place : IsPlace b
   set_there new e = set_is bots bid i new (rising_of bots crew) at_place bid_there e
 
   module _ (c : Coord) (d : Bot) (free : IfSome (bot_at bots c) (λ b. b.bid ≡ bid)) where
-    pub move_is : set bots i (moved (get_or bots i d) (point c)) ≡ replaced bots (bid ∷ []) (moved (get_or bots i d) (point c) ∷ [])
+    pub move_is : set bots i (moved (get_or bots i d) (point c))
+        ≡ replaced bots (bid ∷ []) (moved (get_or bots i d) (point c) ∷ [])
     move_is = set_there (moved (get_or bots i d) (point c)) (bid_there d)
 
     heir : IsHeir bots (bid ∷ []) (moved (get_or bots i d) (point c) ∷ [])
@@ -88,7 +92,8 @@ bots_moved bots now i c = refill (length bots) bots (set now i (record { bid = (
 abbrev pub MoveResult : List Bot → List Bot → List Bot → ℕ → ℕ → Coord → Type 0
 MoveResult bots old now bid i c = IsCrew (bots_moved bots now i c) × IfSome (bot_of old bid) (λ b. bots_moved bots now i c ≡ replaced old (bid ∷ []) (moved b (point c) ∷ []))
 
-pub move_result : (bots old now : List Bot) (bid i : ℕ) (c : Coord) → bots ≡ old → now ≡ bots → IsCrew bots → IsPlace bots bid i → IsActive old bid → IfSome (bot_at old c) (λ b. b.bid ≡ bid) → MoveResult bots old now bid i c
+pub move_result : (bots old now : List Bot) (bid i : ℕ) (c : Coord) → bots ≡ old → now ≡ bots → IsCrew bots
+    → IsPlace bots bid i → IsActive old bid → IfSome (bot_at old c) (λ b. b.bid ≡ bid) → MoveResult bots old now bid i c
 move_result bots old now bid i c e f crew place active free =
     subst (λ v. MoveResult bots v now bid i c) e (subst (λ v. MoveResult bots bots v bid i c) (sym f)
     (here (subst (λ v. IsActive v bid) (sym e) active) (subst (λ v. IfSome (bot_at v c) (λ b. b.bid ≡ bid)) (sym e) free)))
@@ -118,7 +123,8 @@ only_place a = record { within = omega arith; before = λ k d l. absurd (omega (
 abbrev pub OnlyMoved : List Bot → List Bot → List Bot → Coord → Type 0
 OnlyMoved bots old now c = IsCrew (bots_moved bots now 0 c) × ((b : Bot) → old ≡ b ∷ [] → bots_moved bots now 0 c ≡ moved b (point c) ∷ [])
 
-pub only_moved : (bots old now : List Bot) (c : Coord) → bots ≡ old → now ≡ bots → IsCrew bots → length old ≡ 1 → OnlyMoved bots old now c
+pub only_moved : (bots old now : List Bot) (c : Coord) → bots ≡ old → now ≡ bots → IsCrew bots → length old ≡ 1
+    → OnlyMoved bots old now c
 only_moved bots [] now c e f crew one = absurd (omega (arith, one))
 only_moved bots (a ∷ b ∷ old) now c e f crew one = absurd (omega (arith, one))
 only_moved bots (a ∷ []) now c e f crew one =
@@ -135,16 +141,19 @@ module _ (bots : List Bot) (crew : IsCrew bots) (bid i : ℕ) (place : IsPlace b
   parting = subst (λ v. IsHeir bots (v ∷ []) (parent (get_or bots i nobody) m ∷ newborn (get_or bots i nobody) (point c) m ∷ [])) (bid_there bots crew bid i place active nobody)
       (fission_heir bots (kin_of bots crew) (get_or bots i nobody) c m (there bots crew bid i place active nobody) enough (none_there bots c free))
 
-  differ : Differing (parent (get_or bots i nobody) m ∷ newborn (get_or bots i nobody) (point c) m ∷ without bots (bid ∷ []))
+  differ :
+      Differing (parent (get_or bots i nobody) m ∷ newborn (get_or bots i nobody) (point c) m ∷ without bots (bid ∷ []))
   differ = differ_all bots (rising_of bots crew) (kin_of bots crew) (bid ∷ []) (parent (get_or bots i nobody) m ∷ newborn (get_or bots i nobody) (point c) m ∷ []) parting
 
-  parent_set : set bots i (parent (get_or bots i nobody) m) ≡ in_rising_order (parent (get_or bots i nobody) m ∷ without bots (bid ∷ []))
+  parent_set : set bots i (parent (get_or bots i nobody) m)
+      ≡ in_rising_order (parent (get_or bots i nobody) m ∷ without bots (bid ∷ []))
   parent_set = set_there bots crew bid i place active (parent (get_or bots i nobody) m) (bid_there bots crew bid i place active nobody)
 
   parent_rises : Rising (set bots i (parent (get_or bots i nobody) m))
   parent_rises = subst (λ v. Rising v) (sym parent_set) (rising_order (parent (get_or bots i nobody) m ∷ without bots (bid ∷ [])) ((λ x j e. differ.0 x (inr j) e), differ.1.1))
 
-  unborn : (x : Bot) → In x (set bots i (parent (get_or bots i nobody) m)) → x.bid ≡ (newborn (get_or bots i nobody) (point c) m).bid → ⊥
+  unborn : (x : Bot) → In x (set bots i (parent (get_or bots i nobody) m))
+      → x.bid ≡ (newborn (get_or bots i nobody) (point c) m).bid → ⊥
   unborn x j e = by (order_in (parent (get_or bots i nobody) m ∷ without bots (bid ∷ [])) x (subst (λ v. In x v) parent_set j))
     where
       by : (x ≡ parent (get_or bots i nobody) m) ⊎ In x (without bots (bid ∷ [])) → ⊥
@@ -152,13 +161,15 @@ module _ (bots : List Bot) (crew : IsCrew bots) (bid i : ℕ) (place : IsPlace b
       by (inr k) = differ.1.0 x k (sym e)
 
   module _ (p : ℕ) (there : IsPlace (set bots i (parent (get_or bots i nobody) m)) (newborn (get_or bots i nobody) (point c) m).bid p) where
-    pub split_is : insert (set bots i (parent (get_or bots i nobody) m)) p (newborn (get_or bots i nobody) (point c) m) ≡ replaced bots (bid ∷ []) (parent (get_or bots i nobody) m ∷ newborn (get_or bots i nobody) (point c) m ∷ [])
+    pub split_is : insert (set bots i (parent (get_or bots i nobody) m)) p (newborn (get_or bots i nobody) (point c) m)
+        ≡ replaced bots (bid ∷ []) (parent (get_or bots i nobody) m ∷ newborn (get_or bots i nobody) (point c) m ∷ [])
     split_is =
         insert_is (set bots i (parent (get_or bots i nobody) m)) p (newborn (get_or bots i nobody) (point c) m) parent_rises there unborn
         ∙ (ap (λ v. with_bot (newborn (get_or bots i nobody) (point c) m) v) (rising_itself (set bots i (parent (get_or bots i nobody) m)) parent_rises ∙ parent_set)
         ∙ order_swap (parent (get_or bots i nobody) m) (newborn (get_or bots i nobody) (point c) m) (without bots (bid ∷ [])) differ)
 
-    pub split_crew : IsCrew (insert (set bots i (parent (get_or bots i nobody) m)) p (newborn (get_or bots i nobody) (point c) m))
+    pub split_crew :
+        IsCrew (insert (set bots i (parent (get_or bots i nobody) m)) p (newborn (get_or bots i nobody) (point c) m))
     split_crew = subst (λ v. IsCrew v) (sym split_is) (crew_replaced bots (rising_of bots crew) (kin_of bots crew) (bid ∷ []) (parent (get_or bots i nobody) m ∷ newborn (get_or bots i nobody) (point c) m ∷ []) parting)
 
     pub split_room : length (set bots i (parent (get_or bots i nobody) m)) < 40
@@ -183,12 +194,18 @@ SplitResult bots old now bid i c m first taken kept p =
     × IsCrew (insert (bots_seeded bots now i kept) p (record { bid = first; pos = c; seeds = taken }))
     × IfSome (bot_of old bid) (λ b. insert (bots_seeded bots now i kept) p (record { bid = first; pos = c; seeds = taken }) ≡ replaced old (bid ∷ []) (parent b m ∷ newborn b (point c) m ∷ []))
 
-pub split_result : (bots old now : List Bot) (bid i : ℕ) (c : Coord) (m first taken kept p : ℕ) → bots ≡ old → now ≡ bots → IsCrew bots → IsPlace bots bid i → IsActive old bid → IsNone (bot_at old c) → IfSome (bot_of old bid) (λ b. m + 1 ≤ length (seed_list b.seeds)) → IsSplit (get_or bots i nobody) m first taken kept → IsPlace (bots_seeded bots now i kept) first p → SplitResult bots old now bid i c m first taken kept p
+pub split_result : (bots old now : List Bot) (bid i : ℕ) (c : Coord) (m first taken kept p : ℕ) → bots ≡ old
+    → now ≡ bots → IsCrew bots → IsPlace bots bid i → IsActive old bid → IsNone (bot_at old c)
+    → IfSome (bot_of old bid) (λ b. m + 1 ≤ length (seed_list b.seeds))
+    → IsSplit (get_or bots i nobody) m first taken kept → IsPlace (bots_seeded bots now i kept) first p
+    → SplitResult bots old now bid i c m first taken kept p
 split_result bots old now bid i c m first taken kept p e f crew place active free seeds split later =
     subst (λ v. SplitResult bots v now bid i c m first taken kept p) e (subst (λ v. SplitResult bots bots v bid i c m first taken kept p) (sym f)
     (here (subst (λ v. IsActive v bid) (sym e) active) (subst (λ v. IsNone (bot_at v c)) (sym e) free) (subst (λ v. IfSome (bot_of v bid) (λ b. m + 1 ≤ length (seed_list b.seeds))) (sym e) seeds) (subst (λ v. IsPlace (bots_seeded bots v i kept) first p) f later)))
   where
-    here : IsActive bots bid → IsNone (bot_at bots c) → IfSome (bot_of bots bid) (λ b. m + 1 ≤ length (seed_list b.seeds)) → IsPlace (bots_seeded bots bots i kept) first p → SplitResult bots bots bots bid i c m first taken kept p
+    here : IsActive bots bid → IsNone (bot_at bots c)
+        → IfSome (bot_of bots bid) (λ b. m + 1 ≤ length (seed_list b.seeds))
+        → IsPlace (bots_seeded bots bots i kept) first p → SplitResult bots bots bots bid i c m first taken kept p
     here a g s l =
         let w : bots_seeded bots bots i kept ≡ set bots i (parent (get_or bots i nobody) m) = ap (λ v. bots_seeded bots bots i v) split.kept ∙ written bots bots i (parent (get_or bots i nobody) m) refl in
         let n : insert (bots_seeded bots bots i kept) p (record { bid = first; pos = c; seeds = taken }) ≡ insert (set bots i (parent (get_or bots i nobody) m)) p (newborn (get_or bots i nobody) (point c) m) = λ k. insert (w k) p (record { bid = split.bid k; pos = c; seeds = split.taken k }) in
@@ -223,7 +240,8 @@ module _ (bots : List Bot) (crew : IsCrew bots) (primary secondary end : ℕ) (p
     pub primary_is : bot_of bots primary ≡ Some (get_or (remove bots end) p nobody)
     primary_is = sym primary_in ∙ found_at (remove bots end) primary p nobody still.0 (λ k l. there.before k nobody l) (still.1 nobody)
 
-    heirs : IsHeir bots (primary ∷ secondary ∷ []) (fused (get_or (remove bots end) p nobody) (get_or bots end nobody) ∷ [])
+    heirs :
+        IsHeir bots (primary ∷ secondary ∷ []) (fused (get_or (remove bots end) p nobody) (get_or bots end nobody) ∷ [])
     heirs =
         let a = get_or (remove bots end) p nobody in
         let b = get_or bots end nobody in
@@ -235,12 +253,15 @@ module _ (bots : List Bot) (crew : IsCrew bots) (primary secondary end : ℕ) (p
         there_in : (b : Bot) → In (get_or bots end nobody) bots
         there_in b = place_in nobody bots end (at_place bots crew secondary end place second)
 
-    pub fused_is : set (remove bots end) p (fused (get_or (remove bots end) p nobody) (get_or bots end nobody)) ≡ replaced bots (primary ∷ secondary ∷ []) (fused (get_or (remove bots end) p nobody) (get_or bots end nobody) ∷ [])
+    pub fused_is : set (remove bots end) p (fused (get_or (remove bots end) p nobody) (get_or bots end nobody))
+        ≡ replaced bots (primary ∷ secondary ∷ [])
+        (fused (get_or (remove bots end) p nobody) (get_or bots end nobody) ∷ [])
     fused_is =
         set_is (remove bots end) primary p (fused (get_or (remove bots end) p nobody) (get_or bots end nobody)) rest_rises still.0 still.1 (still.1 nobody)
         ∙ ap (λ v. in_rising_order (fused (get_or (remove bots end) p nobody) (get_or bots end nobody) ∷ v)) (ap (λ v. without v (primary ∷ [])) rest_is ∙ without_both bots primary secondary)
 
-    pub fused_crew : IsCrew (set (remove bots end) p (fused (get_or (remove bots end) p nobody) (get_or bots end nobody)))
+    pub fused_crew :
+        IsCrew (set (remove bots end) p (fused (get_or (remove bots end) p nobody) (get_or bots end nobody)))
     fused_crew = subst (λ v. IsCrew v) (sym fused_is) (crew_replaced bots (rising_of bots crew) (kin_of bots crew) (primary ∷ secondary ∷ []) (fused (get_or (remove bots end) p nobody) (get_or bots end nobody) ∷ []) heirs)
 
 either : (xs : List Bot) (i : ℕ) (d e : Bot) → i < length xs → get_or xs i d ≡ get_or xs i e
@@ -261,12 +282,17 @@ FusionResult bots old rest now primary secondary p seeds =
     IsCrew (bots_seeded rest now p seeds)
     × IfSome (bot_of old primary) (λ b. IfSome (bot_of old secondary) (λ other. bots_seeded rest now p seeds ≡ replaced old (primary ∷ secondary ∷ []) (fused b other ∷ [])))
 
-pub fusion_result : (bots old rest now : List Bot) (primary secondary end p : ℕ) (other : Bot) (seeds : ℕ) → bots ≡ old → rest ≡ remove bots end → now ≡ rest → IsCrew bots → IsPlace bots secondary end → other ≡ get_or bots end other → IsPlace rest primary p → IsActive old primary → IsActive old secondary → (primary ≡ secondary → ⊥) → seeds ≡ seeds_of_both (get_or rest p nobody) other → FusionResult bots old rest now primary secondary p seeds
+pub fusion_result : (bots old rest now : List Bot) (primary secondary end p : ℕ) (other : Bot) (seeds : ℕ) → bots ≡ old
+    → rest ≡ remove bots end → now ≡ rest → IsCrew bots → IsPlace bots secondary end → other ≡ get_or bots end other
+    → IsPlace rest primary p → IsActive old primary → IsActive old secondary → (primary ≡ secondary → ⊥)
+    → seeds ≡ seeds_of_both (get_or rest p nobody) other → FusionResult bots old rest now primary secondary p seeds
 fusion_result bots old rest now primary secondary end p other seeds e f g crew place read later first second two union =
     subst (λ v. FusionResult bots v rest now primary secondary p seeds) e (subst (λ v. FusionResult bots bots rest v primary secondary p seeds) (sym g) (subst (λ v. FusionResult bots bots v v primary secondary p seeds) (sym f)
     (here (subst (λ v. IsActive v primary) (sym e) first) (subst (λ v. IsActive v secondary) (sym e) second) (subst (λ v. IsPlace v primary p) f later) (subst (λ v. seeds ≡ seeds_of_both (get_or v p nobody) other) f union))))
   where
-    here : IsActive bots primary → IsActive bots secondary → IsPlace (remove bots end) primary p → seeds ≡ seeds_of_both (get_or (remove bots end) p nobody) other → FusionResult bots bots (remove bots end) (remove bots end) primary secondary p seeds
+    here : IsActive bots primary → IsActive bots secondary → IsPlace (remove bots end) primary p
+        → seeds ≡ seeds_of_both (get_or (remove bots end) p nobody) other
+        → FusionResult bots bots (remove bots end) (remove bots end) primary secondary p seeds
     here a s l u =
         let o : other ≡ get_or bots end nobody = read_is bots end other (at_place bots crew secondary end place s) read in
         let v : seeds ≡ seeds_of_both (get_or (remove bots end) p nobody) (get_or bots end nobody) = u ∙ ap (λ x. seeds_of_both (get_or (remove bots end) p nobody) x) o in
@@ -294,7 +320,8 @@ module _ (bots old now : List Bot) (crew : IsCrew bots) (e : bots ≡ old) (f : 
       let same : b ≡ get_or bots i b = g ∙ ap (λ v. get_or v i b) f in
       ap Some same ∙ (sym (found_at bots bid i b (subst (λ v. i < length v) f l) (λ k m. place.before k b m) (ap (λ (v : Bot). v.bid) (sym same) ∙ h)) ∙ ap (λ v. bot_of v bid) e)
 
-  pub read_other : (b : Bot) → true ≡ nat_lt i (length now) → b ≡ get_or now i b → (b.bid ≡ bid → ⊥) → None ≡ bot_of old bid
+  pub read_other : (b : Bot) → true ≡ nat_lt i (length now) → b ≡ get_or now i b → (b.bid ≡ bid → ⊥)
+      → None ≡ bot_of old bid
   read_other b t g h = let l = less_by i (length now) t in sym (none_found bots bid i (rising_of bots crew) place (λ d m n. h (ap (λ (v : Bot). v.bid) (read_is now i b l g) ∙ (ap (λ v. (get_or v i nobody).bid) f ∙ (ap (λ (v : Bot). v.bid) (sym (read_is bots i (get_or bots i d) m (again d m))) ∙ n))))) ∙ ap (λ v. bot_of v bid) e
     where
       again : (d : Bot) → i < length bots → get_or bots i d ≡ get_or bots i (get_or bots i d)
@@ -304,13 +331,17 @@ module _ (bots old now : List Bot) (crew : IsCrew bots) (e : bots ≡ old) (f : 
   read_nothing t = let l = not_less_by i (length now) t in sym (none_found bots bid i (rising_of bots crew) place (λ d m n. absurd (let s : length now ≡ length bots = ap length f in omega arith))) ∙ ap (λ v. bot_of v bid) e
 
 -- the bot that is found at a coordinate
-pub found_there : (bots : List Bot) (c : Coord) (i : ℕ) (b : Bot) → i < length bots → ((k : ℕ) (d : Bot) → k < i → stands_at c (get_or bots k d) ≡ false) → b ≡ get_or bots i b → b.pos ≡ c → bot_at bots c ≡ Some b
+pub found_there : (bots : List Bot) (c : Coord) (i : ℕ) (b : Bot) → i < length bots
+    → ((k : ℕ) (d : Bot) → k < i → stands_at c (get_or bots k d) ≡ false) → b ≡ get_or bots i b → b.pos ≡ c
+    → bot_at bots c ≡ Some b
 found_there [] c i b l h e f = absurd (omega arith)
 found_there (x ∷ xs) c zero b l h e f = let g : stands_at c x ≡ true = stands c x (ap (λ (v : Bot). v.pos) (sym e) ∙ f) in rw g (ap Some (sym e))
 found_there (x ∷ xs) c (suc i) b l h e f = rw (h zero x (omega arith)) (found_there xs c i b (omega arith) (λ k d m. h (suc k) d (omega arith)) e f)
 
-pub look_there : (bots now : List Bot) (i : ℕ) → now ≡ bots → i < length now → get_or now i nobody ≡ get_or bots i (get_or now i nobody)
+pub look_there : (bots now : List Bot) (i : ℕ) → now ≡ bots → i < length now
+    → get_or now i nobody ≡ get_or bots i (get_or now i nobody)
 look_there bots now i e l = either now i nobody (get_or now i nobody) l ∙ ap (λ v. get_or v i (get_or now i nobody)) e
 
-pub none_stands : (bots : List Bot) (c : Coord) → ((k : ℕ) (d : Bot) → k < length bots → stands_at c (get_or bots k d) ≡ false) → bot_at bots c ≡ None
+pub none_stands : (bots : List Bot) (c : Coord)
+    → ((k : ℕ) (d : Bot) → k < length bots → stands_at c (get_or bots k d) ≡ false) → bot_at bots c ≡ None
 none_stands bots c h = none_find (stands_at c) bots (λ x i. let w = in_place x x bots i in ap (stands_at c) (sym w.2) ∙ h w.0 x w.1)

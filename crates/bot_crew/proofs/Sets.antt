@@ -31,7 +31,8 @@ module _ (n : ℕ) (h : n < 2 ^ 64) where
   bit_less [] e l = absurd (omega arith)
   bit_less (j ∷ ks) e l = let s = (less_is n j ks h e).0 in let f = shifted j ks e in omega (arith, s, f)
 
-  pub without_is : (ks : List ℕ) → seed_list n ≡ ks → 0 < length ks → seed_list (n - 1 * 2 ^ trailing_zeros w64 n % 2 ^ 64) ≡ drop 1 ks
+  pub without_is : (ks : List ℕ) → seed_list n ≡ ks → 0 < length ks
+      → seed_list (n - 1 * 2 ^ trailing_zeros w64 n % 2 ^ 64) ≡ drop 1 ks
   without_is [] e l = absurd (omega arith)
   without_is (j ∷ ks) e l = ap (λ v. seed_list (n - v)) (shifted j ks e) ∙ (less_is n j ks h e).1
 
@@ -40,7 +41,9 @@ module _ (n : ℕ) (h : n < 2 ^ 64) where
   first_is (j ∷ ks) e l = least_is n j ks h e
 
 -- the seeds between those that were dropped first and last
-pub between_is : (later kept m : ℕ) (ks : List ℕ) → later < 2 ^ 64 → kept < 2 ^ 64 → seed_list later ≡ drop 1 ks → seed_list kept ≡ drop (1 + m) ks → (kept ≤ later) × (later - kept ≡ seed_set (take m (drop 1 ks))) × (kept ≡ seed_set (drop (m + 1) ks))
+pub between_is : (later kept m : ℕ) (ks : List ℕ) → later < 2 ^ 64 → kept < 2 ^ 64 → seed_list later ≡ drop 1 ks
+    → seed_list kept ≡ drop (1 + m) ks
+    → (kept ≤ later) × (later - kept ≡ seed_set (take m (drop 1 ks))) × (kept ≡ seed_set (drop (m + 1) ks))
 between_is later kept m ks h g e f =
     let a : later ≡ seed_set (drop 1 ks) = sym (set_of_list later h) ∙ ap seed_set e in
     let b : kept ≡ seed_set (drop (1 + m) ks) = sym (set_of_list kept g) ∙ ap seed_set f in
@@ -97,7 +100,8 @@ same_numbers : (p q : ℕ → Bool) → ((k : ℕ) → p k ≡ q k) → filter p
 unfolding seed_numbers
 same_numbers p q h = same_filter p q 0 64 (λ k l m. h k)
 
-pub union_is : (a b j : ℕ) → a < 2 ^ 64 → b < 2 ^ 64 → j < 64 → bit_or (bit_or a b) (1 * 2 ^ j % 2 ^ 64) ≡ seed_set (filter (λ k. is_seed a k || is_seed b k || k == j) seed_numbers)
+pub union_is : (a b j : ℕ) → a < 2 ^ 64 → b < 2 ^ 64 → j < 64 → bit_or (bit_or a b) (1 * 2 ^ j % 2 ^ 64)
+    ≡ seed_set (filter (λ k. is_seed a k || is_seed b k || k == j) seed_numbers)
 union_is a b j h g l =
     let one : 1 * 2 ^ j % 2 ^ 64 ≡ 2 ^ j = one_shl j 64 l in
     let small : 2 ^ j < 2 ^ 64 = pow-lt l in

@@ -18,14 +18,16 @@ among-cases t s ts e = grind arith
 pub apart : (s t : ℕ) (ts : List ℕ) → is_listed s ts ≡ false → is_listed t ts ≡ true → t ≡ s → ⊥
 apart s t ts unheld held e = let z : true ≡ false = sym held ∙ ap (λ k. is_listed k ts) e ∙ unheld in cc
 
-pub chain-same : (m m' : ℕ → ℕ) (s n : ℕ) → ((t : ℕ) → is_listed t (chain m s n) ≡ true → m' (512 * t) ≡ m (512 * t)) → chain m' s n ≡ chain m s n
+pub chain-same : (m m' : ℕ → ℕ) (s n : ℕ) → ((t : ℕ) → is_listed t (chain m s n) ≡ true → m' (512 * t) ≡ m (512 * t))
+    → chain m' s n ≡ chain m s n
 unfolding chain
 chain-same m m' s zero h = refl
 chain-same m m' s (suc n) h =
     ap (λ l. s ∷ l) (ap (λ k. chain m' k n) (h s (among-first s (chain m (m (512 * s)) n))) ∙ chain-same m m' (m (512 * s)) n (λ t held. h t (among-rest t s (chain m (m (512 * s)) n) held)))
 
 -- only the slot s changes, and it is not in the chain
-pub chain-stays : (m m' : ℕ → ℕ) (s f n : ℕ) → ((t : ℕ) → (t ≡ s → ⊥) → m' (512 * t) ≡ m (512 * t)) → is_listed s (chain m f n) ≡ false → chain m' f n ≡ chain m f n
+pub chain-stays : (m m' : ℕ → ℕ) (s f n : ℕ) → ((t : ℕ) → (t ≡ s → ⊥) → m' (512 * t) ≡ m (512 * t))
+    → is_listed s (chain m f n) ≡ false → chain m' f n ≡ chain m f n
 chain-stays m m' s f n others free_of = chain-same m m' f n (λ t held. others t (apart s t (chain m f n) free_of held))
 
 pub chain-opens : (m : ℕ → ℕ) (s n : ℕ) → 0 < n → chain m s n ≡ s ∷ chain m (m (512 * s)) (n - 1)

@@ -33,7 +33,8 @@ known-set (c ∷ cs) (suc i) w = ap (λ l. word_or_zero c ∷ l) (known-set cs i
 pub filled-set : (cs : List (Option ℕ)) (i w : ℕ) → AllFilled cs → AllFilled (set cs i (Some w))
 filled-set cs i w all k lt = let e = length-set cs i (Some w) in stays cs i k w (all k (omega (arith, e, lt)))
   where
-    stays : (cs : List (Option ℕ)) (i k w : ℕ) → is_word (get_or cs k None) ≡ true → is_word (get_or (set cs i (Some w)) k None) ≡ true
+    stays : (cs : List (Option ℕ)) (i k w : ℕ) → is_word (get_or cs k None) ≡ true
+        → is_word (get_or (set cs i (Some w)) k None) ≡ true
     stays [] i k w e = e
     stays (c ∷ cs) zero zero w e = refl
     stays (c ∷ cs) zero (suc k) w e = e

@@ -26,7 +26,8 @@ use Rattle.brick_arena.proofs.Places.{cut, glue, to_room}
 abbrev pub line : ℕ → ℕ → List Val
 line n w = replicate n (vint w32 w)
 
-pub typed_line : (n w : ℕ) → w < 2 ^ 32 → T (all_n (has_ty (ty_int w32)) n (of_list (line n w))) × WTs (of_list (line n w))
+pub typed_line : (n w : ℕ) → w < 2 ^ 32
+    → T (all_n (has_ty (ty_int w32)) n (of_list (line n w))) × WTs (of_list (line n w))
 typed_line zero w f = (tt, tt)
 typed_line (suc n) w f =
     (both (has_ty (ty_int w32) (vint w32 w)) (all_n (has_ty (ty_int w32)) n (of_list (line n w))) tt (typed_line n w f).0, (record { fits = f }, (typed_line n w f).1))
@@ -38,7 +39,8 @@ lined n w cs i = take i cs ++ (replicate n (Some w) ++ drop n (drop i cs))
 module _ {M : Type 1} {𝓤 : Ura M} (𝓛 : Logic 𝓤) (b : ℕ) where
   open 𝓛 use {H}
 
-  of_line : (n w o : ℕ) → ent 𝓤 (elems 𝓤 H full_share (ty_int w32) b o (line n w)) (sem 𝓛 (word_places b o (replicate n (Some w))))
+  of_line : (n w o : ℕ)
+      → ent 𝓤 (elems 𝓤 H full_share (ty_int w32) b o (line n w)) (sem 𝓛 (word_places b o (replicate n (Some w))))
   of_line zero w o = id⊢ 𝓤 (emp 𝓤)
   of_line (suc n) w o = mono∗ 𝓤 (uint_in 𝓛 full_share w32 w b o) (of_line n w (o + 4))
 
@@ -56,7 +58,8 @@ module _ {M : Type 1} {𝓤 : Ura M} (𝓛 : Logic 𝓤) (b : ℕ) where
     abbrev rest : List (Option ℕ)
     rest = drop n (drop i cs)
 
-    pub line_out : i + n ≤ length cs → ent 𝓤 (sem 𝓛 (word_places b o cs)) (sep 𝓤 (H.room (ty_array (ty_int w32) n) b (i * 4 + o)) (sem 𝓛 Around))
+    pub line_out : i + n ≤ length cs
+        → ent 𝓤 (sem 𝓛 (word_places b o cs)) (sep 𝓤 (H.room (ty_array (ty_int w32) n) b (i * 4 + o)) (sem 𝓛 Around))
     line_out lt =
         let long : length mid ≡ n = omega (arith, length-take n (drop i cs), length-drop i cs) in
         qed 𝓛 (‵ (word_places b o cs) ∷ []) ∵
@@ -66,7 +69,9 @@ module _ {M : Type 1} {𝓤 : Ura M} (𝓛 : Logic 𝓤) (b : ℕ) where
         use1 𝓛 (‵ (froom (ty_array (ty_int w32) n) b (i * 4 + o))) (subst (λ (k : ℕ). ent 𝓤 (sem 𝓛 (word_places b (i * 4 + o) mid)) (H.room (ty_array (ty_int w32) k) b (i * 4 + o))) long (to_room 𝓛 b mid (i * 4 + o))) $
         move ! (2 ∷ 1 ∷ []) $ fjoin ! $ move ! (1 ∷ []) $ done !
 
-    pub line_in : (w : ℕ) → i + n ≤ length cs → ent 𝓤 (sep 𝓤 (H.at full_share (ty_array (ty_int w32) n) b (i * 4 + o) (vstruct (of_list (line n w)))) (sem 𝓛 Around)) (sem 𝓛 (word_places b o (lined n w cs i)))
+    pub line_in : (w : ℕ) → i + n ≤ length cs
+        → ent 𝓤 (sep 𝓤 (H.at full_share (ty_array (ty_int w32) n) b (i * 4 + o) (vstruct (of_list (line n w)))) (sem 𝓛 Around))
+        (sem 𝓛 (word_places b o (lined n w cs i)))
     line_in w lt =
         let zs : List (Option ℕ) = replicate n (Some w) in
         qed 𝓛 (‵ (fat full_share (ty_array (ty_int w32) n) b (i * 4 + o) (vstruct (of_list (line n w)))) ∷ ‵ Around ∷ []) ∵
@@ -79,7 +84,8 @@ pub length-lined : (n w : ℕ) (cs : List (Option ℕ)) (i : ℕ) → i + n ≤ 
 length-lined n w cs i lt =
     omega (arith, length-append (take i cs) (replicate n (Some w) ++ drop n (drop i cs)), length-append (replicate n (Some w)) (drop n (drop i cs)), length-replicate {A = Option ℕ} n (Some w), length-take i cs, length-drop n (drop i cs), length-drop i cs)
 
-pub lined-range : (n w : ℕ) (cs : List (Option ℕ)) (i : ℕ) → i + n ≤ length cs → SetsRange (Some w) None cs (lined n w cs i) i (i + n)
+pub lined-range : (n w : ℕ) (cs : List (Option ℕ)) (i : ℕ) → i + n ≤ length cs
+    → SetsRange (Some w) None cs (lined n w cs i) i (i + n)
 lined-range n w cs i lt =
     let zs : List (Option ℕ) = replicate n (Some w) in
     let rest = drop n (drop i cs) in

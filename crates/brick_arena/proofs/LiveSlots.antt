@@ -15,7 +15,8 @@ module _ (v : Slots) (s : ℕ) where
   get-insert_other words q ne = get-insert nat_cmp_total v s words q ∙ ap (λ b. cond b (Some words) (get v q)) (unsigned_tied q s ∙ ne_eqb q s ne)
 
   -- a map that differs from v at s alone
-  pub inserted : (w : Slots) (words : List ℕ) → get w s ≡ Some words → ((q : ℕ) → (q ≡ s → ⊥) → get w q ≡ get v q) → w ≡ insert v s words
+  pub inserted : (w : Slots) (words : List ℕ) → get w s ≡ Some words → ((q : ℕ) → (q ≡ s → ⊥) → get w q ≡ get v q)
+      → w ≡ insert v s words
   inserted w words here others = same_map nat_cmp_total nat_cmp-IsAntisymmetric w (insert v s words) (λ q. elim (cases_eq q s) [
     | inl e ↦ ap (get w) e ∙ here ∙ sym (get-insert_here words q e)
     | inr ne ↦ others q ne ∙ sym (get-insert_other words q ne)
@@ -44,7 +45,8 @@ module _ (v : Slots) (s : ℕ) where
   pub len_removed : IsLive v s → len (remove v s) + 1 ≡ len v
   len_removed live = let e = len-remove nat_cmp_total v s ∙ ap (λ b. cond b (len v - 1) (len v)) live in let lt = some_live live in omega (arith, e, lt)
 
-step : (v : Slots) (n : ℕ) (words : List ℕ) (b : Bool) (q : ℕ) → (q ≡ n → ⊥) → get (cond b v (insert v n words)) q ≡ get v q
+step : (v : Slots) (n : ℕ) (words : List ℕ) (b : Bool) (q : ℕ) → (q ≡ n → ⊥)
+    → get (cond b v (insert v n words)) q ≡ get v q
 step v n words true q ne = refl
 step v n words false q ne = get-insert_other v n words q ne
 

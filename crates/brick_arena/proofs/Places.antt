@@ -31,12 +31,14 @@ some_within (c ∷ cs) (suc i) w e = omega (arith, some_within cs i w e)
 module _ {M : Type 1} {𝓤 : Ura M} (𝓛 : Logic 𝓤) (b : ℕ) where
   open 𝓛 use {H}
 
-  pub cut : (xs ys : List (Option ℕ)) (o at : ℕ) → at ≡ length xs * 4 + o → ent 𝓤 (sem 𝓛 (word_places b o (xs ++ ys))) (sep 𝓤 (sem 𝓛 (word_places b o xs)) (sem 𝓛 (word_places b at ys)))
+  pub cut : (xs ys : List (Option ℕ)) (o at : ℕ) → at ≡ length xs * 4 + o
+      → ent 𝓤 (sem 𝓛 (word_places b o (xs ++ ys))) (sep 𝓤 (sem 𝓛 (word_places b o xs)) (sem 𝓛 (word_places b at ys)))
   cut [] ys o at e = qed 𝓛 (‵ (word_places b o ys) ∷ []) ∵ rewrite ! 0 (λ (k : ℕ). ‵ (word_places b k ys)) {x = at} (omega (arith, zero-mul 4)) refl $ nothing ! $ done !
   cut (x ∷ xs) ys o at e = let more : at ≡ suc (length xs) * 4 + o = e in qed 𝓛 (‵ (word_places b o (x ∷ xs ++ ys)) ∷ []) ∵ fsplit ! $ move ! (1 ∷ []) $
       use1 𝓛 (‵ (word_places b (o + 4) xs) ⊛ ‵ (word_places b at ys)) (cut xs ys (o + 4) at (omega (arith, suc-mul (length xs) 4))) $ split ! $ move ! (2 ∷ 0 ∷ []) $ fjoin ! $ done !
 
-  pub glue : (xs ys : List (Option ℕ)) (o at : ℕ) → at ≡ length xs * 4 + o → ent 𝓤 (sep 𝓤 (sem 𝓛 (word_places b o xs)) (sem 𝓛 (word_places b at ys))) (sem 𝓛 (word_places b o (xs ++ ys)))
+  pub glue : (xs ys : List (Option ℕ)) (o at : ℕ) → at ≡ length xs * 4 + o
+      → ent 𝓤 (sep 𝓤 (sem 𝓛 (word_places b o xs)) (sem 𝓛 (word_places b at ys))) (sem 𝓛 (word_places b o (xs ++ ys)))
   glue [] ys o at e = qed 𝓛 (‵ ftrue ∷ ‵ (word_places b at ys) ∷ []) ∵ skip ! $ rewrite ! 0 (λ (k : ℕ). ‵ (word_places b k ys)) {x = o} (omega (arith, zero-mul 4)) refl $ done !
   glue (x ∷ xs) ys o at e = let more : at ≡ suc (length xs) * 4 + o = e in qed 𝓛 (‵ (word_places b o (x ∷ xs)) ∷ ‵ (word_places b at ys) ∷ []) ∵ fsplit ! $ move ! (1 ∷ 2 ∷ []) $
       use2 𝓛 (‵ (word_places b (o + 4) (xs ++ ys))) (glue xs ys (o + 4) at (omega (arith, suc-mul (length xs) 4))) $ move ! (1 ∷ 0 ∷ []) $ fjoin ! $ done !
@@ -54,13 +56,15 @@ module _ {M : Type 1} {𝓤 : Ura M} (𝓛 : Logic 𝓤) (b : ℕ) where
     before : i ≤ length cs → i * 4 + o ≡ length (take i cs) * 4 + o
     before le = let long : i ≡ length (take i cs) = omega (arith, length-take i cs) in ap (λ k. k * 4 + o) long
 
-    pub place_out : i < length cs → ent 𝓤 (sem 𝓛 (word_places b o cs)) (sep 𝓤 (sem 𝓛 (word_place b (i * 4 + o) (get_or cs i None))) (sem 𝓛 Besides))
+    pub place_out : i < length cs → ent 𝓤 (sem 𝓛 (word_places b o cs))
+        (sep 𝓤 (sem 𝓛 (word_place b (i * 4 + o) (get_or cs i None))) (sem 𝓛 Besides))
     place_out lt = qed 𝓛 (‵ (word_places b o cs) ∷ []) ∵
         rewrite ! 0 (λ (l : List (Option ℕ)). ‵ (word_places b o l)) (sym (take-append-drop i cs) ∙ ap (λ l. take i cs ++ l) (drop-cons cs i None lt)) refl $
         use1 𝓛 (‵ (word_places b o (take i cs)) ⊛ ‵ (word_places b (i * 4 + o) (get_or cs i None ∷ drop (suc i) cs))) (cut (take i cs) (get_or cs i None ∷ drop (suc i) cs) o (i * 4 + o) (before (omega arith))) $
         split ! $ move ! (1 ∷ []) $ fsplit ! $ move ! (2 ∷ 1 ∷ []) $ fjoin ! $ move ! (1 ∷ []) $ done !
 
-    pub place_in : i < length cs → (c : Option ℕ) → ent 𝓤 (sep 𝓤 (sem 𝓛 (word_place b (i * 4 + o) c)) (sem 𝓛 Besides)) (sem 𝓛 (word_places b o (set cs i c)))
+    pub place_in : i < length cs → (c : Option ℕ)
+        → ent 𝓤 (sep 𝓤 (sem 𝓛 (word_place b (i * 4 + o) c)) (sem 𝓛 Besides)) (sem 𝓛 (word_places b o (set cs i c)))
     place_in lt c = qed 𝓛 (‵ (word_place b (i * 4 + o) c) ∷ ‵ Besides ∷ []) ∵ move ! (1 ∷ []) $ fsplit ! $ move ! (2 ∷ 1 ∷ []) $ fjoin ! $ move ! (1 ∷ 0 ∷ []) $
         use2 𝓛 (‵ (word_places b o (take i cs ++ c ∷ drop (suc i) cs))) (glue (take i cs) (c ∷ drop (suc i) cs) o (i * 4 + o) (before (omega arith))) $
         rewrite ! 0 (λ (l : List (Option ℕ)). ‵ (word_places b o l)) (sym (set_split cs i c lt)) refl $ done !
@@ -70,7 +74,8 @@ module _ {M : Type 1} {𝓤 : Ura M} (𝓛 : Logic 𝓤) (b : ℕ) where
   of_room (suc n) o = qed 𝓛 (‵ (froom (ty_array (ty_int w32) (suc n)) b o) ∷ []) ∵
       use1 𝓛 (‵ (froom (ty_int w32) b o) ⊛ ‵ (froom (ty_array (ty_int w32) n) b (o + 4))) (𝓛.laws.room_uncons (ty_int w32) n b o) $ split ! $ frame ! $ by ! (of_room n (o + 4))
 
-  pub to_room : (cs : List (Option ℕ)) (o : ℕ) → ent 𝓤 (sem 𝓛 (word_places b o cs)) (H.room (ty_array (ty_int w32) (length cs)) b o)
+  pub to_room : (cs : List (Option ℕ)) (o : ℕ)
+      → ent 𝓤 (sem 𝓛 (word_places b o cs)) (H.room (ty_array (ty_int w32) (length cs)) b o)
   to_room [] o = 𝓛.laws.room_nil (ty_int w32) b o
   to_room (c ∷ cs) o = qed 𝓛 (‵ (word_place b o c) ∷ ‵ (word_places b (o + 4) cs) ∷ []) ∵
       use1 𝓛 (‵ (froom (ty_int w32) b o)) (emptied o c) $ move ! (1 ∷ []) $
@@ -80,16 +85,19 @@ module _ {M : Type 1} {𝓤 : Ura M} (𝓛 : Logic 𝓤) (b : ℕ) where
   unfolding no_words
   of_chunk o = of_room 32768 o
 
-  pub to_chunk : (cs : List (Option ℕ)) (o : ℕ) → length cs ≡ 32768 → ent 𝓤 (sem 𝓛 (word_places b o cs)) (H.room chunk_type b o)
+  pub to_chunk : (cs : List (Option ℕ)) (o : ℕ) → length cs ≡ 32768
+      → ent 𝓤 (sem 𝓛 (word_places b o cs)) (H.room chunk_type b o)
   to_chunk cs o e = subst (λ (n : ℕ). ent 𝓤 (sem 𝓛 (word_places b o cs)) (H.room (ty_array (ty_int w32) n) b o)) e (to_room cs o)
 
   module _ (κ : Lft) where
-    from_on : (cs : List (Option ℕ)) (i o at : ℕ) → i ≤ length cs → at ≡ i * 4 + o → ent 𝓤 (sem 𝓛 (places_lent b o cs κ)) (sem 𝓛 (places_lent b at (drop i cs) κ))
+    from_on : (cs : List (Option ℕ)) (i o at : ℕ) → i ≤ length cs → at ≡ i * 4 + o
+        → ent 𝓤 (sem 𝓛 (places_lent b o cs κ)) (sem 𝓛 (places_lent b at (drop i cs) κ))
     from_on cs zero o at le e = let same : o ≡ at = omega (arith, zero-mul 4) in subst (λ k. ent 𝓤 (sem 𝓛 (places_lent b o cs κ)) (sem 𝓛 (places_lent b k cs κ))) same (id⊢ 𝓤 _)
     from_on [] (suc i) o at le e = absurd (omega arith)
     from_on (c ∷ cs) (suc i) o at le e =
         via 𝓤 (sem 𝓛 (places_lent b (o + 4) cs κ)) (snd∗ 𝓤 (sem 𝓛 (place_lent b o c κ)) (sem 𝓛 (places_lent b (o + 4) cs κ))) (from_on cs i (o + 4) at (omega arith) (omega (arith, suc-mul i 4)))
 
-    pub place_seen : (o : ℕ) (cs : List (Option ℕ)) (i : ℕ) → i < length cs → ent 𝓤 (sem 𝓛 (places_lent b o cs κ)) (sem 𝓛 (place_lent b (i * 4 + o) (get_or cs i None) κ))
+    pub place_seen : (o : ℕ) (cs : List (Option ℕ)) (i : ℕ) → i < length cs
+        → ent 𝓤 (sem 𝓛 (places_lent b o cs κ)) (sem 𝓛 (place_lent b (i * 4 + o) (get_or cs i None) κ))
     place_seen o cs i lt = qed 𝓛 (‵ (places_lent b o cs κ) ∷ []) ∵ use1 𝓛 (‵ (places_lent b (i * 4 + o) (drop i cs) κ)) (from_on cs i o (i * 4 + o) (omega arith) refl) $
         rewrite ! 0 (λ (l : List (Option ℕ)). ‵ (places_lent b (i * 4 + o) l κ)) (drop-cons cs i None lt) refl $ fsplit ! $ keep ! (0 ∷ []) $ done !

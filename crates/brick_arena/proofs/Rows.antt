@@ -21,7 +21,8 @@ module _ {X : Type 0} where
       let e : a + 0 ≡ a = omega arith in let here : g a ≡ f a = ap g (sym e) ∙ h 0 (omega arith) ∙ ap f e in
       ap (λ x. x ∷ values g (suc a) n) here ∙ ap (λ l. f a ∷ l) (row-same f g (suc a) n (λ i lt. let e' : suc a + i ≡ a + suc i = omega arith in ap g e' ∙ h (suc i) (omega arith) ∙ ap f (sym e')))
 
-  pub row-set : (f g : ℕ → X) (a n i : ℕ) (w : X) → i < n → g (a + i) ≡ w → ((k : ℕ) → k < n → (k ≡ i → ⊥) → g (a + k) ≡ f (a + k)) → values g a n ≡ set (values f a n) i w
+  pub row-set : (f g : ℕ → X) (a n i : ℕ) (w : X) → i < n → g (a + i) ≡ w
+      → ((k : ℕ) → k < n → (k ≡ i → ⊥) → g (a + k) ≡ f (a + k)) → values g a n ≡ set (values f a n) i w
   unfolding values
   row-set f g a zero i w lt here h = absurd (omega arith)
   row-set f g a (suc n) zero w lt here h =

@@ -51,13 +51,15 @@ module _ (cs : List (List ℕ)) (free vacant reached : ℕ) (arena : IsArena cs 
   }
 
   -- a live slot was reached, and is not in the chain; the chunks have all its words
-  pub live_at : (slots : Slots) → v ≡ slots → (s : ℕ) → IsLive slots s → (s < reached) × (is_listed s fs ≡ false) × (512 * s + 511 < 32768 * length cs)
+  pub live_at : (slots : Slots) → v ≡ slots → (s : ℕ) → IsLive slots s
+      → (s < reached) × (is_listed s fs ≡ false) × (512 * s + 511 < 32768 * length cs)
   live_at slots is s live =
       let inside = live_inside m fs reached s (subst (λ w. IsLive w s) (sym is) live) in
       (inside.0, inside.1, omega (arith, inside.0, arena.room))
 
   -- the chunk of a live slot has its words
-  pub has_slot : (slots : Slots) → v ≡ slots → (s : ℕ) → IsLive slots s → (chunk : List ℕ) → chunk ≡ get_or cs (s / 64) [] → HasSlot slots s chunk
+  pub has_slot : (slots : Slots) → v ≡ slots → (s : ℕ) → IsLive slots s → (chunk : List ℕ)
+      → chunk ≡ get_or cs (s / 64) [] → HasSlot slots s chunk
   has_slot slots is s live chunk e =
       let at = live_at slots is s live in
       let l : s / 64 < length cs = omega (arith, at.2) in

@@ -93,7 +93,8 @@ module _ (cs ds : List (List ℕ)) (free vacant reached s i w p : ℕ) (old : Is
   pub past_stay : (q : ℕ) → 512 * reached ≤ q → chunk_word ds q ≡ chunk_word cs q
   past_stay q past = apart q (inr (omega (arith, past, lt)))
 
-  pub view_written : view_of ds free vacant reached ≡ insert (view_of cs free vacant reached) s (set (words_of (view_of cs free vacant reached) s) i w)
+  pub view_written : view_of ds free vacant reached
+      ≡ insert (view_of cs free vacant reached) s (set (words_of (view_of cs free vacant reached) s) i w)
   view_written = view_changed cs ds free vacant reached s _ old stored.same_length stored.chunks words_set apart lt live
 
   pub arena_written : IsArena ds free vacant reached
@@ -117,7 +118,8 @@ inside ws i (suc n) w k f t l = elim (cases_eq k (i + n)) [
   | inr e ↦ get_or-set_other (with_words ws i n w) (i + n) k w 0 e ∙ inside ws i n w k f (grind arith) (omega arith)
 ]
 
-outside : (ws : List ℕ) (i n w k : ℕ) → ((j : ℕ) → j < n → k ≡ i + j → ⊥) → get_or (with_words ws i n w) k 0 ≡ get_or ws k 0
+outside : (ws : List ℕ) (i n w k : ℕ) → ((j : ℕ) → j < n → k ≡ i + j → ⊥)
+    → get_or (with_words ws i n w) k 0 ≡ get_or ws k 0
 outside ws i zero w k o = refl
 outside ws i (suc n) w k o = get_or-set_other (with_words ws i n w) (i + n) k w 0 (o n (omega arith)) ∙ outside ws i n w k (λ j l. o j (omega arith))
 
@@ -128,7 +130,8 @@ the_words v s live = by (get v s) live
     by (Some ws) e = refl
     by None e = cc
 
-pub row_inserted : (v : Slots) (s i n w : ℕ) → IsLive v s → with_row v s i n w ≡ insert v s (with_words (words_of v s) i n w)
+pub row_inserted : (v : Slots) (s i n w : ℕ) → IsLive v s
+    → with_row v s i n w ≡ insert v s (with_words (words_of v s) i n w)
 unfolding with_row
 row_inserted v s i zero w live = inserted v s v (words_of v s) (the_words v s live) (λ q ne. refl)
 row_inserted v s i (suc n) w live =
@@ -141,7 +144,8 @@ row_inserted v s i (suc n) w live =
     (λ q ne. get-insert_other (insert v s ws) s (set ws (i + n) w) q ne ∙ get-insert_other v s ws q ne))
 
 -- the last of the words that were written stands there
-pub row_last : (v : Slots) (s i k w : ℕ) → IsLive v s → length (words_of v s) ≡ 512 → i + k < 512 → get_or (words_of (with_row v s i (k + 1) w) s) (i + k) 0 ≡ w
+pub row_last : (v : Slots) (s i k w : ℕ) → IsLive v s → length (words_of v s) ≡ 512 → i + k < 512
+    → get_or (words_of (with_row v s i (k + 1) w) s) (i + k) 0 ≡ w
 row_last v s i k w live long l =
     let ws = with_words (words_of v s) i (k + 1) w in
     ap (λ u. get_or (words_of u s) (i + k) 0) (row_inserted v s i (k + 1) w live)
@@ -163,7 +167,8 @@ module _ (cs ds : List (List ℕ)) (free vacant reached s i w p : ℕ) (old : Is
       ext_get_or 0 (slot_words (chunk_word ds) s) (with_words ws i 8 w) (long' ∙ sym (length-with_words ws i 8 w ∙ long))
       (λ k l. let b : k < 512 = omega arith in get-row (chunk_word ds) (512 * s) 512 k 0 b ∙ each k b (cases_lt k i) (cases_lt k (i + 8)))
     where
-      each : (k : ℕ) → k < 512 → (k < i) ⊎ (i ≤ k) → (k < i + 8) ⊎ (i + 8 ≤ k) → chunk_word ds (512 * s + k) ≡ get_or (with_words (slot_words (chunk_word cs) s) i 8 w) k 0
+      each : (k : ℕ) → k < 512 → (k < i) ⊎ (i ≤ k) → (k < i + 8) ⊎ (i + 8 ≤ k)
+          → chunk_word ds (512 * s + k) ≡ get_or (with_words (slot_words (chunk_word cs) s) i 8 w) k 0
       each k b (inl f) o = row_others (512 * s + k) (λ j l e. absurd (omega arith)) ∙ sym (outside (slot_words (chunk_word cs) s) i 8 w k (λ j l e. absurd (omega arith)) ∙ get-row (chunk_word cs) (512 * s) 512 k 0 b)
       each k b (inr f) (inr o) = row_others (512 * s + k) (λ j l e. absurd (omega arith)) ∙ sym (outside (slot_words (chunk_word cs) s) i 8 w k (λ j l e. absurd (omega arith)) ∙ get-row (chunk_word cs) (512 * s) 512 k 0 b)
       each k b (inr f) (inl o) =

@@ -42,7 +42,8 @@ extent_far a d h = omega (arith, ints)
 extent_just : (a : ℤ) → extent a a ≤ 31
 extent_just a = omega (arith, ints)
 
-size_most : (s : Span) → extent s.from.x s.to.x ≤ 31 → extent s.from.y s.to.y ≤ 31 → extent s.from.z s.to.z ≤ 31 → size s ≤ 29791
+size_most : (s : Span) → extent s.from.x s.to.x ≤ 31 → extent s.from.y s.to.y ≤ 31 → extent s.from.z s.to.z ≤ 31
+    → size s ≤ 29791
 size_most s x y z = mul-le-mul (mul-le-mul x y) z
 
 pub size_just : (p : Point) → size (just p) ≤ 29791
@@ -107,7 +108,8 @@ group_most m p (GVoid d f) h = voided_most m (between (plus p d) (plus (plus p d
 
 -- ---- all groups of a step
 
-acts_commands : (bots : List Bot) (commands : List Command) → AreCommands commands → AllByRecursion (λ a. IsCommand a.command) (acts bots commands)
+acts_commands : (bots : List Bot) (commands : List Command) → AreCommands commands
+    → AllByRecursion (λ a. IsCommand a.command) (acts bots commands)
 acts_commands [] commands h = tt
 acts_commands (b ∷ bots) [] h = tt
 acts_commands (b ∷ bots) (c ∷ commands) h = (h.0, acts_commands bots commands h.1)
@@ -123,15 +125,20 @@ one_more n y z h k = record { above = omega (arith, ints, h.above, k.above); bel
 no_more : (n : ℕ) (z : ℤ) → IsAtMost (357492 * n) z → IsAtMost (357492 * suc n) z
 no_more n z k = record { above = omega (arith, ints, k.above); below = omega (arith, ints, k.below) }
 
-some_most : (m : Matrix) (test : Act → Bool) (xs : List Act) → AllByRecursion (λ a. IsCommand a.command) xs → IsAtMost (357492 * length xs) (total (map (λ a. group_cost m (position a) a.command) (filter test xs)))
+some_most : (m : Matrix) (test : Act → Bool) (xs : List Act) → AllByRecursion (λ a. IsCommand a.command) xs
+    → IsAtMost (357492 * length xs) (total (map (λ a. group_cost m (position a) a.command) (filter test xs)))
 some_most m test [] h = record { above = omega (arith, ints); below = omega (arith, ints) }
 some_most m test (x ∷ xs) h = by (test x) (some_most m test xs h.1)
   where
-    by : (b : Bool) → IsAtMost (357492 * length xs) (total (map (λ a. group_cost m (position a) a.command) (filter test xs))) → IsAtMost (357492 * length (x ∷ xs)) (total (map (λ a. group_cost m (position a) a.command) (cond b (x ∷ filter test xs) (filter test xs))))
+    by : (b : Bool)
+        → IsAtMost (357492 * length xs) (total (map (λ a. group_cost m (position a) a.command) (filter test xs)))
+        → IsAtMost (357492 * length (x ∷ xs))
+        (total (map (λ a. group_cost m (position a) a.command) (cond b (x ∷ filter test xs) (filter test xs))))
     by true k = one_more (length xs) (group_cost m (position x) x.command) (total (map (λ a. group_cost m (position a) a.command) (filter test xs))) (group_most m (position x) x.command h.0) k
     by false k = no_more (length xs) (total (map (λ a. group_cost m (position a) a.command) (filter test xs))) k
 
-groups_most : (s : State) (commands : List Command) → length s.bots ≤ 40 → AreCommands commands → IsAtMost 14299680 (groups_cost s.matrix (acts s.bots commands))
+groups_most : (s : State) (commands : List Command) → length s.bots ≤ 40 → AreCommands commands
+    → IsAtMost 14299680 (groups_cost s.matrix (acts s.bots commands))
 groups_most s commands n h =
     let l = acts_length s.bots commands in
     let k = some_most s.matrix (is_leader (acts s.bots commands)) (acts s.bots commands) (acts_commands s.bots commands h) in
@@ -141,25 +148,32 @@ space_most : (high : Bool) (v n : ℕ) → v ≤ 64000000 → n ≤ 40 → cond 
 space_most true v n h k = omega arith
 space_most false v n h k = omega arith
 
-energy_rises : (e : ℤ) (u : ℕ) (g : ℤ) → u ≤ 1920000800 → IsAtMost 14299680 g → ((e +ℤ pos u) +ℤ g) <ℤ (e +ℤ pos 3000000000)
+energy_rises : (e : ℤ) (u : ℕ) (g : ℤ) → u ≤ 1920000800 → IsAtMost 14299680 g
+    → ((e +ℤ pos u) +ℤ g) <ℤ (e +ℤ pos 3000000000)
 energy_rises e u g h k = omega (arith, ints, k.above)
 
-energy_falls : (e : ℤ) (u : ℕ) (g : ℤ) → u ≤ 1920000800 → IsAtMost 14299680 g → e <ℤ (((e +ℤ pos u) +ℤ g) +ℤ pos 3000000000)
+energy_falls : (e : ℤ) (u : ℕ) (g : ℤ) → u ≤ 1920000800 → IsAtMost 14299680 g
+    → e <ℤ (((e +ℤ pos u) +ℤ g) +ℤ pos 3000000000)
 energy_falls e u g h k = omega (arith, ints, k.below)
 
-upkeep_most : (s : State) → s.matrix.resolution ≤ 400 → length s.bots ≤ 40 → cond (is_high s.harmonics) 30 3 * (s.matrix.resolution * s.matrix.resolution * s.matrix.resolution) + 20 * length s.bots ≤ 1920000800
+upkeep_most : (s : State) → s.matrix.resolution ≤ 400 → length s.bots ≤ 40
+    → cond (is_high s.harmonics) 30 3 * (s.matrix.resolution * s.matrix.resolution * s.matrix.resolution)
+    + 20 * length s.bots ≤ 1920000800
 upkeep_most s r n = space_most (is_high s.harmonics) (s.matrix.resolution * s.matrix.resolution * s.matrix.resolution) (length s.bots) (cube_most s.matrix.resolution 400 r) n
 
 -- a step changes the energy by less than 3,000,000,000 either way
-pub rises : (s : State) (commands : List Command) → s.matrix.resolution ≤ 400 → length s.bots ≤ 40 → AreCommands commands → (after s commands).energy <ℤ (s.energy +ℤ pos 3000000000)
+pub rises : (s : State) (commands : List Command) → s.matrix.resolution ≤ 400 → length s.bots ≤ 40
+    → AreCommands commands → (after s commands).energy <ℤ (s.energy +ℤ pos 3000000000)
 rises s commands r n h = energy_rises s.energy (cond (is_high s.harmonics) 30 3 * (s.matrix.resolution * s.matrix.resolution * s.matrix.resolution) + 20 * length s.bots) (groups_cost s.matrix (acts s.bots commands)) (upkeep_most s r n) (groups_most s commands n h)
 
-pub falls : (s : State) (commands : List Command) → s.matrix.resolution ≤ 400 → length s.bots ≤ 40 → AreCommands commands → s.energy <ℤ ((after s commands).energy +ℤ pos 3000000000)
+pub falls : (s : State) (commands : List Command) → s.matrix.resolution ≤ 400 → length s.bots ≤ 40
+    → AreCommands commands → s.energy <ℤ ((after s commands).energy +ℤ pos 3000000000)
 falls s commands r n h = energy_falls s.energy (cond (is_high s.harmonics) 30 3 * (s.matrix.resolution * s.matrix.resolution * s.matrix.resolution) + 20 * length s.bots) (groups_cost s.matrix (acts s.bots commands)) (upkeep_most s r n) (groups_most s commands n h)
 
 -- a group costs little either way
 pub costs_most : (m : Matrix) (p : Point) (command : Command) → IsCommand command → group_cost m p command ≤ℤ pos 357492
 costs_most m p command h = (group_most m p command h).above
 
-pub costs_least : (m : Matrix) (p : Point) (command : Command) → IsCommand command → pos 0 ≤ℤ (group_cost m p command +ℤ pos 357492)
+pub costs_least : (m : Matrix) (p : Point) (command : Command) → IsCommand command
+    → pos 0 ≤ℤ (group_cost m p command +ℤ pos 357492)
 costs_least m p command h = (group_most m p command h).below

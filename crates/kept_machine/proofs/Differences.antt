@@ -19,7 +19,8 @@ use Rattle.kept_machine.specs.Calls.{difference_count}
 pub differing_below : Matrix → Matrix → ℕ → ℕ
 differing_below m t n = total n (λ k. one_if (differ_at m t (coordinate_at m.resolution k)))
 
-at_first : (m t : Matrix) (n : ℕ) → total n (λ k. one_if (differ_at m t (coordinate_at m.resolution k))) ≡ total n (λ k. one_if (differ_at m t (coordinate_at m.resolution (0 + k))))
+at_first : (m t : Matrix) (n : ℕ) → total n (λ k. one_if (differ_at m t (coordinate_at m.resolution k)))
+    ≡ total n (λ k. one_if (differ_at m t (coordinate_at m.resolution (0 + k))))
 at_first m t n = total-same n (λ k. one_if (differ_at m t (coordinate_at m.resolution k))) (λ k. one_if (differ_at m t (coordinate_at m.resolution (0 + k)))) (λ k l. ap (λ p. one_if (differ_at m t (coordinate_at m.resolution p))) (sym (zero-add k)))
 
 pub none_below : (m t : Matrix) → differing_below m t 0 ≡ 0
@@ -39,7 +40,8 @@ full_at_place m r p e l =
     (λ i. in_space (e i) (point (coordinate_at r p)) && slice_index_or m.voxels (place (e i) (coordinate_at r p)) false)
     ∙ (λ i. in_space_is r (coordinate_at r p) (at_in_space r p l) i && slice_index_or m.voxels (place-coordinate_at r p i) false)
 
-one_differs : (a b : ℕ) → a < 2 → b < 2 → (a + b) % 2 ≡ one_if (((a == 1) && not (b == 1)) || ((b == 1) && not (a == 1)))
+one_differs : (a b : ℕ) → a < 2 → b < 2
+    → (a + b) % 2 ≡ one_if (((a == 1) && not (b == 1)) || ((b == 1) && not (a == 1)))
 one_differs zero zero h k = refl
 one_differs zero (suc zero) h k = refl
 one_differs (suc zero) zero h k = refl
@@ -57,7 +59,8 @@ more_below m t from some here there same within here_is there_is here_small ther
     (total-same some (λ k. one_if (differ_at m t (coordinate_at m.resolution (from + k)))) (λ k. bit_at (bit_xor here there) k) each
     ∙ sym (ones-total some (bit_xor here there) (xor_lt some here there here_small there_small)))
   where
-    each : (k : ℕ) → k < some → one_if (differ_at m t (coordinate_at m.resolution (from + k))) ≡ bit_at (bit_xor here there) k
+    each : (k : ℕ) → k < some
+        → one_if (differ_at m t (coordinate_at m.resolution (from + k))) ≡ bit_at (bit_xor here there) k
     each k l =
         let inside : from + k < m.resolution * m.resolution * m.resolution = omega (arith, within, l) in
         let f = full_at_place m m.resolution (from + k) refl inside ∙ sym (here_is k l) in

@@ -16,7 +16,8 @@ use Rattle.kept_machine.specs.Kept.{Instant, Kept, kept_opening, present, trace_
 
 -- commands lead from a state to an instant, by way of others
 pub data Walked (from : State) : List Command → Instant → List Instant → Type 0 where
-  stands : {made : List Command} {p : Instant} {passed : List Instant} → made ≡ [] → passed ≡ [] → p ≡ record { state = from; steps = 0 } → Walked from made p passed
+  stands : {made : List Command} {p : Instant} {passed : List Instant} → made ≡ [] → passed ≡ []
+      → p ≡ record { state = from; steps = 0 } → Walked from made p passed
   walks : {made : List Command} {p : Instant} {passed : List Instant} (before commands : List Command) (q : Instant) (others : List Instant) → Walked from before q others
       → 1 ≤ length q.state.bots → length commands ≡ length q.state.bots → Next q.state commands (q.steps + 1) (Goes p.state) → p.steps ≡ q.steps + 1
       → made ≡ before ++ commands → passed ≡ others ++ q ∷ [] → Walked from made p passed
@@ -66,13 +67,16 @@ none_last (a ∷ xs) x e = cc
 
 -- ---- the story of a machine
 
-told_by : (trace : Option (List Command)) (commands t made : List Command) → ((u : List Command) → trace ≡ Some u → u ≡ made) → trace_with trace commands ≡ Some t → t ≡ made ++ commands
+told_by : (trace : Option (List Command)) (commands t made : List Command)
+    → ((u : List Command) → trace ≡ Some u → u ≡ made) → trace_with trace commands ≡ Some t → t ≡ made ++ commands
 told_by None commands t made h e = absurd cc
 told_by (Some u) commands t made h e =
     let same : u ++ commands ≡ t = cc in
     sym same ∙ ap (λ (us : List Command). us ++ commands) (h u refl)
 
-left_by : (trace : Option (List Command)) (n : ℕ) (t before commands : List Command) → ((u : List Command) → trace ≡ Some u → u ≡ before ++ commands) → length commands ≡ n → trace_without trace n ≡ Some t → t ≡ before
+left_by : (trace : Option (List Command)) (n : ℕ) (t before commands : List Command)
+    → ((u : List Command) → trace ≡ Some u → u ≡ before ++ commands) → length commands ≡ n
+    → trace_without trace n ≡ Some t → t ≡ before
 left_by None n t before commands h l e = absurd cc
 left_by (Some u) n t before commands h l e =
     let same : take (length u - n) u ≡ t = cc in
@@ -94,7 +98,8 @@ module _ (source : Matrix) (profile : Profile) where
   })
 
   -- where no step was made, no command was
-  none_made : (made : List Command) (p : Instant) (passed : List Instant) → p.steps ≡ 0 → Walked from made p passed → made ≡ []
+  none_made : (made : List Command) (p : Instant) (passed : List Instant) → p.steps ≡ 0 → Walked from made p passed
+      → made ≡ []
   none_made made p passed zero_steps (stands e f g) = e
   none_made made p passed zero_steps (walks before commands q others w some each next counted m o) = absurd (omega (arith, zero_steps, counted))
 
@@ -111,7 +116,8 @@ module _ (source : Matrix) (profile : Profile) where
       begun : (t : List Command) (o : Option (List Command)) → o ≡ Some t → o ≡ Some [] → t ≡ []
       begun t o e f = cc
 
-  stepped : (old k : Kept) (commands : List Command) (ok : StepOk) → Story from old → IsMade old commands k ok → Story from k
+  stepped : (old k : Kept) (commands : List Command) (ok : StepOk) → Story from old → IsMade old commands k ok
+      → Story from k
   stepped old k commands ok s made =
       let all : List Instant = old.past ++ present old ∷ [] in
       let n : ℕ = length all - old.room in
@@ -135,7 +141,8 @@ module _ (source : Matrix) (profile : Profile) where
       ends : s.passed ≡ (s.earlier ++ k.past) ++ present k ∷ []
       ends = s.past ∙ (ap (λ (xs : List Instant). s.earlier ++ xs) back.past ∙ sym (append_assoc s.earlier k.past (present k ∷ [])))
 
-      by : {made : List Command} {passed : List Instant} → Walked from made (present old) passed → made ≡ s.made → passed ≡ s.passed → Story from k
+      by : {made : List Command} {passed : List Instant} → Walked from made (present old) passed → made ≡ s.made
+          → passed ≡ s.passed → Story from k
       by (stands e f g) same_made same = absurd (none_last (s.earlier ++ k.past) (present k) (sym ends ∙ (sym same ∙ f)))
       by (walks before commands q others w some each next counted m o) same_made same =
           let r = last_same others (s.earlier ++ k.past) q (present k) (sym o ∙ (same ∙ ends)) in
@@ -191,7 +198,8 @@ module _ (source : Matrix) (profile : Profile) where
       (walked_run target before q others (commands ++ rest) verdict w
       (one_step target q.state p.state commands rest q.steps verdict some each next (subst (λ (n : ℕ). Run target p.state rest n verdict) counted run)))
 
-  pub runs_through : (k : Kept) (made : List Command) → Story from k → k.trace ≡ Some made → RunsThrough source profile made k
+  pub runs_through : (k : Kept) (made : List Command) → Story from k → k.trace ≡ Some made
+      → RunsThrough source profile made k
   runs_through k made s kept = λ target rest verdict run.
       subst (λ (cs : List Command). VerdictOf source target (cs ++ rest) profile verdict) (sym (s.trace made kept))
       (walked_run target s.made (present k) s.passed rest verdict s.walked run)

@@ -12,19 +12,23 @@ instants_many p (u ∷ notes) = ap suc (instants_many p notes)
 
 -- ---- one note more
 
-earliest_more : (p : Instant) (notes : List Undo) (u : Undo) → first_instant p (notes ++ u ∷ []) ≡ first_instant (instant_before p u) notes
+earliest_more : (p : Instant) (notes : List Undo) (u : Undo)
+    → first_instant p (notes ++ u ∷ []) ≡ first_instant (instant_before p u) notes
 earliest_more p [] u = refl
 earliest_more p (n ∷ notes) u = ap (λ (q : Instant). instant_before q n) (earliest_more p notes u)
 
-pub instants_more : (p : Instant) (notes : List Undo) (u : Undo) → instants_of p (notes ++ u ∷ []) ≡ instants_of (instant_before p u) notes ++ instant_before p u ∷ []
+pub instants_more : (p : Instant) (notes : List Undo) (u : Undo)
+    → instants_of p (notes ++ u ∷ []) ≡ instants_of (instant_before p u) notes ++ instant_before p u ∷ []
 instants_more p [] u = refl
 instants_more p (n ∷ notes) u = λ i. instant_before (earliest_more p notes u i) n ∷ instants_more p notes u i
 
-pub back_more : (p : Instant) (notes : List Undo) (u : Undo) → CanBeTakenBack (instant_before p u) notes → MayUndo p.state u → CanBeTakenBack p (notes ++ u ∷ [])
+pub back_more : (p : Instant) (notes : List Undo) (u : Undo) → CanBeTakenBack (instant_before p u) notes
+    → MayUndo p.state u → CanBeTakenBack p (notes ++ u ∷ [])
 back_more p [] u h may = (may, tt)
 back_more p (n ∷ notes) u h may = (subst (λ (q : Instant). MayUndo q.state n) (sym (earliest_more p notes u)) h.0, back_more p notes u h.1 may)
 
-pub back_less : (p : Instant) (notes : List Undo) (u : Undo) → CanBeTakenBack p (notes ++ u ∷ []) → MayUndo p.state u × CanBeTakenBack (instant_before p u) notes
+pub back_less : (p : Instant) (notes : List Undo) (u : Undo) → CanBeTakenBack p (notes ++ u ∷ [])
+    → MayUndo p.state u × CanBeTakenBack (instant_before p u) notes
 back_less p [] u h = (h.0, tt)
 back_less p (n ∷ notes) u h = let r = back_less p notes u h.1 in (r.0, (subst (λ (q : Instant). MayUndo q.state n) (earliest_more p notes u) h.0, r.1))
 
@@ -40,15 +44,18 @@ back_drop p zero notes h = h
 back_drop p (suc k) [] h = tt
 back_drop p (suc k) (n ∷ notes) h = back_drop p k notes h.1
 
-pub instants_last : (p : Instant) (k : ℕ) (notes : List Undo) → instants_of p (keep_last k notes) ≡ keep_last k (instants_of p notes)
+pub instants_last : (p : Instant) (k : ℕ) (notes : List Undo)
+    → instants_of p (keep_last k notes) ≡ keep_last k (instants_of p notes)
 instants_last p k notes = instants_drop p (length notes - k) notes ∙ ap (λ n. drop (n - k) (instants_of p notes)) (sym (instants_many p notes))
 
-pub back_last : (p : Instant) (k : ℕ) (notes : List Undo) → CanBeTakenBack p notes → CanBeTakenBack p (keep_last k notes)
+pub back_last : (p : Instant) (k : ℕ) (notes : List Undo) → CanBeTakenBack p notes
+    → CanBeTakenBack p (keep_last k notes)
 back_last p k notes h = back_drop p (length notes - k) notes h
 
 -- ---- the last
 
-pub last_split : {X : Type 0} (xs : List X) (x : X) → slice_get xs (length xs - 1) ≡ Some x → xs ≡ take (length xs - 1) xs ++ x ∷ []
+pub last_split : {X : Type 0} (xs : List X) (x : X) → slice_get xs (length xs - 1) ≡ Some x
+    → xs ≡ take (length xs - 1) xs ++ x ∷ []
 last_split [] x h = cc
 last_split (y ∷ []) x h = let e : y ≡ x = cc in ap (λ z. z ∷ []) e
 last_split {X} (y ∷ z ∷ xs) x h =

@@ -49,13 +49,15 @@ module _ (v w : Situation) (notes rest : Buffer Undo) (commands : List Command) 
         (back_more (instant_of w) notes.items undo (subst (λ (p : Instant). CanBeTakenBack p notes.items) (sym before_is) kept.back) (may kept.well_formed)));
   }
 
-  past_is : instants_of (instant_of w) rest.items ≡ keep_last notes.capacity (instants_of (instant_of v) notes.items ++ instant_of v ∷ [])
+  past_is : instants_of (instant_of w) rest.items
+      ≡ keep_last notes.capacity (instants_of (instant_of v) notes.items ++ instant_of v ∷ [])
   past_is =
       ap (instants_of (instant_of w)) items_are
       ∙ (instants_last (instant_of w) notes.capacity (notes.items ++ undo ∷ [])
       ∙ ap (keep_last notes.capacity) (instants_more (instant_of w) notes.items undo ∙ (λ i. instants_of (before_is i) notes.items ++ before_is i ∷ [])))
 
-  pub made_noted : CanStep v commands → (trace : Option (List Command)) → IsMade (kept_of v notes trace) commands (kept_of w rest (trace_with trace commands)) ok
+  pub made_noted : CanStep v commands → (trace : Option (List Command))
+      → IsMade (kept_of v notes trace) commands (kept_of w rest (trace_with trace commands)) ok
   made_noted can trace = record {
     some = can.some;
     each = can.each;
@@ -78,7 +80,8 @@ module _ (v w : Situation) (notes : Buffer Undo) (commands : List Command) (ok :
     back = subst (λ (b : Buffer Undo). CanBeTakenBack (instant_of w) b.items) (sym none) tt;
   }
 
-  pub made_once : CanStep v commands → (trace : Option (List Command)) → IsMade (kept_of v notes trace) commands (kept_of w notes (trace_with trace commands)) ok
+  pub made_once : CanStep v commands → (trace : Option (List Command))
+      → IsMade (kept_of v notes trace) commands (kept_of w notes (trace_with trace commands)) ok
   made_once can trace = record {
     some = can.some;
     each = can.each;
@@ -94,7 +97,8 @@ module _ (v w : Situation) (notes : Buffer Undo) (commands : List Command) (ok :
 -- ---- a step that was not made
 
 module _ (v w : Situation) (notes : Buffer Undo) (commands : List Command) where
-  pub kept_refused : (f : StepFault) (began ended : ℕ) → IsNoted v notes → Stepped v w commands (Err f) began ended → IsNoted w notes
+  pub kept_refused : (f : StepFault) (began ended : ℕ) → IsNoted v notes → Stepped v w commands (Err f) began ended
+      → IsNoted w notes
   kept_refused f began ended kept stepped = still_kept v w notes stepped.stays.0 stepped.stays.1 kept
 
   pub refused_so : (trace : Option (List Command)) (f : StepFault) (began ended : ℕ) → CanStep v commands → Stepped v w commands (Err f) began ended
@@ -104,7 +108,8 @@ module _ (v w : Situation) (notes : Buffer Undo) (commands : List Command) where
   refused_so trace fault.Spent began ended can stepped = looks_the_same v w notes stepped.stays.0 stepped.stays.1 trace
 
   -- what is answered to a step that is made and then taken back
-  pub would_make : (trace : Option (List Command)) (ok : StepOk) (began ended : ℕ) → CanStep v commands → Stepped v w commands (Ok ok) began ended → WouldAnswer (kept_of v notes trace) commands (Ok ok)
+  pub would_make : (trace : Option (List Command)) (ok : StepOk) (began ended : ℕ) → CanStep v commands
+      → Stepped v w commands (Ok ok) began ended → WouldAnswer (kept_of v notes trace) commands (Ok ok)
   would_make trace ok began ended can stepped =
       let k : Kept = kept_of v notes trace in (
         record { state = w.state; steps = w.steps; past = keep_last k.room (k.past ++ present k ∷ []); room = k.room; trace = trace_with trace commands },
@@ -112,7 +117,9 @@ module _ (v w : Situation) (notes : Buffer Undo) (commands : List Command) where
       )
 
 -- the commands cannot be judged, and nothing was done
-pub cannot_so : (k : Kept) (v : Situation) (notes : Buffer Undo) (trace : Option (List Command)) (commands : List Command) (f : NoStep) → k ≡ kept_of v notes trace → CannotStep v commands f → Tries (kept_of v notes trace) commands k (Err f)
+pub cannot_so : (k : Kept) (v : Situation) (notes : Buffer Undo) (trace : Option (List Command))
+    (commands : List Command) (f : NoStep) → k ≡ kept_of v notes trace → CannotStep v commands f
+    → Tries (kept_of v notes trace) commands k (Err f)
 cannot_so k v notes trace commands (no_step.Broken b) same h = absurd h
 cannot_so k v notes trace commands no_step.Ended same h = (same, h)
 cannot_so k v notes trace commands no_step.Count same h = (same, h)
@@ -125,7 +132,8 @@ module _ (v w : Situation) (notes rest : Buffer Undo) (undo : Undo) (kept : IsNo
   split : notes.items ≡ take (length notes.items - 1) notes.items ++ undo ∷ []
   split = last_split notes.items undo last
 
-  less : MayUndo v.state undo × CanBeTakenBack (instant_before (instant_of v) undo) (take (length notes.items - 1) notes.items)
+  less : MayUndo v.state undo
+      × CanBeTakenBack (instant_before (instant_of v) undo) (take (length notes.items - 1) notes.items)
   less = back_less (instant_of v) (take (length notes.items - 1) notes.items) undo (subst (λ (us : List Undo). CanBeTakenBack (instant_of v) us) split kept.back)
 
   pub may_go_back : MayUndo v.state undo
@@ -146,7 +154,8 @@ module _ (v w : Situation) (notes rest : Buffer Undo) (undo : Undo) (kept : IsNo
           (subst (λ (p : Instant). CanBeTakenBack p (take (length notes.items - 1) notes.items)) before_was less.1);
     }
 
-    pub taken_back : (trace : Option (List Command)) → IsTakenBack (kept_of v notes trace) (kept_of w rest (trace_without trace (length w.state.bots)))
+    pub taken_back : (trace : Option (List Command))
+        → IsTakenBack (kept_of v notes trace) (kept_of w rest (trace_without trace (length w.state.bots)))
     taken_back trace = record {
       past =
           ap (instants_of (instant_of v)) split

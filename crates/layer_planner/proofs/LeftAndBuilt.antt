@@ -10,15 +10,19 @@ use Rattle.plan_tape.specs.Parts.{below_layer, from_layer}
 use Rattle.plan_tape.proofs.LegalModels.{void_at_top}
 
 -- below the layer down to which the source was voided all is as it was
-pub left_alone : (source b nothing : Matrix) (low : ℕ) → IsPartlyBuilt b source nothing (from_layer low) → (c : Coord) → c.y < low → is_full b c ≡ is_full source c
+pub left_alone : (source b nothing : Matrix) (low : ℕ) → IsPartlyBuilt b source nothing (from_layer low) → (c : Coord)
+    → c.y < low → is_full b c ≡ is_full source c
 left_alone source b nothing low p c l = let f : from_layer low c ≡ false = grind (arith, nat_tests) in p c ∙ ap (λ t. cond t (is_full nothing c) (is_full source c)) f
 
 -- and from it on all is void
-pub void_from : (source b nothing : Matrix) (low : ℕ) → IsVoidFrom nothing 0 → IsPartlyBuilt b source nothing (from_layer low) → IsVoidFrom b low
+pub void_from : (source b nothing : Matrix) (low : ℕ) → IsVoidFrom nothing 0
+    → IsPartlyBuilt b source nothing (from_layer low) → IsVoidFrom b low
 void_from source b nothing low n p = λ c l. let t : from_layer low c ≡ true = grind (arith, nat_tests) in p c ∙ (ap (λ t. cond t (is_full nothing c) (is_full source c)) t ∙ n c (omega arith))
 
 -- where all was void from a layer on and was built, the voxels are those of the target
-pub rebuilt_is : (b c target : Matrix) (low : ℕ) → IsLegal target → b.resolution ≡ target.resolution → low < b.resolution → IsVoidFrom b low → IsPartlyBuilt c b target (below_layer (b.resolution - 1)) → AreAlike c target
+pub rebuilt_is : (b c target : Matrix) (low : ℕ) → IsLegal target → b.resolution ≡ target.resolution
+    → low < b.resolution → IsVoidFrom b low → IsPartlyBuilt c b target (below_layer (b.resolution - 1))
+    → AreAlike c target
 rebuilt_is b c target low h e l void q = λ d. by d (below_layer (b.resolution - 1) d) refl
   where
     high : (d : Coord) → below_layer (b.resolution - 1) d ≡ false → b.resolution - 1 ≤ d.y

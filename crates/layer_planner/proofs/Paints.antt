@@ -46,10 +46,12 @@ outside r q c i o = by (voxel c.x c.y c.z q) refl
     by true e = absurd (both (sym (ap (λ (d : Coord). in_space r (point d)) (voxel-is q c e)) ∙ o) (in_space_is r c i))
 
 -- the voxels of a matrix of which one was changed
-full_with : (m : Matrix) (c : Coord) (b : Bool) (q : Coord) → IsInSpace m.resolution c → is_full (with_voxel m c b) q ≡ cond (voxel c.x c.y c.z q) b (is_full m q)
+full_with : (m : Matrix) (c : Coord) (b : Bool) (q : Coord) → IsInSpace m.resolution c
+    → is_full (with_voxel m c b) q ≡ cond (voxel c.x c.y c.z q) b (is_full m q)
 full_with m c b q i = by (in_space m.resolution (point q)) refl
   where
-    by : (s : Bool) → in_space m.resolution (point q) ≡ s → is_full (with_voxel m c b) q ≡ cond (voxel c.x c.y c.z q) b (is_full m q)
+    by : (s : Bool) → in_space m.resolution (point q) ≡ s
+        → is_full (with_voxel m c b) q ≡ cond (voxel c.x c.y c.z q) b (is_full m q)
     by true s =
         full_where m.resolution (λ d. cond (same_point (point d) (point c)) b (is_full m d)) q (space_by_test m.resolution q s)
         ∙ ap (λ t. cond t b (is_full m q)) (here_is q c)
@@ -58,15 +60,18 @@ full_with m c b q i = by (in_space m.resolution (point q)) refl
         ∙ sym (ap (λ t. cond t b (is_full m q)) (outside m.resolution q c i s) ∙ none (in_space m.resolution (point q)) _ s)
 
 -- a voxel that is set to what the goal says
-pub painted_set : (m goal : Matrix) (c : Coord) (b : Bool) → IsInSpace m.resolution c → is_full goal c ≡ b → IsPartlyBuilt (with_voxel m c b) m goal (voxel c.x c.y c.z)
+pub painted_set : (m goal : Matrix) (c : Coord) (b : Bool) → IsInSpace m.resolution c → is_full goal c ≡ b
+    → IsPartlyBuilt (with_voxel m c b) m goal (voxel c.x c.y c.z)
 painted_set m goal c b i e = λ q. full_with m c b q i ∙ by q (voxel c.x c.y c.z q) refl
   where
-    by : (q : Coord) (t : Bool) → voxel c.x c.y c.z q ≡ t → cond t b (is_full m q) ≡ cond t (is_full goal q) (is_full m q)
+    by : (q : Coord) (t : Bool) → voxel c.x c.y c.z q ≡ t
+        → cond t b (is_full m q) ≡ cond t (is_full goal q) (is_full m q)
     by q true s = sym (ap (is_full goal) (voxel-is q c s) ∙ e)
     by q false s = refl
 
 -- a voxel that is what the goal says already
-pub painted_yet : (m goal : Matrix) (c : Coord) → is_full m c ≡ is_full goal c → IsPartlyBuilt m m goal (voxel c.x c.y c.z)
+pub painted_yet : (m goal : Matrix) (c : Coord) → is_full m c ≡ is_full goal c
+    → IsPartlyBuilt m m goal (voxel c.x c.y c.z)
 painted_yet m goal c e = λ q. by q (voxel c.x c.y c.z q) refl
   where
     by : (q : Coord) (t : Bool) → voxel c.x c.y c.z q ≡ t → is_full m q ≡ cond t (is_full goal q) (is_full m q)
@@ -80,12 +85,14 @@ both_parts true b g o = refl
 both_parts false b g o = refl
 
 -- one part after another
-pub painted_more : (a b m goal : Matrix) (first last all : Coord → Bool) → IsPartlyBuilt b m goal first → IsPartlyBuilt a b goal last → ((c : Coord) → all c ≡ (last c || first c)) → IsPartlyBuilt a m goal all
+pub painted_more : (a b m goal : Matrix) (first last all : Coord → Bool) → IsPartlyBuilt b m goal first
+    → IsPartlyBuilt a b goal last → ((c : Coord) → all c ≡ (last c || first c)) → IsPartlyBuilt a m goal all
 painted_more a b m goal first last all p q e =
     λ c. q c ∙ (ap (cond (last c) (is_full goal c)) (p c) ∙ (both_parts (last c) (first c) (is_full goal c) (is_full m c) ∙ ap (λ t. cond t (is_full goal c) (is_full m c)) (sym (e c))))
 
 -- below a layer the voxels are those of the goal already
-pub same_below : (m goal : Matrix) (low : ℕ) → ((c : Coord) → c.y < low → is_full m c ≡ is_full goal c) → IsPartlyBuilt m m goal (below_layer low)
+pub same_below : (m goal : Matrix) (low : ℕ) → ((c : Coord) → c.y < low → is_full m c ≡ is_full goal c)
+    → IsPartlyBuilt m m goal (below_layer low)
 same_below m goal low h = λ c. by c (nat_lt c.y low) refl
   where
     less : (v y : ℕ) → nat_lt v y ≡ true → v < y
@@ -110,7 +117,8 @@ module _ (a m goal : Matrix) (r : ℕ) (ra : a.resolution ≡ r) (rm : m.resolut
       end c true false e = refl
       end c false t e = refl
 
-      by : (c : Coord) (t : Bool) → nat_lt c.z r ≡ t → is_full a c ≡ cond (is_in_line x y c) (is_full goal c) (is_full m c)
+      by : (c : Coord) (t : Bool) → nat_lt c.z r ≡ t
+          → is_full a c ≡ cond (is_in_line x y c) (is_full goal c) (is_full m c)
       by c true e = p c ∙ ap (λ s. cond s (is_full goal c) (is_full m c)) (end c (c.x == x) (c.y == y) e)
       by c false e = all_false (is_in_line x y c) _ _ _ (void_past_z a c (ap (nat_lt c.z) ra ∙ e)) (void_past_z goal c (ap (nat_lt c.z) rg ∙ e)) (void_past_z m c (ap (nat_lt c.z) rm ∙ e))
 
@@ -124,15 +132,19 @@ module _ (a m goal : Matrix) (r : ℕ) (ra : a.resolution ≡ r) (rm : m.resolut
 -- ---- tapes
 
 -- what is so already is painted
-pub paints_yet : (a : TapeState) (goal : Matrix) (done : Coord → Bool) (at : Coord) (most : ℕ) → CanSweep a goal → IsPartlyBuilt a.matrix a.matrix goal done → Paints a a goal done at at most
+pub paints_yet : (a : TapeState) (goal : Matrix) (done : Coord → Bool) (at : Coord) (most : ℕ) → CanSweep a goal
+    → IsPartlyBuilt a.matrix a.matrix goal done → Paints a a goal done at at most
 paints_yet a goal done at most k h = record { source = refl; resolution = refl; painted = h; ready = k; bytes_are = omega arith; steps_are = omega arith }
 
 -- nothing is painted yet
-pub paints_none : (a : TapeState) (goal : Matrix) (none : Coord → Bool) (at : Coord) → CanSweep a goal → ((c : Coord) → none c ≡ false) → Paints a a goal none at at 0
+pub paints_none : (a : TapeState) (goal : Matrix) (none : Coord → Bool) (at : Coord) → CanSweep a goal
+    → ((c : Coord) → none c ≡ false) → Paints a a goal none at at 0
 paints_none a goal none at k e = record { source = refl; resolution = refl; painted = λ c. rw (e c) refl; ready = k; bytes_are = omega arith; steps_are = omega arith }
 
 -- one part after another
-pub paints_more : (a b c : TapeState) (goal : Matrix) (first last all : Coord → Bool) (p q s : Coord) (k n most : ℕ) → Paints a b goal first p q k → Paints b c goal last q s n → ((d : Coord) → all d ≡ (last d || first d)) → k + n ≤ most → Paints a c goal all p s most
+pub paints_more : (a b c : TapeState) (goal : Matrix) (first last all : Coord → Bool) (p q s : Coord) (k n most : ℕ)
+    → Paints a b goal first p q k → Paints b c goal last q s n → ((d : Coord) → all d ≡ (last d || first d))
+    → k + n ≤ most → Paints a c goal all p s most
 paints_more a b c goal first last all p q s k n most h g e l = record {
   source = g.source ∙ h.source;
   resolution = g.resolution ∙ h.resolution;
@@ -143,7 +155,8 @@ paints_more a b c goal first last all p q s k n most h g e l = record {
 }
 
 -- the way to another coordinate
-pub paints_to : (a b : TapeState) (goal : Matrix) (done : Coord → Bool) (p q s : Coord) (k n most : ℕ) → Paints a b goal done p q k → 2 * moves_to q s ≤ n → k + n ≤ most → Paints a b goal done p s most
+pub paints_to : (a b : TapeState) (goal : Matrix) (done : Coord → Bool) (p q s : Coord) (k n most : ℕ)
+    → Paints a b goal done p q k → 2 * moves_to q s ≤ n → k + n ≤ most → Paints a b goal done p s most
 paints_to a b goal done p q s k n most h l m = record {
   source = h.source;
   resolution = h.resolution;
@@ -154,15 +167,18 @@ paints_to a b goal done p q s k n most h l m = record {
 }
 
 -- a greater bound holds too
-pub paints_few : (a b : TapeState) (goal : Matrix) (done : Coord → Bool) (p q : Coord) (k most : ℕ) → Paints a b goal done p q k → k ≤ most → Paints a b goal done p q most
+pub paints_few : (a b : TapeState) (goal : Matrix) (done : Coord → Bool) (p q : Coord) (k most : ℕ)
+    → Paints a b goal done p q k → k ≤ most → Paints a b goal done p q most
 paints_few a b goal done p q k most h l = record { source = h.source; resolution = h.resolution; painted = h.painted; ready = h.ready; bytes_are = let x = h.bytes_are in omega arith; steps_are = let x = h.steps_are in omega arith }
 
 -- where the voxels that are told by another test are the same
-pub paints_as : (a b : TapeState) (goal : Matrix) (done all : Coord → Bool) (p q : Coord) (k : ℕ) → Paints a b goal done p q k → IsPartlyBuilt b.matrix a.matrix goal all → Paints a b goal all p q k
+pub paints_as : (a b : TapeState) (goal : Matrix) (done all : Coord → Bool) (p q : Coord) (k : ℕ)
+    → Paints a b goal done p q k → IsPartlyBuilt b.matrix a.matrix goal all → Paints a b goal all p q k
 paints_as a b goal done all p q k h i = record { source = h.source; resolution = h.resolution; painted = i; ready = h.ready; bytes_are = h.bytes_are; steps_are = h.steps_are }
 
 -- painting goes on where nothing was painted above the layer
-pub paints_on : (a b : TapeState) (goal : Matrix) (y : ℕ) (done : Coord → Bool) (p q : Coord) (k : ℕ) → CanPaint a goal y → Paints a b goal done p q k → ((c : Coord) → y + 1 ≤ c.y → done c ≡ false) → CanPaint b goal y
+pub paints_on : (a b : TapeState) (goal : Matrix) (y : ℕ) (done : Coord → Bool) (p q : Coord) (k : ℕ)
+    → CanPaint a goal y → Paints a b goal done p q k → ((c : Coord) → y + 1 ≤ c.y → done c ≡ false) → CanPaint b goal y
 paints_on a b goal y done p q k c h n = record {
   sweep = h.ready;
   within = let w = c.within in let r = h.resolution in omega arith;

@@ -30,7 +30,11 @@ not_there y q c l e = by (voxel c.x c.y c.z q) refl
     by false f = f
     by true f = let g = ap (λ (d : Coord). d.y) (voxel-is q c f) in absurd (omega arith)
 
-pub wrote : (a b c : TapeState) (goal : Matrix) (k : Command) (v : Bool) (cost : ℤ) (x y z : ℕ) → CanPaint a goal y → x < a.matrix.resolution → z < a.matrix.resolution → Moves a b (coord x (y + 1) z) → Writes b c k (with_voxel b.matrix (beside b down) v) b.harmonics b.bots cost → length (spelling k) ≡ 1 → is_fission k ≡ false → is_full goal (coord x y z) ≡ v → Paints a c goal (voxel x y z) (coord x (y + 1) z) (coord x (y + 1) z) 1
+pub wrote : (a b c : TapeState) (goal : Matrix) (k : Command) (v : Bool) (cost : ℤ) (x y z : ℕ) → CanPaint a goal y
+    → x < a.matrix.resolution → z < a.matrix.resolution → Moves a b (coord x (y + 1) z)
+    → Writes b c k (with_voxel b.matrix (beside b down) v) b.harmonics b.bots cost → length (spelling k) ≡ 1
+    → is_fission k ≡ false → is_full goal (coord x y z) ≡ v
+    → Paints a c goal (voxel x y z) (coord x (y + 1) z) (coord x (y + 1) z) 1
 wrote a b c goal k v cost x y z ready hx hz m w s n e =
     let sweep = ready.sweep in
     let stands : spot b.bots ≡ coord x (y + 1) z = m.there in
@@ -64,7 +68,9 @@ pub fewer_layers : (r y n : ℕ) → (r - 1 - y) * n ≤ (r - 1) * n
 fewer_layers r y n = mul-le-mul (let l : r - 1 - y ≤ r - 1 = omega arith in l) (let s : n ≤ n = omega arith in s)
 
 -- both sweeps together
-pub spent : (built cleared shifted start ra rb rs rt : ℕ) → built ≤ shifted + (rb - 1) * layer_bytes rb → shifted ≤ cleared + 2 → cleared ≤ start + (ra - 1) * layer_bytes ra → start ≤ rs + 1 → rb ≡ rt → ra ≡ rt → rs ≡ rt → built ≤ rt + 3 + 2 * ((rt - 1) * layer_bytes rt)
+pub spent : (built cleared shifted start ra rb rs rt : ℕ) → built ≤ shifted + (rb - 1) * layer_bytes rb
+    → shifted ≤ cleared + 2 → cleared ≤ start + (ra - 1) * layer_bytes ra → start ≤ rs + 1 → rb ≡ rt → ra ≡ rt → rs ≡ rt
+    → built ≤ rt + 3 + 2 * ((rt - 1) * layer_bytes rt)
 spent built cleared shifted start ra rb rs rt p m q s eb ea es =
     let b = ap (λ r. (r - 1) * layer_bytes r) eb in
     let a = ap (λ r. (r - 1) * layer_bytes r) ea in

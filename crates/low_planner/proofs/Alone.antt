@@ -37,5 +37,6 @@ none_made (c ∷ more) h =
     omega (arith, s, e, r)
 
 -- so at most one bot is active at any time
-pub alone : (source : Matrix) (profile : Profile) (commands : List Command) → All IsPlain commands → HasAtMost source profile commands 1
+pub alone : (source : Matrix) (profile : Profile) (commands : List Command) → All IsPlain commands
+    → HasAtMost source profile commands 1
 alone source profile commands h = few_at_most source profile commands 1 (let e = none_made commands h in omega (arith, e))

@@ -50,7 +50,8 @@ pub ends_or_none : {X : Type 0} (xs : List X) → (xs ≡ []) ⊎ ((most : List 
 ends_or_none [] = inl refl
 ends_or_none {X} (x ∷ xs) = inr (by (ends_or_none xs))
   where
-    by : (xs ≡ []) ⊎ ((most : List X) × (last : X) × (xs ≡ most ++ last ∷ [])) → (most : List X) × (last : X) × (x ∷ xs ≡ most ++ last ∷ [])
+    by : (xs ≡ []) ⊎ ((most : List X) × (last : X) × (xs ≡ most ++ last ∷ []))
+        → (most : List X) × (last : X) × (x ∷ xs ≡ most ++ last ∷ [])
     by (inl e) = ([], x, ap (λ (ys : List X). x ∷ ys) e)
     by (inr h) = (x ∷ h.0, h.1, ap (λ (ys : List X). x ∷ ys) h.2)
 
@@ -82,13 +83,15 @@ module _ (m : Matrix) (s : Sweep) (p : TapeState) (h : IsSweep m s) (b : IsBuilt
       by false e = refl
       by true e = let a = h.ahead d (built_is_visited d e) in absurd (omega arith)
 
-  on_trail_is : (most : List Coord) (last : Coord) → s.trail.items ≡ most ++ last ∷ [] → IsVisited m s.remaining last × (last.y ≡ s.at.y)
+  on_trail_is : (most : List Coord) (last : Coord) → s.trail.items ≡ most ++ last ∷ []
+      → IsVisited m s.remaining last × (last.y ≡ s.at.y)
   on_trail_is most last e = h.on_trail last (subst (λ (xs : List Coord). Contains xs last) (sym e) (Contains-push most last))
 
   pub void_here : IsVoidFrom p.matrix (spot p.bots).y
   void_here = by (ends_or_none s.trail.items)
     where
-      by : (s.trail.items ≡ []) ⊎ ((most : List Coord) × (last : Coord) × (s.trail.items ≡ most ++ last ∷ [])) → IsVoidFrom p.matrix (spot p.bots).y
+      by : (s.trail.items ≡ []) ⊎ ((most : List Coord) × (last : Coord) × (s.trail.items ≡ most ++ last ∷ []))
+          → IsVoidFrom p.matrix (spot p.bots).y
       by (inl e) = λ d l. (b.first e).nothing d (omega arith)
       by (inr e) =
           let at = ap (λ (q : Coord). q.y) (b.spot_is e.0 e.1 e.2) in
@@ -98,7 +101,8 @@ module _ (m : Matrix) (s : Sweep) (p : TapeState) (h : IsSweep m s) (b : IsBuilt
   pub spot_in_space : IsLegal m → IsInSpace m.resolution (spot p.bots)
   spot_in_space legal = by (ends_or_none s.trail.items)
     where
-      by : (s.trail.items ≡ []) ⊎ ((most : List Coord) × (last : Coord) × (s.trail.items ≡ most ++ last ∷ [])) → IsInSpace m.resolution (spot p.bots)
+      by : (s.trail.items ≡ []) ⊎ ((most : List Coord) × (last : Coord) × (s.trail.items ≡ most ++ last ∷ []))
+          → IsInSpace m.resolution (spot p.bots)
       by (inl e) = subst (IsInSpace m.resolution) ((b.first e).at ∙ sym (b.first e).spot_is) h.place
       by (inr e) = subst (IsInSpace m.resolution) (sym (b.spot_is e.0 e.1 e.2)) (above_in_space m e.1 legal (on_trail_is e.0 e.1 e.2).0.before)
 
@@ -143,7 +147,9 @@ module _ (m : Matrix) (s t : Sweep) (p q : TapeState) (h : IsSweep m s) (b : IsB
           ∙ sym ((λ i. is_full m (e i) && not (is_full t.remaining (e i))) ∙ (λ i. full_there i && not (l.after i))))
       by (inr n) = set_other p.matrix c d true n ∙ (b.made d ∙ ap (λ v. is_full m d && not v) (sym (l.others d n)))
 
-  pub built_more : (xs : List Coord) → t.trail.items ≡ xs ++ c ∷ [] → 15 * q.steps + 60 * full_count t.remaining + 15 * (length t.trail.items - 1) ≤ 60 * full_count m + reach m.resolution t.at → IsBuilt m t q
+  pub built_more : (xs : List Coord) → t.trail.items ≡ xs ++ c ∷ []
+      → 15 * q.steps + 60 * full_count t.remaining + 15 * (length t.trail.items - 1)
+      ≤ 60 * full_count m + reach m.resolution t.at → IsBuilt m t q
   built_more xs ends few = record {
     source = w.source ∙ b.source;
     working = w.working;
@@ -185,7 +191,8 @@ module _ (m : Matrix) (s t : Sweep) (p : TapeState) (h : IsSweep m s) (g : IsSwe
   paid : 15 * moves_to (spot p.bots) (above c) ≤ distance s.at c + 43
   paid = by (ends_or_none s.trail.items)
     where
-      by : (s.trail.items ≡ []) ⊎ ((most : List Coord) × (last : Coord) × (s.trail.items ≡ most ++ last ∷ [])) → 15 * moves_to (spot p.bots) (above c) ≤ distance s.at c + 43
+      by : (s.trail.items ≡ []) ⊎ ((most : List Coord) × (last : Coord) × (s.trail.items ≡ most ++ last ∷ []))
+          → 15 * moves_to (spot p.bots) (above c) ≤ distance s.at c + 43
       by (inl e) =
           let same : spot p.bots ≡ s.at = (b.first e).spot_is ∙ sym (b.first e).at in
           let moves : 15 * moves_to (spot p.bots) (above c) ≤ distance s.at (above c) + 42 = subst (λ (q : Coord). 15 * moves_to q (above c) ≤ distance s.at (above c) + 42) (sym same) (moves_paid s.at (above c)) in
@@ -198,11 +205,13 @@ module _ (m : Matrix) (s t : Sweep) (p : TapeState) (h : IsSweep m s) (g : IsSwe
           let step : distance (above s.at) (above c) ≡ distance s.at c = omega arith in
           omega arith
         where
-          only_one : (xs most : List Coord) (last : Coord) → xs ≡ most ++ last ∷ [] → IsTrail s.at xs → length xs ≤ 1 → last ≡ s.at
+          only_one : (xs most : List Coord) (last : Coord) → xs ≡ most ++ last ∷ [] → IsTrail s.at xs → length xs ≤ 1
+              → last ≡ s.at
           only_one xs [] last e k l = let i : IsTrail s.at (last ∷ []) = subst (IsTrail s.at) e k in i.0
           only_one xs (x ∷ most) last e k l = let n = ap length e ∙ length-append (x ∷ most) (last ∷ []) in absurd (omega arith)
 
-  pub built_first : (q : TapeState) → Works p q (above c) (with_voxel p.matrix c true) (moves_to (spot p.bots) (above c) + 1) → IsBuilt m t q
+  pub built_first : (q : TapeState)
+      → Works p q (above c) (with_voxel p.matrix c true) (moves_to (spot p.bots) (above c) + 1) → IsBuilt m t q
   built_first q w =
       let moves = paid in
       let few = b.few in
@@ -226,7 +235,8 @@ module _ (m : Matrix) (s t : Sweep) (p : TapeState) (h : IsSweep m s) (b : IsBui
         carried = inr (v.last, visited_is_built m s p h b v.last last.0, (beside-sym v.last c v.beside).adjacent);
       }
 
-  pub built_onward : (q : TapeState) → Works p q (above c) (with_voxel p.matrix c true) (moves_to (spot p.bots) (above c) + 1) → IsBuilt m t q
+  pub built_onward : (q : TapeState)
+      → Works p q (above c) (with_voxel p.matrix c true) (moves_to (spot p.bots) (above c) + 1) → IsBuilt m t q
   built_onward q w =
       let one : moves_to (spot p.bots) (above c) ≡ 1 = ap (λ (k : Coord). moves_to k (above c)) (b.spot_is v.most v.last v.ends) ∙ one_move v.last c v.beside in
       let few = b.few in
@@ -269,7 +279,8 @@ module _ (m : Matrix) (s t : Sweep) (p : TapeState) (h : IsSweep m s) (g : IsSwe
 
 -- ---- the start and the end
 
-pub built_start : (m : Matrix) (s : Sweep) (p : TapeState) → s.remaining ≡ m → s.trail.items ≡ [] → s.at ≡ origin → p ≡ starting (empty m.resolution) light_profile → IsBuilt m s p
+pub built_start : (m : Matrix) (s : Sweep) (p : TapeState) → s.remaining ≡ m → s.trail.items ≡ [] → s.at ≡ origin
+    → p ≡ starting (empty m.resolution) light_profile → IsBuilt m s p
 built_start m s p er et ea ep = subst (IsBuilt m s) (sym ep) (record {
   source = refl;
   working = record { alone = refl; low = refl; light = refl };
@@ -286,7 +297,8 @@ built_start m s p er et ea ep = subst (IsBuilt m s) (sym ep) (record {
     nothing true = refl
     nothing false = refl
 
-pub finished : (m : Matrix) (s t : Sweep) (p : TapeState) → IsLegal m → FirstUnsupported m None → IsSweep m s → IsSweep m t → IsBuilt m s p → EndsSweep m s t → IsFinished m p
+pub finished : (m : Matrix) (s t : Sweep) (p : TapeState) → IsLegal m → FirstUnsupported m None → IsSweep m s
+    → IsSweep m t → IsBuilt m s p → EndsSweep m s t → IsFinished m p
 finished m s t p legal supported h g b v = record {
   source = b.source;
   working = b.working;
@@ -307,12 +319,15 @@ finished m s t p legal supported h g b v = record {
     by d true e = ap not (gone d e)
     by d false e = refl
 
-    no_trail : IsEmpty m → (s.trail.items ≡ []) ⊎ ((most : List Coord) × (last : Coord) × (s.trail.items ≡ most ++ last ∷ [])) → s.trail.items ≡ []
+    no_trail : IsEmpty m
+        → (s.trail.items ≡ []) ⊎ ((most : List Coord) × (last : Coord) × (s.trail.items ≡ most ++ last ∷ []))
+        → s.trail.items ≡ []
     no_trail z (inl e) = e
     no_trail z (inr e) = absurd (anything_by (is_full m e.1) (on_trail_is m s p h b e.0 e.1 e.2).0.before (z e.1))
 
 -- the way home and the Halt have their steps
-pub steps_home : (m : Matrix) (p : TapeState) → m.resolution ≤ 400 → IsFinished m p → p.steps + moves_to (spot p.bots) origin ≤ 300000100
+pub steps_home : (m : Matrix) (p : TapeState) → m.resolution ≤ 400 → IsFinished m p
+    → p.steps + moves_to (spot p.bots) origin ≤ 300000100
 steps_home m p most h =
     let full = full_most m in
     let size = most_cube m.resolution most in

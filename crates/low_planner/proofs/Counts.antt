@@ -21,7 +21,8 @@ tally b = cond b 1 0
 counted : (p : Coord → Bool) (c : Coord) (cs : List Coord) → count_by p (c ∷ cs) ≡ tally (p c) + count_by p cs
 counted p c cs = sum_by-cons (λ d. cond (p d) 1 0) c cs
 
-same_count : (p q : Coord → Bool) (f : ℕ → Coord) (n a : ℕ) → ((j : ℕ) → a ≤ j → j < a + n → p (f j) ≡ q (f j)) → count_by p (map f (numbers_from a n)) ≡ count_by q (map f (numbers_from a n))
+same_count : (p q : Coord → Bool) (f : ℕ → Coord) (n a : ℕ) → ((j : ℕ) → a ≤ j → j < a + n → p (f j) ≡ q (f j))
+    → count_by p (map f (numbers_from a n)) ≡ count_by q (map f (numbers_from a n))
 same_count p q f zero a h = refl
 same_count p q f (suc n) a h =
     let b = counted p (f a) (map f (numbers_from (a + 1) n)) in
@@ -31,7 +32,9 @@ same_count p q f (suc n) a h =
     omega arith
 
 -- two tests that differ at one number
-change_at : (p q : Coord → Bool) (f : ℕ → Coord) (n a k : ℕ) → a ≤ k → k < a + n → ((j : ℕ) → (j ≡ k → ⊥) → p (f j) ≡ q (f j)) → count_by q (map f (numbers_from a n)) + tally (p (f k)) ≡ count_by p (map f (numbers_from a n)) + tally (q (f k))
+change_at : (p q : Coord → Bool) (f : ℕ → Coord) (n a k : ℕ) → a ≤ k → k < a + n
+    → ((j : ℕ) → (j ≡ k → ⊥) → p (f j) ≡ q (f j))
+    → count_by q (map f (numbers_from a n)) + tally (p (f k)) ≡ count_by p (map f (numbers_from a n)) + tally (q (f k))
 change_at p q f zero a k l m h = absurd (omega arith)
 change_at p q f (suc n) a k l m h =
     let b = counted p (f a) (map f (numbers_from (a + 1) n)) in
@@ -62,7 +65,8 @@ one_less old new c h =
     omega arith
 
 -- each visit leaves less to do
-pub visit_lessens : (m : Matrix) (old new : Sweep) (v : Visit) → Visits m old new (Some v) → sweep_weight new < sweep_weight old
+pub visit_lessens : (m : Matrix) (old new : Sweep) (v : Visit) → Visits m old new (Some v)
+    → sweep_weight new < sweep_weight old
 visit_lessens m old new (First c) h =
     let less = one_less old.remaining new.remaining c h.loses in
     let short = h.short in

@@ -73,7 +73,8 @@ module _ (m n : Matrix) (more : (d : Coord) → IsTrue (is_full m d) → IsTrue 
       let begins = first_of_two (begins_at c (a ∷ path)) (is_path m (a ∷ path)) h in
       (a ∷ path, both (begins_at c (a ∷ path)) (is_path n (a ∷ path)) begins (path_stays a path (second_of_two (begins_at c (a ∷ path)) (is_path m (a ∷ path)) h)))
 
-pub filled_is_grounded : (m : Matrix) (c : Coord) → IsInSpace m.resolution c → FirstUngrounded m None → IsCarried m c → FirstUngrounded (with_voxel m c true) None
+pub filled_is_grounded : (m : Matrix) (c : Coord) → IsInSpace m.resolution c → FirstUngrounded m None → IsCarried m c
+    → FirstUngrounded (with_voxel m c true) None
 filled_is_grounded m c i h carried = each_holds (λ d. IsTrue (is_full (with_voxel m c true) d) → Grounded (with_voxel m c true) d) (all_of m) (λ d f. of d f (same_or_not d c))
   where
     more : (d : Coord) → IsTrue (is_full m d) → IsTrue (is_full (with_voxel m c true) d)
@@ -83,11 +84,13 @@ filled_is_grounded m c i h carried = each_holds (λ d. IsTrue (is_full (with_vox
         by (inl e) = ap (is_full (with_voxel m c true)) e ∙ set_here m c true i
         by (inr u) = set_other m c d true u ∙ f
 
-    here : (d : Coord) → d ≡ c → IsTrue (is_full (with_voxel m c true) d) → IsCarried m c → Grounded (with_voxel m c true) d
+    here : (d : Coord) → d ≡ c → IsTrue (is_full (with_voxel m c true) d) → IsCarried m c
+        → Grounded (with_voxel m c true) d
     here d e f (inl y) = on_floor (with_voxel m c true) d f (ap (λ (q : Coord). q.y) e ∙ y)
     here d e f (inr b) = one_more (with_voxel m c true) d b.0 f (subst (λ (q : Coord). IsTrue (are_adjacent q b.0)) (sym e) b.2) (stays_grounded m (with_voxel m c true) more b.0 (is_grounded m b.0 h b.1))
 
-    of : (d : Coord) → IsTrue (is_full (with_voxel m c true) d) → (d ≡ c) ⊎ (d ≡ c → ⊥) → Grounded (with_voxel m c true) d
+    of : (d : Coord) → IsTrue (is_full (with_voxel m c true) d) → (d ≡ c) ⊎ (d ≡ c → ⊥)
+        → Grounded (with_voxel m c true) d
     of d f (inl e) = here d e f carried
     of d f (inr u) = stays_grounded m (with_voxel m c true) more d (is_grounded m d h (sym (set_other m c d true u) ∙ f))
 

@@ -19,7 +19,8 @@ same_number a b e = grind (arith, nat_tests)
 pub at_rest : (m : Matrix) (c : Coord) → IsTrue (is_full m c) → IsTrue (rests m c) → IsSupported m c
 at_rest m c f r = (c ∷ [], rw (point_itself c, f) r)
 
-pub one_more : (m : Matrix) (a b : Coord) → IsTrue (is_full m a) → AreBesideInLayer a b → IsSupported m b → IsSupported m a
+pub one_more : (m : Matrix) (a b : Coord) → IsTrue (is_full m a) → AreBesideInLayer a b → IsSupported m b
+    → IsSupported m a
 one_more m a b f n ([], h) = cc
 one_more m a b f n (d ∷ path, h) =
     let same : b ≡ d = coordinate_by_test b d (first_of_two (same_point (point b) (point d)) (is_layer_path m (d ∷ path)) h) in

@@ -24,14 +24,16 @@ use Rattle.model_file.proofs.Boxes.{box_least, in_box}
 between_by : (low high v : ℕ) → low ≤ v → v ≤ high → (nat_le low v && nat_le v high) ≡ true
 between_by low high v h k = grind (arith, nat_tests)
 
-box_by : (low high c : Coord) → low.x ≤ c.x → c.x ≤ high.x → low.y ≤ c.y → c.y ≤ high.y → low.z ≤ c.z → c.z ≤ high.z → in_box low high c ≡ true
+box_by : (low high c : Coord) → low.x ≤ c.x → c.x ≤ high.x → low.y ≤ c.y → c.y ≤ high.y → low.z ≤ c.z → c.z ≤ high.z
+    → in_box low high c ≡ true
 unfolding in_box
 box_by low high c a b d e f g = rw (between_by low.x high.x c.x a b, between_by low.y high.y c.y d e, between_by low.z high.z c.z f g) refl
 
 between_from : (low high v : ℕ) → (nat_le low v && nat_le v high) ≡ true → (low ≤ v) × (v ≤ high)
 between_from low high v h = grind (arith, nat_tests)
 
-box_from : (low high c : Coord) → in_box low high c ≡ true → (low.x ≤ c.x) × (c.x ≤ high.x) × (low.y ≤ c.y) × (c.y ≤ high.y) × (low.z ≤ c.z) × (c.z ≤ high.z)
+box_from : (low high c : Coord) → in_box low high c ≡ true
+    → (low.x ≤ c.x) × (c.x ≤ high.x) × (low.y ≤ c.y) × (c.y ≤ high.y) × (low.z ≤ c.z) × (c.z ≤ high.z)
 unfolding in_box
 box_from low high c h =
     let front = left ((nat_le low.x c.x && nat_le c.x high.x) && (nat_le low.y c.y && nat_le c.y high.y)) (nat_le low.z c.z && nat_le c.z high.z) h in
@@ -60,7 +62,8 @@ module _ (m : Matrix) (from : Coord) (e : ℕ) (end : e + 1 ≡ m.resolution) wh
       let i = (full_within m d f).z in
       rw f (box_by from (coord from.x from.y e) d (omega arith) (omega arith) (omega arith) (omega arith) z (omega arith))
 
-  found_in_row : (o : Option Coord) → LeastOf m.resolution (λ c. is_full m c && in_box from (coord from.x from.y e) c) o → MatchOption o (IsVoidRow m from) (IsNextFull m from)
+  found_in_row : (o : Option Coord) → LeastOf m.resolution (λ c. is_full m c && in_box from (coord from.x from.y e) c) o
+      → MatchOption o (IsVoidRow m from) (IsNextFull m from)
   found_in_row None h = λ d x y z. false_by (is_full m d) (λ f. not_both (in_row d f x y z) (h d (full_within m d f)))
   found_in_row (Some c) h =
       let p = box_from from (coord from.x from.y e) c (second_of_two (is_full m c) (in_box from (coord from.x from.y e) c) h.passes) in
@@ -75,7 +78,10 @@ module _ (m : Matrix) (from : Coord) (e : ℕ) (end : e + 1 ≡ m.resolution) wh
         first = λ d x y z l. false_by (is_full m d) (λ f. not_both (before_in_row d c (x ∙ sym cx) (y ∙ sym cy) l) (h.least d (full_within m d f) (in_row d f x y z)));
       }
 
-pub next_full_is : (m : Matrix) (k : Corners) (from : Coord) (e : ℕ) (o : Option Coord) → IsInSpace m.resolution from → e + 1 ≡ m.resolution → k ≡ corners from (coord from.x from.y e) → o ≡ find (λ c. is_full m c && is_within (span k) (point c)) (all_of m) → MatchOption o (IsVoidRow m from) (IsNextFull m from)
+pub next_full_is : (m : Matrix) (k : Corners) (from : Coord) (e : ℕ) (o : Option Coord) → IsInSpace m.resolution from
+    → e + 1 ≡ m.resolution → k ≡ corners from (coord from.x from.y e)
+    → o ≡ find (λ c. is_full m c && is_within (span k) (point c)) (all_of m)
+    → MatchOption o (IsVoidRow m from) (IsNextFull m from)
 next_full_is m k from e o i end c found =
     let z = i.z in
     found_in_row m from e end o (box_least m k from (coord from.x from.y e) o c (omega arith) (omega arith) (omega arith) found)
@@ -91,7 +97,8 @@ module _ (m left : Matrix) (from at c : Coord) (x : at.x ≡ from.x) (y : at.y �
       by (inl k) = swept d dx dy l k r
       by (inr k) = n.first d (dx ∙ sym x) (dy ∙ sym y) k u
 
-  pub starts_here : left.resolution ≡ m.resolution → from.z ≤ at.z → IsNextFull left at c → IsTrue (rests m c) → IsStartInRow m left from c
+  pub starts_here : left.resolution ≡ m.resolution → from.z ≤ at.z → IsNextFull left at c → IsTrue (rests m c)
+      → IsStartInRow m left from c
   starts_here e l n r = record {
     within = subst (λ (s : ℕ). IsInSpace s c) e n.within;
     x = n.x ∙ x;
@@ -113,7 +120,8 @@ module _ (m left : Matrix) (from at c : Coord) (x : at.x ≡ from.x) (y : at.y �
           absurd (not_both (subst (λ (q : Coord). IsTrue (rests m q)) same s) r)
 
 -- where none is full from there on
-pub swept_all : (m left : Matrix) (from at : Coord) (end : ℕ) → at.x ≡ from.x → at.y ≡ from.y → IsSweptRow m left from at.z → IsVoidRow left at → IsSweptRow m left from end
+pub swept_all : (m left : Matrix) (from at : Coord) (end : ℕ) → at.x ≡ from.x → at.y ≡ from.y
+    → IsSweptRow m left from at.z → IsVoidRow left at → IsSweptRow m left from end
 swept_all m left from at end x y swept none d dx dy l u r = by (cases_lt d.z at.z)
   where
     by : ((d.z < at.z) ⊎ (at.z ≤ d.z)) → is_full left d ≡ false
@@ -122,7 +130,8 @@ swept_all m left from at end x y swept none d dx dy l u r = by (cases_lt d.z at.
 
 -- ---- from row to row
 
-pub rows_fall : (r y x v u : ℕ) → y < r → x < r → ((v ≡ y) × (u ≡ x + 1)) ⊎ ((v ≡ y + 1) × (u ≡ 0) × (x + 1 ≡ r)) → (r - v) * r + (r - u) < (r - y) * r + (r - x)
+pub rows_fall : (r y x v u : ℕ) → y < r → x < r → ((v ≡ y) × (u ≡ x + 1)) ⊎ ((v ≡ y + 1) × (u ≡ 0) × (x + 1 ≡ r))
+    → (r - v) * r + (r - u) < (r - y) * r + (r - x)
 rows_fall r y x v u h l (inl e) =
     let same : (r - v) * r ≡ (r - y) * r = ap (λ (n : ℕ). (r - n) * r) e.0 in
     let up = e.1 in
@@ -153,19 +162,22 @@ reach_row r a b x y z =
     omega arith
 
 -- where the voxels of a row that rest were visited, those before a coordinate further on in it were too
-pub swept_to : (m left : Matrix) (from c : Coord) → AreSwept m left from → IsStartInRow m left from c → AreSwept m left c
+pub swept_to : (m left : Matrix) (from c : Coord) → AreSwept m left from → IsStartInRow m left from c
+    → AreSwept m left c
 swept_to m left from c h s = record {
   layers = λ d l r. h.layers d (let e = s.y in omega arith) r;
   rows = λ d e l r. h.rows d (e ∙ s.y) (let f = s.x in omega arith) r;
   cells = λ d e f l r. by d (e ∙ s.y) (f ∙ s.x) l r (cases_lt d.z from.z);
 }
   where
-    by : (d : Coord) → d.y ≡ from.y → d.x ≡ from.x → d.z < c.z → IsTrue (rests m d) → ((d.z < from.z) ⊎ (from.z ≤ d.z)) → is_full left d ≡ false
+    by : (d : Coord) → d.y ≡ from.y → d.x ≡ from.x → d.z < c.z → IsTrue (rests m d) → ((d.z < from.z) ⊎ (from.z ≤ d.z))
+        → is_full left d ≡ false
     by d e f l r (inl k) = h.cells d e f k r
     by d e f l r (inr k) = s.first d f e k l r
 
 -- the next part begins where it begins in a row that the search has come to
-pub start_is : (m : Matrix) (s : Sweep) (from c : Coord) → IsWithinReach m.resolution s.at from → s.at.y ≤ from.y → AreSwept m s.remaining from → IsStartInRow m s.remaining from c → IsPartStart m s c
+pub start_is : (m : Matrix) (s : Sweep) (from c : Coord) → IsWithinReach m.resolution s.at from → s.at.y ≤ from.y
+    → AreSwept m s.remaining from → IsStartInRow m s.remaining from c → IsPartStart m s c
 start_is m s from c near up swept h = record {
   within = h.within;
   here = h.here;
@@ -176,20 +188,23 @@ start_is m s from c near up swept h = record {
 }
 
 -- past the last layer
-pub swept_past : (m left : Matrix) (from : Coord) → left.resolution ≡ m.resolution → m.resolution ≤ from.y → AreSwept m left from → AreAllSwept m left
+pub swept_past : (m left : Matrix) (from : Coord) → left.resolution ≡ m.resolution → m.resolution ≤ from.y
+    → AreSwept m left from → AreAllSwept m left
 swept_past m left from e h swept c r = false_by (is_full left c) (λ f. not_both f (swept.layers c (let i = (full_within left c f).y in omega arith) r))
 
 pub row_up : (r : ℕ) (from next : Coord) → IsNextRow r from next → from.y ≤ next.y
 row_up r from next h = by h.forth
   where
-    by : ((next.y ≡ from.y) × (next.x ≡ from.x + 1)) ⊎ ((next.y ≡ from.y + 1) × (next.x ≡ 0) × (from.x + 1 ≡ r)) → from.y ≤ next.y
+    by : ((next.y ≡ from.y) × (next.x ≡ from.x + 1)) ⊎ ((next.y ≡ from.y + 1) × (next.x ≡ 0) × (from.x + 1 ≡ r))
+        → from.y ≤ next.y
     by (inl e) = omega (arith, e.0)
     by (inr e) = omega (arith, e.0)
 
 pub row_most : (r : ℕ) (from next : Coord) → IsNextRow r from next → from.y < r → next.y ≤ r
 row_most r from next h l = by h.forth
   where
-    by : ((next.y ≡ from.y) × (next.x ≡ from.x + 1)) ⊎ ((next.y ≡ from.y + 1) × (next.x ≡ 0) × (from.x + 1 ≡ r)) → next.y ≤ r
+    by : ((next.y ≡ from.y) × (next.x ≡ from.x + 1)) ⊎ ((next.y ≡ from.y + 1) × (next.x ≡ 0) × (from.x + 1 ≡ r))
+        → next.y ≤ r
     by (inl e) = omega (arith, e.0)
     by (inr e) = omega (arith, e.0)
 
@@ -198,6 +213,7 @@ pub found_none : {A : Type 0} (o : Option A) (P : Type 0) (Q : A → Type 0) →
 found_none None P Q e h = h
 found_none (Some a) P Q e h = cc
 
-pub found_some : {A : Type 0} (o : Option A) (P : Type 0) (Q : A → Type 0) (S : Type 0) (R : A → Type 0) → is_some o ≡ true → ((a : A) → Q a → R a) → MatchOption o P Q → MatchOption o S R
+pub found_some : {A : Type 0} (o : Option A) (P : Type 0) (Q : A → Type 0) (S : Type 0) (R : A → Type 0)
+    → is_some o ≡ true → ((a : A) → Q a → R a) → MatchOption o P Q → MatchOption o S R
 found_some None P Q S R e f h = cc
 found_some (Some a) P Q S R e f h = f a h

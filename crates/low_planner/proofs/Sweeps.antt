@@ -21,7 +21,9 @@ in_none xs x e h = let l : length xs ≡ 0 = ap length e in omega (arith, h.1)
 
 -- ---- a new start
 
-pub moved : (m : Matrix) (s t : Sweep) (c : Coord) → t.remaining ≡ s.remaining → t.trail.items ≡ s.trail.items → t.at ≡ c → IsSweep m s → s.trail.items ≡ [] → AreSwept m s.remaining c → s.at.y ≤ c.y → IsInSpace m.resolution c → IsSweep m t
+pub moved : (m : Matrix) (s t : Sweep) (c : Coord) → t.remaining ≡ s.remaining → t.trail.items ≡ s.trail.items
+    → t.at ≡ c → IsSweep m s → s.trail.items ≡ [] → AreSwept m s.remaining c → s.at.y ≤ c.y → IsInSpace m.resolution c
+    → IsSweep m t
 moved m s t c er et ea h none swept up within = record {
   resolution = ap (λ (l : Matrix). l.resolution) er ∙ h.resolution;
   fewer = λ d f. ap (λ (l : Matrix). is_full l d) er ∙ h.fewer d f;
@@ -90,7 +92,8 @@ module _ (m : Matrix) (s t : Sweep) (c : Coord) (h : IsSweep m s) (k : TakesVoxe
       of d (inl e) = subst (IsSupported m) (sym e) supported
       of d (inr v) = h.supported d v
 
-      near : (a b : Coord) → AreBesideInLayer a b → IsTrue (is_full t.remaining b) → (a ≡ c) ⊎ IsVisited m s.remaining a → Contains t.trail.items a
+      near : (a b : Coord) → AreBesideInLayer a b → IsTrue (is_full t.remaining b) → (a ≡ c) ⊎ IsVisited m s.remaining a
+          → Contains t.trail.items a
       near a b n f (inl e) = subst (λ (q : Coord). Contains t.trail.items q) (sym e) on_it
       near a b n f (inr v) = stays_on a (h.closed a b v n (left_before b f))
 
@@ -104,7 +107,9 @@ module _ (m : Matrix) (s t : Sweep) (c : Coord) (h : IsSweep m s) (k : TakesVoxe
 
 -- ---- a voxel less on the trail
 
-pub popped : (m : Matrix) (s t : Sweep) (last : Coord) → IsSweep m s → t.remaining ≡ s.remaining → t.at ≡ s.at → s.trail.items ≡ t.trail.items ++ last ∷ [] → ((d : Coord) → AreBesideInLayer last d → is_full s.remaining d ≡ false) → IsTrail s.at t.trail.items → IsSweep m t
+pub popped : (m : Matrix) (s t : Sweep) (last : Coord) → IsSweep m s → t.remaining ≡ s.remaining → t.at ≡ s.at
+    → s.trail.items ≡ t.trail.items ++ last ∷ []
+    → ((d : Coord) → AreBesideInLayer last d → is_full s.remaining d ≡ false) → IsTrail s.at t.trail.items → IsSweep m t
 popped m s t last h er ea ends alone trail = record {
   resolution = ap (λ (l : Matrix). l.resolution) er ∙ h.resolution;
   fewer = λ d f. ap (λ (l : Matrix). is_full l d) er ∙ h.fewer d f;
@@ -120,17 +125,22 @@ popped m s t last h er ea ends alone trail = record {
     was : (d : Coord) → IsVisited m t.remaining d → IsVisited m s.remaining d
     was d k = record { before = k.before; after = sym (ap (λ (l : Matrix). is_full l d) er) ∙ k.after }
 
-    near : (a b : Coord) → AreBesideInLayer a b → IsTrue (is_full s.remaining b) → (Contains t.trail.items a ⊎ (last ≡ a)) → Contains t.trail.items a
+    near : (a b : Coord) → AreBesideInLayer a b → IsTrue (is_full s.remaining b)
+        → (Contains t.trail.items a ⊎ (last ≡ a)) → Contains t.trail.items a
     near a b n g (inl i) = i
     near a b n g (inr e) = anything_by (is_full s.remaining b) g (alone b (subst (λ (q : Coord). AreBesideInLayer q b) (sym e) n))
 
 -- ---- what was not visited
 
 -- a layer of which all that rests was visited, and none is on the trail, has no voxel of a supported part that was not visited
-pub none_left : (m : Matrix) (s : Sweep) (y : ℕ) → IsSweep m s → ((c : Coord) → c.y ≡ y → IsTrue (rests m c) → is_full s.remaining c ≡ false) → ((c : Coord) → c.y ≡ y → Contains s.trail.items c → ⊥) → (c : Coord) → IsSupported m c → c.y ≡ y → is_full s.remaining c ≡ false
+pub none_left : (m : Matrix) (s : Sweep) (y : ℕ) → IsSweep m s
+    → ((c : Coord) → c.y ≡ y → IsTrue (rests m c) → is_full s.remaining c ≡ false)
+    → ((c : Coord) → c.y ≡ y → Contains s.trail.items c → ⊥) → (c : Coord) → IsSupported m c → c.y ≡ y
+    → is_full s.remaining c ≡ false
 none_left m s y h rest off = in_part m (λ a. a.y ≡ y → is_full s.remaining a ≡ false) (λ a f r e. rest a e r) more
   where
-    more : (a b : Coord) → IsTrue (is_full m a) → IsTrue (is_full m b) → AreBesideInLayer a b → (b.y ≡ y → is_full s.remaining b ≡ false) → a.y ≡ y → is_full s.remaining a ≡ false
+    more : (a b : Coord) → IsTrue (is_full m a) → IsTrue (is_full m b) → AreBesideInLayer a b
+        → (b.y ≡ y → is_full s.remaining b ≡ false) → a.y ≡ y → is_full s.remaining a ≡ false
     more a b f g n later e = by (is_full s.remaining a) refl
       where
         at : b.y ≡ y
@@ -141,7 +151,8 @@ none_left m s y h rest off = in_part m (λ a. a.y ≡ y → is_full s.remaining 
         by true w = absurd (off b at (h.closed b a (record { before = g; after = later at }) (beside-sym a b n) w))
 
 -- the least voxel that was not visited is the least of all unsupported parts
-pub left_is_unsupported : (m : Matrix) (s : Sweep) (o : Option Coord) → IsSweep m s → s.trail.items ≡ [] → AreAllSwept m s.remaining → LeastOf s.remaining.resolution (is_full s.remaining) o → FirstUnsupported m o
+pub left_is_unsupported : (m : Matrix) (s : Sweep) (o : Option Coord) → IsSweep m s → s.trail.items ≡ []
+    → AreAllSwept m s.remaining → LeastOf s.remaining.resolution (is_full s.remaining) o → FirstUnsupported m o
 left_is_unsupported m s o h none all least =
     subst (FirstUnsupported m) (ap (λ r. find (is_full s.remaining) (coordinates r)) (sym h.resolution) ∙ first_is s.remaining.resolution (is_full s.remaining) o least)
     (first_failing (λ c. IsTrue (is_full m c) → IsSupported m c) (is_full s.remaining) bad good (all_of m))

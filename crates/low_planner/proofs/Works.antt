@@ -35,7 +35,8 @@ plain_and cs c h k = All-append IsPlain cs (c ∷ []) k (plain_more c [] h (All-
 
 -- ---- a way
 
-pub went : (old new : TapeState) (to : Coord) → IsWorking old → Moves old new to → Works old new to old.matrix (moves_to (spot old.bots) to)
+pub went : (old new : TapeState) (to : Coord) → IsWorking old → Moves old new to
+    → Works old new to old.matrix (moves_to (spot old.bots) to)
 went old new to w m = record {
   source = m.source;
   working = record { alone = m.alone; low = m.harmonics ∙ w.low; light = m.profile ∙ w.light };
@@ -56,7 +57,8 @@ no_leg : (axis : Axis) (a b : ℕ) (cs : List Command) → a ≡ b → IsLeastLe
 no_leg axis a b cs e h = none_of cs (h.least ∙ (ap (λ (n : ℕ). moves a n) (sym e) ∙ no_moves a))
 
 -- no commands where the bot is there
-pub went_nowhere : (old new : TapeState) (to : Coord) → spot old.bots ≡ to → Moves old new to → new.commands ≡ old.commands
+pub went_nowhere : (old new : TapeState) (to : Coord) → spot old.bots ≡ to → Moves old new to
+    → new.commands ≡ old.commands
 went_nowhere old new to e m =
     let h = m.legs in
     let x = no_leg X (spot old.bots).x to.x h.x (ap (λ (q : Coord). q.x) e) h.along_x in
@@ -70,7 +72,9 @@ went_nowhere old new to e m =
 pub below_spot : (p : TapeState) (c : Coord) → spot p.bots ≡ above c → beside p down ≡ c
 below_spot p c e = ap (λ (q : Coord). coordinate (plus (point q) down)) e ∙ (λ i. record { x = there c.x i; y = unsigned_less_one c.y i; z = there c.z i })
 
-pub filled : (a b c : TapeState) (at : Coord) (n : ℕ) (cost : ℤ) → Works a b (above at) a.matrix n → Writes b c (Fill down) (with_voxel b.matrix (beside b down) true) b.harmonics b.bots cost → Works a c (above at) (with_voxel a.matrix at true) (n + 1)
+pub filled : (a b c : TapeState) (at : Coord) (n : ℕ) (cost : ℤ) → Works a b (above at) a.matrix n
+    → Writes b c (Fill down) (with_voxel b.matrix (beside b down) true) b.harmonics b.bots cost
+    → Works a c (above at) (with_voxel a.matrix at true) (n + 1)
 filled a b c at n cost w f = record {
   source = f.source ∙ w.source;
   working = record { alone = ap length f.bots_are ∙ w.working.alone; low = f.harmonics ∙ w.working.low; light = f.profile ∙ w.working.light };

@@ -12,11 +12,13 @@ use Rattle.machine_c.specs.declared.stepping.StepAnswer.TheVariants.{Made, Refus
 use Rattle.machine_c.specs.Calls.{StepComesTo, ComesTo}
 
 -- bytes that have no byte behind a command
-pub one_cut : (bytes : List ℕ) (command : Command) (len : ℕ) → Spells bytes command len → len ≡ length bytes → Cutting bytes (command ∷ [])
+pub one_cut : (bytes : List ℕ) (command : Command) (len : ℕ) → Spells bytes command len → len ≡ length bytes
+    → Cutting bytes (command ∷ [])
 one_cut bytes command len spells whole =
     ((spells.is_command, tt), sym (take-length bytes) ∙ (ap (λ n. take n bytes) (sym whole) ∙ (spells.spelling_is ∙ sym (append-nil (spelling command)))))
 
-pub comes_to : (old new : Kept) (bytes : List ℕ) (commands : List Command) (answer : StepAnswer) → Cutting bytes commands → StepComesTo old commands new answer → ComesTo old bytes new answer
+pub comes_to : (old new : Kept) (bytes : List ℕ) (commands : List Command) (answer : StepAnswer)
+    → Cutting bytes commands → StepComesTo old commands new answer → ComesTo old bytes new answer
 comes_to old new bytes commands (Made ok) cut tries = (commands, cut, tries)
 comes_to old new bytes commands (Refused fault) cut tries = (commands, cut, tries)
 comes_to old new bytes commands (Unread fault) cut tries = absurd tries

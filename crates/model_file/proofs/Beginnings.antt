@@ -24,7 +24,8 @@ use Rattle.model_file.proofs.Spreads.{in_none}
 
 -- ---- what is stacked is grounded
 
-stacked_grounded : (m : Matrix) (c : Coord) (y : ℕ) → is_full_up_to m c y ≡ true → Grounded m (record { x = c.x; y = y; z = c.z })
+stacked_grounded : (m : Matrix) (c : Coord) (y : ℕ) → is_full_up_to m c y ≡ true
+    → Grounded m (record { x = c.x; y = y; z = c.z })
 stacked_grounded m c zero h = on_floor m (record { x = c.x; y = 0; z = c.z }) h refl
 stacked_grounded m c (suc y) h =
     let parts = both_true (is_full_up_to m c y) (is_full m (record { x = c.x; y = suc y; z = c.z })) h in
@@ -65,7 +66,9 @@ begun_still m a b h t = record {
     grounded c k false e = h.grounded c (record { before = k.before; after = e })
 
 -- of no area or of one with nothing out around which something is left
-pub looks_none : (m : Matrix) (area : Coord → Type 0) (a : Flood) → ((c d : Coord) → area c → IsTaken m a.remaining c → IsTrue (are_adjacent c d) → is_full a.remaining d ≡ false) → LooksAround m area a a
+pub looks_none : (m : Matrix) (area : Coord → Type 0) (a : Flood)
+    → ((c d : Coord) → area c → IsTaken m a.remaining c → IsTrue (are_adjacent c d) → is_full a.remaining d ≡ false)
+    → LooksAround m area a a
 looks_none m area a bare = record { takes = takes_none (Grounded m) a a refl (λ d. refl) refl; bare = bare }
 
 pub looks_then : (m : Matrix) (one two both : Coord → Type 0) (a b c : Flood) → ((d : Coord) → IsInSpace m.resolution d → both d → one d ⊎ two d) →
@@ -75,11 +78,13 @@ looks_then m one two both a b c joined h k = record {
   bare = λ e d area t n. by e d t n (joined e (full_within m e t.before) area);
 }
   where
-    by : (e d : Coord) → IsTaken m a.remaining e → IsTrue (are_adjacent e d) → (one e ⊎ two e) → is_full c.remaining d ≡ false
+    by : (e d : Coord) → IsTaken m a.remaining e → IsTrue (are_adjacent e d) → (one e ⊎ two e)
+        → is_full c.remaining d ≡ false
     by e d t n (inl l) = let u = k.takes in u.fewer d (h.bare e d l t n)
     by e d t n (inr l) = let u = h.takes in k.bare e d l (record { before = t.before; after = u.fewer e t.after }) n
 
-pub looks_wider : (m : Matrix) (one all : Coord → Type 0) (a b : Flood) → ((d : Coord) → IsInSpace m.resolution d → all d → one d) → LooksAround m one a b → LooksAround m all a b
+pub looks_wider : (m : Matrix) (one all : Coord → Type 0) (a b : Flood)
+    → ((d : Coord) → IsInSpace m.resolution d → all d → one d) → LooksAround m one a b → LooksAround m all a b
 looks_wider m one all a b wider h = record {
   takes = h.takes;
   bare = λ c d area t n. h.bare c d (wider c (full_within m c t.before) area) t n;
@@ -90,12 +95,14 @@ looks_wider m one all a b wider h = record {
 module _ (m left : Matrix) (first : Coord) (count own bits : ℕ) (few : count ≤ 64) (size : count ≡ min (m.resolution - first.z) 64)
     (mine : (k : ℕ) → k < count → bit own k ≡ (bit (2 ^ 64 - 1) k && is_full left (at first (first.z + k)))) (fits : own < 2 ^ 64)
     (outs : (k : ℕ) → k < count → bit bits k ≡ (bit (bit_not w64 own) k && is_full m (at first (first.z + k)))) (below : bits < 2 ^ count) where
-  own_is : (c : Coord) → c.x ≡ first.x → c.y ≡ first.y → first.z ≤ c.z → c.z - first.z < count → bit own (c.z - first.z) ≡ is_full left c
+  own_is : (c : Coord) → c.x ≡ first.x → c.y ≡ first.y → first.z ≤ c.z → c.z - first.z < count
+      → bit own (c.z - first.z) ≡ is_full left c
   own_is c x y l u =
       mine (c.z - first.z) u
       ∙ ((λ i. full_bit (c.z - first.z) (omega arith) i && is_full left (its_place first c x y l i)))
 
-  out_is : (c : Coord) → c.x ≡ first.x → c.y ≡ first.y → first.z ≤ c.z → c.z - first.z < count → bit bits (c.z - first.z) ≡ (not (is_full left c) && is_full m c)
+  out_is : (c : Coord) → c.x ≡ first.x → c.y ≡ first.y → first.z ≤ c.z → c.z - first.z < count
+      → bit bits (c.z - first.z) ≡ (not (is_full left c) && is_full m c)
   out_is c x y l u =
       outs (c.z - first.z) u
       ∙ (λ i. (not_bit own (c.z - first.z) fits (omega arith) ∙ ap not (own_is c x y l u)) i && is_full m (its_place first c x y l i))
@@ -153,7 +160,8 @@ none_left m first count bits few size h d a = by (cases_lt d.z (first.z + count)
     by (inr l) = void_by m d (λ i. let k = i.z in let t = a.to in let f = a.from in absurd (omega arith))
 
 -- the word that says which are left has no bit
-pub nothing_left : (m : Matrix) (first : Coord) (bits : ℕ) → bits ≡ 0 → (d : Coord) → IsAmong (record { first = first; bits = bits }) d → is_full m d ≡ false
+pub nothing_left : (m : Matrix) (first : Coord) (bits : ℕ) → bits ≡ 0 → (d : Coord)
+    → IsAmong (record { first = first; bits = bits }) d → is_full m d ≡ false
 nothing_left m first bits e d a =
     let z : bit bits (d.z - first.z) ≡ false = ap (λ n. bit n (d.z - first.z)) e ∙ ap (λ d. d == 1) (bit_at_above 0 0 (d.z - first.z) (omega arith) (omega arith)) in
     let b = a.here in
@@ -179,6 +187,7 @@ flood_begun m start begun none h floor looks = record {
     found c (inl k) = absurd (in_none start c none k)
     found c (inr k) = record { before = true_by_false (is_full m c) (is_full start.remaining c) (h.fewer c) k.before; after = k.after }
 
-    looked : (a b : Coord) → IsTaken m begun.remaining a → IsTrue (are_adjacent a b) → IsTrue (is_full begun.remaining b) → (f : Bool) → is_full start.remaining a ≡ f → HasFound begun a
+    looked : (a b : Coord) → IsTaken m begun.remaining a → IsTrue (are_adjacent a b)
+        → IsTrue (is_full begun.remaining b) → (f : Bool) → is_full start.remaining a ≡ f → HasFound begun a
     looked a b k n f true e = let t = looks.takes in (t.taken a (record { before = e; after = k.after })).1
     looked a b k n f false e = anything_by (is_full begun.remaining b) f (looks.bare a b tt (record { before = k.before; after = e }) n)

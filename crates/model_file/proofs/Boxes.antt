@@ -13,23 +13,28 @@ use Rattle.nano_spec.specs.Legal.{in_legal_box}
 use Rattle.nano_spec.specs.Matrix.{Matrix, all_of, is_full}
 
 -- tests that agree in space have one least
-pub least_same : (r : ℕ) (f g : Coord → Bool) → ((c : Coord) → IsInSpace r c → f c ≡ g c) → (o : Option Coord) → LeastOf r f o → LeastOf r g o
+pub least_same : (r : ℕ) (f g : Coord → Bool) → ((c : Coord) → IsInSpace r c → f c ≡ g c) → (o : Option Coord)
+    → LeastOf r f o → LeastOf r g o
 least_same r f g same None h = λ d i. sym (same d i) ∙ h d i
 least_same r f g same (Some c) h = record { within = h.within; passes = sym (same c h.within) ∙ h.passes; least = λ d i t. h.least d i (same d i ∙ t) }
 
-between_is : (low high v : ℕ) → low ≤ high → is_between (pos (min low high)) (pos (max low high)) (pos v) ≡ (nat_le low v && nat_le v high)
+between_is : (low high v : ℕ) → low ≤ high
+    → is_between (pos (min low high)) (pos (max low high)) (pos v) ≡ (nat_le low v && nat_le v high)
 between_is low high v o = grind (arith, nat_tests)
 
 -- whether a coordinate is in the box between two
 unfoldable pub in_box : Coord → Coord → Coord → Bool
 in_box low high c = (nat_le low.x c.x && nat_le c.x high.x) && (nat_le low.y c.y && nat_le c.y high.y) && (nat_le low.z c.z && nat_le c.z high.z)
 
-within_is : (low high c : Coord) → low.x ≤ high.x → low.y ≤ high.y → low.z ≤ high.z → is_within (span (corners low high)) (point c) ≡ in_box low high c
+within_is : (low high c : Coord) → low.x ≤ high.x → low.y ≤ high.y → low.z ≤ high.z
+    → is_within (span (corners low high)) (point c) ≡ in_box low high c
 unfolding in_box
 within_is low high c x y z = λ i. between_is low.x high.x c.x x i && between_is low.y high.y c.y y i && between_is low.z high.z c.z z i
 
 -- what a search of a box has found
-pub box_least : (m : Matrix) (k : Corners) (low high : Coord) (o : Option Coord) → k ≡ corners low high → low.x ≤ high.x → low.y ≤ high.y → low.z ≤ high.z → o ≡ find (λ c. is_full m c && is_within (span k) (point c)) (all_of m) → LeastOf m.resolution (λ c. is_full m c && in_box low high c) o
+pub box_least : (m : Matrix) (k : Corners) (low high : Coord) (o : Option Coord) → k ≡ corners low high → low.x ≤ high.x
+    → low.y ≤ high.y → low.z ≤ high.z → o ≡ find (λ c. is_full m c && is_within (span k) (point c)) (all_of m)
+    → LeastOf m.resolution (λ c. is_full m c && in_box low high c) o
 box_least m k low high o e x y z found =
     subst (λ (p : Option Coord). LeastOf m.resolution (λ c. is_full m c && in_box low high c) p) (sym found)
     (least_same m.resolution (λ c. is_full m c && is_within (span k) (point c)) (λ c. is_full m c && in_box low high c)
@@ -52,7 +57,9 @@ in_all : (r e : ℕ) (c : Coord) → IsInSpace r c → e + 1 ≡ r → in_box ze
 unfolding in_box
 in_all r e c i h = rw (up_to c.x e r i.x h, up_to c.y e r i.y h, up_to c.z e r i.z h) refl
 
-pub least_of_all : (m : Matrix) (k : Corners) (e : ℕ) (o : Option Coord) → e + 1 ≡ m.resolution → k ≡ corners zero_corner (end_corner e) → o ≡ find (λ c. is_full m c && is_within (span k) (point c)) (all_of m) → LeastOf m.resolution (is_full m) o
+pub least_of_all : (m : Matrix) (k : Corners) (e : ℕ) (o : Option Coord) → e + 1 ≡ m.resolution
+    → k ≡ corners zero_corner (end_corner e) → o ≡ find (λ c. is_full m c && is_within (span k) (point c)) (all_of m)
+    → LeastOf m.resolution (is_full m) o
 least_of_all m k e o h c found =
     least_same m.resolution (λ c. is_full m c && in_box zero_corner (end_corner e) c) (is_full m) (λ c i. and_by_second (is_full m c) (in_box zero_corner (end_corner e) c) (in_all m.resolution e c i h)) o
     (box_least m k zero_corner (end_corner e) o c (omega arith) (omega arith) (omega arith) found)
@@ -80,11 +87,14 @@ back_box e = in_box (record { x = 0; y = 0; z = e }) (end_corner e)
 abbrev pub top_box : ℕ → Coord → Bool
 top_box e = in_box (record { x = 0; y = e; z = 0 }) (end_corner e)
 
-pub outside_is : (r e : ℕ) (c : Coord) → IsInSpace r c → e + 1 ≡ r → (((left_box e c || right_box e c) || (front_box e c || back_box e c)) || top_box e c) ≡ not (in_legal_box r c)
+pub outside_is : (r e : ℕ) (c : Coord) → IsInSpace r c → e + 1 ≡ r
+    → (((left_box e c || right_box e c) || (front_box e c || back_box e c)) || top_box e c) ≡ not (in_legal_box r c)
 unfolding in_box
 outside_is r e c i h = rw (up_to c.x e r i.x h, up_to c.y e r i.y h, up_to c.z e r i.z h, at_zero c.x, at_zero c.z, at_end c.x e r i.x h, at_end c.y e r i.y h, at_end c.z e r i.z h) (same (nat_le 1 c.x) (nat_lt (c.x + 1) r) (nat_lt (c.y + 1) r) (nat_le 1 c.z) (nat_lt (c.z + 1) r))
   where
-    same : (x u y z w : Bool) → ((((not x && true && true) || (not u && true && true)) || ((true && true && not z) || (true && true && not w))) || (true && not y && true)) ≡ not (x && u && y && z && w)
+    same : (x u y z w : Bool)
+        → ((((not x && true && true) || (not u && true && true)) || ((true && true && not z) || (true && true && not w))) || (true && not y && true))
+        ≡ not (x && u && y && z && w)
     same true true true true true = refl
     same true true true true false = refl
     same true true true false true = refl
@@ -96,7 +106,8 @@ outside_is r e c i h = rw (up_to c.x e r i.x h, up_to c.y e r i.y h, up_to c.z e
     same true false y z w = refl
     same false u y z w = refl
 
-either_full : (f a b c d e : Bool) → ((((f && a) || (f && b)) || ((f && c) || (f && d))) || (f && e)) ≡ (f && (((a || b) || (c || d)) || e))
+either_full : (f a b c d e : Bool)
+    → ((((f && a) || (f && b)) || ((f && c) || (f && d))) || (f && e)) ≡ (f && (((a || b) || (c || d)) || e))
 either_full true a b c d e = refl
 either_full false a b c d e = refl
 

@@ -18,7 +18,9 @@ pub length-numbers : (n a : ℕ) → length (numbers_from a n) ≡ n
 length-numbers zero a = refl
 length-numbers (suc n) a = ap suc (length-numbers n (a + 1))
 
-pub matrix_is : (m : Matrix) (r : ℕ) (f : ℕ → Bool) → m.resolution ≡ r → length m.voxels ≡ volume r → ((p : ℕ) → p < volume r → voxel_at m p ≡ f p) → m ≡ (record { resolution = r; voxels = map f (numbers_below (volume r)) })
+pub matrix_is : (m : Matrix) (r : ℕ) (f : ℕ → Bool) → m.resolution ≡ r → length m.voxels ≡ volume r
+    → ((p : ℕ) → p < volume r → voxel_at m p ≡ f p)
+    → m ≡ (record { resolution = r; voxels = map f (numbers_below (volume r)) })
 matrix_is m r f er el h = λ i. record { resolution = er i; voxels = same i }
   where
     each : (p : ℕ) → p < volume r → get_or (map f (numbers_below (volume r))) p false ≡ f p
@@ -32,7 +34,8 @@ matrix_is m r f er el h = λ i. record { resolution = er i; voxels = same i }
 -- ---- reading
 
 -- a byte of the rest from one on
-pub byte_is : (bytes : List ℕ) (s k byte d : ℕ) → k < length (take (length bytes - s) (drop s bytes)) → byte ≡ get_or (take (length bytes - s) (drop s bytes)) k d → byte ≡ slice_index bytes (s + k)
+pub byte_is : (bytes : List ℕ) (s k byte d : ℕ) → k < length (take (length bytes - s) (drop s bytes))
+    → byte ≡ get_or (take (length bytes - s) (drop s bytes)) k d → byte ≡ slice_index bytes (s + k)
 byte_is bytes s k byte d l e =
     let rest : take (length bytes - s) (drop s bytes) ≡ drop s bytes = take_rest bytes s in
     e ∙ (get_or_default (take (length bytes - s) (drop s bytes)) k d 0 l ∙ (ap (λ xs. get_or xs k 0) rest ∙ get_or-drop s bytes k 0))
@@ -47,7 +50,8 @@ pub byte_more : (old new : Matrix) (bytes : List ℕ) (places from k count byte 
     (p : ℕ) → p < 8 * (k + 1) → p < places → voxel_at new p ≡ voxel_bit bytes p
 byte_more old new bytes places from k count byte ef ec eb before set p l m = set p ∙ by (cases_lt p from)
   where
-    by : ((p < from) ⊎ (from ≤ p)) → cond (is_from from count p) (bit byte (p - from)) (voxel_at old p) ≡ voxel_bit bytes p
+    by : ((p < from) ⊎ (from ≤ p))
+        → cond (is_from from count p) (bit byte (p - from)) (voxel_at old p) ≡ voxel_bit bytes p
     by (inl h) = ap (λ b. cond b (bit byte (p - from)) (voxel_at old p)) (before_these from count p h) ∙ before p (omega arith) m
     by (inr h) =
         let q : p / 8 ≡ k = omega arith in
@@ -58,7 +62,8 @@ byte_more old new bytes places from k count byte ef ec eb before set p l m = set
 
 -- ---- writing
 
-numbers_more : {A : Type 0} (f : ℕ → A) (n a : ℕ) → map f (numbers_from a (n + 1)) ≡ map f (numbers_from a n) ++ f (a + n) ∷ []
+numbers_more : {A : Type 0} (f : ℕ → A) (n a : ℕ)
+    → map f (numbers_from a (n + 1)) ≡ map f (numbers_from a n) ++ f (a + n) ∷ []
 numbers_more f n a = ap (λ k. map f (numbers_from a k)) (add-one n) ∙ by n a
   where
     by : (n a : ℕ) → map f (numbers_from a (suc n)) ≡ map f (numbers_from a n) ++ f (a + n) ∷ []
@@ -66,7 +71,8 @@ numbers_more f n a = ap (λ k. map f (numbers_from a k)) (add-one n) ∙ by n a
     by (suc n) a = ap (λ xs. f a ∷ xs) (by n (a + 1) ∙ ap (λ v. map f (numbers_from (a + 1) n) ++ f v ∷ []) (let e : a + 1 + n ≡ a + suc n = omega arith in e))
 
 -- a byte is the sum of its bits
-eight : (n : ℕ) → n < 256 → n ≡ n % 2 + n / 2 % 2 * 2 + n / 4 % 2 * 4 + n / 8 % 2 * 8 + n / 16 % 2 * 16 + n / 32 % 2 * 32 + n / 64 % 2 * 64 + n / 128 % 2 * 128
+eight : (n : ℕ) → n < 256 → n ≡ n % 2 + n / 2 % 2 * 2 + n / 4 % 2 * 4 + n / 8 % 2 * 8 + n / 16 % 2 * 16
+    + n / 32 % 2 * 32 + n / 64 % 2 * 64 + n / 128 % 2 * 128
 eight n l = omega arith
 
 worth : (d c : ℕ) → d < 2 → d * c ≡ cond (d == 1) c 0
@@ -86,14 +92,17 @@ bits_sum n l =
     let h : n / 128 % 2 * 128 ≡ cond (bit n 7) 128 0 = worth (n / 128 % 2) 128 (omega arith) in
     start ∙ (λ j. 0 + a j + b j + c j + d j + e j + f j + g j + h j)
   where
-    start : n ≡ 0 + n / 1 % 2 * 1 + n / 2 % 2 * 2 + n / 4 % 2 * 4 + n / 8 % 2 * 8 + n / 16 % 2 * 16 + n / 32 % 2 * 32 + n / 64 % 2 * 64 + n / 128 % 2 * 128
+    start : n ≡ 0 + n / 1 % 2 * 1 + n / 2 % 2 * 2 + n / 4 % 2 * 4 + n / 8 % 2 * 8 + n / 16 % 2 * 16 + n / 32 % 2 * 32
+        + n / 64 % 2 * 64 + n / 128 % 2 * 128
     start = omega (arith, eight n l)
 
 no_bit : (n count i : ℕ) → n < 2 ^ count → count ≤ i → bit n i ≡ false
 no_bit n count i l h = ap (λ d. d == 1) (bit_at_above n count i l h)
 
 -- the byte of so many voxels
-pub byte_of : (voxels : List Bool) (k count byte : ℕ) → count ≤ 8 → byte < 2 ^ count → ((i : ℕ) → i < count → bit byte i ≡ get_or voxels (8 * k + i) false) → ((i : ℕ) → count ≤ i → i < 8 → get_or voxels (8 * k + i) false ≡ false) → byte ≡ byte_at voxels k
+pub byte_of : (voxels : List Bool) (k count byte : ℕ) → count ≤ 8 → byte < 2 ^ count
+    → ((i : ℕ) → i < count → bit byte i ≡ get_or voxels (8 * k + i) false)
+    → ((i : ℕ) → count ≤ i → i < 8 → get_or voxels (8 * k + i) false ≡ false) → byte ≡ byte_at voxels k
 byte_of voxels k count byte few below bits none = bits_sum byte (omega (arith, small)) ∙ same
   where
     small : 2 ^ count ≤ 2 ^ 8
@@ -109,6 +118,8 @@ byte_of voxels k count byte few below bits none = bits_sum byte (omega (arith, s
     same : sum_by (λ i. cond (bit byte i) (2 ^ i) 0) (numbers_below 8) ≡ byte_at voxels k
     same = λ j. 0 + cond (each 0 (omega arith) j) 1 0 + cond (each 1 (omega arith) j) 2 0 + cond (each 2 (omega arith) j) 4 0 + cond (each 3 (omega arith) j) 8 0 + cond (each 4 (omega arith) j) 16 0 + cond (each 5 (omega arith) j) 32 0 + cond (each 6 (omega arith) j) 64 0 + cond (each 7 (omega arith) j) 128 0
 
-pub byte_pushed : (r : ℕ) (voxels : List Bool) (k : ℕ) (old new : List ℕ) (byte : ℕ) → old ≡ r ∷ map (byte_at voxels) (numbers_below k) → new ≡ old ++ byte ∷ [] → byte ≡ byte_at voxels k → new ≡ r ∷ map (byte_at voxels) (numbers_below (k + 1))
+pub byte_pushed : (r : ℕ) (voxels : List Bool) (k : ℕ) (old new : List ℕ) (byte : ℕ)
+    → old ≡ r ∷ map (byte_at voxels) (numbers_below k) → new ≡ old ++ byte ∷ [] → byte ≡ byte_at voxels k
+    → new ≡ r ∷ map (byte_at voxels) (numbers_below (k + 1))
 byte_pushed r voxels k old new byte eo en eb =
     en ∙ ((λ i. eo i ++ eb i ∷ []) ∙ ap (λ xs. r ∷ xs) (ap (λ v. map (byte_at voxels) (numbers_below k) ++ byte_at voxels v ∷ []) (sym (zero-add k)) ∙ sym (numbers_more (byte_at voxels) k 0)))

@@ -46,12 +46,14 @@ passing-most f g (suc n) h =
     let here = worth (f n) (g n) (h n (omega arith)) in
     omega arith
 
-passing-less : (f g : ℕ → Bool) (n q : ℕ) → q < n → f q ≡ true → g q ≡ false → ((k : ℕ) → k < n → f k ≡ false → g k ≡ false) → passing g n + 1 ≤ passing f n
+passing-less : (f g : ℕ → Bool) (n q : ℕ) → q < n → f q ≡ true → g q ≡ false
+    → ((k : ℕ) → k < n → f k ≡ false → g k ≡ false) → passing g n + 1 ≤ passing f n
 unfolding passing
 passing-less f g zero q l t u h = absurd (omega arith)
 passing-less f g (suc n) q l t u h = by (ℕ_discrete n q) (λ (m : q < n). passing-less f g n q m t u (λ k a. h k (omega arith)))
   where
-    by : Dec (n ≡ q) → (q < n → passing g n + 1 ≤ passing f n) → passing g n + cond (g n) 1 0 + 1 ≤ passing f n + cond (f n) 1 0
+    by : Dec (n ≡ q) → (q < n → passing g n + 1 ≤ passing f n)
+        → passing g n + cond (g n) 1 0 + 1 ≤ passing f n + cond (f n) 1 0
     by (yes e) later =
         let one : cond {A = ℕ} (f n) 1 0 ≡ 1 = ap (λ (b : Bool). cond {A = ℕ} b 1 0) (ap f e ∙ t) in
         let none : cond {A = ℕ} (g n) 1 0 ≡ 0 = ap (λ (b : Bool). cond {A = ℕ} b 1 0) (ap g e ∙ u) in
@@ -67,7 +69,8 @@ full_of-same : (r : ℕ) (m n : Matrix) → ((d : Coord) → is_full n d ≡ is_
 unfolding full_of
 full_of-same r m n h = passing-same (λ p. is_full n (coordinate_at r p)) (λ p. is_full m (coordinate_at r p)) (r * r * r) (λ k l. h (coordinate_at r k))
 
-full_of-less : (r : ℕ) (m n : Matrix) (c : Coord) → IsInSpace r c → is_full m c ≡ true → is_full n c ≡ false → ((d : Coord) → is_full m d ≡ false → is_full n d ≡ false) → full_of r n + 1 ≤ full_of r m
+full_of-less : (r : ℕ) (m n : Matrix) (c : Coord) → IsInSpace r c → is_full m c ≡ true → is_full n c ≡ false
+    → ((d : Coord) → is_full m d ≡ false → is_full n d ≡ false) → full_of r n + 1 ≤ full_of r m
 unfolding full_of
 full_of-less r m n c within before after others =
     passing-less (λ p. is_full m (coordinate_at r p)) (λ p. is_full n (coordinate_at r p)) (r * r * r) (place r c) (place_below r c within)
@@ -83,13 +86,16 @@ full_within m c h = space_by_test m.resolution c (left (in_space m.resolution (p
 pub has_same : (a b : Flood) → b.found.items ≡ a.found.items → (d : Coord) → HasFound a d → HasFound b d
 has_same a b e d h = record { stretch = h.stretch; is_found = subst (λ (xs : List Stretch). Contains xs h.stretch) (sym e) h.is_found; among = h.among }
 
-pub has_more : (a b : Flood) (s : Stretch) → b.found.items ≡ a.found.items ++ s ∷ [] → (d : Coord) → HasFound a d → HasFound b d
+pub has_more : (a b : Flood) (s : Stretch) → b.found.items ≡ a.found.items ++ s ∷ [] → (d : Coord) → HasFound a d
+    → HasFound b d
 has_more a b s e d h = record { stretch = h.stretch; is_found = subst (λ (xs : List Stretch). Contains xs h.stretch) (sym e) (Contains-append_left a.found.items (s ∷ []) h.stretch h.is_found); among = h.among }
 
-pub has_last : (a b : Flood) (s : Stretch) → b.found.items ≡ a.found.items ++ s ∷ [] → (d : Coord) → IsAmong s d → HasFound b d
+pub has_last : (a b : Flood) (s : Stretch) → b.found.items ≡ a.found.items ++ s ∷ [] → (d : Coord) → IsAmong s d
+    → HasFound b d
 has_last a b s e d h = record { stretch = s; is_found = subst (λ (xs : List Stretch). Contains xs s) (sym e) (Contains-push a.found.items s); among = h }
 
-pub has_cases : (a b : Flood) (s : Stretch) → b.found.items ≡ a.found.items ++ s ∷ [] → (d : Coord) → HasFound b d → HasFound a d ⊎ IsAmong s d
+pub has_cases : (a b : Flood) (s : Stretch) → b.found.items ≡ a.found.items ++ s ∷ [] → (d : Coord) → HasFound b d
+    → HasFound a d ⊎ IsAmong s d
 has_cases a b s e d h = of (Contains-push_cases a.found.items s h.stretch (subst (λ (xs : List Stretch). Contains xs h.stretch) e h.is_found))
   where
     of : (Contains a.found.items h.stretch ⊎ (s ≡ h.stretch)) → HasFound a d ⊎ IsAmong s d
@@ -97,7 +103,8 @@ has_cases a b s e d h = of (Contains-push_cases a.found.items s h.stretch (subst
     of (inr q) = inr (subst (λ (t : Stretch). IsAmong t d) (sym q) h.among)
 
 -- nothing was taken
-pub takes_none : (near : Coord → Type 0) (a b : Flood) → b.remaining.resolution ≡ a.remaining.resolution → ((d : Coord) → is_full b.remaining d ≡ is_full a.remaining d) → b.found.items ≡ a.found.items → TakesOut near a b
+pub takes_none : (near : Coord → Type 0) (a b : Flood) → b.remaining.resolution ≡ a.remaining.resolution
+    → ((d : Coord) → is_full b.remaining d ≡ is_full a.remaining d) → b.found.items ≡ a.found.items → TakesOut near a b
 takes_none near a b r same found = record {
   resolution = r;
   fewer = λ d f. same d ∙ f;
@@ -114,17 +121,22 @@ takes_none near a b r same found = record {
 
 -- ---- voxels of a row
 
-parts_of : (first : Coord) (count bits : ℕ) (d : Coord) → is_marked first count bits d ≡ true → (d.x ≡ first.x) × (d.y ≡ first.y) × (first.z ≤ d.z) × (d.z < first.z + count) × (bit bits (d.z - first.z) ≡ true)
+parts_of : (first : Coord) (count bits : ℕ) (d : Coord) → is_marked first count bits d ≡ true
+    → (d.x ≡ first.x) × (d.y ≡ first.y) × (first.z ≤ d.z) × (d.z < first.z + count) × (bit bits (d.z - first.z) ≡ true)
 parts_of first count bits d h = by ((d.x == first.x) && (d.y == first.y) && is_from first.z count d.z) refl h
   where
-    row : ((d.x == first.x) && (d.y == first.y) && is_from first.z count d.z) ≡ true → (d.x ≡ first.x) × (d.y ≡ first.y) × (first.z ≤ d.z) × (d.z < first.z + count)
+    row : ((d.x == first.x) && (d.y == first.y) && is_from first.z count d.z) ≡ true
+        → (d.x ≡ first.x) × (d.y ≡ first.y) × (first.z ≤ d.z) × (d.z < first.z + count)
     row t = grind (arith, nat_tests)
 
-    by : (b : Bool) → ((d.x == first.x) && (d.y == first.y) && is_from first.z count d.z) ≡ b → (b && bit bits (d.z - first.z)) ≡ true → (d.x ≡ first.x) × (d.y ≡ first.y) × (first.z ≤ d.z) × (d.z < first.z + count) × (bit bits (d.z - first.z) ≡ true)
+    by : (b : Bool) → ((d.x == first.x) && (d.y == first.y) && is_from first.z count d.z) ≡ b
+        → (b && bit bits (d.z - first.z)) ≡ true → (d.x ≡ first.x) × (d.y ≡ first.y) × (first.z ≤ d.z)
+        × (d.z < first.z + count) × (bit bits (d.z - first.z) ≡ true)
     by true t k = let p = row t in (p.0, p.1, p.2, p.3, k)
     by false t k = cc
 
-marked_by : (first : Coord) (count bits : ℕ) (d : Coord) → d.x ≡ first.x → d.y ≡ first.y → first.z ≤ d.z → d.z < first.z + count → bit bits (d.z - first.z) ≡ true → is_marked first count bits d ≡ true
+marked_by : (first : Coord) (count bits : ℕ) (d : Coord) → d.x ≡ first.x → d.y ≡ first.y → first.z ≤ d.z
+    → d.z < first.z + count → bit bits (d.z - first.z) ≡ true → is_marked first count bits d ≡ true
 marked_by first count bits d x y l u b = ap (λ t. t && bit bits (d.z - first.z)) row ∙ b
   where
     row : ((d.x == first.x) && (d.y == first.y) && is_from first.z count d.z) ≡ true
@@ -148,7 +160,8 @@ below_count n count k l b = by (cases_lt k count)
     by (inr h) = let z : bit n k ≡ false = ap (λ d. d == 1) (bit_at_above n count k l h) in cc
 
 -- the coordinate of a row at a component
-pub its_place : (first d : Coord) → d.x ≡ first.x → d.y ≡ first.y → first.z ≤ d.z → at first (first.z + (d.z - first.z)) ≡ d
+pub its_place : (first d : Coord) → d.x ≡ first.x → d.y ≡ first.y → first.z ≤ d.z
+    → at first (first.z + (d.z - first.z)) ≡ d
 its_place first d x y l = λ i. record { x = x' i; y = y' i; z = z' i }
   where
     x' : first.x ≡ d.x
@@ -167,10 +180,12 @@ module _ (a b : Flood) (first : Coord) (count bits taken : ℕ) (r : b.remaining
   fewer_in_row d f = left d ∙ ap (λ t. t && not (is_marked first count bits d)) f
 
   -- a voxel of the row that was there is one of those that were taken, and it is there no longer
-  taken_bit : (d : Coord) → d.x ≡ first.x → d.y ≡ first.y → first.z ≤ d.z → d.z < first.z + count → bit taken (d.z - first.z) ≡ (bit bits (d.z - first.z) && is_full a.remaining d)
+  taken_bit : (d : Coord) → d.x ≡ first.x → d.y ≡ first.y → first.z ≤ d.z → d.z < first.z + count
+      → bit taken (d.z - first.z) ≡ (bit bits (d.z - first.z) && is_full a.remaining d)
   taken_bit d x y l u = was (d.z - first.z) (omega arith) ∙ ap (λ c. bit bits (d.z - first.z) && is_full a.remaining c) (its_place first d x y l)
 
-  pub row_gone : (d : Coord) → d.x ≡ first.x → d.y ≡ first.y → first.z ≤ d.z → d.z < first.z + count → bit bits (d.z - first.z) ≡ true → is_full b.remaining d ≡ false
+  pub row_gone : (d : Coord) → d.x ≡ first.x → d.y ≡ first.y → first.z ≤ d.z → d.z < first.z + count
+      → bit bits (d.z - first.z) ≡ true → is_full b.remaining d ≡ false
   row_gone d x y l u h = left d ∙ (ap (λ t. is_full a.remaining d && not t) (marked_by first count bits d x y l u h) ∙ none (is_full a.remaining d))
     where
       none : (t : Bool) → (t && false) ≡ false
@@ -194,7 +209,8 @@ module _ (a b : Flood) (first : Coord) (count bits taken : ℕ) (r : b.remaining
           let q : (bit bits (d.z - first.z) && is_full a.remaining d) ≡ true = (λ i. p.4 i && e i) in
           cc
 
-  row_parts : (d : Coord) → IsTaken a.remaining b.remaining d → (d.x ≡ first.x) × (d.y ≡ first.y) × (first.z ≤ d.z) × (d.z < first.z + count) × (bit bits (d.z - first.z) ≡ true)
+  row_parts : (d : Coord) → IsTaken a.remaining b.remaining d → (d.x ≡ first.x) × (d.y ≡ first.y) × (first.z ≤ d.z)
+      × (d.z < first.z + count) × (bit bits (d.z - first.z) ≡ true)
   row_parts d t = parts_of first count bits d (was_marked (is_full a.remaining d) (is_full b.remaining d) (is_marked first count bits d) t.before (left d) t.after)
 
   -- a voxel that was taken is among those that were asked for, and among those that were taken
@@ -204,7 +220,8 @@ module _ (a b : Flood) (first : Coord) (count bits taken : ℕ) (r : b.remaining
   pub row_taken : (d : Coord) → IsTaken a.remaining b.remaining d → IsAmong (record { first = first; bits = taken }) d
   row_taken d t = let p = row_parts d t in record { x = p.0; y = p.1; from = p.2; to = omega (arith, p.3); here = taken_bit d p.0 p.1 p.2 p.3 ∙ (λ i. p.4 i && t.before i) }
 
-  pub row_was : taken < 2 ^ count → (d : Coord) → IsAmong (record { first = first; bits = taken }) d → IsTaken a.remaining b.remaining d
+  pub row_was : taken < 2 ^ count → (d : Coord) → IsAmong (record { first = first; bits = taken }) d
+      → IsTaken a.remaining b.remaining d
   row_was below d h =
       let u : d.z - first.z < count = below_count taken count (d.z - first.z) below h.here in
       let l = h.from in
@@ -212,7 +229,8 @@ module _ (a b : Flood) (first : Coord) (count bits taken : ℕ) (r : b.remaining
       let both = both_true (bit bits (d.z - first.z)) (is_full a.remaining d) (sym (taken_bit d h.x h.y h.from m) ∙ h.here) in
       record { before = both.1; after = row_gone d h.x h.y h.from m both.0 }
 
-  pub row_lighter : taken < 2 ^ count → (taken ≡ 0 → ⊥) → taken < 2 ^ 64 → full_of a.remaining.resolution b.remaining + 1 ≤ full_of a.remaining.resolution a.remaining
+  pub row_lighter : taken < 2 ^ count → (taken ≡ 0 → ⊥) → taken < 2 ^ 64
+      → full_of a.remaining.resolution b.remaining + 1 ≤ full_of a.remaining.resolution a.remaining
   row_lighter below some fits =
       let z = bit_at-trailing_zeros w64 taken (positive taken some) fits in
       let here : bit taken (trailing_zeros w64 taken) ≡ true = ap (λ d. d == 1) z.1 in
@@ -224,7 +242,9 @@ module _ (a b : Flood) (first : Coord) (count bits taken : ℕ) (r : b.remaining
       positive zero h = absurd (h refl)
       positive (suc n) h = omega arith
 
-  pub takes_row : IsInSpace a.remaining.resolution first → first.z % 64 ≡ 0 → taken < 2 ^ count → (taken ≡ 0 → ⊥) → taken < 2 ^ 64 → b.found.items ≡ a.found.items ++ record { first = first; bits = taken } ∷ [] → TakesOut (IsAmong (record { first = first; bits = bits })) a b
+  pub takes_row : IsInSpace a.remaining.resolution first → first.z % 64 ≡ 0 → taken < 2 ^ count → (taken ≡ 0 → ⊥)
+      → taken < 2 ^ 64 → b.found.items ≡ a.found.items ++ record { first = first; bits = taken } ∷ []
+      → TakesOut (IsAmong (record { first = first; bits = bits })) a b
   takes_row within each below some fits items = record {
     resolution = r;
     fewer = fewer_in_row;
@@ -240,11 +260,14 @@ module _ (a b : Flood) (first : Coord) (count bits taken : ℕ) (r : b.remaining
         );
   }
     where
-      known : (d : Coord) → (HasFound a d ⊎ IsAmong (record { first = first; bits = taken }) d) → HasFound a d ⊎ IsTaken a.remaining b.remaining d
+      known : (d : Coord) → (HasFound a d ⊎ IsAmong (record { first = first; bits = taken }) d)
+          → HasFound a d ⊎ IsTaken a.remaining b.remaining d
       known d (inl h) = inl h
       known d (inr h) = inr (row_was below d h)
 
-      start : (s : Stretch) → (Contains a.found.items s ⊎ ((let t : Stretch = record { first = first; bits = taken } in t) ≡ s)) → Contains a.found.items s ⊎ (IsInSpace a.remaining.resolution s.first × (s.first.z % 64 ≡ 0))
+      start : (s : Stretch)
+          → (Contains a.found.items s ⊎ ((let t : Stretch = record { first = first; bits = taken } in t) ≡ s))
+          → Contains a.found.items s ⊎ (IsInSpace a.remaining.resolution s.first × (s.first.z % 64 ≡ 0))
       start s (inl k) = inl k
       start s (inr e) = inr (subst (λ (t : Stretch). IsInSpace a.remaining.resolution t.first × (t.first.z % 64 ≡ 0)) e (within, each))
 
@@ -261,15 +284,18 @@ takes_then near a b c h k = record {
   weighs = (let x = k.weighs in let y = h.weighs in omega arith);
 }
   where
-    taken : (d : Coord) → IsTaken a.remaining c.remaining d → (f : Bool) → is_full b.remaining d ≡ f → near d × HasFound c d
+    taken : (d : Coord) → IsTaken a.remaining c.remaining d → (f : Bool) → is_full b.remaining d ≡ f
+        → near d × HasFound c d
     taken d t true e = k.taken d (record { before = e; after = t.after })
     taken d t false e = let at = h.taken d (record { before = t.before; after = e }) in (at.0, k.kept d at.1)
 
-    earlier : (d : Coord) → IsTaken b.remaining c.remaining d → (f : Bool) → is_full a.remaining d ≡ f → IsTaken a.remaining c.remaining d
+    earlier : (d : Coord) → IsTaken b.remaining c.remaining d → (f : Bool) → is_full a.remaining d ≡ f
+        → IsTaken a.remaining c.remaining d
     earlier d t true e = record { before = e; after = t.after }
     earlier d t false e = anything_by (is_full b.remaining d) t.before (h.fewer d e)
 
-    of : (d : Coord) → (HasFound b d ⊎ IsTaken b.remaining c.remaining d) → HasFound a d ⊎ IsTaken a.remaining c.remaining d
+    of : (d : Coord) → (HasFound b d ⊎ IsTaken b.remaining c.remaining d)
+        → HasFound a d ⊎ IsTaken a.remaining c.remaining d
     of d (inr t) = inr (earlier d t (is_full a.remaining d) refl)
     of d (inl m) = by (h.found d m)
       where
@@ -277,12 +303,15 @@ takes_then near a b c h k = record {
         by (inl m) = inl m
         by (inr t) = inr (record { before = t.before; after = k.fewer d t.after })
 
-    start : (s : Stretch) → (Contains b.found.items s ⊎ (IsInSpace b.remaining.resolution s.first × (s.first.z % 64 ≡ 0))) → Contains a.found.items s ⊎ (IsInSpace a.remaining.resolution s.first × (s.first.z % 64 ≡ 0))
+    start : (s : Stretch)
+        → (Contains b.found.items s ⊎ (IsInSpace b.remaining.resolution s.first × (s.first.z % 64 ≡ 0)))
+        → Contains a.found.items s ⊎ (IsInSpace a.remaining.resolution s.first × (s.first.z % 64 ≡ 0))
     start s (inl m) = h.starts s m
     start s (inr m) = inr (subst (λ (n : ℕ). IsInSpace n s.first × (s.first.z % 64 ≡ 0)) h.resolution m)
 
 -- what is near by a narrower word is near by a wider one
-pub takes_wider : (near far : Coord → Type 0) (a b : Flood) → ((d : Coord) → IsTrue (is_full a.remaining d) → near d → far d) → TakesOut near a b → TakesOut far a b
+pub takes_wider : (near far : Coord → Type 0) (a b : Flood)
+    → ((d : Coord) → IsTrue (is_full a.remaining d) → near d → far d) → TakesOut near a b → TakesOut far a b
 takes_wider near far a b wider h = record {
   resolution = h.resolution;
   fewer = h.fewer;
@@ -303,7 +332,9 @@ void_by m d out = by (is_full m d) refl
     by true e = absurd (out (full_within m d e))
 
 -- outside the matrix nothing is there
-pub gone_outside : (m : Matrix) (first : Coord) (bits r : ℕ) → r ≡ m.resolution → ((r ≤ first.x) ⊎ ((r ≤ first.y) ⊎ (r ≤ first.z))) → (d : Coord) → IsAmong (record { first = first; bits = bits }) d → is_full m d ≡ false
+pub gone_outside : (m : Matrix) (first : Coord) (bits r : ℕ) → r ≡ m.resolution
+    → ((r ≤ first.x) ⊎ ((r ≤ first.y) ⊎ (r ≤ first.z))) → (d : Coord)
+    → IsAmong (record { first = first; bits = bits }) d → is_full m d ≡ false
 gone_outside m first bits r e o d h = void_by m d (λ i. by i o)
   where
     by : IsInSpace m.resolution d → ((r ≤ first.x) ⊎ ((r ≤ first.y) ⊎ (r ≤ first.z))) → ⊥
@@ -325,7 +356,8 @@ gone_row a b first count bits taken r few was left size d h = by (cases_lt d.z (
 -- ---- around a stretch
 
 -- a stretch beside another was taken
-pub takes_beside : (a b : Flood) (s t : Stretch) → TakesOut (IsAmong t) a b → ((d : Coord) → IsInSpace a.remaining.resolution d → IsAmong t d → IsBeside s d) → TakesOut (IsBeside s) a b
+pub takes_beside : (a b : Flood) (s t : Stretch) → TakesOut (IsAmong t) a b
+    → ((d : Coord) → IsInSpace a.remaining.resolution d → IsAmong t d → IsBeside s d) → TakesOut (IsBeside s) a b
 takes_beside a b s t h near = takes_wider (IsAmong t) (IsBeside s) a b (λ d f k. near d (full_within a.remaining d f) k) h
 
 -- the seven stretches beside one were taken

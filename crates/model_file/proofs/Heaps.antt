@@ -15,7 +15,8 @@ grounded_from : (m : Matrix) → IsHeap m → (y : ℕ) (c : Coord) → c.y ≡ 
 grounded_from m heap zero c e f = on_floor m c f e
 grounded_from m heap (suc y) c e f = by (heap c f) (grounded_from m heap y (under c) (omega arith))
   where
-    by : ((c.y ≡ 0) ⊎ IsTrue (is_full m (under c))) → (IsTrue (is_full m (under c)) → Grounded m (under c)) → Grounded m c
+    by : ((c.y ≡ 0) ⊎ IsTrue (is_full m (under c))) → (IsTrue (is_full m (under c)) → Grounded m (under c))
+        → Grounded m c
     by (inl floor) lower = on_floor m c f floor
     by (inr below) lower = one_more m c (under c) f (adjacent_by c (under c) (omega arith)) (lower below)
 

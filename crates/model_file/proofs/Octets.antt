@@ -27,10 +27,15 @@ byte_bit n (suc (suc (suc (suc (suc (suc (suc zero))))))) l = omega arith
 byte_bit n (suc (suc (suc (suc (suc (suc (suc (suc i)))))))) l = absurd (omega arith)
 
 -- the bytes of a word, lowest first
-bytes_of : (bytes : List ℕ) (at n : ℕ) → ((k : ℕ) → slice_index bytes k < 256) → n ≡ from_le_bytes w64 (slice_index bytes at ∷ slice_index bytes (at + 1) ∷ slice_index bytes (at + 2) ∷ slice_index bytes (at + 3) ∷ slice_index bytes (at + 4) ∷ slice_index bytes (at + 5) ∷ slice_index bytes (at + 6) ∷ slice_index bytes (at + 7) ∷ []) → (j : ℕ) → j < 8 → n / 2 ^ (8 * j) % 256 ≡ slice_index bytes (at + j)
+bytes_of : (bytes : List ℕ) (at n : ℕ) → ((k : ℕ) → slice_index bytes k < 256) → n
+    ≡ from_le_bytes w64 (slice_index bytes at ∷ slice_index bytes (at + 1) ∷ slice_index bytes (at + 2) ∷ slice_index bytes (at + 3) ∷ slice_index bytes (at + 4) ∷ slice_index bytes (at + 5) ∷ slice_index bytes (at + 6) ∷ slice_index bytes (at + 7) ∷ [])
+    → (j : ℕ) → j < 8 → n / 2 ^ (8 * j) % 256 ≡ slice_index bytes (at + j)
 bytes_of bytes at n small e = by (small at) (small (at + 1)) (small (at + 2)) (small (at + 3)) (small (at + 4)) (small (at + 5)) (small (at + 6)) (small (at + 7))
   where
-    by : slice_index bytes at < 256 → slice_index bytes (at + 1) < 256 → slice_index bytes (at + 2) < 256 → slice_index bytes (at + 3) < 256 → slice_index bytes (at + 4) < 256 → slice_index bytes (at + 5) < 256 → slice_index bytes (at + 6) < 256 → slice_index bytes (at + 7) < 256 → (j : ℕ) → j < 8 → n / 2 ^ (8 * j) % 256 ≡ slice_index bytes (at + j)
+    by : slice_index bytes at < 256 → slice_index bytes (at + 1) < 256 → slice_index bytes (at + 2) < 256
+        → slice_index bytes (at + 3) < 256 → slice_index bytes (at + 4) < 256 → slice_index bytes (at + 5) < 256
+        → slice_index bytes (at + 6) < 256 → slice_index bytes (at + 7) < 256 → (j : ℕ) → j < 8
+        → n / 2 ^ (8 * j) % 256 ≡ slice_index bytes (at + j)
     by a b c d f g h i zero l = let k : n / 1 % 256 ≡ slice_index bytes at = omega (arith, e) in k ∙ ap (slice_index bytes) (let z : at ≡ at + 0 = omega arith in z)
     by a b c d f g h i (suc zero) l = omega (arith, e)
     by a b c d f g h i (suc (suc zero)) l = omega (arith, e)
@@ -41,7 +46,9 @@ bytes_of bytes at n small e = by (small at) (small (at + 1)) (small (at + 2)) (s
     by a b c d f g h i (suc (suc (suc (suc (suc (suc (suc zero))))))) l = omega (arith, e)
     by a b c d f g h i (suc (suc (suc (suc (suc (suc (suc (suc j)))))))) l = absurd (omega arith)
 
-pub word_of : (bytes : List ℕ) (at n : ℕ) → ((k : ℕ) → slice_index bytes k < 256) → n ≡ from_le_bytes w64 (slice_index bytes at ∷ slice_index bytes (at + 1) ∷ slice_index bytes (at + 2) ∷ slice_index bytes (at + 3) ∷ slice_index bytes (at + 4) ∷ slice_index bytes (at + 5) ∷ slice_index bytes (at + 6) ∷ slice_index bytes (at + 7) ∷ []) → IsWordOf bytes at n
+pub word_of : (bytes : List ℕ) (at n : ℕ) → ((k : ℕ) → slice_index bytes k < 256) → n
+    ≡ from_le_bytes w64 (slice_index bytes at ∷ slice_index bytes (at + 1) ∷ slice_index bytes (at + 2) ∷ slice_index bytes (at + 3) ∷ slice_index bytes (at + 4) ∷ slice_index bytes (at + 5) ∷ slice_index bytes (at + 6) ∷ slice_index bytes (at + 7) ∷ [])
+    → IsWordOf bytes at n
 word_of bytes at n small e i l =
     let whole : i ≡ 8 * (i / 8) + i % 8 = omega arith in
     ap (bit n) whole
@@ -56,7 +63,8 @@ pub word_more : (old new : Matrix) (bytes : List ℕ) (k word : ℕ) → IsWordO
     (p : ℕ) → p < 64 * (k + 1) → voxel_at new p ≡ voxel_bit bytes p
 word_more old new bytes k word w before set p l = set p ∙ by (cases_lt p (64 * k))
   where
-    by : ((p < 64 * k) ⊎ (64 * k ≤ p)) → cond (is_from (64 * k) 64 p) (bit word (p - 64 * k)) (voxel_at old p) ≡ voxel_bit bytes p
+    by : ((p < 64 * k) ⊎ (64 * k ≤ p))
+        → cond (is_from (64 * k) 64 p) (bit word (p - 64 * k)) (voxel_at old p) ≡ voxel_bit bytes p
     by (inl h) = ap (λ b. cond b (bit word (p - 64 * k)) (voxel_at old p)) (before_these (64 * k) 64 p h) ∙ before p h
     by (inr h) =
         let q : 1 + 8 * k + (p - 64 * k) / 8 ≡ 1 + p / 8 = omega arith in

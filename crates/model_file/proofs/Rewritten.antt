@@ -32,7 +32,8 @@ record IsSaid (index : ℕ) (bytes ns : List ℕ) : Type 0 where
   again : flat_map four_bytes ns ≡ bytes
   runs : AreRuns index ns
 
-four_again : (a b c d : ℕ) → a < 256 → b < 256 → c < 256 → d < 256 → four_bytes (number_of_four a b c d) ≡ a ∷ b ∷ c ∷ d ∷ []
+four_again : (a b c d : ℕ) → a < 256 → b < 256 → c < 256 → d < 256
+    → four_bytes (number_of_four a b c d) ≡ a ∷ b ∷ c ∷ d ∷ []
 four_again a b c d ha hb hc hd =
     let first : number_of_four a b c d / 256 ^ 3 ≡ a = omega arith in
     let second : number_of_four a b c d / 256 ^ 2 % 256 ≡ b = omega arith in
@@ -43,25 +44,33 @@ four_again a b c d ha hb hc hd =
 run_may : (total index sum run : ℕ) → is_no_run total index sum run ≡ false → run ≡ 0 → index ≡ 0
 run_may total index sum run h e = grind (arith, nat_tests)
 
-said : (total : ℕ) (bytes : List ℕ) (index sum : ℕ) (ns : List ℕ) → All (λ b. b < 256) bytes → runs_in total index sum bytes ≡ Ok ns → IsSaid index bytes ns
+said : (total : ℕ) (bytes : List ℕ) (index sum : ℕ) (ns : List ℕ) → All (λ b. b < 256) bytes
+    → runs_in total index sum bytes ≡ Ok ns → IsSaid index bytes ns
 said total [] index sum ns bound h = by (nat_lt sum total) h
   where
-    by : (b : Bool) → ◌≡◌ {A = Result (List ℕ) NoModel} (elim b [ true ↦ Err (WideShort sum) | false ↦ Ok [] ]) (Ok ns) → IsSaid index [] ns
+    by : (b : Bool) → ◌≡◌ {A = Result (List ℕ) NoModel} (elim b [ true ↦ Err (WideShort sum) | false ↦ Ok [] ]) (Ok ns)
+        → IsSaid index [] ns
     by true e = cc
     by false e = subst (λ (xs : List ℕ). IsSaid index [] xs) (same_value [] ns e) (record { again = refl; runs = tt })
 said total (a ∷ []) index sum ns bound h = by (nat_lt sum total) h
   where
-    by : (b : Bool) → ◌≡◌ {A = Result (List ℕ) NoModel} (elim b [ true ↦ Err (WideShort sum) | false ↦ Err WideLong ]) (Ok ns) → IsSaid index (a ∷ []) ns
+    by : (b : Bool)
+        → ◌≡◌ {A = Result (List ℕ) NoModel} (elim b [ true ↦ Err (WideShort sum) | false ↦ Err WideLong ]) (Ok ns)
+        → IsSaid index (a ∷ []) ns
     by true e = cc
     by false e = cc
 said total (a ∷ b ∷ []) index sum ns bound h = by (nat_lt sum total) h
   where
-    by : (t : Bool) → ◌≡◌ {A = Result (List ℕ) NoModel} (elim t [ true ↦ Err (WideShort sum) | false ↦ Err WideLong ]) (Ok ns) → IsSaid index (a ∷ b ∷ []) ns
+    by : (t : Bool)
+        → ◌≡◌ {A = Result (List ℕ) NoModel} (elim t [ true ↦ Err (WideShort sum) | false ↦ Err WideLong ]) (Ok ns)
+        → IsSaid index (a ∷ b ∷ []) ns
     by true e = cc
     by false e = cc
 said total (a ∷ b ∷ c ∷ []) index sum ns bound h = by (nat_lt sum total) h
   where
-    by : (t : Bool) → ◌≡◌ {A = Result (List ℕ) NoModel} (elim t [ true ↦ Err (WideShort sum) | false ↦ Err WideLong ]) (Ok ns) → IsSaid index (a ∷ b ∷ c ∷ []) ns
+    by : (t : Bool)
+        → ◌≡◌ {A = Result (List ℕ) NoModel} (elim t [ true ↦ Err (WideShort sum) | false ↦ Err WideLong ]) (Ok ns)
+        → IsSaid index (a ∷ b ∷ c ∷ []) ns
     by true e = cc
     by false e = cc
 said total (a ∷ b ∷ c ∷ d ∷ more) index sum ns bound h =
@@ -78,7 +87,8 @@ said total (a ∷ b ∷ c ∷ d ∷ more) index sum ns bound h =
     bound_more : All (λ b. b < 256) more
     bound_more = let p = λ (n : ℕ). n < 256 in All-tail p d more (All-tail p c (d ∷ more) (All-tail p b (c ∷ d ∷ more) (All-tail p a (b ∷ c ∷ d ∷ more) bound)))
 
-    whole : (run : ℕ) → run ≡ number_of_four a b c d → is_no_run total index sum (number_of_four a b c d) ≡ false → (ms : List ℕ) → IsSaid (index + 1) more ms → IsSaid index (a ∷ b ∷ c ∷ d ∷ more) (number_of_four a b c d ∷ ms)
+    whole : (run : ℕ) → run ≡ number_of_four a b c d → is_no_run total index sum (number_of_four a b c d) ≡ false
+        → (ms : List ℕ) → IsSaid (index + 1) more ms → IsSaid index (a ∷ b ∷ c ∷ d ∷ more) (number_of_four a b c d ∷ ms)
     whole run e ok ms s = record {
       again = (λ i. four_again a b c d (All-head (λ n. n < 256) a (b ∷ c ∷ d ∷ more) bound) small.0 small.1 small.2 i ++ s.again i);
       runs = (run_may total index sum (number_of_four a b c d) ok, s.runs);
@@ -91,12 +101,14 @@ said total (a ∷ b ∷ c ∷ d ∷ more) index sum ns bound h =
     by true false e (Err f) later k = cc
     by true false e (Ok ms) later k = subst (λ (xs : List ℕ). IsSaid index (a ∷ b ∷ c ∷ d ∷ more) xs) (same_value (number_of_four a b c d ∷ ms) ns k) (whole (number_of_four a b c d) refl e ms (later ms refl))
 
-same_voxels : (k n : ℕ) (value : Bool) (rest : List Bool) → run_lengths n value (replicate k value ++ rest) ≡ run_lengths (n + k) value rest
+same_voxels : (k n : ℕ) (value : Bool) (rest : List Bool)
+    → run_lengths n value (replicate k value ++ rest) ≡ run_lengths (n + k) value rest
 same_voxels zero n value rest = ap (λ v. run_lengths v value rest) (let e : n ≡ n + 0 = omega arith in e)
 same_voxels (suc k) n true rest = same_voxels k (n + 1) true rest ∙ ap (λ v. run_lengths v true rest) (let e : n + 1 + k ≡ n + suc k = omega arith in e)
 same_voxels (suc k) n false rest = same_voxels k (n + 1) false rest ∙ ap (λ v. run_lengths v false rest) (let e : n + 1 + k ≡ n + suc k = omega arith in e)
 
-lengths_back : (ns : List ℕ) (index n : ℕ) (value : Bool) → 1 ≤ index → AreRuns index ns → run_lengths n value (voxels_of (not value) ns) ≡ n ∷ ns
+lengths_back : (ns : List ℕ) (index n : ℕ) (value : Bool) → 1 ≤ index → AreRuns index ns
+    → run_lengths n value (voxels_of (not value) ns) ≡ n ∷ ns
 lengths_back [] index n value l h = refl
 lengths_back (zero ∷ ns) index n value l h = let e : index ≡ 0 = h.0 refl in absurd (omega arith)
 lengths_back (suc k ∷ ns) index n true l h =
@@ -114,40 +126,48 @@ none_said total [] p h = by (nat_lt 0 total) (some total p) h
     some : (total : ℕ) → 0 < total → nat_lt 0 total ≡ true
     some total p = grind (arith, nat_tests)
 
-    by : (b : Bool) → b ≡ true → ◌≡◌ {A = Result (List ℕ) NoModel} (elim b [ true ↦ Err (WideShort 0) | false ↦ Ok [] ]) (Ok []) → ⊥
+    by : (b : Bool) → b ≡ true
+        → ◌≡◌ {A = Result (List ℕ) NoModel} (elim b [ true ↦ Err (WideShort 0) | false ↦ Ok [] ]) (Ok []) → ⊥
     by true e k = cc
     by false e k = cc
 none_said total (a ∷ []) p h = by (nat_lt 0 total) h
   where
-    by : (b : Bool) → ◌≡◌ {A = Result (List ℕ) NoModel} (elim b [ true ↦ Err (WideShort 0) | false ↦ Err WideLong ]) (Ok []) → ⊥
+    by : (b : Bool)
+        → ◌≡◌ {A = Result (List ℕ) NoModel} (elim b [ true ↦ Err (WideShort 0) | false ↦ Err WideLong ]) (Ok []) → ⊥
     by true k = cc
     by false k = cc
 none_said total (a ∷ b ∷ []) p h = by (nat_lt 0 total) h
   where
-    by : (b : Bool) → ◌≡◌ {A = Result (List ℕ) NoModel} (elim b [ true ↦ Err (WideShort 0) | false ↦ Err WideLong ]) (Ok []) → ⊥
+    by : (b : Bool)
+        → ◌≡◌ {A = Result (List ℕ) NoModel} (elim b [ true ↦ Err (WideShort 0) | false ↦ Err WideLong ]) (Ok []) → ⊥
     by true k = cc
     by false k = cc
 none_said total (a ∷ b ∷ c ∷ []) p h = by (nat_lt 0 total) h
   where
-    by : (b : Bool) → ◌≡◌ {A = Result (List ℕ) NoModel} (elim b [ true ↦ Err (WideShort 0) | false ↦ Err WideLong ]) (Ok []) → ⊥
+    by : (b : Bool)
+        → ◌≡◌ {A = Result (List ℕ) NoModel} (elim b [ true ↦ Err (WideShort 0) | false ↦ Err WideLong ]) (Ok []) → ⊥
     by true k = cc
     by false k = cc
 none_said total (a ∷ b ∷ c ∷ d ∷ more) p h = by (nat_lt 0 total) (is_no_run total 0 0 (number_of_four a b c d)) (runs_in total (0 + 1) (0 + number_of_four a b c d) more) h
   where
-    by : (lt no_run : Bool) (rest : Result (List ℕ) NoModel) → ◌≡◌ {A = Result (List ℕ) NoModel} (elim lt [ false ↦ Err WideLong | true ↦ elim no_run [ true ↦ Err (WideRun 0) | false ↦ with_first (number_of_four a b c d) rest ] ]) (Ok []) → ⊥
+    by : (lt no_run : Bool) (rest : Result (List ℕ) NoModel) → ◌≡◌ {A = Result (List ℕ) NoModel}
+        (elim lt [ false ↦ Err WideLong | true ↦ elim no_run [ true ↦ Err (WideRun 0) | false ↦ with_first (number_of_four a b c d) rest ] ])
+        (Ok []) → ⊥
     by false n rest k = cc
     by true true rest k = cc
     by true false (Err f) k = cc
     by true false (Ok ms) k = cc
 
 -- a model of the wide form, written again
-wide_again : (high low : ℕ) (bytes : List ℕ) (m : Matrix) → high < 256 → low < 256 → All (λ b. b < 256) bytes → wide_model (high * 256 + low) bytes ≡ Ok m → written m ≡ 0xFF ∷ high ∷ low ∷ bytes
+wide_again : (high low : ℕ) (bytes : List ℕ) (m : Matrix) → high < 256 → low < 256 → All (λ b. b < 256) bytes
+    → wide_model (high * 256 + low) bytes ≡ Ok m → written m ≡ 0xFF ∷ high ∷ low ∷ bytes
 wide_again high low bytes m hh hl bound h = by (nat_le 251 r && nat_le r 400) refl (runs_in (volume r) 0 0 bytes) refl h
   where
     r : ℕ
     r = high * 256 + low
 
-    whole : (ns : List ℕ) → 251 ≤ high * 256 + low → IsSaid 0 bytes ns → (ns ≡ [] → ⊥) → written (record { resolution = high * 256 + low; voxels = voxels_of false ns }) ≡ 0xFF ∷ high ∷ low ∷ bytes
+    whole : (ns : List ℕ) → 251 ≤ high * 256 + low → IsSaid 0 bytes ns → (ns ≡ [] → ⊥)
+        → written (record { resolution = high * 256 + low; voxels = voxels_of false ns }) ≡ 0xFF ∷ high ∷ low ∷ bytes
     whole [] l s some = absurd (some refl)
     whole (n ∷ ns) l s some =
         let wide : nat_le (high * 256 + low) 250 ≡ false = grind (arith, nat_tests) in
@@ -185,7 +205,8 @@ cut_at used k (b ∷ []) l = absurd (omega arith)
 cut_at used zero (b ∷ c ∷ more) l = refl
 cut_at used (suc k) (b ∷ c ∷ more) l = cut_at used k (c ∷ more) (omega arith)
 
-cut_end : (used k : ℕ) (bytes : List ℕ) → k + 1 ≡ length bytes → get_or (cut_last used bytes) k 0 ≡ get_or bytes k 0 % 2 ^ used
+cut_end : (used k : ℕ) (bytes : List ℕ) → k + 1 ≡ length bytes
+    → get_or (cut_last used bytes) k 0 ≡ get_or bytes k 0 % 2 ^ used
 cut_end used k [] e = absurd (omega arith)
 cut_end used zero (b ∷ []) e = refl
 cut_end used (suc k) (b ∷ []) e = absurd (omega arith)
@@ -218,10 +239,12 @@ in_byte r more k i u l =
     next : (k : ℕ) → get_or (r ∷ more) (1 + k) 0 ≡ get_or more k 0
     next k = ap (λ n. get_or (r ∷ more) n 0) (let e : 1 + k ≡ suc k = omega arith in e)
 
-byte_again : (r : ℕ) (more : List ℕ) (k : ℕ) → All (λ b. b < 256) more → length more ≡ (volume r + 7) / 8 → k < length more → get_or (cut_last (used_bits r) more) k 0 ≡ byte_at (said_voxels r (r ∷ more)) k
+byte_again : (r : ℕ) (more : List ℕ) (k : ℕ) → All (λ b. b < 256) more → length more ≡ (volume r + 7) / 8
+    → k < length more → get_or (cut_last (used_bits r) more) k 0 ≡ byte_at (said_voxels r (r ∷ more)) k
 byte_again r more k bound e l = by (cases_lt (k + 1) (length more))
   where
-    by : ((k + 1 < length more) ⊎ (length more ≤ k + 1)) → get_or (cut_last (used_bits r) more) k 0 ≡ byte_at (said_voxels r (r ∷ more)) k
+    by : ((k + 1 < length more) ⊎ (length more ≤ k + 1))
+        → get_or (cut_last (used_bits r) more) k 0 ≡ byte_at (said_voxels r (r ∷ more)) k
     by (inl m) =
         cut_at (used_bits r) k more m
         ∙ byte_of (said_voxels r (r ∷ more)) k 8 (get_or more k 0) (omega arith) (All-get_or (λ b. b < 256) more k 0 l bound)
@@ -234,20 +257,24 @@ byte_again r more k bound e l = by (cases_lt (k + 1) (length more))
         (λ i u. low_bits (get_or more k 0) (used_bits r) i u ∙ sym (in_byte r more k i (omega arith) (omega arith)))
         (λ i h u. no_voxel r (r ∷ more) (8 * k + i) (omega arith))
 
-bytes_again : (r : ℕ) (more : List ℕ) → All (λ b. b < 256) more → length more ≡ (volume r + 7) / 8 → map (byte_at (said_voxels r (r ∷ more))) (numbers_below ((volume r + 7) / 8)) ≡ cut_last (used_bits r) more
+bytes_again : (r : ℕ) (more : List ℕ) → All (λ b. b < 256) more → length more ≡ (volume r + 7) / 8
+    → map (byte_at (said_voxels r (r ∷ more))) (numbers_below ((volume r + 7) / 8)) ≡ cut_last (used_bits r) more
 bytes_again r more bound e =
     ext_get_or 0 (map (byte_at (said_voxels r (r ∷ more))) (numbers_below ((volume r + 7) / 8))) (cut_last (used_bits r) more) (size ∙ sym (cut_length (used_bits r) more ∙ e)) (λ k l. at k (omega (arith, size)))
   where
     size : length (map (byte_at (said_voxels r (r ∷ more))) (numbers_below ((volume r + 7) / 8))) ≡ (volume r + 7) / 8
     size = length-map (numbers_below ((volume r + 7) / 8)) (byte_at (said_voxels r (r ∷ more))) ∙ length-numbers ((volume r + 7) / 8) 0
 
-    at : (k : ℕ) → k < (volume r + 7) / 8 → get_or (map (byte_at (said_voxels r (r ∷ more))) (numbers_below ((volume r + 7) / 8))) k 0 ≡ get_or (cut_last (used_bits r) more) k 0
+    at : (k : ℕ) → k < (volume r + 7) / 8
+        → get_or (map (byte_at (said_voxels r (r ∷ more))) (numbers_below ((volume r + 7) / 8))) k 0
+        ≡ get_or (cut_last (used_bits r) more) k 0
     at k l =
         get_or-map (byte_at (said_voxels r (r ∷ more))) (numbers_below ((volume r + 7) / 8)) k 0 0 (let n = length-numbers ((volume r + 7) / 8) 0 in omega arith)
         ∙ (ap (byte_at (said_voxels r (r ∷ more))) (get_or-numbers ((volume r + 7) / 8) 0 k 0 l ∙ zero-add k)
         ∙ sym (byte_again r more k bound e (omega (arith, e))))
 
-first_again : (r : ℕ) (more : List ℕ) (m : Matrix) → All (λ b. b < 256) more → first_form r (r ∷ more) ≡ Ok m → written m ≡ r ∷ cut_last (used_bits r) more
+first_again : (r : ℕ) (more : List ℕ) (m : Matrix) → All (λ b. b < 256) more → first_form r (r ∷ more) ≡ Ok m
+    → written m ≡ r ∷ cut_last (used_bits r) more
 first_again r more m bound h = by (nat_le 1 r && nat_le r 250) (nat_lt (length (r ∷ more)) (wanted r)) (nat_lt (wanted r) (length (r ∷ more))) refl refl refl h
   where
     by : (a b c : Bool) → (nat_le 1 r && nat_le r 250) ≡ a → nat_lt (length (r ∷ more)) (wanted r) ≡ b → nat_lt (wanted r) (length (r ∷ more)) ≡ c →
@@ -267,7 +294,8 @@ first_again r more m bound h = by (nat_le 1 r && nat_le r 250) (nat_lt (length (
 
 -- ---- both forms
 
-pub written_again : (bytes : List ℕ) (m : Matrix) → All (λ b. b < 256) bytes → model bytes ≡ Ok m → written m ≡ without_padding bytes
+pub written_again : (bytes : List ℕ) (m : Matrix) → All (λ b. b < 256) bytes → model bytes ≡ Ok m
+    → written m ≡ without_padding bytes
 written_again [] m bound h = cc
 written_again (r ∷ more) m bound h = by (r == 0xFF) refl h
   where
@@ -282,6 +310,8 @@ written_again (r ∷ more) m bound h = by (r == 0xFF) refl h
         let rest = All-tail p high (low ∷ runs) b in
         wide_again high low runs m (All-head p high (low ∷ runs) b) (All-head p low runs rest) (All-tail p low runs rest) k
 
-    by : (mark : Bool) → (r == 0xFF) ≡ mark → ◌≡◌ {A = Result Matrix NoModel} (elim mark [ true ↦ wide_form more | false ↦ first_form r (r ∷ more) ]) (Ok m) → written m ≡ elim mark [ true ↦ r ∷ more | false ↦ r ∷ cut_last (used_bits r) more ]
+    by : (mark : Bool) → (r == 0xFF) ≡ mark
+        → ◌≡◌ {A = Result Matrix NoModel} (elim mark [ true ↦ wide_form more | false ↦ first_form r (r ∷ more) ]) (Ok m)
+        → written m ≡ elim mark [ true ↦ r ∷ more | false ↦ r ∷ cut_last (used_bits r) more ]
     by true e k = wide more (All-tail (λ n. n < 256) r more bound) k ∙ ap (λ n. n ∷ more) (sym (is_mark e))
     by false e k = first_again r more m (All-tail (λ n. n < 256) r more bound) k

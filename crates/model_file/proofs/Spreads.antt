@@ -28,7 +28,9 @@ use Rattle.model_file.proofs.Floods.{fewer_in_row, full_within, row_asked, row_t
 use Rattle.model_file.specs.Flood.{HasFound, IsAmong, IsBeside, IsFlood, IsStart, IsTaken, TakesOut, full_of, weight}
 
 -- a stretch that was found is looked around
-pub flood_more : (m : Matrix) (s popped new : Flood) (p : Stretch) → IsFlood m s → popped.remaining ≡ s.remaining → s.found.items ≡ popped.found.items ++ p ∷ [] → TakesOut (IsBeside p) popped new → ((d : Coord) → IsBeside p d → is_full new.remaining d ≡ false) → IsFlood m new
+pub flood_more : (m : Matrix) (s popped new : Flood) (p : Stretch) → IsFlood m s → popped.remaining ≡ s.remaining
+    → s.found.items ≡ popped.found.items ++ p ∷ [] → TakesOut (IsBeside p) popped new
+    → ((d : Coord) → IsBeside p d → is_full new.remaining d ≡ false) → IsFlood m new
 flood_more m s popped new p fl same items t gone = record {
   resolution = t.resolution ∙ (ap (λ (l : Matrix). l.resolution) same ∙ fl.resolution);
   fewer = λ d f. less d (fl.fewer d f);
@@ -44,7 +46,8 @@ flood_more m s popped new p fl same items t gone = record {
     here : (c : Coord) → IsAmong p c → IsTaken m s.remaining c
     here c h = fl.found c (has_last popped s p items c h)
 
-    now : (d : Coord) → is_full s.remaining d ≡ true → is_full new.remaining d ≡ false → IsTaken popped.remaining new.remaining d
+    now : (d : Coord) → is_full s.remaining d ≡ true → is_full new.remaining d ≡ false
+        → IsTaken popped.remaining new.remaining d
     now d e f = record { before = ap (λ (l : Matrix). is_full l d) same ∙ e; after = f }
 
     reached : (d : Coord) → IsTrue (is_full m d) → IsBeside p d → Grounded m d
@@ -61,7 +64,8 @@ flood_more m s popped new p fl same items t gone = record {
       after = k.after;
     }
 
-    looked : (a b : Coord) → IsTaken m new.remaining a → IsTrue (are_adjacent a b) → IsTrue (is_full new.remaining b) → (f : Bool) → is_full s.remaining a ≡ f → HasFound new a
+    looked : (a b : Coord) → IsTaken m new.remaining a → IsTrue (are_adjacent a b) → IsTrue (is_full new.remaining b)
+        → (f : Bool) → is_full s.remaining a ≡ f → HasFound new a
     looked a b k n f true e = (t.taken a (now a e k.after)).1
     looked a b k n f false e = of (has_cases popped s p items a (fl.looked a b (record { before = k.before; after = e }) n (true_by_false (is_full s.remaining b) (is_full new.remaining b) (less b) f)))
       where
@@ -70,10 +74,14 @@ flood_more m s popped new p fl same items t gone = record {
         of (inr h) = anything_by (is_full new.remaining b) f (gone b (record { one = a; among = h; adjacent = n }))
 
 -- stretches that were found begin where stretches do
-pub found_starts : (near : Coord → Type 0) (popped new : Flood) → All (IsStart popped.remaining.resolution) popped.found.items → TakesOut near popped new → All (IsStart popped.remaining.resolution) new.found.items
+pub found_starts : (near : Coord → Type 0) (popped new : Flood)
+    → All (IsStart popped.remaining.resolution) popped.found.items → TakesOut near popped new
+    → All (IsStart popped.remaining.resolution) new.found.items
 found_starts near popped new starts t = All-weaker (Contains new.found.items) (IsStart popped.remaining.resolution) (λ s k. by s (t.starts s k)) new.found.items (All-contains_itself new.found.items)
   where
-    by : (s : Stretch) → (Contains popped.found.items s ⊎ (IsInSpace popped.remaining.resolution s.first × (s.first.z % 64 ≡ 0))) → IsStart popped.remaining.resolution s
+    by : (s : Stretch)
+        → (Contains popped.found.items s ⊎ (IsInSpace popped.remaining.resolution s.first × (s.first.z % 64 ≡ 0)))
+        → IsStart popped.remaining.resolution s
     by s (inl k) = All-contains (IsStart popped.remaining.resolution) popped.found.items s starts k
     by s (inr k) = record { within = k.0; each = k.1 }
 
@@ -105,17 +113,21 @@ module _ (popped new : Flood) (p : Stretch) (count more : ℕ) (r : new.remainin
   widened : (d : Coord) → IsAmong p d → IsAmong (record { first = p.first; bits = bit_or p.bits more }) d
   widened d h = record { x = h.x; y = h.y; from = h.from; to = h.to; here = or_left (d.z - p.first.z) h.here }
 
-  added : (d : Coord) → IsAmong (record { first = p.first; bits = more }) d → IsAmong (record { first = p.first; bits = bit_or p.bits more }) d
+  added : (d : Coord) → IsAmong (record { first = p.first; bits = more }) d
+      → IsAmong (record { first = p.first; bits = bit_or p.bits more }) d
   added d h = record { x = h.x; y = h.y; from = h.from; to = h.to; here = or_right (d.z - p.first.z) h.here }
 
-  either : (d : Coord) → IsAmong (record { first = p.first; bits = bit_or p.bits more }) d → IsAmong p d ⊎ IsAmong (record { first = p.first; bits = more }) d
+  either : (d : Coord) → IsAmong (record { first = p.first; bits = bit_or p.bits more }) d
+      → IsAmong p d ⊎ IsAmong (record { first = p.first; bits = more }) d
   either d h = by (or_either (d.z - p.first.z) h.here)
     where
-      by : ((bit p.bits (d.z - p.first.z) ≡ true) ⊎ (bit more (d.z - p.first.z) ≡ true)) → IsAmong p d ⊎ IsAmong (record { first = p.first; bits = more }) d
+      by : ((bit p.bits (d.z - p.first.z) ≡ true) ⊎ (bit more (d.z - p.first.z) ≡ true))
+          → IsAmong p d ⊎ IsAmong (record { first = p.first; bits = more }) d
       by (inl b) = inl (record { x = h.x; y = h.y; from = h.from; to = h.to; here = b })
       by (inr b) = inr (record { x = h.x; y = h.y; from = h.from; to = h.to; here = b })
 
-  pub flood_wider : (m : Matrix) (s : Flood) → IsStart MOST_R p → popped.remaining.resolution ≤ MOST_R → p.bits < 2 ^ 64 → IsFlood m s → popped.remaining ≡ s.remaining → s.found.items ≡ popped.found.items ++ p ∷ [] → IsFlood m new
+  pub flood_wider : (m : Matrix) (s : Flood) → IsStart MOST_R p → popped.remaining.resolution ≤ MOST_R → p.bits < 2 ^ 64
+      → IsFlood m s → popped.remaining ≡ s.remaining → s.found.items ≡ popped.found.items ++ p ∷ [] → IsFlood m new
   flood_wider m s start most fits fl same held = record {
     resolution = r ∙ (ap (λ (l : Matrix). l.resolution) same ∙ fl.resolution);
     fewer = λ d f. less d (fl.fewer d f);
@@ -131,7 +143,8 @@ module _ (popped new : Flood) (p : Stretch) (count more : ℕ) (r : new.remainin
       here : (c : Coord) → IsAmong p c → IsTaken m s.remaining c
       here c h = fl.found c (has_last popped s p held c h)
 
-      now : (d : Coord) → is_full s.remaining d ≡ true → is_full new.remaining d ≡ false → IsTaken popped.remaining new.remaining d
+      now : (d : Coord) → is_full s.remaining d ≡ true → is_full new.remaining d ≡ false
+          → IsTaken popped.remaining new.remaining d
       now d e f = record { before = ap (λ (l : Matrix). is_full l d) same ∙ e; after = f }
 
       reached : (d : Coord) → IsTrue (is_full m d) → IsBeside p d → Grounded m d
@@ -146,7 +159,8 @@ module _ (popped new : Flood) (p : Stretch) (count more : ℕ) (r : new.remainin
       was_full : (d : Coord) → IsTrue (is_full popped.remaining d) → IsTrue (is_full m d)
       was_full d t = true_by_false (is_full m d) (is_full s.remaining d) (fl.fewer d) (sym (ap (λ (l : Matrix). is_full l d) same) ∙ t)
 
-      found : (d : Coord) → (HasFound popped d ⊎ IsAmong (record { first = p.first; bits = bit_or p.bits more }) d) → IsTaken m new.remaining d
+      found : (d : Coord) → (HasFound popped d ⊎ IsAmong (record { first = p.first; bits = bit_or p.bits more }) d)
+          → IsTaken m new.remaining d
       found d (inl k) = let t = fl.found d (has_more popped s p held d k) in record { before = t.before; after = less d t.after }
       found d (inr k) = by (either d k)
         where
@@ -154,7 +168,8 @@ module _ (popped new : Flood) (p : Stretch) (count more : ℕ) (r : new.remainin
           by (inl h) = let t = here d h in record { before = t.before; after = less d t.after }
           by (inr h) = let t = row_was popped new p.first count (moved p.bits) more r few was cut below_all d h in record { before = was_full d t.before; after = t.after }
 
-      looked : (a b : Coord) → IsTaken m new.remaining a → IsTrue (are_adjacent a b) → IsTrue (is_full new.remaining b) → (f : Bool) → is_full s.remaining a ≡ f → HasFound new a
+      looked : (a b : Coord) → IsTaken m new.remaining a → IsTrue (are_adjacent a b) → IsTrue (is_full new.remaining b)
+          → (f : Bool) → is_full s.remaining a ≡ f → HasFound new a
       looked a b k n f true e = has_last popped new (record { first = p.first; bits = bit_or p.bits more }) items a (added a (row_taken popped new p.first count (moved p.bits) more r few was cut a (now a e k.after)))
       looked a b k n f false e = of (has_cases popped s p held a (fl.looked a b (record { before = k.before; after = e }) n (true_by_false (is_full s.remaining b) (is_full new.remaining b) (less b) f)))
         where
@@ -168,7 +183,8 @@ in_none f d e h = let l : length f.found.items ≡ 0 = ap length e in let k = h.
 -- ---- the end
 
 -- what is left is not grounded
-left_floats : (m : Matrix) (f : Flood) → IsFlood m f → f.found.items ≡ [] → (c : Coord) → IsTrue (is_full f.remaining c) → Grounded m c → ⊥
+left_floats : (m : Matrix) (f : Flood) → IsFlood m f → f.found.items ≡ [] → (c : Coord) → IsTrue (is_full f.remaining c)
+    → Grounded m c → ⊥
 left_floats m f fl none c t =
     ungrounded_by m (is_full f.remaining) (λ a b i g n. stays a b i g n (is_full f.remaining b) refl, λ a i e. anything_by (is_full f.remaining a) i (fl.floor a (zero_of a.y e))) c t
     (λ a b s i. subst (λ (v : Coord). IsTrue (is_full f.remaining v)) (coordinate_by_test a b s) i)
@@ -176,11 +192,13 @@ left_floats m f fl none c t =
     zero_of : (y : ℕ) → IsTrue (y == 0) → y ≡ 0
     zero_of y e = grind (arith, nat_tests)
 
-    stays : (a b : Coord) → IsTrue (is_full f.remaining a) → IsTrue (is_full m b) → IsTrue (are_adjacent a b) → (v : Bool) → is_full f.remaining b ≡ v → IsTrue (is_full f.remaining b)
+    stays : (a b : Coord) → IsTrue (is_full f.remaining a) → IsTrue (is_full m b) → IsTrue (are_adjacent a b)
+        → (v : Bool) → is_full f.remaining b ≡ v → IsTrue (is_full f.remaining b)
     stays a b i g n true e = e
     stays a b i g n false e = absurd (in_none f b none (fl.looked b a (record { before = g; after = e }) (adjacent-sym a b n) i))
 
-pub first_failing : {A : Type 0} (P : A → Type 0) (test : A → Bool) → ((a : A) → test a ≡ true → P a → ⊥) → ((a : A) → test a ≡ false → P a) → (xs : List A) → FirstFailing P xs (find test xs)
+pub first_failing : {A : Type 0} (P : A → Type 0) (test : A → Bool) → ((a : A) → test a ≡ true → P a → ⊥)
+    → ((a : A) → test a ≡ false → P a) → (xs : List A) → FirstFailing P xs (find test xs)
 first_failing P test bad good [] = tt
 first_failing {A = A} P test bad good (a ∷ xs) = by (test a) refl (find test xs) (first_failing P test bad good xs)
   where
@@ -190,7 +208,9 @@ first_failing {A = A} P test bad good (a ∷ xs) = by (test a) refl (find test x
     by false e (Some c) h = inr (good a e, h)
 
 -- the least voxel that is left is the least that is not grounded
-pub left_is_ungrounded : (m : Matrix) (f : Flood) (test : Coord → Bool) → IsFlood m f → f.found.items ≡ [] → ((c : Coord) → test c ≡ true → IsTrue (is_full f.remaining c)) → ((c : Coord) → IsTrue (is_full f.remaining c) → test c ≡ true) → FirstUngrounded m (find test (all_of m))
+pub left_is_ungrounded : (m : Matrix) (f : Flood) (test : Coord → Bool) → IsFlood m f → f.found.items ≡ []
+    → ((c : Coord) → test c ≡ true → IsTrue (is_full f.remaining c))
+    → ((c : Coord) → IsTrue (is_full f.remaining c) → test c ≡ true) → FirstUngrounded m (find test (all_of m))
 left_is_ungrounded m f test fl none sound complete =
     first_failing (λ c. IsTrue (is_full m c) → Grounded m c) test bad good (all_of m)
   where
@@ -205,7 +225,8 @@ left_is_ungrounded m f test fl none sound complete =
         by false v = fl.grounded c (record { before = t; after = v })
 
 -- only what was found of a search, and what is left, says how far it has come
-pub flood_same : (m : Matrix) (a b : Flood) → b.remaining ≡ a.remaining → b.found.items ≡ a.found.items → IsFlood m a → IsFlood m b
+pub flood_same : (m : Matrix) (a b : Flood) → b.remaining ≡ a.remaining → b.found.items ≡ a.found.items → IsFlood m a
+    → IsFlood m b
 flood_same m a b same items fl = record {
   resolution = ap (λ (l : Matrix). l.resolution) same ∙ fl.resolution;
   fewer = λ d f. ap (λ (l : Matrix). is_full l d) same ∙ fl.fewer d f;
@@ -220,7 +241,8 @@ flood_same m a b same items fl = record {
 
 -- ---- the measure
 
-pub weight_falls : (near : Coord → Type 0) (s popped new : Flood) (p : Stretch) → popped.remaining ≡ s.remaining → s.found.items ≡ popped.found.items ++ p ∷ [] → TakesOut near popped new → weight new < weight s
+pub weight_falls : (near : Coord → Type 0) (s popped new : Flood) (p : Stretch) → popped.remaining ≡ s.remaining
+    → s.found.items ≡ popped.found.items ++ p ∷ [] → TakesOut near popped new → weight new < weight s
 weight_falls near s popped new p same items t =
     let left : full_of popped.remaining.resolution popped.remaining ≡ full_of s.remaining.resolution s.remaining = ap (λ (l : Matrix). full_of l.resolution l) same in
     let more : length s.found.items ≡ length popped.found.items + 1 = ap length items ∙ length-append popped.found.items (p ∷ []) in

@@ -71,7 +71,8 @@ down n k h =
     is_one (bit_at (moved n) k) (bit_at_or (n * 2 ^ 1 % 2 ^ 64) (n / 2 ^ 1) k ∙ omega arith)
 
 -- a bit of the moved word comes from one side or the other
-from_side : (n k : ℕ) → k < 64 → n < 2 ^ 64 → bit (moved n) k ≡ true → ((1 ≤ k) × (bit n (k - 1) ≡ true)) ⊎ ((k + 1 < 64) × (bit n (k + 1) ≡ true))
+from_side : (n k : ℕ) → k < 64 → n < 2 ^ 64 → bit (moved n) k ≡ true
+    → ((1 ≤ k) × (bit n (k - 1) ≡ true)) ⊎ ((k + 1 < 64) × (bit n (k + 1) ≡ true))
 from_side n k l fits h = by (cases (bit_at (n / 2 ^ 1) k) (bit_at-lt (n / 2 ^ 1) k))
   where
     cases : (d : ℕ) → d < 2 → (d ≡ 1) ⊎ (d ≡ 0)
@@ -82,7 +83,8 @@ from_side n k l fits h = by (cases (bit_at (n / 2 ^ 1) k) (bit_at-lt (n / 2 ^ 1)
     all : max (bit_at (n * 2 ^ 1 % 2 ^ 64) k) (bit_at (n / 2 ^ 1) k) ≡ 1
     all = sym (bit_at_or (n * 2 ^ 1 % 2 ^ 64) (n / 2 ^ 1) k) ∙ one_of (bit_at (moved n) k) h
 
-    by : ((bit_at (n / 2 ^ 1) k ≡ 1) ⊎ (bit_at (n / 2 ^ 1) k ≡ 0)) → ((1 ≤ k) × (bit n (k - 1) ≡ true)) ⊎ ((k + 1 < 64) × (bit n (k + 1) ≡ true))
+    by : ((bit_at (n / 2 ^ 1) k ≡ 1) ⊎ (bit_at (n / 2 ^ 1) k ≡ 0))
+        → ((1 ≤ k) × (bit n (k - 1) ≡ true)) ⊎ ((k + 1 < 64) × (bit n (k + 1) ≡ true))
     by (inl e) =
         let next : 1 + k ≡ k + 1 = omega arith in
         let b : bit n (k + 1) ≡ true = is_one (bit_at n (k + 1)) (ap (bit_at n) (sym next) ∙ (sym (shifted_bit n 1 k) ∙ e)) in
@@ -99,30 +101,38 @@ from_side n k l fits h = by (cases (bit_at (n / 2 ^ 1) k) (bit_at-lt (n / 2 ^ 1)
 -- ---- what is near
 
 -- the gaps of two coordinates of one row
-row_gap : (sx sy z dx dy dz : ℕ) → dx ≡ sx → dy ≡ sy → (z - dz) + (dz - z) ≡ 1 → ((sx - dx) + (dx - sx)) + ((sy - dy) + (dy - sy)) + ((z - dz) + (dz - z)) ≡ 1
+row_gap : (sx sy z dx dy dz : ℕ) → dx ≡ sx → dy ≡ sy → (z - dz) + (dz - z) ≡ 1
+    → ((sx - dx) + (dx - sx)) + ((sy - dy) + (dy - sy)) + ((z - dz) + (dz - z)) ≡ 1
 row_gap sx sy z dx dy dz ex ey g = (λ i. ((sx - ex i) + (ex i - sx)) + ((sy - ey i) + (ey i - sy)) + g i) ∙ (λ i. none sx i + none sy i + 1)
   where
     none : (v : ℕ) → (v - v) + (v - v) ≡ 0
     none v = omega arith
 
 -- the gaps of two coordinates of one z
-flat_gap : (sx sy x y dx dy z : ℕ) → dx ≡ x → dy ≡ y → ((sx - x) + (x - sx)) + ((sy - y) + (y - sy)) ≡ 1 → ((sx - dx) + (dx - sx)) + ((sy - dy) + (dy - sy)) + ((z - z) + (z - z)) ≡ 1
+flat_gap : (sx sy x y dx dy z : ℕ) → dx ≡ x → dy ≡ y → ((sx - x) + (x - sx)) + ((sy - y) + (y - sy)) ≡ 1
+    → ((sx - dx) + (dx - sx)) + ((sy - dy) + (dy - sy)) + ((z - z) + (z - z)) ≡ 1
 flat_gap sx sy x y dx dy z ex ey g =
     let none : (z - z) + (z - z) ≡ 0 = omega arith in
     (λ i. ((sx - ex i) + (ex i - sx)) + ((sy - ey i) + (ey i - sy)) + none i) ∙ ap (λ n. n + 0) g
 
 module _ (s : Stretch) (r : ℕ) (start : IsStart MOST_R s) (most : r ≤ MOST_R) (fits : s.bits < 2 ^ 64) where
-  beside : (c d : Coord) → IsAmong s c → ((c.x - d.x) + (d.x - c.x)) + ((c.y - d.y) + (d.y - c.y)) + ((c.z - d.z) + (d.z - c.z)) ≡ 1 → IsBeside s d
+  beside : (c d : Coord) → IsAmong s c
+      → ((c.x - d.x) + (d.x - c.x)) + ((c.y - d.y) + (d.y - c.y)) + ((c.z - d.z) + (d.z - c.z)) ≡ 1 → IsBeside s d
   beside c d a g = record { one = c; among = a; adjacent = adjacent_by c d g }
 
-  across : (x y : ℕ) (d : Coord) → IsAmong (record { first = record { x = x; y = y; z = s.first.z }; bits = s.bits }) d → ((s.first.x - x) + (x - s.first.x)) + ((s.first.y - y) + (y - s.first.y)) ≡ 1 → IsBeside s d
+  across : (x y : ℕ) (d : Coord) → IsAmong (record { first = record { x = x; y = y; z = s.first.z }; bits = s.bits }) d
+      → ((s.first.x - x) + (x - s.first.x)) + ((s.first.y - y) + (y - s.first.y)) ≡ 1 → IsBeside s d
   across x y d a g =
       beside (record { x = s.first.x; y = s.first.y; z = d.z }) d (record { x = refl; y = refl; from = a.from; to = a.to; here = a.here }) (flat_gap s.first.x s.first.y x y d.x d.y d.z a.x a.y g)
 
-  pub near_right : (d : Coord) → IsInSpace r d → IsAmong (record { first = record { x = s.first.x + 1; y = s.first.y; z = s.first.z }; bits = s.bits }) d → IsBeside s d
+  pub near_right : (d : Coord) → IsInSpace r d
+      → IsAmong (record { first = record { x = s.first.x + 1; y = s.first.y; z = s.first.z }; bits = s.bits }) d
+      → IsBeside s d
   near_right d i a = across (s.first.x + 1) s.first.y d a (omega arith)
 
-  pub near_left : (d : Coord) → IsInSpace r d → IsAmong (record { first = record { x = one_less s.first.x; y = s.first.y; z = s.first.z }; bits = s.bits }) d → IsBeside s d
+  pub near_left : (d : Coord) → IsInSpace r d
+      → IsAmong (record { first = record { x = one_less s.first.x; y = s.first.y; z = s.first.z }; bits = s.bits }) d
+      → IsBeside s d
   near_left d i a =
       let l : s.first.x < MOST_R = (let w = start.within in w.x) in
       let e = a.x in
@@ -130,10 +140,14 @@ module _ (s : Stretch) (r : ℕ) (start : IsStart MOST_R s) (most : r ≤ MOST_R
       let one : s.first.x ≡ one_less s.first.x + 1 = omega arith in
       across (one_less s.first.x) s.first.y d a (omega arith)
 
-  pub near_above : (d : Coord) → IsInSpace r d → IsAmong (record { first = record { x = s.first.x; y = s.first.y + 1; z = s.first.z }; bits = s.bits }) d → IsBeside s d
+  pub near_above : (d : Coord) → IsInSpace r d
+      → IsAmong (record { first = record { x = s.first.x; y = s.first.y + 1; z = s.first.z }; bits = s.bits }) d
+      → IsBeside s d
   near_above d i a = across s.first.x (s.first.y + 1) d a (omega arith)
 
-  pub near_below : (d : Coord) → IsInSpace r d → IsAmong (record { first = record { x = s.first.x; y = one_less s.first.y; z = s.first.z }; bits = s.bits }) d → IsBeside s d
+  pub near_below : (d : Coord) → IsInSpace r d
+      → IsAmong (record { first = record { x = s.first.x; y = one_less s.first.y; z = s.first.z }; bits = s.bits }) d
+      → IsBeside s d
   near_below d i a =
       let l : s.first.y < MOST_R = (let w = start.within in w.y) in
       let e = a.y in
@@ -141,13 +155,16 @@ module _ (s : Stretch) (r : ℕ) (start : IsStart MOST_R s) (most : r ≤ MOST_R
       let one : s.first.y ≡ one_less s.first.y + 1 = omega arith in
       across s.first.x (one_less s.first.y) d a (omega arith)
 
-  along : (z : ℕ) (d : Coord) → d.x ≡ s.first.x → d.y ≡ s.first.y → s.first.z ≤ z → z < s.first.z + 64 → bit s.bits (z - s.first.z) ≡ true → (z - d.z) + (d.z - z) ≡ 1 → IsBeside s d
+  along : (z : ℕ) (d : Coord) → d.x ≡ s.first.x → d.y ≡ s.first.y → s.first.z ≤ z → z < s.first.z + 64
+      → bit s.bits (z - s.first.z) ≡ true → (z - d.z) + (d.z - z) ≡ 1 → IsBeside s d
   along z d ex ey l u b g = beside (record { x = s.first.x; y = s.first.y; z = z }) d (record { x = refl; y = refl; from = l; to = u; here = b }) (row_gap s.first.x s.first.y z d.x d.y d.z ex ey g)
 
-  pub near_moved : (d : Coord) → IsInSpace r d → IsAmong (record { first = s.first; bits = moved s.bits }) d → IsBeside s d
+  pub near_moved : (d : Coord) → IsInSpace r d → IsAmong (record { first = s.first; bits = moved s.bits }) d
+      → IsBeside s d
   near_moved d i a = by (from_side s.bits (d.z - s.first.z) (let f = a.from in let t = a.to in omega arith) fits a.here)
     where
-      by : ((1 ≤ d.z - s.first.z) × (bit s.bits (d.z - s.first.z - 1) ≡ true)) ⊎ ((d.z - s.first.z + 1 < 64) × (bit s.bits (d.z - s.first.z + 1) ≡ true)) → IsBeside s d
+      by : ((1 ≤ d.z - s.first.z) × (bit s.bits (d.z - s.first.z - 1) ≡ true))
+          ⊎ ((d.z - s.first.z + 1 < 64) × (bit s.bits (d.z - s.first.z + 1) ≡ true)) → IsBeside s d
       by (inl h) =
           let f = a.from in
           let t = a.to in
@@ -160,7 +177,9 @@ module _ (s : Stretch) (r : ℕ) (start : IsStart MOST_R s) (most : r ≤ MOST_R
           let e : d.z - s.first.z + 1 ≡ d.z + 1 - s.first.z = omega arith in
           along (d.z + 1) d a.x a.y (omega arith) (omega arith) (ap (bit s.bits) (sym e) ∙ h.1) (omega arith)
 
-  pub near_after : (d : Coord) → IsInSpace r d → IsAmong (record { first = record { x = s.first.x; y = s.first.y; z = s.first.z + 64 }; bits = s.bits / 2 ^ 63 }) d → IsBeside s d
+  pub near_after : (d : Coord) → IsInSpace r d
+      → IsAmong (record { first = record { x = s.first.x; y = s.first.y; z = s.first.z + 64 }; bits = s.bits / 2 ^ 63 }) d
+      → IsBeside s d
   near_after d i a =
       let f = a.from in
       let k : ℕ = d.z - (s.first.z + 64) in
@@ -169,7 +188,9 @@ module _ (s : Stretch) (r : ℕ) (start : IsStart MOST_R s) (most : r ≤ MOST_R
       let e : 63 + (d.z - (s.first.z + 64)) ≡ s.first.z + 63 - s.first.z = omega arith in
       along (s.first.z + 63) d a.x a.y (omega arith) (omega arith) (ap (bit s.bits) (sym e) ∙ b) (omega arith)
 
-  pub near_before : (d : Coord) → IsInSpace r d → IsAmong (record { first = record { x = s.first.x; y = s.first.y; z = word_less s.first.z }; bits = s.bits * 2 ^ 63 % 2 ^ 64 }) d → IsBeside s d
+  pub near_before : (d : Coord) → IsInSpace r d
+      → IsAmong (record { first = record { x = s.first.x; y = s.first.y; z = word_less s.first.z }; bits = s.bits * 2 ^ 63 % 2 ^ 64 }) d
+      → IsBeside s d
   near_before d i a =
       let f = a.from in
       let t = a.to in
@@ -178,7 +199,8 @@ module _ (s : Stretch) (r : ℕ) (start : IsStart MOST_R s) (most : r ≤ MOST_R
       let w : s.first.z ≡ word_less s.first.z + 64 = omega arith in
       by (cases_lt (d.z - word_less s.first.z) 63) (omega arith) w
     where
-      by : ((d.z - word_less s.first.z < 63) ⊎ (63 ≤ d.z - word_less s.first.z)) → d.z - word_less s.first.z < 64 → s.first.z ≡ word_less s.first.z + 64 → IsBeside s d
+      by : ((d.z - word_less s.first.z < 63) ⊎ (63 ≤ d.z - word_less s.first.z)) → d.z - word_less s.first.z < 64
+          → s.first.z ≡ word_less s.first.z + 64 → IsBeside s d
       by (inl l) u w =
           let z : bit (s.bits * 2 ^ 63 % 2 ^ 64) (d.z - word_less s.first.z) ≡ false = ap (λ v. v == 1) (low_zero s.bits 63 (d.z - word_less s.first.z) l (omega arith)) in
           let b = a.here in
@@ -214,7 +236,8 @@ module _ (s : Stretch) (r : ℕ) (start : IsStart MOST_R s) (most : r ≤ MOST_R
       by (below x y z) = (let a = h.among in let e = a.y in let l = w.y in p4 d (record { x = x ∙ a.x; y = omega arith; from = subst (λ (v : ℕ). s.first.z ≤ v) (sym z) a.from; to = subst (λ (v : ℕ). v < s.first.z + 64) (sym z) a.to; here = ap (λ v. bit s.bits (v - s.first.z)) z ∙ a.here }))
       by (ahead x y z) = next x y z (cases_lt (h.one.z - s.first.z + 1) 64)
         where
-          next : d.x ≡ h.one.x → d.y ≡ h.one.y → d.z ≡ h.one.z + 1 → ((h.one.z - s.first.z + 1 < 64) ⊎ (64 ≤ h.one.z - s.first.z + 1)) → P d
+          next : d.x ≡ h.one.x → d.y ≡ h.one.y → d.z ≡ h.one.z + 1
+              → ((h.one.z - s.first.z + 1 < 64) ⊎ (64 ≤ h.one.z - s.first.z + 1)) → P d
           next x y z (inl l) =
               let a = h.among in
               let f = a.from in
@@ -235,7 +258,8 @@ module _ (s : Stretch) (r : ℕ) (start : IsStart MOST_R s) (most : r ≤ MOST_R
               })
       by (behind x y z) = last x y z (cases_lt 0 (h.one.z - s.first.z))
         where
-          last : d.x ≡ h.one.x → d.y ≡ h.one.y → h.one.z ≡ d.z + 1 → ((0 < h.one.z - s.first.z) ⊎ (h.one.z - s.first.z ≤ 0)) → P d
+          last : d.x ≡ h.one.x → d.y ≡ h.one.y → h.one.z ≡ d.z + 1
+              → ((0 < h.one.z - s.first.z) ⊎ (h.one.z - s.first.z ≤ 0)) → P d
           last x y z (inl l) =
               let a = h.among in
               let t = a.to in

@@ -23,7 +23,8 @@ abbrev before : List ℕ → Result (List ℕ) NoModel → Result (List ℕ) NoM
 before [] rest = rest
 before (run ∷ runs) rest = with_first run (before runs rest)
 
-before-push : (runs : List ℕ) (run : ℕ) (rest : Result (List ℕ) NoModel) → before (runs ++ run ∷ []) rest ≡ before runs (with_first run rest)
+before-push : (runs : List ℕ) (run : ℕ) (rest : Result (List ℕ) NoModel)
+    → before (runs ++ run ∷ []) rest ≡ before runs (with_first run rest)
 before-push [] run rest = refl
 before-push (n ∷ runs) run rest = ap (with_first n) (before-push runs run rest)
 
@@ -37,14 +38,16 @@ before-ok (n ∷ runs) more = ap (with_first n) (before-ok runs more)
 
 -- ---- what is left of the bytes
 
-too_few : (total index sum : ℕ) (rest : List ℕ) → length rest < 4 → sum < total → runs_in total index sum rest ≡ Err (WideShort sum)
+too_few : (total index sum : ℕ) (rest : List ℕ) → length rest < 4 → sum < total
+    → runs_in total index sum rest ≡ Err (WideShort sum)
 too_few total index sum [] l h = rw (runs_in, test_less sum total h) refl
 too_few total index sum (a ∷ []) l h = rw (runs_in, test_less sum total h) refl
 too_few total index sum (a ∷ b ∷ []) l h = rw (runs_in, test_less sum total h) refl
 too_few total index sum (a ∷ b ∷ c ∷ []) l h = rw (runs_in, test_less sum total h) refl
 too_few total index sum (a ∷ b ∷ c ∷ d ∷ rest) l h = absurd (omega arith)
 
-too_many : (total index sum : ℕ) (rest : List ℕ) → 0 < length rest → total ≤ sum → runs_in total index sum rest ≡ Err WideLong
+too_many : (total index sum : ℕ) (rest : List ℕ) → 0 < length rest → total ≤ sum
+    → runs_in total index sum rest ≡ Err WideLong
 too_many total index sum [] l h = absurd (omega arith)
 too_many total index sum (a ∷ []) l h = rw (runs_in, test_not_less sum total h) refl
 too_many total index sum (a ∷ b ∷ []) l h = rw (runs_in, test_not_less sum total h) refl
@@ -62,7 +65,8 @@ next_run bytes at = number_of_four (slice_index bytes at) (slice_index bytes (at
 abbrev taken : ℕ → ℕ → ℕ → ℕ → List ℕ → Result (List ℕ) NoModel
 taken total index sum run rest = elim (is_no_run total index sum run) [ true ↦ Err (WideRun index) | false ↦ with_first run (runs_in total (index + 1) (sum + run) rest) ]
 
-four_of : (rest : List ℕ) (total index sum : ℕ) → 4 ≤ length rest → sum < total → runs_in total index sum rest ≡ taken total index sum (next_run rest 0) (drop 4 rest)
+four_of : (rest : List ℕ) (total index sum : ℕ) → 4 ≤ length rest → sum < total
+    → runs_in total index sum rest ≡ taken total index sum (next_run rest 0) (drop 4 rest)
 four_of [] total index sum l h = absurd (omega arith)
 four_of (a ∷ []) total index sum l h = absurd (omega arith)
 four_of (a ∷ b ∷ []) total index sum l h = absurd (omega arith)
@@ -113,7 +117,9 @@ next_of bytes at = λ i. number_of_four ((here 0 ∙ ap (slice_index bytes) firs
 -- ---- one more run
 
 -- the next run, and what is left behind it
-next_taken : (bytes : List ℕ) (total at index sum run : ℕ) → at + 4 ≤ length bytes → sum < total → run ≡ next_run bytes at → runs_in total index sum (drop at bytes) ≡ taken total index sum run (drop (at + 4) bytes)
+next_taken : (bytes : List ℕ) (total at index sum run : ℕ) → at + 4 ≤ length bytes → sum < total
+    → run ≡ next_run bytes at
+    → runs_in total index sum (drop at bytes) ≡ taken total index sum run (drop (at + 4) bytes)
 next_taken bytes total at index sum run four less er =
     four_of (drop at bytes) total index sum (omega (arith, rest_length bytes at)) less
     ∙ (λ i. taken total index sum ((next_of bytes at ∙ sym er) i) (drop-drop 4 at bytes i))
@@ -122,16 +128,19 @@ full_or : (b : Bool) → ((b && true) || false) ≡ b
 full_or true = refl
 full_or false = refl
 
-run_voxels : (sum run p : ℕ) (full : Bool) (vs : List Bool) → length vs ≡ sum → ((full && is_from sum run p) || get_or vs p false) ≡ get_or (vs ++ (replicate run full ++ [])) p false
+run_voxels : (sum run p : ℕ) (full : Bool) (vs : List Bool) → length vs ≡ sum
+    → ((full && is_from sum run p) || get_or vs p false) ≡ get_or (vs ++ (replicate run full ++ [])) p false
 run_voxels sum run p full vs e = by (cases_lt p sum) (cases_lt p (sum + run))
   where
     past : sum ≤ p → get_or vs p false ≡ false
     past l = get_or_past vs p false (omega arith)
 
-    behind : sum ≤ p → get_or (vs ++ (replicate run full ++ [])) p false ≡ get_or (replicate run full) (p - length vs) false
+    behind : sum ≤ p
+        → get_or (vs ++ (replicate run full ++ [])) p false ≡ get_or (replicate run full) (p - length vs) false
     behind l = get_or-append_right vs (replicate run full ++ []) p false (omega arith) ∙ ap (λ xs. get_or xs (p - length vs) false) (append-nil (replicate run full))
 
-    by : ((p < sum) ⊎ (sum ≤ p)) → ((p < sum + run) ⊎ (sum + run ≤ p)) → ((full && is_from sum run p) || get_or vs p false) ≡ get_or (vs ++ (replicate run full ++ [])) p false
+    by : ((p < sum) ⊎ (sum ≤ p)) → ((p < sum + run) ⊎ (sum + run ≤ p))
+        → ((full && is_from sum run p) || get_or vs p false) ≡ get_or (vs ++ (replicate run full ++ [])) p false
     by (inl l) m =
         ap (λ b. (full && b) || get_or vs p false) (before_these sum run p l)
         ∙ (ap (λ b. b || get_or vs p false) (and_false full)
@@ -148,7 +157,8 @@ run_voxels sum run p full vs e = by (cases_lt p sum) (cases_lt p (sum + run))
 run_size : (vs : List Bool) (run : ℕ) (full : Bool) → length (vs ++ (replicate run full ++ [])) ≡ length vs + run
 run_size vs run full = omega (arith, length-append vs (replicate run full ++ []), length-append (replicate run full) [], length-replicate run full)
 
-run_turn : (vs more : List Bool) (run : ℕ) (full : Bool) → vs ++ (replicate run full ++ more) ≡ (vs ++ (replicate run full ++ [])) ++ more
+run_turn : (vs more : List Bool) (run : ℕ) (full : Bool)
+    → vs ++ (replicate run full ++ more) ≡ (vs ++ (replicate run full ++ [])) ++ more
 run_turn vs more run full = ap (λ xs. vs ++ (xs ++ more)) (sym (append-nil (replicate run full))) ∙ sym (append_assoc vs (replicate run full ++ []) more)
 
 pub run_more : (r : ℕ) (bytes : List ℕ) (old new : Matrix) (at index sum run : ℕ) (full : Bool) → HasRuns r bytes old at index sum full → at + 4 ≤ length bytes → sum < volume r → run ≡ next_run bytes at → (run ≡ 0 → index ≡ 0) → sum + run ≤ volume r →
@@ -185,10 +195,14 @@ run_more r bytes old new at index sum run full h four less er nz fits set resolu
 
 -- ---- where the runs end
 
-refused : (r : ℕ) (bytes : List ℕ) (m : Matrix) (at index sum : ℕ) (full : Bool) (e : NoModel) → HasRuns r bytes m at index sum full → runs_in (volume r) index sum (drop at bytes) ≡ Err e → of_runs r (runs_in (volume r) 0 0 bytes) ≡ Err e
+refused : (r : ℕ) (bytes : List ℕ) (m : Matrix) (at index sum : ℕ) (full : Bool) (e : NoModel)
+    → HasRuns r bytes m at index sum full → runs_in (volume r) index sum (drop at bytes) ≡ Err e
+    → of_runs r (runs_in (volume r) 0 0 bytes) ≡ Err e
 refused r bytes m at index sum full e h s = ap (of_runs r) (h.reads ∙ (ap (before h.done) s ∙ before-err h.done e))
 
-pub bad_run : (r : ℕ) (bytes : List ℕ) (m : Matrix) (at index sum run : ℕ) (full : Bool) → HasRuns r bytes m at index sum full → at + 4 ≤ length bytes → sum < volume r → run ≡ next_run bytes at → is_no_run (volume r) index sum run ≡ true → of_runs r (runs_in (volume r) 0 0 bytes) ≡ Err (WideRun index)
+pub bad_run : (r : ℕ) (bytes : List ℕ) (m : Matrix) (at index sum run : ℕ) (full : Bool)
+    → HasRuns r bytes m at index sum full → at + 4 ≤ length bytes → sum < volume r → run ≡ next_run bytes at
+    → is_no_run (volume r) index sum run ≡ true → of_runs r (runs_in (volume r) 0 0 bytes) ≡ Err (WideRun index)
 bad_run r bytes m at index sum run full h four less er bad =
     refused r bytes m at index sum full (WideRun index) h
     (next_taken bytes (volume r) at index sum run four less er ∙ ap (λ b. elim b [ true ↦ Err (WideRun index) | false ↦ with_first run (runs_in (volume r) (index + 1) (sum + run) (drop (at + 4) bytes)) ]) bad)
@@ -203,13 +217,19 @@ long_run total index sum run l = by (nat_lt 0 index && run == 0) (test_less tota
     by true e = refl
     by false e = e
 
-pub runs_short : (r : ℕ) (bytes : List ℕ) (m : Matrix) (at index sum : ℕ) (full : Bool) → HasRuns r bytes m at index sum full → length bytes - at < 4 → sum < volume r → of_runs r (runs_in (volume r) 0 0 bytes) ≡ Err (WideShort sum)
+pub runs_short : (r : ℕ) (bytes : List ℕ) (m : Matrix) (at index sum : ℕ) (full : Bool)
+    → HasRuns r bytes m at index sum full → length bytes - at < 4 → sum < volume r
+    → of_runs r (runs_in (volume r) 0 0 bytes) ≡ Err (WideShort sum)
 runs_short r bytes m at index sum full h few less = refused r bytes m at index sum full (WideShort sum) h (too_few (volume r) index sum (drop at bytes) (omega (arith, rest_length bytes at)) less)
 
-pub runs_long : (r : ℕ) (bytes : List ℕ) (m : Matrix) (at index sum : ℕ) (full : Bool) → HasRuns r bytes m at index sum full → at < length bytes → volume r ≤ sum → of_runs r (runs_in (volume r) 0 0 bytes) ≡ Err WideLong
+pub runs_long : (r : ℕ) (bytes : List ℕ) (m : Matrix) (at index sum : ℕ) (full : Bool)
+    → HasRuns r bytes m at index sum full → at < length bytes → volume r ≤ sum
+    → of_runs r (runs_in (volume r) 0 0 bytes) ≡ Err WideLong
 runs_long r bytes m at index sum full h left all = refused r bytes m at index sum full WideLong h (too_many (volume r) index sum (drop at bytes) (omega (arith, rest_length bytes at)) all)
 
-pub runs_end : (r : ℕ) (bytes : List ℕ) (m : Matrix) (at index sum : ℕ) (full : Bool) → HasRuns r bytes m at index sum full → length bytes ≤ at → volume r ≤ sum → of_runs r (runs_in (volume r) 0 0 bytes) ≡ Ok m
+pub runs_end : (r : ℕ) (bytes : List ℕ) (m : Matrix) (at index sum : ℕ) (full : Bool)
+    → HasRuns r bytes m at index sum full → length bytes ≤ at → volume r ≤ sum
+    → of_runs r (runs_in (volume r) 0 0 bytes) ≡ Ok m
 runs_end r bytes m at index sum full h none all =
     ap (of_runs r) (h.reads ∙ (ap (before h.done) (ap (runs_in (volume r) index sum) (drop_all at bytes none) ∙ no_more (volume r) index sum all) ∙ (before-ok h.done [] ∙ ap Ok (append-nil h.done))))
     ∙ ap Ok (λ i. record { resolution = sym h.resolution i; voxels = sym same i })
@@ -221,7 +241,8 @@ runs_end r bytes m at index sum full h none all =
     same = ext_get_or false m.voxels (voxels_of false h.done) size (λ p l. h.voxels p)
 
 -- the wide form's bytes behind its mark
-pub wide_is : (bytes : List ℕ) (r : ℕ) → 2 ≤ length bytes → r ≡ slice_index bytes 0 * 256 + slice_index bytes 1 → 251 ≤ r → r ≤ 400 → of_runs r (runs_in (volume r) 0 0 (drop 2 bytes)) ≡ wide_form bytes
+pub wide_is : (bytes : List ℕ) (r : ℕ) → 2 ≤ length bytes → r ≡ slice_index bytes 0 * 256 + slice_index bytes 1
+    → 251 ≤ r → r ≤ 400 → of_runs r (runs_in (volume r) 0 0 (drop 2 bytes)) ≡ wide_form bytes
 wide_is [] r two e l u = absurd (omega arith)
 wide_is (a ∷ []) r two e l u = absurd (omega arith)
 wide_is (a ∷ b ∷ rest) r two e l u =

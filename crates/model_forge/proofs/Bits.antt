@@ -12,7 +12,8 @@ pub record IsWord (w k : ℕ) (test : ℕ → Bool) : Type 0 where
   pub below : w < 2 ^ k
 
 -- one more bit
-pub word_more : (w k v : ℕ) (test : ℕ → Bool) (b : Bool) → IsWord w k test → k < 64 → v ≡ cond b 1 0 → b ≡ test k → IsWord (w + v * 2 ^ k % 2 ^ 64) (k + 1) test
+pub word_more : (w k v : ℕ) (test : ℕ → Bool) (b : Bool) → IsWord w k test → k < 64 → v ≡ cond b 1 0 → b ≡ test k
+    → IsWord (w + v * 2 ^ k % 2 ^ 64) (k + 1) test
 word_more w k v test b h l ev eb = record {
   bits = λ j m. ap (λ n. bit n j) is ∙ by j (cases_lt j k) m;
   below = subst (λ (n : ℕ). n < 2 ^ (k + 1)) (sym is) sum_below;

@@ -39,7 +39,8 @@ void_at r p = by (cases_lt p (r * r * r))
 pub begun : (number : ℕ) (tower : Tower) (r : ℕ) (m : Matrix) → m ≡ empty r → IsForged number tower m (row_place r 1 0)
 begun number tower r m e = subst (λ (n : Matrix). IsForged number tower n (row_place r 1 0)) (sym e) (record { voxels = λ p. void_at r p ∙ sym (by p (cases_lt p (row_place r 1 0))) })
   where
-    by : (p : ℕ) → ((p < row_place r 1 0) ⊎ (row_place r 1 0 ≤ p)) → (nat_lt p (row_place r 1 0) && is_forged number r tower (coordinate_at r p)) ≡ false
+    by : (p : ℕ) → ((p < row_place r 1 0) ⊎ (row_place r 1 0 ≤ p))
+        → (nat_lt p (row_place r 1 0) && is_forged number r tower (coordinate_at r p)) ≡ false
     by p (inr l) = ap (λ b. b && is_forged number r tower (coordinate_at r p)) (test_not_less p (row_place r 1 0) l)
     by p (inl l) =
         let first : p / (r * r) ≡ 0 = div-eq_of_lt (omega arith) in
@@ -69,7 +70,9 @@ no_top : (y h : ℕ) → h ≡ 0 → (y + 1 == h) ≡ false
 no_top y h e = grind (arith, nat_tests)
 
 -- the test with this tower is that of the definition
-tower_test : (number r : ℕ) (tower : Tower) → tower.height ≡ tallest number r → (0 < tower.height → tower.z ≡ line_of_tallest number r) → matrix_where r (is_forged number r tower) ≡ forged number r
+tower_test : (number r : ℕ) (tower : Tower) → tower.height ≡ tallest number r
+    → (0 < tower.height → tower.z ≡ line_of_tallest number r)
+    → matrix_where r (is_forged number r tower) ≡ forged number r
 tower_test number r tower eh ez = by tower.height refl
   where
     by : (h : ℕ) → tower.height ≡ h → matrix_where r (is_forged number r tower) ≡ forged number r
@@ -83,7 +86,9 @@ module _ (number : ℕ) (tower : Tower) (r x : ℕ) (m : Matrix) (same_r : m.res
   voxel : (p : ℕ) → p < r * r * r → voxel_at m p ≡ is_forged number r tower (coordinate_at r p)
   voxel p l = h.voxels p ∙ (ap (λ s. nat_lt p (row_place r x 0) && is_forged number s tower (coordinate_at s p)) same_r ∙ by (cases_lt p (row_place r x 0)))
     where
-      by : ((p < row_place r x 0) ⊎ (row_place r x 0 ≤ p)) → (nat_lt p (row_place r x 0) && is_forged number r tower (coordinate_at r p)) ≡ is_forged number r tower (coordinate_at r p)
+      by : ((p < row_place r x 0) ⊎ (row_place r x 0 ≤ p))
+          → (nat_lt p (row_place r x 0) && is_forged number r tower (coordinate_at r p))
+          ≡ is_forged number r tower (coordinate_at r p)
       by (inl k) = ap (λ b. b && is_forged number r tower (coordinate_at r p)) (test_less p (row_place r x 0) k)
       by (inr k) =
           let beyond : x ≤ p / (r * r) = wall_of r x p l k in
@@ -101,5 +106,6 @@ module _ (number : ℕ) (tower : Tower) (r x : ℕ) (m : Matrix) (same_r : m.res
           (λ p l. let k : p < r * r * r = omega (arith, size) in voxel p k ∙ sym (get_or-where r (is_forged number r tower) p k))
 
   -- the model of the definition
-  pub done : tower.height ≡ tallest number r → (0 < tower.height → tower.z ≡ line_of_tallest number r) → m ≡ forged number r
+  pub done : tower.height ≡ tallest number r → (0 < tower.height → tower.z ≡ line_of_tallest number r)
+      → m ≡ forged number r
   done eh ez = all_forged ∙ tower_test number r tower eh ez

@@ -70,7 +70,9 @@ module _ (number : ℕ) (tower : Tower) (r x y : ℕ) (x_low : 1 ≤ x) (x_high 
         let top : true ≡ (y + 1 == tower.height) = sym (test_equal (y + 1) tower.height et) in
         roof p ∙ (λ i. (is_from from (em i) p && (top i && (x % 2 == 0 || p + 1 == from + tower.z))) || columns p i)
 
-    pub unroofed : (y + 1 ≡ tower.height → ⊥) → ((p : ℕ) → voxel_at new p ≡ cond (is_from from (length heights) p) (nat_lt y (slice_index heights (p - from))) (voxel_at old p)) → (p : ℕ) → voxel_at new p ≡ put_at p
+    pub unroofed : (y + 1 ≡ tower.height → ⊥) → ((p : ℕ) → voxel_at new p
+        ≡ cond (is_from from (length heights) p) (nat_lt y (slice_index heights (p - from))) (voxel_at old p)) → (p : ℕ)
+        → voxel_at new p ≡ put_at p
     unroofed n columns p =
         let top : false ≡ (y + 1 == tower.height) = sym (test_unequal (y + 1) tower.height n) in
         columns p
@@ -93,7 +95,8 @@ module _ (number : ℕ) (tower : Tower) (r x y : ℕ) (x_low : 1 ≤ x) (x_high 
         ∙ (ap (λ h. (y + 1 == tower.height && (x % 2 == 0 || z == tower.z)) || nat_lt y h) (are.at (z - 1) (omega arith) ∙ ap (column_height number r x) next)
         ∙ or_swapped (y + 1 == tower.height && (x % 2 == 0 || z == tower.z)) (nat_lt y (column_height number r x z))))
 
-    pub row_forged : old.resolution ≡ r → new.resolution ≡ r → ((p : ℕ) → voxel_at new p ≡ put_at p) → IsForged number tower old (row_place r x y) → IsForged number tower new (row_place r x (y + 1))
+    pub row_forged : old.resolution ≡ r → new.resolution ≡ r → ((p : ℕ) → voxel_at new p ≡ put_at p)
+        → IsForged number tower old (row_place r x y) → IsForged number tower new (row_place r x (y + 1))
     row_forged eo en put h = record { voxels = λ p. put p ∙ (by p (cases_lt p (row_place r x y)) (cases_lt p (row_place r x (y + 1))) ∙ ap (λ s. nat_lt p (row_place r x (y + 1)) && is_forged number s tower (coordinate_at s p)) (sym en)) }
       where
         was : (p : ℕ) → voxel_at old p ≡ (nat_lt p (row_place r x y) && is_forged number r tower (coordinate_at r p))
@@ -102,7 +105,8 @@ module _ (number : ℕ) (tower : Tower) (r x y : ℕ) (x_low : 1 ≤ x) (x_high 
         next : row_place r x (y + 1) ≡ row_place r x y + r
         next = omega arith
 
-        here : (p z : ℕ) → p ≡ row_place r x y + z → z < r → ((z < 1) ⊎ (1 ≤ z)) → ((z + 1 < r) ⊎ (r ≤ z + 1)) → put_at p ≡ is_forged number r tower (coordinate_at r p)
+        here : (p z : ℕ) → p ≡ row_place r x y + z → z < r → ((z < 1) ⊎ (1 ≤ z)) → ((z + 1 < r) ⊎ (r ≤ z + 1))
+            → put_at p ≡ is_forged number r tower (coordinate_at r p)
         here p z e l (inl m) n =
             let zero_is : z ≡ 0 = omega arith in
             let old_is : voxel_at old p ≡ false = was p ∙ ap (λ b. b && is_forged number r tower (coordinate_at r p)) (test_not_less p (row_place r x y) (omega arith)) in
@@ -112,7 +116,9 @@ module _ (number : ℕ) (tower : Tower) (r x y : ℕ) (x_low : 1 ≤ x) (x_high 
             let old_is : voxel_at old p ≡ false = was p ∙ ap (λ b. b && is_forged number r tower (coordinate_at r p)) (test_not_less p (row_place r x y) (omega arith)) in
             stays p (after_these from (length heights) p (omega arith)) ∙ (old_is ∙ sym (ap (λ q. is_forged number r tower (coordinate_at r q)) e ∙ last_is z l n))
 
-        by : (p : ℕ) → ((p < row_place r x y) ⊎ (row_place r x y ≤ p)) → ((p < row_place r x (y + 1)) ⊎ (row_place r x (y + 1) ≤ p)) → put_at p ≡ (nat_lt p (row_place r x (y + 1)) && is_forged number r tower (coordinate_at r p))
+        by : (p : ℕ) → ((p < row_place r x y) ⊎ (row_place r x y ≤ p))
+            → ((p < row_place r x (y + 1)) ⊎ (row_place r x (y + 1) ≤ p))
+            → put_at p ≡ (nat_lt p (row_place r x (y + 1)) && is_forged number r tower (coordinate_at r p))
         by p (inl l) m =
             stays p (before_these from (length heights) p (omega arith))
             ∙ (was p

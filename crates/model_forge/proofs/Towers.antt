@@ -21,18 +21,23 @@ walls_from r first count = flat_map (columns_of r) (numbers_from first count)
 pub some_left : (a b : ℕ) → a < b → b - a ≡ suc (b - (a + 1))
 some_left a b l = omega arith
 
-pub highest-append : (number r : ℕ) (tower : Tower) (xs ys : List Column) → highest number r tower (xs ++ ys) ≡ highest number r (highest number r tower xs) ys
+pub highest-append : (number r : ℕ) (tower : Tower) (xs ys : List Column)
+    → highest number r tower (xs ++ ys) ≡ highest number r (highest number r tower xs) ys
 highest-append number r tower [] ys = refl
 highest-append number r tower (k ∷ xs) ys = highest-append number r (higher tower (column_height number r k.x k.z) k.z) xs ys
 
 -- one more column of a wall
-pub column_more : (number r x z : ℕ) (tower new whole : Tower) → z < r - 1 → highest number r tower (columns_from x z (r - 1 - z)) ≡ whole → new ≡ higher tower (column_height number r x z) z → highest number r new (columns_from x (z + 1) (r - 1 - (z + 1))) ≡ whole
+pub column_more : (number r x z : ℕ) (tower new whole : Tower) → z < r - 1
+    → highest number r tower (columns_from x z (r - 1 - z)) ≡ whole → new ≡ higher tower (column_height number r x z) z
+    → highest number r new (columns_from x (z + 1) (r - 1 - (z + 1))) ≡ whole
 column_more number r x z tower new whole l e en =
     ap (λ t. highest number r t (columns_from x (z + 1) (r - 1 - (z + 1)))) en
     ∙ (ap (λ n. highest number r tower (columns_from x z n)) (sym (some_left z (r - 1) l)) ∙ e)
 
 -- one more wall
-pub wall_more : (number r x : ℕ) (tower new whole : Tower) → x < r - 1 → highest number r tower (walls_from r x (r - 1 - x)) ≡ whole → new ≡ highest number r tower (columns_of r x) → highest number r new (walls_from r (x + 1) (r - 1 - (x + 1))) ≡ whole
+pub wall_more : (number r x : ℕ) (tower new whole : Tower) → x < r - 1
+    → highest number r tower (walls_from r x (r - 1 - x)) ≡ whole → new ≡ highest number r tower (columns_of r x)
+    → highest number r new (walls_from r (x + 1) (r - 1 - (x + 1))) ≡ whole
 wall_more number r x tower new whole l e en =
     ap (λ t. highest number r t (walls_from r (x + 1) (r - 1 - (x + 1)))) en
     ∙ (sym (highest-append number r tower (columns_of r x) (walls_from r (x + 1) (r - 1 - (x + 1))))
@@ -75,14 +80,16 @@ module _ (number r : ℕ) where
 
   -- the first column is higher than the tower
   module _ (tower : Tower) (k : Column) (ks : List Column) (found : Tower) where
-    new_tower : tower.height < of_column k → IsTallest (record { height = of_column k; z = k.z }) ks found → IsTallest tower (k ∷ ks) found
+    new_tower : tower.height < of_column k → IsTallest (record { height = of_column k; z = k.z }) ks found
+        → IsTallest tower (k ∷ ks) found
     new_tower l h = record {
       height_is = h.height_is ∙ omega arith;
       kept = λ g. absurd (omega (arith, h.height_is, g));
       newer = λ _. here (cases_order (of_column k) found.height);
     }
       where
-        here : (of_column k ≡ found.height) ⊎ ((of_column k < found.height) ⊎ (found.height < of_column k)) → found.z ≡ line found.height (k ∷ ks)
+        here : (of_column k ≡ found.height) ⊎ ((of_column k < found.height) ⊎ (found.height < of_column k))
+            → found.z ≡ line found.height (k ∷ ks)
         here (inl g) = h.kept (sym g) ∙ sym (met found.height k ks g)
         here (inr (inl g)) = h.newer g ∙ sym (passed found.height k ks (λ m. absurd (omega (arith, m))))
         here (inr (inr g)) = absurd (omega (arith, h.height_is))
@@ -104,10 +111,12 @@ module _ (number r : ℕ) where
       by false e new same = same_tower tower k ks _ (not_less tower.height (of_column k) e) same
 
   -- what is found among all columns
-  pub height_is : (found : Tower) → highest number r found [] ≡ highest number r none (columns r) → found.height ≡ tallest number r
+  pub height_is : (found : Tower) → highest number r found [] ≡ highest number r none (columns r)
+      → found.height ≡ tallest number r
   height_is found e = ap (λ (t : Tower). t.height) e ∙ ((tallest_of none (columns r)).height_is ∙ omega arith)
 
-  pub line_is : (found : Tower) → highest number r found [] ≡ highest number r none (columns r) → 0 < found.height → found.z ≡ line_of_tallest number r
+  pub line_is : (found : Tower) → highest number r found [] ≡ highest number r none (columns r) → 0 < found.height
+      → found.z ≡ line_of_tallest number r
   line_is found e l =
       let t = tallest_of none (columns r) in
       let high : 0 < (highest number r none (columns r)).height = subst (λ (f : Tower). 0 < f.height) e l in

@@ -15,7 +15,8 @@ pub record IsAccepted (s t : State) (commands : List Command) (step : ℕ) : Typ
   pub is : t ≡ after s commands
   pub grounded : (after s commands).harmonics ≡ Low → FirstUngrounded (after s commands).matrix None
 
-pub accepted_step : (s t : State) (commands : List Command) (step : ℕ) → Next s commands step (Goes t) → IsAccepted s t commands step
+pub accepted_step : (s t : State) (commands : List Command) (step : ℕ) → Next s commands step (Goes t)
+    → IsAccepted s t commands step
 accepted_step s t commands step (breaks_at_start b f e) = cc
 accepted_step s t commands step (leaves_floating c keeps low f e) = cc
 accepted_step s t commands step (accepts keeps grounded e) = record { keeps = keeps; is = cc; grounded = grounded }

@@ -16,7 +16,8 @@ same_bytes (x ∷ xs) (y ∷ ys) h = let e : x ≡ y = head x y (first_of_two (x
     head : (a b : ℕ) → (a == b) ≡ true → a ≡ b
     head a b k = grind (arith, nat_tests)
 
-pub at_number : (test : ℕ → Bool) (n a k : ℕ) → k < n → IsTrue (list_all test (numbers_from a n)) → IsTrue (test (a + k))
+pub at_number : (test : ℕ → Bool) (n a k : ℕ) → k < n → IsTrue (list_all test (numbers_from a n))
+    → IsTrue (test (a + k))
 at_number test zero a k l h = absurd (omega arith)
 at_number test (suc n) a zero l h = subst (λ (v : ℕ). IsTrue (test v)) (omega arith) (first_of_two (test a) (list_all test (numbers_from (a + 1) n)) h)
 at_number test (suc n) a (suc k) l h = subst (λ (v : ℕ). IsTrue (test v)) (omega arith) (at_number test n (a + 1) k (omega arith) (second_of_two (test a) (list_all test (numbers_from (a + 1) n)) h))

@@ -71,7 +71,8 @@ worked_misreadings = record {
 }
 
 -- by its path alone, and by no lemma
-a_hanging_voxel : Grounded (voxels_at 5 (coord 1 0 1 ∷ coord 1 1 1 ∷ coord 1 2 1 ∷ coord 2 2 1 ∷ coord 2 1 1 ∷ [])) (coord 2 1 1)
+a_hanging_voxel :
+    Grounded (voxels_at 5 (coord 1 0 1 ∷ coord 1 1 1 ∷ coord 1 2 1 ∷ coord 2 2 1 ∷ coord 2 1 1 ∷ [])) (coord 2 1 1)
 a_hanging_voxel = (coord 2 1 1 ∷ coord 2 2 1 ∷ coord 1 2 1 ∷ coord 1 1 1 ∷ coord 1 0 1 ∷ [], refl)
 
 pub worked_models : WorkedModels

@@ -23,7 +23,8 @@ checked_is (Some d) c h = by (is_command d) refl h
     by true e g = let same : d ≡ c = same_says d c g in (ap Some same, subst IsCommand same e)
     by false e g = cc
 
-said_is : (w : Word) (rest : List ℕ) (rs : List (List ℤ)) (c : Command) → readings w.form rest ≡ rs → said w rs ≡ Says c → Reads (Some w) rest c
+said_is : (w : Word) (rest : List ℕ) (rs : List (List ℤ)) (c : Command) → readings w.form rest ≡ rs → said w rs ≡ Says c
+    → Reads (Some w) rest c
 said_is w rest [] c e h = cc
 said_is w rest (ns ∷ more) c e h =
     let found : Contains (ns ∷ more) ns = (0, omega arith, refl) in
@@ -38,7 +39,9 @@ by_word (Some w) rest c h = said_is w rest (readings w.form rest) c refl h
 pub says_is : (line : List ℕ) (c : Command) → line_of line ≡ Says c → IsLineOf line c
 says_is line c h = by (has_high_byte line) (is_skipped line) h
   where
-    by : (a b : Bool) → cond a (Faulty NotAscii) (cond b Skipped (said_by (word_of (from_word (line_content line))) (after_word (from_word (line_content line))))) ≡ Says c → Reads (word_of (from_word (line_content line))) (after_word (from_word (line_content line))) c
+    by : (a b : Bool) → cond a (Faulty NotAscii)
+        (cond b Skipped (said_by (word_of (from_word (line_content line))) (after_word (from_word (line_content line)))))
+        ≡ Says c → Reads (word_of (from_word (line_content line))) (after_word (from_word (line_content line))) c
     by true b g = cc
     by false true g = cc
     by false false g = by_word (word_of (from_word (line_content line))) (after_word (from_word (line_content line))) c g
@@ -53,7 +56,8 @@ only (x ∷ []) ns h k = by k.0 k.1 k.2
 only (x ∷ y ∷ xs) ns h k = absurd h
 
 -- an ASCII line of the form of a command, which is not skipped, says the command
-pub is_says : (line : List ℕ) (c : Command) → IsFalse (has_high_byte line) → IsFalse (is_skipped line) → IsLineOf line c → line_of line ≡ Says c
+pub is_says : (line : List ℕ) (c : Command) → IsFalse (has_high_byte line) → IsFalse (is_skipped line) → IsLineOf line c
+    → line_of line ≡ Says c
 is_says line c a b (word, ns, w, k, r, e) =
     let rest = after_word (from_word (line_content line)) in
     let one : readings word.form rest ≡ ns ∷ [] = only (readings word.form rest) ns (one_reading_of word (from_word (line_content line)) rest w) k in

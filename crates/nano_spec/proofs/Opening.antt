@@ -13,11 +13,13 @@ use Rattle.nano_spec.specs.State.{IsReady, IsWellFormed, opening, origin, first_
 use Rattle.nano_spec.proofs.Coordinates.{at_full}
 use Rattle.nano_spec.proofs.Seeds.{none_below, numbers_rise, seed_is}
 
-none_found : {A : Type 0} (test : A → Bool) (xs : List A) → find test xs ≡ None → IsTrue (list_all (λ x. not (test x)) xs)
+none_found : {A : Type 0} (test : A → Bool) (xs : List A) → find test xs ≡ None
+    → IsTrue (list_all (λ x. not (test x)) xs)
 none_found test [] e = refl
 none_found test (x ∷ xs) e = by (test x) refl (none_found test xs)
   where
-    by : (b : Bool) → test x ≡ b → (find test xs ≡ None → IsTrue (list_all (λ y. not (test y)) xs)) → IsTrue (not (test x) && list_all (λ y. not (test y)) xs)
+    by : (b : Bool) → test x ≡ b → (find test xs ≡ None → IsTrue (list_all (λ y. not (test y)) xs))
+        → IsTrue (not (test x) && list_all (λ y. not (test y)) xs)
     by true f later = absurd (not_none (rw f at e))
       where
         not_none : Some x ≡ None → ⊥
@@ -66,7 +68,8 @@ well_formed_opening m profile h = record {
 }
 
 -- the opening of a model with a voxel for each coordinate is ready
-pub ready_opening : (m : Matrix) (profile : Profile) → 1 ≤ m.resolution → length m.voxels ≡ volume m.resolution → IsReady (opening m profile)
+pub ready_opening : (m : Matrix) (profile : Profile) → 1 ≤ m.resolution → length m.voxels ≡ volume m.resolution
+    → IsReady (opening m profile)
 ready_opening m profile some whole = record {
   whole = whole;
   within = alone (first_bot profile) (λ b. IsInSpace m.resolution b.pos) (record { x = omega arith; y = omega arith; z = omega arith });

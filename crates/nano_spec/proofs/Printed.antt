@@ -74,7 +74,9 @@ digit_test : (d : ℕ) → d < 10 → is_digit (48 + d) ≡ true
 digit_test d l = grind (arith, nat_tests)
 
 -- one digit more
-one_digit : (n so_far d : ℕ) (rest : List ℕ) (r : Read) → d < 10 → In r (record { number = pos (10 * so_far + d); rest = rest } ∷ digits n (10 * so_far + d) rest) → In r (digits (suc n) so_far ((48 + d) ∷ rest))
+one_digit : (n so_far d : ℕ) (rest : List ℕ) (r : Read) → d < 10
+    → In r (record { number = pos (10 * so_far + d); rest = rest } ∷ digits n (10 * so_far + d) rest)
+    → In r (digits (suc n) so_far ((48 + d) ∷ rest))
 one_digit n so_far d rest r l h =
     let value : 10 * so_far + d ≡ 10 * so_far + ((48 + d) - 48) = omega arith in
     let inside : In r (record { number = pos (10 * so_far + ((48 + d) - 48)); rest = rest } ∷ digits n (10 * so_far + ((48 + d) - 48)) rest) = subst (λ (v : ℕ). In r (record { number = pos v; rest = rest } ∷ digits n v rest)) value h in
@@ -87,10 +89,12 @@ found n rest = record { number = pos n; rest = rest }
 same_read : (n m : ℕ) (rest : List ℕ) → n ≡ m → found n rest ≡ found m rest
 same_read n m rest e = ap (λ v. found v rest) e
 
-text_digits : (n : ℕ) (rest : List ℕ) → n < 256 → In (record { number = pos n; rest = rest }) (digits 3 0 (text n ++ rest))
+text_digits : (n : ℕ) (rest : List ℕ) → n < 256
+    → In (record { number = pos n; rest = rest }) (digits 3 0 (text n ++ rest))
 text_digits n rest l = by (nat_lt n 10) (nat_lt n 100) refl refl
   where
-    by : (a b : Bool) → nat_lt n 10 ≡ a → nat_lt n 100 ≡ b → In (record { number = pos n; rest = rest }) (digits 3 0 (cond a ((48 + n) ∷ []) (cond b ((48 + n / 10) ∷ (48 + n % 10) ∷ []) ((48 + n / 100) ∷ (48 + n / 10 % 10) ∷ (48 + n % 10) ∷ [])) ++ rest))
+    by : (a b : Bool) → nat_lt n 10 ≡ a → nat_lt n 100 ≡ b → In (record { number = pos n; rest = rest })
+        (digits 3 0 (cond a ((48 + n) ∷ []) (cond b ((48 + n / 10) ∷ (48 + n % 10) ∷ []) ((48 + n / 100) ∷ (48 + n / 10 % 10) ∷ (48 + n % 10) ∷ [])) ++ rest))
     by true b e f =
         let few : n < 10 = grind (arith, nat_tests) in
         one_digit 2 0 n rest (record { number = pos n; rest = rest }) few (inl (same_read (10 * 0 + n) n rest (omega arith)))
@@ -112,7 +116,9 @@ no_minus d l = grind (arith, nat_tests)
 text_numbers : (n : ℕ) (rest : List ℕ) → n < 256 → numbers (text n ++ rest) ≡ digits 3 0 (text n ++ rest)
 text_numbers n rest l = by (nat_lt n 10) (nat_lt n 100) refl refl
   where
-    by : (a b : Bool) → nat_lt n 10 ≡ a → nat_lt n 100 ≡ b → numbers (cond a ((48 + n) ∷ []) (cond b ((48 + n / 10) ∷ (48 + n % 10) ∷ []) ((48 + n / 100) ∷ (48 + n / 10 % 10) ∷ (48 + n % 10) ∷ [])) ++ rest) ≡ digits 3 0 (cond a ((48 + n) ∷ []) (cond b ((48 + n / 10) ∷ (48 + n % 10) ∷ []) ((48 + n / 100) ∷ (48 + n / 10 % 10) ∷ (48 + n % 10) ∷ [])) ++ rest)
+    by : (a b : Bool) → nat_lt n 10 ≡ a → nat_lt n 100 ≡ b
+        → numbers (cond a ((48 + n) ∷ []) (cond b ((48 + n / 10) ∷ (48 + n % 10) ∷ []) ((48 + n / 100) ∷ (48 + n / 10 % 10) ∷ (48 + n % 10) ∷ [])) ++ rest)
+        ≡ digits 3 0 (cond a ((48 + n) ∷ []) (cond b ((48 + n / 10) ∷ (48 + n % 10) ∷ []) ((48 + n / 100) ∷ (48 + n / 10 % 10) ∷ (48 + n % 10) ∷ [])) ++ rest)
     by true b e f =
         let few : n < 10 = grind (arith, nat_tests) in
         ap (λ t. cond t (map negative (digits 3 0 rest)) (digits 3 0 ((48 + n) ∷ rest))) (no_minus n few)
@@ -122,20 +128,24 @@ text_numbers n rest l = by (nat_lt n 10) (nat_lt n 100) refl refl
     by false false e f = ap (λ t. cond t (map negative (digits 3 0 ((48 + n / 10 % 10) ∷ (48 + n % 10) ∷ rest))) (digits 3 0 ((48 + n / 100) ∷ (48 + n / 10 % 10) ∷ (48 + n % 10) ∷ rest))) (no_minus (n / 100) (omega arith))
 
 -- a printed number is read
-number_read : (z : ℤ) (rest : List ℕ) → unsigned_abs z < 256 → In (record { number = z; rest = rest }) (numbers (signed_decimal z ++ rest))
+number_read : (z : ℤ) (rest : List ℕ) → unsigned_abs z < 256
+    → In (record { number = z; rest = rest }) (numbers (signed_decimal z ++ rest))
 number_read (pos n) rest l = subst (λ (t : List ℕ). In (record { number = pos n; rest = rest }) (numbers (t ++ rest))) (sym (decimal_is n l)) (subst (In (record { number = pos n; rest = rest })) (sym (text_numbers n rest l)) (text_digits n rest l))
 number_read (negsuc n) rest l = subst (λ (t : List ℕ). In (record { number = negsuc n; rest = rest }) (map negative (digits 3 0 (t ++ rest)))) (sym (decimal_is (suc n) l)) (in_map negative (record { number = pos (suc n); rest = rest }) (digits 3 0 (text (suc n) ++ rest)) (text_digits (suc n) rest l))
 
 -- ---- forms
 
-reads_here : (ps : List Part) (line : List ℕ) (ns : List ℤ) → In ns (readings ps line) → In ns (readings (Blanks ∷ ps) line)
+reads_here : (ps : List Part) (line : List ℕ) (ns : List ℤ) → In ns (readings ps line)
+    → In ns (readings (Blanks ∷ ps) line)
 reads_here ps [] ns h = in_left ns (readings ps []) [] h
 reads_here ps (b ∷ more) ns h = in_left ns (readings ps (b ∷ more)) (flat_map (readings ps) (cond (is_blank b) (after_blanks more) [])) h
 
-reads_space : (ps : List Part) (line : List ℕ) (ns : List ℤ) → In ns (readings (Blanks ∷ ps) line) → In ns (readings (Blanks ∷ ps) (32 ∷ line))
+reads_space : (ps : List Part) (line : List ℕ) (ns : List ℤ) → In ns (readings (Blanks ∷ ps) line)
+    → In ns (readings (Blanks ∷ ps) (32 ∷ line))
 reads_space ps line ns h = in_right ns (readings ps (32 ∷ line)) (flat_map (readings ps) (after_blanks line)) h
 
-reads_number : (ps : List Part) (z : ℤ) (rest : List ℕ) (ns : List ℤ) → unsigned_abs z < 256 → In ns (readings ps rest) → In (z ∷ ns) (readings (Number ∷ ps) (signed_decimal z ++ rest))
+reads_number : (ps : List Part) (z : ℤ) (rest : List ℕ) (ns : List ℤ) → unsigned_abs z < 256 → In ns (readings ps rest)
+    → In (z ∷ ns) (readings (Number ∷ ps) (signed_decimal z ++ rest))
 reads_number ps z rest ns l h = in_flat (λ r. map (λ vs. r.number ∷ vs) (readings ps r.rest)) (record { number = z; rest = rest }) (z ∷ ns) (numbers (signed_decimal z ++ rest)) (number_read z rest l) (in_map (λ vs. z ∷ vs) ns (readings ps rest) h)
 
 -- the components of a difference are small
@@ -145,10 +155,12 @@ pub record IsSmall (d : Diff) : Type 0 where
   pub z : unsigned_abs d.dz < 256
 
 -- a printed difference and what follows it
-difference_text : (d : Diff) (rest : List ℕ) → printed_difference d ++ rest ≡ 60 ∷ (signed_decimal d.dx ++ (44 ∷ (signed_decimal d.dy ++ (44 ∷ (signed_decimal d.dz ++ (62 ∷ rest))))))
+difference_text : (d : Diff) (rest : List ℕ) → printed_difference d ++ rest
+    ≡ 60 ∷ (signed_decimal d.dx ++ (44 ∷ (signed_decimal d.dy ++ (44 ∷ (signed_decimal d.dz ++ (62 ∷ rest))))))
 difference_text d rest = ap (λ v. 60 ∷ v) (shift (signed_decimal d.dx) (signed_decimal d.dy) (signed_decimal d.dz))
   where
-    shift : (a b c : List ℕ) → (((((a ++ 44 ∷ []) ++ b) ++ 44 ∷ []) ++ c) ++ 62 ∷ []) ++ rest ≡ a ++ (44 ∷ (b ++ (44 ∷ (c ++ (62 ∷ rest)))))
+    shift : (a b c : List ℕ)
+        → (((((a ++ 44 ∷ []) ++ b) ++ 44 ∷ []) ++ c) ++ 62 ∷ []) ++ rest ≡ a ++ (44 ∷ (b ++ (44 ∷ (c ++ (62 ∷ rest)))))
     shift a b c =
         append_assoc ((((a ++ 44 ∷ []) ++ b) ++ 44 ∷ []) ++ c) (62 ∷ []) rest
         ∙ (append_assoc (((a ++ 44 ∷ []) ++ b) ++ 44 ∷ []) c (62 ∷ rest)
@@ -156,7 +168,8 @@ difference_text d rest = ap (λ v. 60 ∷ v) (shift (signed_decimal d.dx) (signe
         ∙ (append_assoc (a ++ 44 ∷ []) b (44 ∷ (c ++ (62 ∷ rest)))
         ∙ append_assoc a (44 ∷ []) (b ++ (44 ∷ (c ++ (62 ∷ rest)))))))
 
-reads_difference : (ps : List Part) (d : Diff) (rest : List ℕ) (ns : List ℤ) → IsSmall d → In ns (readings ps rest) → In (d.dx ∷ d.dy ∷ d.dz ∷ ns) (readings (difference_parts ++ ps) (spaced d ++ rest))
+reads_difference : (ps : List Part) (d : Diff) (rest : List ℕ) (ns : List ℤ) → IsSmall d → In ns (readings ps rest)
+    → In (d.dx ∷ d.dy ∷ d.dz ∷ ns) (readings (difference_parts ++ ps) (spaced d ++ rest))
 reads_difference ps d rest ns s h =
     let end : List ℕ = 62 ∷ rest in
     let last : In (d.dz ∷ ns) (readings (Blanks ∷ Number ∷ Blanks ∷ Mark 62 ∷ ps) (signed_decimal d.dz ++ (62 ∷ rest))) = reads_here (Number ∷ Blanks ∷ Mark 62 ∷ ps) (signed_decimal d.dz ++ (62 ∷ rest)) (d.dz ∷ ns) (reads_number (Blanks ∷ Mark 62 ∷ ps) d.dz (62 ∷ rest) ns s.z (reads_here (Mark 62 ∷ ps) (62 ∷ rest) ns h)) in
@@ -183,7 +196,8 @@ plain_digit d l = grind (arith, nat_tests)
 plain_text : (n : ℕ) → n < 256 → Plain (text n)
 plain_text n l = by (nat_lt n 10) (nat_lt n 100) refl refl
   where
-    by : (a b : Bool) → nat_lt n 10 ≡ a → nat_lt n 100 ≡ b → Plain (cond a ((48 + n) ∷ []) (cond b ((48 + n / 10) ∷ (48 + n % 10) ∷ []) ((48 + n / 100) ∷ (48 + n / 10 % 10) ∷ (48 + n % 10) ∷ [])))
+    by : (a b : Bool) → nat_lt n 10 ≡ a → nat_lt n 100 ≡ b
+        → Plain (cond a ((48 + n) ∷ []) (cond b ((48 + n / 10) ∷ (48 + n % 10) ∷ []) ((48 + n / 100) ∷ (48 + n / 10 % 10) ∷ (48 + n % 10) ∷ [])))
     by true b e f =
         let few : n < 10 = grind (arith, nat_tests) in
         both_true (is_plain (48 + n)) true (plain_digit n few) refl
@@ -272,21 +286,27 @@ LineBy line command =
     (word : Word) × (ns : List ℤ) × (word_of (from_word line) ≡ Some word) × Contains (readings word.form (after_word (from_word line))) ns × (word.command ns ≡ Some command) × IsCommand command
 
 -- a plain line of the form of a command says the command
-says : (line : List ℕ) (c : Command) → Plain line → list_all is_blank line ≡ false → LineBy line c → line_of line ≡ Says c
+says : (line : List ℕ) (c : Command) → Plain line → list_all is_blank line ≡ false → LineBy line c
+    → line_of line ≡ Says c
 says line c p b h = is_says line c (plain_low line p) (ap (list_all is_blank) (content_is line p) ∙ b) (subst (λ (v : List ℕ). LineBy v c) (sym (content_is line p)) h)
 
-one_read : (d : Diff) → IsSmall d → Contains (readings (difference_parts ++ Blanks ∷ []) (spaced d)) (d.dx ∷ d.dy ∷ d.dz ∷ [])
+one_read : (d : Diff) → IsSmall d
+    → Contains (readings (difference_parts ++ Blanks ∷ []) (spaced d)) (d.dx ∷ d.dy ∷ d.dz ∷ [])
 one_read d s =
     let h : In (d.dx ∷ d.dy ∷ d.dz ∷ []) (readings (difference_parts ++ Blanks ∷ []) (spaced d ++ [])) = reads_difference (Blanks ∷ []) d [] [] s (inl refl) in
     contained (d.dx ∷ d.dy ∷ d.dz ∷ []) (readings (difference_parts ++ Blanks ∷ []) (spaced d)) (subst (λ (t : List ℕ). In (d.dx ∷ d.dy ∷ d.dz ∷ []) (readings (difference_parts ++ Blanks ∷ []) t)) (append_none (spaced d)) h)
 
-two_read : (d e : Diff) → IsSmall d → IsSmall e → Contains (readings (difference_parts ++ difference_parts ++ Blanks ∷ []) (spaced d ++ spaced e)) (d.dx ∷ d.dy ∷ d.dz ∷ e.dx ∷ e.dy ∷ e.dz ∷ [])
+two_read : (d e : Diff) → IsSmall d → IsSmall e
+    → Contains (readings (difference_parts ++ difference_parts ++ Blanks ∷ []) (spaced d ++ spaced e))
+    (d.dx ∷ d.dy ∷ d.dz ∷ e.dx ∷ e.dy ∷ e.dz ∷ [])
 two_read d e s t =
     let h : In (e.dx ∷ e.dy ∷ e.dz ∷ []) (readings (difference_parts ++ Blanks ∷ []) (spaced e ++ [])) = reads_difference (Blanks ∷ []) e [] [] t (inl refl) in
     let k : In (e.dx ∷ e.dy ∷ e.dz ∷ []) (readings (difference_parts ++ Blanks ∷ []) (spaced e)) = subst (λ (u : List ℕ). In (e.dx ∷ e.dy ∷ e.dz ∷ []) (readings (difference_parts ++ Blanks ∷ []) u)) (append_none (spaced e)) h in
     contained (d.dx ∷ d.dy ∷ d.dz ∷ e.dx ∷ e.dy ∷ e.dz ∷ []) (readings (difference_parts ++ difference_parts ++ Blanks ∷ []) (spaced d ++ spaced e)) (reads_difference (difference_parts ++ Blanks ∷ []) d (spaced e) (e.dx ∷ e.dy ∷ e.dz ∷ []) s k)
 
-number_too : (d : Diff) (m : ℕ) → IsSmall d → m < 256 → Contains (readings (difference_parts ++ Blanks ∷ Number ∷ Blanks ∷ []) ((spaced d ++ 32 ∷ []) ++ decimal m)) (d.dx ∷ d.dy ∷ d.dz ∷ pos m ∷ [])
+number_too : (d : Diff) (m : ℕ) → IsSmall d → m < 256
+    → Contains (readings (difference_parts ++ Blanks ∷ Number ∷ Blanks ∷ []) ((spaced d ++ 32 ∷ []) ++ decimal m))
+    (d.dx ∷ d.dy ∷ d.dz ∷ pos m ∷ [])
 number_too d m s l =
     let h : In (pos m ∷ []) (readings (Number ∷ Blanks ∷ []) (decimal m ++ [])) = reads_number (Blanks ∷ []) (pos m) [] [] l (inl refl) in
     let k : In (pos m ∷ []) (readings (Number ∷ Blanks ∷ []) (decimal m)) = subst (λ (u : List ℕ). In (pos m ∷ []) (readings (Number ∷ Blanks ∷ []) u)) (append_none (decimal m)) h in
@@ -351,7 +371,8 @@ plain_printed (GVoid d f) h = plain_append (codes "GVoid" ++ spaced d) (spaced f
 
 -- ---- lines
 
-cut_after : (xs ys : List ℕ) → Plain xs → slice_split (λ b. b == 10) (xs ++ (10 ∷ ys)) ≡ xs ∷ slice_split (λ b. b == 10) ys
+cut_after : (xs ys : List ℕ) → Plain xs
+    → slice_split (λ b. b == 10) (xs ++ (10 ∷ ys)) ≡ xs ∷ slice_split (λ b. b == 10) ys
 cut_after [] ys h = refl
 cut_after (x ∷ xs) ys h = slice_split-cons_no (λ b. b == 10) x (xs ++ (10 ∷ ys)) (no_feed x (first_of_two (is_plain x) (list_all is_plain xs) h)) ∙ ap (onto_first x) (cut_after xs ys (second_of_two (is_plain x) (list_all is_plain xs) h))
 
@@ -359,7 +380,8 @@ cut_printed : (cs : List Command) → AreCommands cs → slice_split (λ b. b ==
 cut_printed [] h = refl
 cut_printed (c ∷ cs) h = ap (slice_split (λ b. b == 10)) (append_assoc (printed c) (10 ∷ []) (print cs)) ∙ (cut_after (printed c) (print cs) (plain_printed c h.0) ∙ ap (λ v. printed c ∷ v) (cut_printed cs h.1))
 
-kept : (c : Command) (more : List (List ℕ)) → without_last_empty (printed c ∷ more) ≡ printed c ∷ without_last_empty more
+kept : (c : Command) (more : List (List ℕ))
+    → without_last_empty (printed c ∷ more) ≡ printed c ∷ without_last_empty more
 kept Halt more = refl
 kept Wait more = refl
 kept Flip more = refl

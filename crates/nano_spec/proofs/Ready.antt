@@ -9,7 +9,8 @@ use Rattle.nano_spec.specs.Model.{volume}
 use Rattle.nano_spec.specs.State.{IsReady, IsWellFormed, State}
 
 -- numbers that rise differ
-pub well_formed : (s : State) → IsReady s → (s.harmonics ≡ Low → FirstUngrounded s.matrix None) → All (λ a. IsFalse (is_full s.matrix a.pos)) s.bots → IsWellFormed s
+pub well_formed : (s : State) → IsReady s → (s.harmonics ≡ Low → FirstUngrounded s.matrix None)
+    → All (λ a. IsFalse (is_full s.matrix a.pos)) s.bots → IsWellFormed s
 well_formed s h grounded void = record {
   grounded = grounded;
   bids = λ i j d k l e. let r : (get_or s.bots i d).bid < (get_or s.bots j d).bid = h.rising i j d k l in omega arith;
@@ -19,7 +20,8 @@ well_formed s h grounded void = record {
   unborn = h.unborn;
 }
 
-pub ready : (s : State) → IsWellFormed s → length s.matrix.voxels ≡ volume s.matrix.resolution → All (λ a. IsInSpace s.matrix.resolution a.pos) s.bots → AllPairs (λ a b. a.bid < b.bid) s.bots → IsReady s
+pub ready : (s : State) → IsWellFormed s → length s.matrix.voxels ≡ volume s.matrix.resolution
+    → All (λ a. IsInSpace s.matrix.resolution a.pos) s.bots → AllPairs (λ a b. a.bid < b.bid) s.bots → IsReady s
 ready s h whole within rising = record {
   whole = whole;
   within = within;

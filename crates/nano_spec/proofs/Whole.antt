@@ -70,15 +70,19 @@ within total index sum run h = grind (arith, nat_tests)
 at_end : (sum total : ℕ) → nat_lt sum total ≡ false → sum ≤ total → sum ≡ total
 at_end sum total h l = grind (arith, nat_tests)
 
-no_whole_run : (sum total : ℕ) (runs : List ℕ) (b : Bool) → ◌≡◌ {A = Result (List ℕ) NoModel} (elim b [ true ↦ Err (WideShort sum) | false ↦ Err WideLong ]) (Ok runs) → ⊥
+no_whole_run : (sum total : ℕ) (runs : List ℕ) (b : Bool)
+    → ◌≡◌ {A = Result (List ℕ) NoModel} (elim b [ true ↦ Err (WideShort sum) | false ↦ Err WideLong ]) (Ok runs) → ⊥
 no_whole_run sum total runs true h = cc
 no_whole_run sum total runs false h = cc
 
-runs_sum : (bytes : List ℕ) (total index sum : ℕ) (runs : List ℕ) → sum ≤ total → runs_in total index sum bytes ≡ Ok runs → sum + sum_of runs ≡ total
+runs_sum : (bytes : List ℕ) (total index sum : ℕ) (runs : List ℕ) → sum ≤ total
+    → runs_in total index sum bytes ≡ Ok runs → sum + sum_of runs ≡ total
 unfolding sum_of
 runs_sum [] total index sum runs l h = by (nat_lt sum total) refl h
   where
-    by : (b : Bool) → nat_lt sum total ≡ b → ◌≡◌ {A = Result (List ℕ) NoModel} (elim b [ true ↦ Err (WideShort sum) | false ↦ Ok [] ]) (Ok runs) → sum + sum_of runs ≡ total
+    by : (b : Bool) → nat_lt sum total ≡ b
+        → ◌≡◌ {A = Result (List ℕ) NoModel} (elim b [ true ↦ Err (WideShort sum) | false ↦ Ok [] ]) (Ok runs)
+        → sum + sum_of runs ≡ total
     by true e k = cc
     by false e k = ap (λ ns. sum + sum_of ns) (sym (is_ok k)) ∙ (let f : sum ≡ total = at_end sum total e l in omega arith)
 runs_sum (a ∷ []) total index sum runs l h = absurd (no_whole_run sum total runs (nat_lt sum total) h)
@@ -102,7 +106,10 @@ wide_whole : (r : ℕ) (bytes : List ℕ) (m : Matrix) → wide_model r bytes �
 unfolding sum_of
 wide_whole r bytes m h = by (nat_le 251 r && nat_le r 400) (runs_in (volume r) 0 0 bytes) refl refl h
   where
-    by : (b : Bool) (runs : Result (List ℕ) NoModel) → (nat_le 251 r && nat_le r 400) ≡ b → runs_in (volume r) 0 0 bytes ≡ runs → ◌≡◌ {A = Result Matrix NoModel} (elim b [ false ↦ Err (WideResolution r) | true ↦ of_runs r runs ]) (Ok m) → IsWhole m
+    by : (b : Bool) (runs : Result (List ℕ) NoModel) → (nat_le 251 r && nat_le r 400) ≡ b
+        → runs_in (volume r) 0 0 bytes ≡ runs
+        → ◌≡◌ {A = Result Matrix NoModel} (elim b [ false ↦ Err (WideResolution r) | true ↦ of_runs r runs ]) (Ok m)
+        → IsWhole m
     by false runs e f k = cc
     by true (Err w) e f k = cc
     by true (Ok runs) e f k =
@@ -122,6 +129,8 @@ pub model_whole : (bytes : List ℕ) (m : Matrix) → model bytes ≡ Ok m → I
 model_whole [] m h = cc
 model_whole (r ∷ more) m h = by (r == 0xFF) h
   where
-    by : (b : Bool) → ◌≡◌ {A = Result Matrix NoModel} (elim b [ true ↦ wide_form more | false ↦ first_form r (r ∷ more) ]) (Ok m) → IsWhole m
+    by : (b : Bool)
+        → ◌≡◌ {A = Result Matrix NoModel} (elim b [ true ↦ wide_form more | false ↦ first_form r (r ∷ more) ]) (Ok m)
+        → IsWhole m
     by true k = form_whole more m k
     by false k = first_whole r (r ∷ more) m k

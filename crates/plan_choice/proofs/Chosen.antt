@@ -14,7 +14,9 @@ use Rattle.plan_choice.specs.declared.choice.Price.{Price}
 use Rattle.plan_choice.specs.Better.{IsBetter, MayStandFor}
 
 -- a plan may stand for itself
-pub stays : (source target : Matrix) (profile : Profile) (most : Bounds) (plan : Plan) → IsAccepted source target plan.commands profile plan.energy plan.steps → MayStandFor source target profile most plan plan
+pub stays : (source target : Matrix) (profile : Profile) (most : Bounds) (plan : Plan)
+    → IsAccepted source target plan.commands profile plan.energy plan.steps
+    → MayStandFor source target profile most plan plan
 stays source target profile most plan accepted = record {
   accepted = accepted;
   energy = omega (arith, ints);
@@ -25,7 +27,11 @@ stays source target profile most plan accepted = record {
 }
 
 -- the proposal of this cost, where it was found better
-pub taken : (source target : Matrix) (profile : Profile) (most : Bounds) (plan : Plan) (proposal : List Command) (cost : Price) (energy : ℤ) → energy ≡ cost.energy → IsAccepted source target proposal profile cost.energy cost.steps → IsBetter plan.energy most proposal cost.energy cost.steps → MayStandFor source target profile most plan (record { commands = proposal; energy = energy; steps = cost.steps })
+pub taken : (source target : Matrix) (profile : Profile) (most : Bounds) (plan : Plan) (proposal : List Command)
+    (cost : Price) (energy : ℤ) → energy ≡ cost.energy
+    → IsAccepted source target proposal profile cost.energy cost.steps
+    → IsBetter plan.energy most proposal cost.energy cost.steps
+    → MayStandFor source target profile most plan (record { commands = proposal; energy = energy; steps = cost.steps })
 taken source target profile most plan proposal cost energy same accepted within = record {
   accepted = subst (λ (z : ℤ). IsAccepted source target proposal profile z cost.steps) (sym same) accepted;
   energy = let less = within.cheaper in omega (arith, ints, same, less);
@@ -36,7 +42,9 @@ taken source target profile most plan proposal cost energy same accepted within 
 }
 
 -- what may stand for a plan that may stand for another one may stand for that one
-pub in_turn : (source target : Matrix) (profile : Profile) (most : Bounds) (plan first it : Plan) → MayStandFor source target profile most plan first → MayStandFor source target profile most first it → MayStandFor source target profile most plan it
+pub in_turn : (source target : Matrix) (profile : Profile) (most : Bounds) (plan first it : Plan)
+    → MayStandFor source target profile most plan first → MayStandFor source target profile most first it
+    → MayStandFor source target profile most plan it
 in_turn source target profile most plan first it a b = record {
   accepted = b.accepted;
   energy = let x = a.energy in let y = b.energy in omega (arith, ints, x, y);

@@ -17,7 +17,8 @@ use Rattle.plan_choice.specs.Planners.{crew_limit, IsGroupPlan, IsLayerPlan, IsL
 
 -- ---- the one of two plans that stands
 
-pub either_crew : (source target : Matrix) (first second it : Plan) → IsForCrew source target first → IsForCrew source target second → Replaces first second it → IsForCrew source target it
+pub either_crew : (source target : Matrix) (first second it : Plan) → IsForCrew source target first
+    → IsForCrew source target second → Replaces first second it → IsForCrew source target it
 either_crew source target first second it a b h = by h.either
   where
     by : (it ≡ first) ⊎ (it ≡ second) → IsForCrew source target it
@@ -25,20 +26,25 @@ either_crew source target first second it a b h = by h.either
     by (inr e) = subst (λ (p : Plan). IsForCrew source target p) (sym e) b
 
 -- what costs no more than another planner's plan
-pub no_dearer : (Is : PlanFacts) (source target : Matrix) (other : Plan) (energy : ℤ) → Is source target other.commands other.energy other.steps → energy ≤ℤ other.energy → IsNoDearer Is source target energy
+pub no_dearer : (Is : PlanFacts) (source target : Matrix) (other : Plan) (energy : ℤ)
+    → Is source target other.commands other.energy other.steps → energy ≤ℤ other.energy
+    → IsNoDearer Is source target energy
 no_dearer Is source target other energy is h = (other.commands, other.energy, other.steps, is, h)
 
 -- and what costs no more than that
-pub cheaper_still : (Is : PlanFacts) (source target : Matrix) (energy paid : ℤ) → energy ≤ℤ paid → IsNoDearer Is source target paid → IsNoDearer Is source target energy
+pub cheaper_still : (Is : PlanFacts) (source target : Matrix) (energy paid : ℤ) → energy ≤ℤ paid
+    → IsNoDearer Is source target paid → IsNoDearer Is source target energy
 cheaper_still Is source target energy paid l h = (h.0, h.1, h.2, h.3, let k = h.4 in omega (arith, ints, l, k))
 
 -- ---- other planners' plans
 
-pub fewer : (source : Matrix) (commands : List Command) (n : ℕ) → n ≤ 40 → HasAtMost source full_profile commands n → HasAtMost source full_profile commands 40
+pub fewer : (source : Matrix) (commands : List Command) (n : ℕ) → n ≤ 40 → HasAtMost source full_profile commands n
+    → HasAtMost source full_profile commands 40
 fewer source commands n l h = λ before rest s steps e r. let k = h before rest s steps e r in omega (arith, k, l)
 
 module _ (source target : Matrix) (plan : Plan) where
-  pub layer_crew : source.resolution ≤ 400 → IsLayerPlan source target plan.commands plan.energy plan.steps → IsForCrew source target plan
+  pub layer_crew : source.resolution ≤ 400 → IsLayerPlan source target plan.commands plan.energy plan.steps
+      → IsForCrew source target plan
   layer_crew most h = record {
     plan = record {
       are_commands = h.plan.are_commands;
@@ -49,7 +55,8 @@ module _ (source target : Matrix) (plan : Plan) where
     few_bytes = layer_fits source.resolution (length (spellings plan.commands)) most h.bytes;
   }
 
-  pub group_crew : most_bytes source target ≤ crew_limit → IsGroupPlan source target plan.commands plan.energy plan.steps → IsForCrew source target plan
+  pub group_crew : most_bytes source target ≤ crew_limit
+      → IsGroupPlan source target plan.commands plan.energy plan.steps → IsForCrew source target plan
   group_crew fits h = record {
     plan = record {
       are_commands = h.plan.are_commands;
@@ -60,7 +67,8 @@ module _ (source target : Matrix) (plan : Plan) where
     few_bytes = let few = h.few_bytes in omega (arith, few, fits);
   }
 
-  pub void_crew : source.resolution ≤ 400 → IsVoidPlan source target plan.commands plan.energy plan.steps → IsForCrew source target plan
+  pub void_crew : source.resolution ≤ 400 → IsVoidPlan source target plan.commands plan.energy plan.steps
+      → IsForCrew source target plan
   void_crew most h = record {
     plan = record {
       are_commands = h.plan.are_commands;
@@ -72,7 +80,8 @@ module _ (source target : Matrix) (plan : Plan) where
         (few_commands source target full_profile plan.commands 4 h.plan.few_bots plan.energy plan.steps h.plan.accepted) (four_each plan.commands);
   }
 
-  pub low_crew : target.resolution ≤ 400 → HasAtMost source full_profile plan.commands 40 → IsLowPlan source target plan.commands plan.energy plan.steps → IsForCrew source target plan
+  pub low_crew : target.resolution ≤ 400 → HasAtMost source full_profile plan.commands 40
+      → IsLowPlan source target plan.commands plan.energy plan.steps → IsForCrew source target plan
   low_crew most few h = record {
     plan = record {
       are_commands = h.plan.are_commands;
@@ -84,7 +93,8 @@ module _ (source target : Matrix) (plan : Plan) where
         (few_commands source target light_profile plan.commands 1 h.plan.few_bots plan.energy plan.steps h.accepted_as_light) (two_each plan.commands h.plain);
   }
 
-  pub swarm_crew : target.resolution ≤ 400 → HasAtMost source full_profile plan.commands 40 → IsSwarmPlan source target plan.commands plan.energy plan.steps → IsForCrew source target plan
+  pub swarm_crew : target.resolution ≤ 400 → HasAtMost source full_profile plan.commands 40
+      → IsSwarmPlan source target plan.commands plan.energy plan.steps → IsForCrew source target plan
   swarm_crew most few h = record {
     plan = record {
       are_commands = h.plan.are_commands;

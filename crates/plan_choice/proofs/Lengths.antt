@@ -25,7 +25,8 @@ use Rattle.nano_spec.proofs.Lengths.{spelling_short}
 -- ---- commands
 
 module _ (source target : Matrix) (profile : Profile) (commands : List Command) (n : ℕ) (few : HasAtMost source profile commands n) (energy : ℤ) (steps : ℕ) where
-  at_end : (s : State) (rest : List Command) (done : ℕ) → ending target s rest done ≡ Accepted energy steps → length rest + n * done ≤ n * steps
+  at_end : (s : State) (rest : List Command) (done : ℕ) → ending target s rest done ≡ Accepted energy steps
+      → length rest + n * done ≤ n * steps
   at_end s [] done h = by (first_difference s.matrix target) h
     where
       by : (o : Option Coord) → compared s.energy done o ≡ Accepted energy steps → 0 + n * done ≤ n * steps
@@ -33,10 +34,13 @@ module _ (source target : Matrix) (profile : Profile) (commands : List Command) 
       by (Some c) h = absurd (cc)
   at_end s (k ∷ more) done h = absurd (cc)
 
-  one_more : (whole step rest done : ℕ) → whole ≡ step + rest → step ≤ n → rest + n * (done + 1) ≤ n * steps → whole + n * done ≤ n * steps
+  one_more : (whole step rest done : ℕ) → whole ≡ step + rest → step ≤ n → rest + n * (done + 1) ≤ n * steps
+      → whole + n * done ≤ n * steps
   one_more whole step rest done e l h = let more : n * (done + 1) ≡ n * done + n = omega arith in omega (arith, e, l, h, more)
 
-  counted : (before rest : List Command) (s : State) (done : ℕ) (v : Verdict) → commands ≡ before ++ rest → Reaches source profile before s done → Run target s rest done v → v ≡ Accepted energy steps → length rest + n * done ≤ n * steps
+  counted : (before rest : List Command) (s : State) (done : ℕ) (v : Verdict) → commands ≡ before ++ rest
+      → Reaches source profile before s done → Run target s rest done v → v ≡ Accepted energy steps
+      → length rest + n * done ≤ n * steps
   counted before rest s done v e r (ends none f) g = at_end s rest done (sym f ∙ g)
   counted before rest s done v e r (breaks some next f) g = absurd (let h = sym f ∙ g in cc)
   counted before rest s done v e r (goes {bot = bot} {bots = bots} {t = t} some next run) g =
@@ -95,7 +99,8 @@ two_each (c ∷ more) h =
 pub layer_fits : (r size : ℕ) → r ≤ 400 → size ≤ 8 * volume r + 200 → size ≤ crew_limit
 layer_fits r size most bound = let cube : r * r * r ≤ 400 * 400 * 400 = mul-le-mul (mul-le-mul most most) most in omega (arith, cube, bound)
 
-pub void_fits : (r steps commands size : ℕ) → r ≤ 400 → steps ≤ most_void_steps r → commands ≤ 4 * steps → size ≤ 4 * commands → size ≤ crew_limit
+pub void_fits : (r steps commands size : ℕ) → r ≤ 400 → steps ≤ most_void_steps r → commands ≤ 4 * steps
+    → size ≤ 4 * commands → size ≤ crew_limit
 void_fits r steps commands size most few a b =
     let side : tiles_of r ≤ 13 = few_tiles r most in
     let square : tiles_of r * tiles_of r ≤ 13 * 13 = mul-le-mul side side in
@@ -115,11 +120,13 @@ void_fits r steps commands size most few a b =
 pub volume_most : (r : ℕ) → r ≤ 400 → volume r ≤ 64000000
 volume_most r h = mul-le-mul (mul-le-mul h h) h
 
-pub low_fits : (cube full steps commands size : ℕ) → cube ≤ 64000000 → full ≤ cube → steps ≤ 4 * full + cube + 200 → commands ≤ 1 * steps → size ≤ 2 * commands → size ≤ crew_limit
+pub low_fits : (cube full steps commands size : ℕ) → cube ≤ 64000000 → full ≤ cube → steps ≤ 4 * full + cube + 200
+    → commands ≤ 1 * steps → size ≤ 2 * commands → size ≤ crew_limit
 low_fits cube full steps commands size most some few a b = omega arith
 
 -- a plan of the swarm planner
-pub swarm_fits : (r steps commands size : ℕ) → r ≤ 400 → steps ≤ 4 * width r * r * r + 8 * r + 2000 → commands ≤ 20 * steps → size ≤ 4 * commands → size ≤ crew_limit
+pub swarm_fits : (r steps commands size : ℕ) → r ≤ 400 → steps ≤ 4 * width r * r * r + 8 * r + 2000
+    → commands ≤ 20 * steps → size ≤ 4 * commands → size ≤ crew_limit
 swarm_fits r steps commands size most few a b =
     let all : 4 * width r * r * r ≤ 80 * 400 * 400 = mul-le-mul (mul-le-mul (strip r most) most) most in
     by (4 * width r * r * r) all few

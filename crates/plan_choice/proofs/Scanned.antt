@@ -10,7 +10,8 @@ use Rattle.low_planner.specs.Commands.{IsPlain}
 pub record ArePlainTo (commands : List Command) (i : ℕ) : Type 0 where
   pub plain : All IsPlain (take i commands)
 
-pub plain_more : (commands : List Command) (i : ℕ) (k : Command) → i < length commands → k ≡ get_or commands i k → IsPlain k → ArePlainTo commands i → ArePlainTo commands (i + 1)
+pub plain_more : (commands : List Command) (i : ℕ) (k : Command) → i < length commands → k ≡ get_or commands i k
+    → IsPlain k → ArePlainTo commands i → ArePlainTo commands (i + 1)
 plain_more commands i k l e p h = record { plain = All-more IsPlain commands i k l h.plain (subst IsPlain e p) }
 
 pub plain_all : (commands : List Command) (i : ℕ) → length commands ≤ i → ArePlainTo commands i → All IsPlain commands

@@ -24,20 +24,26 @@ free_for b true = refl
 free_for b false = tt
 
 -- no other bot is anywhere
-pub free_one : (bots now : List Bot) (c : Coord) (d : Bot) → length bots ≡ 1 → now ≡ bots → IfSome (bot_at bots c) (λ (a : Bot). a.bid ≡ (get_or now 0 d).bid)
+pub free_one : (bots now : List Bot) (c : Coord) (d : Bot) → length bots ≡ 1 → now ≡ bots
+    → IfSome (bot_at bots c) (λ (a : Bot). a.bid ≡ (get_or now 0 d).bid)
 free_one [] now c d l e = absurd (omega arith)
 free_one (b ∷ []) now c d l e = rw e (free_for b (stands_at c b))
 free_one (a ∷ b ∷ bots) now c d l e = absurd (omega arith)
 
 -- what holds of the bots after the only one moved
-pub moved_one : (P : List Bot → Type 0) (bots now : List Bot) (c : Coord) (d : Bot) → length bots ≡ 1 → now ≡ bots → IfSome (bot_of bots (get_or now 0 d).bid) (λ (b : Bot). P (replaced bots ((get_or now 0 d).bid ∷ []) (moved b (point c) ∷ []))) → P (bots_at bots c)
+pub moved_one : (P : List Bot → Type 0) (bots now : List Bot) (c : Coord) (d : Bot) → length bots ≡ 1 → now ≡ bots
+    → IfSome (bot_of bots (get_or now 0 d).bid)
+    (λ (b : Bot). P (replaced bots ((get_or now 0 d).bid ∷ []) (moved b (point c) ∷ []))) → P (bots_at bots c)
 moved_one P [] now c d l e h = absurd (omega arith)
 moved_one P (b ∷ []) now c d l e h = by (b.bid == b.bid) (test_itself b.bid) (rw e at h)
   where
-    only : replaced (b ∷ []) (b.bid ∷ []) (moved b (point c) ∷ []) ≡ record { bid = b.bid; pos = c; seeds = b.seeds } ∷ []
+    only :
+        replaced (b ∷ []) (b.bid ∷ []) (moved b (point c) ∷ []) ≡ record { bid = b.bid; pos = c; seeds = b.seeds } ∷ []
     only = rw (test_itself b.bid) refl
 
-    by : (same : Bool) → same ≡ true → IfSome (cond same (Some b) None) (λ (a : Bot). P (replaced (b ∷ []) (b.bid ∷ []) (moved a (point c) ∷ []))) → P (record { bid = b.bid; pos = c; seeds = b.seeds } ∷ [])
+    by : (same : Bool) → same ≡ true
+        → IfSome (cond same (Some b) None) (λ (a : Bot). P (replaced (b ∷ []) (b.bid ∷ []) (moved a (point c) ∷ [])))
+        → P (record { bid = b.bid; pos = c; seeds = b.seeds } ∷ [])
     by true s h = subst P only h
     by false s h = cc
 moved_one P (a ∷ b ∷ bots) now c d l e h = absurd (omega arith)
@@ -49,14 +55,16 @@ pub record Comes (old now : TapeState) (to : Coord) : Type 0 where
   pub reached : IsReached now
   pub moves : Moves old now to
 
-bytes_gone : (p q : TapeState) (moves : List Command) → q.commands ≡ p.commands ++ moves → bytes q ≡ bytes p + length (spellings moves)
+bytes_gone : (p q : TapeState) (moves : List Command) → q.commands ≡ p.commands ++ moves
+    → bytes q ≡ bytes p + length (spellings moves)
 unfolding bytes
 bytes_gone p q moves e = ap (λ (xs : List Command). length (spellings xs)) e ∙ spellings-joined p.commands moves
 
 paid_once : (e : ℤ) (n g : ℕ) → (e +ℤ pos n) +ℤ pos g ≡ e +ℤ pos (n + g)
 paid_once e n g = omega (arith, ints)
 
-placed_at : (r : ℕ) (bots : List Bot) (c : Coord) → length bots ≡ 1 → IsInSpace r c → All (λ (a : Bot). IsInSpace r a.pos) (bots_at bots c)
+placed_at : (r : ℕ) (bots : List Bot) (c : Coord) → length bots ≡ 1 → IsInSpace r c
+    → All (λ (a : Bot). IsInSpace r a.pos) (bots_at bots c)
 placed_at r [] c l i = absurd (omega arith)
 placed_at r (b ∷ []) c l i = one
   where
@@ -69,7 +77,8 @@ placed_at r (a ∷ b ∷ bots) c l i = absurd (omega arith)
 spot_placed : (p : TapeState) → IsReached p → length p.bots ≡ 1 → IsInSpace p.matrix.resolution (spot p.bots)
 spot_placed p r l = by p.bots l r.placed
   where
-    by : (bots : List Bot) → length bots ≡ 1 → All (λ (a : Bot). IsInSpace p.matrix.resolution a.pos) bots → IsInSpace p.matrix.resolution (spot bots)
+    by : (bots : List Bot) → length bots ≡ 1 → All (λ (a : Bot). IsInSpace p.matrix.resolution a.pos) bots
+        → IsInSpace p.matrix.resolution (spot bots)
     by [] m h = absurd (omega arith)
     by (b ∷ bots) m h = h 0 b (omega arith)
 

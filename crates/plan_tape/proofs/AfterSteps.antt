@@ -22,7 +22,8 @@ payable energy steps b few =
     record { above = omega (arith, ints); below = omega (arith, ints) }
 
 -- a step changes the energy by little
-pub bounded_on : (old new : ℤ) (steps : ℕ) → IsBounded old steps → new <ℤ (old +ℤ pos 3000000000) → old <ℤ (new +ℤ pos 3000000000) → IsBounded new (steps + 1)
+pub bounded_on : (old new : ℤ) (steps : ℕ) → IsBounded old steps → new <ℤ (old +ℤ pos 3000000000)
+    → old <ℤ (new +ℤ pos 3000000000) → IsBounded new (steps + 1)
 bounded_on old new steps b rises falls =
     let low = b.low in
     let high = b.high in
@@ -42,7 +43,9 @@ pub record Takes (old now : TapeState) (k : List Command) : Type 0 where
   pub value : now ≡ tape_stepped old k
 
 -- the commands of a step that breaks no rule lead on
-reached : (p : TapeState) (k : List Command) → IsReached p → 1 ≤ length p.bots → length k ≡ length p.bots → broken (state_of p) k (p.steps + 1) ≡ None → IsHeld (tape_stepped p k).harmonics (tape_stepped p k).matrix → p.steps < 1073741824 → IsAfter (state_of p) k (after (state_of p) k) → IsReached (tape_stepped p k)
+reached : (p : TapeState) (k : List Command) → IsReached p → 1 ≤ length p.bots → length k ≡ length p.bots
+    → broken (state_of p) k (p.steps + 1) ≡ None → IsHeld (tape_stepped p k).harmonics (tape_stepped p k).matrix
+    → p.steps < 1073741824 → IsAfter (state_of p) k (after (state_of p) k) → IsReached (tape_stepped p k)
 reached p k r some l b held few a = record {
   whole = a.whole;
   placed = a.within;
@@ -52,7 +55,10 @@ reached p k r some l b held few a = record {
   few = omega arith;
 }
 
-takes : (p : TapeState) (k commands : List Command) (t : State) → IsReached p → 1 ≤ length p.bots → length k ≡ length p.bots → broken (state_of p) k (p.steps + 1) ≡ None → IsHeld (tape_stepped p k).harmonics (tape_stepped p k).matrix → p.steps < 1073741824 → commands ≡ p.commands ++ k → IsAfter (state_of p) k t → Takes p (progress_of p.source commands t (p.steps + 1)) k
+takes : (p : TapeState) (k commands : List Command) (t : State) → IsReached p → 1 ≤ length p.bots
+    → length k ≡ length p.bots → broken (state_of p) k (p.steps + 1) ≡ None
+    → IsHeld (tape_stepped p k).harmonics (tape_stepped p k).matrix → p.steps < 1073741824 → commands ≡ p.commands ++ k
+    → IsAfter (state_of p) k t → Takes p (progress_of p.source commands t (p.steps + 1)) k
 takes p k commands t r some l b held few e a =
     let value : progress_of p.source commands t (p.steps + 1) ≡ tape_stepped p k = (λ i. progress_of p.source (e i) (a.value i) (p.steps + 1)) in
     record {
@@ -61,11 +67,16 @@ takes p k commands t r some l b held few e a =
     }
 
 -- the same of the tape's parts
-pub step_takes : (inside old : TapeState) → inside ≡ old → IsReached inside → (k commands : List Command) (t : State) → 1 ≤ length old.bots → length k ≡ length old.bots → broken (state_of old) k (old.steps + 1) ≡ None → IsHeld (tape_stepped old k).harmonics (tape_stepped old k).matrix → old.steps < 1073741824 → commands ≡ inside.commands ++ k → IsAfter (state_of inside) k t → Takes old (progress_of inside.source commands t (inside.steps + 1)) k
+pub step_takes : (inside old : TapeState) → inside ≡ old → IsReached inside → (k commands : List Command) (t : State)
+    → 1 ≤ length old.bots → length k ≡ length old.bots → broken (state_of old) k (old.steps + 1) ≡ None
+    → IsHeld (tape_stepped old k).harmonics (tape_stepped old k).matrix → old.steps < 1073741824
+    → commands ≡ inside.commands ++ k → IsAfter (state_of inside) k t
+    → Takes old (progress_of inside.source commands t (inside.steps + 1)) k
 step_takes inside old e r k commands t = subst (λ (o : TapeState). 1 ≤ length o.bots → length k ≡ length o.bots → broken (state_of o) k (o.steps + 1) ≡ None → IsHeld (tape_stepped o k).harmonics (tape_stepped o k).matrix → o.steps < 1073741824 → commands ≡ inside.commands ++ k → IsAfter (state_of inside) k t → Takes o (progress_of inside.source commands t (inside.steps + 1)) k) e
     (λ some l b held few ec a. takes inside k commands t r some l b held few ec a)
 
 -- how many bytes the commands have then
-pub bytes_stepped : (old now : TapeState) (k : List Command) → now ≡ tape_stepped old k → bytes now ≡ bytes old + length (spellings k)
+pub bytes_stepped : (old now : TapeState) (k : List Command) → now ≡ tape_stepped old k
+    → bytes now ≡ bytes old + length (spellings k)
 unfolding bytes
 bytes_stepped old now k e = ap (λ (p : TapeState). length (spellings p.commands)) e ∙ spellings-joined old.commands k

@@ -27,7 +27,8 @@ held_high h m e = λ l. absurd (high_low (sym e ∙ l))
 -- ---- where all is void
 
 -- where all is void from the heights of two coordinates on, so is all between them
-pub void_between : (m : Matrix) (a b : Coord) → IsVoidFrom m a.y → IsVoidFrom m b.y → IsVoid m (between (point a) (point b))
+pub void_between : (m : Matrix) (a b : Coord) → IsVoidFrom m a.y → IsVoidFrom m b.y
+    → IsVoid m (between (point a) (point b))
 void_between m a b v w = λ c t. by c (from_one_end a.y b.y c.y (second_of_three (is_between (pos a.x) (pos b.x) (pos c.x)) _ _ t))
   where
     by : (c : Coord) → (a.y ≤ c.y) ⊎ (b.y ≤ c.y) → is_full m c ≡ false
@@ -43,22 +44,27 @@ ways_between m a b v w = record {
 }
 
 -- and a way to a point in space is free
-pub free_way : (m : Matrix) (a b : Coord) (q : Point) → q ≡ point b → IsInSpace m.resolution b → IsVoidFrom m a.y → IsVoidFrom m b.y → IsFreeWay m (point a) q
+pub free_way : (m : Matrix) (a b : Coord) (q : Point) → q ≡ point b → IsInSpace m.resolution b → IsVoidFrom m a.y
+    → IsVoidFrom m b.y → IsFreeWay m (point a) q
 free_way m a b q e i v w = subst (λ (u : Point). IsFreeWay m (point a) u) (sym e) (record { within = in_space_is m.resolution b i; void = void_between m a b v w })
 
 -- as is the point alone
-pub free_place : (m : Matrix) (b : Coord) (q : Point) → q ≡ point b → IsInSpace m.resolution b → IsVoidFrom m b.y → IsFreeWay m q q
+pub free_place : (m : Matrix) (b : Coord) (q : Point) → q ≡ point b → IsInSpace m.resolution b → IsVoidFrom m b.y
+    → IsFreeWay m q q
 free_place m b q e i v = subst (λ (u : Point). IsFreeWay m u q) (sym e) (free_way m b b q e i v v)
 
 -- where the way along x is void, and all is void where x is 0, so are the ways to an end there
-ways_by_x : (m : Matrix) (a b : Coord) → b.x ≡ 0 → IsVoidAlong m X a b.x → ((c : Coord) → c.x ≡ 0 → is_full m c ≡ false) → AreVoidTo m a b
+ways_by_x : (m : Matrix) (a b : Coord) → b.x ≡ 0 → IsVoidAlong m X a b.x → ((c : Coord) → c.x ≡ 0 → is_full m c ≡ false)
+    → AreVoidTo m a b
 ways_by_x m a b e along border = record { x = along; y = λ c t. at_zero c _ _ t; z = λ c t. at_zero c _ _ t }
   where
-    at_zero : (c : Coord) (v w : Bool) → IsTrue (is_between (pos b.x) (pos b.x) (pos c.x) && v && w) → is_full m c ≡ false
+    at_zero : (c : Coord) (v w : Bool) → IsTrue (is_between (pos b.x) (pos b.x) (pos c.x) && v && w)
+        → is_full m c ≡ false
     at_zero c v w t = border c (between_zeros c.x (subst (λ n. IsTrue (is_between (pos n) (pos n) (pos c.x))) e (first_of_three (is_between (pos b.x) (pos b.x) (pos c.x)) v w t)))
 
 -- where all is void from the height of the one end on, and where x is 0, so are the ways to an end there
-pub ways_to_border : (m : Matrix) (a b : Coord) → b.x ≡ 0 → IsVoidFrom m a.y → ((c : Coord) → c.x ≡ 0 → is_full m c ≡ false) → AreVoidTo m a b
+pub ways_to_border : (m : Matrix) (a b : Coord) → b.x ≡ 0 → IsVoidFrom m a.y
+    → ((c : Coord) → c.x ≡ 0 → is_full m c ≡ false) → AreVoidTo m a b
 ways_to_border m a b e v border = ways_by_x m a b e (λ c t. v c (from_both_ends a.y c.y (second_of_three (is_between (pos a.x) (pos b.x) (pos c.x)) _ _ t))) border
 
 -- ---- how many moves
@@ -90,6 +96,7 @@ ways_home m a b h (inr f) e = ways_by_x m a b e (λ c t. void_at_border m h c (a
     at_zero c t = between_zeros c.x (subst (λ v. IsTrue (is_between (pos v) (pos 0) (pos c.x))) f (subst (λ v. IsTrue (is_between (pos a.x) (pos v) (pos c.x))) e t))
 
 -- the same of a matrix and a coordinate that are given by equations
-pub ways_home_at : (m n : Matrix) (a b to : Coord) → m ≡ n → a ≡ b → IsLegal n → IsVoidFrom n b.y ⊎ (b.x ≡ 0) → to.x ≡ 0 → AreVoidTo m a to
+pub ways_home_at : (m n : Matrix) (a b to : Coord) → m ≡ n → a ≡ b → IsLegal n → IsVoidFrom n b.y ⊎ (b.x ≡ 0) → to.x ≡ 0
+    → AreVoidTo m a to
 ways_home_at m n a b to e f h from g =
     subst (λ (k : Matrix). AreVoidTo k a to) (sym e) (subst (λ (q : Coord). AreVoidTo n q to) (sym f) (ways_home n b to h from g))

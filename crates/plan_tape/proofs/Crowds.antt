@@ -51,7 +51,8 @@ flips_not m p _ h = absurd h
 
 module _ (p : TapeState) where
   -- what follows for each bot
-  pub each_by : (P : Act → Type 0) → ((a : Act) → CanGo p a → P a) → (xs : List Act) → AllByRecursion (CanGo p) xs → AllByRecursion P xs
+  pub each_by : (P : Act → Type 0) → ((a : Act) → CanGo p a → P a) → (xs : List Act) → AllByRecursion (CanGo p) xs
+      → AllByRecursion P xs
   each_by P f [] h = tt
   each_by P f (a ∷ xs) h = (f a h.0, each_by P f xs h.1)
 
@@ -60,7 +61,8 @@ module _ (p : TapeState) where
       subst (λ (ss : List Span). AllByRecursion (λ s. AllByRecursion (λ t. LieApart s t) (volatile_regions (position b) b.command)) ss) (sym (one_region p.matrix (position a) a.command g.may))
       (subst (λ (ts : List Span). AllByRecursion (λ t. LieApart (way a) t) ts) (sym (one_region p.matrix (position b) b.command k.may)) (h, tt), tt)
 
-  meet_by : (a : Act) → CanGo p a → (xs : List Act) → AllByRecursion (CanGo p) xs → AllByRecursion (λ b. LieApart (way a) (way b)) xs → AllByRecursion (λ b. MayMeet a b) xs
+  meet_by : (a : Act) → CanGo p a → (xs : List Act) → AllByRecursion (CanGo p) xs
+      → AllByRecursion (λ b. LieApart (way a) (way b)) xs → AllByRecursion (λ b. MayMeet a b) xs
   meet_by a g [] h k = tt
   meet_by a g (b ∷ xs) h k = (inr (apart_by a b g h.0 k.0), meet_by a g xs h.1 k.1)
 
@@ -77,7 +79,8 @@ module _ (p : TapeState) where
   pub stay_by : (all : List Act) → AllByRecursion (CanGo p) all → AllByRecursion (λ a. IsTrue (stays_one a.command)) all
   stay_by = each_by (λ a. IsTrue (stays_one a.command)) (λ a g. goes_on_as_one p.matrix (position a) a.command g.may)
 
-  pub leave_by : (all : List Act) → AllByRecursion (CanGo p) all → AllByRecursion (λ a. IsTrue (leaves_voxels a.command)) all
+  pub leave_by : (all : List Act) → AllByRecursion (CanGo p) all
+      → AllByRecursion (λ a. IsTrue (leaves_voxels a.command)) all
   leave_by = each_by (λ a. IsTrue (leaves_voxels a.command)) (λ a g. leaves_all p.matrix (position a) a.command g.may)
 
   pub flip_by : (all : List Act) → AllByRecursion (CanGo p) all → AllByRecursion (λ a. IsFalse (is_flip a.command)) all
@@ -86,7 +89,8 @@ module _ (p : TapeState) where
 -- ---- the tape afterwards
 
 -- where matrix and harmonics stay, all stays held
-pub held_as : (s t : State) → t.matrix ≡ s.matrix → t.harmonics ≡ s.harmonics → IsHeld s.harmonics s.matrix → IsHeld t.harmonics t.matrix
+pub held_as : (s t : State) → t.matrix ≡ s.matrix → t.harmonics ≡ s.harmonics → IsHeld s.harmonics s.matrix
+    → IsHeld t.harmonics t.matrix
 held_as s t em eh held = λ low. subst (λ (m : Matrix). FirstUngrounded m None) (sym em) (held (sym eh ∙ low))
 
 -- under High nothing has to be grounded
@@ -96,7 +100,9 @@ held_under_high t h e f = λ low. absurd (high_low (sym f ∙ (sym e ∙ low)))
     high_low : High ≡ Low → ⊥
     high_low g = cc
 
-pub stepped_is : (p q : TapeState) (k : List Command) (m : Matrix) (h : Harmonics) (bots : List Bot) → q ≡ tape_stepped p k → (after (state_of p) k).matrix ≡ m → (after (state_of p) k).harmonics ≡ h → (after (state_of p) k).bots ≡ bots → AllStep p q k m h bots
+pub stepped_is : (p q : TapeState) (k : List Command) (m : Matrix) (h : Harmonics) (bots : List Bot)
+    → q ≡ tape_stepped p k → (after (state_of p) k).matrix ≡ m → (after (state_of p) k).harmonics ≡ h
+    → (after (state_of p) k).bots ≡ bots → AllStep p q k m h bots
 stepped_is p q k m h bots e em eh eb = record {
   source = ap (λ (x : TapeState). x.source) e;
   profile = ap (λ (x : TapeState). x.profile) e;
@@ -110,5 +116,6 @@ stepped_is p q k m h bots e em eh eb = record {
 }
 
 -- what such a step leaves, told in other words
-pub step_as : (p q : TapeState) (k : List Command) (m n : Matrix) (h : Harmonics) (xs ys : List Bot) → m ≡ n → xs ≡ ys → AllStep p q k m h xs → AllStep p q k n h ys
+pub step_as : (p q : TapeState) (k : List Command) (m n : Matrix) (h : Harmonics) (xs ys : List Bot) → m ≡ n → xs ≡ ys
+    → AllStep p q k m h xs → AllStep p q k n h ys
 step_as p q k m n h xs ys e f s = subst (λ (x : Matrix). AllStep p q k x h ys) e (subst (λ (bots : List Bot). AllStep p q k m h bots) f s)

@@ -42,7 +42,8 @@ no_pairs m a step true = refl
 no_pairs m a step false = refl
 
 -- then no rule is broken at all
-pub unbroken : (m : Matrix) (h : Harmonics) (b : Bot) (e : ℤ) (profile : Profile) (k : Command) (step : ℕ) → IsFaultless m h b e profile k → broken (with_one m h b e profile) (k ∷ []) step ≡ None
+pub unbroken : (m : Matrix) (h : Harmonics) (b : Bot) (e : ℤ) (profile : Profile) (k : Command) (step : ℕ)
+    → IsFaultless m h b e profile k → broken (with_one m h b e profile) (k ∷ []) step ≡ None
 unbroken m h b e profile k step f = simp f (ap first_value (no_pairs m (lone b k) step (is_leader (lone b k ∷ []) (lone b k))))
 
 module _ (m : Matrix) (h : Harmonics) (b : Bot) (e : ℤ) (profile : Profile) where
@@ -51,25 +52,30 @@ module _ (m : Matrix) (h : Harmonics) (b : Bot) (e : ℤ) (profile : Profile) wh
   flip_faults a Blocked = none_find _ (all_of m) (λ c i. and_false (is_full m c))
   flip_faults a _ = refl
 
-  pub fill_faults : (d : Diff) → is_allowed profile (Fill d) ≡ true → in_space m.resolution (plus (point b.pos) d) ≡ true → IsFaultless m h b e profile (Fill d)
+  pub fill_faults : (d : Diff) → is_allowed profile (Fill d) ≡ true
+      → in_space m.resolution (plus (point b.pos) d) ≡ true → IsFaultless m h b e profile (Fill d)
   fill_faults d a i Forbidden = rw a refl
   fill_faults d a i OutOfSpace = rw i refl
   fill_faults d a i Blocked = none_find _ (all_of m) (λ c i. and_false (is_full m c))
   fill_faults d a i _ = refl
 
-  pub void_faults : (d : Diff) → is_allowed profile (Void d) ≡ true → in_space m.resolution (plus (point b.pos) d) ≡ true → IsFaultless m h b e profile (Void d)
+  pub void_faults : (d : Diff) → is_allowed profile (Void d) ≡ true
+      → in_space m.resolution (plus (point b.pos) d) ≡ true → IsFaultless m h b e profile (Void d)
   void_faults d a i Forbidden = rw a refl
   void_faults d a i OutOfSpace = rw i refl
   void_faults d a i Blocked = none_find _ (all_of m) (λ c i. and_false (is_full m c))
   void_faults d a i _ = refl
 
-  pub move_faults : (d : Diff) → is_allowed profile (SMove d) ≡ true → in_space m.resolution (plus (point b.pos) d) ≡ true → IsVoid m (between (point b.pos) (plus (point b.pos) d)) → IsFaultless m h b e profile (SMove d)
+  pub move_faults : (d : Diff) → is_allowed profile (SMove d) ≡ true
+      → in_space m.resolution (plus (point b.pos) d) ≡ true → IsVoid m (between (point b.pos) (plus (point b.pos) d))
+      → IsFaultless m h b e profile (SMove d)
   move_faults d a i v Forbidden = rw a refl
   move_faults d a i v OutOfSpace = rw i refl
   move_faults d a i v Blocked = none_find _ (all_of m) (λ c j. one_way (is_within (between (point b.pos) (plus (point b.pos) d)) (point c)) (is_full m c) (v c))
   move_faults d a i v _ = refl
 
-  pub halt_faults : is_allowed profile Halt ≡ true → same_point (point b.pos) (point origin) ≡ true → h ≡ Low → IsFaultless m h b e profile Halt
+  pub halt_faults : is_allowed profile Halt ≡ true → same_point (point b.pos) (point origin) ≡ true → h ≡ Low
+      → IsFaultless m h b e profile Halt
   halt_faults a o l Forbidden = rw a refl
   halt_faults a o l HaltOrigin = rw o refl
   halt_faults a o l HaltLow = rw l refl

@@ -26,7 +26,8 @@ with_length : (b : Bot) (xs : List Bot) → length (with_bot b xs) ≡ length xs
 with_length b [] = refl
 with_length b (x ∷ xs) = by (nat_lt b.bid x.bid) (with_length b xs)
   where
-    by : (t : Bool) → length (with_bot b xs) ≡ length xs + 1 → length (cond t (b ∷ x ∷ xs) (x ∷ with_bot b xs)) ≡ length (x ∷ xs) + 1
+    by : (t : Bool) → length (with_bot b xs) ≡ length xs + 1
+        → length (cond t (b ∷ x ∷ xs) (x ∷ with_bot b xs)) ≡ length (x ∷ xs) + 1
     by true h = omega arith
     by false h = omega arith
 
@@ -35,7 +36,8 @@ order_length [] = refl
 order_length (x ∷ xs) = let h = order_length xs in let k = with_length x (in_rising_order xs) in omega arith
 
 -- a bot becomes one at most, or two by a Fission
-few_successors : (all : List Act) (a : Act) (k : Command) → length (successors all a k) ≤ 1 + cond {A = ℕ} (is_fission k) 1 0
+few_successors : (all : List Act) (a : Act) (k : Command)
+    → length (successors all a k) ≤ 1 + cond {A = ℕ} (is_fission k) 1 0
 few_successors all a (Fission d m) = omega arith
 few_successors all a Halt = omega arith
 few_successors all a (FusionS d) = omega arith
@@ -49,7 +51,9 @@ few_successors all a (Void d) = omega arith
 few_successors all a (GFill d f) = omega arith
 few_successors all a (GVoid d f) = omega arith
 
-few_in_all : (all : List Act) (bots : List Bot) (commands : List Command) → length (flat_map (λ a. successors all a a.command) (acts bots commands)) ≤ length bots + count_by is_fission commands
+few_in_all : (all : List Act) (bots : List Bot) (commands : List Command)
+    → length (flat_map (λ a. successors all a a.command) (acts bots commands))
+    ≤ length bots + count_by is_fission commands
 few_in_all all [] commands = omega arith
 few_in_all all (b ∷ bots) [] = omega arith
 few_in_all all (b ∷ bots) (k ∷ commands) =
@@ -60,13 +64,15 @@ few_in_all all (b ∷ bots) (k ∷ commands) =
     let s = sum_by-cons (λ x. cond {A = ℕ} (is_fission x) 1 0) k commands in
     omega (arith, h, n, l, s)
 
-few_after : (s : State) (commands : List Command) → length (after s commands).bots ≤ length s.bots + count_by is_fission commands
+few_after : (s : State) (commands : List Command)
+    → length (after s commands).bots ≤ length s.bots + count_by is_fission commands
 few_after s commands = let h = few_in_all (acts s.bots commands) s.bots commands in let o = order_length (flat_map (λ a. successors (acts s.bots commands) a a.command) (acts s.bots commands)) in omega arith
 
 -- ---- all steps
 
 -- there are no more bots than those that were made, and the first one
-few_reached : (source : Matrix) (profile : Profile) (commands : List Command) (s : State) (steps : ℕ) → Reaches source profile commands s steps → length s.bots ≤ 1 + count_by is_fission commands
+few_reached : (source : Matrix) (profile : Profile) (commands : List Command) (s : State) (steps : ℕ)
+    → Reaches source profile commands s steps → length s.bots ≤ 1 + count_by is_fission commands
 few_reached source profile commands s steps (starts e f g) = let l : length s.bots ≡ 1 = ap (λ (t : State). length t.bots) f in omega arith
 few_reached source profile commands s steps (steps_on t before step done r some l next e f) =
     let h = few_reached source profile before t done r in
@@ -76,7 +82,8 @@ few_reached source profile commands s steps (steps_on t before step done r some 
     omega arith
 
 -- where few commands make bots there are few bots at all times
-pub few_at_most : (source : Matrix) (profile : Profile) (commands : List Command) (n : ℕ) → 1 + count_by is_fission commands ≤ n → HasAtMost source profile commands n
+pub few_at_most : (source : Matrix) (profile : Profile) (commands : List Command) (n : ℕ)
+    → 1 + count_by is_fission commands ≤ n → HasAtMost source profile commands n
 few_at_most source profile commands n le = λ before rest s steps e r.
     let h = few_reached source profile before s steps r in
     let c : count_by is_fission commands ≡ count_by is_fission before + count_by is_fission rest = ap (count_by is_fission) e ∙ sum_by-append (λ x. cond {A = ℕ} (is_fission x) 1 0) before rest in
@@ -84,11 +91,13 @@ few_at_most source profile commands n le = λ before rest s steps e r.
 
 -- ---- tapes
 
-pub fissions_more : (p q : TapeState) (k : List Command) (n : ℕ) → q.commands ≡ p.commands ++ k → count_by is_fission k ≡ n → fissions q ≡ fissions p + n
+pub fissions_more : (p q : TapeState) (k : List Command) (n : ℕ) → q.commands ≡ p.commands ++ k
+    → count_by is_fission k ≡ n → fissions q ≡ fissions p + n
 unfolding fissions
 fissions_more p q k n e f = ap (count_by is_fission) e ∙ (sum_by-append (λ x. cond {A = ℕ} (is_fission x) 1 0) p.commands k ∙ ap (λ m. count_by is_fission p.commands + m) f)
 
-pub no_fission_in_leg : (axis : Axis) (a b : ℕ) (commands : List Command) → IsLeg axis a b commands → count_by is_fission commands ≡ 0
+pub no_fission_in_leg : (axis : Axis) (a b : ℕ) (commands : List Command) → IsLeg axis a b commands
+    → count_by is_fission commands ≡ 0
 no_fission_in_leg axis a b [] h = refl
 no_fission_in_leg axis a b (k ∷ more) h =
     let s = sum_by-cons (λ x. cond {A = ℕ} (is_fission x) 1 0) k more in
@@ -120,7 +129,8 @@ moves_make_none p q to h =
     omega arith
 
 -- one command of the only bot that is no Fission makes none
-pub write_makes_none : (p q : TapeState) (k : Command) → q.commands ≡ p.commands ++ k ∷ [] → is_fission k ≡ false → fissions q ≡ fissions p
+pub write_makes_none : (p q : TapeState) (k : Command) → q.commands ≡ p.commands ++ k ∷ [] → is_fission k ≡ false
+    → fissions q ≡ fissions p
 write_makes_none p q k e n =
     let s = sum_by-cons (λ (c : Command). cond {A = ℕ} (is_fission c) 1 0) k [] in
     let one : cond {A = ℕ} (is_fission k) 1 0 ≡ 0 = ap (λ t. cond {A = ℕ} t 1 0) n in

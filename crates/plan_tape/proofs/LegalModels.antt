@@ -39,7 +39,8 @@ pub record IsInBox (r : ℕ) (c : Coord) : Type 0 where
   pub z : 1 ≤ c.z
   pub z_end : c.z + 1 < r
 
-five : (a b c d e : Bool) → (a && b && c && d && e) ≡ true → (a ≡ true) × (b ≡ true) × (c ≡ true) × (d ≡ true) × (e ≡ true)
+five : (a b c d e : Bool) → (a && b && c && d && e) ≡ true
+    → (a ≡ true) × (b ≡ true) × (c ≡ true) × (d ≡ true) × (e ≡ true)
 five true true true true true h = (refl, refl, refl, refl, refl)
 five true true true true false h = cc
 five true true true false e h = cc

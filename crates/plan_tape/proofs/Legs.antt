@@ -23,10 +23,14 @@ use Rattle.step_order.specs.Unbroken.{IsVoid}
 -- ---- moves, one after another
 
 -- moves that any moves to the end complete are completed so with one more
-pub one_more_move : (axis : Axis) (from at v to : ℕ) (done : List Command) (d : Diff) → d ≡ along axis (pos v -ℤ pos at) → IsMove at v to → ((rest : List Command) → IsLeg axis at to rest → IsLeg axis from to (done ++ rest)) → (rest : List Command) → IsLeg axis v to rest → IsLeg axis from to ((done ++ SMove d ∷ []) ++ rest)
+pub one_more_move : (axis : Axis) (from at v to : ℕ) (done : List Command) (d : Diff) → d ≡ along axis (pos v -ℤ pos at)
+    → IsMove at v to → ((rest : List Command) → IsLeg axis at to rest → IsLeg axis from to (done ++ rest))
+    → (rest : List Command) → IsLeg axis v to rest → IsLeg axis from to ((done ++ SMove d ∷ []) ++ rest)
 one_more_move axis from at v to done d e o f rest h = rw (append_assoc done (SMove d ∷ []) rest) (f (SMove d ∷ rest) (v, ap SMove e, o, h))
 
-pub no_more_moves : (axis : Axis) (from at to : ℕ) (done : List Command) → at ≡ to → ((rest : List Command) → IsLeg axis at to rest → IsLeg axis from to (done ++ rest)) → length done + moves at to ≡ moves from to → IsLeastLeg axis from to done
+pub no_more_moves : (axis : Axis) (from at to : ℕ) (done : List Command) → at ≡ to
+    → ((rest : List Command) → IsLeg axis at to rest → IsLeg axis from to (done ++ rest))
+    → length done + moves at to ≡ moves from to → IsLeastLeg axis from to done
 no_more_moves axis from at to done e f l = record {
   leg = subst (λ (xs : List Command). IsLeg axis from to xs) (append-nil done) (f [] e);
   least = let none : moves at to ≡ 0 = omega arith in omega arith;
@@ -52,7 +56,8 @@ put_in_space Z r c v h l = record { x = h.x; y = h.y; z = l }
 there : (u v : ℕ) → pos u +ℤ (pos v -ℤ pos u) ≡ pos v
 there u v = omega (arith, ints)
 
-pub plus-along : (axis : Axis) (c : Coord) (u v : ℕ) → plus (point (put axis c u)) (along axis (pos v -ℤ pos u)) ≡ point (put axis c v)
+pub plus-along : (axis : Axis) (c : Coord) (u v : ℕ)
+    → plus (point (put axis c u)) (along axis (pos v -ℤ pos u)) ≡ point (put axis c v)
 plus-along X c u v = λ i. record { x = there u v i; y = plus_none c.y i; z = plus_none c.z i }
 plus-along Y c u v = λ i. record { x = plus_none c.x i; y = there u v i; z = plus_none c.z i }
 plus-along Z c u v = λ i. record { x = plus_none c.x i; y = plus_none c.y i; z = there u v i }
@@ -67,11 +72,13 @@ mlen-along Z u v = let e = far u v in omega arith
 
 -- ---- a part of a way
 
-first_part : (u v w x : ℕ) → IsOnward u v w → IsTrue (is_between (pos u) (pos v) (pos x)) → IsTrue (is_between (pos u) (pos w) (pos x))
+first_part : (u v w x : ℕ) → IsOnward u v w → IsTrue (is_between (pos u) (pos v) (pos x))
+    → IsTrue (is_between (pos u) (pos w) (pos x))
 first_part u v w x (inl h) t = grind (arith, nat_tests)
 first_part u v w x (inr h) t = grind (arith, nat_tests)
 
-last_part : (u v w x : ℕ) → IsOnward u v w → IsTrue (is_between (pos v) (pos w) (pos x)) → IsTrue (is_between (pos u) (pos w) (pos x))
+last_part : (u v w x : ℕ) → IsOnward u v w → IsTrue (is_between (pos v) (pos w) (pos x))
+    → IsTrue (is_between (pos u) (pos w) (pos x))
 last_part u v w x (inl h) t = grind (arith, nat_tests)
 last_part u v w x (inr h) t = grind (arith, nat_tests)
 
@@ -93,12 +100,14 @@ in_third false b c d f t = cc
 abbrev stays : ℕ → ℕ → Bool
 stays a v = is_between (pos a) (pos a) (pos v)
 
-pub first_void : (m : Matrix) (axis : Axis) (c : Coord) (u v w : ℕ) → IsOnward u v w → IsVoidAlong m axis (put axis c u) w → IsVoid m (between (point (put axis c u)) (point (put axis c v)))
+pub first_void : (m : Matrix) (axis : Axis) (c : Coord) (u v w : ℕ) → IsOnward u v w
+    → IsVoidAlong m axis (put axis c u) w → IsVoid m (between (point (put axis c u)) (point (put axis c v)))
 first_void m X c u v w o h = λ q t. h q (in_first (is_between (pos u) (pos v) (pos q.x)) (stays c.y q.y) (stays c.z q.z) (is_between (pos u) (pos w) (pos q.x)) (first_part u v w q.x o) t)
 first_void m Y c u v w o h = λ q t. h q (in_second (stays c.x q.x) (is_between (pos u) (pos v) (pos q.y)) (stays c.z q.z) (is_between (pos u) (pos w) (pos q.y)) (first_part u v w q.y o) t)
 first_void m Z c u v w o h = λ q t. h q (in_third (stays c.x q.x) (stays c.y q.y) (is_between (pos u) (pos v) (pos q.z)) (is_between (pos u) (pos w) (pos q.z)) (first_part u v w q.z o) t)
 
-pub last_void : (m : Matrix) (axis : Axis) (c : Coord) (u v w : ℕ) → IsOnward u v w → IsVoidAlong m axis (put axis c u) w → IsVoidAlong m axis (put axis c v) w
+pub last_void : (m : Matrix) (axis : Axis) (c : Coord) (u v w : ℕ) → IsOnward u v w
+    → IsVoidAlong m axis (put axis c u) w → IsVoidAlong m axis (put axis c v) w
 last_void m X c u v w o h = λ q t. h q (in_first (is_between (pos v) (pos w) (pos q.x)) (stays c.y q.y) (stays c.z q.z) (is_between (pos u) (pos w) (pos q.x)) (last_part u v w q.x o) t)
 last_void m Y c u v w o h = λ q t. h q (in_second (stays c.x q.x) (is_between (pos v) (pos w) (pos q.y)) (stays c.z q.z) (is_between (pos u) (pos w) (pos q.y)) (last_part u v w q.y o) t)
 last_void m Z c u v w o h = λ q t. h q (in_third (stays c.x q.x) (stays c.y q.y) (is_between (pos v) (pos w) (pos q.z)) (is_between (pos u) (pos w) (pos q.z)) (last_part u v w q.z o) t)

@@ -8,7 +8,8 @@ use Rattle.plan_tape.specs.Progress.{TapeState, spot}
 pub push_length : (old new : List Command) (k : Command) → new ≡ old ++ k ∷ [] → length new ≡ length old + 1
 push_length old new k e = ap length e ∙ length-append old (k ∷ [])
 
-pub legs_length : (p q : TapeState) (to : Coord) → Moves p q to → length q.commands ≡ length p.commands + moves_to (spot p.bots) to
+pub legs_length : (p q : TapeState) (to : Coord) → Moves p q to
+    → length q.commands ≡ length p.commands + moves_to (spot p.bots) to
 legs_length p q to m =
     let l = m.legs in
     let added = ap length m.added ∙ length-append p.commands m.commands in

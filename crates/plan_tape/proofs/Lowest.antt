@@ -36,7 +36,8 @@ last true false e = cc
 last false t e = cc
 
 -- where no coordinate of a layer differs, both are the same there
-pub same_layer : (m n : Matrix) (y : ℕ) → m.resolution ≡ n.resolution → LeastOf m.resolution (in_layer_differ m n y) None → (c : Coord) → c.y ≡ y → is_full m c ≡ is_full n c
+pub same_layer : (m n : Matrix) (y : ℕ) → m.resolution ≡ n.resolution
+    → LeastOf m.resolution (in_layer_differ m n y) None → (c : Coord) → c.y ≡ y → is_full m c ≡ is_full n c
 same_layer m n y e h c f = by (in_space m.resolution (point c)) refl
   where
     here : (u v : ℕ) → u ≡ v → (u == v) ≡ true
@@ -46,14 +47,17 @@ same_layer m n y e h c f = by (in_space m.resolution (point c)) refl
     by true i = unlike (is_full m c) (is_full n c) (c.y == y) (h c (space_by_test m.resolution c i)) (here c.y y f)
     by false o = void_out m.resolution m c refl o ∙ sym (void_out m.resolution n c (sym e) o)
 
-pub layers_more : (m n : Matrix) (y : ℕ) → ((c : Coord) → c.y < y → is_full m c ≡ is_full n c) → ((c : Coord) → c.y ≡ y → is_full m c ≡ is_full n c) → (c : Coord) → c.y < y + 1 → is_full m c ≡ is_full n c
+pub layers_more : (m n : Matrix) (y : ℕ) → ((c : Coord) → c.y < y → is_full m c ≡ is_full n c)
+    → ((c : Coord) → c.y ≡ y → is_full m c ≡ is_full n c) → (c : Coord) → c.y < y + 1 → is_full m c ≡ is_full n c
 layers_more m n y below here c l = by (cases_lt c.y y)
   where
     by : (c.y < y) ⊎ (y ≤ c.y) → is_full m c ≡ is_full n c
     by (inl h) = below c h
     by (inr h) = here c (omega arith)
 
-pub lowest_at : (m n : Matrix) (y : ℕ) (c : Coord) → y < m.resolution → ((d : Coord) → d.y < y → is_full m d ≡ is_full n d) → LeastOf m.resolution (in_layer_differ m n y) (Some c) → IsLowest m n y
+pub lowest_at : (m n : Matrix) (y : ℕ) (c : Coord) → y < m.resolution
+    → ((d : Coord) → d.y < y → is_full m d ≡ is_full n d) → LeastOf m.resolution (in_layer_differ m n y) (Some c)
+    → IsLowest m n y
 lowest_at m n y c l below h = record {
   within = l;
   below = below;
@@ -62,7 +66,8 @@ lowest_at m n y c l below h = record {
   differ = differs (is_full m c) (is_full n c) (c.y == y) h.passes;
 }
 
-pub all_same : (m n : Matrix) (y : ℕ) → IsWhole m → IsWhole n → m.resolution ≡ n.resolution → m.resolution ≤ y → ((c : Coord) → c.y < y → is_full m c ≡ is_full n c) → m ≡ n
+pub all_same : (m n : Matrix) (y : ℕ) → IsWhole m → IsWhole n → m.resolution ≡ n.resolution → m.resolution ≤ y
+    → ((c : Coord) → c.y < y → is_full m c ≡ is_full n c) → m ≡ n
 all_same m n y v w e l h = alike_is_same m n v w e (λ c i. let y = i.y in h c (omega arith))
 
 -- models that differ somewhere are not the same

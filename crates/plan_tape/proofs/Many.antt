@@ -91,7 +91,9 @@ module _ (n : ℕ) (s : State) (commands : List Command) (step : ℕ) (ready : I
       w : (a : Act) × In a all × In b (successors all a a.command)
       w = flat_in (λ (a : Act). successors all a a.command) b all (order_in (flat_map (λ (a : Act). successors all a a.command) all) b i)
 
-      of_seed : (k : ℕ) → (is_seed w.0.bot.seeds k ≡ true) ⊎ ((o : Act) × In o all × (is_pair w.0 o ≡ true) × Family o k) → IsNumber n k
+      of_seed : (k : ℕ)
+          → (is_seed w.0.bot.seeds k ≡ true) ⊎ ((o : Act) × In o all × (is_pair w.0 o ≡ true) × Family o k)
+          → IsNumber n k
       of_seed k (inl e) = of_family w.0 w.1 k (inr e)
       of_seed k (inr o) = of_family o.0 o.1 k o.3
 
@@ -102,7 +104,8 @@ record IsMade (n : ℕ) (s : State) : Type 0 where
   ready : IsReady s
   numbered : AreNumbered n s.bots
 
-stays_made : (n : ℕ) (s t : State) (commands : List Command) (step : ℕ) → AreCommands commands → IsMade n s → Next s commands step (Goes t) → IsMade n t
+stays_made : (n : ℕ) (s t : State) (commands : List Command) (step : ℕ) → AreCommands commands → IsMade n s
+    → Next s commands step (Goes t) → IsMade n t
 stays_made n s t commands step are m next =
     let a = accepted_step s t commands step next in
     subst (IsMade n) (sym a.is) (record { ready = ready_is s commands step are m.ready a.keeps; numbered = numbered_after n s commands step m.ready a.keeps m.numbered })
@@ -117,14 +120,16 @@ pub last_part : (xs ys : List Command) → AllByRecursion IsCommand (xs ++ ys) �
 last_part [] ys h = h
 last_part (x ∷ xs) ys h = last_part xs ys h.1
 
-made : (source : Matrix) (profile : Profile) (commands : List Command) (s : State) (steps : ℕ) → IsWhole source → AreCommands commands → Reaches source profile commands s steps → IsMade (profile.seeds + 1) s
+made : (source : Matrix) (profile : Profile) (commands : List Command) (s : State) (steps : ℕ) → IsWhole source
+    → AreCommands commands → Reaches source profile commands s steps → IsMade (profile.seeds + 1) s
 made source profile commands s steps whole are (starts e f g) = subst (IsMade (profile.seeds + 1)) (sym f) (record { ready = ready_opening source profile whole.some whole.voxels; numbered = first_numbered profile })
 made source profile commands s steps whole are (steps_on t before step done r some l next e f) =
     let joined = subst AreCommands e are in
     stays_made (profile.seeds + 1) t s step (done + 1) (last_part before step joined) (made source profile before t done whole (first_part before step joined) r) next
 
 -- bots with bids that rise are no more than there are numbers
-few_rise : (bots : List Bot) (low n : ℕ) → Rising bots → ((b : Bot) → In b bots → (low < b.bid) × (b.bid ≤ n)) → low ≤ n → low + length bots ≤ n
+few_rise : (bots : List Bot) (low n : ℕ) → Rising bots → ((b : Bot) → In b bots → (low < b.bid) × (b.bid ≤ n)) → low ≤ n
+    → low + length bots ≤ n
 few_rise [] low n up h l = omega arith
 few_rise (b ∷ bots) low n up h l =
     let first = h b (inl refl) in
@@ -132,7 +137,8 @@ few_rise (b ∷ bots) low n up h l =
     let a = first.0 in
     omega (arith, more, a)
 
-pub has_at_most : (source : Matrix) (profile : Profile) (commands : List Command) → IsWhole source → AreCommands commands → HasAtMost source profile commands (profile.seeds + 1)
+pub has_at_most : (source : Matrix) (profile : Profile) (commands : List Command) → IsWhole source
+    → AreCommands commands → HasAtMost source profile commands (profile.seeds + 1)
 has_at_most source profile commands whole are before rest s steps e r =
     let m = made source profile before s steps whole (first_part before rest (subst AreCommands e are)) r in
     let few = few_rise s.bots 0 (profile.seeds + 1) (rising_is s.bots m.ready.rising) (λ b i. (let h = (m.numbered b i).0.0 in omega (arith, h), (m.numbered b i).0.1)) (omega arith) in

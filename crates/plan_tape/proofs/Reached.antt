@@ -37,7 +37,9 @@ enough s t step k next = by (slice_get_cases s.bots (length step)).1
         let ends = ap (λ (o : Option Bot). first_value (option_map (λ (b : Bot). record { step = k; bid = b.bid; rule = TraceEnds; at = b.pos }) o ∷ (judge_bots s (acts s.bots step) k ++ judge_pairs s.matrix (acts s.bots step) k (leaders (acts s.bots step))))) e in
         cc
 
-    by : ((x : Bot) × (length step < length s.bots) × (slice_get s.bots (length step) ≡ Some x) × (get_or s.bots (length step) x ≡ x)) ⊎ ((length s.bots ≤ length step) × (slice_get s.bots (length step) ≡ None)) → length s.bots ≤ length step
+    by : ((x : Bot) × (length step < length s.bots) × (slice_get s.bots (length step) ≡ Some x)
+        × (get_or s.bots (length step) x ≡ x))
+        ⊎ ((length s.bots ≤ length step) × (slice_get s.bots (length step) ≡ None)) → length s.bots ≤ length step
     by (inl h) = absurd (lacks h.0 h.2)
     by (inr h) = h.0
 
@@ -62,7 +64,9 @@ module _ (target : Matrix) (s t : State) (step rest : List Command) (done : ℕ)
 -- ---- all steps
 
 -- what comes of all commands comes of those that are left at a reached state
-to_reached : (source target : Matrix) (profile : Profile) (before rest : List Command) (s : State) (done : ℕ) (v : Verdict) → Reaches source profile before s done → VerdictOf source target (before ++ rest) profile v → Run target s rest done v
+to_reached : (source target : Matrix) (profile : Profile) (before rest : List Command) (s : State) (done : ℕ)
+    (v : Verdict) → Reaches source profile before s done → VerdictOf source target (before ++ rest) profile v
+    → Run target s rest done v
 to_reached source target profile before rest s done v (starts e f g) run =
     subst (λ (n : ℕ). Run target s rest n v) (sym g)
     (subst (λ (x : State). Run target x rest 0 v) (sym f)
@@ -71,11 +75,15 @@ to_reached source target profile before rest s done v (steps_on t first step cou
     let all : VerdictOf source target (first ++ (step ++ rest)) profile v = subst (λ (k : List Command). VerdictOf source target k profile v) (ap (λ (k : List Command). k ++ rest) e ∙ append_assoc first step rest) run in
     subst (λ (n : ℕ). Run target s rest n v) (sym f) (one_after target t s step rest count v some whole next (to_reached source target profile first (step ++ rest) t count v r all))
 
-pub onward : (source target : Matrix) (profile : Profile) (before rest : List Command) (s : State) (done : ℕ) (v : Verdict) → Reaches source profile before s done → (VerdictOf source target (before ++ rest) profile v ↔ Run target s rest done v)
+pub onward : (source target : Matrix) (profile : Profile) (before rest : List Command) (s : State) (done : ℕ)
+    (v : Verdict) → Reaches source profile before s done
+    → (VerdictOf source target (before ++ rest) profile v ↔ Run target s rest done v)
 onward source target profile before rest s done v r = (to_reached source target profile before rest s done v r, run_of target rest v r)
 
 -- each verdict falls at a reached state
-pub decided : (source target : Matrix) (profile : Profile) (before rest : List Command) (s : State) (done : ℕ) (v : Verdict) → Reaches source profile before s done → Run target s rest done v → IsDecided source target profile (before ++ rest) v
+pub decided : (source target : Matrix) (profile : Profile) (before rest : List Command) (s : State) (done : ℕ)
+    (v : Verdict) → Reaches source profile before s done → Run target s rest done v
+    → IsDecided source target profile (before ++ rest) v
 decided source target profile before rest s done v r (ends none f) = record { before = before; rest = rest; joined = refl; last = s; done = done; reaches = r; falls = inl (none, f) }
 decided source target profile before rest s done v r (breaks {b = b} some next f) = record { before = before; rest = rest; joined = refl; last = s; done = done; reaches = r; falls = inr (b, next, f) }
 decided source target profile before rest s done v r (goes {bot = bot} {bots = bots} {t = t} some next run) =
@@ -95,10 +103,13 @@ decided source target profile before rest s done v r (goes {bot = bot} {bots = b
 
 module _ (source target : Matrix) (profile : Profile) (energy : ℤ) (steps : ℕ) where
   -- a verdict that accepts falls at a state without bots, whose voxels are those of the target
-  at_end : (before rest : List Command) (s : State) (done : ℕ) → Reaches source profile before s done → s.bots ≡ [] → ending target s rest done ≡ Accepted energy steps → ReachesTarget source target profile (before ++ rest) energy steps
+  at_end : (before rest : List Command) (s : State) (done : ℕ) → Reaches source profile before s done → s.bots ≡ []
+      → ending target s rest done ≡ Accepted energy steps
+      → ReachesTarget source target profile (before ++ rest) energy steps
   at_end before [] s done r none h = by (first_difference s.matrix target) refl h
     where
-      by : (o : Option Coord) → first_difference s.matrix target ≡ o → compared s.energy done o ≡ Accepted energy steps → ReachesTarget source target profile (before ++ []) energy steps
+      by : (o : Option Coord) → first_difference s.matrix target ≡ o → compared s.energy done o ≡ Accepted energy steps
+          → ReachesTarget source target profile (before ++ []) energy steps
       by None e h =
           let count : done ≡ steps = cc in
           let paid : s.energy ≡ energy = cc in
@@ -112,11 +123,14 @@ module _ (source target : Matrix) (profile : Profile) (energy : ℤ) (steps : �
       by (Some c) e h = absurd (cc)
   at_end before (k ∷ more) s done r none h = absurd (cc)
 
-  there : (commands : List Command) (d : IsDecided source target profile commands (Accepted energy steps)) → FallsAt target d.last d.rest d.done (Accepted energy steps) → ReachesTarget source target profile commands energy steps
+  there : (commands : List Command) (d : IsDecided source target profile commands (Accepted energy steps))
+      → FallsAt target d.last d.rest d.done (Accepted energy steps)
+      → ReachesTarget source target profile commands energy steps
   there commands d (inl h) = subst (λ (k : List Command). ReachesTarget source target profile k energy steps) (sym d.joined) (at_end d.before d.rest d.last d.done d.reaches h.0 (sym h.1))
   there commands d (inr h) = absurd (let e = h.2 in cc)
 
-  pub accepted : (commands : List Command) → (VerdictOf source target commands profile (Accepted energy steps) ↔ ReachesTarget source target profile commands energy steps)
+  pub accepted : (commands : List Command)
+      → (VerdictOf source target commands profile (Accepted energy steps) ↔ ReachesTarget source target profile commands energy steps)
   accepted commands = (
     λ run. let d = decided source target profile [] commands (opening source profile) 0 (Accepted energy steps) (starts refl refl refl) run in there commands d d.falls,
     λ r.

@@ -38,7 +38,8 @@ use Rattle.step_order.specs.Unbroken.{IsVoid}
 -- ---- the step is accepted
 
 -- where no rule is broken, and the state after is grounded if its harmonics are Low, the step is accepted
-pub goes_on : (s t : State) (commands : List Command) (step : ℕ) → broken s commands step ≡ None → after s commands ≡ t → (t.harmonics ≡ Low → FirstUngrounded t.matrix None) → Next s commands step (Goes t)
+pub goes_on : (s t : State) (commands : List Command) (step : ℕ) → broken s commands step ≡ None → after s commands ≡ t
+    → (t.harmonics ≡ Low → FirstUngrounded t.matrix None) → Next s commands step (Goes t)
 goes_on s t commands step b e g =
     subst (λ (u : State). Next s commands step (Goes u)) e
     (accepts b (subst (λ (u : State). u.harmonics ≡ Low → FirstUngrounded u.matrix None) (sym e) g) refl)
@@ -95,16 +96,20 @@ only_bot (b ∷ c ∷ bots) e = absurd (omega arith)
 in_place : (p : TapeState) (b : Bot) (d : Diff) → spot p.bots ≡ b.pos → IsReachable p d → in_space p.matrix.resolution (plus (point b.pos) d) ≡ true
 in_place p b d e i = subst (λ (q : Coord). in_space p.matrix.resolution (plus (point q) d) ≡ true) e i
 
-all_moved : (bots : List Bot) (b : Bot) (c e : Coord) → bots ≡ b ∷ [] → c ≡ e → record { bid = b.bid; pos = e; seeds = b.seeds } ∷ [] ≡ bots_at bots c
+all_moved : (bots : List Bot) (b : Bot) (c e : Coord) → bots ≡ b ∷ [] → c ≡ e
+    → record { bid = b.bid; pos = e; seeds = b.seeds } ∷ [] ≡ bots_at bots c
 all_moved bots b c e f g = rw (f, g) refl
 
 module _ (p : TapeState) (w : IsWhole p.matrix) (alone : length p.bots ≡ 1) where
-  pub flips : IsAllowed p Flip → IsHeld (flipped p.harmonics) p.matrix → Does p (only_bot p.bots alone).0 Flip p.matrix (flipped p.harmonics) p.bots (pos 0)
+  pub flips : IsAllowed p Flip → IsHeld (flipped p.harmonics) p.matrix
+      → Does p (only_bot p.bots alone).0 Flip p.matrix (flipped p.harmonics) p.bots (pos 0)
   flips a g =
       let o = only_bot p.bots alone in
       record { faultless = flip_faults p.matrix p.harmonics o.0 p.energy p.profile a; matrix_is = untouched p.matrix (lone o.0 Flip) w refl refl; harmonics_are = refl; bots_are = sym o.1; cost_is = cost_is p.matrix o.0 Flip; held = g }
 
-  pub fills : (d : Diff) → IsAllowed p (Fill d) → IsReachable p d → IsHeld p.harmonics (with_voxel p.matrix (beside p d) true) → Does p (only_bot p.bots alone).0 (Fill d) (with_voxel p.matrix (beside p d) true) p.harmonics p.bots (cond (is_full p.matrix (beside p d)) (pos 6) (pos 12))
+  pub fills : (d : Diff) → IsAllowed p (Fill d) → IsReachable p d
+      → IsHeld p.harmonics (with_voxel p.matrix (beside p d) true) → Does p (only_bot p.bots alone).0 (Fill d)
+      (with_voxel p.matrix (beside p d) true) p.harmonics p.bots (cond (is_full p.matrix (beside p d)) (pos 6) (pos 12))
   fills d a i g =
       let o = only_bot p.bots alone in
       let j = in_place p o.0 d o.2 i in
@@ -117,7 +122,9 @@ module _ (p : TapeState) (w : IsWhole p.matrix) (alone : length p.bots ≡ 1) wh
         held = g;
       }
 
-  pub voids : (d : Diff) → IsAllowed p (Void d) → IsReachable p d → IsHeld p.harmonics (with_voxel p.matrix (beside p d) false) → Does p (only_bot p.bots alone).0 (Void d) (with_voxel p.matrix (beside p d) false) p.harmonics p.bots (cond (is_full p.matrix (beside p d)) (negsuc 11) (pos 3))
+  pub voids : (d : Diff) → IsAllowed p (Void d) → IsReachable p d
+      → IsHeld p.harmonics (with_voxel p.matrix (beside p d) false) → Does p (only_bot p.bots alone).0 (Void d)
+      (with_voxel p.matrix (beside p d) false) p.harmonics p.bots (cond (is_full p.matrix (beside p d)) (negsuc 11) (pos 3))
   voids d a i g =
       let o = only_bot p.bots alone in
       let j = in_place p o.0 d o.2 i in
@@ -130,7 +137,9 @@ module _ (p : TapeState) (w : IsWhole p.matrix) (alone : length p.bots ≡ 1) wh
         held = g;
       }
 
-  pub goes : (d : Diff) → IsAllowed p (SMove d) → IsReachable p d → IsVoid p.matrix (between (point (spot p.bots)) (plus (point (spot p.bots)) d)) → IsHeld p.harmonics p.matrix → Does p (only_bot p.bots alone).0 (SMove d) p.matrix p.harmonics (bots_at p.bots (beside p d)) (pos (2 * mlen d))
+  pub goes : (d : Diff) → IsAllowed p (SMove d) → IsReachable p d
+      → IsVoid p.matrix (between (point (spot p.bots)) (plus (point (spot p.bots)) d)) → IsHeld p.harmonics p.matrix
+      → Does p (only_bot p.bots alone).0 (SMove d) p.matrix p.harmonics (bots_at p.bots (beside p d)) (pos (2 * mlen d))
   goes d a i v g =
       let o = only_bot p.bots alone in
       record {
@@ -142,7 +151,8 @@ module _ (p : TapeState) (w : IsWhole p.matrix) (alone : length p.bots ≡ 1) wh
         held = g;
       }
 
-  pub halts : IsAllowed p Halt → spot p.bots ≡ origin → p.harmonics ≡ Low → IsHeld p.harmonics p.matrix → Does p (only_bot p.bots alone).0 Halt p.matrix p.harmonics [] (pos 0)
+  pub halts : IsAllowed p Halt → spot p.bots ≡ origin → p.harmonics ≡ Low → IsHeld p.harmonics p.matrix
+      → Does p (only_bot p.bots alone).0 Halt p.matrix p.harmonics [] (pos 0)
   halts a at low g =
       let o = only_bot p.bots alone in
       let home : o.0.pos ≡ origin = sym o.2 ∙ at in
@@ -163,7 +173,8 @@ progress_along p axis a b moves = record {
   steps = p.steps + length moves;
 }
 
-move_bytes : (axis : Axis) (a b : ℕ) (moves : List Command) → IsLeg axis a b moves → length (spellings moves) ≡ 2 * length moves
+move_bytes : (axis : Axis) (a b : ℕ) (moves : List Command) → IsLeg axis a b moves
+    → length (spellings moves) ≡ 2 * length moves
 move_bytes axis a b [] l = refl
 move_bytes axis a b (k ∷ more) l =
     let rest = move_bytes axis l.0 b more l.3 in
@@ -173,7 +184,8 @@ onward_gap : (a v b : ℕ) → IsOnward a v b → gap a b ≡ gap a v + gap v b
 onward_gap a v b (inl h) = omega arith
 onward_gap a v b (inr h) = omega arith
 
-paid_on : (e : ℤ) (n u g h : ℕ) → ((e +ℤ pos u) +ℤ pos (2 * g)) +ℤ pos (n * u + 2 * h) ≡ e +ℤ pos (suc n * u + 2 * (g + h))
+paid_on : (e : ℤ) (n u g h : ℕ)
+    → ((e +ℤ pos u) +ℤ pos (2 * g)) +ℤ pos (n * u + 2 * h) ≡ e +ℤ pos (suc n * u + 2 * (g + h))
 paid_on e n u g h = omega (arith, ints)
 
 component_below : (x : Axis) (r : ℕ) (c : Coord) → IsInSpace r c → component_of x c < r
@@ -187,7 +199,11 @@ component_of-put Y c v = refl
 component_of-put Z c v = refl
 
 -- from where a tape stands, moves along an axis reach what it shows after them
-pub walked : (moves : List Command) (p : TapeState) (axis : Axis) (a b : ℕ) → IsWhole p.matrix → IsHeld p.harmonics p.matrix → length p.bots ≡ 1 → IsInSpace p.matrix.resolution (spot p.bots) → component_of axis (spot p.bots) ≡ a → b < p.matrix.resolution → MayMove p → IsVoidAlong p.matrix axis (spot p.bots) b → IsLeg axis a b moves → IsRun p → IsRun (progress_along p axis a b moves)
+pub walked : (moves : List Command) (p : TapeState) (axis : Axis) (a b : ℕ) → IsWhole p.matrix
+    → IsHeld p.harmonics p.matrix → length p.bots ≡ 1 → IsInSpace p.matrix.resolution (spot p.bots)
+    → component_of axis (spot p.bots) ≡ a → b < p.matrix.resolution → MayMove p
+    → IsVoidAlong p.matrix axis (spot p.bots) b → IsLeg axis a b moves → IsRun p
+    → IsRun (progress_along p axis a b moves)
 walked [] p axis a b w g alone i at l may v leg r = subst IsRun (λ j. stayed j) r
   where
     spot_is : put axis (spot p.bots) b ≡ spot p.bots
@@ -278,7 +294,8 @@ progress_at p to moves = record {
   steps = p.steps + moves_to (spot p.bots) to;
 }
 
-paid_all : (e : ℤ) (a b c u g h i : ℕ) → ((e +ℤ pos (a * u + 2 * g)) +ℤ pos (b * u + 2 * h)) +ℤ pos (c * u + 2 * i) ≡ e +ℤ pos ((a + b + c) * u + 2 * (g + h + i))
+paid_all : (e : ℤ) (a b c u g h i : ℕ) → ((e +ℤ pos (a * u + 2 * g)) +ℤ pos (b * u + 2 * h)) +ℤ pos (c * u + 2 * i)
+    ≡ e +ℤ pos ((a + b + c) * u + 2 * (g + h + i))
 paid_all e a b c u g h i = omega (arith, ints)
 
 module _ (p : TapeState) (to : Coord) (moves : List Command) (legs : AreLegs (spot p.bots) to moves) where
@@ -330,7 +347,8 @@ module _ (p : TapeState) (to : Coord) (moves : List Command) (legs : AreLegs (sp
     within1 : IsInSpace p.matrix.resolution (put X a to.x)
     within1 = put_in_space X p.matrix.resolution a to.x i t.x
 
-    upkeep_same : (bots : List Bot) → length bots ≡ 1 → unsigned_abs (upkeep_of p.matrix.resolution p.harmonics (length bots)) ≡ upkeep_of_step p
+    upkeep_same : (bots : List Bot) → length bots ≡ 1
+        → unsigned_abs (upkeep_of p.matrix.resolution p.harmonics (length bots)) ≡ upkeep_of_step p
     upkeep_same bots l = ap (λ n. unsigned_abs (upkeep_of p.matrix.resolution p.harmonics n)) (l ∙ sym alone)
 
     arrived : p3 ≡ progress_at p to moves

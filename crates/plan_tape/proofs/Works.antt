@@ -23,7 +23,8 @@ use Rattle.plan_tape.specs.Crowd.{FillsOrWaits, FusesOrWaits, SplitsOrWaits, bot
 use Rattle.plan_tape.specs.Progress.{TapeState, state_of}
 
 -- what holds of the acts by their commands
-pub each_act : (P : Command → Type 0) (Q : Act → Type 0) → ((a : Act) → P a.command → Q a) → (bots : List Bot) (commands : List Command) → AllByRecursion P commands → AllByRecursion Q (acts bots commands)
+pub each_act : (P : Command → Type 0) (Q : Act → Type 0) → ((a : Act) → P a.command → Q a) → (bots : List Bot)
+    (commands : List Command) → AllByRecursion P commands → AllByRecursion Q (acts bots commands)
 each_act P Q f [] commands h = tt
 each_act P Q f (b ∷ bots) [] h = tt
 each_act P Q f (b ∷ bots) (k ∷ commands) h = (f (record { bot = b; command = k }) h.0, each_act P Q f bots commands h.1)
@@ -50,18 +51,22 @@ fill_stands b Wait h = refl
 fill_stands b (Fill d) h = refl
 fill_stands b _ h = absurd h
 
-pub fills_stay : (bots : List Bot) (commands : List Command) → AllByRecursion FillsOrWaits commands → AllByRecursion (λ a. IsTrue (stays_one a.command)) (acts bots commands)
+pub fills_stay : (bots : List Bot) (commands : List Command) → AllByRecursion FillsOrWaits commands
+    → AllByRecursion (λ a. IsTrue (stays_one a.command)) (acts bots commands)
 fills_stay = each_act FillsOrWaits (λ a. IsTrue (stays_one a.command)) (λ a h. fill_stays a.command h)
 
-pub fills_flip_not : (bots : List Bot) (commands : List Command) → AllByRecursion FillsOrWaits commands → AllByRecursion (λ a. IsFalse (is_flip a.command)) (acts bots commands)
+pub fills_flip_not : (bots : List Bot) (commands : List Command) → AllByRecursion FillsOrWaits commands
+    → AllByRecursion (λ a. IsFalse (is_flip a.command)) (acts bots commands)
 fills_flip_not = each_act FillsOrWaits (λ a. IsFalse (is_flip a.command)) (λ a h. fill_flips_not a.command h)
 
-pub fills_stand : (bots : List Bot) (commands : List Command) → length commands ≡ length bots → AllByRecursion FillsOrWaits commands → map gone (acts bots commands) ≡ bots
+pub fills_stand : (bots : List Bot) (commands : List Command) → length commands ≡ length bots
+    → AllByRecursion FillsOrWaits commands → map gone (acts bots commands) ≡ bots
 fills_stand [] commands l h = refl
 fills_stand (b ∷ bots) [] l h = absurd (omega arith)
 fills_stand (b ∷ bots) (k ∷ commands) l h = let e = fill_stands b k h.0 in let more = fills_stand bots commands (omega arith) h.1 in λ i. e i ∷ more i
 
-none_voided : (c : Coord) (bots : List Bot) (commands : List Command) → AllByRecursion FillsOrWaits commands → is_voided (acts bots commands) c ≡ false
+none_voided : (c : Coord) (bots : List Bot) (commands : List Command) → AllByRecursion FillsOrWaits commands
+    → is_voided (acts bots commands) c ≡ false
 none_voided c [] commands h = refl
 none_voided c (b ∷ bots) [] h = refl
 none_voided c (b ∷ bots) (k ∷ commands) h = let e = fill_voids_none (point b.pos) k h.0 in let more = none_voided c bots commands h.1 in λ i. list_any (λ (s : Span). is_within s (point c)) (e i) || more i
@@ -70,7 +75,8 @@ and_all : (b : Bool) → (b && not false) ≡ b
 and_all true = refl
 and_all false = refl
 
-pub matrix_filled : (m : Matrix) (bots : List Bot) (commands : List Command) → AllByRecursion FillsOrWaits commands → matrix_after m (acts bots commands) ≡ with_fills m (acts bots commands)
+pub matrix_filled : (m : Matrix) (bots : List Bot) (commands : List Command) → AllByRecursion FillsOrWaits commands
+    → matrix_after m (acts bots commands) ≡ with_fills m (acts bots commands)
 matrix_filled m bots commands h = λ i. matrix_where m.resolution (λ c. is_filled (acts bots commands) c || same c i)
   where
     same : (c : Coord) → (is_full m c && not (is_voided (acts bots commands) c)) ≡ is_full m c
@@ -93,18 +99,23 @@ split_parts all a Wait h = refl
 split_parts all a (Fission d m) h = refl
 split_parts all a _ h = absurd h
 
-pub splits_leave : (bots : List Bot) (commands : List Command) → AllByRecursion SplitsOrWaits commands → AllByRecursion (λ a. IsTrue (leaves_voxels a.command)) (acts bots commands)
+pub splits_leave : (bots : List Bot) (commands : List Command) → AllByRecursion SplitsOrWaits commands
+    → AllByRecursion (λ a. IsTrue (leaves_voxels a.command)) (acts bots commands)
 splits_leave = each_act SplitsOrWaits (λ a. IsTrue (leaves_voxels a.command)) (λ a h. split_leaves a.command h)
 
-pub splits_flip_not : (bots : List Bot) (commands : List Command) → AllByRecursion SplitsOrWaits commands → AllByRecursion (λ a. IsFalse (is_flip a.command)) (acts bots commands)
+pub splits_flip_not : (bots : List Bot) (commands : List Command) → AllByRecursion SplitsOrWaits commands
+    → AllByRecursion (λ a. IsFalse (is_flip a.command)) (acts bots commands)
 splits_flip_not = each_act SplitsOrWaits (λ a. IsFalse (is_flip a.command)) (λ a h. split_flips_not a.command h)
 
-all_parts : (all : List Act) (bots : List Bot) (commands : List Command) → AllByRecursion SplitsOrWaits commands → flat_map (λ a. successors all a a.command) (acts bots commands) ≡ flat_map (λ a. parts a a.command) (acts bots commands)
+all_parts : (all : List Act) (bots : List Bot) (commands : List Command) → AllByRecursion SplitsOrWaits commands
+    → flat_map (λ a. successors all a a.command) (acts bots commands)
+    ≡ flat_map (λ a. parts a a.command) (acts bots commands)
 all_parts all [] commands h = refl
 all_parts all (b ∷ bots) [] h = refl
 all_parts all (b ∷ bots) (k ∷ commands) h = let e = split_parts all (record { bot = b; command = k }) k h.0 in let more = all_parts all bots commands h.1 in λ i. e i ++ more i
 
-pub splits_part : (bots : List Bot) (commands : List Command) → AllByRecursion SplitsOrWaits commands → bots_after (acts bots commands) ≡ bots_split bots commands
+pub splits_part : (bots : List Bot) (commands : List Command) → AllByRecursion SplitsOrWaits commands
+    → bots_after (acts bots commands) ≡ bots_split bots commands
 splits_part bots commands h = ap in_rising_order (all_parts (acts bots commands) bots commands h)
 
 -- ---- fusions
@@ -121,14 +132,17 @@ fuse_flips_not (FusionP d) h = refl
 fuse_flips_not (FusionS d) h = refl
 fuse_flips_not _ h = absurd h
 
-pub fusions_leave : (bots : List Bot) (commands : List Command) → AllByRecursion FusesOrWaits commands → AllByRecursion (λ a. IsTrue (leaves_voxels a.command)) (acts bots commands)
+pub fusions_leave : (bots : List Bot) (commands : List Command) → AllByRecursion FusesOrWaits commands
+    → AllByRecursion (λ a. IsTrue (leaves_voxels a.command)) (acts bots commands)
 fusions_leave = each_act FusesOrWaits (λ a. IsTrue (leaves_voxels a.command)) (λ a h. fuse_leaves a.command h)
 
-pub fusions_flip_not : (bots : List Bot) (commands : List Command) → AllByRecursion FusesOrWaits commands → AllByRecursion (λ a. IsFalse (is_flip a.command)) (acts bots commands)
+pub fusions_flip_not : (bots : List Bot) (commands : List Command) → AllByRecursion FusesOrWaits commands
+    → AllByRecursion (λ a. IsFalse (is_flip a.command)) (acts bots commands)
 fusions_flip_not = each_act FusesOrWaits (λ a. IsFalse (is_flip a.command)) (λ a h. fuse_flips_not a.command h)
 
 -- what becomes of a bot has its bid
-bid_stays : (all : List Act) (a : Act) (k : Command) (x : Bot) → FusesOrWaits k → In x (successors all a k) → x.bid ≡ a.bot.bid
+bid_stays : (all : List Act) (a : Act) (k : Command) (x : Bot) → FusesOrWaits k → In x (successors all a k)
+    → x.bid ≡ a.bot.bid
 bid_stays all a Wait x h (inl e) = ap (λ (b : Bot). b.bid) e
 bid_stays all a Wait x h (inr i) = absurd i
 bid_stays all a (FusionP d) x h (inl e) = ap (λ (b : Bot). b.bid) e ∙ fused_bid a (find (is_pair a) all)
@@ -136,13 +150,15 @@ bid_stays all a (FusionP d) x h (inr i) = absurd i
 bid_stays all a (FusionS d) x h i = absurd i
 bid_stays all a _ x h i = absurd h
 
-fused_first : (all : List Act) (a : Act) (k : Command) (rest : List Bot) → FusesOrWaits k → ((c : Bot) → In c rest → a.bot.bid < c.bid) → Rising rest → Rising (successors all a k ++ rest)
+fused_first : (all : List Act) (a : Act) (k : Command) (rest : List Bot) → FusesOrWaits k
+    → ((c : Bot) → In c rest → a.bot.bid < c.bid) → Rising rest → Rising (successors all a k ++ rest)
 fused_first all a Wait rest h later up = (later, up)
 fused_first all a (FusionP d) rest h later up = ((λ c i. let l = later c i in let e = fused_bid a (find (is_pair a) all) in omega arith), up)
 fused_first all a (FusionS d) rest h later up = up
 fused_first all a _ rest h later up = absurd h
 
-fused_rise : (all more : List Act) → AllByRecursion (λ a. FusesOrWaits a.command) more → Rising (map (λ a. a.bot) more) → Rising (flat_map (λ a. successors all a a.command) more)
+fused_rise : (all more : List Act) → AllByRecursion (λ a. FusesOrWaits a.command) more → Rising (map (λ a. a.bot) more)
+    → Rising (flat_map (λ a. successors all a a.command) more)
 fused_rise all [] h up = tt
 fused_rise all (a ∷ more) h up = fused_first all a a.command (flat_map (λ b. successors all b b.command) more) h.0 later (fused_rise all more h.1 up.1)
   where
@@ -153,12 +169,14 @@ fused_rise all (a ∷ more) h up = fused_first all a a.command (flat_map (λ b. 
         let l = up.0 w.0.bot (in_map (λ (b : Act). b.bot) w.0 more w.1) in
         subst (λ (n : ℕ). a.bot.bid < n) (sym e) l
 
-bots_of : (bots : List Bot) (commands : List Command) → length commands ≡ length bots → map (λ a. a.bot) (acts bots commands) ≡ bots
+bots_of : (bots : List Bot) (commands : List Command) → length commands ≡ length bots
+    → map (λ a. a.bot) (acts bots commands) ≡ bots
 bots_of [] commands l = refl
 bots_of (b ∷ bots) [] l = absurd (omega arith)
 bots_of (b ∷ bots) (k ∷ commands) l = ap (λ bs. b ∷ bs) (bots_of bots commands (omega arith))
 
-pub fusions_merge : (p : TapeState) (commands : List Command) → IsReady (state_of p) → length commands ≡ length p.bots → AllByRecursion FusesOrWaits commands → bots_after (acts p.bots commands) ≡ bots_fused p.bots commands
+pub fusions_merge : (p : TapeState) (commands : List Command) → IsReady (state_of p) → length commands ≡ length p.bots
+    → AllByRecursion FusesOrWaits commands → bots_after (acts p.bots commands) ≡ bots_fused p.bots commands
 fusions_merge p commands ready l h =
     let all = acts p.bots commands in
     rising_itself (bots_fused p.bots commands)

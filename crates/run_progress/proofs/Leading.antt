@@ -57,19 +57,22 @@ module _ (target : Matrix) (p : Progress) (rest : List Command) (v : Verdict) (w
   back = subst (λ (k : ℕ). drop k (p.pending ++ rest) ≡ rest) whole (drop-append_seam p.pending rest)
 
   -- a run that goes on from the state after the step
-  gone : (t : State) → Next p.state p.pending (p.steps + 1) (Goes t) → Run target t rest (p.steps + 1) v → Run target p.state (p.pending ++ rest) p.steps v
+  gone : (t : State) → Next p.state p.pending (p.steps + 1) (Goes t) → Run target t rest (p.steps + 1) v
+      → Run target p.state (p.pending ++ rest) p.steps v
   gone t next run =
       let b = some_bot p.state.bots 0 some in
       goes {bot = b.0} {bots = b.1} {t = t} b.2
       (subst (λ (k : List Command). Next p.state k (p.steps + 1) (Goes t)) (sym front) next)
       (subst (λ (k : List Command). Run target t k (p.steps + 1) v) (sym back) run)
 
-  after_goes : (t : State) (bots : List Bot) → t.bots ≡ bots → Next p.state p.pending (p.steps + 1) (Goes t) → LeadsAt (mark_of bots) target (stepped p (Goes t)) rest v → Run target p.state (p.pending ++ rest) p.steps v
+  after_goes : (t : State) (bots : List Bot) → t.bots ≡ bots → Next p.state p.pending (p.steps + 1) (Goes t)
+      → LeadsAt (mark_of bots) target (stepped p (Goes t)) rest v → Run target p.state (p.pending ++ rest) p.steps v
   after_goes t [] e next leads = gone t next (ends e leads)
   after_goes t (bot ∷ bots) e next leads = gone t next leads
 
   -- what a step comes to
-  made : (outcome : Outcome) → Next p.state p.pending (p.steps + 1) outcome → Leads target (stepped p outcome) rest v → Run target p.state (p.pending ++ rest) p.steps v
+  made : (outcome : Outcome) → Next p.state p.pending (p.steps + 1) outcome → Leads target (stepped p outcome) rest v
+      → Run target p.state (p.pending ++ rest) p.steps v
   made (Goes t) next leads = after_goes t t.bots refl next leads
   made (Breaks b) next leads =
       let bot = some_bot p.state.bots 0 some in
@@ -90,13 +93,15 @@ joined : (target : Matrix) (p q : Progress) (rest : List Command) (v : Verdict) 
     → Joins p q → Leads target q rest v → Run target p.state (p.pending ++ rest) p.steps v
 joined target p q rest v running some below joins leads = by (length p.pending == length p.state.bots) refl joins
   where
-    by : (t : Bool) → (length p.pending == length p.state.bots) ≡ t → MatchBool t (MakesStep p q) (q ≡ p) → Run target p.state (p.pending ++ rest) p.steps v
+    by : (t : Bool) → (length p.pending == length p.state.bots) ≡ t → MatchBool t (MakesStep p q) (q ≡ p)
+        → Run target p.state (p.pending ++ rest) p.steps v
     by true e steps =
         let whole = same_count (length p.pending) (length p.state.bots) e in
         made target p rest v whole (omega arith) steps.0 steps.1 (subst (λ (x : Progress). Leads target x rest v) steps.2 leads)
     by false e same = subst (λ (m : Mark). LeadsAt m target p rest v) running (subst (λ (x : Progress). Leads target x rest v) same leads)
 
-pub one_more : (target : Matrix) (p q : Progress) (command : Command) (rest : List Command) (v : Verdict) → Keeps p → Pushes p command q → Leads target q rest v → Leads target p (command ∷ rest) v
+pub one_more : (target : Matrix) (p q : Progress) (command : Command) (rest : List Command) (v : Verdict) → Keeps p
+    → Pushes p command q → Leads target q rest v → Leads target p (command ∷ rest) v
 one_more target p q command rest v keeps pushes leads = by p.mark refl keeps pushes
   where
     by : (m : Mark) → p.mark ≡ m → KeepsAt m p → PushesAt m p command q → LeadsAt m target p (command ∷ rest) v
@@ -137,7 +142,8 @@ keeps_pushed p q command keeps pushes = by p.mark refl keeps pushes
     by Halted e keeps followed = subst Keeps (sym followed) tt
     by Followed e keeps same = subst Keeps (sym same) (subst (λ (m : Mark). KeepsAt m p) (sym e) tt)
 
-pub keeps : {source : Matrix} {profile : Profile} {commands : List Command} {p : Progress} → Comes source profile commands p → Keeps p
+pub keeps : {source : Matrix} {profile : Profile} {commands : List Command} {p : Progress}
+    → Comes source profile commands p → Keeps p
 keeps (first e f) = subst Keeps (sym f) (omega arith)
 keeps {p = p} (later before q command comes pushes e) = keeps_pushed q p command (keeps comes) pushes
 
@@ -153,7 +159,8 @@ leads_from_the_opening {source} {profile} {commands} {p} target rest v (later be
 -- ---- the end
 
 -- where the trace ends within a step, the step breaks that rule
-ends_within : (s : State) (commands : List Command) (step : ℕ) (b : Broken) → judge_trace s commands step ≡ Some b → Next s commands step (Breaks b)
+ends_within : (s : State) (commands : List Command) (step : ℕ) (b : Broken) → judge_trace s commands step ≡ Some b
+    → Next s commands step (Breaks b)
 ends_within s commands step b e =
     let is : broken s commands step ≡ Some b = ap (λ o. first_value (o ∷ (judge_bots s (acts s.bots commands) step ++ judge_pairs s.matrix (acts s.bots commands) step (leaders (acts s.bots commands))))) e in
     breaks_at_start b is refl
@@ -161,7 +168,8 @@ ends_within s commands step b e =
 all_taken : (n : ℕ) (xs : List Command) → length xs < n → take n (xs ++ []) ≡ xs
 all_taken n xs h = ap (take n) (append-nil xs) ∙ take_all n xs (omega arith)
 
-finishes_at : (m : Mark) (target : Matrix) (p : Progress) (v : Verdict) → KeepsAt m p → FinishesAt m target p v → LeadsAt m target p [] v
+finishes_at : (m : Mark) (target : Matrix) (p : Progress) (v : Verdict) → KeepsAt m p → FinishesAt m target p v
+    → LeadsAt m target p [] v
 finishes_at Running target p v keeps f =
     let bot = some_bot p.state.bots (length p.pending) keeps in
     breaks {bot = bot.0} {bots = bot.1} {b = f.0} bot.2
@@ -170,7 +178,8 @@ finishes_at (Refused b) target p v keeps f = f
 finishes_at Halted target p v keeps f = f
 finishes_at Followed target p v keeps f = f
 
-pub finished_is_the_verdict : (source target : Matrix) (profile : Profile) (commands : List Command) (p : Progress) (v : Verdict) → Comes source profile commands p → Finishes target p v → VerdictOf source target commands profile v
+pub finished_is_the_verdict : (source target : Matrix) (profile : Profile) (commands : List Command) (p : Progress)
+    (v : Verdict) → Comes source profile commands p → Finishes target p v → VerdictOf source target commands profile v
 finished_is_the_verdict source target profile commands p v comes finishes =
     subst (λ (k : List Command). VerdictOf source target k profile v) (append-nil commands)
     (leads_from_the_opening target [] v comes (finishes_at p.mark target p v (keeps comes) finishes))

@@ -69,7 +69,8 @@ module _ (s : State) (all : List Act) (good : IsGood s all) (begun : List ℕ) (
       in_flat (λ k. filter (λ (a : Act). a.bot.bid == k) all) r.0 l begun r.1 (in_filter (λ (a : Act). a.bot.bid == r.0) l all i (same_test l.bot.bid r.0 (sym (test_is r.0 l.bot.bid r.2))))
 
   -- a leader that edits what some act of the begun groups edits
-  leader_of_edit : (full : Bool) → is_changed full (taken_acts all (acts_of all begun)) c ≡ true → (l : Act) × In l all × (leads_in begun l ≡ true) × (is_edited full l c ≡ true)
+  leader_of_edit : (full : Bool) → is_changed full (taken_acts all (acts_of all begun)) c ≡ true
+      → (l : Act) × In l all × (leads_in begun l ≡ true) × (is_edited full l c ≡ true)
   leader_of_edit full h =
       let a = any_in (λ (x : Act). is_edited full x c) (taken_acts all (acts_of all begun)) h in
       let f = filter_in (is_taken (acts_of all begun)) a.0 all a.1 in
@@ -77,18 +78,22 @@ module _ (s : State) (all : List Act) (good : IsGood s all) (begun : List ℕ) (
       let k = in_done l.0 l.1 in
       (l.0, k.0, k.1, same_edit full l.0 a.0 c (λ e. good.apart.bids l.0 a.0 k.0 f.0 e) (together_is l.0 a.0 l.2) a.2)
 
-  edit_of_leader : (full : Bool) (l : Act) → In l all → leads_in begun l ≡ true → is_edited full l c ≡ true → is_changed full (taken_acts all (acts_of all begun)) c ≡ true
+  edit_of_leader : (full : Bool) (l : Act) → In l all → leads_in begun l ≡ true → is_edited full l c ≡ true
+      → is_changed full (taken_acts all (acts_of all begun)) c ≡ true
   edit_of_leader full l i h e =
       in_any (λ (x : Act). is_edited full x c) l (taken_acts all (acts_of all begun))
       (in_filter (is_taken (acts_of all begun)) l all i (in_any (λ (d : Act). are_together d l) l (acts_of all begun) (done_in l i h) (with_itself l))) e
 
-  some_edit : (full : Bool) → is_changed full (taken_acts all (acts_of all begun)) c ≡ true → is_changed full all c ≡ true
+  some_edit : (full : Bool) → is_changed full (taken_acts all (acts_of all begun)) c ≡ true
+      → is_changed full all c ≡ true
   some_edit full h = let l = leader_of_edit full h in in_any (λ (x : Act). is_edited full x c) l.0 all l.1 l.3
 
-  full_is : is_full (matrix_after s.matrix (taken_acts all (acts_of all begun))) c ≡ (is_filled (taken_acts all (acts_of all begun)) c || (is_full s.matrix c && not (is_voided (taken_acts all (acts_of all begun)) c)))
+  full_is : is_full (matrix_after s.matrix (taken_acts all (acts_of all begun))) c
+      ≡ (is_filled (taken_acts all (acts_of all begun)) c || (is_full s.matrix c && not (is_voided (taken_acts all (acts_of all begun)) c)))
   full_is = full_where s.matrix.resolution (λ x. is_filled (taken_acts all (acts_of all begun)) x || (is_full s.matrix x && not (is_voided (taken_acts all (acts_of all begun)) x))) c within
 
-  pub untouched : ((a : Act) → In a all → IsKeptBy begun c a) → is_full (matrix_after s.matrix (taken_acts all (acts_of all begun))) c ≡ is_full s.matrix c
+  pub untouched : ((a : Act) → In a all → IsKeptBy begun c a)
+      → is_full (matrix_after s.matrix (taken_acts all (acts_of all begun))) c ≡ is_full s.matrix c
   untouched h = full_is ∙ ((λ i. filled i || (is_full s.matrix c && not (voided i))) ∙ stays_so (is_full s.matrix c))
     where
       none : (full : Bool) → is_changed full (taken_acts all (acts_of all begun)) c ≡ false
@@ -104,7 +109,8 @@ module _ (s : State) (all : List Act) (good : IsGood s all) (begun : List ℕ) (
       stays_so true = refl
       stays_so false = refl
 
-  pub touched : (full : Bool) (l : Act) → In l all → leads_in begun l ≡ true → IsEditOf l c (Some full) → full ≡ is_full (matrix_after s.matrix (taken_acts all (acts_of all begun))) c
+  pub touched : (full : Bool) (l : Act) → In l all → leads_in begun l ≡ true → IsEditOf l c (Some full)
+      → full ≡ is_full (matrix_after s.matrix (taken_acts all (acts_of all begun))) c
   touched true l i h e = sym (full_is ∙ or_by_first (is_filled (taken_acts all (acts_of all begun)) c) (is_full s.matrix c && not (is_voided (taken_acts all (acts_of all begun)) c)) (edit_of_leader false l i h e))
   touched false l i h e = sym (full_is ∙ ((λ j. filled j || (is_full s.matrix c && not (voided j))) ∙ gone (is_full s.matrix c)))
     where
@@ -144,7 +150,8 @@ module _ (r : ℕ) (b : Bot) (k : Command) (w : EditedRegion) (h : IsEditedRegio
 abbrev pub AreKeptBy : List ℕ → Coord → List Act → ℕ → Type 0
 AreKeptBy begun c all i = (k : ℕ) (a : Act) → k < i → k < length all → IsKeptBy begun c (get_or all k a)
 
-act_at : (bots : List Bot) (commands : List Command) (i : ℕ) (b : Bot) (k : Command) (a : Act) → i < length bots → i < length commands → get_or (acts bots commands) i a ≡ act (get_or bots i b) (get_or commands i k)
+act_at : (bots : List Bot) (commands : List Command) (i : ℕ) (b : Bot) (k : Command) (a : Act) → i < length bots
+    → i < length commands → get_or (acts bots commands) i a ≡ act (get_or bots i b) (get_or commands i k)
 act_at [] commands i b k a l m = absurd (omega arith)
 act_at (x ∷ bots) [] i b k a l m = absurd (omega arith)
 act_at (x ∷ bots) (y ∷ commands) zero b k a l m = refl
@@ -155,7 +162,8 @@ acts_short [] commands = omega arith
 acts_short (b ∷ bots) [] = omega arith
 acts_short (b ∷ bots) (k ∷ commands) = let r = acts_short bots commands in omega arith
 
-acts_long : (bots : List Bot) (commands : List Command) (i : ℕ) → i < length bots → i < length commands → i < length (acts bots commands)
+acts_long : (bots : List Bot) (commands : List Command) (i : ℕ) → i < length bots → i < length commands
+    → i < length (acts bots commands)
 acts_long [] commands i l m = absurd (omega arith)
 acts_long (x ∷ bots) [] i l m = absurd (omega arith)
 acts_long (x ∷ bots) (y ∷ commands) zero l m = omega arith
@@ -186,7 +194,8 @@ module _ (s : State) (next : List Command) (step : ℕ) (ready : IsReady s) (kee
     pub stays_here : IsTrue (stays_in_space s.matrix.resolution (act b k))
     stays_here = stays s next step ready keeps (act b k) among
 
-    pub one_kept : AreKeptBy begun c (acts s.bots next) i → IsKeptBy begun c (act b k) → AreKeptBy begun c (acts s.bots next) (i + 1)
+    pub one_kept : AreKeptBy begun c (acts s.bots next) i → IsKeptBy begun c (act b k)
+        → AreKeptBy begun c (acts s.bots next) (i + 1)
     one_kept before h n a l m = by (ℕ_discrete n i)
       where
         by : Dec (n ≡ i) → IsKeptBy begun c (get_or (acts s.bots next) n a)
@@ -204,21 +213,25 @@ module _ (s : State) (next : List Command) (step : ℕ) (ready : IsReady s) (kee
     not_edited h g true = h.0
     not_edited h g false = h.1
 
-    pub decided : (full : Bool) → list_any (λ j. j == b.bid) begun ≡ true → IsEditOf (act b k) c (Some full) → full ≡ is_full (matrix_after_some s next begun) c
+    pub decided : (full : Bool) → list_any (λ j. j == b.bid) begun ≡ true → IsEditOf (act b k) c (Some full)
+        → full ≡ is_full (matrix_after_some s next begun) c
     decided full g h = touched s (acts s.bots next) (good_is s next step ready keeps) begun c within full (act b k) among g h
 
-  pub all_kept : (i : ℕ) → length s.bots ≤ i → AreKeptBy begun c (acts s.bots next) i → is_full (matrix_after_some s next begun) c ≡ is_full s.matrix c
+  pub all_kept : (i : ℕ) → length s.bots ≤ i → AreKeptBy begun c (acts s.bots next) i
+      → is_full (matrix_after_some s next begun) c ≡ is_full s.matrix c
   all_kept i past h = untouched s (acts s.bots next) (good_is s next step ready keeps) begun c within (λ a j.
       let p = in_place a a (acts s.bots next) j in
       subst (λ (x : Act). IsKeptBy begun c x) p.2 (h p.0 a (let l = p.1 in let m = acts_many s.bots next in omega (arith, l, m, past)) p.1))
 
 -- ---- which bids stand in a list
 
-pub unfound : (bids : List ℕ) (bid : ℕ) (place : Option ℕ) (none : Bool) → is_some place ≡ not none → none ≡ true → IfNone place (list_any (λ k. k == bid) bids ≡ false) → list_any (λ k. k == bid) bids ≡ false
+pub unfound : (bids : List ℕ) (bid : ℕ) (place : Option ℕ) (none : Bool) → is_some place ≡ not none → none ≡ true
+    → IfNone place (list_any (λ k. k == bid) bids ≡ false) → list_any (λ k. k == bid) bids ≡ false
 unfound bids bid None none e f h = h
 unfound bids bid (Some i) none e f h = absurd (let g : true ≡ not true = e ∙ ap not f in cc)
 
-pub found : (bids : List ℕ) (bid : ℕ) (place : Option ℕ) (none : Bool) → is_some place ≡ not none → none ≡ false → IfSome place (λ i. (i < length bids) × (get_or bids i 0 ≡ bid)) → list_any (λ k. k == bid) bids ≡ true
+pub found : (bids : List ℕ) (bid : ℕ) (place : Option ℕ) (none : Bool) → is_some place ≡ not none → none ≡ false
+    → IfSome place (λ i. (i < length bids) × (get_or bids i 0 ≡ bid)) → list_any (λ k. k == bid) bids ≡ true
 found bids bid None none e f h = absurd (let g : false ≡ not false = e ∙ ap not f in cc)
 found bids bid (Some i) none e f h = any_here bids i bid h.0 h.1
 
@@ -229,14 +242,18 @@ module _ (v : Situation) (notes : Buffer Undo) (commands : List Command) (taken 
   pub space_here : IsInSpace d.session.point.state.matrix.resolution c → IsInSpace v.state.matrix.resolution c
   space_here h = subst (λ (x : Debugging). IsInSpace x.session.point.state.matrix.resolution c) (sym e) h
 
-  pub full_before : begun ≡ [] → (full : Bool) → full ≡ is_full v.state.matrix c → IsSomeAnd (middle_state d.commands d.session) (λ m. full ≡ is_full m.matrix c)
+  pub full_before : begun ≡ [] → (full : Bool) → full ≡ is_full v.state.matrix c
+      → IsSomeAnd (middle_state d.commands d.session) (λ m. full ≡ is_full m.matrix c)
   full_before none full f = subst (λ (x : Debugging). IsSomeAnd (middle_state x.commands x.session) (λ m. full ≡ is_full m.matrix c)) e
       (subst (λ (xs : List ℕ). IsSomeAnd (serial v.state (next_commands commands (point_of v taken)) xs) (λ m. full ≡ is_full m.matrix c)) (sym none) f)
 
-  pub keeps_begun : (begun ≡ [] → ⊥) → (next : List Command) → next ≡ next_commands commands (point_of v taken) → broken v.state next (v.steps + 1) ≡ None
+  pub keeps_begun : (begun ≡ [] → ⊥) → (next : List Command) → next ≡ next_commands commands (point_of v taken)
+      → broken v.state next (v.steps + 1) ≡ None
   keeps_begun some next n = ap (λ (xs : List Command). broken v.state xs (v.steps + 1)) n ∙ (begun_are v notes commands taken begun left bots d e kept stands some).keeps
 
-  pub full_between : MiddleLaw → IsReady v.state → (begun ≡ [] → ⊥) → (full : Bool) → full ≡ is_full (matrix_after_some v.state (next_commands commands (point_of v taken)) begun) c → IsSomeAnd (middle_state d.commands d.session) (λ m. full ≡ is_full m.matrix c)
+  pub full_between : MiddleLaw → IsReady v.state → (begun ≡ [] → ⊥) → (full : Bool)
+      → full ≡ is_full (matrix_after_some v.state (next_commands commands (point_of v taken)) begun) c
+      → IsSomeAnd (middle_state d.commands d.session) (λ m. full ≡ is_full m.matrix c)
   full_between law ready some full f =
       let are = begun_are v notes commands taken begun left bots d e kept stands some in
       subst (λ (x : Debugging). IsSomeAnd (middle_state x.commands x.session) (λ m. full ≡ is_full m.matrix c)) e

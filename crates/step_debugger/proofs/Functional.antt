@@ -19,19 +19,23 @@ AreOne t u r q = (t ≡ u) × (r ≡ q)
 both_are : (t u a : Session) (r q b : DebugReport) → (t ≡ a) × (r ≡ b) → (u ≡ a) × (q ≡ b) → AreOne t u r q
 both_are t u a r q b h k = (h.0 ∙ sym k.0, h.1 ∙ sym k.1)
 
-follows_once : (s t u : Session) (r q : DebugReport) (outcome : Outcome) → FollowsStep s t r outcome → FollowsStep s u q outcome → AreOne t u r q
+follows_once : (s t u : Session) (r q : DebugReport) (outcome : Outcome) → FollowsStep s t r outcome
+    → FollowsStep s u q outcome → AreOne t u r q
 follows_once s t u r q (Goes v) h k = both_are t u _ r q _ h k
 follows_once s t u r q (Breaks b) h k = both_are t u _ r q _ h k
 
-steps_once : (commands : List Command) (s t u : Session) (r q : DebugReport) → TriesStep commands s t r → TriesStep commands s u q → AreOne t u r q
+steps_once : (commands : List Command) (s t u : Session) (r q : DebugReport) → TriesStep commands s t r
+    → TriesStep commands s u q → AreOne t u r q
 steps_once commands s t u r q h k =
     follows_once s t u r q k.0 (subst (λ (o : Outcome). FollowsStep s t r o) (Next-unique s.point.state (next_commands commands s.point) (s.point.steps + 1) h.0 k.0 h.1 k.1) h.2) k.2
 
-unless_once : (bots : List Bot) (s t u : Session) (r q : DebugReport) (P Q : Type 0) → (P → Q → AreOne t u r q) → UnlessEnded bots s t r P → UnlessEnded bots s u q Q → AreOne t u r q
+unless_once : (bots : List Bot) (s t u : Session) (r q : DebugReport) (P Q : Type 0) → (P → Q → AreOne t u r q)
+    → UnlessEnded bots s t r P → UnlessEnded bots s u q Q → AreOne t u r q
 unless_once [] s t u r q P Q f h k = both_are t u _ r q _ h k
 unless_once (b ∷ bots) s t u r q P Q f h k = f h k
 
-begins_once : (commands : List Command) (bid : ℕ) (s t u : Session) (r q : DebugReport) → BeginsGroup commands bid s t r → BeginsGroup commands bid s u q → AreOne t u r q
+begins_once : (commands : List Command) (bid : ℕ) (s t u : Session) (r q : DebugReport) → BeginsGroup commands bid s t r
+    → BeginsGroup commands bid s u q → AreOne t u r q
 begins_once commands bid s t u r q h k = by (may_begin commands s bid) (is_last commands s) h k
   where
     by : (may last : Bool)
@@ -42,7 +46,9 @@ begins_once commands bid s t u r q h k = by (may_begin commands s bid) (is_last 
     by true true x y = steps_once commands s t u r q x y
     by true false x y = both_are t u _ r q _ x y
 
-groups_once : (commands : List Command) (bid : ℕ) (s t u : Session) (r q : DebugReport) (b : Option Broken) → MatchOption b (BeginsGroup commands bid s t r) (λ w. (t ≡ s) × (r ≡ Refused w)) → MatchOption b (BeginsGroup commands bid s u q) (λ w. (u ≡ s) × (q ≡ Refused w)) → AreOne t u r q
+groups_once : (commands : List Command) (bid : ℕ) (s t u : Session) (r q : DebugReport) (b : Option Broken)
+    → MatchOption b (BeginsGroup commands bid s t r) (λ w. (t ≡ s) × (r ≡ Refused w))
+    → MatchOption b (BeginsGroup commands bid s u q) (λ w. (u ≡ s) × (q ≡ Refused w)) → AreOne t u r q
 groups_once commands bid s t u r q None h k = begins_once commands bid s t u r q h k
 groups_once commands bid s t u r q (Some w) h k = both_are t u _ r q _ h k
 
@@ -51,11 +57,13 @@ is_back_once s t u r q h k =
     let same = same_from_push h.earlier k.earlier h.last k.last (sym h.past ∙ k.past) in
     (h.session ∙ ((λ i. record { point = same.1 i; past = same.0 i; begun = [] }) ∙ sym k.session), h.report_is ∙ (ap is_returned same.1 ∙ sym k.report_is))
 
-takes_back_once : (past : List Moment) (s t u : Session) (r q : DebugReport) → TakesBack past s t r → TakesBack past s u q → AreOne t u r q
+takes_back_once : (past : List Moment) (s t u : Session) (r q : DebugReport) → TakesBack past s t r
+    → TakesBack past s u q → AreOne t u r q
 takes_back_once [] s t u r q h k = both_are t u _ r q _ h k
 takes_back_once (p ∷ past) s t u r q h k = is_back_once s t u r q h k
 
-goes_back_once : (begun : List ℕ) (s t u : Session) (r q : DebugReport) → GoesBack begun s t r → GoesBack begun s u q → AreOne t u r q
+goes_back_once : (begun : List ℕ) (s t u : Session) (r q : DebugReport) → GoesBack begun s t r → GoesBack begun s u q
+    → AreOne t u r q
 goes_back_once [] s t u r q h k = takes_back_once s.past s t u r q h k
 goes_back_once (b ∷ begun) s t u r q h k = both_are t u _ r q _ h k
 
@@ -63,7 +71,8 @@ same_some : (o : Option State) (m n : State) → o ≡ Some m → o ≡ Some n �
 same_some None m n e f = cc
 same_some (Some x) m n e f = let a : x ≡ m = cc in let b : x ≡ n = cc in sym a ∙ b
 
-pub answered_once : (commands : List Command) (line : DebugLine) (s t u : Session) (r q : DebugReport) → AnswersLine commands line s t r → AnswersLine commands line s u q → AreOne t u r q
+pub answered_once : (commands : List Command) (line : DebugLine) (s t u : Session) (r q : DebugReport)
+    → AnswersLine commands line s t r → AnswersLine commands line s u q → AreOne t u r q
 answered_once commands Step s t u r q h k = unless_once s.point.state.bots s t u r q _ _ (steps_once commands s t u r q) h k
 answered_once commands (Group bid) s t u r q h k = unless_once s.point.state.bots s t u r q _ _ (groups_once commands bid s t u r q (broken s.point.state (next_commands commands s.point) (s.point.steps + 1))) h k
 answered_once commands Back s t u r q h k = goes_back_once s.begun s t u r q h k

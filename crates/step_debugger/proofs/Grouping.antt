@@ -37,7 +37,8 @@ use Rattle.step_debugger.proofs.Trying.{ended_is, unless_active}
 
 -- ---- the leaders' bids differ
 
-count_differ : {X : Type 0} (key : X → ℕ) (xs : List X) (bid : ℕ) → Differ key xs → count_by (λ k. k == bid) (map key xs) ≤ 1
+count_differ : {X : Type 0} (key : X → ℕ) (xs : List X) (bid : ℕ) → Differ key xs
+    → count_by (λ k. k == bid) (map key xs) ≤ 1
 count_differ key [] bid h = omega arith
 count_differ {X} key (x ∷ xs) bid h =
     let e : count_by (λ k. k == bid) (key x ∷ map key xs) ≡ cond (key x == bid) 1 0 + count_by (λ k. k == bid) (map key xs) = sum_by-cons (λ k. cond {A = ℕ} (k == bid) 1 0) (key x) (map key xs) in
@@ -60,19 +61,23 @@ count_differ {X} key (x ∷ xs) bid h =
         zero_of true m = absurd (m refl)
         zero_of false m = refl
 
-    by : (b : Bool) → (key x == bid) ≡ b → count_by (λ k. k == bid) (map key xs) ≤ 1 → cond b 1 0 + count_by (λ k. k == bid) (map key xs) ≤ 1
+    by : (b : Bool) → (key x == bid) ≡ b → count_by (λ k. k == bid) (map key xs) ≤ 1
+        → cond b 1 0 + count_by (λ k. k == bid) (map key xs) ≤ 1
     by false t r = omega arith
     by true t r =
         let n = none (map key xs) (λ y i f. let m = map_in key y xs i in h.0 m.0 m.1 (test_is (key x) bid t ∙ (sym (test_is y bid f) ∙ m.2))) in
         omega (arith, n)
 
-pub leaders_differ : (bots : List Bot) (commands : List Command) (ready : Rising bots) → length commands ≡ length bots → (bid : ℕ) → count_by (λ k. k == bid) (leader_bids (acts bots commands)) ≤ 1
+pub leaders_differ : (bots : List Bot) (commands : List Command) (ready : Rising bots) → length commands ≡ length bots
+    → (bid : ℕ) → count_by (λ k. k == bid) (leader_bids (acts bots commands)) ≤ 1
 leaders_differ bots commands rising all bid =
     count_differ (λ (a : Act). a.bot.bid) (leaders (acts bots commands)) bid
     (differ_filter (λ (a : Act). a.bot.bid) (is_leader (acts bots commands)) (acts bots commands)
     (differ_acts (acts bots commands) (subst (λ (bs : List Bot). Rising bs) (sym (bots_are bots commands all)) rising)))
 
-pub differ_seen : (s : State) (d : Debugging) → s ≡ d.session.point.state → IsReady s → length (next_commands d.commands d.session.point) ≡ length d.session.point.state.bots → (bid : ℕ) → count_by (λ k. k == bid) (next_leaders d.commands d.session.point) ≤ 1
+pub differ_seen : (s : State) (d : Debugging) → s ≡ d.session.point.state → IsReady s
+    → length (next_commands d.commands d.session.point) ≡ length d.session.point.state.bots → (bid : ℕ)
+    → count_by (λ k. k == bid) (next_leaders d.commands d.session.point) ≤ 1
 differ_seen s d e ready all bid =
     leaders_differ d.session.point.state.bots (next_commands d.commands d.session.point) (subst (λ (t : State). Rising t.bots) e (rising_is s.bots ready.rising)) all bid
 
@@ -85,7 +90,8 @@ counted (x ∷ xs) bid h =
     let l : 1 ≤ cond (x == bid) 1 0 + count_by (λ k. k == bid) xs = by (x == bid) refl (λ f. counted xs bid f) h in
     omega (arith, e, l)
   where
-    by : (b : Bool) → (x == bid) ≡ b → (list_any (λ k. k == bid) xs ≡ true → 1 ≤ count_by (λ k. k == bid) xs) → (b || list_any (λ k. k == bid) xs) ≡ true → 1 ≤ cond b 1 0 + count_by (λ k. k == bid) xs
+    by : (b : Bool) → (x == bid) ≡ b → (list_any (λ k. k == bid) xs ≡ true → 1 ≤ count_by (λ k. k == bid) xs)
+        → (b || list_any (λ k. k == bid) xs) ≡ true → 1 ≤ cond b 1 0 + count_by (λ k. k == bid) xs
     by true t later f = omega arith
     by false t later f = let l = later f in omega (arith, l)
 
@@ -110,18 +116,21 @@ any_here (x ∷ xs) (suc i) bid l e = or_true (x == bid) (list_any (λ k. k == b
     or_true false b f = f
 
 -- a bid that stands at no place
-pub not_found : (xs : List ℕ) (bid i : ℕ) → length xs ≤ i → ((k : ℕ) → k < i → get_or xs k 0 ≡ bid → ⊥) → list_any (λ k. k == bid) xs ≡ false
+pub not_found : (xs : List ℕ) (bid i : ℕ) → length xs ≤ i → ((k : ℕ) → k < i → get_or xs k 0 ≡ bid → ⊥)
+    → list_any (λ k. k == bid) xs ≡ false
 not_found xs bid i past none = none_any (λ k. k == bid) xs (λ x m t. let p = in_place x 0 xs m in none p.0 (let l = p.1 in omega (arith, l, past)) (p.2 ∙ same x t))
   where
     same : (a : ℕ) → (a == bid) ≡ true → a ≡ bid
     same a t = grind (arith, nat_tests)
 
-pub list_unfound : (slice xs : List ℕ) (bid : ℕ) (place : Option ℕ) → slice ≡ xs → place ≡ None → IfNone place (list_any (λ k. k == bid) slice ≡ false) → list_any (λ k. k == bid) xs ≡ false
+pub list_unfound : (slice xs : List ℕ) (bid : ℕ) (place : Option ℕ) → slice ≡ xs → place ≡ None
+    → IfNone place (list_any (λ k. k == bid) slice ≡ false) → list_any (λ k. k == bid) xs ≡ false
 list_unfound slice xs bid None e f h = ap (list_any (λ k. k == bid)) (sym e) ∙ h
 list_unfound slice xs bid (Some i) e f h = cc
 
 module _ (commands : List Command) (s : Session) (left : List ℕ) (perm : IsPermutation (next_leaders commands s.point) (s.begun ++ left)) (differ : (bid : ℕ) → count_by (λ k. k == bid) (next_leaders commands s.point) ≤ 1) where
-  any_is : (bid : ℕ) → list_any (λ k. k == bid) (next_leaders commands s.point) ≡ (list_any (λ k. k == bid) s.begun || list_any (λ k. k == bid) left)
+  any_is : (bid : ℕ) → list_any (λ k. k == bid) (next_leaders commands s.point)
+      ≡ (list_any (λ k. k == bid) s.begun || list_any (λ k. k == bid) left)
   any_is bid = list_any-IsPermutation (λ k. k == bid) (next_leaders commands s.point) (s.begun ++ left) perm ∙ any_append (λ k. k == bid) s.begun left
 
   count_is : (bid : ℕ) → count_by (λ k. k == bid) s.begun + count_by (λ k. k == bid) left ≤ 1
@@ -166,12 +175,15 @@ module _ (commands : List Command) (s : Session) (left : List ℕ) (perm : IsPer
 -- ---- what a group's line answers
 
 module _ (commands : List Command) (s : Session) (bid : ℕ) (some : 1 ≤ length s.point.state.bots) where
-  judged : (t : Session) (report : DebugReport) → broken s.point.state (next_commands commands s.point) (s.point.steps + 1) ≡ None → BeginsGroup commands bid s t report → AnswersLine commands (Group bid) s t report
+  judged : (t : Session) (report : DebugReport)
+      → broken s.point.state (next_commands commands s.point) (s.point.steps + 1) ≡ None
+      → BeginsGroup commands bid s t report → AnswersLine commands (Group bid) s t report
   judged t report e h =
       unless_active s.point.state.bots s t report _ some
       (subst (λ (o : Option Broken). MatchOption o (BeginsGroup commands bid s t report) (λ b. (t ≡ s) × (report ≡ Refused b))) (sym e) h)
 
-  pub group_refused : (b : Broken) → broken s.point.state (next_commands commands s.point) (s.point.steps + 1) ≡ Some b → AnswersLine commands (Group bid) s s (Refused b)
+  pub group_refused : (b : Broken) → broken s.point.state (next_commands commands s.point) (s.point.steps + 1) ≡ Some b
+      → AnswersLine commands (Group bid) s s (Refused b)
   group_refused b e =
       unless_active s.point.state.bots s s (Refused b) _ some
       (subst (λ (o : Option Broken). MatchOption o (BeginsGroup commands bid s s (Refused b)) (λ c. (s ≡ s) × (Refused b ≡ Refused c))) (sym e) (refl, refl))
@@ -180,31 +192,40 @@ module _ (commands : List Command) (s : Session) (bid : ℕ) (some : 1 ≤ lengt
     pub no_leader : may_begin commands s bid ≡ false → AnswersLine commands (Group bid) s s (NoLeader bid)
     no_leader f = judged s (NoLeader bid) keeps (subst (λ (b : Bool). MatchBool b (MatchBool (is_last commands s) (TriesStep commands s s (NoLeader bid)) ((s ≡ record s { begun = s.begun ++ bid ∷ [] }) × (NoLeader bid ≡ Begun bid (s.point.steps + 1)))) ((s ≡ s) × (NoLeader bid ≡ NoLeader bid))) (sym f) (refl, refl))
 
-    group_begun : (t : Session) → t ≡ record s { begun = s.begun ++ bid ∷ [] } → may_begin commands s bid ≡ true → is_last commands s ≡ false → AnswersLine commands (Group bid) s t (Begun bid (s.point.steps + 1))
+    group_begun : (t : Session) → t ≡ record s { begun = s.begun ++ bid ∷ [] } → may_begin commands s bid ≡ true
+        → is_last commands s ≡ false → AnswersLine commands (Group bid) s t (Begun bid (s.point.steps + 1))
     group_begun t is f g = judged t (Begun bid (s.point.steps + 1)) keeps
         (subst (λ (b : Bool). MatchBool b (MatchBool (is_last commands s) (TriesStep commands s t (Begun bid (s.point.steps + 1))) ((t ≡ record s { begun = s.begun ++ bid ∷ [] }) × (Begun bid (s.point.steps + 1) ≡ Begun bid (s.point.steps + 1)))) ((t ≡ s) × (Begun bid (s.point.steps + 1) ≡ NoLeader bid))) (sym f)
         (subst (λ (b : Bool). MatchBool b (TriesStep commands s t (Begun bid (s.point.steps + 1))) ((t ≡ record s { begun = s.begun ++ bid ∷ [] }) × (Begun bid (s.point.steps + 1) ≡ Begun bid (s.point.steps + 1)))) (sym g) (is, refl)))
 
-    pub group_begun_at : (t : Session) → t ≡ record s { begun = s.begun ++ bid ∷ [] } → may_begin commands s bid ≡ true → is_last commands s ≡ false → AnswersLine commands (Group bid) s t (Begun bid (t.point.steps + 1))
+    pub group_begun_at : (t : Session) → t ≡ record s { begun = s.begun ++ bid ∷ [] } → may_begin commands s bid ≡ true
+        → is_last commands s ≡ false → AnswersLine commands (Group bid) s t (Begun bid (t.point.steps + 1))
     group_begun_at t is f g = subst (λ (n : ℕ). AnswersLine commands (Group bid) s t (Begun bid (n + 1))) (sym (ap (λ (x : Session). x.point.steps) is)) (group_begun t is f g)
 
-    group_last : (t : Session) (report : DebugReport) → TriesStep commands s t report → may_begin commands s bid ≡ true → is_last commands s ≡ true → AnswersLine commands (Group bid) s t report
+    group_last : (t : Session) (report : DebugReport) → TriesStep commands s t report → may_begin commands s bid ≡ true
+        → is_last commands s ≡ true → AnswersLine commands (Group bid) s t report
     group_last t report made f g = judged t report keeps
         (subst (λ (b : Bool). MatchBool b (MatchBool (is_last commands s) (TriesStep commands s t report) ((t ≡ record s { begun = s.begun ++ bid ∷ [] }) × (report ≡ Begun bid (s.point.steps + 1)))) ((t ≡ s) × (report ≡ NoLeader bid))) (sym f)
         (subst (λ (b : Bool). MatchBool b (TriesStep commands s t report) ((t ≡ record s { begun = s.begun ++ bid ∷ [] }) × (report ≡ Begun bid (s.point.steps + 1)))) (sym g) made))
 
     -- the last group, by what the step answered
-    pub last_ok : (t : Session) (ok : StepOk) → IfSome (step_report t.point.steps (Ok ok)) (TriesStep commands s t) → may_begin commands s bid ≡ true → is_last commands s ≡ true → IfSome (group_report bid t.point.steps (Ok (Some ok))) (AnswersLine commands (Group bid) s t)
+    pub last_ok : (t : Session) (ok : StepOk) → IfSome (step_report t.point.steps (Ok ok)) (TriesStep commands s t)
+        → may_begin commands s bid ≡ true → is_last commands s ≡ true
+        → IfSome (group_report bid t.point.steps (Ok (Some ok))) (AnswersLine commands (Group bid) s t)
     last_ok t ok made f g = group_last t _ made f g
 
-    pub last_err : (t : Session) (fault : DebugFault) → IfSome (step_report t.point.steps (Err fault)) (TriesStep commands s t) → may_begin commands s bid ≡ true → is_last commands s ≡ true → IfSome (group_report bid t.point.steps (Err fault)) (AnswersLine commands (Group bid) s t)
+    pub last_err : (t : Session) (fault : DebugFault)
+        → IfSome (step_report t.point.steps (Err fault)) (TriesStep commands s t) → may_begin commands s bid ≡ true
+        → is_last commands s ≡ true
+        → IfSome (group_report bid t.point.steps (Err fault)) (AnswersLine commands (Group bid) s t)
     last_err t (fault.Broken b) made f g = group_last t (Refused b) made f g
     last_err t fault.Ended made f g = group_last t Ended made f g
     last_err t fault.NoHistory made f g = group_last t _ made f g
     last_err t (fault.NotLeader leader) made f g = group_last t (NoLeader leader) made f g
     last_err t fault.Memory made f g = tt
 
-pub unready_group : (commands : List Command) (s : Session) (bid : ℕ) (f : DebugFault) → IsUnready commands s.point f → IfSome (fault_report f) (AnswersLine commands (Group bid) s s)
+pub unready_group : (commands : List Command) (s : Session) (bid : ℕ) (f : DebugFault) → IsUnready commands s.point f
+    → IfSome (fault_report f) (AnswersLine commands (Group bid) s s)
 unready_group commands s bid fault.Ended h = ended_is s.point.state.bots s _ h
 unready_group commands s bid (fault.Broken b) h = group_refused commands s bid h.0 b h.1
 unready_group commands s bid fault.NoHistory h = absurd h
@@ -222,10 +243,13 @@ MiddleLaw = (s : State) (commands : List Command) (step : ℕ) (order rest : Lis
 module _ (v : Situation) (notes : Buffer Undo) (commands : List Command) (taken : ℕ) (begun old : List ℕ) (bots : List Bot) (d : Debugging)
     (e : debugging_of v notes.items commands taken begun ≡ d) (kept : IsKept v notes commands taken begun old bots) (stands : d.spent ≡ false) where
   -- the bots after the begun groups
-  pub standing_are : FirstLaw → IsReady v.state → broken v.state (next_commands commands (point_of v taken)) (v.steps + 1) ≡ None → bots ≡ bots_after_some v.state (next_commands commands (point_of v taken)) begun
+  pub standing_are : FirstLaw → IsReady v.state
+      → broken v.state (next_commands commands (point_of v taken)) (v.steps + 1) ≡ None
+      → bots ≡ bots_after_some v.state (next_commands commands (point_of v taken)) begun
   standing_are law ready keeps = by begun (here v notes commands taken begun old bots d e kept stands).begin
     where
-      by : (xs : List ℕ) → Begin commands (point_of v taken) xs old bots → bots ≡ bots_after_some v.state (next_commands commands (point_of v taken)) xs
+      by : (xs : List ℕ) → Begin commands (point_of v taken) xs old bots
+          → bots ≡ bots_after_some v.state (next_commands commands (point_of v taken)) xs
       by [] g = g ∙ ap (λ (s : State). s.bots) (law v.state (next_commands commands (point_of v taken)) (v.steps + 1) ready keeps)
       by (x ∷ xs) g = g.bots_are
 
@@ -233,7 +257,8 @@ module _ (v : Situation) (notes : Buffer Undo) (commands : List Command) (taken 
   pub middle_is : MiddleLaw → IsReady v.state → IsSomeAnd (middle_state d.commands d.session) (λ m. bots ≡ m.bots)
   middle_is law ready = subst (λ (x : Debugging). IsSomeAnd (middle_state x.commands x.session) (λ m. bots ≡ m.bots)) e (by begun (here v notes commands taken begun old bots d e kept stands).begin)
     where
-      by : (xs : List ℕ) → Begin commands (point_of v taken) xs old bots → IsSomeAnd (serial v.state (next_commands commands (point_of v taken)) xs) (λ m. bots ≡ m.bots)
+      by : (xs : List ℕ) → Begin commands (point_of v taken) xs old bots
+          → IsSomeAnd (serial v.state (next_commands commands (point_of v taken)) xs) (λ m. bots ≡ m.bots)
       by [] g = g
       by (x ∷ xs) g = subst (λ (o : Option State). IsSomeAnd o (λ m. bots ≡ m.bots)) (sym (law v.state (next_commands commands (point_of v taken)) (v.steps + 1) (x ∷ xs) old ready g.keeps g.leaders)) g.bots_are
 
@@ -252,17 +277,25 @@ module _ (v : Situation) (notes : Buffer Undo) (commands : List Command) (taken 
         (subst (λ (x : Debugging). IsPermutation (next_leaders x.commands x.session.point) (x.session.begun ++ left)) (sym e) perm)
 
     -- the group of the leader takes its turn after the begun ones
-    pub follows_on : FirstLaw → IsReady v.state → (next : List Command) → next ≡ next_commands commands (point_of v taken) → FollowsOn v.state next begun leader (remove left place) bots
+    pub follows_on : FirstLaw → IsReady v.state → (next : List Command)
+        → next ≡ next_commands commands (point_of v taken)
+        → FollowsOn v.state next begun leader (remove left place) bots
     follows_on law ready next n = subst (λ (xs : List Command). FollowsOn v.state xs begun leader (remove left place) bots) (sym n) (record {
       leaders = subst (λ (ks : List ℕ). IsPermutation (next_leaders commands (point_of v taken)) ks) (append_assoc begun (leader ∷ []) (remove left place)) more;
       bots_are = standing_are law ready keeps_here;
     })
 
-    begins : (xs : List ℕ) (rest : List ℕ) (standing : List Bot) → AreBegun commands (point_of v taken) (xs ++ leader ∷ []) rest standing → Begin commands (point_of v taken) (xs ++ leader ∷ []) rest standing
+    begins : (xs : List ℕ) (rest : List ℕ) (standing : List Bot)
+        → AreBegun commands (point_of v taken) (xs ++ leader ∷ []) rest standing
+        → Begin commands (point_of v taken) (xs ++ leader ∷ []) rest standing
     begins [] rest standing h = h
     begins (x ∷ xs) rest standing h = h
 
-    pub kept_begun : (rest now : List ℕ) (standing : List Bot) (next : List Command) → next ≡ next_commands commands (point_of v taken) → rest ≡ remove left place → now ≡ begun ++ leader ∷ [] → standing ≡ bots_after_some v.state next (begun ++ leader ∷ []) → All (λ b. IsInSpace v.state.matrix.resolution b.pos) standing → IsKept v notes commands taken now rest standing
+    pub kept_begun : (rest now : List ℕ) (standing : List Bot) (next : List Command)
+        → next ≡ next_commands commands (point_of v taken) → rest ≡ remove left place → now ≡ begun ++ leader ∷ []
+        → standing ≡ bots_after_some v.state next (begun ++ leader ∷ [])
+        → All (λ b. IsInSpace v.state.matrix.resolution b.pos) standing
+        → IsKept v notes commands taken now rest standing
     kept_begun rest now standing next x r n are space =
         let fit = here v notes commands taken begun old bots d e kept stands in
         record {

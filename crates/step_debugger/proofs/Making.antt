@@ -54,7 +54,8 @@ module _ (v : Situation) (notes : Buffer Undo) (commands : List Command) (taken 
     next_here : next ≡ next_commands commands (point_of v taken)
     next_here = next_is ∙ ap (λ k. take k (drop taken commands)) count
 
-    pub all_given : length (next_commands d.commands d.session.point) ≡ length d.session.point.state.bots → length next ≡ length v.state.bots
+    pub all_given : length (next_commands d.commands d.session.point) ≡ length d.session.point.state.bots
+        → length next ≡ length v.state.bots
     all_given h = ap length next_here ∙ subst (λ (x : Debugging). length (next_commands x.commands x.session.point) ≡ length x.session.point.state.bots) (sym e) h
 
     pub some_bots : 1 ≤ length d.session.point.state.bots → 1 ≤ length v.state.bots
@@ -99,11 +100,13 @@ module _ (v : Situation) (notes : Buffer Undo) (commands : List Command) (taken 
             (lead_drop (point_of w (taken + n)) (length (notes.items ++ undo ∷ []) - most_past) (notes.items ++ undo ∷ [])
             (lead_more (point_of w (taken + n)) notes.items undo (subst (λ (q : Moment). LeadTo q notes.items) (sym point_is) here.notes_lead) leads))
 
-        begins : (now : List ℕ) → now ≡ [] → (standing : List Bot) → standing ≡ w.state.bots → Begin commands (point_of w (taken + n)) now left standing
+        begins : (now : List ℕ) → now ≡ [] → (standing : List Bot) → standing ≡ w.state.bots
+            → Begin commands (point_of w (taken + n)) now left standing
         begins [] f standing g = g
         begins (x ∷ now) f standing g = cc
 
-        pub kept_made : (now : List ℕ) → now ≡ [] → (standing : List Bot) → standing ≡ w.state.bots → IsReady w.state → IsKept w rest commands (taken + n) now left standing
+        pub kept_made : (now : List ℕ) → now ≡ [] → (standing : List Bot) → standing ≡ w.state.bots → IsReady w.state
+            → IsKept w rest commands (taken + n) now left standing
         kept_made now f standing g ready = record {
           few = kept.few;
           capacity = ap (λ (b : Buffer Undo). b.capacity) pushed ∙ kept.capacity;
@@ -117,19 +120,22 @@ module _ (v : Situation) (notes : Buffer Undo) (commands : List Command) (taken 
           };
         }
 
-        past_is : points_of (point_of w (taken + n)) rest.items ≡ latest most_past (points_of (point_of v taken) notes.items ++ point_of v taken ∷ [])
+        past_is : points_of (point_of w (taken + n)) rest.items
+            ≡ latest most_past (points_of (point_of v taken) notes.items ++ point_of v taken ∷ [])
         past_is =
             ap (points_of (point_of w (taken + n))) latest_is
             ∙ (points_latest (point_of w (taken + n)) most_past (notes.items ++ undo ∷ [])
             ∙ ap (latest most_past) (points_more (point_of w (taken + n)) notes.items undo ∙ (λ i. points_of (point_is i) notes.items ++ point_is i ∷ [])))
 
-        session_is : (now : List ℕ) → now ≡ [] → (debugging_of w rest.items commands (taken + n) now).session ≡ made (debugging_of v notes.items commands taken begun).session w.state
+        session_is : (now : List ℕ) → now ≡ [] → (debugging_of w rest.items commands (taken + n) now).session
+            ≡ made (debugging_of v notes.items commands taken begun).session w.state
         session_is now f = λ i. record { point = record { state = w.state; steps = stepped.counted i; taken = taken + count i }; past = past_is i; begun = f i }
 
         pub step_within : IsWithinWorkOf 100 d.commands d.session.point began ended
         step_within = subst (λ (x : Debugging). IsWithinWorkOf 100 x.commands x.session.point began ended) e (subst (λ (xs : List Command). IsWithinWork v.state xs (v.steps + 1) began ended) next_here stepped.touches)
 
-        pub session_made : (now : List ℕ) → now ≡ [] → TriesStep d.commands d.session (debugging_of w rest.items commands (taken + n) now).session (Made w.steps ok.energy ok.halted)
+        pub session_made : (now : List ℕ) → now ≡ []
+            → TriesStep d.commands d.session (debugging_of w rest.items commands (taken + n) now).session (Made w.steps ok.energy ok.halted)
         session_made now f = subst (λ (x : Debugging). TriesStep x.commands x.session (debugging_of w rest.items commands (taken + n) now).session (Made w.steps ok.energy ok.halted)) e (
           Goes w.state,
           subst (λ (xs : List Command). Next v.state xs (v.steps + 1) (Goes w.state)) next_here stepped.goes,
@@ -152,7 +158,8 @@ module _ (v : Situation) (notes : Buffer Undo) (commands : List Command) (taken 
         refused_within = let paid = touched.2 in subst (λ (x : Debugging). IsRefusedWithin 100 x.commands x.session.point b began ended) e (touched.0, touched.1, omega (arith, paid))
 
         -- and after it of a machine that is made anew
-        pub anew_within : w.spent ≡ true → (last : ℕ) → last ≤ ended + 91 * volume w.state.matrix.resolution → IsRefusedWithin 100 d.commands d.session.point b began last
+        pub anew_within : w.spent ≡ true → (last : ℕ) → last ≤ ended + 91 * volume w.state.matrix.resolution
+            → IsRefusedWithin 100 d.commands d.session.point b began last
         anew_within spent last anew =
             let paid = touched.2 in
             let searched : searched_for b.rule v.state.matrix ≡ volume v.state.matrix.resolution = ap (λ (r : Rule). searched_for r v.state.matrix) (stepped.ungrounded.0 spent) in
@@ -160,10 +167,12 @@ module _ (v : Situation) (notes : Buffer Undo) (commands : List Command) (taken 
             subst (λ (x : Debugging). IsRefusedWithin 100 x.commands x.session.point b began last) e (touched.0, touched.1, omega (arith, paid, anew, searched, size))
 
         -- by a rule that is judged at its start
-        session_stays : (debugging_of w notes.items commands taken begun).session ≡ (debugging_of v notes.items commands taken begun).session
+        session_stays : (debugging_of w notes.items commands taken begun).session
+            ≡ (debugging_of v notes.items commands taken begun).session
         session_stays = λ i. record { point = point_stays i; past = points_of (point_stays i) notes.items; begun = begun }
 
-        pub session_refused : w.spent ≡ false → TriesStep d.commands d.session (debugging_of w notes.items commands taken begun).session (Refused b)
+        pub session_refused : w.spent ≡ false
+            → TriesStep d.commands d.session (debugging_of w notes.items commands taken begun).session (Refused b)
         session_refused free = subst (λ (x : Debugging). TriesStep x.commands x.session (debugging_of w notes.items commands taken begun).session (Refused b)) e (
           Breaks b,
           breaks,
@@ -181,11 +190,13 @@ module _ (v : Situation) (notes : Buffer Undo) (commands : List Command) (taken 
           point_anew : point_of u taken ≡ point_of v taken
           point_anew = ap (λ (x : Situation). point_of x taken) anew ∙ point_stays
 
-          begins_anew : (xs : List ℕ) → xs ≡ [] → (standing : List Bot) → standing ≡ u.state.bots → Begin commands (point_of u taken) xs left standing
+          begins_anew : (xs : List ℕ) → xs ≡ [] → (standing : List Bot) → standing ≡ u.state.bots
+              → Begin commands (point_of u taken) xs left standing
           begins_anew [] f standing g = g
           begins_anew (x ∷ xs) f standing g = cc
 
-          pub kept_anew : (standing : List Bot) → standing ≡ u.state.bots → IsReady u.state → IsKept u notes commands taken now left standing
+          pub kept_anew : (standing : List Bot) → standing ≡ u.state.bots → IsReady u.state
+              → IsKept u notes commands taken now left standing
           kept_anew standing g ready = record {
             few = kept.few;
             capacity = kept.capacity;
@@ -199,10 +210,12 @@ module _ (v : Situation) (notes : Buffer Undo) (commands : List Command) (taken 
             };
           }
 
-          session_anew : (debugging_of u notes.items commands taken now).session ≡ dropped (debugging_of v notes.items commands taken begun).session
+          session_anew : (debugging_of u notes.items commands taken now).session
+              ≡ dropped (debugging_of v notes.items commands taken begun).session
           session_anew = λ i. record { point = point_anew i; past = points_of (point_anew i) notes.items; begun = none i }
 
-          pub session_ungrounded : TriesStep d.commands d.session (debugging_of u notes.items commands taken now).session (Refused b)
+          pub session_ungrounded :
+              TriesStep d.commands d.session (debugging_of u notes.items commands taken now).session (Refused b)
           session_ungrounded = subst (λ (x : Debugging). TriesStep x.commands x.session (debugging_of u notes.items commands taken now).session (Refused b)) e (
             Breaks b,
             breaks,

@@ -12,19 +12,23 @@ points_many p (u ∷ notes) = ap suc (points_many p notes)
 
 -- ---- one note more
 
-pub earliest_more : (p : Moment) (notes : List Undo) (u : Undo) → earliest p (notes ++ u ∷ []) ≡ earliest (point_before p u) notes
+pub earliest_more : (p : Moment) (notes : List Undo) (u : Undo)
+    → earliest p (notes ++ u ∷ []) ≡ earliest (point_before p u) notes
 earliest_more p [] u = refl
 earliest_more p (n ∷ notes) u = ap (λ (q : Moment). point_before q n) (earliest_more p notes u)
 
-pub points_more : (p : Moment) (notes : List Undo) (u : Undo) → points_of p (notes ++ u ∷ []) ≡ points_of (point_before p u) notes ++ point_before p u ∷ []
+pub points_more : (p : Moment) (notes : List Undo) (u : Undo)
+    → points_of p (notes ++ u ∷ []) ≡ points_of (point_before p u) notes ++ point_before p u ∷ []
 points_more p [] u = refl
 points_more p (n ∷ notes) u = λ i. point_before (earliest_more p notes u i) n ∷ points_more p notes u i
 
-pub lead_more : (p : Moment) (notes : List Undo) (u : Undo) → LeadTo (point_before p u) notes → LeadsTo p u → LeadTo p (notes ++ u ∷ [])
+pub lead_more : (p : Moment) (notes : List Undo) (u : Undo) → LeadTo (point_before p u) notes → LeadsTo p u
+    → LeadTo p (notes ++ u ∷ [])
 lead_more p [] u h l = (l, tt)
 lead_more p (n ∷ notes) u h l = (subst (λ (q : Moment). LeadsTo q n) (sym (earliest_more p notes u)) h.0, lead_more p notes u h.1 l)
 
-pub lead_less : (p : Moment) (notes : List Undo) (u : Undo) → LeadTo p (notes ++ u ∷ []) → LeadsTo p u × LeadTo (point_before p u) notes
+pub lead_less : (p : Moment) (notes : List Undo) (u : Undo) → LeadTo p (notes ++ u ∷ [])
+    → LeadsTo p u × LeadTo (point_before p u) notes
 lead_less p [] u h = (h.0, tt)
 lead_less p (n ∷ notes) u h = let r = lead_less p notes u h.1 in (r.0, (subst (λ (q : Moment). LeadsTo q n) (earliest_more p notes u) h.0, r.1))
 
@@ -40,12 +44,14 @@ lead_drop p zero notes h = h
 lead_drop p (suc k) [] h = tt
 lead_drop p (suc k) (n ∷ notes) h = lead_drop p k notes h.1
 
-pub points_latest : (p : Moment) (k : ℕ) (notes : List Undo) → points_of p (latest k notes) ≡ latest k (points_of p notes)
+pub points_latest : (p : Moment) (k : ℕ) (notes : List Undo)
+    → points_of p (latest k notes) ≡ latest k (points_of p notes)
 points_latest p k notes = points_drop p (length notes - k) notes ∙ ap (λ n. drop (n - k) (points_of p notes)) (sym (points_many p notes))
 
 -- ---- the last
 
-pub last_split : {X : Type 0} (xs : List X) (x : X) → slice_get xs (length xs - 1) ≡ Some x → xs ≡ take (length xs - 1) xs ++ x ∷ []
+pub last_split : {X : Type 0} (xs : List X) (x : X) → slice_get xs (length xs - 1) ≡ Some x
+    → xs ≡ take (length xs - 1) xs ++ x ∷ []
 last_split [] x h = cc
 last_split (y ∷ []) x h = let e : y ≡ x = cc in ap (λ z. z ∷ []) e
 last_split {X} (y ∷ z ∷ xs) x h =

@@ -23,39 +23,49 @@ WasMade s t = (v : State) × (t ≡ made s v)
 never : (r q : DebugReport) → r ≡ q → is_made r ≡ true → is_made q ≡ false → ⊥
 never r q e h k = let same = ap is_made e in cc
 
-followed : (s t : Session) (r : DebugReport) (outcome : Outcome) → is_made r ≡ true → FollowsStep s t r outcome → WasMade s t
+followed : (s t : Session) (r : DebugReport) (outcome : Outcome) → is_made r ≡ true → FollowsStep s t r outcome
+    → WasMade s t
 followed s t r (Goes v) m h = (v, h.0)
 followed s t r (Breaks b) m h = absurd (never r (Refused b) h.1 m refl)
 
-stepped : (commands : List Command) (s t : Session) (r : DebugReport) → is_made r ≡ true → TriesStep commands s t r → WasMade s t
+stepped : (commands : List Command) (s t : Session) (r : DebugReport) → is_made r ≡ true → TriesStep commands s t r
+    → WasMade s t
 stepped commands s t r m h = followed s t r h.0 m h.2
 
-unless_ended : (bots : List Bot) (s t : Session) (r : DebugReport) (P : Type 0) → is_made r ≡ true → (P → WasMade s t) → UnlessEnded bots s t r P → WasMade s t
+unless_ended : (bots : List Bot) (s t : Session) (r : DebugReport) (P : Type 0) → is_made r ≡ true → (P → WasMade s t)
+    → UnlessEnded bots s t r P → WasMade s t
 unless_ended [] s t r P m f h = absurd (never r Ended h.1 m refl)
 unless_ended (b ∷ bots) s t r P m f h = f h
 
-begun_so : (commands : List Command) (bid : ℕ) (s t : Session) (r : DebugReport) → is_made r ≡ true → BeginsGroup commands bid s t r → WasMade s t
+begun_so : (commands : List Command) (bid : ℕ) (s t : Session) (r : DebugReport) → is_made r ≡ true
+    → BeginsGroup commands bid s t r → WasMade s t
 begun_so commands bid s t r m h = by (may_begin commands s bid) (is_last commands s) h
   where
-    by : (may last : Bool) → MatchBool may (MatchBool last (TriesStep commands s t r) ((t ≡ record s { begun = s.begun ++ bid ∷ [] }) × (r ≡ Begun bid (s.point.steps + 1)))) ((t ≡ s) × (r ≡ NoLeader bid)) → WasMade s t
+    by : (may last : Bool)
+        → MatchBool may (MatchBool last (TriesStep commands s t r) ((t ≡ record s { begun = s.begun ++ bid ∷ [] }) × (r ≡ Begun bid (s.point.steps + 1))))
+        ((t ≡ s) × (r ≡ NoLeader bid)) → WasMade s t
     by false last x = absurd (never r (NoLeader bid) x.1 m refl)
     by true true x = stepped commands s t r m x
     by true false x = absurd (never r (Begun bid (s.point.steps + 1)) x.1 m refl)
 
-grouped : (commands : List Command) (bid : ℕ) (s t : Session) (r : DebugReport) (b : Option Broken) → is_made r ≡ true → MatchOption b (BeginsGroup commands bid s t r) (λ w. (t ≡ s) × (r ≡ Refused w)) → WasMade s t
+grouped : (commands : List Command) (bid : ℕ) (s t : Session) (r : DebugReport) (b : Option Broken) → is_made r ≡ true
+    → MatchOption b (BeginsGroup commands bid s t r) (λ w. (t ≡ s) × (r ≡ Refused w)) → WasMade s t
 grouped commands bid s t r None m h = begun_so commands bid s t r m h
 grouped commands bid s t r (Some w) m h = absurd (never r (Refused w) h.1 m refl)
 
-went_back : (past : List Moment) (s t : Session) (r : DebugReport) → is_made r ≡ true → TakesBack past s t r → WasMade s t
+went_back : (past : List Moment) (s t : Session) (r : DebugReport) → is_made r ≡ true → TakesBack past s t r
+    → WasMade s t
 went_back [] s t r m h = absurd (never r NoHistory h.1 m refl)
 went_back (p ∷ past) s t r m h = absurd (never r (is_returned h.last) h.report_is m refl)
 
-dropped_back : (begun : List ℕ) (s t : Session) (r : DebugReport) → is_made r ≡ true → GoesBack begun s t r → WasMade s t
+dropped_back : (begun : List ℕ) (s t : Session) (r : DebugReport) → is_made r ≡ true → GoesBack begun s t r
+    → WasMade s t
 dropped_back [] s t r m h = went_back s.past s t r m h
 dropped_back (b ∷ begun) s t r m h = absurd (never r (is_returned s.point) h.1 m refl)
 
 -- only a line that makes a step says so
-was_made : (commands : List Command) (line : DebugLine) (s t : Session) (r : DebugReport) → is_made r ≡ true → AnswersLine commands line s t r → WasMade s t
+was_made : (commands : List Command) (line : DebugLine) (s t : Session) (r : DebugReport) → is_made r ≡ true
+    → AnswersLine commands line s t r → WasMade s t
 was_made commands Step s t r m h = unless_ended s.point.state.bots s t r _ m (stepped commands s t r m) h
 was_made commands (Group bid) s t r m h = unless_ended s.point.state.bots s t r _ m (grouped commands bid s t r (broken s.point.state (next_commands commands s.point) (s.point.steps + 1)) m) h
 was_made commands Back s t r m h = dropped_back s.begun s t r m h
@@ -81,7 +91,9 @@ latest_push xs x =
 
 -- ---- what is taken back
 
-restored_past : (past : List Moment) (s t u : Session) (r : DebugReport) → past ≡ t.past → (v : State) → t ≡ made s v → TakesBack past t u r → (u ≡ record { point = s.point; past = latest 4095 s.past; begun = [] }) × (r ≡ is_returned s.point)
+restored_past : (past : List Moment) (s t u : Session) (r : DebugReport) → past ≡ t.past → (v : State) → t ≡ made s v
+    → TakesBack past t u r
+    → (u ≡ record { point = s.point; past = latest 4095 s.past; begun = [] }) × (r ≡ is_returned s.point)
 restored_past [] s t u r p v e h = absurd (empty (latest 4095 s.past) (p ∙ (ap (λ (x : Session). x.past) e ∙ latest_push s.past s.point)))
   where
     empty : (xs : List Moment) → [] ≡ xs ++ s.point ∷ [] → ⊥
@@ -91,17 +103,25 @@ restored_past (q ∷ past) s t u r p v e h =
     let same = same_from_push h.earlier (latest 4095 s.past) h.last s.point (sym h.past ∙ (ap (λ (x : Session). x.past) e ∙ latest_push s.past s.point)) in
     (h.session ∙ (λ i. record { point = same.1 i; past = same.0 i; begun = [] }), h.report_is ∙ ap is_returned same.1)
 
-restored_begun : (begun : List ℕ) (s t u : Session) (r : DebugReport) → begun ≡ t.begun → (v : State) → t ≡ made s v → GoesBack begun t u r → (u ≡ record { point = s.point; past = latest 4095 s.past; begun = [] }) × (r ≡ is_returned s.point)
+restored_begun : (begun : List ℕ) (s t u : Session) (r : DebugReport) → begun ≡ t.begun → (v : State) → t ≡ made s v
+    → GoesBack begun t u r
+    → (u ≡ record { point = s.point; past = latest 4095 s.past; begun = [] }) × (r ≡ is_returned s.point)
 restored_begun [] s t u r b v e h = restored_past t.past s t u r refl v e h
 restored_begun (x ∷ begun) s t u r b v e h = absurd (let f : x ∷ begun ≡ [] = b ∙ ap (λ (y : Session). y.begun) e in cc)
 
-restored : (commands : List Command) (line : DebugLine) (s t u : Session) (n : ℕ) (energy : ℤ) (ended : Bool) (r : DebugReport) → AnswersLine commands line s t (Made n energy ended) → AnswersLine commands Back t u r → (u ≡ record { point = s.point; past = latest 4095 s.past; begun = [] }) × (r ≡ is_returned s.point)
+restored : (commands : List Command) (line : DebugLine) (s t u : Session) (n : ℕ) (energy : ℤ) (ended : Bool)
+    (r : DebugReport) → AnswersLine commands line s t (Made n energy ended) → AnswersLine commands Back t u r
+    → (u ≡ record { point = s.point; past = latest 4095 s.past; begun = [] }) × (r ≡ is_returned s.point)
 restored commands line s t u n energy ended r h k = let m = was_made commands line s t (Made n energy ended) refl h in restored_begun t.begun s t u r refl m.0 m.1 k
 
-pub restored_session : (commands : List Command) (line : DebugLine) (s t u : Session) (n : ℕ) (energy : ℤ) (ended : Bool) (r : DebugReport) → AnswersLine commands line s t (Made n energy ended) → AnswersLine commands Back t u r → u ≡ record { point = s.point; past = latest 4095 s.past; begun = [] }
+pub restored_session : (commands : List Command) (line : DebugLine) (s t u : Session) (n : ℕ) (energy : ℤ)
+    (ended : Bool) (r : DebugReport) → AnswersLine commands line s t (Made n energy ended)
+    → AnswersLine commands Back t u r → u ≡ record { point = s.point; past = latest 4095 s.past; begun = [] }
 restored_session commands line s t u n energy ended r h k = (restored commands line s t u n energy ended r h k).0
 
-pub restored_report : (commands : List Command) (line : DebugLine) (s t u : Session) (n : ℕ) (energy : ℤ) (ended : Bool) (r : DebugReport) → AnswersLine commands line s t (Made n energy ended) → AnswersLine commands Back t u r → r ≡ is_returned s.point
+pub restored_report : (commands : List Command) (line : DebugLine) (s t u : Session) (n : ℕ) (energy : ℤ) (ended : Bool)
+    (r : DebugReport) → AnswersLine commands line s t (Made n energy ended) → AnswersLine commands Back t u r
+    → r ≡ is_returned s.point
 restored_report commands line s t u n energy ended r h k = (restored commands line s t u n energy ended r h k).1
 
 pub all_latest : (xs : List Moment) → length xs < most_past → latest 4095 xs ≡ xs

@@ -17,7 +17,8 @@ use Rattle.step_debugger.proofs.Notes.{last_split, lead_less, points_more}
 use Rattle.step_debugger.proofs.TouchedBack.{touched_back}
 
 -- where the past has a last point
-takes_back : (past earlier : List Moment) (last : Moment) (s t : Session) (report : DebugReport) → past ≡ earlier ++ last ∷ [] → IsBack s t report → TakesBack past s t report
+takes_back : (past earlier : List Moment) (last : Moment) (s t : Session) (report : DebugReport)
+    → past ≡ earlier ++ last ∷ [] → IsBack s t report → TakesBack past s t report
 takes_back (p ∷ past) earlier last s t report e h = h
 takes_back [] [] last s t report e h = cc
 takes_back [] (p ∷ earlier) last s t report e h = cc
@@ -42,7 +43,8 @@ module _ (v : Situation) (notes : Buffer Undo) (commands : List Command) (taken 
     split : notes.items ≡ take (length notes.items - 1) notes.items ++ undo ∷ []
     split = last_split notes.items undo last
 
-    leads : LeadsTo (point_of v taken) undo × LeadTo (point_before (point_of v taken) undo) (take (length notes.items - 1) notes.items)
+    leads : LeadsTo (point_of v taken) undo
+        × LeadTo (point_before (point_of v taken) undo) (take (length notes.items - 1) notes.items)
     leads = lead_less (point_of v taken) (take (length notes.items - 1) notes.items) undo (subst (λ (us : List Undo). LeadTo (point_of v taken) us) split fit.notes_lead)
 
     pub may_go_back : MayUndo v.state undo
@@ -55,7 +57,8 @@ module _ (v : Situation) (notes : Buffer Undo) (commands : List Command) (taken 
       point_is : point_before (point_of v taken) undo ≡ point_of w (taken - n)
       point_is = λ i. record { state = sym (ap (λ (x : Situation). x.state) is) i; steps = sym (ap (λ (x : Situation). x.steps) is) i; taken = taken - sym count i }
 
-      begins : (b : List ℕ) → b ≡ [] → (now : List Bot) → now ≡ (point_before (point_of v taken) undo).state.bots → Begin commands (point_before (point_of v taken) undo) b left now
+      begins : (b : List ℕ) → b ≡ [] → (now : List Bot) → now ≡ (point_before (point_of v taken) undo).state.bots
+          → Begin commands (point_before (point_of v taken) undo) b left now
       begins [] f now g = g
       begins (x ∷ b) f now g = cc
 
@@ -73,23 +76,27 @@ module _ (v : Situation) (notes : Buffer Undo) (commands : List Command) (taken 
         }));
       }
 
-      past_is : points_of (point_of v taken) notes.items ≡ points_of (point_of w (taken - n)) rest.items ++ point_of w (taken - n) ∷ []
+      past_is : points_of (point_of v taken) notes.items
+          ≡ points_of (point_of w (taken - n)) rest.items ++ point_of w (taken - n) ∷ []
       past_is =
           ap (points_of (point_of v taken)) split
           ∙ (points_more (point_of v taken) (take (length notes.items - 1) notes.items) undo
           ∙ ((λ i. points_of (point_is i) (take (length notes.items - 1) notes.items) ++ point_is i ∷ [])
           ∙ ap (λ (us : List Undo). points_of (point_of w (taken - n)) us ++ point_of w (taken - n) ∷ []) (sym (ap (λ (b : Buffer Undo). b.items) popped))))
 
-      goes_back : (b : List ℕ) → b ≡ [] → GoesBack b (debugging_of v notes.items commands taken b).session (debugging_of w rest.items commands (taken - n) b).session (is_returned (point_of w (taken - n)))
+      goes_back : (b : List ℕ) → b ≡ []
+          → GoesBack b (debugging_of v notes.items commands taken b).session (debugging_of w rest.items commands (taken - n) b).session (is_returned (point_of w (taken - n)))
       goes_back (x ∷ b) f = cc
       goes_back [] f =
           takes_back (points_of (point_of v taken) notes.items) (points_of (point_of w (taken - n)) rest.items) (point_of w (taken - n)) _ _ _ past_is
           (record { earlier = points_of (point_of w (taken - n)) rest.items; last = point_of w (taken - n); past = past_is; session = refl; report_is = refl })
 
-      pub session_back : GoesBack d.session.begun d.session (debugging_of w rest.items commands (taken - n) begun).session (is_returned (point_of w (taken - n)))
+      pub session_back :
+          GoesBack d.session.begun d.session (debugging_of w rest.items commands (taken - n) begun).session (is_returned (point_of w (taken - n)))
       session_back = subst (λ (x : Debugging). GoesBack x.session.begun x.session (debugging_of w rest.items commands (taken - n) begun).session (is_returned (point_of w (taken - n)))) e (goes_back begun none)
 
-      pub touches_back : (began ended : ℕ) → IsUndoneBy v.state.matrix undo.filled.items undo.voided.items began ended → IsTouchedBack d.session.point.state.matrix w.state.matrix began ended
+      pub touches_back : (began ended : ℕ) → IsUndoneBy v.state.matrix undo.filled.items undo.voided.items began ended
+          → IsTouchedBack d.session.point.state.matrix w.state.matrix began ended
       touches_back began ended paid =
           subst (λ (x : Debugging). IsTouchedBack x.session.point.state.matrix w.state.matrix began ended) e
           (subst (λ (x : Situation). IsTouchedBack v.state.matrix x.state.matrix began ended) (sym is) (touched_back v.state.matrix undo leads.0.may.voxels began ended paid))

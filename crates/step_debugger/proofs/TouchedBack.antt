@@ -30,10 +30,13 @@ module _ (old : Matrix) (undo : Undo) (h : HaveChanged old undo) where
   voided_is : (c : Coord) → In c undo.voided.items → IsInSpace old.resolution c × (is_full old c ≡ false)
   voided_is c i = (of_each (λ (d : Coord). IsInSpace old.resolution d) undo.voided.items c h.voided_within (holds c undo.voided.items i), of_each (λ (d : Coord). IsFalse (is_full old d)) undo.voided.items c h.voided (holds c undo.voided.items i))
 
-  new_at : (d : Coord) → IsInSpace old.resolution d → is_full (matrix_before old undo.filled.items undo.voided.items) d ≡ cond (is_cell undo.voided.items d) true (cond (is_cell undo.filled.items d) false (is_full old d))
+  new_at : (d : Coord) → IsInSpace old.resolution d → is_full (matrix_before old undo.filled.items undo.voided.items) d
+      ≡ cond (is_cell undo.voided.items d) true (cond (is_cell undo.filled.items d) false (is_full old d))
   new_at d w = full_with (without_filled old undo.filled.items) undo.voided.items true d w ∙ ap (λ b. cond (is_cell undo.voided.items d) true b) (full_with old undo.filled.items false d w)
 
-  both_are : (d : Coord) → IsInSpace old.resolution d → (is_full old d && is_full (matrix_before old undo.filled.items undo.voided.items) d) ≡ cond (is_cell undo.filled.items d) false (is_full old d)
+  both_are : (d : Coord) → IsInSpace old.resolution d
+      → (is_full old d && is_full (matrix_before old undo.filled.items undo.voided.items) d)
+      ≡ cond (is_cell undo.filled.items d) false (is_full old d)
   both_are d w = ap (λ b. is_full old d && b) (new_at d w) ∙ by (is_cell undo.voided.items d) refl
     where
       gone : (f o : Bool) → o ≡ false → (o && true) ≡ cond f false o
@@ -47,14 +50,17 @@ module _ (old : Matrix) (undo : Undo) (h : HaveChanged old undo) where
       stays false true = refl
       stays false false = refl
 
-      by : (v : Bool) → is_cell undo.voided.items d ≡ v → (is_full old d && cond v true (cond (is_cell undo.filled.items d) false (is_full old d))) ≡ cond (is_cell undo.filled.items d) false (is_full old d)
+      by : (v : Bool) → is_cell undo.voided.items d ≡ v
+          → (is_full old d && cond v true (cond (is_cell undo.filled.items d) false (is_full old d)))
+          ≡ cond (is_cell undo.filled.items d) false (is_full old d)
       by true e = gone (is_cell undo.filled.items d) (is_full old d) (voided_is d (of_among undo.voided.items d e)).1
       by false e = stays (is_cell undo.filled.items d) (is_full old d)
 
   common_is : common old (matrix_before old undo.filled.items undo.voided.items) ≡ without_filled old undo.filled.items
   common_is = matrix_same old.resolution (λ c. is_full old c && is_full (matrix_before old undo.filled.items undo.voided.items) c) (λ d. cond (is_cell undo.filled.items d) false (is_full old d)) both_are
 
-  filled_differs : (c : Coord) → In c undo.filled.items → differ_at old (matrix_before old undo.filled.items undo.voided.items) c ≡ true
+  filled_differs : (c : Coord) → In c undo.filled.items
+      → differ_at old (matrix_before old undo.filled.items undo.voided.items) c ≡ true
   filled_differs c i =
       let w = filled_is c i in
       let a = among undo.filled.items c i in
@@ -62,14 +68,16 @@ module _ (old : Matrix) (undo : Undo) (h : HaveChanged old undo) where
       let e : is_full (matrix_before old undo.filled.items undo.voided.items) c ≡ false = new_at c w.0 ∙ (λ k. cond (v k) true (cond (a k) false (is_full old c))) in
       or_by_first (is_full old c && not (is_full (matrix_before old undo.filled.items undo.voided.items) c)) (is_full (matrix_before old undo.filled.items undo.voided.items) c && not (is_full old c)) (both w.1 (ap not e))
 
-  voided_differs : (c : Coord) → In c undo.voided.items → differ_at old (matrix_before old undo.filled.items undo.voided.items) c ≡ true
+  voided_differs : (c : Coord) → In c undo.voided.items
+      → differ_at old (matrix_before old undo.filled.items undo.voided.items) c ≡ true
   voided_differs c i =
       let w = voided_is c i in
       let a = among undo.voided.items c i in
       let e : is_full (matrix_before old undo.filled.items undo.voided.items) c ≡ true = new_at c w.0 ∙ ap (λ b. cond b true (cond (is_cell undo.filled.items c) false (is_full old c))) a in
       or_by_second (is_full old c && not (is_full (matrix_before old undo.filled.items undo.voided.items) c)) (is_full (matrix_before old undo.filled.items undo.voided.items) c && not (is_full old c)) (both e (ap not w.1))
 
-  all_differ : length undo.filled.items + length undo.voided.items ≤ changed_count old (matrix_before old undo.filled.items undo.voided.items)
+  all_differ : length undo.filled.items + length undo.voided.items
+      ≤ changed_count old (matrix_before old undo.filled.items undo.voided.items)
   all_differ =
       let l = no_more (undo.filled.items ++ undo.voided.items) (filter (differ_at old (matrix_before old undo.filled.items undo.voided.items)) (all_of old))
       (apart_append undo.filled.items undo.voided.items (apart_of undo.filled.items h.filled_differ) (apart_of undo.voided.items h.voided_differ) (λ c i j. not_both (filled_is c i).1 (voided_is c j).1))
@@ -78,11 +86,13 @@ module _ (old : Matrix) (undo : Undo) (h : HaveChanged old undo) where
       let e = length-filter (differ_at old (matrix_before old undo.filled.items undo.voided.items)) (all_of old) in
       omega (arith, l, n, e)
     where
-      by : (c : Coord) → In c undo.filled.items ⊎ In c undo.voided.items → In c (filter (differ_at old (matrix_before old undo.filled.items undo.voided.items)) (all_of old))
+      by : (c : Coord) → In c undo.filled.items ⊎ In c undo.voided.items
+          → In c (filter (differ_at old (matrix_before old undo.filled.items undo.voided.items)) (all_of old))
       by c (inl i) = in_filter (differ_at old (matrix_before old undo.filled.items undo.voided.items)) c (all_of old) (in_coordinates old.resolution c (filled_is c i).0) (filled_differs c i)
       by c (inr i) = in_filter (differ_at old (matrix_before old undo.filled.items undo.voided.items)) c (all_of old) (in_coordinates old.resolution c (voided_is c i).0) (voided_differs c i)
 
-  pub touched_back : (began ended : ℕ) → IsUndoneBy old undo.filled.items undo.voided.items began ended → IsTouchedBack old (matrix_before old undo.filled.items undo.voided.items) began ended
+  pub touched_back : (began ended : ℕ) → IsUndoneBy old undo.filled.items undo.voided.items began ended
+      → IsTouchedBack old (matrix_before old undo.filled.items undo.voided.items) began ended
   touched_back began ended paid =
       let l = paid.0 in
       let t = paid.1 in

@@ -15,11 +15,13 @@ use Rattle.step_debugger.specs.Session.{Moment, next_commands}
 use Rattle.step_debugger.specs.Touches.{IfRefused, IsRefusedWithin, IsWithinWorkOf}
 
 -- the work of a step that breaks no rule at its start is no less than what is volatile
-volatile_most : (s : State) (commands : List Command) (step n : ℕ) → broken s commands step ≡ None → WorkOfStep s commands step n → volatile_total s.matrix (acts s.bots commands) ≤ n
+volatile_most : (s : State) (commands : List Command) (step n : ℕ) → broken s commands step ≡ None
+    → WorkOfStep s commands step n → volatile_total s.matrix (acts s.bots commands) ≤ n
 volatile_most s commands step n keeps work = let e = (acts_work s commands step n keeps work).1 in omega (arith, e)
 
 -- where the next step cannot be judged nothing is touched
-pub untouched_at : (T : Type 0) (most : ℕ) (commands : List Command) (p : Moment) (r : DebugFault) (began : ℕ) → IfRefused {T = T} (Err r) (λ b. IsRefusedWithin most commands p b began began)
+pub untouched_at : (T : Type 0) (most : ℕ) (commands : List Command) (p : Moment) (r : DebugFault) (began : ℕ)
+    → IfRefused {T = T} (Err r) (λ b. IsRefusedWithin most commands p b began began)
 untouched_at T most commands p (fault.Broken b) began = let work = step_work p.state (next_commands commands p) (p.steps + 1) in (work.0, work.1, omega arith)
 untouched_at T most commands p fault.Ended began = tt
 untouched_at T most commands p fault.NoHistory began = tt
@@ -27,7 +29,11 @@ untouched_at T most commands p (fault.NotLeader leader) began = tt
 untouched_at T most commands p fault.Memory began = tt
 
 -- the step of a group is refused where it is judged
-pub judged_within : (commands : List Command) (p : Moment) (b : Broken) (began ended : ℕ) → broken p.state (next_commands commands p) (p.steps + 1) ≡ Some b → length (next_commands commands p) ≡ length p.state.bots → ended ≤ began + 2 * volatile_total p.state.matrix (acts p.state.bots (next_commands commands p)) → IsRefusedWithin 102 commands p b began ended
+pub judged_within : (commands : List Command) (p : Moment) (b : Broken) (began ended : ℕ)
+    → broken p.state (next_commands commands p) (p.steps + 1) ≡ Some b
+    → length (next_commands commands p) ≡ length p.state.bots
+    → ended ≤ began + 2 * volatile_total p.state.matrix (acts p.state.bots (next_commands commands p))
+    → IsRefusedWithin 102 commands p b began ended
 judged_within commands p b began ended breaks all judged =
     let work = step_work p.state (next_commands commands p) (p.steps + 1) in
     let few = judged_touches p.state (next_commands commands p) (p.steps + 1) b began ended work.0 breaks (omega (arith, judged)) (λ l. absurd (omega (arith, all, l))) work.1 in
@@ -49,7 +55,9 @@ module _ (commands : List Command) (p : Moment) (keeps : broken p.state (next_co
       (made.0, made.1, omega (arith, judged, most, paid))
 
   -- or its step is refused after it was judged
-  pub refused_within : (T : Type 0) (r : DebugFault) (ended : ℕ) → IfRefused {T = T} (Err r) (λ b. IsRefusedWithin 100 commands p b middle ended) → IfRefused {T = Option T} (Err r) (λ b. IsRefusedWithin 102 commands p b began ended)
+  pub refused_within : (T : Type 0) (r : DebugFault) (ended : ℕ)
+      → IfRefused {T = T} (Err r) (λ b. IsRefusedWithin 100 commands p b middle ended)
+      → IfRefused {T = Option T} (Err r) (λ b. IsRefusedWithin 102 commands p b began ended)
   refused_within T (fault.Broken b) ended refused =
       let most = volatile_most p.state (next_commands commands p) (p.steps + 1) refused.0 keeps refused.1 in
       let paid = refused.2 in

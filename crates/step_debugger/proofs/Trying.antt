@@ -28,7 +28,8 @@ use Rattle.step_debugger.proofs.Making.{here, refused_other}
 
 -- ---- where no step can be tried
 
-pub unless_active : (bots : List Bot) (s t : Session) (report : DebugReport) (P : Type 0) → 1 ≤ length bots → P → UnlessEnded bots s t report P
+pub unless_active : (bots : List Bot) (s t : Session) (report : DebugReport) (P : Type 0) → 1 ≤ length bots → P
+    → UnlessEnded bots s t report P
 unless_active [] s t report P l p = absurd (omega arith)
 unless_active (b ∷ bots) s t report P l p = p
 
@@ -36,10 +37,13 @@ pub ended_is : (bots : List Bot) (s : Session) (P : Type 0) → bots ≡ [] → 
 ended_is [] s P e = (refl, refl)
 ended_is (b ∷ bots) s P e = cc
 
-broken_next : (s : Session) (commands : List Command) (b : Broken) → broken s.point.state (next_commands commands s.point) (s.point.steps + 1) ≡ Some b → Next s.point.state (next_commands commands s.point) (s.point.steps + 1) (Breaks b)
+broken_next : (s : Session) (commands : List Command) (b : Broken)
+    → broken s.point.state (next_commands commands s.point) (s.point.steps + 1) ≡ Some b
+    → Next s.point.state (next_commands commands s.point) (s.point.steps + 1) (Breaks b)
 broken_next s commands b e = breaks_at_start b e refl
 
-pub unready_step : (commands : List Command) (s : Session) (f : DebugFault) → IsUnready commands s.point f → IfSome (fault_report f) (AnswersLine commands Step s s)
+pub unready_step : (commands : List Command) (s : Session) (f : DebugFault) → IsUnready commands s.point f
+    → IfSome (fault_report f) (AnswersLine commands Step s s)
 unready_step commands s fault.Ended h = ended_is s.point.state.bots s _ h
 unready_step commands s (fault.Broken b) h =
     unless_active s.point.state.bots s s (Refused b) _ h.0
@@ -66,11 +70,13 @@ module _ (v : Situation) (notes : Buffer Undo) (commands : List Command) (taken 
   pub begun_are : (begun ≡ [] → ⊥) → AreBegun commands (point_of v taken) begun left bots
   begun_are n = by begun n (here v notes commands taken begun left bots d e kept stands).begin
     where
-      by : (xs : List ℕ) → (xs ≡ [] → ⊥) → Begin commands (point_of v taken) xs left bots → AreBegun commands (point_of v taken) xs left bots
+      by : (xs : List ℕ) → (xs ≡ [] → ⊥) → Begin commands (point_of v taken) xs left bots
+          → AreBegun commands (point_of v taken) xs left bots
       by [] m h = absurd (m refl)
       by (x ∷ xs) m h = h
 
-  pub order_kept : (begun ≡ [] → ⊥) → (order : List ℕ) → order ≡ begun ++ left → IsPermutation (next_leaders d.commands d.session.point) order
+  pub order_kept : (begun ≡ [] → ⊥) → (order : List ℕ) → order ≡ begun ++ left
+      → IsPermutation (next_leaders d.commands d.session.point) order
   order_kept n order o = subst (λ (x : Debugging). IsPermutation (next_leaders x.commands x.session.point) order) e (subst (λ (xs : List ℕ). IsPermutation (next_leaders commands (point_of v taken)) xs) (sym o) (begun_are n).leaders)
 
   pub order_fits : (begun ≡ [] → ⊥) → length v.state.bots ≤ 40 → length begun + length left ≤ 40

@@ -34,7 +34,8 @@ all_from P (x ∷ xs) h = (h x (inl refl), all_from P xs (λ y i. h y (inr i)))
 
 -- ---- the bots
 
-one_successor : (all : List Act) (a : Act) (k : Command) → stays_one k ≡ true → successors all a k ≡ record { bid = a.bot.bid; pos = (gone (record { bot = a.bot; command = k })).pos; seeds = a.bot.seeds } ∷ []
+one_successor : (all : List Act) (a : Act) (k : Command) → stays_one k ≡ true → successors all a k
+    ≡ record { bid = a.bot.bid; pos = (gone (record { bot = a.bot; command = k })).pos; seeds = a.bot.seeds } ∷ []
 one_successor all a Halt h = cc
 one_successor all a Wait h = refl
 one_successor all a Flip h = refl
@@ -57,7 +58,8 @@ rising_gone (x ∷ xs) h = (later, rising_gone xs h.1)
         let w = map_in gone c xs i in
         subst (λ (b : Bot). x.bot.bid < b.bid) (sym w.2) (h.0 w.0.bot (in_map (λ (a : Act). a.bot) w.0 xs w.1))
 
-pub bots_gone : (all : List Act) → Rising (map (λ a. a.bot) all) → AllByRecursion (λ a. IsTrue (stays_one a.command)) all → bots_after all ≡ map gone all
+pub bots_gone : (all : List Act) → Rising (map (λ a. a.bot) all)
+    → AllByRecursion (λ a. IsTrue (stays_one a.command)) all → bots_after all ≡ map gone all
 bots_gone all up h =
     ap in_rising_order (flat_same (λ a. successors all a a.command) (λ a. gone a ∷ []) all (λ a i. one_successor all a a.command (all_by (λ (x : Act). IsTrue (stays_one x.command)) all a h i)) ∙ flat_map_single gone all)
     ∙ rising_itself (map gone all) (rising_gone all up)
@@ -72,7 +74,8 @@ none_count p (x ∷ xs) h =
     let g : count_by p xs ≡ 0 = none_count p xs (λ y i. h y (inr i)) in
     omega (arith, e, f, g)
 
-pub harmonics_stay : (h : Harmonics) (all : List Act) → ((a : Act) → In a all → is_flip a.command ≡ false) → harmonics_after h all ≡ h
+pub harmonics_stay : (h : Harmonics) (all : List Act) → ((a : Act) → In a all → is_flip a.command ≡ false)
+    → harmonics_after h all ≡ h
 harmonics_stay h all none = ap (λ n. cond (n % 2 == 1) (flipped h) h) (none_count (λ (a : Act). is_flip a.command) all none)
 
 -- ---- the matrix
@@ -99,12 +102,14 @@ some_false : {X : Type 0} (p : X → Bool) (xs : List X) → ((x : X) → In x x
 some_false p [] h = refl
 some_false p (x ∷ xs) h = rw (h x (inl refl)) (some_false p xs (λ y i. h y (inr i)))
 
-some_same : {X : Type 0} (p : X → Bool) (xs : List X) (t : Bool) → 0 < length xs → ((x : X) → In x xs → p x ≡ t) → list_any p xs ≡ t
+some_same : {X : Type 0} (p : X → Bool) (xs : List X) (t : Bool) → 0 < length xs → ((x : X) → In x xs → p x ≡ t)
+    → list_any p xs ≡ t
 some_same p [] t some h = absurd (omega arith)
 some_same p (x ∷ xs) false some h = some_false p (x ∷ xs) h
 some_same p (x ∷ xs) true some h = rw (h x (inl refl)) refl
 
-pub voxels_stay : (m : Matrix) (all : List Act) → length m.voxels ≡ m.resolution * m.resolution * m.resolution → AllByRecursion (λ a. IsTrue (leaves_voxels a.command)) all → matrix_after m all ≡ m
+pub voxels_stay : (m : Matrix) (all : List Act) → length m.voxels ≡ m.resolution * m.resolution * m.resolution
+    → AllByRecursion (λ a. IsTrue (leaves_voxels a.command)) all → matrix_after m all ≡ m
 voxels_stay m all whole h = matrix_same m.resolution _ (is_full m) (λ c i. (λ j. none_filled c j || (is_full m c && not (none_voided c j))) ∙ nothing_more (is_full m c)) ∙ as_it_is m whole
   where
     leaves : (a : Act) → In a all → leaves_voxels a.command ≡ true
@@ -122,31 +127,36 @@ some_power : (n : ℕ) → 0 < 2 ^ n
 some_power zero = lit< tt
 some_power (suc n) = let h = some_power n in rw pow-suc (omega arith)
 
-pub group_stays_one : (r : ℕ) (region : Span) (full : Bool) (p : Point) (k : Command) → MayJoin r region full p k → IsTrue (stays_one k)
+pub group_stays_one : (r : ℕ) (region : Span) (full : Bool) (p : Point) (k : Command) → MayJoin r region full p k
+    → IsTrue (stays_one k)
 group_stays_one r region true p (GFill d f) h = refl
 group_stays_one r region true p _ h = absurd h
 group_stays_one r region false p (GVoid d f) h = refl
 group_stays_one r region false p _ h = absurd h
 
-group_goal : (r : ℕ) (region : Span) (full : Bool) (p : Point) (k : Command) → MayJoin r region full p k → goal_of p k ≡ p
+group_goal : (r : ℕ) (region : Span) (full : Bool) (p : Point) (k : Command) → MayJoin r region full p k
+    → goal_of p k ≡ p
 group_goal r region true p (GFill d f) h = refl
 group_goal r region true p _ h = absurd h
 group_goal r region false p (GVoid d f) h = refl
 group_goal r region false p _ h = absurd h
 
-group_flip : (r : ℕ) (region : Span) (full : Bool) (p : Point) (k : Command) → MayJoin r region full p k → is_flip k ≡ false
+group_flip : (r : ℕ) (region : Span) (full : Bool) (p : Point) (k : Command) → MayJoin r region full p k
+    → is_flip k ≡ false
 group_flip r region true p (GFill d f) h = refl
 group_flip r region true p _ h = absurd h
 group_flip r region false p (GVoid d f) h = refl
 group_flip r region false p _ h = absurd h
 
-group_filled : (r : ℕ) (region : Span) (full : Bool) (p q : Point) (k : Command) → MayJoin r region full p k → list_any (λ s. is_within s q) (filled p k) ≡ (is_within region q && full)
+group_filled : (r : ℕ) (region : Span) (full : Bool) (p q : Point) (k : Command) → MayJoin r region full p k
+    → list_any (λ s. is_within s q) (filled p k) ≡ (is_within region q && full)
 group_filled r region true p q (GFill d f) h = or_false (is_within (between (plus p d) (plus (plus p d) f)) q) ∙ (within_as (between (plus p d) (plus (plus p d) f)) region q h.same ∙ sym (and_true (is_within region q)))
 group_filled r region true p q _ h = absurd h
 group_filled r region false p q (GVoid d f) h = sym (and_false (is_within region q))
 group_filled r region false p q _ h = absurd h
 
-group_voided : (r : ℕ) (region : Span) (full : Bool) (p q : Point) (k : Command) → MayJoin r region full p k → list_any (λ s. is_within s q) (voided p k) ≡ (is_within region q && not full)
+group_voided : (r : ℕ) (region : Span) (full : Bool) (p q : Point) (k : Command) → MayJoin r region full p k
+    → list_any (λ s. is_within s q) (voided p k) ≡ (is_within region q && not full)
 group_voided r region true p q (GFill d f) h = sym (and_false (is_within region q))
 group_voided r region true p q _ h = absurd h
 group_voided r region false p q (GVoid d f) h = or_false (is_within (between (plus p d) (plus (plus p d) f)) q) ∙ (within_as (between (plus p d) (plus (plus p d) f)) region q h.same ∙ sym (and_true (is_within region q)))
@@ -185,11 +195,13 @@ module _ (s : State) (region : Span) (full : Bool) (all : List Act) (h : AreOneG
 
 -- ---- fusions
 
-find_only : {X : Type 0} (p : X → Bool) (b : X) (xs : List X) → In b xs → p b ≡ true → ((x : X) → In x xs → p x ≡ true → x ≡ b) → find p xs ≡ Some b
+find_only : {X : Type 0} (p : X → Bool) (b : X) (xs : List X) → In b xs → p b ≡ true
+    → ((x : X) → In x xs → p x ≡ true → x ≡ b) → find p xs ≡ Some b
 find_only p b [] i t only = absurd i
 find_only {X} p b (x ∷ xs) i t only = by (p x) refl i (λ j. find_only p b xs j t (λ y k. only y (inr k)))
   where
-    by : (s : Bool) → p x ≡ s → (b ≡ x) ⊎ In b xs → (In b xs → find p xs ≡ Some b) → cond s (Some x) (find p xs) ≡ Some b
+    by : (s : Bool) → p x ≡ s → (b ≡ x) ⊎ In b xs → (In b xs → find p xs ≡ Some b)
+        → cond s (Some x) (find p xs) ≡ Some b
     by true e j later = ap Some (only x (inl refl) e)
     by false e (inl f) later = let g = sym (ap p f) ∙ t in let k = sym e ∙ g in cc
     by false e (inr j) later = later j
@@ -198,14 +210,16 @@ module _ (all : List Act) (apart : AreApart all) (a b : Act) (j : In b all) (pai
   found_partner : find (is_pair a) all ≡ Some b
   found_partner = find_only (is_pair a) b all j pair (λ x i t. apart.places x b i j (one_partner x a b (or_by_first (is_pair a x) (is_pair x a) t) (or_by_first (is_pair a b) (is_pair b a) pair)))
 
-  primary_by : (k : Command) → fuse (position a) k (position b) b.command ≡ true → successors all a k ≡ fused a.bot b.bot ∷ []
+  primary_by : (k : Command) → fuse (position a) k (position b) b.command ≡ true
+      → successors all a k ≡ fused a.bot b.bot ∷ []
   primary_by (FusionP d) h = ap (λ (o : Option Act). after_fusion a.bot o ∷ []) found_partner
   primary_by _ h = cc
 
   pub primary_becomes : successors all a a.command ≡ fused a.bot b.bot ∷ []
   primary_becomes = primary_by a.command pair
 
-secondary_by : (all : List Act) (a b : Act) (k e : Command) → fuse (position a) k (position b) e ≡ true → successors all b e ≡ []
+secondary_by : (all : List Act) (a b : Act) (k e : Command) → fuse (position a) k (position b) e ≡ true
+    → successors all b e ≡ []
 secondary_by all a b (FusionP d) (FusionS e) h = refl
 secondary_by all a b (FusionP d) _ h = cc
 secondary_by all a b _ e h = cc

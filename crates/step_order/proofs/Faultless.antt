@@ -88,7 +88,8 @@ pub one_way : (way full : Bool) → (IsTrue way → full ≡ false) → (full &&
 one_way true full f = rw (f refl) refl
 one_way false full f = and_false full
 
-two_ways : (way next full : Bool) → (IsTrue way → full ≡ false) → (IsTrue next → full ≡ false) → (full && (way || (next || false))) ≡ false
+two_ways : (way next full : Bool) → (IsTrue way → full ≡ false) → (IsTrue next → full ≡ false)
+    → (full && (way || (next || false))) ≡ false
 two_ways true next full f g = rw (f refl) refl
 two_ways false next full f g = one_way next full g
 
@@ -99,7 +100,8 @@ none_blocked : (m : Matrix) → find (λ c. is_full m c && false) (all_of m) ≡
 none_blocked m = none_find (λ c. is_full m c && false) (all_of m) (λ c i. and_false (is_full m c))
 
 module _ (s : State) (all : List Act) (b : Bot) where
-  halt_faults : is_allowed s.profile Halt ≡ true → MayHalt s (act b Halt) → (rule : Rule) → fault s all (act b Halt) rule ≡ None
+  halt_faults : is_allowed s.profile Halt ≡ true → MayHalt s (act b Halt) → (rule : Rule)
+      → fault s all (act b Halt) rule ≡ None
   halt_faults a h Forbidden = rw a refl
   halt_faults a h HaltAlone = let e = h.alone in rw e refl
   halt_faults a h HaltOrigin = ap (λ (q : Point). cond (not (same_point q (point origin))) (Some b.pos) None) h.home
@@ -117,52 +119,68 @@ module _ (s : State) (all : List Act) (b : Bot) where
   flip_faults a Blocked = none_blocked s.matrix
   flip_faults a _ = refl
 
-  smove_faults : (d : Diff) → is_allowed s.profile (SMove d) ≡ true → IsFreeWay s.matrix (point b.pos) (plus (point b.pos) d) → (rule : Rule) → fault s all (act b (SMove d)) rule ≡ None
+  smove_faults : (d : Diff) → is_allowed s.profile (SMove d) ≡ true
+      → IsFreeWay s.matrix (point b.pos) (plus (point b.pos) d) → (rule : Rule)
+      → fault s all (act b (SMove d)) rule ≡ None
   smove_faults d a w Forbidden = rw a refl
   smove_faults d a w OutOfSpace = let e = w.within in rw e refl
   smove_faults d a w Blocked = none_find _ (all_of s.matrix) (λ c i. one_way (is_within (between (point b.pos) (plus (point b.pos) d)) (point c)) (is_full s.matrix c) (w.void c))
   smove_faults d a w _ = refl
 
-  lmove_faults : (d e : Diff) → is_allowed s.profile (LMove d e) ≡ true → IsFreeWay s.matrix (point b.pos) (plus (point b.pos) d) → IsFreeWay s.matrix (plus (point b.pos) d) (plus (plus (point b.pos) d) e) → (rule : Rule) → fault s all (act b (LMove d e)) rule ≡ None
+  lmove_faults : (d e : Diff) → is_allowed s.profile (LMove d e) ≡ true
+      → IsFreeWay s.matrix (point b.pos) (plus (point b.pos) d)
+      → IsFreeWay s.matrix (plus (point b.pos) d) (plus (plus (point b.pos) d) e) → (rule : Rule)
+      → fault s all (act b (LMove d e)) rule ≡ None
   lmove_faults d e a w v Forbidden = rw a refl
   lmove_faults d e a w v OutOfSpace = let i = w.within in let j = v.within in rw (i, j) refl
   lmove_faults d e a w v Blocked = none_find _ (all_of s.matrix) (λ c i. two_ways (is_within (between (point b.pos) (plus (point b.pos) d)) (point c)) (is_within (between (plus (point b.pos) d) (plus (plus (point b.pos) d) e)) (point c)) (is_full s.matrix c) (w.void c) (v.void c))
   lmove_faults d e a w v _ = refl
 
-  primary_faults : (d : Diff) → is_allowed s.profile (FusionP d) ≡ true → HasPartner s.matrix.resolution all (act b (FusionP d)) (plus (point b.pos) d) → (rule : Rule) → fault s all (act b (FusionP d)) rule ≡ None
+  primary_faults : (d : Diff) → is_allowed s.profile (FusionP d) ≡ true
+      → HasPartner s.matrix.resolution all (act b (FusionP d)) (plus (point b.pos) d) → (rule : Rule)
+      → fault s all (act b (FusionP d)) rule ≡ None
   primary_faults d a h Forbidden = rw a refl
   primary_faults d a h OutOfSpace = let e = h.within in rw e refl
   primary_faults d a h Blocked = none_blocked s.matrix
   primary_faults d a h Partner = let e = in_any (are_partners (act b (FusionP d))) h.other all (contained all h.other h.here) h.partners in rw e refl
   primary_faults d a h _ = refl
 
-  secondary_faults : (d : Diff) → is_allowed s.profile (FusionS d) ≡ true → HasPartner s.matrix.resolution all (act b (FusionS d)) (plus (point b.pos) d) → (rule : Rule) → fault s all (act b (FusionS d)) rule ≡ None
+  secondary_faults : (d : Diff) → is_allowed s.profile (FusionS d) ≡ true
+      → HasPartner s.matrix.resolution all (act b (FusionS d)) (plus (point b.pos) d) → (rule : Rule)
+      → fault s all (act b (FusionS d)) rule ≡ None
   secondary_faults d a h Forbidden = rw a refl
   secondary_faults d a h OutOfSpace = let e = h.within in rw e refl
   secondary_faults d a h Blocked = none_blocked s.matrix
   secondary_faults d a h Partner = let e = in_any (are_partners (act b (FusionS d))) h.other all (contained all h.other h.here) h.partners in rw e refl
   secondary_faults d a h _ = refl
 
-  fission_faults : (d : Diff) (m : ℕ) → is_allowed s.profile (Fission d m) ≡ true → IsFreeWay s.matrix (plus (point b.pos) d) (plus (point b.pos) d) → m < length (seed_list b.seeds) → (rule : Rule) → fault s all (act b (Fission d m)) rule ≡ None
+  fission_faults : (d : Diff) (m : ℕ) → is_allowed s.profile (Fission d m) ≡ true
+      → IsFreeWay s.matrix (plus (point b.pos) d) (plus (point b.pos) d) → m < length (seed_list b.seeds)
+      → (rule : Rule) → fault s all (act b (Fission d m)) rule ≡ None
   fission_faults d m a w l Forbidden = rw a refl
   fission_faults d m a w l OutOfSpace = let e = w.within in rw e refl
   fission_faults d m a w l Blocked = none_find _ (all_of s.matrix) (λ c i. one_way (is_within (just (plus (point b.pos) d)) (point c)) (is_full s.matrix c) (w.void c))
   fission_faults d m a w l Seeds = let e = enough (length (seed_list b.seeds)) m l in rw e refl
   fission_faults d m a w l _ = refl
 
-  fill_faults : (d : Diff) → is_allowed s.profile (Fill d) ≡ true → in_space s.matrix.resolution (plus (point b.pos) d) ≡ true → (rule : Rule) → fault s all (act b (Fill d)) rule ≡ None
+  fill_faults : (d : Diff) → is_allowed s.profile (Fill d) ≡ true
+      → in_space s.matrix.resolution (plus (point b.pos) d) ≡ true → (rule : Rule)
+      → fault s all (act b (Fill d)) rule ≡ None
   fill_faults d a i Forbidden = rw a refl
   fill_faults d a i OutOfSpace = rw i refl
   fill_faults d a i Blocked = none_blocked s.matrix
   fill_faults d a i _ = refl
 
-  void_faults : (d : Diff) → is_allowed s.profile (Void d) ≡ true → in_space s.matrix.resolution (plus (point b.pos) d) ≡ true → (rule : Rule) → fault s all (act b (Void d)) rule ≡ None
+  void_faults : (d : Diff) → is_allowed s.profile (Void d) ≡ true
+      → in_space s.matrix.resolution (plus (point b.pos) d) ≡ true → (rule : Rule)
+      → fault s all (act b (Void d)) rule ≡ None
   void_faults d a i Forbidden = rw a refl
   void_faults d a i OutOfSpace = rw i refl
   void_faults d a i Blocked = none_blocked s.matrix
   void_faults d a i _ = refl
 
-  faults_by : (k : Command) → is_allowed s.profile k ≡ true → MayAct s all (act b k) k → (rule : Rule) → fault s all (act b k) rule ≡ None
+  faults_by : (k : Command) → is_allowed s.profile k ≡ true → MayAct s all (act b k) k → (rule : Rule)
+      → fault s all (act b k) rule ≡ None
   faults_by Halt a h = halt_faults a h
   faults_by Wait a h = wait_faults a
   faults_by Flip a h = flip_faults a
@@ -176,7 +194,8 @@ module _ (s : State) (all : List Act) (b : Bot) where
   faults_by (GFill d f) a h = absurd h
   faults_by (GVoid d f) a h = absurd h
 
-pub free_faults : (s : State) (all : List Act) → AreFree s all → (a : Act) (rule : Rule) → In a all → fault s all a rule ≡ None
+pub free_faults : (s : State) (all : List Act) → AreFree s all → (a : Act) (rule : Rule) → In a all
+    → fault s all a rule ≡ None
 free_faults s all h a rule i =
     let f = all_by (IsFree s all) all a h.each i in
     faults_by s all a.bot a.command f.allowed f.may rule
@@ -244,17 +263,21 @@ record IsJoining (r : ℕ) (region : Span) (full : Bool) (p : Point) (c : Comman
   command : c ≡ word full near far
   cornered : IsCornered r region p (plus p near) (plus (plus p near) far)
 
-joining : (r : ℕ) (region : Span) (full : Bool) (p : Point) (c : Command) → MayJoin r region full p c → IsJoining r region full p c
+joining : (r : ℕ) (region : Span) (full : Bool) (p : Point) (c : Command) → MayJoin r region full p c
+    → IsJoining r region full p c
 joining r region true p (GFill d f) h = record { near = d; far = f; command = refl; cornered = h }
 joining r region true p _ h = absurd h
 joining r region false p (GVoid d f) h = record { near = d; far = f; command = refl; cornered = h }
 joining r region false p _ h = absurd h
 
-shared : (full : Bool) (p : Point) (d f : Diff) (q : Point) (e g : Diff) → same_region (between (plus p d) (plus (plus p d) f)) (between (plus q e) (plus (plus q e) g)) ≡ true → share_region p (word full d f) q (word full e g) ≡ true
+shared : (full : Bool) (p : Point) (d f : Diff) (q : Point) (e g : Diff)
+    → same_region (between (plus p d) (plus (plus p d) f)) (between (plus q e) (plus (plus q e) g)) ≡ true
+    → share_region p (word full d f) q (word full e g) ≡ true
 shared true p d f q e g h = h
 shared false p d f q e g h = h
 
-joined : (r : ℕ) (region : Span) (full : Bool) (p : Point) (c : Command) (q : Point) (e : Command) → IsJoining r region full p c → IsJoining r region full q e → share_region p c q e ≡ true
+joined : (r : ℕ) (region : Span) (full : Bool) (p : Point) (c : Command) (q : Point) (e : Command)
+    → IsJoining r region full p c → IsJoining r region full q e → share_region p c q e ≡ true
 joined r region full p c q e h k =
     (λ i. share_region p (h.command i) q (k.command i))
     ∙ shared full p h.near h.far q k.near k.far (region_on (between (plus p h.near) (plus (plus p h.near) h.far)) region (between (plus q k.near) (plus (plus q k.near) k.far)) h.cornered.same (region_back (between (plus q k.near) (plus (plus q k.near) k.far)) region k.cornered.same))
@@ -266,19 +289,24 @@ no_region : (t : Bool) → t ≡ false → (t || false) ≡ false
 no_region t e = rw e refl
 
 module _ (s : State) (all : List Act) (region : Span) (b : Bot) (d f : Diff) (corner : IsCornered s.matrix.resolution region (point b.pos) (plus (point b.pos) d) (plus (plus (point b.pos) d) f)) (many : length all ≡ 2 ^ dimension region) (differ : repeats (flat_map (λ a. corners_of (position a) a.command) all) ≡ false) where
-  stays : not (in_space s.matrix.resolution (plus (point b.pos) d) && (in_space s.matrix.resolution (plus (plus (point b.pos) d) f) && true)) ≡ false
+  stays :
+      not (in_space s.matrix.resolution (plus (point b.pos) d) && (in_space s.matrix.resolution (plus (plus (point b.pos) d) f) && true))
+      ≡ false
   stays = let i = corner.near_within in let j = corner.far_within in rw (i, j) refl
 
   outside : (is_within (between (plus (point b.pos) d) (plus (plus (point b.pos) d) f)) (point b.pos) || false) ≡ false
   outside = no_region _ (within_as (between (plus (point b.pos) d) (plus (plus (point b.pos) d) f)) region (point b.pos) corner.same ∙ corner.outside)
 
-  shaped : (ms : List Act) → ms ≡ all → ((not (length ms == 2 ^ dimension (between (plus (point b.pos) d) (plus (plus (point b.pos) d) f))) || repeats (flat_map (λ a. corners_of (position a) a.command) ms)) || false) ≡ false
+  shaped : (ms : List Act) → ms ≡ all
+      → ((not (length ms == 2 ^ dimension (between (plus (point b.pos) d) (plus (plus (point b.pos) d) f))) || repeats (flat_map (λ a. corners_of (position a) a.command) ms)) || false)
+      ≡ false
   shaped ms e =
       well_shaped (length ms) (2 ^ dimension (between (plus (point b.pos) d) (plus (plus (point b.pos) d) f))) (repeats (flat_map (λ a. corners_of (position a) a.command) ms))
       (ap length e ∙ (many ∙ ap (λ n. 2 ^ n) (sym (dimension_as (between (plus (point b.pos) d) (plus (plus (point b.pos) d) f)) region corner.same))))
       (ap (λ (xs : List Act). repeats (flat_map (λ a. corners_of (position a) a.command) xs)) e ∙ differ)
 
-  gfill_faults : is_allowed s.profile (GFill d f) ≡ true → members all (act b (GFill d f)) ≡ all → (rule : Rule) → fault s all (act b (GFill d f)) rule ≡ None
+  gfill_faults : is_allowed s.profile (GFill d f) ≡ true → members all (act b (GFill d f)) ≡ all → (rule : Rule)
+      → fault s all (act b (GFill d f)) rule ≡ None
   gfill_faults a m Forbidden = rw a refl
   gfill_faults a m OutOfSpace = ap (λ t. cond t (Some b.pos) None) stays
   gfill_faults a m Blocked = none_blocked s.matrix
@@ -286,7 +314,8 @@ module _ (s : State) (all : List Act) (region : Span) (b : Bot) (d f : Diff) (co
   gfill_faults a m GroupShape = ap (λ t. cond t (Some b.pos) None) (shaped (members all (act b (GFill d f))) m)
   gfill_faults a m _ = refl
 
-  gvoid_faults : is_allowed s.profile (GVoid d f) ≡ true → members all (act b (GVoid d f)) ≡ all → (rule : Rule) → fault s all (act b (GVoid d f)) rule ≡ None
+  gvoid_faults : is_allowed s.profile (GVoid d f) ≡ true → members all (act b (GVoid d f)) ≡ all → (rule : Rule)
+      → fault s all (act b (GVoid d f)) rule ≡ None
   gvoid_faults a m Forbidden = rw a refl
   gvoid_faults a m OutOfSpace = ap (λ t. cond t (Some b.pos) None) stays
   gvoid_faults a m Blocked = none_blocked s.matrix
@@ -294,7 +323,8 @@ module _ (s : State) (all : List Act) (region : Span) (b : Bot) (d f : Diff) (co
   gvoid_faults a m GroupShape = ap (λ t. cond t (Some b.pos) None) (shaped (members all (act b (GVoid d f))) m)
   gvoid_faults a m _ = refl
 
-  word_faults : (full : Bool) → is_allowed s.profile (word full d f) ≡ true → members all (act b (word full d f)) ≡ all → (rule : Rule) → fault s all (act b (word full d f)) rule ≡ None
+  word_faults : (full : Bool) → is_allowed s.profile (word full d f) ≡ true → members all (act b (word full d f)) ≡ all
+      → (rule : Rule) → fault s all (act b (word full d f)) rule ≡ None
   word_faults true = gfill_faults
   word_faults false = gvoid_faults
 

@@ -37,13 +37,15 @@ all_none [] h = refl
 all_none (Some a ∷ more) h = let e = h (Some a) (inl refl) in cc
 all_none (None ∷ more) h = all_none more (λ x i. h x (inr i))
 
-pub nobody_left : (bots : List Bot) (commands : List Command) → length commands ≡ length bots → slice_get bots (length commands) ≡ None
+pub nobody_left : (bots : List Bot) (commands : List Command) → length commands ≡ length bots
+    → slice_get bots (length commands) ≡ None
 nobody_left [] commands e = refl
 nobody_left (b ∷ bots) [] e = absurd (omega arith)
 nobody_left (b ∷ bots) (k ∷ commands) e = nobody_left bots commands (omega arith)
 
 -- the bots of the acts, where there are as many commands
-pub all_bots : (bots : List Bot) (commands : List Command) → length commands ≡ length bots → map (λ (a : Act). a.bot) (acts bots commands) ≡ bots
+pub all_bots : (bots : List Bot) (commands : List Command) → length commands ≡ length bots
+    → map (λ (a : Act). a.bot) (acts bots commands) ≡ bots
 all_bots bots commands lengths = commanded bots commands (nobody_left bots commands lengths)
 
 -- no coordinate is volatile for both bots
@@ -55,10 +57,12 @@ abbrev pub Agree : Act → Act → Type 0
 Agree a b = (are_together a b ≡ true) ⊎ AreClear a b
 
 module _ (m : Matrix) (all : List Act) (apart : AreApart all) (agree : (a b : Act) → In a all → In b all → Agree a b) where
-  no_clash : (l d : Act) → In l (leaders all) → In d (leaders all) → (l.bot.bid ≡ d.bot.bid → ⊥) → clash m all l d ≡ None
+  no_clash : (l d : Act) → In l (leaders all) → In d (leaders all) → (l.bot.bid ≡ d.bot.bid → ⊥)
+      → clash m all l d ≡ None
   no_clash l d i j differ = none_find (λ c. is_volatile all l (point c) && is_volatile all d (point c)) (all_of m) (λ c k. false_by (is_volatile all l (point c) && is_volatile all d (point c)) (never c))
     where
-      at : (c : Coord) (x y : Act) → In x all → In y all → are_together l x ≡ true → are_together d y ≡ true → is_volatile_of (point c) x ≡ true → is_volatile_of (point c) y ≡ true → Agree x y → ⊥
+      at : (c : Coord) (x y : Act) → In x all → In y all → are_together l x ≡ true → are_together d y ≡ true
+          → is_volatile_of (point c) x ≡ true → is_volatile_of (point c) y ≡ true → Agree x y → ⊥
       at c x y i' j' t u v w (inr clear) = clear c v w
       at c x y i' j' t u v w (inl s) =
           let il = (filter_in (is_leader all) l all i).0 in
@@ -75,11 +79,13 @@ module _ (m : Matrix) (all : List Act) (apart : AreApart all) (agree : (a b : Ac
           let yi = filter_in (are_together d) y.0 all y.1 in
           at c x.0 y.0 xi.0 yi.0 xi.1 yi.1 x.2 y.2 (agree x.0 y.0 xi.0 yi.0)
 
-  no_pairs : (step : ℕ) (xs : List Act) → Differ (λ (a : Act). a.bot.bid) xs → ((a : Act) → In a xs → In a (leaders all)) → (j : Option Broken) → In j (judge_pairs m all step xs) → j ≡ None
+  no_pairs : (step : ℕ) (xs : List Act) → Differ (λ (a : Act). a.bot.bid) xs
+      → ((a : Act) → In a xs → In a (leaders all)) → (j : Option Broken) → In j (judge_pairs m all step xs) → j ≡ None
   no_pairs step [] d h j i = absurd i
   no_pairs step (a ∷ more) d h j i = by (in_either j (map (λ b. broken_by step Interference a.bot.bid (clash m all a b)) more) (judge_pairs m all step more) i) (no_pairs step more d.1 (λ b l. h b (inr l)) j)
     where
-      by : In j (map (λ b. broken_by step Interference a.bot.bid (clash m all a b)) more) ⊎ In j (judge_pairs m all step more) → (In j (judge_pairs m all step more) → j ≡ None) → j ≡ None
+      by : In j (map (λ b. broken_by step Interference a.bot.bid (clash m all a b)) more)
+          ⊎ In j (judge_pairs m all step more) → (In j (judge_pairs m all step more) → j ≡ None) → j ≡ None
       by (inl k) later =
           let w = map_in (λ b. broken_by step Interference a.bot.bid (clash m all a b)) j more k in
           w.2 ∙ ap (broken_by step Interference a.bot.bid) (no_clash a w.0 (h a (inl refl)) (h w.0 (inr w.1)) (d.0 w.0 w.1))
@@ -99,10 +105,13 @@ module _ (s : State) (commands : List Command) (step : ℕ) (ready : IsReady s) 
       all : List Act
       all = acts s.bots commands
 
-      rest : (j : Option Broken) → In j (judge_bots s (acts s.bots commands) step) ⊎ In j (judge_pairs s.matrix (acts s.bots commands) step (leaders (acts s.bots commands))) → j ≡ None
+      rest : (j : Option Broken) → In j (judge_bots s (acts s.bots commands) step)
+          ⊎ In j (judge_pairs s.matrix (acts s.bots commands) step (leaders (acts s.bots commands))) → j ≡ None
       rest j (inl i) = no_faults j i
       rest j (inr i) = no_pairs s.matrix (acts s.bots commands) (apart_is s (acts s.bots commands) ready (all_bots s.bots commands lengths)) agree step (leaders (acts s.bots commands)) (differ_filter (λ (a : Act). a.bot.bid) (is_leader (acts s.bots commands)) (acts s.bots commands) (differ_acts (acts s.bots commands) (up s (acts s.bots commands) ready (all_bots s.bots commands lengths)))) (λ a k. k) j i
 
-      each : (j : Option Broken) → In j (judge_trace s commands step ∷ (judge_bots s (acts s.bots commands) step ++ judge_pairs s.matrix (acts s.bots commands) step (leaders (acts s.bots commands)))) → j ≡ None
+      each : (j : Option Broken)
+          → In j (judge_trace s commands step ∷ (judge_bots s (acts s.bots commands) step ++ judge_pairs s.matrix (acts s.bots commands) step (leaders (acts s.bots commands))))
+          → j ≡ None
       each j (inl e) = e ∙ ap (option_map (λ (bot : Bot). _)) (nobody_left s.bots commands lengths)
       each j (inr i) = rest j (in_either j (judge_bots s (acts s.bots commands) step) (judge_pairs s.matrix (acts s.bots commands) step (leaders (acts s.bots commands))) i)

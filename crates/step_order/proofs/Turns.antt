@@ -87,7 +87,8 @@ module _ (s : State) (all : List Act) (good : IsGood s all) (before rest : List 
       ∙ in_any_order s all good (before ++ l ∷ []) rest (subst (λ (xs : List Act). AreLeaders all xs) (sym (moved_over l before rest)) perm)))
 
   -- a bot where one that comes of the leader is to stand is the leader's
-  pub stands_apart : (x y : Bot) → In x (successors (members all l) l l.command) → In y (after_some s all before).bots → x.pos ≡ y.pos → y ≡ l.bot
+  pub stands_apart : (x y : Bot) → In x (successors (members all l) l l.command) → In y (after_some s all before).bots
+      → x.pos ≡ y.pos → y ≡ l.bot
   stands_apart x y i j e = by (subst (λ (bots : List Bot). In y bots) (sym (ap (λ (t : State). t.bots) so_far)) j)
     where
       leads : In l all
@@ -110,20 +111,35 @@ module _ (s : State) (all : List Act) (good : IsGood s all) (before rest : List 
 
 -- the same for the commands of a step that breaks no rule
 module _ (s : State) (commands : List Command) (step : ℕ) (ready : IsReady s) (keep : broken s commands step ≡ None) where
-  pub bots_met : (before rest : List Act) (l : Act) → IsPermutation (leaders (acts s.bots commands)) (before ++ l ∷ rest) → group_in (after_some s (acts s.bots commands) before) (acts s.bots commands) l ≡ members (acts s.bots commands) l
+  pub bots_met : (before rest : List Act) (l : Act)
+      → IsPermutation (leaders (acts s.bots commands)) (before ++ l ∷ rest)
+      → group_in (after_some s (acts s.bots commands) before) (acts s.bots commands) l
+      ≡ members (acts s.bots commands) l
   bots_met before rest l perm = meets s (acts s.bots commands) (good_is s commands step ready keep) before rest l (in_order (acts s.bots commands) (before ++ l ∷ rest) perm)
 
-  pub rules_met : (before rest : List Act) (l : Act) → IsPermutation (leaders (acts s.bots commands)) (before ++ l ∷ rest) → IsTrue (keeps_rules (after_some s (acts s.bots commands) before) (members (acts s.bots commands) l))
+  pub rules_met : (before rest : List Act) (l : Act)
+      → IsPermutation (leaders (acts s.bots commands)) (before ++ l ∷ rest)
+      → IsTrue (keeps_rules (after_some s (acts s.bots commands) before) (members (acts s.bots commands) l))
   rules_met before rest l perm = keeps s (acts s.bots commands) (good_is s commands step ready keep) before rest l (in_order (acts s.bots commands) (before ++ l ∷ rest) perm)
 
-  pub places_met : (before rest : List Act) (l : Act) → IsPermutation (leaders (acts s.bots commands)) (before ++ l ∷ rest) → (x y : Bot) → Contains (successors (members (acts s.bots commands) l) l l.command) x → Contains (after_some s (acts s.bots commands) before).bots y → x.pos ≡ y.pos → y ≡ l.bot
+  pub places_met : (before rest : List Act) (l : Act)
+      → IsPermutation (leaders (acts s.bots commands)) (before ++ l ∷ rest) → (x y : Bot)
+      → Contains (successors (members (acts s.bots commands) l) l l.command) x
+      → Contains (after_some s (acts s.bots commands) before).bots y → x.pos ≡ y.pos → y ≡ l.bot
   places_met before rest l perm x y i j e = stands_apart s (acts s.bots commands) (good_is s commands step ready keep) before rest l (in_order (acts s.bots commands) (before ++ l ∷ rest) perm) x y (held x _ i) (held y _ j) e
 
-  pub turn_taken : (before rest : List Act) (l : Act) → IsPermutation (leaders (acts s.bots commands)) (before ++ l ∷ rest) → after_group (after_some s (acts s.bots commands) before) (members (acts s.bots commands) l) ≡ after_some s (acts s.bots commands) (before ++ l ∷ [])
+  pub turn_taken : (before rest : List Act) (l : Act)
+      → IsPermutation (leaders (acts s.bots commands)) (before ++ l ∷ rest)
+      → after_group (after_some s (acts s.bots commands) before) (members (acts s.bots commands) l)
+      ≡ after_some s (acts s.bots commands) (before ++ l ∷ [])
   turn_taken before rest l perm = leaves s (acts s.bots commands) (good_is s commands step ready keep) before rest l (in_order (acts s.bots commands) (before ++ l ∷ rest) perm)
 
-  pub all_taken : (order : List Act) → IsPermutation (leaders (acts s.bots commands)) order → after_some s (acts s.bots commands) order ≡ after_acts s (acts s.bots commands)
+  pub all_taken : (order : List Act) → IsPermutation (leaders (acts s.bots commands)) order
+      → after_some s (acts s.bots commands) order ≡ after_acts s (acts s.bots commands)
   all_taken order perm = at_last s (acts s.bots commands) (good_is s commands step ready keep) order (in_order (acts s.bots commands) order perm)
 
-  pub apart_are : (l d : Act) (c : Coord) → Contains (leaders (acts s.bots commands)) l → Contains (leaders (acts s.bots commands)) d → l ≢ d → IsInSpace s.matrix.resolution c → IsTrue (is_volatile (acts s.bots commands) l (point c)) → IsFalse (is_volatile (acts s.bots commands) d (point c))
+  pub apart_are : (l d : Act) (c : Coord) → Contains (leaders (acts s.bots commands)) l
+      → Contains (leaders (acts s.bots commands)) d → l ≢ d → IsInSpace s.matrix.resolution c
+      → IsTrue (is_volatile (acts s.bots commands) l (point c))
+      → IsFalse (is_volatile (acts s.bots commands) d (point c))
   apart_are l d c i j ne w v = false_by (is_volatile (acts s.bots commands) d (point c)) (λ u. (good_is s commands step ready keep).clear l d (held l (leaders (acts s.bots commands)) i) (held d (leaders (acts s.bots commands)) j) ne c w v u)

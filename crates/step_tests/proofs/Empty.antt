@@ -5,6 +5,7 @@ use Rattle.nano_spec.specs.Grounded.{FirstUngrounded}
 use Rattle.nano_spec.specs.Matrix.{Matrix, empty}
 use Rattle.nano_spec.proofs.EmptyModel.{empty_is_grounded}
 
-pub made_is_grounded : {E : Type 0} (r : ℕ) (made : Result Matrix E) → IfOk made (λ m. m ≡ empty r) → IfOk made (λ m. FirstUngrounded m None)
+pub made_is_grounded : {E : Type 0} (r : ℕ) (made : Result Matrix E) → IfOk made (λ m. m ≡ empty r)
+    → IfOk made (λ m. FirstUngrounded m None)
 made_is_grounded r (Ok m) e = empty_is_grounded m r e
 made_is_grounded r (Err x) e = tt

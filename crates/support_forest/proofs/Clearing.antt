@@ -15,7 +15,8 @@ use Rattle.support_forest.proofs.Taking.{exact_without}
 
 -- ---- voxels of a row become void
 
-free_now : (old now : Grid) (c : Coord) (k n before steps : ℕ) → RowIsFree (word_at old) c n → AreCleared old now c (k + 1) n before steps → k < n → IsNoParent (word_at now) (further c k)
+free_now : (old now : Grid) (c : Coord) (k n before steps : ℕ) → RowIsFree (word_at old) c n
+    → AreCleared old now c (k + 1) n before steps → k < n → IsNoParent (word_at now) (further c k)
 unfolding Toward
 free_now old now c k n before steps f a l q h t = by t
   where
@@ -57,7 +58,10 @@ free_now old now c k n before steps f a l q h t = by t
           | inr m ↦ f.near 0 q (omega arith) (inr (inr (inr (inr (inl (refl, omega arith, omega arith, omega arith)))))) (omega arith) (omega arith)
         ]
 
-pub cleared_more : (old now new : Grid) (c : Coord) (k n before steps after : ℕ) → RowIsFree (word_at old) c n → AreCleared old now c (k + 1) n before steps → k < n → IsWritten (word_at now) (word_at new) (further c k) 0 → new.resolution ≡ now.resolution → new.table ≡ now.table → after ≤ steps + 2 → AreCleared old new c k n before after
+pub cleared_more : (old now new : Grid) (c : Coord) (k n before steps after : ℕ) → RowIsFree (word_at old) c n
+    → AreCleared old now c (k + 1) n before steps → k < n → IsWritten (word_at now) (word_at new) (further c k) 0
+    → new.resolution ≡ now.resolution → new.table ≡ now.table → after ≤ steps + 2
+    → AreCleared old new c k n before after
 cleared_more old now new c k n before steps after f a l w r t s = record {
   resolution = r ∙ a.resolution;
   table = t ∙ a.table;
@@ -71,7 +75,8 @@ cleared_more old now new c k n before steps after f a l w r t s = record {
   cost = let o = a.cost in omega arith;
 }
 
-pub before_left : (old now : Grid) (c : Coord) (k n before steps : ℕ) → 0 < k → AreCleared old now c k n before steps → AreCleared old now c (k - 1 + 1) n before steps
+pub before_left : (old now : Grid) (c : Coord) (k n before steps : ℕ) → 0 < k → AreCleared old now c k n before steps
+    → AreCleared old now c (k - 1 + 1) n before steps
 before_left old now c k n before steps h a = let e : k ≡ k - 1 + 1 = omega arith in subst (λ (i : ℕ). AreCleared old now c i n before steps) e a
 
 -- ---- voxels of the list that were taken or listed
@@ -87,28 +92,40 @@ in_row d c (suc n) = elim (same_or_not d (further c n)) [
   ]
 ]
 
-pub taking_whole : (old now : Grid) (gone : List Coord) (i : ℕ) (rest : List Coord) (before steps k : ℕ) (x : Coord) → CanRemove old gone → IsTaking old now gone i rest before steps → k < i → x ≡ slice_index_or gone k x → 0 < word_at now x
+pub taking_whole : (old now : Grid) (gone : List Coord) (i : ℕ) (rest : List Coord) (before steps k : ℕ) (x : Coord)
+    → CanRemove old gone → IsTaking old now gone i rest before steps → k < i → x ≡ slice_index_or gone k x
+    → 0 < word_at now x
 taking_whole old now gone i rest before steps k x a p l e = let w = p.within in elim (p.each x) [
   | inl f ↦ let z = a.full x (k, omega arith, sym e) in omega arith
   | inr f ↦ let b : i ≤ f.1.0 = f.1.1 in absurd (a.differ k f.1.0 x (omega arith) f.1.2 (sym e ∙ sym f.1.3))
 ]
 
-pub one_taken : (now new : Grid) (gone : List Coord) (end count : ℕ) (rest : List Coord) (steps after : ℕ) (x : Coord) → count ≡ 1 → count ≤ end → x ≡ slice_index_or gone (end - count) x → HaveTaken now new x steps after → TakesMore now new gone end (end - count) rest rest steps after
+pub one_taken : (now new : Grid) (gone : List Coord) (end count : ℕ) (rest : List Coord) (steps after : ℕ) (x : Coord)
+    → count ≡ 1 → count ≤ end → x ≡ slice_index_or gone (end - count) x → HaveTaken now new x steps after
+    → TakesMore now new gone end (end - count) rest rest steps after
 one_taken now new gone end count rest steps after x c l e h old before a p =
     let s : end ≡ end - count + 1 = omega arith in
     taking_taken old now new gone (end - count) rest before steps after x a (subst (λ (i : ℕ). IsTaking old now gone i rest before steps) s p) e h
 
-pub one_listed : (now new : Grid) (gone : List Coord) (end count : ℕ) (rest more : List Coord) (steps after : ℕ) (x : Coord) → count ≡ 1 → count ≤ end → x ≡ slice_index_or gone (end - count) x → new ≡ now → after ≤ steps + 6 → more ≡ rest ++ x ∷ [] → TakesMore now new gone end (end - count) rest more steps after
+pub one_listed : (now new : Grid) (gone : List Coord) (end count : ℕ) (rest more : List Coord) (steps after : ℕ)
+    (x : Coord) → count ≡ 1 → count ≤ end → x ≡ slice_index_or gone (end - count) x → new ≡ now → after ≤ steps + 6
+    → more ≡ rest ++ x ∷ [] → TakesMore now new gone end (end - count) rest more steps after
 one_listed now new gone end count rest more steps after x c l e n s m old before a p =
     let q : end ≡ end - count + 1 = omega arith in
     taking_listed old now new gone (end - count) rest more before steps after x a (subst (λ (i : ℕ). IsTaking old now gone i rest before steps) q p) e n s m
 
-pub list_more : (gone : List Coord) (end left : ℕ) (first rest more : List Coord) (next : Coord) → 0 < left → left ≤ end → ((now : Grid) (steps : ℕ) → TakesMore now now gone end left first rest steps (steps + 6 * (end - left))) → next ≡ slice_index_or gone (left - 1) next → more ≡ rest ++ next ∷ [] → (now : Grid) (steps : ℕ) → TakesMore now now gone end (left - 1) first more steps (steps + 6 * (end - (left - 1)))
+pub list_more : (gone : List Coord) (end left : ℕ) (first rest more : List Coord) (next : Coord) → 0 < left → left ≤ end
+    → ((now : Grid) (steps : ℕ) → TakesMore now now gone end left first rest steps (steps + 6 * (end - left)))
+    → next ≡ slice_index_or gone (left - 1) next → more ≡ rest ++ next ∷ [] → (now : Grid) (steps : ℕ)
+    → TakesMore now now gone end (left - 1) first more steps (steps + 6 * (end - (left - 1)))
 list_more gone end left first rest more next s l h e m now steps old before a p =
     taking_listed old now now gone (left - 1) rest more before (steps + 6 * (end - left)) (steps + 6 * (end - (left - 1))) next a
     (before_last old now gone left rest before (steps + 6 * (end - left)) s (h now steps old before a p)) e refl (omega arith) m
 
-pub row_listed : (now : Grid) (gone : List Coord) (end count : ℕ) (rest more : List Coord) (steps after : ℕ) → 2 ≤ count → count ≤ end → after ≤ steps + 5 * count + 2 → TakesMore now now gone end (end - count) rest more steps (steps + 6 * (end - (end - count))) → TakesMore now now gone end (end - count) rest more steps after
+pub row_listed : (now : Grid) (gone : List Coord) (end count : ℕ) (rest more : List Coord) (steps after : ℕ) → 2 ≤ count
+    → count ≤ end → after ≤ steps + 5 * count + 2
+    → TakesMore now now gone end (end - count) rest more steps (steps + 6 * (end - (end - count)))
+    → TakesMore now now gone end (end - count) rest more steps after
 row_listed now gone end count rest more steps after b l s h old before a p =
     let t = h old before a p in
     record {
@@ -123,7 +140,9 @@ row_listed now gone end count rest more steps after b l s h old before a p =
       cost = let o = t.cost in omega arith;
     }
 
-pub row_cleared : (now new : Grid) (gone : List Coord) (end count : ℕ) (rest : List Coord) (steps mid after : ℕ) (c : Coord) → 2 ≤ count → count ≤ end → IsStretch gone (end - count) count c → mid ≤ steps + 5 * count + 2 → AreCleared now new c 0 count mid after → TakesMore now new gone end (end - count) rest rest steps after
+pub row_cleared : (now new : Grid) (gone : List Coord) (end count : ℕ) (rest : List Coord) (steps mid after : ℕ)
+    (c : Coord) → 2 ≤ count → count ≤ end → IsStretch gone (end - count) count c → mid ≤ steps + 5 * count + 2
+    → AreCleared now new c 0 count mid after → TakesMore now new gone end (end - count) rest rest steps after
 row_cleared now new gone end count rest steps mid after c b l s m h old before a p = record {
   resolution = h.resolution ∙ p.resolution;
   exact = h.exact;

@@ -28,7 +28,8 @@ pub none_differ : (xs : List Coord) → xs ≡ [] → AllPairs ◌≢◌ xs
 none_differ xs e i j d l k = let z : length xs ≡ 0 = ap length e in absurd (omega arith)
 
 -- what differs from all that is listed may be listed too
-pub differ_more : (xs : List Coord) (c : Coord) → AllPairs ◌≢◌ xs → ((d : Coord) → Contains xs d → d ≡ c → ⊥) → AllPairs ◌≢◌ (xs ++ c ∷ [])
+pub differ_more : (xs : List Coord) (c : Coord) → AllPairs ◌≢◌ xs → ((d : Coord) → Contains xs d → d ≡ c → ⊥)
+    → AllPairs ◌≢◌ (xs ++ c ∷ [])
 differ_more xs c h n i j d l k e =
     let whole : length (xs ++ c ∷ []) ≡ length xs + 1 = length-append xs (c ∷ []) in
     let before : slice_index_or (xs ++ c ∷ []) i d ≡ slice_index_or xs i d = get_or_append_left xs (c ∷ []) d i (omega arith) in
@@ -41,7 +42,8 @@ differ_more xs c h n i j d l k e =
     ]
 
 -- a voxel that has a level has one also where more voxels are full
-still_level : (r s : ℕ) (w v : Coord → ℕ) → AreExact r w → AreExact s v → ((c : Coord) → 0 < w c → 0 < v c) → (n : ℕ) (c : Coord) → height w c ≤ n → 8 ≤ w c → 8 ≤ v c
+still_level : (r s : ℕ) (w v : Coord → ℕ) → AreExact r w → AreExact s v → ((c : Coord) → 0 < w c → 0 < v c) → (n : ℕ)
+    (c : Coord) → height w c ≤ n → 8 ≤ w c → 8 ≤ v c
 still_level r s w v e f k zero c l h = absurd (omega arith)
 still_level r s w v e f k (suc n) c l h = elim (e.parent c h) [
   | inl p ↦ let z : v c ≡ 8 = f.floor c (k c (omega arith)) p.1 in omega arith
@@ -63,7 +65,8 @@ pub record IsPlacing (old now : Grid) (cells : List Coord) (i : ℕ) (rest : Lis
   pub few : length rest ≤ i
   pub cost : steps + length rest ≤ before + 7 * i
 
-pub placing_none : (old : Grid) (cells rest : List Coord) (before : ℕ) → CanAdd old cells → rest ≡ [] → IsPlacing old old cells 0 rest before before
+pub placing_none : (old : Grid) (cells rest : List Coord) (before : ℕ) → CanAdd old cells → rest ≡ []
+    → IsPlacing old old cells 0 rest before before
 placing_none old cells rest before a e = record {
   resolution = refl;
   exact = a.exact;
@@ -78,23 +81,32 @@ placing_none old cells rest before a e = record {
 later_mark : (cells : List Coord) (i : ℕ) (c : Coord) → IsMarked cells i c → IsMarked cells (i + 1) c
 later_mark cells i c m = let l : m.0 < i = m.1 in (m.0, omega arith, m.2, m.3)
 
-mark_cases : (cells : List Coord) (i : ℕ) (c x : Coord) → i < length cells → x ≡ slice_index_or cells i x → IsMarked cells (i + 1) c → IsMarked cells i c ⊎ (c ≡ x)
+mark_cases : (cells : List Coord) (i : ℕ) (c x : Coord) → i < length cells → x ≡ slice_index_or cells i x
+    → IsMarked cells (i + 1) c → IsMarked cells i c ⊎ (c ≡ x)
 mark_cases cells i c x l e m = elim (cases_lt m.0 i) [
   | inl k ↦ inl (m.0, k, m.2, m.3)
   | inr k ↦ let b : m.0 < i + 1 = m.1 in let p : m.0 ≡ i = omega arith in inr (sym m.3 ∙ (ap (λ (h : ℕ). slice_index_or cells h c) p ∙ (get_or_default cells i c x l ∙ sym e)))
 ]
 
 -- a later cell is none of the first
-not_marked : (old : Grid) (cells : List Coord) (i : ℕ) (x : Coord) → CanAdd old cells → i < length cells → x ≡ slice_index_or cells i x → IsMarked cells i x → ⊥
+not_marked : (old : Grid) (cells : List Coord) (i : ℕ) (x : Coord) → CanAdd old cells → i < length cells
+    → x ≡ slice_index_or cells i x → IsMarked cells i x → ⊥
 not_marked old cells i x a l e m = a.differ m.0 i x m.1 l (m.3 ∙ e)
 
-pub placing_void : (old now : Grid) (cells : List Coord) (i : ℕ) (rest : List Coord) (before steps : ℕ) (x : Coord) → CanAdd old cells → IsPlacing old now cells i rest before steps → i < length cells → x ≡ slice_index_or cells i x → word_at now x ≡ 0
+pub placing_void : (old now : Grid) (cells : List Coord) (i : ℕ) (rest : List Coord) (before steps : ℕ) (x : Coord)
+    → CanAdd old cells → IsPlacing old now cells i rest before steps → i < length cells → x ≡ slice_index_or cells i x
+    → word_at now x ≡ 0
 placing_void old now cells i rest before steps x a p l e = elim (p.each x) [ inl f ↦ f ∙ a.void x (i, l, sym e) | inr f ↦ absurd (not_marked old cells i x a l e f.1) ]
 
-pub placing_space : (old now : Grid) (cells : List Coord) (i : ℕ) (rest : List Coord) (before steps : ℕ) (x : Coord) → CanAdd old cells → IsPlacing old now cells i rest before steps → i < length cells → x ≡ slice_index_or cells i x → IsInSpace now.resolution x
+pub placing_space : (old now : Grid) (cells : List Coord) (i : ℕ) (rest : List Coord) (before steps : ℕ) (x : Coord)
+    → CanAdd old cells → IsPlacing old now cells i rest before steps → i < length cells → x ≡ slice_index_or cells i x
+    → IsInSpace now.resolution x
 placing_space old now cells i rest before steps x a p l e = subst (λ (r : ℕ). IsInSpace r x) (sym p.resolution) (a.space x (i, l, sym e))
 
-pub placing_placed : (old now new : Grid) (cells : List Coord) (i : ℕ) (rest : List Coord) (before steps after : ℕ) (x : Coord) → CanAdd old cells → IsPlacing old now cells i rest before steps → i < length cells → x ≡ slice_index_or cells i x → HavePlaced now new x steps after → IsPlacing old new cells (i + 1) rest before after
+pub placing_placed : (old now new : Grid) (cells : List Coord) (i : ℕ) (rest : List Coord) (before steps after : ℕ)
+    (x : Coord) → CanAdd old cells → IsPlacing old now cells i rest before steps → i < length cells
+    → x ≡ slice_index_or cells i x → HavePlaced now new x steps after
+    → IsPlacing old new cells (i + 1) rest before after
 placing_placed old now new cells i rest before steps after x a p l e h = record {
   resolution = h.resolution ∙ p.resolution;
   exact = h.exact;
@@ -112,7 +124,10 @@ placing_placed old now new cells i rest before steps after x a p l e h = record 
   cost = omega (arith, p.cost, h.cost);
 }
 
-pub placing_listed : (old now new : Grid) (cells : List Coord) (i : ℕ) (rest more : List Coord) (before steps after : ℕ) (x : Coord) → CanAdd old cells → IsPlacing old now cells i rest before steps → i < length cells → x ≡ slice_index_or cells i x → new ≡ now → after ≤ steps + 6 → more ≡ rest ++ x ∷ [] → IsPlacing old new cells (i + 1) more before after
+pub placing_listed : (old now new : Grid) (cells : List Coord) (i : ℕ) (rest more : List Coord) (before steps after : ℕ)
+    (x : Coord) → CanAdd old cells → IsPlacing old now cells i rest before steps → i < length cells
+    → x ≡ slice_index_or cells i x → new ≡ now → after ≤ steps + 6 → more ≡ rest ++ x ∷ []
+    → IsPlacing old new cells (i + 1) more before after
 placing_listed old now new cells i rest more before steps after x a p l e s t m = subst (λ (v : Grid). IsPlacing old v cells (i + 1) more before after) (sym s) (subst (λ (xs : List Coord). IsPlacing old now cells (i + 1) xs before after) (sym m) (record {
   resolution = p.resolution;
   exact = p.exact;
@@ -130,7 +145,8 @@ placing_listed old now new cells i rest more before steps after x a p l e s t m 
   cost = let n : length (rest ++ x ∷ []) ≡ length rest + 1 = length-append rest (x ∷ []) in omega (arith, p.cost);
 }))
 
-pub are_placed : (old now : Grid) (cells : List Coord) (i : ℕ) (rest : List Coord) (before steps : ℕ) → CanAdd old cells → IsPlacing old now cells i rest before steps → i ≡ length cells → ArePlaced old now cells rest before steps
+pub are_placed : (old now : Grid) (cells : List Coord) (i : ℕ) (rest : List Coord) (before steps : ℕ) → CanAdd old cells
+    → IsPlacing old now cells i rest before steps → i ≡ length cells → ArePlaced old now cells rest before steps
 are_placed old now cells i rest before steps a p e = record {
   resolution = p.resolution;
   left = record {
@@ -151,7 +167,10 @@ are_placed old now cells i rest before steps a p e = record {
     in_cells c m = (m.0, m.2, m.3)
 
 -- a level that changed since some were placed changed
-changed_since_placed : (old now new : Grid) (cells rest : List Coord) (before steps : ℕ) → CanAdd old cells → ArePlaced old now cells rest before steps → AreExact new.resolution (word_at new) → ((c : Coord) → 0 < word_at now c → 0 < word_at new c) → changed now.resolution (word_at now) (word_at new) ≤ changed old.resolution (word_at old) (word_at new)
+changed_since_placed : (old now new : Grid) (cells rest : List Coord) (before steps : ℕ) → CanAdd old cells
+    → ArePlaced old now cells rest before steps → AreExact new.resolution (word_at new)
+    → ((c : Coord) → 0 < word_at now c → 0 < word_at new c)
+    → changed now.resolution (word_at now) (word_at new) ≤ changed old.resolution (word_at old) (word_at new)
 unfolding changed
 changed_since_placed old now new cells rest before steps a p e k =
     subst (λ (r : ℕ). count_by (has_changed (word_at now) (word_at new)) (coordinates r) ≤ count_by (has_changed (word_at old) (word_at new)) (coordinates old.resolution)) (sym p.resolution)
@@ -166,7 +185,9 @@ changed_since_placed old now new cells rest before steps a p e k =
       ]
     ]
 
-pub placed_and_added : (old now new : Grid) (cells rest : List Coord) (before steps after : ℕ) → CanAdd old cells → ArePlaced old now cells rest before steps → HaveAdded now new rest 14 steps after → HaveAdded old new cells 20 before after
+pub placed_and_added : (old now new : Grid) (cells rest : List Coord) (before steps after : ℕ) → CanAdd old cells
+    → ArePlaced old now cells rest before steps → HaveAdded now new rest 14 steps after
+    → HaveAdded old new cells 20 before after
 placed_and_added old now new cells rest before steps after a p h = record {
   resolution = h.resolution ∙ p.resolution;
   exact = h.exact;
@@ -178,7 +199,8 @@ placed_and_added old now new cells rest before steps after a p h = record {
 
 -- ---- voxels that become void
 
-pub taking_none : (old : Grid) (gone rest : List Coord) (before : ℕ) → CanRemove old gone → rest ≡ [] → IsTaking old old gone (length gone) rest before before
+pub taking_none : (old : Grid) (gone rest : List Coord) (before : ℕ) → CanRemove old gone → rest ≡ []
+    → IsTaking old old gone (length gone) rest before before
 taking_none old gone rest before a e = record {
   resolution = refl;
   exact = a.exact;
@@ -192,27 +214,34 @@ taking_none old gone rest before a e = record {
 }
 
 -- before the last of those that are left is looked at
-pub before_last : (old now : Grid) (gone : List Coord) (i : ℕ) (rest : List Coord) (before steps : ℕ) → 0 < i → IsTaking old now gone i rest before steps → IsTaking old now gone (i - 1 + 1) rest before steps
+pub before_last : (old now : Grid) (gone : List Coord) (i : ℕ) (rest : List Coord) (before steps : ℕ) → 0 < i
+    → IsTaking old now gone i rest before steps → IsTaking old now gone (i - 1 + 1) rest before steps
 before_last old now gone i rest before steps s p = let e : i ≡ i - 1 + 1 = omega arith in subst (λ (k : ℕ). IsTaking old now gone k rest before steps) e p
 
 earlier_past : (gone : List Coord) (i : ℕ) (c : Coord) → IsPast gone (i + 1) c → IsPast gone i c
 earlier_past gone i c m = let l : i + 1 ≤ m.0 = m.1 in (m.0, omega arith, m.2, m.3)
 
-past_cases : (gone : List Coord) (i : ℕ) (c x : Coord) → i < length gone → x ≡ slice_index_or gone i x → IsPast gone i c → IsPast gone (i + 1) c ⊎ (c ≡ x)
+past_cases : (gone : List Coord) (i : ℕ) (c x : Coord) → i < length gone → x ≡ slice_index_or gone i x → IsPast gone i c
+    → IsPast gone (i + 1) c ⊎ (c ≡ x)
 past_cases gone i c x l e m = elim (cases_lt i m.0) [
   | inl k ↦ inl (m.0, omega arith, m.2, m.3)
   | inr k ↦ let b : i ≤ m.0 = m.1 in let p : m.0 ≡ i = omega arith in inr (sym m.3 ∙ (ap (λ (h : ℕ). slice_index_or gone h c) p ∙ (get_or_default gone i c x l ∙ sym e)))
 ]
 
-not_past : (old : Grid) (gone : List Coord) (i : ℕ) (x : Coord) → CanRemove old gone → i < length gone → x ≡ slice_index_or gone i x → IsPast gone (i + 1) x → ⊥
+not_past : (old : Grid) (gone : List Coord) (i : ℕ) (x : Coord) → CanRemove old gone → i < length gone
+    → x ≡ slice_index_or gone i x → IsPast gone (i + 1) x → ⊥
 not_past old gone i x a l e m = let b : i + 1 ≤ m.0 = m.1 in a.differ i m.0 x (omega arith) m.2 (sym e ∙ sym m.3)
 
-pub taking_full : (old now : Grid) (gone : List Coord) (i : ℕ) (rest : List Coord) (before steps : ℕ) (x : Coord) → CanRemove old gone → IsTaking old now gone (i + 1) rest before steps → x ≡ slice_index_or gone i x → 0 < word_at now x
+pub taking_full : (old now : Grid) (gone : List Coord) (i : ℕ) (rest : List Coord) (before steps : ℕ) (x : Coord)
+    → CanRemove old gone → IsTaking old now gone (i + 1) rest before steps → x ≡ slice_index_or gone i x
+    → 0 < word_at now x
 taking_full old now gone i rest before steps x a p e =
     let l : i < length gone = let w = p.within in omega arith in
     elim (p.each x) [ inl f ↦ let z = a.full x (i, l, sym e) in omega arith | inr f ↦ absurd (not_past old gone i x a l e f.1) ]
 
-pub taking_taken : (old now new : Grid) (gone : List Coord) (i : ℕ) (rest : List Coord) (before steps after : ℕ) (x : Coord) → CanRemove old gone → IsTaking old now gone (i + 1) rest before steps → x ≡ slice_index_or gone i x → HaveTaken now new x steps after → IsTaking old new gone i rest before after
+pub taking_taken : (old now new : Grid) (gone : List Coord) (i : ℕ) (rest : List Coord) (before steps after : ℕ)
+    (x : Coord) → CanRemove old gone → IsTaking old now gone (i + 1) rest before steps → x ≡ slice_index_or gone i x
+    → HaveTaken now new x steps after → IsTaking old new gone i rest before after
 taking_taken old now new gone i rest before steps after x a p e h =
     let l : i < length gone = let w = p.within in omega arith in
     record {
@@ -233,7 +262,9 @@ taking_taken old now new gone i rest before steps after x a p e h =
       cost = omega (arith, p.cost, h.cost);
     }
 
-pub taking_listed : (old now new : Grid) (gone : List Coord) (i : ℕ) (rest more : List Coord) (before steps after : ℕ) (x : Coord) → CanRemove old gone → IsTaking old now gone (i + 1) rest before steps → x ≡ slice_index_or gone i x → new ≡ now → after ≤ steps + 6 → more ≡ rest ++ x ∷ [] → IsTaking old new gone i more before after
+pub taking_listed : (old now new : Grid) (gone : List Coord) (i : ℕ) (rest more : List Coord) (before steps after : ℕ)
+    (x : Coord) → CanRemove old gone → IsTaking old now gone (i + 1) rest before steps → x ≡ slice_index_or gone i x
+    → new ≡ now → after ≤ steps + 6 → more ≡ rest ++ x ∷ [] → IsTaking old new gone i more before after
 taking_listed old now new gone i rest more before steps after x a p e s t m =
     let l : i < length gone = let w = p.within in omega arith in
     subst (λ (v : Grid). IsTaking old v gone i more before after) (sym s) (subst (λ (xs : List Coord). IsTaking old now gone i xs before after) (sym m) (record {
@@ -254,7 +285,8 @@ taking_listed old now new gone i rest more before steps after x a p e s t m =
       cost = let n : length (rest ++ x ∷ []) ≡ length rest + 1 = length-append rest (x ∷ []) in omega (arith, p.cost);
     }))
 
-pub are_taken : (old now : Grid) (gone : List Coord) (i : ℕ) (rest : List Coord) (before steps : ℕ) → CanRemove old gone → IsTaking old now gone i rest before steps → i ≡ 0 → AreTaken old now gone rest before steps
+pub are_taken : (old now : Grid) (gone : List Coord) (i : ℕ) (rest : List Coord) (before steps : ℕ) → CanRemove old gone
+    → IsTaking old now gone i rest before steps → i ≡ 0 → AreTaken old now gone rest before steps
 are_taken old now gone i rest before steps a p e = record {
   resolution = p.resolution;
   left = record {
@@ -273,7 +305,10 @@ are_taken old now gone i rest before steps a p e = record {
     in_gone c m = (m.0, m.2, m.3)
 
 -- a level that changed since some voxels became void changed
-pub changed_since : (old now new : Grid) → now.resolution ≡ old.resolution → ((c : Coord) → (word_at now c ≡ word_at old c) ⊎ (word_at now c ≡ 0)) → ((c : Coord) → 0 < word_at new c → 0 < word_at now c) → changed now.resolution (word_at now) (word_at new) ≤ changed old.resolution (word_at old) (word_at new)
+pub changed_since : (old now new : Grid) → now.resolution ≡ old.resolution
+    → ((c : Coord) → (word_at now c ≡ word_at old c) ⊎ (word_at now c ≡ 0))
+    → ((c : Coord) → 0 < word_at new c → 0 < word_at now c)
+    → changed now.resolution (word_at now) (word_at new) ≤ changed old.resolution (word_at old) (word_at new)
 unfolding changed
 changed_since old now new e each k =
     subst (λ (r : ℕ). count_by (has_changed (word_at now) (word_at new)) (coordinates r) ≤ count_by (has_changed (word_at old) (word_at new)) (coordinates old.resolution)) (sym e)
@@ -285,7 +320,9 @@ changed_since old now new e each k =
       | inr s ↦ elim (cases_lt 0 (word_at new c)) [ inl g ↦ let z = k c g in absurd (omega arith) | inr g ↦ omega arith ]
     ]
 
-pub taken_and_removed : (old now new : Grid) (gone rest : List Coord) (before steps after : ℕ) → AreTaken old now gone rest before steps → HaveRemoved now new rest 56 steps after → HaveRemoved old new gone 62 before after
+pub taken_and_removed : (old now new : Grid) (gone rest : List Coord) (before steps after : ℕ)
+    → AreTaken old now gone rest before steps → HaveRemoved now new rest 56 steps after
+    → HaveRemoved old new gone 62 before after
 taken_and_removed old now new gone rest before steps after p h = record {
   resolution = h.resolution ∙ p.resolution;
   exact = h.exact;

@@ -37,17 +37,20 @@ is_among_all c [] (k, l, e) = absurd (omega arith)
 is_among_all c (d ∷ more) (zero, l, e) = or_by_first (same_point (point c) (point d)) (is_among c more) (ap (λ (x : Coord). same_point (point c) (point x)) e ∙ same_point_itself c)
 is_among_all c (d ∷ more) (suc k, l, e) = or_by_second (same_point (point c) (point d)) (is_among c more) (is_among_all c more (k, omega arith, e))
 
-full_added : (old new : Matrix) (cells : List Coord) (c : Coord) → AreAdded old new cells → is_full new c ≡ (is_full old c || is_among c cells)
+full_added : (old new : Matrix) (cells : List Coord) (c : Coord) → AreAdded old new cells
+    → is_full new c ≡ (is_full old c || is_among c cells)
 full_added old new cells c a = same_truth (is_full new c) (is_full old c || is_among c cells)
     (λ h. elim (a.full c h) [ inl o ↦ or_by_first (is_full old c) (is_among c cells) o | inr m ↦ or_by_second (is_full old c) (is_among c cells) (is_among_all c cells m) ])
     (λ h. elim (one_of_two (is_full old c) (is_among c cells) h) [ inl o ↦ a.kept c o | inr m ↦ a.added c (among_is c cells m) ])
 
-full_removed : (old new : Matrix) (cells : List Coord) (c : Coord) → AreRemoved old new cells → is_full new c ≡ (is_full old c && not (is_among c cells))
+full_removed : (old new : Matrix) (cells : List Coord) (c : Coord) → AreRemoved old new cells
+    → is_full new c ≡ (is_full old c && not (is_among c cells))
 full_removed old new cells c a = same_truth (is_full new c) (is_full old c && not (is_among c cells))
     (λ h. and_not (is_full old c) (is_among c cells) (a.full c h) (λ m. false≢true (sym (a.gone c (among_is c cells m)) ∙ h)))
     (λ h. elim (a.kept c (and_first (is_full old c) (is_among c cells) h)) [ inl n ↦ n | inr m ↦ absurd (and_second (is_full old c) (is_among c cells) h (is_among_all c cells m)) ])
 
-pub left_by : (edits : List Edit) (old new : Matrix) (c : Coord) → AreEdited old edits new → is_full new c ≡ is_left edits c (is_full old c)
+pub left_by : (edits : List Edit) (old new : Matrix) (c : Coord) → AreEdited old edits new
+    → is_full new c ≡ is_left edits c (is_full old c)
 left_by [] old new c e = ap (λ (m : Matrix). is_full m c) e
 left_by (adds cells ∷ more) old new c e = left_by more e.0 new c e.2 ∙ ap (is_left more c) (full_added old e.0 cells c e.1)
 left_by (removes cells ∷ more) old new c e = left_by more e.0 new c e.2 ∙ ap (is_left more c) (full_removed old e.0 cells c e.1)

@@ -11,7 +11,8 @@ use Rattle.support_forest.specs.Words.{IsWritten}
 use Rattle.support_forest.proofs.Store.{brick_inside, same_brick}
 
 -- what holds of each of the six words holds of a neighbour's
-pub each_beside : (w : Coord → ℕ) (c q : Coord) (b : Beside) (P : ℕ → Type 0) → AreBesideWords w c b → P b.left → P b.right → P b.under → P b.over → P b.near → P b.far → AreBeside c q → P (w q)
+pub each_beside : (w : Coord → ℕ) (c q : Coord) (b : Beside) (P : ℕ → Type 0) → AreBesideWords w c b → P b.left
+    → P b.right → P b.under → P b.over → P b.near → P b.far → AreBeside c q → P (w q)
 unfolding Toward
 each_beside w c q b P k left right under over near far n = by n.direction n.toward
   where
@@ -39,7 +40,8 @@ same_slot g c d own e h = subst (λ (n : ℕ). own ≡ slot_at g.table n) (sym (
 
 -- ---- the index of a neighbour's word in the same brick
 
-pub index_left : (c : Coord) (d index i : ℕ) → d ≡ 1 → index ≡ word_index c → 0 < c.x % 8 → i + 64 ≡ index → IsIndexToward c d i
+pub index_left : (c : Coord) (d index i : ℕ) → d ≡ 1 → index ≡ word_index c → 0 < c.x % 8 → i + 64 ≡ index
+    → IsIndexToward c d i
 unfolding Toward word_index
 index_left c d index i n e h k = record {
   there = record { x = c.x - 1; y = c.y; z = c.z };
@@ -48,7 +50,8 @@ index_left c d index i n e h k = record {
   at_index = omega arith;
 }
 
-pub index_right : (c : Coord) (d index i : ℕ) → d ≡ 2 → index ≡ word_index c → c.x % 8 < 7 → i ≡ index + 64 → IsIndexToward c d i
+pub index_right : (c : Coord) (d index i : ℕ) → d ≡ 2 → index ≡ word_index c → c.x % 8 < 7 → i ≡ index + 64
+    → IsIndexToward c d i
 unfolding Toward word_index
 index_right c d index i n e h k = record {
   there = record { x = c.x + 1; y = c.y; z = c.z };
@@ -57,7 +60,8 @@ index_right c d index i n e h k = record {
   at_index = omega arith;
 }
 
-pub index_under : (c : Coord) (d index i : ℕ) → d ≡ 3 → index ≡ word_index c → 0 < c.y % 8 → i + 8 ≡ index → IsIndexToward c d i
+pub index_under : (c : Coord) (d index i : ℕ) → d ≡ 3 → index ≡ word_index c → 0 < c.y % 8 → i + 8 ≡ index
+    → IsIndexToward c d i
 unfolding Toward word_index
 index_under c d index i n e h k = record {
   there = record { x = c.x; y = c.y - 1; z = c.z };
@@ -66,7 +70,8 @@ index_under c d index i n e h k = record {
   at_index = omega arith;
 }
 
-pub index_over : (c : Coord) (d index i : ℕ) → d ≡ 4 → index ≡ word_index c → c.y % 8 < 7 → i ≡ index + 8 → IsIndexToward c d i
+pub index_over : (c : Coord) (d index i : ℕ) → d ≡ 4 → index ≡ word_index c → c.y % 8 < 7 → i ≡ index + 8
+    → IsIndexToward c d i
 unfolding Toward word_index
 index_over c d index i n e h k = record {
   there = record { x = c.x; y = c.y + 1; z = c.z };
@@ -75,7 +80,8 @@ index_over c d index i n e h k = record {
   at_index = omega arith;
 }
 
-pub index_near : (c : Coord) (d index i : ℕ) → d ≡ 5 → index ≡ word_index c → 0 < c.z % 8 → i + 1 ≡ index → IsIndexToward c d i
+pub index_near : (c : Coord) (d index i : ℕ) → d ≡ 5 → index ≡ word_index c → 0 < c.z % 8 → i + 1 ≡ index
+    → IsIndexToward c d i
 unfolding Toward word_index
 index_near c d index i n e h k = record {
   there = record { x = c.x; y = c.y; z = c.z - 1 };
@@ -84,7 +90,8 @@ index_near c d index i n e h k = record {
   at_index = omega arith;
 }
 
-pub index_far : (c : Coord) (d index i : ℕ) → d ≡ 6 → index ≡ word_index c → c.z % 8 < 7 → i ≡ index + 1 → IsIndexToward c d i
+pub index_far : (c : Coord) (d index i : ℕ) → d ≡ 6 → index ≡ word_index c → c.z % 8 < 7 → i ≡ index + 1
+    → IsIndexToward c d i
 unfolding Toward word_index
 index_far c d index i n e h k = record {
   there = record { x = c.x; y = c.y; z = c.z + 1 };
@@ -99,7 +106,8 @@ some_so None P Q k h = h
 some_so (Some i) P Q k h = k i h
 
 -- a neighbour in the same brick stands in the same slot
-pub stands_beside : (g : Grid) (c : Coord) (d slot index : ℕ) → IsInSpace g.resolution c → slot_of g c ≡ Some slot → (t : IsIndexToward c d index) → StandsAt g slot index t.there
+pub stands_beside : (g : Grid) (c : Coord) (d slot index : ℕ) → IsInSpace g.resolution c → slot_of g c ≡ Some slot
+    → (t : IsIndexToward c d index) → StandsAt g slot index t.there
 stands_beside g c d slot index i e t = record {
   within = subst (λ (b : Coord). IsInSpace (side g.resolution) b) (sym t.same_brick) (brick_inside g.resolution c i);
   in_slot = sym (same_slot g c t.there (Some slot) t.same_brick (sym e));
@@ -107,7 +115,8 @@ stands_beside g c d slot index i e t = record {
 }
 
 -- where the table stays a brick keeps its slot
-pub slot_stays : (g h : Grid) (c : Coord) (own : Option ℕ) → h.table ≡ g.table → h.resolution ≡ g.resolution → own ≡ slot_of g c → own ≡ slot_of h c
+pub slot_stays : (g h : Grid) (c : Coord) (own : Option ℕ) → h.table ≡ g.table → h.resolution ≡ g.resolution
+    → own ≡ slot_of g c → own ≡ slot_of h c
 slot_stays g h c own t r e = e ∙ (ap (λ (n : ℕ). slot_at g.table (brick_number n c)) (sym r) ∙ ap (λ (l : List (Option ℕ)). slot_at l (brick_number h.resolution c)) (sym t))
 
 -- ---- the words of other neighbours

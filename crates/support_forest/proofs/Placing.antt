@@ -55,7 +55,8 @@ one_more w c q a b d t i floor sound lower higher looser near loose = record {
 }
 
 -- no neighbour lies in the direction, or it is void
-pub around_void : (w : Coord → ℕ) (c : Coord) (a : Around) (d : ℕ) → ((q : Coord) → Toward d c q → w q ≡ 0) → IsAround w c a d → IsAround w c a (d + 1)
+pub around_void : (w : Coord → ℕ) (c : Coord) (a : Around) (d : ℕ) → ((q : Coord) → Toward d c q → w q ≡ 0)
+    → IsAround w c a d → IsAround w c a (d + 1)
 around_void w c a d z i = record {
   floor = i.floor;
   sound = i.sound;
@@ -91,7 +92,12 @@ not_beside : (d : ℕ) (a b : Coord) → a ≡ b → Toward d a b → ⊥
 unfolding Toward
 not_beside d a b e h = apart (ap (λ (c : Coord). c.x) e) (ap (λ (c : Coord). c.y) e) (ap (λ (c : Coord). c.z) e) h
   where
-    apart : a.x ≡ b.x → a.y ≡ b.y → a.z ≡ b.z → ((d ≡ 1) × (a.x ≡ b.x + 1) × (a.y ≡ b.y) × (a.z ≡ b.z)) ⊎ (((d ≡ 2) × (b.x ≡ a.x + 1) × (a.y ≡ b.y) × (a.z ≡ b.z)) ⊎ (((d ≡ 3) × (a.x ≡ b.x) × (a.y ≡ b.y + 1) × (a.z ≡ b.z)) ⊎ (((d ≡ 4) × (a.x ≡ b.x) × (b.y ≡ a.y + 1) × (a.z ≡ b.z)) ⊎ (((d ≡ 5) × (a.x ≡ b.x) × (a.y ≡ b.y) × (a.z ≡ b.z + 1)) ⊎ ((d ≡ 6) × (a.x ≡ b.x) × (a.y ≡ b.y) × (b.z ≡ a.z + 1)))))) → ⊥
+    apart : a.x ≡ b.x → a.y ≡ b.y → a.z ≡ b.z → ((d ≡ 1) × (a.x ≡ b.x + 1) × (a.y ≡ b.y) × (a.z ≡ b.z))
+        ⊎ (((d ≡ 2) × (b.x ≡ a.x + 1) × (a.y ≡ b.y) × (a.z ≡ b.z))
+        ⊎ (((d ≡ 3) × (a.x ≡ b.x) × (a.y ≡ b.y + 1) × (a.z ≡ b.z))
+        ⊎ (((d ≡ 4) × (a.x ≡ b.x) × (b.y ≡ a.y + 1) × (a.z ≡ b.z))
+        ⊎ (((d ≡ 5) × (a.x ≡ b.x) × (a.y ≡ b.y) × (a.z ≡ b.z + 1))
+        ⊎ ((d ≡ 6) × (a.x ≡ b.x) × (a.y ≡ b.y) × (b.z ≡ a.z + 1)))))) → ⊥
     apart x y z (inl k) = omega arith
     apart x y z (inr (inl k)) = omega arith
     apart x y z (inr (inr (inl k))) = omega arith
@@ -104,11 +110,13 @@ pub record Fits (r : ℕ) (w : Coord → ℕ) (c : Coord) (word : ℕ) : Type 0 
   pub some : 0 < word
   pub form : word < 8 → word ≤ 1
   pub floor : c.y ≡ 0 → word ≡ 8
-  pub parent : 8 ≤ word → ((word ≡ 8) × (c.y ≡ 0)) ⊎ ((q : Coord) × Toward (word % 8) c q × (8 ≤ w q) × (height w q + 1 ≡ word / 8))
+  pub parent : 8 ≤ word
+      → ((word ≡ 8) × (c.y ≡ 0)) ⊎ ((q : Coord) × Toward (word % 8) c q × (8 ≤ w q) × (height w q + 1 ≡ word / 8))
   pub above : (b : Coord) → 8 ≤ w b → AreBeside c b → (8 ≤ word) × (word / 8 ≤ height w b + 1)
   pub below : (a : Coord) → 0 < w a → 8 ≤ word → AreBeside a c → (8 ≤ w a) × (height w a ≤ word / 8 + 1)
 
-exact_with : (r : ℕ) (w v : Coord → ℕ) (c : Coord) (word : ℕ) → AreExact r w → IsInSpace r c → w c ≡ 0 → Fits r w c word → IsWritten w v c word → AreExact r v
+exact_with : (r : ℕ) (w v : Coord → ℕ) (c : Coord) (word : ℕ) → AreExact r w → IsInSpace r c → w c ≡ 0 → Fits r w c word
+    → IsWritten w v c word → AreExact r v
 exact_with r w v c word e s z f k = record {
   space = λ d g. elim (same_or_not d c) [ inl m ↦ subst (λ (x : Coord). IsInSpace r x) (sym m) s | inr m ↦ let o = k.kept d m in e.space d (omega arith) ];
   form = λ d g. elim (same_or_not d c) [ inl m ↦ let n = at d m in let h : word ≤ 1 = f.form (omega arith) in omega arith | inr m ↦ let o = k.kept d m in let h : w d ≤ 1 = e.form d (omega arith) in omega arith ];
@@ -138,7 +146,8 @@ exact_with r w v c word e s z f k = record {
     still : (q : Coord) → 8 ≤ w q → v q ≡ w q
     still q h = k.kept q (λ m. let o : w q ≡ w c = ap w m in omega arith)
 
-    own : (d : Coord) → d ≡ c → 8 ≤ v d → ((v d ≡ 8) × (d.y ≡ 0)) ⊎ ((q : Coord) × Toward (v d % 8) d q × (8 ≤ v q) × (height v q + 1 ≡ height v d))
+    own : (d : Coord) → d ≡ c → 8 ≤ v d
+        → ((v d ≡ 8) × (d.y ≡ 0)) ⊎ ((q : Coord) × Toward (v d % 8) d q × (8 ≤ v q) × (height v q + 1 ≡ height v d))
     own d m g = let n = at d m in elim (f.parent (omega arith)) [
       | inl p ↦ inl (n ∙ p.0, ap (λ (x : Coord). x.y) m ∙ p.1)
       | inr p ↦ let o = still p.0 p.2 in inr (p.0, subst (λ (x : Coord). Toward (v d % 8) x p.0) (sym m) (subst (λ (j : ℕ). Toward (j % 8) c p.0) (sym n) p.1), omega (arith, p.2), omega (arith, p.3))
@@ -158,7 +167,8 @@ fits_alone r w c a i z = record {
 
 -- ---- the voxel is offered a height, by which no neighbour improves
 
-fits_below : (r : ℕ) (w : Coord → ℕ) (c : Coord) (a : Around) → AreExact r w → r * r * r ≤ 64000000 → IsAround w c a 7 → (a.height ≡ 0 → ⊥) → a.is_loose ≡ false → a.highest ≤ a.height + 1 → Fits r w c (8 * a.height + a.toward)
+fits_below : (r : ℕ) (w : Coord → ℕ) (c : Coord) (a : Around) → AreExact r w → r * r * r ≤ 64000000 → IsAround w c a 7
+    → (a.height ≡ 0 → ⊥) → a.is_loose ≡ false → a.highest ≤ a.height + 1 → Fits r w c (8 * a.height + a.toward)
 fits_below r w c a e few i z firm calm =
     let x : Candidate = record { at = c; height = a.height; toward = a.toward } in
     let sound : IsSound w x = elim i.sound [ inl n ↦ absurd (z n) | inr s ↦ s ] in
@@ -177,7 +187,8 @@ fits_below r w c a e few i z firm calm =
     on_floor w x (inl s) h = s.0
     on_floor w x (inr s) h = let q = s.2 in let k = s.3 in absurd (omega arith)
 
-    not_high : (r : ℕ) (w : Coord → ℕ) (c : Coord) (a : Around) → AreExact r w → r * r * r ≤ 64000000 → IsAround w c a 7 → IsSound w (record { at = c; height = a.height; toward = a.toward }) → a.height ≤ 64000001
+    not_high : (r : ℕ) (w : Coord → ℕ) (c : Coord) (a : Around) → AreExact r w → r * r * r ≤ 64000000 → IsAround w c a 7
+        → IsSound w (record { at = c; height = a.height; toward = a.toward }) → a.height ≤ 64000001
     not_high r w c a e few i (inl s) = omega (arith, s.1)
     not_high r w c a e few i (inr s) =
         let t = toward_range_seven a.toward c s.0 s.1 in
@@ -185,7 +196,10 @@ fits_below r w c a e few i z firm calm =
         let l = exact_low r w s.0 e s.2 in
         omega (arith, k.1)
 
-    by_sound : (r : ℕ) (w : Coord → ℕ) (c : Coord) (a : Around) → AreExact r w → IsAround w c a 7 → IsSound w (record { at = c; height = a.height; toward = a.toward }) → a.toward ≤ 6 → (((8 * a.height + a.toward) ≡ 8) × (c.y ≡ 0)) ⊎ ((q : Coord) × Toward ((8 * a.height + a.toward) % 8) c q × (8 ≤ w q) × (height w q + 1 ≡ (8 * a.height + a.toward) / 8))
+    by_sound : (r : ℕ) (w : Coord → ℕ) (c : Coord) (a : Around) → AreExact r w → IsAround w c a 7
+        → IsSound w (record { at = c; height = a.height; toward = a.toward }) → a.toward ≤ 6
+        → (((8 * a.height + a.toward) ≡ 8) × (c.y ≡ 0)) ⊎ ((q : Coord) × Toward ((8 * a.height + a.toward) % 8) c q
+        × (8 ≤ w q) × (height w q + 1 ≡ (8 * a.height + a.toward) / 8))
     by_sound r w c a e i (inl s) t = inl (omega (arith, s.0, s.1), s.2)
     by_sound r w c a e i (inr s) t =
         let m : a.toward ≡ (8 * a.height + a.toward) % 8 = omega arith in
@@ -193,7 +207,8 @@ fits_below r w c a e few i z firm calm =
         let k = i.least a.toward s.0 u.1 s.1 s.2 in
         inr (s.0, subst (λ (j : ℕ). Toward j c s.0) m s.1, s.2, omega (arith, s.3, k.1))
 
-    neighbour : (b : Coord) → 0 < w b → AreBeside c b → a.toward ≤ 6 → a.height ≤ 64000001 → (8 ≤ w b) × (height w b ≤ (8 * a.height + a.toward) / 8 + 1)
+    neighbour : (b : Coord) → 0 < w b → AreBeside c b → a.toward ≤ 6 → a.height ≤ 64000001
+        → (8 ≤ w b) × (height w b ≤ (8 * a.height + a.toward) / 8 + 1)
     neighbour b g n t low =
         let u = toward_range_seven n.direction c b n.toward in
         elim (cases_lt (w b) 8) [
@@ -203,7 +218,8 @@ fits_below r w c a e few i z firm calm =
 
 -- ---- the voxel stands on the one under it
 
-fits_over : (r : ℕ) (w : Coord → ℕ) (c : Coord) (b : Beside) → AreBesideWords w c b → MayStand b → Fits r w c (8 * (b.under / 8) + 11)
+fits_over : (r : ℕ) (w : Coord → ℕ) (c : Coord) (b : Beside) → AreBesideWords w c b → MayStand b
+    → Fits r w c (8 * (b.under / 8) + 11)
 fits_over r w c b k m =
     let down = k.under.some (let h = m.under in omega arith) in
     let same : w down.0 ≡ b.under = k.under.each down.0 down.1 in
@@ -228,7 +244,8 @@ fits_over r w c b k m =
 -- ---- the voxel is on the floor
 
 -- a full neighbour of a voxel on the floor has height 1 too, or lies over it
-floor_near : (r : ℕ) (w : Coord → ℕ) (c a : Coord) (d over : ℕ) → AreExact r w → c.y ≡ 0 → IsWordToward w c 4 over → MayLieUnder over → 0 < w a → Toward d c a → (8 ≤ w a) × (height w a ≤ 8 / 8 + 1)
+floor_near : (r : ℕ) (w : Coord → ℕ) (c a : Coord) (d over : ℕ) → AreExact r w → c.y ≡ 0 → IsWordToward w c 4 over
+    → MayLieUnder over → 0 < w a → Toward d c a → (8 ≤ w a) × (height w a ≤ 8 / 8 + 1)
 unfolding Toward
 floor_near r w c a d over e y k m f (inl h) = let l : w a ≡ 8 = e.floor a f (omega arith) in (omega arith, omega arith)
 floor_near r w c a d over e y k m f (inr (inl h)) = let l : w a ≡ 8 = e.floor a f (omega arith) in (omega arith, omega arith)
@@ -239,7 +256,8 @@ floor_near r w c a d over e y k m f (inr (inr (inr (inl h)))) =
 floor_near r w c a d over e y k m f (inr (inr (inr (inr (inl h))))) = let l : w a ≡ 8 = e.floor a f (omega arith) in (omega arith, omega arith)
 floor_near r w c a d over e y k m f (inr (inr (inr (inr (inr h))))) = let l : w a ≡ 8 = e.floor a f (omega arith) in (omega arith, omega arith)
 
-fits_on_floor : (r : ℕ) (w : Coord → ℕ) (c : Coord) (over : ℕ) → AreExact r w → c.y ≡ 0 → IsWordToward w c 4 over → MayLieUnder over → Fits r w c 8
+fits_on_floor : (r : ℕ) (w : Coord → ℕ) (c : Coord) (over : ℕ) → AreExact r w → c.y ≡ 0 → IsWordToward w c 4 over
+    → MayLieUnder over → Fits r w c 8
 fits_on_floor r w c over e y k m = record {
   some = omega arith;
   form = λ h. omega arith;
@@ -250,7 +268,8 @@ fits_on_floor r w c over e y k m = record {
 }
 
 -- the word that is written is a small number
-pub word_small : (r : ℕ) (w : Coord → ℕ) (c : Coord) (a : Around) → AreExact r w → r * r * r ≤ 64000000 → IsAround w c a 7 → a.height ≤ 64000001
+pub word_small : (r : ℕ) (w : Coord → ℕ) (c : Coord) (a : Around) → AreExact r w → r * r * r ≤ 64000000
+    → IsAround w c a 7 → a.height ≤ 64000001
 word_small r w c a e few i = elim i.sound [
   | inl z ↦ omega arith
   | inr s ↦ elim s [
@@ -268,7 +287,8 @@ toward_small w c a i z = elim i.sound [ inl n ↦ absurd (z n) | inr s ↦ (soun
 
 -- ---- nothing is known yet
 
-pub around_none : (w : Coord → ℕ) (c : Coord) (a : Around) → ((c.y ≡ 0) × (a.height ≡ 1)) ⊎ ((c.y ≡ 0 → ⊥) × (a.height ≡ 0)) → a.toward ≡ 0 → IsAround w c a 1
+pub around_none : (w : Coord → ℕ) (c : Coord) (a : Around)
+    → ((c.y ≡ 0) × (a.height ≡ 1)) ⊎ ((c.y ≡ 0 → ⊥) × (a.height ≡ 0)) → a.toward ≡ 0 → IsAround w c a 1
 around_none w c a h t = record {
   floor = λ y. elim h [ inl k ↦ k.1 | inr k ↦ absurd (k.0 y) ];
   sound = elim h [ inl k ↦ inr (inl (t, k.1, k.0)) | inr k ↦ inl k.1 ];
@@ -279,7 +299,10 @@ around_none w c a h t = record {
 
 -- ---- the voxel is full
 
-pub placed_with : (old new : Grid) (c : Coord) (word before mid after : ℕ) → AreExact old.resolution (word_at old) → IsInSpace old.resolution c → word_at old c ≡ 0 → Fits old.resolution (word_at old) c word → IsWritten (word_at old) (word_at new) c word → new.resolution ≡ old.resolution → mid ≤ before + 6 → after ≡ mid + 1 → HavePlaced old new c before after
+pub placed_with : (old new : Grid) (c : Coord) (word before mid after : ℕ) → AreExact old.resolution (word_at old)
+    → IsInSpace old.resolution c → word_at old c ≡ 0 → Fits old.resolution (word_at old) c word
+    → IsWritten (word_at old) (word_at new) c word → new.resolution ≡ old.resolution → mid ≤ before + 6
+    → after ≡ mid + 1 → HavePlaced old new c before after
 placed_with old new c word before mid after e s z f k r m t = record {
   resolution = r;
   exact = subst (λ (n : ℕ). AreExact n (word_at new)) (sym r) (exact_with old.resolution (word_at old) (word_at new) c word e s z f k);
@@ -288,20 +311,34 @@ placed_with old new c word before mid after e s z f k r m t = record {
   cost = omega arith;
 }
 
-pub placed_alone : (old new : Grid) (c : Coord) (a : Around) (before mid after : ℕ) → AreExact old.resolution (word_at old) → IsInSpace old.resolution c → word_at old c ≡ 0 → IsAround (word_at old) c a 7 → a.height ≡ 0 → IsWritten (word_at old) (word_at new) c 1 → new.resolution ≡ old.resolution → mid ≤ before + 6 → after ≡ mid + 1 → HavePlaced old new c before after
+pub placed_alone : (old new : Grid) (c : Coord) (a : Around) (before mid after : ℕ)
+    → AreExact old.resolution (word_at old) → IsInSpace old.resolution c → word_at old c ≡ 0
+    → IsAround (word_at old) c a 7 → a.height ≡ 0 → IsWritten (word_at old) (word_at new) c 1
+    → new.resolution ≡ old.resolution → mid ≤ before + 6 → after ≡ mid + 1 → HavePlaced old new c before after
 placed_alone old new c a before mid after e s z i h k r m t = placed_with old new c 1 before mid after e s z (fits_alone old.resolution (word_at old) c a i h) k r m t
 
-pub placed_below : (old new : Grid) (c : Coord) (a : Around) (before mid after : ℕ) → AreExact old.resolution (word_at old) → old.resolution * old.resolution * old.resolution ≤ 64000000 → IsInSpace old.resolution c → word_at old c ≡ 0 → IsAround (word_at old) c a 7 → (a.height ≡ 0 → ⊥) → a.is_loose ≡ false → a.highest ≤ a.height + 1 → IsWritten (word_at old) (word_at new) c (8 * a.height + a.toward) → new.resolution ≡ old.resolution → mid ≤ before + 6 → after ≡ mid + 1 → HavePlaced old new c before after
+pub placed_below : (old new : Grid) (c : Coord) (a : Around) (before mid after : ℕ)
+    → AreExact old.resolution (word_at old) → old.resolution * old.resolution * old.resolution ≤ 64000000
+    → IsInSpace old.resolution c → word_at old c ≡ 0 → IsAround (word_at old) c a 7 → (a.height ≡ 0 → ⊥)
+    → a.is_loose ≡ false → a.highest ≤ a.height + 1 → IsWritten (word_at old) (word_at new) c (8 * a.height + a.toward)
+    → new.resolution ≡ old.resolution → mid ≤ before + 6 → after ≡ mid + 1 → HavePlaced old new c before after
 placed_below old new c a before mid after e few s z i h firm calm k r m t = placed_with old new c (8 * a.height + a.toward) before mid after e s z (fits_below old.resolution (word_at old) c a e few i h firm calm) k r m t
 
-pub placed_over : (old new : Grid) (c : Coord) (b : Beside) (before mid after : ℕ) → AreExact old.resolution (word_at old) → IsInSpace old.resolution c → word_at old c ≡ 0 → AreBesideWords (word_at old) c b → MayStand b → IsWritten (word_at old) (word_at new) c (8 * (b.under / 8) + 11) → new.resolution ≡ old.resolution → mid ≤ before + 6 → after ≡ mid + 1 → HavePlaced old new c before after
+pub placed_over : (old new : Grid) (c : Coord) (b : Beside) (before mid after : ℕ)
+    → AreExact old.resolution (word_at old) → IsInSpace old.resolution c → word_at old c ≡ 0
+    → AreBesideWords (word_at old) c b → MayStand b → IsWritten (word_at old) (word_at new) c (8 * (b.under / 8) + 11)
+    → new.resolution ≡ old.resolution → mid ≤ before + 6 → after ≡ mid + 1 → HavePlaced old new c before after
 placed_over old new c b before mid after e s z i m k r l t = placed_with old new c (8 * (b.under / 8) + 11) before mid after e s z (fits_over old.resolution (word_at old) c b i m) k r l t
 
-pub placed_on_floor : (old new : Grid) (c : Coord) (over before mid after : ℕ) → AreExact old.resolution (word_at old) → IsInSpace old.resolution c → word_at old c ≡ 0 → c.y ≡ 0 → IsWordToward (word_at old) c 4 over → MayLieUnder over → IsWritten (word_at old) (word_at new) c 8 → new.resolution ≡ old.resolution → mid ≤ before + 1 → after ≡ mid + 1 → HavePlaced old new c before after
+pub placed_on_floor : (old new : Grid) (c : Coord) (over before mid after : ℕ) → AreExact old.resolution (word_at old)
+    → IsInSpace old.resolution c → word_at old c ≡ 0 → c.y ≡ 0 → IsWordToward (word_at old) c 4 over → MayLieUnder over
+    → IsWritten (word_at old) (word_at new) c 8 → new.resolution ≡ old.resolution → mid ≤ before + 1 → after ≡ mid + 1
+    → HavePlaced old new c before after
 placed_on_floor old new c over before mid after e s z y i m k r l t = placed_with old new c 8 before mid after e s z (fits_on_floor old.resolution (word_at old) c over e y i m) k r (omega arith) t
 
 -- a voxel has a small height where one stands on it
-pub under_small : (r : ℕ) (w : Coord → ℕ) (c : Coord) (b : Beside) → AreExact r w → r * r * r ≤ 64000000 → AreBesideWords w c b → MayStand b → b.under / 8 ≤ 64000000
+pub under_small : (r : ℕ) (w : Coord → ℕ) (c : Coord) (b : Beside) → AreExact r w → r * r * r ≤ 64000000
+    → AreBesideWords w c b → MayStand b → b.under / 8 ≤ 64000000
 under_small r w c b e few k m =
     let down = k.under.some (let h = m.under in omega arith) in
     let same : w down.0 ≡ b.under = k.under.each down.0 down.1 in
@@ -310,13 +347,16 @@ under_small r w c b e few k m =
 
 -- ---- the only cell
 
-pub only_one : (cells : List Coord) (c x : Coord) → length cells ≡ 1 → c ≡ slice_index_or cells 0 c → Contains cells x → c ≡ x
+pub only_one : (cells : List Coord) (c x : Coord) → length cells ≡ 1 → c ≡ slice_index_or cells 0 c → Contains cells x
+    → c ≡ x
 only_one cells c x l e h =
     let k : h.0 < length cells = h.1 in
     let z : h.0 ≡ 0 = omega arith in
     e ∙ (get_or_default cells 0 c x (omega arith) ∙ (ap (λ (n : ℕ). slice_index_or cells n x) (sym z) ∙ h.2))
 
-pub placed_added : (old new : Grid) (cells : List Coord) (c : Coord) (before after : ℕ) → length cells ≡ 1 → c ≡ slice_index_or cells 0 c → CanAdd old cells → HavePlaced old new c before after → HaveAdded old new cells 20 before after
+pub placed_added : (old new : Grid) (cells : List Coord) (c : Coord) (before after : ℕ) → length cells ≡ 1
+    → c ≡ slice_index_or cells 0 c → CanAdd old cells → HavePlaced old new c before after
+    → HaveAdded old new cells 20 before after
 placed_added old new cells c before after l e a p = record {
   resolution = p.resolution;
   exact = p.exact;

@@ -32,7 +32,8 @@ pub record CanRow (g : Grid) (c : Coord) (slot index word : ℕ) : Type 0 where
   pub at : index ≡ word_index c
   pub level : word ≢ 1
   pub levels : (k : ℕ) → k < 8 → word_at g (further c k) ≢ 1
-  pub written : (k : ℕ) → k < 8 → get_or (words_of (with_row g.bricks slot index (k + 1) word) slot) (index + k) 0 ≡ word
+  pub written : (k : ℕ) → k < 8
+      → get_or (words_of (with_row g.bricks slot index (k + 1) word) slot) (index + k) 0 ≡ word
 
 pub can_row : (g q : Grid) (c : Coord) (slot index word : ℕ) → g ≡ q → IsStore g → LieInRow q c 8 → slot_of q c ≡ Some slot → index ≡ word_index c → word ≢ 1 →
     ((k : ℕ) → k < 8 → word_at q (further c k) ≢ 1) → ((k : ℕ) → k < 8 → get_or (words_of (with_row g.bricks slot index (k + 1) word) slot) (index + k) 0 ≡ word) → CanRow g c slot index word
@@ -73,7 +74,8 @@ one_more g c slot index word k h s l =
       keeps now (further c k) slot (index + k) word (with_row g.bricks slot index (suc k) word) s i e x refl w,
     )
 
-is_rowed : (g : Grid) (c : Coord) (slot index word k : ℕ) → CanRow g c slot index word → k ≤ 8 → IsRowed g c slot index word k
+is_rowed : (g : Grid) (c : Coord) (slot index word k : ℕ) → CanRow g c slot index word → k ≤ 8
+    → IsRowed g c slot index word k
 unfolding with_row
 is_rowed g c slot index word zero h l = record { store = h.store; count = refl; later = λ j m. refl }
 is_rowed g c slot index word (suc k) h l =
@@ -97,7 +99,8 @@ pub record WroteRow (g : Grid) (v : Slots) (c : Coord) (word : ℕ) : Type 0 whe
   pub count : floating_count (record { resolution = g.resolution; table = g.table; bricks = v }) ≡ floating_count g
   pub written : AreWritten g (record { resolution = g.resolution; table = g.table; bricks = v }) c word
 
-pub wrote_row : (g : Grid) (v : Slots) (c : Coord) (slot index word : ℕ) → CanRow g c slot index word → v ≡ with_row g.bricks slot index 8 word → WroteRow g v c word
+pub wrote_row : (g : Grid) (v : Slots) (c : Coord) (slot index word : ℕ) → CanRow g c slot index word
+    → v ≡ with_row g.bricks slot index 8 word → WroteRow g v c word
 unfolding with_row
 wrote_row g v c slot index word h e =
     let p = is_rowed g c slot index word 8 h (omega arith) in
@@ -134,16 +137,19 @@ written_so_far old new c word (suc k) w l =
       (λ d h. o.kept d (h k (omega arith)) ∙ p.1 d (λ j m. h j (omega arith))),
     )
 
-pub row_word : (old new : Grid) (c : Coord) (word j : ℕ) → AreWritten old new c word → j < 8 → word_at new (further c j) ≡ word
+pub row_word : (old new : Grid) (c : Coord) (word j : ℕ) → AreWritten old new c word → j < 8
+    → word_at new (further c j) ≡ word
 row_word old new c word j w l = ap (λ (g : Grid). word_at g (further c j)) (sym w.last) ∙ (written_so_far old new c word 8 w (omega arith)).0 j l
 
-pub row_others : (old new : Grid) (c d : Coord) (word : ℕ) → AreWritten old new c word → ((j : ℕ) → j < 8 → d ≡ further c j → ⊥) → word_at new d ≡ word_at old d
+pub row_others : (old new : Grid) (c d : Coord) (word : ℕ) → AreWritten old new c word
+    → ((j : ℕ) → j < 8 → d ≡ further c j → ⊥) → word_at new d ≡ word_at old d
 row_others old new c d word w h = ap (λ (g : Grid). word_at g d) (sym w.last) ∙ (written_so_far old new c word 8 w (omega arith)).1 d h
 
 -- ---- a row that becomes void
 
 -- no voxel out of the row has its parent in it
-no_parent : (w : Coord → ℕ) (c q : Coord) (n k : ℕ) → RowIsFree w c n → k < n → ((j : ℕ) → j < n → q ≡ further c j → ⊥) → 8 ≤ w q → Toward (w q % 8) q (further c k) → ⊥
+no_parent : (w : Coord → ℕ) (c q : Coord) (n k : ℕ) → RowIsFree w c n → k < n → ((j : ℕ) → j < n → q ≡ further c j → ⊥)
+    → 8 ≤ w q → Toward (w q % 8) q (further c k) → ⊥
 unfolding Toward
 no_parent w c q n k f l out h t = by t
   where
@@ -191,7 +197,8 @@ exact_without_row r n w v c e f gone kept = record {
     out : (d : Coord) → 0 < v d → (j : ℕ) → j < n → d ≡ further c j → ⊥
     out d h j l m = let z : v d ≡ 0 = ap v m ∙ gone j l in omega arith
 
-pub row_voided : (old new : Grid) (c : Coord) (before after : ℕ) → AreExact old.resolution (word_at old) → RowIsFree (word_at old) c 8 → AreWritten old new c 0 → after ≡ before + 8 → AreCleared old new c 0 8 before after
+pub row_voided : (old new : Grid) (c : Coord) (before after : ℕ) → AreExact old.resolution (word_at old)
+    → RowIsFree (word_at old) c 8 → AreWritten old new c 0 → after ≡ before + 8 → AreCleared old new c 0 8 before after
 row_voided old new c before after e f w a =
     let r : new.resolution ≡ old.resolution = ap (λ (g : Grid). g.resolution) (sym w.last) ∙ w.resolution 8 in
     record {
@@ -206,7 +213,8 @@ row_voided old new c before after e f w a =
     }
 
 -- no word of the row is 1 where none is
-pub none_is_one : (g : Grid) (c : Coord) (k : ℕ) → LieInRow g c 8 → NoneFloatsBelow g (volume g.resolution) → k < 8 → word_at g (further c k) ≢ 1
+pub none_is_one : (g : Grid) (c : Coord) (k : ℕ) → LieInRow g c 8 → NoneFloatsBelow g (volume g.resolution) → k < 8
+    → word_at g (further c k) ≢ 1
 none_is_one g c k h none l e =
     let i : IsInSpace g.resolution (further c k) = row_space g c 8 k h l in
     none (place g.resolution (further c k)) (place_below g.resolution (further c k) i) (ap (word_at g) (coordinate_at-place g.resolution (further c k) i) ∙ e)

@@ -61,7 +61,8 @@ fits_level r w c word h level floor parent = record {
       (omega arith, omega (arith, y.0));
 }
 
-heap_with : (w v : Coord → ℕ) (c : Coord) (word : ℕ) → AreHeapWords w → word / 8 ≡ c.y + 1 → IsWritten w v c word → AreHeapWords v
+heap_with : (w v : Coord → ℕ) (c : Coord) (word : ℕ) → AreHeapWords w → word / 8 ≡ c.y + 1 → IsWritten w v c word
+    → AreHeapWords v
 heap_with w v c word h level k d g = elim (same_or_not d c) [
   | inl m ↦ let n : v d ≡ word = ap v m ∙ k.here in let y : d.y ≡ c.y = ap (λ (x : Coord). x.y) m in omega arith
   | inr m ↦ let n = k.kept d m in let l : height w d ≡ d.y + 1 = h d (omega arith) in omega arith
@@ -113,7 +114,8 @@ stacked_in_pile old new c n k word before after s (inr f) l floor above w r t a 
 ]
 
 -- a row still stands where a voxel of it was written
-pub still_stands : (w v : Coord → ℕ) (c : Coord) (n k word : ℕ) → RowStands w c n → IsWritten w v (further c k) word → RowStands v c n
+pub still_stands : (w v : Coord → ℕ) (c : Coord) (n k word : ℕ) → RowStands w c n → IsWritten w v (further c k) word
+    → RowStands v c n
 still_stands w v c n k word (inl y) s = inl y
 still_stands w v c n k word (inr f) s = elim (cases_lt 0 c.y) [
   | inl y ↦ inr (λ j l.
@@ -125,7 +127,8 @@ still_stands w v c n k word (inr f) s = elim (cases_lt 0 c.y) [
 
 -- ---- slots in hand
 
-slot_kept : (old new : Grid) (c : Coord) → new.table ≡ old.table → new.resolution ≡ old.resolution → slot_of new c ≡ slot_of old c
+slot_kept : (old new : Grid) (c : Coord) → new.table ≡ old.table → new.resolution ≡ old.resolution
+    → slot_of new c ≡ slot_of old c
 slot_kept old new c t r = λ i. slot_at (t i) (brick_number (r i) c)
 
 pub slots_kept : (old new : Grid) (c : Coord) (own : ℕ) (below : Option ℕ) → new.table ≡ old.table → new.resolution ≡ old.resolution →
@@ -151,10 +154,12 @@ even_bit n h = grind (arith, nat_tests)
 odd_bit : (n : ℕ) → (n % 2 ≡ 0 → ⊥) → (n % 2 == 1) ≡ true
 odd_bit n h = let e : n % 2 ≡ 1 = elim (cases_lt 0 (n % 2)) [ inl l ↦ omega arith | inr l ↦ absurd (h (omega arith)) ] in grind (arith, nat_tests)
 
-pub void_bit : (m : Matrix) (from count bits k : ℕ) → AreBits m from count bits → k < count → bits / 2 ^ k % 2 ≡ 0 → IsFalse (voxel_at m (from + k))
+pub void_bit : (m : Matrix) (from count bits k : ℕ) → AreBits m from count bits → k < count → bits / 2 ^ k % 2 ≡ 0
+    → IsFalse (voxel_at m (from + k))
 void_bit m from count bits k b l h = sym (b k l) ∙ even_bit (bits / 2 ^ k) h
 
-pub full_bit : (m : Matrix) (from count bits k : ℕ) → AreBits m from count bits → k < count → (bits / 2 ^ k % 2 ≡ 0 → ⊥) → IsTrue (voxel_at m (from + k))
+pub full_bit : (m : Matrix) (from count bits k : ℕ) → AreBits m from count bits → k < count → (bits / 2 ^ k % 2 ≡ 0 → ⊥)
+    → IsTrue (voxel_at m (from + k))
 full_bit m from count bits k b l h = sym (b k l) ∙ odd_bit (bits / 2 ^ k) h
 
 zero_bit : (n k : ℕ) → n % 256 ≡ 0 → k < 8 → n / 2 ^ k % 2 ≡ 0
@@ -180,7 +185,8 @@ one_bit n (suc (suc (suc (suc (suc (suc (suc zero))))))) z l = omega arith
 one_bit n (suc (suc (suc (suc (suc (suc (suc (suc k)))))))) z l = absurd (omega arith)
 
 -- the voxels of a pile are full
-pub pile_full : (m : Matrix) (from count bits : ℕ) → AreBits m from count bits → count ≡ 8 → bits % 256 ≡ 255 → (k : ℕ) → k < 8 → IsTrue (voxel_at m (from + k))
+pub pile_full : (m : Matrix) (from count bits : ℕ) → AreBits m from count bits → count ≡ 8 → bits % 256 ≡ 255 → (k : ℕ)
+    → k < 8 → IsTrue (voxel_at m (from + k))
 pile_full m from count bits b e f k l = full_bit m from count bits k b (omega arith) (one_bit bits k f l)
 
 pub bits_from : (m : Matrix) (from count bits k part place : ℕ) → AreBits m from count bits → k + part ≤ count → place ≡ from + k →
@@ -226,7 +232,8 @@ heaped_same m old new p rest r e h =
       few = h.few;
     }
 
-pub heaped_at : (m : Matrix) (g : Grid) (p q : ℕ) (rest : List Coord) → p ≡ q → IsHeaped m g p rest → IsHeaped m g q rest
+pub heaped_at : (m : Matrix) (g : Grid) (p q : ℕ) (rest : List Coord) → p ≡ q → IsHeaped m g p rest
+    → IsHeaped m g q rest
 heaped_at m g p q rest e h = subst (λ (n : ℕ). IsHeaped m g n rest) e h
 
 -- voids change nothing
@@ -336,12 +343,14 @@ module _ (m : Matrix) (old : Grid) (first : Coord) (k : ℕ) (rest : List Coord)
   can_stack_along = can_stack m old (place m.resolution first + k) rest (along first k) h within_row (omega arith)
 
   module _ (full : IsTrue (voxel_at m (place m.resolution first + k))) (new : Grid) where
-    pub stacked_along : (before after : ℕ) → HaveStacked old new (along first k) before after → IsHeaped m new (place m.resolution first + (k + 1)) rest
+    pub stacked_along : (before after : ℕ) → HaveStacked old new (along first k) before after
+        → IsHeaped m new (place m.resolution first + (k + 1)) rest
     stacked_along before after s =
         heaped_at m new (place m.resolution first + k + 1) (place m.resolution first + (k + 1)) rest (omega arith)
         (heaped_stacked m old (place m.resolution first + k) rest (along first k) h within_row (omega arith) full new before after s)
 
-    pub listed_along : (more : List Coord) → new ≡ old → more ≡ rest ++ along first k ∷ [] → IsHeaped m new (place m.resolution first + (k + 1)) more
+    pub listed_along : (more : List Coord) → new ≡ old → more ≡ rest ++ along first k ∷ []
+        → IsHeaped m new (place m.resolution first + (k + 1)) more
     listed_along more e f =
         heaped_at m new (place m.resolution first + k + 1) (place m.resolution first + (k + 1)) more (omega arith)
         (heaped_listed m old (place m.resolution first + k) rest (along first k) h within_row (omega arith) full new more e f)
@@ -350,7 +359,8 @@ module _ (m : Matrix) (old : Grid) (first : Coord) (k : ℕ) (rest : List Coord)
 
 -- the first k voxels of the row are stacked
 record ArePiled (m : Matrix) (old now : Grid) (c : Coord) (k : ℕ) : Type 0 where
-  heaped : (rest : List Coord) → IsHeaped m old (place m.resolution c) rest → IsHeaped m now (place m.resolution c + k) rest
+  heaped : (rest : List Coord) → IsHeaped m old (place m.resolution c) rest
+      → IsHeaped m now (place m.resolution c + k) rest
   stands : RowStands (word_at now) c 8
 
 -- what is so of a row that stands, and of the word
@@ -363,7 +373,8 @@ pub record CanPile (m : Matrix) (old : Grid) (c : Coord) (word : ℕ) : Type 0 w
   pub floor : c.y ≡ 0 → word ≡ 8
   pub above : 0 < c.y → word ≡ 8 * c.y + 11
 
-are_piled : (m : Matrix) (old new : Grid) (c : Coord) (word k : ℕ) → CanPile m old c word → (w : AreWritten old new c word) → k ≤ 8 → ArePiled m old (w.after k) c k
+are_piled : (m : Matrix) (old new : Grid) (c : Coord) (word k : ℕ) → CanPile m old c word
+    → (w : AreWritten old new c word) → k ≤ 8 → ArePiled m old (w.after k) c k
 are_piled m old new c word zero h w l = subst (λ (g : Grid). ArePiled m old g c 0) (sym w.first) (record { heaped = λ rest i. heaped_at _ _ _ _ _ (omega arith) i; stands = h.stands })
 are_piled m old new c word (suc k) h w l =
     let p = are_piled m old new c word k h w (omega arith) in
@@ -383,7 +394,8 @@ pub piled : (m : Matrix) (old new : Grid) (c : Coord) (word : ℕ) → CanPile m
 piled m old new c word h w rest i = subst (λ (g : Grid). IsHeaped m g (place m.resolution c + 8) rest) w.last ((are_piled m old new c word 8 h w (omega arith)).heaped rest i)
 
 -- what is not seen yet is void
-pub void_to_come : (m : Matrix) (old : Grid) (c : Coord) (k : ℕ) → IsSomeHeap m old (place m.resolution c) → word_at old (further c k) ≡ 1 → ⊥
+pub void_to_come : (m : Matrix) (old : Grid) (c : Coord) (k : ℕ) → IsSomeHeap m old (place m.resolution c)
+    → word_at old (further c k) ≡ 1 → ⊥
 void_to_come m old c k h e =
     let s = h.is.seen (further c k) (omega arith) in
     let b : place m.resolution (further c k) < place m.resolution c = s.before in
@@ -419,7 +431,8 @@ is_positive n h = grind (arith, nat_tests)
 
 module _ (m : Matrix) (mid new : Grid) (rest : List Coord) (before after : ℕ) (whole : IsWhole m) (h : IsHeaped m mid (volume m.resolution) rest)
     (a : HaveAdded mid new rest 20 before after) where
-  voxel : (k : ℕ) → k < m.resolution * m.resolution * m.resolution → nat_lt 0 (word_at new (coordinate_at m.resolution k)) ≡ voxel_at m k
+  voxel : (k : ℕ) → k < m.resolution * m.resolution * m.resolution
+      → nat_lt 0 (word_at new (coordinate_at m.resolution k)) ≡ voxel_at m k
   voxel k l = same_bool (nat_lt 0 (word_at new c)) (voxel_at m k) (λ t. by (a.full c (positive (word_at new c) t)))
       (λ t. is_positive (word_at new c) (back (h.done c (seen t))))
     where
@@ -432,14 +445,16 @@ module _ (m : Matrix) (mid new : Grid) (rest : List Coord) (before after : ℕ) 
       of_seen : IsSeen m (volume m.resolution) (coordinate_at m.resolution k) → IsTrue (voxel_at m k)
       of_seen s = subst (λ (n : ℕ). IsTrue (voxel_at m n)) at s.full
 
-      by : (0 < word_at mid (coordinate_at m.resolution k)) ⊎ Contains rest (coordinate_at m.resolution k) → IsTrue (voxel_at m k)
+      by : (0 < word_at mid (coordinate_at m.resolution k)) ⊎ Contains rest (coordinate_at m.resolution k)
+          → IsTrue (voxel_at m k)
       by (inl f) = of_seen (h.seen (coordinate_at m.resolution k) f)
       by (inr f) = of_seen (h.listed (coordinate_at m.resolution k) f).0
 
       seen : IsTrue (voxel_at m k) → IsSeen m (volume m.resolution) (coordinate_at m.resolution k)
       seen t = record { within = at_in_space m.resolution k l; full = subst (λ (n : ℕ). IsTrue (voxel_at m n)) (sym at) t; before = omega (arith, at) }
 
-      back : (0 < word_at mid (coordinate_at m.resolution k)) ⊎ Contains rest (coordinate_at m.resolution k) → 0 < word_at new (coordinate_at m.resolution k)
+      back : (0 < word_at mid (coordinate_at m.resolution k)) ⊎ Contains rest (coordinate_at m.resolution k)
+          → 0 < word_at new (coordinate_at m.resolution k)
       back (inl f) = a.kept (coordinate_at m.resolution k) f
       back (inr f) = a.added (coordinate_at m.resolution k) f
 

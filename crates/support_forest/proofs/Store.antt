@@ -44,14 +44,16 @@ pub index_below : (c : Coord) → word_index c < 512
 unfolding word_index
 index_below c = omega arith
 
-digits : (a b c d e f : ℕ) → 64 * (a % 8) + 8 * (b % 8) + c % 8 ≡ 64 * (d % 8) + 8 * (e % 8) + f % 8 → (a % 8 ≡ d % 8) × (b % 8 ≡ e % 8) × (c % 8 ≡ f % 8)
+digits : (a b c d e f : ℕ) → 64 * (a % 8) + 8 * (b % 8) + c % 8 ≡ 64 * (d % 8) + 8 * (e % 8) + f % 8
+    → (a % 8 ≡ d % 8) × (b % 8 ≡ e % 8) × (c % 8 ≡ f % 8)
 digits a b c d e f h = (omega arith, omega arith, omega arith)
 
 same_digits : (a b : ℕ) → a / 8 ≡ b / 8 → a % 8 ≡ b % 8 → a ≡ b
 same_digits a b h k = omega arith
 
 -- two voxels of one brick with one index are one voxel, also beyond space
-pub same_voxel : (r : ℕ) (c d : Coord) → IsInSpace (side r) (brick c) → IsInSpace (side r) (brick d) → brick_number r c ≡ brick_number r d → word_index c ≡ word_index d → c ≡ d
+pub same_voxel : (r : ℕ) (c d : Coord) → IsInSpace (side r) (brick c) → IsInSpace (side r) (brick d)
+    → brick_number r c ≡ brick_number r d → word_index c ≡ word_index d → c ≡ d
 unfolding brick_number word_index
 same_voxel r c d h k n i =
     let b : brick c ≡ brick d = sym (coordinate_at-place (side r) (brick c) h) ∙ (ap (coordinate_at (side r)) n ∙ coordinate_at-place (side r) (brick d) k) in
@@ -79,7 +81,8 @@ pub len_added : (v : Slots) (s : ℕ) (words : List ℕ) → get v s ≡ None �
 len_added v s words h = len-insert nat_cmp_total v s words ∙ ap (λ o. cond (is_some o) (len v) (len v + 1)) h
 
 -- a write changes one word
-pub other_word : (v : Slots) (s i w t j : ℕ) → (t ≡ s → j ≡ i → ⊥) → get_or (words_of (insert v s (set (words_of v s) i w)) t) j 0 ≡ get_or (words_of v t) j 0
+pub other_word : (v : Slots) (s i w t j : ℕ) → (t ≡ s → j ≡ i → ⊥)
+    → get_or (words_of (insert v s (set (words_of v s) i w)) t) j 0 ≡ get_or (words_of v t) j 0
 other_word v s i w t j n = elim (cases_eq t s) [
   | inl e ↦
       let ne : j ≡ i → ⊥ = n e in
@@ -96,7 +99,8 @@ one_more (Some s) n e = absurd (none_some s e)
     none_some s e = let z : true ≡ false = ap is_some e in cc
 
 -- one more brick has a slot
-pub count_taken : (table : List (Option ℕ)) (n s : ℕ) → n < length table → slot_at table n ≡ None → count_by is_some (set table n (Some s)) ≡ count_by is_some table + 1
+pub count_taken : (table : List (Option ℕ)) (n s : ℕ) → n < length table → slot_at table n ≡ None
+    → count_by is_some (set table n (Some s)) ≡ count_by is_some table + 1
 count_taken [] n s l e = absurd (omega arith)
 count_taken (o ∷ more) zero s l e =
     sum_by-cons (λ (p : Option ℕ). cond (is_some p) 1 0) (Some s) more ∙ (one_more o (count_by is_some more) e ∙ ap (λ (k : ℕ). k + 1) (sym (sum_by-cons (λ (p : Option ℕ). cond (is_some p) 1 0) o more)))
@@ -130,6 +134,7 @@ pub same_brick : (r : ℕ) (c d : Coord) → brick c ≡ brick d → brick_numbe
 unfolding brick_number
 same_brick r c d e = ap (place (side r)) e
 
-pub brick_is : (r : ℕ) (c d : Coord) → IsInSpace r c → IsInSpace r d → brick_number r c ≡ brick_number r d → brick c ≡ brick d
+pub brick_is : (r : ℕ) (c d : Coord) → IsInSpace r c → IsInSpace r d → brick_number r c ≡ brick_number r d
+    → brick c ≡ brick d
 unfolding brick_number
 brick_is r c d h k n = sym (coordinate_at-place (side r) (brick c) (brick_inside r c h)) ∙ (ap (coordinate_at (side r)) n ∙ coordinate_at-place (side r) (brick d) (brick_inside r d k))

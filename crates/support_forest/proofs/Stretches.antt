@@ -24,9 +24,12 @@ pub record IsBefore (gone : List Coord) (end : ℕ) (last : Coord) (most count :
   pub within : count ≤ end
   pub few : count ≤ most
   pub row : most ≡ last.z % 8 + 1
-  pub each : (k i : ℕ) (d : Coord) → k < count → i + k + 1 ≡ end → slice_index_or gone i d ≡ record { x = last.x; y = last.y; z = last.z - k }
+  pub each : (k i : ℕ) (d : Coord) → k < count → i + k + 1 ≡ end
+      → slice_index_or gone i d ≡ record { x = last.x; y = last.y; z = last.z - k }
 
-pub stretch_from : (gone : List Coord) (end : ℕ) (last : Coord) (most count : ℕ) (c : Coord) → IsBefore gone end last most count → end ≤ length gone → c ≡ slice_index_or gone (end - count) c → IsStretch gone (end - count) count c
+pub stretch_from : (gone : List Coord) (end : ℕ) (last : Coord) (most count : ℕ) (c : Coord)
+    → IsBefore gone end last most count → end ≤ length gone → c ≡ slice_index_or gone (end - count) c
+    → IsStretch gone (end - count) count c
 stretch_from gone end last most count c b l h =
     let s = b.some in
     let w = b.within in
@@ -46,7 +49,8 @@ stretch_from gone end last most count c b l h =
           b.each (count - 1 - k) (end - count + k) d (omega arith) (omega arith) ∙ u;
     }
 
-pub one_before : (gone : List Coord) (end : ℕ) (last : Coord) (most : ℕ) → 0 < end → end ≤ length gone → last ≡ slice_index_or gone (end - 1) last → most ≡ last.z % 8 + 1 → IsBefore gone end last most 1
+pub one_before : (gone : List Coord) (end : ℕ) (last : Coord) (most : ℕ) → 0 < end → end ≤ length gone
+    → last ≡ slice_index_or gone (end - 1) last → most ≡ last.z % 8 + 1 → IsBefore gone end last most 1
 one_before gone end last most s l h m = record {
   some = omega arith;
   within = omega arith;
@@ -59,7 +63,10 @@ one_before gone end last most s l h m = record {
       ap (λ (b : ℕ). slice_index_or gone b d) p ∙ (get_or_default gone (end - 1) d last (omega arith) ∙ (sym h ∙ u));
 }
 
-pub one_more_before : (gone : List Coord) (end : ℕ) (last : Coord) (most count : ℕ) (c : Coord) → IsBefore gone end last most count → end ≤ length gone → count < most → count < end → c ≡ slice_index_or gone (end - 1 - count) c → c.x ≡ last.x → c.y ≡ last.y → c.z + count ≡ last.z → IsBefore gone end last most (count + 1)
+pub one_more_before : (gone : List Coord) (end : ℕ) (last : Coord) (most count : ℕ) (c : Coord)
+    → IsBefore gone end last most count → end ≤ length gone → count < most → count < end
+    → c ≡ slice_index_or gone (end - 1 - count) c → c.x ≡ last.x → c.y ≡ last.y → c.z + count ≡ last.z
+    → IsBefore gone end last most (count + 1)
 one_more_before gone end last most count c b g l m h x y z = record {
   some = omega arith;
   within = omega arith;
@@ -85,23 +92,30 @@ row_space g c n k h l = record { x = h.within.x; y = h.within.y; z = let m = h.l
 row_brick : (c : Coord) (n k : ℕ) → c.z % 8 + n ≤ 8 → k < n → brick (further c k) ≡ brick c
 row_brick c n k r l = let z : (c.z + k) / 8 ≡ c.z / 8 = omega arith in λ j. record { x = c.x / 8; y = c.y / 8; z = z j }
 
-pub row_slot : (g : Grid) (c : Coord) (n k : ℕ) (own : Option ℕ) → LieInRow g c n → k < n → own ≡ slot_of g c → own ≡ slot_of g (further c k)
+pub row_slot : (g : Grid) (c : Coord) (n k : ℕ) (own : Option ℕ) → LieInRow g c n → k < n → own ≡ slot_of g c
+    → own ≡ slot_of g (further c k)
 row_slot g c n k own h l e = same_slot g c (further c k) own (row_brick c n k h.row l) e
 
-pub row_void : (g : Grid) (c : Coord) (n toward : ℕ) → LieInRow g c n → None ≡ slot_of g c → RowHangsNot (word_at g) c n toward
+pub row_void : (g : Grid) (c : Coord) (n toward : ℕ) → LieInRow g c n → None ≡ slot_of g c
+    → RowHangsNot (word_at g) c n toward
 row_void g c n toward h e k l f = let z : 0 ≡ word_at g (further c k) = reads_none g (further c k) (row_space g c n k h l) (row_slot g c n k None h l e) in absurd (omega arith)
 
-pub row_index : (c : Coord) (n k index : ℕ) → c.z % 8 + n ≤ 8 → k < n → index ≡ word_index c → word_index (further c k) ≡ index + k
+pub row_index : (c : Coord) (n k index : ℕ) → c.z % 8 + n ≤ 8 → k < n → index ≡ word_index c
+    → word_index (further c k) ≡ index + k
 unfolding word_index
 row_index c n k index r l e = omega arith
 
 -- the words of a row stand in the chunk that has its slot
-pub row_in_chunk : (g : Grid) (chunk : List ℕ) (slot index from n : ℕ) (c : Coord) → HasSlot g.bricks slot chunk → index ≡ word_index c → c.z % 8 + n ≤ 8 → from ≡ start_in_chunk slot + index → from + n ≤ length chunk
+pub row_in_chunk : (g : Grid) (chunk : List ℕ) (slot index from n : ℕ) (c : Coord) → HasSlot g.bricks slot chunk
+    → index ≡ word_index c → c.z % 8 + n ≤ 8 → from ≡ start_in_chunk slot + index → from + n ≤ length chunk
 unfolding word_index
 row_in_chunk g chunk slot index from n c h e r f = let full = h.full in omega arith
 
 -- what holds of the words of the chunk holds of those of the row, which may lie beyond space
-pub row_in_slot : (g : Grid) (chunk : List ℕ) (slot index from n : ℕ) (c : Coord) (P : ℕ → Type 0) → IsStore g → IsInSpace (side g.resolution) (brick c) → c.z % 8 + n ≤ 8 → slot_of g c ≡ Some slot → HasSlot g.bricks slot chunk → index ≡ word_index c → from ≡ start_in_chunk slot + index → ((k : ℕ) → k < n → P (get_or chunk (from + k) 0)) → (k : ℕ) → k < n → P (word_at g (further c k))
+pub row_in_slot : (g : Grid) (chunk : List ℕ) (slot index from n : ℕ) (c : Coord) (P : ℕ → Type 0) → IsStore g
+    → IsInSpace (side g.resolution) (brick c) → c.z % 8 + n ≤ 8 → slot_of g c ≡ Some slot → HasSlot g.bricks slot chunk
+    → index ≡ word_index c → from ≡ start_in_chunk slot + index → ((k : ℕ) → k < n → P (get_or chunk (from + k) 0))
+    → (k : ℕ) → k < n → P (word_at g (further c k))
 row_in_slot g chunk slot index from n c P s b r e h i f w k l =
     let same : brick (further c k) ≡ brick c = row_brick c n k r l in
     let at : word_index (further c k) ≡ index + k = row_index c n k index r l i in
@@ -119,7 +133,8 @@ row_in_slot g chunk slot index from n c P s b r e h i f w k l =
 -- ---- the words at a side
 
 -- the neighbour of a later voxel is the later one of the first one's neighbour
-pub beside_further : (d k : ℕ) (c q p : Coord) → (0 < d) × (d ≤ 4) → Toward d c q → Toward d (further c k) p → p ≡ further q k
+pub beside_further : (d k : ℕ) (c q p : Coord) → (0 < d) × (d ≤ 4) → Toward d c q → Toward d (further c k) p
+    → p ≡ further q k
 unfolding Toward
 beside_further d k c q p r (inl h) (inl t) = let x : p.x ≡ q.x = omega arith in let y : p.y ≡ q.y = omega arith in let z : p.z ≡ q.z + k = omega arith in λ j. record { x = x j; y = y j; z = z j }
 beside_further d k c q p r (inr (inl h)) (inr (inl t)) = let x : p.x ≡ q.x = omega arith in let y : p.y ≡ q.y = omega arith in let z : p.z ≡ q.z + k = omega arith in λ j. record { x = x j; y = y j; z = z j }
@@ -157,17 +172,20 @@ same_height d c q r (inr (inr (inr (inl h)))) = omega arith
 same_height d c q r (inr (inr (inr (inr (inl h))))) = absurd (omega arith)
 same_height d c q r (inr (inr (inr (inr (inr h))))) = absurd (omega arith)
 
-pub side_row : (g : Grid) (c q : Coord) (n d : ℕ) → (0 < d) × (d ≤ 4) → LieInRow g c n → Toward d c q → IsInSpace g.resolution q → LieInRow g q n
+pub side_row : (g : Grid) (c q : Coord) (n d : ℕ) → (0 < d) × (d ≤ 4) → LieInRow g c n → Toward d c q
+    → IsInSpace g.resolution q → LieInRow g q n
 side_row g c q n d r h t s = let z : q.z ≡ c.z = same_height d c q r.1 t in record {
   within = s;
   last = let l = h.last in omega arith;
   row = let l = h.row in omega arith;
 }
 
-pub side_free : (w : Coord → ℕ) (c q : Coord) (n d toward : ℕ) → (0 < d) × (d ≤ 4) → Toward d c q → RowHangsNot w q n toward → SideHangsNot w c n d toward
+pub side_free : (w : Coord → ℕ) (c q : Coord) (n d toward : ℕ) → (0 < d) × (d ≤ 4) → Toward d c q
+    → RowHangsNot w q n toward → SideHangsNot w c n d toward
 side_free w c q n d toward r t h k p l u = subst (λ (x : Coord). HangsNot (w x) toward) (sym (beside_further d k c q p r t u)) (h k l)
 
-side_back : (d k : ℕ) (c p : Coord) → d ≤ 4 → Toward d (further c k) p → Toward d c (record { x = p.x; y = p.y; z = c.z })
+side_back : (d k : ℕ) (c p : Coord) → d ≤ 4 → Toward d (further c k) p
+    → Toward d c (record { x = p.x; y = p.y; z = c.z })
 unfolding Toward
 side_back d k c p r (inl h) = inl (h.0, h.1, h.2, refl)
 side_back d k c p r (inr (inl h)) = inr (inl (h.0, h.1, h.2, refl))
@@ -176,14 +194,18 @@ side_back d k c p r (inr (inr (inr (inl h)))) = inr (inr (inr (inl (h.0, h.1, h.
 side_back d k c p r (inr (inr (inr (inr (inl h))))) = absurd (omega arith)
 side_back d k c p r (inr (inr (inr (inr (inr h))))) = absurd (omega arith)
 
-pub side_none : (g : Grid) (r : ℕ) (c : Coord) (n d toward : ℕ) → (0 < d) × (d ≤ 4) → LieInRow g c n → r ≡ g.resolution → ((q : Coord) → 0 < word_at g q → IsInSpace g.resolution q) → ((q : Coord) → Toward d c q → IsInSpace r q → ⊥) → SideHangsNot (word_at g) c n d toward
+pub side_none : (g : Grid) (r : ℕ) (c : Coord) (n d toward : ℕ) → (0 < d) × (d ≤ 4) → LieInRow g c n → r ≡ g.resolution
+    → ((q : Coord) → 0 < word_at g q → IsInSpace g.resolution q) → ((q : Coord) → Toward d c q → IsInSpace r q → ⊥)
+    → SideHangsNot (word_at g) c n d toward
 side_none g r c n d toward b h e space none k p l t f m =
     let s = space p (omega arith) in
     let z = h.within.z in
     none (record { x = p.x; y = p.y; z = c.z }) (side_back d k c p b.1 t) (subst (λ (i : ℕ). IsInSpace i (record { x = p.x; y = p.y; z = c.z })) (sym e) (record { x = s.x; y = s.y; z = z }))
 
 -- a side in the brick at hand
-pub side_in_slot : (g : Grid) (chunk : List ℕ) (slot index from n d toward : ℕ) (c : Coord) → (0 < d) × (d ≤ 4) → IsStore g → IsBrickRow g slot c n → HasSlot g.bricks slot chunk → IsIndexToward c d index → from ≡ start_in_chunk slot + index → WordsHangNot chunk from n toward → SideHangsNot (word_at g) c n d toward
+pub side_in_slot : (g : Grid) (chunk : List ℕ) (slot index from n d toward : ℕ) (c : Coord) → (0 < d) × (d ≤ 4)
+    → IsStore g → IsBrickRow g slot c n → HasSlot g.bricks slot chunk → IsIndexToward c d index
+    → from ≡ start_in_chunk slot + index → WordsHangNot chunk from n toward → SideHangsNot (word_at g) c n d toward
 side_in_slot g chunk slot index from n d toward c r s b h t f w =
     let at : StandsAt g slot index t.there = stands_beside g c d slot index b.row.within b.own t in
     let z : t.there.z ≡ c.z = same_height d c t.there r.1 t.toward in
@@ -191,28 +213,36 @@ side_in_slot g chunk slot index from n d toward c r s b h t f w =
     side_free (word_at g) c t.there n d toward r t.toward
     (row_in_slot g chunk slot index from n t.there (λ v. HangsNot v toward) s at.within (omega arith) at.in_slot h (sym at.at_index) f w)
 
-pub side_in_chunk : (g : Grid) (chunk : List ℕ) (slot index from n d : ℕ) (c : Coord) → d ≤ 4 → IsBrickRow g slot c n → HasSlot g.bricks slot chunk → IsIndexToward c d index → from ≡ start_in_chunk slot + index → from + n ≤ length chunk
+pub side_in_chunk : (g : Grid) (chunk : List ℕ) (slot index from n d : ℕ) (c : Coord) → d ≤ 4 → IsBrickRow g slot c n
+    → HasSlot g.bricks slot chunk → IsIndexToward c d index → from ≡ start_in_chunk slot + index
+    → from + n ≤ length chunk
 side_in_chunk g chunk slot index from n d c r b h t f =
     let z : t.there.z ≡ c.z = same_height d c t.there r t.toward in
     let o = b.row.row in
     row_in_chunk g chunk slot index from n t.there h (sym t.at_index) (omega arith) f
 
-pub end_free : (w : Coord → ℕ) (c : Coord) (d toward word : ℕ) → IsWordToward w c d word → HangsNot word toward → SideHangsNot w c 1 d toward
+pub end_free : (w : Coord → ℕ) (c : Coord) (d toward word : ℕ) → IsWordToward w c d word → HangsNot word toward
+    → SideHangsNot w c 1 d toward
 end_free w c d toward word t h k p l u =
     let e : c.z + k ≡ c.z = omega arith in
     let b : further c k ≡ c = λ j. record { x = c.x; y = c.y; z = e j } in
     subst (λ (v : ℕ). HangsNot v toward) (sym (t.each p (subst (λ (x : Coord). Toward d x p) b u))) h
 
-pub far_free : (w : Coord → ℕ) (c : Coord) (n : ℕ) → 0 < n → SideHangsNot w (further c (n - 1)) 1 6 5 → (p : Coord) → p.x ≡ c.x → p.y ≡ c.y → p.z ≡ c.z + n → HangsNot (w p) 5
+pub far_free : (w : Coord → ℕ) (c : Coord) (n : ℕ) → 0 < n → SideHangsNot w (further c (n - 1)) 1 6 5 → (p : Coord)
+    → p.x ≡ c.x → p.y ≡ c.y → p.z ≡ c.z + n → HangsNot (w p) 5
 unfolding Toward
 far_free w c n s h p x y z = h 0 p (omega arith) (inr (inr (inr (inr (inr (refl, omega arith, omega arith, omega arith))))))
 
 -- ---- the voxels of a stretch
 
-pub stretch_full : (g : Grid) (gone : List Coord) (end count k : ℕ) (c : Coord) → IsStretch gone (end - count) count c → count ≤ end → ((i : ℕ) (x : Coord) → i < end → x ≡ slice_index_or gone i x → 0 < word_at g x) → k < count → 0 < word_at g (further c k)
+pub stretch_full : (g : Grid) (gone : List Coord) (end count k : ℕ) (c : Coord) → IsStretch gone (end - count) count c
+    → count ≤ end → ((i : ℕ) (x : Coord) → i < end → x ≡ slice_index_or gone i x → 0 < word_at g x) → k < count
+    → 0 < word_at g (further c k)
 stretch_full g gone end count k c s b full l = full (end - count + k) (further c k) (omega arith) (sym (s.each k (further c k) l))
 
-pub stretch_in_row : (g : Grid) (gone : List Coord) (end count : ℕ) (c : Coord) → AreExact g.resolution (word_at g) → IsStretch gone (end - count) count c → count ≤ end → ((i : ℕ) (x : Coord) → i < end → x ≡ slice_index_or gone i x → 0 < word_at g x) → LieInRow g c count
+pub stretch_in_row : (g : Grid) (gone : List Coord) (end count : ℕ) (c : Coord) → AreExact g.resolution (word_at g)
+    → IsStretch gone (end - count) count c → count ≤ end
+    → ((i : ℕ) (x : Coord) → i < end → x ≡ slice_index_or gone i x → 0 < word_at g x) → LieInRow g c count
 stretch_in_row g gone end count c e s b full =
     let m = s.some in
     let first = e.space (further c 0) (stretch_full g gone end count 0 c s b full m) in
@@ -224,7 +254,9 @@ stretch_in_row g gone end count c e s b full =
     }
 
 -- the first voxel of a stretch, as it was read
-pub first_of : (gone : List Coord) (end from count : ℕ) (d : Coord) → 0 < count → count ≤ end → end ≤ length gone → from ≡ count → slice_index_or gone (end - from) d ≡ slice_index_or gone (end - count) (slice_index_or gone (end - from) d)
+pub first_of : (gone : List Coord) (end from count : ℕ) (d : Coord) → 0 < count → count ≤ end → end ≤ length gone
+    → from ≡ count
+    → slice_index_or gone (end - from) d ≡ slice_index_or gone (end - count) (slice_index_or gone (end - from) d)
 first_of gone end from count d s b l e =
     get_or_default gone (end - from) d (slice_index_or gone (end - from) d) (omega arith) ∙ ap (λ (k : ℕ). slice_index_or gone (end - k) (slice_index_or gone (end - from) d)) e
 
@@ -233,10 +265,12 @@ first_of gone end from count d s b l e =
 pub row_has : (c : Coord) (k : ℕ) → further c k ≡ further (whole_row_start c) (c.z % 8 + k)
 row_has c k = let z : c.z + k ≡ c.z / 8 * 8 + (c.z % 8 + k) = omega arith in λ j. record { x = c.x; y = c.y; z = z j }
 
-part_side : (w : Coord → ℕ) (c : Coord) (n d toward : ℕ) → c.z % 8 + n ≤ 8 → SideHangsNot w (whole_row_start c) 8 d toward → SideHangsNot w c n d toward
+part_side : (w : Coord → ℕ) (c : Coord) (n d toward : ℕ) → c.z % 8 + n ≤ 8
+    → SideHangsNot w (whole_row_start c) 8 d toward → SideHangsNot w c n d toward
 part_side w c n d toward r h k p l t = h (c.z % 8 + k) p (omega arith) (subst (λ (x : Coord). Toward d x p) (row_has c k) t)
 
-pub part_free : (w : Coord → ℕ) (c : Coord) (n : ℕ) → c.z % 8 + n ≤ 8 → SidesAreFree w (whole_row_start c) 8 → SidesAreFree w c n
+pub part_free : (w : Coord → ℕ) (c : Coord) (n : ℕ) → c.z % 8 + n ≤ 8 → SidesAreFree w (whole_row_start c) 8
+    → SidesAreFree w c n
 part_free w c n r s = record {
   left = part_side w c n 1 2 r s.left;
   right = part_side w c n 2 1 r s.right;
@@ -249,13 +283,18 @@ whole_row_brick : (c : Coord) → brick (whole_row_start c) ≡ brick c
 whole_row_brick c = let z : c.z / 8 * 8 / 8 ≡ c.z / 8 = omega arith in λ j. record { x = c.x / 8; y = c.y / 8; z = z j }
 
 -- what holds of the words of the whole row in the chunk holds of those of its voxels, which may lie beyond space
-pub whole_row_in_slot : (g : Grid) (chunk : List ℕ) (slot index from : ℕ) (c : Coord) (P : ℕ → Type 0) → IsStore g → IsInSpace g.resolution c → slot_of g c ≡ Some slot → HasSlot g.bricks slot chunk → index ≡ word_index (whole_row_start c) → from ≡ start_in_chunk slot + index → ((k : ℕ) → k < 8 → P (get_or chunk (from + k) 0)) → (k : ℕ) → k < 8 → P (word_at g (further (whole_row_start c) k))
+pub whole_row_in_slot : (g : Grid) (chunk : List ℕ) (slot index from : ℕ) (c : Coord) (P : ℕ → Type 0) → IsStore g
+    → IsInSpace g.resolution c → slot_of g c ≡ Some slot → HasSlot g.bricks slot chunk
+    → index ≡ word_index (whole_row_start c) → from ≡ start_in_chunk slot + index
+    → ((k : ℕ) → k < 8 → P (get_or chunk (from + k) 0)) → (k : ℕ) → k < 8
+    → P (word_at g (further (whole_row_start c) k))
 whole_row_in_slot g chunk slot index from c P s w e h i f v =
     row_in_slot g chunk slot index from 8 (whole_row_start c) P s
     (subst (λ (x : Coord). IsInSpace (side g.resolution) x) (sym (whole_row_brick c)) (brick_inside g.resolution c w)) (omega arith)
     (sym (same_slot g c (whole_row_start c) (Some slot) (whole_row_brick c) (sym e))) h i f v
 
-pub whole_brick_row : (g : Grid) (own : ℕ) (c : Coord) (n : ℕ) → IsBrickRow g own c n → c.z / 8 * 8 + 8 ≤ g.resolution → IsBrickRow g own (whole_row_start c) 8
+pub whole_brick_row : (g : Grid) (own : ℕ) (c : Coord) (n : ℕ) → IsBrickRow g own c n → c.z / 8 * 8 + 8 ≤ g.resolution
+    → IsBrickRow g own (whole_row_start c) 8
 whole_brick_row g own c n b l =
     record {
       some = omega arith;

@@ -25,7 +25,8 @@ none_hangs w c b k n q h t = by t
     by (inr (inr (inr (inr (inl d))))) = let e : w q ≡ b.far = k.far.each q (inr (inr (inr (inr (inr (refl, omega arith, omega arith, omega arith)))))) in n.far (omega arith) (omega arith)
     by (inr (inr (inr (inr (inr d))))) = let e : w q ≡ b.near = k.near.each q (inr (inr (inr (inr (inl (refl, omega arith, omega arith, omega arith)))))) in n.near (omega arith) (omega arith)
 
-pub exact_without : (r : ℕ) (w v : Coord → ℕ) (c : Coord) → AreExact r w → IsNoParent w c → IsWritten w v c 0 → AreExact r v
+pub exact_without : (r : ℕ) (w v : Coord → ℕ) (c : Coord) → AreExact r w → IsNoParent w c → IsWritten w v c 0
+    → AreExact r v
 exact_without r w v c e n k = record {
   space = λ d f. let s = still d (omega arith) in e.space d (omega arith);
   form = λ d l. elim (same_or_not d c) [ inl m ↦ let z : v d ≡ 0 = ap v m ∙ k.here in omega arith | inr m ↦ let s = k.kept d m in let h : w d ≤ 1 = e.form d (omega arith) in omega arith ];
@@ -42,7 +43,9 @@ exact_without r w v c e n k = record {
     still : (d : Coord) → 0 < v d → v d ≡ w d
     still d f = k.kept d (λ m. let z : v d ≡ 0 = ap v m ∙ k.here in omega arith)
 
-taken_by : (old new : Grid) (c : Coord) (before after : ℕ) → AreExact old.resolution (word_at old) → IsNoParent (word_at old) c → IsWritten (word_at old) (word_at new) c 0 → new.resolution ≡ old.resolution → after ≤ before + 8 → HaveTaken old new c before after
+taken_by : (old new : Grid) (c : Coord) (before after : ℕ) → AreExact old.resolution (word_at old)
+    → IsNoParent (word_at old) c → IsWritten (word_at old) (word_at new) c 0 → new.resolution ≡ old.resolution
+    → after ≤ before + 8 → HaveTaken old new c before after
 taken_by old new c before after e n w r t = record {
   resolution = r;
   exact = subst (λ (s : ℕ). AreExact s (word_at new)) (sym r) (exact_without old.resolution (word_at old) (word_at new) c e n w);
@@ -51,13 +54,16 @@ taken_by old new c before after e n w r t = record {
   cost = t;
 }
 
-pub taken : (old new : Grid) (c : Coord) (before mid next after : ℕ) → AreExact old.resolution (word_at old) → IsNoParent (word_at old) c → IsWritten (word_at old) (word_at new) c 0 → new.resolution ≡ old.resolution → mid ≤ before + 6 → next ≤ mid + 1 → after ≡ next + 1 → HaveTaken old new c before after
+pub taken : (old new : Grid) (c : Coord) (before mid next after : ℕ) → AreExact old.resolution (word_at old)
+    → IsNoParent (word_at old) c → IsWritten (word_at old) (word_at new) c 0 → new.resolution ≡ old.resolution
+    → mid ≤ before + 6 → next ≤ mid + 1 → after ≡ next + 1 → HaveTaken old new c before after
 taken old new c before mid next after e n w r l m t = taken_by old new c before after e n w r (omega arith)
 
 -- ---- the voxel is on the floor
 
 -- what stands on the floor beside it hangs on no voxel
-none_hangs_on_floor : (r : ℕ) (w : Coord → ℕ) (c : Coord) (over : ℕ) → AreExact r w → c.y ≡ 0 → IsWordToward w c 4 over → HangsNot over 3 → IsNoParent w c
+none_hangs_on_floor : (r : ℕ) (w : Coord → ℕ) (c : Coord) (over : ℕ) → AreExact r w → c.y ≡ 0 → IsWordToward w c 4 over
+    → HangsNot over 3 → IsNoParent w c
 unfolding Toward
 none_hangs_on_floor r w c over e y k n q h t = by t
   where
@@ -69,12 +75,16 @@ none_hangs_on_floor r w c over e y k n q h t = by t
     by (inr (inr (inr (inr (inl d))))) = let l : w q ≡ 8 = e.floor q (omega arith) (omega arith) in omega arith
     by (inr (inr (inr (inr (inr d))))) = let l : w q ≡ 8 = e.floor q (omega arith) (omega arith) in omega arith
 
-pub taken_from_floor : (old new : Grid) (c : Coord) (over before mid after : ℕ) → AreExact old.resolution (word_at old) → c.y ≡ 0 → IsWordToward (word_at old) c 4 over → HangsNot over 3 → IsWritten (word_at old) (word_at new) c 0 → new.resolution ≡ old.resolution → mid ≤ before + 1 → after ≡ mid + 1 → HaveTaken old new c before after
+pub taken_from_floor : (old new : Grid) (c : Coord) (over before mid after : ℕ) → AreExact old.resolution (word_at old)
+    → c.y ≡ 0 → IsWordToward (word_at old) c 4 over → HangsNot over 3 → IsWritten (word_at old) (word_at new) c 0
+    → new.resolution ≡ old.resolution → mid ≤ before + 1 → after ≡ mid + 1 → HaveTaken old new c before after
 taken_from_floor old new c over before mid after e y k n w r l t = taken_by old new c before after e (none_hangs_on_floor old.resolution (word_at old) c over e y k n) w r (omega arith)
 
 -- ---- the only one
 
-pub taken_removed : (old new : Grid) (gone : List Coord) (c : Coord) (before after : ℕ) → length gone ≡ 1 → c ≡ slice_index_or gone 0 c → CanRemove old gone → HaveTaken old new c before after → HaveRemoved old new gone 62 before after
+pub taken_removed : (old new : Grid) (gone : List Coord) (c : Coord) (before after : ℕ) → length gone ≡ 1
+    → c ≡ slice_index_or gone 0 c → CanRemove old gone → HaveTaken old new c before after
+    → HaveRemoved old new gone 62 before after
 taken_removed old new gone c before after l e a p = record {
   resolution = p.resolution;
   exact = p.exact;

@@ -18,7 +18,8 @@ use Rattle.support_forest.proofs.Stretches.{row_has, row_slot, row_space}
 use Rattle.support_forest.proofs.Writes.{reads_none}
 
 -- the voxels are void as they are
-pub voided_already : (g : Grid) (area : Coord → Type 0) (n : ℕ) (rest : List Coord) → AreExact g.resolution (word_at g) → ((c : Coord) → area c → word_at g c ≡ 0) → AreVoided g g area n rest rest
+pub voided_already : (g : Grid) (area : Coord → Type 0) (n : ℕ) (rest : List Coord) → AreExact g.resolution (word_at g)
+    → ((c : Coord) → area c → word_at g c ≡ 0) → AreVoided g g area n rest rest
 voided_already g area n rest e z = record {
   resolution = refl;
   exact = e;
@@ -31,7 +32,9 @@ voided_already g area n rest e z = record {
 }
 
 -- the voxel is listed
-pub voided_listed : (g : Grid) (area : Coord → Type 0) (rest more : List Coord) (x : Coord) → AreExact g.resolution (word_at g) → 0 < word_at g x → area x → ((c : Coord) → area c → c ≡ x) → more ≡ rest ++ x ∷ [] → AreVoided g g area 1 rest more
+pub voided_listed : (g : Grid) (area : Coord → Type 0) (rest more : List Coord) (x : Coord)
+    → AreExact g.resolution (word_at g) → 0 < word_at g x → area x → ((c : Coord) → area c → c ≡ x)
+    → more ≡ rest ++ x ∷ [] → AreVoided g g area 1 rest more
 voided_listed g area rest more x e f a only m = subst (λ (xs : List Coord). AreVoided g g area 1 rest xs) (sym m) (record {
   resolution = refl;
   exact = e;
@@ -47,7 +50,10 @@ voided_listed g area rest more x e f a only m = subst (λ (xs : List Coord). Are
 })
 
 -- one area after another, which it does not meet
-pub voided_more : (old mid new : Grid) (A B C : Coord → Type 0) (a b n : ℕ) (rest more most : List Coord) → AreVoided old mid A a rest more → AreVoided mid new B b more most → ((c : Coord) → A c → B c → ⊥) → ((c : Coord) → C c → A c ⊎ B c) → ((c : Coord) → A c → C c) → ((c : Coord) → B c → C c) → n ≡ a + b → AreVoided old new C n rest most
+pub voided_more : (old mid new : Grid) (A B C : Coord → Type 0) (a b n : ℕ) (rest more most : List Coord)
+    → AreVoided old mid A a rest more → AreVoided mid new B b more most → ((c : Coord) → A c → B c → ⊥)
+    → ((c : Coord) → C c → A c ⊎ B c) → ((c : Coord) → A c → C c) → ((c : Coord) → B c → C c) → n ≡ a + b
+    → AreVoided old new C n rest most
 voided_more old mid new A B C a b n rest more most p q apart parts left right e = record {
   resolution = q.resolution ∙ p.resolution;
   exact = q.exact;
@@ -82,7 +88,8 @@ voided_more old mid new A B C a b n rest more most p q apart parts left right e 
 row_is : (first c : Coord) (n : ℕ) → IsInRow first n c → c ≡ further first (c.z - first.z)
 row_is first c n h = let x : c.x ≡ first.x = h.0 in let y : c.y ≡ first.y = h.1 in let z : c.z ≡ first.z + (c.z - first.z) = omega arith in λ j. record { x = x j; y = y j; z = z j }
 
-pub row_cleared_is : (old new : Grid) (first : Coord) (n : ℕ) (rest : List Coord) (before after : ℕ) → AreCleared old new first 0 n before after → AreVoided old new (IsInRow first n) n rest rest
+pub row_cleared_is : (old new : Grid) (first : Coord) (n : ℕ) (rest : List Coord) (before after : ℕ)
+    → AreCleared old new first 0 n before after → AreVoided old new (IsInRow first n) n rest rest
 row_cleared_is old new first n rest before after a = record {
   resolution = a.resolution;
   exact = a.exact;
@@ -118,14 +125,17 @@ row_cleared_is old new first n rest before after a = record {
 
 -- ---- all of the area is void or listed, and what is listed is removed
 
-pub can_remove_rest : (old now : Grid) (area : Coord → Type 0) (n : ℕ) (rest more : List Coord) → rest ≡ [] → AreVoided old now area n rest more → CanRemove now more
+pub can_remove_rest : (old now : Grid) (area : Coord → Type 0) (n : ℕ) (rest more : List Coord) → rest ≡ []
+    → AreVoided old now area n rest more → CanRemove now more
 can_remove_rest old now area n rest more e p = record {
   differ = p.differ (none_differ rest e) (λ c h a. no_member rest c e h);
   exact = p.exact;
   full = λ c h. elim (p.listed c h) [ inl o ↦ absurd (no_member rest c e o) | inr o ↦ omega (arith, o.1, o.2) ];
 }
 
-pub voided_and_removed : (old now new : Grid) (area : Coord → Type 0) (n : ℕ) (rest more : List Coord) (before steps after : ℕ) → rest ≡ [] → AreVoided old now area n rest more → steps ≤ before + 40 * n → HaveRemoved now new more 56 steps after → HaveVoided old new area n before after
+pub voided_and_removed : (old now new : Grid) (area : Coord → Type 0) (n : ℕ) (rest more : List Coord)
+    (before steps after : ℕ) → rest ≡ [] → AreVoided old now area n rest more → steps ≤ before + 40 * n
+    → HaveRemoved now new more 56 steps after → HaveVoided old new area n before after
 voided_and_removed old now new area n rest more before steps after e p t h = record {
   resolution = h.resolution ∙ p.resolution;
   exact = h.exact;
@@ -145,7 +155,10 @@ abbrev pub row_at : Coord → ℕ → Coord
 row_at c z = record { x = c.x; y = c.y; z = z }
 
 -- one voxel of a part before those that were looked at
-pub one_before_row : (g : Grid) (first : Coord) (left n : ℕ) (rest more most : List Coord) → left + 1 ≤ n → AreVoided g g (IsInRow (further first (left + 1)) (n - (left + 1))) (n - (left + 1)) rest more → AreVoided g g (IsInRow (further first left) 1) 1 more most → AreVoided g g (IsInRow (further first left) (n - left)) (n - left) rest most
+pub one_before_row : (g : Grid) (first : Coord) (left n : ℕ) (rest more most : List Coord) → left + 1 ≤ n
+    → AreVoided g g (IsInRow (further first (left + 1)) (n - (left + 1))) (n - (left + 1)) rest more
+    → AreVoided g g (IsInRow (further first left) 1) 1 more most
+    → AreVoided g g (IsInRow (further first left) (n - left)) (n - left) rest most
 one_before_row g first left n rest more most l p q =
     voided_more g g g (IsInRow (further first (left + 1)) (n - (left + 1))) (IsInRow (further first left) 1) (IsInRow (further first left) (n - left)) (n - (left + 1)) 1 (n - left) rest more most p q
     (λ c a b. omega arith)
@@ -155,7 +168,11 @@ one_before_row g first left n rest more most l p q =
     (omega arith)
 
 -- a part of a row before those that were looked at
-pub part_before_row : (old now new : Grid) (first : Coord) (left part end : ℕ) (rest more most : List Coord) → left + part ≤ end → AreVoided old now (IsInRow (row_at first (left + part)) (end - (left + part))) (end - (left + part)) rest more → AreVoided now new (IsInRow (row_at first left) part) part more most → AreVoided old new (IsInRow (row_at first left) (end - left)) (end - left) rest most
+pub part_before_row : (old now new : Grid) (first : Coord) (left part end : ℕ) (rest more most : List Coord)
+    → left + part ≤ end
+    → AreVoided old now (IsInRow (row_at first (left + part)) (end - (left + part))) (end - (left + part)) rest more
+    → AreVoided now new (IsInRow (row_at first left) part) part more most
+    → AreVoided old new (IsInRow (row_at first left) (end - left)) (end - left) rest most
 part_before_row old now new first left part end rest more most l p q =
     voided_more old now new (IsInRow (row_at first (left + part)) (end - (left + part))) (IsInRow (row_at first left) part) (IsInRow (row_at first left) (end - left)) (end - (left + part)) part (end - left) rest more most p q
     (λ c a b. omega arith)
@@ -168,7 +185,11 @@ one_more_of : (high y n : ℕ) → y ≤ high → (high + 1 - y) * n ≡ (high +
 one_more_of high y n l = let e : high + 1 - y ≡ high + 1 - (y + 1) + 1 = omega arith in ap (λ (k : ℕ). k * n) e ∙ grind arith
 
 -- a row under those of the wall
-pub row_before_wall : (old now new : Grid) (k : Corners) (x y : ℕ) (rest more most : List Coord) → k.low.y ≤ y → y ≤ k.high.y → k.low.z ≤ k.high.z → AreVoided old now (IsInWall k x (y + 1)) ((k.high.y + 1 - (y + 1)) * row_size k) rest more → AreVoided now new (IsInRow (record { x = x; y = y; z = k.low.z }) (k.high.z + 1 - k.low.z)) (k.high.z + 1 - k.low.z) more most → AreVoided old new (IsInWall k x y) ((k.high.y + 1 - y) * row_size k) rest most
+pub row_before_wall : (old now new : Grid) (k : Corners) (x y : ℕ) (rest more most : List Coord) → k.low.y ≤ y
+    → y ≤ k.high.y → k.low.z ≤ k.high.z
+    → AreVoided old now (IsInWall k x (y + 1)) ((k.high.y + 1 - (y + 1)) * row_size k) rest more
+    → AreVoided now new (IsInRow (record { x = x; y = y; z = k.low.z }) (k.high.z + 1 - k.low.z))
+    (k.high.z + 1 - k.low.z) more most → AreVoided old new (IsInWall k x y) ((k.high.y + 1 - y) * row_size k) rest most
 row_before_wall old now new k x y rest more most l h z p q =
     voided_more old now new (IsInWall k x (y + 1)) (IsInRow (record { x = x; y = y; z = k.low.z }) (k.high.z + 1 - k.low.z)) (IsInWall k x y) ((k.high.y + 1 - (y + 1)) * row_size k) (row_size k) ((k.high.y + 1 - y) * row_size k) rest more most p q
     (λ c a b. omega arith)
@@ -178,7 +199,10 @@ row_before_wall old now new k x y rest more most l h z p q =
     (one_more_of k.high.y y (row_size k) h)
 
 -- a wall before those of the region
-pub wall_before_region : (old now new : Grid) (k : Corners) (x : ℕ) (rest more most : List Coord) → x ≤ k.high.x → AreVoided old now (IsInWalls k (x + 1)) ((k.high.x + 1 - (x + 1)) * wall_size k) rest more → AreVoided now new (IsInWall k x k.low.y) (wall_size k) more most → AreVoided old new (IsInWalls k x) ((k.high.x + 1 - x) * wall_size k) rest most
+pub wall_before_region : (old now new : Grid) (k : Corners) (x : ℕ) (rest more most : List Coord) → x ≤ k.high.x
+    → AreVoided old now (IsInWalls k (x + 1)) ((k.high.x + 1 - (x + 1)) * wall_size k) rest more
+    → AreVoided now new (IsInWall k x k.low.y) (wall_size k) more most
+    → AreVoided old new (IsInWalls k x) ((k.high.x + 1 - x) * wall_size k) rest most
 wall_before_region old now new k x rest more most h p q =
     voided_more old now new (IsInWalls k (x + 1)) (IsInWall k x k.low.y) (IsInWalls k x) ((k.high.x + 1 - (x + 1)) * wall_size k) (wall_size k) ((k.high.x + 1 - x) * wall_size k) rest more most p q
     (λ c a b. omega arith)
@@ -188,13 +212,15 @@ wall_before_region old now new k x rest more most h p q =
     (one_more_of k.high.x x (wall_size k) h)
 
 -- steps that a row or a wall adds
-pub more_steps : (high y n before steps after : ℕ) → y ≤ high → steps ≤ before + 40 * ((high + 1 - (y + 1)) * n) → after ≤ steps + 40 * n → after ≤ before + 40 * ((high + 1 - y) * n)
+pub more_steps : (high y n before steps after : ℕ) → y ≤ high → steps ≤ before + 40 * ((high + 1 - (y + 1)) * n)
+    → after ≤ steps + 40 * n → after ≤ before + 40 * ((high + 1 - y) * n)
 more_steps high y n before steps after h s t = let e = one_more_of high y n h in omega (arith, e)
 
 -- ---- the region
 
 -- the area of all walls is the region
-pub walls_are_region : (old new : Grid) (k : Corners) (n : ℕ) (rest more : List Coord) → IsOrdered k → AreVoided old new (IsInWalls k k.low.x) n rest more → AreVoided old new (IsInRegion k) n rest more
+pub walls_are_region : (old new : Grid) (k : Corners) (n : ℕ) (rest more : List Coord) → IsOrdered k
+    → AreVoided old new (IsInWalls k k.low.x) n rest more → AreVoided old new (IsInRegion k) n rest more
 walls_are_region old new k n rest more o p = record {
   resolution = p.resolution;
   exact = p.exact;
@@ -213,13 +239,19 @@ walls_are_region old new k n rest more o p = record {
     there c h = of_is k c (record { x_low = h.0; x_high = h.1; y_low = h.2; y_high = h.3; z_low = h.4; z_high = h.5 })
 
 -- a row between the corners, as they were read
-pub row_of_region : (now new : Grid) (k : Corners) (low high : Coord) (x y : ℕ) (more most : List Coord) → low ≡ k.low → high ≡ k.high → AreVoided now new (IsInRow (record { x = x; y = y; z = low.z }) (high.z + 1 - low.z)) (high.z + 1 - low.z) more most → AreVoided now new (IsInRow (record { x = x; y = y; z = k.low.z }) (k.high.z + 1 - k.low.z)) (k.high.z + 1 - k.low.z) more most
+pub row_of_region : (now new : Grid) (k : Corners) (low high : Coord) (x y : ℕ) (more most : List Coord) → low ≡ k.low
+    → high ≡ k.high → AreVoided now new (IsInRow (record { x = x; y = y; z = low.z }) (high.z + 1 - low.z))
+    (high.z + 1 - low.z) more most
+    → AreVoided now new (IsInRow (record { x = x; y = y; z = k.low.z }) (k.high.z + 1 - k.low.z))
+    (k.high.z + 1 - k.low.z) more most
 row_of_region now new k low high x y more most e f p =
     subst (λ (h : Coord). AreVoided now new (IsInRow (record { x = x; y = y; z = k.low.z }) (h.z + 1 - k.low.z)) (h.z + 1 - k.low.z) more most) f
     (subst (λ (l : Coord). AreVoided now new (IsInRow (record { x = x; y = y; z = l.z }) (high.z + 1 - l.z)) (high.z + 1 - l.z) more most) e p)
 
 -- a part of a row lies in the row of a brick
-pub part_in_row : (old now : Grid) (first : Coord) (left part end : ℕ) → now.resolution ≡ old.resolution → IsInSpace old.resolution first → left + part ≤ end → end ≤ old.resolution → left % 8 + part ≤ 8 → left < old.resolution → LieInRow now (row_at first left) part
+pub part_in_row : (old now : Grid) (first : Coord) (left part end : ℕ) → now.resolution ≡ old.resolution
+    → IsInSpace old.resolution first → left + part ≤ end → end ≤ old.resolution → left % 8 + part ≤ 8
+    → left < old.resolution → LieInRow now (row_at first left) part
 part_in_row old now first left part end e s l m r b = record {
   within = record { x = omega (arith, e, s.x); y = omega (arith, e, s.y); z = omega (arith, e) };
   last = omega (arith, e);
@@ -227,7 +259,8 @@ part_in_row old now first left part end e s l m r b = record {
 }
 
 -- all words of a row of a brick without a slot are 0
-pub row_none : (g : Grid) (first c : Coord) (n : ℕ) → LieInRow g first n → None ≡ slot_of g first → IsInRow first n c → word_at g c ≡ 0
+pub row_none : (g : Grid) (first c : Coord) (n : ℕ) → LieInRow g first n → None ≡ slot_of g first → IsInRow first n c
+    → word_at g c ≡ 0
 row_none g first c n r e h =
     let k : c.z - first.z < n = omega arith in
     ap (word_at g) (row_is first c n h) ∙ sym (reads_none g (further first (c.z - first.z)) (row_space g first n (c.z - first.z) r k) (row_slot g first n (c.z - first.z) None r k e))
@@ -238,7 +271,9 @@ pub row_one : (x c : Coord) → IsInRow x 1 c → c ≡ x
 row_one x c h = let p : c.x ≡ x.x = h.0 in let q : c.y ≡ x.y = h.1 in let r : c.z ≡ x.z = omega arith in λ j. record { x = p j; y = q j; z = r j }
 
 -- all of a part was looked at
-pub part_at : (old now : Grid) (first : Coord) (left n : ℕ) (rest more : List Coord) → left ≡ 0 → AreVoided old now (IsInRow (further first left) (n - left)) (n - left) rest more → AreVoided old now (IsInRow first n) n rest more
+pub part_at : (old now : Grid) (first : Coord) (left n : ℕ) (rest more : List Coord) → left ≡ 0
+    → AreVoided old now (IsInRow (further first left) (n - left)) (n - left) rest more
+    → AreVoided old now (IsInRow first n) n rest more
 part_at old now first left n rest more e p =
     let z : first.z + left ≡ first.z = omega arith in
     let here : further first left ≡ first = λ j. record { x = first.x; y = first.y; z = z j } in
@@ -246,11 +281,14 @@ part_at old now first left n rest more e p =
     subst (λ (k : ℕ). AreVoided old now (IsInRow first k) k rest more) m (subst (λ (x : Coord). AreVoided old now (IsInRow x (n - left)) (n - left) rest more) here p)
 
 -- all of a row was looked at
-pub whole_row_at : (old now : Grid) (first : Coord) (left end : ℕ) (rest more : List Coord) → left ≡ first.z → AreVoided old now (IsInRow (row_at first left) (end - left)) (end - left) rest more → AreVoided old now (IsInRow first (end - first.z)) (end - first.z) rest more
+pub whole_row_at : (old now : Grid) (first : Coord) (left end : ℕ) (rest more : List Coord) → left ≡ first.z
+    → AreVoided old now (IsInRow (row_at first left) (end - left)) (end - left) rest more
+    → AreVoided old now (IsInRow first (end - first.z)) (end - first.z) rest more
 whole_row_at old now first left end rest more e p = subst (λ (k : ℕ). AreVoided old now (IsInRow (row_at first k) (end - k)) (end - k) rest more) e p
 
 -- a part of a row is void where the whole row is
-pub part_void : (g : Grid) (first c : Coord) (n : ℕ) → first.z % 8 + n ≤ 8 → ((k : ℕ) → k < 8 → word_at g (further (whole_row_start first) k) ≡ 0) → IsInRow first n c → word_at g c ≡ 0
+pub part_void : (g : Grid) (first c : Coord) (n : ℕ) → first.z % 8 + n ≤ 8
+    → ((k : ℕ) → k < 8 → word_at g (further (whole_row_start first) k) ≡ 0) → IsInRow first n c → word_at g c ≡ 0
 part_void g first c n r z h =
     let k : c.z - first.z < n = omega arith in
     ap (word_at g) (row_is first c n h ∙ row_has first (c.z - first.z)) ∙ z (first.z % 8 + (c.z - first.z)) (omega arith)

@@ -31,7 +31,8 @@ one_more true false c d e = or_false (c && d)
     or_false false = refl
 one_more false b c d e = refl
 
-under_row : (w l n a y z : ℕ) (c : Coord) → is_under (bot_row w l n (coord a (y + 1) z)) c ≡ (is_column w l n a c.x && c.y == y && c.z == z)
+under_row : (w l n a y z : ℕ) (c : Coord)
+    → is_under (bot_row w l n (coord a (y + 1) z)) c ≡ (is_column w l n a c.x && c.y == y && c.z == z)
 under_row w l zero a y z c = refl
 under_row w l (suc n) a y z c =
     (λ i. (c.x == min a l && one_up c.y y i && c.z == z) || under_row w l n (a + w) y z c i)
@@ -42,21 +43,25 @@ under_is r x y z c = under_row (width r) (last r) (count r) x y z c
 
 -- ---- where nothing is wanted
 
-none_wanted : (m target : Matrix) (ps : List Coord) (c : Coord) → are_wanted m target ps ≡ false → is_under ps c ≡ true → is_full target c ≡ true → is_full m c ≡ true
+none_wanted : (m target : Matrix) (ps : List Coord) (c : Coord) → are_wanted m target ps ≡ false → is_under ps c ≡ true
+    → is_full target c ≡ true → is_full m c ≡ true
 none_wanted m target [] c h u g = cc
 none_wanted m target (p ∷ ps) c h u g = by (is_below p c) refl (none_of_two (is_wanted m target p) (are_wanted m target ps) h) (λ n v. none_wanted m target ps c n v g)
   where
-    by : (t : Bool) → is_below p c ≡ t → (is_wanted m target p ≡ false) × (are_wanted m target ps ≡ false) → (are_wanted m target ps ≡ false → is_under ps c ≡ true → is_full m c ≡ true) → is_full m c ≡ true
+    by : (t : Bool) → is_below p c ≡ t → (is_wanted m target p ≡ false) × (are_wanted m target ps ≡ false)
+        → (are_wanted m target ps ≡ false → is_under ps c ≡ true → is_full m c ≡ true) → is_full m c ≡ true
     by true e n later = let f = is_below-is p c e in second_by_and_not (is_full target c) (is_full m c) (ap (λ (d : Coord). is_full target d && not (is_full m d)) f ∙ n.0) g
     by false e n later = later n.1 (sym (ap (λ t. t || is_under ps c) e) ∙ u)
 
-all_there : (full under target : Bool) → (under ≡ true → target ≡ true → full ≡ true) → full ≡ (full || (under && target))
+all_there : (full under target : Bool) → (under ≡ true → target ≡ true → full ≡ true)
+    → full ≡ (full || (under && target))
 all_there true under target h = refl
 all_there false true true h = h refl refl
 all_there false true false h = refl
 all_there false false target h = refl
 
-pub raised_already : (m target : Matrix) (ps : List Coord) → are_wanted m target ps ≡ false → IsRaised m m target (is_under ps)
+pub raised_already : (m target : Matrix) (ps : List Coord) → are_wanted m target ps ≡ false
+    → IsRaised m m target (is_under ps)
 raised_already m target ps h = λ c. all_there (is_full m c) (is_under ps c) (is_full target c) (none_wanted m target ps c h)
 
 -- ---- parts
@@ -76,14 +81,19 @@ same_where_full false true false false h = refl
 same_where_full false false true false h = refl
 same_where_full false false false false h = refl
 
-pub raised_as : (m n target : Matrix) (d e : Coord → Bool) → IsRaised m n target d → ((c : Coord) → is_full target c ≡ true → d c ≡ e c) → IsRaised m n target e
+pub raised_as : (m n target : Matrix) (d e : Coord → Bool) → IsRaised m n target d
+    → ((c : Coord) → is_full target c ≡ true → d c ≡ e c) → IsRaised m n target e
 raised_as m n target d e h k = λ c. h c ∙ same_where_full (is_full n c) (d c) (e c) (is_full target c) (k c)
 
-pub raised_more : (k m n target : Matrix) (d e all : Coord → Bool) → IsRaised m n target d → IsRaised k m target e → ((c : Coord) → is_full target c ≡ true → (d c || e c) ≡ all c) → IsRaised k n target all
+pub raised_more : (k m n target : Matrix) (d e all : Coord → Bool) → IsRaised m n target d → IsRaised k m target e
+    → ((c : Coord) → is_full target c ≡ true → (d c || e c) ≡ all c) → IsRaised k n target all
 raised_more k m n target d e all h i j = λ c. i c ∙ (ap (λ t. t || (e c && is_full target c)) (h c) ∙ (both_parts (is_full n c) (d c) (e c) (is_full target c) ∙ same_where_full (is_full n c) (d c || e c) (all c) (is_full target c) (j c)))
 
 -- one part of the plan after another, with the way between them
-pub builds_then : (a b c : TapeState) (target : Matrix) (d e all : Coord → Bool) (from to start end : Coord) (m n way : ℕ) → Builds a b target d from to m → Builds b c target e start end n → ((p : Coord) → distance p start ≤ distance p to + way) → ((q : Coord) → is_full target q ≡ true → (d q || e q) ≡ all q) → Builds a c target all from end (m + way + n)
+pub builds_then : (a b c : TapeState) (target : Matrix) (d e all : Coord → Bool) (from to start end : Coord)
+    (m n way : ℕ) → Builds a b target d from to m → Builds b c target e start end n
+    → ((p : Coord) → distance p start ≤ distance p to + way)
+    → ((q : Coord) → is_full target q ≡ true → (d q || e q) ≡ all q) → Builds a c target all from end (m + way + n)
 builds_then a b c target d e all from to start end m n way h k near join = record {
   source = k.source ∙ h.source;
   resolution = k.resolution ∙ h.resolution;
@@ -94,7 +104,9 @@ builds_then a b c target d e all from to start end m n way h k near join = recor
 }
 
 -- the same part, with the way to another place at its end
-pub builds_on : (a b : TapeState) (target : Matrix) (d e : Coord → Bool) (from to end : Coord) (m most way : ℕ) → Builds a b target d from to m → ((p : Coord) → distance p end ≤ distance p to + way) → to.y ≤ end.y → m + way ≤ most → ((q : Coord) → is_full target q ≡ true → d q ≡ e q) → Builds a b target e from end most
+pub builds_on : (a b : TapeState) (target : Matrix) (d e : Coord → Bool) (from to end : Coord) (m most way : ℕ)
+    → Builds a b target d from to m → ((p : Coord) → distance p end ≤ distance p to + way) → to.y ≤ end.y
+    → m + way ≤ most → ((q : Coord) → is_full target q ≡ true → d q ≡ e q) → Builds a b target e from end most
 builds_on a b target d e from to end m most way h near up fits same = record {
   source = h.source;
   resolution = h.resolution;
@@ -109,7 +121,8 @@ builds_on a b target d e from to end m most way h near up fits same = record {
 no_less : (full under target : Bool) → full ≡ false → under ≡ false → (full || (under && target)) ≡ false
 no_less full under target e f = rw (e, f) refl
 
-pub void_above : (m n target : Matrix) (d : Coord → Bool) (h : ℕ) → IsRaised m n target d → IsVoidFrom n h → ((c : Coord) → h ≤ c.y → d c ≡ false) → IsVoidFrom m h
+pub void_above : (m n target : Matrix) (d : Coord → Bool) (h : ℕ) → IsRaised m n target d → IsVoidFrom n h
+    → ((c : Coord) → h ≤ c.y → d c ≡ false) → IsVoidFrom m h
 void_above m n target d h raised void none = λ c l. raised c ∙ no_less (is_full n c) (d c) (is_full target c) (void c l) (none c l)
 
 higher : (a b : ℕ) → b + 1 ≤ a → (a == b) ≡ false
@@ -123,17 +136,21 @@ no_cell r x y z c h = no_second_of_three (in_line r x c.x) (c.y == y) (c.z == z)
 row_more : (w l n i : ℕ) (c : Coord) → i < n → bot_row w l (n - i) c ≡ held l c ∷ bot_row w l (n - (i + 1)) (next w c)
 row_more w l n i c h = let e : n - i ≡ suc (n - (i + 1)) = omega arith in ap (λ k. bot_row w l k c) e
 
-pub wanted_here : (m target : Matrix) (w l n i : ℕ) (c : Coord) → i < n → is_wanted m target (held l c) ≡ true → are_wanted m target (bot_row w l (n - i) c) ≡ true
+pub wanted_here : (m target : Matrix) (w l n i : ℕ) (c : Coord) → i < n → is_wanted m target (held l c) ≡ true
+    → are_wanted m target (bot_row w l (n - i) c) ≡ true
 wanted_here m target w l n i c h e = ap (are_wanted m target) (row_more w l n i c h) ∙ ap (λ t. t || are_wanted m target (bot_row w l (n - (i + 1)) (next w c))) e
 
-pub wanted_later : (m target : Matrix) (w l n i : ℕ) (c : Coord) → i < n → is_wanted m target (held l c) ≡ false → are_wanted m target (bot_row w l (n - (i + 1)) (next w c)) ≡ are_wanted m target (bot_row w l (n - i) c)
+pub wanted_later : (m target : Matrix) (w l n i : ℕ) (c : Coord) → i < n → is_wanted m target (held l c) ≡ false
+    → are_wanted m target (bot_row w l (n - (i + 1)) (next w c)) ≡ are_wanted m target (bot_row w l (n - i) c)
 wanted_later m target w l n i c h e = sym (ap (are_wanted m target) (row_more w l n i c h) ∙ ap (λ t. t || are_wanted m target (bot_row w l (n - (i + 1)) (next w c))) e)
 
-pub wanted_by : (m n target : Matrix) (t u : Bool) (v x r s y z : ℕ) → t ≡ is_wanted m target (coord v y z) → t ≡ u → m ≡ n → v ≡ min x (r - 2) → r ≡ s → is_wanted n target (held (last s) (coord x y z)) ≡ u
+pub wanted_by : (m n target : Matrix) (t u : Bool) (v x r s y z : ℕ) → t ≡ is_wanted m target (coord v y z) → t ≡ u
+    → m ≡ n → v ≡ min x (r - 2) → r ≡ s → is_wanted n target (held (last s) (coord x y z)) ≡ u
 wanted_by m n target t u v x r s y z h g e f k =
     sym (λ i. is_wanted (e i) target (coord ((f ∙ ap (λ q. min x (q - 2)) k) i) y z)) ∙ (sym h ∙ g)
 
-pub none_left : (m target : Matrix) (w l n i : ℕ) (c : Coord) → n ≤ i → are_wanted m target (bot_row w l (n - i) c) ≡ false
+pub none_left : (m target : Matrix) (w l n i : ℕ) (c : Coord) → n ≤ i
+    → are_wanted m target (bot_row w l (n - i) c) ≡ false
 none_left m target w l n i c h = let e : n - i ≡ 0 = omega arith in ap (λ k. are_wanted m target (bot_row w l k c)) e
 
 -- ---- one cell
@@ -141,7 +158,9 @@ none_left m target w l n i c h = let e : n - i ≡ 0 = omega arith in ap (λ k. 
 no_way : (c : Coord) → distance c c ≡ 0
 no_way c = omega arith
 
-pub cell_already : (p : TapeState) (target : Matrix) (x y z : ℕ) → CanFillLayer p target y → are_wanted p.matrix target (strip_row p.matrix.resolution (coord x (y + 1) z)) ≡ false → Builds p p target (cell p.matrix.resolution x y z) (coord x (y + 1) z) (coord x (y + 1) z) 1
+pub cell_already : (p : TapeState) (target : Matrix) (x y z : ℕ) → CanFillLayer p target y
+    → are_wanted p.matrix target (strip_row p.matrix.resolution (coord x (y + 1) z)) ≡ false
+    → Builds p p target (cell p.matrix.resolution x y z) (coord x (y + 1) z) (coord x (y + 1) z) 1
 cell_already p target x y z k h = record {
   source = refl;
   resolution = refl;
@@ -151,7 +170,9 @@ cell_already p target x y z k h = record {
   steps_are = omega arith;
 }
 
-pub cell_built : (a b c : TapeState) (target : Matrix) (x y z : ℕ) → CanFillLayer a target y → RowGoes a b (coord x (y + 1) z) (distance (spot a.bots) (coord x (y + 1) z)) → Fills b c target → Builds a c target (cell a.matrix.resolution x y z) (coord x (y + 1) z) (coord x (y + 1) z) 1
+pub cell_built : (a b c : TapeState) (target : Matrix) (x y z : ℕ) → CanFillLayer a target y
+    → RowGoes a b (coord x (y + 1) z) (distance (spot a.bots) (coord x (y + 1) z)) → Fills b c target
+    → Builds a c target (cell a.matrix.resolution x y z) (coord x (y + 1) z) (coord x (y + 1) z) 1
 cell_built a b c target x y z k g f =
     let at = coord x (y + 1) z in
     let r = a.matrix.resolution in
@@ -190,7 +211,12 @@ lines_more r x y c =
     ap (λ n. (in_lines r x c.x && c.y == y) || (in_line r n c.x && c.y == y)) (add-one x)
     ∙ (or_of_and (in_lines r x c.x) (in_line r (suc x) c.x) (c.y == y) ∙ ap (λ n. in_lines r n c.x && c.y == y) (sym (add-one x)))
 
-pub one_more_line : (a b c : TapeState) (target : Matrix) (x y : ℕ) → Builds a b target (in_first_lines a.matrix.resolution x y) (coord 1 (y + 1) 0) (coord (x + 1) (y + 1) 0) (x * line_steps a.matrix.resolution) → Builds b c target (line b.matrix.resolution (x + 1) y) (coord (x + 1) (y + 1) 0) (coord (x + 1) (y + 1) b.matrix.resolution) (2 * b.matrix.resolution) → Builds a c target (in_first_lines a.matrix.resolution (x + 1) y) (coord 1 (y + 1) 0) (coord (x + 1 + 1) (y + 1) 0) ((x + 1) * line_steps a.matrix.resolution)
+pub one_more_line : (a b c : TapeState) (target : Matrix) (x y : ℕ)
+    → Builds a b target (in_first_lines a.matrix.resolution x y) (coord 1 (y + 1) 0) (coord (x + 1) (y + 1) 0)
+    (x * line_steps a.matrix.resolution) → Builds b c target (line b.matrix.resolution (x + 1) y)
+    (coord (x + 1) (y + 1) 0) (coord (x + 1) (y + 1) b.matrix.resolution) (2 * b.matrix.resolution)
+    → Builds a c target (in_first_lines a.matrix.resolution (x + 1) y) (coord 1 (y + 1) 0) (coord (x + 1 + 1) (y + 1) 0)
+    ((x + 1) * line_steps a.matrix.resolution)
 one_more_line a b c target x y h k =
     let e = h.resolution in
     builds_on a c target (in_first_lines a.matrix.resolution (x + 1) y) (in_first_lines a.matrix.resolution (x + 1) y) (coord 1 (y + 1) 0) (coord (x + 1) (y + 1) b.matrix.resolution) (coord (x + 1 + 1) (y + 1) 0) (x * line_steps a.matrix.resolution + 0 + 2 * b.matrix.resolution) ((x + 1) * line_steps a.matrix.resolution) (b.matrix.resolution + 1)

@@ -44,7 +44,8 @@ covered r x s h l =
     let m : (x - 1) % width r < width r = mod_below (x - 1) (width r) w in
     line_in r (width r) ((x - 1) % width r + 1) x (omega arith) (omega arith) (column_at (width r) (last r) (count r) ((x - 1) % width r + 1) ((x - 1) / width r) x (strip_of r (x - 1) w (omega arith)) (omega arith) (omega arith))
 
-pub in_layers : (m : Matrix) (c : Coord) → IsLegal m → is_full m c ≡ true → layers m.resolution (m.resolution - 1) c ≡ true
+pub in_layers : (m : Matrix) (c : Coord) → IsLegal m → is_full m c ≡ true
+    → layers m.resolution (m.resolution - 1) c ≡ true
 in_layers m c h f =
     let b = full_in_box m c h f in
     let x = b.x in
@@ -52,11 +53,13 @@ in_layers m c h f =
     let y = b.y_end in
     both_true (in_lines m.resolution (width m.resolution) c.x) (nat_lt c.y (m.resolution - 1)) (covered m.resolution c.x (omega arith) x e) (test_less c.y (m.resolution - 1) (omega arith))
 
-all_there : (full done target : Bool) → full ≡ false → (target ≡ true → done ≡ true) → (full || (done && target)) ≡ target
+all_there : (full done target : Bool) → full ≡ false → (target ≡ true → done ≡ true)
+    → (full || (done && target)) ≡ target
 all_there full done true e h = rw (e, h refl) refl
 all_there full true false e h = rw e refl
 all_there full false false e h = rw e refl
 
 -- where all layers are built from nothing, the voxels are those of the target
-pub built_is : (m n target : Matrix) (r : ℕ) → IsLegal target → r ≡ target.resolution → IsVoidFrom n 0 → IsRaised m n target (layers r (r - 1)) → AreAlike m target
+pub built_is : (m n target : Matrix) (r : ℕ) → IsLegal target → r ≡ target.resolution → IsVoidFrom n 0
+    → IsRaised m n target (layers r (r - 1)) → AreAlike m target
 built_is m n target r h e void raised = λ c. raised c ∙ all_there (is_full n c) (layers r (r - 1) c) (is_full target c) (void c (omega arith)) (λ f. ap (λ k. layers k (k - 1) c) e ∙ in_layers target c h f)

@@ -23,14 +23,18 @@ IsFenced low high a = AllByRecursion (IsInColumns low high) (volatile_regions (p
 -- so it is for all bots, each in columns past those of the bots before it, but for two at the end, which fuse
 pub data AreFenced : ℕ → List Act → Type 0 where
   none : {low : ℕ} → AreFenced low []
-  one : {low : ℕ} {a : Act} {more : List Act} (high : ℕ) → low ≤ high → IsFenced low high a → AreFenced (high + 1) more → AreFenced low (a ∷ more)
-  two : {low : ℕ} {a b : Act} (high : ℕ) → IsFenced low high a → IsFenced low high b → IsTrue (are_partners a b) → AreFenced low (a ∷ b ∷ [])
+  one : {low : ℕ} {a : Act} {more : List Act} (high : ℕ) → low ≤ high → IsFenced low high a → AreFenced (high + 1) more
+      → AreFenced low (a ∷ more)
+  two : {low : ℕ} {a b : Act} (high : ℕ) → IsFenced low high a → IsFenced low high b → IsTrue (are_partners a b)
+      → AreFenced low (a ∷ b ∷ [])
 
-all_map : {X : Type 0} (P Q : X → Type 0) → ((x : X) → P x → Q x) → (xs : List X) → AllByRecursion P xs → AllByRecursion Q xs
+all_map : {X : Type 0} (P Q : X → Type 0) → ((x : X) → P x → Q x) → (xs : List X) → AllByRecursion P xs
+    → AllByRecursion Q xs
 all_map P Q f [] h = tt
 all_map P Q f (x ∷ xs) h = (f x h.0, all_map P Q f xs h.1)
 
-apart : (low high next end : ℕ) (s t : Span) → high < next → IsInColumns low high s → IsInColumns next end t → LieApart s t
+apart : (low high next end : ℕ) (s t : Span) → high < next → IsInColumns low high s → IsInColumns next end t
+    → LieApart s t
 apart low high next end s t l h k =
     let a = h.from_high in
     let b = h.to_high in
@@ -38,13 +42,15 @@ apart low high next end s t l h k =
     let d = k.to_low in
     LieApart.before_x (record { near = omega (arith, ints); far = omega (arith, ints); next_near = omega (arith, ints); next_far = omega (arith, ints) })
 
-fenced_apart : (low high next end : ℕ) (a b : Act) → high < next → IsFenced low high a → IsFenced next end b → AreApart a b
+fenced_apart : (low high next end : ℕ) (a b : Act) → high < next → IsFenced low high a → IsFenced next end b
+    → AreApart a b
 fenced_apart low high next end a b l h k =
     all_map (IsInColumns low high) (λ s. AllByRecursion (λ t. LieApart s t) (volatile_regions (position b) b.command))
     (λ s i. all_map (IsInColumns next end) (λ t. LieApart s t) (λ t j. apart low high next end s t l i j) (volatile_regions (position b) b.command) k)
     (volatile_regions (position a) a.command) h
 
-past : (low high : ℕ) (a : Act) → IsFenced low high a → {next : ℕ} {more : List Act} → high < next → AreFenced next more → AllByRecursion (λ b. MayMeet a b) more
+past : (low high : ℕ) (a : Act) → IsFenced low high a → {next : ℕ} {more : List Act} → high < next → AreFenced next more
+    → AllByRecursion (λ b. MayMeet a b) more
 past low high a h l none = tt
 past low high a h {next} l (one {a = b} end up k rest) = (inr (fenced_apart low high next end a b l h k), past low high a h (omega arith) rest)
 past low high a h {next} l (two {a = b} {b = c} end k m p) = (inr (fenced_apart low high next end a b l h k), (inr (fenced_apart low high next end a c l h m), tt))

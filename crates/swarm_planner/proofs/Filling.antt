@@ -66,13 +66,17 @@ with_true true b h = h refl
 with_true false b h = refl
 
 -- what one bot fills
-fills_one : (m target : Matrix) (p c : Coord) → 1 ≤ p.y → list_any (λ s. is_within s (point c)) (filled (point p) (fill m target p)) ≡ (is_below p c && (is_full target c && not (is_full m c)))
+fills_one : (m target : Matrix) (p c : Coord) → 1 ≤ p.y
+    → list_any (λ s. is_within s (point c)) (filled (point p) (fill m target p))
+    ≡ (is_below p c && (is_full target c && not (is_full m c)))
 fills_one m target p c h = by (is_wanted m target p) refl
   where
     at : is_below p c ≡ true → (is_full target c && not (is_full m c)) ≡ is_wanted m target p
     at e = ap (λ (d : Coord). is_full target d && not (is_full m d)) (is_below-is p c e)
 
-    by : (t : Bool) → is_wanted m target p ≡ t → list_any (λ s. is_within s (point c)) (filled (point p) (cond t (Fill down) Wait)) ≡ (is_below p c && (is_full target c && not (is_full m c)))
+    by : (t : Bool) → is_wanted m target p ≡ t
+        → list_any (λ s. is_within s (point c)) (filled (point p) (cond t (Fill down) Wait))
+        ≡ (is_below p c && (is_full target c && not (is_full m c)))
     by true e = or_false (is_within (just (plus (point p) down)) (point c)) ∙ (within_below p c h ∙ sym (with_true (is_below p c) (is_full target c && not (is_full m c)) (λ f. at f ∙ e)))
     by false e = sym (and_with (is_below p c) (is_full target c && not (is_full m c)) (λ f. at f ∙ e))
 
@@ -83,14 +87,16 @@ fill_waits m target p = by (is_wanted m target p)
     by true = tt
     by false = tt
 
-allowed : (profile : Profile) (m target : Matrix) (p : Coord) → profile ≡ light_profile → IsTrue (is_allowed profile (fill m target p))
+allowed : (profile : Profile) (m target : Matrix) (p : Coord) → profile ≡ light_profile
+    → IsTrue (is_allowed profile (fill m target p))
 allowed profile m target p e = subst (λ (k : Profile). IsTrue (is_allowed k (fill m target p))) (sym e) (by (is_wanted m target p))
   where
     by : (t : Bool) → IsTrue (is_allowed light_profile (cond t (Fill down) Wait))
     by true = refl
     by false = refl
 
-may_fill : (s : State) (all : List Act) (target : Matrix) (b : Bot) → IsInSpace s.matrix.resolution b.pos → 1 ≤ b.pos.y → MayAct s all (record { bot = b; command = fill s.matrix target b.pos }) (fill s.matrix target b.pos)
+may_fill : (s : State) (all : List Act) (target : Matrix) (b : Bot) → IsInSpace s.matrix.resolution b.pos → 1 ≤ b.pos.y
+    → MayAct s all (record { bot = b; command = fill s.matrix target b.pos }) (fill s.matrix target b.pos)
 may_fill s all target b i h = by (is_wanted s.matrix target b.pos)
   where
     by : (t : Bool) → MayAct s all (record { bot = b; command = fill s.matrix target b.pos }) (cond t (Fill down) Wait)
@@ -104,7 +110,8 @@ just_in low high q n e l h =
     let b : q.x ≤ℤ pos high = rw e (omega (arith, ints)) in
     record { from_low = a; from_high = b; to_low = a; to_high = b }
 
-fenced : (m target : Matrix) (low high : ℕ) (b : Bot) → low ≤ b.pos.x → b.pos.x ≤ high → IsFenced low high (record { bot = b; command = fill m target b.pos })
+fenced : (m target : Matrix) (low high : ℕ) (b : Bot) → low ≤ b.pos.x → b.pos.x ≤ high
+    → IsFenced low high (record { bot = b; command = fill m target b.pos })
 fenced m target low high b l h = by (is_wanted m target b.pos)
   where
     by : (t : Bool) → AllByRecursion (IsInColumns low high) (volatile_regions (point b.pos) (cond t (Fill down) Wait))
@@ -122,22 +129,28 @@ fills_wait m target [] = tt
 fills_wait m target (b ∷ bots) = (fill_waits m target b.pos, fills_wait m target bots)
 
 module _ (s : State) (target : Matrix) (light : s.profile ≡ light_profile) where
-  each_free : (all : List Act) (bots : List Bot) (low : ℕ) → AreLed s.matrix.resolution 1 Z low (places bots) (places bots) → AllByRecursion (IsFree s all) (acts bots (fills s.matrix target bots))
+  each_free : (all : List Act) (bots : List Bot) (low : ℕ)
+      → AreLed s.matrix.resolution 1 Z low (places bots) (places bots)
+      → AllByRecursion (IsFree s all) (acts bots (fills s.matrix target bots))
   each_free all [] low k = tt
   each_free all (b ∷ bots) low k = (record { allowed = allowed s.profile s.matrix target b.pos light; may = may_fill s all target b k.0.from k.0.high_from }, each_free all bots (max b.pos.x b.pos.x + 1) k.1)
 
-  all_fenced : (bots : List Bot) (low : ℕ) → AreLed s.matrix.resolution 1 Z low (places bots) (places bots) → AreFenced low (acts bots (fills s.matrix target bots))
+  all_fenced : (bots : List Bot) (low : ℕ) → AreLed s.matrix.resolution 1 Z low (places bots) (places bots)
+      → AreFenced low (acts bots (fills s.matrix target bots))
   all_fenced [] low k = AreFenced.none
   all_fenced (b ∷ bots) low k =
       let l = k.0.low_from in
       AreFenced.one (max b.pos.x b.pos.x) (omega arith) (fenced s.matrix target low (max b.pos.x b.pos.x) b l (omega arith)) (all_fenced bots (max b.pos.x b.pos.x + 1) k.1)
 
-  pub fills_free : (bots : List Bot) (low : ℕ) → AreLed s.matrix.resolution 1 Z low (places bots) (places bots) → AreFree s (acts bots (fills s.matrix target bots))
+  pub fills_free : (bots : List Bot) (low : ℕ) → AreLed s.matrix.resolution 1 Z low (places bots) (places bots)
+      → AreFree s (acts bots (fills s.matrix target bots))
   fills_free bots low k = record { each = each_free (acts bots (fills s.matrix target bots)) bots low k; untangled = untangled (all_fenced bots low k) }
 
 -- ---- the matrix
 
-all_filled : (m target : Matrix) (c : Coord) (r low : ℕ) (bots : List Bot) → AreLed r 1 Z low (places bots) (places bots) → is_filled (acts bots (fills m target bots)) c ≡ (is_under (places bots) c && (is_full target c && not (is_full m c)))
+all_filled : (m target : Matrix) (c : Coord) (r low : ℕ) (bots : List Bot)
+    → AreLed r 1 Z low (places bots) (places bots) → is_filled (acts bots (fills m target bots)) c
+    ≡ (is_under (places bots) c && (is_full target c && not (is_full m c)))
 all_filled m target c r low [] k = refl
 all_filled m target c r low (b ∷ bots) k =
     let here = fills_one m target b.pos c k.0.high_from in
@@ -162,10 +175,14 @@ outside n r c e o = no (in_space n.resolution (point c)) _ (ap (λ k. in_space k
     no : (a b : Bool) → a ≡ false → (a && b) ≡ false
     no a b f = rw f refl
 
-pub raised_by : (m target : Matrix) (bots : List Bot) (low : ℕ) → target.resolution ≡ m.resolution → AreLed m.resolution 1 Z low (places bots) (places bots) → IsRaised (with_fills m (acts bots (fills m target bots))) m target (is_under (places bots))
+pub raised_by : (m target : Matrix) (bots : List Bot) (low : ℕ) → target.resolution ≡ m.resolution
+    → AreLed m.resolution 1 Z low (places bots) (places bots)
+    → IsRaised (with_fills m (acts bots (fills m target bots))) m target (is_under (places bots))
 raised_by m target bots low e k = λ c. by c (in_space m.resolution (point c)) refl
   where
-    by : (c : Coord) (t : Bool) → in_space m.resolution (point c) ≡ t → is_full (with_fills m (acts bots (fills m target bots))) c ≡ (is_full m c || (is_under (places bots) c && is_full target c))
+    by : (c : Coord) (t : Bool) → in_space m.resolution (point c) ≡ t
+        → is_full (with_fills m (acts bots (fills m target bots))) c
+        ≡ (is_full m c || (is_under (places bots) c && is_full target c))
     by c true i =
         full_where m.resolution (λ d. is_filled (acts bots (fills m target bots)) d || is_full m d) c (space_by_test m.resolution c i)
         ∙ ((λ j. all_filled m target c m.resolution low bots k j || is_full m c)
@@ -183,7 +200,8 @@ module _ (p : TapeState) (swarm : IsSwarm p) (row : InRow p) (up : 1 ≤ (spot p
   pub bots_within : AllByRecursion (λ b. IsInSpace p.matrix.resolution b.pos × (1 ≤ b.pos.y)) p.bots
   bots_within = all p.bots 1 standing
     where
-      all : (bots : List Bot) (low : ℕ) → AreLed p.matrix.resolution 1 Z low (places bots) (places bots) → AllByRecursion (λ b. IsInSpace p.matrix.resolution b.pos × (1 ≤ b.pos.y)) bots
+      all : (bots : List Bot) (low : ℕ) → AreLed p.matrix.resolution 1 Z low (places bots) (places bots)
+          → AllByRecursion (λ b. IsInSpace p.matrix.resolution b.pos × (1 ≤ b.pos.y)) bots
       all [] low k = tt
       all (b ∷ bots) low k = ((k.0.from, k.0.high_from), all bots (max b.pos.x b.pos.x + 1) k.1)
 
@@ -194,7 +212,8 @@ module _ (p : TapeState) (swarm : IsSwarm p) (row : InRow p) (up : 1 ≤ (spot p
     pub only_fills : AllByRecursion FillsOrWaits ks
     only_fills = subst (λ (k : List Command). AllByRecursion FillsOrWaits k) (sym e) (fills_wait p.matrix target p.bots)
 
-    pub has_filled : (q : TapeState) → target.resolution ≡ p.matrix.resolution → AllStep p q ks (with_fills p.matrix (acts p.bots ks)) p.harmonics p.bots → Fills p q target
+    pub has_filled : (q : TapeState) → target.resolution ≡ p.matrix.resolution
+        → AllStep p q ks (with_fills p.matrix (acts p.bots ks)) p.harmonics p.bots → Fills p q target
     has_filled q equal_by_test s = record {
       source = s.source;
       swarm = record { high = s.harmonics ∙ swarm.high; light = s.profile ∙ swarm.light };

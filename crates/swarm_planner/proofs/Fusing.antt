@@ -38,19 +38,24 @@ left_is p = λ i. record { x = less_one p.x i; y = plus_none p.y i; z = plus_non
 beside_is : (p q : Coord) → q.x ≡ p.x + 1 → q.y ≡ p.y → q.z ≡ p.z → next_along_x p ≡ q
 beside_is p q e f g = λ i. record { x = sym e i; y = sym f i; z = sym g i }
 
-are_pair : (b c : Bot) → next_along_x b.pos ≡ c.pos → is_pair (record { bot = b; command = FusionP right }) (record { bot = c; command = FusionS left }) ≡ true
+are_pair : (b c : Bot) → next_along_x b.pos ≡ c.pos
+    → is_pair (record { bot = b; command = FusionP right }) (record { bot = c; command = FusionS left }) ≡ true
 are_pair b c e =
     let to : same_point (plus (point b.pos) right) (point c.pos) ≡ true = (λ i. same_point (right_is b.pos i) (point (sym e i))) ∙ point_itself (next_along_x b.pos) in
     let back : same_point (plus (point c.pos) left) (point b.pos) ≡ true = (λ i. same_point (plus (point (sym e i)) left) (point b.pos)) ∙ ((λ i. same_point (left_is b.pos i) (point b.pos)) ∙ point_itself b.pos) in
     λ i. to i && back i
 
-allowed : (profile : Profile) (k : Command) → profile ≡ light_profile → IsTrue (is_allowed light_profile k) → IsTrue (is_allowed profile k)
+allowed : (profile : Profile) (k : Command) → profile ≡ light_profile → IsTrue (is_allowed light_profile k)
+    → IsTrue (is_allowed profile k)
 allowed profile k e h = subst (λ (f : Profile). IsTrue (is_allowed f k)) (sym e) h
 
 -- ---- each bot has what it needs
 
 module _ (s : State) (light : s.profile ≡ light_profile) (y z : ℕ) (below : y < s.matrix.resolution) (deep : z < s.matrix.resolution) where
-  pair_free : (all : List Act) (low : ℕ) (b c : Bot) → ((a : Act) → In a (acts (b ∷ c ∷ []) (FusionP right ∷ FusionS left ∷ [])) → In a all) → AreLined s.matrix.resolution y z low (b.pos ∷ c.pos ∷ []) → c.pos.x ≡ b.pos.x + 1 → AllByRecursion (IsFree s all) (acts (b ∷ c ∷ []) (FusionP right ∷ FusionS left ∷ []))
+  pair_free : (all : List Act) (low : ℕ) (b c : Bot)
+      → ((a : Act) → In a (acts (b ∷ c ∷ []) (FusionP right ∷ FusionS left ∷ [])) → In a all)
+      → AreLined s.matrix.resolution y z low (b.pos ∷ c.pos ∷ []) → c.pos.x ≡ b.pos.x + 1
+      → AllByRecursion (IsFree s all) (acts (b ∷ c ∷ []) (FusionP right ∷ FusionS left ∷ []))
   pair_free all low b c within k e =
       let next : next_along_x b.pos ≡ c.pos = beside_is b.pos c.pos e (k.1.0.height ∙ sym k.0.height) (k.1.0.depth ∙ sym k.0.depth) in
       let pair = are_pair b c next in
@@ -81,13 +86,18 @@ module _ (s : State) (light : s.profile ≡ light_profile) (y z : ℕ) (below : 
         ),
       )
 
-  each_free : (all : List Act) (bots : List Bot) (low : ℕ) → ((a : Act) → In a (acts bots (pair_ends (FusionP right) (FusionS left) bots)) → In a all) → AreLined s.matrix.resolution y z low (places bots) → last_column (places bots) ≡ free_column low (places bots) → 1 < length bots → AllByRecursion (IsFree s all) (acts bots (pair_ends (FusionP right) (FusionS left) bots))
+  each_free : (all : List Act) (bots : List Bot) (low : ℕ)
+      → ((a : Act) → In a (acts bots (pair_ends (FusionP right) (FusionS left) bots)) → In a all)
+      → AreLined s.matrix.resolution y z low (places bots) → last_column (places bots) ≡ free_column low (places bots)
+      → 1 < length bots → AllByRecursion (IsFree s all) (acts bots (pair_ends (FusionP right) (FusionS left) bots))
   each_free all [] low within k e h = tt
   each_free all (b ∷ []) low within k e h = absurd (omega arith)
   each_free all (b ∷ c ∷ []) low within k e h = pair_free all low b c within k e
   each_free all (b ∷ c ∷ d ∷ more) low within k e h = (record { allowed = allowed s.profile Wait light refl; may = tt }, each_free all (c ∷ d ∷ more) (b.pos.x + 1) (λ a i. within a (inr i)) k.1 e (omega arith))
 
-  all_fenced : (bots : List Bot) (low : ℕ) → AreLined s.matrix.resolution y z low (places bots) → last_column (places bots) ≡ free_column low (places bots) → 1 < length bots → AreFenced low (acts bots (pair_ends (FusionP right) (FusionS left) bots))
+  all_fenced : (bots : List Bot) (low : ℕ) → AreLined s.matrix.resolution y z low (places bots)
+      → last_column (places bots) ≡ free_column low (places bots) → 1 < length bots
+      → AreFenced low (acts bots (pair_ends (FusionP right) (FusionS left) bots))
   all_fenced [] low k e h = AreFenced.none
   all_fenced (b ∷ []) low k e h = absurd (omega arith)
   all_fenced (b ∷ c ∷ []) low k e h =
@@ -99,7 +109,9 @@ module _ (s : State) (light : s.profile ≡ light_profile) (y z : ℕ) (below : 
       let l = k.0.past in
       AreFenced.one b.pos.x l (just_in low b.pos.x (point b.pos) b.pos.x refl l (omega arith), tt) (all_fenced (c ∷ d ∷ more) (b.pos.x + 1) k.1 e (omega arith))
 
-  pub fuse_free : (bots : List Bot) (low : ℕ) → AreLined s.matrix.resolution y z low (places bots) → last_column (places bots) ≡ free_column low (places bots) → 1 < length bots → AreFree s (acts bots (pair_ends (FusionP right) (FusionS left) bots))
+  pub fuse_free : (bots : List Bot) (low : ℕ) → AreLined s.matrix.resolution y z low (places bots)
+      → last_column (places bots) ≡ free_column low (places bots) → 1 < length bots
+      → AreFree s (acts bots (pair_ends (FusionP right) (FusionS left) bots))
   fuse_free bots low k e h = record { each = each_free (acts bots (pair_ends (FusionP right) (FusionS left) bots)) bots low (λ a i. i) k e h; untangled = untangled (all_fenced bots low k e h) }
 
 fuse_waits : (bots : List Bot) → AllByRecursion FusesOrWaits (pair_ends (FusionP right) (FusionS left) bots)
@@ -127,7 +139,11 @@ merged (b ∷ c ∷ d ∷ more) = b ∷ merged (c ∷ d ∷ more)
 abbrev PrimaryFuses : List Act → Type 0
 PrimaryFuses all = (a b : Act) → Contains all a → Contains all b → IsTrue (is_pair a b) → successors all a a.command ≡ fused_bot a.bot b.bot ∷ []
 
-become : (all : List Act) → PrimaryFuses all → (bots : List Bot) (r y z low : ℕ) → ((a : Act) → In a (acts bots (pair_ends (FusionP right) (FusionS left) bots)) → In a all) → AreLined r y z low (places bots) → last_column (places bots) ≡ free_column low (places bots) → flat_map (λ a. successors all a a.command) (acts bots (pair_ends (FusionP right) (FusionS left) bots)) ≡ merged bots
+become : (all : List Act) → PrimaryFuses all → (bots : List Bot) (r y z low : ℕ)
+    → ((a : Act) → In a (acts bots (pair_ends (FusionP right) (FusionS left) bots)) → In a all)
+    → AreLined r y z low (places bots) → last_column (places bots) ≡ free_column low (places bots)
+    → flat_map (λ a. successors all a a.command) (acts bots (pair_ends (FusionP right) (FusionS left) bots))
+    ≡ merged bots
 become all law [] r y z low within k e = refl
 become all law (b ∷ []) r y z low within k e = refl
 become all law (b ∷ c ∷ []) r y z low within k e =
@@ -142,11 +158,16 @@ places_merged (b ∷ []) = refl
 places_merged (b ∷ c ∷ []) = refl
 places_merged (b ∷ c ∷ d ∷ more) = ap (λ cs. b.pos ∷ cs) (places_merged (c ∷ d ∷ more))
 
-fused_places : (bots : List Bot) (r y z low : ℕ) → PrimaryFuses (acts bots (pair_ends (FusionP right) (FusionS left) bots)) → AreLined r y z low (places bots) → last_column (places bots) ≡ free_column low (places bots) → places (bots_fused bots (pair_ends (FusionP right) (FusionS left) bots)) ≡ without_last (places bots)
+fused_places : (bots : List Bot) (r y z low : ℕ)
+    → PrimaryFuses (acts bots (pair_ends (FusionP right) (FusionS left) bots)) → AreLined r y z low (places bots)
+    → last_column (places bots) ≡ free_column low (places bots)
+    → places (bots_fused bots (pair_ends (FusionP right) (FusionS left) bots)) ≡ without_last (places bots)
 fused_places bots r y z low law k e = ap places (become (acts bots (pair_ends (FusionP right) (FusionS left) bots)) law bots r y z low (λ a i. i) k e) ∙ places_merged bots
 
 -- the commands by what is read of the tape
-pub pair_ends_are : (bots read : List Bot) (waits first ks : List Command) (k l : Command) → read ≡ bots → 1 < length bots → waits ≡ replicate (length read - 2) Wait → first ≡ waits ++ k ∷ [] → ks ≡ first ++ l ∷ [] → ks ≡ pair_ends k l bots
+pub pair_ends_are : (bots read : List Bot) (waits first ks : List Command) (k l : Command) → read ≡ bots
+    → 1 < length bots → waits ≡ replicate (length read - 2) Wait → first ≡ waits ++ k ∷ [] → ks ≡ first ++ l ∷ []
+    → ks ≡ pair_ends k l bots
 pair_ends_are bots read waits first ks k l eb two ew ef ek =
     ek ∙ (ap (λ w. w ++ l ∷ []) ef
     ∙ (append_assoc waits (k ∷ []) (l ∷ [])

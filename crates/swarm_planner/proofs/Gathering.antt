@@ -32,14 +32,16 @@ fused_lined r y z low (c ∷ []) k = tt
 fused_lined r y z low (c ∷ d ∷ more) k = (k.0, fused_lined r y z (c.x + 1) (d ∷ more) k.1)
 
 -- the last place of a row is at most a width past the one before it
-pub row_gap : (w l n low : ℕ) (c : Coord) → 1 ≤ w → gap (last_column (bot_row w l (suc (suc n)) c)) (free_column low (bot_row w l (suc (suc n)) c)) ≤ w
+pub row_gap : (w l n low : ℕ) (c : Coord) → 1 ≤ w
+    → gap (last_column (bot_row w l (suc (suc n)) c)) (free_column low (bot_row w l (suc (suc n)) c)) ≤ w
 row_gap w l zero low c h = omega arith
 row_gap w l (suc n) low c h = row_gap w l n (min c.x l + 1) (next w c) h
 
 -- ---- one bot less
 
 -- the column past the last bot but one, by its index
-pub free_at : (bots : List Bot) (low : ℕ) (b : Bot) → 1 < length bots → (get_or bots (length bots - 2) b).pos.x + 1 ≡ free_column low (places bots)
+pub free_at : (bots : List Bot) (low : ℕ) (b : Bot) → 1 < length bots
+    → (get_or bots (length bots - 2) b).pos.x + 1 ≡ free_column low (places bots)
 free_at [] low d h = absurd (omega arith)
 free_at (b ∷ []) low d h = absurd (omega arith)
 free_at (b ∷ c ∷ []) low d h = refl
@@ -47,7 +49,9 @@ free_at (b ∷ c ∷ k ∷ more) low d h =
     let n : length (b ∷ c ∷ k ∷ more) - 2 ≡ suc (length (c ∷ k ∷ more) - 2) = omega arith in
     ap (λ i. (get_or (b ∷ c ∷ k ∷ more) i d).pos.x + 1) n ∙ free_at (c ∷ k ∷ more) (b.pos.x + 1) d (omega arith)
 
-pub gathers : (a b c : TapeState) (x m : ℕ) → InLine a → 2 ≤ length a.bots → x ≡ free_column 1 (places a.bots) → CrewGoes a b (sent (places a.bots) x) m → InLine b → Regroups b c → places c.bots ≡ without_last (places b.bots) → Gathers a c (m + 1)
+pub gathers : (a b c : TapeState) (x m : ℕ) → InLine a → 2 ≤ length a.bots → x ≡ free_column 1 (places a.bots)
+    → CrewGoes a b (sent (places a.bots) x) m → InLine b → Regroups b c → places c.bots ≡ without_last (places b.bots)
+    → Gathers a c (m + 1)
 gathers a b c x m line two e g on r f =
     let there = places_on a b line x m g in
     let size = ap (λ (k : Matrix). k.resolution) r.matrix in
@@ -92,7 +96,8 @@ pub record AreLeft (old new : TapeState) (c : Coord) (n most : ℕ) : Type 0 whe
   pub places_are : places new.bots ≡ bot_row (width old.matrix.resolution) (last old.matrix.resolution) n c
   pub steps_are : new.steps ≤ old.steps + most
 
-pub all_left : (a b : TapeState) (to : Coord) (most : ℕ) → RowGoes a b to most → IsVoidFrom a.matrix to.y → AreLeft a b to (count a.matrix.resolution) most
+pub all_left : (a b : TapeState) (to : Coord) (most : ℕ) → RowGoes a b to most → IsVoidFrom a.matrix to.y
+    → AreLeft a b to (count a.matrix.resolution) most
 all_left a b to most g void =
     let size = ap (λ (m : Matrix). m.resolution) g.matrix in
     record {
@@ -103,7 +108,8 @@ all_left a b to most g void =
       steps_are = g.steps_are;
     }
 
-pub left_as : (a b : TapeState) (c d : Coord) (n k m most : ℕ) → AreLeft a b c n m → c ≡ d → n ≡ k → m ≤ most → AreLeft a b d k most
+pub left_as : (a b : TapeState) (c d : Coord) (n k m most : ℕ) → AreLeft a b c n m → c ≡ d → n ≡ k → m ≤ most
+    → AreLeft a b d k most
 left_as a b c d n k m most h ec en l = record {
   source = h.source;
   matrix = h.matrix;
@@ -116,13 +122,16 @@ left_as a b c d n k m most h ec en l = record {
 pub two_left : (a b : TapeState) (c : Coord) (n m : ℕ) → AreLeft a b c n m → length b.bots ≡ n
 two_left a b c n m h = sym (length-places b.bots) ∙ (ap length h.places_are ∙ length-row (width a.matrix.resolution) (last a.matrix.resolution) n c)
 
-pub near_left : (a b : TapeState) (c : Coord) (n m : ℕ) → AreLeft a b c (suc (suc n)) m → gap (last_column (places b.bots)) (free_column 1 (places b.bots)) ≤ width a.matrix.resolution
+pub near_left : (a b : TapeState) (c : Coord) (n m : ℕ) → AreLeft a b c (suc (suc n)) m
+    → gap (last_column (places b.bots)) (free_column 1 (places b.bots)) ≤ width a.matrix.resolution
 near_left a b c n m h =
     let e : gap (last_column (places b.bots)) (free_column 1 (places b.bots)) ≡ gap (last_column (bot_row (width a.matrix.resolution) (last a.matrix.resolution) (suc (suc n)) c)) (free_column 1 (bot_row (width a.matrix.resolution) (last a.matrix.resolution) (suc (suc n)) c)) = ap (λ cs. gap (last_column cs) (free_column 1 cs)) h.places_are in
     let k = row_gap (width a.matrix.resolution) (last a.matrix.resolution) n 1 c (omega arith) in
     omega (arith, e, k)
 
-pub one_less : (a b c : TapeState) (to : Coord) (n m most : ℕ) → AreLeft a b to (suc (suc n)) m → Gathers b c (gap (last_column (places b.bots)) (free_column 1 (places b.bots)) + 1) → a.matrix.resolution ≤ 400 → m + 21 ≤ most → AreLeft a c to (suc n) most
+pub one_less : (a b c : TapeState) (to : Coord) (n m most : ℕ) → AreLeft a b to (suc (suc n)) m
+    → Gathers b c (gap (last_column (places b.bots)) (free_column 1 (places b.bots)) + 1) → a.matrix.resolution ≤ 400
+    → m + 21 ≤ most → AreLeft a c to (suc n) most
 one_less a b c to n m most h g fits l =
     let w = width a.matrix.resolution in
     let k = row_gap w (last a.matrix.resolution) n 1 to (omega arith) in
@@ -144,7 +153,8 @@ first_of (b ∷ bots) c e = (sym (length-places (b ∷ bots)) ∙ ap length e, a
     head [] = c
     head (d ∷ ds) = d
 
-pub is_gathered : (a b : TapeState) (to : Coord) (n most : ℕ) → AreLeft a b to n most → n ≡ 1 → MayLead a.matrix.resolution to → to ≡ coord (spot a.bots).x (spot a.bots).y 0 → HasGathered a b most
+pub is_gathered : (a b : TapeState) (to : Coord) (n most : ℕ) → AreLeft a b to n most → n ≡ 1
+    → MayLead a.matrix.resolution to → to ≡ coord (spot a.bots).x (spot a.bots).y 0 → HasGathered a b most
 is_gathered a b to n most h e lead at =
     let r = a.matrix.resolution in
     let s = lead.some in

@@ -33,54 +33,67 @@ put_there Y p q h = λ i. record { x = h.0 i; y = q.y; z = h.1 i }
 put_there Z p q h = λ i. record { x = h.0 i; y = h.1 i; z = q.z }
 
 -- where the move of a bot ends
-move_ends : (axis : Axis) (p q : Coord) → AreAlong axis p q → plus (point p) (along axis (pos (component_of axis q) -ℤ pos (component_of axis p))) ≡ point q
+move_ends : (axis : Axis) (p q : Coord) → AreAlong axis p q
+    → plus (point p) (along axis (pos (component_of axis q) -ℤ pos (component_of axis p))) ≡ point q
 move_ends axis p q h =
     ap (λ (c : Coord). plus (point c) (along axis (pos (component_of axis q) -ℤ pos (component_of axis p)))) (sym (put-component_of axis p))
     ∙ (plus-along axis p (component_of axis p) (component_of axis q) ∙ ap point (put_there axis p q h))
 
 -- where there is no way to go, the bot is there
-stays_there : (axis : Axis) (p q : Coord) → AreAlong axis p q → (component_of axis p == component_of axis q) ≡ true → p ≡ q
+stays_there : (axis : Axis) (p q : Coord) → AreAlong axis p q → (component_of axis p == component_of axis q) ≡ true
+    → p ≡ q
 stays_there axis p q h e = sym (put-component_of axis p) ∙ (ap (put axis p) (equal_by_test (component_of axis p) (component_of axis q) e) ∙ put_there axis p q h)
 
 pub goal_is : (axis : Axis) (p q : Coord) → AreAlong axis p q → goal_of (point p) (lead axis p q) ≡ point q
 goal_is axis p q h = by (component_of axis p == component_of axis q) refl
   where
-    by : (t : Bool) → (component_of axis p == component_of axis q) ≡ t → goal_of (point p) (cond t Wait (SMove (along axis (pos (component_of axis q) -ℤ pos (component_of axis p))))) ≡ point q
+    by : (t : Bool) → (component_of axis p == component_of axis q) ≡ t
+        → goal_of (point p) (cond t Wait (SMove (along axis (pos (component_of axis q) -ℤ pos (component_of axis p)))))
+        ≡ point q
     by true e = ap point (stays_there axis p q h e)
     by false e = move_ends axis p q h
 
-pub may_go : (m : Matrix) (h : ℕ) (axis : Axis) (low : ℕ) (p q : Coord) → IsVoidFrom m h → IsLed m.resolution h axis low p q → MayGo m (point p) (lead axis p q)
+pub may_go : (m : Matrix) (h : ℕ) (axis : Axis) (low : ℕ) (p q : Coord) → IsVoidFrom m h
+    → IsLed m.resolution h axis low p q → MayGo m (point p) (lead axis p q)
 may_go m h axis low p q void k = by (component_of axis p == component_of axis q)
   where
-    by : (t : Bool) → MayGo m (point p) (cond t Wait (SMove (along axis (pos (component_of axis q) -ℤ pos (component_of axis p)))))
+    by : (t : Bool)
+        → MayGo m (point p) (cond t Wait (SMove (along axis (pos (component_of axis q) -ℤ pos (component_of axis p)))))
     by true = tt
     by false = let from = k.high_from in let to = k.high_to in free_way m p q _ (move_ends axis p q k.line) k.to (λ c l. void c (omega arith)) (λ c l. void c (omega arith))
 
-pub allowed : (profile : Profile) (axis : Axis) (p q : Coord) → profile ≡ light_profile → IsTrue (is_allowed profile (lead axis p q))
+pub allowed : (profile : Profile) (axis : Axis) (p q : Coord) → profile ≡ light_profile
+    → IsTrue (is_allowed profile (lead axis p q))
 allowed profile axis p q e = subst (λ (k : Profile). IsTrue (is_allowed k (lead axis p q))) (sym e) (by (component_of axis p == component_of axis q))
   where
-    by : (t : Bool) → IsTrue (is_allowed light_profile (cond t Wait (SMove (along axis (pos (component_of axis q) -ℤ pos (component_of axis p))))))
+    by : (t : Bool)
+        → IsTrue (is_allowed light_profile (cond t Wait (SMove (along axis (pos (component_of axis q) -ℤ pos (component_of axis p))))))
     by true = refl
     by false = refl
 
 -- ---- all bots
 
 module _ (p : TapeState) (light : p.profile ≡ light_profile) (h : ℕ) (void : IsVoidFrom p.matrix h) (axis : Axis) where
-  pub all_can : (bots : List Bot) (cs : List Coord) (low : ℕ) → AreLed p.matrix.resolution h axis low (places bots) cs → AllByRecursion (CanGo p) (acts bots (led axis bots cs))
+  pub all_can : (bots : List Bot) (cs : List Coord) (low : ℕ) → AreLed p.matrix.resolution h axis low (places bots) cs
+      → AllByRecursion (CanGo p) (acts bots (led axis bots cs))
   all_can [] [] low k = tt
   all_can [] (c ∷ cs) low k = absurd k
   all_can (b ∷ bots) [] low k = absurd k
   all_can (b ∷ bots) (c ∷ cs) low k = (record { allowed = allowed p.profile axis b.pos c light; may = may_go p.matrix h axis low b.pos c void k.0 }, all_can bots cs (max b.pos.x c.x + 1) k.1)
 
 -- a way in columns below those of the other
-lies_before : (a b c d : Coord) (low : ℕ) → a.x < low → b.x < low → low ≤ c.x → low ≤ d.x → LieApart (between (point a) (point b)) (between (point c) (point d))
+lies_before : (a b c d : Coord) (low : ℕ) → a.x < low → b.x < low → low ≤ c.x → low ≤ d.x
+    → LieApart (between (point a) (point b)) (between (point c) (point d))
 lies_before a b c d low i j k l = LieApart.before_x (record { near = omega (arith, ints); far = omega (arith, ints); next_near = omega (arith, ints); next_far = omega (arith, ints) })
 
-way_is : (axis : Axis) (b : Bot) (c : Coord) → AreAlong axis b.pos c → way (record { bot = b; command = lead axis b.pos c }) ≡ between (point b.pos) (point c)
+way_is : (axis : Axis) (b : Bot) (c : Coord) → AreAlong axis b.pos c
+    → way (record { bot = b; command = lead axis b.pos c }) ≡ between (point b.pos) (point c)
 way_is axis b c h = ap (between (point b.pos)) (goal_is axis b.pos c h)
 
 module _ (r h : ℕ) (axis : Axis) where
-  all_past : (a d : Coord) (first low : ℕ) → a.x < first → d.x < first → first ≤ low → (bots : List Bot) (cs : List Coord) → AreLed r h axis low (places bots) cs → AllByRecursion (λ b. LieApart (between (point a) (point d)) (way b)) (acts bots (led axis bots cs))
+  all_past : (a d : Coord) (first low : ℕ) → a.x < first → d.x < first → first ≤ low → (bots : List Bot)
+      (cs : List Coord) → AreLed r h axis low (places bots) cs
+      → AllByRecursion (λ b. LieApart (between (point a) (point d)) (way b)) (acts bots (led axis bots cs))
   all_past a d first low i j l [] [] k = tt
   all_past a d first low i j l [] (c ∷ cs) k = absurd k
   all_past a d first low i j l (b ∷ bots) [] k = absurd k
@@ -89,7 +102,8 @@ module _ (r h : ℕ) (axis : Axis) where
       let to = k.0.low_to in
       (subst (λ (s : Span). LieApart (between (point a) (point d)) s) (sym (way_is axis b c k.0.line)) (lies_before a d b.pos c first i j (omega arith) (omega arith)), all_past a d first (max b.pos.x c.x + 1) i j (omega arith) bots cs k.1)
 
-  pub ways_apart : (bots : List Bot) (cs : List Coord) (low : ℕ) → AreLed r h axis low (places bots) cs → AreWaysApart (acts bots (led axis bots cs))
+  pub ways_apart : (bots : List Bot) (cs : List Coord) (low : ℕ) → AreLed r h axis low (places bots) cs
+      → AreWaysApart (acts bots (led axis bots cs))
   ways_apart [] [] low k = tt
   ways_apart [] (c ∷ cs) low k = absurd k
   ways_apart (b ∷ bots) [] low k = absurd k
@@ -98,7 +112,8 @@ module _ (r h : ℕ) (axis : Axis) where
     ways_apart bots cs (max b.pos.x c.x + 1) k.1,
   )
 
-  pub gone_there : (bots : List Bot) (cs : List Coord) (low : ℕ) → AreLed r h axis low (places bots) cs → map gone (acts bots (led axis bots cs)) ≡ placed bots cs
+  pub gone_there : (bots : List Bot) (cs : List Coord) (low : ℕ) → AreLed r h axis low (places bots) cs
+      → map gone (acts bots (led axis bots cs)) ≡ placed bots cs
   gone_there [] [] low k = refl
   gone_there [] (c ∷ cs) low k = absurd k
   gone_there (b ∷ bots) [] low k = absurd k
@@ -107,13 +122,15 @@ module _ (r h : ℕ) (axis : Axis) where
       let more = gone_there bots cs (max b.pos.x c.x + 1) k.1 in
       λ i. record { bid = b.bid; pos = there i; seeds = b.seeds } ∷ more i
 
-  pub led_length : (bots : List Bot) (cs : List Coord) (low : ℕ) → AreLed r h axis low (places bots) cs → length (led axis bots cs) ≡ length bots
+  pub led_length : (bots : List Bot) (cs : List Coord) (low : ℕ) → AreLed r h axis low (places bots) cs
+      → length (led axis bots cs) ≡ length bots
   led_length [] [] low k = refl
   led_length [] (c ∷ cs) low k = absurd k
   led_length (b ∷ bots) [] low k = absurd k
   led_length (b ∷ bots) (c ∷ cs) low k = ap suc (led_length bots cs (max b.pos.x c.x + 1) k.1)
 
-  pub places-placed : (bots : List Bot) (cs : List Coord) (low : ℕ) → AreLed r h axis low (places bots) cs → places (placed bots cs) ≡ cs
+  pub places-placed : (bots : List Bot) (cs : List Coord) (low : ℕ) → AreLed r h axis low (places bots) cs
+      → places (placed bots cs) ≡ cs
   places-placed [] [] low k = refl
   places-placed [] (c ∷ cs) low k = absurd k
   places-placed (b ∷ bots) [] low k = absurd k

@@ -11,7 +11,8 @@ three_or_less : (r : ℕ) → (3 ≤ r) ⊎ (r < 3)
 three_or_less r = grind arith
 
 -- a legal model with a full voxel has a resolution of 3 at least
-pub wide_enough : (m n : Matrix) → IsLegal m → IsWhole m → IsWhole n → n.resolution ≡ m.resolution → IsVoidFrom n 0 → (n ≡ m → ⊥) → 3 ≤ m.resolution
+pub wide_enough : (m n : Matrix) → IsLegal m → IsWhole m → IsWhole n → n.resolution ≡ m.resolution → IsVoidFrom n 0
+    → (n ≡ m → ⊥) → 3 ≤ m.resolution
 wide_enough m n h v w e void differ = by (three_or_less m.resolution)
   where
     by : (3 ≤ m.resolution) ⊎ (m.resolution < 3) → 3 ≤ m.resolution

@@ -19,7 +19,8 @@ pub weaker : (r y z low first : ℕ) (cs : List Coord) → first ≤ low → Are
 weaker r y z low first [] h k = tt
 weaker r y z low first (c ∷ cs) h k = (record { within = k.0.within; past = let l = k.0.past in omega arith; height = k.0.height; depth = k.0.depth }, k.1)
 
-pub sent_lined : (r y z low x : ℕ) (cs : List Coord) → AreLined r y z low cs → free_column low cs ≤ x → x < r → AreLined r y z low (sent cs x)
+pub sent_lined : (r y z low x : ℕ) (cs : List Coord) → AreLined r y z low cs → free_column low cs ≤ x → x < r
+    → AreLined r y z low (sent cs x)
 sent_lined r y z low x [] k h l = tt
 sent_lined r y z low x (c ∷ []) k h l = (record { within = l; past = h; height = k.0.height; depth = k.0.depth }, tt)
 sent_lined r y z low x (c ∷ d ∷ more) k h l = (k.0, sent_lined r y z (c.x + 1) x (d ∷ more) k.1 h l)
@@ -38,7 +39,8 @@ free-sent low x [] = refl
 free-sent low x (c ∷ []) = refl
 free-sent low x (c ∷ d ∷ more) = free_more low c (sent (d ∷ more) x) (let e = length-sent (d ∷ more) x in omega arith) ∙ free-sent (c.x + 1) x (d ∷ more)
   where
-    free_more : (low : ℕ) (c : Coord) (cs : List Coord) → 0 < length cs → free_column low (c ∷ cs) ≡ free_column (c.x + 1) cs
+    free_more : (low : ℕ) (c : Coord) (cs : List Coord) → 0 < length cs
+        → free_column low (c ∷ cs) ≡ free_column (c.x + 1) cs
     free_more low c [] h = absurd (omega arith)
     free_more low c (d ∷ more) h = refl
 
@@ -62,7 +64,8 @@ sent_there (c ∷ []) = refl
 sent_there (c ∷ d ∷ more) = ap (λ ds. c ∷ ds) (sent_there (d ∷ more))
 
 -- the last place is past all others
-pub last_free : (r y z low : ℕ) (cs : List Coord) → AreLined r y z low cs → 0 < length cs → free_column low cs ≤ last_column cs
+pub last_free : (r y z low : ℕ) (cs : List Coord) → AreLined r y z low cs → 0 < length cs
+    → free_column low cs ≤ last_column cs
 last_free r y z low [] k h = absurd (omega arith)
 last_free r y z low (c ∷ []) k h = k.0.past
 last_free r y z low (c ∷ d ∷ more) k h = last_free r y z (c.x + 1) (d ∷ more) k.1 (omega arith)
@@ -72,7 +75,8 @@ last_within r y z low [] k h = absurd (omega arith)
 last_within r y z low (c ∷ []) k h = k.0.within
 last_within r y z low (c ∷ d ∷ more) k h = last_within r y z (c.x + 1) (d ∷ more) k.1 (omega arith)
 
-pub split_lined : (r y z low : ℕ) (cs : List Coord) → AreLined r y z low cs → last_column cs + 1 < r → AreLined r y z low (split cs)
+pub split_lined : (r y z low : ℕ) (cs : List Coord) → AreLined r y z low cs → last_column cs + 1 < r
+    → AreLined r y z low (split cs)
 split_lined r y z low [] k h = tt
 split_lined r y z low (c ∷ []) k h = (k.0, (record { within = h; past = omega arith; height = k.0.height; depth = k.0.depth }, tt))
 split_lined r y z low (c ∷ d ∷ more) k h = (k.0, split_lined r y z (c.x + 1) (d ∷ more) k.1 h)
@@ -88,7 +92,8 @@ fused-sent x (c ∷ d ∷ more) = fused_more c (sent (d ∷ more) x) (let e = le
 
 -- ---- the last bot goes along the line
 
-pub sent_led : (r y z low x : ℕ) (cs : List Coord) → y < r → z < r → AreLined r y z low cs → free_column low cs ≤ x → x < r → gap (last_column cs) x ≤ 15 → AreLed r y X low cs (sent cs x)
+pub sent_led : (r y z low x : ℕ) (cs : List Coord) → y < r → z < r → AreLined r y z low cs → free_column low cs ≤ x
+    → x < r → gap (last_column cs) x ≤ 15 → AreLed r y X low cs (sent cs x)
 sent_led r y z low x [] i j k h l near = tt
 sent_led r y z low x (c ∷ []) i j k h l near =
     let f = k.0.height in
@@ -99,14 +104,16 @@ sent_led r y z low x (c ∷ d ∷ more) i j k h l near =
     let g = k.0.depth in
     (record { line = (refl, refl); near = omega arith; from = record { x = k.0.within; y = omega arith; z = omega arith }; to = record { x = k.0.within; y = omega arith; z = omega arith }; high_from = omega arith; high_to = omega arith; low_from = k.0.past; low_to = k.0.past }, subst (λ v. AreLed r y X v (d ∷ more) (sent (d ∷ more) x)) (let e : c.x + 1 ≡ max c.x c.x + 1 = omega arith in e) (sent_led r y z (c.x + 1) x (d ∷ more) i j k.1 h l near))
 
-pub waits_then : (k : Command) (bots : List Bot) → 0 < length bots → replicate (length bots - 1) Wait ++ k ∷ [] ≡ ends k bots
+pub waits_then : (k : Command) (bots : List Bot) → 0 < length bots
+    → replicate (length bots - 1) Wait ++ k ∷ [] ≡ ends k bots
 waits_then k [] h = absurd (omega arith)
 waits_then k (b ∷ []) h = refl
 waits_then k (b ∷ c ∷ more) h =
     let n : length (b ∷ c ∷ more) - 1 ≡ suc (length (c ∷ more) - 1) = omega arith in
     ap (λ m. replicate m Wait ++ k ∷ []) n ∙ ap (λ ks. Wait ∷ ks) (waits_then k (c ∷ more) (omega arith))
 
-pub waits_then_two : (k l : Command) (bots : List Bot) → 1 < length bots → replicate (length bots - 2) Wait ++ k ∷ l ∷ [] ≡ pair_ends k l bots
+pub waits_then_two : (k l : Command) (bots : List Bot) → 1 < length bots
+    → replicate (length bots - 2) Wait ++ k ∷ l ∷ [] ≡ pair_ends k l bots
 waits_then_two k l [] h = absurd (omega arith)
 waits_then_two k l (b ∷ []) h = absurd (omega arith)
 waits_then_two k l (b ∷ c ∷ []) h = refl
@@ -114,7 +121,8 @@ waits_then_two k l (b ∷ c ∷ d ∷ more) h =
     let n : length (b ∷ c ∷ d ∷ more) - 2 ≡ suc (length (c ∷ d ∷ more) - 2) = omega arith in
     ap (λ m. replicate m Wait ++ k ∷ l ∷ []) n ∙ ap (λ ks. Wait ∷ ks) (waits_then_two k l (c ∷ d ∷ more) (omega arith))
 
-pub ends_led : (bots : List Bot) (x : ℕ) → (last_column (places bots) ≡ x → ⊥) → ends (SMove (along X (pos x -ℤ pos (last_column (places bots))))) bots ≡ led X bots (sent (places bots) x)
+pub ends_led : (bots : List Bot) (x : ℕ) → (last_column (places bots) ≡ x → ⊥)
+    → ends (SMove (along X (pos x -ℤ pos (last_column (places bots))))) bots ≡ led X bots (sent (places bots) x)
 ends_led [] x h = refl
 ends_led (b ∷ []) x h = ap (λ t. cond t Wait (SMove (along X (pos x -ℤ pos b.pos.x))) ∷ []) (sym (test_unequal b.pos.x x h))
 ends_led (b ∷ c ∷ more) x h =
@@ -127,7 +135,8 @@ nobody : Bot
 nobody = record { bid = 0; pos = coord 0 0 0; seeds = 0 }
 
 -- the last bot by its index
-pub last_at : (bots : List Bot) (b : Bot) → 0 < length bots → (get_or bots (length bots - 1) b).pos.x ≡ last_column (places bots)
+pub last_at : (bots : List Bot) (b : Bot) → 0 < length bots
+    → (get_or bots (length bots - 1) b).pos.x ≡ last_column (places bots)
 last_at [] d h = absurd (omega arith)
 last_at (b ∷ []) d h = refl
 last_at (b ∷ c ∷ more) d h =
@@ -135,7 +144,9 @@ last_at (b ∷ c ∷ more) d h =
     ap (λ k. (get_or (b ∷ c ∷ more) k d).pos.x) n ∙ last_at (c ∷ more) d (omega arith)
 
 -- the commands by which the last bot goes to a column
-pub last_led : (bots read : List Bot) (waits ks : List Command) (d : Diff) (at x : ℕ) → read ≡ bots → 0 < length bots → waits ≡ replicate (length read - 1) Wait → at ≡ last_column (places bots) → d ≡ along X (pos x -ℤ pos at) → ks ≡ waits ++ SMove d ∷ [] → (last_column (places bots) ≡ x → ⊥) → ks ≡ led X bots (sent (places bots) x)
+pub last_led : (bots read : List Bot) (waits ks : List Command) (d : Diff) (at x : ℕ) → read ≡ bots → 0 < length bots
+    → waits ≡ replicate (length read - 1) Wait → at ≡ last_column (places bots) → d ≡ along X (pos x -ℤ pos at)
+    → ks ≡ waits ++ SMove d ∷ [] → (last_column (places bots) ≡ x → ⊥) → ks ≡ led X bots (sent (places bots) x)
 last_led bots read waits ks d at x eb some ew ea ed ek differ =
     let w : waits ≡ replicate (length bots - 1) Wait = ew ∙ ap (λ (bs : List Bot). replicate (length bs - 1) Wait) eb in
     let e : d ≡ along X (pos x -ℤ pos (last_column (places bots))) = ed ∙ ap (λ v. along X (pos x -ℤ pos v)) ea in

@@ -18,7 +18,9 @@ module _ (p : TapeState) (swarm : IsSwarm p) (h : ℕ) (void : IsVoidFrom p.matr
   pub can_move : CanMoveAll p (led axis p.bots cs)
   can_move = record { each = all_can p swarm.light h void axis p.bots cs low k; apart = ways_apart p.matrix.resolution h axis p.bots cs low k }
 
-  pub goes_by : (q : TapeState) → AllStep p q (led axis p.bots cs) p.matrix p.harmonics (bots_gone p.bots (led axis p.bots cs)) → CrewGoes p q cs 1
+  pub goes_by : (q : TapeState)
+      → AllStep p q (led axis p.bots cs) p.matrix p.harmonics (bots_gone p.bots (led axis p.bots cs))
+      → CrewGoes p q cs 1
   goes_by q s = record {
     source = s.source;
     matrix = s.matrix;
@@ -30,10 +32,14 @@ module _ (p : TapeState) (swarm : IsSwarm p) (h : ℕ) (void : IsVoidFrom p.matr
 -- ---- the row of all strips
 
 -- the commands by what is read of a tape
-pub same_way : (p : TapeState) (axis : Axis) (to : Coord) (r w : ℕ) (bots : List Bot) → r ≡ p.matrix.resolution → w ≡ width r → bots ≡ p.bots → row_led axis w (r - 2) bots to ≡ row_led axis (width p.matrix.resolution) (last p.matrix.resolution) p.bots to
+pub same_way : (p : TapeState) (axis : Axis) (to : Coord) (r w : ℕ) (bots : List Bot) → r ≡ p.matrix.resolution
+    → w ≡ width r → bots ≡ p.bots
+    → row_led axis w (r - 2) bots to ≡ row_led axis (width p.matrix.resolution) (last p.matrix.resolution) p.bots to
 same_way p axis to r w bots er ew eb = let e : w ≡ width p.matrix.resolution = ew ∙ ap width er in λ i. row_led axis (e i) (er i - 2) (eb i) to
 
-pub near_way : (p : TapeState) (axis : Axis) (to : Coord) (r w : ℕ) (bots : List Bot) → r ≡ p.matrix.resolution → w ≡ width r → bots ≡ p.bots → AreNear axis (width p.matrix.resolution) (last p.matrix.resolution) p.bots to → AreNear axis w (r - 2) bots to
+pub near_way : (p : TapeState) (axis : Axis) (to : Coord) (r w : ℕ) (bots : List Bot) → r ≡ p.matrix.resolution
+    → w ≡ width r → bots ≡ p.bots → AreNear axis (width p.matrix.resolution) (last p.matrix.resolution) p.bots to
+    → AreNear axis w (r - 2) bots to
 near_way p axis to r w bots er ew eb h =
     let e : w ≡ width p.matrix.resolution = ew ∙ ap width er in
     subst (λ n. AreNear axis n (r - 2) bots to) (sym e) (subst (λ n. AreNear axis (width p.matrix.resolution) (n - 2) bots to) (sym er) (subst (λ (bs : List Bot). AreNear axis (width p.matrix.resolution) (last p.matrix.resolution) bs to) (sym eb) h))
@@ -42,7 +48,8 @@ module _ (p : TapeState) (swarm : IsSwarm p) (row : InRow p) (void : IsVoidFrom 
   all_led : AreLed p.matrix.resolution (spot p.bots).y axis 1 (places p.bots) (strip_row p.matrix.resolution to)
   all_led = subst (λ (cs : List Coord). AreLed p.matrix.resolution (spot p.bots).y axis 1 cs (strip_row p.matrix.resolution to)) (sym row.places_are) (led_row p.matrix.resolution (spot p.bots).y axis (spot p.bots) to row.leads leads line near (omega arith) up)
 
-  as_led : row_led axis (width p.matrix.resolution) (last p.matrix.resolution) p.bots to ≡ led axis p.bots (strip_row p.matrix.resolution to)
+  as_led : row_led axis (width p.matrix.resolution) (last p.matrix.resolution) p.bots to
+      ≡ led axis p.bots (strip_row p.matrix.resolution to)
   as_led =
       row_led-is axis (width p.matrix.resolution) (last p.matrix.resolution) p.bots to
       ∙ ap (λ n. led axis p.bots (row_at (width p.matrix.resolution) (last p.matrix.resolution) n to)) (length_of_row p.matrix.resolution p.bots (spot p.bots) row.places_are)
@@ -51,13 +58,18 @@ module _ (p : TapeState) (swarm : IsSwarm p) (row : InRow p) (void : IsVoidFrom 
   row_near = near_by p.matrix.resolution (spot p.bots).y axis (width p.matrix.resolution) (last p.matrix.resolution) 1 p.bots to row.leads.most
       (subst (λ n. AreLed p.matrix.resolution (spot p.bots).y axis 1 (places p.bots) (row_at (width p.matrix.resolution) (last p.matrix.resolution) n to)) (sym (length_of_row p.matrix.resolution p.bots (spot p.bots) row.places_are)) all_led)
 
-  pub row_can : (commands : List Command) → commands ≡ row_led axis (width p.matrix.resolution) (last p.matrix.resolution) p.bots to → CanMoveAll p commands
+  pub row_can : (commands : List Command)
+      → commands ≡ row_led axis (width p.matrix.resolution) (last p.matrix.resolution) p.bots to → CanMoveAll p commands
   row_can commands e = subst (λ (ks : List Command). CanMoveAll p ks) (sym (e ∙ as_led)) (can_move p swarm (spot p.bots).y void axis (strip_row p.matrix.resolution to) 1 all_led)
 
-  pub row_length : (commands : List Command) → commands ≡ row_led axis (width p.matrix.resolution) (last p.matrix.resolution) p.bots to → length commands ≡ length p.bots
+  pub row_length : (commands : List Command)
+      → commands ≡ row_led axis (width p.matrix.resolution) (last p.matrix.resolution) p.bots to
+      → length commands ≡ length p.bots
   row_length commands e = ap length (e ∙ as_led) ∙ led_length p.matrix.resolution (spot p.bots).y axis p.bots (strip_row p.matrix.resolution to) 1 all_led
 
-  pub row_goes : (q : TapeState) (commands : List Command) → commands ≡ row_led axis (width p.matrix.resolution) (last p.matrix.resolution) p.bots to → AllStep p q commands p.matrix p.harmonics (bots_gone p.bots commands) → RowGoes p q to 1
+  pub row_goes : (q : TapeState) (commands : List Command)
+      → commands ≡ row_led axis (width p.matrix.resolution) (last p.matrix.resolution) p.bots to
+      → AllStep p q commands p.matrix p.harmonics (bots_gone p.bots commands) → RowGoes p q to 1
   row_goes q commands e s =
       let g = goes_by p swarm (spot p.bots).y void axis (strip_row p.matrix.resolution to) 1 all_led q (subst (λ (ks : List Command). AllStep p q ks p.matrix p.harmonics (bots_gone p.bots ks)) (e ∙ as_led) s) in
       let size = ap (λ (m : Matrix). m.resolution) g.matrix in

@@ -29,7 +29,8 @@ layers_fit r h =
     let layer : swarm_layer_steps r ≤ 24060 = omega arith in
     mul-le-mul fewer layer
 
-sum_of : (s w : ℕ) → s * (w * (3 * (s + 1) + 1) + w + 1) + 823 + 20 + (s + 1) + 2 ≤ 4 * w * (s + 1) * (s + 1) + 8 * (s + 1) + 2000
+sum_of : (s w : ℕ)
+    → s * (w * (3 * (s + 1) + 1) + w + 1) + 823 + 20 + (s + 1) + 2 ≤ 4 * w * (s + 1) * (s + 1) + 8 * (s + 1) + 2000
 sum_of s w = omega arith
 
 pub total : (r : ℕ) → 1 ≤ r → phase_steps r + 20 + r + 2 ≤ 4 * width r * r * r + 8 * r + 2000
@@ -42,7 +43,8 @@ total r h =
 may_begin : (r : ℕ) → 3 ≤ r → r ≤ 400 → MayLead r (coord 1 1 0)
 may_begin r s m = record { some = s; most = m; first = omega arith; wide = omega arith; y = omega arith; z = omega arith }
 
-spread_places : (p : TapeState) (n : ℕ) → IsSpreadOver p n → n ≡ count p.matrix.resolution → places p.bots ≡ strip_row p.matrix.resolution (coord 1 1 0)
+spread_places : (p : TapeState) (n : ℕ) → IsSpreadOver p n → n ≡ count p.matrix.resolution
+    → places p.bots ≡ strip_row p.matrix.resolution (coord 1 1 0)
 spread_places p n s e = ap places s.bots_are ∙ (places-lined_up 1 (bot_row (width p.matrix.resolution) (last p.matrix.resolution) n (coord 1 1 0)) ∙ ap (λ k. bot_row (width p.matrix.resolution) (last p.matrix.resolution) k (coord 1 1 0)) e)
 
 module _ (a b : TapeState) (most : ℕ) (spread : SpreadsOver a b (count a.matrix.resolution) most) where
@@ -68,7 +70,11 @@ module _ (a b : TapeState) (most : ℕ) (spread : SpreadsOver a b (count a.matri
 
 -- ---- the target is built
 
-pub erected : (a b c d : TapeState) (target : Matrix) → a.steps ≤ 3 → SpreadsOver a b (count a.matrix.resolution) 400 → IsLegal target → IsWhole d.matrix → IsWhole target → target.resolution ≡ a.matrix.resolution → Builds b c target (layers b.matrix.resolution (b.matrix.resolution - 1)) (coord 1 1 0) (coord 1 b.matrix.resolution 0) ((b.matrix.resolution - 1) * swarm_layer_steps b.matrix.resolution) → HasGathered c d ((spot c.bots).z + 420) → IsErected d target
+pub erected : (a b c d : TapeState) (target : Matrix) → a.steps ≤ 3 → SpreadsOver a b (count a.matrix.resolution) 400
+    → IsLegal target → IsWhole d.matrix → IsWhole target → target.resolution ≡ a.matrix.resolution
+    → Builds b c target (layers b.matrix.resolution (b.matrix.resolution - 1)) (coord 1 1 0)
+    (coord 1 b.matrix.resolution 0) ((b.matrix.resolution - 1) * swarm_layer_steps b.matrix.resolution)
+    → HasGathered c d ((spot c.bots).z + 420) → IsErected d target
 erected a b c d target few s h wd wt same k g =
     let er : b.matrix.resolution ≡ target.resolution = ap (λ (m : Matrix). m.resolution) s.matrix ∙ sym same in
     let wide : c.matrix.resolution ≡ target.resolution = k.resolution ∙ er in
@@ -92,5 +98,7 @@ erected a b c d target few s h wd wt same k g =
       steps_are = omega (arith, most, gz);
     }
   where
-    together : (d c b a x y : ℕ) (q : Coord) (way n r : ℕ) → d ≤ c + (q.z + 420) → x ≡ q.x → y ≡ q.y → c + distance q (coord 1 r 0) ≤ b + way + n → b ≤ a + 400 → a ≤ 3 → way ≡ 0 → q.x ≤ 20 → q.y < r → d + x + y ≤ n + 823 + 20 + r
+    together : (d c b a x y : ℕ) (q : Coord) (way n r : ℕ) → d ≤ c + (q.z + 420) → x ≡ q.x → y ≡ q.y
+        → c + distance q (coord 1 r 0) ≤ b + way + n → b ≤ a + 400 → a ≤ 3 → way ≡ 0 → q.x ≤ 20 → q.y < r
+        → d + x + y ≤ n + 823 + 20 + r
     together d c b a x y q way n r h ex ey k s f e l m = omega arith

@@ -40,7 +40,8 @@ pub length-places : (bots : List Bot) → length (places bots) ≡ length bots
 length-places [] = refl
 length-places (b ∷ bots) = ap suc (length-places bots)
 
-pub row_led-is : (axis : Axis) (w l : ℕ) (bots : List Bot) (c : Coord) → row_led axis w l bots c ≡ led axis bots (bot_row w l (length bots) c)
+pub row_led-is : (axis : Axis) (w l : ℕ) (bots : List Bot) (c : Coord)
+    → row_led axis w l bots c ≡ led axis bots (bot_row w l (length bots) c)
 row_led-is axis w l [] c = refl
 row_led-is axis w l (b ∷ bots) c = ap (λ ks. lead axis b.pos (held l c) ∷ ks) (row_led-is axis w l bots (next w c))
 
@@ -74,12 +75,14 @@ line_next X w c d h = h
 line_next Y w c d h = (ap (λ v. v + w) h.0, h.1)
 line_next Z w c d h = (ap (λ v. v + w) h.0, h.1)
 
-near_held : (axis : Axis) (l : ℕ) (c d : Coord) → gap (component_of axis c) (component_of axis d) ≤ 15 → gap (component_of axis (held l c)) (component_of axis (held l d)) ≤ 15
+near_held : (axis : Axis) (l : ℕ) (c d : Coord) → gap (component_of axis c) (component_of axis d) ≤ 15
+    → gap (component_of axis (held l c)) (component_of axis (held l d)) ≤ 15
 near_held X l c d h = omega arith
 near_held Y l c d h = h
 near_held Z l c d h = h
 
-near_next : (axis : Axis) (w : ℕ) (c d : Coord) → gap (component_of axis c) (component_of axis d) ≤ 15 → gap (component_of axis (next w c)) (component_of axis (next w d)) ≤ 15
+near_next : (axis : Axis) (w : ℕ) (c d : Coord) → gap (component_of axis c) (component_of axis d) ≤ 15
+    → gap (component_of axis (next w c)) (component_of axis (next w d)) ≤ 15
 near_next X w c d h = omega arith
 near_next Y w c d h = h
 near_next Z w c d h = h
@@ -88,7 +91,8 @@ more_room : (start w n l : ℕ) → start + w * suc n ≤ l + w → (start ≤ l
 more_room start w n l h = (omega arith, omega arith)
 
 module _ (r h : ℕ) (axis : Axis) (w l : ℕ) where
-  pub row_are_led : (n low start : ℕ) (c d : Coord) → Leads r h axis w l n low start c d → AreLed r h axis low (bot_row w l n c) (bot_row w l n d)
+  pub row_are_led : (n low start : ℕ) (c d : Coord) → Leads r h axis w l n low start c d
+      → AreLed r h axis low (bot_row w l n c) (bot_row w l n d)
   row_are_led zero low start c d k = tt
   row_are_led (suc n) low start c d k =
       let m = more_room start w n l k.room in
@@ -130,7 +134,9 @@ module _ (r h : ℕ) (axis : Axis) (w l : ℕ) where
 
 -- ---- the row of all strips
 
-pub led_row : (r h : ℕ) (axis : Axis) (c d : Coord) → MayLead r c → MayLead r d → AreAlong axis c d → gap (component_of axis c) (component_of axis d) ≤ 15 → h ≤ c.y → h ≤ d.y → AreLed r h axis 1 (strip_row r c) (strip_row r d)
+pub led_row : (r h : ℕ) (axis : Axis) (c d : Coord) → MayLead r c → MayLead r d → AreAlong axis c d
+    → gap (component_of axis c) (component_of axis d) ≤ 15 → h ≤ c.y → h ≤ d.y
+    → AreLed r h axis 1 (strip_row r c) (strip_row r d)
 led_row r h axis c d a b line near high high_to =
     let s = a.some in
     let m = a.most in
@@ -156,7 +162,8 @@ led_row r h axis c d a b line near high high_to =
       high_to = high_to;
     })
 
-pub row_begins : (r : ℕ) (c : Coord) → strip_row r c ≡ held (last r) c ∷ bot_row (width r) (last r) ((r - 3) / width r) (next (width r) c)
+pub row_begins : (r : ℕ) (c : Coord)
+    → strip_row r c ≡ held (last r) c ∷ bot_row (width r) (last r) ((r - 3) / width r) (next (width r) c)
 row_begins r c = ap (λ n. bot_row (width r) (last r) n c) (add-one ((r - 3) / width r))
 
 first_of_bots : (bots : List Bot) (c : Coord) (cs : List Coord) → places bots ≡ c ∷ cs → spot bots ≡ c
@@ -182,7 +189,8 @@ length_of_row r bots c e = sym (length-places bots) ∙ (ap length e ∙ length-
 
 -- ---- near ways
 
-pub near_by : (r h : ℕ) (axis : Axis) (w l low : ℕ) (bots : List Bot) (c : Coord) → r ≤ 400 → AreLed r h axis low (places bots) (bot_row w l (length bots) c) → AreNear axis w l bots c
+pub near_by : (r h : ℕ) (axis : Axis) (w l low : ℕ) (bots : List Bot) (c : Coord) → r ≤ 400
+    → AreLed r h axis low (places bots) (bot_row w l (length bots) c) → AreNear axis w l bots c
 near_by r h axis w l low [] c m k = tt
 near_by r h axis w l low (b ∷ bots) c m k = (record { from = below axis b.pos k.0.from; to = below axis (held l c) k.0.to; near = k.0.near }, near_by r h axis w l (max b.pos.x (min c.x l) + 1) bots (next w c) m k.1)
   where

@@ -21,7 +21,8 @@ pub placed_there : (bots : List Bot) → placed bots (places bots) ≡ bots
 placed_there [] = refl
 placed_there (b ∷ bots) = ap (λ bs. b ∷ bs) (placed_there bots)
 
-pub placed-placed : (bots : List Bot) (cs ds : List Coord) → length cs ≡ length bots → placed (placed bots cs) ds ≡ placed bots ds
+pub placed-placed : (bots : List Bot) (cs ds : List Coord) → length cs ≡ length bots
+    → placed (placed bots cs) ds ≡ placed bots ds
 placed-placed [] cs ds h = refl
 placed-placed (b ∷ bots) [] ds h = absurd (omega arith)
 placed-placed (b ∷ bots) (c ∷ cs) [] h = refl
@@ -33,7 +34,8 @@ places_of_placed [] (c ∷ cs) h = absurd (omega arith)
 places_of_placed (b ∷ bots) [] h = absurd (omega arith)
 places_of_placed (b ∷ bots) (c ∷ cs) h = ap (λ ds. c ∷ ds) (places_of_placed bots cs (omega arith))
 
-pub placed-lined_up : (bid : ℕ) (cs ds : List Coord) → length ds ≡ length cs → placed (lined_up bid cs) ds ≡ lined_up bid ds
+pub placed-lined_up : (bid : ℕ) (cs ds : List Coord) → length ds ≡ length cs
+    → placed (lined_up bid cs) ds ≡ lined_up bid ds
 placed-lined_up bid [] [] h = refl
 placed-lined_up bid [] (d ∷ ds) h = absurd (omega arith)
 placed-lined_up bid (c ∷ []) [] h = absurd (omega arith)
@@ -45,12 +47,15 @@ placed-lined_up bid (c ∷ k ∷ cs) (d ∷ e ∷ ds) h = ap (λ bs. record { bi
 
 -- ---- a line that stands
 
-level : (r y z low : ℕ) (bots : List Bot) → AreLined r y z low (places bots) → 0 < length bots → ((spot bots).y ≡ y) × ((spot bots).z ≡ z)
+level : (r y z low : ℕ) (bots : List Bot) → AreLined r y z low (places bots) → 0 < length bots
+    → ((spot bots).y ≡ y) × ((spot bots).z ≡ z)
 level r y z low [] k h = absurd (omega arith)
 level r y z low (b ∷ bots) k h = (k.0.height, k.0.depth)
 
 -- where the places are in a line, the tape is so
-pub line_of : (p : TapeState) (y z : ℕ) → IsSwarm p → 0 < length (places p.bots) → p.matrix.resolution ≤ 400 → y < p.matrix.resolution → z < p.matrix.resolution → AreLined p.matrix.resolution y z 1 (places p.bots) → IsVoidFrom p.matrix y → InLine p
+pub line_of : (p : TapeState) (y z : ℕ) → IsSwarm p → 0 < length (places p.bots) → p.matrix.resolution ≤ 400
+    → y < p.matrix.resolution → z < p.matrix.resolution → AreLined p.matrix.resolution y z 1 (places p.bots)
+    → IsVoidFrom p.matrix y → InLine p
 line_of p y z swarm some most hy hz k void =
     let n = length-places p.bots in
     let at = level p.matrix.resolution y z 1 p.bots k (omega arith) in
@@ -86,7 +91,9 @@ module _ (a b : TapeState) (line : InLine a) (x m : ℕ) (goes : CrewGoes a b (s
       (subst (λ r. AreLined r (spot a.bots).y (spot a.bots).z 1 (places b.bots)) (sym size) (subst (λ (cs : List Coord). AreLined a.matrix.resolution (spot a.bots).y (spot a.bots).z 1 cs) (sym places_on) (sent_lined a.matrix.resolution (spot a.bots).y (spot a.bots).z 1 x (places a.bots) line.lined free within)))
       (subst (λ (k : Matrix). IsVoidFrom k (spot a.bots).y) (sym goes.matrix) line.void)
 
-pub goes_nowhere : (p : TapeState) (x : ℕ) → InLine p → x ≡ last_column (places p.bots) → (CrewGoes p p (sent (places p.bots) x) (gap (last_column (places p.bots)) x)) × (places p.bots ≡ sent (places p.bots) x)
+pub goes_nowhere : (p : TapeState) (x : ℕ) → InLine p → x ≡ last_column (places p.bots)
+    → (CrewGoes p p (sent (places p.bots) x) (gap (last_column (places p.bots)) x))
+    × (places p.bots ≡ sent (places p.bots) x)
 goes_nowhere p x line e =
     let stays : sent (places p.bots) x ≡ places p.bots = ap (sent (places p.bots)) e ∙ sent_there (places p.bots) in (
       record {
@@ -99,7 +106,9 @@ goes_nowhere p x line e =
       sym stays,
     )
 
-pub goes_more : (a b c : TapeState) (u v m n most : ℕ) → CrewGoes a b (sent (places a.bots) u) m → places b.bots ≡ sent (places a.bots) u → CrewGoes b c (sent (places b.bots) v) n → m + n ≤ most → CrewGoes a c (sent (places a.bots) v) most
+pub goes_more : (a b c : TapeState) (u v m n most : ℕ) → CrewGoes a b (sent (places a.bots) u) m
+    → places b.bots ≡ sent (places a.bots) u → CrewGoes b c (sent (places b.bots) v) n → m + n ≤ most
+    → CrewGoes a c (sent (places a.bots) v) most
 goes_more a b c u v m n most g e h l =
     let onto : sent (places b.bots) v ≡ sent (places a.bots) v = ap (λ cs. sent cs v) e ∙ sent-sent u v (places a.bots) in
     record {
@@ -110,7 +119,8 @@ goes_more a b c u v m n most g e h l =
       steps_are = let i = g.steps_are in let j = h.steps_are in omega arith;
     }
 
-pub longer : (a t n o : ℕ) → gap a t + gap t o ≡ gap a o → IsOnward t n o → (gap a n + gap n o ≡ gap a o) × (gap a t + 1 ≤ gap a n)
+pub longer : (a t n o : ℕ) → gap a t + gap t o ≡ gap a o → IsOnward t n o
+    → (gap a n + gap n o ≡ gap a o) × (gap a t + 1 ≤ gap a n)
 longer a t n o e (inl h) = let l = h.0 in let m = h.1 in (omega arith, omega arith)
 longer a t n o e (inr h) = let l = h.0 in let m = h.1 in (omega arith, omega arith)
 
@@ -136,7 +146,8 @@ pub record Stands (r w l n low start : ℕ) (c : Coord) : Type 0 where
   pub room : start + w * n ≤ l + w
   pub within : l < r
 
-pub row_lined : (r w l n low start : ℕ) (c : Coord) → Stands r w l n low start c → AreLined r c.y c.z low (bot_row w l n c)
+pub row_lined : (r w l n low start : ℕ) (c : Coord) → Stands r w l n low start c
+    → AreLined r c.y c.z low (bot_row w l n c)
 row_lined r w l zero low start c k = tt
 row_lined r w l (suc n) low start c k =
     let room : start + w * suc n ≤ l + w = k.room in
@@ -166,7 +177,8 @@ free-split low [] h = absurd (omega arith)
 free-split low (c ∷ []) h = refl
 free-split low (c ∷ d ∷ more) h = free_more low c (split (d ∷ more)) (some_split (d ∷ more) (omega arith)) ∙ free-split (c.x + 1) (d ∷ more) (omega arith)
   where
-    free_more : (low : ℕ) (c : Coord) (cs : List Coord) → 0 < length cs → free_column low (c ∷ cs) ≡ free_column (c.x + 1) cs
+    free_more : (low : ℕ) (c : Coord) (cs : List Coord) → 0 < length cs
+        → free_column low (c ∷ cs) ≡ free_column (c.x + 1) cs
     free_more low c [] h = absurd (omega arith)
     free_more low c (d ∷ more) h = refl
 
@@ -180,7 +192,8 @@ last-split (c ∷ d ∷ more) h = last_more c (split (d ∷ more)) (some_split (
     last_more c (d ∷ more) h = refl
 
 -- the row with one more place
-pub row_grows : (w l n x : ℕ) (c : Coord) → x ≡ c.x + w * suc n → x ≤ l → sent (split (bot_row w l (suc n) c)) x ≡ bot_row w l (suc (suc n)) c
+pub row_grows : (w l n x : ℕ) (c : Coord) → x ≡ c.x + w * suc n → x ≤ l
+    → sent (split (bot_row w l (suc n) c)) x ≡ bot_row w l (suc (suc n)) c
 row_grows w l zero x c e h =
     let f : x ≡ min (c.x + w) l = omega arith in
     λ i. held l c ∷ coord (f i) c.y c.z ∷ []
@@ -257,7 +270,8 @@ module _ (p : TapeState) (n : ℕ) (spread : IsSpreadOver p (suc n)) (more : suc
     pub born_last : last_column (places q.bots) ≡ last_column (places p.bots) + 1
     born_last = ap last_column born_places ∙ last-split (places p.bots) some
 
-    pub spreads : (t : TapeState) (x m : ℕ) → x ≡ last_column (places p.bots) + width p.matrix.resolution → CrewGoes q t (sent (places q.bots) x) m → m ≤ 19 → SpreadsOver p t (suc (suc n)) 20
+    pub spreads : (t : TapeState) (x m : ℕ) → x ≡ last_column (places p.bots) + width p.matrix.resolution
+        → CrewGoes q t (sent (places q.bots) x) m → m ≤ 19 → SpreadsOver p t (suc (suc n)) 20
     spreads t x m ex h few_steps =
         let same : t.matrix ≡ p.matrix = h.matrix ∙ g.matrix in
         let wide = ap (λ (k : Matrix). k.resolution) same in

@@ -50,15 +50,19 @@ allowed_split : (profile : Profile) (m : ℕ) → profile ≡ light_profile → 
 allowed_split profile m e = subst (λ (k : Profile). IsTrue (is_allowed k (Fission right m))) (sym e) refl
 
 module _ (s : State) (light : s.profile ≡ light_profile) (y z : ℕ) (void : IsVoidFrom s.matrix y) (below : y < s.matrix.resolution) (deep : z < s.matrix.resolution) (m : ℕ) where
-  free_beside : (p : Coord) → p.x + 1 < s.matrix.resolution → p.y ≡ y → p.z ≡ z → IsFreeWay s.matrix (plus (point p) right) (plus (point p) right)
+  free_beside : (p : Coord) → p.x + 1 < s.matrix.resolution → p.y ≡ y → p.z ≡ z
+      → IsFreeWay s.matrix (plus (point p) right) (plus (point p) right)
   free_beside p h e f = free_place s.matrix (next_along_x p) _ (right_is p) (record { x = h; y = omega arith; z = omega arith }) (λ c l. void c (omega arith))
 
-  each_free : (all : List Act) (bots : List Bot) (low : ℕ) → AreLined s.matrix.resolution y z low (places bots) → last_column (places bots) + 1 < s.matrix.resolution → m < length (seed_list (last_seeds bots)) → AllByRecursion (IsFree s all) (acts bots (ends (Fission right m) bots))
+  each_free : (all : List Act) (bots : List Bot) (low : ℕ) → AreLined s.matrix.resolution y z low (places bots)
+      → last_column (places bots) + 1 < s.matrix.resolution → m < length (seed_list (last_seeds bots))
+      → AllByRecursion (IsFree s all) (acts bots (ends (Fission right m) bots))
   each_free all [] low k h l = tt
   each_free all (b ∷ []) low k h l = (record { allowed = allowed_split s.profile m light; may = (free_beside b.pos h k.0.height k.0.depth, l) }, tt)
   each_free all (b ∷ c ∷ more) low k h l = (record { allowed = allowed_wait s.profile light; may = tt }, each_free all (c ∷ more) (b.pos.x + 1) k.1 h l)
 
-  all_fenced : (bots : List Bot) (low : ℕ) → AreLined s.matrix.resolution y z low (places bots) → AreFenced low (acts bots (ends (Fission right m) bots))
+  all_fenced : (bots : List Bot) (low : ℕ) → AreLined s.matrix.resolution y z low (places bots)
+      → AreFenced low (acts bots (ends (Fission right m) bots))
   all_fenced [] low k = AreFenced.none
   all_fenced (b ∷ []) low k =
       let l = k.0.past in
@@ -67,7 +71,9 @@ module _ (s : State) (light : s.profile ≡ light_profile) (y z : ℕ) (void : I
       let l = k.0.past in
       AreFenced.one b.pos.x l (just_in low b.pos.x (point b.pos) b.pos.x refl l (omega arith), tt) (all_fenced (c ∷ more) (b.pos.x + 1) k.1)
 
-  pub split_free : (bots : List Bot) (low : ℕ) → AreLined s.matrix.resolution y z low (places bots) → last_column (places bots) + 1 < s.matrix.resolution → m < length (seed_list (last_seeds bots)) → AreFree s (acts bots (ends (Fission right m) bots))
+  pub split_free : (bots : List Bot) (low : ℕ) → AreLined s.matrix.resolution y z low (places bots)
+      → last_column (places bots) + 1 < s.matrix.resolution → m < length (seed_list (last_seeds bots))
+      → AreFree s (acts bots (ends (Fission right m) bots))
   split_free bots low k h l = record { each = each_free (acts bots (ends (Fission right m) bots)) bots low k h l; untangled = untangled (all_fenced bots low k) }
 
 split_waits : (m : ℕ) (bots : List Bot) → AllByRecursion SplitsOrWaits (ends (Fission right m) bots)
@@ -113,12 +119,15 @@ first_seed bid m h = seeds_list bid (omega arith) ∙ ap (numbers_from (bid + 1)
 pub enough_seeds : (bid m : ℕ) → m + bid ≡ 19 → m < length (seed_list (seeds_after bid))
 enough_seeds bid m h = let e = ap length (first_seed bid m h) in let n = numbers_length (bid + 1 + 1) m in omega arith
 
-pub parent_is : (bid m : ℕ) (c : Coord) → m + bid ≡ 19 → parent (record { bid = bid; pos = c; seeds = seeds_after bid }) m ≡ record { bid = bid; pos = c; seeds = 0 }
+pub parent_is : (bid m : ℕ) (c : Coord) → m + bid ≡ 19
+    → parent (record { bid = bid; pos = c; seeds = seeds_after bid }) m ≡ record { bid = bid; pos = c; seeds = 0 }
 parent_is bid m c h =
     let whole : drop (m + 1) (seed_list (seeds_after bid)) ≡ [] = ap (drop (m + 1)) (first_seed bid m h) ∙ (ap (λ n. drop n ((bid + 1) ∷ numbers_from (bid + 1 + 1) m)) (let e : m + 1 ≡ suc m = omega arith in e) ∙ drop_numbers (bid + 1 + 1) m) in
     λ i. record { bid = bid; pos = c; seeds = seed_set (whole i) }
 
-pub newborn_is : (bid m : ℕ) (c : Coord) → m + bid ≡ 19 → newborn (record { bid = bid; pos = c; seeds = seeds_after bid }) (plus (point c) right) m ≡ record { bid = bid + 1; pos = next_along_x c; seeds = seeds_after (bid + 1) }
+pub newborn_is : (bid m : ℕ) (c : Coord) → m + bid ≡ 19
+    → newborn (record { bid = bid; pos = c; seeds = seeds_after bid }) (plus (point c) right) m
+    ≡ record { bid = bid + 1; pos = next_along_x c; seeds = seeds_after (bid + 1) }
 newborn_is bid m c h =
     let first : slice_index (seed_list (seeds_after bid)) 0 ≡ bid + 1 = ap (λ ks. slice_index ks 0) (first_seed bid m h) in
     let rest : take m (drop 1 (seed_list (seeds_after bid))) ≡ numbers_from (bid + 1 + 1) (20 - (bid + 1)) =
@@ -134,7 +143,8 @@ births m [] = []
 births m (b ∷ []) = parent b m ∷ newborn b (plus (point b.pos) right) m ∷ []
 births m (b ∷ c ∷ more) = b ∷ births m (c ∷ more)
 
-become : (m : ℕ) (bots : List Bot) → flat_map (λ a. parts a a.command) (acts bots (ends (Fission right m) bots)) ≡ births m bots
+become : (m : ℕ) (bots : List Bot)
+    → flat_map (λ a. parts a a.command) (acts bots (ends (Fission right m) bots)) ≡ births m bots
 become m [] = refl
 become m (b ∷ []) = refl
 become m (b ∷ c ∷ more) = ap (λ bs. b ∷ bs) (become m (c ∷ more))
@@ -153,11 +163,13 @@ length-split [] = omega arith
 length-split (c ∷ []) = omega arith
 length-split (c ∷ d ∷ more) = let h = length-split (d ∷ more) in omega arith
 
-lined_up_more : (bid : ℕ) (c : Coord) (cs : List Coord) → 0 < length cs → lined_up bid (c ∷ cs) ≡ record { bid = bid; pos = c; seeds = 0 } ∷ lined_up (bid + 1) cs
+lined_up_more : (bid : ℕ) (c : Coord) (cs : List Coord) → 0 < length cs
+    → lined_up bid (c ∷ cs) ≡ record { bid = bid; pos = c; seeds = 0 } ∷ lined_up (bid + 1) cs
 lined_up_more bid c [] h = absurd (omega arith)
 lined_up_more bid c (d ∷ more) h = refl
 
-births_are : (bid m : ℕ) (cs : List Coord) → 0 < length cs → m + bid + length cs ≡ 20 → births m (lined_up bid cs) ≡ lined_up bid (split cs)
+births_are : (bid m : ℕ) (cs : List Coord) → 0 < length cs → m + bid + length cs ≡ 20
+    → births m (lined_up bid cs) ≡ lined_up bid (split cs)
 births_are bid m [] h e = absurd (omega arith)
 births_are bid m (c ∷ []) h e = let p = parent_is bid m c (omega arith) in let n = newborn_is bid m c (omega arith) in λ i. p i ∷ n i ∷ []
 births_are bid m (c ∷ d ∷ more) h e =
@@ -177,12 +189,14 @@ rising bid [] = tt
 rising bid (c ∷ []) = ((λ b i. absurd i), tt)
 rising bid (c ∷ d ∷ more) = ((λ b i. let h = later_bid (bid + 1) (d ∷ more) b i in omega arith), rising (bid + 1) (d ∷ more))
 
-parted : (m : ℕ) (cs : List Coord) → 0 < length cs → m + 1 + length cs ≡ 20 → bots_split (lined_up 1 cs) (ends (Fission right m) (lined_up 1 cs)) ≡ lined_up 1 (split cs)
+parted : (m : ℕ) (cs : List Coord) → 0 < length cs → m + 1 + length cs ≡ 20
+    → bots_split (lined_up 1 cs) (ends (Fission right m) (lined_up 1 cs)) ≡ lined_up 1 (split cs)
 parted m cs h e =
     ap in_rising_order (become m (lined_up 1 cs) ∙ births_are 1 m cs h e)
     ∙ rising_itself (lined_up 1 (split cs)) (rising 1 (split cs))
 
-pub seeds_of_last : (bid m : ℕ) (cs : List Coord) → 0 < length cs → m + bid + length cs ≡ 20 → m < length (seed_list (last_seeds (lined_up bid cs)))
+pub seeds_of_last : (bid m : ℕ) (cs : List Coord) → 0 < length cs → m + bid + length cs ≡ 20
+    → m < length (seed_list (last_seeds (lined_up bid cs)))
 seeds_of_last bid m [] h e = absurd (omega arith)
 seeds_of_last bid m (c ∷ []) h e = enough_seeds bid m (omega arith)
 seeds_of_last bid m (c ∷ d ∷ more) h e = subst (λ n. m < length (seed_list n)) (sym (last_more (record { bid = bid; pos = c; seeds = 0 }) (lined_up (bid + 1) (d ∷ more)) (let l = length-lined_up (bid + 1) (d ∷ more) in omega arith))) (seeds_of_last (bid + 1) m (d ∷ more) (omega arith) (omega arith))
@@ -197,7 +211,8 @@ places-lined_up bid (c ∷ []) = refl
 places-lined_up bid (c ∷ d ∷ more) = ap (λ ds. c ∷ ds) (places-lined_up (bid + 1) (d ∷ more))
 
 -- the commands by what is read of the tape
-pub ends_are : (bots read : List Bot) (waits ks : List Command) (k : Command) → read ≡ bots → 0 < length bots → waits ≡ replicate (length read - 1) Wait → ks ≡ waits ++ k ∷ [] → ks ≡ ends k bots
+pub ends_are : (bots read : List Bot) (waits ks : List Command) (k : Command) → read ≡ bots → 0 < length bots
+    → waits ≡ replicate (length read - 1) Wait → ks ≡ waits ++ k ∷ [] → ks ≡ ends k bots
 ends_are bots read waits ks k eb some ew ek = ek ∙ (ap (λ w. w ++ k ∷ []) (ew ∙ ap (λ (bs : List Bot). replicate (length bs - 1) Wait) eb) ∙ waits_then k bots some)
 
 -- ---- the tape
@@ -227,7 +242,8 @@ module _ (p : TapeState) (line : InLine p) (m : ℕ) (bots_are : p.bots ≡ line
       ∙ parted m (places p.bots) some all_seeds)
 
 -- a step that leaves voxels and harmonics
-pub regroups : (p q : TapeState) (ks : List Command) (bots : List Bot) → IsSwarm p → AllStep p q ks p.matrix p.harmonics bots → Regroups p q
+pub regroups : (p q : TapeState) (ks : List Command) (bots : List Bot) → IsSwarm p
+    → AllStep p q ks p.matrix p.harmonics bots → Regroups p q
 regroups p q ks bots swarm s = record {
   source = s.source;
   matrix = s.matrix;

@@ -26,13 +26,15 @@ far_bytes-far_of : (x y z : ℕ) → far_bytes (far_of x y z) ≡ x ∷ y ∷ z 
 far_bytes-far_of x y z = λ i. lowered_raised x i ∷ lowered_raised y i ∷ lowered_raised z i ∷ []
 
 -- up to two bytes of at most 60 begin the bytes of a far difference
-begins_far_by : (bytes : List ℕ) → length bytes < 3 → AllByRecursion (λ b. b ≤ 60) bytes → (f : Diff) × (more : List ℕ) × IsFar f × (more ≢ []) × (bytes ++ more ≡ far_bytes f)
+begins_far_by : (bytes : List ℕ) → length bytes < 3 → AllByRecursion (λ b. b ≤ 60) bytes
+    → (f : Diff) × (more : List ℕ) × IsFar f × (more ≢ []) × (bytes ++ more ≡ far_bytes f)
 begins_far_by [] l h = (far_of 31 31 31, 31 ∷ 31 ∷ 31 ∷ [], is_far_at 31 31 (omega arith) (omega arith), λ e. cc, sym (far_bytes-far_of 31 31 31))
 begins_far_by (x ∷ []) l h = (far_of x 31 31, 31 ∷ 31 ∷ [], is_far_at x 31 h.0 (omega arith), λ e. cc, sym (far_bytes-far_of x 31 31))
 begins_far_by (x ∷ y ∷ []) l h = (far_of x y 31, 31 ∷ [], is_far_at x y h.0 h.1.0, λ e. cc, sym (far_bytes-far_of x y 31))
 begins_far_by (x ∷ y ∷ z ∷ more) l h = absurd (omega arith)
 
-pub begins_far : (bytes : List ℕ) → length bytes < 3 → All (λ b. b ≤ 60) bytes → (f : Diff) × (more : List ℕ) × IsFar f × (more ≢ []) × (bytes ++ more ≡ far_bytes f)
+pub begins_far : (bytes : List ℕ) → length bytes < 3 → All (λ b. b ≤ 60) bytes
+    → (f : Diff) × (more : List ℕ) × IsFar f × (more ≢ []) × (bytes ++ more ≡ far_bytes f)
 begins_far bytes l h = begins_far_by bytes l (recursion_from_All (λ b. b ≤ 60) bytes h)
 
 far_small : (d : Diff) → IsFar d → (raised d.dx 30 ≤ 60) × (raised d.dy 30 ≤ 60) × (raised d.dz 30 ≤ 60)
@@ -45,11 +47,13 @@ pub tail_is : (x a : ℕ) (xs ys : List ℕ) → x ∷ xs ≡ a ∷ ys → xs �
 tail_is x a xs ys e = cc
 
 -- bytes that agree with those of a far difference are at most 60
-are_small_by : (bytes more rest : List ℕ) (f : Diff) → length bytes < 3 → IsFar f → bytes ++ more ≡ far_bytes f ++ rest → AllByRecursion (λ b. b ≤ 60) bytes
+are_small_by : (bytes more rest : List ℕ) (f : Diff) → length bytes < 3 → IsFar f → bytes ++ more ≡ far_bytes f ++ rest
+    → AllByRecursion (λ b. b ≤ 60) bytes
 are_small_by [] more rest f l h e = tt
 are_small_by (x ∷ []) more rest f l h e = (below x _ _ _ e (far_small f h).0, tt)
 are_small_by (x ∷ y ∷ []) more rest f l h e = (below x _ _ _ e (far_small f h).0, (below y _ _ _ (tail_is x _ _ _ e) (far_small f h).1, tt))
 are_small_by (x ∷ y ∷ z ∷ bytes) more rest f l h e = absurd (omega arith)
 
-pub are_small : (bytes more rest : List ℕ) (f : Diff) → length bytes < 3 → IsFar f → bytes ++ more ≡ far_bytes f ++ rest → All (λ b. b ≤ 60) bytes
+pub are_small : (bytes more rest : List ℕ) (f : Diff) → length bytes < 3 → IsFar f → bytes ++ more ≡ far_bytes f ++ rest
+    → All (λ b. b ≤ 60) bytes
 are_small bytes more rest f l h e = All-from_recursion (λ b. b ≤ 60) bytes (are_small_by bytes more rest f l h e)

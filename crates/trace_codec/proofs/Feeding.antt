@@ -9,7 +9,9 @@ use Rattle.trace_codec.specs.Pieces.{Feeds, TakesPiece, all, first, got, later, 
 use Rattle.trace_codec.proofs.TakenBytes.{taken_all, taken_got, taken_nothing}
 
 -- a piece more
-piece_taken : (bytes piece : List ℕ) (commands more : List Command) (decoder last : DecoderState) → HasTaken bytes commands decoder → TakesPiece decoder piece more last → HasTaken (bytes ++ piece) (commands ++ more) last
+piece_taken : (bytes piece : List ℕ) (commands more : List Command) (decoder last : DecoderState)
+    → HasTaken bytes commands decoder → TakesPiece decoder piece more last
+    → HasTaken (bytes ++ piece) (commands ++ more) last
 piece_taken bytes piece commands more decoder last h (nothing_left e f g) =
     subst (λ (d : DecoderState). HasTaken (bytes ++ piece) (commands ++ more) d) (sym g)
     (subst (λ (b : List ℕ). HasTaken b (commands ++ more) decoder) (sym (append-nil bytes) ∙ ap (λ (p : List ℕ). bytes ++ p) (sym e))
@@ -24,12 +26,14 @@ piece_taken bytes piece commands more decoder last h (got command used rest answ
     subst (λ (b : List ℕ). HasTaken b (commands ++ more) last) (append_assoc bytes (take used piece) (drop used piece) ∙ ap (λ (p : List ℕ). bytes ++ p) (take-append-drop used piece))
     (subst (λ (k : List Command). HasTaken ((bytes ++ take used piece) ++ drop used piece) k last) (append_assoc commands (command ∷ []) rest ∙ ap (λ (k : List Command). commands ++ k) (sym f)) on)
 
-joined_more : (pieces : List (List ℕ)) (piece : List ℕ) → flat_map (λ (p : List ℕ). p) (pieces ++ piece ∷ []) ≡ flat_map (λ (p : List ℕ). p) pieces ++ piece
+joined_more : (pieces : List (List ℕ)) (piece : List ℕ) → flat_map (λ (p : List ℕ). p)
+    (pieces ++ piece ∷ []) ≡ flat_map (λ (p : List ℕ). p) pieces ++ piece
 joined_more [] piece = append-nil piece
 joined_more (p ∷ pieces) piece = ap (λ (more : List ℕ). p ++ more) (joined_more pieces piece) ∙ sym (append_assoc p (flat_map (λ (q : List ℕ). q) pieces) piece)
 
 -- pieces that are fed one after another are taken as the bytes that they are together
-pub pieces_taken : (pieces : List (List ℕ)) (commands : List Command) (decoder : DecoderState) → Feeds pieces commands decoder → HasTaken (flat_map (λ (p : List ℕ). p) pieces) commands decoder
+pub pieces_taken : (pieces : List (List ℕ)) (commands : List Command) (decoder : DecoderState)
+    → Feeds pieces commands decoder → HasTaken (flat_map (λ (p : List ℕ). p) pieces) commands decoder
 pieces_taken pieces commands decoder (first e f g) = rw (e, f, g) taken_nothing
 pieces_taken pieces commands decoder (later before given old piece more feeds takes e f) =
     let one = piece_taken (flat_map (λ (p : List ℕ). p) before) piece given more old decoder (pieces_taken before given old feeds) takes in

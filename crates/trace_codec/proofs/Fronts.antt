@@ -28,17 +28,23 @@ HasByte bytes b = (more : List ℕ) × (bytes ≡ b ∷ more)
 -- a first byte and the bytes after it agree with the spelling of a command
 pub data Front (h : ℕ) (bytes : List ℕ) : Type 0 where
   alone : 253 ≤ h → Front h bytes
-  by_near : (d : Diff) (k : ℕ) → IsNear d → near_code d ≤ 26 → k < 8 → k ≢ 4 → h ≡ 8 * near_code d + k → (k < 2 → HasFar bytes) → Front h bytes
-  by_long : (d : Diff) → IsLong d → 1 ≤ axis d → axis d ≤ 3 → h ≡ 16 * axis d + 4 → HasByte bytes (raised (component d) 15) → Front h bytes
-  by_short : (d e : Diff) → IsShort d → IsShort e → 1 ≤ axis d → axis d ≤ 3 → 1 ≤ axis e → axis e ≤ 3 → h ≡ 64 * axis e + 16 * axis d + 12 → HasByte bytes (16 * raised (component e) 5 + raised (component d) 5) → Front h bytes
+  by_near : (d : Diff) (k : ℕ) → IsNear d → near_code d ≤ 26 → k < 8 → k ≢ 4 → h ≡ 8 * near_code d + k
+      → (k < 2 → HasFar bytes) → Front h bytes
+  by_long : (d : Diff) → IsLong d → 1 ≤ axis d → axis d ≤ 3 → h ≡ 16 * axis d + 4
+      → HasByte bytes (raised (component d) 15) → Front h bytes
+  by_short : (d e : Diff) → IsShort d → IsShort e → 1 ≤ axis d → axis d ≤ 3 → 1 ≤ axis e → axis e ≤ 3
+      → h ≡ 64 * axis e + 16 * axis d + 12 → HasByte bytes (16 * raised (component e) 5 + raised (component d) 5)
+      → Front h bytes
 
 same_head : (h b : ℕ) (x y : List ℕ) → h ∷ x ≡ b ∷ y → h ≡ b
 same_head h b x y e = cc
 
-near_front : (h k : ℕ) (d : Diff) (bytes y : List ℕ) → IsNear d → k < 8 → k ≢ 4 → h ∷ bytes ≡ (8 * near_code d + k) ∷ y → (k < 2 → HasFar bytes) → Front h bytes
+near_front : (h k : ℕ) (d : Diff) (bytes y : List ℕ) → IsNear d → k < 8 → k ≢ 4 → h ∷ bytes ≡ (8 * near_code d + k) ∷ y
+    → (k < 2 → HasFar bytes) → Front h bytes
 near_front h k d bytes y n l m e f = by_near d k n (near_code_below d n) l m (same_head h _ bytes y e) f
 
-far_front : (h k : ℕ) (d f : Diff) (bytes y : List ℕ) → IsNear d → IsFar f → k < 8 → k ≢ 4 → h ∷ bytes ≡ (8 * near_code d + k) ∷ (far_bytes f ++ y) → Front h bytes
+far_front : (h k : ℕ) (d f : Diff) (bytes y : List ℕ) → IsNear d → IsFar f → k < 8 → k ≢ 4
+    → h ∷ bytes ≡ (8 * near_code d + k) ∷ (far_bytes f ++ y) → Front h bytes
 far_front h k d f bytes y n g l m e = near_front h k d bytes (far_bytes f ++ y) n l m e (λ _. (f, y, g, tail_is h _ bytes (far_bytes f ++ y) e))
 
 -- what a command's spelling is
@@ -64,7 +70,8 @@ front (GFill d f) h bytes y i e = far_front h 1 d f bytes y (first_of_two (is_ne
 front (GVoid d f) h bytes y i e = far_front h 0 d f bytes y (first_of_two (is_near d) (is_far f) i) (second_of_two (is_near d) (is_far f) i) (omega arith) (omega arith) e
 
 -- bytes are refused where they agree with no spelling, however both go on
-pub refused : (bytes : List ℕ) → ((c : Command) (x y : List ℕ) → IsCommand c → bytes ++ x ≡ spelling c ++ y → ⊥) → IsNoCommand bytes
+pub refused : (bytes : List ℕ) → ((c : Command) (x y : List ℕ) → IsCommand c → bytes ++ x ≡ spelling c ++ y → ⊥)
+    → IsNoCommand bytes
 refused bytes none = (λ c y i e. none c [] y i (append-nil bytes ∙ e), λ b. none b.0 b.1 [] b.2 (b.4 ∙ sym (append-nil (spelling b.0))))
 
 -- the same of a first byte and the bytes after it
@@ -78,13 +85,16 @@ empty_below [] l = refl
 empty_below (b ∷ bytes) l = absurd (omega arith)
 
 -- one byte begins a spelling of two
-begins_two : (c : Command) (h s : ℕ) (bytes : List ℕ) → length bytes < 1 → IsCommand c → spelling c ≡ h ∷ s ∷ [] → BeginsSpelling (h ∷ bytes)
+begins_two : (c : Command) (h s : ℕ) (bytes : List ℕ) → length bytes < 1 → IsCommand c → spelling c ≡ h ∷ s ∷ []
+    → BeginsSpelling (h ∷ bytes)
 begins_two c h s bytes l i e = (c, s ∷ [], i, λ n. cc, ap (λ b. h ∷ (b ++ s ∷ [])) (empty_below bytes l) ∙ sym e)
 
-pub begins_fission : (d : Diff) (k : ℕ) (bytes : List ℕ) → k ≡ 5 → length bytes < 1 → IsNear d → BeginsSpelling ((8 * near_code d + k) ∷ bytes)
+pub begins_fission : (d : Diff) (k : ℕ) (bytes : List ℕ) → k ≡ 5 → length bytes < 1 → IsNear d
+    → BeginsSpelling ((8 * near_code d + k) ∷ bytes)
 begins_fission d k bytes e l n = begins_two (Fission d 0) (8 * near_code d + k) 0 bytes l (both_true (is_near d) true n refl) (ap (λ v. (8 * near_code d + v) ∷ 0 ∷ []) (sym e))
 
-pub begins_group : (d : Diff) (k : ℕ) (bytes : List ℕ) → k < 2 → IsNear d → SaysFar bytes far.More → BeginsSpelling ((8 * near_code d + k) ∷ bytes)
+pub begins_group : (d : Diff) (k : ℕ) (bytes : List ℕ) → k < 2 → IsNear d → SaysFar bytes far.More
+    → BeginsSpelling ((8 * near_code d + k) ∷ bytes)
 begins_group d zero bytes l n (f, more, g, m, e) = (GVoid d f, more, both_true (is_near d) (is_far f) n g, m, ap (λ v. (8 * near_code d + 0) ∷ v) e)
 begins_group d (suc zero) bytes l n (f, more, g, m, e) = (GFill d f, more, both_true (is_near d) (is_far f) n g, m, ap (λ v. (8 * near_code d + 1) ∷ v) e)
 begins_group d (suc (suc k)) bytes l n h = absurd (omega arith)
@@ -102,7 +112,8 @@ begins_long a bytes l m b =
     let d = stepped a l m in
     begins_two (SMove d.0) (16 * a + 4) (raised (component d.0) 15) bytes b d.2 (ap (λ v. (16 * v + 4) ∷ raised (component d.0) 15 ∷ []) d.3)
 
-pub begins_short : (a b : ℕ) (bytes : List ℕ) → 1 ≤ a → a ≤ 3 → 1 ≤ b → b ≤ 3 → length bytes < 1 → BeginsSpelling ((64 * b + 16 * a + 12) ∷ bytes)
+pub begins_short : (a b : ℕ) (bytes : List ℕ) → 1 ≤ a → a ≤ 3 → 1 ≤ b → b ≤ 3 → length bytes < 1
+    → BeginsSpelling ((64 * b + 16 * a + 12) ∷ bytes)
 begins_short a b bytes l m n o z =
     let d = stepped a l m in
     let e = stepped b n o in
@@ -111,7 +122,8 @@ begins_short a b bytes l m n o z =
 
 -- ---- what bytes are refused
 
-pub refused_group : (d : Diff) (k : ℕ) (bytes : List ℕ) → k < 2 → IsNear d → SaysFar bytes far.Bad → IsNoCommand ((8 * near_code d + k) ∷ bytes)
+pub refused_group : (d : Diff) (k : ℕ) (bytes : List ℕ) → k < 2 → IsNear d → SaysFar bytes far.Bad
+    → IsNoCommand ((8 * near_code d + k) ∷ bytes)
 refused_group d k bytes l n h = refused_by (8 * near_code d + k) bytes (λ x f. no_group x f)
   where
     no_group : (x : List ℕ) → Front (8 * near_code d + k) (bytes ++ x) → ⊥
@@ -121,7 +133,9 @@ refused_group d k bytes l n h = refused_by (8 * near_code d + k) bytes (λ x f. 
     no_group x (by_short e g m p q r s t u v) = omega arith
 
 -- the byte after the first of two short moves
-no_short_at : (a b v : ℕ) (bytes : List ℕ) → a ≤ 3 → b ≤ 3 → Front (64 * b + 16 * a + 12) (v ∷ bytes) → (d : Diff) × (e : Diff) × IsShort d × IsShort e × (axis d ≡ a) × (axis e ≡ b) × (raised (component d) 5 ≡ v % 16) × (raised (component e) 5 ≡ v / 16)
+no_short_at : (a b v : ℕ) (bytes : List ℕ) → a ≤ 3 → b ≤ 3 → Front (64 * b + 16 * a + 12) (v ∷ bytes) → (d : Diff)
+    × (e : Diff) × IsShort d × IsShort e × (axis d ≡ a) × (axis e ≡ b) × (raised (component d) 5 ≡ v % 16)
+    × (raised (component e) 5 ≡ v / 16)
 no_short_at a b v bytes l m (alone p) = absurd (omega arith)
 no_short_at a b v bytes l m (by_near e j n o p q s t) = absurd (omega arith)
 no_short_at a b v bytes l m (by_long e n p q s t) = absurd (omega arith)
@@ -131,10 +145,14 @@ no_short_at a b v bytes l m (by_short d e n o p q r s t u) =
     let w : v ≡ 16 * raised (component e) 5 + raised (component d) 5 = same_head v _ bytes u.0 u.1 in
     (d, e, n, o, omega arith, omega arith, omega arith, omega arith)
 
-pub refused_first : (a b : ℕ) (bytes : List ℕ) → a ≤ 3 → b ≤ 3 → 1 ≤ length bytes → ((d : Diff) → IsShort d → axis d ≡ a → raised (component d) 5 ≡ get_or bytes 0 0 % 16 → ⊥) → IsNoCommand ((64 * b + 16 * a + 12) ∷ bytes)
+pub refused_first : (a b : ℕ) (bytes : List ℕ) → a ≤ 3 → b ≤ 3 → 1 ≤ length bytes
+    → ((d : Diff) → IsShort d → axis d ≡ a → raised (component d) 5 ≡ get_or bytes 0 0 % 16 → ⊥)
+    → IsNoCommand ((64 * b + 16 * a + 12) ∷ bytes)
 refused_first a b [] l m n h = absurd (omega arith)
 refused_first a b (v ∷ bytes) l m n h = refused_by _ (v ∷ bytes) (λ x f. let s = no_short_at a b v (bytes ++ x) l m f in h s.0 s.2 s.4 s.6)
 
-pub refused_second : (a b : ℕ) (bytes : List ℕ) → a ≤ 3 → b ≤ 3 → 1 ≤ length bytes → ((d : Diff) → IsShort d → axis d ≡ b → raised (component d) 5 ≡ get_or bytes 0 0 / 16 → ⊥) → IsNoCommand ((64 * b + 16 * a + 12) ∷ bytes)
+pub refused_second : (a b : ℕ) (bytes : List ℕ) → a ≤ 3 → b ≤ 3 → 1 ≤ length bytes
+    → ((d : Diff) → IsShort d → axis d ≡ b → raised (component d) 5 ≡ get_or bytes 0 0 / 16 → ⊥)
+    → IsNoCommand ((64 * b + 16 * a + 12) ∷ bytes)
 refused_second a b [] l m n h = absurd (omega arith)
 refused_second a b (v ∷ bytes) l m n h = refused_by _ (v ∷ bytes) (λ x f. let s = no_short_at a b v (bytes ++ x) l m f in h s.1 s.3 s.5 s.7)

@@ -52,7 +52,8 @@ refused_more bytes more h = (none, part)
     longer : (c : Command) (r : List ℕ) → length bytes < length (spelling c) → spelling c ≡ bytes ++ r → r ≢ []
     longer c r l e n = let k : length (spelling c) ≡ length (bytes ++ []) = ap length (e ∙ ap (λ x. bytes ++ x) n) in omega (arith, length-append bytes [])
 
-    at : (c : Command) (y : List ℕ) → IsCommand c → bytes ++ more ≡ spelling c ++ y → (length bytes < length (spelling c)) ⊎ (length (spelling c) ≤ length bytes) → ⊥
+    at : (c : Command) (y : List ℕ) → IsCommand c → bytes ++ more ≡ spelling c ++ y
+        → (length bytes < length (spelling c)) ⊎ (length (spelling c) ≤ length bytes) → ⊥
     at c y i e (inl l) =
         let p = prefix (spelling c) bytes y more (sym e) (omega arith) in
         h.1 (c, p.0, i, longer c p.0 l p.1, sym p.1)
@@ -65,7 +66,8 @@ refused_more bytes more h = (none, part)
     part (c, m, i, n, e) = h.1 (c, more ++ m, i, λ z. n (nil_of more m z), sym (append_assoc bytes more m) ∙ e)
 
 -- four bytes tell what all that go on as they do begin with
-pub says_more : (front rest : List ℕ) (one : One) → 4 ≤ length front → BeginsWith front one → BeginsWith (front ++ rest) one
+pub says_more : (front rest : List ℕ) (one : One) → 4 ≤ length front → BeginsWith front one
+    → BeginsWith (front ++ rest) one
 says_more front rest (Got c n) l s = record {
   is_command = s.is_command;
   within = let k = s.within in omega (arith, length-append front rest);
@@ -75,24 +77,29 @@ says_more front rest More l s = let k = begins_short front s in absurd (omega ar
 says_more front rest Bad l s = refused_more front rest s
 
 -- the held bytes, and as many of the piece as make four, tell what all of them begin with
-pub says_joined : (held piece bytes : List ℕ) (one : One) → length held < 4 → bytes ≡ held ++ take (min (length piece) (4 - length held)) piece → BeginsWith bytes one → BeginsWith (held ++ piece) one
+pub says_joined : (held piece bytes : List ℕ) (one : One) → length held < 4
+    → bytes ≡ held ++ take (min (length piece) (4 - length held)) piece → BeginsWith bytes one
+    → BeginsWith (held ++ piece) one
 says_joined held piece bytes one l e s = by_length (min (length piece) (4 - length held)) refl (cases_lt (min (length piece) (4 - length held)) (length piece)) (subst (λ (b : List ℕ). BeginsWith b one) e s)
   where
-    by_length : (n : ℕ) → n ≡ min (length piece) (4 - length held) → (n < length piece) ⊎ (length piece ≤ n) → BeginsWith (held ++ take n piece) one → BeginsWith (held ++ piece) one
+    by_length : (n : ℕ) → n ≡ min (length piece) (4 - length held) → (n < length piece) ⊎ (length piece ≤ n)
+        → BeginsWith (held ++ take n piece) one → BeginsWith (held ++ piece) one
     by_length n m (inl k) s =
         let four : 4 ≤ length (held ++ take n piece) = omega (arith, length-append held (take n piece), length-take n piece) in
         subst (λ (b : List ℕ). BeginsWith b one) (append_assoc held (take n piece) (drop n piece) ∙ ap (λ x. held ++ x) (take-append-drop n piece)) (says_more (held ++ take n piece) (drop n piece) one four s)
     by_length n m (inr k) s = subst (λ (b : List ℕ). BeginsWith (held ++ b) one) (take_all n piece k) s
 
 -- where nothing is held the piece does
-pub says_alone : (held piece bytes : List ℕ) (one : One) → length held ≡ 0 → bytes ≡ piece → BeginsWith bytes one → BeginsWith (held ++ piece) one
+pub says_alone : (held piece bytes : List ℕ) (one : One) → length held ≡ 0 → bytes ≡ piece → BeginsWith bytes one
+    → BeginsWith (held ++ piece) one
 says_alone [] piece bytes one l e s = subst (λ (b : List ℕ). BeginsWith b one) e s
 says_alone (b ∷ held) piece bytes one l e s = absurd (omega arith)
 
 -- ---- what a decoder answers
 
 -- a command that is whole now ends in the piece
-pub ends_later : (held piece : List ℕ) (c : Command) (len : ℕ) → BeginsSpelling held → Spells (held ++ piece) c len → length held < len
+pub ends_later : (held piece : List ℕ) (c : Command) (len : ℕ) → BeginsSpelling held → Spells (held ++ piece) c len
+    → length held < len
 ends_later held piece c len b s = at (cases_lt (length held) len)
   where
     at : (length held < len) ⊎ (len ≤ length held) → length held < len
@@ -101,7 +108,9 @@ ends_later held piece c len b s = at (cases_lt (length held) len)
         let e : take len held ≡ spelling c = sym (take-append-le len held piece l) ∙ s.spelling_is in
         absurd (no_part held (drop len held) c s.is_command (sym (take-append-drop len held) ∙ ap (λ x. x ++ drop len held) e) b)
 
-pub completes : (decoder : DecoderState) (piece : List ℕ) (c : Command) (len used : ℕ) → IsFalse decoder.failed → BeginsSpelling decoder.held → Spells (decoder.held ++ piece) c len → used ≡ len - length decoder.held → Completes decoder piece c used
+pub completes : (decoder : DecoderState) (piece : List ℕ) (c : Command) (len used : ℕ) → IsFalse decoder.failed
+    → BeginsSpelling decoder.held → Spells (decoder.held ++ piece) c len → used ≡ len - length decoder.held
+    → Completes decoder piece c used
 completes decoder piece c len used f b s e =
     let l = ends_later decoder.held piece c len b s in
     let w = s.within in
@@ -115,7 +124,8 @@ completes decoder piece c len used f b s e =
     }
 
 -- the held bytes and the piece are a command's spelling and what is left of the piece
-pub fed_split : (decoder : DecoderState) (piece : List ℕ) (c : Command) (used : ℕ) → Completes decoder piece c used → decoder.held ++ piece ≡ spelling c ++ drop used piece
+pub fed_split : (decoder : DecoderState) (piece : List ℕ) (c : Command) (used : ℕ) → Completes decoder piece c used
+    → decoder.held ++ piece ≡ spelling c ++ drop used piece
 fed_split decoder piece c used s =
     ap (λ x. decoder.held ++ x) (sym (take-append-drop used piece)) ∙ (sym (append_assoc decoder.held (take used piece) (drop used piece)) ∙ ap (λ x. x ++ drop used piece) s.spelling_is)
 
@@ -128,7 +138,8 @@ not_both : (decoder : DecoderState) → IsFalse decoder.failed → IsTrue decode
 not_both decoder f t = cc
 
 -- a decoder has one answer to a piece
-pub Answers-unique : (decoder : DecoderState) (piece : List ℕ) (a b : Fed) → AnswersPiece decoder piece a → AnswersPiece decoder piece b → a ≡ b
+pub Answers-unique : (decoder : DecoderState) (piece : List ℕ) (a b : Fed) → AnswersPiece decoder piece a
+    → AnswersPiece decoder piece b → a ≡ b
 Answers-unique decoder piece (fed.Got c n) (fed.Got d m) s t =
     let e = same_command (decoder.held ++ piece) c d _ _ s.is_command t.is_command (fed_split decoder piece c n s) (fed_split decoder piece d m t) in
     let k : length (spelling c) ≡ length (spelling d) = ap (λ x. length (spelling x)) e in

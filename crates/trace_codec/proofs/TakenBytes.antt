@@ -18,15 +18,18 @@ use Rattle.trace_codec.specs.Whole.{Decodes}
 use Rattle.trace_codec.proofs.Pieces.{refused_more}
 use Rattle.trace_codec.proofs.Unique.{begins_nil, no_part}
 
-pub are_commands_more : (commands : List Command) (c : Command) → AreCommands commands → IsCommand c → AreCommands (commands ++ c ∷ [])
+pub are_commands_more : (commands : List Command) (c : Command) → AreCommands commands → IsCommand c
+    → AreCommands (commands ++ c ∷ [])
 are_commands_more [] c h i = (i, tt)
 are_commands_more (d ∷ commands) c h i = (h.0, are_commands_more commands c h.1 i)
 
-pub spellings_more : (commands : List Command) (c : Command) → spellings (commands ++ c ∷ []) ≡ spellings commands ++ spelling c
+pub spellings_more : (commands : List Command) (c : Command)
+    → spellings (commands ++ c ∷ []) ≡ spellings commands ++ spelling c
 spellings_more commands c = sym (flat_map_more spelling [] commands c)
 
 -- commands whose spellings are followed by what no spelling begins are the longest front
-longest : (cs ds : List Command) (rest other : List ℕ) → AreCommands cs → AreCommands ds → spellings cs ++ rest ≡ spellings ds ++ other → NoSpelling rest → length rest ≤ length other
+longest : (cs ds : List Command) (rest other : List ℕ) → AreCommands cs → AreCommands ds
+    → spellings cs ++ rest ≡ spellings ds ++ other → NoSpelling rest → length rest ≤ length other
 longest cs [] rest other h k e n =
     let l : length (spellings cs ++ rest) ≡ length other = ap length e in
     omega (arith, length-append (spellings cs) rest)
@@ -36,30 +39,39 @@ longest (c ∷ cs) (d ∷ ds) rest other h k e n =
     (one_spelling c d (spellings cs ++ rest) (spellings ds ++ other) h.0 k.0 (sym (append_assoc (spelling c) (spellings cs) rest) ∙ (e ∙ append_assoc (spelling d) (spellings ds) other))).1
     n
 
-rest_of : (bytes : List ℕ) (commands : List Command) (rest : List ℕ) → AreCommands commands → bytes ≡ spellings commands ++ rest → NoSpelling rest → RestOf bytes rest
+rest_of : (bytes : List ℕ) (commands : List Command) (rest : List ℕ) → AreCommands commands
+    → bytes ≡ spellings commands ++ rest → NoSpelling rest → RestOf bytes rest
 rest_of bytes commands rest h e n = ((commands, h, e), λ other f. longest commands f.0 rest other h f.1 (sym e ∙ f.2) n)
 
-length_is : (bytes : List ℕ) (commands : List Command) (rest : List ℕ) (offset : ℕ) → bytes ≡ spellings commands ++ rest → offset ≡ length (spellings commands) → length bytes ≡ offset + length rest
+length_is : (bytes : List ℕ) (commands : List Command) (rest : List ℕ) (offset : ℕ) → bytes ≡ spellings commands ++ rest
+    → offset ≡ length (spellings commands) → length bytes ≡ offset + length rest
 length_is bytes commands rest offset e o =
     let l : length bytes ≡ length (spellings commands ++ rest) = ap length e in
     omega (arith, length-append (spellings commands) rest)
 
 -- bytes are bad from where commands are followed by what is refused
-pub bad_at : (bytes : List ℕ) (commands : List Command) (rest : List ℕ) (offset : ℕ) → AreCommands commands → bytes ≡ spellings commands ++ rest → offset ≡ length (spellings commands) → IsNoCommand rest → Decoding bytes (Err (BadAt offset))
+pub bad_at : (bytes : List ℕ) (commands : List Command) (rest : List ℕ) (offset : ℕ) → AreCommands commands
+    → bytes ≡ spellings commands ++ rest → offset ≡ length (spellings commands) → IsNoCommand rest
+    → Decoding bytes (Err (BadAt offset))
 bad_at bytes commands rest offset h e o r = (rest, rest_of bytes commands rest h e r.0, λ n. r.1 (subst (λ (b : List ℕ). BeginsSpelling b) (sym n) begins_nil), length_is bytes commands rest offset e o, r.1)
 
 -- bytes are cut where commands are followed by a part of a spelling
-pub cut_at : (bytes : List ℕ) (commands : List Command) (rest : List ℕ) (offset : ℕ) → AreCommands commands → bytes ≡ spellings commands ++ rest → offset ≡ length (spellings commands) → rest ≢ [] → BeginsSpelling rest → Decoding bytes (Err (CutAt offset))
+pub cut_at : (bytes : List ℕ) (commands : List Command) (rest : List ℕ) (offset : ℕ) → AreCommands commands
+    → bytes ≡ spellings commands ++ rest → offset ≡ length (spellings commands) → rest ≢ [] → BeginsSpelling rest
+    → Decoding bytes (Err (CutAt offset))
 cut_at bytes commands rest offset h e o n b = (rest, rest_of bytes commands rest h e (λ c y i f. no_part rest y c i f b), n, length_is bytes commands rest offset e o, b)
 
 -- bytes of which nothing is left are the commands
-pub whole : (bytes : List ℕ) (commands : List Command) (rest : List ℕ) → AreCommands commands → bytes ≡ spellings commands ++ rest → rest ≡ [] → Decoding bytes (Ok commands)
+pub whole : (bytes : List ℕ) (commands : List Command) (rest : List ℕ) → AreCommands commands
+    → bytes ≡ spellings commands ++ rest → rest ≡ [] → Decoding bytes (Ok commands)
 whole bytes commands rest h e n = (h, e ∙ (ap (λ x. spellings commands ++ x) n ∙ append-nil (spellings commands)))
 
 pub taken_nothing : HasTaken [] [] fresh
 taken_nothing = record { works = refl; are_commands = tt; bytes_are = refl; offset_is = refl; begins = begins_nil }
 
-pub taken_got : (bytes piece : List ℕ) (commands : List Command) (decoder : DecoderState) (c : Command) (used : ℕ) → HasTaken bytes commands decoder → Completes decoder piece c used → HasTaken (bytes ++ take used piece) (commands ++ c ∷ []) (decoder_after decoder piece (fed.Got c used))
+pub taken_got : (bytes piece : List ℕ) (commands : List Command) (decoder : DecoderState) (c : Command) (used : ℕ)
+    → HasTaken bytes commands decoder → Completes decoder piece c used
+    → HasTaken (bytes ++ take used piece) (commands ++ c ∷ []) (decoder_after decoder piece (fed.Got c used))
 taken_got bytes piece commands decoder c used h s =
     let o : decoder.offset ≡ length (spellings commands) = h.offset_is in
     let l : length (spellings (commands ++ c ∷ [])) ≡ length (spellings commands ++ spelling c) = ap length (spellings_more commands c) in
@@ -71,7 +83,9 @@ taken_got bytes piece commands decoder c used h s =
       begins = begins_nil;
     }
 
-pub taken_all : (bytes piece : List ℕ) (commands : List Command) (decoder : DecoderState) → HasTaken bytes commands decoder → BeginsSpelling (decoder.held ++ piece) → HasTaken (bytes ++ piece) commands (decoder_after decoder piece fed.All)
+pub taken_all : (bytes piece : List ℕ) (commands : List Command) (decoder : DecoderState)
+    → HasTaken bytes commands decoder → BeginsSpelling (decoder.held ++ piece)
+    → HasTaken (bytes ++ piece) commands (decoder_after decoder piece fed.All)
 taken_all bytes piece commands decoder h b = record {
   works = refl;
   are_commands = h.are_commands;
@@ -80,7 +94,9 @@ taken_all bytes piece commands decoder h b = record {
   begins = b;
 }
 
-pub taken_bad : (bytes piece more : List ℕ) (commands : List Command) (decoder : DecoderState) (offset : ℕ) → HasTaken bytes commands decoder → AnswersPiece decoder piece (fed.Bad offset) → Decoding ((bytes ++ piece) ++ more) (Err (BadAt offset))
+pub taken_bad : (bytes piece more : List ℕ) (commands : List Command) (decoder : DecoderState) (offset : ℕ)
+    → HasTaken bytes commands decoder → AnswersPiece decoder piece (fed.Bad offset)
+    → Decoding ((bytes ++ piece) ++ more) (Err (BadAt offset))
 taken_bad bytes piece more commands decoder offset h (e, inl f) = absurd (false_and_true decoder.failed h.works f)
 taken_bad bytes piece more commands decoder offset h (e, inr r) =
     bad_at ((bytes ++ piece) ++ more) commands ((decoder.held ++ piece) ++ more) offset h.are_commands
@@ -88,10 +104,13 @@ taken_bad bytes piece more commands decoder offset h (e, inr r) =
     (e ∙ h.offset_is)
     (refused_more (decoder.held ++ piece) more r)
 
-pub taken_whole : (bytes : List ℕ) (commands : List Command) (decoder : DecoderState) → HasTaken bytes commands decoder → decoder.held ≡ [] → Decoding bytes (Ok commands)
+pub taken_whole : (bytes : List ℕ) (commands : List Command) (decoder : DecoderState) → HasTaken bytes commands decoder
+    → decoder.held ≡ [] → Decoding bytes (Ok commands)
 taken_whole bytes commands decoder h n = whole bytes commands decoder.held h.are_commands h.bytes_are n
 
 -- what the decoder answers at the end is how the bytes are decoded
-pub taken_ended : (bytes : List ℕ) (commands : List Command) (decoder : DecoderState) (refusal : TraceRefusal) → HasTaken bytes commands decoder → EndsTrace {A = Unit {0}} decoder (Err refusal) → Decodes bytes (Err (Refused refusal))
+pub taken_ended : (bytes : List ℕ) (commands : List Command) (decoder : DecoderState) (refusal : TraceRefusal)
+    → HasTaken bytes commands decoder → EndsTrace {A = Unit {0}} decoder (Err refusal)
+    → Decodes bytes (Err (Refused refusal))
 taken_ended bytes commands decoder (refusal.Cut offset) h e = cut_at bytes commands decoder.held offset h.are_commands h.bytes_are (e.2 ∙ h.offset_is) e.1 h.begins
 taken_ended bytes commands decoder (refusal.Bad offset) h e = absurd (false_and_true decoder.failed h.works e.0)

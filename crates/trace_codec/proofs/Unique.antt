@@ -36,7 +36,8 @@ no_part bytes rest c i e b =
     b.3 (nil_of rest b.1 (one_spelling c b.0 (rest ++ b.1) [] i b.2 (sym (append_assoc (spelling c) rest b.1) ∙ (ap (λ x. x ++ b.1) (sym e) ∙ (b.4 ∙ sym (append-nil (spelling b.0)))))).1)
 
 -- bytes begin with one command at most
-pub same_command : (bytes : List ℕ) (c d : Command) (x y : List ℕ) → IsCommand c → IsCommand d → bytes ≡ spelling c ++ x → bytes ≡ spelling d ++ y → c ≡ d
+pub same_command : (bytes : List ℕ) (c d : Command) (x y : List ℕ) → IsCommand c → IsCommand d → bytes ≡ spelling c ++ x
+    → bytes ≡ spelling d ++ y → c ≡ d
 same_command bytes c d x y i j e f = (one_spelling c d x y i j (sym e ∙ f)).0
 
 pub Says-unique : (bytes : List ℕ) (a b : One) → BeginsWith bytes a → BeginsWith bytes b → a ≡ b

@@ -15,7 +15,8 @@ use Rattle.trace_codec.proofs.TakenBytes.{are_commands_more, spellings_more, bad
 use Rattle.trace_codec.proofs.Unique.{split, len_is}
 
 -- the answer is how the bytes are decoded, and bytes are decoded in one way
-pub is_answer : (bytes : List ℕ) (answer : Result (List Command) TraceFault) (decoding : Result (List Command) NoTrace) → Decodes bytes answer → Decoding bytes decoding → IsDecoding answer decoding
+pub is_answer : (bytes : List ℕ) (answer : Result (List Command) TraceFault) (decoding : Result (List Command) NoTrace)
+    → Decodes bytes answer → Decoding bytes decoding → IsDecoding answer decoding
 is_answer bytes (Ok commands) decoding h k = Decoding-unique bytes decoding (Ok commands) k h
 is_answer bytes (Err (Refused refusal)) decoding h k = Decoding-unique bytes decoding (Err (why_no_trace refusal)) k h
 is_answer bytes (Err Memory) decoding h k = tt
@@ -24,10 +25,12 @@ same_commands : (a b : List Command) → (let r : Result (List Command) NoTrace 
 same_commands a b e = cc
 
 -- commands that are encoded are decoded as the same commands
-pub decoded_again : (commands : List Command) (bytes : List ℕ) (answer : Result (List Command) TraceFault) → Cutting bytes commands → Decodes bytes answer → answer ≢ Err Memory → answer ≡ Ok commands
+pub decoded_again : (commands : List Command) (bytes : List ℕ) (answer : Result (List Command) TraceFault)
+    → Cutting bytes commands → Decodes bytes answer → answer ≢ Err Memory → answer ≡ Ok commands
 decoded_again commands bytes answer h k n = by_answer answer (is_answer bytes answer (Ok commands) k h) n
   where
-    by_answer : (answer : Result (List Command) TraceFault) → IsDecoding answer (Ok commands) → answer ≢ Err Memory → answer ≡ Ok commands
+    by_answer : (answer : Result (List Command) TraceFault) → IsDecoding answer (Ok commands) → answer ≢ Err Memory
+        → answer ≡ Ok commands
     by_answer (Ok others) e n = ap Ok (sym (same_commands commands others e))
     by_answer (Err (Refused refusal)) e n = cc
     by_answer (Err Memory) e n = absurd (n refl)
@@ -44,7 +47,8 @@ pub record HasCut (bytes : List ℕ) (commands : List Command) (start : ℕ) : T
 pub cut_nothing : (bytes : List ℕ) → HasCut bytes [] 0
 cut_nothing bytes = record { are_commands = tt; bytes_are = refl; start_is = refl; within = omega arith }
 
-cut_on : (bytes : List ℕ) (commands : List Command) (start : ℕ) (c : Command) (len : ℕ) → HasCut bytes commands start → Spells (drop start bytes) c len → HasCut bytes (commands ++ c ∷ []) (start + len)
+cut_on : (bytes : List ℕ) (commands : List Command) (start : ℕ) (c : Command) (len : ℕ) → HasCut bytes commands start
+    → Spells (drop start bytes) c len → HasCut bytes (commands ++ c ∷ []) (start + len)
 cut_on bytes commands start c len h s =
     let l : length (spellings (commands ++ c ∷ [])) ≡ length (spellings commands ++ spelling c) = ap length (spellings_more commands c) in
     let m = len_is (drop start bytes) c len s in
@@ -65,21 +69,28 @@ some_left bytes start l e = let k : length (drop start bytes) ≡ length {A = �
 abbrev pub left_from : List ℕ → ℕ → List ℕ
 left_from bytes start = take (length bytes - start) (drop start bytes)
 
-pub cut_more : (bytes : List ℕ) (commands : List Command) (start : ℕ) (c : Command) (len : ℕ) → HasCut bytes commands start → Spells (left_from bytes start) c len → HasCut bytes (commands ++ c ∷ []) (start + len)
+pub cut_more : (bytes : List ℕ) (commands : List Command) (start : ℕ) (c : Command) (len : ℕ)
+    → HasCut bytes commands start → Spells (left_from bytes start) c len
+    → HasCut bytes (commands ++ c ∷ []) (start + len)
 cut_more bytes commands start c len h s = cut_on bytes commands start c len h (subst (λ (b : List ℕ). Spells b c len) (take_rest bytes start) s)
 
-pub ends_in_command : (bytes : List ℕ) (commands : List Command) (start : ℕ) → HasCut bytes commands start → start < length bytes → BeginsSpelling (left_from bytes start) → Decoding bytes (Err (CutAt start))
+pub ends_in_command : (bytes : List ℕ) (commands : List Command) (start : ℕ) → HasCut bytes commands start
+    → start < length bytes → BeginsSpelling (left_from bytes start) → Decoding bytes (Err (CutAt start))
 ends_in_command bytes commands start h l b = cut_at bytes commands (drop start bytes) start h.are_commands h.bytes_are h.start_is (some_left bytes start l) (subst (λ (b : List ℕ). BeginsSpelling b) (take_rest bytes start) b)
 
-pub is_refused : (bytes : List ℕ) (commands : List Command) (start : ℕ) → HasCut bytes commands start → IsNoCommand (left_from bytes start) → Decoding bytes (Err (BadAt start))
+pub is_refused : (bytes : List ℕ) (commands : List Command) (start : ℕ) → HasCut bytes commands start
+    → IsNoCommand (left_from bytes start) → Decoding bytes (Err (BadAt start))
 is_refused bytes commands start h r = bad_at bytes commands (drop start bytes) start h.are_commands h.bytes_are h.start_is (subst (λ (b : List ℕ). IsNoCommand b) (take_rest bytes start) r)
 
-pub is_whole : (bytes : List ℕ) (commands : List Command) (start : ℕ) → HasCut bytes commands start → length bytes ≤ start → Decoding bytes (Ok commands)
+pub is_whole : (bytes : List ℕ) (commands : List Command) (start : ℕ) → HasCut bytes commands start
+    → length bytes ≤ start → Decoding bytes (Ok commands)
 is_whole bytes commands start h l = whole bytes commands (drop start bytes) h.are_commands h.bytes_are (drop_all start bytes l)
 
 -- ---- commands that are encoded one after another
 
-pub encoded_more : (bytes new : List ℕ) (commands : List Command) (i : ℕ) (c : Command) → Cutting bytes (take i commands) → i < length commands → c ≡ get_or commands i c → IsCommand c → new ≡ bytes ++ spelling c → Cutting new (take (i + 1) commands)
+pub encoded_more : (bytes new : List ℕ) (commands : List Command) (i : ℕ) (c : Command)
+    → Cutting bytes (take i commands) → i < length commands → c ≡ get_or commands i c → IsCommand c
+    → new ≡ bytes ++ spelling c → Cutting new (take (i + 1) commands)
 encoded_more bytes new commands i c h l r is_c e =
     let t : take i commands ++ c ∷ [] ≡ take (i + 1) commands = ap (λ x. take i commands ++ x ∷ []) r ∙ sym (take_more commands i c l) in
     subst (λ (x : List Command). Cutting new x) t

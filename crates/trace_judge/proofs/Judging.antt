@@ -47,7 +47,8 @@ abbrev Paid : State → List Command → ℕ → ℕ → Outcome → Type 0
 Paid s all steps more (Goes t) = (n : ℕ) × (m : ℕ) × WorkOfStep s (take (length s.bots) all) (steps + 1) n × WorkFrom t (drop (length s.bots) all) (steps + 1) m × (more ≡ n + m)
 Paid s all steps more (Breaks b) = WorkOfStep s (take (length s.bots) all) (steps + 1) more
 
-pay : {s : State} {all : List Command} {steps more : ℕ} → WorkFrom s all steps more → (outcome : Outcome) → (s.bots ≡ [] → ⊥) → Next s (take (length s.bots) all) (steps + 1) outcome → Paid s all steps more outcome
+pay : {s : State} {all : List Command} {steps more : ℕ} → WorkFrom s all steps more → (outcome : Outcome)
+    → (s.bots ≡ [] → ⊥) → Next s (take (length s.bots) all) (steps + 1) outcome → Paid s all steps more outcome
 pay (rests e) outcome some k = absurd (some e)
 pay {s} {all} {steps} (stops b a next w) (Goes t) some k = absurd (not_both b t (Next-unique s (take (length s.bots) all) (steps + 1) (Breaks b) (Goes t) next k))
 pay (stops b a next w) (Breaks c) some k = w
@@ -59,7 +60,9 @@ module _ (p q : Progress) (command : Command) (rest : List Command) (v start bef
   joined = sym (append_assoc p.pending (command ∷ []) rest)
 
   -- no step is made
-  waits : (length (p.pending ++ command ∷ []) == length p.state.bots) ≡ false → q ≡ with_command p command → (more : ℕ) → WorkFrom p.state (p.pending ++ command ∷ rest) p.steps more → before + 100 * more ≤ start + 100 * n → Left q rest v start after n
+  waits : (length (p.pending ++ command ∷ []) == length p.state.bots) ≡ false → q ≡ with_command p command → (more : ℕ)
+      → WorkFrom p.state (p.pending ++ command ∷ rest) p.steps more → before + 100 * more ≤ start + 100 * n
+      → Left q rest v start after n
   waits b e more w l =
       let a = length-append p.pending (command ∷ []) in
       let same : after ≡ before = t.untouched (λ _ e. unequal_by_test (length (p.pending ++ command ∷ [])) (length p.state.bots) b (omega (arith, a, e))) in
@@ -78,12 +81,17 @@ module _ (p q : Progress) (command : Command) (rest : List Command) (v start bef
     some e = let f = ap length e in let a = length-append p.pending (command ∷ []) in let g = full in omega (arith, a, f, g)
 
     -- where steps go on, the work of the rest pays
-    on : (u : State) (bots : List Bot) → u.bots ≡ bots → (m : ℕ) → WorkFrom u rest (p.steps + 1) m → after + 100 * m ≤ start + 100 * n → LeftAt (mark_of bots) (stepped (with_command p command) (Goes u)) rest v start after n
+    on : (u : State) (bots : List Bot) → u.bots ≡ bots → (m : ℕ) → WorkFrom u rest (p.steps + 1) m
+        → after + 100 * m ≤ start + 100 * n
+        → LeftAt (mark_of bots) (stepped (with_command p command) (Goes u)) rest v start after n
     on u [] e m w l = omega (arith, l)
     on u (b ∷ bots) e m w l = (m, w, l)
 
     -- a step is made, or refused
-    made : (outcome : Outcome) → Next p.state (p.pending ++ command ∷ []) (p.steps + 1) outcome → q ≡ stepped (with_command p command) outcome → (more : ℕ) → WorkFrom p.state (p.pending ++ command ∷ rest) p.steps more → before + 100 * more ≤ start + 100 * n → Left q rest v start after n
+    made : (outcome : Outcome) → Next p.state (p.pending ++ command ∷ []) (p.steps + 1) outcome
+        → q ≡ stepped (with_command p command) outcome → (more : ℕ)
+        → WorkFrom p.state (p.pending ++ command ∷ rest) p.steps more → before + 100 * more ≤ start + 100 * n
+        → Left q rest v start after n
     made (Goes u) k e more w l =
         let r = pay w (Goes u) some (subst (λ (xs : List Command). Next p.state xs (p.steps + 1) (Goes u)) (sym front) k) in
         let h = within_each p.state (p.pending ++ command ∷ []) (p.steps + 1) (before + searched_by q.mark p.state.matrix) after r.0 t.paid (subst (λ (xs : List Command). WorkOfStep p.state xs (p.steps + 1) r.0) front r.2) in
@@ -97,21 +105,28 @@ module _ (p q : Progress) (command : Command) (rest : List Command) (v start bef
         let z = space in
         subst (λ (x : Progress). Left x rest v start after n) (sym e) (omega (arith, h, s, z, l))
 
-  running : MatchBool (length (p.pending ++ command ∷ []) == length p.state.bots) (MakesStep (with_command p command) q) (q ≡ with_command p command) → (more : ℕ) × WorkFrom p.state (p.pending ++ command ∷ rest) p.steps more × (before + 100 * more ≤ start + 100 * n) → Left q rest v start after n
+  running : MatchBool (length (p.pending ++ command ∷ []) == length p.state.bots) (MakesStep (with_command p command) q)
+      (q ≡ with_command p command) → (more : ℕ) × WorkFrom p.state (p.pending ++ command ∷ rest) p.steps more
+      × (before + 100 * more ≤ start + 100 * n) → Left q rest v start after n
   running j w = by (length (p.pending ++ command ∷ []) == length p.state.bots) refl j
     where
-      by : (b : Bool) → (length (p.pending ++ command ∷ []) == length p.state.bots) ≡ b → MatchBool b (MakesStep (with_command p command) q) (q ≡ with_command p command) → Left q rest v start after n
+      by : (b : Bool) → (length (p.pending ++ command ∷ []) == length p.state.bots) ≡ b
+          → MatchBool b (MakesStep (with_command p command) q) (q ≡ with_command p command)
+          → Left q rest v start after n
       by true e k = made (equal_by_test (length (p.pending ++ command ∷ [])) (length p.state.bots) e) k.0 k.1 k.2 w.0 w.1 w.2
       by false e k = waits e k w.0 w.1 w.2
 
 -- one push more
-left_on : (p q : Progress) (command : Command) (rest : List Command) (v start before after n : ℕ) → Touches p q command before after → volume p.state.matrix.resolution ≡ v → Pushes p command q → Left p (command ∷ rest) v start before n → Left q rest v start after n
+left_on : (p q : Progress) (command : Command) (rest : List Command) (v start before after n : ℕ)
+    → Touches p q command before after → volume p.state.matrix.resolution ≡ v → Pushes p command q
+    → Left p (command ∷ rest) v start before n → Left q rest v start after n
 left_on p q command rest v start before after n t space h l = by p.mark refl h l
   where
     no_step : (m : progress.Mark) → p.mark ≡ m → (m ≡ progress.Running → ⊥) → after ≡ before
     no_step m e n = t.untouched (λ f. absurd (n (sym e ∙ f)))
 
-    by : (m : progress.Mark) → p.mark ≡ m → PushesAt m p command q → LeftAt m p (command ∷ rest) v start before n → Left q rest v start after n
+    by : (m : progress.Mark) → p.mark ≡ m → PushesAt m p command q → LeftAt m p (command ∷ rest) v start before n
+        → Left q rest v start after n
     by progress.Running e j w = running p q command rest v start before after n t space e j w
     by (progress.Refused b) e j w =
         let s = no_step (progress.Refused b) e (λ f. cc) in
@@ -125,18 +140,25 @@ left_on p q command rest v start before after n t space h l = by p.mark refl h l
 
 -- ---- commands that come one after another
 
-pub paid_at_first : (source : Matrix) (profile : Profile) (p : Progress) (start : ℕ) → p ≡ begun source profile → IsPaid source profile [] p start start
+pub paid_at_first : (source : Matrix) (profile : Profile) (p : Progress) (start : ℕ) → p ≡ begun source profile
+    → IsPaid source profile [] p start start
 paid_at_first source profile p start e = λ rest n w. subst (λ (x : Progress). Left x rest (volume source.resolution) start start n) (sym e) (n, w, omega arith)
 
-pub paid_on : (source : Matrix) (profile : Profile) (commands : List Command) (p q : Progress) (command : Command) (start before after : ℕ) → p.state.matrix.resolution ≡ source.resolution → Pushes p command q → Touches p q command before after → IsPaid source profile commands p start before → IsPaid source profile (commands ++ command ∷ []) q start after
+pub paid_on : (source : Matrix) (profile : Profile) (commands : List Command) (p q : Progress) (command : Command)
+    (start before after : ℕ) → p.state.matrix.resolution ≡ source.resolution → Pushes p command q
+    → Touches p q command before after → IsPaid source profile commands p start before
+    → IsPaid source profile (commands ++ command ∷ []) q start after
 paid_on source profile commands p q command start before after same pushes t paid = λ rest n w.
     left_on p q command rest (volume source.resolution) start before after n t (ap volume same) pushes
     (paid (command ∷ rest) n (subst (λ (xs : List Command). Work source xs profile n) (append_assoc commands (command ∷ []) rest) w))
 
-pub paid_within : (source : Matrix) (profile : Profile) (commands rest : List Command) (p : Progress) (start now n : ℕ) → IsPaid source profile commands p start now → Work source (commands ++ rest) profile n → now ≤ start + 100 * n + volume source.resolution
+pub paid_within : (source : Matrix) (profile : Profile) (commands rest : List Command) (p : Progress) (start now n : ℕ)
+    → IsPaid source profile commands p start now → Work source (commands ++ rest) profile n
+    → now ≤ start + 100 * n + volume source.resolution
 paid_within source profile commands rest p start now n paid w = by p.mark (paid rest n w)
   where
-    by : (m : progress.Mark) → LeftAt m p rest (volume source.resolution) start now n → now ≤ start + 100 * n + volume source.resolution
+    by : (m : progress.Mark) → LeftAt m p rest (volume source.resolution) start now n
+        → now ≤ start + 100 * n + volume source.resolution
     by progress.Running l = let k = l.2 in omega (arith, k)
     by (progress.Refused b) l = l
     by progress.Halted l = l
@@ -152,7 +174,9 @@ pub record IsJudging (source : Matrix) (profile : Profile) (commands : List Comm
   pub stands : runner.spent ≡ false
   pub paid : IsPaid source profile (take i commands) runner.progress start now
 
-pub judging_begun : (source : Matrix) (profile : Profile) (commands : List Command) (runner : Course) (start : ℕ) → runner.progress ≡ begun source profile → runner.spent ≡ false → IsJudging source profile commands 0 runner start start
+pub judging_begun : (source : Matrix) (profile : Profile) (commands : List Command) (runner : Course) (start : ℕ)
+    → runner.progress ≡ begun source profile → runner.spent ≡ false
+    → IsJudging source profile commands 0 runner start start
 judging_begun source profile commands runner start e s = record {
   comes = first (take_none commands) e;
   few = let n = ap (λ (p : Progress). p.steps) e in omega arith;
@@ -165,7 +189,12 @@ judging_begun source profile commands runner start e s = record {
     take_none [] = refl
     take_none (x ∷ xs) = refl
 
-pub judging_on : (source : Matrix) (profile : Profile) (commands : List Command) (i : ℕ) (old new : Course) (command : Command) (start before after : ℕ) → i < length commands → command ≡ get_or commands i command → IsJudging source profile commands i old start before → Pushes old.progress command new.progress → new.progress.steps ≤ old.progress.steps + 1 → new.progress.state.matrix.resolution ≡ old.progress.state.matrix.resolution → new.spent ≡ false → Touches old.progress new.progress command before after → IsJudging source profile commands (i + 1) new start after
+pub judging_on : (source : Matrix) (profile : Profile) (commands : List Command) (i : ℕ) (old new : Course)
+    (command : Command) (start before after : ℕ) → i < length commands → command ≡ get_or commands i command
+    → IsJudging source profile commands i old start before → Pushes old.progress command new.progress
+    → new.progress.steps ≤ old.progress.steps + 1
+    → new.progress.state.matrix.resolution ≡ old.progress.state.matrix.resolution → new.spent ≡ false
+    → Touches old.progress new.progress command before after → IsJudging source profile commands (i + 1) new start after
 judging_on source profile commands i old new command start before after l e h p n r s t = record {
   comes = later (take i commands) old.progress command h.comes p one_more;
   few = omega (arith, h.few, n);
@@ -178,5 +207,7 @@ judging_on source profile commands i old new command start before after l e h p 
     one_more = rw add-one (take-suc commands i command l ∙ ap (λ k. take i commands ++ k ∷ []) (sym e))
 
 -- what was touched until no command is left
-pub judged_within : (source : Matrix) (profile : Profile) (commands : List Command) (i : ℕ) (runner : Course) (start now n : ℕ) → IsJudging source profile commands i runner start now → Work source commands profile n → now ≤ start + 100 * n + volume source.resolution
+pub judged_within : (source : Matrix) (profile : Profile) (commands : List Command) (i : ℕ) (runner : Course)
+    (start now n : ℕ) → IsJudging source profile commands i runner start now → Work source commands profile n
+    → now ≤ start + 100 * n + volume source.resolution
 judged_within source profile commands i runner start now n h w = paid_within source profile (take i commands) (drop i commands) runner.progress start now n h.paid (subst (λ (xs : List Command). Work source xs profile n) (sym (take-append-drop i commands)) w)

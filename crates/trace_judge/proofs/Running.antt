@@ -17,7 +17,9 @@ use Rattle.step_machine.specs.Stepped.{Stepped}
 
 module _ (machine : Situation) (pending : List Command) (m : Mark) (v : Course) (seen : course_of machine pending m ≡ v) (runs : m ≡ mark.Running) where
   -- the last command of a step, by what comes of the step
-  pub made : (command : Command) (outcome : Outcome) (q : Progress) → length pending + 1 ≡ length machine.state.bots → Next machine.state (pending ++ command ∷ []) (machine.steps + 1) outcome → q ≡ stepped (with_command (course_of machine pending m).progress command) outcome → Pushes v.progress command q
+  pub made : (command : Command) (outcome : Outcome) (q : Progress) → length pending + 1 ≡ length machine.state.bots
+      → Next machine.state (pending ++ command ∷ []) (machine.steps + 1) outcome
+      → q ≡ stepped (with_command (course_of machine pending m).progress command) outcome → Pushes v.progress command q
   made command outcome q l n f =
       subst (λ (w : Course). Pushes w.progress command q) seen
       (subst (λ (k : progress.Mark). PushesAt k (course_of machine pending m).progress command q) (sym (ap mark_by runs)) joins)
@@ -25,15 +27,19 @@ module _ (machine : Situation) (pending : List Command) (m : Mark) (v : Course) 
       steps : MakesStep (with_command (course_of machine pending m).progress command) q
       steps = (outcome, n, f)
 
-      joins : MatchBool (length (pending ++ command ∷ []) == length machine.state.bots) (MakesStep (with_command (course_of machine pending m).progress command) q) (q ≡ with_command (course_of machine pending m).progress command)
+      joins : MatchBool (length (pending ++ command ∷ []) == length machine.state.bots)
+          (MakesStep (with_command (course_of machine pending m).progress command) q)
+          (q ≡ with_command (course_of machine pending m).progress command)
       joins = subst (λ (b : Bool). MatchBool b (MakesStep (with_command (course_of machine pending m).progress command) q) (q ≡ with_command (course_of machine pending m).progress command)) (sym (eq-eqb (length (pending ++ command ∷ [])) (length machine.state.bots) (length-append pending (command ∷ []) ∙ l))) steps
 
 -- the mark after a step
-pub halted_mark : (bots : List Bot) (halted : Bool) → (halted ≡ true ↔ bots ≡ []) → halted ≡ true → progress.Halted ≡ mark_of bots
+pub halted_mark : (bots : List Bot) (halted : Bool) → (halted ≡ true ↔ bots ≡ []) → halted ≡ true
+    → progress.Halted ≡ mark_of bots
 halted_mark [] halted h e = refl
 halted_mark (b ∷ bots) halted h e = let f = h.0 e in cc
 
-pub running_mark : (bots : List Bot) (halted : Bool) → (halted ≡ true ↔ bots ≡ []) → halted ≡ false → progress.Running ≡ mark_of bots
+pub running_mark : (bots : List Bot) (halted : Bool) → (halted ≡ true ↔ bots ≡ []) → halted ≡ false
+    → progress.Running ≡ mark_of bots
 running_mark [] halted h e = let f = h.1 refl in cc
 running_mark (b ∷ bots) halted h e = refl
 
@@ -60,14 +66,17 @@ step_moved old now new before pending all command result answer began start ende
     (subst (λ (n : ℕ). Stepped now new all result n ended) s stepped)))
 
 -- some bot has no command yet: where one command more waits, where a step was made that leaves some bot, and where no steps are made
-pub waits_on : (old new : Situation) (before after : List Command) (command : Command) (m : Mark) → new ≡ old → after ≡ before ++ command ∷ [] → length before + 1 < length old.state.bots → m ≡ mark.Running → IsUnderway new after m
+pub waits_on : (old new : Situation) (before after : List Command) (command : Command) (m : Mark) → new ≡ old
+    → after ≡ before ++ command ∷ [] → length before + 1 < length old.state.bots → m ≡ mark.Running
+    → IsUnderway new after m
 waits_on old new before after command m stays joins lacks runs =
     let size : length after ≡ length before + 1 = ap length joins ∙ length-append before (command ∷ []) in
     let bots : length new.state.bots ≡ length old.state.bots = ap (λ (v : Situation). length v.state.bots) stays in
     let here : length after < length new.state.bots = omega (arith, size, bots, lacks) in
     subst (λ (k : Mark). IsUnderway new after k) (sym runs) (λ _. here)
 
-pub made_on : (new : Situation) (after : List Command) (m : Mark) → after ≡ [] → (false ≡ true ↔ new.state.bots ≡ []) → m ≡ mark.Running → IsUnderway new after m
+pub made_on : (new : Situation) (after : List Command) (m : Mark) → after ≡ [] → (false ≡ true ↔ new.state.bots ≡ [])
+    → m ≡ mark.Running → IsUnderway new after m
 made_on new after m none halted runs =
     let here : length after < length new.state.bots = subst (λ (xs : List Command). length xs < length new.state.bots) (sym none) (some new.state.bots halted) in
     subst (λ (k : Mark). IsUnderway new after k) (sym runs) (λ _. here)
@@ -76,7 +85,8 @@ made_on new after m none halted runs =
     some [] h = let f = h.1 refl in cc
     some (b ∷ bots) h = omega arith
 
-pub ended_on : (machine : Situation) (pending : List Command) (m : Mark) → (m ≡ mark.Running → ⊥) → IsUnderway machine pending m
+pub ended_on : (machine : Situation) (pending : List Command) (m : Mark) → (m ≡ mark.Running → ⊥)
+    → IsUnderway machine pending m
 ended_on machine pending mark.Running h = absurd (h refl)
 ended_on machine pending (mark.Refused b) h = tt
 ended_on machine pending mark.Halted h = tt

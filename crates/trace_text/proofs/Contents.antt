@@ -17,7 +17,8 @@ all_blank (x ∷ xs) = by (is_blank x) (all_blank xs)
     one_more : suc (prefix_len is_blank xs) ≡ 1 + prefix_len is_blank xs
     one_more = omega arith
 
-    by : (t : Bool) → list_all is_blank xs ≡ (length (drop (prefix_len is_blank xs) xs) == 0) → (t && list_all is_blank xs) ≡ (length (drop (cond t (1 + prefix_len is_blank xs) 0) (x ∷ xs)) == 0)
+    by : (t : Bool) → list_all is_blank xs ≡ (length (drop (prefix_len is_blank xs) xs) == 0)
+        → (t && list_all is_blank xs) ≡ (length (drop (cond t (1 + prefix_len is_blank xs) 0) (x ∷ xs)) == 0)
     by true later = later ∙ ap (λ (n : ℕ). length (drop n (x ∷ xs)) == 0) one_more
     by false later = sym (some_no_zero (length xs))
 
@@ -41,26 +42,32 @@ pub record HasParts (line middle rest : List ℕ) : Type 0 where
   pub middle_is : middle ≡ line_content line
   pub rest_is : rest ≡ drop (prefix_len is_blank middle) middle
 
-pub skipped : (line middle rest : List ℕ) → HasParts line middle rest → true ≡ (length rest == 0) → Skipped ≡ line_of line
+pub skipped : (line middle rest : List ℕ) → HasParts line middle rest → true ≡ (length rest == 0)
+    → Skipped ≡ line_of line
 skipped line middle rest h e =
     let r : rest ≡ from_word (line_content line) = h.rest_is ∙ ap from_word h.middle_is in
     let b : list_all is_blank (line_content line) ≡ true = all_blank (line_content line) ∙ (ap (λ xs. length xs == 0) (sym r) ∙ sym e) in
     let low = h.low in
     rw (low, b) refl
 
-by_word : (line middle rest : List ℕ) → HasParts line middle rest → false ≡ (length rest == 0) → said_by (word_of rest) (after_word rest) ≡ line_of line
+by_word : (line middle rest : List ℕ) → HasParts line middle rest → false ≡ (length rest == 0)
+    → said_by (word_of rest) (after_word rest) ≡ line_of line
 by_word line middle rest h e =
     let r : rest ≡ from_word (line_content line) = h.rest_is ∙ ap from_word h.middle_is in
     let b : list_all is_blank (line_content line) ≡ false = all_blank (line_content line) ∙ (ap (λ xs. length xs == 0) (sym r) ∙ sym e) in
     let low = h.low in
     rw (low, b) (ap (λ xs. said_by (word_of xs) (after_word xs)) r)
 
-pub says : (line middle rest word more : List ℕ) (w : Word) (s : Line) → HasParts line middle rest → false ≡ (length rest == 0) → word ≡ take_while is_letter rest → more ≡ drop (prefix_len is_letter rest) rest → Some w ≡ find (λ v. bytes_eq v.letters word) words → s ≡ said w (readings w.form more) → s ≡ line_of line
+pub says : (line middle rest word more : List ℕ) (w : Word) (s : Line) → HasParts line middle rest
+    → false ≡ (length rest == 0) → word ≡ take_while is_letter rest → more ≡ drop (prefix_len is_letter rest) rest
+    → Some w ≡ find (λ v. bytes_eq v.letters word) words → s ≡ said w (readings w.form more) → s ≡ line_of line
 says line middle rest word more w s h e f g k i =
     let u : Some w ≡ word_of rest = k ∙ ap (λ xs. find (λ v. bytes_eq v.letters xs) words) f in
     i ∙ (ap (λ xs. said w (readings w.form xs)) g ∙ (ap (λ o. said_by o (after_word rest)) u ∙ by_word line middle rest h e))
 
-pub unknown : (line middle rest word : List ℕ) → HasParts line middle rest → false ≡ (length rest == 0) → word ≡ take_while is_letter rest → None ≡ find (λ v. bytes_eq v.letters word) words → Faulty UnknownWord ≡ line_of line
+pub unknown : (line middle rest word : List ℕ) → HasParts line middle rest → false ≡ (length rest == 0)
+    → word ≡ take_while is_letter rest → None ≡ find (λ v. bytes_eq v.letters word) words
+    → Faulty UnknownWord ≡ line_of line
 unknown line middle rest word h e f k =
     let u : None ≡ word_of rest = k ∙ ap (λ xs. find (λ v. bytes_eq v.letters xs) words) f in
     ap (λ o. said_by o (after_word rest)) u ∙ by_word line middle rest h e

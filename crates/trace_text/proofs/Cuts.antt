@@ -13,12 +13,15 @@ whole : (xs : List ℕ) → position_or_len is_feed xs ≡ length xs → slice_s
 whole [] e = refl
 whole (x ∷ xs) e = by (is_feed x) refl e (whole xs)
   where
-    by : (t : Bool) → is_feed x ≡ t → cond (not t) (1 + position_or_len is_feed xs) 0 ≡ suc (length xs) → (position_or_len is_feed xs ≡ length xs → slice_split is_feed xs ≡ xs ∷ []) → slice_split is_feed (x ∷ xs) ≡ (x ∷ xs) ∷ []
+    by : (t : Bool) → is_feed x ≡ t → cond (not t) (1 + position_or_len is_feed xs) 0 ≡ suc (length xs)
+        → (position_or_len is_feed xs ≡ length xs → slice_split is_feed xs ≡ xs ∷ [])
+        → slice_split is_feed (x ∷ xs) ≡ (x ∷ xs) ∷ []
     by true f e later = absurd (omega arith)
     by false f e later = slice_split-cons_no is_feed x xs f ∙ ap (onto_first x) (later (omega arith))
 
 -- a text that is not empty and has no line feed is one line
-pub last_line : (xs : List ℕ) (end : ℕ) → 0 < length xs → end ≡ position_or_len (λ b. b == 10) xs → end ≡ length xs → lines xs ≡ xs ∷ lines []
+pub last_line : (xs : List ℕ) (end : ℕ) → 0 < length xs → end ≡ position_or_len (λ b. b == 10) xs → end ≡ length xs
+    → lines xs ≡ xs ∷ lines []
 last_line [] end l e f = absurd (omega arith)
 last_line (x ∷ xs) end l e f = ap without_last_empty (whole (x ∷ xs) (sym e ∙ f))
 
@@ -40,11 +43,13 @@ kept_before a [] h = absurd h
 kept_before [] (y ∷ ys) h = refl
 kept_before (b ∷ a) (y ∷ ys) h = refl
 
-kept : (a : List ℕ) (xs : List ℕ) → without_last_empty (a ∷ slice_split is_feed xs) ≡ a ∷ without_last_empty (slice_split is_feed xs)
+kept : (a : List ℕ) (xs : List ℕ)
+    → without_last_empty (a ∷ slice_split is_feed xs) ≡ a ∷ without_last_empty (slice_split is_feed xs)
 kept a xs = kept_before a (slice_split is_feed xs) (some xs)
 
 -- a text with a line feed begins with the line before it
-pub first_line : (xs : List ℕ) (end : ℕ) → end ≡ position_or_len (λ b. b == 10) xs → end < length xs → lines xs ≡ take end xs ∷ lines (take (length xs - (end + 1)) (drop (end + 1) xs))
+pub first_line : (xs : List ℕ) (end : ℕ) → end ≡ position_or_len (λ b. b == 10) xs → end < length xs
+    → lines xs ≡ take end xs ∷ lines (take (length xs - (end + 1)) (drop (end + 1) xs))
 first_line xs end e l =
     let r = take_rest xs (end + 1) in
     let s : slice_split is_feed xs ≡ before_first is_feed xs ∷ slice_split is_feed (after_first is_feed xs) = slice_split_first is_feed xs 0 (subst (λ (n : ℕ). n < length xs) e l) in

@@ -6,7 +6,9 @@ use Rattle.vox_geom.proofs.Sums.{append_none}
 use Rattle.nano_spec.specs.declared.commands.Command.{Command}
 use Rattle.nano_spec.specs.Printing.{print, printed}
 
-pub difference_joined : (old a b c d e f g x y z : List ℕ) → a ≡ old ++ 32 ∷ 60 ∷ [] → b ≡ a ++ x → c ≡ b ++ 44 ∷ [] → d ≡ c ++ y → e ≡ d ++ 44 ∷ [] → f ≡ e ++ z → g ≡ f ++ 62 ∷ [] → g ≡ old ++ 32 ∷ 60 ∷ (((((x ++ (44 ∷ [])) ++ y) ++ (44 ∷ [])) ++ z) ++ (62 ∷ []))
+pub difference_joined : (old a b c d e f g x y z : List ℕ) → a ≡ old ++ 32 ∷ 60 ∷ [] → b ≡ a ++ x → c ≡ b ++ 44 ∷ []
+    → d ≡ c ++ y → e ≡ d ++ 44 ∷ [] → f ≡ e ++ z → g ≡ f ++ 62 ∷ []
+    → g ≡ old ++ 32 ∷ 60 ∷ (((((x ++ (44 ∷ [])) ++ y) ++ (44 ∷ [])) ++ z) ++ (62 ∷ []))
 difference_joined old a b c d e f g x y z ha hb hc hd he hf hg =
     let u : ((((((old ++ (32 ∷ 60 ∷ [])) ++ x) ++ (44 ∷ [])) ++ y) ++ (44 ∷ [])) ++ z) ++ (62 ∷ []) ≡ old ++ 32 ∷ 60 ∷ (((((x ++ (44 ∷ [])) ++ y) ++ (44 ∷ [])) ++ z) ++ (62 ∷ [])) = simp append_assoc in
     rw (hg, hf, he, hd, hc, hb, ha) u
@@ -16,7 +18,8 @@ print_joined [] ys = refl
 print_joined (c ∷ xs) ys = ap (λ v. (printed c ++ 10 ∷ []) ++ v) (print_joined xs ys) ∙ sym (append_assoc (printed c ++ 10 ∷ []) (print xs) (print ys))
 
 -- one more command is printed behind those before it
-pub printed_on : (before more : List Command) (c : Command) (old mid new : List ℕ) → more ≡ before ++ c ∷ [] → old ≡ print before → mid ≡ old ++ printed c → new ≡ mid ++ 10 ∷ [] → new ≡ print more
+pub printed_on : (before more : List Command) (c : Command) (old mid new : List ℕ) → more ≡ before ++ c ∷ []
+    → old ≡ print before → mid ≡ old ++ printed c → new ≡ mid ++ 10 ∷ [] → new ≡ print more
 printed_on before more c old mid new m o p n =
     let one : print (c ∷ []) ≡ printed c ++ 10 ∷ [] = append_none (printed c ++ 10 ∷ []) in
     let e : print more ≡ print before ++ (printed c ++ 10 ∷ []) = ap print m ∙ (print_joined before (c ∷ []) ∙ ap (λ v. print before ++ v) one) in

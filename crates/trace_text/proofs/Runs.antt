@@ -3,7 +3,8 @@ use Rattle.std.proofs.Common.{◌≡◌, ℕ, zero, suc, ◌+◌, ◌<◌, ◌�
 use Rattle.std.specs.List.{prefix_len}
 use Rattle.std.proofs.lemmas.List.{drop_all}
 
-at_place : (p : ℕ → Bool) (xs : List ℕ) (n : ℕ) → n < length xs → prefix_len p (drop n xs) ≡ cond (p (slice_index_or xs n 0)) (1 + prefix_len p (drop (suc n) xs)) 0
+at_place : (p : ℕ → Bool) (xs : List ℕ) (n : ℕ) → n < length xs
+    → prefix_len p (drop n xs) ≡ cond (p (slice_index_or xs n 0)) (1 + prefix_len p (drop (suc n) xs)) 0
 at_place p [] n l = absurd (omega arith)
 at_place p (x ∷ xs) zero l = refl
 at_place p (x ∷ xs) (suc n) l = at_place p xs n (omega arith)
@@ -20,7 +21,8 @@ from_start (x ∷ xs) = refl
 pub none_yet : (p : ℕ → Bool) (xs : List ℕ) → Pass p xs 0
 none_yet p xs = let e : prefix_len p (drop 0 xs) ≡ prefix_len p xs = ap (prefix_len p) (from_start xs) in record { run = omega (arith, e); within = omega arith }
 
-pub passes_on : (p : ℕ → Bool) (xs : List ℕ) (n : ℕ) → Pass p xs n → n < length xs → p (slice_index_or xs n 0) ≡ true → Pass p xs (n + 1)
+pub passes_on : (p : ℕ → Bool) (xs : List ℕ) (n : ℕ) → Pass p xs n → n < length xs → p (slice_index_or xs n 0) ≡ true
+    → Pass p xs (n + 1)
 passes_on p xs n h l e =
     let k = at_place p xs n l in
     let f : prefix_len p (drop n xs) ≡ 1 + prefix_len p (drop (suc n) xs) = k ∙ ap (λ t. cond t (1 + prefix_len p (drop (suc n) xs)) 0) e in
@@ -31,7 +33,8 @@ passes_on p xs n h l e =
       within = omega arith;
     }
 
-pub stops_at : (p : ℕ → Bool) (xs : List ℕ) (n : ℕ) → Pass p xs n → n < length xs → p (slice_index_or xs n 0) ≡ false → n ≡ prefix_len p xs
+pub stops_at : (p : ℕ → Bool) (xs : List ℕ) (n : ℕ) → Pass p xs n → n < length xs → p (slice_index_or xs n 0) ≡ false
+    → n ≡ prefix_len p xs
 stops_at p xs n h l e =
     let k = at_place p xs n l in
     let f : prefix_len p (drop n xs) ≡ 0 = k ∙ ap (λ t. cond t (1 + prefix_len p (drop (suc n) xs)) 0) e in

@@ -42,7 +42,9 @@ record IsAbove (r far : ℕ) (t : Coord) (p : Coord) (a o : Coord) : Type 0 wher
   same : same_region (between (point a) (point o)) (tile far t) ≡ true
   outside : is_within (tile far t) (point p) ≡ false
 
-member : (p : TapeState) (b : Bot) (n f : Diff) (far : ℕ) (t a o : Coord) → p.profile ≡ full_profile → plus (point b.pos) n ≡ point a → plus (point a) f ≡ point o → IsAbove p.matrix.resolution far t b.pos a o → IsMember (state_of p) (tile far t) false (act b (GVoid n f))
+member : (p : TapeState) (b : Bot) (n f : Diff) (far : ℕ) (t a o : Coord) → p.profile ≡ full_profile
+    → plus (point b.pos) n ≡ point a → plus (point a) f ≡ point o → IsAbove p.matrix.resolution far t b.pos a o
+    → IsMember (state_of p) (tile far t) false (act b (GVoid n f))
 member p b n f far t a o full e g h = record {
   allowed = ap (λ (k : Profile). is_allowed k (GVoid n f)) full;
   joins =
@@ -95,10 +97,13 @@ other_x a b e = no_first_of_three (same_number (pos a.x) (pos b.x)) (same_number
 other_z : (a b : Coord) → same_number (pos a.z) (pos b.z) ≡ false → same_point (point a) (point b) ≡ false
 other_z a b e = not_third (same_number (pos a.x) (pos b.x)) (same_number (pos a.y) (pos b.y)) (same_number (pos a.z) (pos b.z)) e
 
-none_repeats : (a b d e f g : Bool) → a ≡ false → b ≡ false → d ≡ false → e ≡ false → f ≡ false → g ≡ false → ((a || (b || (d || false))) || ((e || (f || false)) || ((g || false) || (false || false)))) ≡ false
+none_repeats : (a b d e f g : Bool) → a ≡ false → b ≡ false → d ≡ false → e ≡ false → f ≡ false → g ≡ false
+    → ((a || (b || (d || false))) || ((e || (f || false)) || ((g || false) || (false || false)))) ≡ false
 none_repeats a b d e f g ea eb ed ee ef eg = rw (ea, eb, ed, ee, ef, eg) refl
 
-corners_differ : (far x y z : ℕ) → 1 ≤ far → repeats (point (coord x y z) ∷ point (coord (x + far) y z) ∷ point (coord (x + far) y (z + far)) ∷ point (coord x y (z + far)) ∷ []) ≡ false
+corners_differ : (far x y z : ℕ) → 1 ≤ far
+    → repeats (point (coord x y z) ∷ point (coord (x + far) y z) ∷ point (coord (x + far) y (z + far)) ∷ point (coord x y (z + far)) ∷ [])
+    ≡ false
 corners_differ far x y z h =
     let a = coord x y z in
     let b = coord (x + far) y z in
@@ -114,7 +119,8 @@ corners_differ far x y z h =
 
 -- ---- the four
 
-pub point_by : (b : Coord) (e : Diff) (q : Coord) → pos b.x +ℤ e.dx ≡ pos q.x → pos b.y +ℤ e.dy ≡ pos q.y → pos b.z +ℤ e.dz ≡ pos q.z → plus (point b) e ≡ point q
+pub point_by : (b : Coord) (e : Diff) (q : Coord) → pos b.x +ℤ e.dx ≡ pos q.x → pos b.y +ℤ e.dy ≡ pos q.y
+    → pos b.z +ℤ e.dz ≡ pos q.z → plus (point b) e ≡ point q
 point_by b e q x y z = λ i. record { x = x i; y = y i; z = z i }
 
 by_down : (a b : ℕ) → a ≡ b + 1 → pos a +ℤ negsuc 0 ≡ pos b
@@ -175,7 +181,9 @@ module _ (p : TapeState) (far x y z : ℕ) (k l m o f g h j : Diff) (full : p.pr
     ),
   )
 
-  apart : repeats (plus (point s) k ∷ plus (point (coord (x + far) (y + 1) z)) l ∷ plus (point (coord (x + far) (y + 1) (z + far))) m ∷ plus (point (coord x (y + 1) (z + far))) o ∷ []) ≡ false
+  apart :
+      repeats (plus (point s) k ∷ plus (point (coord (x + far) (y + 1) z)) l ∷ plus (point (coord (x + far) (y + 1) (z + far))) m ∷ plus (point (coord x (y + 1) (z + far))) o ∷ [])
+      ≡ false
   apart =
       (λ i. repeats (below s y k ek refl i ∷ below (coord (x + far) (y + 1) z) y l el refl i ∷ below (coord (x + far) (y + 1) (z + far)) y m em refl i ∷ below (coord x (y + 1) (z + far)) y o eo refl i ∷ []))
       ∙ corners_differ far x y z some
@@ -190,7 +198,9 @@ module _ (p : TapeState) (far x y z : ℕ) (k l m o f g h j : Diff) (full : p.pr
     pub can_void : CanPaintAll p commands
     can_void = record { region = tile far low; full = false; group = voids_together }
 
-    pub voided_together : (q : TapeState) → p.harmonics ≡ High → CanStand p.matrix far far s → AllStep p q commands (with_region p.matrix (tile far low) false) p.harmonics p.bots → FourVoid p q far (tile far low) (with_region p.matrix (tile far low) false)
+    pub voided_together : (q : TapeState) → p.harmonics ≡ High → CanStand p.matrix far far s
+        → AllStep p q commands (with_region p.matrix (tile far low) false) p.harmonics p.bots
+        → FourVoid p q far (tile far low) (with_region p.matrix (tile far low) false)
     voided_together q high stand w =
         let all : q.bots ≡ four s far far = w.bots_are ∙ bots in
         let there : spot q.bots ≡ s = ap spot all in

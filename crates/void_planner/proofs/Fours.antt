@@ -46,7 +46,8 @@ module _ (p : TapeState) (full : p.profile ≡ full_profile) (b : Bot) (k : Comm
   allowed : is_allowed full_profile k ≡ true → IsTrue (is_allowed p.profile k)
   allowed e = ap (λ (f : Profile). is_allowed f k) full ∙ e
 
-  pub can_go : Goes b k q → IsInSpace p.matrix.resolution q → IsVoidFrom p.matrix b.pos.y → IsVoidFrom p.matrix q.y → CanGo p (act b k)
+  pub can_go : Goes b k q → IsInSpace p.matrix.resolution q → IsVoidFrom p.matrix b.pos.y → IsVoidFrom p.matrix q.y
+      → CanGo p (act b k)
   can_go (waits e f) i v w = record { allowed = allowed (ap (is_allowed full_profile) e); may = rw e tt }
   can_go (moves d e f) i v w = record {
     allowed = allowed (ap (is_allowed full_profile) e);
@@ -106,7 +107,9 @@ module _ (p : TapeState) (c : Coord) (w d : ℕ) (n : Coord) (width depth : ℕ)
       )
 
   -- ways by what they lead from and to
-  lie : (a b : Bot) (k l : Command) (q r : Coord) → Goes a k q → Goes b l r → LieApart (between (point a.pos) (point q)) (between (point b.pos) (point r)) → LieApart (way (act a k)) (way (act b l))
+  lie : (a b : Bot) (k l : Command) (q r : Coord) → Goes a k q → Goes b l r
+      → LieApart (between (point a.pos) (point q)) (between (point b.pos) (point r))
+      → LieApart (way (act a k)) (way (act b l))
   lie a b k l q r g h e = subst (λ (s : Span). LieApart s (way (act b l))) (sym (way_is a k q g)) (subst (λ (s : Span). LieApart (between (point a.pos) (point q)) s) (sym (way_is b l r h)) e)
 
   left_right : AreBelow (pos c.x) (pos n.x) (pos (c.x + w)) (pos (n.x + width))
@@ -149,7 +152,9 @@ module _ (p : TapeState) (c : Coord) (w d : ℕ) (n : Coord) (width depth : ℕ)
       apart = subst (λ (bs : List Bot). AreWaysApart (acts bs (k ∷ l ∷ m ∷ o ∷ []))) (sym bots) ways_apart;
     }
 
-    pub went : (q : TapeState) → p.harmonics ≡ High → count_by is_fission (k ∷ l ∷ m ∷ o ∷ []) ≡ 0 → AllStep p q (k ∷ l ∷ m ∷ o ∷ []) p.matrix p.harmonics (bots_gone p.bots (k ∷ l ∷ m ∷ o ∷ [])) → FourGo p q width depth n 1
+    pub went : (q : TapeState) → p.harmonics ≡ High → count_by is_fission (k ∷ l ∷ m ∷ o ∷ []) ≡ 0
+        → AllStep p q (k ∷ l ∷ m ∷ o ∷ []) p.matrix p.harmonics (bots_gone p.bots (k ∷ l ∷ m ∷ o ∷ []))
+        → FourGo p q width depth n 1
     went q high none s =
         let all : q.bots ≡ four n width depth = s.bots_are ∙ (ap (λ (bs : List Bot). bots_gone bs (k ∷ l ∷ m ∷ o ∷ [])) bots ∙ four_gone) in
         let there : spot q.bots ≡ n = ap spot all in
@@ -175,17 +180,22 @@ by_gap : (a b at next : ℕ) → a + next ≡ b + at → pos a +ℤ (pos next -�
 by_gap a b at next e = omega (arith, ints)
 
 -- a coordinate whose component on the axis changes by as much
-pub along_x : (b q : Coord) (at next : ℕ) → b.x + next ≡ q.x + at → b.y ≡ q.y → b.z ≡ q.z → plus (point b) (along X (pos next -ℤ pos at)) ≡ point q
+pub along_x : (b q : Coord) (at next : ℕ) → b.x + next ≡ q.x + at → b.y ≡ q.y → b.z ≡ q.z
+    → plus (point b) (along X (pos next -ℤ pos at)) ≡ point q
 along_x b q at next x y z = point_by b (along X (pos next -ℤ pos at)) q (by_gap b.x q.x at next x) (plus_none b.y ∙ ap pos y) (plus_none b.z ∙ ap pos z)
 
-pub along_y : (b q : Coord) (at next : ℕ) → b.y + next ≡ q.y + at → b.x ≡ q.x → b.z ≡ q.z → plus (point b) (along Y (pos next -ℤ pos at)) ≡ point q
+pub along_y : (b q : Coord) (at next : ℕ) → b.y + next ≡ q.y + at → b.x ≡ q.x → b.z ≡ q.z
+    → plus (point b) (along Y (pos next -ℤ pos at)) ≡ point q
 along_y b q at next y x z = point_by b (along Y (pos next -ℤ pos at)) q (plus_none b.x ∙ ap pos x) (by_gap b.y q.y at next y) (plus_none b.z ∙ ap pos z)
 
-pub along_z : (b q : Coord) (at next : ℕ) → b.z + next ≡ q.z + at → b.x ≡ q.x → b.y ≡ q.y → plus (point b) (along Z (pos next -ℤ pos at)) ≡ point q
+pub along_z : (b q : Coord) (at next : ℕ) → b.z + next ≡ q.z + at → b.x ≡ q.x → b.y ≡ q.y
+    → plus (point b) (along Z (pos next -ℤ pos at)) ≡ point q
 along_z b q at next z x y = point_by b (along Z (pos next -ℤ pos at)) q (plus_none b.x ∙ ap pos x) (plus_none b.y ∙ ap pos y) (by_gap b.z q.z at next z)
 
 -- all four make the same move
-pub shift_goes : (axis : Axis) (c : Coord) (f at next : ℕ) (a b e g : Diff) → component_of axis c ≡ at → a ≡ along axis (pos next -ℤ pos at) → b ≡ along axis (pos next -ℤ pos at) → e ≡ along axis (pos next -ℤ pos at) → g ≡ along axis (pos next -ℤ pos at) → FourGoes c f f (put axis c next) f f (SMove a) (SMove b) (SMove e) (SMove g)
+pub shift_goes : (axis : Axis) (c : Coord) (f at next : ℕ) (a b e g : Diff) → component_of axis c ≡ at
+    → a ≡ along axis (pos next -ℤ pos at) → b ≡ along axis (pos next -ℤ pos at) → e ≡ along axis (pos next -ℤ pos at)
+    → g ≡ along axis (pos next -ℤ pos at) → FourGoes c f f (put axis c next) f f (SMove a) (SMove b) (SMove e) (SMove g)
 shift_goes X c f at next a b e g here ea eb ee eg = record {
   first = moves a refl (ap (plus (point c)) ea ∙ along_x c (put X c next) at next (omega arith) refl refl);
   second = moves b refl (ap (plus (point (coord (c.x + f) c.y c.z))) eb ∙ along_x (coord (c.x + f) c.y c.z) (coord (next + f) c.y c.z) at next (omega arith) refl refl);
@@ -206,7 +216,11 @@ shift_goes Z c f at next a b e g here ea eb ee eg = record {
 }
 
 -- the ways of a tile's four bots lie apart: where there is more than one tile along an axis, bots are further from each other than a move leads
-pub shift_apart : (axis : Axis) (m : Matrix) (c : Coord) (at next : ℕ) → 1 ≤ far_of m.resolution → component_of axis c ≡ at → next ≤ at + 15 → at ≤ next + 15 → CanStand m (far_of m.resolution) (far_of m.resolution) c → CanStand m (far_of m.resolution) (far_of m.resolution) (put axis c next) → StayApart c (far_of m.resolution) (far_of m.resolution) (put axis c next) (far_of m.resolution) (far_of m.resolution)
+pub shift_apart : (axis : Axis) (m : Matrix) (c : Coord) (at next : ℕ) → 1 ≤ far_of m.resolution
+    → component_of axis c ≡ at → next ≤ at + 15 → at ≤ next + 15
+    → CanStand m (far_of m.resolution) (far_of m.resolution) c
+    → CanStand m (far_of m.resolution) (far_of m.resolution) (put axis c next) → StayApart c (far_of m.resolution)
+    (far_of m.resolution) (put axis c next) (far_of m.resolution) (far_of m.resolution)
 shift_apart X m c at next some here near back s t =
     let sx = s.x in
     let tx = t.x in
@@ -218,7 +232,8 @@ shift_apart Z m c at next some here near back s t =
     record { wide = some; wide_then = some; deep = some; deep_then = some; right = omega arith; left = omega arith; rear = omega arith; front = omega arith }
 
 -- the right bots make the same move along x
-pub widen_goes : (c : Coord) (d at next : ℕ) (b e : Diff) → b ≡ along X (pos next -ℤ pos at) → e ≡ along X (pos next -ℤ pos at) → FourGoes c at d c next d Wait (SMove b) (SMove e) Wait
+pub widen_goes : (c : Coord) (d at next : ℕ) (b e : Diff) → b ≡ along X (pos next -ℤ pos at)
+    → e ≡ along X (pos next -ℤ pos at) → FourGoes c at d c next d Wait (SMove b) (SMove e) Wait
 widen_goes c d at next b e eb ee = record {
   first = waits refl refl;
   second = moves b refl (ap (plus (point (coord (c.x + at) c.y c.z))) eb ∙ along_x (coord (c.x + at) c.y c.z) (coord (c.x + next) c.y c.z) at next (omega arith) refl refl);
@@ -227,7 +242,8 @@ widen_goes c d at next b e eb ee = record {
 }
 
 -- the rear bots make the same move along z
-pub deepen_goes : (c : Coord) (w at next : ℕ) (e g : Diff) → e ≡ along Z (pos next -ℤ pos at) → g ≡ along Z (pos next -ℤ pos at) → FourGoes c w at c w next Wait Wait (SMove e) (SMove g)
+pub deepen_goes : (c : Coord) (w at next : ℕ) (e g : Diff) → e ≡ along Z (pos next -ℤ pos at)
+    → g ≡ along Z (pos next -ℤ pos at) → FourGoes c w at c w next Wait Wait (SMove e) (SMove g)
 deepen_goes c w at next e g ee eg = record {
   first = waits refl refl;
   second = waits refl refl;
@@ -236,7 +252,8 @@ deepen_goes c w at next e g ee eg = record {
 }
 
 -- bots that stay at the corners of a rectangle with the same least corner
-pub stay_apart : (c : Coord) (w d width depth : ℕ) → 1 ≤ w → 1 ≤ d → 1 ≤ width → 1 ≤ depth → StayApart c w d c width depth
+pub stay_apart : (c : Coord) (w d width depth : ℕ) → 1 ≤ w → 1 ≤ d → 1 ≤ width → 1 ≤ depth
+    → StayApart c w d c width depth
 stay_apart c w d width depth h i j k = record { wide = h; wide_then = j; deep = i; deep_then = k; right = omega arith; left = omega arith; rear = omega arith; front = omega arith }
 
 -- ---- the three ways to go
@@ -245,7 +262,9 @@ module _ (p : TapeState) (axis : Axis) (at next : ℕ) (a b e g : Diff) (square 
   pub can_shift : CanMoveAll p (SMove a ∷ SMove b ∷ SMove e ∷ SMove g ∷ [])
   can_shift = can_move_all p _ _ _ _ _ _ _ _ _ _ square.full square.stand then (shift_apart axis p.matrix (spot p.bots) at next square.wide here near back square.stand then) (shift_goes axis (spot p.bots) (far_of p.matrix.resolution) at next a b e g here ea eb ee eg) square.bots_are
 
-  pub shift_went : (q : TapeState) → AllStep p q (SMove a ∷ SMove b ∷ SMove e ∷ SMove g ∷ []) p.matrix p.harmonics (bots_gone p.bots (SMove a ∷ SMove b ∷ SMove e ∷ SMove g ∷ [])) → FourGo p q (far_of p.matrix.resolution) (far_of p.matrix.resolution) (put axis (spot p.bots) next) 1
+  pub shift_went : (q : TapeState)
+      → AllStep p q (SMove a ∷ SMove b ∷ SMove e ∷ SMove g ∷ []) p.matrix p.harmonics (bots_gone p.bots (SMove a ∷ SMove b ∷ SMove e ∷ SMove g ∷ []))
+      → FourGo p q (far_of p.matrix.resolution) (far_of p.matrix.resolution) (put axis (spot p.bots) next) 1
   shift_went q = went p _ _ _ _ _ _ _ _ _ _ square.full square.stand then (shift_apart axis p.matrix (spot p.bots) at next square.wide here near back square.stand then) (shift_goes axis (spot p.bots) (far_of p.matrix.resolution) at next a b e g here ea eb ee eg) square.bots_are q square.high refl
 
 module _ (p : TapeState) (d at next : ℕ) (b e : Diff) (rectangle : IsRectangle p at d) (some : 1 ≤ next) (within : (spot p.bots).x + next < p.matrix.resolution) (eb : b ≡ along X (pos next -ℤ pos at)) (ee : e ≡ along X (pos next -ℤ pos at)) where
@@ -255,7 +274,9 @@ module _ (p : TapeState) (d at next : ℕ) (b e : Diff) (rectangle : IsRectangle
   pub can_widen : CanMoveAll p (Wait ∷ SMove b ∷ SMove e ∷ Wait ∷ [])
   can_widen = can_move_all p _ _ _ _ _ _ _ _ _ _ rectangle.full rectangle.stand wider (stay_apart (spot p.bots) at d next d rectangle.wide rectangle.deep some rectangle.deep) (widen_goes (spot p.bots) d at next b e eb ee) rectangle.bots_are
 
-  pub widen_went : (q : TapeState) → AllStep p q (Wait ∷ SMove b ∷ SMove e ∷ Wait ∷ []) p.matrix p.harmonics (bots_gone p.bots (Wait ∷ SMove b ∷ SMove e ∷ Wait ∷ [])) → FourGo p q next d (spot p.bots) 1
+  pub widen_went : (q : TapeState)
+      → AllStep p q (Wait ∷ SMove b ∷ SMove e ∷ Wait ∷ []) p.matrix p.harmonics (bots_gone p.bots (Wait ∷ SMove b ∷ SMove e ∷ Wait ∷ []))
+      → FourGo p q next d (spot p.bots) 1
   widen_went q = went p _ _ _ _ _ _ _ _ _ _ rectangle.full rectangle.stand wider (stay_apart (spot p.bots) at d next d rectangle.wide rectangle.deep some rectangle.deep) (widen_goes (spot p.bots) d at next b e eb ee) rectangle.bots_are q rectangle.high refl
 
 module _ (p : TapeState) (w at next : ℕ) (e g : Diff) (rectangle : IsRectangle p w at) (some : 1 ≤ next) (within : (spot p.bots).z + next < p.matrix.resolution) (ee : e ≡ along Z (pos next -ℤ pos at)) (eg : g ≡ along Z (pos next -ℤ pos at)) where
@@ -265,5 +286,7 @@ module _ (p : TapeState) (w at next : ℕ) (e g : Diff) (rectangle : IsRectangle
   pub can_deepen : CanMoveAll p (Wait ∷ Wait ∷ SMove e ∷ SMove g ∷ [])
   can_deepen = can_move_all p _ _ _ _ _ _ _ _ _ _ rectangle.full rectangle.stand deeper (stay_apart (spot p.bots) w at w next rectangle.wide rectangle.deep rectangle.wide some) (deepen_goes (spot p.bots) w at next e g ee eg) rectangle.bots_are
 
-  pub deepen_went : (q : TapeState) → AllStep p q (Wait ∷ Wait ∷ SMove e ∷ SMove g ∷ []) p.matrix p.harmonics (bots_gone p.bots (Wait ∷ Wait ∷ SMove e ∷ SMove g ∷ [])) → FourGo p q w next (spot p.bots) 1
+  pub deepen_went : (q : TapeState)
+      → AllStep p q (Wait ∷ Wait ∷ SMove e ∷ SMove g ∷ []) p.matrix p.harmonics (bots_gone p.bots (Wait ∷ Wait ∷ SMove e ∷ SMove g ∷ []))
+      → FourGo p q w next (spot p.bots) 1
   deepen_went q = went p _ _ _ _ _ _ _ _ _ _ rectangle.full rectangle.stand deeper (stay_apart (spot p.bots) w at w next rectangle.wide rectangle.deep rectangle.wide some) (deepen_goes (spot p.bots) w at next e g ee eg) rectangle.bots_are q rectangle.high refl

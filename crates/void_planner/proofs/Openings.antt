@@ -21,11 +21,13 @@ risen_stands t h some =
     record { x = omega (arith, x, r); y = omega (arith, y, r); z = omega (arith, z, r); above = h.clear }
 
 -- bots that come of others stand where they can
-pub becomes_stands : (p q : TapeState) (bots : List Bot) (made w d : ℕ) → Becomes p q bots made → spot bots ≡ spot p.bots → CanStand p.matrix w d (spot p.bots) → CanStand q.matrix w d (spot q.bots)
+pub becomes_stands : (p q : TapeState) (bots : List Bot) (made w d : ℕ) → Becomes p q bots made
+    → spot bots ≡ spot p.bots → CanStand p.matrix w d (spot p.bots) → CanStand q.matrix w d (spot q.bots)
 becomes_stands p q bots made w d h e s =
     subst (λ (m : Matrix). CanStand m w d (spot q.bots)) (sym h.matrix) (subst (λ (c : Coord). CanStand p.matrix w d c) (sym (ap spot h.bots_are ∙ e)) s)
 
-pub becomes_four : (p q : TapeState) (made : ℕ) → Becomes p q (four (spot p.bots) 1 1) made → CanStand p.matrix 1 1 (spot p.bots) → IsRectangle q 1 1
+pub becomes_four : (p q : TapeState) (made : ℕ) → Becomes p q (four (spot p.bots) 1 1) made
+    → CanStand p.matrix 1 1 (spot p.bots) → IsRectangle q 1 1
 becomes_four p q made h s = record {
   bots_are = h.bots_are ∙ ap (λ (c : Coord). four c 1 1) (sym (ap spot h.bots_are));
   high = h.high;
@@ -64,7 +66,9 @@ no_way_yet b h =
     omega (arith, none, steps)
 
 -- nor the voiding
-pub voiding_fits : (b : TapeState) (m : Matrix) → IsSpread b → b.matrix ≡ m → 2 ≤ m.resolution → m.resolution ≤ 400 → steps_to b (coord 0 (b.matrix.resolution - 1) 0) + (b.matrix.resolution - 1) * voiding_steps b.matrix.resolution < 1073741824
+pub voiding_fits : (b : TapeState) (m : Matrix) → IsSpread b → b.matrix ≡ m → 2 ≤ m.resolution → m.resolution ≤ 400
+    → steps_to b (coord 0 (b.matrix.resolution - 1) 0) + (b.matrix.resolution - 1) * voiding_steps b.matrix.resolution
+    < 1073741824
 voiding_fits b m h e some most =
     let first = no_way_yet b h in
     let all : 34 + (m.resolution - 1) * voiding_steps m.resolution < 1073741824 = omega (arith, swept m.resolution (tiles_of m.resolution * tiles_of m.resolution) some, steps_fit m.resolution most) in
@@ -72,7 +76,10 @@ voiding_fits b m h e some most =
     omega (arith, first, all, same)
 
 -- all that is done with the way home, a Flip and the Halt
-pub steps_home : (b d g : TapeState) (m : Matrix) → IsSpread b → b.matrix ≡ m → 2 ≤ m.resolution → Clears b d (coord 0 (b.matrix.resolution - 1) 0) (coord 0 0 0) ((b.matrix.resolution - 1) * voiding_steps b.matrix.resolution) → IsGathered g (steps_to d (coord 0 0 0) + 6) → steps_to g (coord 0 0 0) + 2 ≤ most_void_steps m.resolution
+pub steps_home : (b d g : TapeState) (m : Matrix) → IsSpread b → b.matrix ≡ m → 2 ≤ m.resolution
+    → Clears b d (coord 0 (b.matrix.resolution - 1) 0) (coord 0 0 0)
+    ((b.matrix.resolution - 1) * voiding_steps b.matrix.resolution) → IsGathered g (steps_to d (coord 0 0 0) + 6)
+    → steps_to g (coord 0 0 0) + 2 ≤ most_void_steps m.resolution
 steps_home b d g m h e some k gathered =
     let first = no_way_yet b h in
     let second = k.steps_are in

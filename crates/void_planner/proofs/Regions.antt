@@ -29,7 +29,8 @@ module _ (m : Matrix) (s : Span) where
 -- ---- a tile
 
 -- the coordinates of a tile
-pub in_tile : (far : ℕ) (t c : Coord) → t.x ≤ c.x → c.x ≤ t.x + far → c.y ≡ t.y → t.z ≤ c.z → c.z ≤ t.z + far → is_within (tile far t) (point c) ≡ true
+pub in_tile : (far : ℕ) (t c : Coord) → t.x ≤ c.x → c.x ≤ t.x + far → c.y ≡ t.y → t.z ≤ c.z → c.z ≤ t.z + far
+    → is_within (tile far t) (point c) ≡ true
 in_tile far t c a b e f g = three_true (is_between (pos t.x) (pos (t.x + far)) (pos c.x)) (is_between (pos t.y) (pos t.y) (pos c.y)) (is_between (pos t.z) (pos (t.z + far)) (pos c.z)) (between_ends t.x (t.x + far) c.x a b) (between_ends t.y t.y c.y (omega arith) (omega arith)) (between_ends t.z (t.z + far) c.z f g)
 
 -- a tile that was voided is void
@@ -47,5 +48,7 @@ not_full true b e f = let g = sym e ∙ f in cc
 not_full false b e f = refl
 
 -- a region in which no full coordinate is found is void
-pub none_found : (m : Matrix) (s : Span) (o : Option Coord) (t : Bool) → is_some o ≡ not t → o ≡ find (λ c. is_full m c && is_within s (point c)) (all_of m) → t ≡ true → (c : Coord) → is_within s (point c) ≡ true → is_full m c ≡ false
+pub none_found : (m : Matrix) (s : Span) (o : Option Coord) (t : Bool) → is_some o ≡ not t
+    → o ≡ find (λ c. is_full m c && is_within s (point c)) (all_of m) → t ≡ true → (c : Coord)
+    → is_within s (point c) ≡ true → is_full m c ≡ false
 none_found m s o t e f g c w = void_by_space m c (λ i. not_full (is_full m c) (is_within s (point c)) (find_none (λ d. is_full m d && is_within s (point d)) c (all_of m) (sym f ∙ none_is o t e g) (in_coordinates m.resolution c i)) w)

@@ -34,7 +34,9 @@ use Rattle.void_planner.proofs.Corners.{point_by}
 
 -- ---- what a step makes
 
-pub becomes : (p q : TapeState) (k : List Command) (some bots : List Bot) (made : ℕ) → count_by is_fission k ≡ made → some ≡ bots → p.harmonics ≡ High → p.profile ≡ full_profile → AllStep p q k p.matrix p.harmonics some → Becomes p q bots made
+pub becomes : (p q : TapeState) (k : List Command) (some bots : List Bot) (made : ℕ) → count_by is_fission k ≡ made
+    → some ≡ bots → p.harmonics ≡ High → p.profile ≡ full_profile → AllStep p q k p.matrix p.harmonics some
+    → Becomes p q bots made
 becomes p q k some bots made n e high full s = record {
   source = s.source;
   matrix = s.matrix;
@@ -64,7 +66,8 @@ back_z : (c : Coord) → plus (point (coord c.x c.y (c.z + 1))) (to (pos 0) (neg
 back_z c = point_by (coord c.x c.y (c.z + 1)) (to (pos 0) (negsuc 0)) c (plus_none c.x) (plus_none c.y) (less_one c.z)
 
 -- a way of one coordinate that is in space, where all is void from its height on
-free_spot : (m : Matrix) (w d : ℕ) (c q : Coord) (u : Point) → CanStand m w d c → u ≡ point q → IsInSpace m.resolution q → q.y ≡ c.y → IsFreeWay m u u
+free_spot : (m : Matrix) (w d : ℕ) (c q : Coord) (u : Point) → CanStand m w d c → u ≡ point q → IsInSpace m.resolution q
+    → q.y ≡ c.y → IsFreeWay m u u
 free_spot m w d c q u stand e i same = free_place m q u e i (λ a l. stand.above a (omega arith))
 
 below : (a b : ℕ) → a < b → AreBelow (pos a) (pos a) (pos b) (pos b)
@@ -72,7 +75,9 @@ below a b h = record { near = omega (arith, ints); far = omega (arith, ints); ne
 
 -- ---- one bot becomes two
 
-split_bots : (c q : Coord) → in_rising_order (parent (bot_with 1 c (2 ^ 41 - 2 ^ 2)) 1 ∷ newborn (bot_with 1 c (2 ^ 41 - 2 ^ 2)) (point q) 1 ∷ []) ≡ bot_with 1 c (2 ^ 41 - 2 ^ 4) ∷ bot_with 2 q (2 ^ 3) ∷ []
+split_bots : (c q : Coord)
+    → in_rising_order (parent (bot_with 1 c (2 ^ 41 - 2 ^ 2)) 1 ∷ newborn (bot_with 1 c (2 ^ 41 - 2 ^ 2)) (point q) 1 ∷ [])
+    ≡ bot_with 1 c (2 ^ 41 - 2 ^ 4) ∷ bot_with 2 q (2 ^ 3) ∷ []
 unfolding seed_numbers
 split_bots c q = refl
 
@@ -104,7 +109,9 @@ module _ (p : TapeState) (c : Coord) (d : Diff) (bots : p.bots ≡ one c) (full 
 
 -- ---- two become four
 
-split_bots_both : (c f g e : Coord) → in_rising_order (parent (bot_with 1 c (2 ^ 41 - 2 ^ 4)) 0 ∷ newborn (bot_with 1 c (2 ^ 41 - 2 ^ 4)) (point f) 0 ∷ parent (bot_with 2 e (2 ^ 3)) 0 ∷ newborn (bot_with 2 e (2 ^ 3)) (point g) 0 ∷ []) ≡ bot_with 1 c (2 ^ 41 - 2 ^ 5) ∷ bot_with 2 e 0 ∷ bot_with 3 g 0 ∷ bot_with 4 f 0 ∷ []
+split_bots_both : (c f g e : Coord)
+    → in_rising_order (parent (bot_with 1 c (2 ^ 41 - 2 ^ 4)) 0 ∷ newborn (bot_with 1 c (2 ^ 41 - 2 ^ 4)) (point f) 0 ∷ parent (bot_with 2 e (2 ^ 3)) 0 ∷ newborn (bot_with 2 e (2 ^ 3)) (point g) 0 ∷ [])
+    ≡ bot_with 1 c (2 ^ 41 - 2 ^ 5) ∷ bot_with 2 e 0 ∷ bot_with 3 g 0 ∷ bot_with 4 f 0 ∷ []
 unfolding seed_numbers
 split_bots_both c f g e = refl
 
@@ -176,14 +183,17 @@ module _ (p : TapeState) (c : Coord) (d e : Diff) (bots : p.bots ≡ two c) (ful
 -- ---- bots that fuse
 
 -- two bots whose differences lead to each other
-pair : (a b : Coord) (d e : Diff) → plus (point a) d ≡ point b → plus (point b) e ≡ point a → fuse (point a) (FusionP d) (point b) (FusionS e) ≡ true
+pair : (a b : Coord) (d e : Diff) → plus (point a) d ≡ point b → plus (point b) e ≡ point a
+    → fuse (point a) (FusionP d) (point b) (FusionS e) ≡ true
 pair a b d e f g = both_true (same_point (plus (point a) d) (point b)) (same_point (plus (point b) e) (point a)) (ap (λ (u : Point). same_point u (point b)) f ∙ point_itself b) (ap (λ (u : Point). same_point u (point a)) g ∙ point_itself a)
 
 fused_two : (c e : Coord) → fused (bot_with 1 c (2 ^ 41 - 2 ^ 4)) (bot_with 2 e (2 ^ 3)) ∷ [] ≡ one c
 unfolding seed_numbers
 fused_two c e = refl
 
-fused_four : (c e f g : Coord) → fused (bot_with 1 c (2 ^ 41 - 2 ^ 5)) (bot_with 4 f 0) ∷ fused (bot_with 2 e 0) (bot_with 3 g 0) ∷ [] ≡ bot_with 1 c (2 ^ 41 - 2 ^ 4) ∷ bot_with 2 e (2 ^ 3) ∷ []
+fused_four : (c e f g : Coord)
+    → fused (bot_with 1 c (2 ^ 41 - 2 ^ 5)) (bot_with 4 f 0) ∷ fused (bot_with 2 e 0) (bot_with 3 g 0) ∷ []
+    ≡ bot_with 1 c (2 ^ 41 - 2 ^ 4) ∷ bot_with 2 e (2 ^ 3) ∷ []
 unfolding seed_numbers
 fused_four c e f g = refl
 
@@ -228,7 +238,8 @@ module _ (p : TapeState) (c : Coord) (d e : Diff) (bots : p.bots ≡ two c) (ful
         untangled = ((inl (or_by_first (is_pair first second) (is_pair second first) fuse_pair), tt), (tt, tt));
       })
 
-  pub fuse_makes : successors fusion first (FusionP d) ≡ fused first.bot second.bot ∷ [] → bots_fused p.bots (FusionP d ∷ FusionS e ∷ []) ≡ one c
+  pub fuse_makes : successors fusion first (FusionP d) ≡ fused first.bot second.bot ∷ []
+      → bots_fused p.bots (FusionP d ∷ FusionS e ∷ []) ≡ one c
   fuse_makes h = ap (λ (bs : List Bot). bots_fused bs (FusionP d ∷ FusionS e ∷ [])) bots ∙ ((λ i. h i ++ []) ∙ fused_two c (coord (c.x + 1) c.y c.z))
 
 -- ---- four become two
@@ -279,7 +290,8 @@ module _ (p : TapeState) (c : Coord) (d e f g : Diff) (bots : p.bots ≡ four c 
   pub right_pair : is_pair two_of_four three_of_four ≡ true
   right_pair = pair right behind_right e f right_forth right_back
 
-  stays_in : (u : Point) (q : Coord) → u ≡ point q → IsInSpace p.matrix.resolution q → IsTrue (in_space p.matrix.resolution u)
+  stays_in : (u : Point) (q : Coord) → u ≡ point q → IsInSpace p.matrix.resolution q
+      → IsTrue (in_space p.matrix.resolution u)
   stays_in u q e i = ap (in_space p.matrix.resolution) e ∙ in_space_is p.matrix.resolution q i
 
   joined : (a b : Act) → is_pair a b ≡ true → are_partners a b ≡ true
@@ -328,13 +340,17 @@ module _ (p : TapeState) (c : Coord) (d e f g : Diff) (bots : p.bots ≡ four c 
         );
       })
 
-  pub fuse_both_makes : successors fusions one_of_four (FusionP d) ≡ fused one_of_four.bot four_of_four.bot ∷ [] → successors fusions two_of_four (FusionP e) ≡ fused two_of_four.bot three_of_four.bot ∷ [] → bots_fused p.bots commands ≡ two c
+  pub fuse_both_makes : successors fusions one_of_four (FusionP d) ≡ fused one_of_four.bot four_of_four.bot ∷ []
+      → successors fusions two_of_four (FusionP e) ≡ fused two_of_four.bot three_of_four.bot ∷ []
+      → bots_fused p.bots commands ≡ two c
   fuse_both_makes h k = ap (λ (bs : List Bot). bots_fused bs commands) bots ∙ ((λ i. h i ++ (k i ++ [])) ∙ fused_four c right behind behind_right)
 
 -- ---- what holds of the acts of bots that are known
 
-pub contains_as : (bs cs : List Bot) (k : List Command) (a : Act) → bs ≡ cs → Contains (acts cs k) a → Contains (acts bs k) a
+pub contains_as : (bs cs : List Bot) (k : List Command) (a : Act) → bs ≡ cs → Contains (acts cs k) a
+    → Contains (acts bs k) a
 contains_as bs cs k a e h = subst (λ (xs : List Bot). Contains (acts xs k) a) (sym e) h
 
-pub successors_as : (bs cs : List Bot) (k : List Command) (a : Act) (bots : List Bot) → bs ≡ cs → successors (acts bs k) a a.command ≡ bots → successors (acts cs k) a a.command ≡ bots
+pub successors_as : (bs cs : List Bot) (k : List Command) (a : Act) (bots : List Bot) → bs ≡ cs
+    → successors (acts bs k) a a.command ≡ bots → successors (acts cs k) a a.command ≡ bots
 successors_as bs cs k a bots e h = subst (λ (xs : List Bot). successors (acts xs k) a a.command ≡ bots) e h

@@ -17,11 +17,13 @@ use Rattle.plan_tape.proofs.ClearWays.{moves_on, no_moves}
 -- ---- tapes
 
 -- nothing is voided yet
-pub clears_none : (a : TapeState) (at : Coord) → IsRectangle a (far_of a.matrix.resolution) (far_of a.matrix.resolution) → Clears a a at at 0
+pub clears_none : (a : TapeState) (at : Coord) → IsRectangle a (far_of a.matrix.resolution) (far_of a.matrix.resolution)
+    → Clears a a at at 0
 clears_none a at square = record { source = refl; resolution = refl; fewer = λ c v. v; square = square; fissions_are = refl; steps_are = omega arith }
 
 -- some more
-pub clears_more : (a b c : TapeState) (p q s : Coord) (k n most : ℕ) → Clears a b p q k → Clears b c q s n → k + n ≤ most → Clears a c p s most
+pub clears_more : (a b c : TapeState) (p q s : Coord) (k n most : ℕ) → Clears a b p q k → Clears b c q s n
+    → k + n ≤ most → Clears a c p s most
 clears_more a b c p q s k n most h g l = record {
   source = g.source ∙ h.source;
   resolution = g.resolution ∙ h.resolution;
@@ -32,7 +34,8 @@ clears_more a b c p q s k n most h g l = record {
 }
 
 -- the way to another coordinate
-pub clears_to : (a b : TapeState) (p q s : Coord) (k n most : ℕ) → Clears a b p q k → moves_to q s ≤ n → k + n ≤ most → Clears a b p s most
+pub clears_to : (a b : TapeState) (p q s : Coord) (k n most : ℕ) → Clears a b p q k → moves_to q s ≤ n → k + n ≤ most
+    → Clears a b p s most
 clears_to a b p q s k n most h l m = record {
   source = h.source;
   resolution = h.resolution;
@@ -53,7 +56,12 @@ clears_on a b p q k y c h = record {
 -- ---- a tile
 
 -- the four have gone above a tile and voided it
-pub tile_cleared : (a b c : TapeState) (x y z far : ℕ) → far ≡ far_of b.matrix.resolution → FourGo a b (far_of a.matrix.resolution) (far_of a.matrix.resolution) (coord x (y + 1) z) (moves_to (spot a.bots) (coord x (y + 1) z)) → FourVoid b c far (tile far (coord (spot b.bots).x ((spot b.bots).y - 1) (spot b.bots).z)) (with_region b.matrix (tile far (coord (spot b.bots).x ((spot b.bots).y - 1) (spot b.bots).z)) false) → Clears a c (coord x (y + 1) z) (coord x (y + 1) z) 1 × IsVoidTile c.matrix (far_of a.matrix.resolution) x y z
+pub tile_cleared : (a b c : TapeState) (x y z far : ℕ) → far ≡ far_of b.matrix.resolution
+    → FourGo a b (far_of a.matrix.resolution) (far_of a.matrix.resolution) (coord x (y + 1) z)
+    (moves_to (spot a.bots) (coord x (y + 1) z))
+    → FourVoid b c far (tile far (coord (spot b.bots).x ((spot b.bots).y - 1) (spot b.bots).z))
+    (with_region b.matrix (tile far (coord (spot b.bots).x ((spot b.bots).y - 1) (spot b.bots).z)) false)
+    → Clears a c (coord x (y + 1) z) (coord x (y + 1) z) 1 × IsVoidTile c.matrix (far_of a.matrix.resolution) x y z
 tile_cleared a b c x y z far ef g v =
     let t = coord x (y + 1) z in
     let er : far ≡ far_of a.matrix.resolution = ef ∙ ap (λ (m : Matrix). far_of m.resolution) g.matrix in
@@ -82,7 +90,8 @@ next_forth r k = omega arith
 next_back : (r n k : ℕ) → moves (place_of r (n - 1 - (k - 1))) (place_of r (n - 1 - k)) ≤ 3
 next_back r n k = omega arith
 
-pub next_turned : (r n : ℕ) (back : Bool) (k : ℕ) → moves (place_of r (turned n back (k - 1))) (place_of r (turned n back k)) ≤ 3
+pub next_turned : (r n : ℕ) (back : Bool) (k : ℕ)
+    → moves (place_of r (turned n back (k - 1))) (place_of r (turned n back k)) ≤ 3
 next_turned r n true k = next_back r n k
 next_turned r n false k = next_forth r k
 
@@ -103,7 +112,8 @@ pub less_or_not : (a b : ℕ) → (a < b) ⊎ (b ≤ a)
 less_or_not a b = grind arith
 
 -- what holds of all that were taken before holds of them and the next one
-taken_more : (P Q : ℕ → Type 0) (k : ℕ) → ((i : ℕ) → P i → Q i) → ((i : ℕ) → i < k → P i) → Q k → (i : ℕ) → i < k + 1 → Q i
+taken_more : (P Q : ℕ → Type 0) (k : ℕ) → ((i : ℕ) → P i → Q i) → ((i : ℕ) → i < k → P i) → Q k → (i : ℕ) → i < k + 1
+    → Q i
 taken_more P Q k f h q i l = by (less_or_not i k)
   where
     by : (i < k) ⊎ (k ≤ i) → Q i
@@ -121,12 +131,17 @@ abbrev pub AreVoidTiles : Matrix → ℕ → Bool → ℕ → ℕ → ℕ → Ty
 AreVoidTiles m r back x y k = (i : ℕ) → i < k → IsVoidTile m (far_of r) x y (place_of r (turned (tiles_of r) back i))
 
 -- one tile more
-pub tiles_more : (a b : Matrix) (r : ℕ) (back : Bool) (x y k : ℕ) → AreFewer b a → AreVoidTiles a r back x y k → IsVoidTile b (far_of r) x y (place_of r (turned (tiles_of r) back k)) → AreVoidTiles b r back x y (k + 1)
+pub tiles_more : (a b : Matrix) (r : ℕ) (back : Bool) (x y k : ℕ) → AreFewer b a → AreVoidTiles a r back x y k
+    → IsVoidTile b (far_of r) x y (place_of r (turned (tiles_of r) back k)) → AreVoidTiles b r back x y (k + 1)
 tiles_more a b r back x y k fewer h t =
     taken_more (λ i. IsVoidTile a (far_of r) x y (place_of r (turned (tiles_of r) back i))) (λ i. IsVoidTile b (far_of r) x y (place_of r (turned (tiles_of r) back i))) k
     (λ i v c p q e f g. fewer c (v c p q e f g)) h t
 
-pub strip_on : (a b c : TapeState) (r : ℕ) (back : Bool) (x y k : ℕ) → Clears a b (coord x (y + 1) (edge r back)) (coord x (y + 1) (place_of r (turned (tiles_of r) back (k - 1)))) (4 * k) → Clears b c (coord x (y + 1) (place_of r (turned (tiles_of r) back k))) (coord x (y + 1) (place_of r (turned (tiles_of r) back k))) 1 → Clears a c (coord x (y + 1) (edge r back)) (coord x (y + 1) (place_of r (turned (tiles_of r) back (k + 1 - 1)))) (4 * (k + 1))
+pub strip_on : (a b c : TapeState) (r : ℕ) (back : Bool) (x y k : ℕ) → Clears a b (coord x (y + 1) (edge r back))
+    (coord x (y + 1) (place_of r (turned (tiles_of r) back (k - 1)))) (4 * k)
+    → Clears b c (coord x (y + 1) (place_of r (turned (tiles_of r) back k)))
+    (coord x (y + 1) (place_of r (turned (tiles_of r) back k))) 1 → Clears a c (coord x (y + 1) (edge r back))
+    (coord x (y + 1) (place_of r (turned (tiles_of r) back (k + 1 - 1)))) (4 * (k + 1))
 strip_on a b c r back x y k p q =
     let start = coord x (y + 1) (edge r back) in
     let u = coord x (y + 1) (place_of r (turned (tiles_of r) back (k - 1))) in
@@ -136,7 +151,8 @@ strip_on a b c r back x y k p q =
     subst (λ v. Clears a c start (coord x (y + 1) (place_of r (turned (tiles_of r) back v))) (4 * (k + 1))) here
     (clears_more a b c start t t (4 * k + 3) 1 (4 * (k + 1)) (clears_to a b start u t (4 * k) 3 (4 * k + 3) p way (omega arith)) q (omega arith))
 
-pub strip_void : (m : Matrix) (r : ℕ) (back : Bool) (x y : ℕ) → AreVoidTiles m r back x y (tiles_of r) → IsVoidStrip m (far_of r) x y r
+pub strip_void : (m : Matrix) (r : ℕ) (back : Bool) (x y : ℕ) → AreVoidTiles m r back x y (tiles_of r)
+    → IsVoidStrip m (far_of r) x y r
 strip_void m r back x y h = λ c u v w l.
     let n = in_tile r c.z l in
     each_taken (λ j. IsVoidTile m (far_of r) x y (place_of r j)) (tiles_of r) back h (c.z / 31) n.0 c u v w n.1 n.2
@@ -147,18 +163,24 @@ strip_void m r back x y h = λ c u v w l.
 abbrev pub AreVoidStrips : Matrix → ℕ → Bool → ℕ → ℕ → Type 0
 AreVoidStrips m r turn y k = (i : ℕ) → i < k → IsVoidStrip m (far_of r) (place_of r (turned (tiles_of r) turn i)) y r
 
-pub strips_more : (a b : Matrix) (r : ℕ) (turn : Bool) (y k : ℕ) → AreFewer b a → AreVoidStrips a r turn y k → IsVoidStrip b (far_of r) (place_of r (turned (tiles_of r) turn k)) y r → AreVoidStrips b r turn y (k + 1)
+pub strips_more : (a b : Matrix) (r : ℕ) (turn : Bool) (y k : ℕ) → AreFewer b a → AreVoidStrips a r turn y k
+    → IsVoidStrip b (far_of r) (place_of r (turned (tiles_of r) turn k)) y r → AreVoidStrips b r turn y (k + 1)
 strips_more a b r turn y k fewer h t =
     taken_more (λ i. IsVoidStrip a (far_of r) (place_of r (turned (tiles_of r) turn i)) y r) (λ i. IsVoidStrip b (far_of r) (place_of r (turned (tiles_of r) turn i)) y r) k
     (λ i v c p q e f. fewer c (v c p q e f)) h t
 
-pub layer_void : (m : Matrix) (r : ℕ) (turn : Bool) (y : ℕ) → m.resolution ≡ r → AreVoidStrips m r turn y (tiles_of r) → IsVoidBefore m r y
+pub layer_void : (m : Matrix) (r : ℕ) (turn : Bool) (y : ℕ) → m.resolution ≡ r → AreVoidStrips m r turn y (tiles_of r)
+    → IsVoidBefore m r y
 layer_void m r turn y e h = λ c l w.
     let n = in_tile r c.x l in
     void_by_space m c (λ i. each_taken (λ j. IsVoidStrip m (far_of r) (place_of r j) y r) (tiles_of r) turn h (c.x / 31) n.0 c n.1 n.2 w (let z = i.z in omega arith))
 
 -- the next strip is within the steps of all
-pub layer_limit : (a b : TapeState) (r : ℕ) (turn first now : Bool) (y k limit : ℕ) → k < tiles_of r → Clears a b (coord (edge r turn) (y + 1) (edge r first)) (coord (place_of r (turned (tiles_of r) turn (k - 1))) (y + 1) (edge r now)) (strip_steps r * k) → steps_to a (coord (edge r turn) (y + 1) (edge r first)) + strip_steps r * tiles_of r < limit → steps_to b (coord (place_of r (turned (tiles_of r) turn k)) (y + 1) (edge r now)) + 4 * tiles_of r < limit
+pub layer_limit : (a b : TapeState) (r : ℕ) (turn first now : Bool) (y k limit : ℕ) → k < tiles_of r
+    → Clears a b (coord (edge r turn) (y + 1) (edge r first))
+    (coord (place_of r (turned (tiles_of r) turn (k - 1))) (y + 1) (edge r now)) (strip_steps r * k)
+    → steps_to a (coord (edge r turn) (y + 1) (edge r first)) + strip_steps r * tiles_of r < limit
+    → steps_to b (coord (place_of r (turned (tiles_of r) turn k)) (y + 1) (edge r now)) + 4 * tiles_of r < limit
 layer_limit a b r turn first now y k limit h p q =
     let u = coord (place_of r (turned (tiles_of r) turn (k - 1))) (y + 1) (edge r now) in
     let t = coord (place_of r (turned (tiles_of r) turn k)) (y + 1) (edge r now) in
@@ -167,11 +189,18 @@ layer_limit a b r turn first now y k limit h p q =
     let all : strip_steps r * (k + 1) ≤ strip_steps r * tiles_of r = mul-le-mul (omega arith) (omega arith) in
     within (steps_to a (coord (edge r turn) (y + 1) (edge r first))) b.steps (moves_to (spot b.bots) u) (moves_to (spot b.bots) t) (moves_to u t) (tiles_of r) k (strip_steps r * tiles_of r) limit p.steps_are on way all q
   where
-    within : (s b u t w n k m limit : ℕ) → b + u ≤ s + (4 * n + 3) * k → t ≤ u + w → w ≤ 3 → (4 * n + 3) * (k + 1) ≤ m → s + m < limit → b + t + 4 * n < limit
+    within : (s b u t w n k m limit : ℕ) → b + u ≤ s + (4 * n + 3) * k → t ≤ u + w → w ≤ 3 → (4 * n + 3) * (k + 1) ≤ m
+        → s + m < limit → b + t + 4 * n < limit
     within s b u t w n k m limit e f g h q = let d : (4 * n + 3) * (k + 1) ≡ (4 * n + 3) * k + (4 * n + 3) = omega arith in omega arith
 
 -- one strip more, and the way to it
-pub layer_on : (a b c : TapeState) (r : ℕ) (turn first now : Bool) (y k : ℕ) → Clears a b (coord (edge r turn) (y + 1) (edge r first)) (coord (place_of r (turned (tiles_of r) turn (k - 1))) (y + 1) (edge r now)) (strip_steps r * k) → Clears b c (coord (place_of r (turned (tiles_of r) turn k)) (y + 1) (edge r now)) (coord (place_of r (turned (tiles_of r) turn k)) (y + 1) (edge r (not now))) (4 * tiles_of r) → Clears a c (coord (edge r turn) (y + 1) (edge r first)) (coord (place_of r (turned (tiles_of r) turn (k + 1 - 1))) (y + 1) (edge r (not now))) (strip_steps r * (k + 1))
+pub layer_on : (a b c : TapeState) (r : ℕ) (turn first now : Bool) (y k : ℕ)
+    → Clears a b (coord (edge r turn) (y + 1) (edge r first))
+    (coord (place_of r (turned (tiles_of r) turn (k - 1))) (y + 1) (edge r now)) (strip_steps r * k)
+    → Clears b c (coord (place_of r (turned (tiles_of r) turn k)) (y + 1) (edge r now))
+    (coord (place_of r (turned (tiles_of r) turn k)) (y + 1) (edge r (not now))) (4 * tiles_of r)
+    → Clears a c (coord (edge r turn) (y + 1) (edge r first))
+    (coord (place_of r (turned (tiles_of r) turn (k + 1 - 1))) (y + 1) (edge r (not now))) (strip_steps r * (k + 1))
 layer_on a b c r turn first now y k p q =
     let start = coord (edge r turn) (y + 1) (edge r first) in
     let u = coord (place_of r (turned (tiles_of r) turn (k - 1))) (y + 1) (edge r now) in
@@ -193,7 +222,11 @@ abbrev pub fro_steps : ℕ → ℕ
 fro_steps r = strip_steps r * tiles_of r + 1
 
 -- one layer more, above which all is void
-pub layers_on : (a b c : TapeState) (r y : ℕ) (turn back next : Bool) → 0 < y → y < r → Clears a b (coord 0 (r - 1) 0) (coord (edge r turn) y (edge r back)) ((r - 1 - y) * fro_steps r) → Clears b c (coord (edge r turn) (y - 1 + 1) (edge r back)) (coord (edge r (not turn)) (y - 1 + 1) (edge r next)) (strip_steps r * tiles_of r) → Clears a c (coord 0 (r - 1) 0) (coord (edge r (not turn)) (y - 1) (edge r next)) ((r - 1 - (y - 1)) * fro_steps r)
+pub layers_on : (a b c : TapeState) (r y : ℕ) (turn back next : Bool) → 0 < y → y < r
+    → Clears a b (coord 0 (r - 1) 0) (coord (edge r turn) y (edge r back)) ((r - 1 - y) * fro_steps r)
+    → Clears b c (coord (edge r turn) (y - 1 + 1) (edge r back)) (coord (edge r (not turn)) (y - 1 + 1) (edge r next))
+    (strip_steps r * tiles_of r)
+    → Clears a c (coord 0 (r - 1) 0) (coord (edge r (not turn)) (y - 1) (edge r next)) ((r - 1 - (y - 1)) * fro_steps r)
 layers_on a b c r y turn back next h l p q =
     let up : y - 1 + 1 ≡ y = omega arith in
     let layer = subst (λ v. Clears b c (coord (edge r turn) v (edge r back)) (coord (edge r (not turn)) v (edge r next)) (strip_steps r * tiles_of r)) up q in
@@ -234,7 +267,10 @@ times m n w l h k =
 all_but : (m k n l : ℕ) → m + 1 ≤ k → n ≤ l → m * n + n ≤ k * l
 all_but m k n l h g = let all : (m + 1) * n ≤ k * l = mul-le-mul h g in omega (arith, all)
 
-pub layers_limit : (a b : TapeState) (r y : ℕ) (turn back : Bool) (limit : ℕ) → 0 < y → y < r → Clears a b (coord 0 (r - 1) 0) (coord (edge r turn) y (edge r back)) ((r - 1 - y) * fro_steps r) → steps_to a (coord 0 (r - 1) 0) + (r - 1) * voiding_steps r < limit → steps_to b (coord (edge r turn) (y - 1 + 1) (edge r back)) + strip_steps r * tiles_of r < limit
+pub layers_limit : (a b : TapeState) (r y : ℕ) (turn back : Bool) (limit : ℕ) → 0 < y → y < r
+    → Clears a b (coord 0 (r - 1) 0) (coord (edge r turn) y (edge r back)) ((r - 1 - y) * fro_steps r)
+    → steps_to a (coord 0 (r - 1) 0) + (r - 1) * voiding_steps r < limit
+    → steps_to b (coord (edge r turn) (y - 1 + 1) (edge r back)) + strip_steps r * tiles_of r < limit
 layers_limit a b r y turn back limit h l p q =
     let up : y - 1 + 1 ≡ y = omega arith in
     let most = all_but (r - 1 - y) (r - 1) (fro_steps r) (voiding_steps r) (omega arith) (let w = with_way (tiles_of r) in omega (arith, w)) in
@@ -244,7 +280,9 @@ layers_limit a b r y turn back limit h l p q =
     within s t m n k limit e f g = omega arith
 
 -- once all layers are void, the way to the origin is within the steps of the layers
-pub layers_all : (a b : TapeState) (r y : ℕ) (turn back : Bool) → 2 ≤ r → y ≡ 0 → Clears a b (coord 0 (r - 1) 0) (coord (edge r turn) y (edge r back)) ((r - 1 - y) * fro_steps r) → Clears a b (coord 0 (r - 1) 0) (coord 0 0 0) ((r - 1) * voiding_steps r)
+pub layers_all : (a b : TapeState) (r y : ℕ) (turn back : Bool) → 2 ≤ r → y ≡ 0
+    → Clears a b (coord 0 (r - 1) 0) (coord (edge r turn) y (edge r back)) ((r - 1 - y) * fro_steps r)
+    → Clears a b (coord 0 (r - 1) 0) (coord 0 0 0) ((r - 1) * voiding_steps r)
 layers_all a b r y turn back some e p =
     let low = subst (λ v. Clears a b (coord 0 (r - 1) 0) (coord (edge r turn) v (edge r back)) ((r - 1 - v) * fro_steps r)) e p in
     let way : moves_to (coord (edge r turn) 0 (edge r back)) (coord 0 0 0) ≤ 6 * tiles_of r = let u = edge_near r turn in let v = edge_near r back in omega arith in
@@ -252,7 +290,8 @@ layers_all a b r y turn back some e p =
     (subst (λ v. v * fro_steps r + 6 * tiles_of r ≤ (r - 1) * voiding_steps r) (let e : r - 1 ≡ r - 1 - 0 = omega arith in e) (times (r - 1) (fro_steps r) (6 * tiles_of r) (voiding_steps r) (omega arith) (with_way (tiles_of r))))
 
 -- with the layer below all is void from there on
-pub void_more : (a b : Matrix) (y : ℕ) → 0 < y → AreFewer b a → IsVoidFrom a y → IsVoidBefore b b.resolution (y - 1) → IsVoidFrom b (y - 1)
+pub void_more : (a b : Matrix) (y : ℕ) → 0 < y → AreFewer b a → IsVoidFrom a y → IsVoidBefore b b.resolution (y - 1)
+    → IsVoidFrom b (y - 1)
 void_more a b y h fewer v w = λ c l. by c l (less_or_not c.y y)
   where
     by : (c : Coord) → y - 1 ≤ c.y → (c.y < y) ⊎ (y ≤ c.y) → is_full b c ≡ false

@@ -8,26 +8,32 @@ take-split m n xs =
     let front : take m (take (m + n) xs) ≡ take m xs = take-take m (m + n) xs (omega arith) in
     rw (← drop-take m n xs, ← front) (take-append-drop m (take (m + n) xs))
 
-pub length_joined : (v w buf : List ℕ) (taken : ℕ) → taken ≤ length buf → w ≡ v ++ take taken buf → length w ≡ length v + taken
+pub length_joined : (v w buf : List ℕ) (taken : ℕ) → taken ≤ length buf → w ≡ v ++ take taken buf
+    → length w ≡ length v + taken
 length_joined v w buf taken le is = ap length is ∙ length-append v (take taken buf) ∙ ap (λ k. length v + k) (omega (arith, length-take taken buf))
 
 -- where the file is told, these are its first bytes
 pub record SoFar (told : Option Files) (name v : List ℕ) : Type 0 where
-  pub front : (files : Files) (file : List ℕ) → told ≡ Some files → content files name ≡ Some file → v ≡ take (length v) file
+  pub front : (files : Files) (file : List ℕ) → told ≡ Some files → content files name ≡ Some file
+      → v ≡ take (length v) file
 
 pub SoFar-empty : (told : Option Files) (name : List ℕ) → SoFar told name []
 SoFar-empty told name = record { front = λ files file t c. refl }
 
 -- what is known of the file where it is told, in the form of a premise
-pub from_told : (told : Option Files) (name : List ℕ) (P : List ℕ → Type 0) → IfTold told name P → (files : Files) (file : List ℕ) → told ≡ Some files → content files name ≡ Some file → P file
+pub from_told : (told : Option Files) (name : List ℕ) (P : List ℕ → Type 0) → IfTold told name P → (files : Files)
+    (file : List ℕ) → told ≡ Some files → content files name ≡ Some file → P file
 from_told told name P h files file t c = let here = subst (λ o. IfTold o name P) t h in subst (λ o. IsSomeAnd o P) c here
 
 -- the other way: where files are told there is such a file, and each such file has P
-pub to_told : (told : Option Files) (name : List ℕ) (P Q : List ℕ → Type 0) → IfTold told name P → ((files : Files) (file : List ℕ) → told ≡ Some files → content files name ≡ Some file → Q file) → IfTold told name Q
+pub to_told : (told : Option Files) (name : List ℕ) (P Q : List ℕ → Type 0) → IfTold told name P
+    → ((files : Files) (file : List ℕ) → told ≡ Some files → content files name ≡ Some file → Q file)
+    → IfTold told name Q
 to_told None name P Q h all = tt
 to_told (Some files) name P Q h all = there (content files name) h (all files)
   where
-    there : (o : Option (List ℕ)) → IsSomeAnd o P → ((file : List ℕ) → Some files ≡ Some files → o ≡ Some file → Q file) → IsSomeAnd o Q
+    there : (o : Option (List ℕ)) → IsSomeAnd o P → ((file : List ℕ) → Some files ≡ Some files → o ≡ Some file → Q file)
+        → IsSomeAnd o Q
     there None h all = h
     there (Some file) h all = all file refl refl
 
@@ -47,7 +53,8 @@ module _ (told : Option Files) (name v : List ℕ) (n : ℕ) (buf : List ℕ) (s
   }
 
   -- all that was asked for is there
-  pub SoFar-full : (most : ℕ) (w : List ℕ) → SoFar told name w → length w ≡ most → IfTold told name (λ file. w ≡ take most file)
+  pub SoFar-full : (most : ℕ) (w : List ℕ) → SoFar told name w → length w ≡ most
+      → IfTold told name (λ file. w ≡ take most file)
   SoFar-full most w next full = to_told told name _ _ piece (λ files file t c. next.front files file t c ∙ ap (λ k. take k file) full)
 
   -- no byte came

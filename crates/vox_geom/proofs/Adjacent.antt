@@ -16,13 +16,16 @@ is_one n h = grind (arith, nat_tests)
 pub one_is : (n : ℕ) → n ≡ 1 → IsTrue (n == 1)
 one_is n h = rw h refl
 
-gaps : (a b : Coord) → IsTrue (are_adjacent a b) → ((a.x - b.x) + (b.x - a.x)) + ((a.y - b.y) + (b.y - a.y)) + ((a.z - b.z) + (b.z - a.z)) ≡ 1
+gaps : (a b : Coord) → IsTrue (are_adjacent a b)
+    → ((a.x - b.x) + (b.x - a.x)) + ((a.y - b.y) + (b.y - a.y)) + ((a.z - b.z) + (b.z - a.z)) ≡ 1
 gaps a b h =
     sym (λ i. gap a.x b.x i + gap a.y b.y i + gap a.z b.z i)
     ∙ is_one (unsigned_abs (pos a.x -ℤ pos b.x) + unsigned_abs (pos a.y -ℤ pos b.y) + unsigned_abs (pos a.z -ℤ pos b.z)) h
 
 -- coordinates that lie one apart on one axis are adjacent
-pub adjacent_by : (a b : Coord) → ((a.x - b.x) + (b.x - a.x)) + ((a.y - b.y) + (b.y - a.y)) + ((a.z - b.z) + (b.z - a.z)) ≡ 1 → IsTrue (are_adjacent a b)
+pub adjacent_by : (a b : Coord)
+    → ((a.x - b.x) + (b.x - a.x)) + ((a.y - b.y) + (b.y - a.y)) + ((a.z - b.z) + (b.z - a.z)) ≡ 1
+    → IsTrue (are_adjacent a b)
 adjacent_by a b e =
     one_is (unsigned_abs (pos a.x -ℤ pos b.x) + unsigned_abs (pos a.y -ℤ pos b.y) + unsigned_abs (pos a.z -ℤ pos b.z))
     ((λ i. gap a.x b.x i + gap a.y b.y i + gap a.z b.z i) ∙ e)
@@ -42,7 +45,9 @@ pub data Side (a b : Coord) : Type 0 where
 pub side_of : (a b : Coord) → IsTrue (are_adjacent a b) → Side a b
 side_of a b h = by (gaps a b h) (cases_lt a.x b.x) (cases_lt b.x a.x) (cases_lt a.y b.y) (cases_lt b.y a.y) (cases_lt a.z b.z)
   where
-    by : ((a.x - b.x) + (b.x - a.x)) + ((a.y - b.y) + (b.y - a.y)) + ((a.z - b.z) + (b.z - a.z)) ≡ 1 → ((a.x < b.x) ⊎ (b.x ≤ a.x)) → ((b.x < a.x) ⊎ (a.x ≤ b.x)) → ((a.y < b.y) ⊎ (b.y ≤ a.y)) → ((b.y < a.y) ⊎ (a.y ≤ b.y)) → ((a.z < b.z) ⊎ (b.z ≤ a.z)) → Side a b
+    by : ((a.x - b.x) + (b.x - a.x)) + ((a.y - b.y) + (b.y - a.y)) + ((a.z - b.z) + (b.z - a.z)) ≡ 1
+        → ((a.x < b.x) ⊎ (b.x ≤ a.x)) → ((b.x < a.x) ⊎ (a.x ≤ b.x)) → ((a.y < b.y) ⊎ (b.y ≤ a.y))
+        → ((b.y < a.y) ⊎ (a.y ≤ b.y)) → ((a.z < b.z) ⊎ (b.z ≤ a.z)) → Side a b
     by g (inl l) h i j k = right (omega arith) (omega arith) (omega arith)
     by g (inr l) (inl m) i j k = left (omega arith) (omega arith) (omega arith)
     by g (inr l) (inr m) (inl n) j k = above (omega arith) (omega arith) (omega arith)

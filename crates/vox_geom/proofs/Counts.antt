@@ -18,7 +18,8 @@ tally : (ℕ → Bool) → ℕ → ℕ → ℕ
 tally p zero a = 0
 tally p (suc n) a = cond (p a) 1 0 + tally p n (a + 1)
 
-counted : (p : Coord → Bool) (f : ℕ → Coord) (n a : ℕ) → count_by p (map f (numbers_from a n)) ≡ tally (λ k. p (f k)) n a
+counted : (p : Coord → Bool) (f : ℕ → Coord) (n a : ℕ)
+    → count_by p (map f (numbers_from a n)) ≡ tally (λ k. p (f k)) n a
 unfolding tally
 counted p f zero a = refl
 counted p f (suc n) a = sum_by-cons (λ c. cond (p c) 1 0) (f a) (map f (numbers_from (a + 1) n)) ∙ ap (λ k. cond (p (f a)) 1 0 + k) (counted p f n (a + 1))
@@ -91,7 +92,8 @@ extent_is : (low high : ℕ) → low ≤ high → extent (pos low) (pos high) �
 extent_is low high h = omega (arith, ints)
 
 -- as many numbers below r lie between two of them as the extent says
-between_tallied : (low high r : ℕ) → low ≤ high → high < r → tally (λ v. is_between (pos low) (pos high) (pos v)) r 0 ≡ extent (pos low) (pos high)
+between_tallied : (low high r : ℕ) → low ≤ high → high < r
+    → tally (λ v. is_between (pos low) (pos high) (pos v)) r 0 ≡ extent (pos low) (pos high)
 between_tallied low high r h k =
     let test : ℕ → Bool = λ v. is_between (pos low) (pos high) (pos v) in
     let n = high - low + 1 in
@@ -105,7 +107,8 @@ between_tallied low high r h k =
     ap (λ v. tally test v 0) e ∙ (outer ∙ (omega arith ∙ sym (extent_is low high h)))
 
 -- the coordinates of the matrix in a region are counted axis by axis
-axis_by_axis : (r : ℕ) (s : Span) → count_by (λ c. is_within s (point c)) (coordinates r) ≡ tally (λ v. is_between s.from.x s.to.x (pos v)) r 0 * tally (λ v. is_between s.from.y s.to.y (pos v)) r 0 * tally (λ v. is_between s.from.z s.to.z (pos v)) r 0
+axis_by_axis : (r : ℕ) (s : Span) → count_by (λ c. is_within s (point c)) (coordinates r)
+    ≡ tally (λ v. is_between s.from.x s.to.x (pos v)) r 0 * tally (λ v. is_between s.from.y s.to.y (pos v)) r 0 * tally (λ v. is_between s.from.z s.to.z (pos v)) r 0
 axis_by_axis r s =
     let x : ℕ → Bool = λ v. is_between s.from.x s.to.x (pos v) in
     let y : ℕ → Bool = λ v. is_between s.from.y s.to.y (pos v) in
@@ -116,7 +119,8 @@ axis_by_axis r s =
     ∙ (pairs front z r (r * r) ∙ ap (λ v. v * tally z r 0) (pairs x y r r)))
 
 -- the number of coordinates of the matrix that are in a region of it is the region's size
-pub region_count : (r : ℕ) (k : Corners) → IsOrdered k → IsInSpace r k.high → count_by (λ c. is_within (span k) (point c)) (coordinates r) ≡ size (span k)
+pub region_count : (r : ℕ) (k : Corners) → IsOrdered k → IsInSpace r k.high
+    → count_by (λ c. is_within (span k) (point c)) (coordinates r) ≡ size (span k)
 region_count r k o h =
     let y : ℕ = tally (λ v. is_between (pos k.low.y) (pos k.high.y) (pos v)) r 0 in
     let z : ℕ = tally (λ v. is_between (pos k.low.z) (pos k.high.z) (pos v)) r 0 in
@@ -128,7 +132,8 @@ region_count r k o h =
 -- ---- a region that may leave the matrix
 
 -- fewer numbers below r lie between two than the extent says, where some of those are past r
-up_to : (low high r : ℕ) → low ≤ high → tally (λ v. is_between (pos low) (pos high) (pos v)) r 0 ≤ extent (pos low) (pos high)
+up_to : (low high r : ℕ) → low ≤ high
+    → tally (λ v. is_between (pos low) (pos high) (pos v)) r 0 ≤ extent (pos low) (pos high)
 up_to low high r h =
     let test : ℕ → Bool = λ v. is_between (pos low) (pos high) (pos v) in
     let all : tally test (r + (high + 1)) 0 ≡ extent (pos low) (pos high) = between_tallied low high (r + (high + 1)) h (omega arith) in

@@ -12,17 +12,20 @@ use Rattle.vox_geom.specs.Least.{LeastOf}
 use Rattle.vox_geom.proofs.Truths.{false_by, true_and_false}
 
 -- the first number that passes
-found : (test : Coord → Bool) (f : ℕ → Coord) (n a p : ℕ) → a ≤ p → p < a + n → IsTrue (test (f p)) → ((q : ℕ) → a ≤ q → q < p → IsFalse (test (f q))) → find test (map f (numbers_from a n)) ≡ Some (f p)
+found : (test : Coord → Bool) (f : ℕ → Coord) (n a p : ℕ) → a ≤ p → p < a + n → IsTrue (test (f p))
+    → ((q : ℕ) → a ≤ q → q < p → IsFalse (test (f q))) → find test (map f (numbers_from a n)) ≡ Some (f p)
 found test f zero a p h k t none = absurd (omega arith)
 found test f (suc n) a p h k t none = by (ℕ_discrete a p) (λ (l : a + 1 ≤ p). found test f n (a + 1) p l (omega arith) t (λ q i j. none q (omega arith) j))
   where
-    by : Dec (a ≡ p) → (a + 1 ≤ p → find test (map f (numbers_from (a + 1) n)) ≡ Some (f p)) → find test (map f (numbers_from a (suc n))) ≡ Some (f p)
+    by : Dec (a ≡ p) → (a + 1 ≤ p → find test (map f (numbers_from (a + 1) n)) ≡ Some (f p))
+        → find test (map f (numbers_from a (suc n))) ≡ Some (f p)
     by (yes e) later = ap (λ b. cond b (Some (f a)) (find test (map f (numbers_from (a + 1) n)))) (ap (λ q. test (f q)) e ∙ t) ∙ ap (λ q. Some (f q)) e
     by (no ne) later =
         ap (λ b. cond b (Some (f a)) (find test (map f (numbers_from (a + 1) n)))) (none a (omega arith) (omega arith))
         ∙ later (omega arith)
 
-nowhere : (test : Coord → Bool) (f : ℕ → Coord) (n a : ℕ) → ((q : ℕ) → a ≤ q → q < a + n → IsFalse (test (f q))) → find test (map f (numbers_from a n)) ≡ None
+nowhere : (test : Coord → Bool) (f : ℕ → Coord) (n a : ℕ) → ((q : ℕ) → a ≤ q → q < a + n → IsFalse (test (f q)))
+    → find test (map f (numbers_from a n)) ≡ None
 nowhere test f zero a none = refl
 nowhere test f (suc n) a none = ap (λ b. cond b (Some (f a)) (find test (map f (numbers_from (a + 1) n)))) (none a (omega arith) (omega arith)) ∙ nowhere test f n (a + 1) (λ q h k. none q (omega arith) (omega arith))
 
@@ -76,7 +79,9 @@ first_is r test (Some c) h =
         let lt : place r d < place r c = subst (λ (n : ℕ). n < place r c) (sym (place-coordinate_at r q)) j in
         by (test d) refl (before r d c in_space h.within lt) (h.least d in_space)
       where
-        by : (b : Bool) → test (coordinate_at r q) ≡ b → IsTrue (is_before (coordinate_at r q) c) → (IsTrue (test (coordinate_at r q)) → IsFalse (is_before (coordinate_at r q) c)) → IsFalse (test (coordinate_at r q))
+        by : (b : Bool) → test (coordinate_at r q) ≡ b → IsTrue (is_before (coordinate_at r q) c)
+            → (IsTrue (test (coordinate_at r q)) → IsFalse (is_before (coordinate_at r q) c))
+            → IsFalse (test (coordinate_at r q))
         by true e t f = absurd (true_and_false (is_before (coordinate_at r q) c) t (f e))
         by false e t f = e
 first_is r test None h = nowhere test (coordinate_at r) (r * r * r) 0 (λ q i j. h (coordinate_at r q) (at_in_space r q (omega arith)))
@@ -98,7 +103,8 @@ hit_of : (test : Coord → Bool) (f : ℕ → Coord) (n a : ℕ) → HitOf test 
 hit_of test f zero a = λ q h k. absurd (omega arith)
 hit_of test f (suc n) a = by (test (f a)) refl (find test (map f (numbers_from (a + 1) n))) (hit_of test f n (a + 1))
   where
-    by : (b : Bool) → test (f a) ≡ b → (o : Option Coord) → HitOf test f (a + 1) n o → HitOf test f a (suc n) (cond b (Some (f a)) o)
+    by : (b : Bool) → test (f a) ≡ b → (o : Option Coord) → HitOf test f (a + 1) n o
+        → HitOf test f a (suc n) (cond b (Some (f a)) o)
     by true e o h = record { at = a; from = omega arith; below = omega arith; is = refl; passes = e; none = λ q i j. absurd (omega arith) }
     by false e (Some c) h = record { at = h.at; from = omega (arith, h.from); below = omega (arith, h.below); is = h.is; passes = h.passes; none = λ q i j. here q i j (ℕ_discrete a q) }
       where
@@ -111,7 +117,8 @@ hit_of test f (suc n) a = by (test (f a)) refl (find test (map f (numbers_from (
         here q i j (yes s) = subst (λ (v : ℕ). IsFalse (test (f v))) s e
         here q i j (no ne) = h q (omega arith) (omega arith)
 
-by_order : (d c : Coord) (m n : ℕ) → (d.x < c.x → m < n) → (d.x ≡ c.x → d.y < c.y → m < n) → (d.x ≡ c.x → d.y ≡ c.y → d.z < c.z → m < n) → IsTrue (is_before d c) → m < n
+by_order : (d c : Coord) (m n : ℕ) → (d.x < c.x → m < n) → (d.x ≡ c.x → d.y < c.y → m < n)
+    → (d.x ≡ c.x → d.y ≡ c.y → d.z < c.z → m < n) → IsTrue (is_before d c) → m < n
 by_order d c m n x y z h = grind (arith, nat_tests)
 
 pub rises : (r : ℕ) (d c : Coord) → IsInSpace r d → IsInSpace r c → IsTrue (is_before d c) → place r d < place r c

@@ -36,15 +36,18 @@ voided w i h = record {
   others = λ k l n. ap (λ b. b == 1) (bit_at_clear_other w64 w i h k l n);
 }
 
-pub set_here : (ws : List ℕ) (i v : ℕ) (b : Bool) → i / 64 < length ws → IsWritten (get_or ws (i / 64) 0) v (i % 64) b → is_set (set ws (i / 64) v) i ≡ b
+pub set_here : (ws : List ℕ) (i v : ℕ) (b : Bool) → i / 64 < length ws → IsWritten (get_or ws (i / 64) 0) v (i % 64) b
+    → is_set (set ws (i / 64) v) i ≡ b
 unfolding is_set
 set_here ws i v b h e = ap (λ n. bit n (i % 64)) (get_or-set_same ws (i / 64) v 0 h) ∙ e.here
 
-pub set_others : (ws : List ℕ) (i v : ℕ) (b : Bool) → i / 64 < length ws → IsWritten (get_or ws (i / 64) 0) v (i % 64) b → (j : ℕ) → j ≢ i → is_set (set ws (i / 64) v) j ≡ is_set ws j
+pub set_others : (ws : List ℕ) (i v : ℕ) (b : Bool) → i / 64 < length ws → IsWritten (get_or ws (i / 64) 0) v (i % 64) b
+    → (j : ℕ) → j ≢ i → is_set (set ws (i / 64) v) j ≡ is_set ws j
 unfolding is_set
 set_others ws i v b h e j n = by (ℕ_discrete (j / 64) (i / 64))
   where
-    by : Dec (j / 64 ≡ i / 64) → bit (get_or (set ws (i / 64) v) (j / 64) 0) (j % 64) ≡ bit (get_or ws (j / 64) 0) (j % 64)
+    by : Dec (j / 64 ≡ i / 64)
+        → bit (get_or (set ws (i / 64) v) (j / 64) 0) (j % 64) ≡ bit (get_or ws (j / 64) 0) (j % 64)
     by (yes same) =
         ap (λ q. bit (get_or (set ws (i / 64) v) q 0) (j % 64)) same
         ∙ (ap (λ w. bit w (j % 64)) (get_or-set_same ws (i / 64) v 0 h)

@@ -40,7 +40,9 @@ in_one_word ws index count k l h =
     let m : (index + k) % 64 ≡ index % 64 + k = omega arith in
     λ t. bit (get_or ws (d t) 0) (m t)
 
-pub chunk_is : (ws : List ℕ) (index count k w v m : ℕ) → k < count → index % 64 + count ≤ 64 → w ≡ get_or ws (index / 64) 0 → m ≡ 2 ^ (0 + count) - 2 ^ 0 → v ≡ bit_and (w / 2 ^ (index % 64)) m → bit v k ≡ is_set ws (index + k)
+pub chunk_is : (ws : List ℕ) (index count k w v m : ℕ) → k < count → index % 64 + count ≤ 64
+    → w ≡ get_or ws (index / 64) 0 → m ≡ 2 ^ (0 + count) - 2 ^ 0 → v ≡ bit_and (w / 2 ^ (index % 64)) m
+    → bit v k ≡ is_set ws (index + k)
 chunk_is ws index count k w v m l h ew em ev =
     let all : 2 ^ (0 + count) - 2 ^ 0 ≡ 2 ^ count - 1 = ap (λ n. 2 ^ n - 1) (let z : 0 + count ≡ count = omega arith in z) in
     ap (λ n. bit n k) (ev ∙ (ap (bit_and (w / 2 ^ (index % 64))) (em ∙ all) ∙ and_mask (w / 2 ^ (index % 64)) count))
@@ -65,7 +67,8 @@ taken_bit a b c d la eb lc ed = omega arith
 left_bit : (a b c d : ℕ) → a < 2 → b ≡ 1 - d → c < 2 → d ≡ 0 → max (min a b) (min c d) ≡ a
 left_bit a b c d la eb lc ed = omega arith
 
-mixed_bit : (w bits s m j : ℕ) → bit_at (mixed w bits s m) j ≡ max (min (bit_at w j) (bit_at (bit_not w64 m) j)) (min (bit_at (bits * 2 ^ s % 2 ^ 64) j) (bit_at m j))
+mixed_bit : (w bits s m j : ℕ) → bit_at (mixed w bits s m) j
+    ≡ max (min (bit_at w j) (bit_at (bit_not w64 m) j)) (min (bit_at (bits * 2 ^ s % 2 ^ 64) j) (bit_at m j))
 mixed_bit w bits s m j = bit_at_or (bit_and w (bit_not w64 m)) (bit_and (bits * 2 ^ s % 2 ^ 64) m) j ∙ (λ i. max (bit_at_and w (bit_not w64 m) j i) (bit_at_and (bits * 2 ^ s % 2 ^ 64) m j i))
 
 mask_small : (s count : ℕ) → s + count ≤ 64 → 2 ^ (s + count) - 2 ^ s < 2 ^ 64
@@ -74,7 +77,8 @@ mask_small s count h =
     let some : 0 < 2 ^ s = pow_pos s in
     omega arith
 
-mixed_here : (w bits s count k : ℕ) → s + count ≤ 64 → k < count → bit (mixed w bits s (2 ^ (s + count) - 2 ^ s)) (s + k) ≡ bit bits k
+mixed_here : (w bits s count k : ℕ) → s + count ≤ 64 → k < count
+    → bit (mixed w bits s (2 ^ (s + count) - 2 ^ s)) (s + k) ≡ bit bits k
 mixed_here w bits s count k h l =
     let m : ℕ = 2 ^ (s + count) - 2 ^ s in
     let one : bit_at (2 ^ (s + count) - 2 ^ s) (s + k) ≡ 1 = bit_at_mask_inside s (s + count) (s + k) (omega arith) (omega arith) in
@@ -86,7 +90,8 @@ mixed_here w bits s count k h l =
     ∙ (low_bit (bits * 2 ^ s) 64 (s + k) (omega arith)
     ∙ (raised_bit bits s (s + k) (omega arith) ∙ ap (bit_at bits) back))))
 
-mixed_other : (w bits s count j : ℕ) → s + count ≤ 64 → j < 64 → ((j < s) ⊎ (s + count ≤ j)) → bit (mixed w bits s (2 ^ (s + count) - 2 ^ s)) j ≡ bit w j
+mixed_other : (w bits s count j : ℕ) → s + count ≤ 64 → j < 64 → ((j < s) ⊎ (s + count ≤ j))
+    → bit (mixed w bits s (2 ^ (s + count) - 2 ^ s)) j ≡ bit w j
 mixed_other w bits s count j h l o =
     ap (λ d. d == 1)
     (mixed_bit w bits s (2 ^ (s + count) - 2 ^ s) j
@@ -113,7 +118,9 @@ pub record ArePutBits (old new : List ℕ) (index count bits : ℕ) : Type 0 whe
   pub here : (k : ℕ) → k < count → is_set new (index + k) ≡ bit bits k
   pub others : (j : ℕ) → IsFalse (is_from index count j) → is_set new j ≡ is_set old j
 
-pub put_bits : (ws : List ℕ) (index count bits v : ℕ) → index < 64 * length ws → index % 64 + count ≤ 64 → v ≡ mixed (get_or ws (index / 64) 0) bits (index % 64) (2 ^ (index % 64 + count) - 2 ^ (index % 64)) → ArePutBits ws (set ws (index / 64) v) index count bits
+pub put_bits : (ws : List ℕ) (index count bits v : ℕ) → index < 64 * length ws → index % 64 + count ≤ 64
+    → v ≡ mixed (get_or ws (index / 64) 0) bits (index % 64) (2 ^ (index % 64 + count) - 2 ^ (index % 64))
+    → ArePutBits ws (set ws (index / 64) v) index count bits
 unfolding is_set
 put_bits ws index count bits v within h ev = record {
   here = λ k l.
@@ -123,7 +130,8 @@ put_bits ws index count bits v within h ev = record {
   others = λ j f. other j (outside index count j f) (ℕ_discrete (j / 64) (index / 64));
 }
   where
-    other : (j : ℕ) → ((j < index) ⊎ (index + count ≤ j)) → Dec (j / 64 ≡ index / 64) → is_set (set ws (index / 64) v) j ≡ is_set ws j
+    other : (j : ℕ) → ((j < index) ⊎ (index + count ≤ j)) → Dec (j / 64 ≡ index / 64)
+        → is_set (set ws (index / 64) v) j ≡ is_set ws j
     other j o (no n) = ap (λ w. bit w (j % 64)) (get_or-set_other ws (index / 64) (j / 64) v 0 n)
     other j o (yes s) =
         ap (λ q. bit (get_or (set ws (index / 64) v) q 0) (j % 64)) s
@@ -141,7 +149,8 @@ less_one : (x y : ℕ) → 0 < x → (x - 1) * y ≡ x * y - y
 less_one zero y l = absurd (omega arith)
 less_one (suc x) y l = let e : suc x - 1 ≡ x = omega arith in ap (λ v. v * y) e ∙ omega arith
 
-pub mask_is : (first count : ℕ) → 1 ≤ count → first + count ≤ 64 → (2 ^ 64 - 1) / 2 ^ (64 - count) * 2 ^ first % 2 ^ 64 ≡ 2 ^ (first + count) - 2 ^ first
+pub mask_is : (first count : ℕ) → 1 ≤ count → first + count ≤ 64
+    → (2 ^ 64 - 1) / 2 ^ (64 - count) * 2 ^ first % 2 ^ 64 ≡ 2 ^ (first + count) - 2 ^ first
 mask_is first count some within =
     let back : 64 - (64 - count) ≡ count = omega arith in
     let ones : (2 ^ 64 - 1) / 2 ^ (64 - count) ≡ 2 ^ count - 1 = ones_shr 64 (64 - count) (omega arith) ∙ ap (λ n. 2 ^ n - 1) back in
@@ -150,7 +159,10 @@ mask_is first count some within =
     ap (λ n. n * 2 ^ first % 2 ^ 64) ones ∙ (ap (λ n. n % 2 ^ 64) raised ∙ mod-eq_of_lt (mask_small first count within))
 
 -- what `put_bits` says, read from the words as they were to those that are kept
-pub put_by : (r from : ℕ) (c : Coord) (old old' new new' : List ℕ) (i count bits : ℕ) → old' ≡ old → new ≡ new' → c ≡ coordinate_at r from → i ≡ bit_index r c → ((k : ℕ) → k < count → is_set new (i + k) ≡ bit bits k) → ((j : ℕ) → IsFalse (is_from i count j) → is_set new j ≡ is_set old' j) → ArePutBits old new' (bit_index r (coordinate_at r from)) count bits
+pub put_by : (r from : ℕ) (c : Coord) (old old' new new' : List ℕ) (i count bits : ℕ) → old' ≡ old → new ≡ new'
+    → c ≡ coordinate_at r from → i ≡ bit_index r c → ((k : ℕ) → k < count → is_set new (i + k) ≡ bit bits k)
+    → ((j : ℕ) → IsFalse (is_from i count j) → is_set new j ≡ is_set old' j)
+    → ArePutBits old new' (bit_index r (coordinate_at r from)) count bits
 put_by r from c old old' new new' i count bits eo en ec ei here others =
     subst (λ (n : ℕ). ArePutBits old new' n count bits) (ei ∙ ap (bit_index r) ec)
     (subst (λ (w : List ℕ). ArePutBits old w i count bits) en (record { here = here; others = λ j f. others j f ∙ ap (λ w. is_set w j) eo }))

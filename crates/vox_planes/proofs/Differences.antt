@@ -50,10 +50,12 @@ in_word ws first i k l =
     λ t. bit (get_or ws (d t) 0) (m t)
 
 -- up to the bit k of the next word, where its bits below k are the same
-alike_to : (ws us : List ℕ) (first i k w u : ℕ) → k ≤ 64 → w ≡ get_or ws (first + i) 0 → u ≡ get_or us (first + i) 0 → AreAlike ws us first (64 * i) → ((j : ℕ) → j < k → bit_at (bit_xor w u) j ≡ 0) → AreAlike ws us first (64 * i + k)
+alike_to : (ws us : List ℕ) (first i k w u : ℕ) → k ≤ 64 → w ≡ get_or ws (first + i) 0 → u ≡ get_or us (first + i) 0
+    → AreAlike ws us first (64 * i) → ((j : ℕ) → j < k → bit_at (bit_xor w u) j ≡ 0) → AreAlike ws us first (64 * i + k)
 alike_to ws us first i k w u l ew eu a none = record { same = λ j m. by j m (cases_lt j (64 * i)) }
   where
-    by : (j : ℕ) → j < 64 * i + k → ((j < 64 * i) ⊎ (64 * i ≤ j)) → is_set ws (first * 64 + j) ≡ is_set us (first * 64 + j)
+    by : (j : ℕ) → j < 64 * i + k → ((j < 64 * i) ⊎ (64 * i ≤ j))
+        → is_set ws (first * 64 + j) ≡ is_set us (first * 64 + j)
     by j m (inl h) = a.same j h
     by j m (inr h) =
         let n : ℕ = j - 64 * i in
@@ -66,7 +68,8 @@ alike_to ws us first i k w u l ew eu a none = record { same = λ j m. by j m (ca
         ∙ (sym (in_word us first i n (omega arith))
         ∙ ap (λ v. is_set us (first * 64 + v)) (sym e))))))
 
-pub alike_more : (ws us : List ℕ) (first i w u : ℕ) → w ≡ get_or ws (first + i) 0 → u ≡ get_or us (first + i) 0 → bit_xor w u ≡ 0 → AreAlike ws us first (64 * i) → AreAlike ws us first (64 * (i + 1))
+pub alike_more : (ws us : List ℕ) (first i w u : ℕ) → w ≡ get_or ws (first + i) 0 → u ≡ get_or us (first + i) 0
+    → bit_xor w u ≡ 0 → AreAlike ws us first (64 * i) → AreAlike ws us first (64 * (i + 1))
 alike_more ws us first i w u ew eu z a =
     subst (λ (n : ℕ). AreAlike ws us first n) (omega arith) (alike_to ws us first i 64 w u (omega arith) ew eu a (λ j l. ap (λ v. bit_at v j) z ∙ bit_at-zero j))
 
@@ -75,7 +78,9 @@ pub record IsFirst (ws us : List ℕ) (first at : ℕ) : Type 0 where
   pub before : AreAlike ws us first at
   pub differs : is_set ws (first * 64 + at) ≡ is_set us (first * 64 + at) → ⊥
 
-pub first_differs : (ws us : List ℕ) (first i w u : ℕ) → w ≡ get_or ws (first + i) 0 → u ≡ get_or us (first + i) 0 → 0 < bit_xor w u → bit_xor w u < 2 ^ 64 → AreAlike ws us first (64 * i) → (trailing_zeros w64 (bit_xor w u) < 64) × IsFirst ws us first (64 * i + trailing_zeros w64 (bit_xor w u))
+pub first_differs : (ws us : List ℕ) (first i w u : ℕ) → w ≡ get_or ws (first + i) 0 → u ≡ get_or us (first + i) 0
+    → 0 < bit_xor w u → bit_xor w u < 2 ^ 64 → AreAlike ws us first (64 * i)
+    → (trailing_zeros w64 (bit_xor w u) < 64) × IsFirst ws us first (64 * i + trailing_zeros w64 (bit_xor w u))
 first_differs ws us first i w u ew eu p l a =
     let z = bit_at-trailing_zeros w64 (bit_xor w u) p l in
     let k : ℕ = trailing_zeros w64 (bit_xor w u) in (
@@ -100,7 +105,8 @@ differ-other true false n = refl
 differ-other false true n = refl
 differ-other false false n = absurd (n refl)
 
-differ-bits : (r : ℕ) (ws us : List ℕ) (c : Coord) → IsInSpace r c → differ_at (layered r ws) (layered r us) c ≡ ((is_set ws (bit_index r c) && not (is_set us (bit_index r c))) || (is_set us (bit_index r c) && not (is_set ws (bit_index r c))))
+differ-bits : (r : ℕ) (ws us : List ℕ) (c : Coord) → IsInSpace r c → differ_at (layered r ws) (layered r us) c
+    ≡ ((is_set ws (bit_index r c) && not (is_set us (bit_index r c))) || (is_set us (bit_index r c) && not (is_set ws (bit_index r c))))
 differ-bits r ws us c h = λ i. (is_full-layered r ws c h i && not (is_full-layered r us c h i)) || (is_full-layered r us c h i && not (is_full-layered r ws c h i))
 
 layer-of : (a : Bool) (b y : ℕ) → IsTrue (a && (b == y)) → (a ≡ true) × (b ≡ y)
@@ -108,7 +114,8 @@ layer-of true b y h = (refl, grind (arith, nat_tests))
 layer-of false b y h = cc
 
 -- a coordinate of the layer at which they differ has a bit that is not alike
-at_bit : (r : ℕ) (ws us : List ℕ) (y n : ℕ) (d : Coord) → AreAlike ws us (y * layer_words r) n → IsInSpace r d → IsTrue (in_layer_differ (layered r ws) (layered r us) y d) → (d.y ≡ y) × (n ≤ d.x * r + d.z)
+at_bit : (r : ℕ) (ws us : List ℕ) (y n : ℕ) (d : Coord) → AreAlike ws us (y * layer_words r) n → IsInSpace r d
+    → IsTrue (in_layer_differ (layered r ws) (layered r us) y d) → (d.y ≡ y) × (n ≤ d.x * r + d.z)
 at_bit r ws us y n d a h t = (parts.1, by (cases_lt (d.x * r + d.z) n))
   where
     parts : (differ_at (layered r ws) (layered r us) d ≡ true) × (d.y ≡ y)
@@ -123,16 +130,19 @@ at_bit r ws us y n d a h t = (parts.1, by (cases_lt (d.x * r + d.z) n))
         let yes = parts.0 in
         cc
 
-pub layer_alike : (r : ℕ) (ws us : List ℕ) (y : ℕ) → AreAlike ws us (y * layer_words r) (64 * layer_words r) → LeastOf r (in_layer_differ (layered r ws) (layered r us) y) None
+pub layer_alike : (r : ℕ) (ws us : List ℕ) (y : ℕ) → AreAlike ws us (y * layer_words r) (64 * layer_words r)
+    → LeastOf r (in_layer_differ (layered r ws) (layered r us) y) None
 layer_alike r ws us y a = λ d h. false_by (in_layer_differ (layered r ws) (layered r us) y d) (λ t.
     let far = (at_bit r ws us y (64 * layer_words r) d a h t).1 in
     let near = in_layer r d h in
     omega arith)
 
-before-bits : (d : Coord) (r x y z : ℕ) → d.z < r → z < r → d.y ≡ y → IsTrue (is_before d (record { x = x; y = y; z = z })) → d.x * r + d.z < x * r + z
+before-bits : (d : Coord) (r x y z : ℕ) → d.z < r → z < r → d.y ≡ y
+    → IsTrue (is_before d (record { x = x; y = y; z = z })) → d.x * r + d.z < x * r + z
 before-bits d r x y z ld lz e t = by (row d x y z e t)
   where
-    row : (d : Coord) (x y z : ℕ) → d.y ≡ y → IsTrue (is_before d (record { x = x; y = y; z = z })) → (d.x < x) ⊎ ((d.x ≡ x) × (d.z < z))
+    row : (d : Coord) (x y z : ℕ) → d.y ≡ y → IsTrue (is_before d (record { x = x; y = y; z = z }))
+        → (d.x < x) ⊎ ((d.x ≡ x) × (d.z < z))
     row d x y z e t = grind (arith, nat_tests)
 
     by : ((d.x < x) ⊎ ((d.x ≡ x) × (d.z < z))) → d.x * r + d.z < x * r + z
@@ -142,7 +152,9 @@ before-bits d r x y z ld lz e t = by (row d x y z e t)
         digits_lt' l = let f : d.x * r + d.z < x * r = digits_lt l ld in omega arith
     by (inr p) = let f : d.x * r ≡ x * r = ap (λ v. v * r) p.0 in omega (arith, p.1)
 
-pub layer_differs : (r : ℕ) (ws us : List ℕ) (y at : ℕ) → IsLayered r ws → IsLayered r us → y < r → at < 64 * layer_words r → IsFirst ws us (y * layer_words r) at → (at < r * r) × LeastOf r (in_layer_differ (layered r ws) (layered r us) y) (Some (record { x = at / r; y = y; z = at % r }))
+pub layer_differs : (r : ℕ) (ws us : List ℕ) (y at : ℕ) → IsLayered r ws → IsLayered r us → y < r
+    → at < 64 * layer_words r → IsFirst ws us (y * layer_words r) at → (at < r * r)
+    × LeastOf r (in_layer_differ (layered r ws) (layered r us) y) (Some (record { x = at / r; y = y; z = at % r }))
 layer_differs r ws us y at hw hu ly la f = (used, record { within = within; passes = passes; least = least })
   where
     used : at < r * r
@@ -174,7 +186,8 @@ layer_differs r ws us y at hw hu ly la f = (used, record { within = within; pass
         same_layer : (y == y) ≡ true
         same_layer = grind (arith, nat_tests)
 
-    least : (d : Coord) → IsInSpace r d → IsTrue (in_layer_differ (layered r ws) (layered r us) y d) → IsFalse (is_before d (record { x = at / r; y = y; z = at % r }))
+    least : (d : Coord) → IsInSpace r d → IsTrue (in_layer_differ (layered r ws) (layered r us) y d)
+        → IsFalse (is_before d (record { x = at / r; y = y; z = at % r }))
     least d h t = false_by (is_before d (record { x = at / r; y = y; z = at % r })) (λ b.
         let far = at_bit r ws us y at d f.before h t in
         let near = before-bits d r (at / r) y (at % r) h.z (mod-lt at some) far.0 b in
@@ -190,7 +203,8 @@ between : (a b d : Coord) → IsTrue (is_before d a) → IsFalse (is_before d b)
 between a b d h k = grind (arith, nat_tests)
 
 -- the earlier of the least that pass two tests is the least that passes either
-pub earlier-least : (r : ℕ) (f g : Coord → Bool) (a b : Option Coord) → LeastOf r f a → LeastOf r g b → LeastOf r (λ c. f c || g c) (earlier a b)
+pub earlier-least : (r : ℕ) (f g : Coord → Bool) (a b : Option Coord) → LeastOf r f a → LeastOf r g b
+    → LeastOf r (λ c. f c || g c) (earlier a b)
 earlier-least r f g None None h k = λ d i. false_by (f d || g d) (λ t. by d i (one_of_two (f d) (g d) t))
   where
     by : (d : Coord) → IsInSpace r d → IsTrue (f d) ⊎ IsTrue (g d) → ⊥
@@ -216,11 +230,13 @@ earlier-least r f g None (Some b) h k = record {
     by d i (inr t) = k.least d i t
 earlier-least r f g (Some a) (Some b) h k = by (is_before b a) refl
   where
-    second : IsTrue (is_before b a) → (d : Coord) → IsInSpace r d → IsTrue (f d) ⊎ IsTrue (g d) → IsFalse (is_before d b)
+    second : IsTrue (is_before b a) → (d : Coord) → IsInSpace r d → IsTrue (f d) ⊎ IsTrue (g d)
+        → IsFalse (is_before d b)
     second e d i (inl t) = false_by (is_before d b) (λ l. true_and_false (is_before d a) (before-trans d b a l e) (h.least d i t))
     second e d i (inr t) = k.least d i t
 
-    first : IsFalse (is_before b a) → (d : Coord) → IsInSpace r d → IsTrue (f d) ⊎ IsTrue (g d) → IsFalse (is_before d a)
+    first : IsFalse (is_before b a) → (d : Coord) → IsInSpace r d → IsTrue (f d) ⊎ IsTrue (g d)
+        → IsFalse (is_before d a)
     first e d i (inl t) = h.least d i t
     first e d i (inr t) = false_by (is_before d a) (λ l. true_and_false (is_before b a) (between a b d l (k.least d i t)) e)
 
@@ -233,12 +249,14 @@ below-next true v y = grind (arith, nat_tests)
 below-next false v y = refl
 
 -- tests that agree have one least
-least-same : (r : ℕ) (f g : Coord → Bool) → ((c : Coord) → f c ≡ g c) → (o : Option Coord) → LeastOf r f o → LeastOf r g o
+least-same : (r : ℕ) (f g : Coord → Bool) → ((c : Coord) → f c ≡ g c) → (o : Option Coord) → LeastOf r f o
+    → LeastOf r g o
 least-same r f g same None h = λ d i. sym (same d) ∙ h d i
 least-same r f g same (Some c) h = record { within = h.within; passes = sym (same c) ∙ h.passes; least = λ d i t. h.least d i (same d ∙ t) }
 
 -- the least below a layer and the least of that layer give the least below the next one
-pub least_more : (r : ℕ) (m n : Matrix) (y : ℕ) (a b : Option Coord) → LeastOf r (below_differ m n y) a → LeastOf r (in_layer_differ m n y) b → LeastOf r (below_differ m n (y + 1)) (earlier a b)
+pub least_more : (r : ℕ) (m n : Matrix) (y : ℕ) (a b : Option Coord) → LeastOf r (below_differ m n y) a
+    → LeastOf r (in_layer_differ m n y) b → LeastOf r (below_differ m n (y + 1)) (earlier a b)
 least_more r m n y a b h k =
     least-same r (λ c. below_differ m n y c || in_layer_differ m n y c) (below_differ m n (y + 1)) (λ c. below-next (differ_at m n c) c.y y) (earlier a b)
     (earlier-least r (below_differ m n y) (in_layer_differ m n y) a b h k)
@@ -248,7 +266,8 @@ all_below true v r l = grind (arith, nat_tests)
 all_below false v r l = refl
 
 -- the least below all layers is the first of all coordinates at which they differ
-pub least_all : (r : ℕ) (m n : Matrix) (o : Option Coord) → LeastOf r (below_differ m n r) o → find (differ_at m n) (coordinates r) ≡ o
+pub least_all : (r : ℕ) (m n : Matrix) (o : Option Coord) → LeastOf r (below_differ m n r) o
+    → find (differ_at m n) (coordinates r) ≡ o
 least_all r m n o h = first_is r (differ_at m n) o (by o h)
   where
     by : (o : Option Coord) → LeastOf r (below_differ m n r) o → LeastOf r (differ_at m n) o
@@ -271,7 +290,9 @@ pub record IsRead (r : ℕ) (ws us : List ℕ) (y i first count w u : ℕ) : Typ
   pub other : u ≡ get_or us (first + i) 0
   pub alike : AreAlike ws us first (64 * i)
 
-pub read_by : (r s : ℕ) (ws us : List ℕ) (y i first from count w u : ℕ) → IsLayered r ws → IsLayered s us → r ≡ s → y < r → i < count → count ≡ layer_words r → from ≡ y → first ≡ from * count → w ≡ get_or ws (first + i) w → u ≡ get_or us (first + i) u → AreAlike ws us first (64 * i) → IsRead r ws us y i first count w u
+pub read_by : (r s : ℕ) (ws us : List ℕ) (y i first from count w u : ℕ) → IsLayered r ws → IsLayered s us → r ≡ s
+    → y < r → i < count → count ≡ layer_words r → from ≡ y → first ≡ from * count → w ≡ get_or ws (first + i) w
+    → u ≡ get_or us (first + i) u → AreAlike ws us first (64 * i) → IsRead r ws us y i first count w u
 read_by r s ws us y i first from count w u hw hu e ly li ec ef e1 ew eu a =
     let here : first ≡ y * layer_words r = e1 ∙ (λ t. ef t * ec t) in
     let k : i < layer_words r = omega arith in
@@ -288,7 +309,11 @@ read_by r s ws us y i first from count w u hw hu e ly li ec ef e1 ew eu a =
       alike = a;
     }
 
-pub read_differs : (r s : ℕ) (ws us : List ℕ) (m n : Matrix) (y i first count w u side : ℕ) → IsRead r ws us y i first count w u → r ≡ s → layered r ws ≡ m → layered s us ≡ n → side ≡ r → (bit_xor w u ≡ 0 → ⊥) → bit_xor w u < 2 ^ 64 → ((i * 64 + trailing_zeros w64 (bit_xor w u)) / side < r) × LeastOf m.resolution (in_layer_differ m n y) (Some (record { x = (i * 64 + trailing_zeros w64 (bit_xor w u)) / side; y = y; z = (i * 64 + trailing_zeros w64 (bit_xor w u)) % side }))
+pub read_differs : (r s : ℕ) (ws us : List ℕ) (m n : Matrix) (y i first count w u side : ℕ)
+    → IsRead r ws us y i first count w u → r ≡ s → layered r ws ≡ m → layered s us ≡ n → side ≡ r
+    → (bit_xor w u ≡ 0 → ⊥) → bit_xor w u < 2 ^ 64 → ((i * 64 + trailing_zeros w64 (bit_xor w u)) / side < r)
+    × LeastOf m.resolution (in_layer_differ m n y)
+    (Some (record { x = (i * 64 + trailing_zeros w64 (bit_xor w u)) / side; y = y; z = (i * 64 + trailing_zeros w64 (bit_xor w u)) % side }))
 read_differs r s ws us m n y i first count w u side h e em en es nz l =
     let k : ℕ = trailing_zeros w64 (bit_xor w u) in
     let found = first_differs ws us first i w u h.word h.other (omega arith) l h.alike in
@@ -305,7 +330,9 @@ read_differs r s ws us m n y i first count w u side h e em en es nz l =
           (subst (λ (v : Matrix). LeastOf r (in_layer_differ v (layered r us) y) (Some (record { x = (64 * i + k) / r; y = y; z = (64 * i + k) % r }))) em here.1)))),
     )
 
-pub all_alike : (r s : ℕ) (ws us : List ℕ) (m n : Matrix) (y i first from count : ℕ) → r ≡ s → layered r ws ≡ m → layered s us ≡ n → count ≡ layer_words r → from ≡ y → first ≡ from * count → i ≡ count → AreAlike ws us first (64 * i) → LeastOf r (in_layer_differ m n y) None
+pub all_alike : (r s : ℕ) (ws us : List ℕ) (m n : Matrix) (y i first from count : ℕ) → r ≡ s → layered r ws ≡ m
+    → layered s us ≡ n → count ≡ layer_words r → from ≡ y → first ≡ from * count → i ≡ count
+    → AreAlike ws us first (64 * i) → LeastOf r (in_layer_differ m n y) None
 all_alike r s ws us m n y i first from count e em en ec ef e1 ei a =
     let here : AreAlike ws us (y * layer_words r) (64 * layer_words r) = subst (λ (v : ℕ). AreAlike ws us (y * layer_words r) (64 * v)) (ei ∙ ec) (subst (λ (v : ℕ). AreAlike ws us v (64 * i)) (e1 ∙ (λ t. ef t * ec t)) a) in
     subst (λ (v : Matrix). LeastOf r (in_layer_differ m v y) None) (ap (λ v. layered v us) e ∙ en)

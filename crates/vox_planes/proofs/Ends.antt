@@ -33,10 +33,12 @@ unfolding is_set
 not_in_zero words i zero t = let none = ap (λ w. bit w (i % 64)) zero ∙ ap (λ v. v == 1) (bit_at-zero (i % 64)) in cc
 
 -- a word of 0 fewer
-pub one_word_less : (words : List ℕ) (end : ℕ) → 0 < end → AreZeroFrom words end → get_or words (end - 1) 0 ≡ 0 → AreZeroFrom words (end - 1)
+pub one_word_less : (words : List ℕ) (end : ℕ) → 0 < end → AreZeroFrom words end → get_or words (end - 1) 0 ≡ 0
+    → AreZeroFrom words (end - 1)
 one_word_less words end some h zero = record { few = omega (arith, h.few); below = λ i l t. by i t (h.below i l t) (cases_lt i ((end - 1) * 64)) }
   where
-    by : (i : ℕ) → is_set words i ≡ true → i < end * 64 → ((i < (end - 1) * 64) ⊎ ((end - 1) * 64 ≤ i)) → i < (end - 1) * 64
+    by : (i : ℕ) → is_set words i ≡ true → i < end * 64 → ((i < (end - 1) * 64) ⊎ ((end - 1) * 64 ≤ i))
+        → i < (end - 1) * 64
     by i t below (inl less) = less
     by i t below (inr here) =
         let word : i / 64 ≡ end - 1 = omega arith in
@@ -46,7 +48,8 @@ one_word_less words end some h zero = record { few = omega (arith, h.few); below
 abbrev pub end_with : ℕ → ℕ → Bool → ℕ
 end_with end at some = cond some (max end (at + 1)) end
 
-pub end_kept : (words : List ℕ) (end at : ℕ) → AreZeroFrom words end → at < length words → AreZeroFrom words (max end (at + 1))
+pub end_kept : (words : List ℕ) (end at : ℕ) → AreZeroFrom words end → at < length words
+    → AreZeroFrom words (max end (at + 1))
 end_kept words end at h l = record { few = omega (arith, h.few); below = λ i k t. omega (arith, h.below i k t) }
 
 -- where only bits of a part of a row were changed, up to the word `at`, and some may be 1 now
@@ -55,7 +58,8 @@ pub zero_beside : (old new : List ℕ) (index count end at : ℕ) (some : Bool) 
     → ((k : ℕ) → k < count → is_set new (index + k) ≡ true → some ≡ true) → AreZeroFrom new (end_with end at some)
 zero_beside old new index count end at some h same l most others here = by some refl
   where
-    each : (i : ℕ) → i < length new * 64 → is_set new i ≡ true → (b : Bool) → is_from index count i ≡ b → (i < end * 64) ⊎ ((some ≡ true) × (i < (at + 1) * 64))
+    each : (i : ℕ) → i < length new * 64 → is_set new i ≡ true → (b : Bool) → is_from index count i ≡ b
+        → (i < end * 64) ⊎ ((some ≡ true) × (i < (at + 1) * 64))
     each i k t false e = inl (h.below i (subst (λ (n : ℕ). i < n * 64) same k) (sym (others i e) ∙ t))
     each i k t true e = inr (inside (at_most_by_test index i (first_of_two (nat_le index i) (nat_lt i (index + count)) e)) (less_by_test i (index + count) (second_of_two (nat_le index i) (nat_lt i (index + count)) e)))
       where
@@ -77,7 +81,9 @@ zero_beside old new index count end at some h same l most others here = by some 
 -- ---- calls that change words
 
 -- one voxel changed
-pub zero_beside_voxel : (r : ℕ) (old new : List ℕ) (c : Coord) (full : Bool) (end at : ℕ) → IsInSpace r c → IsLayered r old → AreZeroFrom old end → IsChanged old new (bit_index r c) full → at ≡ bit_index r c / 64 → AreZeroFrom new (end_with end at full)
+pub zero_beside_voxel : (r : ℕ) (old new : List ℕ) (c : Coord) (full : Bool) (end at : ℕ) → IsInSpace r c
+    → IsLayered r old → AreZeroFrom old end → IsChanged old new (bit_index r c) full → at ≡ bit_index r c / 64
+    → AreZeroFrom new (end_with end at full)
 zero_beside_voxel r old new c full end at within layered_old h changed is =
     let index : bit_index r c < r * (layer_words r * 64) = omega (arith, mul-add-lt c.y (layer_words r * 64) (c.x * r + c.z) r within.y (in_layer r c within)) in
     zero_beside old new (bit_index r c) 1 end at full h changed.same_length (omega (arith, changed.same_length, layered_old.whole, index)) (omega arith)
@@ -85,7 +91,9 @@ zero_beside_voxel r old new c full end at within layered_old h changed is =
     (λ k l t. sym changed.here ∙ (ap (is_set new) (let same : bit_index r c ≡ bit_index r c + k = omega arith in same) ∙ t))
 
 -- bits of a word that are those of another
-pub zero_beside_put : (old new : List ℕ) (index count bits end at : ℕ) → AreZeroFrom old end → ArePutBits old new index count bits → length new ≡ length old → at < length new → index + count ≤ (at + 1) * 64 → AreZeroFrom new (end_with end at (not (bits == 0)))
+pub zero_beside_put : (old new : List ℕ) (index count bits end at : ℕ) → AreZeroFrom old end
+    → ArePutBits old new index count bits → length new ≡ length old → at < length new → index + count ≤ (at + 1) * 64
+    → AreZeroFrom new (end_with end at (not (bits == 0)))
 zero_beside_put old new index count bits end at h put same l most =
     zero_beside old new index count end at (not (bits == 0)) h same l most put.others
     (λ k l t. ap not (test_unequal bits 0 (λ none. no_bit bits k none (sym (put.here k l) ∙ t))))
@@ -94,18 +102,22 @@ zero_beside_put old new index count bits end at h put same l most =
     no_bit n k none t = let zero_bit = ap (λ v. bit v k) none ∙ ap (λ v. v == 1) (bit_at-zero k) in cc
 
 -- bits of a row that are 1, or 0
-pub zero_beside_filled : (old new : List ℕ) (index count : ℕ) (full : Bool) (changed end at : ℕ) → AreZeroFrom old end → AreFilled old new index count full changed → length new ≡ length old → at < length new → index + count ≤ (at + 1) * 64 → AreZeroFrom new (end_with end at full)
+pub zero_beside_filled : (old new : List ℕ) (index count : ℕ) (full : Bool) (changed end at : ℕ) → AreZeroFrom old end
+    → AreFilled old new index count full changed → length new ≡ length old → at < length new
+    → index + count ≤ (at + 1) * 64 → AreZeroFrom new (end_with end at full)
 zero_beside_filled old new index count full changed end at h filled same l most =
     zero_beside old new index count end at full h same l most filled.others (λ k l t. sym (filled.here k l) ∙ t)
 
 -- no bit became 1
-pub zero_of_less : (old new : List ℕ) (end : ℕ) → AreZeroFrom old end → length new ≡ length old → ((i : ℕ) → i < length new * 64 → is_set new i ≡ true → is_set old i ≡ true) → AreZeroFrom new end
+pub zero_of_less : (old new : List ℕ) (end : ℕ) → AreZeroFrom old end → length new ≡ length old
+    → ((i : ℕ) → i < length new * 64 → is_set new i ≡ true → is_set old i ≡ true) → AreZeroFrom new end
 zero_of_less old new end h same less = record { few = omega (arith, h.few, same); below = λ i l t. h.below i (subst (λ (n : ℕ). i < n * 64) same l) (less i l t) }
 
 -- ---- what lies above
 
 -- no voxel is full whose layer begins at the end or behind it
-pub void_above : (r : ℕ) (words : List ℕ) (c : Coord) (end y : ℕ) → IsLayered r words → AreZeroFrom words end → end ≤ y * layer_words r → y ≤ c.y → is_full (layered r words) c ≡ true → ⊥
+pub void_above : (r : ℕ) (words : List ℕ) (c : Coord) (end y : ℕ) → IsLayered r words → AreZeroFrom words end
+    → end ≤ y * layer_words r → y ≤ c.y → is_full (layered r words) c ≡ true → ⊥
 void_above r words c end y w h above from full =
     let within : IsInSpace r c = space_by_test r c (first_of_two (in_space r (point c)) _ full) in
     let set : is_set words (bit_index r c) ≡ true = sym (is_full-layered r words c within) ∙ full in
@@ -115,9 +127,11 @@ void_above r words c end y w h above from full =
     omega arith
 
 -- where all is void above, none is found in a region that lies there
-pub none_above : (m : Matrix) (k : Corners) → IsOrdered k → ((c : Coord) → k.low.y ≤ c.y → is_full m c ≡ false) → find (λ c. is_full m c && is_within (span k) (point c)) (all_of m) ≡ None
+pub none_above : (m : Matrix) (k : Corners) → IsOrdered k → ((c : Coord) → k.low.y ≤ c.y → is_full m c ≡ false)
+    → find (λ c. is_full m c && is_within (span k) (point c)) (all_of m) ≡ None
 none_above m k ordered void = none_found (λ c. is_full m c && is_within (span k) (point c)) (all_of m) (λ c. by c (is_within (span k) (point c)) refl)
   where
-    by : (c : Coord) → (b : Bool) → is_within (span k) (point c) ≡ b → (is_full m c && is_within (span k) (point c)) ≡ false
+    by : (c : Coord) → (b : Bool) → is_within (span k) (point c) ≡ b
+        → (is_full m c && is_within (span k) (point c)) ≡ false
     by c false outside = no_second (is_full m c) (is_within (span k) (point c)) outside
     by c true inside = let of = is_of k c ordered inside in no_first (is_full m c) (is_within (span k) (point c)) (void c of.y_low)

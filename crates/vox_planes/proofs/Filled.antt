@@ -13,7 +13,8 @@ use Rattle.vox_planes.proofs.Totals.{as_number, both_ways, counted_from, one_if,
 
 -- ---- how many bits have the other value
 
-pub others_total : (ws : List ℕ) (index count : ℕ) (full : Bool) → others_of ws index count full ≡ total count (λ k. one_if (has_value (not full) (is_set ws (index + k))))
+pub others_total : (ws : List ℕ) (index count : ℕ) (full : Bool)
+    → others_of ws index count full ≡ total count (λ k. one_if (has_value (not full) (is_set ws (index + k))))
 others_total ws index count full = counted_from (λ j. has_value (not full) (is_set ws j)) count index
 
 -- ---- bits of one word
@@ -30,10 +31,13 @@ module _ (ws : List ℕ) (index count present : ℕ) (bits : (k : ℕ) → k < c
   pub zeros_other : count - count_ones present ≡ others_of ws index count true
   zeros_other = omega (arith, ones_are, others_total ws index count true, both_ways count (λ k. is_set ws (index + k)))
 
-pub all_full : (new : List ℕ) (index count : ℕ) → count ≤ 64 → ((k : ℕ) → k < count → is_set new (index + k) ≡ bit (2 ^ 64 - 1) k) → (k : ℕ) → k < count → is_set new (index + k) ≡ true
+pub all_full : (new : List ℕ) (index count : ℕ) → count ≤ 64
+    → ((k : ℕ) → k < count → is_set new (index + k) ≡ bit (2 ^ 64 - 1) k) → (k : ℕ) → k < count
+    → is_set new (index + k) ≡ true
 all_full new index count few here k l = here k l ∙ full_bit k (omega arith)
 
-pub all_void : (new : List ℕ) (index count : ℕ) → ((k : ℕ) → k < count → is_set new (index + k) ≡ bit 0 k) → (k : ℕ) → k < count → is_set new (index + k) ≡ false
+pub all_void : (new : List ℕ) (index count : ℕ) → ((k : ℕ) → k < count → is_set new (index + k) ≡ bit 0 k) → (k : ℕ)
+    → k < count → is_set new (index + k) ≡ false
 all_void new index count here k l = here k l ∙ ap (λ d. d == 1) (bit_at-zero k)
 
 -- ---- bits of words
@@ -47,7 +51,9 @@ pub record AreFilled (old new : List ℕ) (index count : ℕ) (full : Bool) (n :
 pub filled_none : (ws : List ℕ) (index : ℕ) (full : Bool) → AreFilled ws ws index 0 full 0
 filled_none ws index full = record { here = λ k l. absurd (omega arith); others = λ j f. refl; changed = refl }
 
-pub filled_more : (old mid new : List ℕ) (index done count : ℕ) (full : Bool) (a b : ℕ) → AreFilled old mid index done full a → AreFilled mid new (index + done) count full b → AreFilled old new index (done + count) full (a + b)
+pub filled_more : (old mid new : List ℕ) (index done count : ℕ) (full : Bool) (a b : ℕ)
+    → AreFilled old mid index done full a → AreFilled mid new (index + done) count full b
+    → AreFilled old new index (done + count) full (a + b)
 filled_more old mid new index done count full a b h p = record {
   here = λ k l. by k l (cases_lt k done);
   others = λ j f. other j (outside index (done + count) j f);
@@ -73,7 +79,10 @@ filled_more old mid new index done count full a b h p = record {
     other j (inr l) = p.others j (after_these (index + done) count j (omega arith)) ∙ h.others j (after_these index done j (omega arith))
 
 -- what `set_bits` says, read from the words as they were to those that are kept
-pub filled_by : (old old' new new' : List ℕ) (i s count c : ℕ) (full : Bool) (n : ℕ) → old' ≡ old → new ≡ new' → i ≡ s → count ≡ c → ((k : ℕ) → k < count → is_set new (i + k) ≡ full) → ((j : ℕ) → IsFalse (is_from i count j) → is_set new j ≡ is_set old' j) → n ≡ others_of old' i count full → AreFilled old new' s c full n
+pub filled_by : (old old' new new' : List ℕ) (i s count c : ℕ) (full : Bool) (n : ℕ) → old' ≡ old → new ≡ new' → i ≡ s
+    → count ≡ c → ((k : ℕ) → k < count → is_set new (i + k) ≡ full)
+    → ((j : ℕ) → IsFalse (is_from i count j) → is_set new j ≡ is_set old' j) → n ≡ others_of old' i count full
+    → AreFilled old new' s c full n
 filled_by old old' new new' i s count c full n eo en ei ec here others changed =
     subst (λ (v : ℕ). AreFilled old new' v c full n) ei
     (subst (λ (v : ℕ). AreFilled old new' i v full n) ec

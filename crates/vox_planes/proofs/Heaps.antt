@@ -39,7 +39,8 @@ kept_bit w u k fits l e h =
 lost_value : (a b : ℕ) → a < 2 → min a (1 - b) ≡ 1 → (a ≡ 1) × (b ≡ 0)
 lost_value a b l e = (omega arith, omega arith)
 
-lost_bit : (w u : ℕ) → w < 2 ^ 64 → u < 2 ^ 64 → 0 < bit_and w (bit_not w64 u) → (k : ℕ) × (k < 64) × (bit w k ≡ true) × (bit u k ≡ false)
+lost_bit : (w u : ℕ) → w < 2 ^ 64 → u < 2 ^ 64 → 0 < bit_and w (bit_not w64 u)
+    → (k : ℕ) × (k < 64) × (bit w k ≡ true) × (bit u k ≡ false)
 lost_bit w u fits small some =
     let k : ℕ = trailing_zeros w64 (bit_and w (bit_not w64 u)) in
     let z = bit_at-trailing_zeros w64 (bit_and w (bit_not w64 u)) some (and_lt 64 w (bit_not w64 u) fits (omega arith)) in
@@ -67,10 +68,12 @@ module _ (ws : List ℕ) (layer : ℕ) where
   pub held_none : AreHeld ws layer layer
   held_none = record { held = λ j from to. absurd (omega arith) }
 
-  pub held_more : (i w u : ℕ) → AreStacked ws layer i w u → bit_and w (bit_not w64 u) ≡ 0 → AreHeld ws layer i → AreHeld ws layer (i + 1)
+  pub held_more : (i w u : ℕ) → AreStacked ws layer i w u → bit_and w (bit_not w64 u) ≡ 0 → AreHeld ws layer i
+      → AreHeld ws layer (i + 1)
   held_more i w u s none a = record { held = λ j low high h. by j low high h (cases_lt j (i * 64)) }
     where
-      by : (j : ℕ) → layer * 64 ≤ j → j < (i + 1) * 64 → is_set ws j ≡ true → ((j < i * 64) ⊎ (i * 64 ≤ j)) → is_set ws (j - layer * 64) ≡ true
+      by : (j : ℕ) → layer * 64 ≤ j → j < (i + 1) * 64 → is_set ws j ≡ true → ((j < i * 64) ⊎ (i * 64 ≤ j))
+          → is_set ws (j - layer * 64) ≡ true
       by j low high h (inl l) = a.held j low l h
       by j low high h (inr l) =
           let k : ℕ = j - i * 64 in
@@ -92,10 +95,12 @@ one_down (suc y) n l = let less : suc y - 1 ≡ y = omega arith in suc-mul y n �
 bit_under : (r : ℕ) (c : Coord) → 0 < c.y → bit_index r c - layer_words r * 64 ≡ bit_index r (under c)
 bit_under r c l = let down : c.y * layer_words r ≡ (c.y - 1) * layer_words r + layer_words r = one_down c.y (layer_words r) l in omega arith
 
-pub is_heap-held : (r : ℕ) (ws : List ℕ) (layer end : ℕ) → layer ≡ layer_words r → r * layer_words r ≤ end → AreHeld ws layer end → IsHeap (layered r ws)
+pub is_heap-held : (r : ℕ) (ws : List ℕ) (layer end : ℕ) → layer ≡ layer_words r → r * layer_words r ≤ end
+    → AreHeld ws layer end → IsHeap (layered r ws)
 is_heap-held r ws layer end size all a = λ c h. by c h (cases_lt 0 c.y)
   where
-    by : (c : Coord) → IsTrue (is_full (layered r ws) c) → ((0 < c.y) ⊎ (c.y ≤ 0)) → (c.y ≡ 0) ⊎ IsTrue (is_full (layered r ws) (under c))
+    by : (c : Coord) → IsTrue (is_full (layered r ws) c) → ((0 < c.y) ⊎ (c.y ≤ 0))
+        → (c.y ≡ 0) ⊎ IsTrue (is_full (layered r ws) (under c))
     by c h (inr l) = inl (omega arith)
     by c h (inl l) =
         let within : IsInSpace r c = space_by_test r c (first_of_two (in_space r (point c)) _ h) in
@@ -144,14 +149,16 @@ module _ (r : ℕ) (ws : List ℕ) (h : IsLayered r ws) (heap : IsHeap (layered 
       place : bit_index r (voxel r y at) ≡ j
       place = ap (λ v. y * layer_words r * 64 + v) (div-add-mod' at r) ∙ is_j
 
-      by : ((y ≡ 0) ⊎ IsTrue (is_full (layered r ws) (under (voxel r y at)))) → is_set ws (j - layer_words r * 64) ≡ true
+      by : ((y ≡ 0) ⊎ IsTrue (is_full (layered r ws) (under (voxel r y at))))
+          → is_set ws (j - layer_words r * 64) ≡ true
       by (inl floor) = absurd (omega arith)
       by (inr f) =
           ap (λ v. is_set ws (v - layer_words r * 64)) (sym place)
           ∙ (ap (is_set ws) (bit_under r (voxel r y at) low) ∙ (sym (is_full-layered r ws (under (voxel r y at)) below) ∙ f))
 
   -- no word has a bit that the word under it has not
-  pub none_lost : (layer i w u : ℕ) → layer ≡ layer_words r → i < r * layer_words r → AreStacked ws layer i w u → 0 < bit_and w (bit_not w64 u) → ⊥
+  pub none_lost : (layer i w u : ℕ) → layer ≡ layer_words r → i < r * layer_words r → AreStacked ws layer i w u
+      → 0 < bit_and w (bit_not w64 u) → ⊥
   none_lost layer i w u size high s some =
       let lost = lost_bit w u s.fits s.lower_fits some in
       let k : ℕ = lost.0 in

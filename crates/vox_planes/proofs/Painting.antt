@@ -32,7 +32,8 @@ use Rattle.vox_planes.proofs.Walks.{size-walls}
 -- ---- sums over the coordinates of a matrix
 
 -- two counts that make a third one at each coordinate
-count_both : (r : ℕ) (f g h : Coord → Bool) → ((c : Coord) → IsInSpace r c → one_if (h c) ≡ one_if (f c) + one_if (g c)) → count_by h (coordinates r) ≡ count_by f (coordinates r) + count_by g (coordinates r)
+count_both : (r : ℕ) (f g h : Coord → Bool) → ((c : Coord) → IsInSpace r c → one_if (h c) ≡ one_if (f c) + one_if (g c))
+    → count_by h (coordinates r) ≡ count_by f (coordinates r) + count_by g (coordinates r)
 count_both r f g h each =
     let at_each : ℕ → Coord = λ k. coordinate_at r (0 + k) in
     counted h (coordinate_at r) (r * r * r) 0
@@ -57,18 +58,21 @@ itself m w =
     let same : m.voxels ≡ (matrix_where m.resolution (λ d. is_full m d)).voxels = ext_get_or false m.voxels (matrix_where m.resolution (λ d. is_full m d)).voxels (w.voxels ∙ sym (length-where m.resolution (λ d. is_full m d))) (λ k l. voxel k (subst (λ (n : ℕ). k < n) w.voxels l)) in
     λ i. record { resolution = m.resolution; voxels = same i }
   where
-    voxel : (k : ℕ) → k < m.resolution * m.resolution * m.resolution → get_or m.voxels k false ≡ get_or (matrix_where m.resolution (λ d. is_full m d)).voxels k false
+    voxel : (k : ℕ) → k < m.resolution * m.resolution * m.resolution
+        → get_or m.voxels k false ≡ get_or (matrix_where m.resolution (λ d. is_full m d)).voxels k false
     voxel k l = sym (get_or-where m.resolution (λ d. is_full m d) k l
         ∙ (ap (λ b. b && get_or m.voxels (place m.resolution (coordinate_at m.resolution k)) false) (in_space_is m.resolution (coordinate_at m.resolution k) (at_in_space m.resolution k l))
         ∙ ap (λ p. get_or m.voxels p false) (place-coordinate_at m.resolution k)))
 
-pub painted_none : (m : Matrix) (area : Coord → Bool) (full : Bool) → IsWhole m → ((d : Coord) → area d ≡ false) → IsPainted m m area full 0
+pub painted_none : (m : Matrix) (area : Coord → Bool) (full : Bool) → IsWhole m → ((d : Coord) → area d ≡ false)
+    → IsPainted m m area full 0
 painted_none m area full w none = record {
   value = itself m w ∙ same_where m.resolution (λ d. is_full m d) (λ d. cond (area d) full (is_full m d)) (λ d i. sym (ap (λ b. cond b full (is_full m d)) (none d)));
   count = sym (count_none m.resolution (λ c. is_state m (not full) c && area c) (λ d i. last_no (is_state m (not full) d) (area d) (none d)));
 }
 
-once_counted : (a b full old : Bool) → one_if (has_value (not full) old && (a || b)) ≡ one_if (has_value (not full) old && a) + one_if (has_value (not full) (cond a full old) && b)
+once_counted : (a b full old : Bool) → one_if (has_value (not full) old && (a || b))
+    ≡ one_if (has_value (not full) old && a) + one_if (has_value (not full) (cond a full old) && b)
 once_counted true true true true = refl
 once_counted true true true false = refl
 once_counted true true false true = refl
@@ -86,7 +90,8 @@ once_counted false false true false = refl
 once_counted false false false true = refl
 once_counted false false false false = refl
 
-pub painted_more : (old mid new : Matrix) (f g h : Coord → Bool) (full : Bool) (a b : ℕ) → IsPainted old mid f full a → IsPainted mid new g full b → ((d : Coord) → h d ≡ (f d || g d)) → IsPainted old new h full (a + b)
+pub painted_more : (old mid new : Matrix) (f g h : Coord → Bool) (full : Bool) (a b : ℕ) → IsPainted old mid f full a
+    → IsPainted mid new g full b → ((d : Coord) → h d ≡ (f d || g d)) → IsPainted old new h full (a + b)
 painted_more old mid new f g h full a b p q joins = subst (λ (t : Coord → Bool). IsPainted old new t full (a + b)) (λ i d. sym (joins d) i) both
   where
     r : ℕ
@@ -142,7 +147,8 @@ either_second false p q z = refl
 pub layer_none : (k : Corners) (y : ℕ) (d : Coord) → is_in_layer k y k.low.x d ≡ false
 layer_none k y d = no_first_of_three (is_up_to k.low.x k.low.x d.x) (is_up_to y (y + 1) d.y) (is_up_to k.low.z (k.high.z + 1) d.z) (no_axis k.low.x d.x)
 
-pub layer_more : (k : Corners) (y x : ℕ) → k.low.x ≤ x → (d : Coord) → is_in_layer k y (x + 1) d ≡ (is_in_layer k y x d || is_in_row (row_start k x y) k.high.z d)
+pub layer_more : (k : Corners) (y x : ℕ) → k.low.x ≤ x → (d : Coord)
+    → is_in_layer k y (x + 1) d ≡ (is_in_layer k y x d || is_in_row (row_start k x y) k.high.z d)
 layer_more k y x l d =
     ap (λ b. b && is_up_to y (y + 1) d.y && is_up_to k.low.z (k.high.z + 1) d.z) (join_axis k.low.x x (x + 1) d.x l (omega arith))
     ∙ either_first (is_up_to k.low.x x d.x) (is_up_to x (x + 1) d.x) (is_up_to y (y + 1) d.y) (is_up_to k.low.z (k.high.z + 1) d.z)
@@ -150,7 +156,8 @@ layer_more k y x l d =
 pub layers_none : (k : Corners) (d : Coord) → is_in_layers k k.low.y d ≡ false
 layers_none k d = no_second_of_three (is_up_to k.low.x (k.high.x + 1) d.x) (is_up_to k.low.y k.low.y d.y) (is_up_to k.low.z (k.high.z + 1) d.z) (no_axis k.low.y d.y)
 
-pub layers_more : (k : Corners) (y : ℕ) → k.low.y ≤ y → (d : Coord) → is_in_layers k (y + 1) d ≡ (is_in_layers k y d || is_in_layer k y (k.high.x + 1) d)
+pub layers_more : (k : Corners) (y : ℕ) → k.low.y ≤ y → (d : Coord)
+    → is_in_layers k (y + 1) d ≡ (is_in_layers k y d || is_in_layer k y (k.high.x + 1) d)
 layers_more k y l d =
     ap (λ b. is_up_to k.low.x (k.high.x + 1) d.x && b && is_up_to k.low.z (k.high.z + 1) d.z) (join_axis k.low.y y (y + 1) d.y l (omega arith))
     ∙ either_second (is_up_to k.low.x (k.high.x + 1) d.x) (is_up_to k.low.y y d.y) (is_up_to y (y + 1) d.y) (is_up_to k.low.z (k.high.z + 1) d.z)
@@ -159,7 +166,9 @@ layers_more k y l d =
 layers_are : (k : Corners) → IsOrdered k → (d : Coord) → is_in_layers k (k.high.y + 1) d ≡ is_within (span k) (point d)
 layers_are k o d = λ i. axis_is k.low.x k.high.x d.x o.x i && axis_is k.low.y k.high.y d.y o.y i && axis_is k.low.z k.high.z d.z o.z i
 
-pub painted_all : (old new : Matrix) (k : Corners) (full : Bool) (n : ℕ) → IsOrdered k → IsPainted old new (is_in_layers k (k.high.y + 1)) full n → IsPainted old new (λ d. is_within (span k) (point d)) full n
+pub painted_all : (old new : Matrix) (k : Corners) (full : Bool) (n : ℕ) → IsOrdered k
+    → IsPainted old new (is_in_layers k (k.high.y + 1)) full n
+    → IsPainted old new (λ d. is_within (span k) (point d)) full n
 painted_all old new k full n o p = subst (λ (t : Coord → Bool). IsPainted old new t full n) (λ i d. layers_are k o d i) p
 
 -- ---- a row, by its bits
@@ -168,7 +177,8 @@ painted_all old new k full n o p = subst (λ (t : Coord → Bool). IsPainted old
 abbrev row_of : Coord → ℕ → Corners
 row_of first last = record { low = first; high = at first last }
 
-row_count : (test : Coord → Bool) (c : Coord) (last : ℕ) → count_by test (row c last) ≡ total (last + 1 - c.z) (λ j. one_if (test (at c (c.z + j))))
+row_count : (test : Coord → Bool) (c : Coord) (last : ℕ)
+    → count_by test (row c last) ≡ total (last + 1 - c.z) (λ j. one_if (test (at c (c.z + j))))
 unfolding row
 row_count test c last = counted test (at c) (last + 1 - c.z) c.z
 
@@ -179,7 +189,8 @@ module _ (r : ℕ) (first : Coord) (last : ℕ) (old new : List ℕ) (full : Boo
   on : (k : ℕ) → bit_index r (at first (first.z + k)) ≡ bit_index r first + k
   on k = omega arith
 
-  here_or_not : (d : Coord) → IsInSpace r d → is_set new (bit_index r d) ≡ cond (is_in_row first last d) full (is_set old (bit_index r d))
+  here_or_not : (d : Coord) → IsInSpace r d
+      → is_set new (bit_index r d) ≡ cond (is_in_row first last d) full (is_set old (bit_index r d))
   here_or_not d i = by (is_in_row first last d) refl
     where
       parts : is_in_row first last d ≡ true → (d.x ≡ first.x) × (d.y ≡ first.y) × (first.z ≤ d.z) × (d.z < last + 1)
@@ -188,7 +199,8 @@ module _ (r : ℕ) (first : Coord) (last : ℕ) (old new : List ℕ) (full : Boo
       mine : (k : ℕ) → k < last + 1 - first.z → is_in_row first last (at first (first.z + k)) ≡ true
       mine k l = grind (arith, nat_tests)
 
-      by : (b : Bool) → is_in_row first last d ≡ b → is_set new (bit_index r d) ≡ cond b full (is_set old (bit_index r d))
+      by : (b : Bool) → is_in_row first last d ≡ b
+          → is_set new (bit_index r d) ≡ cond b full (is_set old (bit_index r d))
       by true t =
           let p = parts t in
           let e : d ≡ at first (first.z + (d.z - first.z)) = (λ j. record { x = p.0 j; y = p.1 j; z = (let z : d.z ≡ first.z + (d.z - first.z) = omega arith in z) j }) in
@@ -244,8 +256,13 @@ size-layers k o = size-walls k o ∙ omega arith
 
 -- ---- one more row, and one more layer
 
-pub row_joined : (old mid new : Matrix) (k : Corners) (low high : Coord) (y x : ℕ) (full : Bool) (a b : ℕ) → low ≡ k.low → high ≡ k.high → k.low.x ≤ x → IsPainted old mid (is_in_layer k y x) full a → IsPainted mid new (is_in_row (record { x = x; y = y; z = low.z }) high.z) full b → IsPainted old new (is_in_layer k y (x + 1)) full (a + b)
+pub row_joined : (old mid new : Matrix) (k : Corners) (low high : Coord) (y x : ℕ) (full : Bool) (a b : ℕ) → low ≡ k.low
+    → high ≡ k.high → k.low.x ≤ x → IsPainted old mid (is_in_layer k y x) full a
+    → IsPainted mid new (is_in_row (record { x = x; y = y; z = low.z }) high.z) full b
+    → IsPainted old new (is_in_layer k y (x + 1)) full (a + b)
 row_joined old mid new k low high y x full a b el eh l p q = painted_more old mid new (is_in_layer k y x) (is_in_row (row_start k x y) k.high.z) (is_in_layer k y (x + 1)) full a b p (subst (λ (t : Coord → Bool). IsPainted mid new t full b) (λ i. is_in_row (record { x = x; y = y; z = (el i).z }) (eh i).z) q) (layer_more k y x l)
 
-pub layer_joined : (old mid new : Matrix) (k : Corners) (y : ℕ) (full : Bool) (a b : ℕ) → k.low.y ≤ y → IsPainted old mid (is_in_layers k y) full a → IsPainted mid new (is_in_layer k y (k.high.x + 1)) full b → IsPainted old new (is_in_layers k (y + 1)) full (a + b)
+pub layer_joined : (old mid new : Matrix) (k : Corners) (y : ℕ) (full : Bool) (a b : ℕ) → k.low.y ≤ y
+    → IsPainted old mid (is_in_layers k y) full a → IsPainted mid new (is_in_layer k y (k.high.x + 1)) full b
+    → IsPainted old new (is_in_layers k (y + 1)) full (a + b)
 layer_joined old mid new k y full a b l p q = painted_more old mid new (is_in_layers k y) (is_in_layer k y (k.high.x + 1)) (is_in_layers k (y + 1)) full a b p q (layers_more k y l)

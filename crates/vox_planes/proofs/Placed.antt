@@ -44,7 +44,8 @@ none_of_these from count p h = by (cases_lt p from) (cases_lt p (from + count))
 -- ---- the bits of places in one row
 
 -- the coordinate so many places on in its row
-pub next_place : (r from k : ℕ) → from < volume r → (coordinate_at r from).z + k < r → coordinate_at r (from + k) ≡ at (coordinate_at r from) ((coordinate_at r from).z + k)
+pub next_place : (r from k : ℕ) → from < volume r → (coordinate_at r from).z + k < r
+    → coordinate_at r (from + k) ≡ at (coordinate_at r from) ((coordinate_at r from).z + k)
 next_place r from k l h =
     let c : Coord = coordinate_at r from in
     let i : IsInSpace r (coordinate_at r from) = at_in_space r from l in
@@ -53,11 +54,13 @@ next_place r from k l h =
     let on : place r (at (coordinate_at r from) ((coordinate_at r from).z + k)) ≡ from + k = omega arith in
     ap (coordinate_at r) (sym on) ∙ coordinate_at-place r (at (coordinate_at r from) ((coordinate_at r from).z + k)) within
 
-pub next_index : (r from k : ℕ) → from < volume r → (coordinate_at r from).z + k < r → bit_index r (coordinate_at r (from + k)) ≡ bit_index r (coordinate_at r from) + k
+pub next_index : (r from k : ℕ) → from < volume r → (coordinate_at r from).z + k < r
+    → bit_index r (coordinate_at r (from + k)) ≡ bit_index r (coordinate_at r from) + k
 next_index r from k l h = ap (bit_index r) (next_place r from k l h) ∙ omega arith
 
 -- the voxel at a place by its bit
-pub voxel_by_bit : (r : ℕ) (ws : List ℕ) (p : ℕ) → p < volume r → voxel_at (layered r ws) p ≡ is_set ws (bit_index r (coordinate_at r p))
+pub voxel_by_bit : (r : ℕ) (ws : List ℕ) (p : ℕ) → p < volume r
+    → voxel_at (layered r ws) p ≡ is_set ws (bit_index r (coordinate_at r p))
 voxel_by_bit r ws p l = get_or-where r (λ c. is_set ws (bit_index r c)) p l
 
 no_voxel : (r : ℕ) (ws : List ℕ) (p : ℕ) → volume r ≤ p → voxel_at (layered r ws) p ≡ false
@@ -69,22 +72,26 @@ module _ (r : ℕ) (old new : List ℕ) (from count bits : ℕ) (within : from +
   index_of : (k : ℕ) → k < count → bit_index r (coordinate_at r (from + k)) ≡ bit_index r (coordinate_at r from) + k
   index_of k l = next_index r from k (omega arith) (omega arith)
 
-  other_bit : (p : ℕ) → p < volume r → ((k : ℕ) → k < count → p ≡ from + k → ⊥) → is_from (bit_index r (coordinate_at r from)) count (bit_index r (coordinate_at r p)) ≡ false
+  other_bit : (p : ℕ) → p < volume r → ((k : ℕ) → k < count → p ≡ from + k → ⊥)
+      → is_from (bit_index r (coordinate_at r from)) count (bit_index r (coordinate_at r p)) ≡ false
   other_bit p l other = none_of_these (bit_index r (coordinate_at r from)) count (bit_index r (coordinate_at r p)) (λ k m e.
       let less : from + k < volume r = omega arith in
       let same : coordinate_at r p ≡ coordinate_at r (from + k) = one_bit r (coordinate_at r p) (coordinate_at r (from + k)) (at_in_space r p l) (at_in_space r (from + k) less) (e ∙ sym (index_of k m)) in
       other k m (sym (place-coordinate_at r p) ∙ (ap (place r) same ∙ place-coordinate_at r (from + k))))
 
-  pub put_voxels : (p : ℕ) → voxel_at (layered r new) p ≡ cond (is_from from count p) (bit bits (p - from)) (voxel_at (layered r old) p)
+  pub put_voxels : (p : ℕ)
+      → voxel_at (layered r new) p ≡ cond (is_from from count p) (bit bits (p - from)) (voxel_at (layered r old) p)
   put_voxels p = by (cases_lt p (volume r)) (cases_lt p from) (cases_lt p (from + count))
     where
-      other : p < volume r → ((k : ℕ) → k < count → p ≡ from + k → ⊥) → is_from from count p ≡ false → voxel_at (layered r new) p ≡ cond (is_from from count p) (bit bits (p - from)) (voxel_at (layered r old) p)
+      other : p < volume r → ((k : ℕ) → k < count → p ≡ from + k → ⊥) → is_from from count p ≡ false
+          → voxel_at (layered r new) p ≡ cond (is_from from count p) (bit bits (p - from)) (voxel_at (layered r old) p)
       other l o f =
           voxel_by_bit r new p l
           ∙ (put.others (bit_index r (coordinate_at r p)) (other_bit p l o)
           ∙ (sym (voxel_by_bit r old p l) ∙ sym (ap (λ b. cond b (bit bits (p - from)) (voxel_at (layered r old) p)) f)))
 
-      by : ((p < volume r) ⊎ (volume r ≤ p)) → ((p < from) ⊎ (from ≤ p)) → ((p < from + count) ⊎ (from + count ≤ p)) → voxel_at (layered r new) p ≡ cond (is_from from count p) (bit bits (p - from)) (voxel_at (layered r old) p)
+      by : ((p < volume r) ⊎ (volume r ≤ p)) → ((p < from) ⊎ (from ≤ p)) → ((p < from + count) ⊎ (from + count ≤ p))
+          → voxel_at (layered r new) p ≡ cond (is_from from count p) (bit bits (p - from)) (voxel_at (layered r old) p)
       by (inl l) (inl m) n = other l (λ k u e. absurd (omega arith)) (before_these from count p m)
       by (inl l) (inr m) (inr n) = other l (λ k u e. absurd (omega arith)) (after_these from count p n)
       by (inl l) (inr m) (inl n) =
@@ -107,7 +114,8 @@ module _ (r : ℕ) (old new : List ℕ) (from count bits : ℕ) (within : from +
     unused = λ y i l m n. put.others (y * layer_words r * 64 + i) (none_of_these (bit_index r (coordinate_at r from)) count (y * layer_words r * 64 + i) (λ k u e. unused y i l m n k u e)) ∙ w.unused y i l m n;
   }
     where
-      unused : (y i : ℕ) → y < r → r * r ≤ i → i < layer_words r * 64 → (k : ℕ) → k < count → y * layer_words r * 64 + i ≡ bit_index r (coordinate_at r from) + k → ⊥
+      unused : (y i : ℕ) → y < r → r * r ≤ i → i < layer_words r * 64 → (k : ℕ) → k < count
+          → y * layer_words r * 64 + i ≡ bit_index r (coordinate_at r from) + k → ⊥
       unused y i l m n k u e =
           let c : Coord = coordinate_at r (from + k) in
           let less : from + k < volume r = omega arith in
@@ -136,7 +144,9 @@ put_parts old mid new from done count test part h set same = record { voxels = �
     earlier : (p : ℕ) → p < from + done → is_from from done p ≡ is_from from (done + count) p
     earlier p l = grind (arith, nat_tests)
 
-    by : (p : ℕ) → ((p < from + done) ⊎ (from + done ≤ p)) → ((p < from + done + count) ⊎ (from + done + count ≤ p)) → cond (is_from (from + done) count p) (part p) (voxel_at mid p) ≡ cond (is_from from (done + count) p) (test p) (voxel_at old p)
+    by : (p : ℕ) → ((p < from + done) ⊎ (from + done ≤ p)) → ((p < from + done + count) ⊎ (from + done + count ≤ p))
+        → cond (is_from (from + done) count p) (part p) (voxel_at mid p)
+        ≡ cond (is_from from (done + count) p) (test p) (voxel_at old p)
     by p (inl l) m =
         ap (λ b. cond b (part p) (voxel_at mid p)) (before_these (from + done) count p l)
         ∙ (h.voxels p ∙ ap (λ b. cond b (test p) (voxel_at old p)) (earlier p l))
@@ -150,7 +160,8 @@ put_parts old mid new from done count test part h set same = record { voxels = �
         ∙ sym (ap (λ b. cond b (test p) (voxel_at old p)) (after_these from (done + count) p (omega arith)))))
 
 -- the bits that are left of a word
-pub left_bit : (bits from done p : ℕ) → from + done ≤ p → bit (bits / 2 ^ done) (p - (from + done)) ≡ bit bits (p - from)
+pub left_bit : (bits from done p : ℕ) → from + done ≤ p
+    → bit (bits / 2 ^ done) (p - (from + done)) ≡ bit bits (p - from)
 left_bit bits from done p l =
     let e : done + (p - (from + done)) ≡ p - from = omega arith in
     ap (λ d. d == 1) (shifted_bit bits done (p - (from + done)) ∙ ap (bit_at bits) e)
@@ -180,7 +191,8 @@ not_cut v k n lv h =
     mod-eq_of_lt (omega arith)
 
 -- the bits of one word and, behind them, those of another
-pub bits_joined : (w v u k n : ℕ) (test : ℕ → Bool) → HasBits w k test → v < 2 ^ n → ((j : ℕ) → j < n → bit v j ≡ test (k + j)) → k + n ≤ 64 → u ≡ w + v * 2 ^ k % 2 ^ 64 → HasBits u (k + n) test
+pub bits_joined : (w v u k n : ℕ) (test : ℕ → Bool) → HasBits w k test → v < 2 ^ n
+    → ((j : ℕ) → j < n → bit v j ≡ test (k + j)) → k + n ≤ 64 → u ≡ w + v * 2 ^ k % 2 ^ 64 → HasBits u (k + n) test
 bits_joined w v u k n test h below bits few eu = record {
   bits = λ j m. by j m (cases_lt j k);
   below = (let l = raised w v k n h.below below in omega (arith, is));

@@ -39,7 +39,8 @@ bit_from ws i k l =
     λ t. bit (get_or ws (d t) 0) (m t)
 
 -- a bit past the shift that is not marked has the other value
-unmarked : (ws : List ℕ) (i w v k : ℕ) (value : Bool) → w ≡ get_or ws (i / 64) 0 → IsMarked w v value → i % 64 + k < 64 → bit_at (v / 2 ^ (i % 64)) k ≡ 0 → is_set ws (i + k) ≡ not value
+unmarked : (ws : List ℕ) (i w v k : ℕ) (value : Bool) → w ≡ get_or ws (i / 64) 0 → IsMarked w v value → i % 64 + k < 64
+    → bit_at (v / 2 ^ (i % 64)) k ≡ 0 → is_set ws (i + k) ≡ not value
 unmarked ws i w v k value e h l z =
     bit_from ws i k l
     ∙ (ap (λ n. bit n (i % 64 + k)) (sym e)
@@ -54,7 +55,8 @@ mark_other w h = record { bits = λ k l. ap (λ n. n == 1) (bit_at_not w64 w k h
     by (suc zero) m = refl
     by (suc (suc v)) m = absurd (omega arith)
 
-pub free_word : (ws : List ℕ) (from i w v : ℕ) (value : Bool) → w ≡ get_or ws (i / 64) 0 → IsMarked w v value → v / 2 ^ (i % 64) ≡ 0 → LacksValue ws from i value → LacksValue ws from (i + (64 - i % 64)) value
+pub free_word : (ws : List ℕ) (from i w v : ℕ) (value : Bool) → w ≡ get_or ws (i / 64) 0 → IsMarked w v value
+    → v / 2 ^ (i % 64) ≡ 0 → LacksValue ws from i value → LacksValue ws from (i + (64 - i % 64)) value
 free_word ws from i w v value e h z f = record { free = λ j l m. by j l m (cases_lt j i) }
   where
     by : (j : ℕ) → from ≤ j → j < i + (64 - i % 64) → ((j < i) ⊎ (i ≤ j)) → is_set ws j ≡ not value
@@ -64,7 +66,9 @@ free_word ws from i w v value e h z f = record { free = λ j l m. by j l m (case
         let same : i + k ≡ j = omega arith in
         sym (ap (is_set ws) same) ∙ unmarked ws i w v k value e h (omega arith) (ap (λ n. bit_at n k) z ∙ bit_at-zero k)
 
-pub next_in_word : (ws : List ℕ) (from i w v : ℕ) (value : Bool) → w ≡ get_or ws (i / 64) 0 → v < 2 ^ 64 → IsMarked w v value → 0 < v / 2 ^ (i % 64) → from ≤ i → LacksValue ws from i value → IsNextBit ws from (i + trailing_zeros w64 (v / 2 ^ (i % 64))) value
+pub next_in_word : (ws : List ℕ) (from i w v : ℕ) (value : Bool) → w ≡ get_or ws (i / 64) 0 → v < 2 ^ 64
+    → IsMarked w v value → 0 < v / 2 ^ (i % 64) → from ≤ i → LacksValue ws from i value
+    → IsNextBit ws from (i + trailing_zeros w64 (v / 2 ^ (i % 64))) value
 next_in_word ws from i w v value e l h p o f =
     let bits : ℕ = v / 2 ^ (i % 64) in
     let s : ℕ = i % 64 in
@@ -90,7 +94,9 @@ next_in_word ws from i w v value e l h p o f =
         by (inl a) = omega arith
         by (inr a) = absurd (let none = bit_at_above bits (64 - s) t short a in omega arith)
 
-    by : (j : ℕ) → from ≤ j → j < i + trailing_zeros w64 (v / 2 ^ (i % 64)) → ((k : ℕ) → k < trailing_zeros w64 (v / 2 ^ (i % 64)) → bit_at (v / 2 ^ (i % 64)) k ≡ 0) → i % 64 + trailing_zeros w64 (v / 2 ^ (i % 64)) < 64 → ((j < i) ⊎ (i ≤ j)) → is_set ws j ≡ not value
+    by : (j : ℕ) → from ≤ j → j < i + trailing_zeros w64 (v / 2 ^ (i % 64))
+        → ((k : ℕ) → k < trailing_zeros w64 (v / 2 ^ (i % 64)) → bit_at (v / 2 ^ (i % 64)) k ≡ 0)
+        → i % 64 + trailing_zeros w64 (v / 2 ^ (i % 64)) < 64 → ((j < i) ⊎ (i ≤ j)) → is_set ws j ≡ not value
     by j a b zeros near (inl c) = f.free j a c
     by j a b zeros near (inr c) =
         let k : ℕ = j - i in
@@ -99,7 +105,8 @@ next_in_word ws from i w v value e l h p o f =
 
 -- ---- the voxels of a row
 
-find_at : (test : Coord → Bool) (n : ℕ) (c : Coord) (last z : ℕ) → z ≡ c.z + n → z ≤ last → test (at c z) ≡ true → ((y : ℕ) → c.z ≤ y → y < z → test (at c y) ≡ false) → find test (row c last) ≡ Some (at c z)
+find_at : (test : Coord → Bool) (n : ℕ) (c : Coord) (last z : ℕ) → z ≡ c.z + n → z ≤ last → test (at c z) ≡ true
+    → ((y : ℕ) → c.z ≤ y → y < z → test (at c y) ≡ false) → find test (row c last) ≡ Some (at c z)
 find_at test zero c last z e l t none =
     let same : z ≡ c.z = omega arith in
     ap (find test) (row-more c last (omega arith))
@@ -110,7 +117,8 @@ find_at test (suc n) c last z e l t none =
     ∙ (ap (λ b. cond b (Some c) (find test (row (at c (c.z + 1)) last))) (none c.z (omega arith) (omega arith))
     ∙ find_at test n (at c (c.z + 1)) last z (omega arith) l t (λ y a b. none y (omega arith) b))
 
-find_none : (test : Coord → Bool) (n : ℕ) (c : Coord) (last : ℕ) → last + 1 ≡ c.z + n → ((y : ℕ) → c.z ≤ y → y ≤ last → test (at c y) ≡ false) → find test (row c last) ≡ None
+find_none : (test : Coord → Bool) (n : ℕ) (c : Coord) (last : ℕ) → last + 1 ≡ c.z + n
+    → ((y : ℕ) → c.z ≤ y → y ≤ last → test (at c y) ≡ false) → find test (row c last) ≡ None
 find_none test zero c last e none = ap (find test) (row-end c last (omega arith))
 find_none test (suc n) c last e none =
     ap (find test) (row-more c last (omega arith))
@@ -118,7 +126,8 @@ find_none test (suc n) c last e none =
     ∙ find_none test n (at c (c.z + 1)) last (omega arith) (λ y a b. none y (omega arith) b))
 
 -- a voxel of a row, by its bit
-bit_of : (r : ℕ) (ws : List ℕ) (c : Coord) (z : ℕ) → IsInSpace r c → c.z ≤ z → z < r → is_full (layered r ws) (at c z) ≡ is_set ws (bit_index r c + (z - c.z))
+bit_of : (r : ℕ) (ws : List ℕ) (c : Coord) (z : ℕ) → IsInSpace r c → c.z ≤ z → z < r
+    → is_full (layered r ws) (at c z) ≡ is_set ws (bit_index r c + (z - c.z))
 bit_of r ws c z h l m =
     let within : IsInSpace r (at c z) = record { x = h.x; y = h.y; z = m } in
     let same : bit_index r (at c z) ≡ bit_index r c + (z - c.z) = omega arith in
@@ -128,11 +137,14 @@ is-state : (m : Matrix) (value : Bool) (c : Coord) (b : Bool) → is_full m c �
 is-state m true c b e f = e ∙ f
 is-state m false c b e f = ap not (e ∙ f)
 
-is-no_state : (m : Matrix) (value : Bool) (c : Coord) (b : Bool) → is_full m c ≡ b → b ≡ not value → is_state m value c ≡ false
+is-no_state : (m : Matrix) (value : Bool) (c : Coord) (b : Bool) → is_full m c ≡ b → b ≡ not value
+    → is_state m value c ≡ false
 is-no_state m true c b e f = e ∙ f
 is-no_state m false c b e f = ap not (e ∙ f)
 
-pub row_found : (r : ℕ) (ws : List ℕ) (m : Matrix) (c : Coord) (last i : ℕ) (value : Bool) → layered r ws ≡ m → IsInSpace r c → last < r → i ≤ bit_index r c + (last - c.z) → c.z ≤ last → IsNextBit ws (bit_index r c) i value → find (is_state m value) (row c last) ≡ Some (at c (c.z + (i - bit_index r c)))
+pub row_found : (r : ℕ) (ws : List ℕ) (m : Matrix) (c : Coord) (last i : ℕ) (value : Bool) → layered r ws ≡ m
+    → IsInSpace r c → last < r → i ≤ bit_index r c + (last - c.z) → c.z ≤ last → IsNextBit ws (bit_index r c) i value
+    → find (is_state m value) (row c last) ≡ Some (at c (c.z + (i - bit_index r c)))
 row_found r ws m c last i value e h l il cl n =
     ap (λ v. find (is_state v value) (row c last)) (sym e)
     ∙ find_at (is_state (layered r ws) value) (i - bit_index r c) c last (c.z + (i - bit_index r c)) (omega arith) (omega arith) hit none
@@ -146,7 +158,9 @@ row_found r ws m c last i value e h l il cl n =
     none : (y : ℕ) → c.z ≤ y → y < c.z + (i - bit_index r c) → is_state (layered r ws) value (at c y) ≡ false
     none y a b = is-no_state (layered r ws) value (at c y) (is_set ws (bit_index r c + (y - c.z))) (bit_of r ws c y h a (omega arith)) ((n.before).free (bit_index r c + (y - c.z)) (omega arith) (omega arith))
 
-pub row_free : (r : ℕ) (ws : List ℕ) (m : Matrix) (c : Coord) (last : ℕ) (value : Bool) → layered r ws ≡ m → IsInSpace r c → last < r → c.z ≤ last → LacksValue ws (bit_index r c) (bit_index r c + (last - c.z) + 1) value → find (is_state m value) (row c last) ≡ None
+pub row_free : (r : ℕ) (ws : List ℕ) (m : Matrix) (c : Coord) (last : ℕ) (value : Bool) → layered r ws ≡ m
+    → IsInSpace r c → last < r → c.z ≤ last → LacksValue ws (bit_index r c) (bit_index r c + (last - c.z) + 1) value
+    → find (is_state m value) (row c last) ≡ None
 row_free r ws m c last value e h l cl f =
     ap (λ v. find (is_state v value) (row c last)) (sym e)
     ∙ find_none (is_state (layered r ws) value) (last + 1 - c.z) c last (omega arith) (λ y a b.
@@ -161,11 +175,13 @@ pub record IsHead (test : Coord → Bool) (c : Coord) (last : ℕ) (d : Coord) :
   pub high : d.z ≤ last
   pub list : filter test (row c last) ≡ d ∷ filter test (row (at c (d.z + 1)) last)
 
-head_by : (test : Coord → Bool) (n : ℕ) (c : Coord) (last : ℕ) (d : Coord) → n ≡ last + 1 - c.z → find test (row c last) ≡ Some d → IsHead test c last d
+head_by : (test : Coord → Bool) (n : ℕ) (c : Coord) (last : ℕ) (d : Coord) → n ≡ last + 1 - c.z
+    → find test (row c last) ≡ Some d → IsHead test c last d
 head_by test zero c last d e f = absurd (let none = ap (find test) (row-end c last (omega arith)) in cc)
 head_by test (suc n) c last d e f = by (test c) refl (λ later. head_by test n (at c (c.z + 1)) last d (omega arith) later)
   where
-    by : (b : Bool) → test c ≡ b → (find test (row (at c (c.z + 1)) last) ≡ Some d → IsHead test (at c (c.z + 1)) last d) → IsHead test c last d
+    by : (b : Bool) → test c ≡ b
+        → (find test (row (at c (c.z + 1)) last) ≡ Some d → IsHead test (at c (c.z + 1)) last d) → IsHead test c last d
     by true t rest =
         let more = row-more c last (omega arith) in
         let here : Some c ≡ Some d = sym (ap (find test) more ∙ ap (λ b. cond b (Some c) (find test (row (at c (c.z + 1)) last))) t) ∙ f in
@@ -187,33 +203,40 @@ head_by test (suc n) c last d e f = by (test c) refl (λ later. head_by test n (
           list = ap (filter test) more ∙ (ap (λ b. cond b (c ∷ filter test (row (at c (c.z + 1)) last)) (filter test (row (at c (c.z + 1)) last))) t ∙ h.list);
         }
 
-pub head_of : (test : Coord → Bool) (c : Coord) (last : ℕ) (d : Coord) → find test (row c last) ≡ Some d → IsHead test c last d
+pub head_of : (test : Coord → Bool) (c : Coord) (last : ℕ) (d : Coord) → find test (row c last) ≡ Some d
+    → IsHead test c last d
 head_of test c last d f = head_by test (last + 1 - c.z) c last d refl f
 
 none_by : (test : Coord → Bool) (xs : List Coord) → find test xs ≡ None → filter test xs ≡ []
 none_by test [] f = refl
 none_by test (x ∷ xs) f = by (test x) f (none_by test xs)
   where
-    by : (b : Bool) → cond b (Some x) (find test xs) ≡ None → (find test xs ≡ None → filter test xs ≡ []) → cond b (x ∷ filter test xs) (filter test xs) ≡ []
+    by : (b : Bool) → cond b (Some x) (find test xs) ≡ None → (find test xs ≡ None → filter test xs ≡ [])
+        → cond b (x ∷ filter test xs) (filter test xs) ≡ []
     by true g rest = cc
     by false g rest = rest g
 
-pub list_ended : (test : Coord → Bool) (c : Coord) (last : ℕ) → find test (row c last) ≡ None → filter test (row c last) ≡ []
+pub list_ended : (test : Coord → Bool) (c : Coord) (last : ℕ) → find test (row c last) ≡ None
+    → filter test (row c last) ≡ []
 list_ended test c last f = none_by test (row c last) f
 
-pub free_less : (ws : List ℕ) (from a b : ℕ) (value : Bool) → b ≤ a → LacksValue ws from a value → LacksValue ws from b value
+pub free_less : (ws : List ℕ) (from a b : ℕ) (value : Bool) → b ≤ a → LacksValue ws from a value
+    → LacksValue ws from b value
 free_less ws from a b value l f = record { free = λ j m n. f.free j m (omega arith) }
 
 -- what `next_bit` says, read from the words as they are kept
-pub free_as : (ws us : List ℕ) (from s end e : ℕ) (value : Bool) → ws ≡ us → from ≡ s → end ≡ e → LacksValue ws from end value → LacksValue us s e value
+pub free_as : (ws us : List ℕ) (from s end e : ℕ) (value : Bool) → ws ≡ us → from ≡ s → end ≡ e
+    → LacksValue ws from end value → LacksValue us s e value
 free_as ws us from s end e value ew es ee f = subst (λ (v : List ℕ). LacksValue v s e value) ew (subst (λ (v : ℕ). LacksValue ws v e value) es (subst (λ (v : ℕ). LacksValue ws from v value) ee f))
 
-pub next_as : (ws us : List ℕ) (from s i : ℕ) (value : Bool) → ws ≡ us → from ≡ s → IsNextBit ws from i value → IsNextBit us s i value
+pub next_as : (ws us : List ℕ) (from s i : ℕ) (value : Bool) → ws ≡ us → from ≡ s → IsNextBit ws from i value
+    → IsNextBit us s i value
 next_as ws us from s i value ew es n = subst (λ (v : List ℕ). IsNextBit v s i value) ew (subst (λ (v : ℕ). IsNextBit ws v i value) es n)
 
 -- ---- the list of a row, word by word
 
-row-split : (n : ℕ) (c : Coord) (mid last : ℕ) → n ≡ mid - c.z → c.z ≤ mid → mid ≤ last → row c last ≡ row c mid ++ row (at c (mid + 1)) last
+row-split : (n : ℕ) (c : Coord) (mid last : ℕ) → n ≡ mid - c.z → c.z ≤ mid → mid ≤ last
+    → row c last ≡ row c mid ++ row (at c (mid + 1)) last
 row-split zero c mid last e l m =
     let here : c.z ≡ mid = omega arith in
     row-more c last (omega arith)
@@ -225,7 +248,8 @@ row-split (suc n) c mid last e l m =
     ∙ ap (λ xs. xs ++ row (at c (mid + 1)) last) (sym (row-more c mid l)))
 
 -- two tests that agree on a row keep the same of it
-same_kept : (n : ℕ) (f g : Coord → Bool) (c : Coord) (last : ℕ) → n ≡ last + 1 - c.z → ((z : ℕ) → c.z ≤ z → z ≤ last → f (at c z) ≡ g (at c z)) → filter f (row c last) ≡ filter g (row c last)
+same_kept : (n : ℕ) (f g : Coord → Bool) (c : Coord) (last : ℕ) → n ≡ last + 1 - c.z
+    → ((z : ℕ) → c.z ≤ z → z ≤ last → f (at c z) ≡ g (at c z)) → filter f (row c last) ≡ filter g (row c last)
 same_kept zero f g c last e h = ap (filter f) (row-end c last (omega arith)) ∙ sym (ap (filter g) (row-end c last (omega arith)))
 same_kept (suc n) f g c last e h =
     let more = row-more c last (omega arith) in
@@ -238,19 +262,23 @@ same_kept (suc n) f g c last e h =
 left_bit : (v left s k : ℕ) → left ≡ v / 2 ^ s → bit v (s + k) ≡ bit left k
 left_bit v left s k e = ap (λ n. n == 1) (sym (shifted_bit v s k)) ∙ ap (λ n. bit n k) (sym e)
 
-no_bit : (v left : ℕ) (c : Coord) (z y : ℕ) → left ≡ v / 2 ^ (z - c.z) → c.z ≤ z → z ≤ y → bit_at left (y - z) ≡ 0 → has_bit v c (at c y) ≡ false
+no_bit : (v left : ℕ) (c : Coord) (z y : ℕ) → left ≡ v / 2 ^ (z - c.z) → c.z ≤ z → z ≤ y → bit_at left (y - z) ≡ 0
+    → has_bit v c (at c y) ≡ false
 no_bit v left c z y e l m h =
     let same : y - c.z ≡ z - c.z + (y - z) = omega arith in
     ap (bit v) same ∙ (left_bit v left (z - c.z) (y - z) e ∙ zero_bit left (y - z) h)
 
 -- no bit is left in the row: so none of it is listed
-pub none_left : (v left : ℕ) (c : Coord) (z last : ℕ) → left ≡ v / 2 ^ (z - c.z) → c.z ≤ z → z ≤ last + 1 → ((j : ℕ) → j < last + 1 - z → bit_at left j ≡ 0) → filter (has_bit v c) (row (at c z) last) ≡ []
+pub none_left : (v left : ℕ) (c : Coord) (z last : ℕ) → left ≡ v / 2 ^ (z - c.z) → c.z ≤ z → z ≤ last + 1
+    → ((j : ℕ) → j < last + 1 - z → bit_at left j ≡ 0) → filter (has_bit v c) (row (at c z) last) ≡ []
 none_left v left c z last e l m h =
     list_ended (has_bit v c) (at c z) last
     (find_none (has_bit v c) (last + 1 - z) (at c z) last (omega arith) (λ y a b. no_bit v left c z y e l a (h (y - z) (omega arith))))
 
 -- the lowest bit that is left is the next that is listed
-pub next_listed : (v left : ℕ) (c : Coord) (z last t : ℕ) → left ≡ v / 2 ^ (z - c.z) → c.z ≤ z → t < last + 1 - z → bit_at left t ≡ 1 → ((j : ℕ) → j < t → bit_at left j ≡ 0) → filter (has_bit v c) (row (at c z) last) ≡ at c (z + t) ∷ filter (has_bit v c) (row (at c (z + t + 1)) last)
+pub next_listed : (v left : ℕ) (c : Coord) (z last t : ℕ) → left ≡ v / 2 ^ (z - c.z) → c.z ≤ z → t < last + 1 - z
+    → bit_at left t ≡ 1 → ((j : ℕ) → j < t → bit_at left j ≡ 0)
+    → filter (has_bit v c) (row (at c z) last) ≡ at c (z + t) ∷ filter (has_bit v c) (row (at c (z + t + 1)) last)
 next_listed v left c z last t e l m one zeros =
     (head_of (has_bit v c) (at c z) last (at c (z + t))
     (find_at (has_bit v c) t (at c z) last (z + t) refl (omega arith) hit (λ y a b. no_bit v left c z y e l a (zeros (y - z) (omega arith))))).list
@@ -265,14 +293,19 @@ pub left_after : (v left s t k : ℕ) → left ≡ v / 2 ^ s → k ≡ s + (t + 
 left_after v left s t k e f = shr-shr left t 1 ∙ (ap (λ n. n / 2 ^ (t + 1)) e ∙ (shr-shr v s (t + 1) ∙ ap (λ n. v / 2 ^ n) (sym f)))
 
 -- what is marked of a word, shifted down to an index
-pub bits_marked : (ws : List ℕ) (i v : ℕ) (value : Bool) → IsMarked (get_or ws (i / 64) 0) v value → AreBitsFrom ws i (v / 2 ^ (i % 64)) value
+pub bits_marked : (ws : List ℕ) (i v : ℕ) (value : Bool) → IsMarked (get_or ws (i / 64) 0) v value
+    → AreBitsFrom ws i (v / 2 ^ (i % 64)) value
 bits_marked ws i v value marks = record {
   bits = λ k l.
       ap (λ n. n == 1) (shifted_bit v (i % 64) k) ∙ (marks.bits (i % 64 + k) l ∙ ap (has_value value) (sym (bit_from ws i k l)));
 }
 
 -- the bits of a word of the row, from a place on, tell the voxels up to the end of the word
-pub word_listed : (r : ℕ) (ws us : List ℕ) (m : Matrix) (c : Coord) (z stop last i v : ℕ) (value : Bool) → layered r ws ≡ m → us ≡ ws → IsInSpace r c → last < r → c.z ≤ z → z ≤ stop → stop ≤ last → i ≡ bit_index r c - c.z + z → stop - z + i % 64 < 64 → AreBitsFrom us i v value → filter (is_state m value) (row (at c z) last) ≡ filter (has_bit v (at c z)) (row (at c z) stop) ++ filter (is_state m value) (row (at c (stop + 1)) last)
+pub word_listed : (r : ℕ) (ws us : List ℕ) (m : Matrix) (c : Coord) (z stop last i v : ℕ) (value : Bool)
+    → layered r ws ≡ m → us ≡ ws → IsInSpace r c → last < r → c.z ≤ z → z ≤ stop → stop ≤ last
+    → i ≡ bit_index r c - c.z + z → stop - z + i % 64 < 64 → AreBitsFrom us i v value
+    → filter (is_state m value) (row (at c z) last)
+    ≡ filter (has_bit v (at c z)) (row (at c z) stop) ++ filter (is_state m value) (row (at c (stop + 1)) last)
 word_listed r ws us m c z stop last i v value e f h l low order high place short marks =
     ap (filter (is_state m value)) (row-split (stop - z) (at c z) stop last refl order high)
     ∙ (filter-append (is_state m value) (row (at c z) stop) (row (at c (stop + 1)) last)

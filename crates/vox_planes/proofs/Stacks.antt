@@ -23,7 +23,8 @@ use Rattle.vox_planes.proofs.Voxels.{is_full-layered}
 
 -- ---- one word
 
-pub going_low : (full left : List ℕ) (layer i : ℕ) → i < layer → (k : ℕ) → k < 64 → bit (2 ^ 64 - 1) k ≡ goes full left layer (i * 64 + k)
+pub going_low : (full left : List ℕ) (layer i : ℕ) → i < layer → (k : ℕ) → k < 64
+    → bit (2 ^ 64 - 1) k ≡ goes full left layer (i * 64 + k)
 going_low full left layer i h k l =
     ap (λ d. d == 1) (bit_at_ones 64 k l)
     ∙ sym (ap (λ b. b || (is_set full (i * 64 + k - layer * 64) && not (is_set left (i * 64 + k - layer * 64)))) (test_less (i * 64 + k) (layer * 64) (omega arith)))
@@ -49,7 +50,8 @@ pub record AreDropped (old now full : List ℕ) (layer end : ℕ) : Type 0 where
 pub dropped_none : (old full : List ℕ) (layer : ℕ) → AreDropped old old full layer 0
 dropped_none old full layer = record { done = λ j l. absurd (omega arith); rest = λ j l. refl }
 
-pub kept_word : (w gone : ℕ) → gone < 2 ^ 64 → (k : ℕ) → k < 64 → bit (bit_and w (bit_not w64 gone)) k ≡ (bit w k && not (bit gone k))
+pub kept_word : (w gone : ℕ) → gone < 2 ^ 64 → (k : ℕ) → k < 64
+    → bit (bit_and w (bit_not w64 gone)) k ≡ (bit w k && not (bit gone k))
 kept_word w gone fits k l = and_bit w (bit_not w64 gone) k ∙ ap (λ b. bit w k && b) (not_bit gone k fits l)
 
 set_word : (ws : List ℕ) (i v k : ℕ) → i < length ws → k < 64 → is_set (set ws i v) (i * 64 + k) ≡ bit v k
@@ -59,7 +61,8 @@ set_other : (ws : List ℕ) (i v j : ℕ) → (j / 64 ≡ i → ⊥) → is_set 
 unfolding is_set
 set_other ws i v j n = ap (λ w. bit w (j % 64)) (get_or-set_other ws i (j / 64) v 0 n)
 
-goes_same : (full a b : List ℕ) (layer j : ℕ) → (layer * 64 ≤ j → is_set b (j - layer * 64) ≡ is_set a (j - layer * 64)) → goes full b layer j ≡ goes full a layer j
+goes_same : (full a b : List ℕ) (layer j : ℕ) → (layer * 64 ≤ j → is_set b (j - layer * 64) ≡ is_set a (j - layer * 64))
+    → goes full b layer j ≡ goes full a layer j
 goes_same full a b layer j h = by (cases_lt j (layer * 64))
   where
     by : ((j < layer * 64) ⊎ (layer * 64 ≤ j)) → goes full b layer j ≡ goes full a layer j
@@ -78,7 +81,8 @@ dropped_more old now full layer i v some within bits h = record {
     goes_on : (j : ℕ) → j < (i + 1) * 64 → goes full (set now i v) layer j ≡ goes full now layer j
     goes_on j l = goes_same full now (set now i v) layer j (λ m. set_other now i v (j - layer * 64) (λ e. omega arith))
 
-    by : (j : ℕ) → j < (i + 1) * 64 → ((j < i * 64) ⊎ (i * 64 ≤ j)) → is_set (set now i v) j ≡ (is_set old j && not (goes full (set now i v) layer j))
+    by : (j : ℕ) → j < (i + 1) * 64 → ((j < i * 64) ⊎ (i * 64 ≤ j))
+        → is_set (set now i v) j ≡ (is_set old j && not (goes full (set now i v) layer j))
     by j l (inl m) = set_other now i v j (λ e. omega arith) ∙ (h.done j m ∙ ap (λ b. is_set old j && not b) (sym (goes_on j l)))
     by j l (inr m) =
         let k : i * 64 + (j - i * 64) ≡ j = omega arith in
@@ -96,7 +100,8 @@ abbrev level : Coord → ℕ → Coord
 level c y = record { x = c.x; y = y; z = c.z }
 
 -- a voxel goes exactly where all from it down to the floor are full
-gone_over : (full under stacked : Bool) → (stacked ≡ true → under ≡ true) → (full && not (false || (under && not (under && not stacked)))) ≡ (full && not (stacked && full))
+gone_over : (full under stacked : Bool) → (stacked ≡ true → under ≡ true)
+    → (full && not (false || (under && not (under && not stacked)))) ≡ (full && not (stacked && full))
 gone_over true true true h = refl
 gone_over true true false h = refl
 gone_over true false true h = let e = h refl in cc
@@ -126,7 +131,8 @@ module _ (r : ℕ) (old now full : List ℕ) (layered_is : IsLayered r full) (co
   was : (c : Coord) → IsInSpace r c → is_set old (bit_index r c) ≡ is_full (layered r full) c
   was c i = sym (is_full-layered r old c i) ∙ ap (λ (m : Matrix). is_full m c) copy
 
-  column : (c : Coord) (y : ℕ) → IsInSpace r (level c y) → is_set now (bit_index r (level c y)) ≡ (is_full (layered r full) (level c y) && not (is_full_up_to (layered r full) c y))
+  column : (c : Coord) (y : ℕ) → IsInSpace r (level c y) → is_set now (bit_index r (level c y))
+      ≡ (is_full (layered r full) (level c y) && not (is_full_up_to (layered r full) c y))
   column c zero i =
       let row = in_layer r (level c zero) i in
       dropped (bit_index r (level c zero)) (within_words (level c zero) i)
@@ -147,19 +153,23 @@ module _ (r : ℕ) (old now full : List ℕ) (layered_is : IsLayered r full) (co
       || ((ap (is_set full) under ∙ sym (is_full-layered r full (level c y) lower)) t && not ((ap (is_set now) under ∙ column c y lower) t))))
       ∙ gone_over (is_full (layered r full) (level c (suc y))) (is_full (layered r full) (level c y)) (is_full_up_to (layered r full) c y) (top (layered r full) c y))
 
-  pub stacked_go : (c : Coord) → is_full (layered r now) c ≡ (is_full (layered r full) c && not (is_stacked (layered r full) c))
+  pub stacked_go : (c : Coord)
+      → is_full (layered r now) c ≡ (is_full (layered r full) c && not (is_stacked (layered r full) c))
   stacked_go c = by (in_space r (point c)) refl
     where
       none : (ws : List ℕ) → in_space r (point c) ≡ false → is_full (layered r ws) c ≡ false
       none ws s = ap (λ t. t && get_or (layered r ws).voxels (place r c) false) s
 
-      by : (s : Bool) → in_space r (point c) ≡ s → is_full (layered r now) c ≡ (is_full (layered r full) c && not (is_stacked (layered r full) c))
+      by : (s : Bool) → in_space r (point c) ≡ s
+          → is_full (layered r now) c ≡ (is_full (layered r full) c && not (is_stacked (layered r full) c))
       by false s = none now s ∙ sym (ap (λ b. b && not (is_stacked (layered r full) c)) (none full s))
       by true s =
           let i : IsInSpace r c = space_by_test r c s in
           is_full-layered r now c i ∙ column c c.y i
 
-  pub stacked_layered : length now ≡ length full → ((y i : ℕ) → y < r → r * r ≤ i → i < layer_words r * 64 → is_set old (y * layer_words r * 64 + i) ≡ false) → IsLayered r now
+  pub stacked_layered : length now ≡ length full
+      → ((y i : ℕ) → y < r → r * r ≤ i → i < layer_words r * 64 → is_set old (y * layer_words r * 64 + i) ≡ false)
+      → IsLayered r now
   stacked_layered same unused = record {
     some = layered_is.some;
     most = layered_is.most;

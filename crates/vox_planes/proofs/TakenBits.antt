@@ -43,17 +43,21 @@ kept false b = refl
 
 -- ---- bits of one word
 
-pub part_was : (old : List ℕ) (index count bits present : ℕ) → ((k : ℕ) → k < count → bit present k ≡ is_set old (index + k)) → (k : ℕ) → k < count → bit (bit_and present bits) k ≡ (bit bits k && is_set old (index + k))
+pub part_was : (old : List ℕ) (index count bits present : ℕ)
+    → ((k : ℕ) → k < count → bit present k ≡ is_set old (index + k)) → (k : ℕ) → k < count
+    → bit (bit_and present bits) k ≡ (bit bits k && is_set old (index + k))
 part_was old index count bits present h k l = and_bit present bits k ∙ (turned (bit present k) (bit bits k) ∙ ap (λ b. bit bits k && b) (h k l))
 
 pub part_left : (old new : List ℕ) (index count bits present : ℕ) → ArePutBits old new index count (bit_and present (bit_not w64 bits)) → ((k : ℕ) → k < count → bit present k ≡ is_set old (index + k)) → count ≤ 64 → bits < 2 ^ 64 →
     (j : ℕ) → is_set new j ≡ (is_set old j && not (is_from index count j && bit bits (j - index)))
 part_left old new index count bits present put h few fits j = by (cases_lt j index) (cases_lt j (index + count))
   where
-    other : is_from index count j ≡ false → is_set new j ≡ (is_set old j && not (is_from index count j && bit bits (j - index)))
+    other : is_from index count j ≡ false
+        → is_set new j ≡ (is_set old j && not (is_from index count j && bit bits (j - index)))
     other f = put.others j f ∙ (sym (kept (is_set old j) (bit bits (j - index))) ∙ ap (λ b. is_set old j && not (b && bit bits (j - index))) (sym f))
 
-    by : ((j < index) ⊎ (index ≤ j)) → ((j < index + count) ⊎ (index + count ≤ j)) → is_set new j ≡ (is_set old j && not (is_from index count j && bit bits (j - index)))
+    by : ((j < index) ⊎ (index ≤ j)) → ((j < index + count) ⊎ (index + count ≤ j))
+        → is_set new j ≡ (is_set old j && not (is_from index count j && bit bits (j - index)))
     by (inl l) m = other (before_these index count j l)
     by (inr l) (inr m) = other (after_these index count j m)
     by (inr l) (inl m) =
@@ -137,16 +141,22 @@ module _ (r : ℕ) (old new : List ℕ) (first : Coord) (count bits taken : ℕ)
   row_was k l = h.was.bits k l ∙ ap (λ b. bit bits k && b) (ap (is_set old) (sym (on k)) ∙ sym (is_full-layered r old (at first (first.z + k)) (in_row k l)))
 
   -- the coordinate has its bit among these exactly where it is of the row
-  marked : (d : Coord) → IsInSpace r d → (is_from (bit_index r first) count (bit_index r d) && bit bits (bit_index r d - bit_index r first)) ≡ is_marked first count bits d
+  marked : (d : Coord) → IsInSpace r d
+      → (is_from (bit_index r first) count (bit_index r d) && bit bits (bit_index r d - bit_index r first))
+      ≡ is_marked first count bits d
   marked d i = by ((d.x == first.x) && (d.y == first.y) && is_from first.z count d.z) refl
     where
-      parts : ((d.x == first.x) && (d.y == first.y) && is_from first.z count d.z) ≡ true → (d.x ≡ first.x) × (d.y ≡ first.y) × (first.z ≤ d.z) × (d.z < first.z + count)
+      parts : ((d.x == first.x) && (d.y == first.y) && is_from first.z count d.z) ≡ true
+          → (d.x ≡ first.x) × (d.y ≡ first.y) × (first.z ≤ d.z) × (d.z < first.z + count)
       parts t = grind (arith, nat_tests)
 
-      mine : (k : ℕ) → ((first.x == first.x) && (first.y == first.y) && is_from first.z count (first.z + k)) ≡ is_from first.z count (first.z + k)
+      mine : (k : ℕ) → ((first.x == first.x) && (first.y == first.y) && is_from first.z count (first.z + k))
+          ≡ is_from first.z count (first.z + k)
       mine k = grind (arith, nat_tests)
 
-      by : (b : Bool) → ((d.x == first.x) && (d.y == first.y) && is_from first.z count d.z) ≡ b → (is_from (bit_index r first) count (bit_index r d) && bit bits (bit_index r d - bit_index r first)) ≡ is_marked first count bits d
+      by : (b : Bool) → ((d.x == first.x) && (d.y == first.y) && is_from first.z count d.z) ≡ b
+          → (is_from (bit_index r first) count (bit_index r d) && bit bits (bit_index r d - bit_index r first))
+          ≡ is_marked first count bits d
       by true t =
           let p = parts t in
           let e : d ≡ at first (first.z + (d.z - first.z)) = (λ j. record { x = p.0 j; y = p.1 j; z = (let z : d.z ≡ first.z + (d.z - first.z) = omega arith in z) j }) in
@@ -163,13 +173,15 @@ module _ (r : ℕ) (old new : List ℕ) (first : Coord) (count bits taken : ℕ)
               let t : ((d.x == first.x) && (d.y == first.y) && is_from first.z count d.z) ≡ true = ap (λ (v : Coord). (v.x == first.x) && (v.y == first.y) && is_from first.z count v.z) e ∙ (mine k ∙ one_of_these first.z count (first.z + k) (omega arith) (omega arith)) in
               cc
 
-  pub row_left : (d : Coord) → is_full (layered r new) d ≡ (is_full (layered r old) d && not (is_marked first count bits d))
+  pub row_left : (d : Coord)
+      → is_full (layered r new) d ≡ (is_full (layered r old) d && not (is_marked first count bits d))
   row_left d = by (in_space r (point d)) refl
     where
       none : (ws : List ℕ) → in_space r (point d) ≡ false → is_full (layered r ws) d ≡ false
       none ws s = ap (λ t. t && get_or (layered r ws).voxels (place r d) false) s
 
-      by : (s : Bool) → in_space r (point d) ≡ s → is_full (layered r new) d ≡ (is_full (layered r old) d && not (is_marked first count bits d))
+      by : (s : Bool) → in_space r (point d) ≡ s
+          → is_full (layered r new) d ≡ (is_full (layered r old) d && not (is_marked first count bits d))
       by false s = none new s ∙ sym (ap (λ b. b && not (is_marked first count bits d)) (none old s))
       by true s =
           let i : IsInSpace r d = space_by_test r d s in
@@ -195,7 +207,11 @@ row_peeked r ws first count bits found within row h k l =
     h k l ∙ ap (λ b. bit bits k && b) (ap (is_set ws) (sym on) ∙ sym (is_full-layered r ws (at first (first.z + k)) here))
 
 -- what `take_bits` says, read from the words as they were to those that are kept
-pub taken_by : (r : ℕ) (first : Coord) (old old' new new' : List ℕ) (i count bits taken : ℕ) → old' ≡ old → new ≡ new' → i ≡ bit_index r first → taken < 2 ^ count → ((k : ℕ) → k < count → bit taken k ≡ (bit bits k && is_set old' (i + k))) → ((j : ℕ) → is_set new j ≡ (is_set old' j && not (is_from i count j && bit bits (j - i)))) → AreTaken old new' (bit_index r first) count bits taken
+pub taken_by : (r : ℕ) (first : Coord) (old old' new new' : List ℕ) (i count bits taken : ℕ) → old' ≡ old → new ≡ new'
+    → i ≡ bit_index r first → taken < 2 ^ count
+    → ((k : ℕ) → k < count → bit taken k ≡ (bit bits k && is_set old' (i + k)))
+    → ((j : ℕ) → is_set new j ≡ (is_set old' j && not (is_from i count j && bit bits (j - i))))
+    → AreTaken old new' (bit_index r first) count bits taken
 taken_by r first old old' new new' i count bits taken eo en ei below was left =
     subst (λ (n : ℕ). AreTaken old new' n count bits taken) ei
     (subst (λ (w : List ℕ). AreTaken old w i count bits taken) en (record {

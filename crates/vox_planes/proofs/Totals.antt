@@ -65,7 +65,8 @@ total-front_only m n f l none =
     let z : total (n - m) (λ k. f (m + k)) ≡ 0 = total-zero (n - m) (λ k. f (m + k)) (λ k j. none (m + k) (omega arith) (omega arith)) in
     ap (λ v. total v f) e ∙ (total-add m (n - m) f ∙ omega arith)
 
-pub counted : {A : Type 0} (test : A → Bool) (at : ℕ → A) (n a : ℕ) → count_by test (map at (numbers_from a n)) ≡ total n (λ k. cond (test (at (a + k))) 1 0)
+pub counted : {A : Type 0} (test : A → Bool) (at : ℕ → A) (n a : ℕ)
+    → count_by test (map at (numbers_from a n)) ≡ total n (λ k. cond (test (at (a + k))) 1 0)
 unfolding total
 counted test at zero a = refl
 counted test at (suc n) a =
@@ -133,7 +134,8 @@ pub bits_below : List ℕ → ℕ → ℕ
 bits_below ws n = total n (λ i. cond (is_set ws i) 1 0)
 
 -- a word adds as many as it has
-pub bits_more : (ws : List ℕ) (j w : ℕ) → w ≡ get_or ws j 0 → w < 2 ^ 64 → bits_below ws (64 * (j + 1)) ≡ bits_below ws (64 * j) + count_ones w
+pub bits_more : (ws : List ℕ) (j w : ℕ) → w ≡ get_or ws j 0 → w < 2 ^ 64
+    → bits_below ws (64 * (j + 1)) ≡ bits_below ws (64 * j) + count_ones w
 unfolding bits_below is_set
 bits_more ws j w e l =
     let next : 64 * (j + 1) ≡ 64 * j + 64 = omega arith in
@@ -152,7 +154,8 @@ unfolding bits_below total
 bits_none ws = refl
 
 -- as many bits of all words are 1 as the matrix has full voxels: the bits by y, x and z, the voxels by x, y and z
-pub bits_all : (r : ℕ) (ws : List ℕ) → IsLayered r ws → bits_below ws (64 * length ws) ≡ count_by (is_full (layered r ws)) (coordinates r)
+pub bits_all : (r : ℕ) (ws : List ℕ) → IsLayered r ws
+    → bits_below ws (64 * length ws) ≡ count_by (is_full (layered r ws)) (coordinates r)
 unfolding bits_below
 bits_all r ws h =
     let layer : ℕ = layer_words r * 64 in
@@ -169,7 +172,8 @@ bits_all r ws h =
     ∙ (total-same (r * r * r) full (λ p. one_if (is_full (layered r ws) (coordinate_at r (0 + p)))) (λ p l. let e : p ≡ 0 + p = omega arith in ap full e)
     ∙ sym (counted (is_full (layered r ws)) (coordinate_at r) (r * r * r) 0)))))))
   where
-    one_voxel : (y x z : ℕ) → y < r → x < r → z < r → one_if (is_set ws (y * (layer_words r * 64) + (x * r + z))) ≡ one_if (is_full (layered r ws) (coordinate_at r ((x * r + y) * r + z)))
+    one_voxel : (y x z : ℕ) → y < r → x < r → z < r → one_if (is_set ws (y * (layer_words r * 64) + (x * r + z)))
+        ≡ one_if (is_full (layered r ws) (coordinate_at r ((x * r + y) * r + z)))
     one_voxel y x z ly lx lz =
         let c : Coord = record { x = x; y = y; z = z } in
         let within : IsInSpace r c = record { x = lx; y = ly; z = lz } in
@@ -179,10 +183,12 @@ bits_all r ws h =
         ∙ (ap one_if (sym (is_full-layered r ws c within))
         ∙ ap (λ d. one_if (is_full (layered r ws) d)) (sym (ap (coordinate_at r) p ∙ coordinate_at-place r c within)))
 
-    unused : (y : ℕ) → y < r → (i : ℕ) → r * r ≤ i → i < layer_words r * 64 → one_if (is_set ws (y * (layer_words r * 64) + i)) ≡ 0
+    unused : (y : ℕ) → y < r → (i : ℕ) → r * r ≤ i → i < layer_words r * 64
+        → one_if (is_set ws (y * (layer_words r * 64) + i)) ≡ 0
     unused y l i m n = let e : y * (layer_words r * 64) + i ≡ y * layer_words r * 64 + i = omega arith in ap one_if (ap (is_set ws) e ∙ h.unused y i l m n)
 
-    one_layer : (y : ℕ) → y < r → total (layer_words r * 64) (λ i. one_if (is_set ws (y * (layer_words r * 64) + i))) ≡ total r (λ x. total r (λ z. one_if (is_full (layered r ws) (coordinate_at r ((x * r + y) * r + z)))))
+    one_layer : (y : ℕ) → y < r → total (layer_words r * 64) (λ i. one_if (is_set ws (y * (layer_words r * 64) + i)))
+        ≡ total r (λ x. total r (λ z. one_if (is_full (layered r ws) (coordinate_at r ((x * r + y) * r + z)))))
     one_layer y l =
         total-front_only (r * r) (layer_words r * 64) (λ i. one_if (is_set ws (y * (layer_words r * 64) + i))) (omega arith) (unused y l)
         ∙ (total-mul r r (λ i. one_if (is_set ws (y * (layer_words r * 64) + i)))

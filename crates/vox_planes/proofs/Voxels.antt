@@ -34,7 +34,8 @@ get_or-numbers (suc n) a (suc k) d h = omega (arith, get_or-numbers n (a + 1) k 
 pub length-where : (r : ℕ) (test : Coord → Bool) → length (matrix_where r test).voxels ≡ r * r * r
 length-where r test = length-map (coordinates r) test ∙ (length-map (numbers_below (r * r * r)) (coordinate_at r) ∙ length-numbers (r * r * r) 0)
 
-pub get_or-where : (r : ℕ) (test : Coord → Bool) (k : ℕ) → k < r * r * r → get_or (matrix_where r test).voxels k false ≡ test (coordinate_at r k)
+pub get_or-where : (r : ℕ) (test : Coord → Bool) (k : ℕ) → k < r * r * r
+    → get_or (matrix_where r test).voxels k false ≡ test (coordinate_at r k)
 get_or-where r test k h =
     let ln : length (numbers_below (r * r * r)) ≡ r * r * r = length-numbers (r * r * r) 0 in
     let lc : length (coordinates r) ≡ r * r * r = length-map (numbers_below (r * r * r)) (coordinate_at r) ∙ ln in
@@ -49,12 +50,14 @@ is_full-where r test c h =
     ∙ (get_or-where r test (place r c) (place_below r c h) ∙ ap test (coordinate_at-place r c h))
 
 -- tests that agree in space make one matrix
-pub same_where : (r : ℕ) (f g : Coord → Bool) → ((c : Coord) → IsInSpace r c → f c ≡ g c) → matrix_where r f ≡ matrix_where r g
+pub same_where : (r : ℕ) (f g : Coord → Bool) → ((c : Coord) → IsInSpace r c → f c ≡ g c)
+    → matrix_where r f ≡ matrix_where r g
 same_where r f g h =
     let same : (matrix_where r f).voxels ≡ (matrix_where r g).voxels = ext_get_or false (matrix_where r f).voxels (matrix_where r g).voxels (length-where r f ∙ sym (length-where r g)) (λ k l. voxel k (subst (λ (n : ℕ). k < n) (length-where r f) l)) in
     λ i. record { resolution = r; voxels = same i }
   where
-    voxel : (k : ℕ) → k < r * r * r → get_or (matrix_where r f).voxels k false ≡ get_or (matrix_where r g).voxels k false
+    voxel : (k : ℕ) → k < r * r * r
+        → get_or (matrix_where r f).voxels k false ≡ get_or (matrix_where r g).voxels k false
     voxel k l = get_or-where r f k l ∙ (h (coordinate_at r k) (at_in_space r k l) ∙ sym (get_or-where r g k l))
 
 -- ---- matrices by words
@@ -62,7 +65,8 @@ same_where r f g h =
 pub layered_whole : (r : ℕ) (ws : List ℕ) → IsLayered r ws → IsWhole (layered r ws)
 layered_whole r ws h = record { some = h.some; most = h.most; voxels = length-where r (λ c. is_set ws (bit_index r c)) }
 
-pub is_full-layered : (r : ℕ) (ws : List ℕ) (c : Coord) → IsInSpace r c → is_full (layered r ws) c ≡ is_set ws (bit_index r c)
+pub is_full-layered : (r : ℕ) (ws : List ℕ) (c : Coord) → IsInSpace r c
+    → is_full (layered r ws) c ≡ is_set ws (bit_index r c)
 is_full-layered r ws c h = is_full-where r (λ d. is_set ws (bit_index r d)) c h
 
 -- no bit of words of 0 is 1
@@ -99,7 +103,8 @@ pub record IsChanged (old new : List ℕ) (i : ℕ) (b : Bool) : Type 0 where
   pub here : is_set new i ≡ b
   pub others : (j : ℕ) → j ≢ i → is_set new j ≡ is_set old j
 
-pub IsLayered-changed : (r : ℕ) (old new : List ℕ) (c : Coord) (b : Bool) → IsLayered r old → IsInSpace r c → IsChanged old new (bit_index r c) b → IsLayered r new
+pub IsLayered-changed : (r : ℕ) (old new : List ℕ) (c : Coord) (b : Bool) → IsLayered r old → IsInSpace r c
+    → IsChanged old new (bit_index r c) b → IsLayered r new
 IsLayered-changed r old new c b w h k = record {
   some = w.some;
   most = w.most;
@@ -113,24 +118,30 @@ IsLayered-changed r old new c b w h k = record {
         let same = same_from_place y i c.y (c.x * r + c.z) (layer_words r * 64) n (in_layer r c h) (omega (arith, e)) in
         omega (arith, same.1)
 
-changed_at : (r : ℕ) (old new : List ℕ) (c : Coord) (b : Bool) → IsInSpace r c → IsChanged old new (bit_index r c) b → (d : Coord) → IsInSpace r d → is_set new (bit_index r d) ≡ cond (same_point (point d) (point c)) b (is_set old (bit_index r d))
+changed_at : (r : ℕ) (old new : List ℕ) (c : Coord) (b : Bool) → IsInSpace r c → IsChanged old new (bit_index r c) b
+    → (d : Coord) → IsInSpace r d
+    → is_set new (bit_index r d) ≡ cond (same_point (point d) (point c)) b (is_set old (bit_index r d))
 changed_at r old new c b h k d i = by (same_point (point d) (point c)) refl
   where
-    by : (t : Bool) → same_point (point d) (point c) ≡ t → is_set new (bit_index r d) ≡ cond t b (is_set old (bit_index r d))
+    by : (t : Bool) → same_point (point d) (point c) ≡ t
+        → is_set new (bit_index r d) ≡ cond t b (is_set old (bit_index r d))
     by true t = ap (λ e. is_set new (bit_index r e)) (same_point-is d c t) ∙ k.here
     by false t = k.others (bit_index r d) (λ e. differs (one_bit r d c i h e))
       where
         differs : d ≡ c → ⊥
         differs e = let s = ap (λ v. same_point (point v) (point c)) e ∙ point_itself c in cc
 
-pub layered-changed : (r : ℕ) (old new : List ℕ) (c : Coord) (b : Bool) → IsInSpace r c → IsChanged old new (bit_index r c) b → layered r new ≡ with_voxel (layered r old) c b
+pub layered-changed : (r : ℕ) (old new : List ℕ) (c : Coord) (b : Bool) → IsInSpace r c
+    → IsChanged old new (bit_index r c) b → layered r new ≡ with_voxel (layered r old) c b
 layered-changed r old new c b h k = same_where r (λ d. is_set new (bit_index r d)) (λ d. cond (same_point (point d) (point c)) b (is_full (layered r old) d)) (λ d i.
     changed_at r old new c b h k d i ∙ ap (λ v. cond (same_point (point d) (point c)) b v) (sym (is_full-layered r old d i)))
 
-pub full_here : (r : ℕ) (old new : List ℕ) (c : Coord) (b : Bool) → IsInSpace r c → IsChanged old new (bit_index r c) b → is_full (layered r new) c ≡ b
+pub full_here : (r : ℕ) (old new : List ℕ) (c : Coord) (b : Bool) → IsInSpace r c → IsChanged old new (bit_index r c) b
+    → is_full (layered r new) c ≡ b
 full_here r old new c b h k = is_full-layered r new c h ∙ k.here
 
-pub full_others : (r : ℕ) (old new : List ℕ) (c : Coord) (b : Bool) → IsInSpace r c → IsChanged old new (bit_index r c) b → (d : Coord) → d ≢ c → is_full (layered r new) d ≡ is_full (layered r old) d
+pub full_others : (r : ℕ) (old new : List ℕ) (c : Coord) (b : Bool) → IsInSpace r c
+    → IsChanged old new (bit_index r c) b → (d : Coord) → d ≢ c → is_full (layered r new) d ≡ is_full (layered r old) d
 full_others r old new c b h k d n = by (in_space r (point d)) refl
   where
     by : (s : Bool) → in_space r (point d) ≡ s → is_full (layered r new) d ≡ is_full (layered r old) d
@@ -140,6 +151,8 @@ full_others r old new c b h k d n = by (in_space r (point d)) refl
         is_full-layered r new d i ∙ (k.others (bit_index r d) (λ e. n (one_bit r d c i h e)) ∙ sym (is_full-layered r old d i))
 
 -- what `set_bit` says, read from the words as they were to those that are kept
-pub changed_by : (r : ℕ) (c : Coord) (old old' new new' : List ℕ) (i : ℕ) (b : Bool) → old' ≡ old → new ≡ new' → length new ≡ length old → i ≡ bit_index r c → is_set new i ≡ b → ((j : ℕ) → j ≢ i → is_set new j ≡ is_set old' j) → IsChanged old new' (bit_index r c) b
+pub changed_by : (r : ℕ) (c : Coord) (old old' new new' : List ℕ) (i : ℕ) (b : Bool) → old' ≡ old → new ≡ new'
+    → length new ≡ length old → i ≡ bit_index r c → is_set new i ≡ b → ((j : ℕ) → j ≢ i → is_set new j ≡ is_set old' j)
+    → IsChanged old new' (bit_index r c) b
 changed_by r c old old' new new' i b eo en el ei h k =
     subst (λ (n : ℕ). IsChanged old new' n b) ei (subst (λ (w : List ℕ). IsChanged old w i b) en (record { same_length = el; here = h; others = λ j n. k j n ∙ ap (λ w. is_set w j) eo }))

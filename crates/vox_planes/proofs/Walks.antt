@@ -50,7 +50,8 @@ from-end r p h =
     ap (λ n. map (coordinate_at r) (numbers_from p n)) e
 
 -- the coordinates from one on are those of its row, and then those from the end of that row on
-rows : (r n : ℕ) (c : Coord) (last : ℕ) → n ≡ last + 1 - c.z → c.z ≤ last + 1 → c.x < r → c.y < r → last < r → coordinates_from r (place r c) ≡ row c last ++ coordinates_from r (place r (at c (last + 1)))
+rows : (r n : ℕ) (c : Coord) (last : ℕ) → n ≡ last + 1 - c.z → c.z ≤ last + 1 → c.x < r → c.y < r → last < r
+    → coordinates_from r (place r c) ≡ row c last ++ coordinates_from r (place r (at c (last + 1)))
 rows r zero c last e l x y h =
     let same : c.z ≡ last + 1 = omega arith in
     ap (λ z. coordinates_from r (place r (at c z))) same ∙ sym (ap (λ xs. xs ++ coordinates_from r (place r (at c (last + 1)))) (row-end c last (omega arith)))
@@ -62,7 +63,8 @@ rows r (suc n) c last e l x y h =
     ∙ (ap (λ xs. c ∷ xs) (rows r n (at c (c.z + 1)) last (omega arith) (omega arith) x y h)
     ∙ sym (ap (λ xs. xs ++ coordinates_from r (place r (at c (last + 1)))) (row-more c last (omega arith)))))
 
-pub from-row : (r : ℕ) (c : Coord) (last : ℕ) → IsInSpace r c → c.z ≤ last → last < r → coordinates_from r (place r c) ≡ row c last ++ coordinates_from r (place r (at c (last + 1)))
+pub from-row : (r : ℕ) (c : Coord) (last : ℕ) → IsInSpace r c → c.z ≤ last → last < r
+    → coordinates_from r (place r c) ≡ row c last ++ coordinates_from r (place r (at c (last + 1)))
 from-row r c last within l h = rows r (last + 1 - c.z) c last refl (omega arith) within.x within.y h
 
 -- ---- tests in a region
@@ -99,7 +101,8 @@ of_is k c h = λ i. between_ends k.low.x k.high.x c.x h.x_low h.x_high i && betw
 in_row : (k : Corners) (test : Coord → Bool) (c : Coord) → IsOf k c → passes_in k test c ≡ test c
 in_row k test c h = and_by_second (test c) (is_within (span k) (point c)) (of_is k c h)
 
-filter_row : (k : Corners) (test : Coord → Bool) (n : ℕ) (c : Coord) → n ≡ k.high.z + 1 - c.z → IsOf k (at c k.high.z) → k.low.z ≤ c.z → c.z ≤ k.high.z + 1 → filter (passes_in k test) (row c k.high.z) ≡ filter test (row c k.high.z)
+filter_row : (k : Corners) (test : Coord → Bool) (n : ℕ) (c : Coord) → n ≡ k.high.z + 1 - c.z → IsOf k (at c k.high.z)
+    → k.low.z ≤ c.z → c.z ≤ k.high.z + 1 → filter (passes_in k test) (row c k.high.z) ≡ filter test (row c k.high.z)
 filter_row k test zero c e h l m = ap (filter (passes_in k test)) (row-end c k.high.z (omega arith)) ∙ sym (ap (filter test) (row-end c k.high.z (omega arith)))
 filter_row k test (suc n) c e h l m =
     let here : IsOf k c = record { x_low = h.x_low; x_high = h.x_high; y_low = h.y_low; y_high = h.y_high; z_low = l; z_high = omega arith } in
@@ -109,7 +112,8 @@ filter_row k test (suc n) c e h l m =
     ∙ ((λ i. cond (in_row k test c here i) (c ∷ later i) (later i))
     ∙ sym (ap (filter test) (row-more c k.high.z (omega arith))))
 
-find_row : (k : Corners) (test : Coord → Bool) (n : ℕ) (c : Coord) → n ≡ k.high.z + 1 - c.z → IsOf k (at c k.high.z) → k.low.z ≤ c.z → c.z ≤ k.high.z + 1 → find (passes_in k test) (row c k.high.z) ≡ find test (row c k.high.z)
+find_row : (k : Corners) (test : Coord → Bool) (n : ℕ) (c : Coord) → n ≡ k.high.z + 1 - c.z → IsOf k (at c k.high.z)
+    → k.low.z ≤ c.z → c.z ≤ k.high.z + 1 → find (passes_in k test) (row c k.high.z) ≡ find test (row c k.high.z)
 find_row k test zero c e h l m = ap (find (passes_in k test)) (row-end c k.high.z (omega arith)) ∙ sym (ap (find test) (row-end c k.high.z (omega arith)))
 find_row k test (suc n) c e h l m =
     let here : IsOf k c = record { x_low = h.x_low; x_high = h.x_high; y_low = h.y_low; y_high = h.y_high; z_low = l; z_high = omega arith } in
@@ -123,16 +127,19 @@ find_row k test (suc n) c e h l m =
 
 -- a walk is at the same point after a coordinate that is not of the region
 pub record IsWalk {A : Type 0} (r : ℕ) (k : Corners) (walk : ℕ → A) : Type 0 where
-  pub passes : (p : ℕ) → (p < r * r * r → IsFalse (is_within (span k) (point (coordinate_at r p)))) → walk p ≡ walk (p + 1)
+  pub passes : (p : ℕ) → (p < r * r * r → IsFalse (is_within (span k) (point (coordinate_at r p))))
+      → walk p ≡ walk (p + 1)
 
-gap : {A : Type 0} (r : ℕ) (k : Corners) (walk : ℕ → A) → IsWalk r k walk → (n p : ℕ) → ((q : ℕ) → p ≤ q → q < p + n → IsFalse (is_within (span k) (point (coordinate_at r q)))) → walk p ≡ walk (p + n)
+gap : {A : Type 0} (r : ℕ) (k : Corners) (walk : ℕ → A) → IsWalk r k walk → (n p : ℕ)
+    → ((q : ℕ) → p ≤ q → q < p + n → IsFalse (is_within (span k) (point (coordinate_at r q)))) → walk p ≡ walk (p + n)
 gap r k walk w zero p none = ap walk (omega arith)
 gap r k walk w (suc n) p none =
     let e : p + 1 + n ≡ p + suc n = omega arith in
     w.passes p (λ l. none p (omega arith) (omega arith)) ∙ (gap r k walk w n (p + 1) (λ q i j. none q (omega arith) (omega arith)) ∙ ap walk e)
 
 -- from one place to a later one, with no coordinate of the region between them
-over : {A : Type 0} (r : ℕ) (k : Corners) (walk : ℕ → A) → IsWalk r k walk → IsOrdered k → (p q : ℕ) → p ≤ q → ((c : Coord) → IsOf k c → p ≤ place r c → place r c < q → ⊥) → walk p ≡ walk q
+over : {A : Type 0} (r : ℕ) (k : Corners) (walk : ℕ → A) → IsWalk r k walk → IsOrdered k → (p q : ℕ) → p ≤ q
+    → ((c : Coord) → IsOf k c → p ≤ place r c → place r c < q → ⊥) → walk p ≡ walk q
 over r k walk w o p q l none =
     let e : p + (q - p) ≡ q = omega arith in
     gap r k walk w (q - p) p (λ t i j. false_by (is_within (span k) (point (coordinate_at r t))) (λ h.
@@ -150,7 +157,8 @@ less a b m lt = by (cases_lt a b)
     by (inl h) = h
     by (inr h) = let f : b * m ≤ a * m = mul-le-mul h (≤_refl m) in absurd (omega arith)
 
-pub to_start : {A : Type 0} (r : ℕ) (k : Corners) (walk : ℕ → A) → IsWalk r k walk → IsOrdered k → walk 0 ≡ walk (place r k.low)
+pub to_start : {A : Type 0} (r : ℕ) (k : Corners) (walk : ℕ → A) → IsWalk r k walk → IsOrdered k
+    → walk 0 ≡ walk (place r k.low)
 to_start r k walk w o = over r k walk w o 0 (place r k.low) (omega arith) none
   where
     none : (c : Coord) → IsOf k c → 0 ≤ place r c → place r c < place r k.low → ⊥
@@ -159,22 +167,26 @@ to_start r k walk w o = over r k walk w o 0 (place r k.low) (omega arith) none
         let y : k.low.y * r ≤ c.y * r = mul-le-mul h.y_low (≤_refl r) in
         omega (arith, h.z_low)
 
-pub next_row : {A : Type 0} (r : ℕ) (k : Corners) (walk : ℕ → A) → IsWalk r k walk → IsOrdered k → IsInSpace r k.high → (x y : ℕ) → walk (place r (at (row_start k x y) (k.high.z + 1))) ≡ walk (place r (row_start k x (y + 1)))
+pub next_row : {A : Type 0} (r : ℕ) (k : Corners) (walk : ℕ → A) → IsWalk r k walk → IsOrdered k → IsInSpace r k.high
+    → (x y : ℕ) → walk (place r (at (row_start k x y) (k.high.z + 1))) ≡ walk (place r (row_start k x (y + 1)))
 next_row r k walk w o s x y = over r k walk w o (place r (at (row_start k x y) (k.high.z + 1))) (place r (row_start k x (y + 1))) (omega (arith, s.z)) none
   where
-    none : (c : Coord) → IsOf k c → place r (at (row_start k x y) (k.high.z + 1)) ≤ place r c → place r c < place r (row_start k x (y + 1)) → ⊥
+    none : (c : Coord) → IsOf k c → place r (at (row_start k x y) (k.high.z + 1)) ≤ place r c
+        → place r c < place r (row_start k x (y + 1)) → ⊥
     none c h i j =
         let low : x * r + y < c.x * r + c.y = less (x * r + y) (c.x * r + c.y) r (omega (arith, h.z_high)) in
         let high : c.x * r + c.y < x * r + y + 1 = less (c.x * r + c.y) (x * r + y + 1) r (omega (arith, h.z_low)) in
         omega arith
 
-pub next_wall : {A : Type 0} (r : ℕ) (k : Corners) (walk : ℕ → A) → IsWalk r k walk → IsOrdered k → IsInSpace r k.high → (x : ℕ) → walk (place r (row_start k x (k.high.y + 1))) ≡ walk (place r (row_start k (x + 1) k.low.y))
+pub next_wall : {A : Type 0} (r : ℕ) (k : Corners) (walk : ℕ → A) → IsWalk r k walk → IsOrdered k → IsInSpace r k.high
+    → (x : ℕ) → walk (place r (row_start k x (k.high.y + 1))) ≡ walk (place r (row_start k (x + 1) k.low.y))
 next_wall r k walk w o s x = over r k walk w o (place r (row_start k x (k.high.y + 1))) (place r (row_start k (x + 1) k.low.y)) ordered none
   where
     ordered : place r (row_start k x (k.high.y + 1)) ≤ place r (row_start k (x + 1) k.low.y)
     ordered = let y : (k.high.y + 1) * r ≤ r * r = mul-le-mul (let l = s.y in omega arith) (≤_refl r) in omega arith
 
-    none : (c : Coord) → IsOf k c → place r (row_start k x (k.high.y + 1)) ≤ place r c → place r c < place r (row_start k (x + 1) k.low.y) → ⊥
+    none : (c : Coord) → IsOf k c → place r (row_start k x (k.high.y + 1)) ≤ place r c
+        → place r c < place r (row_start k (x + 1) k.low.y) → ⊥
     none c h i j =
         let above : x * r + k.high.y + 1 < c.x * r + c.y + 1 = less (x * r + k.high.y + 1) (c.x * r + c.y + 1) r (omega (arith, h.z_high, s.z)) in
         let low : x < c.x = less x c.x r (omega (arith, h.y_high)) in
@@ -182,10 +194,13 @@ next_wall r k walk w o s x = over r k walk w o (place r (row_start k x (k.high.y
         let high : c.x < x + 1 = less c.x (x + 1) r (omega (arith, h.y_low)) in
         omega arith
 
-pub to_end : {A : Type 0} (r : ℕ) (k : Corners) (walk : ℕ → A) → IsWalk r k walk → IsOrdered k → IsInSpace r k.high → walk (place r (row_start k (k.high.x + 1) k.low.y)) ≡ walk (place r (row_start k (k.high.x + 1) k.low.y) + r * r * r)
+pub to_end : {A : Type 0} (r : ℕ) (k : Corners) (walk : ℕ → A) → IsWalk r k walk → IsOrdered k → IsInSpace r k.high
+    → walk (place r (row_start k (k.high.x + 1) k.low.y))
+    ≡ walk (place r (row_start k (k.high.x + 1) k.low.y) + r * r * r)
 to_end r k walk w o s = over r k walk w o (place r (row_start k (k.high.x + 1) k.low.y)) (place r (row_start k (k.high.x + 1) k.low.y) + r * r * r) (omega arith) none
   where
-    none : (c : Coord) → IsOf k c → place r (row_start k (k.high.x + 1) k.low.y) ≤ place r c → place r c < place r (row_start k (k.high.x + 1) k.low.y) + r * r * r → ⊥
+    none : (c : Coord) → IsOf k c → place r (row_start k (k.high.x + 1) k.low.y) ≤ place r c
+        → place r c < place r (row_start k (k.high.x + 1) k.low.y) + r * r * r → ⊥
     none c h i j =
         let small : c.y * r + c.z < r * r = digits_lt (let l = s.y in let m = h.y_high in omega arith) (let l = s.z in let m = h.z_high in omega arith) in
         let x : c.x * (r * r) ≤ k.high.x * (r * r) = mul-le-mul h.x_high (≤_refl (r * r)) in
@@ -193,19 +208,25 @@ to_end r k walk w o s = over r k walk w o (place r (row_start k (k.high.x + 1) k
 
 -- ---- what is found and what is listed from a place on
 
-found_walks : (r : ℕ) (k : Corners) (test : Coord → Bool) → IsWalk r k (λ p. find (passes_in k test) (coordinates_from r p))
+found_walks : (r : ℕ) (k : Corners) (test : Coord → Bool)
+    → IsWalk r k (λ p. find (passes_in k test) (coordinates_from r p))
 found_walks r k test = record { passes = λ p h. by p h (cases_lt p (r * r * r)) }
   where
-    by : (p : ℕ) → (p < r * r * r → IsFalse (is_within (span k) (point (coordinate_at r p)))) → ((p < r * r * r) ⊎ (r * r * r ≤ p)) → find (passes_in k test) (coordinates_from r p) ≡ find (passes_in k test) (coordinates_from r (p + 1))
+    by : (p : ℕ) → (p < r * r * r → IsFalse (is_within (span k) (point (coordinate_at r p))))
+        → ((p < r * r * r) ⊎ (r * r * r ≤ p))
+        → find (passes_in k test) (coordinates_from r p) ≡ find (passes_in k test) (coordinates_from r (p + 1))
     by p h (inl l) =
         ap (find (passes_in k test)) (from-more r p l)
         ∙ ap (λ b. cond b (Some (coordinate_at r p)) (find (passes_in k test) (coordinates_from r (p + 1)))) (no_second (test (coordinate_at r p)) (is_within (span k) (point (coordinate_at r p))) (h l))
     by p h (inr l) = ap (find (passes_in k test)) (from-end r p l ∙ sym (from-end r (p + 1) (omega arith)))
 
-listed_walks : (r : ℕ) (k : Corners) (test : Coord → Bool) → IsWalk r k (λ p. filter (passes_in k test) (coordinates_from r p))
+listed_walks : (r : ℕ) (k : Corners) (test : Coord → Bool)
+    → IsWalk r k (λ p. filter (passes_in k test) (coordinates_from r p))
 listed_walks r k test = record { passes = λ p h. by p h (cases_lt p (r * r * r)) }
   where
-    by : (p : ℕ) → (p < r * r * r → IsFalse (is_within (span k) (point (coordinate_at r p)))) → ((p < r * r * r) ⊎ (r * r * r ≤ p)) → filter (passes_in k test) (coordinates_from r p) ≡ filter (passes_in k test) (coordinates_from r (p + 1))
+    by : (p : ℕ) → (p < r * r * r → IsFalse (is_within (span k) (point (coordinate_at r p))))
+        → ((p < r * r * r) ⊎ (r * r * r ≤ p))
+        → filter (passes_in k test) (coordinates_from r p) ≡ filter (passes_in k test) (coordinates_from r (p + 1))
     by p h (inl l) =
         ap (filter (passes_in k test)) (from-more r p l)
         ∙ ap (λ b. cond b (coordinate_at r p ∷ filter (passes_in k test) (coordinates_from r (p + 1))) (filter (passes_in k test) (coordinates_from r (p + 1)))) (no_second (test (coordinate_at r p)) (is_within (span k) (point (coordinate_at r p))) (h l))
@@ -213,10 +234,14 @@ listed_walks r k test = record { passes = λ p h. by p h (cases_lt p (r * r * r)
 
 -- the search for the first coordinate of the region that passes
 module _ (r : ℕ) (k : Corners) (test : Coord → Bool) (o : IsOrdered k) (s : IsInSpace r k.high) where
-  pub find-start : find (passes_in k test) (coordinates r) ≡ find (passes_in k test) (coordinates_from r (place r (row_start k k.low.x k.low.y)))
+  pub find-start : find (passes_in k test) (coordinates r)
+      ≡ find (passes_in k test) (coordinates_from r (place r (row_start k k.low.x k.low.y)))
   find-start = ap (find (passes_in k test)) (sym (from-all r)) ∙ to_start r k (λ p. find (passes_in k test) (coordinates_from r p)) (found_walks r k test) o
 
-  pub find-step : (x y : ℕ) → k.low.x ≤ x → x ≤ k.high.x → k.low.y ≤ y → y ≤ k.high.y → option_or (find test (row (row_start k x y) k.high.z)) (find (passes_in k test) (coordinates_from r (place r (row_start k x (y + 1))))) ≡ find (passes_in k test) (coordinates_from r (place r (row_start k x y)))
+  pub find-step : (x y : ℕ) → k.low.x ≤ x → x ≤ k.high.x → k.low.y ≤ y → y ≤ k.high.y
+      → option_or (find test (row (row_start k x y) k.high.z))
+      (find (passes_in k test) (coordinates_from r (place r (row_start k x (y + 1)))))
+      ≡ find (passes_in k test) (coordinates_from r (place r (row_start k x y)))
   find-step x y xl xh yl yh =
       let c : Coord = row_start k x y in
       let within : IsInSpace r c = record { x = omega (arith, s.x); y = omega (arith, s.y); z = omega (arith, s.z, o.z) } in
@@ -224,7 +249,8 @@ module _ (r : ℕ) (k : Corners) (test : Coord → Bool) (o : IsOrdered k) (s : 
       let split = ap (find (passes_in k test)) (from-row r c k.high.z within o.z s.z) ∙ find-append (passes_in k test) (row c k.high.z) (coordinates_from r (place r (at c (k.high.z + 1)))) in
       sym (split ∙ (λ i. option_or (find_row k test (k.high.z + 1 - k.low.z) c refl last (omega arith) (omega (arith, o.z)) i) (next_row r k (λ p. find (passes_in k test) (coordinates_from r p)) (found_walks r k test) o s x y i)))
 
-  pub find-next_wall : (x : ℕ) → find (passes_in k test) (coordinates_from r (place r (row_start k x (k.high.y + 1)))) ≡ find (passes_in k test) (coordinates_from r (place r (row_start k (x + 1) k.low.y)))
+  pub find-next_wall : (x : ℕ) → find (passes_in k test) (coordinates_from r (place r (row_start k x (k.high.y + 1))))
+      ≡ find (passes_in k test) (coordinates_from r (place r (row_start k (x + 1) k.low.y)))
   find-next_wall x = next_wall r k (λ p. find (passes_in k test) (coordinates_from r p)) (found_walks r k test) o s x
 
   pub find-end : find (passes_in k test) (coordinates_from r (place r (row_start k (k.high.x + 1) k.low.y))) ≡ None
@@ -233,10 +259,14 @@ module _ (r : ℕ) (k : Corners) (test : Coord → Bool) (o : IsOrdered k) (s : 
       ∙ ap (find (passes_in k test)) (from-end r (place r (row_start k (k.high.x + 1) k.low.y) + r * r * r) (omega arith))
 
   -- the list of the coordinates of the region that pass
-  pub filter-start : filter (passes_in k test) (coordinates r) ≡ filter (passes_in k test) (coordinates_from r (place r (row_start k k.low.x k.low.y)))
+  pub filter-start : filter (passes_in k test) (coordinates r)
+      ≡ filter (passes_in k test) (coordinates_from r (place r (row_start k k.low.x k.low.y)))
   filter-start = ap (filter (passes_in k test)) (sym (from-all r)) ∙ to_start r k (λ p. filter (passes_in k test) (coordinates_from r p)) (listed_walks r k test) o
 
-  pub filter-step : (x y : ℕ) → k.low.x ≤ x → x ≤ k.high.x → k.low.y ≤ y → y ≤ k.high.y → filter test (row (row_start k x y) k.high.z) ++ filter (passes_in k test) (coordinates_from r (place r (row_start k x (y + 1)))) ≡ filter (passes_in k test) (coordinates_from r (place r (row_start k x y)))
+  pub filter-step : (x y : ℕ) → k.low.x ≤ x → x ≤ k.high.x → k.low.y ≤ y → y ≤ k.high.y
+      → filter test (row (row_start k x y) k.high.z)
+      ++ filter (passes_in k test) (coordinates_from r (place r (row_start k x (y + 1))))
+      ≡ filter (passes_in k test) (coordinates_from r (place r (row_start k x y)))
   filter-step x y xl xh yl yh =
       let c : Coord = row_start k x y in
       let within : IsInSpace r c = record { x = omega (arith, s.x); y = omega (arith, s.y); z = omega (arith, s.z, o.z) } in
@@ -244,7 +274,9 @@ module _ (r : ℕ) (k : Corners) (test : Coord → Bool) (o : IsOrdered k) (s : 
       let split = ap (filter (passes_in k test)) (from-row r c k.high.z within o.z s.z) ∙ filter-append (passes_in k test) (row c k.high.z) (coordinates_from r (place r (at c (k.high.z + 1)))) in
       sym (split ∙ (λ i. filter_row k test (k.high.z + 1 - k.low.z) c refl last (omega arith) (omega (arith, o.z)) i ++ next_row r k (λ p. filter (passes_in k test) (coordinates_from r p)) (listed_walks r k test) o s x y i))
 
-  pub filter-next_wall : (x : ℕ) → filter (passes_in k test) (coordinates_from r (place r (row_start k x (k.high.y + 1)))) ≡ filter (passes_in k test) (coordinates_from r (place r (row_start k (x + 1) k.low.y)))
+  pub filter-next_wall : (x : ℕ)
+      → filter (passes_in k test) (coordinates_from r (place r (row_start k x (k.high.y + 1))))
+      ≡ filter (passes_in k test) (coordinates_from r (place r (row_start k (x + 1) k.low.y)))
   filter-next_wall x = next_wall r k (λ p. filter (passes_in k test) (coordinates_from r p)) (listed_walks r k test) o s x
 
   pub filter-end : filter (passes_in k test) (coordinates_from r (place r (row_start k (k.high.x + 1) k.low.y))) ≡ []
@@ -267,7 +299,8 @@ size-walls k o =
     extent_is low high h = omega (arith, ints)
 
 -- the list of what is past the last component
-pub filter-row_last : (test : Coord → Bool) (c : Coord) (last z : ℕ) → last ≤ z → filter test (row (at c (z + 1)) last) ≡ []
+pub filter-row_last : (test : Coord → Bool) (c : Coord) (last z : ℕ) → last ≤ z
+    → filter test (row (at c (z + 1)) last) ≡ []
 filter-row_last test c last z m = ap (filter test) (row-end (at c (z + 1)) last (omega arith))
 
 -- ---- what was found, or else what follows

@@ -5,7 +5,8 @@ use Rattle.std.specs.Cmp.{nat_cmp_total, unsigned_tied}
 use Rattle.std.specs.FinMap.{get, remove, get-remove}
 use Rattle.brick_arena.specs.Slots.{Slots, IsLive}
 
-either_is : (words : List ℕ) (held : Option (List ℕ)) (same : Bool) → is_some held ≡ true → is_some (cond same (Some words) held) ≡ true
+either_is : (words : List ℕ) (held : Option (List ℕ)) (same : Bool) → is_some held ≡ true
+    → is_some (cond same (Some words) held) ≡ true
 either_is words held true live = refl
 either_is words held false live = live
 

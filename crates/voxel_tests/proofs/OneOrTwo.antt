@@ -36,7 +36,8 @@ two_apart a b n (suc i) zero d l k e = omega arith
 two_apart a b n (suc i) (suc zero) d l k e = omega arith
 two_apart a b n i (suc (suc j)) d l k e = omega arith
 
-pub may_add_one : (m : Matrix) (c : Coord) (word : ℕ) → IsInSpace m.resolution c → Says m c word → word ≡ 0 → MayAdd m (c ∷ [])
+pub may_add_one : (m : Matrix) (c : Coord) (word : ℕ) → IsInSpace m.resolution c → Says m c word → word ≡ 0
+    → MayAdd m (c ∷ [])
 may_add_one m c word i s e = record {
   differ = one_apart c;
   within = λ d h. subst (λ (x : Coord). IsInSpace m.resolution x) (one c d h) i;
@@ -49,14 +50,16 @@ may_remove_one m c word s n = record {
   full = λ d h. subst (λ (x : Coord). IsTrue (is_full m x)) (one c d h) (full_word m c word s n);
 }
 
-pub may_add_two : (m : Matrix) (a b : Coord) (v w : ℕ) → (a ≡ b → ⊥) → IsInSpace m.resolution a → IsInSpace m.resolution b → Says m a v → Says m b w → v ≡ 0 → w ≡ 0 → MayAdd m (a ∷ b ∷ [])
+pub may_add_two : (m : Matrix) (a b : Coord) (v w : ℕ) → (a ≡ b → ⊥) → IsInSpace m.resolution a
+    → IsInSpace m.resolution b → Says m a v → Says m b w → v ≡ 0 → w ≡ 0 → MayAdd m (a ∷ b ∷ [])
 may_add_two m a b v w n i j s t e f = record {
   differ = two_apart a b n;
   within = λ d h. elim (two a b d h) [ inl x ↦ subst (λ (y : Coord). IsInSpace m.resolution y) x i | inr x ↦ subst (λ (y : Coord). IsInSpace m.resolution y) x j ];
   void = λ d h. elim (two a b d h) [ inl x ↦ subst (λ (y : Coord). IsFalse (is_full m y)) x (void_word m a v s e) | inr x ↦ subst (λ (y : Coord). IsFalse (is_full m y)) x (void_word m b w t f) ];
 }
 
-pub may_remove_two : (m : Matrix) (a b : Coord) (v w : ℕ) → (a ≡ b → ⊥) → Says m a v → Says m b w → (v ≡ 0 → ⊥) → (w ≡ 0 → ⊥) → MayRemove m (a ∷ b ∷ [])
+pub may_remove_two : (m : Matrix) (a b : Coord) (v w : ℕ) → (a ≡ b → ⊥) → Says m a v → Says m b w → (v ≡ 0 → ⊥)
+    → (w ≡ 0 → ⊥) → MayRemove m (a ∷ b ∷ [])
 may_remove_two m a b v w n s t k l = record {
   differ = two_apart a b n;
   full = λ d h. elim (two a b d h) [ inl x ↦ subst (λ (y : Coord). IsTrue (is_full m y)) x (full_word m a v s k) | inr x ↦ subst (λ (y : Coord). IsTrue (is_full m y)) x (full_word m b w t l) ];

@@ -9,7 +9,8 @@ use Rattle.step_order.proofs.Lists.{filter_same}
 use Rattle.bot_crew.specs.Crew.{without}
 use Rattle.bot_crew.proofs.laws.group_is_replaced.Goals as goal
 
-same_test : (group : List Act) (k : ℕ) → list_any (λ a. a.bot.bid == k) group ≡ list_any (λ j. j == k) (map (λ a. a.bot.bid) group)
+same_test : (group : List Act) (k : ℕ)
+    → list_any (λ a. a.bot.bid == k) group ≡ list_any (λ j. j == k) (map (λ a. a.bot.bid) group)
 same_test [] k = refl
 same_test (a ∷ group) k = ap (λ v. a.bot.bid == k || v) (same_test group k)
 

@@ -9,7 +9,9 @@ loop-taken-preserved c =
     let next : 1 + c.loop-taken._taken + 1 ≡ 1 + (c.loop-taken._taken + 1) = omega arith in
     c.without_least-kept.ensures ∙ (ap (λ v. drop 1 v) c.loop-taken.invariant ∙ (drop-drop 1 (1 + c.loop-taken._taken) (seed_list c.args.seeds) ∙ ap (λ v. drop v (seed_list c.args.seeds)) next))
 
-cut : (c : goal.After-loop-taken) → (c.loop-taken.kept ≤ c.without_least-later.result) × (c.without_least-later.result - c.loop-taken.kept ≡ seed_set (take c.args.m (drop 1 (seed_list c.args.seeds)))) × (c.loop-taken.kept ≡ seed_set (drop (c.args.m + 1) (seed_list c.args.seeds)))
+cut : (c : goal.After-loop-taken) → (c.loop-taken.kept ≤ c.without_least-later.result)
+    × (c.without_least-later.result - c.loop-taken.kept ≡ seed_set (take c.args.m (drop 1 (seed_list c.args.seeds))))
+    × (c.loop-taken.kept ≡ seed_set (drop (c.args.m + 1) (seed_list c.args.seeds)))
 cut c =
     let all : c.loop-taken._taken ≡ c.args.m = omega arith in
     between_is c.without_least-later.result c.loop-taken.kept c.args.m (seed_list c.args.seeds) (omega arith) (omega arith) c.without_least-later.ensures (c.loop-taken.invariant ∙ ap (λ v. drop (1 + v) (seed_list c.args.seeds)) all)

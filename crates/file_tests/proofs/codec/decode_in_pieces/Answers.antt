@@ -8,7 +8,8 @@ use Rattle.trace_codec.specs.Decoder.{HasTaken}
 use Rattle.trace_codec.specs.Whole.{Decodes}
 use Rattle.file_tests.proofs.codec.decode_in_pieces.Goals as goal
 
-next : (bytes : List ℕ) (start more : ℕ) → take start bytes ++ take (start + more - start) (drop start bytes) ≡ take (start + more) bytes
+next : (bytes : List ℕ) (start more : ℕ)
+    → take start bytes ++ take (start + more - start) (drop start bytes) ≡ take (start + more) bytes
 next bytes start more =
     let n : start + more - start ≡ more = omega arith in
     ap (λ k. take start bytes ++ take k (drop start bytes)) n ∙ sym (take-add start more bytes)

@@ -6,10 +6,13 @@ use Rattle.nano_spec.specs.Cutting.{BadAt, Decoding}
 use Rattle.trace_codec.specs.Decoder.{DecoderState, HasTaken}
 use Rattle.file_tests.proofs.codec.take_piece.Goals as goal
 
-moved : (bytes : List ℕ) (cs ds : List Command) (d e : DecoderState) → ds ≡ cs → e ≡ d → HasTaken bytes cs d → HasTaken bytes ds e
+moved : (bytes : List ℕ) (cs ds : List Command) (d e : DecoderState) → ds ≡ cs → e ≡ d → HasTaken bytes cs d
+    → HasTaken bytes ds e
 moved bytes cs ds d e p q h = subst (λ (x : DecoderState). HasTaken bytes ds x) (sym q) (subst (λ (x : List Command). HasTaken bytes x d) (sym p) h)
 
-step : (bytes front rest piece : List ℕ) (used : ℕ) (commands : List Command) (decoder : DecoderState) → front ++ rest ≡ piece → HasTaken ((bytes ++ front) ++ take used rest) commands decoder → (x : List ℕ) × (x ++ take (length rest - used) (drop used rest) ≡ piece) × HasTaken (bytes ++ x) commands decoder
+step : (bytes front rest piece : List ℕ) (used : ℕ) (commands : List Command) (decoder : DecoderState)
+    → front ++ rest ≡ piece → HasTaken ((bytes ++ front) ++ take used rest) commands decoder
+    → (x : List ℕ) × (x ++ take (length rest - used) (drop used rest) ≡ piece) × HasTaken (bytes ++ x) commands decoder
 step bytes front rest piece used commands decoder e h = (
   front ++ take used rest,
   append_assoc front (take used rest) _ ∙ (ap (λ x. front ++ (take used rest ++ x)) (take_rest rest used) ∙ (ap (λ x. front ++ x) (take-append-drop used rest) ∙ e)),

@@ -8,10 +8,13 @@ use Rattle.kept_machine.proofs.counting.count_differences.Goals as goal
 pub loop-from-init : goal.loop-from-init
 loop-from-init g c = (sym (none_below c.args.matrix.now c.args.target.now), omega arith)
 
-within : (g : given.Over) (c : goal.After-places-there g) → c.loop-from.from + c.min-some.result ≤ volume c.args.matrix.now.resolution
+within : (g : given.Over) (c : goal.After-places-there g)
+    → c.loop-from.from + c.min-some.result ≤ volume c.args.matrix.now.resolution
 within g c = let test = c.loop-from-test.true in omega (arith, test, c.min-some.ensures, c.volume-places.ensures.value, c.loop-from.invariant.1)
 
-counted : (g : given.Over) (c : goal.After-places-there g) → c.loop-from.count + count_ones (bit_xor c.places-here.result c.places-there.result) ≡ differing_below c.args.matrix.now c.args.target.now (c.loop-from.from + c.min-some.result)
+counted : (g : given.Over) (c : goal.After-places-there g)
+    → c.loop-from.count + count_ones (bit_xor c.places-here.result c.places-there.result)
+    ≡ differing_below c.args.matrix.now c.args.target.now (c.loop-from.from + c.min-some.result)
 counted g c =
     ap (λ n. n + count_ones (bit_xor c.places-here.result c.places-there.result)) c.loop-from.invariant.0
     ∙ sym (more_below c.args.matrix.now c.args.target.now c.loop-from.from c.min-some.result c.places-here.result c.places-there.result c.requires.same (within g c)

@@ -8,7 +8,8 @@ use Rattle.nano_spec.specs.Matrix.{Matrix, is_full}
 use Rattle.model_file.proofs.legality.legal.Goals as goal
 
 -- the least full voxel outside the box, as it was found
-found : (m : Matrix) (o : Option Coord) → LeastOf m.resolution (λ c. is_full m c && not (in_legal_box m.resolution c)) o → first_outside m ≡ o
+found : (m : Matrix) (o : Option Coord) → LeastOf m.resolution (λ c. is_full m c && not (in_legal_box m.resolution c)) o
+    → first_outside m ≡ o
 found m o least = first_is m.resolution (λ c. is_full m c && not (in_legal_box m.resolution c)) o least
 
 pub returns-in-Some : goal.returns-in-Some

@@ -10,7 +10,10 @@ use Rattle.model_file.proofs.WideForms.{wide_is}
 use Rattle.model_file.proofs.wide_form.read_wide.Goals as goal
 
 -- what was found of the runs is said of the whole
-said : (bytes : List ℕ) (n r : ℕ) (answer : Result Matrix ModelFault) → n ≡ r → 2 ≤ length bytes → r ≡ slice_index bytes 0 * 256 + slice_index bytes 1 → 251 ≤ r → r ≤ 400 → ReadsModel (of_runs n (runs_in (volume n) 0 0 (take (length bytes - 2) (drop 2 bytes)))) answer → ReadsModel (wide_form bytes) answer
+said : (bytes : List ℕ) (n r : ℕ) (answer : Result Matrix ModelFault) → n ≡ r → 2 ≤ length bytes
+    → r ≡ slice_index bytes 0 * 256 + slice_index bytes 1 → 251 ≤ r → r ≤ 400
+    → ReadsModel (of_runs n (runs_in (volume n) 0 0 (take (length bytes - 2) (drop 2 bytes)))) answer
+    → ReadsModel (wide_form bytes) answer
 said bytes n r answer en two e l u h =
     subst (λ (s : Result Matrix NoModel). ReadsModel s answer) (wide_is bytes r two e l u)
     (subst (λ (k : ℕ). ReadsModel (of_runs k (runs_in (volume k) 0 0 (drop 2 bytes))) answer) en

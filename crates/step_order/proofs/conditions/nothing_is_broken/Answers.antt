@@ -8,7 +8,9 @@ use Rattle.step_order.proofs.Judgements.{Agree, containing, unbroken_by}
 use Rattle.step_order.proofs.Lists.{not_both, true_or_false}
 use Rattle.step_order.proofs.conditions.nothing_is_broken.Goals as goal
 
-agree : (a b : Act) → (are_together a b ≡ true) ⊎ (are_together a b ≡ false) → (are_together a b ≡ false → (c : Coord) → is_volatile_of (point c) a ≡ true → is_volatile_of (point c) b ≡ false) → Agree a b
+agree : (a b : Act) → (are_together a b ≡ true) ⊎ (are_together a b ≡ false)
+    → (are_together a b ≡ false → (c : Coord) → is_volatile_of (point c) a ≡ true → is_volatile_of (point c) b ≡ false)
+    → Agree a b
 agree a b (inl t) h = inl t
 agree a b (inr f) h = inr (λ c v w. not_both w (h f c v))
 

@@ -11,7 +11,8 @@ use Rattle.swarm_planner.proofs.crew.gather.Goals as goal
 use Rattle.vox_geom.specs.Point.{coord}
 
 -- the end of the range of strips, by what is read of the tape
-end_is : (n r : ℕ) (m : Matrix) (a b : TapeState) → n ≡ count r → r ≡ m.resolution → m ≡ b.matrix → b.matrix ≡ a.matrix → n ≡ count a.matrix.resolution
+end_is : (n r : ℕ) (m : Matrix) (a b : TapeState) → n ≡ count r → r ≡ m.resolution → m ≡ b.matrix → b.matrix ≡ a.matrix
+    → n ≡ count a.matrix.resolution
 end_is n r m a b e f g h = e ∙ ap count (f ∙ (ap (λ (k : Matrix). k.resolution) g ∙ ap (λ (k : Matrix). k.resolution) h))
 
 -- two and more are left

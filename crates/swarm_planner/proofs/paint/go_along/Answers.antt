@@ -11,7 +11,8 @@ component_of-put X c v = refl
 component_of-put Y c v = refl
 component_of-put Z c v = refl
 
-near : (axis : Axis) (p q c d : Coord) (u v : ℕ) → p ≡ put axis c u → q ≡ put axis d v → (v ≤ u + 15) × (u ≤ v + 15) → gap (component_of axis p) (component_of axis q) ≤ 15
+near : (axis : Axis) (p q c d : Coord) (u v : ℕ) → p ≡ put axis c u → q ≡ put axis d v → (v ≤ u + 15) × (u ≤ v + 15)
+    → gap (component_of axis p) (component_of axis q) ≤ 15
 near axis p q c d u v e f h = rw (e, f, component_of-put axis c u, component_of-put axis d v) (let a = h.0 in let b = h.1 in omega arith)
 
 pub move_row-requires-clause-near : goal.move_row-requires-clause-near

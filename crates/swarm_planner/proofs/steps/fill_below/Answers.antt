@@ -13,10 +13,13 @@ use Rattle.swarm_planner.proofs.Filling.{bots_within, fills_are_free, fills_leng
 use Rattle.swarm_planner.proofs.steps.fill_below.Goals as goal
 
 -- the commands by what is read of the tape
-are : (p : TapeState) (m goal : Matrix) (bots : List Bot) → m ≡ p.matrix → bots ≡ p.bots → fills m goal bots ≡ fills p.matrix goal p.bots
+are : (p : TapeState) (m goal : Matrix) (bots : List Bot) → m ≡ p.matrix → bots ≡ p.bots
+    → fills m goal bots ≡ fills p.matrix goal p.bots
 are p m goal bots em eb = λ i. fills (em i) goal (eb i)
 
-within : (m n : Matrix) (bots old : List Bot) → m ≡ n → bots ≡ old → AllByRecursion (λ b. IsInSpace n.resolution b.pos × (1 ≤ b.pos.y)) old → AllByRecursion (λ b. IsInSpace m.resolution b.pos × (1 ≤ b.pos.y)) bots
+within : (m n : Matrix) (bots old : List Bot) → m ≡ n → bots ≡ old
+    → AllByRecursion (λ b. IsInSpace n.resolution b.pos × (1 ≤ b.pos.y)) old
+    → AllByRecursion (λ b. IsInSpace m.resolution b.pos × (1 ≤ b.pos.y)) bots
 within m n bots old em eb h = subst (λ (k : Matrix). AllByRecursion (λ b. IsInSpace k.resolution b.pos × (1 ≤ b.pos.y)) bots) (sym em) (subst (λ (bs : List Bot). AllByRecursion (λ b. IsInSpace n.resolution b.pos × (1 ≤ b.pos.y)) bs) (sym eb) h)
 
 pub fills-requires-clause-within : goal.fills-requires-clause-within

@@ -15,7 +15,8 @@ use Rattle.low_planner.proofs.sweep.Sweep.next.Goals as goal
 use Rattle.plan_tape.proofs.LegalModels.{full_within}
 
 -- the last voxel of the trail was visited
-at_top : (m : Matrix) (s : Sweep) (most : List Coord) (top : Coord) → IsSweep m s → s.trail.items ≡ most ++ top ∷ [] → IsVisited m s.remaining top × (top.y ≡ s.at.y)
+at_top : (m : Matrix) (s : Sweep) (most : List Coord) (top : Coord) → IsSweep m s → s.trail.items ≡ most ++ top ∷ []
+    → IsVisited m s.remaining top × (top.y ≡ s.at.y)
 at_top m s most top h e = h.on_trail top (subst (λ (xs : List Coord). Contains xs top) (sym e) (Contains-push most top))
 
 pub beside-requires : goal.beside-requires

@@ -11,7 +11,8 @@ use Rattle.model_file.proofs.flood.Flood.look_around.Given.{Over}
 use Rattle.model_file.proofs.flood.Flood.look_around.Goals as goal
 
 -- where nothing beside it is in its word, all that is beside it is taken by the other part
-both : (g : Over) (c : goal.In_ok-take_around g) → TakesOut (IsBeside (record { first = c.args.first; bits = c.args.bits })) c.args.self.now c.take_around.new.self
+both : (g : Over) (c : goal.In_ok-take_around g)
+    → TakesOut (IsBeside (record { first = c.args.first; bits = c.args.bits })) c.args.self.now c.take_around.new.self
 both g c =
     let s : Stretch = record { first = c.args.first; bits = c.args.bits } in
     let mid : Flood = record { remaining = c.take_row-more.new.self; found = c.args.self.now.found } in

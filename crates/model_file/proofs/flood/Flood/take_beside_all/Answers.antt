@@ -16,7 +16,8 @@ loop-y-preserved g c =
     looks_then c.args.planes.now (λ d. d.y < c.loop-y.y) (λ d. d.y ≡ c.loop-y.y) (λ d. d.y < c.loop-y.y + 1)
     c.args.self.now c.loop-y.self c.take_beside_layer.new.self joined c.loop-y.invariant c.in_ok-take_beside_layer.ensures
   where
-    joined : (d : Coord) → IsInSpace c.args.planes.now.resolution d → d.y < c.loop-y.y + 1 → (d.y < c.loop-y.y) ⊎ (d.y ≡ c.loop-y.y)
+    joined : (d : Coord) → IsInSpace c.args.planes.now.resolution d → d.y < c.loop-y.y + 1
+        → (d.y < c.loop-y.y) ⊎ (d.y ≡ c.loop-y.y)
     joined d i h = elim (cases_lt d.y c.loop-y.y) [ inl l ↦ inl l | inr l ↦ inr (omega arith) ]
 
 pub returns : goal.returns

@@ -16,7 +16,8 @@ loop-x-preserved g c =
     looks_then c.args.planes.now (λ d. (d.y ≡ c.args.y) × (d.x < c.loop-x.x)) (λ d. (d.x ≡ c.loop-x.x) × (d.y ≡ c.args.y)) (λ d. (d.y ≡ c.args.y) × (d.x < c.loop-x.x + 1))
     c.args.self.now c.loop-x.self c.take_beside_row.new.self joined c.loop-x.invariant c.in_ok-take_beside_row.ensures
   where
-    joined : (d : Coord) → IsInSpace c.args.planes.now.resolution d → (d.y ≡ c.args.y) × (d.x < c.loop-x.x + 1) → ((d.y ≡ c.args.y) × (d.x < c.loop-x.x)) ⊎ ((d.x ≡ c.loop-x.x) × (d.y ≡ c.args.y))
+    joined : (d : Coord) → IsInSpace c.args.planes.now.resolution d → (d.y ≡ c.args.y) × (d.x < c.loop-x.x + 1)
+        → ((d.y ≡ c.args.y) × (d.x < c.loop-x.x)) ⊎ ((d.x ≡ c.loop-x.x) × (d.y ≡ c.args.y))
     joined d i h = elim (cases_lt d.x c.loop-x.x) [ inl l ↦ inl (h.0, l) | inr l ↦ inr (omega (arith, h.1), h.0) ]
 
 pub returns : goal.returns

@@ -14,7 +14,8 @@ use Rattle.plan_tape.proofs.tape.Tape.go.Goals as goal
 pub move_to-requires-clause-free : goal.move_to-requires-clause-free
 move_to-requires-clause-free c = free_one c.self.inside.system.bots c.bots.result.now c.args.to _ (subst (λ (o : TapeState). length o.bots ≡ 1) (sym c.self.view_is) c.requires.alone) (c.bots.ensures.value ∙ c.crew.ensures.value)
 
-legs : (c : goal.After-self-1) → (moves : List Command) × AreLegs (spot c.args.self.now.bots) c.args.to moves × (c.push_leg-3.new.commands.items ≡ c.self.inside.commands.items ++ moves)
+legs : (c : goal.After-self-1) → (moves : List Command) × AreLegs (spot c.args.self.now.bots) c.args.to moves
+    × (c.push_leg-3.new.commands.items ≡ c.self.inside.commands.items ++ moves)
 legs c =
     let old = c.self.inside.commands.items in
     let x = c.push_leg.ensures.leg in
@@ -25,13 +26,16 @@ legs c =
       z.2 ∙ (ap (λ xs. xs ++ z.0) (y.2 ∙ ap (λ xs. xs ++ y.0) (x.2 ∙ ap (λ xs. xs ++ x.0) c.take_room.ensures.items)) ∙ (ap (λ xs. xs ++ z.0) (append_assoc old x.0 y.0) ∙ append_assoc old (x.0 ++ y.0) z.0)),
     )
 
-charge : (c : goal.After-self-1) → IsCharged c.args.self.now c.moves_to-count.result (pos (2 * distance (spot c.args.self.now.bots) c.args.to)) (to_z w64 (of_z w64 c.energy_after-energy.result))
+charge : (c : goal.After-self-1)
+    → IsCharged c.args.self.now c.moves_to-count.result (pos (2 * distance (spot c.args.self.now.bots) c.args.to))
+    (to_z w64 (of_z w64 c.energy_after-energy.result))
 charge c =
     let old = c.args.self.now in
     let value : c.energy_after-energy.result ≡ (old.energy +ℤ pos (c.moves_to-count.result * upkeep_of_step old)) +ℤ pos (2 * distance c.spot-from.result c.args.to) = search rules in
     charged_as old c.moves_to-count.result _ c.energy_after-energy.result _ (search rules) (value ∙ ap (λ p. (old.energy +ℤ pos (c.moves_to-count.result * upkeep_of_step old)) +ℤ pos (2 * distance p c.args.to)) c.spot-from.ensures.value) c.energy_after-energy.ensures.bounded
 
-comes : (c : goal.After-self-1) → Comes c.args.self.now (progress_of c.self.inside.source c.push_leg-3.new.commands.items c.set_energy.new.self (c.self.inside.steps + c.moves_to-count.result)) c.args.to
+comes : (c : goal.After-self-1)
+    → Comes c.args.self.now (progress_of c.self.inside.source c.push_leg-3.new.commands.items c.set_energy.new.self (c.self.inside.steps + c.moves_to-count.result)) c.args.to
 comes c =
     let r = c.self.inside in
     let old = c.args.self.now in

@@ -24,7 +24,8 @@ same g c = ap (λ (m : Matrix). m.resolution) (c.full.view_is ∙ (sym c.require
 layers : (g : Over) (c : goal.After-self-1 g) → IsLayered c.self.inside.resolution c.full.inside.words.items
 layers g c = subst (λ (n : ℕ). IsLayered n c.full.inside.words.items) (same g c) c.full.invariant.0
 
-copy : (g : Over) (c : goal.After-self-1 g) → layered c.self.inside.resolution c.self.inside.words.items ≡ layered c.self.inside.resolution c.full.inside.words.items
+copy : (g : Over) (c : goal.After-self-1 g) → layered c.self.inside.resolution c.self.inside.words.items
+    ≡ layered c.self.inside.resolution c.full.inside.words.items
 copy g c = c.self.view_is ∙ (c.requires ∙ (sym c.full.view_is ∙ ap (λ n. layered n c.full.inside.words.items) (same g c)))
 
 items_are : (g : Over) (c : goal.After-self-1 g) → left g c ≡ c.drop_stacked.new.left

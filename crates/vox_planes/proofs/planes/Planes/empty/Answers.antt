@@ -4,7 +4,8 @@ use Rattle.vox_planes.proofs.Ends.{zero_zeros}
 use Rattle.vox_planes.proofs.Voxels.{IsLayered-zeros, layered-zeros, layered_whole}
 use Rattle.vox_planes.proofs.planes.Planes.empty.Goals as goal
 
-zeros : (ws : List ℕ) (r n side words : ℕ) → ws ≡ replicate n 0 → n ≡ side * words → side ≡ r → words ≡ layer_words r → ws ≡ replicate (r * layer_words r) 0
+zeros : (ws : List ℕ) (r n side words : ℕ) → ws ≡ replicate n 0 → n ≡ side * words → side ≡ r → words ≡ layer_words r
+    → ws ≡ replicate (r * layer_words r) 0
 zeros ws r n side words e f g h = e ∙ ap (λ k. replicate k 0) (f ∙ (λ i. g i * h i))
 
 pub invariant_of-result : goal.invariant_of-result

@@ -7,7 +7,10 @@ use Rattle.vox_planes.proofs.Placed.{full_bit, put_parts}
 use Rattle.vox_planes.proofs.planes.Planes.fill_places.Goals as goal
 
 -- one more part of full voxels
-filled_more : (old mid new : Matrix) (from at count most : ℕ) → from ≤ at → count ≤ most → most ≤ 64 → ArePut old mid from (at - from) (λ _. true) → ((p : ℕ) → voxel_at new p ≡ cond (is_from at count p) (bit (2 ^ 64 - 1) (p - at)) (voxel_at mid p)) → ArePut old new from (at + count - from) (λ _. true)
+filled_more : (old mid new : Matrix) (from at count most : ℕ) → from ≤ at → count ≤ most → most ≤ 64
+    → ArePut old mid from (at - from) (λ _. true)
+    → ((p : ℕ) → voxel_at new p ≡ cond (is_from at count p) (bit (2 ^ 64 - 1) (p - at)) (voxel_at mid p))
+    → ArePut old new from (at + count - from) (λ _. true)
 filled_more old mid new from at count most begun few less h set =
     let here : at ≡ from + (at - from) = omega arith in
     let next : at - from + count ≡ at + count - from = omega arith in

@@ -9,7 +9,12 @@ use Rattle.vox_planes.proofs.Walks.{appended, filter-next_wall, filter-step, lef
 use Rattle.vox_planes.proofs.planes.Planes.list_wall.Goals as goal
 
 -- what the row's list adds to the walk, at the corners that the code has read
-step : (m : Matrix) (full : Bool) (k : Corners) (low high : Coord) (x y : ℕ) (xs ys : List Coord) → IsOrdered k → IsInSpace m.resolution k.high → low ≡ k.low → high ≡ k.high → k.low.x ≤ x → x ≤ k.high.x → low.y ≤ y → y ≤ high.y → ys ≡ xs ++ filter (is_state m full) (row (record { x = x; y = y; z = low.z }) high.z) → ys ++ filter (passes_in k (is_state m full)) (coordinates_from m.resolution (place m.resolution (row_start k x (y + 1)))) ≡ xs ++ filter (passes_in k (is_state m full)) (coordinates_from m.resolution (place m.resolution (row_start k x y)))
+step : (m : Matrix) (full : Bool) (k : Corners) (low high : Coord) (x y : ℕ) (xs ys : List Coord) → IsOrdered k
+    → IsInSpace m.resolution k.high → low ≡ k.low → high ≡ k.high → k.low.x ≤ x → x ≤ k.high.x → low.y ≤ y → y ≤ high.y
+    → ys ≡ xs ++ filter (is_state m full) (row (record { x = x; y = y; z = low.z }) high.z) → ys
+    ++ filter (passes_in k (is_state m full))
+    (coordinates_from m.resolution (place m.resolution (row_start k x (y + 1)))) ≡ xs
+    ++ filter (passes_in k (is_state m full)) (coordinates_from m.resolution (place m.resolution (row_start k x y)))
 step m full k low high x y xs ys o s el eh xl xh yl yh e =
     appended xs ys _ _ _ (e ∙ (λ i. xs ++ filter (is_state m full) (row (record { x = x; y = y; z = (el i).z }) (eh i).z)))
     (filter-step m.resolution k (is_state m full) o s x y xl xh (subst (λ (c : Coord). c.y ≤ y) el yl) (subst (λ (c : Coord). y ≤ c.y) eh yh))
