@@ -15,7 +15,6 @@ use Rattle.step_groups.specs.declared.one_pass.Outline.{Outline}
 use Rattle.step_groups.specs.Outlines.{LiesBetween, IsOutlineOf, IsVolatileFor, TakesIn}
 use Rattle.step_groups.specs.Judging.{act}
 use Rattle.step_groups.proofs.Lone.{any_more, apart_more}
-use Rattle.step_groups.proofs.Volatiles.{covers, one}
 
 -- ---- a box and its ends
 
@@ -46,8 +45,8 @@ either false false c f g h = cc
 module _ (bot : Bot) (k : Corners) (to : Coord) (around : (p : Point) → is_within (span k) p ≡ is_within (between (point bot.pos) (point to)) p) where
   pub way_within : (d : Diff) → point to ≡ plus (point bot.pos) d → (c : Coord) → IsVolatileFor (act bot (SMove d)) c → IsTrue (is_within (span k) (point c))
   way_within d e c h =
-      sym (or_false (is_within (span k) (point c)))
-      ∙ (one (k ∷ []) k (between (point bot.pos) (plus (point bot.pos) d)) bot (SMove d) (SMove d) c refl (covers k bot.pos to (point bot.pos) (plus (point bot.pos) d) around refl e) refl refl ∙ h)
+      let q : Point = plus (point bot.pos) d in
+      around (point c) ∙ (ap (λ (w : Point). is_within (between (point bot.pos) w) (point c)) e ∙ (sym (or_false (is_within (between (point bot.pos) q) (point c))) ∙ h))
 
   first_end : (a b v : ℤ) → IsTrue (is_between a a v) → IsTrue (is_between a b v)
   first_end a b v h = grind (arith, ints)
@@ -86,7 +85,7 @@ ways_within bot d e mid to k l all half whole first second f g c h =
     (λ t. g c (second (point c) ∙ ((λ i. is_within (between (half i) (end i)) (point c)) ∙ t))) h
 
 pub wait_within : (bot : Bot) (k : Corners) → ((p : Point) → is_within (span k) p ≡ is_within (just (point bot.pos)) p) → (c : Coord) → IsVolatileFor (act bot Wait) c → IsTrue (is_within (span k) (point c))
-wait_within bot k around c h = sym (or_false (is_within (span k) (point c))) ∙ (one (k ∷ []) k (just (point bot.pos)) bot Wait Wait c refl around refl refl ∙ h)
+wait_within bot k around c h = around (point c) ∙ (sym (or_false (is_within (just (point bot.pos)) (point c))) ∙ h)
 
 -- ---- one bot more
 

@@ -36,6 +36,11 @@ abbrev pub edit_of : Bool → Diff → Command
 edit_of true d = Fill d
 edit_of false d = Void d
 
+-- the command that fills the region between two corners together with other bots, or else the one that voids it
+abbrev pub group_edit_of : Bool → Diff → Diff → Command
+group_edit_of true d f = GFill d f
+group_edit_of false d f = GVoid d f
+
 -- the first rule that a bot breaks
 abbrev pub judge_bot : State → List Act → ℕ → Act → Option Broken
 judge_bot s all step a = first_fault s all step a rules_of_bots

@@ -5,3 +5,4 @@ pub mod Apart
 pub mod Outlines
 pub mod Steps
 pub mod Numbers
+pub mod Deeds

@@ -3,6 +3,7 @@
 
 mod apart;
 mod boxes;
+mod deed;
 mod groups;
 mod leading;
 mod members;
@@ -17,6 +18,7 @@ mod step;
 mod volatile;
 
 pub use apart::all_act_alone;
+pub use deed::{Deed, deed_of};
 pub use groups::{Group, Groups, judge_groups};
 pub use leading::leaders;
 pub use numbers::number_groups;

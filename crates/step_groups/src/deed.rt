@@ -1,0 +1,117 @@
+//! What a bot does in a step, in coordinates.
+ghost use Rattle.std.specs.Prelude.{IfNone, IfSome, IsFalse};
+ghost use Rattle.vox_geom.specs.Space.{IsInSpace};
+ghost use Rattle.nano_spec.specs.Act.{stays_in_space};
+ghost use Rattle.step_groups.specs.Deeds.{IsDeed};
+ghost use Rattle.step_groups.specs.Judging.{act, edit_of, group_edit_of};
+
+use nano_spec::{Bot, Command};
+use vox_geom::{Coord, Far, Near};
+
+/// What a bot does in a step, by the coordinates that its command names.
+#[derive(Clone, Copy, PartialEq, Eq, Debug)]
+pub enum Deed {
+    /// Nothing.
+    Waits,
+    /// It changes the harmonics.
+    Flips,
+    /// It ends the run.
+    Halts,
+    /// It moves straight to the middle, and from there straight on; the end of a single move is its middle too.
+    Moves {
+        middle: Coord,
+        to: Coord,
+    },
+    /// It makes a bot there, with so many of the seeds.
+    Splits {
+        to: Coord,
+        seeds: u8,
+    },
+    /// It fuses with the bot there, and stays where it is the primary.
+    Fuses {
+        partner: Coord,
+        primary: bool,
+    },
+    /// It fills the region between the corners, or else voids it, together with other bots or by itself.
+    Edits {
+        near: Coord,
+        far: Coord,
+        full: bool,
+        together: bool,
+    },
+}
+
+/// The deed of a bot that fills, or else voids, the voxel at a difference: `None` exactly where that is out of space.
+fn edit_voxel(r: u16, bot: Bot, d: Near, full: bool) -> Option<Deed>
+    requires { IsInSpace r bot.pos }
+    ensures some { IfSome result (IsDeed r bot (edit_of full d)) }
+    ensures none { IfNone result (IsFalse (stays_in_space r (act bot (edit_of full d)))) }
+{
+    let at = bot.pos.plus(d.diff(), r)?;
+    Some(Deed::Edits {
+        near: at,
+        far: at,
+        full,
+        together: false,
+    })
+}
+
+/// The deed of a bot that fills, or else voids, a region together with others: `None` exactly where a corner is out of space.
+fn edit_region(r: u16, bot: Bot, d: Near, f: Far, full: bool) -> Option<Deed>
+    requires { IsInSpace r bot.pos }
+    ensures some { IfSome result (IsDeed r bot (group_edit_of full d f)) }
+    ensures none { IfNone result (IsFalse (stays_in_space r (act bot (group_edit_of full d f)))) }
+{
+    let near = bot.pos.plus(d.diff(), r)?;
+    let far = near.plus(f.diff(), r)?;
+    Some(Deed::Edits {
+        near,
+        far,
+        full,
+        together: true,
+    })
+}
+
+/// What a bot does by its command: `None` exactly where a coordinate that it names is out of space.
+pub fn deed_of(r: u16, bot: Bot, command: &Command) -> Option<Deed>
+    requires { IsInSpace r bot.pos }
+    ensures some { IfSome result (IsDeed r bot command.now) }
+    ensures none { IfNone result (IsFalse (stays_in_space r (act bot command.now))) }
+{
+    match command {
+        Command::Halt => Some(Deed::Halts),
+        Command::Wait => Some(Deed::Waits),
+        Command::Flip => Some(Deed::Flips),
+        Command::SMove(d) => {
+            let to = bot.pos.plus(d.diff(), r)?;
+            Some(Deed::Moves { middle: to, to })
+        }
+        Command::LMove(d, e) => {
+            let middle = bot.pos.plus(d.diff(), r)?;
+            let to = middle.plus(e.diff(), r)?;
+            Some(Deed::Moves { middle, to })
+        }
+        Command::Fission(d, m) => {
+            let to = bot.pos.plus(d.diff(), r)?;
+            Some(Deed::Splits { to, seeds: *m })
+        }
+        Command::FusionP(d) => {
+            let partner = bot.pos.plus(d.diff(), r)?;
+            Some(Deed::Fuses {
+                partner,
+                primary: true,
+            })
+        }
+        Command::FusionS(d) => {
+            let partner = bot.pos.plus(d.diff(), r)?;
+            Some(Deed::Fuses {
+                partner,
+                primary: false,
+            })
+        }
+        Command::Fill(d) => edit_voxel(r, bot, *d, true),
+        Command::Void(d) => edit_voxel(r, bot, *d, false),
+        Command::GFill(d, f) => edit_region(r, bot, *d, *f, true),
+        Command::GVoid(d, f) => edit_region(r, bot, *d, *f, false),
+    }
+}
