@@ -1,5 +1,5 @@
 -- The least full coordinate of the ways of a command.
-use Rattle.std.proofs.Common.{◌≡◌, ℕ, refl, ap, ◌∙◌, sym, subst, Bool, true, false, ◌&&◌, ◌||◌, not, cond, List, [], ◌∷◌, Option, Some, None, find, length, nat_lt, ◌++◌, ◌⊎◌, inl, inr}
+use Rattle.std.proofs.Common.{◌≡◌, ℕ, refl, ap, ◌∙◌, sym, subst, Bool, true, false, ◌&&◌, ◌||◌, not, List, [], ◌∷◌, Option, Some, None, find, length, nat_lt, ◌++◌}
 use Rattle.vox_geom.specs.declared.coordinate.Coord.{Coord}
 use Rattle.vox_geom.specs.Point.{Point, point}
 use Rattle.vox_geom.specs.Region.{Corners, Span, span, between, just, is_within}
@@ -21,7 +21,9 @@ use Rattle.vox_planes.specs.Difference.{earlier}
 use Rattle.vox_planes.proofs.Differences.{earlier-least}
 use Rattle.vox_geom.proofs.Firsts.{first_is, first_of}
 use Rattle.vox_geom.proofs.Truths.{and_false, or_false}
-use Rattle.step_groups.specs.Judging.{IsFusion, act, first_fault, later_rules}
+use Rattle.step_groups.specs.Deeds.{IsDeed}
+use Rattle.step_groups.specs.declared.deed.Deed.TheVariants.{Fuses}
+use Rattle.step_groups.specs.Judging.{act, first_fault, later_rules}
 use Rattle.nano_spec.specs.Rules.{here, broken_by}
 use Rattle.nano_spec.specs.declared.outcomes.Broken.{Broken}
 use Rattle.nano_spec.specs.declared.outcomes.Rule.{Rule}
@@ -176,33 +178,23 @@ only_next step bid rule x y e = ap (λ o. first_value (broken_by step rule bid o
     one (Some b) = refl
 
 -- what is left of the rules of a fusion in space
-past_space : (s : State) (step : ℕ) (bot : Bot) (a : Act) (d : Diff) (p : Option Broken) → IsTrue (in_space s.matrix.resolution (plus (point bot.pos) d)) → first_value (broken_by step OutOfSpace bot.bid (here a (not (in_space s.matrix.resolution (plus (point bot.pos) d) && true))) ∷ broken_by step Blocked bot.bid (find (λ c. is_full s.matrix c && false) (all_of s.matrix)) ∷ None ∷ None ∷ p ∷ None ∷ []) ≡ p
-past_space s step bot a d p i =
-    skip step bot.bid OutOfSpace a (not (in_space s.matrix.resolution (plus (point bot.pos) d) && true)) (broken_by step Blocked bot.bid (find (λ c. is_full s.matrix c && false) (all_of s.matrix)) ∷ None ∷ None ∷ p ∷ None ∷ []) (within (in_space s.matrix.resolution (plus (point bot.pos) d)) i)
+past_space : (s : State) (step : ℕ) (bot : Bot) (a : Act) (inside : Bool) (p : Option Broken) → IsTrue inside → first_value (broken_by step OutOfSpace bot.bid (here a (not inside)) ∷ broken_by step Blocked bot.bid (find (λ c. is_full s.matrix c && false) (all_of s.matrix)) ∷ None ∷ None ∷ p ∷ None ∷ []) ≡ p
+past_space s step bot a inside p i =
+    skip step bot.bid OutOfSpace a (not inside) (broken_by step Blocked bot.bid (find (λ c. is_full s.matrix c && false) (all_of s.matrix)) ∷ None ∷ None ∷ p ∷ None ∷ []) (ap not i)
     ∙ (unblocked step bot.bid s.matrix (all_of s.matrix) (None ∷ None ∷ p ∷ None ∷ []) ∙ last p)
   where
     last : (p : Option Broken) → first_value (p ∷ None ∷ []) ≡ p
     last None = refl
     last (Some b) = refl
 
-pub fusion : (s : State) (all : List Act) (step : ℕ) (bot : Bot) (k : Command) (d : Diff) (h : Bool) → IsFusion k d → IsTrue (in_space s.matrix.resolution (plus (point bot.pos) d)) → h ≡ list_any (are_partners (act bot k)) all → first_fault s all step (act bot k) later_rules ≡ broken_by step Partner bot.bid (cond (not h) (Some bot.pos) None)
-fusion s all step bot k d h (inl e) i f =
-    (ap (λ v. first_fault s all step (act bot v) later_rules) e
-    ∙ past_space s step bot (act bot (FusionP d)) d (broken_by step Partner bot.bid (cond (not (list_any (are_partners (act bot (FusionP d))) all)) (Some bot.pos) None)) i)
-    ∙ ap (λ b. broken_by step Partner bot.bid (cond (not b) (Some bot.pos) None)) (sym (f ∙ ap (λ v. list_any (are_partners (act bot v)) all) e))
-fusion s all step bot k d h (inr e) i f =
-    (ap (λ v. first_fault s all step (act bot v) later_rules) e
-    ∙ past_space s step bot (act bot (FusionS d)) d (broken_by step Partner bot.bid (cond (not (list_any (are_partners (act bot (FusionS d))) all)) (Some bot.pos) None)) i)
-    ∙ ap (λ b. broken_by step Partner bot.bid (cond (not b) (Some bot.pos) None)) (sym (f ∙ ap (λ v. list_any (are_partners (act bot v)) all) e))
+-- what a bot without a partner breaks
+abbrev lacks_partner : ℕ → Act → List Act → Option Broken
+lacks_partner step a all = broken_by step Partner a.bot.bid (here a (not (list_any (are_partners a) all)))
 
--- a fusion out of space
-pub fusion_out : (s : State) (all : List Act) (step : ℕ) (bot : Bot) (k : Command) (d : Diff) → (k ≡ FusionP d) ⊎ (k ≡ FusionS d) → IsFalse (in_space s.matrix.resolution (plus (point bot.pos) d)) → first_fault s all step (act bot k) later_rules ≡ broken_by step OutOfSpace bot.bid (Some bot.pos)
-fusion_out s all step bot k d (inl e) i =
-    ap (λ v. first_fault s all step (act bot v) later_rules) e
-    ∙ ap (λ t. first_value (broken_by step OutOfSpace bot.bid (cond (not (t && true)) (Some bot.pos) None) ∷ broken_by step Blocked bot.bid (find (λ c. is_full s.matrix c && false) (all_of s.matrix)) ∷ None ∷ None ∷ broken_by step Partner bot.bid (cond (not (list_any (are_partners (act bot (FusionP d))) all)) (Some bot.pos) None) ∷ None ∷ [])) i
-fusion_out s all step bot k d (inr e) i =
-    ap (λ v. first_fault s all step (act bot v) later_rules) e
-    ∙ ap (λ t. first_value (broken_by step OutOfSpace bot.bid (cond (not (t && true)) (Some bot.pos) None) ∷ broken_by step Blocked bot.bid (find (λ c. is_full s.matrix c && false) (all_of s.matrix)) ∷ None ∷ None ∷ broken_by step Partner bot.bid (cond (not (list_any (are_partners (act bot (FusionS d))) all)) (Some bot.pos) None) ∷ None ∷ [])) i
+pub fusion : (s : State) (all : List Act) (step : ℕ) (bot : Bot) (k : Command) (partner : Coord) (primary : Bool) → IsDeed s.matrix.resolution bot k (Fuses partner primary) → first_fault s all step (act bot k) later_rules ≡ lacks_partner step (act bot k) all
+fusion s all step bot (FusionP d) partner primary h = past_space s step bot (act bot (FusionP d)) (in_space s.matrix.resolution (plus (point bot.pos) d) && true) (lacks_partner step (act bot (FusionP d)) all) h.stays
+fusion s all step bot (FusionS d) partner primary h = past_space s step bot (act bot (FusionS d)) (in_space s.matrix.resolution (plus (point bot.pos) d) && true) (lacks_partner step (act bot (FusionS d)) all) h.stays
+fusion s all step bot k partner primary h = let is = h.is in cc
 
 pub at_command : (s : State) (all : List Act) (step : ℕ) (bot : Bot) (k l : Command) (r : Option Broken) → k ≡ l → r ≡ first_fault s all step (act bot k) later_rules → r ≡ first_fault s all step (act bot l) later_rules
 at_command s all step bot k l r e h = h ∙ ap (λ v. first_fault s all step (act bot v) later_rules) e

@@ -1,5 +1,5 @@
 -- The rules of single bots, bot by bot (docs/FORMATS.md, "Rules").
-use Rattle.std.specs.Prelude.{◌≡◌, ◌⊎◌, ℕ, ◌*◌, ◌^◌, ◌==◌, Bool, true, false, ◌&&◌, ◌||◌, not, cond, pos, List, [], ◌∷◌, length, flat_map, count_by, Option, Some, None, Result}
+use Rattle.std.specs.Prelude.{◌≡◌, ℕ, ◌*◌, ◌^◌, ◌==◌, Bool, true, false, ◌&&◌, ◌||◌, not, cond, pos, List, [], ◌∷◌, length, flat_map, count_by, Option, Some, None, Result}
 use Rattle.std.specs.Result.{result_err}
 use Rattle.std.specs.Option.{option_or}
 use Rattle.vox_geom.specs.declared.difference.Diff.{Diff}
@@ -91,14 +91,6 @@ is_rare (LMove d e) = false
 is_rare (Fill d) = false
 is_rare (Void d) = false
 is_rare _ = true
-
--- the command is a half of a fusion with the difference
-abbrev pub IsFusion : Command → Diff → Type 0
-IsFusion k d = (k ≡ FusionP d) ⊎ (k ≡ FusionS d)
-
--- the command is a group command with the differences
-abbrev pub IsGroupCommand : Command → Diff → Diff → Type 0
-IsGroupCommand k d f = (k ≡ GFill d f) ⊎ (k ≡ GVoid d f)
 
 -- how many touches the judgement of a bot may take: only commands that need no other bot read voxels
 abbrev pub touches_of : Matrix → Act → ℕ

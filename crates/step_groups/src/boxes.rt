@@ -7,8 +7,8 @@ ghost use Rattle.vox_geom.specs.Space.{IsInSpace};
 ghost use Rattle.step_groups.specs.Boxes.{IsBoxIn, IsHull, AreBoxesIn, in_boxes};
 ghost use Rattle.vox_geom.specs.Least.{LeastOf};
 
-use crate::rules::earlier;
 use vox_geom::{Coord, Region};
+use vox_planes::earlier;
 
 /// The least coordinate of the box that one of the boxes has.
 fn clash_box(s: &Region, boxes: &[Region]) -> Option<Coord>

@@ -7,6 +7,7 @@ ghost use Rattle.step_groups.specs.Judging.{act, edit_of, group_edit_of};
 
 use nano_spec::{Bot, Command};
 use vox_geom::{Coord, Far, Near};
+use vox_planes::Planes;
 
 /// What a bot does in a step, by the coordinates that its command names.
 #[derive(Clone, Copy, PartialEq, Eq, Debug)]
@@ -114,4 +115,13 @@ pub fn deed_of(r: u16, bot: Bot, command: &Command) -> Option<Deed>
         Command::GFill(d, f) => edit_region(r, bot, *d, *f, true),
         Command::GVoid(d, f) => edit_region(r, bot, *d, *f, false),
     }
+}
+
+/// The same where the bot stands in the matrix.
+pub(crate) fn deed_in(planes: &Planes, bot: &Bot, command: &Command) -> Option<Deed>
+    requires { IsInSpace planes.now.resolution bot.now.pos }
+    ensures some { IfSome result (IsDeed planes.now.resolution bot.now command.now) }
+    ensures none { IfNone result (IsFalse (stays_in_space planes.now.resolution (act bot.now command.now))) }
+{
+    deed_of(planes.resolution(), *bot, command)
 }

@@ -13,11 +13,9 @@ ghost use Rattle.step_groups.specs.Outlines.{IsHullFor, IsVolatileFor, LiesBetwe
 ghost use Rattle.step_groups.specs.Steps.{CanBeJudged, CanJudge, acts_of_step, later_fault, start_of_step};
 
 use crate::boxes::around;
-use crate::rules::{
-    breaks, broken_here, end_of_move, hull_of_moves, judge_halt, lacks_seeds, named_by, reach,
-};
+use crate::rules::{breaks, end_of_move, hull_of_moves, lacks_seeds, named_by, reach};
 use crate::step::Step;
-use nano_spec::{Bot, Broken, Command, Rule};
+use nano_spec::{Bot, Broken, Command, Harmonics, Rule};
 use std::sync::ledger::Ledger;
 use vox_geom::{Coord, Diff, Region, Steps};
 use vox_planes::Planes;
@@ -109,10 +107,17 @@ fn hull_of_halt(step: &Step, bot: Bot) -> Result<Region, Broken>
     ensures value { rule_broken result ≡ later_fault step.now (act bot Halt) }
     ensures hull { IfOk result (IsHullFor (act bot Halt)) }
 {
-    match judge_halt(step, bot) {
-        Some(broken) => Err(broken),
-        None => Ok(Region::of(bot.pos, bot.pos)),
+    let origin = Coord { x: 0, y: 0, z: 0 };
+    if step.bots.len() > 1 {
+        return Err(breaks(step.number, bot.bid, Rule::HaltAlone, bot.pos));
     }
+    if bot.pos != origin {
+        return Err(breaks(step.number, bot.bid, Rule::HaltOrigin, bot.pos));
+    }
+    if step.harmonics == Harmonics::High {
+        return Err(breaks(step.number, bot.bid, Rule::HaltLow, bot.pos));
+    }
+    Ok(Region::of(bot.pos, bot.pos))
 }
 
 /// A box around a bot with `Fission` and its new bot, or the first rule that it breaks.
@@ -130,13 +135,13 @@ fn hull_of_fission<L: Ledger>(
     ensures touches { steps.new ≤ steps.old + touches_of planes.now (act bot (FissionOf d m)) }
 {
     let Some(to) = reach(planes, bot.pos, d) else {
-        return Err(breaks(step, bot, Rule::OutOfSpace, bot.pos));
+        return Err(breaks(step, bot.bid, Rule::OutOfSpace, bot.pos));
     };
     if let Some(at) = planes.region_full(&Region::of(to, to), steps) {
-        return Err(breaks(step, bot, Rule::Blocked, at));
+        return Err(breaks(step, bot.bid, Rule::Blocked, at));
     }
     if lacks_seeds(bot, m) {
-        return Err(breaks(step, bot, Rule::Seeds, bot.pos));
+        return Err(breaks(step, bot.bid, Rule::Seeds, bot.pos));
     }
     Ok(Region::of(bot.pos, to))
 }
@@ -225,7 +230,7 @@ fn judge_next<L: Ledger>(
     ensures touches { steps.new ≤ steps.old + touches_of step.now.planes.now (act bot.now command.now) }
 {
     if !step.profile.allows(*command) {
-        return broken_here(step.number, *bot, Rule::Forbidden);
+        return Some(breaks(step.number, bot.bid, Rule::Forbidden, bot.pos));
     }
     match judge_hull(step, bot, command, steps) {
         Ok(hull) => {

@@ -1,57 +1,43 @@
 //! The rules that are judged for each bot.
-ghost use Rattle.std.specs.Prelude.{◌≡◌, ◌+◌, ◌≤◌, ◌&&◌, length, None, Some, IsTrue, IsFalse, IfOk, IfSome, IfNone, true, cond, find, nat_le, sum_by};
+ghost use Rattle.std.specs.Prelude.{◌≡◌, ◌+◌, ◌≤◌, ◌&&◌, length, None, Some, IsTrue, IsFalse, IfOk, IfSome, IfNone, Bool, true, find, nat_le, sum_by};
+ghost use Rattle.vox_geom.specs.declared.coordinate.Coord.{Coord as Coordinate};
 ghost use Rattle.vox_geom.specs.Space.{IsInSpace, in_space};
 ghost use Rattle.vox_geom.specs.Point.{point, plus};
 ghost use Rattle.vox_geom.specs.Region.{corners, is_within, size, span};
-ghost use Rattle.nano_spec.specs.declared.commands.Command.TheVariants.{Halt, SMove, LMove, Fill, Void};
+ghost use Rattle.nano_spec.specs.declared.commands.Command.{Command as Trace};
+ghost use Rattle.nano_spec.specs.declared.commands.Command.TheVariants.{SMove, LMove, Fill, Void};
 ghost use Rattle.nano_spec.specs.Matrix.{all_of, is_full};
 ghost use Rattle.nano_spec.specs.Rules.{broken_by};
 ghost use Rattle.nano_spec.specs.State.{seed_list};
-ghost use Rattle.vox_geom.specs.Space.{is_before as is_before_of};
-ghost use Rattle.vox_planes.specs.Difference.{earlier as earlier_of};
-ghost use Rattle.step_groups.specs.Judging.{IsFusion, IsGroupCommand, IsLaterFault, act, is_alone, rule_broken, judge_bot as judge_bot_of, judge_each, touches_of};
+ghost use Rattle.step_groups.specs.Deeds.{IsDeed};
+ghost use Rattle.step_groups.specs.declared.deed.Deed.TheVariants.{Edits, Fuses};
+ghost use Rattle.step_groups.specs.Judging.{IsLaterFault, act, is_alone, rule_broken, judge_bot as judge_bot_of, judge_each, touches_of};
 ghost use Rattle.step_groups.specs.Numbers.{AreNumbers, TellsMembers};
 ghost use Rattle.step_groups.specs.Outlines.{IsHullFor};
 ghost use Rattle.step_groups.specs.Steps.{CanBeJudged, CanJudge, acts_of_step, later_fault, start_of_step};
 
 use crate::boxes::around;
+use crate::deed::{Deed, deed_in};
+use crate::members::acts_alone;
 use crate::one_pass::judge_hull;
 use crate::partners::has_partner;
 use crate::shapes::is_misshapen;
 use crate::step::Step;
 use bot_crew::seeds_of;
-use nano_spec::{Bot, Broken, Command, Harmonics, Rule};
+use nano_spec::{Bot, Broken, Command, Rule};
 use std::sync::ledger::Ledger;
 use vox_geom::{Coord, Diff, Region, Steps};
-use vox_planes::Planes;
+use vox_planes::{Planes, earlier};
 
-/// The rule is broken there.
-pub(crate) fn breaks(step: u32, bot: Bot, rule: Rule, at: Coord) -> Broken
-    ensures { Some result ≡ broken_by step rule bot.bid (Some at) }
+/// The rule is broken there by the bot with the bid.
+pub(crate) fn breaks(step: u32, bid: u8, rule: Rule, at: Coord) -> Broken
+    ensures { Some result ≡ broken_by step rule bid (Some at) }
 {
     Broken {
         step,
-        bid: bot.bid,
+        bid,
         rule,
         at,
-    }
-}
-
-/// The rule is broken where the bot stands.
-pub(crate) fn broken_here(step: u32, bot: Bot, rule: Rule) -> Option<Broken>
-    ensures { result ≡ broken_by step rule bot.bid (Some bot.pos) }
-{
-    Some(breaks(step, bot, rule, bot.pos))
-}
-
-/// The rule is broken where the bot stands, if the test says so.
-fn broken_if(step: u32, bot: Bot, rule: Rule, is_broken: bool) -> Option<Broken>
-    ensures { result ≡ broken_by step rule bot.bid (cond is_broken (Some bot.pos) None) }
-{
-    if is_broken {
-        broken_here(step, bot, rule)
-    } else {
-        None
     }
 }
 
@@ -65,22 +51,6 @@ pub(crate) fn reach(planes: &Planes, from: Coord, d: Diff) -> Option<Coord>
     ensures within { IfSome result (λ to. IsInSpace planes.now.resolution to) }
 {
     from.plus(d, planes.resolution())
-}
-
-/// The first rule that a bot with `Halt` breaks.
-pub(crate) fn judge_halt(step: &Step, bot: Bot) -> Option<Broken>
-    ensures { result ≡ later_fault step.now (act bot Halt) }
-{
-    let origin = Coord { x: 0, y: 0, z: 0 };
-    if step.bots.len() > 1 {
-        broken_here(step.number, bot, Rule::HaltAlone)
-    } else if bot.pos != origin {
-        broken_here(step.number, bot, Rule::HaltOrigin)
-    } else if step.harmonics == Harmonics::High {
-        broken_here(step.number, bot, Rule::HaltLow)
-    } else {
-        None
-    }
 }
 
 /// Where a bot with `SMove` gets to, or the first rule that it breaks.
@@ -99,11 +69,11 @@ pub(crate) fn end_of_move<L: Ledger>(
     ensures touches { steps.new ≤ steps.old + touches_of planes.now (act bot (SMove d)) }
 {
     let Some(to) = reach(planes, bot.pos, d) else {
-        return Err(breaks(step, bot, Rule::OutOfSpace, bot.pos));
+        return Err(breaks(step, bot.bid, Rule::OutOfSpace, bot.pos));
     };
     match planes.region_full(&Region::of(bot.pos, to), steps) {
         None => Ok(to),
-        Some(at) => Err(breaks(step, bot, Rule::Blocked, at)),
+        Some(at) => Err(breaks(step, bot.bid, Rule::Blocked, at)),
     }
 }
 
@@ -135,30 +105,6 @@ pub(crate) fn is_clear_at_once<L: Ledger>(
     !planes.full_at(to, steps)
 }
 
-/// Whether the one coordinate is before the other.
-fn is_before(a: Coord, b: Coord) -> bool
-    ensures { result ≡ is_before_of a b }
-{
-    if a.x != b.x {
-        a.x < b.x
-    } else if a.y != b.y {
-        a.y < b.y
-    } else {
-        a.z < b.z
-    }
-}
-
-/// The earlier of two coordinates, where there are two.
-pub(crate) fn earlier(a: Option<Coord>, b: Option<Coord>) -> Option<Coord>
-    ensures { result ≡ earlier_of a b }
-{
-    match (a, b) {
-        (None, b) => b,
-        (Some(a), None) => Some(a),
-        (Some(a), Some(b)) => if is_before(b, a) { Some(b) } else { Some(a) },
-    }
-}
-
 /// A box around the ways of a bot with `LMove`, or the first rule that it breaks.
 #[inline(always)]
 pub(crate) fn hull_of_moves<L: Ledger>(
@@ -175,10 +121,10 @@ pub(crate) fn hull_of_moves<L: Ledger>(
     ensures touches { steps.new ≤ steps.old + touches_of planes.now (act bot (LMove d e)) }
 {
     let Some(mid) = reach(planes, bot.pos, d) else {
-        return Err(breaks(step, bot, Rule::OutOfSpace, bot.pos));
+        return Err(breaks(step, bot.bid, Rule::OutOfSpace, bot.pos));
     };
     let Some(to) = reach(planes, mid, e) else {
-        return Err(breaks(step, bot, Rule::OutOfSpace, bot.pos));
+        return Err(breaks(step, bot.bid, Rule::OutOfSpace, bot.pos));
     };
     let first_way = Region::of(bot.pos, mid);
     let second_way = Region::of(mid, to);
@@ -186,7 +132,7 @@ pub(crate) fn hull_of_moves<L: Ledger>(
     let second = planes.region_full(&second_way, steps);
     match earlier(first, second) {
         None => Ok(around(&first_way, &second_way)),
-        Some(at) => Err(breaks(step, bot, Rule::Blocked, at)),
+        Some(at) => Err(breaks(step, bot.bid, Rule::Blocked, at)),
     }
 }
 
@@ -207,65 +153,49 @@ pub(crate) fn named_by(planes: &Planes, step: u32, bot: Bot, d: Diff) -> Result<
     ensures within { IfOk result (λ at. IsInSpace planes.now.resolution at) }
 {
     let Some(at) = reach(planes, bot.pos, d) else {
-        return Err(breaks(step, bot, Rule::OutOfSpace, bot.pos));
+        return Err(breaks(step, bot.bid, Rule::OutOfSpace, bot.pos));
     };
     Ok(at)
 }
 
-/// The first rule that a bot with `FusionP` or `FusionS` breaks.
-fn judge_fusion(step: &Step, bot: &Bot, command: &Command, d: Diff) -> Option<Broken>
+/// The first rule that a bot in a fusion breaks whose partner's place is in space.
+fn judge_fusion(step: &Step, bot: &Bot, command: &Command) -> Option<Broken>
     requires { CanJudge step.now bot.now }
-    ensures { IsFusion command.now d → result ≡ later_fault step.now (act bot.now command.now) }
+    ensures { (partner : Coordinate) (primary : Bool)
+        → IsDeed step.now.planes.now.resolution bot.now command.now (Fuses partner primary)
+        → result ≡ later_fault step.now (act bot.now command.now) }
 {
-    let Some(_to) = reach(step.planes, bot.pos, d) else {
-        return broken_here(step.number, *bot, Rule::OutOfSpace);
-    };
-    let has = has_partner(step.bots, step.commands, bot, command);
-    broken_if(step.number, *bot, Rule::Partner, !has)
+    if has_partner(step.bots, step.commands, bot, command) {
+        return None;
+    }
+    Some(breaks(step.number, bot.bid, Rule::Partner, bot.pos))
 }
 
-/// The first rule that a bot with a group command breaks.
+/// The first rule that a bot breaks which edits the region between two corners together with others. The members of its
+/// group have the number.
 fn judge_group(
     step: &Step,
     numbers: &[u8],
     number: u8,
     bot: &Bot,
-    command: &Command,
-    d: Diff,
-    f: Diff,
+    near: Coord,
+    far: Coord,
 ) -> Option<Broken>
     requires step { CanJudge step.now bot.now }
     requires numbers { length numbers.now ≡ length step.now.bots.now }
-    requires members { TellsMembers (acts_of_step step.now) numbers.now number (act bot.now command.now) }
-    ensures { IsGroupCommand command.now d f → result ≡ later_fault step.now (act bot.now command.now) }
+    ensures { (command : Trace) (full together : Bool) → IsFalse (is_alone command)
+        → IsDeed step.now.planes.now.resolution bot.now command (Edits near far full together)
+        → TellsMembers (acts_of_step step.now) numbers.now number (act bot.now command)
+        → result ≡ later_fault step.now (act bot.now command) }
 {
-    let Some(near) = reach(step.planes, bot.pos, d) else {
-        return broken_here(step.number, *bot, Rule::OutOfSpace);
-    };
-    let Some(far) = reach(step.planes, near, f) else {
-        return broken_here(step.number, *bot, Rule::OutOfSpace);
-    };
     let region = Region::of(near, far);
     if region.has(bot.pos) {
-        return broken_here(step.number, *bot, Rule::InRegion);
+        return Some(breaks(step.number, bot.bid, Rule::InRegion, bot.pos));
     }
-    let shape = is_misshapen(step.bots, step.commands, numbers, number, region.dim());
-    broken_if(step.number, *bot, Rule::GroupShape, shape)
-}
-
-/// The first rule after the one on the profile that a bot breaks whose command needs no other bot.
-fn judge_alone<L: Ledger>(
-    step: &Step,
-    bot: &Bot,
-    command: &Command,
-    steps: &mut Steps<L>,
-) -> Option<Broken>
-    requires step { CanJudge step.now bot.now }
-    requires alone { IsTrue (is_alone command.now) }
-    ensures value { result ≡ later_fault step.now (act bot.now command.now) }
-    ensures touches { steps.new ≤ steps.old + touches_of step.now.planes.now (act bot.now command.now) }
-{
-    judge_hull(step, bot, command, steps).err()
+    if is_misshapen(step.bots, step.commands, numbers, number, region.dim()) {
+        return Some(breaks(step.number, bot.bid, Rule::GroupShape, bot.pos));
+    }
+    None
 }
 
 /// The first rule after the one on the profile that a bot breaks. The members of its group have the number.
@@ -283,35 +213,17 @@ fn judge_later<L: Ledger>(
     ensures value { result ≡ later_fault step.now (act bot.now command.now) }
     ensures touches { steps.new ≤ steps.old + touches_of step.now.planes.now (act bot.now command.now) }
 {
-    match command {
-        Command::FusionP(d) => judge_fusion(step, bot, command, d.diff()),
-        Command::FusionS(d) => judge_fusion(step, bot, command, d.diff()),
-        Command::GFill(d, f) => judge_group(
-            step,
-            numbers,
-            number,
-            bot,
-            command,
-            d.diff(),
-            f.diff(),
-        ),
-        Command::GVoid(d, f) => judge_group(
-            step,
-            numbers,
-            number,
-            bot,
-            command,
-            d.diff(),
-            f.diff(),
-        ),
-        Command::Halt
-        | Command::Wait
-        | Command::Flip
-        | Command::SMove(_)
-        | Command::LMove(_, _)
-        | Command::Fission(_, _)
-        | Command::Fill(_)
-        | Command::Void(_) => judge_alone(step, bot, command, steps),
+    if acts_alone(command) {
+        return judge_hull(step, bot, command, steps).err();
+    }
+    let Some(deed) = deed_in(step.planes, bot, command) else {
+        return Some(breaks(step.number, bot.bid, Rule::OutOfSpace, bot.pos));
+    };
+    match deed {
+        Deed::Fuses { .. } => judge_fusion(step, bot, command),
+        Deed::Edits { near, far, .. } => judge_group(step, numbers, number, bot, near, far),
+        // These need no other bot, and are judged above.
+        Deed::Waits | Deed::Flips | Deed::Halts | Deed::Moves { .. } | Deed::Splits { .. } => None,
     }
 }
 
@@ -334,7 +246,7 @@ fn judge_bot<L: Ledger>(
     if step.profile.allows(*command) {
         judge_later(step, numbers, number, bot, command, steps)
     } else {
-        broken_here(step.number, *bot, Rule::Forbidden)
+        Some(breaks(step.number, bot.bid, Rule::Forbidden, bot.pos))
     }
 }
 

@@ -52,7 +52,7 @@ pub fn judge_move<L: Ledger>(
     if profile.allows(Command::SMove(d)) {
         end_of_move(planes, step, bot, d.diff(), steps)
     } else {
-        Err(breaks(step, bot, Rule::Forbidden, bot.pos))
+        Err(breaks(step, bot.bid, Rule::Forbidden, bot.pos))
     }
 }
 
@@ -106,7 +106,7 @@ pub fn judge_edit(
     if profile.allows(edit(d, full)) {
         named_by(planes, step, bot, d.diff())
     } else {
-        Err(breaks(step, bot, Rule::Forbidden, bot.pos))
+        Err(breaks(step, bot.bid, Rule::Forbidden, bot.pos))
     }
 }
 

@@ -13,7 +13,7 @@ returns-in_default-reach-clause-value g c = λ s all.
 
 pub returns-in-None-clause-value : goal.returns-in-None-clause-value
 returns-in-None-clause-value g c = λ s all.
-    ap (broken_by c.args.step Blocked c.args.bot.bid) (sym c.in-None.is ∙ c.earlier.ensures)
+    ap (broken_by c.args.step Blocked c.args.bot.bid) (sym c.in-None.is ∙ c.earlier.ensures.value)
     ∙ sym (lmove (record s { matrix = c.args.planes.now }) all c.args.step c.args.bot c.args.d c.args.e c.of-first_way.result c.of-second_way.result c.in-Some.mid c.in-Some-reach.to c.region_full-first.result c.region_full-second.result c.in-Some.ensures.some c.in-Some-reach.ensures.some c.in-Some.ensures.sum c.in-Some-reach.ensures.sum c.of-first_way.ensures.covers c.of-second_way.ensures.covers c.region_full-first.ensures.value c.region_full-second.ensures.value)
 
 pub returns-in-None-clause-hull : goal.returns-in-None-clause-hull
@@ -27,7 +27,7 @@ returns-in-None-clause-touches g c = lmove_reads c.args.planes.now c.args.bot c.
 pub returns-in-Some-earlier-clause-value : goal.returns-in-Some-earlier-clause-value
 returns-in-Some-earlier-clause-value g c = λ s all.
     c.breaks-in-Some-earlier.ensures
-    ∙ (ap (broken_by c.args.step Blocked c.args.bot.bid) (sym c.in-Some-earlier.is ∙ c.earlier.ensures)
+    ∙ (ap (broken_by c.args.step Blocked c.args.bot.bid) (sym c.in-Some-earlier.is ∙ c.earlier.ensures.value)
     ∙ sym (lmove (record s { matrix = c.args.planes.now }) all c.args.step c.args.bot c.args.d c.args.e c.of-first_way.result c.of-second_way.result c.in-Some.mid c.in-Some-reach.to c.region_full-first.result c.region_full-second.result c.in-Some.ensures.some c.in-Some-reach.ensures.some c.in-Some.ensures.sum c.in-Some-reach.ensures.sum c.of-first_way.ensures.covers c.of-second_way.ensures.covers c.region_full-first.ensures.value c.region_full-second.ensures.value))
 
 pub returns-in-Some-earlier-clause-touches : goal.returns-in-Some-earlier-clause-touches
