@@ -27,7 +27,7 @@ use Rattle.step_groups.specs.declared.deed.Deed.{Deed}
 use Rattle.step_groups.specs.declared.deed.Deed.TheVariants.{Edits}
 use Rattle.step_groups.specs.Judging.{act, are_misshapen, is_alone, corner_list, first_fault, later_rules}
 use Rattle.step_groups.proofs.BlockedWays.{only_next, skip, unblocked}
-use Rattle.step_groups.proofs.Named.{last_named, point_of}
+use Rattle.step_groups.proofs.Named.{far_of, last_named, near_of, point_of}
 
 -- whether the members of a bot's group misfit a region
 abbrev pub misshape : List Act → Act → Span → Bool
@@ -54,14 +54,6 @@ dimension_is : (a b : Coord) → dimension (span (corners a b)) ≡ dimension (b
 dimension_is a b = λ i. axis a.x b.x i + axis a.y b.y i + axis a.z b.z i
 
 -- ---- a group command whose region is in space
-
-abbrev near_of : Deed → Coord
-near_of (Edits near far full together) = near
-near_of _ = record { x = 0; y = 0; z = 0 }
-
-abbrev far_of : Deed → Coord
-far_of (Edits near far full together) = far
-far_of _ = record { x = 0; y = 0; z = 0 }
 
 module _ (s : State) (all : List Act) (step : ℕ) (bot : Bot) (near far : Coord) (region : Corners) (corners_are : region ≡ corners near far) where
   -- the region between the two points that are named

@@ -1,10 +1,13 @@
--- The coordinates that a command names, where they are in space.
-use Rattle.std.proofs.Common.{◌≡◌, ℕ, ap, refl, ◌∙◌, Bool, true, ◌&&◌, pos, negsuc}
+-- The coordinates that a command names, where they are in space, and the parts of a deed.
+use Rattle.std.proofs.Common.{◌≡◌, ℕ, ap, refl, ◌∙◌, Bool, true, false, ◌&&◌, pos, negsuc}
 use Rattle.std.specs.Prelude.{ℤ, IsTrue, unsigned_abs}
+use Rattle.vox_geom.specs.declared.coordinate.Coord.{Coord}
 use Rattle.vox_geom.specs.Point.{Point, point}
 use Rattle.vox_geom.specs.Space.{IsInSpace, coordinate, in_range, in_space}
 use Rattle.vox_geom.proofs.Points.{space_by_test}
 use Rattle.vox_geom.proofs.Truths.{first_of_two, parts_of_three, second_of_two}
+use Rattle.step_groups.specs.declared.deed.Deed.{Deed}
+use Rattle.step_groups.specs.declared.deed.Deed.TheVariants.{Edits}
 
 component : (r : ℕ) (v : ℤ) → IsTrue (in_range r v) → pos (unsigned_abs v) ≡ v
 component r (pos n) h = refl
@@ -25,3 +28,17 @@ only_named b h = first_of_two b true h
 
 pub last_named : (b c : Bool) → IsTrue (b && (c && true)) → IsTrue c
 last_named b c h = only_named c (second_of_two b (c && true) h)
+
+-- ---- the corners of a region that is edited, and whether it is to be full
+
+abbrev pub near_of : Deed → Coord
+near_of (Edits near far full together) = near
+near_of _ = record { x = 0; y = 0; z = 0 }
+
+abbrev pub far_of : Deed → Coord
+far_of (Edits near far full together) = far
+far_of _ = record { x = 0; y = 0; z = 0 }
+
+abbrev pub full_of : Deed → Bool
+full_of (Edits near far full together) = full
+full_of _ = false

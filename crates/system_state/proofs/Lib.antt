@@ -18,3 +18,4 @@ pub mod OnlyBot
 pub mod OnlyMove
 pub mod OnlyEdit
 pub mod OneVoxel
+pub mod Regions
