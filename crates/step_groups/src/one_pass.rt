@@ -164,20 +164,12 @@ fn judge_rare<L: Ledger>(
 {
     match command {
         Command::Halt => hull_of_halt(step, *bot),
-        Command::Flip => Ok(Region::of(bot.pos, bot.pos)),
         Command::Fission(d, m) => {
             hull_of_fission(step.planes, step.number, *bot, d.diff(), *m, steps)
         }
-        // These need other bots, or are frequent, and are never judged here.
-        Command::Wait
-        | Command::SMove(_)
-        | Command::LMove(_, _)
-        | Command::Fill(_)
-        | Command::Void(_)
-        | Command::FusionP(_)
-        | Command::FusionS(_)
-        | Command::GFill(_, _)
-        | Command::GVoid(_, _) => Ok(Region::of(bot.pos, bot.pos)),
+        Command::Flip => Ok(Region::of(bot.pos, bot.pos)),
+        // The others need other bots, or are frequent, and are never judged here.
+        _ => Ok(Region::of(bot.pos, bot.pos)),
     }
 }
 
@@ -203,13 +195,7 @@ pub(crate) fn judge_hull<L: Ledger>(
         Command::LMove(d, e) => hull_of_moves(planes, number, *bot, d.diff(), e.diff(), steps),
         Command::Fill(d) => hull_of_edit(planes, number, *bot, d.diff()),
         Command::Void(d) => hull_of_edit(planes, number, *bot, d.diff()),
-        Command::Halt
-        | Command::Flip
-        | Command::FusionP(_)
-        | Command::FusionS(_)
-        | Command::Fission(_, _)
-        | Command::GFill(_, _)
-        | Command::GVoid(_, _) => judge_rare(step, bot, command, steps),
+        _ => judge_rare(step, bot, command, steps),
     }
 }
 

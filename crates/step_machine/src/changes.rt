@@ -75,9 +75,7 @@ fn is_change(command: &Command, full: bool) -> bool
     match command {
         Command::Void(_) | Command::GVoid(_, _) => full,
         Command::Fill(_) | Command::GFill(_, _) => !full,
-        Command::Halt | Command::Wait | Command::Flip => false,
-        Command::SMove(_) | Command::LMove(_, _) | Command::Fission(_, _) => false,
-        Command::FusionP(_) | Command::FusionS(_) => false,
+        _ => false,
     }
 }
 

@@ -27,17 +27,15 @@ pub fn edited_region(r: u16, bot: Bot, command: &Command) -> Option<EditedRegion
     let Some(deed) = deed_of(r, bot, command) else {
         return None;
     };
-    match deed {
-        Deed::Edits {
-            near,
-            far,
-            full,
-            ..
-        } => Some(EditedRegion {
-            region: Region::of(near, far),
-            full,
-        }),
-        Deed::Waits | Deed::Flips | Deed::Halts => None,
-        Deed::Moves { .. } | Deed::Splits { .. } | Deed::Fuses { .. } => None,
-    }
+    let Deed::Edits {
+        near,
+        far,
+        full,
+        ..
+    } = deed
+    else {
+        return None;
+    };
+    let region = Region::of(near, far);
+    Some(EditedRegion { region, full })
 }

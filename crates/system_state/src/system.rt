@@ -44,13 +44,10 @@ use vox_planes::Planes;
 fn harmonics_by(harmonics: Harmonics, command: &Command) -> Harmonics
     ensures { (bot : ActiveBot) → result ≡ harmonics_after harmonics (act bot command.now ∷ []) }
 {
-    match command {
-        Command::Flip => harmonics.flipped(),
-        Command::Halt | Command::Wait => harmonics,
-        Command::SMove(_) | Command::LMove(_, _) | Command::Fission(_, _) => harmonics,
-        Command::FusionP(_) | Command::FusionS(_) => harmonics,
-        Command::Fill(_) | Command::Void(_) => harmonics,
-        Command::GFill(_, _) | Command::GVoid(_, _) => harmonics,
+    if matches!(command, Command::Flip) {
+        harmonics.flipped()
+    } else {
+        harmonics
     }
 }
 
@@ -286,13 +283,7 @@ impl System {
             Command::LMove(d, e) => self.take_moves(bot, *d, *e),
             Command::Fill(d) => self.take_edit(bot, *d, true, steps),
             Command::Void(d) => self.take_edit(bot, *d, false, steps),
-            Command::Halt
-            | Command::Flip
-            | Command::FusionP(_)
-            | Command::FusionS(_)
-            | Command::Fission(_, _)
-            | Command::GFill(_, _)
-            | Command::GVoid(_, _) => self.take_other_turn(bot, turn.partner, command, steps),
+            _ => self.take_other_turn(bot, turn.partner, command, steps),
         }
     }
 
