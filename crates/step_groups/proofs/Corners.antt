@@ -23,7 +23,6 @@ use Rattle.nano_spec.specs.declared.outcomes.Broken.{Broken}
 use Rattle.nano_spec.specs.declared.outcomes.Rule.TheVariants.{OutOfSpace, Blocked, InRegion, GroupShape}
 use Rattle.nano_spec.specs.declared.system.Bot.{Bot}
 use Rattle.step_groups.specs.Deeds.{IsDeed}
-use Rattle.step_groups.specs.declared.deed.Deed.{Deed}
 use Rattle.step_groups.specs.declared.deed.Deed.TheVariants.{Edits}
 use Rattle.step_groups.specs.Judging.{act, are_misshapen, is_alone, corner_list, first_fault, later_rules}
 use Rattle.step_groups.proofs.BlockedWays.{only_next, skip, unblocked}

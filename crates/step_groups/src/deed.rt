@@ -74,6 +74,7 @@ fn edit_region(r: u16, bot: Bot, d: Near, f: Far, full: bool) -> Option<Deed>
 }
 
 /// What a bot does by its command: `None` exactly where a coordinate that it names is out of space.
+#[inline(always)]
 pub fn deed_of(r: u16, bot: Bot, command: &Command) -> Option<Deed>
     requires { IsInSpace r bot.pos }
     ensures some { IfSome result (IsDeed r bot command.now) }

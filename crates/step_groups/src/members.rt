@@ -29,7 +29,9 @@ pub(crate) fn acts_alone(command: &Command) -> bool
     match command {
         Command::FusionP(_) | Command::FusionS(_) => false,
         Command::GFill(_, _) | Command::GVoid(_, _) => false,
-        _ => true,
+        Command::Halt | Command::Wait | Command::Flip => true,
+        Command::SMove(_) | Command::LMove(_, _) | Command::Fission(_, _) => true,
+        Command::Fill(_) | Command::Void(_) => true,
     }
 }
 

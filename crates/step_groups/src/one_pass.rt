@@ -195,7 +195,13 @@ pub(crate) fn judge_hull<L: Ledger>(
         Command::LMove(d, e) => hull_of_moves(planes, number, *bot, d.diff(), e.diff(), steps),
         Command::Fill(d) => hull_of_edit(planes, number, *bot, d.diff()),
         Command::Void(d) => hull_of_edit(planes, number, *bot, d.diff()),
-        _ => judge_rare(step, bot, command, steps),
+        Command::Halt
+        | Command::Flip
+        | Command::FusionP(_)
+        | Command::FusionS(_)
+        | Command::Fission(_, _)
+        | Command::GFill(_, _)
+        | Command::GVoid(_, _) => judge_rare(step, bot, command, steps),
     }
 }
 

@@ -18,6 +18,7 @@ pub struct EditedRegion {
 }
 
 /// The region that the command of the bot makes full or void, if it does. Condition: its coordinates are in space.
+#[inline(always)]
 pub fn edited_region(r: u16, bot: Bot, command: &Command) -> Option<EditedRegion>
     requires within { IsInSpace r bot.pos }
     requires stays { IsTrue (stays_in_space r (act bot command.now)) }

@@ -283,7 +283,13 @@ impl System {
             Command::LMove(d, e) => self.take_moves(bot, *d, *e),
             Command::Fill(d) => self.take_edit(bot, *d, true, steps),
             Command::Void(d) => self.take_edit(bot, *d, false, steps),
-            _ => self.take_other_turn(bot, turn.partner, command, steps),
+            Command::Halt
+            | Command::Flip
+            | Command::FusionP(_)
+            | Command::FusionS(_)
+            | Command::Fission(_, _)
+            | Command::GFill(_, _)
+            | Command::GVoid(_, _) => self.take_other_turn(bot, turn.partner, command, steps),
         }
     }
 
