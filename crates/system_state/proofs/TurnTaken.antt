@@ -39,6 +39,7 @@ use Rattle.system_state.specs.Effects.{MayTake, Needs, after_turn, bots_after_tu
 use Rattle.system_state.proofs.Bots.{alone_bots, replaced_itself}
 use Rattle.system_state.proofs.Members.{alone_is, couple, is_group, leader_in, shared}
 use Rattle.system_state.proofs.Meeting.{at_most_one, found, free_for, halts_alone, is_met, is_there, nobody, seeded, some_of, stays}
+use Rattle.step_groups.specs.Deeds.{deed_by}
 use Rattle.step_groups.specs.Groups.{bid_of}
 
 -- ---- kinds of commands
@@ -166,7 +167,7 @@ module _ (s : State) (all : List Act) (good : IsGood s all) (l : Act) (leads : I
   is_active_partner : (b : Act) → members all l ≡ l ∷ b ∷ [] → IsSome (bot_of t.bots partner)
   is_active_partner b e = subst (λ (o : Option Bot). IsSome o) (sym (partner_there b e)) (search rules)
 
-  needs : is_command l.command ≡ true → (c : Command) → l.command ≡ c → Needs t.bots l.bot partner c
+  needs : is_command l.command ≡ true → (c : Command) → l.command ≡ c → Needs t.bots l.bot partner (deed_by (point l.bot.pos) c)
   needs known Halt e =
       let few : length t.bots ≤ 1 = at_most_one (length t.bots) (halts_alone t (members all l) keeps l itself_in e) in
       let some : 1 ≤ length t.bots = some_of l.bot t.bots (bot_there l itself_in) in

@@ -6,6 +6,7 @@ ghost use Rattle.system_state.specs.Effects.{MayTake, bots_after_turn};
 
 use bot_crew::Crew;
 use nano_spec::{Bot, Command};
+use step_groups::{Deed, deed_of};
 use vox_geom::{Coord, Diff};
 
 /// A component and what is added to it, where the sum is from 0 to r - 1.
@@ -37,18 +38,15 @@ pub(crate) fn move_bots(crew: &mut Crew, r: u16, bot: Bot, partner: u8, command:
     requires { MayTake r crew.old bot partner command.now }
     ensures { crew.new ≡ bots_after_turn crew.old bot partner command.now }
 {
-    match command {
-        Command::Halt => crew.halt(),
-        Command::SMove(d) => crew.move_to(bot.bid, target(r, bot.pos, d.diff())),
-        Command::LMove(d, e) => {
-            let middle = target(r, bot.pos, d.diff());
-            crew.move_to(bot.bid, target(r, middle, e.diff()));
-        }
-        Command::Fission(d, m) => crew.fission(bot.bid, target(r, bot.pos, d.diff()), *m),
-        Command::FusionP(_) => crew.fusion(bot.bid, partner),
-        Command::FusionS(_) => crew.fusion(partner, bot.bid),
-        Command::Wait | Command::Flip => {}
-        Command::Fill(_) | Command::Void(_) => {}
-        Command::GFill(_, _) | Command::GVoid(_, _) => {}
+    let Some(deed) = deed_of(r, bot, command) else {
+        return;
+    };
+    match deed {
+        Deed::Halts => crew.halt(),
+        Deed::Moves { to, .. } => crew.move_to(bot.bid, to),
+        Deed::Splits { to, seeds } => crew.fission(bot.bid, to, seeds),
+        Deed::Fuses { primary: true, .. } => crew.fusion(bot.bid, partner),
+        Deed::Fuses { primary: false, .. } => crew.fusion(partner, bot.bid),
+        Deed::Waits | Deed::Flips | Deed::Edits { .. } => {}
     }
 }
