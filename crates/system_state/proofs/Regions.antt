@@ -1,11 +1,10 @@
 -- The region that a bot fills or voids, by what it does.
-use Rattle.std.proofs.Common.{◌≡◌, ℕ, ◌≤◌, refl, ap, sym, subst, ◌∙◌, Bool, true, false, ◌&&◌, cond, List, [], ◌∷◌}
+use Rattle.std.proofs.Common.{◌≡◌, ℕ, ◌≤◌, refl, ap, sym, subst, ◌∙◌, Bool, true, false, ◌&&◌, cond, [], ◌∷◌}
 use Rattle.std.specs.Prelude.{IsTrue}
 use Rattle.vox_geom.specs.declared.coordinate.Coord.{Coord}
-use Rattle.vox_geom.specs.declared.difference.Diff.{Diff}
 use Rattle.vox_geom.specs.Difference.{is_far, is_near}
 use Rattle.vox_geom.specs.Point.{Point, plus, point}
-use Rattle.vox_geom.specs.Region.{Corners, IsOrdered, Span, between, corners, is_within, size, span}
+use Rattle.vox_geom.specs.Region.{Corners, IsOrdered, between, corners, is_within, size}
 use Rattle.vox_geom.specs.Space.{IsInSpace, coordinate, in_space}
 use Rattle.vox_geom.proofs.Covers.{covers}
 use Rattle.vox_geom.proofs.Truths.{first_of_two, second_of_two}

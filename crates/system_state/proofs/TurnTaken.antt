@@ -11,7 +11,7 @@ use Rattle.vox_geom.specs.Difference.{is_near}
 use Rattle.vox_geom.specs.Point.{Point, point, plus}
 use Rattle.vox_geom.specs.Region.{between, is_within, Span}
 use Rattle.vox_geom.specs.Space.{IsInSpace, coordinate, in_space}
-use Rattle.vox_geom.proofs.Truths.{false_by, first_of_two, one_of_two, same_truth}
+use Rattle.vox_geom.proofs.Truths.{false_by, first_of_two, one_of_two, or_by_first, or_false, same_truth}
 use Rattle.vox_geom.proofs.Tests.{not_at_most_by_test}
 use Rattle.nano_spec.specs.declared.commands.Command.{Command}
 use Rattle.nano_spec.specs.declared.commands.Command.TheVariants.{Halt, SMove, LMove, FusionP, FusionS, Fission, GFill, GVoid}
@@ -94,26 +94,15 @@ shares_group p c q e h = cc
 
 -- ---- the voxels that members of a group command fill and void
 
-shared_filled : (p : Point) (c : Command) (q : Point) (e : Command) (x : Point) → share_region p c q e ≡ true → list_any (λ s. is_within s x) (filled p c) ≡ true → list_any (λ s. is_within s x) (filled q e) ≡ true
-shared_filled p (GFill d f) q (GFill e g) x h k = or_true _ (region_on (between (plus p d) (plus (plus p d) f)) (between (plus q e) (plus (plus q e) g)) x h (of_or _ k))
-  where
-    or_true : (b : Bool) → b ≡ true → (b || false) ≡ true
-    or_true b e = ap (λ v. v || false) e
+of_or : (b : Bool) → (b || false) ≡ true → b ≡ true
+of_or b e = sym (or_false b) ∙ e
 
-    of_or : (b : Bool) → (b || false) ≡ true → b ≡ true
-    of_or true e = refl
-    of_or false e = cc
+shared_filled : (p : Point) (c : Command) (q : Point) (e : Command) (x : Point) → share_region p c q e ≡ true → list_any (λ s. is_within s x) (filled p c) ≡ true → list_any (λ s. is_within s x) (filled q e) ≡ true
+shared_filled p (GFill d f) q (GFill e g) x h k = or_by_first _ false (region_on (between (plus p d) (plus (plus p d) f)) (between (plus q e) (plus (plus q e) g)) x h (of_or _ k))
 shared_filled p c q e x h k = cc
 
 shared_voided : (p : Point) (c : Command) (q : Point) (e : Command) (x : Point) → share_region p c q e ≡ true → list_any (λ s. is_within s x) (voided p c) ≡ true → list_any (λ s. is_within s x) (voided q e) ≡ true
-shared_voided p (GVoid d f) q (GVoid e g) x h k = or_true _ (region_on (between (plus p d) (plus (plus p d) f)) (between (plus q e) (plus (plus q e) g)) x h (of_or _ k))
-  where
-    or_true : (b : Bool) → b ≡ true → (b || false) ≡ true
-    or_true b e = ap (λ v. v || false) e
-
-    of_or : (b : Bool) → (b || false) ≡ true → b ≡ true
-    of_or true e = refl
-    of_or false e = cc
+shared_voided p (GVoid d f) q (GVoid e g) x h k = or_by_first _ false (region_on (between (plus p d) (plus (plus p d) f)) (between (plus q e) (plus (plus q e) g)) x h (of_or _ k))
 shared_voided p c q e x h k = cc
 
 -- ---- flips
@@ -209,10 +198,6 @@ module _ (s : State) (all : List Act) (good : IsGood s all) (l : Act) (leads : I
       (λ h. let w = any_in (λ (a : Act). list_any (λ r. is_within r (point x)) (work (position a) a.command)) (members all l) h in by w.0 w.2 (shared s all good l leads g w.0 w.1))
       (λ h. in_any (λ (a : Act). list_any (λ r. is_within r (point x)) (work (position a) a.command)) l (members all l) itself_in (of_or _ h))
     where
-      of_or : (b : Bool) → (b || false) ≡ true → b ≡ true
-      of_or true e = refl
-      of_or false e = cc
-
       by : (a : Act) → list_any (λ r. is_within r (point x)) (work (position a) a.command) ≡ true → (a ≡ l) ⊎ (share_region (position l) l.command (position a) a.command ≡ true) → (list_any (λ r. is_within r (point x)) (work (position l) l.command) || false) ≡ true
       by a h (inl e) = ap (λ v. v || false) (sym (ap (λ (b : Act). list_any (λ r. is_within r (point x)) (work (position b) b.command)) e) ∙ h)
       by a h (inr e) = ap (λ v. v || false) (share (position a) a.command (position l) l.command (point x) (share_back (position l) l.command (position a) a.command e) h)

@@ -9,36 +9,22 @@ pub fn recall(command: &Command)
     ensures { IsCommand command.now }
 {
     match command {
+        Command::Halt | Command::Wait | Command::Flip => {}
         Command::SMove(d) => {
             let _ = d.diff();
         }
         Command::LMove(d, e) => {
             let _ = (d.diff(), e.diff());
         }
-        Command::FusionP(d) => {
-            let _ = d.diff();
-        }
-        Command::FusionS(d) => {
+        Command::FusionP(d) | Command::FusionS(d) | Command::Fill(d) | Command::Void(d) => {
             let _ = d.diff();
         }
         Command::Fission(d, m) => {
             let _ = (d.diff(), *m);
         }
-        Command::Fill(d) => {
-            let _ = d.diff();
-        }
-        Command::Void(d) => {
-            let _ = d.diff();
-        }
-        Command::GFill(d, f) => {
+        Command::GFill(d, f) | Command::GVoid(d, f) => {
             let _ = (d.diff(), f.diff());
         }
-        Command::GVoid(d, f) => {
-            let _ = (d.diff(), f.diff());
-        }
-        Command::Halt => {}
-        Command::Wait => {}
-        Command::Flip => {}
     }
 }
 
