@@ -1,13 +1,12 @@
 -- One box around all that is volatile for some bots, bot by bot.
 use Rattle.std.proofs.Common.{◌≡◌, ℕ, ◌≤◌, refl, ap, sym, ◌∙◌, subst, arith, inl, inr, Bool, true, false, ◌&&◌, ◌||◌, List, [], ◌∷◌, ◌++◌, pos}
-use Rattle.std.specs.Prelude.{ℤ, IsTrue}
+use Rattle.std.specs.Prelude.{IsTrue}
 use Rattle.std.proofs.lemmas.Bool.Decides.{nat_tests}
-use Rattle.std.proofs.lemmas.Int.{ints}
 use Rattle.vox_geom.specs.declared.coordinate.Coord.{Coord}
 use Rattle.vox_geom.specs.declared.difference.Diff.{Diff}
 use Rattle.vox_geom.specs.Point.{Point, point, plus}
 use Rattle.vox_geom.specs.Region.{Corners, IsOrdered, between, is_between, is_within, just, span}
-use Rattle.vox_geom.proofs.Truths.{both_true, first_of_two, or_false, second_of_two}
+use Rattle.vox_geom.proofs.Truths.{first_of_two, or_false, second_of_two}
 use Rattle.nano_spec.specs.declared.commands.Command.TheVariants.{Fill, LMove, SMove, Wait}
 use Rattle.nano_spec.specs.declared.system.Bot.{Bot}
 use Rattle.nano_spec.specs.Act.{Act}
@@ -15,6 +14,7 @@ use Rattle.step_groups.specs.declared.one_pass.Outline.{Outline}
 use Rattle.step_groups.specs.Outlines.{LiesBetween, IsOutlineOf, IsVolatileFor, TakesIn}
 use Rattle.step_groups.specs.Judging.{act}
 use Rattle.step_groups.proofs.Lone.{any_more, apart_more}
+use Rattle.step_groups.proofs.Volatiles.{end_within, start_within}
 
 -- ---- a box and its ends
 
@@ -48,22 +48,6 @@ module _ (bot : Bot) (k : Corners) (to : Coord) (around : (p : Point) → is_wit
       let q : Point = plus (point bot.pos) d in
       around (point c) ∙ (ap (λ (w : Point). is_within (between (point bot.pos) w) (point c)) e ∙ (sym (or_false (is_within (between (point bot.pos) q) (point c))) ∙ h))
 
-  first_end : (a b v : ℤ) → IsTrue (is_between a a v) → IsTrue (is_between a b v)
-  first_end a b v h = grind (arith, ints)
-
-  last_end : (a b v : ℤ) → IsTrue (is_between b b v) → IsTrue (is_between a b v)
-  last_end a b v h = grind (arith, ints)
-
-  -- a coordinate that is one of the ends
-  end_within : (p q e c : Point) → ((v : ℤ) → IsTrue (is_between e.x e.x v) → IsTrue (is_between p.x q.x v)) → ((v : ℤ) → IsTrue (is_between e.y e.y v) → IsTrue (is_between p.y q.y v)) → ((v : ℤ) → IsTrue (is_between e.z e.z v) → IsTrue (is_between p.z q.z v)) → IsTrue (is_within (just e) c) → IsTrue (is_within (between p q) c)
-  end_within p q e c fx fy fz t =
-      let x : Bool = is_between e.x e.x c.x in
-      let y : Bool = is_between e.y e.y c.y in
-      let z : Bool = is_between e.z e.z c.z in
-      both_true (is_between p.x q.x c.x && is_between p.y q.y c.y) (is_between p.z q.z c.z)
-      (both_true (is_between p.x q.x c.x) (is_between p.y q.y c.y) (fx c.x (first_of_two x y (first_of_two (x && y) z t))) (fy c.y (second_of_two x y (first_of_two (x && y) z t))))
-      (fz c.z (second_of_two (x && y) z t))
-
   pub named_within : (d : Diff) → point to ≡ plus (point bot.pos) d → (c : Coord) → IsVolatileFor (act bot (Fill d)) c → IsTrue (is_within (span k) (point c))
   named_within d e c h =
       let p : Point = point bot.pos in
@@ -71,8 +55,7 @@ module _ (bot : Bot) (k : Corners) (to : Coord) (around : (p : Point) → is_wit
       around (point c)
       ∙ (ap (λ (w : Point). is_within (between p w) (point c)) e
       ∙ either (is_within (just p) (point c)) (is_within (just q) (point c)) (is_within (between p q) (point c))
-      (end_within p q p (point c) (λ v. first_end p.x q.x v) (λ v. first_end p.y q.y v) (λ v. first_end p.z q.z v))
-      (end_within p q q (point c) (λ v. last_end p.x q.x v) (λ v. last_end p.y q.y v) (λ v. last_end p.z q.z v)) h)
+      (start_within p q (point c)) (end_within p q (point c)) h)
 
 pub ways_within : (bot : Bot) (d e : Diff) (mid to : Coord) (k l all : Corners) → point mid ≡ plus (point bot.pos) d → point to ≡ plus (point mid) e → ((p : Point) → is_within (span k) p ≡ is_within (between (point bot.pos) (point mid)) p) → ((p : Point) → is_within (span l) p ≡ is_within (between (point mid) (point to)) p) → ((c : Coord) → IsTrue (is_within (span k) (point c)) → IsTrue (is_within (span all) (point c))) → ((c : Coord) → IsTrue (is_within (span l) (point c)) → IsTrue (is_within (span all) (point c))) → (c : Coord) → IsVolatileFor (act bot (LMove d e)) c → IsTrue (is_within (span all) (point c))
 ways_within bot d e mid to k l all half whole first second f g c h =
