@@ -16,6 +16,8 @@ mod crews;
 #[cfg(test)]
 mod debugger;
 #[cfg(test)]
+mod deeds;
+#[cfg(test)]
 mod energies;
 #[cfg(test)]
 mod groups;
