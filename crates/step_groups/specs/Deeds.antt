@@ -9,7 +9,7 @@ use Rattle.nano_spec.specs.declared.commands.Command.TheVariants.{Halt, Wait, Fl
 use Rattle.nano_spec.specs.declared.system.Bot.{Bot}
 use Rattle.nano_spec.specs.Act.{stays_in_space}
 use Rattle.step_groups.specs.declared.deed.Deed.{Deed}
-use Rattle.step_groups.specs.declared.deed.Deed.TheVariants.{Waits, Flips, Halts, Moves, Splits, Fuses, Edits}
+use Rattle.step_groups.specs.declared.deed.Deed.TheVariants.{Waits, Flips, Halts, Moves, Bends, Splits, Fuses, Edits}
 use Rattle.step_groups.specs.Judging.{act}
 
 -- what a bot at p does by a command whose coordinates are in space
@@ -17,8 +17,8 @@ abbrev pub deed_by : Point → Command → Deed
 deed_by p Halt = Halts
 deed_by p Wait = Waits
 deed_by p Flip = Flips
-deed_by p (SMove d) = Moves (coordinate (plus p d)) (coordinate (plus p d))
-deed_by p (LMove d e) = Moves (coordinate (plus p d)) (coordinate (plus (plus p d) e))
+deed_by p (SMove d) = Moves (coordinate (plus p d))
+deed_by p (LMove d e) = Bends (coordinate (plus p d)) (coordinate (plus (plus p d) e))
 deed_by p (FusionP d) = Fuses (coordinate (plus p d)) true
 deed_by p (FusionS d) = Fuses (coordinate (plus p d)) false
 deed_by p (Fission d m) = Splits (coordinate (plus p d)) m
@@ -34,7 +34,8 @@ pub record IsDeed (r : ℕ) (bot : Bot) (command : Command) (deed : Deed) : Type
 
 -- the boxes that a bot makes volatile by what it does, from where it stands
 abbrev pub boxes_of : Coord → Deed → List Corners
-boxes_of from (Moves middle to) = corners from middle ∷ corners middle to ∷ []
+boxes_of from (Moves to) = corners from to ∷ []
+boxes_of from (Bends middle to) = corners from middle ∷ corners middle to ∷ []
 boxes_of from (Splits to seeds) = corners from from ∷ corners to to ∷ []
 boxes_of from (Edits near far full together) = corners from from ∷ corners near far ∷ []
 boxes_of from _ = corners from from ∷ []

@@ -18,8 +18,12 @@ pub enum Deed {
     Flips,
     /// It ends the run.
     Halts,
-    /// It moves straight to the middle, and from there straight on; the end of a single move is its middle too.
+    /// It moves straight there.
     Moves {
+        to: Coord,
+    },
+    /// It moves straight to the middle, and from there straight on.
+    Bends {
         middle: Coord,
         to: Coord,
     },
@@ -86,12 +90,12 @@ pub fn deed_of(r: u16, bot: Bot, command: &Command) -> Option<Deed>
         Command::Flip => Some(Deed::Flips),
         Command::SMove(d) => {
             let to = bot.pos.plus(d.diff(), r)?;
-            Some(Deed::Moves { middle: to, to })
+            Some(Deed::Moves { to })
         }
         Command::LMove(d, e) => {
             let middle = bot.pos.plus(d.diff(), r)?;
             let to = middle.plus(e.diff(), r)?;
-            Some(Deed::Moves { middle, to })
+            Some(Deed::Bends { middle, to })
         }
         Command::Fission(d, m) => {
             let to = bot.pos.plus(d.diff(), r)?;
@@ -119,6 +123,7 @@ pub fn deed_of(r: u16, bot: Bot, command: &Command) -> Option<Deed>
 }
 
 /// The same where the bot stands in the matrix.
+#[inline(always)]
 pub(crate) fn deed_in(planes: &Planes, bot: &Bot, command: &Command) -> Option<Deed>
     requires { IsInSpace planes.now.resolution bot.now.pos }
     ensures some { IfSome result (IsDeed planes.now.resolution bot.now command.now) }

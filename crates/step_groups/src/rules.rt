@@ -18,7 +18,6 @@ ghost use Rattle.step_groups.specs.Steps.{CanBeJudged, CanJudge, acts_of_step, l
 
 use crate::boxes::around;
 use crate::deed::{Deed, deed_in};
-use crate::members::acts_alone;
 use crate::one_pass::judge_hull;
 use crate::partners::has_partner;
 use crate::shapes::is_misshapen;
@@ -198,6 +197,34 @@ fn judge_group(
     None
 }
 
+/// The first rule after the one on the profile that a bot breaks whose command needs other bots. The members of its group
+/// have the number. One call for all of them leaves the others their registers.
+#[inline(never)]
+fn judge_together(
+    step: &Step,
+    numbers: &[u8],
+    number: u8,
+    bot: &Bot,
+    command: &Command,
+) -> Option<Broken>
+    requires step { CanJudge step.now bot.now }
+    requires numbers { length numbers.now ≡ length step.now.bots.now }
+    requires members { TellsMembers (acts_of_step step.now) numbers.now number (act bot.now command.now) }
+    requires together { IsFalse (is_alone command.now) }
+    ensures { result ≡ later_fault step.now (act bot.now command.now) }
+{
+    let Some(deed) = deed_in(step.planes, bot, command) else {
+        return Some(breaks(step.number, bot.bid, Rule::OutOfSpace, bot.pos));
+    };
+    match deed {
+        Deed::Fuses { .. } => judge_fusion(step, bot, command),
+        Deed::Edits { near, far, .. } => judge_group(step, numbers, number, bot, near, far),
+        // These need no other bot.
+        Deed::Waits | Deed::Flips | Deed::Halts => None,
+        Deed::Moves { .. } | Deed::Bends { .. } | Deed::Splits { .. } => None,
+    }
+}
+
 /// The first rule after the one on the profile that a bot breaks. The members of its group have the number.
 fn judge_later<L: Ledger>(
     step: &Step,
@@ -213,17 +240,11 @@ fn judge_later<L: Ledger>(
     ensures value { result ≡ later_fault step.now (act bot.now command.now) }
     ensures touches { steps.new ≤ steps.old + touches_of step.now.planes.now (act bot.now command.now) }
 {
-    if acts_alone(command) {
-        return judge_hull(step, bot, command, steps).err();
-    }
-    let Some(deed) = deed_in(step.planes, bot, command) else {
-        return Some(breaks(step.number, bot.bid, Rule::OutOfSpace, bot.pos));
-    };
-    match deed {
-        Deed::Fuses { .. } => judge_fusion(step, bot, command),
-        Deed::Edits { near, far, .. } => judge_group(step, numbers, number, bot, near, far),
-        // These need no other bot, and are judged above.
-        Deed::Waits | Deed::Flips | Deed::Halts | Deed::Moves { .. } | Deed::Splits { .. } => None,
+    match command {
+        Command::FusionP(_) | Command::FusionS(_) | Command::GFill(_, _) | Command::GVoid(_, _) => {
+            judge_together(step, numbers, number, bot, command)
+        }
+        _ => judge_hull(step, bot, command, steps).err(),
     }
 }
 

@@ -23,24 +23,15 @@ fn does(command: Command) -> Option<Deed> {
 }
 
 #[test]
-fn a_bot_moves_by_way_of_a_middle(rt: HostRuntime) -> Result<(), Fail> {
+fn a_bot_moves_straight_or_by_way_of_a_middle(rt: HostRuntime) -> Result<(), Fail> {
     let straight = does(Command::SMove(long(&rt, 0, 0, -3)));
-    let end = at(2, 1, 0);
-    assert_eq!(rt;
-        straight,
-        Some(Deed::Moves {
-            middle: end,
-            to: end
-        })
-    );
+    assert_eq!(rt; straight, Some(Deed::Moves { to: at(2, 1, 0) }));
     let twice = does(Command::LMove(along_x(&rt, 2), along_x(&rt, -4)));
-    assert_eq!(rt;
-        twice,
-        Some(Deed::Moves {
-            middle: at(4, 1, 3),
-            to: at(0, 1, 3)
-        })
-    );
+    let bends = Deed::Bends {
+        middle: at(4, 1, 3),
+        to: at(0, 1, 3),
+    };
+    assert_eq!(rt; twice, Some(bends));
     Ok(())
 }
 

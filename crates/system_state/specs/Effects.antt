@@ -12,7 +12,7 @@ use Rattle.nano_spec.specs.State.{State, seed_list}
 use Rattle.nano_spec.specs.Step.{harmonics_after, matrix_after}
 use Rattle.bot_crew.specs.Crew.{IsActive, bot_at, bot_of, replaced}
 use Rattle.step_groups.specs.declared.deed.Deed.{Deed}
-use Rattle.step_groups.specs.declared.deed.Deed.TheVariants.{Halts, Moves, Splits, Fuses}
+use Rattle.step_groups.specs.declared.deed.Deed.TheVariants.{Halts, Moves, Bends, Splits, Fuses}
 use Rattle.step_groups.specs.Deeds.{deed_by}
 use Rattle.step_groups.specs.Judging.{act}
 
@@ -23,7 +23,8 @@ IsFreeFor bots bot c = IfSome (bot_at bots c) (λ b. b.bid ≡ bot.bid)
 -- what the turn needs of the bots, by what the bot does
 abbrev pub Needs : List Bot → Bot → ℕ → Deed → Type 0
 Needs bots bot partner Halts = length bots ≡ 1
-Needs bots bot partner (Moves middle to) = IsFreeFor bots bot to
+Needs bots bot partner (Moves to) = IsFreeFor bots bot to
+Needs bots bot partner (Bends middle to) = IsFreeFor bots bot to
 Needs bots bot partner (Splits to seeds) = IsNone (bot_at bots to) × (seeds + 1 ≤ length (seed_list bot.seeds))
 Needs bots bot partner (Fuses place primary) = IsActive bots partner × (bot.bid ≢ partner)
 Needs bots bot partner _ = Unit {0}
@@ -42,7 +43,8 @@ with_partner bots partner change = unwrap_or (option_map change (bot_of bots par
 -- the bots after the turn, by what the bot does
 abbrev pub bots_after_deed : List Bot → Bot → ℕ → Deed → List Bot
 bots_after_deed bots bot partner Halts = []
-bots_after_deed bots bot partner (Moves middle to) = replaced bots (bot.bid ∷ []) (moved bot (point to) ∷ [])
+bots_after_deed bots bot partner (Moves to) = replaced bots (bot.bid ∷ []) (moved bot (point to) ∷ [])
+bots_after_deed bots bot partner (Bends middle to) = replaced bots (bot.bid ∷ []) (moved bot (point to) ∷ [])
 bots_after_deed bots bot partner (Splits to seeds) = replaced bots (bot.bid ∷ []) (parent bot seeds ∷ newborn bot (point to) seeds ∷ [])
 bots_after_deed bots bot partner (Fuses place true) = with_partner bots partner (λ other. replaced bots (bot.bid ∷ partner ∷ []) (fused bot other ∷ []))
 bots_after_deed bots bot partner (Fuses place false) = with_partner bots partner (λ other. replaced bots (partner ∷ bot.bid ∷ []) (fused other bot ∷ []))

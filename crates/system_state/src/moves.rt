@@ -43,7 +43,7 @@ pub(crate) fn move_bots(crew: &mut Crew, r: u16, bot: Bot, partner: u8, command:
     };
     match deed {
         Deed::Halts => crew.halt(),
-        Deed::Moves { to, .. } => crew.move_to(bot.bid, to),
+        Deed::Moves { to } | Deed::Bends { to, .. } => crew.move_to(bot.bid, to),
         Deed::Splits { to, seeds } => crew.fission(bot.bid, to, seeds),
         Deed::Fuses { primary: true, .. } => crew.fusion(bot.bid, partner),
         Deed::Fuses { primary: false, .. } => crew.fusion(partner, bot.bid),
