@@ -1,9 +1,14 @@
 //! The table of words: which row the words of the command line are in (docs/FORMATS.md, "Printed lines"). Nothing takes memory.
 #![tactic(auto)]
 
+mod files;
+mod forged;
 mod laws;
 mod planner;
 mod row;
+mod runs;
+mod several;
+mod word;
 mod words;
 
 pub use laws::{one_row, worked_words};

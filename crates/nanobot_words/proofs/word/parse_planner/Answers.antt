@@ -2,7 +2,7 @@ use Rattle.std.proofs.Common.{◌≡◌, sym}
 use Rattle.nanobot_words.specs.declared.planner.Planner.{Planner}
 use Rattle.nanobot_words.specs.declared.planner.Planner.TheVariants.{Layer, Group, Crew, Void, Low, Swarm}
 use Rattle.nanobot_words.specs.Rows.{planner_word}
-use Rattle.nanobot_words.proofs.words.parse_planner.Goals as goal
+use Rattle.nanobot_words.proofs.word.parse_planner.Goals as goal
 
 pub returns-in_default : goal.returns-in_default
 returns-in_default c = λ planner is. elim planner as (λ (p : Planner). planner_word p ≡ c.args.word.now → ⊥) [

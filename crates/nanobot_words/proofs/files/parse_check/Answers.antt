@@ -1,6 +1,6 @@
 use Rattle.std.proofs.Common.{rules, ◌≡◌, codes, string_bytes}
 use Rattle.nanobot_words.proofs.Parsed.{texts_two}
-use Rattle.nanobot_words.proofs.words.parse_check.Goals as goal
+use Rattle.nanobot_words.proofs.files.parse_check.Goals as goal
 
 pub returns-then-is_name : goal.returns-then-is_name
 returns-then-is_name c =

@@ -1,6 +1,6 @@
 use Rattle.std.proofs.Common.{◌≡◌, None, codes, rules}
 use Rattle.nanobot_words.proofs.Parsed.{not_taken, plan_operands, plan_takes, plan_written, planned_word, trace_first}
-use Rattle.nanobot_words.proofs.words.parse_plan.Goals as goal
+use Rattle.nanobot_words.proofs.runs.parse_plan.Goals as goal
 
 pub returns-in_err-planner : goal.returns-in_err-planner
 returns-in_err-planner c =

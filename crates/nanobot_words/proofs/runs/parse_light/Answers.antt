@@ -1,6 +1,6 @@
 use Rattle.std.proofs.Common.{◌≡◌, None, rules}
 use Rattle.nanobot_words.proofs.Parsed.{light_operands}
-use Rattle.nanobot_words.proofs.words.parse_light.Goals as goal
+use Rattle.nanobot_words.proofs.runs.parse_light.Goals as goal
 
 pub returns-in_err-source : goal.returns-in_err-source
 returns-in_err-source c =

@@ -2,7 +2,7 @@ use Rattle.std.proofs.Common.{◌≡◌, ◌∙◌, ap, arith, sym, Ok, Bool, tr
 use Rattle.std.specs.Str.{bytes_eq}
 use Rattle.std.proofs.lemmas.Fmt.{parse-decimal}
 use Rattle.std.proofs.lemmas.Slice.Eq.{bytes_eq-Decides}
-use Rattle.nanobot_words.proofs.words.parse_number.Goals as goal
+use Rattle.nanobot_words.proofs.word.parse_number.Goals as goal
 
 refuted : (b : Bool) → b ≡ true → true ≡ not b → ⊥
 refuted true e h = cc

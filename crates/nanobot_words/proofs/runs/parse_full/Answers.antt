@@ -1,6 +1,6 @@
 use Rattle.std.proofs.Common.{◌≡◌, None, rules}
 use Rattle.nanobot_words.proofs.Parsed.{run_operands}
-use Rattle.nanobot_words.proofs.words.parse_full.Goals as goal
+use Rattle.nanobot_words.proofs.runs.parse_full.Goals as goal
 
 pub returns-in_err-source : goal.returns-in_err-source
 returns-in_err-source c =
