@@ -8,6 +8,7 @@ mod effect;
 mod exercise;
 mod laws;
 mod limited;
+mod lines;
 mod models;
 mod plans;
 mod report;

@@ -1,11 +1,12 @@
-//! What is told of a call, and its lines.
-ghost use Rattle.std.specs.List.{concat};
-ghost use Rattle.std.specs.Prelude.{◌≡◌, ◌∷◌, [], IfOk, codes, decimal, length, string_bytes};
-ghost use Rattle.model_file.specs.Fault.{why_refused};
-ghost use Rattle.trace_text.specs.Text.{faulty_line};
-ghost use Rattle.nanobot_rows.specs.Lines.{exercised_head as exercised_head_of, exercised_line as exercised_line_of, group_long_line as group_long_line_of, planned_line as planned_line_of, resolutions_line as resolutions_line_of, unsupported_line as unsupported_line_of, who_of};
-ghost use Rattle.nanobot_rows.specs.Report.{faulty_text_line, of_verdict, refused_line, report_line, status_of};
+//! What is told of a call.
+ghost use Rattle.std.specs.Prelude.{◌≡◌, IfOk, length, string_bytes};
+ghost use Rattle.nanobot_rows.specs.Lines.{who_of};
+ghost use Rattle.nanobot_rows.specs.Report.{of_verdict, report_line, status_of};
 
+use crate::lines::{
+    exercised_line, group_long_line, model_line, planned_line, resolutions_line, text_line,
+    unsupported_line,
+};
 use crate::status::Status;
 use debug_script::broken_line;
 use model_file::ModelRefusal;
@@ -111,7 +112,7 @@ pub struct Cost {
 
 impl Who {
     /// The word of the line.
-    fn name(self) -> &'static str
+    pub(crate) fn name(self) -> &'static str
         ensures { result.now ≡ who_of self }
     {
         match self {
@@ -120,122 +121,6 @@ impl Who {
             Who::Target => "target",
         }
     }
-}
-
-/// The line of a coordinate.
-fn at_line(alloc: Global, who: &str, refusal: &str, at: Coord) -> Result<String, AllocError>
-    ensures { IfOk result
-        (λ s. string_bytes s ≡ concat
-        (who.now ∷ refusal.now ∷ codes " " ∷ decimal at.x ∷ codes " " ∷ decimal at.y ∷ codes " " ∷ decimal at.z
-        ∷ codes "\n" ∷ [])) }
-{
-    format!(in alloc; "{who}{refusal} {} {} {}\n", at.x, at.y, at.z)
-}
-
-/// The line of a model that was refused.
-fn model_line(alloc: Global, who: Who, refusal: ModelRefusal) -> Result<String, AllocError>
-    ensures { IfOk result (λ s. string_bytes s ≡ refused_line who (why_refused refusal)) }
-{
-    let who = who.name();
-    match &refusal {
-        ModelRefusal::NoByte => format!(in alloc; "{who} 1 NoByte\n"),
-        ModelRefusal::Resolution { r } => format!(in alloc; "{who} 2 Resolution {r}\n"),
-        ModelRefusal::Short { want, have } => {
-            format!(in alloc; "{who} 3 Short want {want} have {have}\n")
-        }
-        ModelRefusal::Long { want } => format!(in alloc; "{who} 4 Long want {want}\n"),
-        ModelRefusal::Border { at } => at_line(alloc, who, " 6 Border at", *at),
-        ModelRefusal::Floating { at } => at_line(alloc, who, " 7 Floating at", *at),
-        ModelRefusal::WideHead { have } => format!(in alloc; "{who} 8 WideHead have {have}\n"),
-        ModelRefusal::WideResolution { r } => format!(in alloc; "{who} 9 WideResolution {r}\n"),
-        ModelRefusal::WideRun { index } => format!(in alloc; "{who} 10 WideRun index {index}\n"),
-        ModelRefusal::WideShort { have } => format!(in alloc; "{who} 11 WideShort have {have}\n"),
-        ModelRefusal::WideLong => format!(in alloc; "{who} 12 WideLong\n"),
-    }
-}
-
-/// The line of a text that was refused.
-fn text_line(alloc: Global, refusal: TextRefusal) -> Result<String, AllocError>
-    ensures { IfOk result (λ s. string_bytes s ≡ faulty_text_line (faulty_line refusal)) }
-{
-    match &refusal {
-        TextRefusal::NotAscii { line } => format!(in alloc; "text 1 NotAscii line {line}\n"),
-        TextRefusal::UnknownWord { line } => format!(in alloc; "text 2 UnknownWord line {line}\n"),
-        TextRefusal::Shape { line } => format!(in alloc; "text 3 Shape line {line}\n"),
-        TextRefusal::Range { line } => format!(in alloc; "text 4 Range line {line}\n"),
-    }
-}
-
-/// The line of a target with an unsupported part.
-fn unsupported_line(alloc: Global, at: Coord) -> Result<String, AllocError>
-    ensures { IfOk result (λ s. string_bytes s ≡ unsupported_line_of at) }
-{
-    format!(in alloc; "unsupported at {} {} {}\n", at.x, at.y, at.z)
-}
-
-/// The line of a forged model up to what its plans cost.
-fn exercised_head(
-    alloc: Global,
-    number: u32,
-    resolution: u16,
-    full: u32,
-) -> Result<String, AllocError>
-    ensures { IfOk result (λ s. string_bytes s ≡ exercised_head_of number resolution full) }
-{
-    format!(in alloc; "exercise number {number} resolution {resolution} full {full} layer")
-}
-
-/// The line of a forged model and what its plans cost, by what stands before the costs.
-fn with_costs(alloc: Global, head: &str, layer: Cost, group: Cost) -> Result<String, AllocError>
-    ensures { IfOk result (λ s. string_bytes s ≡ exercised_line_of head.now layer group) }
-{
-    format!(in alloc;
-        "{head} energy {} steps {} group energy {} steps {}\n",
-        layer.energy, layer.steps, group.energy, group.steps
-    )
-}
-
-/// The line of a forged model and what its plans cost.
-fn exercised_line(
-    alloc: Global,
-    number: u32,
-    resolution: u16,
-    full: u32,
-    layer: Cost,
-    group: Cost,
-) -> Result<String, AllocError>
-    ensures { IfOk result
-        (λ s. string_bytes s ≡ exercised_line_of (exercised_head_of number resolution full) layer group) }
-{
-    let head = exercised_head(alloc, number, resolution, full)?;
-    with_costs(alloc, head.as_str(), layer, group)
-}
-
-/// The line of a plan.
-fn planned_line(
-    alloc: Global,
-    energy: i64,
-    steps: u32,
-    commands: u64,
-    bytes: u64,
-) -> Result<String, AllocError>
-    ensures { IfOk result (λ s. string_bytes s ≡ planned_line_of energy steps commands bytes) }
-{
-    format!(in alloc; "plan energy {energy} steps {steps} commands {commands} bytes {bytes}\n")
-}
-
-/// The line of two models of different resolutions.
-fn resolutions_line(alloc: Global, source: u16, target: u16) -> Result<String, AllocError>
-    ensures { IfOk result (λ s. string_bytes s ≡ resolutions_line_of source target) }
-{
-    format!(in alloc; "resolutions {source} {target}\n")
-}
-
-/// The line of a plan of the group planner that may be too long.
-fn group_long_line(alloc: Global, runs: u64, rows: u64) -> Result<String, AllocError>
-    ensures { IfOk result (λ s. string_bytes s ≡ group_long_line_of runs rows) }
-{
-    format!(in alloc; "group plan too long runs {runs} rows {rows}\n")
 }
 
 impl Report {
