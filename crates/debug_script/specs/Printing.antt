@@ -2,24 +2,11 @@
 use Rattle.std.specs.Prelude.{ℕ, Bool, true, false, List, [], ◌∷◌, flat_map, length, codes, decimal, Some, None}
 use Rattle.std.specs.Fmt.{signed_decimal}
 use Rattle.std.specs.List.{concat}
-use Rattle.vox_geom.specs.declared.coordinate.Coord.{Coord}
-use Rattle.nano_spec.specs.declared.outcomes.Broken.{Broken}
 use Rattle.nano_spec.specs.declared.system.Bot.{Bot}
-use Rattle.nano_spec.specs.Rule.{rule_number, name_of}
 use Rattle.nano_spec.specs.State.{seed_list}
 use Rattle.step_debugger.specs.Session as session
 use Rattle.step_debugger.specs.Session.{DebugReport}
-
--- a coordinate
-abbrev pub printed_place : Coord → List ℕ
-printed_place c = concat (decimal c.x ∷ codes " " ∷ decimal c.y ∷ codes " " ∷ decimal c.z ∷ [])
-
--- the line of a rule that is broken
-abbrev pub broken_line : Broken → List ℕ
-broken_line b =
-    concat
-    (codes "broken " ∷ decimal (rule_number b.rule) ∷ codes " " ∷ name_of b.rule ∷ codes " step " ∷ decimal b.step ∷ codes " bid "
-    ∷ decimal b.bid ∷ codes " at " ∷ printed_place b.at ∷ codes "\n" ∷ [])
+use Rattle.debug_script.specs.Broken.{broken_line, printed_place}
 
 -- the line of an active bot
 abbrev pub bot_line : Bot → List ℕ

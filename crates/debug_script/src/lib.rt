@@ -1,6 +1,7 @@
 //! The script of the step debugger (docs/FORMATS.md, "Sessions"): its lines as they are read, and a session as it is printed.
 #![tactic(auto)]
 
+mod broken;
 mod laws;
 mod line;
 mod print;
@@ -8,8 +9,8 @@ mod read;
 mod report;
 mod word;
 
+pub use broken::{broken_line, printed_place};
 pub use laws::{one_script, one_text, some_script, some_text, worked_scripts};
 pub use line::ScriptLine;
 pub use print::print_session;
 pub use read::read_script;
-pub use report::broken_line;

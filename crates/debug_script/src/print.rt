@@ -13,10 +13,10 @@ ghost use Rattle.debug_script.specs.Calls.{script_line_is, lines_are};
 ghost use Rattle.debug_script.specs.Printing.{bot_line as bot_line_of, printed_report};
 ghost use Rattle.debug_script.specs.Sessions.{IsPut, IsTold, PrintsFrom};
 
+use crate::broken::broken_line;
 use crate::line::ScriptLine;
 use crate::report::{
-    begun_line, bot_line, broken_line, full_line, made_line, no_leader_line, returned_line,
-    void_line,
+    begun_line, bot_line, full_line, made_line, no_leader_line, returned_line, void_line,
 };
 use nano_spec::{Bot, CommandList, Profile};
 use std::alloc::{AllocError, Global};

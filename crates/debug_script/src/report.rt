@@ -1,53 +1,14 @@
 //! The lines of a session's reports.
 ghost use Rattle.std.specs.List.{concat};
 ghost use Rattle.std.specs.Prelude.{◌≡◌, ◌∷◌, [], IfOk, codes, decimal, string_bytes};
-ghost use Rattle.debug_script.specs.Printing.{bot_line as bot_line_of, broken_line as broken_line_of, printed_place as place_of, printed_report};
+ghost use Rattle.debug_script.specs.Printing.{bot_line as bot_line_of, printed_report};
 ghost use Rattle.step_debugger.specs.Session.{Begun, IsFull, IsVoid, Made, NoLeader, Returned};
 
+use crate::broken::printed_place;
 use bot_crew::seeds_of;
-use nano_spec::{Bot, Broken};
+use nano_spec::Bot;
 use std::alloc::{AllocError, Global};
 use vox_geom::Coord;
-
-/// The components of a coordinate.
-pub(crate) fn place(alloc: Global, at: Coord) -> Result<String, AllocError>
-    ensures { IfOk result (λ s. string_bytes s ≡ place_of at) }
-{
-    format!(in alloc; "{} {} {}", at.x, at.y, at.z)
-}
-
-/// The line of a rule by its number and its name.
-fn rule_line(
-    alloc: Global,
-    number: u8,
-    name: &str,
-    step: u32,
-    bid: u8,
-    place: &str,
-) -> Result<String, AllocError>
-    ensures { IfOk result
-        (λ s. string_bytes s ≡ concat
-        (codes "broken " ∷ decimal number ∷ codes " " ∷ name.now ∷ codes " step " ∷ decimal step ∷ codes " bid "
-        ∷ decimal bid ∷ codes " at " ∷ place.now ∷ codes "\n" ∷ [])) }
-{
-    format!(in alloc; "broken {number} {name} step {step} bid {bid} at {place}\n")
-}
-
-/// The line of a rule that was broken, as runs and sessions print it.
-pub fn broken_line(alloc: Global, broken: &Broken) -> Result<String, AllocError>
-    ensures { IfOk result (λ s. string_bytes s ≡ broken_line_of broken.now) }
-{
-    let rule = broken.rule;
-    let place = place(alloc, broken.at)?;
-    rule_line(
-        alloc,
-        rule.number(),
-        rule.name(),
-        broken.step,
-        broken.bid,
-        place.as_str(),
-    )
-}
 
 /// The line of a bot by its parts.
 fn bot_parts(alloc: Global, bid: u8, place: &str, seeds: u8) -> Result<String, AllocError>
@@ -62,7 +23,7 @@ fn bot_parts(alloc: Global, bid: u8, place: &str, seeds: u8) -> Result<String, A
 pub(crate) fn bot_line(alloc: Global, bot: Bot) -> Result<String, AllocError>
     ensures { IfOk result (λ s. string_bytes s ≡ bot_line_of bot) }
 {
-    let place = place(alloc, bot.pos)?;
+    let place = printed_place(alloc, bot.pos)?;
     bot_parts(alloc, bot.bid, place.as_str(), seeds_of(bot))
 }
 
@@ -107,7 +68,7 @@ pub(crate) fn returned_line(alloc: Global, steps: u32, energy: i64) -> Result<St
 pub(crate) fn void_line(alloc: Global, at: Coord) -> Result<String, AllocError>
     ensures { IfOk result (λ s. string_bytes s ≡ printed_report (IsVoid at)) }
 {
-    let place = place(alloc, at)?;
+    let place = printed_place(alloc, at)?;
     format!(in alloc; "voxel {place} void\n")
 }
 
@@ -115,7 +76,7 @@ pub(crate) fn void_line(alloc: Global, at: Coord) -> Result<String, AllocError>
 pub(crate) fn full_line(alloc: Global, at: Coord, level: Option<u32>) -> Result<String, AllocError>
     ensures { IfOk result (λ s. string_bytes s ≡ printed_report (IsFull at level)) }
 {
-    let place = place(alloc, at)?;
+    let place = printed_place(alloc, at)?;
     match level {
         Some(level) => format!(in alloc; "voxel {place} full level {level}\n"),
         None => format!(in alloc; "voxel {place} full floating\n"),

@@ -22,7 +22,7 @@ use Rattle.group_planner.specs.Bounds as group
 use Rattle.group_planner.specs.Rows.{rows, runs}
 use Rattle.low_planner.specs.Supported.{FirstUnsupported}
 use Rattle.step_debugger.specs.Session.{DebugLine}
-use Rattle.debug_script.specs.Printing.{broken_line}
+use Rattle.debug_script.specs.Broken.{broken_line}
 use Rattle.debug_script.specs.Script.{ScriptSays}
 use Rattle.debug_script.specs.Sessions.{PrintsFrom}
 use Rattle.nanobot_rows.specs.declared.report.Cost.{Cost}

@@ -9,6 +9,7 @@ use Rattle.nano_spec.specs.Line as line
 use Rattle.nano_spec.specs.Line.{Fault}
 use Rattle.nano_spec.specs.Model as model
 use Rattle.nano_spec.specs.Model.{NoModel}
+use Rattle.debug_script.specs.Broken.{printed_place}
 use Rattle.nanobot_rows.specs.declared.report.Cost.{Cost}
 use Rattle.nanobot_rows.specs.declared.report.Who.{Who}
 use Rattle.nanobot_rows.specs.declared.report.Who.TheVariants as who
@@ -25,10 +26,6 @@ who_of who.Model = codes "model"
 who_of who.Source = codes "source"
 who_of who.Target = codes "target"
 
--- " x y z" of a coordinate
-abbrev pub coordinate_parts : Coord → List (List ℕ) → List (List ℕ)
-coordinate_parts c more = codes " " ∷ decimal c.x ∷ codes " " ∷ decimal c.y ∷ codes " " ∷ decimal c.z ∷ more
-
 -- the line of bytes that are no model
 abbrev pub no_model_line : Who → NoModel → List ℕ
 no_model_line who model.NoByte = concat (who_of who ∷ codes " 1 NoByte\n" ∷ [])
@@ -43,8 +40,8 @@ no_model_line who model.WideLong = concat (who_of who ∷ codes " 12 WideLong\n"
 
 -- the line of a model that is not legal
 abbrev pub not_legal_line : Who → NotLegal → List ℕ
-not_legal_line who (Border at) = concat (who_of who ∷ codes " 6 Border at" ∷ coordinate_parts at (codes "\n" ∷ []))
-not_legal_line who (Floating at) = concat (who_of who ∷ codes " 7 Floating at" ∷ coordinate_parts at (codes "\n" ∷ []))
+not_legal_line who (Border at) = concat (who_of who ∷ codes " 6 Border at " ∷ printed_place at ∷ codes "\n" ∷ [])
+not_legal_line who (Floating at) = concat (who_of who ∷ codes " 7 Floating at " ∷ printed_place at ∷ codes "\n" ∷ [])
 
 -- the line of two models of different resolutions
 abbrev pub resolutions_line : ℕ → ℕ → List ℕ
@@ -76,7 +73,7 @@ group_long_line runs rows = concat (codes "group plan too long runs " ∷ decima
 
 -- the line of a target with an unsupported part
 abbrev pub unsupported_line : Coord → List ℕ
-unsupported_line at = concat (codes "unsupported at " ∷ decimal at.x ∷ codes " " ∷ decimal at.y ∷ codes " " ∷ decimal at.z ∷ codes "\n" ∷ [])
+unsupported_line at = concat (codes "unsupported at " ∷ printed_place at ∷ codes "\n" ∷ [])
 
 -- ---- what was done
 

@@ -9,7 +9,7 @@ use Rattle.nano_spec.specs.Model.{NoModel}
 use Rattle.nano_spec.specs.Reading.{FaultyLine}
 use Rattle.model_file.specs.Fault.{why_refused}
 use Rattle.trace_text.specs.Text.{faulty_line}
-use Rattle.debug_script.specs.Printing.{broken_line}
+use Rattle.debug_script.specs.Broken.{broken_line}
 use Rattle.nanobot_rows.specs.declared.status.Status.{Status}
 use Rattle.nanobot_rows.specs.declared.status.Status.TheVariants as is
 use Rattle.nanobot_rows.specs.declared.report.Report.{Report}

@@ -1,25 +1,26 @@
 //! The lines of reports.
 ghost use Rattle.std.specs.List.{concat};
-ghost use Rattle.std.specs.Prelude.{◌≡◌, ◌∷◌, [], IfOk, codes, decimal, string_bytes};
+ghost use Rattle.std.specs.Prelude.{◌≡◌, ◌∷◌, [], IfOk, codes, string_bytes};
+ghost use Rattle.debug_script.specs.Broken.{printed_place as place_of};
 ghost use Rattle.model_file.specs.Fault.{why_refused};
 ghost use Rattle.trace_text.specs.Text.{faulty_line};
 ghost use Rattle.nanobot_rows.specs.Lines.{exercised_head as exercised_head_of, exercised_line as exercised_line_of, group_long_line as group_long_line_of, planned_line as planned_line_of, resolutions_line as resolutions_line_of, unsupported_line as unsupported_line_of};
 ghost use Rattle.nanobot_rows.specs.Report.{faulty_text_line, refused_line};
 
 use crate::report::{Cost, Who};
+use debug_script::printed_place;
 use model_file::ModelRefusal;
 use std::alloc::{AllocError, Global};
 use trace_text::TextRefusal;
 use vox_geom::Coord;
 
-/// The line of a coordinate.
+/// The line of a model with a coordinate that is not as it may be.
 fn at_line(alloc: Global, who: &str, refusal: &str, at: Coord) -> Result<String, AllocError>
     ensures { IfOk result
-        (λ s. string_bytes s ≡ concat
-        (who.now ∷ refusal.now ∷ codes " " ∷ decimal at.x ∷ codes " " ∷ decimal at.y ∷ codes " " ∷ decimal at.z
-        ∷ codes "\n" ∷ [])) }
+        (λ s. string_bytes s ≡ concat (who.now ∷ refusal.now ∷ place_of at ∷ codes "\n" ∷ [])) }
 {
-    format!(in alloc; "{who}{refusal} {} {} {}\n", at.x, at.y, at.z)
+    let place = printed_place(alloc, at)?;
+    format!(in alloc; "{who}{refusal}{place}\n")
 }
 
 /// The line of a model that was refused.
@@ -38,8 +39,8 @@ pub(crate) fn model_line(
             format!(in alloc; "{who} 3 Short want {want} have {have}\n")
         }
         ModelRefusal::Long { want } => format!(in alloc; "{who} 4 Long want {want}\n"),
-        ModelRefusal::Border { at } => at_line(alloc, who, " 6 Border at", *at),
-        ModelRefusal::Floating { at } => at_line(alloc, who, " 7 Floating at", *at),
+        ModelRefusal::Border { at } => at_line(alloc, who, " 6 Border at ", *at),
+        ModelRefusal::Floating { at } => at_line(alloc, who, " 7 Floating at ", *at),
         ModelRefusal::WideHead { have } => format!(in alloc; "{who} 8 WideHead have {have}\n"),
         ModelRefusal::WideResolution { r } => format!(in alloc; "{who} 9 WideResolution {r}\n"),
         ModelRefusal::WideRun { index } => format!(in alloc; "{who} 10 WideRun index {index}\n"),
@@ -64,7 +65,8 @@ pub(crate) fn text_line(alloc: Global, refusal: TextRefusal) -> Result<String, A
 pub(crate) fn unsupported_line(alloc: Global, at: Coord) -> Result<String, AllocError>
     ensures { IfOk result (λ s. string_bytes s ≡ unsupported_line_of at) }
 {
-    format!(in alloc; "unsupported at {} {} {}\n", at.x, at.y, at.z)
+    let place = printed_place(alloc, at)?;
+    format!(in alloc; "unsupported at {place}\n")
 }
 
 /// The line of a forged model up to what its plans cost.

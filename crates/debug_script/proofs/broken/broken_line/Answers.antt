@@ -3,8 +3,8 @@ use Rattle.std.specs.Prelude.{IfOk, Result}
 use Rattle.std.specs.List.{concat}
 use Rattle.nano_spec.specs.declared.outcomes.Broken.{Broken}
 use Rattle.nano_spec.specs.Rule.{rule_number, name_of}
-use Rattle.debug_script.specs.Printing.{broken_line, printed_place}
-use Rattle.debug_script.proofs.report.broken_line.Goals as goal
+use Rattle.debug_script.specs.Broken.{broken_line, printed_place}
+use Rattle.debug_script.proofs.broken.broken_line.Goals as goal
 
 line_is : (b : Broken) (n : ℕ) (name at : List ℕ) → n ≡ rule_number b.rule → name ≡ name_of b.rule → at ≡ printed_place b.at
     → concat (codes "broken " ∷ decimal n ∷ codes " " ∷ name ∷ codes " step " ∷ decimal b.step ∷ codes " bid " ∷ decimal b.bid ∷ codes " at " ∷ at ∷ codes "\n" ∷ []) ≡ broken_line b

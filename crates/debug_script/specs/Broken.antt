@@ -1,0 +1,17 @@
+-- How runs and sessions print a rule that is broken, and its coordinate (docs/FORMATS.md, "Printed lines").
+use Rattle.std.specs.Prelude.{ℕ, List, [], ◌∷◌, codes, decimal}
+use Rattle.std.specs.List.{concat}
+use Rattle.vox_geom.specs.declared.coordinate.Coord.{Coord}
+use Rattle.nano_spec.specs.declared.outcomes.Broken.{Broken}
+use Rattle.nano_spec.specs.Rule.{rule_number, name_of}
+
+-- a coordinate, as every line prints it
+abbrev pub printed_place : Coord → List ℕ
+printed_place c = concat (decimal c.x ∷ codes " " ∷ decimal c.y ∷ codes " " ∷ decimal c.z ∷ [])
+
+-- the line of a rule that is broken
+abbrev pub broken_line : Broken → List ℕ
+broken_line b =
+    concat
+    (codes "broken " ∷ decimal (rule_number b.rule) ∷ codes " " ∷ name_of b.rule ∷ codes " step " ∷ decimal b.step ∷ codes " bid "
+    ∷ decimal b.bid ∷ codes " at " ∷ printed_place b.at ∷ codes "\n" ∷ [])
