@@ -11,9 +11,9 @@ use Rattle.nanobot_rows.specs.declared.report.Report.{Report}
 use Rattle.nanobot_rows.specs.declared.report.Report.TheVariants.{TraceLong}
 use Rattle.nanobot_rows.specs.declared.status.Status.{Status}
 use Rattle.nanobot_rows.specs.declared.status.Status.TheVariants as is
-use Rattle.nanobot_rows.specs.Answer.{run_limit}
+use Rattle.nanobot_rows.specs.Answer.{AnswerOfTrace, run_limit}
 use Rattle.nanobot_rows.specs.Lines.{trace_long_line}
-use Rattle.nanobot_rows.specs.Reading.{AnswerOfBytes, AnswerOfTrace, HasRun, RunState, reply_of}
+use Rattle.nanobot_rows.specs.Reading.{AnswerOfBytes, HasRun, RunState, reply_of}
 use Rattle.nanobot_rows.proofs.Loads.{exceeds, fits}
 use Rattle.nanobot_rows.proofs.Told.{with_file}
 

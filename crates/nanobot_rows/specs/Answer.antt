@@ -209,9 +209,13 @@ run_limit = 1073741824
 abbrev pub dis_limit : ℕ
 dis_limit = 50000000
 
--- the verdict of a trace from a source to a target, by a profile
+-- the verdict of the trace of a file from a model to another, by a profile
+abbrev pub AnswerOfTrace : Profile → Matrix → Matrix → List ℕ → Answers
+AnswerOfTrace profile source target trace = Upon (TraceOf run_limit trace) (OfRun profile source target)
+
+-- the same between the models of a source and a target
 abbrev pub AnswerOfRun : Profile → Option (List ℕ) → Option (List ℕ) → List ℕ → Answers
-AnswerOfRun profile source target trace = Upon (ModelsOf source target) (λ models. Upon (TraceOf run_limit trace) (OfRun profile models.0 models.1))
+AnswerOfRun profile source target trace = Upon (ModelsOf source target) (λ models. AnswerOfTrace profile models.0 models.1 trace)
 
 -- the profile of a round
 abbrev pub profile_of : Round → Profile

@@ -27,7 +27,7 @@ use Rattle.nanobot_rows.specs.declared.stop.Stop.{Stop}
 use Rattle.nanobot_rows.specs.declared.stop.Stop.TheVariants as stop
 use Rattle.nanobot_rows.specs.declared.status.Status.{Status}
 use Rattle.nanobot_rows.specs.declared.status.Status.TheVariants as is
-use Rattle.nanobot_rows.specs.Answer.{Answers, DecodingOf, Finding, Found, OfRun, Reply, TraceOf, Upon, run_limit}
+use Rattle.nanobot_rows.specs.Answer.{Answers, DecodingOf, Finding, Found, OfRun, Reply, Upon}
 use Rattle.nanobot_rows.specs.Report.{report_line, status_of}
 
 -- ---- why a call stops
@@ -100,10 +100,6 @@ HasRun source profile bytes s = MatchBool s.decoder.failed (AreBad bytes s.decod
 -- the verdict of the bytes of a trace that is not too long
 abbrev pub AnswerOfBytes : Profile → Matrix → Matrix → List ℕ → Answers
 AnswerOfBytes profile source target bytes = Upon (DecodingOf bytes) (OfRun profile source target)
-
--- the verdict of the trace of a file
-abbrev pub AnswerOfTrace : Profile → Matrix → Matrix → List ℕ → Answers
-AnswerOfTrace profile source target name = Upon (TraceOf run_limit name) (OfRun profile source target)
 
 -- ---- what is answered
 

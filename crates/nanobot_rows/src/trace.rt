@@ -2,7 +2,8 @@
 ghost use Rattle.std.specs.Prelude.{◌≡◌, ◌≤◌, Err, None};
 ghost use Rattle.nano_spec.specs.Grounded.{FirstUngrounded};
 ghost use Rattle.vox_depot.specs.Causes.{Rose};
-ghost use Rattle.nanobot_rows.specs.Reading.{AnswerOfTrace, EndsUnstored};
+ghost use Rattle.nanobot_rows.specs.Answer.{AnswerOfTrace};
+ghost use Rattle.nanobot_rows.specs.Reading.{EndsUnstored};
 ghost use Rattle.nanobot_rows.specs.Touching.{IsWithinFile};
 
 use crate::report::Report;

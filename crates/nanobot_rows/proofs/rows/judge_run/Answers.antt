@@ -2,8 +2,8 @@ use Rattle.std.proofs.Common.{◌≡◌, refl, rules, Err}
 use Rattle.nano_spec.proofs.Opening.{legal_is}
 use Rattle.nanobot_words.specs.Parsing.{side_of}
 use Rattle.nanobot_rows.proofs.Paying.{run_untouched, run_within}
-use Rattle.nanobot_rows.specs.Answer.{AnswerOfRun, ModelsOf}
-use Rattle.nanobot_rows.specs.Reading.{AnswerOfTrace, reply_of}
+use Rattle.nanobot_rows.specs.Answer.{AnswerOfRun, AnswerOfTrace, ModelsOf}
+use Rattle.nanobot_rows.specs.Reading.{reply_of}
 use Rattle.nanobot_rows.proofs.Replies.{one_named, says_found, says_stops}
 use Rattle.nanobot_rows.proofs.rows.judge_run.Goals as goal
 

@@ -4,7 +4,8 @@ use Rattle.vox_depot.specs.Causes.{Rose}
 use Rattle.vox_depot.specs.Files.{Files, IsMissing}
 use Rattle.vox_depot.specs.declared.depot.FetchFault.TheVariants as fetch
 use Rattle.nanobot_rows.specs.declared.status.Status.TheVariants as is
-use Rattle.nanobot_rows.specs.Reading.{AnswerOfTrace, of_fetch, reply_of, reply_to}
+use Rattle.nanobot_rows.specs.Answer.{AnswerOfTrace}
+use Rattle.nanobot_rows.specs.Reading.{of_fetch, reply_of, reply_to}
 use Rattle.nanobot_rows.proofs.Replies.{rose_since}
 use Rattle.nanobot_rows.proofs.Told.{err_is, not_fetched}
 use Rattle.nanobot_rows.proofs.Tracing.{underway_end, underway_long, underway_next}
