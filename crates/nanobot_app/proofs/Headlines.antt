@@ -12,7 +12,7 @@ use Rattle.vox_depot.specs.Files.{Files, content}
 use Rattle.nanobot_rows.specs.declared.report.Report.TheVariants as report
 use Rattle.nanobot_rows.specs.declared.status.Status.{Status}
 use Rattle.nanobot_rows.specs.declared.status.Status.TheVariants as is
-use Rattle.nanobot_rows.specs.Answer.{Answer, AnswerOf, AnswerOfRun, Answers, AskNoPlan, Found, ModelsOf, OfRun, Reply, TraceOf, Upon, run_limit}
+use Rattle.nanobot_rows.specs.Answer.{Answer, AnswerOf, AnswerOfRun, AnswerOfTrace, Answers, AskNoPlan, Found, ModelsOf, OfRun, Reply, TraceOf, Upon, run_limit}
 use Rattle.nanobot_app.specs.Headline.{IsCost, IsDoneWith, MachineTakes, TakesBytes}
 use Rattle.nanobot_app.specs.Outcome.{DepotRose, IsAnswer, CallOutcome, Outside, SinkRose}
 use Rattle.nanobot_rows.specs.Models.{AreModels}
@@ -20,7 +20,8 @@ use Rattle.nanobot_rows.specs.Reading.{reply_of}
 use Rattle.nanobot_rows.specs.Lines.{accepted_line}
 use Rattle.nanobot_words.specs.declared.row.Round.TheVariants.{Full}
 use Rattle.nanobot_words.specs.Rows.{HasName, Row, run, MakesPlans, IsRow, IsRunOf}
-use Rattle.nanobot_app.proofs.Finding.{done_says, finds_trace, models_undone, trace_found, trace_undone}
+use Rattle.nanobot_app.proofs.Finding.{finds_trace, trace_found}
+use Rattle.nanobot_app.proofs.Found.{done_says, models_once, trace_once}
 use Rattle.nanobot_app.proofs.Determined.{AnswerLaw, RowLaw, StatusLaw, complete}
 use Rattle.nanobot_rows.proofs.Replies.{finds_models, models_found, verdict_reply, verdict_told}
 use Rattle.nanobot_rows.proofs.Told.{if_some, weaker}
@@ -50,7 +51,7 @@ named_of files (Some a) target found h = tt
 pub done_models : (files : Files) (source target : Option (List ℕ)) (p : Matrix × Matrix → Answers) (reply : Reply) → reply.status ≡ is.Done → Upon (ModelsOf source target) p files reply
     → (s : Matrix) × (t : Matrix) × AreModels source target files s t × HasName source target × p (s, t) files reply
 done_models files source target p reply done h =
-    let m = done_says (ModelsOf source target) p files reply (models_undone source target) done h in
+    let m = done_says (ModelsOf source target) p files reply (models_once ⊥ source target (λ never. absurd never)).fine done h in
     (m.0.0, m.0.1, models_found files source target m.0.0 m.0.1 m.1, named_of files source target (Ok m.0) m.1, m.2)
 
 -- a verdict that is told with status 0
@@ -59,10 +60,10 @@ accepted files (verdict.Accepted energy steps) reply e done = (energy, steps, re
 accepted files (verdict.Refused broken) reply e done = absurd (let no : is.Broken ≡ is.Done = sym (ap (λ (x : Reply). x.status) e) ∙ done in cc)
 
 module _ (files : Files) (source target : Matrix) (reply : Reply) (done : reply.status ≡ is.Done) where
-  done_trace : (trace : List ℕ) → Upon (TraceOf run_limit trace) (OfRun full_profile source target) files reply
+  done_trace : (trace : List ℕ) → AnswerOfTrace full_profile source target trace files reply
       → (energy : ℤ) × (steps : ℕ) × IsSomeAnd (content files trace) (λ bytes. TakesBytes source target bytes energy steps) × (reply ≡ reply_of files (report.Accepted energy steps))
   done_trace trace h =
-      let commands = done_says (TraceOf run_limit trace) (OfRun full_profile source target) files reply (trace_undone run_limit trace) done h in
+      let commands = done_says (TraceOf run_limit trace) (OfRun full_profile source target) files reply (trace_once ⊥ run_limit trace).fine done h in
       let file = trace_found run_limit files trace commands.0 commands.1 in
       let told = verdict_told files commands.2.0 reply commands.2.2 in
       let a = accepted files commands.2.0 reply told done in (
@@ -76,7 +77,7 @@ module _ (files : Files) (source target : Matrix) (reply : Reply) (done : reply.
 pub takes_done : (files : Files) (source target : Option (List ℕ)) (trace : List ℕ) (reply : Reply) → reply.status ≡ is.Done → AnswerOf (run Full source target trace) files reply
     → (energy : ℤ) × (steps : ℕ) × MachineTakes files source target trace energy steps × (reply ≡ reply_of files (report.Accepted energy steps))
 takes_done files source target trace reply done h =
-    let m = done_models files source target (λ models. Upon (TraceOf run_limit trace) (OfRun full_profile models.0 models.1)) reply done h in
+    let m = done_models files source target (λ models. AnswerOfTrace full_profile models.0 models.1 trace) reply done h in
     let t = done_trace files m.0 m.1 reply done trace m.4 in
     (t.0, t.1, record { named = m.3; from = m.0; to = m.1; models = m.2; taken = t.2 }, t.3)
 

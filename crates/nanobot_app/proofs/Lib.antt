@@ -1,8 +1,10 @@
+pub mod Answered
 pub mod Decodings
 pub mod Determined
 pub mod Finding
+pub mod Found
 pub mod Headlines
 pub mod Numbers
 pub mod Outcomes
 pub mod Plans
-pub mod SomeAnswer
+pub mod SomeVerdict

@@ -33,7 +33,8 @@ use Rattle.nanobot_words.specs.declared.row.Round.{Round}
 use Rattle.nanobot_words.specs.Rows.{HasName, plan}
 use Rattle.low_planner.proofs.Builds.{full_most}
 use Rattle.plan_choice.proofs.Lengths.{few_commands, four_each, layer_fits, low_fits, swarm_fits, two_each, void_fits, volume_most}
-use Rattle.nanobot_app.proofs.Finding.{done_says, finds_trace, plan_undone}
+use Rattle.nanobot_app.proofs.Finding.{finds_trace}
+use Rattle.nanobot_app.proofs.Found.{done_says, plan_once}
 use Rattle.nanobot_app.proofs.Headlines.{done_models}
 use Rattle.nanobot_rows.proofs.Replies.{finds_models}
 
@@ -170,7 +171,7 @@ run_of_plan law round planner accepts source target trace files reply first seco
     let t = found.1 in
     let models = found.2 in
     let named = found.3 in
-    let made = done_says (CanPlan planner s t) (λ _. StoresPlan (facts_of planner) trace s t) files reply (plan_undone planner s t) done found.4 in
+    let made = done_says (CanPlan planner s t) (λ _. StoresPlan (facts_of planner) trace s t) files reply (plan_once planner s t).fine done found.4 in
     let commands = made.2.0 in
     let energy = made.2.1 in
     let steps = made.2.2 in

@@ -2,8 +2,7 @@ use Rattle.nanobot_app.proofs.Determined.{answer_once, status_once}
 use Rattle.nanobot_app.proofs.laws.one_answer.Goals as goal
 
 pub returns-clause-status : goal.returns-clause-status
-returns-clause-status c = status_once (record {
-  rows = c.one_row.ensures;
+returns-clause-status c = status_once c.one_row.ensures (record {
   legality = c.one_legality.ensures;
   decoding = c.one_decoding.ensures;
   verdicts = c.one_verdict.ensures;
@@ -13,8 +12,7 @@ returns-clause-status c = status_once (record {
 })
 
 pub returns-clause-answer : goal.returns-clause-answer
-returns-clause-answer c = answer_once (record {
-  rows = c.one_row.ensures;
+returns-clause-answer c = answer_once c.one_row.ensures (record {
   legality = c.one_legality.ensures;
   decoding = c.one_decoding.ensures;
   verdicts = c.one_verdict.ensures;
