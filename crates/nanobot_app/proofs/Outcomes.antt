@@ -104,11 +104,11 @@ module _ {answers : Answers} {stores : List ℕ → Type 0} (old new : Outside) 
       by (inl none) = outcome_memory result none.0 files none.1
       by (inr printed) = outcome_printed (status_of r) result (report_line r) (is_answer r) stands printed
 
-  -- a file could not be stored
-  outcome_lost : (result : Status) → result ≡ is.Depot → DepotRose old new → new.written ≡ old.written → SparesOthers answers stores old new → CallOutcome answers stores old new result
-  outcome_lost result e rose written spared = record {
+  -- a file could not be read or stored
+  pub outcome_lost : (result : Status) → result ≡ is.Depot → DepotRose old new ⊎ LacksFile answers old → new.written ≡ old.written → SparesOthers answers stores old new → CallOutcome answers stores old new result
+  outcome_lost result e cause written spared = record {
     answer = λ b. absurd (not_depot result b e);
-    depot = λ _. inl rose;
+    depot = λ _. cause;
     sink = λ f. let no : is.Depot ≡ is.Sink = sym e ∙ f in absurd (cc);
     after_depot = λ _. (written, spared);
     after_sink = λ f. let no : is.Depot ≡ is.Sink = sym e ∙ f in absurd (cc);
@@ -143,7 +143,7 @@ outcome_finished {answers} stored effect old mid new result answer for files fau
     by (inr (inl lost)) =
         let rose : DepotRose old new = rose_since old.depot_faults mid.depot_faults new.depot_faults faults lost.1 in
         let failed : StoreFailed old new = subst (λ n. Rose n new.failed_stores) stores lost.2 in
-        outcome_lost old new result lost.0 rose (lost.3 ∙ written) (spared failed effect.file for lost.4)
+        outcome_lost old new result lost.0 (inl rose) (lost.3 ∙ written) (spared failed effect.file for lost.4)
     by (inr (inr done)) =
         outcome_printed old new (status_by effect.message) result (bytes_by effect.message) (is_message effect.message)
         (kept old.files effect.file new.files (done.0 ∙ ap (λ t. told_with t effect.file) files) answer)

@@ -22,3 +22,13 @@ returns-clause-refusal g c = λ source target trace is answered.
 
 pub returns-clause-complete : goal.returns-clause-complete
 returns-clause-complete g c = complete c.one_answer.ensures.status _ _ _ _ c.run.ensures.outcome
+
+-- the search would find these too, but takes long to give up where a wrong body breaks them
+pub returns-clause-answer : goal.returns-clause-answer
+returns-clause-answer g c = c.run.ensures.outcome.answer
+
+pub returns-clause-in_no_row : goal.returns-clause-in_no_row
+returns-clause-in_no_row g c = c.run.ensures.in_no_row
+
+pub returns-clause-touches : goal.returns-clause-touches
+returns-clause-touches g c = c.run.ensures.within

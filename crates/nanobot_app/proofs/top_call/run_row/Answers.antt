@@ -1,5 +1,5 @@
-use Rattle.std.proofs.Common.{refl}
-use Rattle.nanobot_app.proofs.Outcomes.{outcome_finished, outcome_told}
+use Rattle.std.proofs.Common.{inl, refl}
+use Rattle.nanobot_app.proofs.Outcomes.{outcome_finished, outcome_lost, outcome_memory, outcome_told}
 use Rattle.nanobot_app.proofs.top_call.run_row.Goals as goal
 
 pub returns-in-Ok-clause-outcome : goal.returns-in-Ok-clause-outcome
@@ -7,3 +7,9 @@ returns-in-Ok-clause-outcome g c = outcome_finished _ c.in-Ok.effect _ _ _ _ c.i
 
 pub returns-in-Err-Told-clause-outcome : goal.returns-in-Err-Told-clause-outcome
 returns-in-Err-Told-clause-outcome g c = outcome_told _ _ c.in-Err-Told.report _ (rw c.in-Err-Told.field-0-is at c.in-Err-Told.ensures.finishes) c.answer.ensures.files c.tell.ensures
+
+pub returns-in-Err-Depot-clause-outcome : goal.returns-in-Err-Depot-clause-outcome
+returns-in-Err-Depot-clause-outcome g c = outcome_lost _ _ _ refl (rw c.in-Err-Depot.field-0-is at c.in-Err-Depot.ensures.finishes) refl (inl c.answer.ensures.files)
+
+pub returns-in-Err-Memory-clause-outcome : goal.returns-in-Err-Memory-clause-outcome
+returns-in-Err-Memory-clause-outcome g c = outcome_memory _ _ _ refl c.answer.ensures.files refl
