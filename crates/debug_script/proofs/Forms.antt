@@ -33,7 +33,8 @@ pub parts_some : (xs : List ℕ) → line_parts xs ≡ [] → ⊥
 parts_some xs e = subst IsSome e (some xs)
 
 -- a line with a space has more than one part
-pub more_parts : (line part rest : List ℕ) (n : ℕ) → line_parts line ≡ part ∷ line_parts rest → line_parts line ≡ decimal n ∷ [] → ⊥
+pub more_parts : (line part rest : List ℕ) (n : ℕ) → line_parts line ≡ part ∷ line_parts rest
+    → line_parts line ≡ decimal n ∷ [] → ⊥
 more_parts line part rest n e f = parts_some rest (by (line_parts rest) (sym e ∙ f))
   where
     by : (ps : List (List ℕ)) → part ∷ ps ≡ decimal n ∷ [] → ps ≡ []
@@ -48,7 +49,8 @@ module _ (bytes : List ℕ) where
   abbrev is_it : ScriptWord → Bool
   is_it w = bytes_eq (script_letters w) bytes
 
-  found_on : (v w : ScriptWord) (rest : Option ScriptWord) → (rest ≡ Some w → is_it w ≡ true) → (b : Bool) → is_it v ≡ b → cond b (Some v) rest ≡ Some w → is_it w ≡ true
+  found_on : (v w : ScriptWord) (rest : Option ScriptWord) → (rest ≡ Some w → is_it w ≡ true) → (b : Bool) → is_it v ≡ b
+      → cond b (Some v) rest ≡ Some w → is_it w ≡ true
   found_on v w rest later true f e = let same : v ≡ w = cc in subst (λ x. is_it x ≡ true) same f
   found_on v w rest later false f e = later e
 
@@ -59,7 +61,8 @@ module _ (bytes : List ℕ) where
   pub word_found : (w : ScriptWord) → Some w ≡ find is_it all_words → bytes ≡ script_letters w
   word_found w e = word_is w bytes (found all_words w (sym e))
 
-  missed_on : (v : ScriptWord) (rest : Option ScriptWord) (others : Bool) → (rest ≡ None → others ≡ false) → (b : Bool) → cond b (Some v) rest ≡ None → (b || others) ≡ false
+  missed_on : (v : ScriptWord) (rest : Option ScriptWord) (others : Bool) → (rest ≡ None → others ≡ false) → (b : Bool)
+      → cond b (Some v) rest ≡ None → (b || others) ≡ false
   missed_on v rest others later true e = absurd (let none : Some v ≡ None = e in cc)
   missed_on v rest others later false e = later e
 
@@ -77,7 +80,8 @@ first [] = []
 first (part ∷ more) = part
 
 -- the first part tells lines apart
-apart : (v : List ℕ) (ps : List (List ℕ)) (f : DebugLine) → bytes_eq v v ≡ true → bytes_eq v (first (parts_of f)) ≡ false → v ∷ ps ≡ parts_of f → ⊥
+apart : (v : List ℕ) (ps : List (List ℕ)) (f : DebugLine) → bytes_eq v v ≡ true
+    → bytes_eq v (first (parts_of f)) ≡ false → v ∷ ps ≡ parts_of f → ⊥
 apart v ps f same other e =
     let g : bytes_eq v v ≡ bytes_eq v (first (parts_of f)) = ap (λ (xs : List (List ℕ)). bytes_eq v (first xs)) e in
     let clash : true ≡ false = sym same ∙ (g ∙ other) in
@@ -91,11 +95,14 @@ pub rest_is : (a b : List ℕ) (ps qs : List (List ℕ)) → a ∷ ps ≡ b ∷ 
 rest_is a b ps qs e = cc
 
 module _ (ps : List (List ℕ)) where
-  pub no_group : ((n : ℕ) → HasFewDigits n → ps ≡ decimal n ∷ [] → ⊥) → (f : DebugLine) → ArePartsOf (codes "group" ∷ ps) f → ⊥
+  pub no_group : ((n : ℕ) → HasFewDigits n → ps ≡ decimal n ∷ [] → ⊥) → (f : DebugLine)
+      → ArePartsOf (codes "group" ∷ ps) f → ⊥
   no_group none (Group n) h = none n h.short (behind (codes "group") ps (decimal n ∷ []) h.parts_are)
   no_group none f h = apart (codes "group") ps f refl refl h.parts_are
 
-  pub no_voxel : ((x y z : ℕ) → HasFewDigits x → HasFewDigits y → HasFewDigits z → ps ≡ decimal x ∷ decimal y ∷ decimal z ∷ [] → ⊥) → (f : DebugLine) → ArePartsOf (codes "voxel" ∷ ps) f → ⊥
+  pub no_voxel :
+      ((x y z : ℕ) → HasFewDigits x → HasFewDigits y → HasFewDigits z → ps ≡ decimal x ∷ decimal y ∷ decimal z ∷ [] → ⊥)
+      → (f : DebugLine) → ArePartsOf (codes "voxel" ∷ ps) f → ⊥
   no_voxel none (Voxel c) h = none c.x c.y c.z h.short.0 h.short.1 h.short.2 (behind (codes "voxel") ps (decimal c.x ∷ decimal c.y ∷ decimal c.z ∷ []) h.parts_are)
   no_voxel none f h = apart (codes "voxel") ps f refl refl h.parts_are
 
@@ -117,7 +124,8 @@ module _ (r number : ℕ) (ps : List (List ℕ)) (n : ℕ) (few : HasFewDigits n
   written : ArePartsOf (codes "group" ∷ ps) (Group n)
   written = record { parts_are = ap (λ (qs : List (List ℕ)). codes "group" ∷ qs) are; short = few }
 
-  out : (nat_lt 0 n && nat_lt n 41) ≡ false → IsReadBy (PartsSay r (codes "group" ∷ ps)) number (Err (refusal.Range number))
+  out : (nat_lt 0 n && nat_lt n 41) ≡ false
+      → IsReadBy (PartsSay r (codes "group" ∷ ps)) number (Err (refusal.Range number))
   out e = ((Group n, written, e), refl)
 
   pub group_too_low : n < 1 → IsReadBy (PartsSay r (codes "group" ∷ ps)) number (Err (refusal.Range number))
@@ -138,7 +146,8 @@ module _ (r number : ℕ) (ps : List (List ℕ)) (x y z : ℕ) (fx : HasFewDigit
   spelled : ArePartsOf (codes "voxel" ∷ ps) (Voxel at)
   spelled = record { parts_are = ap (λ (qs : List (List ℕ)). codes "voxel" ∷ qs) are; short = (fx, fy, fz) }
 
-  outside : (nat_lt x r && nat_lt y r && nat_lt z r) ≡ false → IsReadBy (PartsSay r (codes "voxel" ∷ ps)) number (Err (refusal.Range number))
+  outside : (nat_lt x r && nat_lt y r && nat_lt z r) ≡ false
+      → IsReadBy (PartsSay r (codes "voxel" ∷ ps)) number (Err (refusal.Range number))
   outside e = ((Voxel at, spelled, e), refl)
 
   pub x_too_high : r ≤ x → IsReadBy (PartsSay r (codes "voxel" ∷ ps)) number (Err (refusal.Range number))
@@ -147,7 +156,8 @@ module _ (r number : ℕ) (ps : List (List ℕ)) (x y z : ℕ) (fx : HasFewDigit
   pub y_too_high : x < r → r ≤ y → IsReadBy (PartsSay r (codes "voxel" ∷ ps)) number (Err (refusal.Range number))
   y_too_high lx l = outside (ap (λ b. b && nat_lt y r && nat_lt z r) (test_less x r lx) ∙ ap (λ b. b && nat_lt z r) (test_not_less y r l))
 
-  pub z_too_high : x < r → y < r → r ≤ z → IsReadBy (PartsSay r (codes "voxel" ∷ ps)) number (Err (refusal.Range number))
+  pub z_too_high : x < r → y < r → r ≤ z
+      → IsReadBy (PartsSay r (codes "voxel" ∷ ps)) number (Err (refusal.Range number))
   z_too_high lx ly l = outside (ap (λ b. b && nat_lt y r && nat_lt z r) (test_less x r lx) ∙ (ap (λ b. b && nat_lt z r) (test_less y r ly) ∙ test_not_less z r l))
 
   pub voxel_in_range : x < r → y < r → z < r → IsReadBy (PartsSay r (codes "voxel" ∷ ps)) number (Ok (code.Voxel at))
@@ -157,8 +167,10 @@ module _ (r number : ℕ) (ps : List (List ℕ)) (x y z : ℕ) (fx : HasFewDigit
 
 -- ---- words
 
-pub has_shape_fault : (r number : ℕ) (line : List (List ℕ)) → has_unknown_word line ≡ false → ((f : DebugLine) → ArePartsOf line f → ⊥) → IsReadBy (PartsSay r line) number (Err (refusal.Shape number))
+pub has_shape_fault : (r number : ℕ) (line : List (List ℕ)) → has_unknown_word line ≡ false
+    → ((f : DebugLine) → ArePartsOf line f → ⊥) → IsReadBy (PartsSay r line) number (Err (refusal.Shape number))
 has_shape_fault r number line known none = ((known, none), refl)
 
-pub has_word_fault : (r number : ℕ) (line : List (List ℕ)) → has_unknown_word line ≡ true → IsReadBy (PartsSay r line) number (Err (refusal.UnknownWord number))
+pub has_word_fault : (r number : ℕ) (line : List (List ℕ)) → has_unknown_word line ≡ true
+    → IsReadBy (PartsSay r line) number (Err (refusal.UnknownWord number))
 has_word_fault r number line unknown = (unknown, refl)

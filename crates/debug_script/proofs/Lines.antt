@@ -9,7 +9,8 @@ bots_joined [] ys = refl
 bots_joined (b ∷ xs) ys = ap (λ v. bot_line b ++ v) (bots_joined xs ys) ∙ sym (append_assoc (bot_line b) (flat_map bot_line xs) (flat_map bot_line ys))
 
 -- the line of one bot more is put behind those before it
-pub bots_on : (start : List ℕ) (before more : List Bot) (b : Bot) (old new : List ℕ) → more ≡ before ++ b ∷ [] → old ≡ start ++ flat_map bot_line before → new ≡ old ++ bot_line b → new ≡ start ++ flat_map bot_line more
+pub bots_on : (start : List ℕ) (before more : List Bot) (b : Bot) (old new : List ℕ) → more ≡ before ++ b ∷ []
+    → old ≡ start ++ flat_map bot_line before → new ≡ old ++ bot_line b → new ≡ start ++ flat_map bot_line more
 bots_on start before more b old new m o n =
     let one : flat_map bot_line (b ∷ []) ≡ bot_line b = append-nil (bot_line b) in
     let e : flat_map bot_line more ≡ flat_map bot_line before ++ bot_line b = ap (flat_map bot_line) m ∙ (bots_joined before (b ∷ []) ∙ ap (λ v. flat_map bot_line before ++ v) one) in

@@ -15,7 +15,8 @@ refuted true e h = cc
 refuted false e h = cc
 
 -- the digits of a number are not other than its digits
-pub same_digits : (n m : ℕ) (text bytes printed : List ℕ) → n ≡ m → bytes ≡ decimal n → text ≡ bytes → printed ≡ decimal m → true ≡ not (bytes_eq printed text) → ⊥
+pub same_digits : (n m : ℕ) (text bytes printed : List ℕ) → n ≡ m → bytes ≡ decimal n → text ≡ bytes
+    → printed ≡ decimal m → true ≡ not (bytes_eq printed text) → ⊥
 same_digits n m text bytes printed same e t p differ =
     let equal : printed ≡ text = p ∙ (ap decimal (sym same) ∙ (sym e ∙ sym t)) in
     refuted (bytes_eq printed text) ((bytes_eq-Decides printed text).1 equal) differ

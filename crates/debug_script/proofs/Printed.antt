@@ -14,11 +14,14 @@ use Rattle.debug_script.specs.Printing.{bot_line, printed_report}
 use Rattle.debug_script.specs.Sessions.{IsTold, Prints}
 
 -- the active bots were told
-pub told_bots : {E : Type 0} (d : Debugging) (crew : List Bot) (before after : List ℕ) (r : Result Unit E) → d.spent ≡ false → IsSomeAnd (middle_state d.commands d.session) (λ m. crew ≡ m.bots) → OnOk r (after ≡ before ++ flat_map bot_line crew) → OnOk r (IsTold Bots d d before after)
+pub told_bots : {E : Type 0} (d : Debugging) (crew : List Bot) (before after : List ℕ) (r : Result Unit E)
+    → d.spent ≡ false → IsSomeAnd (middle_state d.commands d.session) (λ m. crew ≡ m.bots)
+    → OnOk r (after ≡ before ++ flat_map bot_line crew) → OnOk r (IsTold Bots d d before after)
 told_bots d crew before after (Err e) stands middle put = tt
 told_bots d crew before after (Ok u) stands middle put = by (middle_state d.commands d.session) refl middle
   where
-    by : (o : Option State) → middle_state d.commands d.session ≡ o → IsSomeAnd o (λ m. crew ≡ m.bots) → IsTold Bots d d before after
+    by : (o : Option State) → middle_state d.commands d.session ≡ o → IsSomeAnd o (λ m. crew ≡ m.bots)
+        → IsTold Bots d d before after
     by None e h = absurd h
     by (Some m) e h = record {
       report = Crew m.bots;
@@ -34,17 +37,23 @@ pub record IsPrinting (commands : List Command) (script : List DebugLine) (start
   pub commands_are : d.commands ≡ commands
   pub stands : d.spent ≡ false
 
-pub started : (commands : List Command) (script : List DebugLine) (start : Session) (d : Debugging) (text : List ℕ) → d ≡ record { session = start; commands = commands; spent = false } → text ≡ [] → IsPrinting commands script start script d text
+pub started : (commands : List Command) (script : List DebugLine) (start : Session) (d : Debugging) (text : List ℕ)
+    → d ≡ record { session = start; commands = commands; spent = false } → text ≡ []
+    → IsPrinting commands script start script d text
 started commands script start d text e t =
     subst (λ (x : Debugging). IsPrinting commands script start script x text) (sym e)
     (subst (λ (xs : List ℕ). IsPrinting commands script start script (record { session = start; commands = commands; spent = false }) xs) (sym t)
     (record { goes_on = λ rest prints. prints; commands_are = refl; stands = refl }))
 
 -- the next line of a script
-pub next_line : (script : List ScriptLine) (i : ℕ) (d : ScriptLine) → i < length script → lines_are (drop i script) ≡ script_line_is (get_or script i d) ∷ lines_are (drop (i + 1) script)
+pub next_line : (script : List ScriptLine) (i : ℕ) (d : ScriptLine) → i < length script
+    → lines_are (drop i script) ≡ script_line_is (get_or script i d) ∷ lines_are (drop (i + 1) script)
 next_line script i d l = let same : suc i ≡ i + 1 = omega arith in ap lines_are (drop-cons script i d l) ∙ ap (λ (k : ℕ). script_line_is (get_or script i d) ∷ lines_are (drop k script)) same
 
-pub line_printed : (commands : List Command) (script : List DebugLine) (start : Session) (line : DebugLine) (left all : List DebugLine) (old new : Debugging) (before after : List ℕ) → all ≡ line ∷ left → IsPrinting commands script start all old before → IsTold line old new before after → IsPrinting commands script start left new after
+pub line_printed : (commands : List Command) (script : List DebugLine) (start : Session) (line : DebugLine)
+    (left all : List DebugLine) (old new : Debugging) (before after : List ℕ) → all ≡ line ∷ left
+    → IsPrinting commands script start all old before → IsTold line old new before after
+    → IsPrinting commands script start left new after
 line_printed commands script start line left all old new before after e so_far told = record {
   goes_on = λ rest prints.
       let answers = subst (λ (cs : List Command). AnswersLine cs line old.session new.session told.report) so_far.commands_are told.answers in
@@ -54,5 +63,6 @@ line_printed commands script start line left all old new before after e so_far t
   stands = told.stands;
 }
 
-pub all_printed : (commands : List Command) (script : List DebugLine) (start : Session) (d : Debugging) (text : List ℕ) → IsPrinting commands script start [] d text → Prints commands script start text
+pub all_printed : (commands : List Command) (script : List DebugLine) (start : Session) (d : Debugging) (text : List ℕ)
+    → IsPrinting commands script start [] d text → Prints commands script start text
 all_printed commands script start d text so_far = subst (Prints commands script start) (append-nil text) (so_far.goes_on [] refl)

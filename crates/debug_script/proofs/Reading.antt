@@ -26,20 +26,23 @@ all_err : (xs : List DebugLine) (e : FaultyLine) → with_all xs (Err e) ≡ Err
 all_err [] e = refl
 all_err (x ∷ xs) e = ap (with_first x) (all_err xs e)
 
-one_more : (xs : List DebugLine) (x : DebugLine) (answer : Result (List DebugLine) FaultyLine) → with_all xs (with_first x answer) ≡ with_all (xs ++ x ∷ []) answer
+one_more : (xs : List DebugLine) (x : DebugLine) (answer : Result (List DebugLine) FaultyLine)
+    → with_all xs (with_first x answer) ≡ with_all (xs ++ x ∷ []) answer
 one_more [] x answer = refl
 one_more (y ∷ xs) x answer = ap (with_first y) (one_more xs x answer)
 
 -- the lines were read, and whatever the lines that are left come to, all lines come to these and that
 pub record IsReading (r : ℕ) (bytes : List ℕ) (script : List ScriptLine) (left : List ℕ) (number : ℕ) : Type 0 where
-  pub goes_on : (answer : Result (List DebugLine) FaultyLine) → LinesSay r (number + 1) (lines left) answer → ScriptSays r bytes (with_all (lines_are script) answer)
+  pub goes_on : (answer : Result (List DebugLine) FaultyLine) → LinesSay r (number + 1) (lines left) answer
+      → ScriptSays r bytes (with_all (lines_are script) answer)
   pub few : number + length left ≤ 65536
 
 pub nothing_read : (r : ℕ) (bytes : List ℕ) → length bytes ≤ 65536 → IsReading r bytes [] bytes 0
 nothing_read r bytes h = record { goes_on = λ answer says. says; few = omega (arith, h) }
 
 module _ (r : ℕ) (bytes : List ℕ) (script : List ScriptLine) (left : List ℕ) (number : ℕ) (so_far : IsReading r bytes script left number) (first more : List ℕ) (cut : lines left ≡ first ∷ lines more) where
-  pub line_read : (said : ScriptLine) (now : List ScriptLine) → length more < length left → now ≡ script ++ said ∷ [] → LineSays r first (Ok (script_line_is said)) → IsReading r bytes now more (number + 1)
+  pub line_read : (said : ScriptLine) (now : List ScriptLine) → length more < length left → now ≡ script ++ said ∷ []
+      → LineSays r first (Ok (script_line_is said)) → IsReading r bytes now more (number + 1)
   line_read said now shorter e says = record {
     goes_on = λ answer rest.
         let all = so_far.goes_on (with_first (script_line_is said) answer) (subst (λ (ls : List (List ℕ)). LinesSay r (number + 1) ls (with_first (script_line_is said) answer)) (sym cut) (Ok (script_line_is said), says, (answer, rest, refl))) in
@@ -48,15 +51,18 @@ module _ (r : ℕ) (bytes : List ℕ) (script : List ScriptLine) (left : List �
     few = let n = so_far.few in omega (arith, n, shorter);
   }
 
-  faulty_at : (fault : Fault) → LineSays r first (Err fault) → ScriptSays r bytes (Err (record { fault = fault; line = number + 1 }))
+  faulty_at : (fault : Fault) → LineSays r first (Err fault)
+      → ScriptSays r bytes (Err (record { fault = fault; line = number + 1 }))
   faulty_at fault says = subst (ScriptSays r bytes) (all_err (lines_are script) (record { fault = fault; line = number + 1 })) (so_far.goes_on (Err (record { fault = fault; line = number + 1 })) (subst (λ (ls : List (List ℕ)). LinesSay r (number + 1) ls (Err (record { fault = fault; line = number + 1 }))) (sym cut) (Err fault, says, refl)))
 
-  pub line_refused : (Y : Type 0) (refusal : TextRefusal) → IsReadBy (LineSays r first) (number + 1) (Err refusal) → ReadsScript {Y = Y} r bytes (Err (Refused refusal))
+  pub line_refused : (Y : Type 0) (refusal : TextRefusal) → IsReadBy (LineSays r first) (number + 1) (Err refusal)
+      → ReadsScript {Y = Y} r bytes (Err (Refused refusal))
   line_refused Y refusal says =
       subst (λ (n : ℕ). ScriptSays r bytes (Err (record { fault = (faulty_line refusal).fault; line = n }))) (sym says.1)
       (faulty_at (faulty_line refusal).fault says.0)
 
-pub all_read : {Y : Type 0} (r : ℕ) (bytes : List ℕ) (script : Vec ScriptLine Y) (left : List ℕ) (number : ℕ) → IsReading r bytes script.items left number → length left ≡ 0 → ReadsScript {Y = Y} r bytes (Ok script)
+pub all_read : {Y : Type 0} (r : ℕ) (bytes : List ℕ) (script : Vec ScriptLine Y) (left : List ℕ) (number : ℕ)
+    → IsReading r bytes script.items left number → length left ≡ 0 → ReadsScript {Y = Y} r bytes (Ok script)
 all_read r bytes script left number so_far none =
     subst (ScriptSays r bytes) (all_ok (lines_are script.items)) (so_far.goes_on (Ok []) (subst (λ (xs : List ℕ). LinesSay r (number + 1) (lines xs) (Ok [])) (sym (empty left none)) refl))
   where

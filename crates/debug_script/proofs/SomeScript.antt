@@ -29,7 +29,8 @@ below_or_not part (suc bound) = by (bytes_eq part (decimal bound)) refl (below_o
         last : n ≡ bound → ⊥
         last same = let t : true ≡ false = sym ((bytes_eq-Decides part (decimal bound)).1 (e ∙ ap decimal same)) ∙ f in cc
 
-    by : (b : Bool) → bytes_eq part (decimal bound) ≡ b → IsBelow bound part ⊎ (IsBelow bound part → ⊥) → IsBelow (suc bound) part ⊎ (IsBelow (suc bound) part → ⊥)
+    by : (b : Bool) → bytes_eq part (decimal bound) ≡ b → IsBelow bound part ⊎ (IsBelow bound part → ⊥)
+        → IsBelow (suc bound) part ⊎ (IsBelow (suc bound) part → ⊥)
     by true e before = inl (bound, omega arith, (bytes_eq-Decides part (decimal bound)).0 e)
     by false e (inl h) = inl (h.0, (let l = h.1 in omega (arith, l)), h.2)
     by false e (inr none) = inr (λ h. none (h.0, lower h.0 h.1 h.2 e, h.2))
@@ -54,7 +55,8 @@ module _ (r : ℕ) where
       by false e = (Err Range, (line, is, e))
 
   -- parts behind a known word that are no line's
-  of_no_line : (parts : List (List ℕ)) → has_unknown_word parts ≡ false → ((line : DebugLine) → ArePartsOf parts line → ⊥) → SaySome parts
+  of_no_line : (parts : List (List ℕ)) → has_unknown_word parts ≡ false
+      → ((line : DebugLine) → ArePartsOf parts line → ⊥) → SaySome parts
   of_no_line parts known none = (Err Shape, (known, none))
 
   group_says : (ps : List (List ℕ)) → SaySome (codes "group" ∷ ps)
@@ -73,10 +75,12 @@ module _ (r : ℕ) where
   voxel_says (p ∷ q ∷ s ∷ t ∷ ps) = of_no_line (codes "voxel" ∷ p ∷ q ∷ s ∷ t ∷ ps) refl (no_voxel (p ∷ q ∷ s ∷ t ∷ ps) (λ x y z fx fy fz e. cc))
   voxel_says (p ∷ q ∷ s ∷ []) = by (number_or_not p) (number_or_not q) (number_or_not s)
     where
-      no_number : ((x y z : ℕ) → HasFewDigits x → HasFewDigits y → HasFewDigits z → p ∷ q ∷ s ∷ [] ≡ decimal x ∷ decimal y ∷ decimal z ∷ [] → ⊥) → SaySome (codes "voxel" ∷ p ∷ q ∷ s ∷ [])
+      no_number : ((x y z : ℕ) → HasFewDigits x → HasFewDigits y → HasFewDigits z
+          → p ∷ q ∷ s ∷ [] ≡ decimal x ∷ decimal y ∷ decimal z ∷ [] → ⊥) → SaySome (codes "voxel" ∷ p ∷ q ∷ s ∷ [])
       no_number none = of_no_line (codes "voxel" ∷ p ∷ q ∷ s ∷ []) refl (no_voxel (p ∷ q ∷ s ∷ []) none)
 
-      by : IsNumber p ⊎ (IsNumber p → ⊥) → IsNumber q ⊎ (IsNumber q → ⊥) → IsNumber s ⊎ (IsNumber s → ⊥) → SaySome (codes "voxel" ∷ p ∷ q ∷ s ∷ [])
+      by : IsNumber p ⊎ (IsNumber p → ⊥) → IsNumber q ⊎ (IsNumber q → ⊥) → IsNumber s ⊎ (IsNumber s → ⊥)
+          → SaySome (codes "voxel" ∷ p ∷ q ∷ s ∷ [])
       by (inr none) b c = no_number (λ x y z fx fy fz e. none (x, fx, cc))
       by (inl a) (inr none) c = no_number (λ x y z fx fy fz e. none (y, fy, cc))
       by (inl a) (inl b) (inr none) = no_number (λ x y z fx fy fz e. none (z, fz, cc))
@@ -97,7 +101,8 @@ module _ (r : ℕ) where
   parts_say [] some = absurd (some refl)
   parts_say (part ∷ ps) some = by (find (λ w. bytes_eq (script_letters w) part) all_words) refl
     where
-      by : (found : Option ScriptWord) → find (λ w. bytes_eq (script_letters w) part) all_words ≡ found → SaySome (part ∷ ps)
+      by : (found : Option ScriptWord) → find (λ w. bytes_eq (script_letters w) part) all_words ≡ found
+          → SaySome (part ∷ ps)
       by None e = (Err UnknownWord, word_missed part ps (sym e))
       by (Some w) e = subst (λ (letters : List ℕ). SaySome (letters ∷ ps)) (sym (word_found part w (sym e))) (word_says w ps)
 
@@ -106,7 +111,8 @@ module _ (r : ℕ) where
   line_says : (line : List ℕ) → (what : Result DebugLine Fault) × LineSays r line what
   line_says line = by (has_high_byte line) (parts_say (line_parts line) (parts_some line))
     where
-      by : (high : Bool) → SaySome (line_parts line) → (what : Result DebugLine Fault) × MatchBool high (what ≡ Err NotAscii) (PartsSay r (line_parts line) what)
+      by : (high : Bool) → SaySome (line_parts line)
+          → (what : Result DebugLine Fault) × MatchBool high (what ≡ Err NotAscii) (PartsSay r (line_parts line) what)
       by true said = (Err NotAscii, refl)
       by false said = said
 
@@ -114,7 +120,9 @@ module _ (r : ℕ) where
   lines_say n [] = (Ok [], refl)
   lines_say n (line ∷ more) = let said = line_says line in by said.0 said.1 (lines_say (n + 1) more)
     where
-      by : (what : Result DebugLine Fault) → LineSays r line what → (rest : Result (List DebugLine) FaultyLine) × LinesSay r (n + 1) more rest → (answer : Result (List DebugLine) FaultyLine) × LinesSay r n (line ∷ more) answer
+      by : (what : Result DebugLine Fault) → LineSays r line what
+          → (rest : Result (List DebugLine) FaultyLine) × LinesSay r (n + 1) more rest
+          → (answer : Result (List DebugLine) FaultyLine) × LinesSay r n (line ∷ more) answer
       by (Ok what) says rest = (with_first what rest.0, (Ok what, says, (rest.0, rest.1, refl)))
       by (Err fault) says rest = (Err (record { fault = fault; line = n }), (Err fault, says, refl))
 

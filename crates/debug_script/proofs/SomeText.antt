@@ -56,7 +56,8 @@ in_dropped x (suc n) [] i = i
 in_dropped x (suc n) (y ∷ xs) i = inr (in_dropped x n xs i)
 
 -- a list that is not empty has a last element
-last_of : (p : Moment) (past : List Moment) → (earlier : List Moment) × (last : Moment) × (p ∷ past ≡ earlier ++ last ∷ [])
+last_of : (p : Moment) (past : List Moment)
+    → (earlier : List Moment) × (last : Moment) × (p ∷ past ≡ earlier ++ last ∷ [])
 last_of p [] = ([], p, refl)
 last_of p (q ∷ past) = let l = last_of q past in (p ∷ l.0, l.1, ap (λ (qs : List Moment). p ∷ qs) l.2)
 
@@ -75,7 +76,8 @@ record IsOrderly (commands : List Command) (s : Session) : Type 0 where
   keeps : (s.begun ≡ [] → ⊥) → next_broken commands s ≡ None
 
 -- it is so of a session in which nothing is begun, where its points are ready
-fresh : (commands : List Command) (p : Moment) (past : List Moment) → IsReady p.state → ((q : Moment) → In q past → IsReady q.state) → IsOrderly commands (record { point = p; past = past; begun = [] })
+fresh : (commands : List Command) (p : Moment) (past : List Moment) → IsReady p.state
+    → ((q : Moment) → In q past → IsReady q.state) → IsOrderly commands (record { point = p; past = past; begun = [] })
 fresh commands p past ready before = record { point = ready; past = before; left = next_leaders commands p; leaders = IsPermutation-refl (next_leaders commands p); keeps = λ some. absurd (some refl) }
 
 module _ (commands : List Command) (are : AreCommands commands) (stays_ready : ReadyLaw) (middle : MiddleLaw) where
@@ -92,7 +94,8 @@ module _ (commands : List Command) (are : AreCommands commands) (stays_ready : R
     is_refused rule = orderly
 
     -- the points after a step are those before it, and the state that it leads to
-    is_made : (u : State) → Next s.point.state (next_commands commands s.point) (s.point.steps + 1) (Goes u) → IsOrderly commands (made s u)
+    is_made : (u : State) → Next s.point.state (next_commands commands s.point) (s.point.steps + 1) (Goes u)
+        → IsOrderly commands (made s u)
     is_made u next =
         let accepted = accepted_step s.point.state u (next_commands commands s.point) (s.point.steps + 1) next in
         let now = stays_ready s.point.state (next_commands commands s.point) (s.point.steps + 1)
@@ -110,18 +113,21 @@ module _ (commands : List Command) (are : AreCommands commands) (stays_ready : R
     tries_step : HasAnswer (TriesStep commands s)
     tries_step = let o = next_of s.point.state (next_commands commands s.point) (s.point.steps + 1) in by o.0 o.1
       where
-        by : (o : Outcome) → Next s.point.state (next_commands commands s.point) (s.point.steps + 1) o → HasAnswer (TriesStep commands s)
+        by : (o : Outcome) → Next s.point.state (next_commands commands s.point) (s.point.steps + 1) o
+            → HasAnswer (TriesStep commands s)
         by (Goes u) next = (made s u, Made (s.point.steps + 1) u.energy (none_left u.bots), (Goes u, next, (refl, refl)), is_made u next)
         by (Breaks b) next = (refused b.rule s, Refused b, (Breaks b, next, (refl, refl)), is_refused b.rule)
 
-    unless_ended : (bots : List Bot) (P : Session → DebugReport → Type 0) → HasAnswer P → HasAnswer (λ t report. UnlessEnded bots s t report (P t report))
+    unless_ended : (bots : List Bot) (P : Session → DebugReport → Type 0) → HasAnswer P
+        → HasAnswer (λ t report. UnlessEnded bots s t report (P t report))
     unless_ended [] P answer = (s, Ended, (refl, refl), orderly)
     unless_ended (bot ∷ bots) P answer = answer
 
     -- ---- the line of a group
 
     -- one leader more is begun, and one fewer is left
-    is_begun : (bid : ℕ) → may_begin commands s bid ≡ true → next_broken commands s ≡ None → IsOrderly commands (record s { begun = s.begun ++ bid ∷ [] })
+    is_begun : (bid : ℕ) → may_begin commands s bid ≡ true → next_broken commands s ≡ None
+        → IsOrderly commands (record s { begun = s.begun ++ bid ∷ [] })
     is_begun bid may keeps =
         let place = in_place bid bid orderly.left is_left in
         record {
@@ -205,12 +211,14 @@ module _ (commands : List Command) (are : AreCommands commands) (stays_ready : R
     answered Bots = tells_bots
     answered (Voxel c) = let l = level_of s.point.state.matrix c in (s, _, (refl, (l.0, l.1, refl)), orderly)
 
-  prints_from : (script : List DebugLine) (s : Session) → IsOrderly commands s → (text : List ℕ) × Prints commands script s text
+  prints_from : (script : List DebugLine) (s : Session) → IsOrderly commands s
+      → (text : List ℕ) × Prints commands script s text
   prints_from [] s orderly = ([], refl)
   prints_from (line ∷ more) s orderly =
       let a = answered s orderly line in
       let rest = prints_from more a.0 a.3 in
       (printed_report a.1 ++ rest.0, (a.0, a.1, rest.0, a.2, rest.1, refl))
 
-  pub some_printing : (script : List DebugLine) (p : Moment) → IsReady p.state → (text : List ℕ) × Prints commands script (record { point = p; past = []; begun = [] }) text
+  pub some_printing : (script : List DebugLine) (p : Moment) → IsReady p.state
+      → (text : List ℕ) × Prints commands script (record { point = p; past = []; begun = [] }) text
   some_printing script p ready = prints_from script (record { point = p; past = []; begun = [] }) (fresh commands p [] ready (λ q i. absurd i))

@@ -23,7 +23,8 @@ first_part [] = []
 first_part (part ∷ more) = part
 
 -- lines of other words have other parts
-pub other_words : (f g : DebugLine) → bytes_eq (first_part (parts_of f)) (first_part (parts_of f)) ≡ true → bytes_eq (first_part (parts_of f)) (first_part (parts_of g)) ≡ false → parts_of f ≡ parts_of g → ⊥
+pub other_words : (f g : DebugLine) → bytes_eq (first_part (parts_of f)) (first_part (parts_of f)) ≡ true
+    → bytes_eq (first_part (parts_of f)) (first_part (parts_of g)) ≡ false → parts_of f ≡ parts_of g → ⊥
 other_words f g same other e = let t = subst (λ ws. bytes_eq (first_part (parts_of f)) (first_part ws) ≡ true) e same in cc
 
 one_written : (line : List (List ℕ)) (f g : DebugLine) → ArePartsOf line f → ArePartsOf line g → f ≡ g
@@ -49,7 +50,8 @@ has_word line (Voxel c) h = rw h.parts_are refl
 
 -- ---- a line says one thing
 
-one_part_says : (r : ℕ) (line : List (List ℕ)) (a b : Result DebugLine Fault) → PartsSay r line a → PartsSay r line b → a ≡ b
+one_part_says : (r : ℕ) (line : List (List ℕ)) (a b : Result DebugLine Fault) → PartsSay r line a → PartsSay r line b
+    → a ≡ b
 one_part_says r line (Ok x) (Ok y) h k = ap Ok (one_written line x y h.0 k.0)
 one_part_says r line (Ok x) (Err Range) h k = absurd (true_and_false (is_in_range r x) h.1 (ap (is_in_range r) (one_written line x k.0 h.0 k.1) ∙ k.2))
 one_part_says r line (Err Range) (Ok y) h k = absurd (true_and_false (is_in_range r y) k.1 (ap (is_in_range r) (one_written line y h.0 k.0 h.1) ∙ h.2))
@@ -72,17 +74,22 @@ one_part_says r line a (Err NotAscii) h k = absurd k
 one_line_says : (r : ℕ) (line : List ℕ) (a b : Result DebugLine Fault) → LineSays r line a → LineSays r line b → a ≡ b
 one_line_says r line a b h k = by (has_high_byte line) h k
   where
-    by : (t : Bool) → MatchBool t (a ≡ Err NotAscii) (PartsSay r (line_parts line) a) → MatchBool t (b ≡ Err NotAscii) (PartsSay r (line_parts line) b) → a ≡ b
+    by : (t : Bool) → MatchBool t (a ≡ Err NotAscii) (PartsSay r (line_parts line) a)
+        → MatchBool t (b ≡ Err NotAscii) (PartsSay r (line_parts line) b) → a ≡ b
     by true h k = h ∙ sym k
     by false h k = one_part_says r (line_parts line) a b h k
 
 -- ---- a script says one thing
 
-one_rest : (P : Result (List DebugLine) FaultyLine → Type 0) → ((a b : Result (List DebugLine) FaultyLine) → P a → P b → a ≡ b) → (n : ℕ) (a b : Result (List DebugLine) FaultyLine) (what : Result DebugLine Fault) → FollowsLine P n what a → FollowsLine P n what b → a ≡ b
+one_rest : (P : Result (List DebugLine) FaultyLine → Type 0)
+    → ((a b : Result (List DebugLine) FaultyLine) → P a → P b → a ≡ b) → (n : ℕ)
+    (a b : Result (List DebugLine) FaultyLine) (what : Result DebugLine Fault) → FollowsLine P n what a
+    → FollowsLine P n what b → a ≡ b
 one_rest P once n a b (Ok what) h k = h.2 ∙ (ap (with_first what) (once h.0 k.0 h.1 k.1) ∙ sym k.2)
 one_rest P once n a b (Err fault) h k = h ∙ sym k
 
-pub one_reading : (r n : ℕ) (lines : List (List ℕ)) (a b : Result (List DebugLine) FaultyLine) → LinesSay r n lines a → LinesSay r n lines b → a ≡ b
+pub one_reading : (r n : ℕ) (lines : List (List ℕ)) (a b : Result (List DebugLine) FaultyLine) → LinesSay r n lines a
+    → LinesSay r n lines b → a ≡ b
 one_reading r n [] a b h k = h ∙ sym k
 one_reading r n (line ∷ more) a b h k =
     let same = one_line_says r line h.0 k.0 h.1 k.1 in
@@ -93,7 +100,8 @@ one_reading r n (line ∷ more) a b h k =
 abbrev AnswerLaw : Type 0
 AnswerLaw = (commands : List Command) (line : DebugLine) (s t u : Session) (r q : DebugReport) → AnswersLine commands line s t r → AnswersLine commands line s u q → (t ≡ u) × (r ≡ q)
 
-pub one_printing : AnswerLaw → (commands : List Command) (script : List DebugLine) (s : Session) (a b : List ℕ) → Prints commands script s a → Prints commands script s b → a ≡ b
+pub one_printing : AnswerLaw → (commands : List Command) (script : List DebugLine) (s : Session) (a b : List ℕ)
+    → Prints commands script s a → Prints commands script s b → a ≡ b
 one_printing law commands [] s a b h k = h ∙ sym k
 one_printing law commands (line ∷ more) s a b h k =
     let same = law commands line s h.0 k.0 h.1 k.1 h.3 k.3 in

@@ -42,7 +42,8 @@ cube : (r : ℕ) → r ≤ 400 → r * (r * r) ≤ 64000000
 cube r h = mul-le-mul h (square r h)
 
 -- a plan has fewer than 2^30 steps
-pub plan_fits : (s t : Matrix) → s.resolution ≤ 400 → t.resolution ≡ s.resolution → 3 * (runs s + runs t) + 135 * (rows s + rows t) + 3 * s.resolution + 400 ≤ 1073741824
+pub plan_fits : (s t : Matrix) → s.resolution ≤ 400 → t.resolution ≡ s.resolution
+    → 3 * (runs s + runs t) + 135 * (rows s + rows t) + 3 * s.resolution + 400 ≤ 1073741824
 plan_fits s t h e =
     let a = rows_most s in
     let b = runs_most s in

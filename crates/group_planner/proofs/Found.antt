@@ -10,7 +10,8 @@ use Rattle.group_planner.specs.declared.run.RowRun.{RowRun}
 use Rattle.plan_tape.proofs.Parts.{void_past_z}
 use Rattle.group_planner.proofs.Counts.{one_of_sum, sum_below-gap, sum_below-more, sum_below-zero}
 
-before-suc : (m : Matrix) (x y z : ℕ) → full_before m x y (suc z) ≡ cond (is_full_at m x y z) (full_before m x y z + 1) 0
+before-suc : (m : Matrix) (x y z : ℕ)
+    → full_before m x y (suc z) ≡ cond (is_full_at m x y z) (full_before m x y z + 1) 0
 unfolding full_before
 before-suc m x y z = refl
 
@@ -24,7 +25,8 @@ before_void : (m : Matrix) (x y z : ℕ) → is_full_at m x y z ≡ false → fu
 before_void m x y z e = (let s : z + 1 ≡ suc z = omega arith in ap (full_before m x y) s) ∙ (before-suc m x y z ∙ ap (λ b. cond b (full_before m x y z + 1) 0) e)
 
 -- n full voxels are n more
-before_full : (m : Matrix) (x y a n : ℕ) → ((k : ℕ) → a ≤ k → k < a + n → is_full_at m x y k ≡ true) → full_before m x y (a + n) ≡ full_before m x y a + n
+before_full : (m : Matrix) (x y a n : ℕ) → ((k : ℕ) → a ≤ k → k < a + n → is_full_at m x y k ≡ true)
+    → full_before m x y (a + n) ≡ full_before m x y a + n
 before_full m x y a zero h = (let s : a + 0 ≡ a = omega arith in ap (full_before m x y) s) ∙ (let t : full_before m x y a ≡ full_before m x y a + 0 = omega arith in t)
 before_full m x y a (suc n) h =
     let rest = before_full m x y a n (λ k l p. h k l (omega arith)) in
@@ -52,7 +54,8 @@ full_begin b n e f = rw (e, f) refl
 
 module _ (m : Matrix) (x y : ℕ) where
   -- before a full voxel that comes directly after void ones, or at which no run is cut, a multiple of 31 full ones stand
-  at_first : (z first : ℕ) → IsCut m x y z → z ≤ first → IsAll m x y z first false → is_full_at m x y first ≡ true → full_before m x y first % 31 ≡ 0
+  at_first : (z first : ℕ) → IsCut m x y z → z ≤ first → IsAll m x y z first false → is_full_at m x y first ≡ true
+      → full_before m x y first % 31 ≡ 0
   at_first z first cut l void full = by (cases_lt z first)
     where
       by : (z < first) ⊎ (first ≤ z) → full_before m x y first % 31 ≡ 0
@@ -74,7 +77,9 @@ module _ (m : Matrix) (x y : ℕ) where
       let count : full_before m x y k ≡ full_before m x y first + (k - first) = sym (ap (full_before m x y) e) ∙ n in
       no_begin (begins_run m x y k) (not_multiple (is_full_at m x y k) (full_before m x y k) (omega (arith, count, cut)))
 
-  pub run_found : (z first end : ℕ) → IsCut m x y z → z ≤ first → first < end → end ≤ first + 31 → end ≤ m.resolution → IsAll m x y z first false → IsAll m x y first end true → (end < first + 31 → is_full_at m x y end ≡ false) → IsNextRun m x y z (record { first = first; end = end })
+  pub run_found : (z first end : ℕ) → IsCut m x y z → z ≤ first → first < end → end ≤ first + 31 → end ≤ m.resolution
+      → IsAll m x y z first false → IsAll m x y first end true → (end < first + 31 → is_full_at m x y end ≡ false)
+      → IsNextRun m x y z (record { first = first; end = end })
   run_found z first end cut low some most within void full after =
       let start = at_first z first cut low void (full first (omega arith) some) in
       let begun = full_begin (is_full_at m x y first) (full_before m x y first) (full first (omega arith) some) start in
@@ -88,7 +93,8 @@ module _ (m : Matrix) (x y : ℕ) where
         one_more = omega (arith, begun, one, rest, gap);
       }
     where
-      by : is_full_at m x y end ≡ true → full_before m x y first % 31 ≡ 0 → (end < first + 31) ⊎ (first + 31 ≤ end) → full_before m x y end % 31 ≡ 0
+      by : is_full_at m x y end ≡ true → full_before m x y first % 31 ≡ 0 → (end < first + 31) ⊎ (first + 31 ≤ end)
+          → full_before m x y end % 31 ≡ 0
       by t start (inl h) = absurd (let f = sym t ∙ after h in cc)
       by t start (inr h) =
           let e : end ≡ first + 31 = omega arith in
@@ -100,7 +106,9 @@ module _ (m : Matrix) (x y : ℕ) where
   past : is_full_at m x y m.resolution ≡ false
   past = void_past_z m (record { x = x; y = y; z = m.resolution }) (below_itself m.resolution)
 
-  pub next_found : (z first end most : ℕ) → IsCut m x y z → first < m.resolution → most ≡ min m.resolution (first + 31) → IsRunEnd m x y z m.resolution true first → IsRunEnd m x y first most false end → IsNextRun m x y z (record { first = first; end = end })
+  pub next_found : (z first end most : ℕ) → IsCut m x y z → first < m.resolution → most ≡ min m.resolution (first + 31)
+      → IsRunEnd m x y z m.resolution true first → IsRunEnd m x y first most false end
+      → IsNextRun m x y z (record { first = first; end = end })
   next_found z first end most cut l e a b =
       run_found z first end cut a.low (longer (cases_lt first end)) (omega (arith, b.high)) (omega (arith, b.high)) a.others b.others (λ h. after h (cases_lt end most))
     where

@@ -52,7 +52,8 @@ same_turned x y a b = rw (number_itself x, number_itself y, number_itself a, num
 outside : (x y a b : ℕ) (c : Coord) → y < c.y → IsFalse (is_within (region x y a b) (point c))
 outside x y a b c h = by (is_between (pos x) (pos x) (pos c.x)) (is_between (pos a) (pos b) (pos c.z)) (flat_above y c.y h)
   where
-    by : (s u : Bool) → is_between (pos y) (pos y) (pos c.y) ≡ false → (s && is_between (pos y) (pos y) (pos c.y) && u) ≡ false
+    by : (s u : Bool) → is_between (pos y) (pos y) (pos c.y) ≡ false
+        → (s && is_between (pos y) (pos y) (pos c.y) && u) ≡ false
     by true u e = rw e refl
     by false u e = refl
 
@@ -60,7 +61,8 @@ outside x y a b c h = by (is_between (pos x) (pos x) (pos c.x)) (is_between (pos
 no_twice : (x y a b : ℕ) → a < b → repeats (point (coord x y a) ∷ point (coord x y b) ∷ []) ≡ false
 no_twice x y a b h = rw (number_itself x, number_itself y, others a b h) refl
 
-no_twice_at : (x y a b : ℕ) (p q : Point) → a < b → p ≡ point (coord x y a) → q ≡ point (coord x y b) → repeats (p ∷ q ∷ []) ≡ false
+no_twice_at : (x y a b : ℕ) (p q : Point) → a < b → p ≡ point (coord x y a) → q ≡ point (coord x y b)
+    → repeats (p ∷ q ∷ []) ≡ false
 no_twice_at x y a b p q h e f = subst (λ (u : Point). repeats (u ∷ q ∷ []) ≡ false) (sym e) (subst (λ (u : Point). repeats (point (coord x y a) ∷ u ∷ []) ≡ false) (sym f) (no_twice x y a b h))
 
 -- ---- the commands
@@ -68,7 +70,8 @@ no_twice_at x y a b p q h e f = subst (λ (u : Point). repeats (u ∷ q ∷ []) 
 -- what is so of both commands that write together with the other bot
 record Together (k : Command) (full : Bool) (z : ℤ) : Type 0 where
   allowed : IsTrue (is_allowed full_profile k)
-  joins : (r : ℕ) (s : Span) (p : Point) → IsCornered r s p (plus p down) (plus (plus p down) (ahead z)) → MayJoin r s full p k
+  joins : (r : ℕ) (s : Span) (p : Point) → IsCornered r s p (plus p down) (plus (plus p down) (ahead z))
+      → MayJoin r s full p k
   corner : (p : Point) → corners_of p k ≡ plus p down ∷ []
 
 together : (full : Bool) (z : ℤ) → Together (all_below full z) full z
@@ -84,7 +87,9 @@ unsplit true y z = refl
 unsplit false y z = refl
 
 -- a bot at one end, whose command leads to the other
-cornered : (r x y a b : ℕ) (c : Coord) (s : Span) → c.x ≡ x → c.y ≡ y → c.z ≡ a → 1 ≤ y → x < r → y < r → a < r → b < r → IsTrue (same_region (region x (y - 1) a b) s) → IsFalse (is_within s (point c)) → IsCornered r s (point c) (plus (point c) down) (plus (plus (point c) down) (ahead (pos b -ℤ pos a)))
+cornered : (r x y a b : ℕ) (c : Coord) (s : Span) → c.x ≡ x → c.y ≡ y → c.z ≡ a → 1 ≤ y → x < r → y < r → a < r → b < r
+    → IsTrue (same_region (region x (y - 1) a b) s) → IsFalse (is_within s (point c))
+    → IsCornered r s (point c) (plus (point c) down) (plus (plus (point c) down) (ahead (pos b -ℤ pos a)))
 cornered r x y a b c s ex ey ez h lx ly la lb same out =
     let here : c ≡ coord x y a = (λ i. record { x = ex i; y = ey i; z = ez i }) in
     let near : plus (point c) down ≡ point (coord x (y - 1) a) = ap (λ (d : Coord). plus (point d) down) here ∙ below (coord x y a) h in
@@ -139,7 +144,8 @@ module _ (p : TapeState) (full : Bool) (k l : Command) (first last : ℕ) (h : I
         corners = corners_differ a b t.rear_is t.front_is;
       })
     where
-      corners_differ : (a b : Bot) → rear p ≡ a.pos → front p ≡ b.pos → IsFalse (repeats (flat_map (λ (c : Act). corners_of (position c) c.command) (acts (a ∷ b ∷ []) (k ∷ l ∷ []))))
+      corners_differ : (a b : Bot) → rear p ≡ a.pos → front p ≡ b.pos
+          → IsFalse (repeats (flat_map (λ (c : Act). corners_of (position c) c.command) (acts (a ∷ b ∷ []) (k ∷ l ∷ []))))
       corners_differ a b ra rb =
           let w = rear_how in
           let v = front_how in
@@ -152,7 +158,8 @@ module _ (p : TapeState) (full : Bool) (k l : Command) (first last : ℕ) (h : I
   pub can_paint : CanPaintAll p (k ∷ l ∷ [])
   can_paint = record { region = below_both; full = full; group = one_group }
 
-  pub wrote_both : (q : TapeState) → AllStep p q (k ∷ l ∷ []) (with_region p.matrix below_both full) p.harmonics p.bots → Sets p q (rear p).x ((rear p).y - 1) (rear p).z ((front p).z + 1) full (rear p) (front p) 1 1
+  pub wrote_both : (q : TapeState) → AllStep p q (k ∷ l ∷ []) (with_region p.matrix below_both full) p.harmonics p.bots
+      → Sets p q (rear p).x ((rear p).y - 1) (rear p).z ((front p).z + 1) full (rear p) (front p) 1 1
   wrote_both q s =
       let r = p.matrix.resolution in
       let y = h.in_row.y in

@@ -65,13 +65,15 @@ module _ (p : TapeState) (d : Diff) (e : d ≡ ahead (pos 1)) (alone : p.bots �
     calm = subst (λ (bots : List Bot). AllByRecursion (λ x. IsFalse (is_flip x.command)) (acts bots (Fission d 0 ∷ []))) (sym alone) (refl, tt);
   }
 
-  two_bots : bots_after (acts (first_at (spot p.bots)) (Fission d 0 ∷ [])) ≡ parent (bot_at (spot p.bots)) 0 ∷ newborn (bot_at (spot p.bots)) (plus (point (spot p.bots)) d) 0 ∷ []
+  two_bots : bots_after (acts (first_at (spot p.bots)) (Fission d 0 ∷ []))
+      ≡ parent (bot_at (spot p.bots)) 0 ∷ newborn (bot_at (spot p.bots)) (plus (point (spot p.bots)) d) 0 ∷ []
   two_bots = rw bids_rise refl
 
   pub split_stays : AllByRecursion (λ x. IsTrue (leaves_voxels x.command)) (acts p.bots (Fission d 0 ∷ []))
   split_stays = subst (λ (bots : List Bot). AllByRecursion (λ x. IsTrue (leaves_voxels x.command)) (acts bots (Fission d 0 ∷ []))) (sym alone) (refl, tt)
 
-  pub has_split : (q : TapeState) → fissions p ≡ 0 → p.harmonics ≡ High → CalmStep p q (Fission d 0 ∷ []) → (after (state_of p) (Fission d 0 ∷ [])).matrix ≡ p.matrix → Splits p q
+  pub has_split : (q : TapeState) → fissions p ≡ 0 → p.harmonics ≡ High → CalmStep p q (Fission d 0 ∷ [])
+      → (after (state_of p) (Fission d 0 ∷ [])).matrix ≡ p.matrix → Splits p q
   has_split q none high s m =
       let bots : q.bots ≡ parent (bot_at (spot p.bots)) 0 ∷ newborn (bot_at (spot p.bots)) (plus (point (spot p.bots)) d) 0 ∷ [] = s.bots_are ∙ (ap (λ (bs : List Bot). bots_after (acts bs (Fission d 0 ∷ []))) alone ∙ two_bots) in
       let rear_is : rear q ≡ spot p.bots = ap spot bots in
@@ -149,7 +151,8 @@ module _ (p : TapeState) (d e : Diff) (ed : d ≡ ahead (pos 1)) (ee : e ≡ ahe
   pub join_stays : AllByRecursion (λ x. IsTrue (leaves_voxels x.command)) (acts p.bots (FusionP d ∷ FusionS e ∷ []))
   join_stays = let t = both_bots p.bots h.two in subst (λ (bots : List Bot). AllByRecursion (λ x. IsTrue (leaves_voxels x.command)) (acts bots (FusionP d ∷ FusionS e ∷ []))) (sym t.are) (refl, (refl, tt))
 
-  pub has_joined : (q : TapeState) → CalmStep p q (FusionP d ∷ FusionS e ∷ []) → (after (state_of p) (FusionP d ∷ FusionS e ∷ [])).matrix ≡ p.matrix → PairJoins p q (rear p) 1
+  pub has_joined : (q : TapeState) → CalmStep p q (FusionP d ∷ FusionS e ∷ [])
+      → (after (state_of p) (FusionP d ∷ FusionS e ∷ [])).matrix ≡ p.matrix → PairJoins p q (rear p) 1
   has_joined q s m =
       let t = both_bots p.bots h.two in
       let a = t.first in

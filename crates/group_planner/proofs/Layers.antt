@@ -14,7 +14,8 @@ use Rattle.group_planner.proofs.Stamps.{stamps_as}
 -- ---- sums
 
 -- a sum of 135 of one and 3 of another
-pub sum_of_both : (f g : ℕ → ℕ) (n : ℕ) → sum_below (λ k. 135 * f k + 3 * g k) n ≡ 135 * sum_below f n + 3 * sum_below g n
+pub sum_of_both : (f g : ℕ → ℕ) (n : ℕ)
+    → sum_below (λ k. 135 * f k + 3 * g k) n ≡ 135 * sum_below f n + 3 * sum_below g n
 sum_of_both f g zero =
     let a = sum_below-zero (λ k. 135 * f k + 3 * g k) in
     let b = sum_below-zero f in
@@ -42,7 +43,9 @@ no_lines m y c = let e : nat_lt c.x 0 ≡ false = grind (arith, nat_tests) in by
     by s t u e = rw e refl
 
 -- all lines are the layer
-pub stamps_layer : (a b : TapeState) (m : Matrix) (full : Bool) (x y : ℕ) → m.resolution ≤ x → Stamps a b m full (in_layer x y) (sum_below (λ k. runs_of_row m k y) x) → sum_below (λ k. runs_of_row m k y) x ≡ runs_of_layer m y → Stamps a b m full (layer y) (runs_of_layer m y)
+pub stamps_layer : (a b : TapeState) (m : Matrix) (full : Bool) (x y : ℕ) → m.resolution ≤ x
+    → Stamps a b m full (in_layer x y) (sum_below (λ k. runs_of_row m k y) x)
+    → sum_below (λ k. runs_of_row m k y) x ≡ runs_of_layer m y → Stamps a b m full (layer y) (runs_of_layer m y)
 stamps_layer a b m full x y l g n = stamps_as a b m full (in_layer x y) (layer y) _ (runs_of_layer m y) g (λ c. by c (nat_lt c.x x) refl) (omega (arith, n))
   where
     past : (u r : ℕ) → r ≤ u → nat_lt u r ≡ false
@@ -70,7 +73,8 @@ at_or_above : (v y : ℕ) → y ≤ v → nat_le y v ≡ true
 at_or_above v y h = grind (arith, nat_tests)
 
 -- at first nothing is written, since the top layer is void
-pub no_layers : (p : TapeState) (m : Matrix) (c : Coord) → CanVoidModel p m → (from_layer (p.matrix.resolution - 1) c && is_full m c) ≡ false
+pub no_layers : (p : TapeState) (m : Matrix) (c : Coord) → CanVoidModel p m
+    → (from_layer (p.matrix.resolution - 1) c && is_full m c) ≡ false
 no_layers p m c h = by (from_layer (p.matrix.resolution - 1) c) refl
   where
     by : (t : Bool) → from_layer (p.matrix.resolution - 1) c ≡ t → (t && is_full m c) ≡ false
@@ -82,11 +86,13 @@ emptied true = refl
 emptied false = refl
 
 -- where the layers from a height on are voided, all is void there
-pub cleared : (a b : TapeState) (m : Matrix) (y n : ℕ) → CanVoidModel a m → Stamps a b m false (from_layer y) n → IsVoidFrom b.matrix y
+pub cleared : (a b : TapeState) (m : Matrix) (y n : ℕ) → CanVoidModel a m → Stamps a b m false (from_layer y) n
+    → IsVoidFrom b.matrix y
 cleared a b m y n h g = λ c l. g.stamped c ∙ (ap (λ t. cond (t && is_full m c) false (is_full a.matrix c)) (at_or_above c.y y l) ∙ (ap (λ f. cond (true && is_full m c) false f) (h.alike c) ∙ emptied (is_full m c)))
 
 -- the next layer can be voided
-pub clear_on : (a b : TapeState) (m : Matrix) (y z n : ℕ) → CanVoidModel a m → Stamps a b m false (from_layer y) n → z + 1 ≡ y → y < a.matrix.resolution → CanStamp b m z
+pub clear_on : (a b : TapeState) (m : Matrix) (y z n : ℕ) → CanVoidModel a m → Stamps a b m false (from_layer y) n
+    → z + 1 ≡ y → y < a.matrix.resolution → CanStamp b m z
 clear_on a b m y z n h g e l = record { pair = g.pair; same = h.same ∙ sym g.resolution; within = let r = g.resolution in omega arith; above = subst (IsVoidFrom b.matrix) (sym e) (cleared a b m y n h g) }
 
 -- ---- from below up
@@ -101,7 +107,8 @@ no_layers_yet m low c = by (nat_le low c.y) (nat_lt c.y low) (is_full m c) (neve
     by : (s t u : Bool) → (s && t) ≡ false → ((s && t) && u) ≡ false
     by s t u e = rw e refl
 
-pub between_layers-more : (low y : ℕ) (c : Coord) → low ≤ y → between_layers low (y + 1) c ≡ (layer y c || between_layers low y c)
+pub between_layers-more : (low y : ℕ) (c : Coord) → low ≤ y
+    → between_layers low (y + 1) c ≡ (layer y c || between_layers low y c)
 between_layers-more low y c h = by c.y
   where
     by : (v : ℕ) → (nat_le low v && nat_lt v (y + 1)) ≡ (v == y || (nat_le low v && nat_lt v y))

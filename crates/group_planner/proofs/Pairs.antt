@@ -46,11 +46,15 @@ both_bots (a ∷ []) e = absurd (omega arith)
 both_bots (a ∷ b ∷ []) e = record { first = a; second = b; are = refl; rear_is = refl; front_is = refl }
 both_bots (a ∷ b ∷ c ∷ bots) e = absurd (omega arith)
 
-pub all_allowed : (profile : Profile) (k : Command) → profile ≡ full_profile → IsTrue (is_allowed full_profile k) → IsTrue (is_allowed profile k)
+pub all_allowed : (profile : Profile) (k : Command) → profile ≡ full_profile → IsTrue (is_allowed full_profile k)
+    → IsTrue (is_allowed profile k)
 all_allowed profile k e h = subst (λ (p : Profile). IsTrue (is_allowed p k)) (sym e) h
 
 -- the ways of both bots lie apart where these regions do
-pub can_move : (p : TapeState) (k l : Command) → IsPair p → IsTrue (is_allowed full_profile k) → IsTrue (is_allowed full_profile l) → MayGo p.matrix (point (rear p)) k → MayGo p.matrix (point (front p)) l → LieApart (between (point (rear p)) (goal_of (point (rear p)) k)) (between (point (front p)) (goal_of (point (front p)) l)) → CanMoveAll p (k ∷ l ∷ [])
+pub can_move : (p : TapeState) (k l : Command) → IsPair p → IsTrue (is_allowed full_profile k)
+    → IsTrue (is_allowed full_profile l) → MayGo p.matrix (point (rear p)) k → MayGo p.matrix (point (front p)) l
+    → LieApart (between (point (rear p)) (goal_of (point (rear p)) k))
+    (between (point (front p)) (goal_of (point (front p)) l)) → CanMoveAll p (k ∷ l ∷ [])
 can_move p k l h ak al gk gl apart =
     let t = both_bots p.bots h.two in
     let a = t.first in
@@ -64,7 +68,8 @@ can_move p k l h ak al gk gl apart =
     }
 
 -- what a step of two commands costs
-pub spends : (p q : TapeState) (k l : Command) (m : Matrix) (bots : List Bot) (n : ℕ) → AllStep p q (k ∷ l ∷ []) m p.harmonics bots → length (spellings (k ∷ l ∷ [])) ≤ 4 + 4 * n → Spends p q n
+pub spends : (p q : TapeState) (k l : Command) (m : Matrix) (bots : List Bot) (n : ℕ)
+    → AllStep p q (k ∷ l ∷ []) m p.harmonics bots → length (spellings (k ∷ l ∷ [])) ≤ 4 + 4 * n → Spends p q n
 spends p q k l m bots n s h =
     let added = ap length s.added ∙ length-append p.commands (k ∷ l ∷ []) in
     let steps = s.steps in
@@ -72,10 +77,13 @@ spends p q k l m bots n s h =
     record { commands_are = omega (arith, added, steps); bytes_are = omega (arith, bytes, steps, h) }
 
 -- a step in which no bot splits leaves the number of Fissions
-pub still_one : (p q : TapeState) (k l : Command) → IsPair p → q.commands ≡ p.commands ++ k ∷ l ∷ [] → count_by is_fission (k ∷ l ∷ []) ≡ 0 → fissions q ≡ 1
+pub still_one : (p q : TapeState) (k l : Command) → IsPair p → q.commands ≡ p.commands ++ k ∷ l ∷ []
+    → count_by is_fission (k ∷ l ∷ []) ≡ 0 → fissions q ≡ 1
 still_one p q k l h added none = let more = fissions_more p q (k ∷ l ∷ []) 0 added none in let one = h.one_split in omega (arith, more, one)
 
-pub there : (p : TapeState) (k l : Command) (a b : Coord) → IsPair p → goal_of (point (rear p)) k ≡ point a → goal_of (point (front p)) l ≡ point b → (spot (bots_gone p.bots (k ∷ l ∷ [])) ≡ a) × (second_spot (bots_gone p.bots (k ∷ l ∷ [])) ≡ b) × (length (bots_gone p.bots (k ∷ l ∷ [])) ≡ 2)
+pub there : (p : TapeState) (k l : Command) (a b : Coord) → IsPair p → goal_of (point (rear p)) k ≡ point a
+    → goal_of (point (front p)) l ≡ point b → (spot (bots_gone p.bots (k ∷ l ∷ [])) ≡ a)
+    × (second_spot (bots_gone p.bots (k ∷ l ∷ [])) ≡ b) × (length (bots_gone p.bots (k ∷ l ∷ [])) ≡ 2)
 there p k l a b h ea eb =
     let t = both_bots p.bots h.two in (
       ap (λ (bots : List Bot). spot (bots_gone bots (k ∷ l ∷ []))) t.are ∙ (ap (λ (c : Coord). coordinate (goal_of (point c) k)) (sym t.rear_is) ∙ ap coordinate ea),
@@ -84,7 +92,11 @@ there p k l a b h ea eb =
     )
 
 -- the pair after a step in which each waits or moves
-pub moved_pair : (p q : TapeState) (k l : Command) (a b : Coord) → IsPair p → AllStep p q (k ∷ l ∷ []) p.matrix p.harmonics (bots_gone p.bots (k ∷ l ∷ [])) → goal_of (point (rear p)) k ≡ point a → goal_of (point (front p)) l ≡ point b → AreInRow p.matrix.resolution a b → IsVoidFrom p.matrix a.y → length (spellings (k ∷ l ∷ [])) ≤ 4 → count_by is_fission (k ∷ l ∷ []) ≡ 0 → PairGoes p q a b 1
+pub moved_pair : (p q : TapeState) (k l : Command) (a b : Coord) → IsPair p
+    → AllStep p q (k ∷ l ∷ []) p.matrix p.harmonics (bots_gone p.bots (k ∷ l ∷ []))
+    → goal_of (point (rear p)) k ≡ point a → goal_of (point (front p)) l ≡ point b → AreInRow p.matrix.resolution a b
+    → IsVoidFrom p.matrix a.y → length (spellings (k ∷ l ∷ [])) ≤ 4 → count_by is_fission (k ∷ l ∷ []) ≡ 0
+    → PairGoes p q a b 1
 moved_pair p q k l a b h s ea eb row free few none =
     let at = there p k l a b h ea eb in
     let rear_is : rear q ≡ a = ap spot s.bots_are ∙ at.0 in
@@ -107,7 +119,8 @@ moved_pair p q k l a b h s ea eb row free few none =
     }
 
 -- where a difference along an axis leads
-pub led : (axis : Axis) (c : Coord) (at next : ℕ) (d : Diff) → component_of axis c ≡ at → d ≡ along axis (pos next -ℤ pos at) → plus (point c) d ≡ point (put axis c next)
+pub led : (axis : Axis) (c : Coord) (at next : ℕ) (d : Diff) → component_of axis c ≡ at
+    → d ≡ along axis (pos next -ℤ pos at) → plus (point c) d ≡ point (put axis c next)
 led axis c at next d e f =
     ap (plus (point c)) f
     ∙ (ap (λ u. plus (point c) (along axis (pos next -ℤ pos u))) (sym e)
@@ -115,13 +128,15 @@ led axis c at next d e f =
     ∙ plus-along axis c (component_of axis c) next))
 
 -- regions whose corners along z are in order lie apart
-pub apart_z : (a b c d : Coord) → a.z < c.z → a.z < d.z → b.z < c.z → b.z < d.z → LieApart (between (point a) (point b)) (between (point c) (point d))
+pub apart_z : (a b c d : Coord) → a.z < c.z → a.z < d.z → b.z < c.z → b.z < d.z
+    → LieApart (between (point a) (point b)) (between (point c) (point d))
 apart_z a b c d h k l m = before_z (record { near = omega (arith, ints); far = omega (arith, ints); next_near = omega (arith, ints); next_far = omega (arith, ints) })
 
 -- ---- both bots along x or y
 
 -- the row where both go to
-pub row_along : (r : ℕ) (axis : Axis) (a b : Coord) (next : ℕ) → (axis ≡ X) ⊎ (axis ≡ Y) → AreInRow r a b → next < r → AreInRow r (put axis a next) (put axis b next)
+pub row_along : (r : ℕ) (axis : Axis) (a b : Coord) (next : ℕ) → (axis ≡ X) ⊎ (axis ≡ Y) → AreInRow r a b → next < r
+    → AreInRow r (put axis a next) (put axis b next)
 row_along r axis a b next (inl e) h l = subst (λ (x : Axis). AreInRow r (put x a next) (put x b next)) (sym e) (record { x = l; y = h.y; z = h.z; same_x = refl; same_y = h.same_y; order = h.order })
 row_along r axis a b next (inr e) h l = subst (λ (x : Axis). AreInRow r (put x a next) (put x b next)) (sym e) (record { x = h.x; y = l; z = h.z; same_x = h.same_x; same_y = refl; order = h.order })
 
@@ -131,12 +146,14 @@ z_stays axis c next (inl e) = ap (λ (x : Axis). (put x c next).z) e
 z_stays axis c next (inr e) = ap (λ (x : Axis). (put x c next).z) e
 
 -- the front stands at the same place along x and y
-pub same_there : (r : ℕ) (axis : Axis) (a b : Coord) → (axis ≡ X) ⊎ (axis ≡ Y) → AreInRow r a b → component_of axis b ≡ component_of axis a
+pub same_there : (r : ℕ) (axis : Axis) (a b : Coord) → (axis ≡ X) ⊎ (axis ≡ Y) → AreInRow r a b
+    → component_of axis b ≡ component_of axis a
 same_there r axis a b (inl e) h = ap (λ (x : Axis). component_of x b) e ∙ (h.same_x ∙ sym (ap (λ (x : Axis). component_of x a) e))
 same_there r axis a b (inr e) h = ap (λ (x : Axis). component_of x b) e ∙ (h.same_y ∙ sym (ap (λ (x : Axis). component_of x a) e))
 
 -- their ways lie apart, since they differ in z
-pub both_apart : (r : ℕ) (axis : Axis) (a b : Coord) (next : ℕ) → (axis ≡ X) ⊎ (axis ≡ Y) → AreInRow r a b → LieApart (between (point a) (point (put axis a next))) (between (point b) (point (put axis b next)))
+pub both_apart : (r : ℕ) (axis : Axis) (a b : Coord) (next : ℕ) → (axis ≡ X) ⊎ (axis ≡ Y) → AreInRow r a b
+    → LieApart (between (point a) (point (put axis a next))) (between (point b) (point (put axis b next)))
 both_apart r axis a b next f h =
     let order = h.order in
     let za = z_stays axis a next f in
@@ -175,7 +192,9 @@ module _ (p : TapeState) (axis : Axis) (at next : ℕ) (d e : Diff) (h : IsPair 
       (subst (λ (q : Point). LieApart (between (point (rear p)) (point a)) (between (point (front p)) q)) (sym front_led)
       (both_apart r axis (rear p) (front p) next flat h.in_row)))
 
-  pub both_moved : (q : TapeState) → AllStep p q (SMove d ∷ SMove e ∷ []) p.matrix p.harmonics (bots_gone p.bots (SMove d ∷ SMove e ∷ [])) → PairGoes p q (put axis (rear p) next) (put axis (front p) next) 1
+  pub both_moved : (q : TapeState)
+      → AllStep p q (SMove d ∷ SMove e ∷ []) p.matrix p.harmonics (bots_gone p.bots (SMove d ∷ SMove e ∷ []))
+      → PairGoes p q (put axis (rear p) next) (put axis (front p) next) 1
   both_moved q s = moved_pair p q (SMove d) (SMove e) (put axis (rear p) next) (put axis (front p) next) h s rear_led front_led there_in_row free (lit≤ tt) refl
 
 -- ---- one bot along z
@@ -196,7 +215,9 @@ module _ (p : TapeState) (at next : ℕ) (d : Diff) (h : IsPair p) (here : (fron
       (subst (λ (q : Point). LieApart (between (point (rear p)) (point (rear p))) (between (point (front p)) q)) (sym ahead_led)
       (apart_z (rear p) (rear p) (front p) b order past order past))
 
-  pub front_moved : (q : TapeState) → AllStep p q (Wait ∷ SMove d ∷ []) p.matrix p.harmonics (bots_gone p.bots (Wait ∷ SMove d ∷ [])) → PairGoes p q (rear p) (put Z (front p) next) 1
+  pub front_moved : (q : TapeState)
+      → AllStep p q (Wait ∷ SMove d ∷ []) p.matrix p.harmonics (bots_gone p.bots (Wait ∷ SMove d ∷ []))
+      → PairGoes p q (rear p) (put Z (front p) next) 1
   front_moved q s = moved_pair p q Wait (SMove d) (rear p) (put Z (front p) next) h s refl ahead_led ahead_in_row h.free (lit≤ tt) refl
 
 module _ (p : TapeState) (at next : ℕ) (d : Diff) (h : IsPair p) (here : (rear p).z ≡ at) (before : next < (front p).z) (ed : d ≡ along Z (pos next -ℤ pos at)) where
@@ -215,7 +236,9 @@ module _ (p : TapeState) (at next : ℕ) (d : Diff) (h : IsPair p) (here : (rear
       (subst (λ (q : Point). LieApart (between (point (rear p)) q) (between (point (front p)) (point (front p)))) (sym behind_led)
       (apart_z (rear p) a (front p) (front p) order order before before))
 
-  pub rear_moved : (q : TapeState) → AllStep p q (SMove d ∷ Wait ∷ []) p.matrix p.harmonics (bots_gone p.bots (SMove d ∷ Wait ∷ [])) → PairGoes p q (put Z (rear p) next) (front p) 1
+  pub rear_moved : (q : TapeState)
+      → AllStep p q (SMove d ∷ Wait ∷ []) p.matrix p.harmonics (bots_gone p.bots (SMove d ∷ Wait ∷ []))
+      → PairGoes p q (put Z (rear p) next) (front p) 1
   rear_moved q s = moved_pair p q (SMove d) Wait (put Z (rear p) next) (front p) h s behind_led refl behind_in_row h.free (lit≤ tt) refl
 
 -- ---- both along z
@@ -242,5 +265,7 @@ module _ (p : TapeState) (behind rear_next ahead front_next : ℕ) (d e : Diff) 
       (subst (λ (q : Point). LieApart (between (point (rear p)) (point a)) (between (point (front p)) q)) (sym slid_front)
       (apart_z (rear p) a (front p) b h.in_row.order (omega (arith, rear_here, past)) (omega (arith, front_here, clear)) order)))
 
-  pub slid : (q : TapeState) → AllStep p q (SMove d ∷ SMove e ∷ []) p.matrix p.harmonics (bots_gone p.bots (SMove d ∷ SMove e ∷ [])) → PairGoes p q (put Z (rear p) rear_next) (put Z (front p) front_next) 1
+  pub slid : (q : TapeState)
+      → AllStep p q (SMove d ∷ SMove e ∷ []) p.matrix p.harmonics (bots_gone p.bots (SMove d ∷ SMove e ∷ []))
+      → PairGoes p q (put Z (rear p) rear_next) (put Z (front p) front_next) 1
   slid q s = moved_pair p q (SMove d) (SMove e) (put Z (rear p) rear_next) (put Z (front p) front_next) h s slid_rear slid_front slid_in_row h.free (lit≤ tt) refl

@@ -47,15 +47,25 @@ emptied t true e = sym e
 emptied t false e = sym e
 
 -- where the source was voided from the lowest layer of a difference on, and the target filled from there, the voxels are those of the target
-pub alike_target : (s t b d : Matrix) (low : ℕ) → IsLegal t → ((c : Coord) → c.y < low → is_full s c ≡ is_full t c) → ((c : Coord) → is_full b c ≡ cond (from_layer low c && is_full s c) false (is_full s c)) → ((c : Coord) → is_full d c ≡ cond (between_layers low (t.resolution - 1) c && is_full t c) true (is_full b c)) → AreAlike d t
+pub alike_target : (s t b d : Matrix) (low : ℕ) → IsLegal t → ((c : Coord) → c.y < low → is_full s c ≡ is_full t c)
+    → ((c : Coord) → is_full b c ≡ cond (from_layer low c && is_full s c) false (is_full s c))
+    → ((c : Coord) → is_full d c ≡ cond (between_layers low (t.resolution - 1) c && is_full t c) true (is_full b c))
+    → AreAlike d t
 alike_target s t b d low h below p q = λ c. q c ∙ (ap (cond (between_layers low (t.resolution - 1) c && is_full t c) true) (p c) ∙ by c (nat_le low c.y) (nat_lt c.y (t.resolution - 1)) refl refl)
   where
-    by : (c : Coord) (u v : Bool) → nat_le low c.y ≡ u → nat_lt c.y (t.resolution - 1) ≡ v → cond ((nat_le low c.y && nat_lt c.y (t.resolution - 1)) && is_full t c) true (cond (nat_le low c.y && is_full s c) false (is_full s c)) ≡ is_full t c
+    by : (c : Coord) (u v : Bool) → nat_le low c.y ≡ u → nat_lt c.y (t.resolution - 1) ≡ v
+        → cond ((nat_le low c.y && nat_lt c.y (t.resolution - 1)) && is_full t c) true (cond (nat_le low c.y && is_full s c) false (is_full s c))
+        ≡ is_full t c
     by c true true e f = (λ i. cond ((e i && f i) && is_full t c) true (cond (e i && is_full s c) false (is_full s c))) ∙ filled (is_full t c) (is_full s c)
     by c true false e f = (λ i. cond ((e i && f i) && is_full t c) true (cond (e i && is_full s c) false (is_full s c))) ∙ emptied (is_full t c) (is_full s c) (void_at_top t h c (not_less_by_test c.y (t.resolution - 1) f))
     by c false v e f = (λ i. cond ((e i && nat_lt c.y (t.resolution - 1)) && is_full t c) true (cond (e i && is_full s c) false (is_full s c))) ∙ below c (let l = not_at_most_by_test low c.y e in omega arith)
 
-pub rebuilt : (a b d : TapeState) (s t : Matrix) (low : ℕ) → PairIsOpened a → a.source ≡ s → IsLegal t → IsWhole d.matrix → IsWhole t → t.resolution ≡ s.resolution → IsLowest s t low → Stamps a b s false (from_layer low) (runs s) → climb_to b low ≤ climb_to a (a.matrix.resolution - 1) + a.matrix.resolution + steps_below s a.matrix.resolution → Stamps b d t true (between_layers low (b.matrix.resolution - 1)) (runs t) → d.steps ≤ climb_to b (low + 1) + b.matrix.resolution + steps_below t b.matrix.resolution → PairHasRebuilt d s t
+pub rebuilt : (a b d : TapeState) (s t : Matrix) (low : ℕ) → PairIsOpened a → a.source ≡ s → IsLegal t
+    → IsWhole d.matrix → IsWhole t → t.resolution ≡ s.resolution → IsLowest s t low
+    → Stamps a b s false (from_layer low) (runs s)
+    → climb_to b low ≤ climb_to a (a.matrix.resolution - 1) + a.matrix.resolution + steps_below s a.matrix.resolution
+    → Stamps b d t true (between_layers low (b.matrix.resolution - 1)) (runs t)
+    → d.steps ≤ climb_to b (low + 1) + b.matrix.resolution + steps_below t b.matrix.resolution → PairHasRebuilt d s t
 rebuilt a b d s t low o e h wd wt same l g climb k steps =
     let em = o.matrix ∙ e in
     let ra = ap (λ (m : Matrix). m.resolution) em in
@@ -79,7 +89,10 @@ rebuilt a b d s t low o e h wd wt same l g climb k steps =
     }
 
 -- how many steps lead home
-pub home_steps : (t b : TapeState) (s g : Matrix) → PairHasRebuilt t s g → s.resolution ≤ 400 → s.resolution ≡ g.resolution → PairJoins t b (coord 0 (rear t).y 0) (moves (rear t).x 0 + moves (rear t).z 0 + moves (front t).z 1 + 1) → b.steps + moves_to (spot b.bots) (coord 0 0 0) ≤ t.steps + 109
+pub home_steps : (t b : TapeState) (s g : Matrix) → PairHasRebuilt t s g → s.resolution ≤ 400
+    → s.resolution ≡ g.resolution
+    → PairJoins t b (coord 0 (rear t).y 0) (moves (rear t).x 0 + moves (rear t).z 0 + moves (front t).z 1 + 1)
+    → b.steps + moves_to (spot b.bots) (coord 0 0 0) ≤ t.steps + 109
 home_steps t b s g k l e j =
     let er : t.matrix.resolution ≡ g.resolution = ap (λ (m : Matrix). m.resolution) k.matrix in
     let row = k.pair.in_row in

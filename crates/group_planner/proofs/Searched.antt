@@ -17,11 +17,14 @@ record IsFirst (test : Coord → Bool) (c : Coord) (last : ℕ) (d : Coord) : Ty
   passes : test d ≡ true
   before : (z : ℕ) → c.z ≤ z → z < d.z → test (at c z) ≡ false
 
-first_by : (test : Coord → Bool) (n : ℕ) (c : Coord) (last : ℕ) (d : Coord) → n ≡ last + 1 - c.z → find test (row c last) ≡ Some d → IsFirst test c last d
+first_by : (test : Coord → Bool) (n : ℕ) (c : Coord) (last : ℕ) (d : Coord) → n ≡ last + 1 - c.z
+    → find test (row c last) ≡ Some d → IsFirst test c last d
 first_by test zero c last d e f = absurd (let none = ap (find test) (row-end c last (omega arith)) in cc)
 first_by test (suc n) c last d e f = by (test c) refl (λ later. first_by test n (at c (c.z + 1)) last d (omega arith) later)
   where
-    by : (b : Bool) → test c ≡ b → (find test (row (at c (c.z + 1)) last) ≡ Some d → IsFirst test (at c (c.z + 1)) last d) → IsFirst test c last d
+    by : (b : Bool) → test c ≡ b
+        → (find test (row (at c (c.z + 1)) last) ≡ Some d → IsFirst test (at c (c.z + 1)) last d)
+        → IsFirst test c last d
     by true t rest =
         let more = row-more c last (omega arith) in
         let here : Some c ≡ Some d = sym (ap (find test) more ∙ ap (λ b. cond b (Some c) (find test (row (at c (c.z + 1)) last))) t) ∙ f in
@@ -33,15 +36,18 @@ first_by test (suc n) c last d e f = by (test c) refl (λ later. first_by test n
         let h = rest later in
         record { is = h.is; low = omega (arith, h.low); high = h.high; passes = h.passes; before = λ z l m. at_or_after z l m t h (cases_lt c.z z) }
       where
-        at_or_after : (z : ℕ) → c.z ≤ z → z < d.z → test c ≡ false → IsFirst test (at c (c.z + 1)) last d → (c.z < z) ⊎ (z ≤ c.z) → test (at c z) ≡ false
+        at_or_after : (z : ℕ) → c.z ≤ z → z < d.z → test c ≡ false → IsFirst test (at c (c.z + 1)) last d
+            → (c.z < z) ⊎ (z ≤ c.z) → test (at c z) ≡ false
         at_or_after z l m t h (inl a) = h.before z (omega arith) m
         at_or_after z l m t h (inr a) = let e : c.z ≡ z = omega arith in sym (ap (λ k. test (at c k)) e) ∙ t
 
-none_by : (test : Coord → Bool) (n : ℕ) (c : Coord) (last : ℕ) → n ≡ last + 1 - c.z → find test (row c last) ≡ None → (z : ℕ) → c.z ≤ z → z ≤ last → test (at c z) ≡ false
+none_by : (test : Coord → Bool) (n : ℕ) (c : Coord) (last : ℕ) → n ≡ last + 1 - c.z → find test (row c last) ≡ None
+    → (z : ℕ) → c.z ≤ z → z ≤ last → test (at c z) ≡ false
 none_by test zero c last e f z l m = absurd (omega arith)
 none_by test (suc n) c last e f z l m = by (test c) refl (λ later a. none_by test n (at c (c.z + 1)) last (omega arith) later z a m) (cases_lt c.z z)
   where
-    by : (b : Bool) → test c ≡ b → (find test (row (at c (c.z + 1)) last) ≡ None → c.z + 1 ≤ z → test (at c z) ≡ false) → (c.z < z) ⊎ (z ≤ c.z) → test (at c z) ≡ false
+    by : (b : Bool) → test c ≡ b → (find test (row (at c (c.z + 1)) last) ≡ None → c.z + 1 ≤ z → test (at c z) ≡ false)
+        → (c.z < z) ⊎ (z ≤ c.z) → test (at c z) ≡ false
     by true t rest k = absurd (let more = row-more c last (omega arith) in let here : Some c ≡ None = sym (ap (find test) more ∙ ap (λ b. cond b (Some c) (find test (row (at c (c.z + 1)) last))) t) ∙ f in cc)
     by false t rest (inl a) = let more = row-more c last (omega arith) in rest (sym (ap (find test) more ∙ ap (λ b. cond b (Some c) (find test (row (at c (c.z + 1)) last))) t) ∙ f) (omega arith)
     by false t rest (inr a) = let e : c.z ≡ z = omega arith in sym (ap (λ k. test (at c k)) e) ∙ t
@@ -62,7 +68,8 @@ state_false m false c e = by (is_full m c) e
     by true f = refl
     by false f = cc
 
-pub is_next : (m : Matrix) (c d : Coord) (end : ℕ) (full : Bool) → c.z < end → find (is_state m full) (row c (end - 1)) ≡ Some d → IsRunEnd m c.x c.y c.z end full d.z
+pub is_next : (m : Matrix) (c d : Coord) (end : ℕ) (full : Bool) → c.z < end
+    → find (is_state m full) (row c (end - 1)) ≡ Some d → IsRunEnd m c.x c.y c.z end full d.z
 is_next m c d end full l f =
     let h = first_by (is_state m full) (end - 1 + 1 - c.z) c (end - 1) d refl f in
     record {
@@ -72,7 +79,8 @@ is_next m c d end full l f =
       here = λ _. ap (is_full m) (sym h.is) ∙ state_true m full d h.passes;
     }
 
-pub is_end : (m : Matrix) (c : Coord) (end : ℕ) (full : Bool) → c.z < end → find (is_state m full) (row c (end - 1)) ≡ None → IsRunEnd m c.x c.y c.z end full end
+pub is_end : (m : Matrix) (c : Coord) (end : ℕ) (full : Bool) → c.z < end
+    → find (is_state m full) (row c (end - 1)) ≡ None → IsRunEnd m c.x c.y c.z end full end
 is_end m c end full l f =
     record {
       low = omega arith;

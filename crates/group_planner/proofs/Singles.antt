@@ -31,7 +31,8 @@ use Rattle.group_planner.proofs.Written.{below, set_by, still_free}
 -- what is so of both commands that write the voxel below
 record Writer (k : Command) (full : Bool) : Type 0 where
   allowed : IsTrue (is_allowed full_profile k)
-  may : (s : State) (all : List Act) (a : Act) → IsTrue (in_space s.matrix.resolution (plus (position a) down)) → MayAct s all a k
+  may : (s : State) (all : List Act) (a : Act) → IsTrue (in_space s.matrix.resolution (plus (position a) down))
+      → MayAct s all a k
   stays : IsTrue (stays_one k)
   goal : (p : Point) → goal_of p k ≡ p
   calm : IsFalse (is_flip k)
@@ -40,7 +41,9 @@ record Writer (k : Command) (full : Bool) : Type 0 where
   few_last : length (spellings (Wait ∷ k ∷ [])) ≤ 4
   unsplit_first : count_by is_fission (k ∷ Wait ∷ []) ≡ 0
   unsplit_last : count_by is_fission (Wait ∷ k ∷ []) ≡ 0
-  marks : (p c : Point) (old : Bool) → ((list_any (λ s. is_within s c) (filled p k) || false) || (old && not (list_any (λ s. is_within s c) (voided p k) || false))) ≡ cond (is_within (just (plus p down)) c) full old
+  marks : (p c : Point) (old : Bool)
+      → ((list_any (λ s. is_within s c) (filled p k) || false) || (old && not (list_any (λ s. is_within s c) (voided p k) || false)))
+      ≡ cond (is_within (just (plus p down)) c) full old
 
 fills : (t old : Bool) → (((t || false) || false) || (old && not (false || false))) ≡ cond t true old
 fills true old = refl
@@ -62,12 +65,14 @@ below_within : (r : ℕ) (a : Coord) → IsInSpace r a → 1 ≤ a.y → IsTrue 
 below_within r a i h = let y = i.y in subst (λ (q : Point). IsTrue (in_space r q)) (sym (below a h)) (in_space_is r (coord a.x (a.y - 1) a.z) (record { x = i.x; y = omega arith; z = i.z }))
 
 -- a bot that waits and one that writes the voxel below it, apart in z
-writes_apart : (k : Command) (full : Bool) (a b : Coord) → Writer k full → 1 ≤ a.y → a.z < b.z → AllByRecursion (λ s. AllByRecursion (λ t. LieApart s t) (just (point b) ∷ [])) (volatile_regions (point a) k)
+writes_apart : (k : Command) (full : Bool) (a b : Coord) → Writer k full → 1 ≤ a.y → a.z < b.z
+    → AllByRecursion (λ s. AllByRecursion (λ t. LieApart s t) (just (point b) ∷ [])) (volatile_regions (point a) k)
 writes_apart k full a b w h l =
     subst (λ (ss : List Span). AllByRecursion (λ s. AllByRecursion (λ t. LieApart s t) (just (point b) ∷ [])) ss) (sym (w.volatile (point a)))
     ((apart_z a a b b l l l l, tt), ((subst (λ (q : Point). LieApart (just q) (just (point b))) (sym (below a h)) (apart_z (coord a.x (a.y - 1) a.z) (coord a.x (a.y - 1) a.z) b b l l l l), tt), tt))
 
-waits_apart : (k : Command) (full : Bool) (a b : Coord) → Writer k full → 1 ≤ b.y → a.z < b.z → AllByRecursion (λ s. AllByRecursion (λ t. LieApart s t) (volatile_regions (point b) k)) (just (point a) ∷ [])
+waits_apart : (k : Command) (full : Bool) (a b : Coord) → Writer k full → 1 ≤ b.y → a.z < b.z
+    → AllByRecursion (λ s. AllByRecursion (λ t. LieApart s t) (volatile_regions (point b) k)) (just (point a) ∷ [])
 waits_apart k full a b w h l = (
   subst (λ (ts : List Span). AllByRecursion (λ t. LieApart (just (point a)) t) ts) (sym (w.volatile (point b)))
       (apart_z a a b b l l l l, (subst (λ (q : Point). LieApart (just (point a)) (just q)) (sym (below b h)) (apart_z a a (coord b.x (b.y - 1) b.z) (coord b.x (b.y - 1) b.z) l l l l), tt)),
@@ -126,7 +131,10 @@ module _ (p : TapeState) (k : Command) (full : Bool) (e : k ≡ one_below full) 
   front_stays = let t = both_bots p.bots h.two in let w = how in subst (λ (bots : List Bot). AllByRecursion (λ x. IsTrue (stays_one x.command)) (acts bots (Wait ∷ k ∷ []))) (sym t.are) (refl, (w.stays, tt))
 
   -- the voxel below one of the bots, in a matrix whose voxels are told by what the commands fill and void
-  set_below : (n : Matrix) (c : Coord) → (c.x ≡ (rear p).x) → (c.y ≡ (rear p).y) → IsInSpace p.matrix.resolution c → n.resolution ≡ p.matrix.resolution → ((d : Coord) → IsInSpace p.matrix.resolution d → is_full n d ≡ cond (is_within (just (plus (point c) down)) (point d)) full (is_full p.matrix d)) → AreSet n p.matrix (in_part (rear p).x ((rear p).y - 1) c.z (c.z + 1)) full
+  set_below : (n : Matrix) (c : Coord) → (c.x ≡ (rear p).x) → (c.y ≡ (rear p).y) → IsInSpace p.matrix.resolution c
+      → n.resolution ≡ p.matrix.resolution → ((d : Coord) → IsInSpace p.matrix.resolution d
+      → is_full n d ≡ cond (is_within (just (plus (point c) down)) (point d)) full (is_full p.matrix d))
+      → AreSet n p.matrix (in_part (rear p).x ((rear p).y - 1) c.z (c.z + 1)) full
   set_below n c ex ey i er f =
       let u : 1 ≤ c.y = subst (λ y. 1 ≤ y) (sym ey) above in
       let y = i.y in
@@ -134,7 +142,13 @@ module _ (p : TapeState) (k : Command) (full : Bool) (e : k ≡ one_below full) 
       subst (λ x. AreSet n p.matrix (in_part x ((rear p).y - 1) c.z (c.z + 1)) full) ex (subst (λ v. AreSet n p.matrix (in_part c.x (v - 1) c.z (c.z + 1)) full) ey here)
 
   -- the pair after either step
-  pub wrote_one : (q : TapeState) (l r : Command) (z : ℕ) → AllStep p q (l ∷ r ∷ []) q.matrix p.harmonics (bots_gone p.bots (l ∷ r ∷ [])) → goal_of (point (rear p)) l ≡ point (rear p) → goal_of (point (front p)) r ≡ point (front p) → length (spellings (l ∷ r ∷ [])) ≤ 4 → count_by is_fission (l ∷ r ∷ []) ≡ 0 → q.matrix.resolution ≡ p.matrix.resolution → AreSet q.matrix p.matrix (in_part (rear p).x ((rear p).y - 1) z (z + 1)) full → Sets p q (rear p).x ((rear p).y - 1) z (z + 1) full (rear p) (front p) 1 0
+  pub wrote_one : (q : TapeState) (l r : Command) (z : ℕ)
+      → AllStep p q (l ∷ r ∷ []) q.matrix p.harmonics (bots_gone p.bots (l ∷ r ∷ []))
+      → goal_of (point (rear p)) l ≡ point (rear p) → goal_of (point (front p)) r ≡ point (front p)
+      → length (spellings (l ∷ r ∷ [])) ≤ 4 → count_by is_fission (l ∷ r ∷ []) ≡ 0
+      → q.matrix.resolution ≡ p.matrix.resolution
+      → AreSet q.matrix p.matrix (in_part (rear p).x ((rear p).y - 1) z (z + 1)) full
+      → Sets p q (rear p).x ((rear p).y - 1) z (z + 1) full (rear p) (front p) 1 0
   wrote_one q l r z s el er few none res set =
       let at = there p l r (rear p) (front p) h el er in
       let rear_is : rear q ≡ rear p = ap spot s.bots_are ∙ at.0 in
@@ -157,14 +171,18 @@ module _ (p : TapeState) (k : Command) (full : Bool) (e : k ≡ one_below full) 
         spends = spends p q l r q.matrix _ 0 s (omega (arith, few));
       }
 
-  calm_bots : (q : TapeState) (l r : Command) → CalmStep p q (l ∷ r ∷ []) → (after (state_of p) (l ∷ r ∷ [])).bots ≡ bots_gone p.bots (l ∷ r ∷ []) → AllStep p q (l ∷ r ∷ []) q.matrix p.harmonics (bots_gone p.bots (l ∷ r ∷ []))
+  calm_bots : (q : TapeState) (l r : Command) → CalmStep p q (l ∷ r ∷ [])
+      → (after (state_of p) (l ∷ r ∷ [])).bots ≡ bots_gone p.bots (l ∷ r ∷ [])
+      → AllStep p q (l ∷ r ∷ []) q.matrix p.harmonics (bots_gone p.bots (l ∷ r ∷ []))
   calm_bots q l r s e = record { source = s.source; profile = s.profile; added = s.added; matrix = refl; harmonics = s.harmonics; bots_are = s.bots_are ∙ e; energy = s.energy; steps = s.steps; bytes_are = s.bytes_are }
 
   -- after the step all is as these laws say
   abbrev Voxels : Command → Command → Type 0
   Voxels l r = (d : Coord) → IsInSpace p.matrix.resolution d → is_full (after (state_of p) (l ∷ r ∷ [])).matrix d ≡ (is_filled (acts p.bots (l ∷ r ∷ [])) d || (is_full p.matrix d && not (is_voided (acts p.bots (l ∷ r ∷ [])) d)))
 
-  pub rear_wrote : (q : TapeState) → CalmStep p q (k ∷ Wait ∷ []) → (after (state_of p) (k ∷ Wait ∷ [])).bots ≡ bots_gone p.bots (k ∷ Wait ∷ []) → Voxels k Wait → Sets p q (rear p).x ((rear p).y - 1) (rear p).z ((rear p).z + 1) full (rear p) (front p) 1 0
+  pub rear_wrote : (q : TapeState) → CalmStep p q (k ∷ Wait ∷ [])
+      → (after (state_of p) (k ∷ Wait ∷ [])).bots ≡ bots_gone p.bots (k ∷ Wait ∷ []) → Voxels k Wait
+      → Sets p q (rear p).x ((rear p).y - 1) (rear p).z ((rear p).z + 1) full (rear p) (front p) 1 0
   rear_wrote q s e v =
       let t = both_bots p.bots h.two in
       let w = how in
@@ -177,7 +195,9 @@ module _ (p : TapeState) (k : Command) (full : Bool) (e : k ≡ one_below full) 
       ∙ (w.marks (point t.first.pos) (point d) (is_full p.matrix d)
       ∙ ap (λ (c : Coord). cond (is_within (just (plus (point c) down)) (point d)) full (is_full p.matrix d)) (sym t.rear_is))))))
 
-  pub front_wrote : (q : TapeState) → CalmStep p q (Wait ∷ k ∷ []) → (after (state_of p) (Wait ∷ k ∷ [])).bots ≡ bots_gone p.bots (Wait ∷ k ∷ []) → Voxels Wait k → Sets p q (rear p).x ((rear p).y - 1) (front p).z ((front p).z + 1) full (rear p) (front p) 1 0
+  pub front_wrote : (q : TapeState) → CalmStep p q (Wait ∷ k ∷ [])
+      → (after (state_of p) (Wait ∷ k ∷ [])).bots ≡ bots_gone p.bots (Wait ∷ k ∷ []) → Voxels Wait k
+      → Sets p q (rear p).x ((rear p).y - 1) (front p).z ((front p).z + 1) full (rear p) (front p) 1 0
   front_wrote q s e v =
       let t = both_bots p.bots h.two in
       let w = how in

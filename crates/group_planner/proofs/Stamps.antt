@@ -27,17 +27,22 @@ abbrev pub up_to : ℕ → ℕ → ℕ → Coord → Bool
 up_to x y z = in_part x y 0 z
 
 -- a coordinate of the line
-on_line : (m : Matrix) (x y : ℕ) (c : Coord) → (c.x == x) ≡ true → (c.y == y) ≡ true → is_full m c ≡ is_full_at m x y c.z
+on_line : (m : Matrix) (x y : ℕ) (c : Coord) → (c.x == x) ≡ true → (c.y == y) ≡ true
+    → is_full m c ≡ is_full_at m x y c.z
 on_line m x y c ex ey = let a = equal_by_test c.x x ex in let b = equal_by_test c.y y ey in λ i. is_full m (record { x = a i; y = b i; z = c.z })
 
 -- what is written after one run more
-run_more : (m : Matrix) (x y z : ℕ) (run : RowRun) → IsNextRun m x y z run → (c : Coord) → (up_to x y run.end c && is_full m c) ≡ (in_part x y run.first run.end c || (up_to x y z c && is_full m c))
+run_more : (m : Matrix) (x y z : ℕ) (run : RowRun) → IsNextRun m x y z run → (c : Coord)
+    → (up_to x y run.end c && is_full m c) ≡ (in_part x y run.first run.end c || (up_to x y z c && is_full m c))
 run_more m x y z run h c = by (c.x == x) (c.y == y) refl refl
   where
-    full_z : (z' : ℕ) → z' ≡ c.z → (nat_le 0 z' && nat_lt z' run.end && is_full_at m x y z') ≡ ((nat_le run.first z' && nat_lt z' run.end) || (nat_le 0 z' && nat_lt z' z && is_full_at m x y z'))
+    full_z : (z' : ℕ) → z' ≡ c.z → (nat_le 0 z' && nat_lt z' run.end && is_full_at m x y z')
+        ≡ ((nat_le run.first z' && nat_lt z' run.end) || (nat_le 0 z' && nat_lt z' z && is_full_at m x y z'))
     full_z z' e = zs (cases_lt z' z) (cases_lt z' run.first) (cases_lt z' run.end)
       where
-        zs : (z' < z) ⊎ (z ≤ z') → (z' < run.first) ⊎ (run.first ≤ z') → (z' < run.end) ⊎ (run.end ≤ z') → (nat_le 0 z' && nat_lt z' run.end && is_full_at m x y z') ≡ ((nat_le run.first z' && nat_lt z' run.end) || (nat_le 0 z' && nat_lt z' z && is_full_at m x y z'))
+        zs : (z' < z) ⊎ (z ≤ z') → (z' < run.first) ⊎ (run.first ≤ z') → (z' < run.end) ⊎ (run.end ≤ z')
+            → (nat_le 0 z' && nat_lt z' run.end && is_full_at m x y z')
+            ≡ ((nat_le run.first z' && nat_lt z' run.end) || (nat_le 0 z' && nat_lt z' z && is_full_at m x y z'))
         zs (inl a) b d = let l = h.low in let s = h.is_run.some in let e1 : nat_lt z' run.end ≡ true = grind (arith, nat_tests) in let e2 : nat_le run.first z' ≡ false = grind (arith, nat_tests) in let e3 : nat_lt z' z ≡ true = grind (arith, nat_tests) in rw (e1, e2, e3) refl
         zs (inr a) (inl b) d = let s = h.is_run.some in let v = h.void z' a b in let e1 : nat_lt z' run.end ≡ true = grind (arith, nat_tests) in let e2 : nat_le run.first z' ≡ false = grind (arith, nat_tests) in let e3 : nat_lt z' z ≡ false = grind (arith, nat_tests) in rw (v, e1, e2, e3) (ends (nat_le 0 z'))
           where
@@ -51,10 +56,12 @@ run_more m x y z run h c = by (c.x == x) (c.y == y) refl refl
             none s true f = refl
             none s false f = refl
 
-    by : (s t : Bool) → (c.x == x) ≡ s → (c.y == y) ≡ t → (up_to x y run.end c && is_full m c) ≡ (in_part x y run.first run.end c || (up_to x y z c && is_full m c))
+    by : (s t : Bool) → (c.x == x) ≡ s → (c.y == y) ≡ t
+        → (up_to x y run.end c && is_full m c) ≡ (in_part x y run.first run.end c || (up_to x y z c && is_full m c))
     by true true ex ey = rw (on_line m x y c ex ey, ex, ey) (shape (nat_le 0 c.z) (nat_lt c.z run.end) (nat_le run.first c.z) (nat_lt c.z z) (is_full_at m x y c.z) (full_z c.z refl))
       where
-        shape : (a b d e f : Bool) → (a && b && f) ≡ ((d && b) || (a && e && f)) → ((true && true && a && b) && f) ≡ ((true && true && d && b) || ((true && true && a && e) && f))
+        shape : (a b d e f : Bool) → (a && b && f) ≡ ((d && b) || (a && e && f))
+            → ((true && true && a && b) && f) ≡ ((true && true && d && b) || ((true && true && a && e) && f))
         shape true true true true f g = g
         shape true true true false f g = g
         shape true true false true f g = g
@@ -69,7 +76,9 @@ run_more m x y z run h c = by (c.x == x) (c.y == y) refl refl
     by false t ex ey = rw ex refl
 
 -- what is written on the way back after one run more
-run_before : (m : Matrix) (x y z : ℕ) (run : RowRun) → IsNextRun m x y z run → (c : Coord) → (in_part x y z m.resolution c && is_full m c) ≡ (in_part x y run.first run.end c || (in_part x y run.end m.resolution c && is_full m c))
+run_before : (m : Matrix) (x y z : ℕ) (run : RowRun) → IsNextRun m x y z run → (c : Coord)
+    → (in_part x y z m.resolution c && is_full m c)
+    ≡ (in_part x y run.first run.end c || (in_part x y run.end m.resolution c && is_full m c))
 run_before m x y z run h c = by (c.x == x) (c.y == y) refl refl
   where
     Along : ℕ → Type 0
@@ -90,7 +99,8 @@ run_before m x y z run h c = by (c.x == x) (c.y == y) refl refl
         rest true t = refl
         rest false t = refl
 
-    shape : (a b d e g f : Bool) → (a && b && f) ≡ ((d && e) || (g && b && f)) → ((true && true && a && b) && f) ≡ ((true && true && d && e) || ((true && true && g && b) && f))
+    shape : (a b d e g f : Bool) → (a && b && f) ≡ ((d && e) || (g && b && f))
+        → ((true && true && a && b) && f) ≡ ((true && true && d && e) || ((true && true && g && b) && f))
     shape true true d e true f h = h
     shape true true d e false f h = h
     shape true false d e true f h = h
@@ -100,13 +110,15 @@ run_before m x y z run h c = by (c.x == x) (c.y == y) refl refl
     shape false false d e true f h = h
     shape false false d e false f h = h
 
-    by : (s t : Bool) → (c.x == x) ≡ s → (c.y == y) ≡ t → (in_part x y z m.resolution c && is_full m c) ≡ (in_part x y run.first run.end c || (in_part x y run.end m.resolution c && is_full m c))
+    by : (s t : Bool) → (c.x == x) ≡ s → (c.y == y) ≡ t → (in_part x y z m.resolution c && is_full m c)
+        ≡ (in_part x y run.first run.end c || (in_part x y run.end m.resolution c && is_full m c))
     by true true ex ey = rw (on_line m x y c ex ey, ex, ey) (shape (nat_le z c.z) (nat_lt c.z m.resolution) (nat_le run.first c.z) (nat_lt c.z run.end) (nat_le run.end c.z) (is_full_at m x y c.z) (along c.z (cases_lt c.z z) (cases_lt c.z run.first) (cases_lt c.z run.end)))
     by true false ex ey = rw (ex, ey) refl
     by false t ex ey = rw ex refl
 
 -- where there is no run, no voxel is full
-none_from : (m : Matrix) (x y z : ℕ) → IsNoRun m x y z → (c : Coord) → (in_part x y z m.resolution c && is_full m c) ≡ false
+none_from : (m : Matrix) (x y z : ℕ) → IsNoRun m x y z → (c : Coord)
+    → (in_part x y z m.resolution c && is_full m c) ≡ false
 none_from m x y z h c = off (c.x == x) (c.y == y) (nat_le z c.z) (nat_lt c.z m.resolution) (is_full m c) (λ ex ey ez er. on_line m x y c ex ey ∙ h.void c.z (lower z c.z ez) (less c.z m.resolution er))
   where
     lower : (u v : ℕ) → nat_le u v ≡ true → u ≤ v
@@ -115,7 +127,8 @@ none_from m x y z h c = off (c.x == x) (c.y == y) (nat_le z c.z) (nat_lt c.z m.r
     less : (u v : ℕ) → nat_lt u v ≡ true → u < v
     less u v e = grind (arith, nat_tests)
 
-    off : (s t u v f : Bool) → (s ≡ true → t ≡ true → u ≡ true → v ≡ true → f ≡ false) → ((s && t && u && v) && f) ≡ false
+    off : (s t u v f : Bool) → (s ≡ true → t ≡ true → u ≡ true → v ≡ true → f ≡ false)
+        → ((s && t && u && v) && f) ≡ false
     off true true true true f e = e refl refl refl refl
     off true true true false f e = refl
     off true true false v f e = refl
@@ -133,7 +146,8 @@ none_yet m x y c = by (c.x == x) (c.y == y) (nat_le 0 c.z) (nat_lt c.z 0) (is_fu
     by false t u v w e = refl
 
 -- after the last run all of the line is written
-all_written : (m : Matrix) (x y z : ℕ) → IsNoRun m x y z → (c : Coord) → (is_in_line x y c && is_full m c) ≡ (up_to x y z c && is_full m c)
+all_written : (m : Matrix) (x y z : ℕ) → IsNoRun m x y z → (c : Coord)
+    → (is_in_line x y c && is_full m c) ≡ (up_to x y z c && is_full m c)
 all_written m x y z h c = by (c.x == x) (c.y == y) refl refl (cases_lt c.z z) (cases_lt c.z m.resolution)
   where
     same : (u v w : Bool) → u ≡ true → v ≡ true → w ≡ (u && v && w)
@@ -146,7 +160,9 @@ all_written m x y z h c = by (c.x == x) (c.y == y) refl refl (cases_lt c.z z) (c
         all true b f = f
         all false b f = refl
 
-    by : (s t : Bool) → (c.x == x) ≡ s → (c.y == y) ≡ t → (c.z < z) ⊎ (z ≤ c.z) → (c.z < m.resolution) ⊎ (m.resolution ≤ c.z) → (is_in_line x y c && is_full m c) ≡ (up_to x y z c && is_full m c)
+    by : (s t : Bool) → (c.x == x) ≡ s → (c.y == y) ≡ t → (c.z < z) ⊎ (z ≤ c.z)
+        → (c.z < m.resolution) ⊎ (m.resolution ≤ c.z)
+        → (is_in_line x y c && is_full m c) ≡ (up_to x y z c && is_full m c)
     by true true ex ey (inl a) b = let e0 : nat_le 0 c.z ≡ true = grind (arith, nat_tests) in let e1 : nat_lt c.z z ≡ true = grind (arith, nat_tests) in rw (ex, ey, e0, e1) refl
     by true true ex ey (inr a) (inl b) = let v = on_line m x y c ex ey ∙ h.void c.z a b in rw (ex, ey) (void (nat_le 0 c.z) (nat_lt c.z z) (is_full m c) v)
     by true true ex ey (inr a) (inr b) = let v = void_past_z m c (past c.z m.resolution b) in rw (ex, ey) (void (nat_le 0 c.z) (nat_lt c.z z) (is_full m c) v)
@@ -159,14 +175,18 @@ all_written m x y z h c = by (c.x == x) (c.y == y) refl refl (cases_lt c.z z) (c
 -- ---- tapes
 
 -- nothing is written
-pub stamps_none : (a : TapeState) (m : Matrix) (full : Bool) (done : Coord → Bool) (n : ℕ) → IsPair a → ((c : Coord) → (done c && is_full m c) ≡ false) → Stamps a a m full done n
+pub stamps_none : (a : TapeState) (m : Matrix) (full : Bool) (done : Coord → Bool) (n : ℕ) → IsPair a
+    → ((c : Coord) → (done c && is_full m c) ≡ false) → Stamps a a m full done n
 stamps_none a m full done n h e = record { source = refl; resolution = refl; stamped = λ c. rw (e c) refl; pair = h; spends = record { commands_are = omega arith; bytes_are = omega arith } }
 
 pub stamps_start : (a : TapeState) (m : Matrix) (full : Bool) (x y n : ℕ) → IsPair a → Stamps a a m full (up_to x y 0) n
 stamps_start a m full x y n h = stamps_none a m full (up_to x y 0) n h (none_yet m x y)
 
 -- one run more
-stamps_one : (a b c : TapeState) (m : Matrix) (full : Bool) (x y n : ℕ) (old new : Coord → Bool) (run : RowRun) → Stamps a b m full old n → WritesRun b c run.first run.end full → (rear b).x ≡ x → (rear b).y ≡ y + 1 → ((d : Coord) → (new d && is_full m d) ≡ (in_part x y run.first run.end d || (old d && is_full m d))) → Stamps a c m full new (n + 1)
+stamps_one : (a b c : TapeState) (m : Matrix) (full : Bool) (x y n : ℕ) (old new : Coord → Bool) (run : RowRun)
+    → Stamps a b m full old n → WritesRun b c run.first run.end full → (rear b).x ≡ x → (rear b).y ≡ y + 1
+    → ((d : Coord) → (new d && is_full m d) ≡ (in_part x y run.first run.end d || (old d && is_full m d)))
+    → Stamps a c m full new (n + 1)
 stamps_one a b c m full x y n old new run g w ex ey e =
     let y' : (rear b).y - 1 ≡ y = omega arith in
     record {
@@ -177,19 +197,25 @@ stamps_one a b c m full x y n old new run g w ex ey e =
       spends = spends_on a b c n 1 (n + 1) g.spends w.spends (omega arith);
     }
 
-pub stamps_run : (a b c : TapeState) (m : Matrix) (full : Bool) (x y z n : ℕ) (run : RowRun) → Stamps a b m full (up_to x y z) n → WritesRun b c run.first run.end full → (rear b).x ≡ x → (rear b).y ≡ y + 1 → IsNextRun m x y z run → Stamps a c m full (up_to x y run.end) (n + 1)
+pub stamps_run : (a b c : TapeState) (m : Matrix) (full : Bool) (x y z n : ℕ) (run : RowRun)
+    → Stamps a b m full (up_to x y z) n → WritesRun b c run.first run.end full → (rear b).x ≡ x → (rear b).y ≡ y + 1
+    → IsNextRun m x y z run → Stamps a c m full (up_to x y run.end) (n + 1)
 stamps_run a b c m full x y z n run g w ex ey h = stamps_one a b c m full x y n (up_to x y z) (up_to x y run.end) run g w ex ey (run_more m x y z run h)
 
 -- the same on the way back
-pub stamps_run_back : (a b c : TapeState) (m : Matrix) (full : Bool) (x y z n : ℕ) (run : RowRun) → Stamps a b m full (in_part x y run.end m.resolution) n → WritesRun b c run.first run.end full → (rear b).x ≡ x → (rear b).y ≡ y + 1 → IsNextRun m x y z run → Stamps a c m full (in_part x y z m.resolution) (n + 1)
+pub stamps_run_back : (a b c : TapeState) (m : Matrix) (full : Bool) (x y z n : ℕ) (run : RowRun)
+    → Stamps a b m full (in_part x y run.end m.resolution) n → WritesRun b c run.first run.end full → (rear b).x ≡ x
+    → (rear b).y ≡ y + 1 → IsNextRun m x y z run → Stamps a c m full (in_part x y z m.resolution) (n + 1)
 stamps_run_back a b c m full x y z n run g w ex ey h = stamps_one a b c m full x y n (in_part x y run.end m.resolution) (in_part x y z m.resolution) run g w ex ey (run_before m x y z run h)
 
 -- nothing is written where there is no run
-pub stamps_no_run : (a : TapeState) (m : Matrix) (full : Bool) (x y z n : ℕ) → IsPair a → IsNoRun m x y z → Stamps a a m full (in_part x y z m.resolution) n
+pub stamps_no_run : (a : TapeState) (m : Matrix) (full : Bool) (x y z n : ℕ) → IsPair a → IsNoRun m x y z
+    → Stamps a a m full (in_part x y z m.resolution) n
 stamps_no_run a m full x y z n p h = stamps_none a m full (in_part x y z m.resolution) n p (none_from m x y z h)
 
 -- the whole line
-pub stamps_line : (a b : TapeState) (m : Matrix) (full : Bool) (x y z n k : ℕ) → Stamps a b m full (up_to x y z) n → IsNoRun m x y z → n ≤ k → Stamps a b m full (is_in_line x y) k
+pub stamps_line : (a b : TapeState) (m : Matrix) (full : Bool) (x y z n k : ℕ) → Stamps a b m full (up_to x y z) n
+    → IsNoRun m x y z → n ≤ k → Stamps a b m full (is_in_line x y) k
 stamps_line a b m full x y z n k g h l = record {
   source = g.source;
   resolution = g.resolution;
@@ -199,11 +225,15 @@ stamps_line a b m full x y z n k g h l = record {
 }
 
 -- the whole line, on the way back
-pub stamps_line_back : (a b : TapeState) (m : Matrix) (full : Bool) (x y : ℕ) → Stamps a b m full (in_part x y 0 m.resolution) (runs_from m x y 0) → Stamps a b m full (is_in_line x y) (runs_of_row m x y)
+pub stamps_line_back : (a b : TapeState) (m : Matrix) (full : Bool) (x y : ℕ)
+    → Stamps a b m full (in_part x y 0 m.resolution) (runs_from m x y 0)
+    → Stamps a b m full (is_in_line x y) (runs_of_row m x y)
 stamps_line_back a b m full x y g = stamps_line a b m full x y m.resolution (runs_from m x y 0) (runs_of_row m x y) g (record { void = λ z l h. absurd (omega arith); none_more = refl }) (omega arith)
 
 -- where the voxels that are told by another test are the same
-pub stamps_as : (a b : TapeState) (m : Matrix) (full : Bool) (done all : Coord → Bool) (n k : ℕ) → Stamps a b m full done n → ((c : Coord) → (all c && is_full m c) ≡ (done c && is_full m c)) → n ≤ k → Stamps a b m full all k
+pub stamps_as : (a b : TapeState) (m : Matrix) (full : Bool) (done all : Coord → Bool) (n k : ℕ)
+    → Stamps a b m full done n → ((c : Coord) → (all c && is_full m c) ≡ (done c && is_full m c)) → n ≤ k
+    → Stamps a b m full all k
 stamps_as a b m full done all n k g e l = record {
   source = g.source;
   resolution = g.resolution;
@@ -219,7 +249,9 @@ joined true false false full o = refl
 joined false f m full o = refl
 
 -- one part after another
-pub stamps_more : (a b c : TapeState) (m : Matrix) (full : Bool) (first last all : Coord → Bool) (n k most : ℕ) → Stamps a b m full first n → Stamps b c m full last k → ((d : Coord) → all d ≡ (last d || first d)) → n + k ≤ most → Stamps a c m full all most
+pub stamps_more : (a b c : TapeState) (m : Matrix) (full : Bool) (first last all : Coord → Bool) (n k most : ℕ)
+    → Stamps a b m full first n → Stamps b c m full last k → ((d : Coord) → all d ≡ (last d || first d)) → n + k ≤ most
+    → Stamps a c m full all most
 stamps_more a b c m full first last all n k most g h e l = record {
   source = h.source ∙ g.source;
   resolution = h.resolution ∙ g.resolution;
@@ -229,9 +261,12 @@ stamps_more a b c m full first last all n k most g h e l = record {
 }
 
 -- what was void and is not written is void afterwards
-pub still_void : (a b : TapeState) (m : Matrix) (full : Bool) (done : Coord → Bool) (n height : ℕ) → Stamps a b m full done n → ((c : Coord) → height ≤ c.y → done c ≡ false) → IsVoidFrom a.matrix height → IsVoidFrom b.matrix height
+pub still_void : (a b : TapeState) (m : Matrix) (full : Bool) (done : Coord → Bool) (n height : ℕ)
+    → Stamps a b m full done n → ((c : Coord) → height ≤ c.y → done c ≡ false) → IsVoidFrom a.matrix height
+    → IsVoidFrom b.matrix height
 still_void a b m full done n height g e v = λ c l. g.stamped c ∙ (ap (λ t. cond (t && is_full m c) full (is_full a.matrix c)) (e c l) ∙ v c l)
 
 -- the layer can be written on
-pub stamp_on : (a b : TapeState) (m : Matrix) (full : Bool) (done : Coord → Bool) (n y : ℕ) → CanStamp a m y → Stamps a b m full done n → ((c : Coord) → y + 1 ≤ c.y → done c ≡ false) → CanStamp b m y
+pub stamp_on : (a b : TapeState) (m : Matrix) (full : Bool) (done : Coord → Bool) (n y : ℕ) → CanStamp a m y
+    → Stamps a b m full done n → ((c : Coord) → y + 1 ≤ c.y → done c ≡ false) → CanStamp b m y
 stamp_on a b m full done n y h g e = record { pair = g.pair; same = h.same ∙ sym g.resolution; within = let w = h.within in let r = g.resolution in omega arith; above = still_void a b m full done n (y + 1) g e h.above }

@@ -25,10 +25,12 @@ flat true true u v = refl
 flat true false u v = refl
 flat false t u v = refl
 
-part_is : (x y a b : ℕ) (c : Coord) → a ≤ b → is_within (between (point (coord x y a)) (point (coord x y b))) (point c) ≡ in_part x y a (b + 1) c
+part_is : (x y a b : ℕ) (c : Coord) → a ≤ b
+    → is_within (between (point (coord x y a)) (point (coord x y b))) (point c) ≡ in_part x y a (b + 1) c
 part_is x y a b c h = (λ i. between_is_equal x c.x i && between_is_equal y c.y i && from_to a b c.z h i) ∙ flat (c.x == x) (c.y == y) (nat_le a c.z) (nat_lt c.z (b + 1))
 
-out_of_part : (r x y a b : ℕ) (c : Coord) → x < r → y < r → b < r → in_space r (point c) ≡ false → in_part x y a (b + 1) c ≡ false
+out_of_part : (r x y a b : ℕ) (c : Coord) → x < r → y < r → b < r → in_space r (point c) ≡ false
+    → in_part x y a (b + 1) c ≡ false
 out_of_part r x y a b c hx hy hb o = by (in_part x y a (b + 1) c) refl
   where
     low : (s t u v : Bool) → (s && t && u && v) ≡ true → (s ≡ true) × (t ≡ true) × (v ≡ true)
@@ -55,14 +57,20 @@ out_of_part r x y a b c hx hy hb o = by (in_part x y a (b + 1) c) refl
         absurd (let t = in_space_is r c i in let f = sym t ∙ o in cc)
 
 -- a region along z that was made full or void
-pub set_by : (n m : Matrix) (x y a b : ℕ) (full : Bool) → n.resolution ≡ m.resolution → x < m.resolution → y < m.resolution → b < m.resolution → a ≤ b → ((c : Coord) → IsInSpace m.resolution c → is_full n c ≡ cond (is_within (between (point (coord x y a)) (point (coord x y b))) (point c)) full (is_full m c)) → AreSet n m (in_part x y a (b + 1)) full
+pub set_by : (n m : Matrix) (x y a b : ℕ) (full : Bool) → n.resolution ≡ m.resolution → x < m.resolution
+    → y < m.resolution → b < m.resolution → a ≤ b → ((c : Coord) → IsInSpace m.resolution c
+    → is_full n c ≡ cond (is_within (between (point (coord x y a)) (point (coord x y b))) (point c)) full (is_full m c))
+    → AreSet n m (in_part x y a (b + 1)) full
 set_by n m x y a b full e hx hy hb hab h = λ c. by c (in_space m.resolution (point c)) refl
   where
-    by : (c : Coord) (t : Bool) → in_space m.resolution (point c) ≡ t → is_full n c ≡ cond (in_part x y a (b + 1) c) full (is_full m c)
+    by : (c : Coord) (t : Bool) → in_space m.resolution (point c) ≡ t
+        → is_full n c ≡ cond (in_part x y a (b + 1) c) full (is_full m c)
     by c true i = h c (space_by_test m.resolution c i) ∙ ap (λ t. cond t full (is_full m c)) (part_is x y a b c hab)
     by c false o = void_out m.resolution n c e o ∙ sym (ap (λ t. cond t full (is_full m c)) (out_of_part m.resolution x y a b c hx hy hb o) ∙ void_out m.resolution m c refl o)
 
-pub set_region : (m : Matrix) (x y a b : ℕ) (full : Bool) → x < m.resolution → y < m.resolution → b < m.resolution → a ≤ b → AreSet (with_region m (between (point (coord x y a)) (point (coord x y b))) full) m (in_part x y a (b + 1)) full
+pub set_region : (m : Matrix) (x y a b : ℕ) (full : Bool) → x < m.resolution → y < m.resolution → b < m.resolution
+    → a ≤ b
+    → AreSet (with_region m (between (point (coord x y a)) (point (coord x y b))) full) m (in_part x y a (b + 1)) full
 set_region m x y a b full hx hy hb hab = set_by (with_region m (between (point (coord x y a)) (point (coord x y b))) full) m x y a b full refl hx hy hb hab (λ c i. full_where m.resolution _ c i)
 
 above_part : (s u v : Bool) (w y : ℕ) → y < w → (s && w == y && u && v) ≡ false
@@ -70,13 +78,15 @@ above_part true u v w y h = let e : (w == y) ≡ false = grind (arith, nat_tests
 above_part false u v w y h = refl
 
 -- what was void above the row is so afterwards
-pub still_free : (n m : Matrix) (x y first end : ℕ) (full : Bool) (height : ℕ) → AreSet n m (in_part x y first end) full → y < height → IsVoidFrom m height → IsVoidFrom n height
+pub still_free : (n m : Matrix) (x y first end : ℕ) (full : Bool) (height : ℕ) → AreSet n m (in_part x y first end) full
+    → y < height → IsVoidFrom m height → IsVoidFrom n height
 still_free n m x y first end full height s h v = λ c l. s c ∙ (ap (λ t. cond t full (is_full m c)) (above_part (c.x == x) (nat_le first c.z) (nat_lt c.z end) c.y y (omega arith)) ∙ v c l)
 
 -- ---- the places below
 
 -- the point below
-pub below : (c : Coord) → 1 ≤ c.y → plus (point c) (record { dx = pos 0; dy = negsuc 0; dz = pos 0 }) ≡ point (coord c.x (c.y - 1) c.z)
+pub below : (c : Coord) → 1 ≤ c.y
+    → plus (point c) (record { dx = pos 0; dy = negsuc 0; dz = pos 0 }) ≡ point (coord c.x (c.y - 1) c.z)
 below c h = λ i. record { x = same c.x i; y = less c.y h i; z = same c.z i }
   where
     same : (n : ℕ) → pos n +ℤ pos 0 ≡ pos n
@@ -86,7 +96,8 @@ below c h = λ i. record { x = same c.x i; y = less c.y h i; z = same c.z i }
     less n k = omega (arith, ints)
 
 -- the point at the other end
-pub across : (x y a b : ℕ) → plus (point (coord x y a)) (record { dx = pos 0; dy = pos 0; dz = pos b -ℤ pos a }) ≡ point (coord x y b)
+pub across : (x y a b : ℕ)
+    → plus (point (coord x y a)) (record { dx = pos 0; dy = pos 0; dz = pos b -ℤ pos a }) ≡ point (coord x y b)
 across x y a b = λ i. record { x = same x i; y = same y i; z = there i }
   where
     same : (n : ℕ) → pos n +ℤ pos 0 ≡ pos n

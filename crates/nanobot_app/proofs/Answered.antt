@@ -45,13 +45,15 @@ module _ {A : Type 0} (part : Reply → A) (may : Type 0) where
     Follows files x reply = MatchResult x (λ b. p b files reply) (λ end. reply ≡ ended files end)
 
     -- what follows of the value may use what is known where one is found
-    upon_answered : IsOnce may X → (SaySome → may → (files : Files) (b : B) → X files (Ok b) → more b) → ((b : B) → IsAnswered part (more b) (p b)) → IsAnswered part may (Upon X p)
+    upon_answered : IsOnce may X → (SaySome → may → (files : Files) (b : B) → X files (Ok b) → more b)
+        → ((b : B) → IsAnswered part (more b) (p b)) → IsAnswered part may (Upon X p)
     upon_answered it known each = record {
       one = λ laws files r s h k. same laws files r s k.0 (subst (λ (x : Found B). Follows files x r) (it.one laws files h.0 k.0 h.1 k.1) h.2) k.2;
       some = λ laws there files. let first = it.some laws there files in some laws there files first.0 first.1;
     }
       where
-        same : SayOne → (files : Files) (r s : Reply) (x : Found B) → Follows files x r → Follows files x s → part r ≡ part s
+        same : SayOne → (files : Files) (r s : Reply) (x : Found B) → Follows files x r → Follows files x s
+            → part r ≡ part s
         same laws files r s (Ok b) h k = (each b).one laws files r s h k
         same laws files r s (Err end) h k = ap part (h ∙ sym k)
 
@@ -64,13 +66,15 @@ module _ {A : Type 0} (part : Reply → A) (may : Type 0) where
 abbrev pub IsRowAnswered : Type 0 → Answers → Type 0
 IsRowAnswered may answers = IsAnswered {A = Reply} (λ r. r) may answers
 
-of_run : (profile : Profile) (source target : Matrix) (commands : List Command) → IsRowAnswered ⊤ (OfRun profile source target commands)
+of_run : (profile : Profile) (source target : Matrix) (commands : List Command)
+    → IsRowAnswered ⊤ (OfRun profile source target commands)
 of_run profile source target commands = record {
   one = λ laws files r s h k. verdict_told files h.0 r h.2 ∙ (ap (λ (v : Verdict). verdict_reply files v) (laws.verdicts source target commands profile h.0 k.0 h.1 k.1) ∙ sym (verdict_told files k.0 s k.2));
   some = λ laws there files. let v = verdict_of source target commands profile in (verdict_reply files v.0, (v.0, v.1, tells_verdict files v.0 (verdict_reply files v.0) refl));
 }
 
-pub run_answered : (profile : Profile) (source target : Option (List ℕ)) (trace : List ℕ) → IsRowAnswered (HasName source target) (AnswerOfRun profile source target trace)
+pub run_answered : (profile : Profile) (source target : Option (List ℕ)) (trace : List ℕ)
+    → IsRowAnswered (HasName source target) (AnswerOfRun profile source target trace)
 run_answered profile source target trace =
     upon_answered (λ r. r) (HasName source target) (ModelsOf source target) (λ _. ⊤) (λ models. AnswerOfTrace profile models.0 models.1 trace) (models_once (HasName source target) source target (λ named. named)) (λ _ _ _ _ _. tt)
     (λ models. upon_answered (λ r. r) ⊤ (TraceOf run_limit trace) (λ _. ⊤) (OfRun profile models.0 models.1) (trace_once ⊤ run_limit trace) (λ _ _ _ _ _. tt) (of_run profile models.0 models.1))
@@ -110,7 +114,8 @@ record CanOpen (m : Matrix) (commands : List Command) : Type 0 where
   pub whole : IsWhole m
   pub are : AreCommands commands
 
-of_session : (m : Matrix) (commands : List Command) (lines : List DebugLine) → IsRowAnswered (CanOpen m commands) (OfSession m commands lines)
+of_session : (m : Matrix) (commands : List Command) (lines : List DebugLine)
+    → IsRowAnswered (CanOpen m commands) (OfSession m commands lines)
 of_session m commands lines = record {
   one = λ laws files r s h k. h.2 ∙ (ap (λ (text : List ℕ). record { status = is.Done; line = text; after = files }) (laws.sessions m full_profile commands lines h.0 k.0 h.1 k.1) ∙ sym k.2);
   some = λ laws there files.
@@ -131,13 +136,15 @@ debug_answered source trace script =
 abbrev pub IsPlanAnswered : Answers → Type 0
 IsPlanAnswered answers = IsAnswered (λ r. r.status) ⊥ answers
 
-stores_plan : (planner : Planner) (name : List ℕ) (source target : Matrix) → IsPlanAnswered (StoresPlan (facts_of planner) name source target)
+stores_plan : (planner : Planner) (name : List ℕ) (source target : Matrix)
+    → IsPlanAnswered (StoresPlan (facts_of planner) name source target)
 stores_plan planner name source target = record {
   one = λ laws files r s h k. ap (λ (x : Reply). x.status) h.4 ∙ sym (ap (λ (x : Reply). x.status) k.4);
   some = λ laws never. absurd never;
 }
 
-pub plan_answered : (planner : Planner) (source target : Option (List ℕ)) (trace : List ℕ) → IsPlanAnswered (AnswerOf (plan planner source target trace))
+pub plan_answered : (planner : Planner) (source target : Option (List ℕ)) (trace : List ℕ)
+    → IsPlanAnswered (AnswerOf (plan planner source target trace))
 plan_answered planner source target trace =
     upon_answered (λ r. r.status) ⊥ (ModelsOf source target) (λ _. ⊥) (λ models. OfPlan planner trace models.0 models.1) (models_once ⊥ source target (λ never. absurd never)) (λ _ never _ _ _. never)
     (λ models. upon_answered (λ r. r.status) ⊥ (CanPlan planner models.0 models.1) (λ _. ⊥) (λ _. StoresPlan (facts_of planner) trace models.0 models.1) (plan_once planner models.0 models.1) (λ _ never _ _ _. never)

@@ -43,7 +43,8 @@ begins bytes = by (decoded bytes) refl
     no_spelling g e s b =
         let f : false ≡ true = sym s ∙ (bytes_eq-Decides bytes (spelling g.0 ++ g.1)).1 (b.3 ∙ ap (λ (x : Got). spelling x.0 ++ x.1) (sym (same g e b))) in cc
 
-    of_tests : (g : Got) → decoded bytes ≡ Some g → (c s : Bool) → is_command g.0 ≡ c → bytes_eq bytes (spelling g.0 ++ g.1) ≡ s → Begins bytes ⊎ (Begins bytes → ⊥)
+    of_tests : (g : Got) → decoded bytes ≡ Some g → (c s : Bool) → is_command g.0 ≡ c
+        → bytes_eq bytes (spelling g.0 ++ g.1) ≡ s → Begins bytes ⊎ (Begins bytes → ⊥)
     of_tests g e true true c s = inl (g.0, g.1, c, (bytes_eq-Decides bytes (spelling g.0 ++ g.1)).0 s)
     of_tests g e true false c s = inr (no_spelling g e s)
     of_tests g e false s' c s = inr (no_command g e c)
@@ -83,7 +84,8 @@ cut : (n : ℕ) (bytes : List ℕ) → length bytes ≤ n → Cut bytes
 cut zero bytes few = choose bytes (begins bytes) (λ b. absurd (let less = shorter bytes b in omega (arith, less)))
 cut (suc n) bytes few = choose bytes (begins bytes) (λ b. cut n b.1 (let less = shorter bytes b in omega (arith, less)))
 
-longest : (cs ds : List Command) (rest other : List ℕ) → AreCommands cs → AreCommands ds → spellings cs ++ rest ≡ spellings ds ++ other → (Begins rest → ⊥) → length rest ≤ length other
+longest : (cs ds : List Command) (rest other : List ℕ) → AreCommands cs → AreCommands ds
+    → spellings cs ++ rest ≡ spellings ds ++ other → (Begins rest → ⊥) → length rest ≤ length other
 longest cs [] rest other h k e none =
     let whole : length (spellings cs ++ rest) ≡ length other = ap length e in
     omega (arith, whole, length-append (spellings cs) rest)
@@ -161,7 +163,8 @@ IsSpelled bytes = (c : Command) × IsCommand c × (bytes ≡ spelling c)
 is_spelled : (bytes : List ℕ) → IsSpelled bytes ⊎ (IsSpelled bytes → ⊥)
 is_spelled bytes = by (begins bytes)
   where
-    of_rest : (c : Command) (more : List ℕ) → IsCommand c → bytes ≡ spelling c ++ more → IsSpelled bytes ⊎ (IsSpelled bytes → ⊥)
+    of_rest : (c : Command) (more : List ℕ) → IsCommand c → bytes ≡ spelling c ++ more
+        → IsSpelled bytes ⊎ (IsSpelled bytes → ⊥)
     of_rest c [] h e = inl (c, h, e ∙ append-nil (spelling c))
     of_rest c (m ∷ more) h e = inr (λ s. let f = (one_spelling s.0 c [] (m ∷ more) s.1 h (append-nil (spelling s.0) ∙ (sym s.2 ∙ e))).1 in cc)
 
@@ -189,7 +192,8 @@ try_below (suc n) P decide = by (decide n) (try_below n P decide)
 abbrev FoundList : ℕ → (List ℕ → Type 0) → Type 0
 FoundList m P = (bytes : List ℕ) × (length bytes ≡ m) × AreBytes bytes × P bytes
 
-try_lists : (m : ℕ) (P : List ℕ → Type 0) → ((bytes : List ℕ) → P bytes ⊎ (P bytes → ⊥)) → FoundList m P ⊎ (FoundList m P → ⊥)
+try_lists : (m : ℕ) (P : List ℕ → Type 0) → ((bytes : List ℕ) → P bytes ⊎ (P bytes → ⊥))
+    → FoundList m P ⊎ (FoundList m P → ⊥)
 try_lists zero P decide = by (decide [])
   where
     none : (P [] → ⊥) → (bytes : List ℕ) → length bytes ≡ 0 → P bytes → ⊥
@@ -201,11 +205,13 @@ try_lists zero P decide = by (decide [])
     by (inr lacks) = inr (λ f. none lacks f.0 f.1 f.3)
 try_lists (suc m) P decide = by (try_below 256 (λ b. FoundList m (λ bytes. P (b ∷ bytes))) (λ b. try_lists m (λ bytes. P (b ∷ bytes)) (λ bytes. decide (b ∷ bytes))))
   where
-    none : (Found 256 (λ b. FoundList m (λ bytes. P (b ∷ bytes))) → ⊥) → (bytes : List ℕ) → length bytes ≡ suc m → AreBytes bytes → P bytes → ⊥
+    none : (Found 256 (λ b. FoundList m (λ bytes. P (b ∷ bytes))) → ⊥) → (bytes : List ℕ) → length bytes ≡ suc m
+        → AreBytes bytes → P bytes → ⊥
     none lacks [] e are p = absurd (omega (arith, e))
     none lacks (b ∷ bytes) e are p = lacks (b, are.0, (bytes, omega (arith, e), are.1, p))
 
-    by : Found 256 (λ b. FoundList m (λ bytes. P (b ∷ bytes))) ⊎ (Found 256 (λ b. FoundList m (λ bytes. P (b ∷ bytes))) → ⊥) → FoundList (suc m) P ⊎ (FoundList (suc m) P → ⊥)
+    by : Found 256 (λ b. FoundList m (λ bytes. P (b ∷ bytes)))
+        ⊎ (Found 256 (λ b. FoundList m (λ bytes. P (b ∷ bytes))) → ⊥) → FoundList (suc m) P ⊎ (FoundList (suc m) P → ⊥)
     by (inl f) = inl (f.0 ∷ f.2.0, ap suc f.2.1, (f.1, f.2.2), f.2.3)
     by (inr lacks) = inr (λ f. none lacks f.0 f.1 f.2 f.3)
 
@@ -245,7 +251,8 @@ module _ (rest : List ℕ) where
   is_part : 1 ≤ length rest → BeginsSpelling rest ⊎ (BeginsSpelling rest → ⊥)
   is_part some = by (completed 1) (completed 2) (completed 3)
     where
-      by : IsCompleted 1 ⊎ (IsCompleted 1 → ⊥) → IsCompleted 2 ⊎ (IsCompleted 2 → ⊥) → IsCompleted 3 ⊎ (IsCompleted 3 → ⊥) → BeginsSpelling rest ⊎ (BeginsSpelling rest → ⊥)
+      by : IsCompleted 1 ⊎ (IsCompleted 1 → ⊥) → IsCompleted 2 ⊎ (IsCompleted 2 → ⊥)
+          → IsCompleted 3 ⊎ (IsCompleted 3 → ⊥) → BeginsSpelling rest ⊎ (BeginsSpelling rest → ⊥)
       by (inl f) two three = inl (a_part 1 (omega arith) f)
       by (inr one) (inl f) three = inl (a_part 2 (omega arith) f)
       by (inr one) (inr two) (inl f) = inl (a_part 3 (omega arith) f)
@@ -260,7 +267,8 @@ module _ (bytes : List ℕ) (c : Cut bytes) where
   some_rest : (x : ℕ) (xs : List ℕ) → c.rest ≡ x ∷ xs → c.rest ≢ []
   some_rest x xs e f = let g = sym e ∙ f in cc
 
-  of_part : c.rest ≢ [] → BeginsSpelling c.rest ⊎ (BeginsSpelling c.rest → ⊥) → (d : Result (List Command) NoTrace) × Decoding bytes d
+  of_part : c.rest ≢ [] → BeginsSpelling c.rest ⊎ (BeginsSpelling c.rest → ⊥)
+      → (d : Result (List Command) NoTrace) × Decoding bytes d
   of_part some (inl part) = (Err (CutAt (length (spellings c.commands))), (c.rest, rest_of bytes c, some, size, part))
   of_part some (inr none) = (Err (BadAt (length (spellings c.commands))), (c.rest, rest_of bytes c, some, size, none))
 

@@ -19,7 +19,8 @@ RowLaw = (words : List (List ℕ)) (row row' : Row) → IsRow words row → IsRo
 
 module _ {A : Type 0} (part : Reply → A) (rows : RowLaw) (laws : SayOne) where
   -- two plans have the same status at least
-  row_answer_once : (row : Row) → (MakesPlans row → (r s : Reply) → r.status ≡ s.status → part r ≡ part s) → (files : Files) (r s : Reply) → AnswerOf row files r → AnswerOf row files s → part r ≡ part s
+  row_answer_once : (row : Row) → (MakesPlans row → (r s : Reply) → r.status ≡ s.status → part r ≡ part s)
+      → (files : Files) (r s : Reply) → AnswerOf row files r → AnswerOf row files s → part r ≡ part s
   row_answer_once (check name) told files r s h k = ap part ((check_answered name).one laws files r s h k)
   row_answer_once (run round source target trace) told files r s h k = ap part ((run_answered (profile_of round) source target trace).one laws files r s h k)
   row_answer_once (asm text trace) told files r s h k = ap part ((asm_answered text trace).one laws files r s h k)
@@ -29,7 +30,9 @@ module _ {A : Type 0} (part : Reply → A) (rows : RowLaw) (laws : SayOne) where
   row_answer_once (exercise number resolution) told files r s h k = told tt r s ((exercise_answered number resolution).one laws files r s h k)
   row_answer_once (debug source trace script) told files r s h k = ap part ((debug_answered source trace script).one laws files r s h k)
 
-  part_once : (words : List (List ℕ)) (files : Files) (r s : Reply) → ((row : Row) → IsRow words row → MakesPlans row → (r s : Reply) → r.status ≡ s.status → part r ≡ part s) → Answer words files r → Answer words files s → part r ≡ part s
+  part_once : (words : List (List ℕ)) (files : Files) (r s : Reply)
+      → ((row : Row) → IsRow words row → MakesPlans row → (r s : Reply) → r.status ≡ s.status → part r ≡ part s)
+      → Answer words files r → Answer words files s → part r ≡ part s
   part_once words files r s told (inl h) (inl k) = ap part (h.1 ∙ sym k.1)
   part_once words files r s told (inl h) (inr k) = absurd (h.0 k.0 k.1)
   part_once words files r s told (inr h) (inl k) = absurd (k.0 h.0 h.1)
@@ -39,11 +42,13 @@ module _ {A : Type 0} (part : Reply → A) (rows : RowLaw) (laws : SayOne) where
 
 module _ (rows : RowLaw) (laws : SayOne) where
   -- words have one answer where they ask for no plans
-  pub answer_once : (words : List (List ℕ)) (files : Files) (r s : Reply) → AskNoPlan words → Answer words files r → Answer words files s → r ≡ s
+  pub answer_once : (words : List (List ℕ)) (files : Files) (r s : Reply) → AskNoPlan words → Answer words files r
+      → Answer words files s → r ≡ s
   answer_once words files r s no_plan h k = part_once (λ (x : Reply). x) rows laws words files r s (λ row is plan r s e. absurd (no_plan row is plan)) h k
 
   -- words have one status
-  pub status_once : (words : List (List ℕ)) (files : Files) (r s : Reply) → Answer words files r → Answer words files s → r.status ≡ s.status
+  pub status_once : (words : List (List ℕ)) (files : Files) (r s : Reply) → Answer words files r → Answer words files s
+      → r.status ≡ s.status
   status_once words files r s h k = part_once (λ (x : Reply). x.status) rows laws words files r s (λ row is plan r s e. e) h k
 
 -- ---- where no count rose, the status is the answer's, or want of memory
@@ -58,12 +63,14 @@ pub complete : {stores : List ℕ → Type 0} (law : StatusLaw) (words : List (L
     → (DepotRose old new → ⊥) → (SinkRose old new → ⊥) → IfSome old.files (λ files. (reply : Reply) → Answer words files reply → (result ≡ reply.status) ⊎ (result ≡ is.Memory))
 complete {stores} law words old new result o no_depot no_sink = if_some old.files (λ files told reply a. by files told reply a result o)
   where
-    answered : (files : Files) → old.files ≡ Some files → (reply : Reply) → Answer words files reply → (s : Status) → IsAnswer s → CallOutcome (Answer words) stores old new s → s ≡ reply.status
+    answered : (files : Files) → old.files ≡ Some files → (reply : Reply) → Answer words files reply → (s : Status)
+        → IsAnswer s → CallOutcome (Answer words) stores old new s → s ≡ reply.status
     answered files told reply a s is_answer o =
         let stands = subst (λ t. IfSome t (λ files. (reply : Reply) × Answer words files reply × (new.files ≡ Some reply.after) × ((reply.status ≡ s) × (new.written ≡ append_known old.written reply.line)))) told (o.answer is_answer) in
         sym stands.3.0 ∙ law words files stands.0 reply stands.1 a
 
-    by : (files : Files) → old.files ≡ Some files → (reply : Reply) → Answer words files reply → (s : Status) → CallOutcome (Answer words) stores old new s → (s ≡ reply.status) ⊎ (s ≡ is.Memory)
+    by : (files : Files) → old.files ≡ Some files → (reply : Reply) → Answer words files reply → (s : Status)
+        → CallOutcome (Answer words) stores old new s → (s ≡ reply.status) ⊎ (s ≡ is.Memory)
     by files told reply a is.Depot o = inl (cause (o.depot refl))
       where
         cause : DepotRose old new ⊎ LacksFile (Answer words) old → is.Depot ≡ reply.status

@@ -38,10 +38,13 @@ use Rattle.nanobot_app.proofs.SomeVerdict.{legality_of}
 pub record SayOne : Type 0 where
   pub legality : (m : Matrix) (a b : Option NotLegal) → Legality m a → Legality m b → a ≡ b
   pub decoding : (bytes : List ℕ) (a b : Result (List Command) NoTrace) → Decoding bytes a → Decoding bytes b → a ≡ b
-  pub verdicts : (source target : Matrix) (commands : List Command) (profile : Profile) (v w : Verdict) → VerdictOf source target commands profile v → VerdictOf source target commands profile w → v ≡ w
+  pub verdicts : (source target : Matrix) (commands : List Command) (profile : Profile) (v w : Verdict)
+      → VerdictOf source target commands profile v → VerdictOf source target commands profile w → v ≡ w
   pub unsupported : (m : Matrix) (a b : Option Coord) → FirstUnsupported m a → FirstUnsupported m b → a ≡ b
-  pub scripts : (r : ℕ) (bytes : List ℕ) (a b : Result (List DebugLine) FaultyLine) → ScriptSays r bytes a → ScriptSays r bytes b → a ≡ b
-  pub sessions : (source : Matrix) (profile : Profile) (commands : List Command) (script : List DebugLine) (a b : List ℕ) → PrintsFrom source profile commands script a → PrintsFrom source profile commands script b → a ≡ b
+  pub scripts : (r : ℕ) (bytes : List ℕ) (a b : Result (List DebugLine) FaultyLine) → ScriptSays r bytes a
+      → ScriptSays r bytes b → a ≡ b
+  pub sessions : (source : Matrix) (profile : Profile) (commands : List Command) (script : List DebugLine)
+      (a b : List ℕ) → PrintsFrom source profile commands script a → PrintsFrom source profile commands script b → a ≡ b
 
 -- the model of bytes is whole, each script says something, and each session prints something
 pub record SaySome : Type 0 where
@@ -90,15 +93,18 @@ module _ (may : Type 0) {A : Type 0} where
     some = λ laws there files. (f files, refl);
   }
 
-  choice : (t : Bool) (x y : Found A) → IsFine x → IsFine y → IsOnce may (λ files found. MatchBool t (found ≡ x) (found ≡ y))
+  choice : (t : Bool) (x y : Found A) → IsFine x → IsFine y
+      → IsOnce may (λ files found. MatchBool t (found ≡ x) (found ≡ y))
   choice true x y fine fine' = plain (λ _. x) (λ _. fine)
   choice false x y fine fine' = plain (λ _. y) (λ _. fine')
 
-  optional : {C : Type 0} (o : Option C) (x : Found A) (y : C → Found A) → IsFine x → ((c : C) → IsFine (y c)) → IsOnce may (λ files found. MatchOption o (found ≡ x) (λ c. found ≡ y c))
+  optional : {C : Type 0} (o : Option C) (x : Found A) (y : C → Found A) → IsFine x → ((c : C) → IsFine (y c))
+      → IsOnce may (λ files found. MatchOption o (found ≡ x) (λ c. found ≡ y c))
   optional None x y fine fine' = plain (λ _. x) (λ _. fine)
   optional (Some c) x y fine fine' = plain (λ _. y c) (λ _. fine' c)
 
-  of_result : {W : Type 0} (status : Status) (line : W → List ℕ) (said : Result A W) → IsOther status → IsOnce may (OfResult status line said)
+  of_result : {W : Type 0} (status : Status) (line : W → List ℕ) (said : Result A W) → IsOther status
+      → IsOnce may (OfResult status line said)
   of_result status line (Ok a) other = plain (λ _. Ok a) (λ _. tt)
   of_result status line (Err why) other = plain (λ _. Err (status, line why)) (λ _. other)
 
@@ -139,7 +145,8 @@ module _ (may : Type 0) where
       fine None = depot_other
       fine (Some bytes) = tt
 
-  up_to_once : (limit : ℕ) (status : Status) (line name : List ℕ) → IsOther status → IsOnce may (FileUpTo limit status line name)
+  up_to_once : (limit : ℕ) (status : Status) (line name : List ℕ) → IsOther status
+      → IsOnce may (FileUpTo limit status line name)
   up_to_once limit status line name other =
       with_once may (FileOf name) (λ bytes _ found. MatchBool (nat_lt limit (length bytes)) (found ≡ Err (status, line)) (found ≡ Ok bytes)) (file_once name)
       (λ bytes. choice may (nat_lt limit (length bytes)) (Err (status, line)) (Ok bytes) other tt)
@@ -172,7 +179,8 @@ module _ (may : Type 0) where
       (λ bytes. of_said may (ScriptSays r bytes) (OfResult is.Text faulty_text_line) (λ laws. laws.scripts r bytes) (λ laws _. laws.scripts r bytes) (λ said. of_result may is.Text faulty_text_line said text_other))
 
 -- the models of a source and a target, of which one at least has a file wherever something may be found
-pub models_once : (may : Type 0) (source target : Option (List ℕ)) → (may → HasName source target) → IsOnce may (ModelsOf source target)
+pub models_once : (may : Type 0) (source target : Option (List ℕ)) → (may → HasName source target)
+    → IsOnce may (ModelsOf source target)
 models_once may None None named = record { fine = λ files found h. absurd h; one = λ laws files a b h k. absurd h; some = λ laws there. absurd (named there) }
 models_once may (Some source) None named =
     with_once may (ModelOf who.Source source) (λ s _ both. both ≡ Ok (s, empty s.resolution)) (model_once may who.Source source) (λ s. plain may (λ _. Ok (s, empty s.resolution)) (λ _. tt))
@@ -201,6 +209,8 @@ pub done_says : {A : Type 0} (X : Finding A) (p : A → Answers) (files : Files)
     → (a : A) × X files (Ok a) × p a files reply
 done_says {A} X p files reply fine done h = by h.0 h.1 h.2
   where
-    by : (x : Found A) → X files x → MatchResult x (λ a. p a files reply) (λ end. reply ≡ record { status = end.0; line = end.1; after = files }) → (a : A) × X files (Ok a) × p a files reply
+    by : (x : Found A) → X files x
+        → MatchResult x (λ a. p a files reply) (λ end. reply ≡ record { status = end.0; line = end.1; after = files })
+        → (a : A) × X files (Ok a) × p a files reply
     by (Ok a) x rest = (a, x, rest)
     by (Err end) x e = absurd (fine files (Err end) x (sym (ap (λ (r : Reply). r.status) e) ∙ done))

@@ -28,10 +28,14 @@ use Rattle.nanobot_rows.proofs.Told.{if_some, weaker}
 
 -- ---- what a run that takes its trace answers
 
-pub answers_taken : (files : Files) (source target : Option (List ℕ)) (trace : List ℕ) (energy : ℤ) (steps : ℕ) → MachineTakes files source target trace energy steps → AnswerOf (run Full source target trace) files (reply_of files (report.Accepted energy steps))
+pub answers_taken : (files : Files) (source target : Option (List ℕ)) (trace : List ℕ) (energy : ℤ) (steps : ℕ)
+    → MachineTakes files source target trace energy steps
+    → AnswerOf (run Full source target trace) files (reply_of files (report.Accepted energy steps))
 answers_taken files source target trace energy steps t = by (content files trace) refl t.taken
   where
-    by : (o : Option (List ℕ)) → content files trace ≡ o → IsSomeAnd o (λ bytes. TakesBytes t.from t.to bytes energy steps) → AnswerOf (run Full source target trace) files (reply_of files (report.Accepted energy steps))
+    by : (o : Option (List ℕ)) → content files trace ≡ o
+        → IsSomeAnd o (λ bytes. TakesBytes t.from t.to bytes energy steps)
+        → AnswerOf (run Full source target trace) files (reply_of files (report.Accepted energy steps))
     by None e h = absurd h
     by (Some bytes) e h = (
       Ok (t.from, t.to),
@@ -42,7 +46,8 @@ answers_taken files source target trace energy steps t = by (content files trace
 -- ---- what was answered with status 0
 
 -- of a source and a target that are found one has a file
-pub named_of : (files : Files) (source target : Option (List ℕ)) (found : Found (Matrix × Matrix)) → ModelsOf source target files found → HasName source target
+pub named_of : (files : Files) (source target : Option (List ℕ)) (found : Found (Matrix × Matrix))
+    → ModelsOf source target files found → HasName source target
 named_of files None None found h = h
 named_of files None (Some b) found h = tt
 named_of files (Some a) target found h = tt
@@ -55,7 +60,8 @@ done_models files source target p reply done h =
     (m.0.0, m.0.1, models_found files source target m.0.0 m.0.1 m.1, named_of files source target (Ok m.0) m.1, m.2)
 
 -- a verdict that is told with status 0
-accepted : (files : Files) (v : Verdict) (reply : Reply) → reply ≡ verdict_reply files v → reply.status ≡ is.Done → (energy : ℤ) × (steps : ℕ) × (v ≡ verdict.Accepted energy steps)
+accepted : (files : Files) (v : Verdict) (reply : Reply) → reply ≡ verdict_reply files v → reply.status ≡ is.Done
+    → (energy : ℤ) × (steps : ℕ) × (v ≡ verdict.Accepted energy steps)
 accepted files (verdict.Accepted energy steps) reply e done = (energy, steps, refl)
 accepted files (verdict.Refused broken) reply e done = absurd (let no : is.Broken ≡ is.Done = sym (ap (λ (x : Reply). x.status) e) ∙ done in cc)
 
@@ -82,16 +88,19 @@ takes_done files source target trace reply done h =
     (t.0, t.1, record { named = m.3; from = m.0; to = m.1; models = m.2; taken = t.2 }, t.3)
 
 -- the row of the words answers
-of_the_row : RowLaw → (words : List (List ℕ)) (row : Row) (files : Files) (reply : Reply) → IsRow words row → Answer words files reply → AnswerOf row files reply
+of_the_row : RowLaw → (words : List (List ℕ)) (row : Row) (files : Files) (reply : Reply) → IsRow words row
+    → Answer words files reply → AnswerOf row files reply
 of_the_row one words row files reply is_row (inl h) = absurd (h.0 row is_row)
 of_the_row one words row files reply is_row (inr h) = subst (λ (r : Row). AnswerOf r files reply) (one words h.0 row h.1 is_row) h.2
 
 -- words that ask for a run ask for no plans
-run_is_no_plan : RowLaw → (words : List (List ℕ)) (source target : Option (List ℕ)) (trace : List ℕ) → IsRow words (run Full source target trace) → AskNoPlan words
+run_is_no_plan : RowLaw → (words : List (List ℕ)) (source target : Option (List ℕ)) (trace : List ℕ)
+    → IsRow words (run Full source target trace) → AskNoPlan words
 run_is_no_plan one words source target trace is row other plan = subst MakesPlans (one words row (run Full source target trace) other is) plan
 
 -- the row of a run
-pub row_of_run : (words : List (List ℕ)) (source target : Option (List ℕ)) (trace : List ℕ) → IsRunOf words source target trace → IsRow words (run Full source target trace)
+pub row_of_run : (words : List (List ℕ)) (source target : Option (List ℕ)) (trace : List ℕ)
+    → IsRunOf words source target trace → IsRow words (run Full source target trace)
 row_of_run words source target trace is = record { written = is.written; named = is.named; of_table = is.of_table }
 
 -- ---- both halves of the headline
@@ -106,10 +115,12 @@ module _ {stores : List ℕ → Type 0} (one : RowLaw) (statuses : StatusLaw) (l
   is_row : IsRow words (run Full source target trace)
   is_row = row_of_run words source target trace of_run
 
-  stood : (files : Files) → old.files ≡ Some files → IsAnswer result → (reply : Reply) × Answer words files reply × (new.files ≡ Some reply.after) × ((reply.status ≡ result) × (new.written ≡ append_known old.written reply.line))
+  stood : (files : Files) → old.files ≡ Some files → IsAnswer result → (reply : Reply) × Answer words files reply
+      × (new.files ≡ Some reply.after) × ((reply.status ≡ result) × (new.written ≡ append_known old.written reply.line))
   stood files told a = subst (λ t. IfSome t (λ files. (reply : Reply) × Answer words files reply × (new.files ≡ Some reply.after) × ((reply.status ≡ result) × (new.written ≡ append_known old.written reply.line)))) told (o.answer a)
 
-  pub headline_where : (DepotRose old new → ⊥) → (SinkRose old new → ⊥) → (result ≡ is.Memory → ⊥) → IfSome old.files (λ files. (energy : ℤ) (steps : ℕ) → MachineTakes files source target trace energy steps → IsDoneWith result old.written new.written energy steps)
+  pub headline_where : (DepotRose old new → ⊥) → (SinkRose old new → ⊥) → (result ≡ is.Memory → ⊥)
+      → IfSome old.files (λ files. (energy : ℤ) (steps : ℕ) → MachineTakes files source target trace energy steps → IsDoneWith result old.written new.written energy steps)
   headline_where no_depot no_sink no_memory = if_some old.files (λ files told energy steps takes.
       let reply = reply_of files (report.Accepted energy steps) in
       let answer : Answer words files reply = inr (run Full source target trace, is_row, answers_taken files source target trace energy steps takes) in
@@ -117,21 +128,25 @@ module _ {stores : List ℕ → Type 0} (one : RowLaw) (statuses : StatusLaw) (l
       let here = subst (λ t. IfSome t (λ files. (reply : Reply) → Answer words files reply → (result ≡ reply.status) ⊎ (result ≡ is.Memory))) told all in
       done_with files told energy steps reply (small files source target trace energy steps takes) answer (here reply answer))
     where
-      done_with : (files : Files) → old.files ≡ Some files → (energy : ℤ) (steps : ℕ) (reply : Reply) → IsCost energy steps → Answer words files (reply_of files (report.Accepted energy steps)) → (result ≡ is.Done) ⊎ (result ≡ is.Memory) → IsDoneWith result old.written new.written energy steps
+      done_with : (files : Files) → old.files ≡ Some files → (energy : ℤ) (steps : ℕ) (reply : Reply)
+          → IsCost energy steps → Answer words files (reply_of files (report.Accepted energy steps))
+          → (result ≡ is.Done) ⊎ (result ≡ is.Memory) → IsDoneWith result old.written new.written energy steps
       done_with files told energy steps reply cost answer (inr m) = absurd (no_memory m)
       done_with files told energy steps reply cost answer (inl done) =
           let s = stood files told (subst IsAnswer (sym done) tt) in
           let same = law words files s.0 (reply_of files (report.Accepted energy steps)) (run_is_no_plan one words source target trace is_row) s.1 answer in
           (done, cost, s.3.1 ∙ ap (λ (r : Reply). append_known old.written r.line) same)
 
-  pub headline_only : result ≡ is.Done → IfSome old.files (λ files. (energy : ℤ) × (steps : ℕ) × MachineTakes files source target trace energy steps × IsDoneWith result old.written new.written energy steps)
+  pub headline_only : result ≡ is.Done
+      → IfSome old.files (λ files. (energy : ℤ) × (steps : ℕ) × MachineTakes files source target trace energy steps × IsDoneWith result old.written new.written energy steps)
   headline_only done = if_some old.files (λ files told.
       let s = stood files told (subst IsAnswer (sym done) tt) in
       let t = takes_done files source target trace s.0 (s.3.0 ∙ done) (of_the_row one words (run Full source target trace) files s.0 is_row s.1) in
       (t.0, t.1, t.2, (done, small files source target trace t.0 t.1 t.2, s.3.1 ∙ ap (λ (r : Reply). append_known old.written r.line) t.3)))
 
   -- what was answered, whatever it is
-  pub refusal : IsAnswer result → IfSome old.files (λ files. (reply : Reply) × AnswerOfRun full_profile source target trace files reply × (result ≡ reply.status) × (new.written ≡ append_known old.written reply.line) × (new.files ≡ Some reply.after))
+  pub refusal : IsAnswer result
+      → IfSome old.files (λ files. (reply : Reply) × AnswerOfRun full_profile source target trace files reply × (result ≡ reply.status) × (new.written ≡ append_known old.written reply.line) × (new.files ≡ Some reply.after))
   refusal a = weaker old.files (λ files s. (s.0, of_the_row one words (run Full source target trace) files s.0 is_row s.1, sym s.3.0, s.3.1, s.2)) (o.answer a)
 
   -- both halves, where what is written is told: the line has one energy and one number of steps
@@ -142,13 +157,16 @@ module _ {stores : List ℕ → Type 0} (one : RowLaw) (statuses : StatusLaw) (l
     (λ done. only files told before known energy steps done),
   )))
     where
-      told_where : (files : Files) → old.files ≡ Some files → (energy : ℤ) (steps : ℕ) → MachineTakes files source target trace energy steps → IsDoneWith result old.written new.written energy steps
+      told_where : (files : Files) → old.files ≡ Some files → (energy : ℤ) (steps : ℕ)
+          → MachineTakes files source target trace energy steps → IsDoneWith result old.written new.written energy steps
       told_where files told = subst (λ t. IfSome t (λ files. (energy : ℤ) (steps : ℕ) → MachineTakes files source target trace energy steps → IsDoneWith result old.written new.written energy steps)) told (headline_where no_depot no_sink no_memory)
 
       some_same : (xs ys : List ℕ) → Some xs ≡ Some ys → xs ≡ ys
       some_same xs ys e = cc
 
-      only : (files : Files) → old.files ≡ Some files → (before : List ℕ) → old.written ≡ Some before → (energy : ℤ) (steps : ℕ) → IsDoneWith result (Some before) new.written energy steps → MachineTakes files source target trace energy steps
+      only : (files : Files) → old.files ≡ Some files → (before : List ℕ) → old.written ≡ Some before → (energy : ℤ)
+          (steps : ℕ) → IsDoneWith result (Some before) new.written energy steps
+          → MachineTakes files source target trace energy steps
       only files told before known energy steps done =
           let found = subst (λ t. IfSome t (λ files. (energy : ℤ) × (steps : ℕ) × MachineTakes files source target trace energy steps × IsDoneWith result old.written new.written energy steps)) told (headline_only done.0) in
           let written : append_known (Some before) (accepted_line found.0 found.1) ≡ append_known (Some before) (accepted_line energy steps) =

@@ -48,7 +48,8 @@ first [] = 0
 first (b ∷ bytes) = b
 
 -- what stands before the first byte of a kind, and what stands behind it
-split : (end : ℕ) (xs ys more rest : List ℕ) → LacksByte end xs → LacksByte end ys → xs ++ end ∷ more ≡ ys ++ end ∷ rest → (xs ≡ ys) × (more ≡ rest)
+split : (end : ℕ) (xs ys more rest : List ℕ) → LacksByte end xs → LacksByte end ys → xs ++ end ∷ more ≡ ys ++ end ∷ rest
+    → (xs ≡ ys) × (more ≡ rest)
 split end [] [] more rest h k e = (refl, ap (drop 1) e)
 split end [] (y ∷ ys) more rest h k e = absurd (k.0 (sym (ap first e)))
 split end (x ∷ xs) [] more rest h k e = absurd (h.0 (ap first e))
@@ -68,7 +69,9 @@ signed_lacks : (end : ℕ) (z : ℤ) → end < 45 → FitsSigned w64 z → Lacks
 signed_lacks end (pos n) low fits = decimal_lacks end n low (let small : n < 2 ^ 63 = fits.sfits in omega arith)
 signed_lacks end (negsuc n) low fits = ((λ e. absurd (omega arith)), decimal_lacks end (suc n) low (let small : n < 2 ^ 63 = fits.sfits in omega arith))
 
-pub line_apart : (energy energy' : ℤ) (steps steps' : ℕ) → FitsSigned w64 energy → FitsSigned w64 energy' → steps < 2 ^ 64 → steps' < 2 ^ 64 → accepted_line energy steps ≡ accepted_line energy' steps' → (energy ≡ energy') × (steps ≡ steps')
+pub line_apart : (energy energy' : ℤ) (steps steps' : ℕ) → FitsSigned w64 energy → FitsSigned w64 energy'
+    → steps < 2 ^ 64 → steps' < 2 ^ 64 → accepted_line energy steps ≡ accepted_line energy' steps'
+    → (energy ≡ energy') × (steps ≡ steps')
 line_apart energy energy' steps steps' fits fits' few few' e =
     let one = split 32 (signed_decimal energy) (signed_decimal energy') (codes "steps " ++ (decimal steps ++ 10 ∷ [])) (codes "steps " ++ (decimal steps' ++ 10 ∷ [])) (signed_lacks 32 energy (omega arith) fits) (signed_lacks 32 energy' (omega arith) fits') (ap (drop 10) e) in
     let two = split 10 (decimal steps) (decimal steps') [] [] (decimal_lacks 10 steps (omega arith) few) (decimal_lacks 10 steps' (omega arith) few') (ap (drop 6) one.1) in
@@ -81,7 +84,8 @@ fits_of (negsuc n) h = record { sfits = omega (arith, h) }
 pub cost_fits : (energy : ℤ) (steps : ℕ) → IsCost energy steps → FitsSigned w64 energy × (steps < 2 ^ 64)
 cost_fits energy steps is = (fits_of energy is.0, omega (arith, is.1))
 
-pub cost_apart : (energy energy' : ℤ) (steps steps' : ℕ) → IsCost energy steps → IsCost energy' steps' → accepted_line energy steps ≡ accepted_line energy' steps' → (energy ≡ energy') × (steps ≡ steps')
+pub cost_apart : (energy energy' : ℤ) (steps steps' : ℕ) → IsCost energy steps → IsCost energy' steps'
+    → accepted_line energy steps ≡ accepted_line energy' steps' → (energy ≡ energy') × (steps ≡ steps')
 cost_apart energy energy' steps steps' is is' =
     let a = cost_fits energy steps is in
     let b = cost_fits energy' steps' is' in
@@ -91,8 +95,10 @@ cost_apart energy energy' steps steps' is is' =
 
 -- what lower crates' laws say of a step, of the states that are reached, and of models
 pub record CostLaws : Type 0 where
-  pub rises : (s : State) (commands : List Command) → s.matrix.resolution ≤ 400 → length s.bots ≤ 40 → AreCommands commands → (after s commands).energy <ℤ (s.energy +ℤ pos 3000000000)
-  pub falls : (s : State) (commands : List Command) → s.matrix.resolution ≤ 400 → length s.bots ≤ 40 → AreCommands commands → s.energy <ℤ ((after s commands).energy +ℤ pos 3000000000)
+  pub rises : (s : State) (commands : List Command) → s.matrix.resolution ≤ 400 → length s.bots ≤ 40
+      → AreCommands commands → (after s commands).energy <ℤ (s.energy +ℤ pos 3000000000)
+  pub falls : (s : State) (commands : List Command) → s.matrix.resolution ≤ 400 → length s.bots ≤ 40
+      → AreCommands commands → s.energy <ℤ ((after s commands).energy +ℤ pos 3000000000)
   pub few : (source : Matrix) (profile : Profile) (commands : List Command) → 1 ≤ source.resolution → source.resolution ≤ 400 → length source.voxels ≡ volume source.resolution → AreCommands commands
       → HasAtMost source profile commands (profile.seeds + 1)
   pub some : (bytes : List ℕ) (m : Matrix) → model bytes ≡ Ok m → 1 ≤ m.resolution
@@ -104,10 +110,12 @@ small (pos n) steps b few = let high = b.high in (omega (arith, ints), omega ari
 small (negsuc n) steps b few = let low = b.low in (omega (arith, ints), omega arith)
 
 module _ (laws : CostLaws) (source target : Matrix) (profile : Profile) (commands : List Command) (seeds : profile.seeds ≤ 39) (some : 1 ≤ source.resolution) (most : source.resolution ≤ 400) (whole : length source.voxels ≡ volume source.resolution) (are : AreCommands commands) (energy : ℤ) (steps : ℕ) where
-  at_end : (s : State) (rest : List Command) (done : ℕ) → IsBounded s.energy done → ending target s rest done ≡ Accepted energy steps → IsBounded energy steps × (steps ≤ done + length rest)
+  at_end : (s : State) (rest : List Command) (done : ℕ) → IsBounded s.energy done
+      → ending target s rest done ≡ Accepted energy steps → IsBounded energy steps × (steps ≤ done + length rest)
   at_end s [] done b h = by (first_difference s.matrix target) h
     where
-      by : (o : Option Coord) → compared s.energy done o ≡ Accepted energy steps → IsBounded energy steps × (steps ≤ done + 0)
+      by : (o : Option Coord) → compared s.energy done o ≡ Accepted energy steps
+          → IsBounded energy steps × (steps ≤ done + 0)
       by None h =
           let count : done ≡ steps = cc in
           let cost : s.energy ≡ energy = cc in
@@ -139,7 +147,8 @@ module _ (laws : CostLaws) (source target : Matrix) (profile : Profile) (command
       let sum : length rest ≡ length step + length left = ap length (sym joined) ∙ length-append step left in
       (later.0, omega (arith, later.1, sum, size, there))
 
-  pub verdict_is_small : length commands ≤ run_limit → VerdictOf source target commands profile (Accepted energy steps) → IsCost energy steps
+  pub verdict_is_small : length commands ≤ run_limit → VerdictOf source target commands profile (Accepted energy steps)
+      → IsCost energy steps
   verdict_is_small few h =
       let c = counted [] commands (opening source profile) 0 (Accepted energy steps) refl (starts refl refl refl) refl (record { low = omega (arith, ints); high = omega (arith, ints) }) h refl in
       small energy steps c.0 (omega (arith, c.1, few))
@@ -167,19 +176,22 @@ module _ (laws : CostLaws) (files : Files) where
       by None h = absurd h
       by (Some bytes) h = record { some = laws.some bytes m h.0; most = laws.most bytes m h.0; whole = laws.whole bytes m h.0 }
 
-  source_has : (source target : Option (List ℕ)) (s t : Matrix) → HasName source target → AreModels source target files s t → HasVoxels s
+  source_has : (source target : Option (List ℕ)) (s t : Matrix) → HasName source target
+      → AreModels source target files s t → HasVoxels s
   source_has (Some name) target s t named m = model_has name s m.source_is
   source_has None (Some name) s t named m = let h = model_has name t m.target_is in subst HasVoxels (sym m.source_is) (empty_has t.resolution h.some h.most)
   source_has None None s t named m = absurd named
 
   -- the energy and the number of steps of a run that takes its whole trace
-  pub run_is_small : (source target : Option (List ℕ)) (trace : List ℕ) (energy : ℤ) (steps : ℕ) → MachineTakes files source target trace energy steps → IsCost energy steps
+  pub run_is_small : (source target : Option (List ℕ)) (trace : List ℕ) (energy : ℤ) (steps : ℕ)
+      → MachineTakes files source target trace energy steps → IsCost energy steps
   run_is_small source target trace energy steps t = by (content files trace) t.taken
     where
       has : HasVoxels t.from
       has = source_has source target t.from t.to t.named t.models
 
-      by : (o : Option (List ℕ)) → IsSomeAnd o (λ bytes. TakesBytes t.from t.to bytes energy steps) → IsCost energy steps
+      by : (o : Option (List ℕ)) → IsSomeAnd o (λ bytes. TakesBytes t.from t.to bytes energy steps)
+          → IsCost energy steps
       by None h = absurd h
       by (Some bytes) h =
           verdict_is_small laws t.from t.to full_profile h.1.0 (omega arith) has.some has.most has.whole h.1.1.0 energy steps

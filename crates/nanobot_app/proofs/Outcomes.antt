@@ -59,7 +59,9 @@ module _ {answers : Answers} {stores : List ℕ → Type 0} (old new : Outside) 
       → Printed status line old.written new.written old.sink_faults new.sink_faults result → CallOutcome answers stores old new result
   outcome_printed status result line a stands printed = by printed.cases
     where
-      by : ((result ≡ status) × (new.written ≡ append_known old.written line)) ⊎ ((result ≡ is.Sink) × SinkRose old new × ((n : ℕ) × (new.written ≡ append_known old.written (take n line)))) → CallOutcome answers stores old new result
+      by : ((result ≡ status) × (new.written ≡ append_known old.written line))
+          ⊎ ((result ≡ is.Sink) × SinkRose old new × ((n : ℕ) × (new.written ≡ append_known old.written (take n line))))
+          → CallOutcome answers stores old new result
       by (inl done) =
           let b : IsAnswer result = subst IsAnswer (sym done.0) a in
           record {
@@ -79,7 +81,8 @@ module _ {answers : Answers} {stores : List ℕ → Type 0} (old new : Outside) 
         after_memory = λ e. let no : is.Sink ≡ is.Memory = sym part.0 ∙ e in absurd (cc);
       }
 
-  pub outcome_memory : (result : Status) → result ≡ is.Memory → new.files ≡ old.files → new.written ≡ old.written → CallOutcome answers stores old new result
+  pub outcome_memory : (result : Status) → result ≡ is.Memory → new.files ≡ old.files → new.written ≡ old.written
+      → CallOutcome answers stores old new result
   outcome_memory result e files written = record {
     answer = λ b. absurd (not_memory result b e);
     depot = λ f. let no : is.Memory ≡ is.Depot = sym e ∙ f in absurd (cc);
@@ -90,22 +93,29 @@ module _ {answers : Answers} {stores : List ℕ → Type 0} (old new : Outside) 
   }
 
   -- a report is told, and no file is stored
-  pub outcome_told : (r : Report) (result : Status) → IfSome old.files (λ files. answers files (reply_of files r)) → new.files ≡ old.files → Told r old.written new.written old.sink_faults new.sink_faults result → CallOutcome answers stores old new result
+  pub outcome_told : (r : Report) (result : Status) → IfSome old.files (λ files. answers files (reply_of files r))
+      → new.files ≡ old.files → Told r old.written new.written old.sink_faults new.sink_faults result
+      → CallOutcome answers stores old new result
   outcome_told r result answer files told = by told.cases
     where
-      stands : IfSome old.files (λ files. (after : Files) × answers files (record { status = status_of r; line = report_line r; after = after }) × (new.files ≡ Some after))
+      stands :
+          IfSome old.files (λ files. (after : Files) × answers files (record { status = status_of r; line = report_line r; after = after }) × (new.files ≡ Some after))
       stands = subst (λ o. IfSome old.files (λ fs. (after : Files) × answers fs (record { status = status_of r; line = report_line r; after = after }) × (o ≡ Some after))) (sym files) (same old.files answer)
         where
-          same : (o : Option Files) → IfSome o (λ fs. answers fs (reply_of fs r)) → IfSome o (λ fs. (after : Files) × answers fs (record { status = status_of r; line = report_line r; after = after }) × (o ≡ Some after))
+          same : (o : Option Files) → IfSome o (λ fs. answers fs (reply_of fs r))
+              → IfSome o (λ fs. (after : Files) × answers fs (record { status = status_of r; line = report_line r; after = after }) × (o ≡ Some after))
           same None h = tt
           same (Some fs) h = (fs, h, refl)
 
-      by : ((result ≡ is.Memory) × (new.written ≡ old.written)) ⊎ Printed (status_of r) (report_line r) old.written new.written old.sink_faults new.sink_faults result → CallOutcome answers stores old new result
+      by : ((result ≡ is.Memory) × (new.written ≡ old.written))
+          ⊎ Printed (status_of r) (report_line r) old.written new.written old.sink_faults new.sink_faults result
+          → CallOutcome answers stores old new result
       by (inl none) = outcome_memory result none.0 files none.1
       by (inr printed) = outcome_printed (status_of r) result (report_line r) (is_answer r) stands printed
 
   -- a file could not be read or stored
-  pub outcome_lost : (result : Status) → result ≡ is.Depot → DepotRose old new ⊎ LacksFile answers old → new.written ≡ old.written → SparesOthers answers stores old new → CallOutcome answers stores old new result
+  pub outcome_lost : (result : Status) → result ≡ is.Depot → DepotRose old new ⊎ LacksFile answers old
+      → new.written ≡ old.written → SparesOthers answers stores old new → CallOutcome answers stores old new result
   outcome_lost result e cause written spared = record {
     answer = λ b. absurd (not_depot result b e);
     depot = λ _. cause;
@@ -120,7 +130,9 @@ pub outcome_finished : {answers : Answers} (stored : Option (List ℕ)) (effect 
     → mid.failed_stores ≡ old.failed_stores → mid.written ≡ old.written → mid.sink_faults ≡ old.sink_faults → Finished effect mid new result → CallOutcome answers (λ name. stored ≡ Some name) old new result
 outcome_finished {answers} stored effect old mid new result answer for files faults stores written sink finished = by finished.cases
   where
-    spared : StoreFailed old new → (o : Option NewFile) → IfSome o (λ file. (stored ≡ Some file.name.now) × (status_by effect.message ≡ is.Done)) → IsUnstored o mid.files new.files → SparesOthers answers (λ name. stored ≡ Some name) old new
+    spared : StoreFailed old new → (o : Option NewFile)
+        → IfSome o (λ file. (stored ≡ Some file.name.now) × (status_by effect.message ≡ is.Done))
+        → IsUnstored o mid.files new.files → SparesOthers answers (λ name. stored ≡ Some name) old new
     spared failed None named lost = inl (lost ∙ files)
     spared failed (Some file) named lost = inr (record {
       failed = failed;
@@ -150,7 +162,9 @@ outcome_finished {answers} stored effect old mid new result answer for files fau
         (subst (λ w. Printed (status_by effect.message) (bytes_by effect.message) w new.written old.sink_faults new.sink_faults result) written (subst (λ n. Printed (status_by effect.message) (bytes_by effect.message) mid.written new.written n new.sink_faults result) sink done.1))
 
 -- an outcome of a row is one of its words
-pub outcome_of_row : (words : List (List ℕ)) (row : Row) (old new : Outside) (result : Status) → IsRow words row → CallOutcome (AnswerOf row) (RowStores row) old new result → CallOutcome (Answer words) (StoredBy words) old new result
+pub outcome_of_row : (words : List (List ℕ)) (row : Row) (old new : Outside) (result : Status) → IsRow words row
+    → CallOutcome (AnswerOf row) (RowStores row) old new result
+    → CallOutcome (Answer words) (StoredBy words) old new result
 outcome_of_row words row old new result written o = record {
   answer = λ a. weaker old.files (λ files s. (s.0, inr (row, written, s.1), s.2, s.3)) (o.answer a);
   depot = λ e. cause (o.depot e);
@@ -164,7 +178,9 @@ outcome_of_row words row old new result written o = record {
     cause (inl rose) = inl rose
     cause (inr lacks) = inr (there old.files lacks)
       where
-        there : (o : Option Files) → IsSomeAnd o (λ files. AnswerOf row files (record { status = is.Depot; line = []; after = files })) → IsSomeAnd o (λ files. Answer words files (record { status = is.Depot; line = []; after = files }))
+        there : (o : Option Files)
+            → IsSomeAnd o (λ files. AnswerOf row files (record { status = is.Depot; line = []; after = files }))
+            → IsSomeAnd o (λ files. Answer words files (record { status = is.Depot; line = []; after = files }))
         there None h = absurd h
         there (Some files) h = inr (row, written, h)
 

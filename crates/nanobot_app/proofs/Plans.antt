@@ -41,13 +41,15 @@ use Rattle.nanobot_rows.proofs.Replies.{finds_models}
 -- ---- the files after one was stored
 
 module _ (files : Files) (name bytes : List ℕ) where
-  tied : (other : List ℕ) (b : Bool) → bytes_eq other name ≡ b → content (with_file files name bytes) other ≡ cond b (Some bytes) (content files other)
+  tied : (other : List ℕ) (b : Bool) → bytes_eq other name ≡ b
+      → content (with_file files name bytes) other ≡ cond b (Some bytes) (content files other)
   tied other b e = get-insert nat_list_cmp_total files name bytes other ∙ ap (λ t. cond t (Some bytes) (content files other)) (is_eq-slice_cmp other name ∙ e)
 
   own_content : content (with_file files name bytes) name ≡ Some bytes
   own_content = tied name true ((bytes_eq-Decides name name).1 refl)
 
-  same_content : (other : List ℕ) → (other ≡ name → ⊥) → content (with_file files name bytes) other ≡ content files other
+  same_content : (other : List ℕ) → (other ≡ name → ⊥)
+      → content (with_file files name bytes) other ≡ content files other
   same_content other differ = by (bytes_eq other name) refl
     where
       by : (b : Bool) → bytes_eq other name ≡ b → content (with_file files name bytes) other ≡ content files other
@@ -55,11 +57,13 @@ module _ (files : Files) (name bytes : List ℕ) where
       by false e = tied other false e
 
   -- what another file has stays
-  side_stays : (side : Option (List ℕ)) (m other : Matrix) → (side ≡ Some name → ⊥) → IsSide files side m other → IsSide (with_file files name bytes) side m other
+  side_stays : (side : Option (List ℕ)) (m other : Matrix) → (side ≡ Some name → ⊥) → IsSide files side m other
+      → IsSide (with_file files name bytes) side m other
   side_stays None m other differ h = h
   side_stays (Some file) m other differ h = subst (λ (o : Option (List ℕ)). IsSomeAnd o (λ bytes. (model bytes ≡ Ok m) × IsLegal m)) (sym (same_content file (λ e. differ (ap Some e)))) h
 
-  models_stay : (source target : Option (List ℕ)) (s t : Matrix) → (source ≡ Some name → ⊥) → (target ≡ Some name → ⊥) → AreModels source target files s t → AreModels source target (with_file files name bytes) s t
+  models_stay : (source target : Option (List ℕ)) (s t : Matrix) → (source ≡ Some name → ⊥) → (target ≡ Some name → ⊥)
+      → AreModels source target files s t → AreModels source target (with_file files name bytes) s t
   models_stay source target s t first second m = record {
     source_is = side_stays source s t first m.source_is;
     target_is = side_stays target t s second m.target_is;
@@ -88,7 +92,8 @@ module _ (law : MostLaw) where
       by None h = absurd h
       by (Some bytes) h = law bytes m h.0
 
-  most_of_models : (files : Files) (source target : Option (List ℕ)) (s t : Matrix) → HasName source target → AreModels source target files s t → s.resolution ≤ 400
+  most_of_models : (files : Files) (source target : Option (List ℕ)) (s t : Matrix) → HasName source target
+      → AreModels source target files s t → s.resolution ≤ 400
   most_of_models files (Some name) target s t named m = most_of files name s m.source_is
   most_of_models files None (Some name) s t named m = subst (λ (r : ℕ). r ≤ 400) (sym m.alike) (most_of files name t m.target_is)
   most_of_models files None None s t named m = absurd named
@@ -117,7 +122,8 @@ module _ (s t : Matrix) (commands : List Command) (energy : ℤ) (steps : ℕ) w
   are_commands Low h = h.plan.are_commands
   are_commands Swarm h = h.plan.are_commands
 
-  pub in_full : (planner : Planner) → facts_of planner s t commands energy steps → VerdictOf s t commands full_profile (Accepted energy steps)
+  pub in_full : (planner : Planner) → facts_of planner s t commands energy steps
+      → VerdictOf s t commands full_profile (Accepted energy steps)
   in_full Layer h = h.plan.accepted
   in_full Group h = h.plan.accepted
   in_full Crew h = h.plan.accepted
@@ -125,7 +131,8 @@ module _ (s t : Matrix) (commands : List Command) (energy : ℤ) (steps : ℕ) w
   in_full Low h = h.plan.accepted
   in_full Swarm h = h.plan.accepted
 
-  pub as_light : (planner : Planner) → PlansAsLight planner → facts_of planner s t commands energy steps → VerdictOf s t commands light_profile (Accepted energy steps)
+  pub as_light : (planner : Planner) → PlansAsLight planner → facts_of planner s t commands energy steps
+      → VerdictOf s t commands light_profile (Accepted energy steps)
   as_light Low light h = h.accepted_as_light
   as_light Swarm light h = h.accepted_as_light
   as_light Layer light h = absurd light
@@ -134,7 +141,8 @@ module _ (s t : Matrix) (commands : List Command) (energy : ℤ) (steps : ℕ) w
   as_light Void light h = absurd light
 
   -- no plan is longer than a trace that is run
-  fits : (planner : Planner) → s.resolution ≤ 400 → t.resolution ≤ 400 → MakesPlan planner s t → facts_of planner s t commands energy steps → length (spellings commands) ≤ run_limit
+  fits : (planner : Planner) → s.resolution ≤ 400 → t.resolution ≤ 400 → MakesPlan planner s t
+      → facts_of planner s t commands energy steps → length (spellings commands) ≤ run_limit
   fits Layer most most' made h = layer_fits s.resolution (length (spellings commands)) most h.bytes
   fits Group most most' made h = let few = h.few_bytes in let short = few_bytes s t made in omega (arith, few, short)
   fits Crew most most' made h = h.few_bytes

@@ -46,22 +46,26 @@ module _ (target : Matrix) where
       by (Goes t) next = let more = later bot bots e t next in (more.0, goes {bot = bot} {bots = bots} {t = t} e next more.1)
       by (Breaks b) next = (Refused b, breaks {bot = bot} {bots = bots} {b = b} e next refl)
 
-  no_step : (s t : State) (commands : List Command) (step : ℕ) (bot : Bot) (bots : List Bot) → s.bots ≡ bot ∷ bots → length commands ≤ 0 → Next s (take (length s.bots) commands) step (Goes t) → ⊥
+  no_step : (s t : State) (commands : List Command) (step : ℕ) (bot : Bot) (bots : List Bot) → s.bots ≡ bot ∷ bots
+      → length commands ≤ 0 → Next s (take (length s.bots) commands) step (Goes t) → ⊥
   no_step s t commands step bot bots e none next =
       let there : length s.bots ≡ suc (length bots) = ap length e in
       let all = enough s t (take (length s.bots) commands) step next in
       let taken = length-take (length s.bots) commands in
       omega (arith, there, all, taken, none)
 
-  fewer : (s : State) (commands : List Command) (most : ℕ) (bot : Bot) (bots : List Bot) → s.bots ≡ bot ∷ bots → length commands ≤ suc most → length (drop (length s.bots) commands) ≤ most
+  fewer : (s : State) (commands : List Command) (most : ℕ) (bot : Bot) (bots : List Bot) → s.bots ≡ bot ∷ bots
+      → length commands ≤ suc most → length (drop (length s.bots) commands) ≤ most
   fewer s commands most bot bots e few =
       let there : length s.bots ≡ suc (length bots) = ap length e in
       let left = length-drop (length s.bots) commands in
       omega (arith, there, left, few)
 
-  verdict_from : (most : ℕ) (s : State) (commands : List Command) (steps : ℕ) → length commands ≤ most → HasVerdict s commands steps
+  verdict_from : (most : ℕ) (s : State) (commands : List Command) (steps : ℕ) → length commands ≤ most
+      → HasVerdict s commands steps
   verdict_from zero s commands steps few = by_bots s commands steps s.bots refl (λ bot bots e t next. absurd (no_step s t commands (steps + 1) bot bots e few next))
   verdict_from (suc most) s commands steps few = by_bots s commands steps s.bots refl (λ bot bots e t next. verdict_from most t (drop (length s.bots) commands) (steps + 1) (fewer s commands most bot bots e few))
 
-pub verdict_of : (source target : Matrix) (commands : List Command) (profile : Profile) → (v : Verdict) × VerdictOf source target commands profile v
+pub verdict_of : (source target : Matrix) (commands : List Command) (profile : Profile)
+    → (v : Verdict) × VerdictOf source target commands profile v
 verdict_of source target commands profile = verdict_from target (length commands) (opening source profile) commands 0 (omega arith)

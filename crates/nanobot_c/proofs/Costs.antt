@@ -21,18 +21,22 @@ use Rattle.nanobot_c.specs.Given.{IsDone, IsMemory}
 use Rattle.nanobot_c.proofs.Given.{none_rose}
 
 module _ (row : Row) (files : Files) where
-  refused : (reply : Reply) (number : ℕ) → AnswerOf row files reply → IsRefused reply.status number → CostOf row files (Err number)
+  refused : (reply : Reply) (number : ℕ) → AnswerOf row files reply → IsRefused reply.status number
+      → CostOf row files (Err number)
   refused reply number answer (other, inl memory) = (other, inl memory)
   refused reply number answer (other, inr same) = (other, inr (reply, answer, same))
 
-  pub refused_report : (report : Report) (number : ℕ) → AnswerOf row files (reply_of files report) → IsRefused (status_of report) number → CostOf row files (Err number)
+  pub refused_report : (report : Report) (number : ℕ) → AnswerOf row files (reply_of files report)
+      → IsRefused (status_of report) number → CostOf row files (Err number)
   refused_report report number answer is = refused (reply_of files report) number answer is
 
-  pub refused_gone : (number : ℕ) → Rose 0 0 ⊎ AnswerOf row files (no_such_file files) → number ≡ code_of is.Depot → CostOf row files (Err number)
+  pub refused_gone : (number : ℕ) → Rose 0 0 ⊎ AnswerOf row files (no_such_file files) → number ≡ code_of is.Depot
+      → CostOf row files (Err number)
   refused_gone number (inl rose) same = absurd (none_rose rose)
   refused_gone number (inr answer) same = refused (no_such_file files) number answer ((λ done. absurd (omega arith)), inr same)
 
-  no_file : (file : Option NewFile) (status : Status) → stores_of row ≡ None → IfSome file (λ f. (stores_of row ≡ Some f.name.now) × (status ≡ is.Done)) → files_with files file ≡ files
+  no_file : (file : Option NewFile) (status : Status) → stores_of row ≡ None
+      → IfSome file (λ f. (stores_of row ≡ Some f.name.now) × (status ≡ is.Done)) → files_with files file ≡ files
   no_file None status none named = refl
   no_file (Some f) status none named = absurd (let no = sym none in let some = named.0 in cc)
 
@@ -45,11 +49,13 @@ module _ (row : Row) (files : Files) where
 
 module _ (row row' : Row) (files : Files) (same_row : row ≡ row') where
   -- an accepted run costs what its line says
-  pub done_costs : (energy energy' : ℤ) (count result : ℕ) → energy' ≡ energy → IsDone result → AnswerOf row files (reply_of files (Accepted energy count)) → ToldCostOf row' files energy' count result
+  pub done_costs : (energy energy' : ℤ) (count result : ℕ) → energy' ≡ energy → IsDone result
+      → AnswerOf row files (reply_of files (Accepted energy count)) → ToldCostOf row' files energy' count result
   done_costs energy energy' count result same done answer =
       let reply = reply_of files (Accepted energy count) in
       (reply, subst (λ (r : Row). AnswerOf r files reply) same_row answer, done, λ _. ap (λ e. reply_of files (Accepted e count)) (sym same))
 
-  pub refused_costs : (energy : ℤ) (count number : ℕ) → (IsMemory number → ⊥) → CostOf row files (Err number) → ToldCostOf row' files energy count number
+  pub refused_costs : (energy : ℤ) (count number : ℕ) → (IsMemory number → ⊥) → CostOf row files (Err number)
+      → ToldCostOf row' files energy count number
   refused_costs energy count number has (other, inl memory) = absurd (has memory)
   refused_costs energy count number has (other, inr (reply, answer, same)) = (reply, subst (λ (r : Row). AnswerOf r files reply) same_row answer, same, λ done. absurd (other done))

@@ -26,14 +26,16 @@ pub none_rose : Rose 0 0 → ⊥
 none_rose rose = omega arith
 
 -- what was given with another status than that of want of memory is not told as that
-pub gave_not_memory : (status : ℕ) (bytes old new : List ℕ) (size result : ℕ) → (IsMemory status → ⊥) → Gave status bytes old new size result → IsMemory result → ⊥
+pub gave_not_memory : (status : ℕ) (bytes old new : List ℕ) (size result : ℕ) → (IsMemory status → ⊥)
+    → Gave status bytes old new size result → IsMemory result → ⊥
 gave_not_memory status bytes old new size result other gave memory = elim (cases_lt (length old) (length bytes)) [
   | inl small ↦ let e = (gave.small small).0 in absurd (omega arith)
   | inr fits ↦ other (subst IsMemory (gave.fits fits).0 memory)
 ]
 
 -- what is told as done was given whole, and its status is done
-pub gave_done : (status : ℕ) (bytes old new : List ℕ) (size result : ℕ) → Gave status bytes old new size result → IsDone result → IsDone status
+pub gave_done : (status : ℕ) (bytes old new : List ℕ) (size result : ℕ) → Gave status bytes old new size result
+    → IsDone result → IsDone status
 gave_done status bytes old new size result gave done = elim (cases_lt (length old) (length bytes)) [
   | inl small ↦ let e = (gave.small small).0 in absurd (omega arith)
   | inr fits ↦ subst IsDone (gave.fits fits).0 done
@@ -49,7 +51,9 @@ module _ (row : Row) (files : Files) (old new : List ℕ) (size result : ℕ) wh
   }
 
   module _ (absent : (name : List ℕ) → stores_of row ≡ Some name → content files name ≡ None) where
-    none_stored : (stores : Option (List ℕ)) (status : Status) (line : List ℕ) → ((name : List ℕ) → stores ≡ Some name → content files name ≡ None) → stored_in stores (record { status = status; line = line; after = files }) ≡ None
+    none_stored : (stores : Option (List ℕ)) (status : Status) (line : List ℕ)
+        → ((name : List ℕ) → stores ≡ Some name → content files name ≡ None)
+        → stored_in stores (record { status = status; line = line; after = files }) ≡ None
     none_stored None status line new_name = refl
     none_stored (Some name) status line new_name = new_name name refl
 
@@ -65,11 +69,14 @@ module _ (row : Row) (files : Files) (old new : List ℕ) (size result : ℕ) wh
         gives (reply_by files effect) (file_or_line (bytes_in effect.file) (bytes_by effect.message)) answer (message_is_none effect.message)
         (ap (λ o. file_or_line o (bytes_by effect.message)) (stored (status_by effect.message) (bytes_by effect.message) effect.file named)) given
 
-    pub gives_report : (report : Report) → AnswerOf row files (reply_of files report) → MayGive (code_of (status_of report)) (report_line report) old new size result → Gives row files old new size result
+    pub gives_report : (report : Report) → AnswerOf row files (reply_of files report)
+        → MayGive (code_of (status_of report)) (report_line report) old new size result
+        → Gives row files old new size result
     gives_report report answer given =
         gives (reply_of files report) (report_line report) answer (report_is_none report) (ap (λ o. file_or_line o (report_line report)) (sym (none_stored (stores_of row) (status_of report) (report_line report) absent))) given
 
-    pub gives_gone : Rose 0 0 ⊎ AnswerOf row files (no_such_file files) → Gave (code_of is.Depot) [] old new size result → Gives row files old new size result
+    pub gives_gone : Rose 0 0 ⊎ AnswerOf row files (no_such_file files) → Gave (code_of is.Depot) [] old new size result
+        → Gives row files old new size result
     gives_gone (inl rose) given = absurd (none_rose rose)
     gives_gone (inr answer) given =
         gives (no_such_file files) [] answer (λ e. absurd (omega arith)) (ap (λ o. file_or_line o []) (sym (none_stored (stores_of row) is.Depot [] absent))) (inr given)

@@ -38,7 +38,8 @@ target_is e = cc
 trace_is : All IsName (trace_name ∷ [])
 trace_is = with_name trace_name [] (λ e. cc) no_names
 
-names_are : (source target : List ℕ) → All IsName (with_side (source_side source) (with_side (target_side target) (trace_name ∷ [])))
+names_are : (source target : List ℕ)
+    → All IsName (with_side (source_side source) (with_side (target_side target) (trace_name ∷ [])))
 names_are [] [] = trace_is
 names_are [] (t ∷ ts) = with_name target_name (trace_name ∷ []) target_is trace_is
 names_are (s ∷ ss) [] = with_name source_name (trace_name ∷ []) source_is trace_is
@@ -60,13 +61,15 @@ module _ (one : RowLaw) (statuses : StatusLaw) (law : AnswerLaw) (source target 
   is_row = record { written = refl; named = names_are source target; of_table = has }
 
   -- where the machine takes the trace, the answer is that of an accepted run
-  pub answer_where : (energy : ℤ) (count : ℕ) (reply : Reply) → TakesAll source target trace energy count → AnswerOf row files reply → reply ≡ reply_of files (report.Accepted energy count)
+  pub answer_where : (energy : ℤ) (count : ℕ) (reply : Reply) → TakesAll source target trace energy count
+      → AnswerOf row files reply → reply ≡ reply_of files (report.Accepted energy count)
   answer_where energy count reply takes answer =
       law words files reply (reply_of files (report.Accepted energy count)) (λ other is plan. subst MakesPlans (one words other row is is_row) plan)
       (inr (row, is_row, answer)) (inr (row, is_row, answers_taken files (source_side source) (target_side target) trace_name energy count takes))
 
   -- where the answer is done, the machine takes the trace, and the line is that of its energy and its steps
-  pub answer_only : (reply : Reply) → AnswerOf row files reply → reply.status ≡ is.Done → (energy : ℤ) × (count : ℕ) × TakesAll source target trace energy count × (reply.line ≡ accepted_line energy count)
+  pub answer_only : (reply : Reply) → AnswerOf row files reply → reply.status ≡ is.Done → (energy : ℤ) × (count : ℕ)
+      × TakesAll source target trace energy count × (reply.line ≡ accepted_line energy count)
   answer_only reply answer done =
       let found = takes_done files (source_side source) (target_side target) trace_name reply done answer in
       (found.0, found.1, found.2, ap (λ (r : Reply). r.line) found.3)
@@ -76,11 +79,13 @@ module _ (one : RowLaw) (statuses : StatusLaw) (law : AnswerLaw) (light : Bool) 
     given : GaveLineOf (run_row false source target) (lent source target trace) old new size result
     given = subst (λ (b : Bool). GaveLineOf (run_row b source target) (lent source target trace) old new size result) full told
 
-    pub done_where : (energy : ℤ) (count : ℕ) → TakesAll source target trace energy count → GaveDone energy count old new size result
+    pub done_where : (energy : ℤ) (count : ℕ) → TakesAll source target trace energy count
+        → GaveDone energy count old new size result
     done_where energy count takes =
         subst (λ (r : Reply). Gave (code_of r.status) r.line old new size result) (answer_where one statuses law source target trace has energy count given.0 takes given.1) given.2
 
-    pub done_only : IsDone result → (energy : ℤ) × (count : ℕ) × TakesAll source target trace energy count × GaveDone energy count old new size result
+    pub done_only : IsDone result → (energy : ℤ) × (count : ℕ) × TakesAll source target trace energy count
+        × GaveDone energy count old new size result
     done_only done =
         let is = done_is given.0.status (gave_done _ given.0.line old new size result given.2 done) in
         let found = answer_only one statuses law source target trace has given.0 given.1 is in (
@@ -96,10 +101,12 @@ module _ (one : RowLaw) (statuses : StatusLaw) (law : AnswerLaw) (light : Bool) 
     cost = subst (λ (b : Bool). ToldCostOf (run_row b source target) (lent source target trace) energy count result) full told
 
     -- it is told as done with these numbers exactly where the machine takes the trace with them
-    pub cost_is : SmallLaw → FitsSigned w64 energy → count < 2 ^ 64 → (e : ℤ) (k : ℕ) → TakesAll source target trace e k ↔ (IsDone result × (energy ≡ e) × (count ≡ k))
+    pub cost_is : SmallLaw → FitsSigned w64 energy → count < 2 ^ 64 → (e : ℤ) (k : ℕ)
+        → TakesAll source target trace e k ↔ (IsDone result × (energy ≡ e) × (count ≡ k))
     cost_is small fits few e k = ((λ takes. told_where takes), (λ h. only h.0 h.1 h.2))
       where
-        same_numbers : (e : ℤ) (k : ℕ) → TakesAll source target trace e k → accepted_line energy count ≡ accepted_line e k → (energy ≡ e) × (count ≡ k)
+        same_numbers : (e : ℤ) (k : ℕ) → TakesAll source target trace e k
+            → accepted_line energy count ≡ accepted_line e k → (energy ≡ e) × (count ≡ k)
         same_numbers e k takes line =
             let cost_of = cost_fits e k (small (lent source target trace) (source_side source) (target_side target) trace_name e k takes) in
             line_apart energy e count k fits cost_of.0 few cost_of.1 line

@@ -9,7 +9,8 @@ use Rattle.std.proofs.lemmas.Slice.Eq.{bytes_eq-Decides}
 use Rattle.vox_depot.specs.Files.{Files, content}
 use Rattle.nanobot_c.specs.Lent.{lent, plan_name, source_name, target_name, trace_name}
 
-tied : (files : Files) (key bytes name : List ℕ) (b : Bool) → bytes_eq name key ≡ b → content (insert files key bytes) name ≡ cond b (Some bytes) (content files name)
+tied : (files : Files) (key bytes name : List ℕ) (b : Bool) → bytes_eq name key ≡ b
+    → content (insert files key bytes) name ≡ cond b (Some bytes) (content files name)
 tied files key bytes name b e = get-insert nat_list_cmp_total files key bytes name ∙ ap (λ t. cond t (Some bytes) (content files name)) (is_eq-slice_cmp name key ∙ e)
 
 -- a file that was stored has its bytes
@@ -40,7 +41,8 @@ module _ (source target trace : List ℕ) where
   pub holds_trace : (name : List ℕ) → name ≡ trace_name → content (lent source target trace) name ≡ Some trace
   holds_trace name e = subst (λ n. content (lent source target trace) n ≡ Some trace) (sym e) (held trace_name false false true refl refl refl)
 
-  pub holds_none : (name : List ℕ) → (name ≡ source_name → ⊥) → (name ≡ target_name → ⊥) → (name ≡ trace_name → ⊥) → content (lent source target trace) name ≡ None
+  pub holds_none : (name : List ℕ) → (name ≡ source_name → ⊥) → (name ≡ target_name → ⊥) → (name ≡ trace_name → ⊥)
+      → content (lent source target trace) name ≡ None
   holds_none name s t b = held name false false false (differ name source_name s) (differ name target_name t) (differ name trace_name b)
 
   pub holds_no_plan : (name : List ℕ) → Some plan_name ≡ Some name → content (lent source target trace) name ≡ None

@@ -27,7 +27,8 @@ where_both false n z b a c h = refl
 
 -- ---- the wide form
 
-ended : (total index sum : ℕ) (x : ℕ) (xs : List ℕ) → nat_lt sum total ≡ false → runs_in total index sum (x ∷ xs) ≡ Err WideLong
+ended : (total index sum : ℕ) (x : ℕ) (xs : List ℕ) → nat_lt sum total ≡ false
+    → runs_in total index sum (x ∷ xs) ≡ Err WideLong
 ended total index sum x [] e = ap (choose (Err (WideShort sum)) (Err WideLong)) e
 ended total index sum x (a ∷ []) e = ap (choose (Err (WideShort sum)) (Err WideLong)) e
 ended total index sum x (a ∷ b ∷ []) e = ap (choose (Err (WideShort sum)) (Err WideLong)) e
@@ -45,7 +46,8 @@ some_run : (total index sum run : ℕ) → 0 < index → is_no_run total index s
 some_run total index sum run h e = grind (arith, nat_tests)
 
 -- each run but the first is at least 1, so no more runs are looked at than voxels are left
-later_same : (total index sum left : ℕ) (xs ys : List ℕ) → 0 < index → total ≤ sum + left → 4 * left < length xs → runs_in total index sum (xs ++ ys) ≡ runs_in total index sum xs
+later_same : (total index sum left : ℕ) (xs ys : List ℕ) → 0 < index → total ≤ sum + left → 4 * left < length xs
+    → runs_in total index sum (xs ++ ys) ≡ runs_in total index sum xs
 later_same total index sum left [] ys i t h = absurd (omega arith)
 later_same total index sum left (a ∷ []) ys i t h = let e = full total sum (omega arith) in ended total index sum a ys e ∙ sym (ended total index sum a [] e)
 later_same total index sum left (a ∷ b ∷ []) ys i t h = let e = full total sum (omega arith) in ended total index sum a (b ∷ ys) e ∙ sym (ended total index sum a (b ∷ []) e)
@@ -58,7 +60,8 @@ later_same total index sum left (a ∷ b ∷ c ∷ d ∷ more) ys i t h =
     let s = some_run total index sum run i f in
     ap (with_first run) (later_same total (index + 1) (sum + run) (left - 1) more ys (omega arith) (omega arith) (omega arith)))
 
-first_same : (total left : ℕ) (xs ys : List ℕ) → total ≤ left → 4 * left + 4 < length xs → runs_in total 0 0 (xs ++ ys) ≡ runs_in total 0 0 xs
+first_same : (total left : ℕ) (xs ys : List ℕ) → total ≤ left → 4 * left + 4 < length xs
+    → runs_in total 0 0 (xs ++ ys) ≡ runs_in total 0 0 xs
 first_same total left [] ys t h = absurd (omega arith)
 first_same total left (a ∷ []) ys t h = absurd (omega arith)
 first_same total left (a ∷ b ∷ []) ys t h = absurd (omega arith)
@@ -90,7 +93,8 @@ long r bytes h =
     ap (choose (Err (Short (wanted r) (length bytes))) (choose (Err (Long (wanted r))) read (nat_lt (wanted r) (length bytes)))) (full (wanted r) (length bytes) (omega arith))
     ∙ ap (choose (Err (Long (wanted r))) read) (test_less (wanted r) (length bytes) h)
 
-first_form_same : (r : ℕ) (xs ys : List ℕ) → 2000000 < length xs → 2000000 < length ys → first_form r xs ≡ first_form r ys
+first_form_same : (r : ℕ) (xs ys : List ℕ) → 2000000 < length xs → 2000000 < length ys
+    → first_form r xs ≡ first_form r ys
 first_form_same r xs ys h k =
     where_true (nat_le 1 r && nat_le r 250) (sized r xs) (sized r ys) (Err (Resolution r))
     (λ e. let most : r * r * r ≤ 250 * 250 * 250 = mul-le-mul (mul-le-mul (at_most e) (at_most e)) (at_most e) in

@@ -30,11 +30,13 @@ module _ (source trace script : List ℕ) (m : Matrix) where
 
   -- what comes after the source
   module _ (told later : Option Files) (before between now : ℕ) (found : IfSome told (λ files. ModelOf who.Source source files (Ok m))) (same : later ≡ told) (since : before ≤ between) where
-    of_source : (s : Stop) → EndsStored OfTraces later (Rose between now) (Err s) → EndsStored OfDebug told (Rose before now) (Err s)
+    of_source : (s : Stop) → EndsStored OfTraces later (Rose between now) (Err s)
+        → EndsStored OfDebug told (Rose before now) (Err s)
     of_source s = says_found (ModelOf who.Source source) (λ n. Upon (TraceOf dis_limit trace) (λ commands. Upon (ScriptOf n.resolution script) (OfSession n commands))) reply_by m told later before between now (Err s) found same since
 
     -- the trace stops the call
-    pub trace_stops : (s : Stop) → Finds (TraceOf dis_limit trace) later (Rose between now) (Err s) → EndsStored OfDebug told (Rose before now) (Err s)
+    pub trace_stops : (s : Stop) → Finds (TraceOf dis_limit trace) later (Rose between now) (Err s)
+        → EndsStored OfDebug told (Rose before now) (Err s)
     trace_stops s h = of_source s (says_stops (TraceOf dis_limit trace) OfTraces reply_by (λ files end e. (Err end, e, refl)) later (Rose between now) s h)
 
     -- the script stops it

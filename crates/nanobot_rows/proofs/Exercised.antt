@@ -26,6 +26,8 @@ exercised told number resolution full target layer group e l g f =
     ))
 
 -- a plan from the empty model of this resolution
-pub costs_of : (Is : PlanFacts) (r : ℕ) (nothing target : Matrix) (commands : List Command) (energy : ℤ) (steps : ℕ) (cost : Cost) → nothing ≡ empty r → target.resolution ≡ r → Is nothing target commands energy steps → cost ≡ record { energy = energy; steps = steps } → Costs Is target cost
+pub costs_of : (Is : PlanFacts) (r : ℕ) (nothing target : Matrix) (commands : List Command) (energy : ℤ) (steps : ℕ)
+    (cost : Cost) → nothing ≡ empty r → target.resolution ≡ r → Is nothing target commands energy steps
+    → cost ≡ record { energy = energy; steps = steps } → Costs Is target cost
 costs_of Is r nothing target commands energy steps cost e same is c =
     (commands, subst (λ (k : Cost). Is (empty target.resolution) target commands k.energy k.steps) (sym c) (subst (λ (m : Matrix). Is m target commands energy steps) (e ∙ ap empty (sym same)) is))

@@ -76,20 +76,27 @@ file_not_loaded limit status line told name rose fault missing failed =
     viewed {V = Vec ℕ Global} (λ bytes. bytes.items) (FileUpTo limit status line name) told rose (of_load fault) (not_loaded (FileUpTo limit status line name) told name rose (λ files h. (Err (is.Depot, []), h, refl)) fault missing failed)
 
 module _ {A : Type 0} (limit : ℕ) (status : Status) (line name : List ℕ) (X : Finding A) (ends : (files : Files) (end : Status × List ℕ) → FileUpTo limit status line name files (Err end) → X files (Err end)) where
-  bytes_stop : (told : Option Files) (rose : Type 0) (s : Stop) → OfBytes (FileUpTo limit status line name) told rose (Err s) → Finds X told rose (Err s)
+  bytes_stop : (told : Option Files) (rose : Type 0) (s : Stop)
+      → OfBytes (FileUpTo limit status line name) told rose (Err s) → Finds X told rose (Err s)
   bytes_stop told rose s h = stops (FileUpTo limit status line name) X told rose rose s ends (λ h. h) (unviewed {V = Vec ℕ Global} (λ bytes. bytes.items) (FileUpTo limit status line name) told rose s h)
 
-pub text_stops : (name : List ℕ) (told : Option Files) (rose : Type 0) (s : Stop) → OfBytes (FileUpTo text_limit is.Text (text_long_line text_limit) name) told rose (Err s) → Finds (TextOf name) told rose (Err s)
+pub text_stops : (name : List ℕ) (told : Option Files) (rose : Type 0) (s : Stop)
+    → OfBytes (FileUpTo text_limit is.Text (text_long_line text_limit) name) told rose (Err s)
+    → Finds (TextOf name) told rose (Err s)
 text_stops name = bytes_stop text_limit is.Text (text_long_line text_limit) name (TextOf name) (λ files end h. (Err end, h, refl))
 
-pub trace_stops : (limit : ℕ) (name : List ℕ) (told : Option Files) (rose : Type 0) (s : Stop) → OfBytes (FileUpTo limit is.Trace (trace_long_line limit) name) told rose (Err s) → Finds (TraceOf limit name) told rose (Err s)
+pub trace_stops : (limit : ℕ) (name : List ℕ) (told : Option Files) (rose : Type 0) (s : Stop)
+    → OfBytes (FileUpTo limit is.Trace (trace_long_line limit) name) told rose (Err s)
+    → Finds (TraceOf limit name) told rose (Err s)
 trace_stops limit name = bytes_stop limit is.Trace (trace_long_line limit) name (TraceOf limit name) (λ files end h. (Err end, h, refl))
 
 -- what is found of the lines of a script
 abbrev pub OfScript : ℕ → List ℕ → Option Files → Type 0 → Result (Vec ScriptLine Global) Stop → Type 0
 OfScript r name told rose result = FindsAs (λ script. lines_are script.items) (ScriptOf r name) told rose result
 
-pub script_stops : (r : ℕ) (name : List ℕ) (told : Option Files) (rose : Type 0) (s : Stop) → OfBytes (FileUpTo script_limit is.Text (text_long_line script_limit) name) told rose (Err s) → OfScript r name told rose (Err s)
+pub script_stops : (r : ℕ) (name : List ℕ) (told : Option Files) (rose : Type 0) (s : Stop)
+    → OfBytes (FileUpTo script_limit is.Text (text_long_line script_limit) name) told rose (Err s)
+    → OfScript r name told rose (Err s)
 script_stops r name told rose s h =
     viewed {V = Vec ScriptLine Global} (λ script. lines_are script.items) (ScriptOf r name) told rose s
     (bytes_stop script_limit is.Text (text_long_line script_limit) name (ScriptOf r name) (λ files end h. (Err end, h, refl)) told rose s h)
@@ -97,31 +104,38 @@ script_stops r name told rose s h =
 -- ---- what the bytes say
 
 -- what is said is found
-as_said : {A W : Type 0} (status : Status) (line : W → List ℕ) (files : Files) (is_said r : Result A W) → is_said ≡ r → OfResult status line is_said files (result_map_both (λ a. a) (λ why. (status, line why)) r)
+as_said : {A W : Type 0} (status : Status) (line : W → List ℕ) (files : Files) (is_said r : Result A W) → is_said ≡ r
+    → OfResult status line is_said files (result_map_both (λ a. a) (λ why. (status, line why)) r)
 as_said status line files is_said r e = ap (λ x. result_map_both (λ a. a) (λ why. (status, line why)) x) (sym e)
 
 module _ (told : Option Files) (name v : List ℕ) where
   module _ (whole : IfSome told (λ files. FileUpTo text_limit is.Text (text_long_line text_limit) name files (Ok v))) where
-    pub text_found : (commands : List Command) → read v ≡ Ok commands → IfSome told (λ files. TextOf name files (Ok commands))
+    pub text_found : (commands : List Command) → read v ≡ Ok commands
+        → IfSome told (λ files. TextOf name files (Ok commands))
     text_found commands e = weaker told (λ files h. (Ok v, h, as_said is.Text faulty_text_line files (read v) (Ok commands) e)) whole
 
-    pub text_refused : (rose : Type 0) (f : TextFault) → said.ReadsText v (Err f) → Finds (TextOf name) told rose (Err (of_text f))
+    pub text_refused : (rose : Type 0) (f : TextFault) → said.ReadsText v (Err f)
+        → Finds (TextOf name) told rose (Err (of_text f))
     text_refused rose (text.Refused refusal) e = weaker told (λ files h. (Ok v, h, as_said is.Text faulty_text_line files (read v) (Err (faulty_line refusal)) e)) whole
     text_refused rose text.Memory e = tt
 
   module _ (r : ℕ) (whole : IfSome told (λ files. FileUpTo script_limit is.Text (text_long_line script_limit) name files (Ok v))) where
-    pub script_found : (lines : List DebugLine) → ScriptSays r v (Ok lines) → IfSome told (λ files. ScriptOf r name files (Ok lines))
+    pub script_found : (lines : List DebugLine) → ScriptSays r v (Ok lines)
+        → IfSome told (λ files. ScriptOf r name files (Ok lines))
     script_found lines says = weaker told (λ files h. (Ok v, h, (Ok lines, says, refl))) whole
 
-    pub script_refused : (rose : Type 0) (f : TextFault) → script.ReadsScript {Y = Global} r v (Err f) → OfScript r name told rose (Err (of_text f))
+    pub script_refused : (rose : Type 0) (f : TextFault) → script.ReadsScript {Y = Global} r v (Err f)
+        → OfScript r name told rose (Err (of_text f))
     script_refused rose (text.Refused refusal) says = weaker told (λ files h. (Ok v, h, (Err (faulty_line refusal), says, refl))) whole
     script_refused rose text.Memory says = tt
 
   module _ (limit : ℕ) (whole : IfSome told (λ files. FileUpTo limit is.Trace (trace_long_line limit) name files (Ok v))) where
-    pub trace_found : (commands : List Command) → Cutting v commands → IfSome told (λ files. TraceOf limit name files (Ok commands))
+    pub trace_found : (commands : List Command) → Cutting v commands
+        → IfSome told (λ files. TraceOf limit name files (Ok commands))
     trace_found commands cutting = weaker told (λ files h. (Ok v, h, (Ok commands, cutting, refl))) whole
 
-    pub trace_refused : (rose : Type 0) (f : TraceFault) → Decodes v (Err f) → Finds (TraceOf limit name) told rose (Err (of_trace f))
+    pub trace_refused : (rose : Type 0) (f : TraceFault) → Decodes v (Err f)
+        → Finds (TraceOf limit name) told rose (Err (of_trace f))
     trace_refused rose (trace.Refused (Bad offset)) decoding = weaker told (λ files h. (Ok v, h, (Err (BadAt offset), decoding, refl))) whole
     trace_refused rose (trace.Refused (Cut offset)) decoding = weaker told (λ files h. (Ok v, h, (Err (CutAt offset), decoding, refl))) whole
     trace_refused rose trace.Memory decoding = tt
@@ -137,5 +151,6 @@ no_more (c ∷ more) =
     omega (arith, sum, one, rest)
 
 -- bytes spell no more commands than they are
-pub few_commands : (bytes : List ℕ) (commands : List Command) (n : ℕ) → Cutting bytes commands → length bytes ≤ n → length commands ≤ n
+pub few_commands : (bytes : List ℕ) (commands : List Command) (n : ℕ) → Cutting bytes commands → length bytes ≤ n
+    → length commands ≤ n
 few_commands bytes commands n cutting few = let m = no_more commands in let e = ap length cutting.1 in omega (arith, m, e, few)

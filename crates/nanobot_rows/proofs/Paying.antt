@@ -45,24 +45,29 @@ WorkLaw = (source : Matrix) (commands : List Command) (profile : Profile) → (n
 
 -- ---- what a decoder has given
 
-taken_of : (bytes : List ℕ) (commands : List Command) (d : DecoderState) → IsFalse d.failed → HasGiven bytes commands d → HasTaken bytes commands d
+taken_of : (bytes : List ℕ) (commands : List Command) (d : DecoderState) → IsFalse d.failed → HasGiven bytes commands d
+    → HasTaken bytes commands d
 taken_of bytes commands d works given = subst (λ t. MatchBool t (BeginWith bytes commands) (HasTaken bytes commands d)) works given
 
-begins_more : (bytes more : List ℕ) (commands : List Command) → BeginWith bytes commands → BeginWith (bytes ++ more) commands
+begins_more : (bytes more : List ℕ) (commands : List Command) → BeginWith bytes commands
+    → BeginWith (bytes ++ more) commands
 begins_more bytes more commands b = record {
   are_commands = b.are_commands;
   rest = b.rest ++ more;
   bytes_are = ap (λ t. t ++ more) b.bytes_are ∙ append_assoc (spellings commands) b.rest more;
 }
 
-begins : (bytes : List ℕ) (commands : List Command) (d : DecoderState) → HasGiven bytes commands d → BeginWith bytes commands
+begins : (bytes : List ℕ) (commands : List Command) (d : DecoderState) → HasGiven bytes commands d
+    → BeginWith bytes commands
 begins bytes commands d given = by d.failed given
   where
     by : (t : Bool) → MatchBool t (BeginWith bytes commands) (HasTaken bytes commands d) → BeginWith bytes commands
     by true b = b
     by false taken = record { are_commands = taken.are_commands; rest = d.held; bytes_are = taken.bytes_are }
 
-pub paid_at_first : (law : FirstLaw) (source : Matrix) (profile : Profile) (d : DecoderState) (r : Course) (start : ℕ) → HasTaken [] [] fresh → d ≡ fresh → r.progress ≡ begun source profile → HasPaid source profile [] (record { decoder = d; run = r }) start start
+pub paid_at_first : (law : FirstLaw) (source : Matrix) (profile : Profile) (d : DecoderState) (r : Course) (start : ℕ)
+    → HasTaken [] [] fresh → d ≡ fresh → r.progress ≡ begun source profile
+    → HasPaid source profile [] (record { decoder = d; run = r }) start start
 paid_at_first law source profile d r start taken e f = record {
   commands = [];
   given = subst (λ (x : DecoderState). HasGiven [] [] x) (sym e) taken;
@@ -78,14 +83,16 @@ module _ (source : Matrix) (profile : Profile) (bytes piece : List ℕ) (s : Run
     paid = push source profile old.commands s.run.progress r.progress command start before now same pushes touches old.paid;
   }
 
-  pub paid_all : (all : AllLaw) → AnswersPiece s.decoder piece All → HasPaid source profile (bytes ++ piece) (record { decoder = decoder_after s.decoder piece All; run = s.run }) start before
+  pub paid_all : (all : AllLaw) → AnswersPiece s.decoder piece All → HasPaid source profile (bytes ++ piece)
+      (record { decoder = decoder_after s.decoder piece All; run = s.run }) start before
   paid_all all answers = record {
     commands = old.commands;
     given = all bytes piece old.commands s.decoder (taken_of bytes old.commands s.decoder answers.0 old.given) answers;
     paid = old.paid;
   }
 
-  pub paid_bad : (offset : ℕ) → HasPaid source profile (bytes ++ piece) (record { decoder = decoder_after s.decoder piece (Bad offset); run = s.run }) start before
+  pub paid_bad : (offset : ℕ) → HasPaid source profile (bytes ++ piece)
+      (record { decoder = decoder_after s.decoder piece (Bad offset); run = s.run }) start before
   paid_bad offset = record {
     commands = old.commands;
     given = begins_more bytes piece old.commands (begins bytes old.commands s.decoder old.given);
@@ -95,7 +102,9 @@ module _ (source : Matrix) (profile : Profile) (bytes piece : List ℕ) (s : Run
 -- ---- the commands in front of the bytes
 
 -- commands that the bytes begin with begin those of the longest front
-goes_on : (given commands : List Command) (tail rest : List ℕ) → AreCommands given → AreCommands commands → spellings commands ++ rest ≡ spellings given ++ tail → length rest ≤ length tail → (more : List Command) × (commands ≡ given ++ more)
+goes_on : (given commands : List Command) (tail rest : List ℕ) → AreCommands given → AreCommands commands
+    → spellings commands ++ rest ≡ spellings given ++ tail → length rest ≤ length tail
+    → (more : List Command) × (commands ≡ given ++ more)
 goes_on [] commands tail rest g h e l = (commands, refl)
 goes_on (c ∷ given) [] tail rest g h e l =
     let k : length rest ≡ length ((spelling c ++ spellings given) ++ tail) = ap length e in
@@ -109,7 +118,10 @@ goes_on (c ∷ given) (d ∷ commands) tail rest g h e l =
     (r.0, (λ i. o.0 i ∷ r.1 i))
 
 -- what was touched for the given commands
-within : (law : WholeLaw) (source : Matrix) (profile : Profile) (bytes : List ℕ) (given : List Command) (p : Progress) (start now : ℕ) → BeginWith bytes given → IsPaid source profile given p start now → (commands : List Command) (n : ℕ) → AreInFront bytes commands → Work source commands profile n → now ≤ start + 100 * n + volume source.resolution
+within : (law : WholeLaw) (source : Matrix) (profile : Profile) (bytes : List ℕ) (given : List Command) (p : Progress)
+    (start now : ℕ) → BeginWith bytes given → IsPaid source profile given p start now → (commands : List Command)
+    (n : ℕ) → AreInFront bytes commands → Work source commands profile n
+    → now ≤ start + 100 * n + volume source.resolution
 within law source profile bytes given p start now b paid commands n front work =
     let r = goes_on given commands b.rest front.0 b.are_commands front.2 (sym front.3 ∙ b.bytes_are) (front.1.1 b.rest (given, b.are_commands, b.bytes_are)) in
     law source profile given r.0 p start now n paid (subst (λ (xs : List Command). Work source xs profile n) r.1 work)
@@ -118,9 +130,11 @@ within law source profile bytes given p start now b paid commands n front work =
 
 -- where the file is told, the touches for its first bytes are paid for
 pub record IsPaying (told : Option Files) (name : List ℕ) (source : Matrix) (profile : Profile) (at : ℕ) (run : RunState) (start now : ℕ) : Type 0 where
-  pub front : (files : Files) (file : List ℕ) → told ≡ Some files → content files name ≡ Some file → (at ≤ length file) × HasPaid source profile (take at file) run start now
+  pub front : (files : Files) (file : List ℕ) → told ≡ Some files → content files name ≡ Some file
+      → (at ≤ length file) × HasPaid source profile (take at file) run start now
 
-pub paying : (told : Option Files) (name : List ℕ) (source : Matrix) (profile : Profile) (run : RunState) (start : ℕ) → HasPaid source profile [] run start start → IsPaying told name source profile 0 run start start
+pub paying : (told : Option Files) (name : List ℕ) (source : Matrix) (profile : Profile) (run : RunState) (start : ℕ)
+    → HasPaid source profile [] run start start → IsPaying told name source profile 0 run start start
 paying told name source profile run start h = record { front = λ files file t c. (omega arith, subst (λ (b : List ℕ). HasPaid source profile b run start start) (sym (take_none file)) h) }
   where
     take_none : (xs : List ℕ) → take 0 xs ≡ []
@@ -129,7 +143,10 @@ paying told name source profile run start h = record { front = λ files file t c
 
 module _ (told : Option Files) (name : List ℕ) (source : Matrix) (profile : Profile) (at : ℕ) (run : RunState) (start now : ℕ) (so_far : IsPaying told name source profile at run start now) where
   -- a piece was fed
-  pub paying_next : (n : ℕ) (buf : List ℕ) (next : RunState) (later : ℕ) → IfTold told name (λ file. IsPiece file at n buf) → n ≤ length buf → ((bytes : List ℕ) → HasPaid source profile bytes run start now → HasPaid source profile (bytes ++ take n buf) next start later) → IsPaying told name source profile (at + n) next start later
+  pub paying_next : (n : ℕ) (buf : List ℕ) (next : RunState) (later : ℕ)
+      → IfTold told name (λ file. IsPiece file at n buf) → n ≤ length buf → ((bytes : List ℕ)
+      → HasPaid source profile bytes run start now → HasPaid source profile (bytes ++ take n buf) next start later)
+      → IsPaying told name source profile (at + n) next start later
   paying_next n buf next later piece fits fed = record {
     front = λ files file t c.
         let p : IsPiece file at n buf = from_told told name _ piece files file t c in
@@ -139,7 +156,9 @@ module _ (told : Option Files) (name : List ℕ) (source : Matrix) (profile : Pr
   }
 
   -- the run ends here, after few touches more
-  pub paying_within : (law : WholeLaw) (works : WorkLaw) (first last : ℕ) → start ≤ first + 91 * volume source.resolution → last ≤ now + 2 * volume source.resolution → IsWithinFile profile source told name first last
+  pub paying_within : (law : WholeLaw) (works : WorkLaw) (first last : ℕ)
+      → start ≤ first + 91 * volume source.resolution → last ≤ now + 2 * volume source.resolution
+      → IsWithinFile profile source told name first last
   paying_within law works first last few more = λ files file t c.
       let old = so_far.front files file t c in
       let b : BeginWith file old.1.commands = subst (λ (b : List ℕ). BeginWith b old.1.commands) (take-append-drop at file) (begins_more (take at file) (drop at file) old.1.commands (begins (take at file) old.1.commands run.decoder old.1.given)) in
@@ -160,12 +179,14 @@ module _ (told : Option Files) (name : List ℕ) (source : Matrix) (profile : Pr
 model_once : (files : Files) (name : List ℕ) (m n : Matrix) → IsModelOf files name m → IsModelOf files name n → m ≡ n
 model_once files name m n h k = by (content files name) h k
   where
-    by : (o : Option (List ℕ)) → IsSomeAnd o (λ bytes. (model bytes ≡ Ok m) × IsLegal m) → IsSomeAnd o (λ bytes. (model bytes ≡ Ok n) × IsLegal n) → m ≡ n
+    by : (o : Option (List ℕ)) → IsSomeAnd o (λ bytes. (model bytes ≡ Ok m) × IsLegal m)
+        → IsSomeAnd o (λ bytes. (model bytes ≡ Ok n) × IsLegal n) → m ≡ n
     by None h k = absurd h
     by (Some bytes) h k = let a = h.0 in let b = k.0 in cc
 
 -- the source is one only, where the source or the target has a file
-models_once : (files : Files) (source target : Option (List ℕ)) (s t u v : Matrix) → HasName source target → AreModels source target files s t → AreModels source target files u v → s ≡ u
+models_once : (files : Files) (source target : Option (List ℕ)) (s t u v : Matrix) → HasName source target
+    → AreModels source target files s t → AreModels source target files u v → s ≡ u
 models_once files (Some name) target s t u v named h k = model_once files name s u h.source_is k.source_is
 models_once files None (Some name) s t u v named h k =
     h.source_is ∙ (ap (λ (m : Matrix). empty m.resolution) (model_once files name t v h.target_is k.target_is) ∙ sym k.source_is)
@@ -175,12 +196,15 @@ told_is : (told : Option Files) (P : Files → Type 0) (files : Files) → told 
 told_is told P files e h = subst (λ (o : Option Files). IfSome o P) e h
 
 module _ (profile : Profile) (told : Option Files) (source target : Option (List ℕ)) (trace : List ℕ) where
-  pub run_within : HasName source target → (s t : Matrix) (later : Option Files) (before now : ℕ) → IfSome told (λ files. ModelsOf source target files (Ok (s, t))) → later ≡ told → IsWithinFile profile s later trace before now → IsRunWithin profile source target trace told before now
+  pub run_within : HasName source target → (s t : Matrix) (later : Option Files) (before now : ℕ)
+      → IfSome told (λ files. ModelsOf source target files (Ok (s, t))) → later ≡ told
+      → IsWithinFile profile s later trace before now → IsRunWithin profile source target trace told before now
   run_within named s t later before now found same w = λ files from to e these.
       let here : IsWithinFile profile s told trace before now = subst (λ (o : Option Files). IsWithinFile profile s o trace before now) same w in
       subst (λ (m : Matrix). IsWithinFile profile m told trace before now) (models_once files source target s t from to named (models_found files source target s t (told_is told (λ files. ModelsOf source target files (Ok (s, t))) files e found)) these) here
 
-  pub run_untouched : (works : WorkLaw) (before now : ℕ) → now ≡ before → IsRunWithin profile source target trace told before now
+  pub run_untouched : (works : WorkLaw) (before now : ℕ) → now ≡ before
+      → IsRunWithin profile source target trace told before now
   run_untouched works before now same = λ files from to e these others bytes t c.
       let n = works from [] profile in
       record {

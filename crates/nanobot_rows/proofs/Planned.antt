@@ -39,12 +39,14 @@ plan_kept Is s t name commands energy steps effect is keeps files = (commands, e
     planned : Report
     planned = report.Planned energy steps (length commands) (length (spellings commands))
 
-    by : (o : Option NewFile) → IsSomeAnd o (λ file. (file.name.now ≡ name) × (file.bytes.items ≡ spellings commands)) → Stores (report_line planned) name (spellings commands) files (record { status = status_by effect.message; line = bytes_by effect.message; after = files_with files o })
+    by : (o : Option NewFile) → IsSomeAnd o (λ file. (file.name.now ≡ name) × (file.bytes.items ≡ spellings commands))
+        → Stores (report_line planned) name (spellings commands) files (record { status = status_by effect.message; line = bytes_by effect.message; after = files_with files o })
     by None h = absurd h
     by (Some file) h = λ i. record { status = status_by (keeps.told i); line = bytes_by (keeps.told i); after = with_file files (h.0 i) (h.1 i) }
 
 -- what has no file is the empty model
-takes_models : (planner : Planner) (source target : Option (List ℕ)) (files : Files) (s t : Matrix) → TakesSides planner source target → AreModels source target files s t → TakesModels planner s t
+takes_models : (planner : Planner) (source target : Option (List ℕ)) (files : Files) (s t : Matrix)
+    → TakesSides planner source target → AreModels source target files s t → TakesModels planner s t
 takes_models Layer source target files s t takes models = tt
 takes_models Group source target files s t takes models = tt
 takes_models Crew source target files s t takes models = tt
@@ -62,13 +64,16 @@ takes_models Swarm None None files s t takes models = absurd takes
 
 module _ (planner : Planner) (told : Option Files) (source target : Option (List ℕ)) (trace : List ℕ) (s t : Matrix) (found : IfSome told (λ files. ModelsOf source target files (Ok (s, t)))) where
   -- the planner stops the call
-  pub plan_stops : (rose : Type 0) (x : Stop) → Plans planner s t (Err x) → EndsStored (AnswerOf (plan planner source target trace)) told rose (Err x)
+  pub plan_stops : (rose : Type 0) (x : Stop) → Plans planner s t (Err x)
+      → EndsStored (AnswerOf (plan planner source target trace)) told rose (Err x)
   plan_stops rose (stop.Told r) why = weaker told (λ files models. (Ok (s, t), models, (Err (end_of r), why files, refl))) found
   plan_stops rose stop.Depot why = absurd why
   plan_stops rose stop.Memory why = tt
 
   -- its plan is kept
-  pub plan_ends : TakesSides planner source target → (it : Plan) (effect : Effect) → Plans planner s t (Ok it) → KeepsPlan trace it.commands it.energy it.steps effect → IfSome told (λ files. AnswerOf (plan planner source target trace) files (reply_by files effect))
+  pub plan_ends : TakesSides planner source target → (it : Plan) (effect : Effect) → Plans planner s t (Ok it)
+      → KeepsPlan trace it.commands it.energy it.steps effect
+      → IfSome told (λ files. AnswerOf (plan planner source target trace) files (reply_by files effect))
   plan_ends takes it effect plans keeps = weaker told (λ files models.
       let facts = plans.1 (takes_models planner source target files s t takes (models_found files source target s t models)) in
       (Ok (s, t), models, (Ok tt, plans.0 files, plan_kept (facts_of planner) s t trace it.commands it.energy it.steps effect facts keeps files))) found

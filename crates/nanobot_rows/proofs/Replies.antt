@@ -52,17 +52,20 @@ module _ {A V : Type 0} (view : V → A) (X : Finding A) (told : Option Files) (
   pub unviewed : FindsAs view X told rose (Err s) → Finds X told rose (Err s)
   unviewed = stops (λ files found. X files (result_map_both view (λ end. end) found)) X told rose rose s (λ files end h. h) (λ h. h)
 
-pub both_told : {P Q R : Files → Type 0} (told : Option Files) → ((files : Files) → P files → Q files → R files) → IfSome told P → IfSome told Q → IfSome told R
+pub both_told : {P Q R : Files → Type 0} (told : Option Files) → ((files : Files) → P files → Q files → R files)
+    → IfSome told P → IfSome told Q → IfSome told R
 both_told None f h k = tt
 both_told (Some files) f h k = f files h k
 
-and_told : {P Q R : Files → Type 0} (told : Option Files) → ((files : Files) → P files → Q files → R files) → IfSome told P → IsSomeAnd told Q → IsSomeAnd told R
+and_told : {P Q R : Files → Type 0} (told : Option Files) → ((files : Files) → P files → Q files → R files)
+    → IfSome told P → IsSomeAnd told Q → IsSomeAnd told R
 and_told None f h k = absurd k
 and_told (Some files) f h k = f files h k
 
 -- what a call finds, seen by one that knows more of the files
 module _ {A : Type 0} (X Y : Finding A) (P : Files → Type 0) (more : (files : Files) → P files → (found : Found A) → X files found → Y files found) where
-  widens : (told : Option Files) (rose wider : Type 0) (r : Result A Stop) → IfSome told P → (rose → wider) → Finds X told rose r → Finds Y told wider r
+  widens : (told : Option Files) (rose wider : Type 0) (r : Result A Stop) → IfSome told P → (rose → wider)
+      → Finds X told rose r → Finds Y told wider r
   widens told rose wider (Ok a) known since h = both_told told (λ files k x. more files k (Ok a) x) known h
   widens told rose wider (Err (stop.Told r)) known since h = both_told told (λ files k x. more files k (Err (end_of r)) x) known h
   widens told rose wider (Err stop.Depot) known since (inl h) = inl (since h)
@@ -70,14 +73,16 @@ module _ {A : Type 0} (X Y : Finding A) (P : Files → Type 0) (more : (files : 
   widens told rose wider (Err stop.Memory) known since h = tt
 
   -- the same later
-  pub widens_since : (told later : Option Files) (before between now : ℕ) (r : Result A Stop) → IfSome told P → later ≡ told → before ≤ between → Finds X later (Rose between now) r → Finds Y told (Rose before now) r
+  pub widens_since : (told later : Option Files) (before between now : ℕ) (r : Result A Stop) → IfSome told P
+      → later ≡ told → before ≤ between → Finds X later (Rose between now) r → Finds Y told (Rose before now) r
   widens_since told later before between now r known same l h =
       widens told (Rose between now) (Rose before now) r known (rose_since before between now l) (subst (λ (o : Option Files). Finds X o (Rose between now) r) same h)
 
 -- ---- one finding after another
 
 module _ {A B : Type 0} (X : Finding A) (p : A → Finding B) where
-  pub with_stops : (told : Option Files) (rose : Type 0) (s : Stop) → Finds X told rose (Err s) → Finds (With X p) told rose (Err s)
+  pub with_stops : (told : Option Files) (rose : Type 0) (s : Stop) → Finds X told rose (Err s)
+      → Finds (With X p) told rose (Err s)
   with_stops told rose s = stops X (With X p) told rose rose s (λ files end h. (Err end, h, refl)) (λ h. h)
 
   pub with_found : (a : A) (told later : Option Files) (before between now : ℕ) (r : Result B Stop) → IfSome told (λ files. X files (Ok a)) → later ≡ told → before ≤ between
@@ -88,7 +93,8 @@ module _ {A B : Type 0} (X : Finding A) (p : A → Finding B) where
   pub with_ok : (files : Files) (b : B) → With X p files (Ok b) → (a : A) × X files (Ok a) × p a files (Ok b)
   with_ok files b h = by h.0 h.1 h.2
     where
-      by : (first : Found A) → X files first → MatchResult first (λ a. p a files (Ok b)) (λ end. Ok b ≡ Err end) → (a : A) × X files (Ok a) × p a files (Ok b)
+      by : (first : Found A) → X files first → MatchResult first (λ a. p a files (Ok b)) (λ end. Ok b ≡ Err end)
+          → (a : A) × X files (Ok a) × p a files (Ok b)
       by (Ok a) x rest = (a, x, rest)
       by (Err end) x rest = absurd (cc)
 
@@ -103,7 +109,8 @@ pub says_found : {A V : Type 0} (X : Finding A) (p : A → Answers) (reply : Fil
 says_found X p reply a = widens_since (λ files found. p a files (reply_to reply files found)) (λ files found. Upon X p files (reply_to reply files found)) (λ files. X files (Ok a)) (λ files h found rest. (Ok a, h, rest))
 
 -- a report alone finishes as it ends
-pub ends_finish : (answers : Answers) (told : Option Files) (rose : Type 0) (r : Result Report Stop) → EndsUnstored answers told rose r → EndsStored answers told rose (alone r)
+pub ends_finish : (answers : Answers) (told : Option Files) (rose : Type 0) (r : Result Report Stop)
+    → EndsUnstored answers told rose r → EndsStored answers told rose (alone r)
 ends_finish answers told rose (Ok report) h = h
 ends_finish answers told rose (Err (stop.Told report)) h = h
 ends_finish answers told rose (Err stop.Depot) h = h
@@ -119,7 +126,8 @@ module _ (who : Who) (files : Files) (name : List ℕ) (m : Matrix) where
   pub finds_model : IsModelOf files name m → ModelOf who name files (Ok m)
   finds_model is_model = by (content files name) refl is_model
     where
-      by : (o : Option (List ℕ)) → content files name ≡ o → IsSomeAnd o (λ bytes. (model bytes ≡ Ok m) × IsLegal m) → ModelOf who name files (Ok m)
+      by : (o : Option (List ℕ)) → content files name ≡ o → IsSomeAnd o (λ bytes. (model bytes ≡ Ok m) × IsLegal m)
+          → ModelOf who name files (Ok m)
       by None e h = absurd h
       by (Some bytes) e h = (
         Ok bytes,
@@ -168,14 +176,16 @@ module _ (s t : Matrix) (files : Files) where
 
 module _ (files : Files) where
   -- the models of a source and a target are found
-  pub finds_models : (source target : Option (List ℕ)) (s t : Matrix) → HasName source target → AreModels source target files s t → ModelsOf source target files (Ok (s, t))
+  pub finds_models : (source target : Option (List ℕ)) (s t : Matrix) → HasName source target
+      → AreModels source target files s t → ModelsOf source target files (Ok (s, t))
   finds_models None None s t named are = named
   finds_models (Some source) None s t named are = (Ok s, finds_model who.Source files source s are.source_is, ap (λ (m : Matrix). Ok (s, m)) are.target_is)
   finds_models None (Some target) s t named are = (Ok t, finds_model who.Target files target t are.target_is, ap (λ (m : Matrix). Ok (m, t)) are.source_is)
   finds_models (Some source) (Some target) s t named are =
       (Ok s, finds_model who.Source files source s are.source_is, (Ok t, finds_model who.Target files target t are.target_is, alike s t files are.alike))
 
-  pub models_found : (source target : Option (List ℕ)) (s t : Matrix) → ModelsOf source target files (Ok (s, t)) → AreModels source target files s t
+  pub models_found : (source target : Option (List ℕ)) (s t : Matrix) → ModelsOf source target files (Ok (s, t))
+      → AreModels source target files s t
   models_found None None s t h = absurd h
   models_found (Some source) None s t h =
       let one = with_ok (ModelOf who.Source source) (λ m _ both. both ≡ Ok (m, empty m.resolution)) files (s, t) h in
@@ -198,7 +208,9 @@ module _ (files : Files) where
       let two = with_ok (ModelOf who.Target target) (Alike one.0) files (s, t) one.2 in
       by one.0 two.0 (model_found who.Source files source one.0 one.1) (model_found who.Target files target two.0 two.1) (one.0.resolution == two.0.resolution) refl two.2
     where
-      by : (a b : Matrix) → IsModelOf files source a → IsModelOf files target b → (same : Bool) → (a.resolution == b.resolution) ≡ same → Choice a b same (Ok (s, t)) → AreModels (Some source) (Some target) files s t
+      by : (a b : Matrix) → IsModelOf files source a → IsModelOf files target b → (same : Bool)
+          → (a.resolution == b.resolution) ≡ same → Choice a b same (Ok (s, t))
+          → AreModels (Some source) (Some target) files s t
       by a b first second false test e = absurd (cc)
       by a b first second true test e =
           let are = pair_is s t a b e in
@@ -214,23 +226,28 @@ module _ (source target : List ℕ) (told : Option Files) where
   abbrev Reads : Type 0 → Result (Matrix × Matrix) Stop → Type 0
   Reads rose result = Finds (ModelsOf (Some source) (Some target)) told rose result
 
-  pub source_stops : (rose : Type 0) (x : Stop) → Finds (ModelOf who.Source source) told rose (Err x) → Reads rose (Err x)
+  pub source_stops : (rose : Type 0) (x : Stop) → Finds (ModelOf who.Source source) told rose (Err x)
+      → Reads rose (Err x)
   source_stops rose x = stops (ModelOf who.Source source) (ModelsOf (Some source) (Some target)) told rose rose x (λ files end h. (Err end, h, refl)) (λ h. h)
 
   module _ (s : Matrix) (first : IfSome told (λ files. ModelOf who.Source source files (Ok s))) (later : Option Files) (same : later ≡ told) where
-    pub target_stops : (before between now : ℕ) (x : Stop) → before ≤ between → Finds (ModelOf who.Target target) later (Rose between now) (Err x) → Reads (Rose before now) (Err x)
+    pub target_stops : (before between now : ℕ) (x : Stop) → before ≤ between
+        → Finds (ModelOf who.Target target) later (Rose between now) (Err x) → Reads (Rose before now) (Err x)
     target_stops before between now x l h =
         with_found (ModelOf who.Source source) (λ a. With (ModelOf who.Target target) (Alike a)) s told later before between now (Err x) first same l
         (stops (ModelOf who.Target target) (With (ModelOf who.Target target) (Alike s)) later (Rose between now) (Rose between now) x (λ files end e. (Err end, e, refl)) (λ h. h) h)
 
     module _ (t : Matrix) (second : IfSome later (λ files. ModelOf who.Target target files (Ok t))) where
-      of_both : (found : Found (Matrix × Matrix)) → ((files : Files) → Alike s t files found) → IfSome told (λ files. ModelsOf (Some source) (Some target) files found)
+      of_both : (found : Found (Matrix × Matrix)) → ((files : Files) → Alike s t files found)
+          → IfSome told (λ files. ModelsOf (Some source) (Some target) files found)
       of_both found h = both_told told (λ files x y. (Ok s, x, (Ok t, y, h files))) first (subst (λ (o : Option Files). IfSome o (λ files. ModelOf who.Target target files (Ok t))) same second)
 
-      pub both_alike : s.resolution ≡ t.resolution → IfSome told (λ files. ModelsOf (Some source) (Some target) files (Ok (s, t)))
+      pub both_alike : s.resolution ≡ t.resolution
+          → IfSome told (λ files. ModelsOf (Some source) (Some target) files (Ok (s, t)))
       both_alike e = of_both (Ok (s, t)) (λ files. alike s t files e)
 
-      pub both_unlike : (r q : ℕ) → r ≡ s.resolution → q ≡ t.resolution → r ≢ q → IfSome told (λ files. ModelsOf (Some source) (Some target) files (Err (is.Model, resolutions_line r q)))
+      pub both_unlike : (r q : ℕ) → r ≡ s.resolution → q ≡ t.resolution → r ≢ q
+          → IfSome told (λ files. ModelsOf (Some source) (Some target) files (Err (is.Model, resolutions_line r q)))
       both_unlike r q r_is q_is differ =
           subst (λ (end : Status × List ℕ). IfSome told (λ files. ModelsOf (Some source) (Some target) files (Err end))) (λ i. (is.Model, resolutions_line (sym r_is i) (sym q_is i)))
           (of_both (Err (is.Model, resolutions_line s.resolution t.resolution)) (λ files. unlike s t files (λ e. differ (r_is ∙ (e ∙ sym q_is)))))
@@ -241,10 +258,12 @@ module _ (source target : List ℕ) (told : Option Files) where
 abbrev pub verdict_reply : Files → Verdict → Reply
 verdict_reply files v = reply_of files (of_verdict v)
 
-pub verdict_told : (files : Files) (v : Verdict) (reply : Reply) → TellsVerdict v files reply → reply ≡ verdict_reply files v
+pub verdict_told : (files : Files) (v : Verdict) (reply : Reply) → TellsVerdict v files reply
+    → reply ≡ verdict_reply files v
 verdict_told files (verdict.Accepted energy steps) reply told = told
 verdict_told files (verdict.Refused broken) reply told = told
 
-pub tells_verdict : (files : Files) (v : Verdict) (reply : Reply) → reply ≡ verdict_reply files v → TellsVerdict v files reply
+pub tells_verdict : (files : Files) (v : Verdict) (reply : Reply) → reply ≡ verdict_reply files v
+    → TellsVerdict v files reply
 tells_verdict files (verdict.Accepted energy steps) reply e = e
 tells_verdict files (verdict.Refused broken) reply e = e

@@ -28,10 +28,12 @@ use Rattle.nanobot_rows.specs.Report.{of_verdict}
 
 -- ---- pieces
 
-stands_of : (source : Matrix) (profile : Profile) (bytes : List ℕ) (s : RunState) → IsFalse s.decoder.failed → HasRun source profile bytes s → RunStands source profile bytes s
+stands_of : (source : Matrix) (profile : Profile) (bytes : List ℕ) (s : RunState) → IsFalse s.decoder.failed
+    → HasRun source profile bytes s → RunStands source profile bytes s
 stands_of source profile bytes s works run = subst (λ t. MatchBool t (AreBad bytes s.decoder.offset) (RunStands source profile bytes s)) works run
 
-pub started : (source : Matrix) (profile : Profile) (d : DecoderState) (r : Course) → HasTaken [] [] fresh → d ≡ fresh → r.progress ≡ begun source profile → HasRun source profile [] (record { decoder = d; run = r })
+pub started : (source : Matrix) (profile : Profile) (d : DecoderState) (r : Course) → HasTaken [] [] fresh → d ≡ fresh
+    → r.progress ≡ begun source profile → HasRun source profile [] (record { decoder = d; run = r })
 started source profile d r taken e f =
     subst (λ (x : DecoderState). HasRun source profile [] (record { decoder = x; run = r })) (sym e)
     (record { commands = []; taken = taken; progress_is = first refl f })
@@ -61,7 +63,8 @@ module _ (source : Matrix) (profile : Profile) (bytes piece : List ℕ) (s : Run
         progress_is = later st.commands s.run.progress command st.progress_is pushes refl;
       }
 
-  pub all_step : (law : AllLaw) → AnswersPiece s.decoder piece All → HasRun source profile (bytes ++ piece) (record { decoder = decoder_after s.decoder piece All; run = s.run })
+  pub all_step : (law : AllLaw) → AnswersPiece s.decoder piece All
+      → HasRun source profile (bytes ++ piece) (record { decoder = decoder_after s.decoder piece All; run = s.run })
   all_step law answers =
       let st = stands_of source profile bytes s answers.0 run in
       record {
@@ -70,15 +73,20 @@ module _ (source : Matrix) (profile : Profile) (bytes piece : List ℕ) (s : Run
         progress_is = st.progress_is;
       }
 
-  pub bad_step : (law : BadLaw) (offset : ℕ) → AnswersPiece s.decoder piece (Bad offset) → HasRun source profile (bytes ++ piece) (record { decoder = decoder_after s.decoder piece (Bad offset); run = s.run })
+  pub bad_step : (law : BadLaw) (offset : ℕ) → AnswersPiece s.decoder piece (Bad offset)
+      → HasRun source profile (bytes ++ piece)
+      (record { decoder = decoder_after s.decoder piece (Bad offset); run = s.run })
   bad_step law offset answers = by s.decoder.failed refl run
     where
-      by : (t : Bool) → s.decoder.failed ≡ t → MatchBool t (AreBad bytes s.decoder.offset) (RunStands source profile bytes s) → AreBad (bytes ++ piece) s.decoder.offset
+      by : (t : Bool) → s.decoder.failed ≡ t
+          → MatchBool t (AreBad bytes s.decoder.offset) (RunStands source profile bytes s)
+          → AreBad (bytes ++ piece) s.decoder.offset
       by true f bad = λ more. subst (λ (b : List ℕ). Decoding b (Err (BadAt s.decoder.offset))) (sym (append_assoc bytes piece more)) (bad (piece ++ more))
       by false f st = λ more. subst (λ (n : ℕ). Decoding ((bytes ++ piece) ++ more) (Err (BadAt n))) answers.0 (law bytes piece more st.commands s.decoder offset st.taken answers)
 
 -- a command that was got has a spelling of one byte at least
-pub longer : (d : DecoderState) (piece : List ℕ) (command : Command) (used : ℕ) → AnswersPiece d piece (Got command used) → 1 ≤ length (spelling command)
+pub longer : (d : DecoderState) (piece : List ℕ) (command : Command) (used : ℕ)
+    → AnswersPiece d piece (Got command used) → 1 ≤ length (spelling command)
 longer d piece command used a =
     let e = ap length a.spelling_is in
     let l = length-append d.held (take used piece) in
@@ -103,7 +111,8 @@ module _ (source target : Matrix) (profile : Profile) (bytes : List ℕ) (s : Ru
       let decoding : Decoding bytes (Err (BadAt offset)) = subst (λ (n : ℕ). Decoding bytes (Err (BadAt n))) (sym ends.1) (subst (λ (b : List ℕ). Decoding b (Err (BadAt s.decoder.offset))) (append-nil bytes) (bad [])) in
       (Err (is.Trace, trace_line (BadAt offset)), (Err (BadAt offset), decoding, refl), refl)
 
-  pub ends_cut : (law : CutLaw) (offset : ℕ) → EndsTrace {A = Unit {0}} s.decoder (Err (refusal.Cut offset)) → IsTold (TraceCut offset)
+  pub ends_cut : (law : CutLaw) (offset : ℕ) → EndsTrace {A = Unit {0}} s.decoder (Err (refusal.Cut offset))
+      → IsTold (TraceCut offset)
   ends_cut law offset ends =
       let st = stands_of source profile bytes s ends.0 run in
       (Err (is.Trace, trace_line (CutAt offset)), (Err (CutAt offset), law bytes st.commands s.decoder (refusal.Cut offset) st.taken ends, refl), refl)

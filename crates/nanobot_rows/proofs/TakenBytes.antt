@@ -30,7 +30,8 @@ module _ (got : GotLaw) (all : AllLaw) (bad : BadLaw) (push : PushLaw) (d : Deco
     paid = λ source profile before start same paid. paid_got source profile before piece old start began paid got push command used new ended same answers g.progress g.touches;
   }
 
-  takes_all : (began : ℕ) → AnswersPiece d piece All → Takes old piece (record { decoder = decoder_after d piece All; run = r }) began began
+  takes_all : (began : ℕ) → AnswersPiece d piece All
+      → Takes old piece (record { decoder = decoder_after d piece All; run = r }) began began
   takes_all began answers = record {
     run = λ source profile before run. all_step source profile before piece old run all answers;
     offset = (let l = length-append d.held piece in omega (arith, l));
@@ -39,7 +40,8 @@ module _ (got : GotLaw) (all : AllLaw) (bad : BadLaw) (push : PushLaw) (d : Deco
     paid = λ source profile before start same paid. paid_all source profile before piece old start began paid all answers;
   }
 
-  takes_bad : (offset began : ℕ) → AnswersPiece d piece (Bad offset) → Takes old piece (record { decoder = decoder_after d piece (Bad offset); run = r }) began began
+  takes_bad : (offset began : ℕ) → AnswersPiece d piece (Bad offset)
+      → Takes old piece (record { decoder = decoder_after d piece (Bad offset); run = r }) began began
   takes_bad offset began answers = record {
     run = λ source profile before run. bad_step source profile before piece old run bad offset answers;
     offset = omega arith;
@@ -66,7 +68,8 @@ module _ (got : GotLaw) (all : AllLaw) (bad : BadLaw) (push : PushLaw) (d : Deco
       (subst (λ (t : ℕ). Takes old piece (record { decoder = decoder_after d piece (Bad offset); run = r }) began t) (sym still) (takes_bad offset began answers)))
 
 -- how many bytes are taken
-pub some_taken : (d : DecoderState) (r new : Course) (piece : List ℕ) (fed : Fed) (n began ended : ℕ) → 1 ≤ length piece → AnswersPiece d piece fed → Gets r fed (length piece) n new began ended → (1 ≤ n) × (n ≤ length piece)
+pub some_taken : (d : DecoderState) (r new : Course) (piece : List ℕ) (fed : Fed) (n began ended : ℕ) → 1 ≤ length piece
+    → AnswersPiece d piece fed → Gets r fed (length piece) n new began ended → (1 ≤ n) × (n ≤ length piece)
 some_taken d r new piece (Got command used) n began ended some answers (e, g) = (omega (arith, e, answers.some), omega (arith, e, answers.within))
 some_taken d r new piece All n began ended some answers (e, same, still) = (omega (arith, e), omega (arith, e))
 some_taken d r new piece (Bad offset) n began ended some answers (e, same, still) = (omega (arith, e), omega (arith, e))
@@ -98,7 +101,8 @@ takes_nothing s began stands = record {
   paid = λ source profile before start same paid. subst (λ (b : List ℕ). HasPaid source profile b s start began) (sym (append-nil before)) paid;
 }
 
-takes_more : (s t u : RunState) (xs ys : List ℕ) (i j k : ℕ) → Takes s xs t i j → Takes t ys u j k → Takes s (xs ++ ys) u i k
+takes_more : (s t u : RunState) (xs ys : List ℕ) (i j k : ℕ) → Takes s xs t i j → Takes t ys u j k
+    → Takes s (xs ++ ys) u i k
 takes_more s t u xs ys i j k a b = record {
   run = λ source profile before run. subst (λ (bytes : List ℕ). HasRun source profile bytes u) (append_assoc before xs ys) (b.run source profile (before ++ xs) (a.run source profile before run));
   offset = (let l = length-append xs ys in omega (arith, l, a.offset, b.offset));
@@ -108,12 +112,14 @@ takes_more s t u xs ys i j k a b = record {
       subst (λ (bytes : List ℕ). HasPaid source profile bytes u start k) (append_assoc before xs ys) (b.paid source profile (before ++ xs) start (a.resolution ∙ same) (a.paid source profile before start same paid));
 }
 
-pub takes_next : (s t u : RunState) (piece : List ℕ) (at n i j k : ℕ) → Takes s (take at piece) t i j → Takes t (take n (drop at piece)) u j k → Takes s (take (at + n) piece) u i k
+pub takes_next : (s t u : RunState) (piece : List ℕ) (at n i j k : ℕ) → Takes s (take at piece) t i j
+    → Takes t (take n (drop at piece)) u j k → Takes s (take (at + n) piece) u i k
 takes_next s t u piece at n i j k a b = subst (λ (bytes : List ℕ). Takes s bytes u i k) (sym (take-add at n piece)) (takes_more s t u (take at piece) (take n (drop at piece)) i j k a b)
 
 -- ---- heads
 
 -- the first of some bytes, put together again from its low three bits and the others
-pub known_head : (piece : List ℕ) (low : ℕ) → 1 ≤ length piece → slice_index_or piece 0 0 % 8 ≡ low → (rest : List ℕ) × (piece ≡ (slice_index_or piece 0 0 / 8 * 8 + low) ∷ rest)
+pub known_head : (piece : List ℕ) (low : ℕ) → 1 ≤ length piece → slice_index_or piece 0 0 % 8 ≡ low
+    → (rest : List ℕ) × (piece ≡ (slice_index_or piece 0 0 / 8 * 8 + low) ∷ rest)
 known_head [] low some e = absurd (omega arith)
 known_head (head ∷ rest) low some e = (rest, (let same : head ≡ head / 8 * 8 + low = omega (arith, e) in ap (λ (n : ℕ). n ∷ rest) same))

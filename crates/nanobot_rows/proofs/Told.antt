@@ -32,7 +32,8 @@ pub weaker_and : {A : Type 0} {P Q : A → Type 0} (o : Option A) → ((x : A) �
 weaker_and None f h = absurd h
 weaker_and (Some x) f h = f x h
 
-pub told_weaker : (told : Option Files) (name : List ℕ) (P Q : List ℕ → Type 0) → ((file : List ℕ) → P file → Q file) → IfTold told name P → IfTold told name Q
+pub told_weaker : (told : Option Files) (name : List ℕ) (P Q : List ℕ → Type 0) → ((file : List ℕ) → P file → Q file)
+    → IfTold told name P → IfTold told name Q
 told_weaker told name P Q f h = weaker told (λ files g. weaker_and (content files name) f g) h
 
 pub err_is : {T E : Type 0} (r : Result T E) (e : E) → IsErrAnd r (λ x. x ≡ e) → r ≡ Err e
@@ -54,7 +55,9 @@ module _ (files : Files) (name bytes : List ℕ) where
       by (Some file) e = cc
 
 -- what is so with the bytes of a file
-pub with_file : {Q : Files → Type 0} (told : Option Files) (name : List ℕ) (P : List ℕ → Type 0) → IfTold told name P → ((files : Files) (bytes : List ℕ) → told ≡ Some files → content files name ≡ Some bytes → P bytes → Q files) → IfSome told Q
+pub with_file : {Q : Files → Type 0} (told : Option Files) (name : List ℕ) (P : List ℕ → Type 0) → IfTold told name P
+    → ((files : Files) (bytes : List ℕ) → told ≡ Some files → content files name ≡ Some bytes → P bytes → Q files)
+    → IfSome told Q
 with_file None name P h f = tt
 with_file {Q} (Some files) name P h f = by (content files name) refl h
   where
@@ -83,7 +86,9 @@ module _ (told : Option Files) (name v : List ℕ) (loaded : IfTold told name (�
   says = told_weaker told name _ _ (λ file e. sym (cut_is file) ∙ ap model (sym e)) loaded
 
   -- what comes of the model that they say is found
-  said : (r : Result Matrix NoModel) (found : Found Matrix) → model v ≡ r → ((files : Files) → With (OfResult is.Model (no_model_line who) r) (LegalOf who) files found) → IfSome told (λ files. ModelOf who name files found)
+  said : (r : Result Matrix NoModel) (found : Found Matrix) → model v ≡ r
+      → ((files : Files) → With (OfResult is.Model (no_model_line who) r) (LegalOf who) files found)
+      → IfSome told (λ files. ModelOf who name files found)
   said r found e h = with_file told name (λ file. model file ≡ model v) says (λ files bytes _ there same.
       (Ok bytes, finds_file files name bytes there, subst (λ (x : Result Matrix NoModel). With (OfResult is.Model (no_model_line who) x) (LegalOf who) files found) (sym (same ∙ e)) (h files)))
 
@@ -92,18 +97,22 @@ module _ (told : Option Files) (name v : List ℕ) (loaded : IfTold told name (�
   found m e h = said (Ok m) (Ok m) e (λ files. (Ok m, refl, (None, h, refl)))
 
   module _ (rose : Type 0) where
-    pub not_read : (f : ModelFault) → ReadsModel (model v) (Err f) → Finds (ModelOf who name) told rose (Err (of_fault who f))
+    pub not_read : (f : ModelFault) → ReadsModel (model v) (Err f)
+        → Finds (ModelOf who name) told rose (Err (of_fault who f))
     not_read Memory h = tt
     not_read (Refused refusal) h = by (why_refused refusal) refl h
       where
-        by : (why : NoModel ⊎ NotLegal) → why_refused refusal ≡ why → SaysNone (model v) why → IfSome told (λ files. ModelOf who name files (Err (is.Model, refused_line who (why_refused refusal))))
+        by : (why : NoModel ⊎ NotLegal) → why_refused refusal ≡ why → SaysNone (model v) why
+            → IfSome told (λ files. ModelOf who name files (Err (is.Model, refused_line who (why_refused refusal))))
         by (inl why) e h = said (Err why) (Err (is.Model, refused_line who (why_refused refusal))) h (λ files. (Err (is.Model, no_model_line who why), refl, ap (λ (w : NoModel ⊎ NotLegal). Err (is.Model, refused_line who w)) e))
         by (inr why) e h = absurd h
 
-    pub not_lawful : (m : Matrix) (f : ModelFault) → model v ≡ Ok m → Judges m (Err f) → Finds (ModelOf who name) told rose (Err (of_fault who f))
+    pub not_lawful : (m : Matrix) (f : ModelFault) → model v ≡ Ok m → Judges m (Err f)
+        → Finds (ModelOf who name) told rose (Err (of_fault who f))
     not_lawful m Memory same h = tt
     not_lawful m (Refused refusal) same h = by (why_refused refusal) refl h
       where
-        by : (why : NoModel ⊎ NotLegal) → why_refused refusal ≡ why → IsNotLegal m why → IfSome told (λ files. ModelOf who name files (Err (is.Model, refused_line who (why_refused refusal))))
+        by : (why : NoModel ⊎ NotLegal) → why_refused refusal ≡ why → IsNotLegal m why
+            → IfSome told (λ files. ModelOf who name files (Err (is.Model, refused_line who (why_refused refusal))))
         by (inl why) e h = absurd h
         by (inr why) e h = said (Ok m) (Err (is.Model, refused_line who (why_refused refusal))) same (λ files. (Ok m, refl, (Some why, h, ap (λ (w : NoModel ⊎ NotLegal). Err (is.Model, refused_line who w)) e)))

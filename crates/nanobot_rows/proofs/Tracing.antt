@@ -19,13 +19,16 @@ use Rattle.nanobot_rows.proofs.Told.{with_file}
 
 -- where the file is told, its first bytes were taken
 pub record IsUnderway (told : Option Files) (name : List ℕ) (source : Matrix) (profile : Profile) (at : ℕ) (run : RunState) : Type 0 where
-  pub front : (files : Files) (file : List ℕ) → told ≡ Some files → content files name ≡ Some file → (at ≤ length file) × HasRun source profile (take at file) run
+  pub front : (files : Files) (file : List ℕ) → told ≡ Some files → content files name ≡ Some file
+      → (at ≤ length file) × HasRun source profile (take at file) run
 
-pub underway : (told : Option Files) (name : List ℕ) (source : Matrix) (profile : Profile) (run : RunState) → HasRun source profile [] run → IsUnderway told name source profile 0 run
+pub underway : (told : Option Files) (name : List ℕ) (source : Matrix) (profile : Profile) (run : RunState)
+    → HasRun source profile [] run → IsUnderway told name source profile 0 run
 underway told name source profile run h = record { front = λ files file t c. (omega arith, h) }
 
 -- the bytes that a piece has
-pub piece_has : (file buf : List ℕ) (at n : ℕ) → n ≤ length buf → IsPiece file at n buf → at ≤ length file → at + n ≤ length file
+pub piece_has : (file buf : List ℕ) (at n : ℕ) → n ≤ length buf → IsPiece file at n buf → at ≤ length file
+    → at + n ≤ length file
 piece_has file buf at n fits p h =
     let e = ap length p.same in
     let a = length-take n buf in
@@ -36,7 +39,9 @@ piece_has file buf at n fits p h =
 module _ (told : Option Files) (name : List ℕ) (source : Matrix) (profile : Profile) (at n : ℕ) (buf : List ℕ) (run : RunState)
     (so_far : IsUnderway told name source profile at run) (piece : IfTold told name (λ file. IsPiece file at n buf)) (room_is : n ≤ length buf) where
   -- the piece was fed
-  pub underway_next : (next : RunState) → ((bytes : List ℕ) → HasRun source profile bytes run → HasRun source profile (bytes ++ take n buf) next) → IsUnderway told name source profile (at + n) next
+  pub underway_next : (next : RunState)
+      → ((bytes : List ℕ) → HasRun source profile bytes run → HasRun source profile (bytes ++ take n buf) next)
+      → IsUnderway told name source profile (at + n) next
   underway_next next fed = record {
     front = λ files file t c.
         let p : IsPiece file at n buf = from_told told name _ piece files file t c in
@@ -57,7 +62,8 @@ module _ (told : Option Files) (name : List ℕ) (source : Matrix) (profile : Pr
       (answer.0, (Ok file, fits files name file run_limit is.Trace (trace_long_line run_limit) c (omega (arith, end, within)), answer.1), answer.2))
 
   -- a byte past the limit came
-  pub underway_long : (target : Matrix) → 1073741824 < at + n → IfSome told (λ files. AnswerOfTrace profile source target name files (reply_of files (TraceLong 1073741824)))
+  pub underway_long : (target : Matrix) → 1073741824 < at + n
+      → IfSome told (λ files. AnswerOfTrace profile source target name files (reply_of files (TraceLong 1073741824)))
   underway_long target past =
       with_file told name _ piece (λ files file t c p.
       let old = so_far.front files file t c in

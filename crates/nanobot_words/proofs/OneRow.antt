@@ -14,7 +14,8 @@ first_word [] = []
 first_word (w ∷ ws) = w
 
 -- rows whose first words differ are written otherwise
-other_heads : (row row' : Row) → IsTrue (bytes_eq (first_word (row_words row)) (first_word (row_words row))) → IsFalse (bytes_eq (first_word (row_words row)) (first_word (row_words row'))) → row_words row ≡ row_words row' → ⊥
+other_heads : (row row' : Row) → IsTrue (bytes_eq (first_word (row_words row)) (first_word (row_words row)))
+    → IsFalse (bytes_eq (first_word (row_words row)) (first_word (row_words row'))) → row_words row ≡ row_words row' → ⊥
 other_heads row row' same other e = let t = subst (λ ws. IsTrue (bytes_eq (first_word (row_words row)) (first_word ws))) e same in cc
 
 check_check : (m m' : List ℕ) → row_words (check m) ≡ row_words (check m') → check m ≡ check m'
@@ -35,13 +36,16 @@ same_operands f s t s' t' b b' h h' es et eb =
     λ i. f (ps i) (pt i) (eb i)
 
 -- a number and a resolution are those of their words
-same_numbers : (n r n' r' : ℕ) → CanForge n r → CanForge n' r' → decimal n ≡ decimal n' → decimal r ≡ decimal r' → (n ≡ n') × (r ≡ r')
+same_numbers : (n r n' r' : ℕ) → CanForge n r → CanForge n' r' → decimal n ≡ decimal n' → decimal r ≡ decimal r'
+    → (n ≡ n') × (r ≡ r')
 same_numbers n r n' r' a b en er = (decimal_injective n n' (omega arith) (omega arith) en, decimal_injective r r' (omega arith) (omega arith) er)
 
-same_debug : (s b x s' b' x' : List ℕ) → row_words (debug s b x) ≡ row_words (debug s' b' x') → debug s b x ≡ debug s' b' x'
+same_debug : (s b x s' b' x' : List ℕ) → row_words (debug s b x) ≡ row_words (debug s' b' x')
+    → debug s b x ≡ debug s' b' x'
 same_debug s b x s' b' x' e = cc
 
-full_light : (s t s' t' : Option (List ℕ)) (b b' : List ℕ) → row_words (run Full s t b) ≡ row_words (run Light s' t' b') → ⊥
+full_light : (s t s' t' : Option (List ℕ)) (b b' : List ℕ) → row_words (run Full s t b) ≡ row_words (run Light s' t' b')
+    → ⊥
 full_light s t s' t' b b' e = cc
 
 pub row_once : (words : List (List ℕ)) (row row' : Row) → IsRow words row → IsRow words row' → row ≡ row'

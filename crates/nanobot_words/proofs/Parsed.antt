@@ -13,7 +13,8 @@ none_left [] h = refl
 none_left (x ∷ xs) h = absurd (omega arith)
 
 module _ {Y : Type 0} where
-  pub texts_two : (words : List (String Y)) (a b : String Y) → 2 ≤ length words → length words < 3 → a ≡ get_or words 0 a → b ≡ get_or words 1 b → texts words ≡ string_bytes a ∷ string_bytes b ∷ []
+  pub texts_two : (words : List (String Y)) (a b : String Y) → 2 ≤ length words → length words < 3
+      → a ≡ get_or words 0 a → b ≡ get_or words 1 b → texts words ≡ string_bytes a ∷ string_bytes b ∷ []
   texts_two [] a b l u p q = absurd (omega arith)
   texts_two (x ∷ []) a b l u p q = absurd (omega arith)
   texts_two (x ∷ y ∷ xs) a b l u p q = rw (p, q, none_left xs (omega arith))
@@ -21,20 +22,23 @@ module _ {Y : Type 0} where
 -- ---- a source and a target
 
 -- a side whose word is that of another is the same, where none has the name `-`
-pub same_side : (s u : Option (List ℕ)) → ((name : List ℕ) → s ≡ Some name → IsName name) → ((name : List ℕ) → u ≡ Some name → IsName name) → side_word s ≡ side_word u → s ≡ u
+pub same_side : (s u : Option (List ℕ)) → ((name : List ℕ) → s ≡ Some name → IsName name)
+    → ((name : List ℕ) → u ≡ Some name → IsName name) → side_word s ≡ side_word u → s ≡ u
 same_side None None hs hu e = refl
 same_side None (Some name) hs hu e = absurd (hu name refl (sym e))
 same_side (Some name) None hs hu e = absurd (hs name refl e)
 same_side (Some name) (Some other) hs hu e = ap Some e
 
-pub first_named : (s t : Option (List ℕ)) (b : List ℕ) → All IsName (with_side s (with_side t (b ∷ []))) → (name : List ℕ) → s ≡ Some name → IsName name
+pub first_named : (s t : Option (List ℕ)) (b : List ℕ) → All IsName (with_side s (with_side t (b ∷ [])))
+    → (name : List ℕ) → s ≡ Some name → IsName name
 first_named None t b all name e = absurd (cc)
 first_named (Some x) t b all name e = subst IsName (some_injective e) (all 0 x (omega arith))
   where
     some_injective : Some x ≡ Some name → x ≡ name
     some_injective e = cc
 
-pub second_named : (s t : Option (List ℕ)) (b : List ℕ) → All IsName (with_side s (with_side t (b ∷ []))) → (name : List ℕ) → t ≡ Some name → IsName name
+pub second_named : (s t : Option (List ℕ)) (b : List ℕ) → All IsName (with_side s (with_side t (b ∷ [])))
+    → (name : List ℕ) → t ≡ Some name → IsName name
 second_named s None b all name e = absurd (cc)
 second_named None (Some x) b all name e = subst IsName (some_injective e) (all 0 x (omega arith))
   where
@@ -64,13 +68,15 @@ to_the_end x y b h (suc zero) d l = h 2 d (omega arith)
 to_the_end x y b h (suc (suc zero)) d l = h 0 d (omega arith)
 to_the_end x y b h (suc (suc (suc k))) d l = absurd (omega arith)
 
-pub trace_first : (s t : Option (List ℕ)) (b : List ℕ) → All IsName (with_side s (with_side t (b ∷ []))) → All IsName (b ∷ with_side s (with_side t []))
+pub trace_first : (s t : Option (List ℕ)) (b : List ℕ) → All IsName (with_side s (with_side t (b ∷ [])))
+    → All IsName (b ∷ with_side s (with_side t []))
 trace_first None None b h = h
 trace_first (Some x) None b h = swapped x b h
 trace_first None (Some y) b h = swapped y b h
 trace_first (Some x) (Some y) b h = to_the_front x y b h
 
-pub trace_last : (s t : Option (List ℕ)) (b : List ℕ) → All IsName (b ∷ with_side s (with_side t [])) → All IsName (with_side s (with_side t (b ∷ [])))
+pub trace_last : (s t : Option (List ℕ)) (b : List ℕ) → All IsName (b ∷ with_side s (with_side t []))
+    → All IsName (with_side s (with_side t (b ∷ [])))
 trace_last None None b h = h
 trace_last (Some x) None b h = swapped b x h
 trace_last None (Some y) b h = swapped b y h
@@ -125,7 +131,8 @@ module _ (words : List (List ℕ)) (f g x y z : List ℕ) (are : words ≡ f ∷
     }
 
     -- the planner takes the sides that were found
-    pub plan_takes : (q : Planner) (u v : Option (List ℕ)) → planner_word q ≡ g → AreOperands x y z u v z → TakesSides q u v
+    pub plan_takes : (q : Planner) (u v : Option (List ℕ)) → planner_word q ≡ g → AreOperands x y z u v z
+        → TakesSides q u v
     plan_takes q u v word found =
         let own = plan_operands in
         let same_source = same_side s u (first_named s t b own.named) (first_named u v z found.named) (sym own.source_is ∙ found.source_is) in
@@ -134,7 +141,9 @@ module _ (words : List (List ℕ)) (f g x y z : List ℕ) (are : words ≡ f ∷
         (subst (λ (side : Option (List ℕ)). TakesSides p side v) same_source (subst (λ (side : Option (List ℕ)). TakesSides p s side) same_target row.of_table))
 
 -- a source, a target and a trace that were found behind a planner's word make the words of a plan
-pub plan_written : (words : List (List ℕ)) (f g x y z : List ℕ) (p : Planner) (s t : Option (List ℕ)) → words ≡ f ∷ g ∷ x ∷ y ∷ z ∷ [] → f ≡ codes "plan" → planner_word p ≡ g → AreOperands x y z s t z → words ≡ row_words (plan p s t z)
+pub plan_written : (words : List (List ℕ)) (f g x y z : List ℕ) (p : Planner) (s t : Option (List ℕ))
+    → words ≡ f ∷ g ∷ x ∷ y ∷ z ∷ [] → f ≡ codes "plan" → planner_word p ≡ g → AreOperands x y z s t z
+    → words ≡ row_words (plan p s t z)
 plan_written words f g x y z p s t are first second found = are ∙ (λ i. first i ∷ sym second i ∷ found.source_is i ∷ found.target_is i ∷ z ∷ [])
 
 pub not_taken : IsTrue false → ⊥

@@ -39,33 +39,39 @@ together_by_bid a b h =
     ∙ or-false (a.bot.bid == b.bot.bid)
 
 -- so its group is itself, where its bid stands once
-pub alone_members : (all : List Act) (a : Act) → IsTrue (is_alone a.command) → members all a ≡ filter (λ b. a.bot.bid == b.bot.bid) all
+pub alone_members : (all : List Act) (a : Act) → IsTrue (is_alone a.command)
+    → members all a ≡ filter (λ b. a.bot.bid == b.bot.bid) all
 alone_members all a h = ap (λ t. filter t all) (λ i b. together_by_bid a b h i)
 
 least : (n : ℕ) → nat_le n n ≡ true
 least n = grind (arith, nat_tests)
 
 -- a single bot is its group
-pub single_members : (b : Bot) (k : Command) → members (record { bot = b; command = k } ∷ []) (record { bot = b; command = k }) ≡ record { bot = b; command = k } ∷ []
+pub single_members : (b : Bot) (k : Command)
+    → members (record { bot = b; command = k } ∷ []) (record { bot = b; command = k })
+    ≡ record { bot = b; command = k } ∷ []
 single_members b k =
     let a : Act = record { bot = b; command = k } in
     ap (λ t. cond ((t || are_partners a a) || share_region (position a) k (position a) k) (a ∷ []) []) (test_itself b.bid)
 
-pub single_leaders : (b : Bot) (k : Command) → leaders (record { bot = b; command = k } ∷ []) ≡ record { bot = b; command = k } ∷ []
+pub single_leaders : (b : Bot) (k : Command)
+    → leaders (record { bot = b; command = k } ∷ []) ≡ record { bot = b; command = k } ∷ []
 single_leaders b k =
     let a : Act = record { bot = b; command = k } in
     ap (λ ms. cond (list_all (λ c. nat_le b.bid c.bot.bid) ms) (a ∷ []) []) (single_members b k)
     ∙ ap (λ t. cond (t && true) (a ∷ []) []) (least b.bid)
 
 -- the bot leads, and its group is the bot
-pub single_leads : (bots : List Bot) (commands : List Command) → length bots ≡ 1 → length commands ≡ length bots → leaders (acts bots commands) ≡ acts bots commands
+pub single_leads : (bots : List Bot) (commands : List Command) → length bots ≡ 1 → length commands ≡ length bots
+    → leaders (acts bots commands) ≡ acts bots commands
 single_leads [] commands e f = absurd (omega arith)
 single_leads (b ∷ []) [] e f = absurd (omega arith)
 single_leads (b ∷ []) (k ∷ []) e f = single_leaders b k
 single_leads (b ∷ []) (k ∷ l ∷ commands) e f = absurd (omega arith)
 single_leads (b ∷ d ∷ bots) commands e f = absurd (omega arith)
 
-pub single_group : (bots : List Bot) (commands : List Command) → length bots ≡ 1 → length commands ≡ length bots → All (λ a. members (acts bots commands) a ≡ a ∷ []) (acts bots commands)
+pub single_group : (bots : List Bot) (commands : List Command) → length bots ≡ 1 → length commands ≡ length bots
+    → All (λ a. members (acts bots commands) a ≡ a ∷ []) (acts bots commands)
 single_group [] commands e f = absurd (omega arith)
 single_group (b ∷ []) [] e f = absurd (omega arith)
 single_group (b ∷ []) (k ∷ []) e f = λ j d lt. only _ (place_in d (acts (b ∷ []) (k ∷ [])) j lt)

@@ -41,19 +41,23 @@ pub no_way : (m : Matrix) (cs : List Coord) → find (λ c. is_full m c && false
 no_way m cs = find-same (λ c. is_full m c && false) (λ _. false) cs (λ c. and_false (is_full m c)) ∙ find-never cs
 
 -- one way
-pub one_way : (m : Matrix) (k : Corners) (s : Span) (cs : List Coord) → ((p : Point) → is_within (span k) p ≡ is_within s p) → find (λ c. is_full m c && is_within (span k) (point c)) cs ≡ find (λ c. is_full m c && (is_within s (point c) || false)) cs
+pub one_way : (m : Matrix) (k : Corners) (s : Span) (cs : List Coord)
+    → ((p : Point) → is_within (span k) p ≡ is_within s p) → find (λ c. is_full m c && is_within (span k) (point c)) cs
+    ≡ find (λ c. is_full m c && (is_within s (point c) || false)) cs
 one_way m k s cs covers = find-same (λ c. is_full m c && is_within (span k) (point c)) (λ c. is_full m c && (is_within s (point c) || false)) cs (λ c i. is_full m c && (covers (point c) ∙ sym (or_false (is_within s (point c)))) i)
 
 -- the lists of judgements of one bot
 
-pub skip : (step bid : ℕ) (rule : Rule) (a : Act) (t : Bool) (more : List (Option Broken)) → t ≡ false → first_value (broken_by step rule bid (here a t) ∷ more) ≡ first_value more
+pub skip : (step bid : ℕ) (rule : Rule) (a : Act) (t : Bool) (more : List (Option Broken)) → t ≡ false
+    → first_value (broken_by step rule bid (here a t) ∷ more) ≡ first_value more
 skip step bid rule a t more h = ap (λ b. first_value (broken_by step rule bid (here a b) ∷ more)) h
 
 pub lone : (o : Option Broken) → first_value (o ∷ None ∷ None ∷ None ∷ None ∷ []) ≡ o
 lone None = refl
 lone (Some b) = refl
 
-pub unblocked : (step bid : ℕ) (m : Matrix) (cs : List Coord) (more : List (Option Broken)) → first_value (broken_by step Blocked bid (find (λ c. is_full m c && false) cs) ∷ more) ≡ first_value more
+pub unblocked : (step bid : ℕ) (m : Matrix) (cs : List Coord) (more : List (Option Broken))
+    → first_value (broken_by step Blocked bid (find (λ c. is_full m c && false) cs) ∷ more) ≡ first_value more
 unblocked step bid m cs more = ap (λ o. first_value (broken_by step Blocked bid o ∷ more)) (no_way m cs)
 
 -- ---- each command
@@ -78,39 +82,51 @@ drop_none (Some b ∷ xs) ys = refl
 drop_none (None ∷ xs) ys = drop_none xs ys
 
 -- a judgement that finds nothing may be left out
-pub mute : (xs ys : List (Option Broken)) (o : Option Broken) → o ≡ None → first_value (xs ++ o ∷ ys) ≡ first_value (xs ++ ys)
+pub mute : (xs ys : List (Option Broken)) (o : Option Broken) → o ≡ None
+    → first_value (xs ++ o ∷ ys) ≡ first_value (xs ++ ys)
 mute xs ys o e = ap (λ v. first_value (xs ++ v ∷ ys)) e ∙ drop_none xs ys
 
-pub no_block : (step bid : ℕ) (m : Matrix) → broken_by step Blocked bid (find (λ c. is_full m c && false) (all_of m)) ≡ None
+pub no_block : (step bid : ℕ) (m : Matrix)
+    → broken_by step Blocked bid (find (λ c. is_full m c && false) (all_of m)) ≡ None
 no_block step bid m = ap (broken_by step Blocked bid) (no_way m (all_of m))
 
-pub halt : (s : State) (all : List Act) (step : ℕ) (bot : Bot) → first_fault s all step (act bot Halt) later_rules ≡ first_value (broken_by step HaltAlone bot.bid (here (act bot Halt) (nat_lt 1 (length s.bots))) ∷ broken_by step HaltOrigin bot.bid (here (act bot Halt) (not (same_point (point bot.pos) (point origin)))) ∷ broken_by step HaltLow bot.bid (here (act bot Halt) (is_high s.harmonics)) ∷ [])
+pub halt : (s : State) (all : List Act) (step : ℕ) (bot : Bot) → first_fault s all step (act bot Halt) later_rules
+    ≡ first_value (broken_by step HaltAlone bot.bid (here (act bot Halt) (nat_lt 1 (length s.bots))) ∷ broken_by step HaltOrigin bot.bid (here (act bot Halt) (not (same_point (point bot.pos) (point origin)))) ∷ broken_by step HaltLow bot.bid (here (act bot Halt) (is_high s.harmonics)) ∷ [])
 halt s all step bot =
     let x : Option Broken = broken_by step HaltAlone bot.bid (here (act bot Halt) (nat_lt 1 (length s.bots))) in
     let y : Option Broken = broken_by step HaltOrigin bot.bid (here (act bot Halt) (not (same_point (point bot.pos) (point origin)))) in
     let z : Option Broken = broken_by step HaltLow bot.bid (here (act bot Halt) (is_high s.harmonics)) in
     mute (x ∷ y ∷ z ∷ None ∷ []) (None ∷ None ∷ None ∷ None ∷ []) _ (no_block step bot.bid s.matrix) ∙ three x y z
   where
-    three : (x y z : Option Broken) → first_value (x ∷ y ∷ z ∷ None ∷ None ∷ None ∷ None ∷ None ∷ []) ≡ first_value (x ∷ y ∷ z ∷ [])
+    three : (x y z : Option Broken)
+        → first_value (x ∷ y ∷ z ∷ None ∷ None ∷ None ∷ None ∷ None ∷ []) ≡ first_value (x ∷ y ∷ z ∷ [])
     three (Some b) y z = refl
     three None (Some b) z = refl
     three None None (Some b) = refl
     three None None None = refl
 
-pub quiet : (s : State) (all : List Act) (step : ℕ) (bot : Bot) → first_fault s all step (act bot Wait) later_rules ≡ None
+pub quiet : (s : State) (all : List Act) (step : ℕ) (bot : Bot)
+    → first_fault s all step (act bot Wait) later_rules ≡ None
 quiet s all step bot = unblocked step bot.bid s.matrix (all_of s.matrix) (None ∷ None ∷ None ∷ None ∷ [])
 
-pub near : (s : State) (all : List Act) (step : ℕ) (bot : Bot) (d : Diff) → first_fault s all step (act bot (Fill d)) later_rules ≡ broken_by step OutOfSpace bot.bid (here (act bot (Fill d)) (not (in_space s.matrix.resolution (plus (point bot.pos) d) && true)))
+pub near : (s : State) (all : List Act) (step : ℕ) (bot : Bot) (d : Diff)
+    → first_fault s all step (act bot (Fill d)) later_rules
+    ≡ broken_by step OutOfSpace bot.bid (here (act bot (Fill d)) (not (in_space s.matrix.resolution (plus (point bot.pos) d) && true)))
 near s all step bot d =
     let x : Option Broken = broken_by step OutOfSpace bot.bid (here (act bot (Fill d)) (not (in_space s.matrix.resolution (plus (point bot.pos) d) && true))) in
     mute (x ∷ []) (None ∷ None ∷ None ∷ None ∷ []) _ (no_block step bot.bid s.matrix) ∙ lone x
 
 -- a command that stays in space is not out of space
-pub stays : (step : ℕ) (a : Act) (r : ℕ) (p : Point) → IsTrue (in_space r p) → broken_by step OutOfSpace a.bot.bid (here a (not (in_space r p && true))) ≡ None
+pub stays : (step : ℕ) (a : Act) (r : ℕ) (p : Point) → IsTrue (in_space r p)
+    → broken_by step OutOfSpace a.bot.bid (here a (not (in_space r p && true))) ≡ None
 stays step a r p h = ap (λ b. broken_by step OutOfSpace a.bot.bid (here a b)) (within (in_space r p) h)
 
 -- two ways
-pub two_ways : (m : Matrix) (k l : Corners) (s t : Span) (x y : Option Coord) → ((p : Point) → is_within (span k) p ≡ is_within s p) → ((p : Point) → is_within (span l) p ≡ is_within t p) → x ≡ find (λ c. is_full m c && is_within (span k) (point c)) (all_of m) → y ≡ find (λ c. is_full m c && is_within (span l) (point c)) (all_of m) → find (λ c. is_full m c && (is_within s (point c) || (is_within t (point c) || false))) (all_of m) ≡ earlier x y
+pub two_ways : (m : Matrix) (k l : Corners) (s t : Span) (x y : Option Coord)
+    → ((p : Point) → is_within (span k) p ≡ is_within s p) → ((p : Point) → is_within (span l) p ≡ is_within t p)
+    → x ≡ find (λ c. is_full m c && is_within (span k) (point c)) (all_of m)
+    → y ≡ find (λ c. is_full m c && is_within (span l) (point c)) (all_of m)
+    → find (λ c. is_full m c && (is_within s (point c) || (is_within t (point c) || false))) (all_of m) ≡ earlier x y
 two_ways m k l s t x y p q e f =
     let f1 : Coord → Bool = λ c. is_full m c && is_within (span k) (point c) in
     let g1 : Coord → Bool = λ c. is_full m c && is_within (span l) (point c) in
@@ -123,7 +139,15 @@ two_ways m k l s t x y p q e f =
     spread true b c = ap (λ v. b || v) (or_false c)
     spread false b c = refl
 
-pub lmove : (s : State) (all : List Act) (step : ℕ) (bot : Bot) (d e : Diff) (k l : Corners) (mid to : Coord) (x y : Option Coord) → IsTrue (in_space s.matrix.resolution (plus (point bot.pos) d)) → IsTrue (in_space s.matrix.resolution (plus (point mid) e)) → point mid ≡ plus (point bot.pos) d → point to ≡ plus (point mid) e → ((p : Point) → is_within (span k) p ≡ is_within (between (point bot.pos) (point mid)) p) → ((p : Point) → is_within (span l) p ≡ is_within (between (point mid) (point to)) p) → x ≡ find (λ c. is_full s.matrix c && is_within (span k) (point c)) (all_of s.matrix) → y ≡ find (λ c. is_full s.matrix c && is_within (span l) (point c)) (all_of s.matrix) → first_fault s all step (act bot (LMove d e)) later_rules ≡ broken_by step Blocked bot.bid (earlier x y)
+pub lmove : (s : State) (all : List Act) (step : ℕ) (bot : Bot) (d e : Diff) (k l : Corners) (mid to : Coord)
+    (x y : Option Coord) → IsTrue (in_space s.matrix.resolution (plus (point bot.pos) d))
+    → IsTrue (in_space s.matrix.resolution (plus (point mid) e)) → point mid ≡ plus (point bot.pos) d
+    → point to ≡ plus (point mid) e
+    → ((p : Point) → is_within (span k) p ≡ is_within (between (point bot.pos) (point mid)) p)
+    → ((p : Point) → is_within (span l) p ≡ is_within (between (point mid) (point to)) p)
+    → x ≡ find (λ c. is_full s.matrix c && is_within (span k) (point c)) (all_of s.matrix)
+    → y ≡ find (λ c. is_full s.matrix c && is_within (span l) (point c)) (all_of s.matrix)
+    → first_fault s all step (act bot (LMove d e)) later_rules ≡ broken_by step Blocked bot.bid (earlier x y)
 lmove s all step bot d e k l mid to x y i j a b p q u v =
     let P : Point = plus (point bot.pos) d in
     let Q : Point = plus P e in
@@ -136,7 +160,9 @@ lmove s all step bot d e k l mid to x y i j a b p q u v =
     (skip step bot.bid OutOfSpace (act bot (LMove d e)) (not (in_space r P && (in_space r Q && true))) (blocked ∷ None ∷ None ∷ None ∷ None ∷ []) (within_two (in_space r P) (in_space r Q) i j2) ∙ lone blocked)
     ∙ ap (broken_by step Blocked bot.bid) (two_ways s.matrix k l (between (point bot.pos) P) (between P Q) x y cover1 cover2 u v)
 
-pub lmove_out : (s : State) (all : List Act) (step : ℕ) (bot : Bot) (d e : Diff) (mid : Coord) → point mid ≡ plus (point bot.pos) d → IsFalse (in_space s.matrix.resolution (plus (point mid) e)) → first_fault s all step (act bot (LMove d e)) later_rules ≡ broken_by step OutOfSpace bot.bid (Some bot.pos)
+pub lmove_out : (s : State) (all : List Act) (step : ℕ) (bot : Bot) (d e : Diff) (mid : Coord)
+    → point mid ≡ plus (point bot.pos) d → IsFalse (in_space s.matrix.resolution (plus (point mid) e))
+    → first_fault s all step (act bot (LMove d e)) later_rules ≡ broken_by step OutOfSpace bot.bid (Some bot.pos)
 lmove_out s all step bot d e mid a j =
     let P : Point = plus (point bot.pos) d in
     let Q : Point = plus P e in
@@ -145,7 +171,13 @@ lmove_out s all step bot d e mid a j =
     let blocked : Option Broken = broken_by step Blocked bot.bid (find (λ c. is_full s.matrix c && (is_within (between (point bot.pos) P) (point c) || (is_within (between P Q) (point c) || false))) (all_of s.matrix)) in
     ap (λ t. first_value (broken_by step OutOfSpace bot.bid (here (act bot (LMove d e)) t) ∷ blocked ∷ None ∷ None ∷ None ∷ None ∷ [])) (out_two (in_space r P) (in_space r Q) j2)
 
-pub fission : (s : State) (all : List Act) (step : ℕ) (bot : Bot) (d : Diff) (n : ℕ) (k : Corners) (to : Coord) (x : Option Coord) → IsTrue (in_space s.matrix.resolution (plus (point bot.pos) d)) → point to ≡ plus (point bot.pos) d → ((p : Point) → is_within (span k) p ≡ is_within (between (point to) (point to)) p) → x ≡ find (λ c. is_full s.matrix c && is_within (span k) (point c)) (all_of s.matrix) → first_fault s all step (act bot (Fission d n)) later_rules ≡ first_value (broken_by step Blocked bot.bid x ∷ broken_by step Seeds bot.bid (here (act bot (Fission d n)) (nat_le (length (seed_list bot.seeds)) n)) ∷ [])
+pub fission : (s : State) (all : List Act) (step : ℕ) (bot : Bot) (d : Diff) (n : ℕ) (k : Corners) (to : Coord)
+    (x : Option Coord) → IsTrue (in_space s.matrix.resolution (plus (point bot.pos) d))
+    → point to ≡ plus (point bot.pos) d
+    → ((p : Point) → is_within (span k) p ≡ is_within (between (point to) (point to)) p)
+    → x ≡ find (λ c. is_full s.matrix c && is_within (span k) (point c)) (all_of s.matrix)
+    → first_fault s all step (act bot (Fission d n)) later_rules
+    ≡ first_value (broken_by step Blocked bot.bid x ∷ broken_by step Seeds bot.bid (here (act bot (Fission d n)) (nat_le (length (seed_list bot.seeds)) n)) ∷ [])
 fission s all step bot d n k to x i e covers f =
     let way : Span = just (plus (point bot.pos) d) in
     let cover : (p : Point) → is_within (span k) p ≡ is_within way p = λ p. covers p ∙ ap (λ q. is_within (just q) p) e in
@@ -159,7 +191,11 @@ fission s all step bot d n k to x i e covers f =
     two None (Some b) = refl
     two None None = refl
 
-pub smove : (s : State) (all : List Act) (step : ℕ) (bot : Bot) (d : Diff) (k : Corners) (to : Coord) → IsTrue (in_space s.matrix.resolution (plus (point bot.pos) d)) → point to ≡ plus (point bot.pos) d → ((p : Point) → is_within (span k) p ≡ is_within (between (point bot.pos) (point to)) p) → first_fault s all step (act bot (SMove d)) later_rules ≡ broken_by step Blocked bot.bid (find (λ c. is_full s.matrix c && is_within (span k) (point c)) (all_of s.matrix))
+pub smove : (s : State) (all : List Act) (step : ℕ) (bot : Bot) (d : Diff) (k : Corners) (to : Coord)
+    → IsTrue (in_space s.matrix.resolution (plus (point bot.pos) d)) → point to ≡ plus (point bot.pos) d
+    → ((p : Point) → is_within (span k) p ≡ is_within (between (point bot.pos) (point to)) p)
+    → first_fault s all step (act bot (SMove d)) later_rules
+    ≡ broken_by step Blocked bot.bid (find (λ c. is_full s.matrix c && is_within (span k) (point c)) (all_of s.matrix))
 smove s all step bot d k to i e covers =
     let way : Span = between (point bot.pos) (plus (point bot.pos) d) in
     let cover : (p : Point) → is_within (span k) p ≡ is_within way p = λ p. covers p ∙ ap (λ q. is_within (between (point bot.pos) q) p) e in
@@ -167,10 +203,12 @@ smove s all step bot d k to i e covers =
     (skip step bot.bid OutOfSpace (act bot (SMove d)) (not (in_space s.matrix.resolution (plus (point bot.pos) d) && true)) (blocked ∷ None ∷ None ∷ None ∷ None ∷ []) (within (in_space s.matrix.resolution (plus (point bot.pos) d)) i) ∙ lone blocked)
     ∙ ap (broken_by step Blocked bot.bid) (sym (one_way s.matrix k way (all_of s.matrix) cover))
 
-pub blocked_at : (step bid : ℕ) (rule : Rule) (x : Option Coord) (c : Coord) (more : List (Option Broken)) → x ≡ Some c → first_value (broken_by step rule bid x ∷ more) ≡ broken_by step rule bid (Some c)
+pub blocked_at : (step bid : ℕ) (rule : Rule) (x : Option Coord) (c : Coord) (more : List (Option Broken)) → x ≡ Some c
+    → first_value (broken_by step rule bid x ∷ more) ≡ broken_by step rule bid (Some c)
 blocked_at step bid rule x c more e = ap (λ o. first_value (broken_by step rule bid o ∷ more)) e
 
-pub only_next : (step bid : ℕ) (rule : Rule) (x : Option Coord) (y : Option Broken) → x ≡ None → first_value (broken_by step rule bid x ∷ y ∷ []) ≡ y
+pub only_next : (step bid : ℕ) (rule : Rule) (x : Option Coord) (y : Option Broken) → x ≡ None
+    → first_value (broken_by step rule bid x ∷ y ∷ []) ≡ y
 only_next step bid rule x y e = ap (λ o. first_value (broken_by step rule bid o ∷ y ∷ [])) e ∙ one y
   where
     one : (y : Option Broken) → first_value (y ∷ []) ≡ y
@@ -178,7 +216,9 @@ only_next step bid rule x y e = ap (λ o. first_value (broken_by step rule bid o
     one (Some b) = refl
 
 -- what is left of the rules of a fusion in space
-past_space : (s : State) (step : ℕ) (bot : Bot) (a : Act) (inside : Bool) (p : Option Broken) → IsTrue inside → first_value (broken_by step OutOfSpace bot.bid (here a (not inside)) ∷ broken_by step Blocked bot.bid (find (λ c. is_full s.matrix c && false) (all_of s.matrix)) ∷ None ∷ None ∷ p ∷ None ∷ []) ≡ p
+past_space : (s : State) (step : ℕ) (bot : Bot) (a : Act) (inside : Bool) (p : Option Broken) → IsTrue inside
+    → first_value (broken_by step OutOfSpace bot.bid (here a (not inside)) ∷ broken_by step Blocked bot.bid (find (λ c. is_full s.matrix c && false) (all_of s.matrix)) ∷ None ∷ None ∷ p ∷ None ∷ [])
+    ≡ p
 past_space s step bot a inside p i =
     skip step bot.bid OutOfSpace a (not inside) (broken_by step Blocked bot.bid (find (λ c. is_full s.matrix c && false) (all_of s.matrix)) ∷ None ∷ None ∷ p ∷ None ∷ []) (ap not i)
     ∙ (unblocked step bot.bid s.matrix (all_of s.matrix) (None ∷ None ∷ p ∷ None ∷ []) ∙ last p)
@@ -191,10 +231,13 @@ past_space s step bot a inside p i =
 abbrev lacks_partner : ℕ → Act → List Act → Option Broken
 lacks_partner step a all = broken_by step Partner a.bot.bid (here a (not (list_any (are_partners a) all)))
 
-pub fusion : (s : State) (all : List Act) (step : ℕ) (bot : Bot) (k : Command) (partner : Coord) (primary : Bool) → IsDeed s.matrix.resolution bot k (Fuses partner primary) → first_fault s all step (act bot k) later_rules ≡ lacks_partner step (act bot k) all
+pub fusion : (s : State) (all : List Act) (step : ℕ) (bot : Bot) (k : Command) (partner : Coord) (primary : Bool)
+    → IsDeed s.matrix.resolution bot k (Fuses partner primary)
+    → first_fault s all step (act bot k) later_rules ≡ lacks_partner step (act bot k) all
 fusion s all step bot (FusionP d) partner primary h = past_space s step bot (act bot (FusionP d)) (in_space s.matrix.resolution (plus (point bot.pos) d) && true) (lacks_partner step (act bot (FusionP d)) all) h.stays
 fusion s all step bot (FusionS d) partner primary h = past_space s step bot (act bot (FusionS d)) (in_space s.matrix.resolution (plus (point bot.pos) d) && true) (lacks_partner step (act bot (FusionS d)) all) h.stays
 fusion s all step bot k partner primary h = let is = h.is in cc
 
-pub at_command : (s : State) (all : List Act) (step : ℕ) (bot : Bot) (k l : Command) (r : Option Broken) → k ≡ l → r ≡ first_fault s all step (act bot k) later_rules → r ≡ first_fault s all step (act bot l) later_rules
+pub at_command : (s : State) (all : List Act) (step : ℕ) (bot : Bot) (k l : Command) (r : Option Broken) → k ≡ l
+    → r ≡ first_fault s all step (act bot k) later_rules → r ≡ first_fault s all step (act bot l) later_rules
 at_command s all step bot k l r e h = h ∙ ap (λ v. first_fault s all step (act bot v) later_rules) e

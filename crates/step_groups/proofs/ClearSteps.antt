@@ -31,7 +31,8 @@ apart : (a b : ℕ) (by : ℤ) → pos b ≡ pos a +ℤ by → (b ≡ a + unsign
 apart a b (pos n) e = inl (omega (arith, ints, e))
 apart a b (negsuc n) e = inr (omega (arith, ints, e))
 
-along : (a b v : ℕ) (by : ℤ) → pos b ≡ pos a +ℤ by → IsTrue (is_between (pos (min a b)) (pos (max a b)) (pos v)) → IsAlong a b v (unsigned_abs by)
+along : (a b v : ℕ) (by : ℤ) → pos b ≡ pos a +ℤ by → IsTrue (is_between (pos (min a b)) (pos (max a b)) (pos v))
+    → IsAlong a b v (unsigned_abs by)
 along a b v by e t = ends (apart a b by e)
   where
     low : min a b ≤ v
@@ -60,7 +61,8 @@ at_both a b v n h z = by (h.at_end (omega (arith, z)))
 
 -- ---- the coordinates of the way
 
-along_x : (a b c : Coord) (i j k : ℕ) → IsAlong a.x b.x c.x i → IsAlong a.y b.y c.y j → IsAlong a.z b.z c.z k → i ≤ 1 → j ≡ 0 → k ≡ 0 → (c ≡ a) ⊎ (c ≡ b)
+along_x : (a b c : Coord) (i j k : ℕ) → IsAlong a.x b.x c.x i → IsAlong a.y b.y c.y j → IsAlong a.z b.z c.z k → i ≤ 1
+    → j ≡ 0 → k ≡ 0 → (c ≡ a) ⊎ (c ≡ b)
 along_x a b c i j k x y z l m n = by (x.at_end l)
   where
     yy : (c.y ≡ a.y) × (c.y ≡ b.y)
@@ -73,7 +75,8 @@ along_x a b c i j k x y z l m n = by (x.at_end l)
     by (inl e) = inl (coordinate_by_parts c a e yy.0 zz.0)
     by (inr e) = inr (coordinate_by_parts c b e yy.1 zz.1)
 
-along_y : (a b c : Coord) (i j k : ℕ) → IsAlong a.x b.x c.x i → IsAlong a.y b.y c.y j → IsAlong a.z b.z c.z k → i ≡ 0 → j ≤ 1 → k ≡ 0 → (c ≡ a) ⊎ (c ≡ b)
+along_y : (a b c : Coord) (i j k : ℕ) → IsAlong a.x b.x c.x i → IsAlong a.y b.y c.y j → IsAlong a.z b.z c.z k → i ≡ 0
+    → j ≤ 1 → k ≡ 0 → (c ≡ a) ⊎ (c ≡ b)
 along_y a b c i j k x y z l m n = by (y.at_end m)
   where
     xx : (c.x ≡ a.x) × (c.x ≡ b.x)
@@ -86,7 +89,8 @@ along_y a b c i j k x y z l m n = by (y.at_end m)
     by (inl e) = inl (coordinate_by_parts c a xx.0 e zz.0)
     by (inr e) = inr (coordinate_by_parts c b xx.1 e zz.1)
 
-along_z : (a b c : Coord) (i j k : ℕ) → IsAlong a.x b.x c.x i → IsAlong a.y b.y c.y j → IsAlong a.z b.z c.z k → i ≡ 0 → j ≡ 0 → k ≤ 1 → (c ≡ a) ⊎ (c ≡ b)
+along_z : (a b c : Coord) (i j k : ℕ) → IsAlong a.x b.x c.x i → IsAlong a.y b.y c.y j → IsAlong a.z b.z c.z k → i ≡ 0
+    → j ≡ 0 → k ≤ 1 → (c ≡ a) ⊎ (c ≡ b)
 along_z a b c i j k x y z l m n = by (z.at_end n)
   where
     xx : (c.x ≡ a.x) × (c.x ≡ b.x)
@@ -99,7 +103,8 @@ along_z a b c i j k x y z l m n = by (z.at_end n)
     by (inl e) = inl (coordinate_by_parts c a xx.0 yy.0 e)
     by (inr e) = inr (coordinate_by_parts c b xx.1 yy.1 e)
 
-at_an_end : (a b c : Coord) (i j k : ℕ) → IsAlong a.x b.x c.x i → IsAlong a.y b.y c.y j → IsAlong a.z b.z c.z k → i + j + k ≡ 1 → (c ≡ a) ⊎ (c ≡ b)
+at_an_end : (a b c : Coord) (i j k : ℕ) → IsAlong a.x b.x c.x i → IsAlong a.y b.y c.y j → IsAlong a.z b.z c.z k
+    → i + j + k ≡ 1 → (c ≡ a) ⊎ (c ≡ b)
 at_an_end a b c (suc i) j k x y z one = along_x a b c (suc i) j k x y z (omega (arith, one)) (omega (arith, one)) (omega (arith, one))
 at_an_end a b c zero (suc j) k x y z one = along_y a b c zero (suc j) k x y z refl (omega (arith, one)) (omega (arith, one))
 at_an_end a b c zero zero k x y z one = along_z a b c zero zero k x y z refl refl (omega (arith, one))
@@ -113,7 +118,8 @@ module _ (from to : Coord) (d : Diff) (sum : point to ≡ plus (point from) d) (
       (along from.x to.x c.x d.dx (ap (λ (q : Point). q.x) sum) p.0) (along from.y to.y c.y d.dy (ap (λ (q : Point). q.y) sum) p.1) (along from.z to.z c.z d.dz (ap (λ (q : Point). q.z) sum) p.2) one
 
   -- where both ends are void the way is clear
-  pub clear_step : (m : Matrix) → is_full m from ≡ false → is_full m to ≡ false → find (λ c. is_full m c && is_within (span (corners from to)) (point c)) (all_of m) ≡ None
+  pub clear_step : (m : Matrix) → is_full m from ≡ false → is_full m to ≡ false
+      → find (λ c. is_full m c && is_within (span (corners from to)) (point c)) (all_of m) ≡ None
   clear_step m e f = none_find (λ c. is_full m c && is_within (span (corners from to)) (point c)) (all_of m) (λ c i. by c (is_within (span (corners from to)) (point c)) refl)
     where
       void : (c : Coord) → (c ≡ from) ⊎ (c ≡ to) → is_full m c ≡ false
@@ -124,7 +130,8 @@ module _ (from to : Coord) (d : Diff) (sum : point to ≡ plus (point from) d) (
       nothing true = refl
       nothing false = refl
 
-      by : (c : Coord) (t : Bool) → is_within (span (corners from to)) (point c) ≡ t → (is_full m c && is_within (span (corners from to)) (point c)) ≡ false
+      by : (c : Coord) (t : Bool) → is_within (span (corners from to)) (point c) ≡ t
+          → (is_full m c && is_within (span (corners from to)) (point c)) ≡ false
       by c true t = ap (λ b. b && is_within (span (corners from to)) (point c)) (void c (one_of_ends c t))
       by c false t = ap (λ b. is_full m c && b) t ∙ nothing (is_full m c)
 
@@ -143,7 +150,8 @@ module _ (from to : Coord) (d : Diff) (sum : point to ≡ plus (point from) d) (
       product zero (suc j) l e = let b : j ≡ 0 = omega (arith, e) in let c : l ≡ 0 = omega (arith, e) in rw (b, c) (omega arith)
       product zero zero l e = let c : l ≡ 1 = omega (arith, e) in rw c (omega arith)
 
-      two : (x y z : ℕ) → x ≡ unsigned_abs d.dx + 1 → y ≡ unsigned_abs d.dy + 1 → z ≡ unsigned_abs d.dz + 1 → 2 ≤ x * y * z
+      two : (x y z : ℕ) → x ≡ unsigned_abs d.dx + 1 → y ≡ unsigned_abs d.dy + 1 → z ≡ unsigned_abs d.dz + 1
+          → 2 ≤ x * y * z
       two x y z e f g = let p = product (unsigned_abs d.dx) (unsigned_abs d.dy) (unsigned_abs d.dz) one in subst (λ n. 2 ≤ n) (sym (λ i. e i * f i * g i)) p
 
 pub ordered_corners : (a b : Coord) → IsOrdered (corners a b)

@@ -36,7 +36,9 @@ last_two : (x y : Option Broken) → first_value (x ∷ None ∷ y ∷ []) ≡ f
 last_two (Some b) y = refl
 last_two None y = refl
 
-group_rest : (s : State) (step : ℕ) (bot : Bot) (a : Act) (inside x y t u : Bool) → IsTrue inside → x ≡ t → y ≡ u → first_value (broken_by step OutOfSpace bot.bid (here a (not inside)) ∷ broken_by step Blocked bot.bid (find (λ c. is_full s.matrix c && false) (all_of s.matrix)) ∷ None ∷ broken_by step InRegion bot.bid (cond (x || false) (Some bot.pos) None) ∷ None ∷ broken_by step GroupShape bot.bid (cond (y || false) (Some bot.pos) None) ∷ []) ≡ first_value (broken_by step InRegion bot.bid (cond t (Some bot.pos) None) ∷ broken_by step GroupShape bot.bid (cond u (Some bot.pos) None) ∷ [])
+group_rest : (s : State) (step : ℕ) (bot : Bot) (a : Act) (inside x y t u : Bool) → IsTrue inside → x ≡ t → y ≡ u
+    → first_value (broken_by step OutOfSpace bot.bid (here a (not inside)) ∷ broken_by step Blocked bot.bid (find (λ c. is_full s.matrix c && false) (all_of s.matrix)) ∷ None ∷ broken_by step InRegion bot.bid (cond (x || false) (Some bot.pos) None) ∷ None ∷ broken_by step GroupShape bot.bid (cond (y || false) (Some bot.pos) None) ∷ [])
+    ≡ first_value (broken_by step InRegion bot.bid (cond t (Some bot.pos) None) ∷ broken_by step GroupShape bot.bid (cond u (Some bot.pos) None) ∷ [])
 group_rest s step bot a inside x y t u i g h =
     let B : Option Broken = broken_by step Blocked bot.bid (find (λ c. is_full s.matrix c && false) (all_of s.matrix)) in
     let I : Option Broken = broken_by step InRegion bot.bid (cond (x || false) (Some bot.pos) None) in
@@ -75,7 +77,11 @@ module _ (s : State) (all : List Act) (step : ℕ) (bot : Bot) (near far : Coord
     same_dimension : dimension (between p q) ≡ dimension (span region)
     same_dimension = ap dimension (sym named) ∙ (sym (dimension_is near far) ∙ ap (λ k. dimension (span k)) (sym corners_are))
 
-  left : (k : Command) (full together : Bool) → IsFalse (is_alone k) → IsDeed s.matrix.resolution bot k (Edits near far full together) → (t u : Bool) → is_within (span region) (point bot.pos) ≡ t → misshape all (act bot k) (span region) ≡ u → first_fault s all step (act bot k) later_rules ≡ first_value (broken_by step InRegion bot.bid (cond t (Some bot.pos) None) ∷ broken_by step GroupShape bot.bid (cond u (Some bot.pos) None) ∷ [])
+  left : (k : Command) (full together : Bool) → IsFalse (is_alone k)
+      → IsDeed s.matrix.resolution bot k (Edits near far full together) → (t u : Bool)
+      → is_within (span region) (point bot.pos) ≡ t → misshape all (act bot k) (span region) ≡ u
+      → first_fault s all step (act bot k) later_rules
+      ≡ first_value (broken_by step InRegion bot.bid (cond t (Some bot.pos) None) ∷ broken_by step GroupShape bot.bid (cond u (Some bot.pos) None) ∷ [])
   left (GFill d f) full together alone h t u g e =
       let near_is = ap near_of h.is in
       let far_is = ap far_of h.is in
@@ -86,14 +92,22 @@ module _ (s : State) (all : List Act) (step : ℕ) (bot : Bot) (near far : Coord
       group_rest s step bot (act bot (GVoid d f)) _ _ _ t u h.stays (same_place d f h.stays near_is far_is ∙ g) (ap (are_misshapen (members all (act bot (GVoid d f)))) (same_dimension d f h.stays near_is far_is) ∙ e)
   left k full together alone h t u g e = let is = h.is in cc
 
-  pub stands_inside : (k : Command) (full together : Bool) → IsFalse (is_alone k) → IsDeed s.matrix.resolution bot k (Edits near far full together) → is_within (span region) (point bot.pos) ≡ true → broken_by step InRegion bot.bid (Some bot.pos) ≡ first_fault s all step (act bot k) later_rules
+  pub stands_inside : (k : Command) (full together : Bool) → IsFalse (is_alone k)
+      → IsDeed s.matrix.resolution bot k (Edits near far full together) → is_within (span region) (point bot.pos) ≡ true
+      → broken_by step InRegion bot.bid (Some bot.pos) ≡ first_fault s all step (act bot k) later_rules
   stands_inside k full together alone h g = sym (left k full together alone h true (misshape all (act bot k) (span region)) g refl)
 
-  pub stands_outside : (k : Command) (full together : Bool) → IsFalse (is_alone k) → IsDeed s.matrix.resolution bot k (Edits near far full together) → is_within (span region) (point bot.pos) ≡ false → (shape : Bool) → are_misshapen (members all (act bot k)) (dimension (span region)) ≡ shape → broken_by step GroupShape bot.bid (cond shape (Some bot.pos) None) ≡ first_fault s all step (act bot k) later_rules
+  pub stands_outside : (k : Command) (full together : Bool) → IsFalse (is_alone k)
+      → IsDeed s.matrix.resolution bot k (Edits near far full together)
+      → is_within (span region) (point bot.pos) ≡ false → (shape : Bool)
+      → are_misshapen (members all (act bot k)) (dimension (span region)) ≡ shape
+      → broken_by step GroupShape bot.bid (cond shape (Some bot.pos) None)
+      ≡ first_fault s all step (act bot k) later_rules
   stands_outside k full together alone h g shape e = sym (
       left k full together alone h false shape g e
       ∙ only_next step bot.bid InRegion None (broken_by step GroupShape bot.bid (cond shape (Some bot.pos) None)) refl)
 
 -- a bot whose corner is another
-pub skip_corner : (T : Point → Bool) (a : Act) (bs : List Act) → list_any T (corners_of (position a) a.command) ≡ false → list_any T (corner_list (a ∷ bs)) ≡ list_any T (corner_list bs)
+pub skip_corner : (T : Point → Bool) (a : Act) (bs : List Act) → list_any T (corners_of (position a) a.command) ≡ false
+    → list_any T (corner_list (a ∷ bs)) ≡ list_any T (corner_list bs)
 skip_corner T a bs h = list_any-append T (corners_of (position a) a.command) (corner_list bs) ∙ ap (λ t. t || list_any T (corner_list bs)) h

@@ -34,7 +34,8 @@ none_or : {A : Type 0} (x y : Option A) → option_or x y ≡ None → (x ≡ No
 none_or None y e = (refl, e)
 none_or (Some x) y e = cc
 
-pub unbroken : (s : State) (all : List Act) (step : ℕ) (xs : List Act) → judge_each s all step xs ≡ None → (a : Act) (rule : Rule) → In a xs → In rule rules_of_bots → fault s all a rule ≡ None
+pub unbroken : (s : State) (all : List Act) (step : ℕ) (xs : List Act) → judge_each s all step xs ≡ None → (a : Act)
+    (rule : Rule) → In a xs → In rule rules_of_bots → fault s all a rule ≡ None
 unbroken s all step [] e a rule i j = absurd i
 unbroken s all step (x ∷ xs) e a rule (inl f) j =
     let judged = λ (r : Rule). broken_by step r x.bot.bid (fault s all x r) in
@@ -44,7 +45,8 @@ unbroken s all step (x ∷ xs) e a rule (inl f) j =
 unbroken s all step (x ∷ xs) e a rule (inr i) j = unbroken s all step xs (none_or (judge_bot s all step x) (judge_each s all step xs) e).1 a rule i j
 
 -- so the command of a bot that breaks no later rule stays in space
-pub stays_if : (s : State) (all : List Act) (step : ℕ) (a : Act) → first_fault s all step a later_rules ≡ None → IsTrue (stays_in_space s.matrix.resolution a)
+pub stays_if : (s : State) (all : List Act) (step : ℕ) (a : Act) → first_fault s all step a later_rules ≡ None
+    → IsTrue (stays_in_space s.matrix.resolution a)
 stays_if s all step a e =
     let judged = λ (r : Rule). broken_by step r a.bot.bid (fault s all a r) in
     not_is_false (stays_in_space s.matrix.resolution a) (here_false a (not (stays_in_space s.matrix.resolution a))
@@ -52,7 +54,8 @@ stays_if s all step a e =
 
 -- ---- how many members a group has
 
-one_at_most : (p : Act → Bool) (xs : List Act) → Rising (map (λ (a : Act). a.bot) xs) → ((x y : Act) → In x xs → In y xs → p x ≡ true → p y ≡ true → x.bot.bid ≡ y.bot.bid) → length (filter p xs) ≤ 1
+one_at_most : (p : Act → Bool) (xs : List Act) → Rising (map (λ (a : Act). a.bot) xs)
+    → ((x y : Act) → In x xs → In y xs → p x ≡ true → p y ≡ true → x.bot.bid ≡ y.bot.bid) → length (filter p xs) ≤ 1
 one_at_most p [] up h = omega arith
 one_at_most p (x ∷ xs) up h = by (p x) refl (one_at_most p xs up.1 (λ y z i j. h y z (inr i) (inr j)))
   where
@@ -67,11 +70,14 @@ one_at_most p (x ∷ xs) up h = by (p x) refl (one_at_most p xs up.1 (λ y z i j
     by true e le = let l : length (filter p xs) ≡ 0 = ap length (none e) in omega (arith, l)
     by false e le = le
 
-both_counts : {X : Type 0} (p q : X → Bool) (xs : List X) → length (filter (λ x. p x || q x) xs) ≤ length (filter p xs) + length (filter q xs)
+both_counts : {X : Type 0} (p q : X → Bool) (xs : List X)
+    → length (filter (λ x. p x || q x) xs) ≤ length (filter p xs) + length (filter q xs)
 both_counts p q [] = omega arith
 both_counts {X} p q (x ∷ xs) = by (p x) (q x) (both_counts p q xs)
   where
-    by : (b c : Bool) → length (filter (λ y. p y || q y) xs) ≤ length (filter p xs) + length (filter q xs) → length (cond (b || c) (x ∷ filter (λ y. p y || q y) xs) (filter (λ y. p y || q y) xs)) ≤ length (cond b (x ∷ filter p xs) (filter p xs)) + length (cond c (x ∷ filter q xs) (filter q xs))
+    by : (b c : Bool) → length (filter (λ y. p y || q y) xs) ≤ length (filter p xs) + length (filter q xs)
+        → length (cond (b || c) (x ∷ filter (λ y. p y || q y) xs) (filter (λ y. p y || q y) xs))
+        ≤ length (cond b (x ∷ filter p xs) (filter p xs)) + length (cond c (x ∷ filter q xs) (filter q xs))
     by true true h = omega arith
     by true false h = omega arith
     by false true h = omega arith
@@ -139,7 +145,8 @@ module _ (bots : List Bot) (commands : List Command) (lengths : length commands 
   up : Rising (map (λ (x : Act). x.bot) (acts bots commands))
   up = subst (λ (bs : List Bot). Rising bs) (sym (all_bots bots commands lengths)) (rising_is bots rising)
 
-  same_bot : (a b : Act) → In a (acts bots commands) → In b (acts bots commands) → a.bot.pos ≡ b.bot.pos → a.bot.bid ≡ b.bot.bid
+  same_bot : (a b : Act) → In a (acts bots commands) → In b (acts bots commands) → a.bot.pos ≡ b.bot.pos
+      → a.bot.bid ≡ b.bot.bid
   same_bot a b i j e = by (pairs_in (λ (x y : Bot). x.pos ≢ y.pos) bots a.bot b.bot places (bot_in bots commands a i) (bot_in bots commands b j))
     where
       by : (a.bot ≡ b.bot) ⊎ ((a.bot.pos ≢ b.bot.pos) ⊎ (b.bot.pos ≢ a.bot.pos)) → a.bot.bid ≡ b.bot.bid
@@ -148,7 +155,8 @@ module _ (bots : List Bot) (commands : List Command) (lengths : length commands 
       by (inr (inr f)) = absurd (f (sym e))
 
   -- without a region a bot has one partner at most
-  pair_at_most : (a : Act) → ((b : Act) → share_region (position a) a.command (position b) b.command ≡ false) → length (members (acts bots commands) a) ≤ 8
+  pair_at_most : (a : Act) → ((b : Act) → share_region (position a) a.command (position b) b.command ≡ false)
+      → length (members (acts bots commands) a) ≤ 8
   pair_at_most a h =
       let all : List Act = acts bots commands in
       let same : Act → Bool = λ b. a.bot.bid == b.bot.bid in
@@ -159,13 +167,15 @@ module _ (bots : List Bot) (commands : List Command) (lengths : length commands 
       let e : length (members all a) ≡ length (filter (λ b. same b || are_partners a b) all) = ap (λ t. length (filter t all)) (λ i b. is b i) in
       omega (arith, e, both, bids, mates)
 
-  few_by : (s : State) (b : Bot) (k : Command) → fault s (acts bots commands) (act b k) GroupShape ≡ None → length (members (acts bots commands) (act b k)) ≤ 8
+  few_by : (s : State) (b : Bot) (k : Command) → fault s (acts bots commands) (act b k) GroupShape ≡ None
+      → length (members (acts bots commands) (act b k)) ≤ 8
   few_by s b (GFill d f) e = fits _ (between (plus (position (act b (GFill d f))) d) (plus (plus (position (act b (GFill d f))) d) f)) _ (here_false (act b (GFill d f)) _ e)
   few_by s b (GVoid d f) e = fits _ (between (plus (position (act b (GVoid d f))) d) (plus (plus (position (act b (GVoid d f))) d) f)) _ (here_false (act b (GVoid d f)) _ e)
   few_by s b k e = pair_at_most (act b k) (λ x. refl)
 
   -- what the rules of single bots say, where none is broken
-  pub judged : (s : State) (step : ℕ) → judge_each s (acts bots commands) step (acts bots commands) ≡ None → AreJudged s.matrix.resolution (acts bots commands)
+  pub judged : (s : State) (step : ℕ) → judge_each s (acts bots commands) step (acts bots commands) ≡ None
+      → AreJudged s.matrix.resolution (acts bots commands)
   judged s step e =
       let all : List Act = acts bots commands in
       record {

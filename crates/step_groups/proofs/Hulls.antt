@@ -17,11 +17,15 @@ use Rattle.step_groups.proofs.Shared.{any-push, take_one}
 use Rattle.step_groups.proofs.Lists.{to_end}
 
 -- a wider stretch of numbers
-wider : (a b l h v : ℕ) → a ≤ b → l ≤ a → b ≤ h → IsTrue (is_between (pos a) (pos b) (pos v)) → IsTrue (is_between (pos l) (pos h) (pos v))
+wider : (a b l h v : ℕ) → a ≤ b → l ≤ a → b ≤ h → IsTrue (is_between (pos a) (pos b) (pos v))
+    → IsTrue (is_between (pos l) (pos h) (pos v))
 wider a b l h v o i j t = grind (arith, nat_tests)
 
 -- a box between coordinates that a box lies between holds its coordinates
-pub widened : (a k : Corners) (l h : Coord) → IsOrdered a → l.x ≤ a.low.x → l.y ≤ a.low.y → l.z ≤ a.low.z → a.high.x ≤ h.x → a.high.y ≤ h.y → a.high.z ≤ h.z → ((p : Point) → is_within (span k) p ≡ is_within (between (point l) (point h)) p) → (c : Coord) → IsTrue (is_within (span a) (point c)) → IsTrue (is_within (span k) (point c))
+pub widened : (a k : Corners) (l h : Coord) → IsOrdered a → l.x ≤ a.low.x → l.y ≤ a.low.y → l.z ≤ a.low.z
+    → a.high.x ≤ h.x → a.high.y ≤ h.y → a.high.z ≤ h.z
+    → ((p : Point) → is_within (span k) p ≡ is_within (between (point l) (point h)) p) → (c : Coord)
+    → IsTrue (is_within (span a) (point c)) → IsTrue (is_within (span k) (point c))
 widened a k l h o lx ly lz hx hy hz covers c t =
     let x : Bool = is_between (pos a.low.x) (pos a.high.x) (pos c.x) in
     let y : Bool = is_between (pos a.low.y) (pos a.high.y) (pos c.y) in
@@ -37,7 +41,11 @@ one_of true b c t h k = h refl
 one_of false b c t h k = k t
 
 -- one more box
-pub more_around : (boxes : List Corners) (j : ℕ) (k all next : Corners) → j < length boxes → k ≡ get_or boxes j k → IsHull all (take j boxes) → ((c : Coord) → IsTrue (is_within (span all) (point c)) → IsTrue (is_within (span next) (point c))) → ((c : Coord) → IsTrue (is_within (span k) (point c)) → IsTrue (is_within (span next) (point c))) → IsHull next (take (j + 1) boxes)
+pub more_around : (boxes : List Corners) (j : ℕ) (k all next : Corners) → j < length boxes → k ≡ get_or boxes j k
+    → IsHull all (take j boxes)
+    → ((c : Coord) → IsTrue (is_within (span all) (point c)) → IsTrue (is_within (span next) (point c)))
+    → ((c : Coord) → IsTrue (is_within (span k) (point c)) → IsTrue (is_within (span next) (point c)))
+    → IsHull next (take (j + 1) boxes)
 more_around boxes j k all next lt e h f g c t =
     one_of (in_boxes (take j boxes) c) (is_within (span k) (point c)) (is_within (span next) (point c))
     (sym (ap (λ xs. in_boxes xs c) (take_one boxes j k lt e) ∙ any-push (λ l. is_within (span l) (point c)) (take j boxes) k) ∙ t)
@@ -45,33 +53,39 @@ more_around boxes j k all next lt e h f g c t =
 
 -- ---- the boxes around the groups, place by place
 
-pub hull_at : (hulls : List Corners) (groups : List Group) (j : ℕ) (k : Corners) (g : Group) → AreHulls hulls groups → j < length groups → k ≡ get_or hulls j k → g ≡ get_or groups j g → IsHull k g.boxes.items
+pub hull_at : (hulls : List Corners) (groups : List Group) (j : ℕ) (k : Corners) (g : Group) → AreHulls hulls groups
+    → j < length groups → k ≡ get_or hulls j k → g ≡ get_or groups j g → IsHull k g.boxes.items
 hull_at [] [] j k g h lt e f = absurd (omega arith)
 hull_at [] (x ∷ groups) j k g h lt e f = absurd h
 hull_at (y ∷ hulls) [] j k g h lt e f = absurd h
 hull_at (y ∷ hulls) (x ∷ groups) zero k g h lt e f = subst (λ (v : Corners). IsHull v g.boxes.items) (sym e) (subst (λ (v : Group). IsHull y v.boxes.items) (sym f) h.0)
 hull_at (y ∷ hulls) (x ∷ groups) (suc j) k g h lt e f = hull_at hulls groups j k g h.1 (omega arith) e f
 
-after : (hulls : List Corners) (groups : List Group) (j : ℕ) → AreHulls hulls groups → AreHulls (drop j hulls) (drop j groups)
+after : (hulls : List Corners) (groups : List Group) (j : ℕ) → AreHulls hulls groups
+    → AreHulls (drop j hulls) (drop j groups)
 after hulls groups zero h = h
 after [] [] (suc j) h = h
 after [] (x ∷ groups) (suc j) h = absurd h
 after (y ∷ hulls) [] (suc j) h = absurd h
 after (y ∷ hulls) (x ∷ groups) (suc j) h = after hulls groups j h.1
 
-pub rest_hulls : (hulls : List Corners) (groups : List Group) (j : ℕ) → AreHulls hulls groups → AreHulls (take (length hulls - j) (drop j hulls)) (take (length groups - j) (drop j groups))
+pub rest_hulls : (hulls : List Corners) (groups : List Group) (j : ℕ) → AreHulls hulls groups
+    → AreHulls (take (length hulls - j) (drop j hulls)) (take (length groups - j) (drop j groups))
 rest_hulls hulls groups j h =
     subst (λ (ks : List Corners). AreHulls ks (take (length groups - j) (drop j groups))) (sym (to_end hulls j))
     (subst (λ (gs : List Group). AreHulls (drop j hulls) gs) (sym (to_end groups j)) (after hulls groups j h))
 
-pub one_more : (hulls : List Corners) (groups : List Group) (k : Corners) (g : Group) → AreHulls hulls groups → IsHull k g.boxes.items → AreHulls (hulls ++ k ∷ []) (groups ++ g ∷ [])
+pub one_more : (hulls : List Corners) (groups : List Group) (k : Corners) (g : Group) → AreHulls hulls groups
+    → IsHull k g.boxes.items → AreHulls (hulls ++ k ∷ []) (groups ++ g ∷ [])
 one_more [] [] k g h i = (i, tt)
 one_more [] (x ∷ groups) k g h i = absurd h
 one_more (y ∷ hulls) [] k g h i = absurd h
 one_more (y ∷ hulls) (x ∷ groups) k g h i = (h.0, one_more hulls groups k g h.1 i)
 
 -- one group interferes with none
-pub one_pair : (m : Matrix) (all : List Act) (step : ℕ) (leaders : List Act) (groups : List Group) → AreGroups m.resolution all leaders groups → length groups < 2 → None ≡ first_value (judge_pairs m all step leaders)
+pub one_pair : (m : Matrix) (all : List Act) (step : ℕ) (leaders : List Act) (groups : List Group)
+    → AreGroups m.resolution all leaders groups → length groups < 2
+    → None ≡ first_value (judge_pairs m all step leaders)
 one_pair m all step [] groups h lt = refl
 one_pair m all step (a ∷ []) groups h lt = refl
 one_pair m all step (a ∷ b ∷ leaders) [] h lt = absurd h

@@ -37,7 +37,8 @@ bot_in (b ∷ bots) [] a i = absurd i
 bot_in (b ∷ bots) (k ∷ commands) a (inl e) = inl (ap (λ (x : Act). x.bot) e)
 bot_in (b ∷ bots) (k ∷ commands) a (inr i) = inr (bot_in bots commands a i)
 
-pub acts_within : (r : ℕ) (bots : List Bot) (commands : List Command) (a : Act) → All (λ b. IsInSpace r b.pos) bots → In a (acts bots commands) → IsInSpace r a.bot.pos
+pub acts_within : (r : ℕ) (bots : List Bot) (commands : List Command) (a : Act) → All (λ b. IsInSpace r b.pos) bots
+    → In a (acts bots commands) → IsInSpace r a.bot.pos
 acts_within r bots commands a h i = all_in (λ (b : Bot). IsInSpace r b.pos) a.bot bots h (bot_in bots commands a i)
 
 least_below : (r n : ℕ) → n < r → min n n < r
@@ -52,7 +53,8 @@ spot_in r a h = record {
   high = record { x = most_below r a.bot.pos.x h.x; y = most_below r a.bot.pos.y h.y; z = most_below r a.bot.pos.z h.z };
 }
 
-pub more_in : (r : ℕ) (boxes : List Corners) (others : List Act) → AreBoxesIn r boxes → ((b : Act) → In b others → IsInSpace r b.bot.pos) → AreBoxesIn r (boxes ++ map box_of_bot others)
+pub more_in : (r : ℕ) (boxes : List Corners) (others : List Act) → AreBoxesIn r boxes
+    → ((b : Act) → In b others → IsInSpace r b.bot.pos) → AreBoxesIn r (boxes ++ map box_of_bot others)
 more_in r [] [] h k = tt
 more_in r [] (a ∷ others) h k = (spot_in r a (k a (inl refl)), more_in r [] others tt (λ b i. k b (inr i)))
 more_in r (box ∷ boxes) others h k = (h.0, more_in r boxes others h.1 k)
@@ -61,7 +63,8 @@ in_spots : (others : List Act) (c : Coord) → in_boxes (map box_of_bot others) 
 in_spots [] c = refl
 in_spots (a ∷ others) c = ap (λ b. is_within (span (box_of_bot a)) (point c) || b) (in_spots others c)
 
-pub in_more : (boxes : List Corners) (others : List Act) (c : Coord) → in_boxes (boxes ++ map box_of_bot others) c ≡ (in_boxes boxes c || list_any (λ b. is_within (span (box_of_bot b)) (point c)) others)
+pub in_more : (boxes : List Corners) (others : List Act) (c : Coord) → in_boxes (boxes ++ map box_of_bot others) c
+    ≡ (in_boxes boxes c || list_any (λ b. is_within (span (box_of_bot b)) (point c)) others)
 in_more boxes others c = list_any-append (λ k. is_within (span k) (point c)) boxes (map box_of_bot others) ∙ ap (λ b. in_boxes boxes c || b) (in_spots others c)
 
 itself_least : (n : ℕ) → min n n ≡ n
@@ -76,18 +79,21 @@ spot_is a =
     let p = a.bot.pos in
     λ i. between (point (record { x = itself_least p.x i; y = itself_least p.y i; z = itself_least p.z i })) (point (record { x = itself_most p.x i; y = itself_most p.y i; z = itself_most p.z i }))
 
-spots_are : (others : List Act) (p : Point) → list_any (λ b. is_within (span (box_of_bot b)) p) others ≡ list_any (λ b. is_within (just (position b)) p) others
+spots_are : (others : List Act) (p : Point)
+    → list_any (λ b. is_within (span (box_of_bot b)) p) others ≡ list_any (λ b. is_within (just (position b)) p) others
 spots_are others p = ap (λ t. list_any t others) (λ i b. is_within (spot_is b i) p)
 
 -- ---- groups
 
-pub one_more : (r : ℕ) (all leaders : List Act) (groups : List Group) (a : Act) (g : Group) → AreGroups r all leaders groups → IsGroup r all a g → AreGroups r all (leaders ++ a ∷ []) (groups ++ g ∷ [])
+pub one_more : (r : ℕ) (all leaders : List Act) (groups : List Group) (a : Act) (g : Group)
+    → AreGroups r all leaders groups → IsGroup r all a g → AreGroups r all (leaders ++ a ∷ []) (groups ++ g ∷ [])
 one_more r all [] [] a g h k = (k, tt)
 one_more r all [] (f ∷ groups) a g h k = absurd h
 one_more r all (l ∷ leaders) [] a g h k = absurd h
 one_more r all (l ∷ leaders) (f ∷ groups) a g h k = (h.0, one_more r all leaders groups a g h.1 k)
 
-pub with_leader : (all xs : List Act) (a : Act) (b : Bool) → is_leader all a ≡ b → filter (is_leader all) (xs ++ a ∷ []) ≡ filter (is_leader all) xs ++ cond b (a ∷ []) []
+pub with_leader : (all xs : List Act) (a : Act) (b : Bool) → is_leader all a ≡ b
+    → filter (is_leader all) (xs ++ a ∷ []) ≡ filter (is_leader all) xs ++ cond b (a ∷ []) []
 with_leader all xs a b e = filter-append (is_leader all) xs (a ∷ []) ∙ ap (λ t. filter (is_leader all) xs ++ cond t (a ∷ []) []) e
 
 module _ (r : ℕ) (all xs ys : List Act) (a : Act) (whole : all ≡ xs ++ a ∷ ys) (up : Rising (map (λ (b : Act). b.bot) all)) where
@@ -101,12 +107,18 @@ module _ (r : ℕ) (all xs ys : List Act) (a : Act) (whole : all ≡ xs ++ a ∷
   members_are h = ap (λ (as' : List Act). members as' a) whole ∙ group xs ys a rise h
 
   -- a bot that leads no group
-  pub add_none : (more : List Act) (groups : List Group) → more ≡ xs ++ a ∷ [] → list_any (are_together a) xs ≡ true → AreGroups r all (filter (is_leader all) xs) groups → AreGroups r all (filter (is_leader all) more) groups
+  pub add_none : (more : List Act) (groups : List Group) → more ≡ xs ++ a ∷ [] → list_any (are_together a) xs ≡ true
+      → AreGroups r all (filter (is_leader all) xs) groups → AreGroups r all (filter (is_leader all) more) groups
   add_none more groups e h k =
       subst (λ (ls : List Act). AreGroups r all ls groups) (sym (ap (filter (is_leader all)) e ∙ (with_leader all xs a false (leads_all ∙ ap not h) ∙ append_none (filter (is_leader all) xs)))) k
 
   -- a bot that leads the group of those after it
-  pub add_joined : (more : List Act) (groups next : List Group) (g : Group) → more ≡ xs ++ a ∷ [] → next ≡ groups ++ g ∷ [] → list_any (are_together a) xs ≡ false → g.leader ≡ a.bot.bid → g.members.items ≡ a.bot.bid ∷ map bid_of (filter (are_together a) ys) → ((c : Coord) → in_boxes g.boxes.items c ≡ (is_volatile_of (point c) a || list_any (λ b. is_within (span (box_of_bot b)) (point c)) (filter (are_together a) ys))) → AreBoxesIn r g.boxes.items → AreGroups r all (filter (is_leader all) xs) groups → AreGroups r all (filter (is_leader all) more) next
+  pub add_joined : (more : List Act) (groups next : List Group) (g : Group) → more ≡ xs ++ a ∷ []
+      → next ≡ groups ++ g ∷ [] → list_any (are_together a) xs ≡ false → g.leader ≡ a.bot.bid
+      → g.members.items ≡ a.bot.bid ∷ map bid_of (filter (are_together a) ys) → ((c : Coord) → in_boxes g.boxes.items c
+      ≡ (is_volatile_of (point c) a || list_any (λ b. is_within (span (box_of_bot b)) (point c))
+      (filter (are_together a) ys))) → AreBoxesIn r g.boxes.items → AreGroups r all (filter (is_leader all) xs) groups
+      → AreGroups r all (filter (is_leader all) more) next
   add_joined more groups next g e f h leader mates boxes space k =
       let one : IsGroup r all a g = record {
         leader = leader;
@@ -118,7 +130,10 @@ module _ (r : ℕ) (all xs ys : List Act) (a : Act) (whole : all ≡ xs ++ a ∷
       (subst (λ (gs : List Group). AreGroups r all (filter (is_leader all) xs ++ a ∷ []) gs) (sym f) (one_more r all (filter (is_leader all) xs) groups a g k one))
 
   -- a bot that is alone
-  pub add_alone : (more : List Act) (groups next : List Group) (g : Group) → more ≡ xs ++ a ∷ [] → next ≡ groups ++ g ∷ [] → IsTrue (is_alone a.command) → g.leader ≡ a.bot.bid → g.members.items ≡ a.bot.bid ∷ [] → ((c : Coord) → in_boxes g.boxes.items c ≡ is_volatile_of (point c) a) → AreBoxesIn r g.boxes.items → AreGroups r all (filter (is_leader all) xs) groups → AreGroups r all (filter (is_leader all) more) next
+  pub add_alone : (more : List Act) (groups next : List Group) (g : Group) → more ≡ xs ++ a ∷ []
+      → next ≡ groups ++ g ∷ [] → IsTrue (is_alone a.command) → g.leader ≡ a.bot.bid → g.members.items ≡ a.bot.bid ∷ []
+      → ((c : Coord) → in_boxes g.boxes.items c ≡ is_volatile_of (point c) a) → AreBoxesIn r g.boxes.items
+      → AreGroups r all (filter (is_leader all) xs) groups → AreGroups r all (filter (is_leader all) more) next
   add_alone more groups next g e f h leader mates boxes space k =
       let after : filter (are_together a) ys ≡ [] = none_after xs ys a rise h in
       add_joined more groups next g e f (none_before xs ys a rise h) leader
@@ -127,5 +142,6 @@ module _ (r : ℕ) (all xs ys : List Act) (a : Act) (whole : all ≡ xs ++ a ∷
       space k
 
   -- a leader of no more than eight has seven after it
-  pub few_after : list_any (are_together a) xs ≡ false → length (members all a) ≤ 8 → length (filter (are_together a) ys) ≤ 7
+  pub few_after : list_any (are_together a) xs ≡ false → length (members all a) ≤ 8
+      → length (filter (are_together a) ys) ≤ 7
   few_after h le = let e : length (members all a) ≡ length (a ∷ filter (are_together a) ys) = ap length (members_are h) in omega (arith, e, le)

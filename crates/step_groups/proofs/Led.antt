@@ -35,16 +35,19 @@ module _ (bots : List Bot) (commands : List Command) (i : ℕ) (b : Bot) (k : Co
   leads_here : is_leader (acts bots commands) (act b k) ≡ not (list_any (are_together (act b k)) xs)
   leads_here = ap (λ (zs : List Act). is_leader zs (act b k)) whole ∙ leads xs ys (act b k) up
 
-  one_more : (t : Bool) → list_any (are_together (act b k)) (acts (take i bots) (take i commands)) ≡ t → led bots commands (i + 1) ≡ led bots commands i ++ map bid_of (cond (not t) (act b k ∷ []) [])
+  one_more : (t : Bool) → list_any (are_together (act b k)) (acts (take i bots) (take i commands)) ≡ t
+      → led bots commands (i + 1) ≡ led bots commands i ++ map bid_of (cond (not t) (act b k ∷ []) [])
   one_more t e =
       ap (λ (zs : List Act). map bid_of (filter (is_leader (acts bots commands)) zs)) (take_more bots commands i b k lt lengths bi ki)
       ∙ (ap (map bid_of) (with_leader (acts bots commands) xs (act b k) (not t) (leads_here ∙ ap not e))
       ∙ map-append bid_of (filter (is_leader (acts bots commands)) xs) (cond (not t) (act b k ∷ []) []))
 
   -- a bot with a mate before it leads no group
-  pub follows : list_any (are_together (act b k)) (acts (take i bots) (take i commands)) ≡ true → led bots commands (i + 1) ≡ led bots commands i
+  pub follows : list_any (are_together (act b k)) (acts (take i bots) (take i commands)) ≡ true
+      → led bots commands (i + 1) ≡ led bots commands i
   follows e = one_more true e ∙ append_none (led bots commands i)
 
   -- a bot without one leads a group
-  pub leads_one : list_any (are_together (act b k)) (acts (take i bots) (take i commands)) ≡ false → led bots commands (i + 1) ≡ led bots commands i ++ b.bid ∷ []
+  pub leads_one : list_any (are_together (act b k)) (acts (take i bots) (take i commands)) ≡ false
+      → led bots commands (i + 1) ≡ led bots commands i ++ b.bid ∷ []
   leads_one e = one_more false e

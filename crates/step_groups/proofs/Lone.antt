@@ -31,7 +31,8 @@ use Rattle.step_groups.proofs.Sums.{alone_leads, alone_members}
 -- ---- one bot more
 
 -- what is volatile for one more
-pub any_more : (c : Coord) (xs : List Act) (a : Act) → IsTrue (list_any (is_volatile_of (point c)) (xs ++ a ∷ [])) → IsTrue (list_any (is_volatile_of (point c)) xs) ⊎ IsTrue (is_volatile_of (point c) a)
+pub any_more : (c : Coord) (xs : List Act) (a : Act) → IsTrue (list_any (is_volatile_of (point c)) (xs ++ a ∷ []))
+    → IsTrue (list_any (is_volatile_of (point c)) xs) ⊎ IsTrue (is_volatile_of (point c) a)
 any_more c xs a h =
     let e : list_any (is_volatile_of (point c)) (xs ++ a ∷ []) ≡ (list_any (is_volatile_of (point c)) xs || (is_volatile_of (point c) a || false)) = list_any-append (is_volatile_of (point c)) xs (a ∷ []) in
     elim (one_of_two (list_any (is_volatile_of (point c)) xs) (is_volatile_of (point c) a || false) (sym e ∙ h)) [
@@ -51,17 +52,23 @@ apart_more (x ∷ xs) a h k = (
 
 -- ---- the box around some and one more
 
-pub in_more_boxes : (others : List Corners) (k : Corners) (c : Coord) → IsTrue (in_boxes (others ++ k ∷ []) c) → IsTrue (in_boxes others c) ⊎ IsTrue (is_within (span k) (point c))
+pub in_more_boxes : (others : List Corners) (k : Corners) (c : Coord) → IsTrue (in_boxes (others ++ k ∷ []) c)
+    → IsTrue (in_boxes others c) ⊎ IsTrue (is_within (span k) (point c))
 in_more_boxes others k c t = one_of_two (in_boxes others c) (is_within (span k) (point c)) (sym (any-push (λ l. is_within (span l) (point c)) others k) ∙ t)
 
-pub hull_more : (others : List Corners) (k all next : Corners) → IsHull all others → ((c : Coord) → IsTrue (is_within (span all) (point c)) → IsTrue (is_within (span next) (point c))) → ((c : Coord) → IsTrue (is_within (span k) (point c)) → IsTrue (is_within (span next) (point c))) → IsHull next (others ++ k ∷ [])
+pub hull_more : (others : List Corners) (k all next : Corners) → IsHull all others
+    → ((c : Coord) → IsTrue (is_within (span all) (point c)) → IsTrue (is_within (span next) (point c)))
+    → ((c : Coord) → IsTrue (is_within (span k) (point c)) → IsTrue (is_within (span next) (point c)))
+    → IsHull next (others ++ k ∷ [])
 hull_more others k all next h f g c t =
     elim (in_more_boxes others k c t) [ inl i ↦ f c (h c i) | inr i ↦ g c i ]
 
-pub in_box_last : (others : List Corners) (k : Corners) (c : Coord) → IsTrue (is_within (span k) (point c)) → IsTrue (in_boxes (others ++ k ∷ []) c)
+pub in_box_last : (others : List Corners) (k : Corners) (c : Coord) → IsTrue (is_within (span k) (point c))
+    → IsTrue (in_boxes (others ++ k ∷ []) c)
 in_box_last others k c t = any-push (λ l. is_within (span l) (point c)) others k ∙ or_by_second (in_boxes others c) (is_within (span k) (point c)) t
 
-pub in_box_before : (others : List Corners) (k : Corners) (c : Coord) → IsTrue (in_boxes others c) → IsTrue (in_boxes (others ++ k ∷ []) c)
+pub in_box_before : (others : List Corners) (k : Corners) (c : Coord) → IsTrue (in_boxes others c)
+    → IsTrue (in_boxes (others ++ k ∷ []) c)
 in_box_before others k c t = any-push (λ l. is_within (span l) (point c)) others k ∙ or_by_first (in_boxes others c) (is_within (span k) (point c)) t
 
 pub none_of : (o : Option Coord) (P : Type 0) → is_some o ≡ false → IfNone o P → P
@@ -74,7 +81,11 @@ pub record AreBoxed (all : Corners) (hulls : List Corners) (xs : List Act) : Typ
   pub each : (c : Coord) → IsTrue (list_any (is_volatile_of (point c)) xs) → IsTrue (in_boxes hulls c)
   pub apart : AreAllApart xs
 
-pub boxed_more : (xs more : List Act) (a : Act) (hulls next slice other : List Corners) (all after hull : Corners) → AreBoxed all hulls xs → more ≡ xs ++ a ∷ [] → next ≡ hulls ++ hull ∷ [] → slice ≡ hulls → other ≡ hulls → ((c : Coord) → IsTrue (is_volatile_of (point c) a) → IsTrue (is_within (span hull) (point c))) → ((c : Coord) → IsTrue (is_within (span hull) (point c)) → IsTrue (in_boxes slice c) → ⊥) → IsHull after (other ++ hull ∷ []) → AreBoxed after next more
+pub boxed_more : (xs more : List Act) (a : Act) (hulls next slice other : List Corners) (all after hull : Corners)
+    → AreBoxed all hulls xs → more ≡ xs ++ a ∷ [] → next ≡ hulls ++ hull ∷ [] → slice ≡ hulls → other ≡ hulls
+    → ((c : Coord) → IsTrue (is_volatile_of (point c) a) → IsTrue (is_within (span hull) (point c)))
+    → ((c : Coord) → IsTrue (is_within (span hull) (point c)) → IsTrue (in_boxes slice c) → ⊥)
+    → IsHull after (other ++ hull ∷ []) → AreBoxed after next more
 boxed_more xs more a hulls next slice other all after hull b e f g h own apart hulled =
     let apart' : (c : Coord) → IsTrue (is_within (span hull) (point c)) → IsTrue (in_boxes hulls c) → ⊥ = subst (λ (ks : List Corners). (c : Coord) → IsTrue (is_within (span hull) (point c)) → IsTrue (in_boxes ks c) → ⊥) g apart in
     let hulled' : IsHull after (hulls ++ hull ∷ []) = subst (λ (ks : List Corners). IsHull after (ks ++ hull ∷ [])) h hulled in
@@ -95,7 +106,8 @@ both true true h = (refl, refl)
 both true false h = cc
 both false b h = cc
 
-any_in : (c : Coord) (xs : List Act) (a : Act) → In a xs → IsTrue (is_volatile_of (point c) a) → IsTrue (list_any (is_volatile_of (point c)) xs)
+any_in : (c : Coord) (xs : List Act) (a : Act) → In a xs → IsTrue (is_volatile_of (point c) a)
+    → IsTrue (list_any (is_volatile_of (point c)) xs)
 any_in c [] a i h = absurd i
 any_in c (x ∷ xs) a (inl e) h = or_by_first (is_volatile_of (point c) x) (list_any (is_volatile_of (point c)) xs) (ap (λ (y : Act). is_volatile_of (point c) y) (sym e) ∙ h)
 any_in c (x ∷ xs) a (inr i) h = or_by_second (is_volatile_of (point c) x) (list_any (is_volatile_of (point c)) xs) (any_in c xs a i h)
@@ -105,18 +117,22 @@ module _ (m : Matrix) (all : List Act) (step : ℕ) where
   by_itself : (a : Act) (c : Coord) → members all a ≡ a ∷ [] → is_volatile all a (point c) ≡ is_volatile_of (point c) a
   by_itself a c e = ap (λ ms. list_any (is_volatile_of (point c)) ms) e ∙ or_false (is_volatile_of (point c) a)
 
-  no_clash : (a b : Act) → members all a ≡ a ∷ [] → members all b ≡ b ∷ [] → ((c : Coord) → IsTrue (is_volatile_of (point c) a) → IsTrue (is_volatile_of (point c) b) → ⊥) → clash m all a b ≡ None
+  no_clash : (a b : Act) → members all a ≡ a ∷ [] → members all b ≡ b ∷ []
+      → ((c : Coord) → IsTrue (is_volatile_of (point c) a) → IsTrue (is_volatile_of (point c) b) → ⊥)
+      → clash m all a b ≡ None
   no_clash a b e f h = none_find (λ c. is_volatile all a (point c) && is_volatile all b (point c)) (all_of m)
       (λ c i. not_true (is_volatile all a (point c) && is_volatile all b (point c)) (λ k. let t = both (is_volatile all a (point c)) (is_volatile all b (point c)) k in h c (sym (by_itself a c e) ∙ t.0) (sym (by_itself b c f) ∙ t.1)))
 
-  with_none : (a : Act) (more : List Act) → members all a ≡ a ∷ [] → ((b : Act) → In b more → members all b ≡ b ∷ []) → IsApartFrom a more → judge_with m all step a more ≡ None
+  with_none : (a : Act) (more : List Act) → members all a ≡ a ∷ [] → ((b : Act) → In b more → members all b ≡ b ∷ [])
+      → IsApartFrom a more → judge_with m all step a more ≡ None
   with_none a [] e h k = refl
   with_none a (b ∷ more) e h k =
       let n : clash m all a b ≡ None = no_clash a b e (h b (inl refl)) (λ c v w. k c v (or_by_first (is_volatile_of (point c) b) (list_any (is_volatile_of (point c)) more) w)) in
       ap (λ o. first_value (broken_by step Interference a.bot.bid o ∷ map (λ x. broken_by step Interference a.bot.bid (clash m all a x)) more)) n
       ∙ with_none a more e (λ x i. h x (inr i)) (λ c v w. k c v (or_by_second (is_volatile_of (point c) b) (list_any (is_volatile_of (point c)) more) w))
 
-  pairs_none : (xs : List Act) → ((a : Act) → In a xs → members all a ≡ a ∷ []) → AreAllApart xs → first_value (judge_pairs m all step xs) ≡ None
+  pairs_none : (xs : List Act) → ((a : Act) → In a xs → members all a ≡ a ∷ []) → AreAllApart xs
+      → first_value (judge_pairs m all step xs) ≡ None
   pairs_none [] h k = refl
   pairs_none (a ∷ more) h k =
       pairs_miss m all step a more (with_none a more (h a (inl refl)) (λ b i. h b (inr i)) k.0)
@@ -124,7 +140,8 @@ module _ (m : Matrix) (all : List Act) (step : ℕ) where
 
 -- ---- all commands need no other bot
 
-alone_in : (bots : List Bot) (commands : List Command) (a : Act) → IsTrue (list_all is_alone commands) → In a (acts bots commands) → IsTrue (is_alone a.command)
+alone_in : (bots : List Bot) (commands : List Command) (a : Act) → IsTrue (list_all is_alone commands)
+    → In a (acts bots commands) → IsTrue (is_alone a.command)
 alone_in [] commands a h i = absurd i
 alone_in (b ∷ bots) [] a h i = absurd i
 alone_in (b ∷ bots) (k ∷ commands) a h (inl e) = ap (λ (x : Act). is_alone x.command) e ∙ (both (is_alone k) (list_all is_alone commands) h).0
@@ -148,5 +165,6 @@ module _ (m : Matrix) (bots : List Bot) (commands : List Command) (lengths : len
   all_lone = record { leads = lone_leaders; alone = lone_groups }
 
   -- and none interferes with another where they are apart
-  pub lone_pairs : (step : ℕ) → AreAllApart (acts bots commands) → first_value (judge_pairs m (acts bots commands) step (leaders (acts bots commands))) ≡ None
+  pub lone_pairs : (step : ℕ) → AreAllApart (acts bots commands)
+      → first_value (judge_pairs m (acts bots commands) step (leaders (acts bots commands))) ≡ None
   lone_pairs step h = ap (λ ls. first_value (judge_pairs m (acts bots commands) step ls)) lone_leaders ∙ pairs_none m (acts bots commands) step (acts bots commands) own_members h

@@ -25,7 +25,9 @@ use Rattle.step_groups.proofs.Spots.{of_partner, of_sharer, spot_of_partner, spo
 abbrev pub blank : Bot
 blank = record { bid = 0; pos = record { x = 0; y = 0; z = 0 }; seeds = 0 }
 
-pub split_at : (bots : List Bot) (commands : List Command) (i : ℕ) (b : Bot) (k : Command) → i < length bots → length commands ≡ length bots → b ≡ get_or bots i b → k ≡ get_or commands i k → acts bots commands ≡ acts (take i bots) (take i commands) ++ act b k ∷ acts (drop (i + 1) bots) (drop (i + 1) commands)
+pub split_at : (bots : List Bot) (commands : List Command) (i : ℕ) (b : Bot) (k : Command) → i < length bots
+    → length commands ≡ length bots → b ≡ get_or bots i b → k ≡ get_or commands i k → acts bots commands
+    ≡ acts (take i bots) (take i commands) ++ act b k ∷ acts (drop (i + 1) bots) (drop (i + 1) commands)
 split_at [] commands i b k h e f g = absurd (omega arith)
 split_at (x ∷ bots) [] i b k h e f g = absurd (omega arith)
 split_at (x ∷ bots) (y ∷ commands) zero b k h e f g = λ n. act (sym f n) (sym g n) ∷ acts bots commands
@@ -33,7 +35,9 @@ split_at (x ∷ bots) (y ∷ commands) (suc i) b k h e f g =
     let n : suc (i + 1) ≡ suc i + 1 = omega arith in
     ap (λ (more : List Act). act x y ∷ more) (split_at bots commands i b k (omega arith) (omega arith) f g ∙ ap (λ j. acts (take i bots) (take i commands) ++ act b k ∷ acts (drop j (x ∷ bots)) (drop j (y ∷ commands))) n)
 
-pub take_more : (bots : List Bot) (commands : List Command) (i : ℕ) (b : Bot) (k : Command) → i < length bots → length commands ≡ length bots → b ≡ get_or bots i b → k ≡ get_or commands i k → acts (take (i + 1) bots) (take (i + 1) commands) ≡ acts (take i bots) (take i commands) ++ act b k ∷ []
+pub take_more : (bots : List Bot) (commands : List Command) (i : ℕ) (b : Bot) (k : Command) → i < length bots
+    → length commands ≡ length bots → b ≡ get_or bots i b → k ≡ get_or commands i k
+    → acts (take (i + 1) bots) (take (i + 1) commands) ≡ acts (take i bots) (take i commands) ++ act b k ∷ []
 take_more [] commands i b k h e f g = absurd (omega arith)
 take_more (x ∷ bots) [] i b k h e f g = absurd (omega arith)
 take_more (x ∷ bots) (y ∷ commands) zero b k h e f g = λ n. act (sym f n) (sym g n) ∷ []
@@ -50,7 +54,8 @@ pub in_back : {X : Type 0} (xs ys : List X) (a x : X) → In x ys → In x (xs +
 in_back [] ys a x i = inr i
 in_back (y ∷ xs) ys a x i = inr (in_back xs ys a x i)
 
-pub earlier_bid : (xs ys : List Act) (a x : Act) → Rising (map (λ (b : Act). b.bot) (xs ++ a ∷ ys)) → In x xs → x.bot.bid < a.bot.bid
+pub earlier_bid : (xs ys : List Act) (a x : Act) → Rising (map (λ (b : Act). b.bot) (xs ++ a ∷ ys)) → In x xs
+    → x.bot.bid < a.bot.bid
 earlier_bid [] ys a x h i = absurd i
 earlier_bid (y ∷ xs) ys a x h (inl e) =
     let l : y.bot.bid < a.bot.bid = h.0 a.bot (in_map (λ (b : Act). b.bot) a (xs ++ a ∷ ys) (in_middle xs ys a)) in
@@ -58,7 +63,8 @@ earlier_bid (y ∷ xs) ys a x h (inl e) =
     omega arith
 earlier_bid (y ∷ xs) ys a x h (inr i) = earlier_bid xs ys a x h.1 i
 
-pub later_bid : (xs ys : List Act) (a y : Act) → Rising (map (λ (b : Act). b.bot) (xs ++ a ∷ ys)) → In y ys → a.bot.bid < y.bot.bid
+pub later_bid : (xs ys : List Act) (a y : Act) → Rising (map (λ (b : Act). b.bot) (xs ++ a ∷ ys)) → In y ys
+    → a.bot.bid < y.bot.bid
 later_bid [] ys a y h i = h.0 y.bot (in_map (λ (b : Act). b.bot) y ys i)
 later_bid (x ∷ xs) ys a y h i = later_bid xs ys a y h.1 i
 
@@ -71,7 +77,8 @@ parts_of {X} (y ∷ xs) ys a x (inr i) = on (parts_of xs ys a x i)
     on (inl j) = inl (inr j)
     on (inr j) = inr j
 
-none_first : {X : Type 0} (p : X → Bool) (x : X) (xs : List X) (b : Bool) → p x ≡ b → (b || list_any p xs) ≡ false → (list_any p xs ≡ false → filter p xs ≡ []) → cond b (x ∷ filter p xs) (filter p xs) ≡ []
+none_first : {X : Type 0} (p : X → Bool) (x : X) (xs : List X) (b : Bool) → p x ≡ b → (b || list_any p xs) ≡ false
+    → (list_any p xs ≡ false → filter p xs ≡ []) → cond b (x ∷ filter p xs) (filter p xs) ≡ []
 none_first p x xs true e h ih = cc
 none_first p x xs false e h ih = ih h
 
@@ -118,7 +125,8 @@ module _ (xs ys : List Act) (a : Act) (up : Rising (map (λ (b : Act). b.bot) (x
       ∙ rw (with_itself a) refl
 
   -- what is volatile for a leader's group is so for the leader, or is the place of another member
-  pub volatile : list_any (are_together a) xs ≡ false → (p : Point) → is_volatile (xs ++ a ∷ ys) a p ≡ (is_volatile_of p a || list_any (λ b. is_within (just (position b)) p) (filter (are_together a) ys))
+  pub volatile : list_any (are_together a) xs ≡ false → (p : Point) → is_volatile (xs ++ a ∷ ys) a p
+      ≡ (is_volatile_of p a || list_any (λ b. is_within (just (position b)) p) (filter (are_together a) ys))
   volatile e p = ap (λ ms. list_any (is_volatile_of p) ms) (group e) ∙ same_truth (is_volatile_of p a || list_any (is_volatile_of p) zs) (is_volatile_of p a || list_any spots zs) onwards backwards
     where
       zs : List Act
@@ -127,10 +135,12 @@ module _ (xs ys : List Act) (a : Act) (up : Rising (map (λ (b : Act). b.bot) (x
       spots : Act → Bool
       spots = λ b. is_within (just (position b)) p
 
-      onwards : (is_volatile_of p a || list_any (is_volatile_of p) zs) ≡ true → (is_volatile_of p a || list_any spots zs) ≡ true
+      onwards : (is_volatile_of p a || list_any (is_volatile_of p) zs) ≡ true
+          → (is_volatile_of p a || list_any spots zs) ≡ true
       onwards h = by (one_of_two (is_volatile_of p a) (list_any (is_volatile_of p) zs) h)
         where
-          of_member : (b : Act) → In b zs → is_volatile_of p b ≡ true → Together a b → (is_volatile_of p a || list_any spots zs) ≡ true
+          of_member : (b : Act) → In b zs → is_volatile_of p b ≡ true → Together a b
+              → (is_volatile_of p a || list_any spots zs) ≡ true
           of_member b i v (itself f) = absurd (let l = later_bid xs ys a b up (filter_in (are_together a) b ys i).0 in omega arith)
           of_member b i v (partners t) = or_by_second (is_volatile_of p a) (list_any spots zs) (in_any spots b zs i (of_partner a b p t v))
           of_member b i v (shares t) = on (one_of_two (is_volatile_of p a) (spots b) (of_sharer (position a) a.command (position b) b.command p t v))
@@ -139,11 +149,13 @@ module _ (xs ys : List Act) (a : Act) (up : Rising (map (λ (b : Act). b.bot) (x
               on (inl w) = or_by_first (is_volatile_of p a) (list_any spots zs) w
               on (inr w) = or_by_second (is_volatile_of p a) (list_any spots zs) (in_any spots b zs i w)
 
-          by : (is_volatile_of p a ≡ true) ⊎ (list_any (is_volatile_of p) zs ≡ true) → (is_volatile_of p a || list_any spots zs) ≡ true
+          by : (is_volatile_of p a ≡ true) ⊎ (list_any (is_volatile_of p) zs ≡ true)
+              → (is_volatile_of p a || list_any spots zs) ≡ true
           by (inl w) = or_by_first (is_volatile_of p a) (list_any spots zs) w
           by (inr w) = let r = any_in (is_volatile_of p) zs w in of_member r.0 r.1 r.2 (together_is a r.0 (filter_in (are_together a) r.0 ys r.1).1)
 
-      backwards : (is_volatile_of p a || list_any spots zs) ≡ true → (is_volatile_of p a || list_any (is_volatile_of p) zs) ≡ true
+      backwards : (is_volatile_of p a || list_any spots zs) ≡ true
+          → (is_volatile_of p a || list_any (is_volatile_of p) zs) ≡ true
       backwards h = by (one_of_two (is_volatile_of p a) (list_any spots zs) h)
         where
           at : (b : Act) → In b zs → spots b ≡ true → Together a b → is_volatile_of p b ≡ true
@@ -151,7 +163,8 @@ module _ (xs ys : List Act) (a : Act) (up : Rising (map (λ (b : Act). b.bot) (x
           at b i v (partners t) = spot_of_partner a b p t v
           at b i v (shares t) = spot_of_sharer (position a) a.command (position b) b.command p t v
 
-          by : (is_volatile_of p a ≡ true) ⊎ (list_any spots zs ≡ true) → (is_volatile_of p a || list_any (is_volatile_of p) zs) ≡ true
+          by : (is_volatile_of p a ≡ true) ⊎ (list_any spots zs ≡ true)
+              → (is_volatile_of p a || list_any (is_volatile_of p) zs) ≡ true
           by (inl w) = or_by_first (is_volatile_of p a) (list_any (is_volatile_of p) zs) w
           by (inr w) = let r = any_in spots zs w in or_by_second (is_volatile_of p a) (list_any (is_volatile_of p) zs) (in_any (is_volatile_of p) r.0 zs r.1 (at r.0 r.1 r.2 (together_is a r.0 (filter_in (are_together a) r.0 ys r.1).1)))
 

@@ -29,7 +29,10 @@ use Rattle.step_groups.proofs.Touching.{counted, smove_reads_twice}
 use Rattle.step_groups.proofs.Whole.{by_itself, none_after}
 
 -- of a command that the profile allows the later rules decide
-pub allowed : (m : Matrix) (h : Harmonics) (profile : Profile) (b : Bot) (k : Command) (step : ℕ) (o : Option Broken) → is_allowed profile k ≡ true → ((s : State) (all : List Act) → o ≡ first_fault (record s { matrix = m }) all step (act b k) later_rules) → (energy : ℤ) → o ≡ broken (record (start_of m h profile (b ∷ [])) { energy = energy }) (k ∷ []) step
+pub allowed : (m : Matrix) (h : Harmonics) (profile : Profile) (b : Bot) (k : Command) (step : ℕ) (o : Option Broken)
+    → is_allowed profile k ≡ true
+    → ((s : State) (all : List Act) → o ≡ first_fault (record s { matrix = m }) all step (act b k) later_rules)
+    → (energy : ℤ) → o ≡ broken (record (start_of m h profile (b ∷ [])) { energy = energy }) (k ∷ []) step
 allowed m h profile b k step o may later energy =
     let s : State = start_of m h profile (b ∷ []) in
     let all : List Act = act b k ∷ [] in
@@ -41,7 +44,8 @@ one_rises : (b : Bot) → AllPairs (λ x y. x.bid < y.bid) (b ∷ [])
 one_rises b = search rules
 
 -- what its rules read is volatile
-pub read_once : (m : Matrix) (b : Bot) (k : Command) (before after : ℕ) → after ≤ before + touches_of m (act b k) → after ≤ before + 2 * volatile_total m (acts (b ∷ []) (k ∷ []))
+pub read_once : (m : Matrix) (b : Bot) (k : Command) (before after : ℕ) → after ≤ before + touches_of m (act b k)
+    → after ≤ before + 2 * volatile_total m (acts (b ∷ []) (k ∷ []))
 read_once m b k before after le =
     let e = sum_by-cons (touches_of m) (act b k) [] in
     touched m (b ∷ []) (k ∷ []) before after refl (one_rises b) (omega (arith, e, le))

@@ -21,7 +21,8 @@ use Rattle.step_groups.proofs.Volatiles.{end_within, start_within}
 ends : (l h v : ℕ) → l ≤ h → IsTrue (is_between (pos l) (pos h) (pos v)) → (l ≤ v) × (v ≤ h)
 ends l h v o t = (grind (arith, nat_tests), grind (arith, nat_tests))
 
-pub inside_box : (k : Corners) (c : Coord) → IsOrdered k → IsTrue (is_within (span k) (point c)) → LiesBetween k.low k.high c
+pub inside_box : (k : Corners) (c : Coord) → IsOrdered k → IsTrue (is_within (span k) (point c))
+    → LiesBetween k.low k.high c
 inside_box k c o t =
     let x : Bool = is_between (pos k.low.x) (pos k.high.x) (pos c.x) in
     let y : Bool = is_between (pos k.low.y) (pos k.high.y) (pos c.y) in
@@ -32,7 +33,8 @@ inside_box k c o t =
     record { from_x = ex.0; from_y = ey.0; from_z = ez.0; to_x = ex.1; to_y = ey.1; to_z = ez.1 }
 
 -- the box takes in also what is less
-pub takes_less : (P Q : Coord → Type 0) (old new : Outline) → ((c : Coord) → Q c → P c) → TakesIn P old new → TakesIn Q old new
+pub takes_less : (P Q : Coord → Type 0) (old new : Outline) → ((c : Coord) → Q c → P c) → TakesIn P old new
+    → TakesIn Q old new
 takes_less P Q old new f h = record { keeps = h.keeps; takes = λ c q. h.takes c (f c q); was = h.was; beside = λ e c q. h.beside e c (f c q) }
 
 -- ---- what is volatile for one bot lies within the box between where it stands and what it names
@@ -43,12 +45,14 @@ either false true c f g h = g refl
 either false false c f g h = cc
 
 module _ (bot : Bot) (k : Corners) (to : Coord) (around : (p : Point) → is_within (span k) p ≡ is_within (between (point bot.pos) (point to)) p) where
-  pub way_within : (d : Diff) → point to ≡ plus (point bot.pos) d → (c : Coord) → IsVolatileFor (act bot (SMove d)) c → IsTrue (is_within (span k) (point c))
+  pub way_within : (d : Diff) → point to ≡ plus (point bot.pos) d → (c : Coord) → IsVolatileFor (act bot (SMove d)) c
+      → IsTrue (is_within (span k) (point c))
   way_within d e c h =
       let q : Point = plus (point bot.pos) d in
       around (point c) ∙ (ap (λ (w : Point). is_within (between (point bot.pos) w) (point c)) e ∙ (sym (or_false (is_within (between (point bot.pos) q) (point c))) ∙ h))
 
-  pub named_within : (d : Diff) → point to ≡ plus (point bot.pos) d → (c : Coord) → IsVolatileFor (act bot (Fill d)) c → IsTrue (is_within (span k) (point c))
+  pub named_within : (d : Diff) → point to ≡ plus (point bot.pos) d → (c : Coord) → IsVolatileFor (act bot (Fill d)) c
+      → IsTrue (is_within (span k) (point c))
   named_within d e c h =
       let p : Point = point bot.pos in
       let q : Point = plus p d in
@@ -57,7 +61,13 @@ module _ (bot : Bot) (k : Corners) (to : Coord) (around : (p : Point) → is_wit
       ∙ either (is_within (just p) (point c)) (is_within (just q) (point c)) (is_within (between p q) (point c))
       (start_within p q (point c)) (end_within p q (point c)) h)
 
-pub ways_within : (bot : Bot) (d e : Diff) (mid to : Coord) (k l all : Corners) → point mid ≡ plus (point bot.pos) d → point to ≡ plus (point mid) e → ((p : Point) → is_within (span k) p ≡ is_within (between (point bot.pos) (point mid)) p) → ((p : Point) → is_within (span l) p ≡ is_within (between (point mid) (point to)) p) → ((c : Coord) → IsTrue (is_within (span k) (point c)) → IsTrue (is_within (span all) (point c))) → ((c : Coord) → IsTrue (is_within (span l) (point c)) → IsTrue (is_within (span all) (point c))) → (c : Coord) → IsVolatileFor (act bot (LMove d e)) c → IsTrue (is_within (span all) (point c))
+pub ways_within : (bot : Bot) (d e : Diff) (mid to : Coord) (k l all : Corners) → point mid ≡ plus (point bot.pos) d
+    → point to ≡ plus (point mid) e
+    → ((p : Point) → is_within (span k) p ≡ is_within (between (point bot.pos) (point mid)) p)
+    → ((p : Point) → is_within (span l) p ≡ is_within (between (point mid) (point to)) p)
+    → ((c : Coord) → IsTrue (is_within (span k) (point c)) → IsTrue (is_within (span all) (point c)))
+    → ((c : Coord) → IsTrue (is_within (span l) (point c)) → IsTrue (is_within (span all) (point c))) → (c : Coord)
+    → IsVolatileFor (act bot (LMove d e)) c → IsTrue (is_within (span all) (point c))
 ways_within bot d e mid to k l all half whole first second f g c h =
     let p : Point = point bot.pos in
     let m : Point = plus p d in
@@ -67,12 +77,14 @@ ways_within bot d e mid to k l all half whole first second f g c h =
     (λ t. f c (first (point c) ∙ (ap (λ (w : Point). is_within (between p w) (point c)) half ∙ t)))
     (λ t. g c (second (point c) ∙ ((λ i. is_within (between (half i) (end i)) (point c)) ∙ t))) h
 
-pub wait_within : (bot : Bot) (k : Corners) → ((p : Point) → is_within (span k) p ≡ is_within (just (point bot.pos)) p) → (c : Coord) → IsVolatileFor (act bot Wait) c → IsTrue (is_within (span k) (point c))
+pub wait_within : (bot : Bot) (k : Corners) → ((p : Point) → is_within (span k) p ≡ is_within (just (point bot.pos)) p)
+    → (c : Coord) → IsVolatileFor (act bot Wait) c → IsTrue (is_within (span k) (point c))
 wait_within bot k around c h = around (point c) ∙ (sym (or_false (is_within (just (point bot.pos)) (point c))) ∙ h)
 
 -- ---- one bot more
 
-pub outline_more : (xs more : List Act) (a : Act) (old new : Outline) → IsOutlineOf old xs → more ≡ xs ++ a ∷ [] → TakesIn (IsVolatileFor a) old new → IsOutlineOf new more
+pub outline_more : (xs more : List Act) (a : Act) (old new : Outline) → IsOutlineOf old xs → more ≡ xs ++ a ∷ []
+    → TakesIn (IsVolatileFor a) old new → IsOutlineOf new more
 outline_more xs more a old new h e t = subst (λ (ys : List Act). IsOutlineOf new ys) (sym e) (record {
   around = λ c v. elim (any_more c xs a v) [ inl o ↦ t.keeps c (h.around c o) | inr o ↦ t.takes c o ];
   apart = λ f. apart_more xs a (h.apart (t.was f)) (λ c v w. t.beside f c v (h.around c w));

@@ -56,10 +56,21 @@ module _ (r : ℕ) (bots : List Bot) (commands : List Command) (i : ℕ) (b : Bo
     up : Rising (map (λ (x : Act). x.bot) (acts bots commands))
     up = subst (λ (bs : List Bot). Rising bs) (sym (all_bots bots commands lengths)) (rising_is bots rising)
 
-    pub none_here : (groups : List Group) → list_any (are_together (act b k)) (acts (take i bots) (take i commands)) ≡ true → AreGroups r (acts bots commands) (filter (is_leader (acts bots commands)) (acts (take i bots) (take i commands))) groups → AreGroups r (acts bots commands) (filter (is_leader (acts bots commands)) (acts (take (i + 1) bots) (take (i + 1) commands))) groups
+    pub none_here : (groups : List Group)
+        → list_any (are_together (act b k)) (acts (take i bots) (take i commands)) ≡ true
+        → AreGroups r (acts bots commands)
+        (filter (is_leader (acts bots commands)) (acts (take i bots) (take i commands))) groups
+        → AreGroups r (acts bots commands)
+        (filter (is_leader (acts bots commands)) (acts (take (i + 1) bots) (take (i + 1) commands))) groups
     none_here groups e h = add_none r all xs ys a whole up more groups one_more e h
 
-    pub alone_here : (groups next : List Group) (g : Group) → next ≡ groups ++ g ∷ [] → IsTrue (is_alone k) → g.leader ≡ b.bid → g.members.items ≡ b.bid ∷ [] → ((c : Coord) → in_boxes g.boxes.items c ≡ is_volatile_of (point c) (act b k)) → AreBoxesIn r g.boxes.items → AreGroups r (acts bots commands) (filter (is_leader (acts bots commands)) (acts (take i bots) (take i commands))) groups → AreGroups r (acts bots commands) (filter (is_leader (acts bots commands)) (acts (take (i + 1) bots) (take (i + 1) commands))) next
+    pub alone_here : (groups next : List Group) (g : Group) → next ≡ groups ++ g ∷ [] → IsTrue (is_alone k)
+        → g.leader ≡ b.bid → g.members.items ≡ b.bid ∷ []
+        → ((c : Coord) → in_boxes g.boxes.items c ≡ is_volatile_of (point c) (act b k)) → AreBoxesIn r g.boxes.items
+        → AreGroups r (acts bots commands)
+        (filter (is_leader (acts bots commands)) (acts (take i bots) (take i commands))) groups
+        → AreGroups r (acts bots commands)
+        (filter (is_leader (acts bots commands)) (acts (take (i + 1) bots) (take (i + 1) commands))) next
     alone_here groups next g f alone leader mates boxes space h = add_alone r all xs ys a whole up more groups next g one_more f alone leader mates boxes space h
 
     -- the bots behind a leader that have its number
@@ -67,7 +78,9 @@ module _ (r : ℕ) (bots : List Bot) (commands : List Command) (i : ℕ) (b : Bo
       abbrev mates : List Act
       mates = filter (are_together a) ys
 
-      pub few_here : All (λ a. length (members (acts bots commands) a) ≤ 8) (acts bots commands) → length (with_number n (take (length bots - (i + 1)) (drop (i + 1) bots)) (take (length ns - (i + 1)) (drop (i + 1) ns))) ≤ 7
+      pub few_here : All (λ a. length (members (acts bots commands) a) ≤ 8) (acts bots commands)
+          → length (with_number n (take (length bots - (i + 1)) (drop (i + 1) bots)) (take (length ns - (i + 1)) (drop (i + 1) ns)))
+          ≤ 7
       few_here h =
           let few : length mates ≤ 7 = few_after r all xs ys a whole up leads (all_in (λ (x : Act). length (members all x) ≤ 8) a all h here) in
           let same = ap length tell ∙ length-map mates (λ (x : Act). x.bot) in

@@ -15,11 +15,13 @@ abbrev within_any : Point → Command → Point → Bool
 within_any q e x = list_any (λ s. is_within s x) (volatile_regions q e)
 
 -- the halves of a fusion make their places volatile
-primary : (p : Point) (c : Command) (q : Point) (e : Command) (x : Point) → fuse p c q e ≡ true → within_any p c x ≡ is_within (just p) x
+primary : (p : Point) (c : Command) (q : Point) (e : Command) (x : Point) → fuse p c q e ≡ true
+    → within_any p c x ≡ is_within (just p) x
 primary p (FusionP d) q e x h = or_false (is_within (just p) x)
 primary p c q e x h = cc
 
-secondary : (p : Point) (c : Command) (q : Point) (e : Command) (x : Point) → fuse p c q e ≡ true → within_any q e x ≡ is_within (just q) x
+secondary : (p : Point) (c : Command) (q : Point) (e : Command) (x : Point) → fuse p c q e ≡ true
+    → within_any q e x ≡ is_within (just q) x
 secondary p (FusionP d) q (FusionS e) x h = or_false (is_within (just q) x)
 secondary p (FusionP d) q e x h = cc
 secondary p c q e x h = cc
@@ -31,10 +33,12 @@ partner a b x h = by (one_of_two (is_pair a b) (is_pair b a) h)
     by (inl e) = secondary (position a) a.command (position b) b.command x e
     by (inr e) = primary (position b) b.command (position a) a.command x e
 
-pub of_partner : (a b : Act) (x : Point) → are_partners a b ≡ true → is_volatile_of x b ≡ true → is_within (just (position b)) x ≡ true
+pub of_partner : (a b : Act) (x : Point) → are_partners a b ≡ true → is_volatile_of x b ≡ true
+    → is_within (just (position b)) x ≡ true
 of_partner a b x h v = sym (partner a b x h) ∙ v
 
-pub spot_of_partner : (a b : Act) (x : Point) → are_partners a b ≡ true → is_within (just (position b)) x ≡ true → is_volatile_of x b ≡ true
+pub spot_of_partner : (a b : Act) (x : Point) → are_partners a b ≡ true → is_within (just (position b)) x ≡ true
+    → is_volatile_of x b ≡ true
 spot_of_partner a b x h v = partner a b x h ∙ v
 
 -- members of a group command share the region
@@ -45,12 +49,14 @@ in_region false true false other e h = refl
 in_region false false false true e h = cc
 in_region false false false false e h = h
 
-pub of_sharer : (p : Point) (c : Command) (q : Point) (e : Command) (x : Point) → share_region p c q e ≡ true → within_any q e x ≡ true → (within_any p c x || is_within (just q) x) ≡ true
+pub of_sharer : (p : Point) (c : Command) (q : Point) (e : Command) (x : Point) → share_region p c q e ≡ true
+    → within_any q e x ≡ true → (within_any p c x || is_within (just q) x) ≡ true
 of_sharer p (GFill d f) q (GFill e g) x h v = in_region (is_within (just p) x) (is_within (just q) x) (is_within (between (plus p d) (plus (plus p d) f)) x) (is_within (between (plus q e) (plus (plus q e) g)) x) (within_as (between (plus p d) (plus (plus p d) f)) (between (plus q e) (plus (plus q e) g)) x h) v
 of_sharer p (GVoid d f) q (GVoid e g) x h v = in_region (is_within (just p) x) (is_within (just q) x) (is_within (between (plus p d) (plus (plus p d) f)) x) (is_within (between (plus q e) (plus (plus q e) g)) x) (within_as (between (plus p d) (plus (plus p d) f)) (between (plus q e) (plus (plus q e) g)) x h) v
 of_sharer p c q e x h v = cc
 
-pub spot_of_sharer : (p : Point) (c : Command) (q : Point) (e : Command) (x : Point) → share_region p c q e ≡ true → is_within (just q) x ≡ true → within_any q e x ≡ true
+pub spot_of_sharer : (p : Point) (c : Command) (q : Point) (e : Command) (x : Point) → share_region p c q e ≡ true
+    → is_within (just q) x ≡ true → within_any q e x ≡ true
 spot_of_sharer p (GFill d f) q (GFill e g) x h v = or_by_first (is_within (just q) x) (is_within (between (plus q e) (plus (plus q e) g)) x || false) v
 spot_of_sharer p (GVoid d f) q (GVoid e g) x h v = or_by_first (is_within (just q) x) (is_within (between (plus q e) (plus (plus q e) g)) x || false) v
 spot_of_sharer p c q e x h v = cc

@@ -45,7 +45,8 @@ module _ (m : Matrix) (all : List Act) (up : Rising (map (λ (x : Act). x.bot) a
       ∙ (leads w.before w.after a up' ∙ ap not (none_before w.before w.after a up' h))
 
   -- what is volatile for a bot that is alone and stays in space is so for its group
-  alone_count : (a : Act) → In a all → IsTrue (is_alone a.command) → IsTrue (stays_in_space m.resolution a) → volatile_count m all a ≡ count_by (λ c. is_volatile_of (point c) a) (all_of m)
+  alone_count : (a : Act) → In a all → IsTrue (is_alone a.command) → IsTrue (stays_in_space m.resolution a)
+      → volatile_count m all a ≡ count_by (λ c. is_volatile_of (point c) a) (all_of m)
   alone_count a i h s =
       ap (λ ms. count_by (λ c. list_any (is_volatile_of (point c)) (filter (stays_in_space m.resolution) ms)) (all_of m)) (alone_members a i h)
       ∙ (ap (λ t. count_by (λ c. list_any (is_volatile_of (point c)) (cond t (a ∷ []) [])) (all_of m)) s
@@ -54,18 +55,24 @@ module _ (m : Matrix) (all : List Act) (up : Rising (map (λ (x : Act). x.bot) a
   pays : (a : Act) → In a all → touches_of m a ≤ cond (is_leader all a) (2 * volatile_count m all a) 0
   pays a i = by (is_alone a.command) (stays_in_space m.resolution a) refl refl
     where
-      by : (x y : Bool) → is_alone a.command ≡ x → stays_in_space m.resolution a ≡ y → cond {A = ℕ} (x && y) (2 * count_by (λ c. is_volatile_of (point c) a) (all_of m)) 0 ≤ cond (is_leader all a) (2 * volatile_count m all a) 0
+      by : (x y : Bool) → is_alone a.command ≡ x → stays_in_space m.resolution a ≡ y
+          → cond {A = ℕ} (x && y) (2 * count_by (λ c. is_volatile_of (point c) a) (all_of m)) 0
+          ≤ cond (is_leader all a) (2 * volatile_count m all a) 0
       by true true e f =
           let n = alone_count a i e f in
           subst (λ (t : Bool). 2 * count_by (λ c. is_volatile_of (point c) a) (all_of m) ≤ cond t (2 * volatile_count m all a) 0) (sym (alone_leads a i e)) (omega (arith, n))
       by true false e f = omega arith
       by false y e f = omega arith
 
-  summed : (xs : List Act) → ((a : Act) → In a xs → In a all) → sum_by (touches_of m) xs ≤ 2 * sum (map (volatile_count m all) (filter (is_leader all) xs))
+  summed : (xs : List Act) → ((a : Act) → In a xs → In a all)
+      → sum_by (touches_of m) xs ≤ 2 * sum (map (volatile_count m all) (filter (is_leader all) xs))
   summed [] h = omega arith
   summed (a ∷ xs) h = by (is_leader all a) (pays a (h a (inl refl))) (summed xs (λ b i. h b (inr i)))
     where
-      by : (t : Bool) → touches_of m a ≤ cond t (2 * volatile_count m all a) 0 → sum_by (touches_of m) xs ≤ 2 * sum (map (volatile_count m all) (filter (is_leader all) xs)) → sum_by (touches_of m) (a ∷ xs) ≤ 2 * sum (map (volatile_count m all) (cond t (a ∷ filter (is_leader all) xs) (filter (is_leader all) xs)))
+      by : (t : Bool) → touches_of m a ≤ cond t (2 * volatile_count m all a) 0
+          → sum_by (touches_of m) xs ≤ 2 * sum (map (volatile_count m all) (filter (is_leader all) xs))
+          → sum_by (touches_of m) (a ∷ xs)
+          ≤ 2 * sum (map (volatile_count m all) (cond t (a ∷ filter (is_leader all) xs) (filter (is_leader all) xs)))
       by true p s =
           let e = sum_by-cons (touches_of m) a xs in
           let f : sum (volatile_count m all a ∷ map (volatile_count m all) (filter (is_leader all) xs)) ≡ volatile_count m all a + sum (map (volatile_count m all) (filter (is_leader all) xs)) = sum_by-cons (λ n. n) (volatile_count m all a) (map (volatile_count m all) (filter (is_leader all) xs)) in
@@ -75,7 +82,9 @@ module _ (m : Matrix) (all : List Act) (up : Rising (map (λ (x : Act). x.bot) a
           omega (arith, e, p, s)
 
 -- the touches of all bots
-pub touched : (m : Matrix) (bots : List Bot) (commands : List Command) (old new : ℕ) → length commands ≡ length bots → AllPairs (λ a b. a.bid < b.bid) bots → new ≤ old + sum_by (touches_of m) (acts bots commands) → new ≤ old + 2 * volatile_total m (acts bots commands)
+pub touched : (m : Matrix) (bots : List Bot) (commands : List Command) (old new : ℕ) → length commands ≡ length bots
+    → AllPairs (λ a b. a.bid < b.bid) bots → new ≤ old + sum_by (touches_of m) (acts bots commands)
+    → new ≤ old + 2 * volatile_total m (acts bots commands)
 touched m bots commands old new lengths rising le =
     let all : List Act = acts bots commands in
     let up : Rising (map (λ (x : Act). x.bot) all) = subst (λ (bs : List Bot). Rising bs) (sym (all_bots bots commands lengths)) (rising_is bots rising) in

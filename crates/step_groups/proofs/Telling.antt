@@ -27,17 +27,20 @@ step_less : (t : Bool) (n m : ℕ) → (t ≡ false → n < m) → cond (not t) 
 step_less true n m h = omega arith
 step_less false n m h = let l = h refl in omega arith
 
-pub is_found : {X : Type 0} (p : X → Bool) (x : X) (xs : List X) → In x xs → p x ≡ true → position_or_len p xs < length xs
+pub is_found : {X : Type 0} (p : X → Bool) (x : X) (xs : List X) → In x xs → p x ≡ true
+    → position_or_len p xs < length xs
 is_found p x [] i e = absurd i
 is_found p x (y ∷ xs) (inl h) e = let here : p y ≡ true = sym (ap p h) ∙ e in step_less (p y) (position_or_len p xs) (length xs) (λ f. cc)
 is_found p x (y ∷ xs) (inr i) e = step_less (p y) (position_or_len p xs) (length xs) (λ f. is_found p x xs i e)
 
-same_place : {X : Type 0} (p q : X → Bool) (xs : List X) → ((x : X) → In x xs → p x ≡ q x) → position_or_len p xs ≡ position_or_len q xs
+same_place : {X : Type 0} (p q : X → Bool) (xs : List X) → ((x : X) → In x xs → p x ≡ q x)
+    → position_or_len p xs ≡ position_or_len q xs
 same_place p q [] h = refl
 same_place p q (x ∷ xs) h = λ n. cond (not (h x (inl refl) n)) (1 + same_place p q xs (λ y i. h y (inr i)) n) 0
 
 -- what passes at a place is not passed over
-pub place_before : {X : Type 0} (p : X → Bool) (xs ys : List X) (a : X) → p a ≡ true → position_or_len p (xs ++ a ∷ ys) ≡ position_or_len p xs
+pub place_before : {X : Type 0} (p : X → Bool) (xs ys : List X) (a : X) → p a ≡ true
+    → position_or_len p (xs ++ a ∷ ys) ≡ position_or_len p xs
 place_before p [] ys a e = rw e refl
 place_before p (x ∷ xs) ys a e = ap (λ n. cond (not (p x)) (1 + n) 0) (place_before p xs ys a e)
 
@@ -59,19 +62,23 @@ some_found p (x ∷ xs) e = some_step (p x) (list_any p xs) (position_or_len p x
 
 -- ---- numbers place by place
 
-number_at : (f : Act → ℕ) (bots : List Bot) (commands : List Command) (i n : ℕ) (b : Bot) (k : Command) → i < length bots → length commands ≡ length bots → b ≡ get_or bots i b → k ≡ get_or commands i k → n ≡ get_or (map f (acts bots commands)) i n → n ≡ f (act b k)
+number_at : (f : Act → ℕ) (bots : List Bot) (commands : List Command) (i n : ℕ) (b : Bot) (k : Command)
+    → i < length bots → length commands ≡ length bots → b ≡ get_or bots i b → k ≡ get_or commands i k
+    → n ≡ get_or (map f (acts bots commands)) i n → n ≡ f (act b k)
 number_at f [] commands i n b k h e bi ki ni = absurd (omega arith)
 number_at f (x ∷ bots) [] i n b k h e bi ki ni = absurd (omega arith)
 number_at f (x ∷ bots) (y ∷ commands) zero n b k h e bi ki ni = ni ∙ (λ j. f (act (sym bi j) (sym ki j)))
 number_at f (x ∷ bots) (y ∷ commands) (suc i) n b k h e bi ki ni = number_at f bots commands i n b k (omega arith) (omega arith) bi ki ni
 
-pub drop_acts : (bots : List Bot) (commands : List Command) (i : ℕ) → length commands ≡ length bots → drop i (acts bots commands) ≡ acts (drop i bots) (drop i commands)
+pub drop_acts : (bots : List Bot) (commands : List Command) (i : ℕ) → length commands ≡ length bots
+    → drop i (acts bots commands) ≡ acts (drop i bots) (drop i commands)
 drop_acts bots commands zero e = refl
 drop_acts [] commands (suc i) e = refl
 drop_acts (x ∷ bots) [] (suc i) e = absurd (omega arith)
 drop_acts (x ∷ bots) (y ∷ commands) (suc i) e = drop_acts bots commands i (omega arith)
 
-pub rest_lengths : {X Y : Type 0} (xs : List X) (ys : List Y) (i : ℕ) → length ys ≡ length xs → length (drop i ys) ≡ length (drop i xs)
+pub rest_lengths : {X Y : Type 0} (xs : List X) (ys : List Y) (i : ℕ) → length ys ≡ length xs
+    → length (drop i ys) ≡ length (drop i xs)
 rest_lengths xs ys zero e = e
 rest_lengths [] [] (suc i) e = refl
 rest_lengths [] (y ∷ ys) (suc i) e = absurd (omega arith)
@@ -79,62 +86,79 @@ rest_lengths (x ∷ xs) [] (suc i) e = absurd (omega arith)
 rest_lengths (x ∷ xs) (y ∷ ys) (suc i) e = rest_lengths xs ys i (omega arith)
 
 -- none of the bots before it is of the group of a bot that acts alone
-pub alone_before : (bots : List Bot) (commands : List Command) (i : ℕ) (b : Bot) (k : Command) → i < length bots → length commands ≡ length bots → b ≡ get_or bots i b → k ≡ get_or commands i k → AllPairs (λ a b. a.bid < b.bid) bots → IsTrue (is_alone k) → list_any (are_together (act b k)) (acts (take i bots) (take i commands)) ≡ false
+pub alone_before : (bots : List Bot) (commands : List Command) (i : ℕ) (b : Bot) (k : Command) → i < length bots
+    → length commands ≡ length bots → b ≡ get_or bots i b → k ≡ get_or commands i k
+    → AllPairs (λ a b. a.bid < b.bid) bots → IsTrue (is_alone k)
+    → list_any (are_together (act b k)) (acts (take i bots) (take i commands)) ≡ false
 alone_before bots commands i b k lt lengths bi ki rising h =
     let up : Rising (map (λ (x : Act). x.bot) (acts bots commands)) = subst (λ (bs : List Bot). Rising bs) (sym (all_bots bots commands lengths)) (rising_is bots rising) in
     none_before (acts (take i bots) (take i commands)) (acts (drop (i + 1) bots) (drop (i + 1) commands)) (act b k) (subst (λ (xs : List Act). Rising (map (λ (x : Act). x.bot) xs)) (split_at bots commands i b k lt lengths bi ki) up) h
 
 -- the number of the only bot
-pub only_number : (bots : List Bot) (commands : List Command) → length bots ≡ 1 → length commands ≡ length bots → AreNumbers (acts bots commands) (0 ∷ [])
+pub only_number : (bots : List Bot) (commands : List Command) → length bots ≡ 1 → length commands ≡ length bots
+    → AreNumbers (acts bots commands) (0 ∷ [])
 only_number [] commands e f = absurd (omega arith)
 only_number (b ∷ []) [] e f = absurd (omega arith)
 only_number (b ∷ []) (k ∷ commands) e f = λ i. cond (not (sym (with_itself (act b k)) i)) (1 + 0) 0 ∷ []
 only_number (b ∷ c ∷ bots) commands e f = absurd (omega arith)
 
 -- the number of the bot at a place is told by the bots before it
-pub first_before : (bots : List Bot) (commands : List Command) (i : ℕ) (b : Bot) (k : Command) → i < length bots → length commands ≡ length bots → b ≡ get_or bots i b → k ≡ get_or commands i k → position_or_len (are_together (act b k)) (acts (take i bots) (take i commands)) ≡ group_number (acts bots commands) (act b k)
+pub first_before : (bots : List Bot) (commands : List Command) (i : ℕ) (b : Bot) (k : Command) → i < length bots
+    → length commands ≡ length bots → b ≡ get_or bots i b → k ≡ get_or commands i k
+    → position_or_len (are_together (act b k)) (acts (take i bots) (take i commands))
+    ≡ group_number (acts bots commands) (act b k)
 first_before bots commands i b k lt lengths bi ki =
     sym (ap (position_or_len (are_together (act b k))) (split_at bots commands i b k lt lengths bi ki) ∙ place_before (are_together (act b k)) (acts (take i bots) (take i commands)) (acts (drop (i + 1) bots) (drop (i + 1) commands)) (act b k) (with_itself (act b k)))
 
 -- ---- those that have the number
 
-with_map : (f : Act → ℕ) (p : Act → Bool) (n : ℕ) (xs : List Act) → ((x : Act) → In x xs → (f x == n) ≡ p x) → with_number n xs (map f xs) ≡ filter p xs
+with_map : (f : Act → ℕ) (p : Act → Bool) (n : ℕ) (xs : List Act) → ((x : Act) → In x xs → (f x == n) ≡ p x)
+    → with_number n xs (map f xs) ≡ filter p xs
 with_map f p n [] h = refl
 with_map f p n (x ∷ xs) h = λ i. cond (h x (inl refl) i) (x ∷ with_map f p n xs (λ y j. h y (inr j)) i) (with_map f p n xs (λ y j. h y (inr j)) i)
 
-kept_or_not : (t : Bool) (x : Act) (bots : List Bot) (xs : List Act) → bots ≡ map (λ (y : Act). y.bot) xs → cond t (x.bot ∷ bots) bots ≡ map (λ (y : Act). y.bot) (cond t (x ∷ xs) xs)
+kept_or_not : (t : Bool) (x : Act) (bots : List Bot) (xs : List Act) → bots ≡ map (λ (y : Act). y.bot) xs
+    → cond t (x.bot ∷ bots) bots ≡ map (λ (y : Act). y.bot) (cond t (x ∷ xs) xs)
 kept_or_not true x bots xs e = ap (λ (more : List Bot). x.bot ∷ more) e
 kept_or_not false x bots xs e = e
 
-bots_numbered : (n : ℕ) (xs : List Act) (ns : List ℕ) → with_number n (map (λ (x : Act). x.bot) xs) ns ≡ map (λ (x : Act). x.bot) (with_number n xs ns)
+bots_numbered : (n : ℕ) (xs : List Act) (ns : List ℕ)
+    → with_number n (map (λ (x : Act). x.bot) xs) ns ≡ map (λ (x : Act). x.bot) (with_number n xs ns)
 bots_numbered n [] ns = refl
 bots_numbered n (x ∷ xs) [] = refl
 bots_numbered n (x ∷ xs) (m ∷ ns) = kept_or_not (m == n) x (with_number n (map (λ (y : Act). y.bot) xs) ns) (with_number n xs ns) (bots_numbered n xs ns)
 
-pub of_bots : {Y : Type 0} (f : Bot → Y) (xs : List Act) → map f (map (λ (x : Act). x.bot) xs) ≡ map (λ (x : Act). f x.bot) xs
+pub of_bots : {Y : Type 0} (f : Bot → Y) (xs : List Act)
+    → map f (map (λ (x : Act). x.bot) xs) ≡ map (λ (x : Act). f x.bot) xs
 of_bots f [] = refl
 of_bots f (x ∷ xs) = ap (λ more. f x.bot ∷ more) (of_bots f xs)
 
 -- as many have the number as it stands among the numbers
-as_long : {A : Type 0} (t : Bool) (x : A) (m : ℕ) (xs : List A) (ns : List ℕ) → length xs ≡ length ns → length (cond t (x ∷ xs) xs) ≡ length (cond t (m ∷ ns) ns)
+as_long : {A : Type 0} (t : Bool) (x : A) (m : ℕ) (xs : List A) (ns : List ℕ) → length xs ≡ length ns
+    → length (cond t (x ∷ xs) xs) ≡ length (cond t (m ∷ ns) ns)
 as_long true x m xs ns e = ap suc e
 as_long false x m xs ns e = e
 
-pub as_many : {A : Type 0} (n : ℕ) (xs : List A) (ns : List ℕ) → length xs ≡ length ns → length (with_number n xs ns) ≡ length (filter (λ m. m == n) ns)
+pub as_many : {A : Type 0} (n : ℕ) (xs : List A) (ns : List ℕ) → length xs ≡ length ns
+    → length (with_number n xs ns) ≡ length (filter (λ m. m == n) ns)
 as_many n [] [] e = refl
 as_many n [] (m ∷ ns) e = absurd (omega arith)
 as_many n (x ∷ xs) [] e = absurd (omega arith)
 as_many n (x ∷ xs) (m ∷ ns) e = as_long (m == n) x m (with_number n xs ns) (filter (λ k. k == n) ns) (as_many n xs ns (omega arith))
 
-pub acts_length : (bots : List Bot) (commands : List Command) → length commands ≡ length bots → length (acts bots commands) ≡ length bots
+pub acts_length : (bots : List Bot) (commands : List Command) → length commands ≡ length bots
+    → length (acts bots commands) ≡ length bots
 acts_length bots commands e = sym (length-map (acts bots commands) (λ (a : Act). a.bot)) ∙ ap length (all_bots bots commands e)
 
 -- there are as many numbers as bots
-pub as_many_numbers : (bots : List Bot) (commands : List Command) (numbers : List ℕ) → length commands ≡ length bots → AreNumbers (acts bots commands) numbers → length numbers ≡ length bots
+pub as_many_numbers : (bots : List Bot) (commands : List Command) (numbers : List ℕ) → length commands ≡ length bots
+    → AreNumbers (acts bots commands) numbers → length numbers ≡ length bots
 as_many_numbers bots commands numbers e are = ap length are ∙ (length-map (acts bots commands) (group_number (acts bots commands)) ∙ acts_length bots commands e)
 
 -- what has another number is not among them
-pub bot_without : (n : ℕ) (bots : List Bot) (numbers : List ℕ) (i : ℕ) → i < length bots → length numbers ≡ length bots → (get_or numbers i 0 == n) ≡ false → with_number n (drop i bots) (drop i numbers) ≡ with_number n (drop (i + 1) bots) (drop (i + 1) numbers)
+pub bot_without : (n : ℕ) (bots : List Bot) (numbers : List ℕ) (i : ℕ) → i < length bots → length numbers ≡ length bots
+    → (get_or numbers i 0 == n) ≡ false
+    → with_number n (drop i bots) (drop i numbers) ≡ with_number n (drop (i + 1) bots) (drop (i + 1) numbers)
 bot_without n [] numbers i l e h = absurd (omega arith)
 bot_without n (x ∷ bots) [] i l e h = absurd (omega arith)
 bot_without n (x ∷ bots) (m ∷ numbers) zero l e h = ap (λ t. cond t (x ∷ with_number n bots numbers) (with_number n bots numbers)) h
@@ -159,15 +183,19 @@ module _ (n : ℕ) (bots : List Bot) (commands : List Command) (numbers : List �
   abbrev behind : List Act
   behind = with_number n (acts (drop (i + 1) bots) (drop (i + 1) commands)) (drop (i + 1) numbers)
 
-  pub without_it : (get_or numbers i 0 == n) ≡ false → with_number n (acts (drop i bots) (drop i commands)) (drop i numbers) ≡ with_number n (acts (drop (i + 1) bots) (drop (i + 1) commands)) (drop (i + 1) numbers)
+  pub without_it : (get_or numbers i 0 == n) ≡ false
+      → with_number n (acts (drop i bots) (drop i commands)) (drop i numbers)
+      ≡ with_number n (acts (drop (i + 1) bots) (drop (i + 1) commands)) (drop (i + 1) numbers)
   without_it e = from_place n bots commands numbers i b k lt lengths as_long_as bi ki ∙ ap (λ t. cond t (act b k ∷ behind) behind) e
 
-  pub with_it : (get_or numbers i 0 == n) ≡ true → with_number n (acts (drop i bots) (drop i commands)) (drop i numbers) ≡ act b k ∷ with_number n (acts (drop (i + 1) bots) (drop (i + 1) commands)) (drop (i + 1) numbers)
+  pub with_it : (get_or numbers i 0 == n) ≡ true → with_number n (acts (drop i bots) (drop i commands)) (drop i numbers)
+      ≡ act b k ∷ with_number n (acts (drop (i + 1) bots) (drop (i + 1) commands)) (drop (i + 1) numbers)
   with_it e = from_place n bots commands numbers i b k lt lengths as_long_as bi ki ∙ ap (λ t. cond t (act b k ∷ behind) behind) e
 
 -- ---- numbers of a crew
 
-one_bid : (all : List Act) (a b : Act) → Rising (map (λ (x : Act). x.bot) all) → In a all → In b all → a.bot.bid ≡ b.bot.bid → a ≡ b
+one_bid : (all : List Act) (a b : Act) → Rising (map (λ (x : Act). x.bot) all) → In a all → In b all
+    → a.bot.bid ≡ b.bot.bid → a ≡ b
 one_bid [] a b h i j e = absurd i
 one_bid (x ∷ xs) a b h (inl i) (inl j) e = i ∙ sym j
 one_bid (x ∷ xs) a b h (inl i) (inr j) e = absurd (let l : x.bot.bid < b.bot.bid = h.0 b.bot (in_map (λ (y : Act). y.bot) b xs j) in let f : a.bot.bid ≡ x.bot.bid = ap (λ (y : Act). y.bot.bid) i in omega arith)
@@ -216,7 +244,8 @@ module _ (bots : List Bot) (commands : List Command) (lengths : length commands 
     places = λ a b i j e. by a b i j e (pairs_in (λ (x y : Bot). x.pos ≢ y.pos) bots a.bot b.bot crew.positions (bot_in bots commands a i) (bot_in bots commands b j));
   }
     where
-      by : (a b : Act) → In a all → In b all → a.bot.pos ≡ b.bot.pos → (a.bot ≡ b.bot) ⊎ ((a.bot.pos ≢ b.bot.pos) ⊎ (b.bot.pos ≢ a.bot.pos)) → a ≡ b
+      by : (a b : Act) → In a all → In b all → a.bot.pos ≡ b.bot.pos
+          → (a.bot ≡ b.bot) ⊎ ((a.bot.pos ≢ b.bot.pos) ⊎ (b.bot.pos ≢ a.bot.pos)) → a ≡ b
       by a b i j e (inl f) = one_bid all a b up i j (ap (λ (x : Bot). x.bid) f)
       by a b i j e (inr (inl f)) = absurd (f e)
       by a b i j e (inr (inr f)) = absurd (f (sym e))
@@ -256,7 +285,9 @@ module _ (bots : List Bot) (commands : List Command) (lengths : length commands 
     tells_members = (λ j. with_number (number_is j) all (are j)) ∙ tells all apart a there
 
     -- and those of them that are after it
-    pub tells_after : with_number (get_or numbers i 0) (take (length bots - (i + 1)) (drop (i + 1) bots)) (take (length numbers - (i + 1)) (drop (i + 1) numbers)) ≡ map (λ (x : Act). x.bot) (filter (are_together (act (get_or bots i blank) k)) (acts (drop (i + 1) bots) (drop (i + 1) commands)))
+    pub tells_after : with_number (get_or numbers i 0) (take (length bots - (i + 1)) (drop (i + 1) bots))
+        (take (length numbers - (i + 1)) (drop (i + 1) numbers)) ≡ map (λ (x : Act). x.bot)
+        (filter (are_together (act (get_or bots i blank) k)) (acts (drop (i + 1) bots) (drop (i + 1) commands)))
     tells_after =
         let rest : drop (i + 1) numbers ≡ map (group_number all) ys = ap (drop (i + 1)) are ∙ (drop-map (group_number all) (i + 1) all ∙ ap (map (group_number all)) (drop_acts bots commands (i + 1) lengths)) in
         let bots_are : drop (i + 1) bots ≡ map (λ (x : Act). x.bot) ys = sym (all_bots (drop (i + 1) bots) (drop (i + 1) commands) (rest_lengths bots commands (i + 1) lengths)) in
@@ -271,24 +302,28 @@ module _ (bots : List Bot) (commands : List Command) (lengths : length commands 
     before_are : length (acts (take i bots) (take i commands)) ≡ i
     before_are = taken bots commands i lt lengths
       where
-        taken : (bots : List Bot) (commands : List Command) (i : ℕ) → i < length bots → length commands ≡ length bots → length (acts (take i bots) (take i commands)) ≡ i
+        taken : (bots : List Bot) (commands : List Command) (i : ℕ) → i < length bots → length commands ≡ length bots
+            → length (acts (take i bots) (take i commands)) ≡ i
         taken [] commands i h e = absurd (omega arith)
         taken (x ∷ bots) [] i h e = absurd (omega arith)
         taken (x ∷ bots) (y ∷ commands) zero h e = refl
         taken (x ∷ bots) (y ∷ commands) (suc i) h e = ap suc (taken bots commands i (omega arith) (omega arith))
 
-    pub number_before : get_or numbers i 0 ≡ position_or_len (are_together (act (get_or bots i blank) k)) (acts (take i bots) (take i commands))
+    pub number_before : get_or numbers i 0
+        ≡ position_or_len (are_together (act (get_or bots i blank) k)) (acts (take i bots) (take i commands))
     number_before = number_is ∙ sym (first_before bots commands i b k lt lengths bi ki)
 
     -- it leads its group where the number is its place
-    pub leads_by_number : get_or numbers i 0 ≡ i → list_any (are_together (act (get_or bots i blank) k)) (acts (take i bots) (take i commands)) ≡ false
+    pub leads_by_number : get_or numbers i 0 ≡ i
+        → list_any (are_together (act (get_or bots i blank) k)) (acts (take i bots) (take i commands)) ≡ false
     leads_by_number e = by (list_any (are_together a) xs) refl
       where
         by : (t : Bool) → list_any (are_together a) xs ≡ t → t ≡ false
         by true h = absurd (let l = some_found (are_together a) xs h in let m = number_before in let o = before_are in omega arith)
         by false h = refl
 
-    pub follows_by_number : (get_or numbers i 0 ≡ i → ⊥) → list_any (are_together (act (get_or bots i blank) k)) (acts (take i bots) (take i commands)) ≡ true
+    pub follows_by_number : (get_or numbers i 0 ≡ i → ⊥)
+        → list_any (are_together (act (get_or bots i blank) k)) (acts (take i bots) (take i commands)) ≡ true
     follows_by_number e = by (list_any (are_together a) xs) refl
       where
         by : (t : Bool) → list_any (are_together a) xs ≡ t → t ≡ true

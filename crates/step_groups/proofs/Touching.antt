@@ -27,7 +27,8 @@ step false true h = omega arith
 step false false h = omega arith
 
 -- what passes one test passes the other
-pub count_more : (f g : Coord → Bool) (xs : List Coord) → ((c : Coord) → IsTrue (f c) → IsTrue (g c)) → count_by f xs ≤ count_by g xs
+pub count_more : (f g : Coord → Bool) (xs : List Coord) → ((c : Coord) → IsTrue (f c) → IsTrue (g c))
+    → count_by f xs ≤ count_by g xs
 count_more f g [] h = omega arith
 count_more f g (x ∷ xs) h =
     let a = sum_by-cons (λ c. cond {A = ℕ} (f c) 1 0) x xs in
@@ -36,7 +37,8 @@ count_more f g (x ∷ xs) h =
     let i = count_more f g xs h in
     omega (arith, a, b, e, i)
 
-pub high_within : (r : ℕ) (k : Corners) (a b : Coord) → k ≡ corners a b → IsInSpace r a → IsInSpace r b → IsInSpace r k.high
+pub high_within : (r : ℕ) (k : Corners) (a b : Coord) → k ≡ corners a b → IsInSpace r a → IsInSpace r b
+    → IsInSpace r k.high
 high_within r k a b e h i = subst (λ (l : Corners). IsInSpace r l.high) (sym e) (record { x = below r a.x b.x h.x i.x; y = below r a.y b.y h.y i.y; z = below r a.z b.z h.z i.z })
   where
     below : (r m n : ℕ) → m < r → n < r → max m n < r
@@ -45,22 +47,31 @@ high_within r k a b e h i = subst (λ (l : Corners). IsInSpace r l.high) (sym e)
 abbrev in_box : Corners → Coord → Bool
 in_box k c = is_within (span k) (point c)
 
-twice : (m : Matrix) (a : Act) → IsTrue (is_alone a.command) → IsTrue (stays_in_space m.resolution a) → touches_of m a ≡ 2 * count_by (λ c. is_volatile_of (point c) a) (all_of m)
+twice : (m : Matrix) (a : Act) → IsTrue (is_alone a.command) → IsTrue (stays_in_space m.resolution a)
+    → touches_of m a ≡ 2 * count_by (λ c. is_volatile_of (point c) a) (all_of m)
 twice m a l h = λ i. cond {A = ℕ} (l i && h i) (2 * count_by (λ c. is_volatile_of (point c) a) (all_of m)) 0
 
 -- a region has as many coordinates as its size says
-pub counted : (m : Matrix) (k : Corners) (a b : Coord) (old new : ℕ) → k ≡ corners a b → IsOrdered k → IsInSpace m.resolution a → IsInSpace m.resolution b → new ≤ old + size (span k) → new ≤ old + count_by (in_box k) (all_of m)
+pub counted : (m : Matrix) (k : Corners) (a b : Coord) (old new : ℕ) → k ≡ corners a b → IsOrdered k
+    → IsInSpace m.resolution a → IsInSpace m.resolution b → new ≤ old + size (span k)
+    → new ≤ old + count_by (in_box k) (all_of m)
 counted m k a b old new e o h i le =
     let high : IsInSpace m.resolution k.high = high_within m.resolution k a b e h i in
     omega (arith, region_count m.resolution k o high, le)
 
-pub one_read : (m : Matrix) (a : Act) (k : Corners) (old new : ℕ) → IsTrue (is_alone a.command) → IsTrue (stays_in_space m.resolution a) → ((c : Coord) → IsTrue (in_box k c) → IsTrue (is_volatile_of (point c) a)) → new ≤ old + count_by (in_box k) (all_of m) → new ≤ old + touches_of m a
+pub one_read : (m : Matrix) (a : Act) (k : Corners) (old new : ℕ) → IsTrue (is_alone a.command)
+    → IsTrue (stays_in_space m.resolution a) → ((c : Coord) → IsTrue (in_box k c) → IsTrue (is_volatile_of (point c) a))
+    → new ≤ old + count_by (in_box k) (all_of m) → new ≤ old + touches_of m a
 one_read m a k old new alone h i le =
     let e = twice m a alone h in
     let l = count_more (in_box k) (λ c. is_volatile_of (point c) a) (all_of m) i in
     omega (arith, e, l, le)
 
-pub two_reads : (m : Matrix) (a : Act) (k j : Corners) (old mid new : ℕ) → IsTrue (is_alone a.command) → IsTrue (stays_in_space m.resolution a) → ((c : Coord) → IsTrue (in_box k c) → IsTrue (is_volatile_of (point c) a)) → ((c : Coord) → IsTrue (in_box j c) → IsTrue (is_volatile_of (point c) a)) → mid ≤ old + count_by (in_box k) (all_of m) → new ≤ mid + count_by (in_box j) (all_of m) → new ≤ old + touches_of m a
+pub two_reads : (m : Matrix) (a : Act) (k j : Corners) (old mid new : ℕ) → IsTrue (is_alone a.command)
+    → IsTrue (stays_in_space m.resolution a) → ((c : Coord) → IsTrue (in_box k c) → IsTrue (is_volatile_of (point c) a))
+    → ((c : Coord) → IsTrue (in_box j c) → IsTrue (is_volatile_of (point c) a))
+    → mid ≤ old + count_by (in_box k) (all_of m) → new ≤ mid + count_by (in_box j) (all_of m)
+    → new ≤ old + touches_of m a
 two_reads m a k j old mid new alone h i n le lf =
     let e = twice m a alone h in
     let l = count_more (in_box k) (λ c. is_volatile_of (point c) a) (all_of m) i in
@@ -71,23 +82,40 @@ abbrev Covers : Corners → Span → Type 0
 Covers k s = (p : Point) → is_within (span k) p ≡ is_within s p
 
 -- a box that covers the way of a move has volatile coordinates alone
-on_way : (bot : Bot) (d : Diff) (k : Corners) (to : Coord) → point to ≡ plus (point bot.pos) d → Covers k (between (point bot.pos) (point to)) → (c : Coord) → IsTrue (in_box k c) → IsTrue (is_volatile_of (point c) (act bot (SMove d)))
+on_way : (bot : Bot) (d : Diff) (k : Corners) (to : Coord) → point to ≡ plus (point bot.pos) d
+    → Covers k (between (point bot.pos) (point to)) → (c : Coord) → IsTrue (in_box k c)
+    → IsTrue (is_volatile_of (point c) (act bot (SMove d)))
 on_way bot d k to sum covers c t = or_by_first (is_within (between (point bot.pos) (plus (point bot.pos) d)) (point c)) false (sym (covers (point c) ∙ ap (λ q. is_within (between (point bot.pos) q) (point c)) sum) ∙ t)
 
-pub smove_reads : (m : Matrix) (bot : Bot) (d : Diff) (k : Corners) (to : Coord) (old new : ℕ) → IsTrue (in_space m.resolution (plus (point bot.pos) d)) → point to ≡ plus (point bot.pos) d → Covers k (between (point bot.pos) (point to)) → new ≤ old + count_by (in_box k) (all_of m) → new ≤ old + touches_of m (act bot (SMove d))
+pub smove_reads : (m : Matrix) (bot : Bot) (d : Diff) (k : Corners) (to : Coord) (old new : ℕ)
+    → IsTrue (in_space m.resolution (plus (point bot.pos) d)) → point to ≡ plus (point bot.pos) d
+    → Covers k (between (point bot.pos) (point to)) → new ≤ old + count_by (in_box k) (all_of m)
+    → new ≤ old + touches_of m (act bot (SMove d))
 smove_reads m bot d k to old new inside sum covers most = one_read m (act bot (SMove d)) k old new refl (both_true (in_space m.resolution (plus (point bot.pos) d)) true inside refl) (on_way bot d k to sum covers) most
 
-pub smove_reads_twice : (m : Matrix) (bot : Bot) (d : Diff) (k j : Corners) (to : Coord) (old half new : ℕ) → IsTrue (in_space m.resolution (plus (point bot.pos) d)) → point to ≡ plus (point bot.pos) d → Covers k (between (point bot.pos) (point to)) → Covers j (between (point bot.pos) (point to)) → half ≤ old + count_by (in_box k) (all_of m) → new ≤ half + count_by (in_box j) (all_of m) → new ≤ old + touches_of m (act bot (SMove d))
+pub smove_reads_twice : (m : Matrix) (bot : Bot) (d : Diff) (k j : Corners) (to : Coord) (old half new : ℕ)
+    → IsTrue (in_space m.resolution (plus (point bot.pos) d)) → point to ≡ plus (point bot.pos) d
+    → Covers k (between (point bot.pos) (point to)) → Covers j (between (point bot.pos) (point to))
+    → half ≤ old + count_by (in_box k) (all_of m) → new ≤ half + count_by (in_box j) (all_of m)
+    → new ≤ old + touches_of m (act bot (SMove d))
 smove_reads_twice m bot d k j to old half new inside sum first second le lf = two_reads m (act bot (SMove d)) k j old half new refl (both_true (in_space m.resolution (plus (point bot.pos) d)) true inside refl) (on_way bot d k to sum first) (on_way bot d j to sum second) le lf
 
-pub fission_reads : (m : Matrix) (bot : Bot) (d : Diff) (n : ℕ) (k : Corners) (to : Coord) (old new : ℕ) → IsTrue (in_space m.resolution (plus (point bot.pos) d)) → point to ≡ plus (point bot.pos) d → Covers k (between (point to) (point to)) → new ≤ old + count_by (in_box k) (all_of m) → new ≤ old + touches_of m (act bot (Fission d n))
+pub fission_reads : (m : Matrix) (bot : Bot) (d : Diff) (n : ℕ) (k : Corners) (to : Coord) (old new : ℕ)
+    → IsTrue (in_space m.resolution (plus (point bot.pos) d)) → point to ≡ plus (point bot.pos) d
+    → Covers k (between (point to) (point to)) → new ≤ old + count_by (in_box k) (all_of m)
+    → new ≤ old + touches_of m (act bot (Fission d n))
 fission_reads m bot d n k to old new i e h le =
     one_read m (act bot (Fission d n)) k old new refl (both_true (in_space m.resolution (plus (point bot.pos) d)) true i refl)
     (λ c t. or_by_second (is_within (just (point bot.pos)) (point c)) (is_within (just (plus (point bot.pos) d)) (point c) || false)
     (or_by_first (is_within (just (plus (point bot.pos) d)) (point c)) false (sym (h (point c) ∙ ap (λ q. is_within (just q) (point c)) e) ∙ t)))
     le
 
-pub lmove_reads : (m : Matrix) (bot : Bot) (d e : Diff) (k j : Corners) (mid to : Coord) (old half new : ℕ) → IsTrue (in_space m.resolution (plus (point bot.pos) d)) → IsTrue (in_space m.resolution (plus (point mid) e)) → point mid ≡ plus (point bot.pos) d → point to ≡ plus (point mid) e → Covers k (between (point bot.pos) (point mid)) → Covers j (between (point mid) (point to)) → half ≤ old + count_by (in_box k) (all_of m) → new ≤ half + count_by (in_box j) (all_of m) → new ≤ old + touches_of m (act bot (LMove d e))
+pub lmove_reads : (m : Matrix) (bot : Bot) (d e : Diff) (k j : Corners) (mid to : Coord) (old half new : ℕ)
+    → IsTrue (in_space m.resolution (plus (point bot.pos) d)) → IsTrue (in_space m.resolution (plus (point mid) e))
+    → point mid ≡ plus (point bot.pos) d → point to ≡ plus (point mid) e
+    → Covers k (between (point bot.pos) (point mid)) → Covers j (between (point mid) (point to))
+    → half ≤ old + count_by (in_box k) (all_of m) → new ≤ half + count_by (in_box j) (all_of m)
+    → new ≤ old + touches_of m (act bot (LMove d e))
 lmove_reads m bot d e k j mid to old half new i n f g h l le lf =
     let P : Point = plus (point bot.pos) d in
     let Q : Point = plus P e in
@@ -99,7 +127,10 @@ lmove_reads m bot d e k j mid to old half new i n f g h l le lf =
     le lf
 
 -- the touches of the bots from a place on
-pub sum_at : (T : Act → ℕ) (bots : List Bot) (commands : List Command) (i : ℕ) (b : Bot) (k : Command) → i < length bots → length commands ≡ length bots → b ≡ get_or bots i b → k ≡ get_or commands i k → sum_by T (acts (drop i bots) (drop i commands)) ≡ T (act b k) + sum_by T (acts (drop (i + 1) bots) (drop (i + 1) commands))
+pub sum_at : (T : Act → ℕ) (bots : List Bot) (commands : List Command) (i : ℕ) (b : Bot) (k : Command) → i < length bots
+    → length commands ≡ length bots → b ≡ get_or bots i b → k ≡ get_or commands i k
+    → sum_by T (acts (drop i bots) (drop i commands))
+    ≡ T (act b k) + sum_by T (acts (drop (i + 1) bots) (drop (i + 1) commands))
 sum_at T [] commands i b k h e f g = absurd (omega arith)
 sum_at T (x ∷ bots) [] i b k h e f g = absurd (omega arith)
 sum_at T (x ∷ bots) (y ∷ commands) zero b k h e f g =

@@ -35,7 +35,10 @@ bots_left bots one = ((λ h. cc), (λ e. let none = ap length e in absurd (omega
 -- a machine's parts, which are not spent, and what is seen of them
 module _ (s : State) (commands : List Command) (steps : ℕ) (spent : Bool) (v : Situation) (e : seen s steps spent ≡ v) (stands : spent ≡ false) (began : ℕ) where
   -- a rule is broken that is judged at the start
-  pub broken_at_start : (b : Broken) (ended : ℕ) → broken s commands (steps + 1) ≡ Some b → ended ≤ began + 3 * volatile_total s.matrix (acts s.bots commands) → (length commands < length s.bots → ended ≡ began) → Stepped v (seen s steps spent) commands (Err (fault.Broken b)) began ended
+  pub broken_at_start : (b : Broken) (ended : ℕ) → broken s commands (steps + 1) ≡ Some b
+      → ended ≤ began + 3 * volatile_total s.matrix (acts s.bots commands)
+      → (length commands < length s.bots → ended ≡ began)
+      → Stepped v (seen s steps spent) commands (Err (fault.Broken b)) began ended
   broken_at_start b ended f touches ends = subst (λ (w : Situation). Stepped w (seen s steps spent) commands (Err (fault.Broken b)) began ended) e (record {
     goes = tt;
     counted = tt;
@@ -74,7 +77,8 @@ module _ (s : State) (commands : List Command) (steps : ℕ) (spent : Bool) (v :
     })
 
     -- a voxel would float, or memory is refused
-    pub not_settled : (f : StepFault) (ended : ℕ) → IsUnsettled s commands (steps + 1) f judged ended → Stepped v (seen s steps true) commands (Err f) began ended
+    pub not_settled : (f : StepFault) (ended : ℕ) → IsUnsettled s commands (steps + 1) f judged ended
+        → Stepped v (seen s steps true) commands (Err f) began ended
     not_settled fault.Spent ended h = absurd h
     not_settled fault.Memory ended h = no_memory ended
     not_settled (fault.Broken b) ended h = subst (λ (w : Situation). Stepped w (seen s steps true) commands (Err (fault.Broken b)) began ended) e (record {
@@ -119,7 +123,8 @@ module _ (s : State) (commands : List Command) (steps : ℕ) (spent : Bool) (v :
     })
 
 -- a machine that was spent before the step
-pub already_spent : (s : Situation) (commands : List Command) (n : ℕ) → s.spent ≡ true → Stepped s s commands (Err fault.Spent) n n
+pub already_spent : (s : Situation) (commands : List Command) (n : ℕ) → s.spent ≡ true
+    → Stepped s s commands (Err fault.Spent) n n
 already_spent s commands n spent = record {
   goes = tt;
   counted = tt;

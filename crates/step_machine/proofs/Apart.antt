@@ -30,7 +30,8 @@ apart_filter {X} p (x ∷ xs) h = by (p x) (apart_filter p xs h.1)
     by true r = ((λ i. h.0 (filter_in p x xs i).0), r)
     by false r = r
 
-pub apart_append : {X : Type 0} (xs ys : List X) → Apart xs → Apart ys → ((x : X) → In x xs → In x ys → ⊥) → Apart (xs ++ ys)
+pub apart_append : {X : Type 0} (xs ys : List X) → Apart xs → Apart ys → ((x : X) → In x xs → In x ys → ⊥)
+    → Apart (xs ++ ys)
 apart_append [] ys h k d = k
 apart_append {X} (x ∷ xs) ys h k d = ((λ i. by (in_either x xs ys i)), apart_append xs ys h.1 k (λ y i j. d y (inr i) j))
   where
@@ -38,7 +39,8 @@ apart_append {X} (x ∷ xs) ys h k d = ((λ i. by (in_either x xs ys i)), apart_
     by (inl i) = h.0 i
     by (inr j) = d x (inl refl) j
 
-pub apart_flat : {X Y : Type 0} (f : X → List Y) (xs : List X) → Apart xs → ((x : X) → In x xs → Apart (f x)) → ((x z : X) (y : Y) → In x xs → In z xs → In y (f x) → In y (f z) → (x ≡ z → ⊥) → ⊥) → Apart (flat_map f xs)
+pub apart_flat : {X Y : Type 0} (f : X → List Y) (xs : List X) → Apart xs → ((x : X) → In x xs → Apart (f x))
+    → ((x z : X) (y : Y) → In x xs → In z xs → In y (f x) → In y (f z) → (x ≡ z → ⊥) → ⊥) → Apart (flat_map f xs)
 apart_flat f [] h a d = tt
 apart_flat {X} {Y} f (x ∷ xs) h a d = apart_append (f x) (flat_map f xs) (a x (inl refl)) (apart_flat f xs h.1 (λ z i. a z (inr i)) (λ z w y i j k l n. d z w y (inr i) (inr j) k l n)) apart
   where

@@ -26,7 +26,8 @@ use Rattle.step_machine.proofs.Regions.{not_change}
 abbrev pub IsRegionOf : Corners → Bool → Act → Type 0
 IsRegionOf k full a = (c : Coord) → is_within (span k) (point c) ≡ is_edited full a c
 
-pub size_is : (m : Matrix) (r : ℕ) (full : Bool) (a : Act) (k : Corners) → r ≡ m.resolution → IsOrdered k → IsInSpace r k.high → IsRegionOf k full a → size (span k) ≡ edit_count m full a
+pub size_is : (m : Matrix) (r : ℕ) (full : Bool) (a : Act) (k : Corners) → r ≡ m.resolution → IsOrdered k
+    → IsInSpace r k.high → IsRegionOf k full a → size (span k) ≡ edit_count m full a
 size_is m r full a k s o h e = sym (region_count r k o h) ∙ (λ i. count_by (λ c. e c i) (coordinates (s i)))
 
 -- not many are changed
@@ -42,7 +43,11 @@ pub record AreListed (m : Matrix) (full : Bool) (a : Act) (old new : List Coord)
   pub left : spare ≤ spare_left + edit_count m full a
   pub touches : after ≤ before + edit_count m full a
 
-pub listed : (m : Matrix) (r : ℕ) (full : Bool) (a : Act) (k : Corners) (old new : List Coord) (spare left before after : ℕ) → r ≡ m.resolution → IsOrdered k → IsInSpace r k.high → IsRegionOf k full a → new ≡ old ++ filter (λ c. is_state m full c && is_within (span k) (point c)) (all_of m) → spare + length old ≤ left + length new → after ≤ before + size (span k) → AreListed m full a old new spare left before after
+pub listed : (m : Matrix) (r : ℕ) (full : Bool) (a : Act) (k : Corners) (old new : List Coord)
+    (spare left before after : ℕ) → r ≡ m.resolution → IsOrdered k → IsInSpace r k.high → IsRegionOf k full a
+    → new ≡ old ++ filter (λ c. is_state m full c && is_within (span k) (point c)) (all_of m)
+    → spare + length old ≤ left + length new → after ≤ before + size (span k)
+    → AreListed m full a old new spare left before after
 listed m r full a k old new spare left before after s o h e items room le =
     let same : new ≡ old ++ cells_of m full a = items ∙ (λ i. old ++ filter (λ c. is_state m full c && e c i) (all_of m)) in
     let long = ap length same in
@@ -56,10 +61,12 @@ void [] h = refl
 void (x ∷ xs) h = absurd (h x (inl refl))
 
 -- nothing is changed where nothing is edited
-pub no_cells : (m : Matrix) (full : Bool) (a : Act) → ((c : Coord) → false ≡ is_edited full a c) → cells_of m full a ≡ []
+pub no_cells : (m : Matrix) (full : Bool) (a : Act) → ((c : Coord) → false ≡ is_edited full a c)
+    → cells_of m full a ≡ []
 no_cells m full a e = void (cells_of m full a) (λ c i. let h = filter_in (λ d. is_state m full d && is_edited full a d) c (all_of m) i in not_both (second_of_two (is_state m full c) (is_edited full a c) h.1) (sym (e c)))
 
-pub listed_none : (m : Matrix) (full : Bool) (a : Act) (old : List Coord) (spare before : ℕ) → ((c : Coord) → false ≡ is_edited full a c) → AreListed m full a old old spare spare before before
+pub listed_none : (m : Matrix) (full : Bool) (a : Act) (old : List Coord) (spare before : ℕ)
+    → ((c : Coord) → false ≡ is_edited full a c) → AreListed m full a old old spare spare before before
 listed_none m full a old spare before e = record { items = sym (append-nil old) ∙ ap (λ cs. old ++ cs) (sym (no_cells m full a e)); left = omega arith; touches = omega arith }
 
 its_command : (a : Act) (bots : List Bot) (commands : List Command) → In a (acts bots commands) → In a.command commands
@@ -68,12 +75,14 @@ its_command a (b ∷ bots) [] i = absurd i
 its_command a (b ∷ bots) (k ∷ commands) (inl e) = inl (ap (λ (x : Act). x.command) e)
 its_command a (b ∷ bots) (k ∷ commands) (inr i) = inr (its_command a bots commands i)
 
-none_of : (m : Matrix) (full : Bool) (all : List Act) → ((a : Act) → In a all → cells_of m full a ≡ []) → cells_of_all m full all ≡ []
+none_of : (m : Matrix) (full : Bool) (all : List Act) → ((a : Act) → In a all → cells_of m full a ≡ [])
+    → cells_of_all m full all ≡ []
 none_of m full [] h = refl
 none_of m full (a ∷ all) h = rw (h a (inl refl)) (none_of m full all (λ x i. h x (inr i)))
 
 -- no voxel is changed so where no command changes so
-pub none_change : (m : Matrix) (full : Bool) (bots : List Bot) (commands : List Command) → list_any (is_change full) commands ≡ false → cells_of_all m full (leaders (acts bots commands)) ≡ []
+pub none_change : (m : Matrix) (full : Bool) (bots : List Bot) (commands : List Command)
+    → list_any (is_change full) commands ≡ false → cells_of_all m full (leaders (acts bots commands)) ≡ []
 none_change m full bots commands none =
     none_of m full (leaders (acts bots commands))
     (λ a i. no_cells m full a (not_change a.bot a.command full (any_none (is_change full) a.command commands none (its_command a bots commands (filter_in (is_leader (acts bots commands)) a (acts bots commands) i).0))))

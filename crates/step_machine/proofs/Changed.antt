@@ -37,28 +37,34 @@ axis : (a b c d v : ℤ) → ((a ≡ c) × (b ≡ d)) ⊎ ((a ≡ d) × (b ≡ c
 axis a b c d v (inl e) = λ i. is_between (e.0 i) (e.1 i) v
 axis a b c d v (inr e) = (λ i. is_between (e.0 i) (e.1 i) v) ∙ or_swapped (int_le d v && int_le v c) (int_le c v && int_le v d)
 
-shared_void : (p : Point) (c : Command) (q : Point) (e : Command) (x : Point) → share_region p c q e ≡ true → list_any (λ s. is_within s x) (voided p c) ≡ list_any (λ s. is_within s x) (voided q e)
+shared_void : (p : Point) (c : Command) (q : Point) (e : Command) (x : Point) → share_region p c q e ≡ true
+    → list_any (λ s. is_within s x) (voided p c) ≡ list_any (λ s. is_within s x) (voided q e)
 shared_void p (GFill d f) q (GFill e g) x h = refl
 shared_void p (GVoid d f) q (GVoid e g) x h = ap (λ b. b || false) (within_as (between (plus p d) (plus (plus p d) f)) (between (plus q e) (plus (plus q e) g)) x h)
 shared_void p c q e x h = cc
 
-shared_fill : (p : Point) (c : Command) (q : Point) (e : Command) (x : Point) → share_region p c q e ≡ true → list_any (λ s. is_within s x) (filled p c) ≡ list_any (λ s. is_within s x) (filled q e)
+shared_fill : (p : Point) (c : Command) (q : Point) (e : Command) (x : Point) → share_region p c q e ≡ true
+    → list_any (λ s. is_within s x) (filled p c) ≡ list_any (λ s. is_within s x) (filled q e)
 shared_fill p (GFill d f) q (GFill e g) x h = ap (λ b. b || false) (within_as (between (plus p d) (plus (plus p d) f)) (between (plus q e) (plus (plus q e) g)) x h)
 shared_fill p (GVoid d f) q (GVoid e g) x h = refl
 shared_fill p c q e x h = cc
 
-fusion_edits_not : (p : Point) (c : Command) (q : Point) (e : Command) (x : Point) → fuse p c q e ≡ true → (list_any (λ s. is_within s x) (voided p c) ≡ false) × (list_any (λ s. is_within s x) (filled p c) ≡ false) × (list_any (λ s. is_within s x) (voided q e) ≡ false) × (list_any (λ s. is_within s x) (filled q e) ≡ false)
+fusion_edits_not : (p : Point) (c : Command) (q : Point) (e : Command) (x : Point) → fuse p c q e ≡ true
+    → (list_any (λ s. is_within s x) (voided p c) ≡ false) × (list_any (λ s. is_within s x) (filled p c) ≡ false)
+    × (list_any (λ s. is_within s x) (voided q e) ≡ false) × (list_any (λ s. is_within s x) (filled q e) ≡ false)
 fusion_edits_not p (FusionP d) q (FusionS e) x h = (refl, refl, refl, refl)
 fusion_edits_not p (FusionP d) q e x h = cc
 fusion_edits_not p c q e x h = cc
 
-pub same_edit : (full : Bool) (l a : Act) (c : Coord) → (l.bot.bid ≡ a.bot.bid → l ≡ a) → Together l a → is_edited full a c ≡ true → is_edited full l c ≡ true
+pub same_edit : (full : Bool) (l a : Act) (c : Coord) → (l.bot.bid ≡ a.bot.bid → l ≡ a) → Together l a
+    → is_edited full a c ≡ true → is_edited full l c ≡ true
 same_edit full l a c bids (itself e) h = ap (λ (x : Act). is_edited full x c) (bids e) ∙ h
 same_edit true l a c bids (shares e) h = shared_void (position l) l.command (position a) a.command (point c) e ∙ h
 same_edit false l a c bids (shares e) h = shared_fill (position l) l.command (position a) a.command (point c) e ∙ h
 same_edit full l a c bids (partners e) h = by full (one_of_two (is_pair l a) (is_pair a l) e) h
   where
-    by : (full : Bool) → (is_pair l a ≡ true) ⊎ (is_pair a l ≡ true) → is_edited full a c ≡ true → is_edited full l c ≡ true
+    by : (full : Bool) → (is_pair l a ≡ true) ⊎ (is_pair a l ≡ true) → is_edited full a c ≡ true
+        → is_edited full l c ≡ true
     by true (inl f) h = absurd (not_both h (fusion_edits_not (position l) l.command (position a) a.command (point c) f).2)
     by false (inl f) h = absurd (not_both h (fusion_edits_not (position l) l.command (position a) a.command (point c) f).3)
     by true (inr f) h = absurd (not_both h (fusion_edits_not (position a) a.command (position l) l.command (point c) f).0)
@@ -78,11 +84,13 @@ module _ (s : State) (all : List Act) (good : IsGood s all) where
   leader_is : (l : Act) → In l (leaders all) → In l all
   leader_is l i = (filter_in (is_leader all) l all i).0
 
-  volatile_for : (full : Bool) (l : Act) (c : Coord) → In l (leaders all) → is_edited full l c ≡ true → is_volatile all l (point c) ≡ true
+  volatile_for : (full : Bool) (l : Act) (c : Coord) → In l (leaders all) → is_edited full l c ≡ true
+      → is_volatile all l (point c) ≡ true
   volatile_for full l c i e = in_any (is_volatile_of (point c)) l (members all l) (in_filter (are_together l) l all (leader_is l i) (with_itself l)) (edits_own full l c e)
 
   -- a leader whose group edits what some act edits
-  leader_edits : (full : Bool) (c : Coord) → is_changed full all c ≡ true → (l : Act) × In l (leaders all) × (is_edited full l c ≡ true)
+  leader_edits : (full : Bool) (c : Coord) → is_changed full all c ≡ true
+      → (l : Act) × In l (leaders all) × (is_edited full l c ≡ true)
   leader_edits full c h =
       let a = any_in (λ x. is_edited full x c) all h in
       let l = led all good.apart a.0 a.1 in
@@ -96,10 +104,12 @@ module _ (s : State) (all : List Act) (good : IsGood s all) where
       by (x ∷ xs) d = ((λ i. d.0 x i refl), by xs d.1)
 
   -- what two leaders' groups change is apart
-  never_both : (full other : Bool) (l d : Act) (c : Coord) → In l (leaders all) → In d (leaders all) → IsInSpace s.matrix.resolution c → is_edited full l c ≡ true → is_edited other d c ≡ true → (l ≡ d → ⊥) → ⊥
+  never_both : (full other : Bool) (l d : Act) (c : Coord) → In l (leaders all) → In d (leaders all)
+      → IsInSpace s.matrix.resolution c → is_edited full l c ≡ true → is_edited other d c ≡ true → (l ≡ d → ⊥) → ⊥
   never_both full other l d c i j w e f ne = good.clear l d i j ne c w (volatile_for full l c i e) (volatile_for other d c j f)
 
-  cell_is : (full : Bool) (a : Act) (c : Coord) → In c (cells_of s.matrix full a) → IsInSpace s.matrix.resolution c × (is_state s.matrix full c ≡ true) × (is_edited full a c ≡ true)
+  cell_is : (full : Bool) (a : Act) (c : Coord) → In c (cells_of s.matrix full a)
+      → IsInSpace s.matrix.resolution c × (is_state s.matrix full c ≡ true) × (is_edited full a c ≡ true)
   cell_is full a c i =
       let f = filter_in (λ x. is_state s.matrix full x && is_edited full a x) c (all_of s.matrix) i in
       (coordinates_within s.matrix.resolution c f.0, first_of_two (is_state s.matrix full c) (is_edited full a c) f.1, second_of_two (is_state s.matrix full c) (is_edited full a c) f.1)
@@ -109,22 +119,26 @@ module _ (s : State) (all : List Act) (good : IsGood s all) where
       (λ l i. apart_filter (λ c. is_state s.matrix full c && is_edited full l c) (all_of s.matrix) (apart_coordinates s.matrix.resolution))
       (λ l d c i j p q ne. let w = cell_is full l c p in never_both full full l d c i j w.0 w.2 (cell_is full d c q).2 ne)
 
-  pub cell_of : (full : Bool) (c : Coord) → In c (cells_of_all s.matrix full (leaders all)) → IsInSpace s.matrix.resolution c × (is_state s.matrix full c ≡ true) × (is_changed full all c ≡ true)
+  pub cell_of : (full : Bool) (c : Coord) → In c (cells_of_all s.matrix full (leaders all))
+      → IsInSpace s.matrix.resolution c × (is_state s.matrix full c ≡ true) × (is_changed full all c ≡ true)
   cell_of full c i =
       let r = flat_in (cells_of s.matrix full) c (leaders all) i in
       let w = cell_is full r.0 c r.2 in
       (w.0, w.1, in_any (λ a. is_edited full a c) r.0 all (leader_is r.0 r.1) w.2)
 
-  pub of_cell : (full : Bool) (c : Coord) → IsInSpace s.matrix.resolution c → is_state s.matrix full c ≡ true → is_changed full all c ≡ true → In c (cells_of_all s.matrix full (leaders all))
+  pub of_cell : (full : Bool) (c : Coord) → IsInSpace s.matrix.resolution c → is_state s.matrix full c ≡ true
+      → is_changed full all c ≡ true → In c (cells_of_all s.matrix full (leaders all))
   of_cell full c w e h =
       let l = leader_edits full c h in
       in_flat (cells_of s.matrix full) l.0 c (leaders all) l.1 (in_filter (λ x. is_state s.matrix full x && is_edited full l.0 x) c (all_of s.matrix) (in_coordinates s.matrix.resolution c w) (both e l.2))
 
   -- nothing is both voided and filled
-  pub one_way : (c : Coord) → IsInSpace s.matrix.resolution c → is_changed true all c ≡ true → is_changed false all c ≡ true → ⊥
+  pub one_way : (c : Coord) → IsInSpace s.matrix.resolution c → is_changed true all c ≡ true
+      → is_changed false all c ≡ true → ⊥
   one_way c w v f = by (leader_edits true c v) (leader_edits false c f)
     where
-      by : (l : Act) × In l (leaders all) × (is_edited true l c ≡ true) → (l : Act) × In l (leaders all) × (is_edited false l c ≡ true) → ⊥
+      by : (l : Act) × In l (leaders all) × (is_edited true l c ≡ true)
+          → (l : Act) × In l (leaders all) × (is_edited false l c ≡ true) → ⊥
       by l d = on (ℕ_discrete l.0.bot.bid d.0.bot.bid)
         where
           on : Dec (l.0.bot.bid ≡ d.0.bot.bid) → ⊥
@@ -149,7 +163,8 @@ module _ (s : State) (all : List Act) (good : IsGood s all) where
     full = λ c i. (cell_of true c (held c (cells_of_all s.matrix true (leaders all)) i)).1;
   }
 
-  pub may_add : (between : Matrix) → AreRemoved s.matrix between (cells_of_all s.matrix true (leaders all)) → MayAdd between (cells_of_all s.matrix false (leaders all))
+  pub may_add : (between : Matrix) → AreRemoved s.matrix between (cells_of_all s.matrix true (leaders all))
+      → MayAdd between (cells_of_all s.matrix false (leaders all))
   may_add between r = record {
     differ = pairs_of (cells_of_all s.matrix false (leaders all)) (cells_apart false);
     within = λ c i. subst (λ (n : ℕ). IsInSpace n c) (sym r.resolution) (cell_of false c (held c (cells_of_all s.matrix false (leaders all)) i)).0;
@@ -159,13 +174,15 @@ module _ (s : State) (all : List Act) (good : IsGood s all) where
   -- ---- what it comes to
 
   module _ (between : Matrix) (lost : AreRemoved s.matrix between (cells_of_all s.matrix true (leaders all))) where
-    is_left : (c : Coord) → IsInSpace s.matrix.resolution c → is_full between c ≡ true → (is_full s.matrix c && not (is_voided all c)) ≡ true
+    is_left : (c : Coord) → IsInSpace s.matrix.resolution c → is_full between c ≡ true
+        → (is_full s.matrix c && not (is_voided all c)) ≡ true
     is_left c w f = both (lost.full c f) (ap not (false_by (is_voided all c) (λ v. not_both f (lost.gone c (holds c (cells_of_all s.matrix true (leaders all)) (of_cell true c w (lost.full c f) v))))))
 
     left_is : (c : Coord) → is_full s.matrix c ≡ true → (is_voided all c ≡ true → ⊥) → is_full between c ≡ true
     left_is c f n = by (lost.kept c f)
       where
-        by : IsTrue (is_full between c) ⊎ Contains (cells_of_all s.matrix true (leaders all)) c → is_full between c ≡ true
+        by : IsTrue (is_full between c) ⊎ Contains (cells_of_all s.matrix true (leaders all)) c
+            → is_full between c ≡ true
         by (inl e) = e
         by (inr i) = absurd (n (cell_of true c (held c (cells_of_all s.matrix true (leaders all)) i)).2)
 
@@ -178,14 +195,17 @@ module _ (s : State) (all : List Act) (good : IsGood s all) where
         (λ e. left_is c (first_of_two (is_full s.matrix c) (not (is_voided all c)) e) (λ v. not_both (second_of_two (is_full s.matrix c) (not (is_voided all c)) e) (ap not v)))))
 
     module _ (new : Matrix) (won : AreAdded between new (cells_of_all s.matrix false (leaders all))) where
-      there : (c : Coord) → IsInSpace s.matrix.resolution c → is_full new c ≡ true → (is_filled all c || (is_full s.matrix c && not (is_voided all c))) ≡ true
+      there : (c : Coord) → IsInSpace s.matrix.resolution c → is_full new c ≡ true
+          → (is_filled all c || (is_full s.matrix c && not (is_voided all c))) ≡ true
       there c w f = by (won.full c f)
         where
-          by : IsTrue (is_full between c) ⊎ Contains (cells_of_all s.matrix false (leaders all)) c → (is_filled all c || (is_full s.matrix c && not (is_voided all c))) ≡ true
+          by : IsTrue (is_full between c) ⊎ Contains (cells_of_all s.matrix false (leaders all)) c
+              → (is_filled all c || (is_full s.matrix c && not (is_voided all c))) ≡ true
           by (inl e) = or_by_second (is_filled all c) (is_full s.matrix c && not (is_voided all c)) (is_left c w e)
           by (inr i) = or_by_first (is_filled all c) (is_full s.matrix c && not (is_voided all c)) (cell_of false c (held c (cells_of_all s.matrix false (leaders all)) i)).2
 
-      back : (c : Coord) → IsInSpace s.matrix.resolution c → (is_filled all c ≡ true) ⊎ ((is_full s.matrix c && not (is_voided all c)) ≡ true) → is_full new c ≡ true
+      back : (c : Coord) → IsInSpace s.matrix.resolution c
+          → (is_filled all c ≡ true) ⊎ ((is_full s.matrix c && not (is_voided all c)) ≡ true) → is_full new c ≡ true
       back c w (inl e) = by (true_or_false (is_full s.matrix c))
         where
           by : (is_full s.matrix c ≡ true) ⊎ (is_full s.matrix c ≡ false) → is_full new c ≡ true

@@ -9,7 +9,8 @@ use Rattle.step_machine.specs.Settling.{IsDeclined}
 use Rattle.step_machine.specs.Situation.{Situation}
 use Rattle.step_machine.proofs.Stepping.{seen}
 
-pub declined_few : (s : State) (commands : List Command) (step began ended : ℕ) → IsDeclined s commands step began ended → ended ≤ began + 9
+pub declined_few : (s : State) (commands : List Command) (step began ended : ℕ) → IsDeclined s commands step began ended
+    → ended ≤ began + 9
 declined_few s commands step began ended (inl e) = omega arith
 declined_few s commands step began ended (inr h) = h.1
 

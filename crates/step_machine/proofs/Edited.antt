@@ -47,7 +47,8 @@ none_pass test [] = refl
 none_pass test (x ∷ xs) = rw (and_false (test x) false (λ e. cc)) (none_pass test xs)
 
 -- the cells of a step are those of the only bot
-one_edit : (s : State) (b : Bot) (k : Command) (full : Bool) → s.bots ≡ b ∷ [] → edits_of s (k ∷ []) full ≡ cells_of s.matrix full (act b k)
+one_edit : (s : State) (b : Bot) (k : Command) (full : Bool) → s.bots ≡ b ∷ []
+    → edits_of s (k ∷ []) full ≡ cells_of s.matrix full (act b k)
 one_edit s b k full only =
     ap (λ (bots : List Bot). cells_of_all s.matrix full (leaders (acts bots (k ∷ [])))) only
     ∙ (ap (cells_of_all s.matrix full) (single_leaders b k) ∙ append-nil (cells_of s.matrix full (act b k)))
@@ -56,7 +57,9 @@ module _ (m : Matrix) (b : Bot) (d : Diff) (at : Coord) (named : point at ≡ pl
   here : (c : Coord) → (is_within (just (plus (point b.pos) d)) (point c) || false) ≡ same_point (point c) (point at)
   here c = or_false (is_within (just (plus (point b.pos) d)) (point c)) ∙ (within_just (plus (point b.pos) d) (point c) ∙ ap (same_point (point c)) (sym named))
 
-  cell_by : (test : Coord → Bool) → filter (λ c. test c && (is_within (just (plus (point b.pos) d)) (point c) || false)) (all_of m) ≡ cond (test at) (at ∷ []) []
+  cell_by : (test : Coord → Bool)
+      → filter (λ c. test c && (is_within (just (plus (point b.pos) d)) (point c) || false)) (all_of m)
+      ≡ cond (test at) (at ∷ []) []
   cell_by test =
       ap (λ (f : Coord → Bool). filter (λ c. test c && f c) (all_of m)) (λ i c. here c i)
       ∙ (only_one m.resolution (λ c. test c && same_point (point c) (point at)) at stays (λ c ne. and_false (test c) (same_point (point c) (point at)) (λ h. ne (same_point-is c at h)))
@@ -76,7 +79,8 @@ module _ (m : Matrix) (b : Bot) (d : Diff) (at : Coord) (named : point at ≡ pl
   counted_there : count_by (λ c. is_within (just (plus (point b.pos) d)) (point c) || false) (all_of m) ≡ 1
   counted_there = sym (length-filter (λ c. is_within (just (plus (point b.pos) d)) (point c) || false) (all_of m)) ∙ ap length cell_there
 
-  one_counted : (full : Bool) → 1 ≤ edit_count m true (act b (edit_of full d)) + edit_count m false (act b (edit_of full d))
+  one_counted : (full : Bool)
+      → 1 ≤ edit_count m true (act b (edit_of full d)) + edit_count m false (act b (edit_of full d))
   one_counted true = let e = counted_there in omega (arith, e)
   one_counted false = let e = counted_there in omega (arith, e)
 
@@ -102,12 +106,14 @@ part_void false true cell e f = (refl, refl)
 part_void false false cell e f = cc
 
 module _ (s : State) (d : Diff) (at : Coord) (full : Bool) (commands : List Command) (one : length s.bots ≡ 1) (command : commands ≡ edit_of full d ∷ []) (named : (b : Bot) → s.bots ≡ b ∷ [] → point at ≡ plus (point b.pos) d) (stays : IsInSpace s.matrix.resolution at) where
-  pub removed_are : (was : Bool) (cell now : List Coord) → was ≡ is_full s.matrix at → cell ≡ at ∷ [] → now ≡ cond (not full && was) cell [] → now ≡ edits_of s commands true
+  pub removed_are : (was : Bool) (cell now : List Coord) → was ≡ is_full s.matrix at → cell ≡ at ∷ []
+      → now ≡ cond (not full && was) cell [] → now ≡ edits_of s commands true
   removed_are was cell now e f g =
       let o = only_bot s.bots one in
       g ∙ ((λ i. cond (not full && e i) (f i) []) ∙ (sym (removed s.matrix o.0 d at (named o.0 o.1) stays full) ∙ (sym (one_edit s o.0 (edit_of full d) true o.1) ∙ ap (λ ks. edits_of s ks true) (sym command))))
 
-  pub added_are : (was : Bool) (cell now : List Coord) → was ≡ is_full s.matrix at → cell ≡ at ∷ [] → now ≡ cond (full && not was) cell [] → now ≡ edits_of s commands false
+  pub added_are : (was : Bool) (cell now : List Coord) → was ≡ is_full s.matrix at → cell ≡ at ∷ []
+      → now ≡ cond (full && not was) cell [] → now ≡ edits_of s commands false
   added_are was cell now e f g =
       let o = only_bot s.bots one in
       g ∙ ((λ i. cond (full && not (e i)) (f i) []) ∙ (sym (added s.matrix o.0 d at (named o.0 o.1) stays full) ∙ (sym (one_edit s o.0 (edit_of full d) false o.1) ∙ ap (λ ks. edits_of s ks false) (sym command))))
@@ -117,12 +123,14 @@ module _ (s : State) (d : Diff) (at : Coord) (full : Bool) (commands : List Comm
       let o = only_bot s.bots one in
       by full ∙ (ap (λ (bots : List Bot). harmonics_after s.harmonics (acts bots (edit_of full d ∷ []))) (sym o.1) ∙ ap (λ ks. (after s ks).harmonics) (sym command))
     where
-      by : (f : Bool) → s.harmonics ≡ harmonics_after s.harmonics (acts ((only_bot s.bots one).0 ∷ []) (edit_of f d ∷ []))
+      by : (f : Bool)
+          → s.harmonics ≡ harmonics_after s.harmonics (acts ((only_bot s.bots one).0 ∷ []) (edit_of f d ∷ []))
       by true = refl
       by false = refl
 
   -- the voxel is volatile
-  pub one_volatile : (step : ℕ) → IsReady s → broken s commands step ≡ None → 1 ≤ volatile_total s.matrix (acts s.bots commands)
+  pub one_volatile : (step : ℕ) → IsReady s → broken s commands step ≡ None
+      → 1 ≤ volatile_total s.matrix (acts s.bots commands)
   one_volatile step ready keeps =
       let o = only_bot s.bots one in
       let v = edits_are_volatile s commands step ready keeps in
@@ -141,7 +149,8 @@ module _ (s : State) (d : Diff) (at : Coord) (full : Bool) (commands : List Comm
     won_as : (now : List Coord) → now ≡ cond (full && not was) (at ∷ []) [] → now ≡ edits_of s commands false
     won_as now e = added_are was (at ∷ []) now found refl e
 
-    paid_for : (before listed : ℕ) → listed ≤ before + 10 → listed ≤ before + 96 * volatile_total s.matrix (acts s.bots commands)
+    paid_for : (before listed : ℕ) → listed ≤ before + 10
+        → listed ≤ before + 96 * volatile_total s.matrix (acts s.bots commands)
     paid_for before listed l = let v = one_volatile step ready keeps in omega (arith, v, l)
 
     -- the voxel may become full, or else void, where it is otherwise
@@ -158,10 +167,14 @@ module _ (s : State) (d : Diff) (at : Coord) (full : Bool) (commands : List Comm
 
     module _ (forest : Standing) (before listed after : ℕ) (stands : forest.spent ≡ false) (once : listed ≤ before + 10) where
       -- and then the forest is that of the step's state
-      pub changed_refitted : beq was full ≡ false → MatchBool full (AreAdded old forest.matrix (at ∷ [])) (AreRemoved old forest.matrix (at ∷ [])) → IsCheap old forest.matrix (at ∷ []) 100 listed after → IsRefitted s commands forest before after
+      pub changed_refitted : beq was full ≡ false
+          → MatchBool full (AreAdded old forest.matrix (at ∷ [])) (AreRemoved old forest.matrix (at ∷ []))
+          → IsCheap old forest.matrix (at ∷ []) 100 listed after → IsRefitted s commands forest before after
       changed_refitted other changed cheap = by full refl changed
         where
-          by : (f : Bool) → full ≡ f → MatchBool f (AreAdded old forest.matrix (at ∷ [])) (AreRemoved old forest.matrix (at ∷ [])) → IsRefitted s commands forest before after
+          by : (f : Bool) → full ≡ f
+              → MatchBool f (AreAdded old forest.matrix (at ∷ [])) (AreRemoved old forest.matrix (at ∷ []))
+              → IsRefitted s commands forest before after
           by true e won =
               let part = part_full full was (at ∷ []) other e in
               is_refitted s commands step ready keeps old old forest [] (at ∷ []) before listed listed after tied (lost_as [] part.0) (won_as (at ∷ []) part.1) (paid_for before listed once)
@@ -172,7 +185,8 @@ module _ (s : State) (d : Diff) (at : Coord) (full : Bool) (commands : List Comm
               lost cheap (won_none forest.matrix lost.whole) (cheap_none forest.matrix forest.matrix after) stands
 
       -- and it is so already where the voxel is as it is to be
-      pub kept_refitted : beq was full ≡ true → forest.matrix ≡ old → after ≡ listed → IsRefitted s commands forest before after
+      pub kept_refitted : beq was full ≡ true → forest.matrix ≡ old → after ≡ listed
+          → IsRefitted s commands forest before after
       kept_refitted same kept end =
           let part = part_same full was (at ∷ []) same in
           let m = forest.matrix in
@@ -181,7 +195,9 @@ module _ (s : State) (d : Diff) (at : Coord) (full : Bool) (commands : List Comm
           (lost_none m whole_too) (cheap_none m m listed) (won_none m whole_too) (λ first last f l. let c = cheap_none m m listed first last f l in omega (arith, c, end)) stands
 
   -- the forest is that of the step's state, and each voxel in it is held up where it has to be
-  pub settled_by : (step : ℕ) → broken s commands step ≡ None → (forest : Standing) (before after : ℕ) → IsRefitted s commands forest before after → (s.harmonics ≡ Low → FirstUngrounded forest.matrix None) → IsSettled s commands step forest before after
+  pub settled_by : (step : ℕ) → broken s commands step ≡ None → (forest : Standing) (before after : ℕ)
+      → IsRefitted s commands forest before after → (s.harmonics ≡ Low → FirstUngrounded forest.matrix None)
+      → IsSettled s commands step forest before after
   settled_by step keeps forest before ended r held = record {
     goes = goes s _ commands step s.harmonics forest.matrix None keeps (record { harmonics_is = harmonics_stay; matrix_is = r.matrix; found = found s.harmonics refl }) refl refl;
     tied = r.matrix;
@@ -189,6 +205,7 @@ module _ (s : State) (d : Diff) (at : Coord) (full : Bool) (commands : List Comm
     touches = r.touches;
   }
     where
-      found : (h : Harmonics) → s.harmonics ≡ h → MatchBool (is_high h) ((let at : Option Coord = None in at) ≡ None) (FirstUngrounded forest.matrix None)
+      found : (h : Harmonics) → s.harmonics ≡ h
+          → MatchBool (is_high h) ((let at : Option Coord = None in at) ≡ None) (FirstUngrounded forest.matrix None)
       found High e = refl
       found Low e = held e

@@ -32,7 +32,8 @@ refused_declined e = cc
 pub spent_memory : {A : Type 0} → ◌≡◌ {A = Result StepOk StepFault} (Err fault.Spent) (Err fault.Memory) → A
 spent_memory e = cc
 
-pub broken_memory : {A : Type 0} (b : Broken) → ◌≡◌ {A = Result StepOk StepFault} (Err (fault.Broken b)) (Err fault.Memory) → A
+pub broken_memory : {A : Type 0} (b : Broken)
+    → ◌≡◌ {A = Result StepOk StepFault} (Err (fault.Broken b)) (Err fault.Memory) → A
 broken_memory b e = cc
 
 pub made_memory : {A : Type 0} (ok : StepOk) → ◌≡◌ {A = Result StepOk StepFault} (Ok ok) (Err fault.Memory) → A
@@ -42,13 +43,17 @@ pub same_fault : (f g : StepFault) → ◌≡◌ {A = Result StepOk StepFault} (
 same_fault f g e = cc
 
 -- a list of one command is that command
-pub only_command : (commands : List Command) (command : Command) → length commands ≡ 1 → command ≡ get_or commands 0 command → commands ≡ command ∷ []
+pub only_command : (commands : List Command) (command : Command) → length commands ≡ 1
+    → command ≡ get_or commands 0 command → commands ≡ command ∷ []
 only_command [] command l e = absurd (omega arith)
 only_command (k ∷ []) command l e = ap (λ (c : Command). c ∷ []) (sym e)
 only_command (k ∷ m ∷ more) command l e = absurd (omega arith)
 
 -- what the only bot's step has done, as the answer to the commands of a step
-pub made_alone : (old new : Situation) (commands : List Command) (command : Command) (energy : ℤ) (fault : StepFault) (began ended : ℕ) → commands ≡ command ∷ [] → energy ≡ new.state.energy → Stepped old new (command ∷ []) (answer_of true new.state fault) began ended → Stepped old new commands (Ok (record { energy = energy; halted = false })) began ended
+pub made_alone : (old new : Situation) (commands : List Command) (command : Command) (energy : ℤ) (fault : StepFault)
+    (began ended : ℕ) → commands ≡ command ∷ [] → energy ≡ new.state.energy
+    → Stepped old new (command ∷ []) (answer_of true new.state fault) began ended
+    → Stepped old new commands (Ok (record { energy = energy; halted = false })) began ended
 made_alone old new commands command energy fault began ended one paid made =
     subst (λ (ks : List Command). Stepped old new ks (Ok (record { energy = energy; halted = false })) began ended) (sym one)
     (subst (λ (z : ℤ). Stepped old new (command ∷ []) (Ok (record { energy = z; halted = false })) began ended) (sym paid) made)

@@ -45,7 +45,8 @@ voids_is_edit p (GFill d f) s h = refl
 voids_is_edit p (GVoid d f) s h = refl
 voids_is_edit p k s h = cc
 
-pub voided_region_is : (m : Matrix) (r : ℕ) (b : Bot) (command : Command) (w : EditedRegion) → r ≡ m.resolution → IsEditedRegion r b command w → w.full ≡ false → IsVoidedRegion m (act b command) w.region
+pub voided_region_is : (m : Matrix) (r : ℕ) (b : Bot) (command : Command) (w : EditedRegion) → r ≡ m.resolution
+    → IsEditedRegion r b command w → w.full ≡ false → IsVoidedRegion m (act b command) w.region
 voided_region_is m r b command w e h v =
     let region : IsRegionOf w.region true (act b command) = edits_region r b command w true h (ap (λ f. beq f true) v) in
     record {
@@ -93,7 +94,8 @@ module _ (s : State) (commands : List Command) (step : ℕ) (ready : IsReady s) 
           let w = h.voids.within in
           record { x = omega (arith, q.x_high, w.x); y = omega (arith, q.y_high, w.y); z = omega (arith, q.z_high, w.z) }
 
-      there : (c : Coord) → IsTrue (is_full s.matrix c) → IsTrue (is_within (span k) (point c)) → In c (edits_of s commands true)
+      there : (c : Coord) → IsTrue (is_full s.matrix c) → IsTrue (is_within (span k) (point c))
+          → In c (edits_of s commands true)
       there c f p =
           subst (λ (xs : List Coord). In c xs) (sym (edits_are true))
           (in_filter (λ x. is_state s.matrix true x && is_edited true h.leader x) c (all_of s.matrix) (in_coordinates s.matrix.resolution c (inside c p)) (both f (sym (h.voids.covers c) ∙ p)))
@@ -109,7 +111,9 @@ module _ (s : State) (commands : List Command) (step : ℕ) (ready : IsReady s) 
       let t : edits_total s.matrix true (leaders (acts s.bots commands)) ≡ edit_count s.matrix true h.leader + 0 = ap (edits_total s.matrix true) h.only ∙ sum_by-cons (edit_count s.matrix true) h.leader [] in
       omega (arith, v, t, h.voids.count)
 
-  pub region_refitted : (old : Matrix) (forest : Standing) (before after : ℕ) → old ≡ s.matrix → IsVoided old forest.matrix (span k) → IsVoidedCheaply old forest.matrix (span k) before after → forest.spent ≡ false → IsRefitted s commands forest before after
+  pub region_refitted : (old : Matrix) (forest : Standing) (before after : ℕ) → old ≡ s.matrix
+      → IsVoided old forest.matrix (span k) → IsVoidedCheaply old forest.matrix (span k) before after
+      → forest.spent ≡ false → IsRefitted s commands forest before after
   region_refitted old forest before after e v t stands =
       let n = small in
       let lost = lost_is forest.matrix (subst (λ (m : Matrix). IsVoided m forest.matrix (span k)) e v) in

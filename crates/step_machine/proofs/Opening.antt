@@ -7,6 +7,7 @@ use Rattle.nano_spec.specs.State.{first_bot, origin}
 use Rattle.nano_spec.specs.Matrix.{Matrix, is_full}
 
 -- the first bot stands in a void voxel
-pub first_stands : (m : Matrix) (profile : Profile) → IsFalse (is_full m origin) → All (λ (b : Bot). IsFalse (is_full m b.pos)) (first_bot profile ∷ [])
+pub first_stands : (m : Matrix) (profile : Profile) → IsFalse (is_full m origin)
+    → All (λ (b : Bot). IsFalse (is_full m b.pos)) (first_bot profile ∷ [])
 first_stands m profile h zero d l = h
 first_stands m profile h (suc i) d l = absurd (omega arith)

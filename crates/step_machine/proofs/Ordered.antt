@@ -13,10 +13,14 @@ use Rattle.nano_spec.proofs.Accepted.{accepted_step}
 abbrev pub OrderLaw : Type 0
 OrderLaw = (s : State) (commands : List Command) (step : ℕ) (order : List ℕ) → IsReady s → broken s commands step ≡ None → IsPermutation (leader_bids (acts s.bots commands)) order → serial s commands order ≡ Some (after s commands)
 
-serial_is : (law : OrderLaw) (s t : State) (commands : List Command) (step : ℕ) (order : List ℕ) → IsReady s → IsPermutation (leader_bids (acts s.bots commands)) order → Next s commands step (Goes t) → serial s commands order ≡ Some t
+serial_is : (law : OrderLaw) (s t : State) (commands : List Command) (step : ℕ) (order : List ℕ) → IsReady s
+    → IsPermutation (leader_bids (acts s.bots commands)) order → Next s commands step (Goes t)
+    → serial s commands order ≡ Some t
 serial_is law s t commands step order ready permuted next = let a = accepted_step s t commands step next in law s commands step order ready a.keeps permuted ∙ ap Some (sym a.is)
 
 -- where a step was made
-pub made_in_order : {A E : Type 0} (law : OrderLaw) (s t : State) (commands : List Command) (step : ℕ) (order : List ℕ) → IsReady s → IsPermutation (leader_bids (acts s.bots commands)) order → (r : Result A E) → IfOk r (λ _. Next s commands step (Goes t)) → IfOk r (λ _. serial s commands order ≡ Some t)
+pub made_in_order : {A E : Type 0} (law : OrderLaw) (s t : State) (commands : List Command) (step : ℕ) (order : List ℕ)
+    → IsReady s → IsPermutation (leader_bids (acts s.bots commands)) order → (r : Result A E)
+    → IfOk r (λ _. Next s commands step (Goes t)) → IfOk r (λ _. serial s commands order ≡ Some t)
 made_in_order law s t commands step order ready permuted (Ok x) next = serial_is law s t commands step order ready permuted next
 made_in_order law s t commands step order ready permuted (Err e) next = tt

@@ -36,14 +36,16 @@ full_reached : (m : Matrix) (n : ℕ) (c : Coord) → reached m n c ≡ true →
 full_reached m zero c h = first_of_two (is_full m c) (c.y == 0) h
 full_reached m (suc n) c h = by (one_of_two (reached m n c) (is_held m n c) h) (full_reached m n c)
   where
-    by : (reached m n c ≡ true) ⊎ (is_held m n c ≡ true) → (reached m n c ≡ true → is_full m c ≡ true) → is_full m c ≡ true
+    by : (reached m n c ≡ true) ⊎ (is_held m n c ≡ true) → (reached m n c ≡ true → is_full m c ≡ true)
+        → is_full m c ≡ true
     by (inl e) before = before e
     by (inr e) before = first_of_two (is_full m c) (list_any (holds m n c) (all_of m)) e
 
 listed : (m : Matrix) (c : Coord) → is_full m c ≡ true → In c (all_of m)
 listed m c h = in_coordinates m.resolution c (space_by_test m.resolution c (first_of_two (in_space m.resolution (point c)) _ h))
 
-held : (m : Matrix) (n : ℕ) (c d : Coord) → is_full m c ≡ true → are_adjacent c d ≡ true → reached m n d ≡ true → reached m (suc n) c ≡ true
+held : (m : Matrix) (n : ℕ) (c d : Coord) → is_full m c ≡ true → are_adjacent c d ≡ true → reached m n d ≡ true
+    → reached m (suc n) c ≡ true
 held m n c d f a h = or_by_second (reached m n c) (is_held m n c) (both f (in_any (holds m n c) d (all_of m) (listed m d (full_reached m n d h)) (both a h)))
 
 -- ---- paths
@@ -55,7 +57,8 @@ path_of : (m : Matrix) (n : ℕ) (c : Coord) → reached m n c ≡ true → Path
 path_of m zero c h = ([], h, omega arith)
 path_of m (suc n) c h = by (one_of_two (reached m n c) (is_held m n c) h) (path_of m n)
   where
-    by : (reached m n c ≡ true) ⊎ (is_held m n c ≡ true) → ((d : Coord) → reached m n d ≡ true → PathOf m d n) → PathOf m c (suc n)
+    by : (reached m n c ≡ true) ⊎ (is_held m n c ≡ true) → ((d : Coord) → reached m n d ≡ true → PathOf m d n)
+        → PathOf m c (suc n)
     by (inl e) before = let p = before c e in (p.0, p.1, (let l = p.2 in omega arith))
     by (inr e) before =
         let d = any_in (holds m n c) (all_of m) (second_of_two (is_full m c) (list_any (holds m n c) (all_of m)) e) in
@@ -64,7 +67,8 @@ path_of m (suc n) c h = by (one_of_two (reached m n c) (is_held m n c) h) (path_
         let near : are_adjacent c d.0 ≡ true = first_of_two (are_adjacent c d.0) (reached m n d.0) d.2 in
         (d.0 ∷ p.0, both (both full near) p.1, (let l = p.2 in omega arith))
 
-reached_by : (m : Matrix) (n : ℕ) (a : Coord) (path : List Coord) → IsTrue (is_path m (a ∷ path)) → length path ≤ n → reached m n a ≡ true
+reached_by : (m : Matrix) (n : ℕ) (a : Coord) (path : List Coord) → IsTrue (is_path m (a ∷ path)) → length path ≤ n
+    → reached m n a ≡ true
 reached_by m zero a [] p l = p
 reached_by m zero a (b ∷ path) p l = absurd (omega arith)
 reached_by m (suc n) a [] p l = or_by_first (reached m n a) (is_held m n a) (reached_by m n a [] p (omega arith))
@@ -74,13 +78,15 @@ reached_by m (suc n) a (b ∷ path) p l =
     (reached_by m n b path (second_of_two (is_full m a && are_adjacent a b) (is_path m (b ∷ path)) p) (omega arith))
 
 -- no path of at most n + 1 voxels leads from what they do not hold up
-too_short : (m : Matrix) (n : ℕ) (a : Coord) (path : List Coord) → reached m n a ≡ false → IsTrue (is_path m (a ∷ path)) → n < length path
+too_short : (m : Matrix) (n : ℕ) (a : Coord) (path : List Coord) → reached m n a ≡ false → IsTrue (is_path m (a ∷ path))
+    → n < length path
 too_short m n a path f p = elim (cases_lt n (length path)) [ inl l ↦ l | inr l ↦ absurd (not_both (reached_by m n a path p l) f) ]
 
 begins : (c a : Coord) (path : List Coord) (m : Matrix) → IsTrue (is_path_from m c (a ∷ path)) → c ≡ a
 begins c a path m p = coordinate_by_test c a (first_of_two (same_point (point c) (point a)) (is_path m (a ∷ path)) p)
 
-longer : (m : Matrix) (n : ℕ) (c : Coord) → reached m n c ≡ false → (path : List Coord) → IsTrue (is_path_from m c path) → suc n < length path
+longer : (m : Matrix) (n : ℕ) (c : Coord) → reached m n c ≡ false → (path : List Coord) → IsTrue (is_path_from m c path)
+    → suc n < length path
 longer m n c f [] p = cc
 longer m n c f (a ∷ path) p =
     let l : n < length path = too_short m n a path (ap (reached m n) (sym (begins c a path m p)) ∙ f) (second_of_two (same_point (point c) (point a)) (is_path m (a ∷ path)) p) in
@@ -88,10 +94,12 @@ longer m n c f (a ∷ path) p =
 
 -- ---- the level is the least such number
 
-from_itself : (m : Matrix) (c : Coord) (more : List Coord) → IsTrue (is_path m (c ∷ more)) → IsTrue (is_path_from m c (c ∷ more))
+from_itself : (m : Matrix) (c : Coord) (more : List Coord) → IsTrue (is_path m (c ∷ more))
+    → IsTrue (is_path_from m c (c ∷ more))
 from_itself m c more p = both (same_point_itself c) p
 
-level_least : (m : Matrix) (n : ℕ) (c : Coord) → reached m (suc n) c ≡ true → reached m n c ≡ false → Level m c (Some (suc n))
+level_least : (m : Matrix) (n : ℕ) (c : Coord) → reached m (suc n) c ≡ true → reached m n c ≡ false
+    → Level m c (Some (suc n))
 level_least m n c h f =
     let p = path_of m (suc n) c h in
     let least : n < length p.0 = too_short m n c p.0 f p.1 in
@@ -106,7 +114,8 @@ level_some m zero c h = (0, ((c ∷ [], from_itself m c [] h, refl), some))
     some (a ∷ path) p = omega arith
 level_some m (suc n) c h = by (true_or_false (reached m n c)) (level_some m n c)
   where
-    by : (reached m n c ≡ true) ⊎ (reached m n c ≡ false) → (reached m n c ≡ true → (level : ℕ) × Level m c (Some level)) → (level : ℕ) × Level m c (Some level)
+    by : (reached m n c ≡ true) ⊎ (reached m n c ≡ false)
+        → (reached m n c ≡ true → (level : ℕ) × Level m c (Some level)) → (level : ℕ) × Level m c (Some level)
     by (inl e) before = before e
     by (inr e) before = (suc n, level_least m n c h e)
 
@@ -115,7 +124,8 @@ level_some m (suc n) c h = by (true_or_false (reached m n c)) (level_some m n c)
 abbrev Stays : Matrix → ℕ → Type 0
 Stays m n = (c : Coord) → reached m (suc n) c ≡ true → reached m n c ≡ true
 
-reached_all : (m : Matrix) (n : ℕ) → Stays m n → (a : Coord) (path : List Coord) → IsTrue (is_path m (a ∷ path)) → reached m n a ≡ true
+reached_all : (m : Matrix) (n : ℕ) → Stays m n → (a : Coord) (path : List Coord) → IsTrue (is_path m (a ∷ path))
+    → reached m n a ≡ true
 reached_all m n stays a [] p = reached_by m n a [] p (omega arith)
 reached_all m n stays a (b ∷ path) p =
     let step : (is_full m a && are_adjacent a b) ≡ true = first_of_two (is_full m a && are_adjacent a b) (is_path m (b ∷ path)) p in
@@ -137,13 +147,15 @@ stays_from m n e c h = by (true_or_false (reached m n c))
     by (inl f) = f
     by (inr f) = absurd (not_both (both h (ap not f)) (any_none (is_new m n) c (all_of m) e (listed m c (full_reached m (suc n) c h))))
 
-more_reached : (m : Matrix) (n : ℕ) → list_any (is_new m n) (all_of m) ≡ true → count_by (reached m n) (all_of m) + 1 ≤ count_by (reached m (suc n)) (all_of m)
+more_reached : (m : Matrix) (n : ℕ) → list_any (is_new m n) (all_of m) ≡ true
+    → count_by (reached m n) (all_of m) + 1 ≤ count_by (reached m (suc n)) (all_of m)
 more_reached m n e =
     let d = any_in (is_new m n) (all_of m) e in
     count_more m.resolution (reached m n) (reached m (suc n)) (λ c h. or_by_first (reached m n c) (is_held m n c) h) d.0 (coordinates_within m.resolution d.0 d.1)
     (not_is_true (reached m n d.0) (second_of_two (reached m (suc n) d.0) (not (reached m n d.0)) d.2)) (first_of_two (reached m (suc n) d.0) (not (reached m n d.0)) d.2)
 
-settles : (m : Matrix) (rounds n : ℕ) → length (all_of m) ≤ count_by (reached m n) (all_of m) + rounds → (k : ℕ) × Stays m k
+settles : (m : Matrix) (rounds n : ℕ) → length (all_of m) ≤ count_by (reached m n) (all_of m) + rounds
+    → (k : ℕ) × Stays m k
 settles m zero n l = by (true_or_false (list_any (is_new m n) (all_of m)))
   where
     by : (list_any (is_new m n) (all_of m) ≡ true) ⊎ (list_any (is_new m n) (all_of m) ≡ false) → (k : ℕ) × Stays m k
@@ -154,7 +166,9 @@ settles m zero n l = by (true_or_false (list_any (is_new m n) (all_of m)))
     by (inr e) = (n, stays_from m n e)
 settles m (suc rounds) n l = by (true_or_false (list_any (is_new m n) (all_of m))) (settles m rounds (suc n))
   where
-    by : (list_any (is_new m n) (all_of m) ≡ true) ⊎ (list_any (is_new m n) (all_of m) ≡ false) → (length (all_of m) ≤ count_by (reached m (suc n)) (all_of m) + rounds → (k : ℕ) × Stays m k) → (k : ℕ) × Stays m k
+    by : (list_any (is_new m n) (all_of m) ≡ true) ⊎ (list_any (is_new m n) (all_of m) ≡ false)
+        → (length (all_of m) ≤ count_by (reached m (suc n)) (all_of m) + rounds → (k : ℕ) × Stays m k)
+        → (k : ℕ) × Stays m k
     by (inl e) later = later (let more = more_reached m n e in omega (arith, more, l))
     by (inr e) later = (n, stays_from m n e)
 
@@ -183,7 +197,8 @@ IsHeldUp m c = IsTrue (is_full m c) → Grounded m c
 held_or_not : (m : Matrix) (c : Coord) → IsHeldUp m c ⊎ (IsHeldUp m c → ⊥)
 held_or_not m c = let l = level_of m c in by (true_or_false (is_full m c)) (grounded_or_not m c l.0 l.1)
   where
-    by : (is_full m c ≡ true) ⊎ (is_full m c ≡ false) → Grounded m c ⊎ (Grounded m c → ⊥) → IsHeldUp m c ⊎ (IsHeldUp m c → ⊥)
+    by : (is_full m c ≡ true) ⊎ (is_full m c ≡ false) → Grounded m c ⊎ (Grounded m c → ⊥)
+        → IsHeldUp m c ⊎ (IsHeldUp m c → ⊥)
     by (inl e) (inl g) = inl (λ f. g)
     by (inl e) (inr n) = inr (λ h. n (h e))
     by (inr e) g = inl (λ f. absurd (not_both f e))
@@ -192,7 +207,8 @@ first_failing : (m : Matrix) (cs : List Coord) → (at : Option Coord) × FirstF
 first_failing m [] = (None, tt)
 first_failing m (c ∷ cs) = by (held_or_not m c) (first_failing m cs)
   where
-    by : IsHeldUp m c ⊎ (IsHeldUp m c → ⊥) → (at : Option Coord) × FirstFailing (IsHeldUp m) cs at → (at : Option Coord) × FirstFailing (IsHeldUp m) (c ∷ cs) at
+    by : IsHeldUp m c ⊎ (IsHeldUp m c → ⊥) → (at : Option Coord) × FirstFailing (IsHeldUp m) cs at
+        → (at : Option Coord) × FirstFailing (IsHeldUp m) (c ∷ cs) at
     by (inl h) (None, f) = (None, (h, f))
     by (inl h) (Some at, f) = (Some at, inr (h, f))
     by (inr n) later = (Some c, inl (n, refl))

@@ -28,10 +28,12 @@ use Rattle.step_machine.proofs.Sizes.{acts_few, changes_most}
 use Rattle.step_machine.proofs.Working.{refit_touches}
 use Rattle.step_groups.specs.Judging.{act}
 
-pub front_of : (xs ys slice front : List Coord) (n : ℕ) → slice ≡ xs ++ ys → n ≡ length xs → front ≡ take n slice → front ≡ xs
+pub front_of : (xs ys slice front : List Coord) (n : ℕ) → slice ≡ xs ++ ys → n ≡ length xs → front ≡ take n slice
+    → front ≡ xs
 front_of xs ys slice front n e f g = g ∙ ((λ i. take (f i) (e i)) ∙ take-append_seam xs ys)
 
-pub back_of : (xs ys slice back : List Coord) (n : ℕ) → slice ≡ xs ++ ys → n ≡ length xs → back ≡ drop n slice → back ≡ ys
+pub back_of : (xs ys slice back : List Coord) (n : ℕ) → slice ≡ xs ++ ys → n ≡ length xs → back ≡ drop n slice
+    → back ≡ ys
 back_of xs ys slice back n e f g = g ∙ ((λ i. drop (f i) (e i)) ∙ drop-append_seam xs ys)
 
 -- ---- a voxel changes only where some command is an edit
@@ -44,7 +46,8 @@ edit_by full b (GVoid d f) c h = refl
 edit_by true b k c h = cc
 edit_by false b k c h = cc
 
-pub counted : (bots : List Bot) (commands : List Command) (a : Act) → In a (acts bots commands) → is_edit a.command ≡ true → 1 ≤ count_by is_edit commands
+pub counted : (bots : List Bot) (commands : List Command) (a : Act) → In a (acts bots commands)
+    → is_edit a.command ≡ true → 1 ≤ count_by is_edit commands
 counted [] commands a i h = absurd i
 counted (b ∷ bots) [] a i h = absurd i
 counted (b ∷ bots) (k ∷ commands) a (inl e) h =
@@ -63,10 +66,13 @@ module _ (s : State) (commands : List Command) (step : ℕ) (ready : IsReady s) 
   good = good_is s commands step ready keeps
 
   -- there is room for what they change
-  pub room_for_all : length s.bots ≤ 40 → AreCommands commands → edits_total s.matrix true (leaders (acts s.bots commands)) + edits_total s.matrix false (leaders (acts s.bots commands)) ≤ 148955
+  pub room_for_all : length s.bots ≤ 40 → AreCommands commands
+      → edits_total s.matrix true (leaders (acts s.bots commands))
+      + edits_total s.matrix false (leaders (acts s.bots commands)) ≤ 148955
   room_for_all few are = changes_most s (acts s.bots commands) good (let l = acts_few s.bots commands in omega (arith, l)) (commands_are s.bots commands are)
 
-  pub may_lose : (old : Matrix) (front : List Coord) → old ≡ s.matrix → front ≡ edits_of s commands true → MayRemove old front
+  pub may_lose : (old : Matrix) (front : List Coord) → old ≡ s.matrix → front ≡ edits_of s commands true
+      → MayRemove old front
   may_lose old front e f = subst (λ (m : Matrix). MayRemove m front) (sym e) (subst (λ (cells : List Coord). MayRemove s.matrix cells) (sym f) (may_remove s (acts s.bots commands) good))
 
   module _ (old between : Matrix) (front back : List Coord) (e : old ≡ s.matrix) (f : front ≡ edits_of s commands true) (g : back ≡ edits_of s commands false) (lost : AreRemoved old between front) where
@@ -97,7 +103,8 @@ module _ (s : State) (commands : List Command) (step : ℕ) (ready : IsReady s) 
       }
 
   -- a voxel changes only where some command is an edit
-  pub edits_some : (full : Bool) (cells : List Coord) → cells ≡ edits_of s commands full → 1 ≤ length cells → 1 ≤ count_by is_edit commands
+  pub edits_some : (full : Bool) (cells : List Coord) → cells ≡ edits_of s commands full → 1 ≤ length cells
+      → 1 ≤ count_by is_edit commands
   edits_some full [] e h = absurd (omega arith)
   edits_some full (c ∷ cells) e h =
       let i : In c (edits_of s commands full) = subst (λ (xs : List Coord). In c xs) e (inl refl) in
@@ -115,6 +122,7 @@ won_none m whole = record { resolution = refl; whole = whole; full = λ c h. inl
 pub cheap_none : (m n : Matrix) (now : ℕ) → IsCheap m n [] 100 now now
 cheap_none m n now = λ first last f l. omega arith
 
-pub ok_both : {T E : Type 0} (r : Result T E) (P Q R : T → Type 0) → ((t : T) → P t → Q t → R t) → IfOk r P → IfOk r Q → IfOk r R
+pub ok_both : {T E : Type 0} (r : Result T E) (P Q R : T → Type 0) → ((t : T) → P t → Q t → R t) → IfOk r P → IfOk r Q
+    → IfOk r R
 ok_both (Ok t) P Q R f p q = f t p q
 ok_both (Err e) P Q R f p q = tt

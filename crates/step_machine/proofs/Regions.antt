@@ -19,34 +19,41 @@ or_false : (b : Bool) → b ≡ (b || false)
 or_false true = refl
 or_false false = refl
 
-one : (s : Span) (spans : List Span) (c : Coord) → spans ≡ s ∷ [] → is_within s (point c) ≡ list_any (λ t. is_within t (point c)) spans
+one : (s : Span) (spans : List Span) (c : Coord) → spans ≡ s ∷ []
+    → is_within s (point c) ≡ list_any (λ t. is_within t (point c)) spans
 one s spans c e = or_false (is_within s (point c)) ∙ ap (λ ts. list_any (λ t. is_within t (point c)) ts) (sym e)
 
 none : (spans : List Span) (c : Coord) → spans ≡ [] → false ≡ list_any (λ t. is_within t (point c)) spans
 none spans c e = ap (λ ts. list_any (λ t. is_within t (point c)) ts) (sym e)
 
 -- the region is edited so, where it is not as it is to be
-pub edits_region : (r : ℕ) (b : Bot) (k : Command) (w : EditedRegion) (full : Bool) → IsEditedRegion r b k w → beq w.full full ≡ false → (c : Coord) → is_within (span w.region) (point c) ≡ is_edited full (act b k) c
+pub edits_region : (r : ℕ) (b : Bot) (k : Command) (w : EditedRegion) (full : Bool) → IsEditedRegion r b k w
+    → beq w.full full ≡ false → (c : Coord) → is_within (span w.region) (point c) ≡ is_edited full (act b k) c
 edits_region r b k w full h e c = h.covers (point c) ∙ by w.full full h.filled h.voided e
   where
-    by : (f full : Bool) → filled (point b.pos) k ≡ cond f (h.named ∷ []) [] → voided (point b.pos) k ≡ cond f [] (h.named ∷ []) → beq f full ≡ false → is_within h.named (point c) ≡ is_edited full (act b k) c
+    by : (f full : Bool) → filled (point b.pos) k ≡ cond f (h.named ∷ []) []
+        → voided (point b.pos) k ≡ cond f [] (h.named ∷ []) → beq f full ≡ false
+        → is_within h.named (point c) ≡ is_edited full (act b k) c
     by true true p q e = cc
     by true false p q e = one h.named (filled (point b.pos) k) c p
     by false true p q e = one h.named (voided (point b.pos) k) c q
     by false false p q e = cc
 
 -- and else nothing is
-pub edits_nothing : (r : ℕ) (b : Bot) (k : Command) (w : EditedRegion) (full : Bool) → IsEditedRegion r b k w → beq w.full full ≡ true → (c : Coord) → false ≡ is_edited full (act b k) c
+pub edits_nothing : (r : ℕ) (b : Bot) (k : Command) (w : EditedRegion) (full : Bool) → IsEditedRegion r b k w
+    → beq w.full full ≡ true → (c : Coord) → false ≡ is_edited full (act b k) c
 edits_nothing r b k w full h e c = by w.full full h.filled h.voided e
   where
-    by : (f full : Bool) → filled (point b.pos) k ≡ cond f (h.named ∷ []) [] → voided (point b.pos) k ≡ cond f [] (h.named ∷ []) → beq f full ≡ true → false ≡ is_edited full (act b k) c
+    by : (f full : Bool) → filled (point b.pos) k ≡ cond f (h.named ∷ []) []
+        → voided (point b.pos) k ≡ cond f [] (h.named ∷ []) → beq f full ≡ true → false ≡ is_edited full (act b k) c
     by true true p q e = none (voided (point b.pos) k) c q
     by true false p q e = cc
     by false true p q e = cc
     by false false p q e = none (filled (point b.pos) k) c p
 
 -- a command that does not change so edits nothing so
-pub not_change : (b : Bot) (k : Command) (full : Bool) → is_change full k ≡ false → (c : Coord) → false ≡ is_edited full (act b k) c
+pub not_change : (b : Bot) (k : Command) (full : Bool) → is_change full k ≡ false → (c : Coord)
+    → false ≡ is_edited full (act b k) c
 not_change b (Fill d) true h c = refl
 not_change b (Fill d) false h c = cc
 not_change b (Void d) true h c = cc
@@ -58,7 +65,8 @@ not_change b (GVoid d f) false h c = refl
 not_change b k true h c = refl
 not_change b k false h c = refl
 
-pub idle_edits_nothing : (b : Bot) (k : Command) (full : Bool) → IsIdle b k → (c : Coord) → false ≡ is_edited full (act b k) c
+pub idle_edits_nothing : (b : Bot) (k : Command) (full : Bool) → IsIdle b k → (c : Coord)
+    → false ≡ is_edited full (act b k) c
 idle_edits_nothing b k true h c = none (voided (point b.pos) k) c h.voided
 idle_edits_nothing b k false h c = none (filled (point b.pos) k) c h.filled
 

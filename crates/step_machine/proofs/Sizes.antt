@@ -50,7 +50,8 @@ axis_most a b h = by (same_number a b) refl
 eights : (x y z : ℕ) → (2 * x) * (2 * y) * (2 * z) ≡ 8 * (x * y * z)
 eights x y z = grind arith
 
-powers : (t u v : Bool) → (31 * 2 ^ cond t 0 1) * (31 * 2 ^ cond u 0 1) * (31 * 2 ^ cond v 0 1) ≡ 29791 * 2 ^ (cond t 0 1 + cond u 0 1 + cond v 0 1)
+powers : (t u v : Bool) → (31 * 2 ^ cond t 0 1) * (31 * 2 ^ cond u 0 1) * (31 * 2 ^ cond v 0 1)
+    ≡ 29791 * 2 ^ (cond t 0 1 + cond u 0 1 + cond v 0 1)
 powers true true true = refl
 powers true true false = refl
 powers true false true = refl
@@ -60,14 +61,16 @@ powers false true false = refl
 powers false false true = refl
 powers false false false = refl
 
-region_most : (s : Span) → extent s.from.x s.to.x ≤ 31 → extent s.from.y s.to.y ≤ 31 → extent s.from.z s.to.z ≤ 31 → 8 * size s ≤ 29791 * 2 ^ dimension s
+region_most : (s : Span) → extent s.from.x s.to.x ≤ 31 → extent s.from.y s.to.y ≤ 31 → extent s.from.z s.to.z ≤ 31
+    → 8 * size s ≤ 29791 * 2 ^ dimension s
 region_most s x y z =
     let le = mul-le-mul (mul-le-mul (axis_most s.from.x s.to.x x) (axis_most s.from.y s.to.y y)) (axis_most s.from.z s.to.z z) in
     let e = eights (extent s.from.x s.to.x) (extent s.from.y s.to.y) (extent s.from.z s.to.z) in
     let p = powers (same_number s.from.x s.to.x) (same_number s.from.y s.to.y) (same_number s.from.z s.to.z) in
     omega (arith, le, e, p)
 
-far_most : (p : Point) (f : Diff) → IsFar f → 8 * size (between p (plus p f)) ≤ 29791 * 2 ^ dimension (between p (plus p f))
+far_most : (p : Point) (f : Diff) → IsFar f
+    → 8 * size (between p (plus p f)) ≤ 29791 * 2 ^ dimension (between p (plus p f))
 far_most p f h = let b = far_bounds f h in region_most (between p (plus p f)) (extent_far p.x f.dx b.0) (extent_far p.y f.dy b.1) (extent_far p.z f.dz b.2)
 
 just_one : (p : Point) → size (just p) ≡ 1
@@ -93,7 +96,8 @@ edits_of m a = edit_count m true a + edit_count m false a
 abbrev Fits : Act → ℕ → Type 0
 Fits a n = (list_any (λ s. not (n == 2 ^ dimension s)) (group_regions (position a) a.command) ≡ false) × (1 ≤ n)
 
-one_most : (m : Matrix) (s : Span) (n : ℕ) → 8 * size s ≤ 29791 * n → 8 * (0 + count_by (λ c. is_within s (point c) || false) (all_of m)) ≤ 29791 * n
+one_most : (m : Matrix) (s : Span) (n : ℕ) → 8 * size s ≤ 29791 * n
+    → 8 * (0 + count_by (λ c. is_within s (point c) || false) (all_of m)) ≤ 29791 * n
 one_most m s n h = let l = count_one m s in omega arith
 
 none_most : (m : Matrix) (n : ℕ) → 8 * (count_by (λ c. false) (all_of m) + count_by (λ c. false) (all_of m)) ≤ 29791 * n
@@ -102,7 +106,8 @@ none_most m n = let e = count_none (all_of m) in omega (arith, e)
 fits_is : (n k : ℕ) → (not (n == k) || false) ≡ false → n ≡ k
 fits_is n k h = grind (arith, nat_tests)
 
-pub act_most : (m : Matrix) (b : Bot) (k : Command) (n : ℕ) → is_command k ≡ true → Fits (act b k) n → 8 * edits_of m (act b k) ≤ 29791 * n
+pub act_most : (m : Matrix) (b : Bot) (k : Command) (n : ℕ) → is_command k ≡ true → Fits (act b k) n
+    → 8 * edits_of m (act b k) ≤ 29791 * n
 act_most m b (Fill d) n h f =
     let e = count_none (all_of m) in let l = count_one m (just (plus (point b.pos) d)) in let o = just_one (plus (point b.pos) d) in let p = f.1 in omega (arith, e, l, o, p)
 act_most m b (Void d) n h f =
@@ -123,7 +128,8 @@ act_most m b k n h f = none_most m n
 
 -- ---- a list whose elements differ and are of another list
 
-taken_out : {X : Type 0} (x : X) (ys : List X) → In x ys → (zs : List X) × (length ys ≡ suc (length zs)) × ((y : X) → In y ys → (y ≡ x → ⊥) → In y zs)
+taken_out : {X : Type 0} (x : X) (ys : List X) → In x ys
+    → (zs : List X) × (length ys ≡ suc (length zs)) × ((y : X) → In y ys → (y ≡ x → ⊥) → In y zs)
 taken_out x [] h = absurd h
 taken_out {X} x (z ∷ zs) (inl e) = (zs, refl, other)
   where
@@ -132,7 +138,8 @@ taken_out {X} x (z ∷ zs) (inl e) = (zs, refl, other)
     other y (inr i) n = i
 taken_out {X} x (z ∷ zs) (inr h) = longer (taken_out x zs h)
   where
-    longer : (ws : List X) × (length zs ≡ suc (length ws)) × ((y : X) → In y zs → (y ≡ x → ⊥) → In y ws) → (ws : List X) × (length (z ∷ zs) ≡ suc (length ws)) × ((y : X) → In y (z ∷ zs) → (y ≡ x → ⊥) → In y ws)
+    longer : (ws : List X) × (length zs ≡ suc (length ws)) × ((y : X) → In y zs → (y ≡ x → ⊥) → In y ws)
+        → (ws : List X) × (length (z ∷ zs) ≡ suc (length ws)) × ((y : X) → In y (z ∷ zs) → (y ≡ x → ⊥) → In y ws)
     longer r = (z ∷ r.0, ap suc r.1, other)
       where
         other : (y : X) → In y (z ∷ zs) → (y ≡ x → ⊥) → In y (z ∷ r.0)
@@ -157,7 +164,8 @@ length_flat f (x ∷ xs) =
     let c = length_flat f xs in
     omega (arith, a, b, c)
 
-none_of_either : {X : Type 0} (p q : X → Bool) (xs : List X) → list_any (λ x. p x || q x) xs ≡ false → list_any p xs ≡ false
+none_of_either : {X : Type 0} (p q : X → Bool) (xs : List X) → list_any (λ x. p x || q x) xs ≡ false
+    → list_any p xs ≡ false
 none_of_either {X} p q xs h = false_by (list_any p xs) (λ (e : list_any p xs ≡ true). let r = any_in p xs e in not_both (in_any (λ (x : X). p x || q x) r.0 xs r.1 (or_by_first (p r.0) (q r.0) r.2)) h)
 
 some_in : {X : Type 0} (x : X) (xs : List X) → In x xs → 1 ≤ length xs
@@ -167,7 +175,8 @@ some_in x (y ∷ ys) h = omega arith
 abbrev member_count : List Act → Act → ℕ
 member_count all l = length (members all l)
 
-group_totals : (m : Matrix) (all ls : List Act) → ((l : Act) → In l ls → 8 * edits_of m l ≤ 29791 * member_count all l) → 8 * (edits_total m true ls + edits_total m false ls) ≤ 29791 * sum_by (member_count all) ls
+group_totals : (m : Matrix) (all ls : List Act) → ((l : Act) → In l ls → 8 * edits_of m l ≤ 29791 * member_count all l)
+    → 8 * (edits_total m true ls + edits_total m false ls) ≤ 29791 * sum_by (member_count all) ls
 group_totals m all [] h = omega arith
 group_totals m all (l ∷ ls) h =
     let v = sum_by-cons (edit_count m true) l ls in
@@ -182,7 +191,8 @@ module _ (s : State) (all : List Act) (good : IsGood s all) where
   lead l i = (filter_in (is_leader all) l all i).0
 
   -- a bot has one leader
-  one_leader_each : (l d a : Act) → In l (leaders all) → In d (leaders all) → In a (members all l) → In a (members all d) → l ≡ d
+  one_leader_each : (l d a : Act) → In l (leaders all) → In d (leaders all) → In a (members all l)
+      → In a (members all d) → l ≡ d
   one_leader_each l d a i j p q =
       let k = filter_in (are_together l) a all p in
       let n = filter_in (are_together d) a all q in
@@ -212,7 +222,8 @@ module _ (s : State) (all : List Act) (good : IsGood s all) where
     some_in l (members all l) (in_filter (are_together l) l all (lead l i) (with_itself l)),
   )
 
-  pub changes_most : length all ≤ 40 → ((a : Act) → In a all → is_command a.command ≡ true) → edits_total s.matrix true (leaders all) + edits_total s.matrix false (leaders all) ≤ 148955
+  pub changes_most : length all ≤ 40 → ((a : Act) → In a all → is_command a.command ≡ true)
+      → edits_total s.matrix true (leaders all) + edits_total s.matrix false (leaders all) ≤ 148955
   changes_most few are =
       let t = group_totals s.matrix all (leaders all) (λ l i. act_most s.matrix l.bot l.command (member_count all l) (are l (lead l i)) (fits l i)) in
       let n = members_most in

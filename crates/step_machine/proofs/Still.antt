@@ -26,7 +26,8 @@ only_bot [] e = absurd (omega arith)
 only_bot (b ∷ []) e = (b, refl)
 only_bot (b ∷ c ∷ bots) e = absurd (omega arith)
 
-none_found : (h : Harmonics) (m : Matrix) (at : Option Coord) → at ≡ None → (h ≡ Low → FirstUngrounded m None) → MatchBool (is_high h) (at ≡ None) (FirstUngrounded m at)
+none_found : (h : Harmonics) (m : Matrix) (at : Option Coord) → at ≡ None → (h ≡ Low → FirstUngrounded m None)
+    → MatchBool (is_high h) (at ≡ None) (FirstUngrounded m at)
 none_found High m at e held = e
 none_found Low m at e held = subst (λ (o : Option Coord). FirstUngrounded m o) (sym e) (held refl)
 
@@ -38,7 +39,9 @@ module _ (s : State) (d : Diff) (one : length s.bots ≡ 1) (whole : IsWhole s.m
   harmonics_stay = let o = only_bot s.bots one in sym (ap (λ (bots : List Bot). harmonics_after s.harmonics (acts bots (SMove d ∷ []))) o.1)
 
   -- the step goes to its state, of which the forest is one
-  pub still : (step : ℕ) (forest : Standing) (now : ℕ) → broken s (SMove d ∷ []) step ≡ None → (s.harmonics ≡ Low → FirstUngrounded s.matrix None) → forest.matrix ≡ s.matrix → forest.spent ≡ false → IsSettled s (SMove d ∷ []) step forest now now
+  pub still : (step : ℕ) (forest : Standing) (now : ℕ) → broken s (SMove d ∷ []) step ≡ None
+      → (s.harmonics ≡ Low → FirstUngrounded s.matrix None) → forest.matrix ≡ s.matrix → forest.spent ≡ false
+      → IsSettled s (SMove d ∷ []) step forest now now
   still step forest now keeps held tied stands = record {
     goes = goes s (after s (SMove d ∷ [])) (SMove d ∷ []) step s.harmonics s.matrix None keeps (record { harmonics_is = harmonics_stay; matrix_is = matrix_stays; found = none_found s.harmonics s.matrix None refl held }) refl refl;
     tied = tied ∙ matrix_stays;

@@ -46,7 +46,8 @@ of_among cells d h =
 pub not_among : (cells : List Coord) (d : Coord) → (In d cells → ⊥) → is_cell cells d ≡ false
 not_among cells d h = false_by (is_cell cells d) (λ e. h (of_among cells d e))
 
-pub full_with : (m : Matrix) (cells : List Coord) (full : Bool) (d : Coord) → IsInSpace m.resolution d → is_full (with_cells m cells full) d ≡ cond (is_cell cells d) full (is_full m d)
+pub full_with : (m : Matrix) (cells : List Coord) (full : Bool) (d : Coord) → IsInSpace m.resolution d
+    → is_full (with_cells m cells full) d ≡ cond (is_cell cells d) full (is_full m d)
 full_with m cells full d w = full_where m.resolution (λ e. cond (is_cell cells e) full (is_full m e)) d w
 
 pub removed_is : (old new : Matrix) (cells : List Coord) → AreRemoved old new cells → new ≡ with_cells old cells false
@@ -91,7 +92,8 @@ may_lose_back m n undo e h = subst (λ (x : Matrix). MayRemove x undo.filled.ite
   full = λ c i. of_each (λ (d : Coord). IsTrue (is_full n d)) undo.filled.items c h.filled i;
 })
 
-pub may_gain_back : (m n : Matrix) (undo : Undo) → m ≡ n → HaveChanged n undo → MayAdd (without_filled m undo.filled.items) undo.voided.items
+pub may_gain_back : (m n : Matrix) (undo : Undo) → m ≡ n → HaveChanged n undo
+    → MayAdd (without_filled m undo.filled.items) undo.voided.items
 may_gain_back m n undo e h = subst (λ (x : Matrix). MayAdd (without_filled x undo.filled.items) undo.voided.items) (sym e) (record {
   differ = h.voided_differ;
   within = λ c i. of_each (λ (d : Coord). IsInSpace n.resolution d) undo.voided.items c h.voided_within i;
@@ -126,19 +128,25 @@ module _ (s : State) (undo : Undo) (old : Standing) (changed : Changes) (steps :
   pub lose_slice : (filled : List Coord) → filled ≡ undo.filled.items → MayRemove old.matrix filled
   lose_slice filled f = subst (λ (xs : List Coord). MayRemove old.matrix xs) (sym f) (may_lose_back old.matrix s.matrix undo (sound.tied unspent) here.voxels)
 
-  pub gain_slice : (filled voided : List Coord) → filled ≡ undo.filled.items → voided ≡ undo.voided.items → MayAdd (without_filled old.matrix filled) voided
+  pub gain_slice : (filled voided : List Coord) → filled ≡ undo.filled.items → voided ≡ undo.voided.items
+      → MayAdd (without_filled old.matrix filled) voided
   gain_slice filled voided f u =
       subst (λ (xs : List Coord). MayAdd (without_filled old.matrix xs) voided) (sym f)
       (subst (λ (ys : List Coord). MayAdd (without_filled old.matrix undo.filled.items) ys) (sym u) (may_gain_back old.matrix s.matrix undo (sound.tied unspent) here.voxels))
 
   -- the machine's parts belong together again
-  pub sound_back : (now : State) (new : Standing) (filled voided : List Coord) → filled ≡ undo.filled.items → voided ≡ undo.voided.items → now ≡ state_before s undo → new.spent ≡ false → new.matrix ≡ matrix_before old.matrix filled voided → IsConsistent now new changed undo.steps spent
+  pub sound_back : (now : State) (new : Standing) (filled voided : List Coord) → filled ≡ undo.filled.items
+      → voided ≡ undo.voided.items → now ≡ state_before s undo → new.spent ≡ false
+      → new.matrix ≡ matrix_before old.matrix filled voided → IsConsistent now new changed undo.steps spent
   sound_back now new filled voided f u is free tied = sound_restored s undo old changed steps spent sound here now new spent filled voided f u is (λ h. h) (λ _. free) (λ _. tied)
 
-  pub value_back : (now : State) → now ≡ state_before s undo → seen now undo.steps spent ≡ seen (state_before v.state undo) undo.steps false
+  pub value_back : (now : State) → now ≡ state_before s undo
+      → seen now undo.steps spent ≡ seen (state_before v.state undo) undo.steps false
   value_back now is = (λ i. seen (is i) undo.steps (unspent i)) ∙ ap (λ (w : Situation). seen (state_before w.state undo) undo.steps false) e
 
-  pub touches_back : (filled voided : List Coord) (began ended : ℕ) → filled ≡ undo.filled.items → voided ≡ undo.voided.items → IsUndoneBy old.matrix filled voided began ended → IsUndoneBy v.state.matrix undo.filled.items undo.voided.items began ended
+  pub touches_back : (filled voided : List Coord) (began ended : ℕ) → filled ≡ undo.filled.items
+      → voided ≡ undo.voided.items → IsUndoneBy old.matrix filled voided began ended
+      → IsUndoneBy v.state.matrix undo.filled.items undo.voided.items began ended
   touches_back filled voided began ended f u h =
       subst (λ (w : Situation). IsUndoneBy w.state.matrix undo.filled.items undo.voided.items began ended) e
       (subst (λ (m : Matrix). IsUndoneBy m undo.filled.items undo.voided.items began ended) (sound.tied unspent)
@@ -171,7 +179,8 @@ module _ (s : State) (commands : List Command) (step : ℕ) (ready : IsReady s) 
     voided_cell : (c : Coord) → In c undo.voided.items → In c (edits_of s commands true)
     voided_cell c i = subst (λ (xs : List Coord). In c xs) h.voided i
 
-    now : (c : Coord) → IsInSpace s.matrix.resolution c → is_full (after s commands).matrix c ≡ (is_filled (acts s.bots commands) c || (is_full s.matrix c && not (is_voided (acts s.bots commands) c)))
+    now : (c : Coord) → IsInSpace s.matrix.resolution c → is_full (after s commands).matrix c
+        ≡ (is_filled (acts s.bots commands) c || (is_full s.matrix c && not (is_voided (acts s.bots commands) c)))
     now c w = full_where s.matrix.resolution (λ d. is_filled (acts s.bots commands) d || (is_full s.matrix d && not (is_voided (acts s.bots commands) d))) c w
 
     voided_gone : (f u v : Bool) → (f ≡ true → ⊥) → v ≡ true → (f || (u && not v)) ≡ false
@@ -198,7 +207,8 @@ module _ (s : State) (commands : List Command) (step : ℕ) (ready : IsReady s) 
     note_holds = subst (λ (x : State). HaveChanged x.matrix undo) (sym is) have_changed
 
     -- where the note names no voxel, nothing has changed
-    others_stay : (d : Coord) → IsInSpace s.matrix.resolution d → (In d undo.filled.items → ⊥) → (In d undo.voided.items → ⊥) → is_full (after s commands).matrix d ≡ is_full s.matrix d
+    others_stay : (d : Coord) → IsInSpace s.matrix.resolution d → (In d undo.filled.items → ⊥)
+        → (In d undo.voided.items → ⊥) → is_full (after s commands).matrix d ≡ is_full s.matrix d
     others_stay d w nf nv = now d w ∙ by (is_full s.matrix d) refl
       where
         not_filled : is_full s.matrix d ≡ false → is_filled (acts s.bots commands) d ≡ false
@@ -212,14 +222,18 @@ module _ (s : State) (commands : List Command) (step : ℕ) (ready : IsReady s) 
         stays false false e = refl
         stays f true e = cc
 
-        by : (b : Bool) → is_full s.matrix d ≡ b → (is_filled (acts s.bots commands) d || (b && not (is_voided (acts s.bots commands) d))) ≡ b
+        by : (b : Bool) → is_full s.matrix d ≡ b
+            → (is_filled (acts s.bots commands) d || (b && not (is_voided (acts s.bots commands) d))) ≡ b
         by true e = stays (is_filled (acts s.bots commands) d) (is_voided (acts s.bots commands) d) (not_voided e)
         by false e = ap (λ f. f || false) (not_filled e)
 
-    voxel_back : (d : Coord) → IsInSpace s.matrix.resolution d → cond (is_cell undo.voided.items d) true (is_full (without_filled (after s commands).matrix undo.filled.items) d) ≡ is_full s.matrix d
+    voxel_back : (d : Coord) → IsInSpace s.matrix.resolution d
+        → cond (is_cell undo.voided.items d) true (is_full (without_filled (after s commands).matrix undo.filled.items) d)
+        ≡ is_full s.matrix d
     voxel_back d w = by (is_cell undo.voided.items d) (is_cell undo.filled.items d) refl refl
       where
-        by : (v f : Bool) → is_cell undo.voided.items d ≡ v → is_cell undo.filled.items d ≡ f → cond v true (is_full (without_filled (after s commands).matrix undo.filled.items) d) ≡ is_full s.matrix d
+        by : (v f : Bool) → is_cell undo.voided.items d ≡ v → is_cell undo.filled.items d ≡ f
+            → cond v true (is_full (without_filled (after s commands).matrix undo.filled.items) d) ≡ is_full s.matrix d
         by true f e k = sym (cell_of s (acts s.bots commands) good true d (voided_cell d (of_among undo.voided.items d e))).1
         by false true e k =
             full_with (after s commands).matrix undo.filled.items false d w
@@ -239,14 +253,17 @@ module _ (s : State) (commands : List Command) (step : ℕ) (ready : IsReady s) 
     state_is_back = ap (λ (x : State). state_before x undo) is ∙ (λ i. record { matrix = matrix_is_back i; harmonics = h.harmonics i; bots = h.crew i; energy = h.energy i; profile = s.profile })
 
     -- what a machine in the state of a well-formed step may take back
-    pub may_undo : s.profile.seeds ≤ 39 → undo.steps ≤ 1073741824 → IsEnergyBounded s.energy undo.steps → IsWellFormed s → MayUndo t undo
+    pub may_undo : s.profile.seeds ≤ 39 → undo.steps ≤ 1073741824 → IsEnergyBounded s.energy undo.steps → IsWellFormed s
+        → MayUndo t undo
     may_undo seeds few paid formed = record {
       voxels = note_holds;
       before = subst (λ (x : State). IsMachineState x undo.steps) (sym state_is_back) (record { well_formed = formed; within = ready.within; seeds = seeds; few = few; paid = paid });
     }
 
     -- seen at a machine
-    pub note_may_undo : (old : Standing) (changed : Changes) (steps : ℕ) (spent : Bool) (v : Situation) → IsConsistent s old changed steps spent → seen s steps spent ≡ v → undo.steps + 1 ≡ steps + 1 → IsWellFormed v.state → MayUndo t undo
+    pub note_may_undo : (old : Standing) (changed : Changes) (steps : ℕ) (spent : Bool) (v : Situation)
+        → IsConsistent s old changed steps spent → seen s steps spent ≡ v → undo.steps + 1 ≡ steps + 1
+        → IsWellFormed v.state → MayUndo t undo
     note_may_undo old changed steps spent v sound e counted formed =
         let same : undo.steps ≡ steps = omega arith in
         may_undo sound.seeds (subst (λ (n : ℕ). n ≤ 1073741824) (sym same) sound.few) (subst (λ (n : ℕ). IsEnergyBounded s.energy n) (sym same) sound.paid) (subst (λ (w : Situation). IsWellFormed w.state) (sym e) formed)

@@ -23,7 +23,8 @@ pub record IsListing (m : Matrix) (full : Bool) (ls : List Act) (i : ℕ) (old n
   pub spare : old.spare + edits_total m full (drop i ls) ≤ new.spare + edits_total m full ls
   pub touches : after + edits_total m full (drop i ls) ≤ before + edits_total m full ls
 
-pub turn_at : (all ls : List Act) (ts : List Turn) (i : ℕ) (d : Turn) → AreTurns all ls ts → i < length ts → (a : Act) × IsTurn all a (get_or ts i d) × (drop i ls ≡ a ∷ drop (i + 1) ls) × In a ls
+pub turn_at : (all ls : List Act) (ts : List Turn) (i : ℕ) (d : Turn) → AreTurns all ls ts → i < length ts
+    → (a : Act) × IsTurn all a (get_or ts i d) × (drop i ls ≡ a ∷ drop (i + 1) ls) × In a ls
 turn_at all [] [] i d h k = absurd (omega arith)
 turn_at all [] (t ∷ ts) i d h k = absurd h
 turn_at all (a ∷ ls) [] i d h k = absurd h
@@ -40,13 +41,16 @@ pub record IsHere (bots : List Bot) (commands : List Command) (ls : List Act) (i
   pub rest : drop i ls ≡ act ∷ drop (i + 1) ls
   pub leads : In act ls
 
-act_at : (bots : List Bot) (commands : List Command) (k : ℕ) (a : Act) → slice_get (acts bots commands) k ≡ Some a → (k < length bots) × (k < length commands) × ((d : Bot) → get_or bots k d ≡ a.bot) × ((d : Command) → get_or commands k d ≡ a.command)
+act_at : (bots : List Bot) (commands : List Command) (k : ℕ) (a : Act) → slice_get (acts bots commands) k ≡ Some a
+    → (k < length bots) × (k < length commands) × ((d : Bot) → get_or bots k d ≡ a.bot)
+    × ((d : Command) → get_or commands k d ≡ a.command)
 act_at [] commands k a h = cc
 act_at (b ∷ bots) [] k a h = cc
 act_at (b ∷ bots) (c ∷ commands) zero a h = (omega arith, omega arith, (λ d. let e : record { bot = b; command = c } ≡ a = cc in ap (λ (x : Act). x.bot) e), (λ d. let e : record { bot = b; command = c } ≡ a = cc in ap (λ (x : Act). x.command) e))
 act_at (b ∷ bots) (c ∷ commands) (suc k) a h = let r = act_at bots commands k a h in (omega arith, omega arith, r.2, r.3)
 
-pub here : (bots : List Bot) (commands : List Command) (ls : List Act) (ts : List Turn) (i : ℕ) (t : Turn) → AreTurns (acts bots commands) ls ts → i < length ts → t ≡ get_or ts i t → IsHere bots commands ls i t
+pub here : (bots : List Bot) (commands : List Command) (ls : List Act) (ts : List Turn) (i : ℕ) (t : Turn)
+    → AreTurns (acts bots commands) ls ts → i < length ts → t ≡ get_or ts i t → IsHere bots commands ls i t
 here bots commands ls ts i t h k e =
     let r = turn_at (acts bots commands) ls ts i t h k in
     let p : slice_get (acts bots commands) t.place ≡ Some r.0 = ap (λ (u : Turn). slice_get (acts bots commands) u.place) e ∙ r.1.place in
@@ -98,7 +102,8 @@ module _ (s : State) (commands : List Command) (bots : List Bot) (turns list : L
 
 -- ---- what one turn more lists
 
-totals : (m : Matrix) (full : Bool) (a : Act) (ls : List Act) → edits_total m full (a ∷ ls) ≡ edit_count m full a + edits_total m full ls
+totals : (m : Matrix) (full : Bool) (a : Act) (ls : List Act)
+    → edits_total m full (a ∷ ls) ≡ edit_count m full a + edits_total m full ls
 totals m full a ls = sum_by-cons (edit_count m full) a ls
 
 module _ (m k : Matrix) (same : k ≡ m) (full : Bool) (ls : List Act) (i : ℕ) (a : Act) (rest : drop i ls ≡ a ∷ drop (i + 1) ls) (old mid : Changes) (before middle : ℕ) (h : IsListing m full ls i old mid before middle) where
@@ -108,7 +113,9 @@ module _ (m k : Matrix) (same : k ≡ m) (full : Bool) (ls : List Act) (i : ℕ)
   pub room_for : edits_total m full ls ≤ old.spare → edit_count k full a ≤ mid.spare
   room_for r = omega (arith, h.spare, r, count)
 
-  pub listing_more : (new : Changes) (after : ℕ) → new.items ≡ mid.items ++ cells_of k full a → mid.spare + length mid.items ≤ new.spare + length new.items → mid.spare ≤ new.spare + edit_count k full a → after ≤ middle + edit_count k full a → IsListing m full ls (i + 1) old new before after
+  pub listing_more : (new : Changes) (after : ℕ) → new.items ≡ mid.items ++ cells_of k full a
+      → mid.spare + length mid.items ≤ new.spare + length new.items → mid.spare ≤ new.spare + edit_count k full a
+      → after ≤ middle + edit_count k full a → IsListing m full ls (i + 1) old new before after
   listing_more new after items room spare touches =
       let cells : cells_of_all m full (drop i ls) ≡ cells_of k full a ++ cells_of_all m full (drop (i + 1) ls) = ap (cells_of_all m full) rest ∙ ap (λ n. cells_of n full a ++ cells_of_all m full (drop (i + 1) ls)) (sym same) in
       record {
@@ -118,7 +125,8 @@ module _ (m k : Matrix) (same : k ≡ m) (full : Bool) (ls : List Act) (i : ℕ)
         touches = omega (arith, h.touches, count, touches);
       }
 
-pub listing_all : (m : Matrix) (full : Bool) (ls : List Act) (i : ℕ) (old new : Changes) (before after : ℕ) → IsListing m full ls i old new before after → length ls ≤ i → new.items ≡ old.items ++ cells_of_all m full ls
+pub listing_all : (m : Matrix) (full : Bool) (ls : List Act) (i : ℕ) (old new : Changes) (before after : ℕ)
+    → IsListing m full ls i old new before after → length ls ≤ i → new.items ≡ old.items ++ cells_of_all m full ls
 listing_all m full ls i old new before after h e = sym (append-nil new.items) ∙ (ap (λ xs. new.items ++ cells_of_all m full xs) (sym (drop_all i ls e)) ∙ h.items)
 
 pub as_many : (all ls : List Act) (ts : List Turn) → AreTurns all ls ts → length ls ≡ length ts

@@ -40,12 +40,15 @@ step_work s commands step = judged_work s (acts s.bots commands) (broken s comma
 
 -- ---- the outcome of a step
 
-settled_at : (s : State) (commands : List Command) (step : ℕ) → broken s commands step ≡ None → (h : Harmonics) → (after s commands).harmonics ≡ h → (at : Option Coord) → FirstUngrounded (after s commands).matrix at → (o : Outcome) × Next s commands step o
+settled_at : (s : State) (commands : List Command) (step : ℕ) → broken s commands step ≡ None → (h : Harmonics)
+    → (after s commands).harmonics ≡ h → (at : Option Coord) → FirstUngrounded (after s commands).matrix at
+    → (o : Outcome) × Next s commands step o
 settled_at s commands step keeps High e at u = (Goes (after s commands), accepts keeps (λ low. cc) refl)
 settled_at s commands step keeps Low e None u = (Goes (after s commands), accepts keeps (λ low. u) refl)
 settled_at s commands step keeps Low e (Some c) u = (Breaks (ungrounded_at step c), leaves_floating c keeps e u refl)
 
-next_at : (s : State) (commands : List Command) (step : ℕ) (b : Option Broken) → broken s commands step ≡ b → (o : Outcome) × Next s commands step o
+next_at : (s : State) (commands : List Command) (step : ℕ) (b : Option Broken) → broken s commands step ≡ b
+    → (o : Outcome) × Next s commands step o
 next_at s commands step None e = let f = first_ungrounded (after s commands).matrix in settled_at s commands step e (after s commands).harmonics refl f.0 f.1
 next_at s commands step (Some b) e = (Breaks b, breaks_at_start b e refl)
 
@@ -53,5 +56,6 @@ pub next_of : (s : State) (commands : List Command) (step : ℕ) → (o : Outcom
 next_of s commands step = next_at s commands step (broken s commands step) refl
 
 -- what is within each work of a step is within one
-pub within_one : (s : State) (commands : List Command) (step began ended : ℕ) → ((n : ℕ) → WorkOfStep s commands step n → ended ≤ began + 100 * n) → IsWithinWork s commands step began ended
+pub within_one : (s : State) (commands : List Command) (step began ended : ℕ)
+    → ((n : ℕ) → WorkOfStep s commands step n → ended ≤ began + 100 * n) → IsWithinWork s commands step began ended
 within_one s commands step began ended h = let w = step_work s commands step in (w.0, w.1, h w.0 w.1)

@@ -43,7 +43,8 @@ edits_one m a = by (empties a.command) (other_edit a.bot a.command)
     gone : (full : Bool) → ((c : Coord) → is_edited full a c ≡ false) → edit_count m full a ≡ 0
     gone full e = (λ i. count_by (λ c. e c i) (all_of m)) ∙ count_none (all_of m)
 
-    by : (b : Bool) → ((c : Coord) → is_edited (not b) a c ≡ false) → edit_count m true a + edit_count m false a ≡ edit_count m b a
+    by : (b : Bool) → ((c : Coord) → is_edited (not b) a c ≡ false)
+        → edit_count m true a + edit_count m false a ≡ edit_count m b a
     by true e = let n = gone false e in omega (arith, n)
     by false e = let n = gone true e in omega (arith, n)
 
@@ -51,7 +52,8 @@ module _ (s : State) (commands : List Command) (step : ℕ) (ready : IsReady s) 
   good : IsGood s (acts s.bots commands)
   good = good_is s commands step ready keeps
 
-  edits_volatile : (l : Act) → In l (leaders (acts s.bots commands)) → edit_count s.matrix true l + edit_count s.matrix false l ≤ volatile_count s.matrix (acts s.bots commands) l
+  edits_volatile : (l : Act) → In l (leaders (acts s.bots commands))
+      → edit_count s.matrix true l + edit_count s.matrix false l ≤ volatile_count s.matrix (acts s.bots commands) l
   edits_volatile l i =
       let e = edits_one s.matrix l in
       let own = filter_in (is_leader (acts s.bots commands)) l (acts s.bots commands) i in
@@ -62,10 +64,13 @@ module _ (s : State) (commands : List Command) (step : ℕ) (ready : IsReady s) 
       (all_of s.matrix) in
       omega (arith, e, le)
 
-  pub edits_are_volatile : edits_total s.matrix true (leaders (acts s.bots commands)) + edits_total s.matrix false (leaders (acts s.bots commands)) ≤ volatile_total s.matrix (acts s.bots commands)
+  pub edits_are_volatile : edits_total s.matrix true (leaders (acts s.bots commands))
+      + edits_total s.matrix false (leaders (acts s.bots commands)) ≤ volatile_total s.matrix (acts s.bots commands)
   edits_are_volatile = let e = sum-map (volatile_count s.matrix (acts s.bots commands)) (leaders (acts s.bots commands)) in let l = by (leaders (acts s.bots commands)) (λ a i. i) in omega (arith, e, l)
     where
-      by : (ls : List Act) → ((a : Act) → In a ls → In a (leaders (acts s.bots commands))) → edits_total s.matrix true ls + edits_total s.matrix false ls ≤ sum_by (volatile_count s.matrix (acts s.bots commands)) ls
+      by : (ls : List Act) → ((a : Act) → In a ls → In a (leaders (acts s.bots commands)))
+          → edits_total s.matrix true ls + edits_total s.matrix false ls
+          ≤ sum_by (volatile_count s.matrix (acts s.bots commands)) ls
       by [] h = omega arith
       by (l ∷ ls) h =
           let v = sum_by-cons (edit_count s.matrix true) l ls in
@@ -77,7 +82,8 @@ module _ (s : State) (commands : List Command) (step : ℕ) (ready : IsReady s) 
 
   -- ---- what they list changes
 
-  lost_differs : (c : Coord) → In c (edits_of s commands true) → differ_at s.matrix (matrix_after s.matrix (acts s.bots commands)) c ≡ true
+  lost_differs : (c : Coord) → In c (edits_of s commands true)
+      → differ_at s.matrix (matrix_after s.matrix (acts s.bots commands)) c ≡ true
   lost_differs c i =
       let w = cell_of s (acts s.bots commands) good true c i in
       let gone : (is_filled (acts s.bots commands) c || (is_full s.matrix c && not (is_voided (acts s.bots commands) c))) ≡ false = voided_gone (is_filled (acts s.bots commands) c) (is_full s.matrix c) (is_voided (acts s.bots commands) c) (λ f. one_way s (acts s.bots commands) good c w.0 w.2 f) w.2 in
@@ -90,7 +96,8 @@ module _ (s : State) (commands : List Command) (step : ℕ) (ready : IsReady s) 
       voided_gone false false true n e = refl
       voided_gone false u false n e = cc
 
-  won_differs : (c : Coord) → In c (edits_of s commands false) → differ_at s.matrix (matrix_after s.matrix (acts s.bots commands)) c ≡ true
+  won_differs : (c : Coord) → In c (edits_of s commands false)
+      → differ_at s.matrix (matrix_after s.matrix (acts s.bots commands)) c ≡ true
   won_differs c i =
       let w = cell_of s (acts s.bots commands) good false c i in
       let e = full_where s.matrix.resolution (λ d. is_filled (acts s.bots commands) d || (is_full s.matrix d && not (is_voided (acts s.bots commands) d))) c w.0 ∙ or_by_first (is_filled (acts s.bots commands) c) (is_full s.matrix c && not (is_voided (acts s.bots commands) c)) w.2 in
@@ -100,7 +107,8 @@ module _ (s : State) (commands : List Command) (step : ℕ) (ready : IsReady s) 
   apart_all = apart_append (edits_of s commands true) (edits_of s commands false) (cells_apart s (acts s.bots commands) good true) (cells_apart s (acts s.bots commands) good false)
       (λ c i j. not_both (cell_of s (acts s.bots commands) good true c i).1 (void_state s (acts s.bots commands) good c (cell_of s (acts s.bots commands) good false c j).1))
 
-  pub all_change : length (edits_of s commands true) + length (edits_of s commands false) ≤ changed_count s.matrix (matrix_after s.matrix (acts s.bots commands))
+  pub all_change : length (edits_of s commands true) + length (edits_of s commands false)
+      ≤ changed_count s.matrix (matrix_after s.matrix (acts s.bots commands))
   all_change =
       let l = no_more (edits_of s commands true ++ edits_of s commands false) (filter (differ_at s.matrix (matrix_after s.matrix (acts s.bots commands))) (all_of s.matrix)) apart_all
       (λ c i. by c (in_either c (edits_of s commands true) (edits_of s commands false) i)) in
@@ -108,7 +116,8 @@ module _ (s : State) (commands : List Command) (step : ℕ) (ready : IsReady s) 
       let e = length-filter (differ_at s.matrix (matrix_after s.matrix (acts s.bots commands))) (all_of s.matrix) in
       omega (arith, l, n, e)
     where
-      by : (c : Coord) → In c (edits_of s commands true) ⊎ In c (edits_of s commands false) → In c (filter (differ_at s.matrix (matrix_after s.matrix (acts s.bots commands))) (all_of s.matrix))
+      by : (c : Coord) → In c (edits_of s commands true) ⊎ In c (edits_of s commands false)
+          → In c (filter (differ_at s.matrix (matrix_after s.matrix (acts s.bots commands))) (all_of s.matrix))
       by c (inl i) = in_filter (differ_at s.matrix (matrix_after s.matrix (acts s.bots commands))) c (all_of s.matrix) (in_coordinates s.matrix.resolution c (cell_of s (acts s.bots commands) good true c i).0) (lost_differs c i)
       by c (inr i) = in_filter (differ_at s.matrix (matrix_after s.matrix (acts s.bots commands))) c (all_of s.matrix) (in_coordinates s.matrix.resolution c (cell_of s (acts s.bots commands) good false c i).0) (won_differs c i)
 
@@ -142,22 +151,27 @@ no_end rule (inr (inr (inr (inr (inr (inr (inr (inr (inr (inl e)))))))))) f = cc
 no_end rule (inr (inr (inr (inr (inr (inr (inr (inr (inr (inr i)))))))))) f = absurd i
 
 -- the trace ends within the step only where a bot has no command
-ends_early : (s : State) (commands : List Command) (step : ℕ) (b : Broken) → broken s commands step ≡ Some b → b.rule ≡ TraceEnds → length commands < length s.bots
+ends_early : (s : State) (commands : List Command) (step : ℕ) (b : Broken) → broken s commands step ≡ Some b
+    → b.rule ≡ TraceEnds → length commands < length s.bots
 ends_early s commands step b e f = by (slice_get s.bots (length commands)) refl (first_in (judge_trace s commands step ∷ (judge_bots s (acts s.bots commands) step ++ judge_pairs s.matrix (acts s.bots commands) step (leaders (acts s.bots commands)))) b e)
   where
-    later : In (Some b) (judge_bots s (acts s.bots commands) step) ⊎ In (Some b) (judge_pairs s.matrix (acts s.bots commands) step (leaders (acts s.bots commands))) → ⊥
+    later : In (Some b) (judge_bots s (acts s.bots commands) step)
+        ⊎ In (Some b) (judge_pairs s.matrix (acts s.bots commands) step (leaders (acts s.bots commands))) → ⊥
     later (inl i) = no_end b.rule (bots_rule s (acts s.bots commands) step b i) f
     later (inr i) = let g = pairs_rule s.matrix (acts s.bots commands) step (leaders (acts s.bots commands)) b i in cc
 
     none : {A B : Type 0} (g : A → B) (o : Option A) (x : B) → o ≡ None → Some x ≡ option_map g o → ⊥
     none g o x n h = let k = ap (option_map g) n in cc
 
-    by : (o : Option Bot) → slice_get s.bots (length commands) ≡ o → In (Some b) (judge_trace s commands step ∷ (judge_bots s (acts s.bots commands) step ++ judge_pairs s.matrix (acts s.bots commands) step (leaders (acts s.bots commands)))) → length commands < length s.bots
+    by : (o : Option Bot) → slice_get s.bots (length commands) ≡ o → In (Some b)
+        (judge_trace s commands step ∷ (judge_bots s (acts s.bots commands) step ++ judge_pairs s.matrix (acts s.bots commands) step (leaders (acts s.bots commands))))
+        → length commands < length s.bots
     by (Some bot) g i = slice_get_within s.bots (length commands) bot g
     by None g (inl i) = absurd (none (λ (bot : Bot). _) (slice_get s.bots (length commands)) b g i)
     by None g (inr i) = absurd (later (in_either (Some b) (judge_bots s (acts s.bots commands) step) (judge_pairs s.matrix (acts s.bots commands) step (leaders (acts s.bots commands))) i))
 
-work_at : (m : Matrix) (all : List Act) (rule : Rule) → (rule ≡ TraceEnds → ⊥) → work_by_rule m all rule ≡ volatile_total m all
+work_at : (m : Matrix) (all : List Act) (rule : Rule) → (rule ≡ TraceEnds → ⊥)
+    → work_by_rule m all rule ≡ volatile_total m all
 work_at m all TraceEnds n = absurd (n refl)
 work_at m all HaltAlone n = refl
 work_at m all HaltOrigin n = refl
@@ -191,7 +205,9 @@ is_end AfterHalt = inr (λ e. cc)
 is_end WrongResult = inr (λ e. cc)
 is_end Forbidden = inr (λ e. cc)
 
-pub judged_touches : (s : State) (commands : List Command) (step : ℕ) (b : Broken) (before after n : ℕ) → broken s commands step ≡ Some b → after ≤ before + 3 * volatile_total s.matrix (acts s.bots commands) → (length commands < length s.bots → after ≡ before) → WorkOfStep s commands step n → after ≤ before + 100 * n
+pub judged_touches : (s : State) (commands : List Command) (step : ℕ) (b : Broken) (before after n : ℕ)
+    → broken s commands step ≡ Some b → after ≤ before + 3 * volatile_total s.matrix (acts s.bots commands)
+    → (length commands < length s.bots → after ≡ before) → WorkOfStep s commands step n → after ≤ before + 100 * n
 judged_touches s commands step b before after n e touches ends w = by (is_end b.rule)
   where
     work : n ≡ work_by_rule s.matrix (acts s.bots commands) b.rule
@@ -202,13 +218,16 @@ judged_touches s commands step b before after n e touches ends w = by (is_end b.
     by (inr f) = let g = work_at s.matrix (acts s.bots commands) b.rule f in omega (arith, g, work, touches)
 
 -- the work of a step that breaks none of the rules of its start
-pub acts_work : (s : State) (commands : List Command) (step n : ℕ) → broken s commands step ≡ None → WorkOfStep s commands step n → WorkOfActs s.matrix (acts s.bots commands) n
+pub acts_work : (s : State) (commands : List Command) (step n : ℕ) → broken s commands step ≡ None
+    → WorkOfStep s commands step n → WorkOfActs s.matrix (acts s.bots commands) n
 acts_work s commands step n e w = subst (λ o. WorkOfJudged s (acts s.bots commands) o n) e w
 
 -- ---- the step of a machine
 
-pub work_seen : (s : State) (steps : ℕ) (spent : Bool) (v : Situation) (commands : List Command) (n : ℕ) → seen s steps spent ≡ v → WorkOfStep v.state commands (v.steps + 1) n → WorkOfStep s commands (steps + 1) n
+pub work_seen : (s : State) (steps : ℕ) (spent : Bool) (v : Situation) (commands : List Command) (n : ℕ)
+    → seen s steps spent ≡ v → WorkOfStep v.state commands (v.steps + 1) n → WorkOfStep s commands (steps + 1) n
 work_seen s steps spent v commands n e w = subst (λ (x : Situation). WorkOfStep x.state commands (x.steps + 1) n) (sym e) w
 
-pub volume_seen : (s : State) (steps : ℕ) (spent : Bool) (v : Situation) (commands : List Command) (m : Matrix) → seen s steps spent ≡ v → m ≡ (after s commands).matrix → volume m.resolution ≡ volume v.state.matrix.resolution
+pub volume_seen : (s : State) (steps : ℕ) (spent : Bool) (v : Situation) (commands : List Command) (m : Matrix)
+    → seen s steps spent ≡ v → m ≡ (after s commands).matrix → volume m.resolution ≡ volume v.state.matrix.resolution
 volume_seen s steps spent v commands m e f = ap (λ (x : Matrix). volume x.resolution) f ∙ ap (λ (x : Situation). volume x.state.matrix.resolution) e

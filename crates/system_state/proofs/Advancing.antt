@@ -37,7 +37,9 @@ use Rattle.system_state.proofs.TurnTaken.{found_there, itself_in, may_take, turn
 
 -- ---- the turn at an index
 
-pub turn_at : (all leaders : List Act) (turns : List Turn) (i : ℕ) (d : Turn) → AreTurns all leaders turns → i < length turns → (l : Act) × (leaders ≡ take i leaders ++ l ∷ drop (i + 1) leaders) × IsTurn all l (get_or turns i d) × (take (i + 1) leaders ≡ take i leaders ++ l ∷ [])
+pub turn_at : (all leaders : List Act) (turns : List Turn) (i : ℕ) (d : Turn) → AreTurns all leaders turns
+    → i < length turns → (l : Act) × (leaders ≡ take i leaders ++ l ∷ drop (i + 1) leaders)
+    × IsTurn all l (get_or turns i d) × (take (i + 1) leaders ≡ take i leaders ++ l ∷ [])
 turn_at all [] [] i d h lt = absurd (omega arith)
 turn_at all [] (t ∷ turns) i d h lt = absurd h
 turn_at all (a ∷ leaders) [] i d h lt = absurd h
@@ -47,14 +49,17 @@ turn_at all (a ∷ leaders) (t ∷ turns) (suc i) d h lt =
     let e : suc i + 1 ≡ suc (i + 1) = omega arith in
     (w.0, ap (λ (xs : List Act). a ∷ xs) w.1 ∙ ap (λ n. a ∷ (take i leaders ++ w.0 ∷ drop n (a ∷ leaders))) (sym e), w.2, ap (λ n. take n (a ∷ leaders)) e ∙ ap (λ (xs : List Act). a ∷ xs) w.3)
 
-pub turns_many : (all leaders : List Act) (turns : List Turn) → AreTurns all leaders turns → length turns ≡ length leaders
+pub turns_many : (all leaders : List Act) (turns : List Turn) → AreTurns all leaders turns
+    → length turns ≡ length leaders
 turns_many all [] [] h = refl
 turns_many all [] (t ∷ turns) h = absurd h
 turns_many all (a ∷ leaders) [] h = absurd h
 turns_many all (a ∷ leaders) (t ∷ turns) h = ap suc (turns_many all leaders turns h.1)
 
 -- the command at the place of an act
-pub command_at : (bots : List Bot) (commands : List Command) (k : ℕ) (a : Act) → slice_get (acts bots commands) k ≡ Some a → (k < length commands) × ((d : Command) → get_or commands k d ≡ a.command)
+pub command_at : (bots : List Bot) (commands : List Command) (k : ℕ) (a : Act)
+    → slice_get (acts bots commands) k ≡ Some a
+    → (k < length commands) × ((d : Command) → get_or commands k d ≡ a.command)
 command_at [] commands k a e = cc
 command_at (b ∷ bots) [] k a e = cc
 command_at (b ∷ bots) (c ∷ commands) zero a e = (omega arith, λ d. ap (λ (x : Act). x.command) (same e))
@@ -94,11 +99,13 @@ fewer p q (x ∷ xs) h =
         no e = cc
 
 -- the voxels that a leader's command meets are volatile for its group
-met_volatile : (m : Matrix) (all : List Act) (l : Act) → In l (members all l) → stays_in_space m.resolution l ≡ true → met_count m l.bot l.command ≤ volatile_count m all l
+met_volatile : (m : Matrix) (all : List Act) (l : Act) → In l (members all l) → stays_in_space m.resolution l ≡ true
+    → met_count m l.bot l.command ≤ volatile_count m all l
 met_volatile m all l i h = fewer (is_met (met (position l) l.command)) (λ c. list_any (is_volatile_of (point c)) (filter (stays_in_space m.resolution) (members all l))) (all_of m) (λ c e.
     in_any (is_volatile_of (point c)) l (filter (stays_in_space m.resolution) (members all l)) (in_filter (stays_in_space m.resolution) l (members all l) i h) (own c (any_in (λ s. is_within s (point c)) (filled (position l) l.command ++ voided (position l) l.command) e)))
   where
-    own : (c : Coord) → (s : Span) × In s (filled (position l) l.command ++ voided (position l) l.command) × (is_within s (point c) ≡ true) → is_volatile_of (point c) l ≡ true
+    own : (c : Coord) → (s : Span) × In s (filled (position l) l.command ++ voided (position l) l.command)
+        × (is_within s (point c) ≡ true) → is_volatile_of (point c) l ≡ true
     own c w = by (parted (filled (position l) l.command) (voided (position l) l.command) w.1)
       where
         parted : (xs ys : List Span) → In w.0 (xs ++ ys) → In w.0 xs ⊎ In w.0 ys
@@ -110,7 +117,8 @@ met_volatile m all l i h = fewer (is_met (met (position l) l.command)) (λ c. li
             on (inl k) = inl (inr k)
             on (inr k) = inr k
 
-        by : In w.0 (filled (position l) l.command) ⊎ In w.0 (voided (position l) l.command) → is_volatile_of (point c) l ≡ true
+        by : In w.0 (filled (position l) l.command) ⊎ In w.0 (voided (position l) l.command)
+            → is_volatile_of (point c) l ≡ true
         by (inl k) = fills_own (position l) l.command (point c) (in_any (λ s. is_within s (point c)) w.0 (filled (position l) l.command) k w.2)
         by (inr k) = voids_own (position l) l.command (point c) (in_any (λ s. is_within s (point c)) w.0 (voided (position l) l.command) k w.2)
 
@@ -120,7 +128,8 @@ met_volatile m all l i h = fewer (is_met (met (position l) l.command)) (λ c. li
 pub record TurnOf (s : State) (all : List Act) (before : List Act) (l : Act) : Type 0 where
   pub bots : group_in (after_some s all before) all l ≡ members all l
   pub rules : IsTrue (keeps_rules (after_some s all before) (members all l))
-  pub places : (x y : Bot) → Contains (successors (members all l) l l.command) x → Contains (after_some s all before).bots y → x.pos ≡ y.pos → y ≡ l.bot
+  pub places : (x y : Bot) → Contains (successors (members all l) l l.command) x
+      → Contains (after_some s all before).bots y → x.pos ≡ y.pos → y ≡ l.bot
   pub next : after_group (after_some s all before) (members all l) ≡ after_some s all (before ++ l ∷ [])
 
 -- what holds of each turn of each step that breaks no rule
@@ -152,7 +161,8 @@ module _ (s : State) (commands : List Command) (step : ℕ) (ready : IsReady s) 
     (order : List Act) (perm : IsPermutation (leaders (acts s.bots commands)) order) (turns : List Turn) (are : AreTurns (acts s.bots commands) order turns) (i : ℕ) (lt : i < length turns) (d : Turn)
     (turn_of : OfTurns TurnOf)
     (now : State) (taken : now ≡ after_some s (acts s.bots commands) (take i order)) (now_ready : IsReady now) where
-  here : (l : Act) × (order ≡ take i order ++ l ∷ drop (i + 1) order) × IsTurn (acts s.bots commands) l (get_or turns i d) × (take (i + 1) order ≡ take i order ++ l ∷ [])
+  here : (l : Act) × (order ≡ take i order ++ l ∷ drop (i + 1) order)
+      × IsTurn (acts s.bots commands) l (get_or turns i d) × (take (i + 1) order ≡ take i order ++ l ∷ [])
   here = turn_at (acts s.bots commands) order turns i d are lt
 
   leads : In here.0 (leaders (acts s.bots commands))
@@ -167,13 +177,16 @@ module _ (s : State) (commands : List Command) (step : ℕ) (ready : IsReady s) 
   ready_there : IsReady (after_some s (acts s.bots commands) (take i order))
   ready_there = subst (λ (t : State). IsReady t) taken now_ready
 
-  within_there : (b : Bot) → In b (after_some s (acts s.bots commands) (take i order)).bots → IsInSpace s.matrix.resolution b.pos
+  within_there : (b : Bot) → In b (after_some s (acts s.bots commands) (take i order)).bots
+      → IsInSpace s.matrix.resolution b.pos
   within_there b j = let p = in_place b b (after_some s (acts s.bots commands) (take i order)).bots j in subst (λ (c : Bot). IsInSpace s.matrix.resolution c.pos) p.2 (ready_there.within p.0 b p.1)
 
-  apart_there : (x y : Bot) → In x (successors (members (acts s.bots commands) here.0) here.0 here.0.command) → In y (after_some s (acts s.bots commands) (take i order)).bots → x.pos ≡ y.pos → y ≡ here.0.bot
+  apart_there : (x y : Bot) → In x (successors (members (acts s.bots commands) here.0) here.0 here.0.command)
+      → In y (after_some s (acts s.bots commands) (take i order)).bots → x.pos ≡ y.pos → y ≡ here.0.bot
   apart_there x y j k e = law.places x y (contained x _ j) (contained y _ k) e
 
-  may : MayTake s.matrix.resolution (after_some s (acts s.bots commands) (take i order)).bots here.0.bot (get_or turns i d).partner here.0.command
+  may :
+      MayTake s.matrix.resolution (after_some s (acts s.bots commands) (take i order)).bots here.0.bot (get_or turns i d).partner here.0.command
   may = may_take s (acts s.bots commands) good here.0 leads (after_some s (acts s.bots commands) (take i order)) law.bots law.rules apart_there
       (rising_is (after_some s (acts s.bots commands) (take i order)).bots ready_there.rising) within_there (get_or turns i d).partner here.2.partner
       (commands_are s.bots commands known here.0 (filter_in (is_leader (acts s.bots commands)) here.0 (acts s.bots commands) leads).0)
@@ -189,16 +202,22 @@ module _ (s : State) (commands : List Command) (step : ℕ) (ready : IsReady s) 
   pub place_below : (get_or turns i d).place < length commands
   place_below = (command_at s.bots commands (get_or turns i d).place here.0 here.2.place).0
 
-  command_is : (command : Command) → command ≡ get_or commands (get_or turns i d).place command → command ≡ here.0.command
+  command_is : (command : Command) → command ≡ get_or commands (get_or turns i d).place command
+      → command ≡ here.0.command
   command_is command e = e ∙ (command_at s.bots commands (get_or turns i d).place here.0 here.2.place).1 command
 
-  pub may_now : (command : Command) → command ≡ get_or commands (get_or turns i d).place command → IfSome (bot_of now.bots (get_or turns i d).leader) (λ bot. MayTake now.matrix.resolution now.bots bot (get_or turns i d).partner command)
+  pub may_now : (command : Command) → command ≡ get_or commands (get_or turns i d).place command
+      → IfSome (bot_of now.bots (get_or turns i d).leader)
+      (λ bot. MayTake now.matrix.resolution now.bots bot (get_or turns i d).partner command)
   may_now command e =
       subst (λ (o : Option Bot). IfSome o (λ bot. MayTake now.matrix.resolution now.bots bot (get_or turns i d).partner command)) (sym found_now)
       (subst (λ (t : State). MayTake t.matrix.resolution t.bots here.0.bot (get_or turns i d).partner command) (sym taken)
       (subst (λ (c : Command). MayTake s.matrix.resolution (after_some s (acts s.bots commands) (take i order)).bots here.0.bot (get_or turns i d).partner c) (sym (command_is command e)) may))
 
-  pub taken_more : Replaces → (command : Command) → command ≡ get_or commands (get_or turns i d).place command → (new : State) → IfSome (bot_of now.bots (get_or turns i d).leader) (λ bot. new ≡ after_turn now bot (get_or turns i d).partner command) → new ≡ after_some s (acts s.bots commands) (take (i + 1) order)
+  pub taken_more : Replaces → (command : Command) → command ≡ get_or commands (get_or turns i d).place command
+      → (new : State) → IfSome (bot_of now.bots (get_or turns i d).leader)
+      (λ bot. new ≡ after_turn now bot (get_or turns i d).partner command)
+      → new ≡ after_some s (acts s.bots commands) (take (i + 1) order)
   taken_more replaces command e new h =
       subst (λ (o : Option Bot). IfSome o (λ bot. new ≡ after_turn now bot (get_or turns i d).partner command)) found_now h
       ∙ ((λ j. after_turn (taken j) here.0.bot (get_or turns i d).partner (command_is command e j))
@@ -206,7 +225,11 @@ module _ (s : State) (commands : List Command) (step : ℕ) (ready : IsReady s) 
       (rising_is (after_some s (acts s.bots commands) (take i order)).bots ready_there.rising) within_there (get_or turns i d).partner here.2.partner replaces
       ∙ (law.next ∙ ap (after_some s (acts s.bots commands)) (sym here.3))))
 
-  pub touched_more : (command : Command) → command ≡ get_or commands (get_or turns i d).place command → (old new start : ℕ) → IfSome (bot_of now.bots (get_or turns i d).leader) (λ bot. new ≤ old + met_count now.matrix bot command) → old ≤ start + sum (map (volatile_count s.matrix (acts s.bots commands)) (take i order)) → new ≤ start + sum (map (volatile_count s.matrix (acts s.bots commands)) (take (i + 1) order))
+  pub touched_more : (command : Command) → command ≡ get_or commands (get_or turns i d).place command
+      → (old new start : ℕ)
+      → IfSome (bot_of now.bots (get_or turns i d).leader) (λ bot. new ≤ old + met_count now.matrix bot command)
+      → old ≤ start + sum (map (volatile_count s.matrix (acts s.bots commands)) (take i order))
+      → new ≤ start + sum (map (volatile_count s.matrix (acts s.bots commands)) (take (i + 1) order))
   touched_more command e old new start h k =
       let a : new ≤ old + met_count now.matrix here.0.bot command = subst (λ (o : Option Bot). IfSome o (λ bot. new ≤ old + met_count now.matrix bot command)) found_now h in
       let b : met_count now.matrix here.0.bot command ≡ met_count s.matrix here.0.bot here.0.command = (λ j. met_count (taken j).matrix here.0.bot (command_is command e j)) in

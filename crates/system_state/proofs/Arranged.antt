@@ -25,7 +25,8 @@ same_sum f xs ys p = sum_by-IsPermutation (λ n. n) (map f xs) (map f ys) (IsPer
 
 -- ---- a list in an order of its keys
 
-map_swap : (f : Act → ℕ) (xs : List Act) (i j : ℕ) (d : Act) → i < length xs → j < length xs → map f (swap xs i j) ≡ swap (map f xs) i j
+map_swap : (f : Act → ℕ) (xs : List Act) (i j : ℕ) (d : Act) → i < length xs → j < length xs
+    → map f (swap xs i j) ≡ swap (map f xs) i j
 map_swap f xs i j d a b =
     let long : length (map f xs) ≡ length xs = length-map xs f in
     rw (sym (swap_is xs i j d a b), map-set f (set xs i (slice_index_or xs j d)) j (slice_index_or xs i d), map-set f xs i (slice_index_or xs j d), sym (swap_is (map f xs) i j (f d) (rw long a) (rw long b)), get_or-map f xs j d (f d) b, get_or-map f xs i d (f d) a) refl
@@ -34,7 +35,8 @@ map_swap f xs i j d a b =
 no_act : Act
 no_act = record { bot = record { bid = 0; pos = record { x = 0; y = 0; z = 0 }; seeds = 0 }; command = Halt }
 
-pub in_order_of : (key : Act → ℕ) (xs : List Act) (keys : List ℕ) → IsPermutation (map key xs) keys → (ys : List Act) × IsPermutation xs ys × (map key ys ≡ keys)
+pub in_order_of : (key : Act → ℕ) (xs : List Act) (keys : List ℕ) → IsPermutation (map key xs) keys
+    → (ys : List Act) × IsPermutation xs ys × (map key ys ≡ keys)
 in_order_of key xs keys = IsPermutation-keeps (map key xs) (λ ks. (ys : List Act) × IsPermutation xs ys × (map key ys ≡ ks)) (xs, IsPermutation-refl xs, refl) (λ ks i j a b h.
     let long : length h.0 ≡ length ks = sym (length-map h.0 key) ∙ ap length h.2 in (
       swap h.0 i j,
@@ -45,17 +47,21 @@ in_order_of key xs keys = IsPermutation-keeps (map key xs) (λ ks. (ys : List Ac
 -- ---- turns
 
 -- each bid of the order is that of a turn's leader
-pub has_turn : (old : List Turn) (order : List ℕ) → IsPermutation (map leader_of old) order → (i : ℕ) → i < length order → Contains (map leader_of old) (get_or order i 0)
+pub has_turn : (old : List Turn) (order : List ℕ) → IsPermutation (map leader_of old) order → (i : ℕ) → i < length order
+    → Contains (map leader_of old) (get_or order i 0)
 has_turn old order perm i lt =
     let k = get_or order i 0 in
     let w = in_place k k (map leader_of old) (listed (map leader_of old) order perm k (place_in 0 order i lt)) in
     (w.0, w.1, w.2)
 
 -- a turn more, by the bid of its leader
-pub one_more : (done : List Turn) (order : List ℕ) (i : ℕ) (t : Turn) → i < length order → map leader_of done ≡ take i order → t.leader ≡ get_or order i 0 → map leader_of (done ++ t ∷ []) ≡ take (i + 1) order
+pub one_more : (done : List Turn) (order : List ℕ) (i : ℕ) (t : Turn) → i < length order
+    → map leader_of done ≡ take i order → t.leader ≡ get_or order i 0
+    → map leader_of (done ++ t ∷ []) ≡ take (i + 1) order
 one_more done order i t lt e f = map-append leader_of done (t ∷ []) ∙ ((λ k. e k ++ f k ∷ []) ∙ sym (take_more order i 0 lt))
 
-pub known_more : (old done : List Turn) (t : Turn) → Contains old t → ((x : Turn) → In x done → In x old) → (x : Turn) → In x (done ++ t ∷ []) → In x old
+pub known_more : (old done : List Turn) (t : Turn) → Contains old t → ((x : Turn) → In x done → In x old) → (x : Turn)
+    → In x (done ++ t ∷ []) → In x old
 known_more old done t is known x i = by (in_either x done (t ∷ []) i)
   where
     by : In x done ⊎ In x (t ∷ []) → In x old
@@ -64,14 +70,16 @@ known_more old done t is known x i = by (in_either x done (t ∷ []) i)
     by (inr (inr j)) = absurd j
 
 -- the leaders of the turns are those of the groups
-pub leaders_are : (all firsts : List Act) (turns : List Turn) → AreTurns all firsts turns → map leader_of turns ≡ map bid_of firsts
+pub leaders_are : (all firsts : List Act) (turns : List Turn) → AreTurns all firsts turns
+    → map leader_of turns ≡ map bid_of firsts
 leaders_are all [] [] h = refl
 leaders_are all [] (t ∷ turns) h = absurd h
 leaders_are all (a ∷ firsts) [] h = absurd h
 leaders_are all (a ∷ firsts) (t ∷ turns) h = λ i. h.0.leader i ∷ leaders_are all firsts turns h.1 i
 
 -- each turn is that of one of the leaders
-pub one_of_them : (all firsts : List Act) (turns : List Turn) → AreTurns all firsts turns → (t : Turn) → In t turns → (a : Act) × In a firsts × IsTurn all a t
+pub one_of_them : (all firsts : List Act) (turns : List Turn) → AreTurns all firsts turns → (t : Turn) → In t turns
+    → (a : Act) × In a firsts × IsTurn all a t
 one_of_them all [] [] h t i = absurd i
 one_of_them all [] (x ∷ turns) h t i = absurd h
 one_of_them all (a ∷ firsts) [] h t i = absurd h
@@ -91,7 +99,8 @@ module _ (all : List Act) (up : Rising (map (λ (a : Act). a.bot) all)) (old : L
   in_all a i = (filter_in (is_leader all) a all i).0
 
   -- turns of these leaders, each one of the step's
-  placed : (order : List Act) → ((a : Act) → In a order → In a (leaders all)) → (new : List Turn) → ((t : Turn) → In t new → In t old) → map leader_of new ≡ map bid_of order → AreTurns all order new
+  placed : (order : List Act) → ((a : Act) → In a order → In a (leaders all)) → (new : List Turn)
+      → ((t : Turn) → In t new → In t old) → map leader_of new ≡ map bid_of order → AreTurns all order new
   placed [] lead [] known e = tt
   placed [] lead (t ∷ new) known e = cc
   placed (a ∷ order) lead [] known e = cc
@@ -101,7 +110,8 @@ module _ (all : List Act) (up : Rising (map (λ (a : Act). a.bot) all)) (old : L
       let same : w.0 ≡ a = same_act all (differ_acts all up) w.0 a (in_all w.0 w.1) (in_all a (lead a (inl refl))) (sym w.2.leader ∙ first) in
       (subst (λ (x : Act). IsTurn all x t) same w.2, placed order (λ x i. lead x (inr i)) new (λ x i. known x (inr i)) cc)
 
-  arranged : (bids : List ℕ) → IsPermutation (map leader_of old) bids → (new : List Turn) → map leader_of new ≡ bids → ((t : Turn) → In t new → In t old) → AreAllTurns all new
+  arranged : (bids : List ℕ) → IsPermutation (map leader_of old) bids → (new : List Turn) → map leader_of new ≡ bids
+      → ((t : Turn) → In t new → In t old) → AreAllTurns all new
   arranged bids perm new leads known =
       let w = in_order_of bid_of (leaders all) bids (subst (λ (ks : List ℕ). IsPermutation ks bids) (leaders_are all (leaders all) old are) perm) in
       record {

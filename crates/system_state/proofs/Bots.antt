@@ -86,7 +86,8 @@ module _ (bots : List Bot) (rising : Rising bots) (same : List Bot) (differ : Di
 
 -- ---- what holds of all bots
 
-pub all_replaced : (P : Bot → Type 0) (bots : List Bot) (bids : List ℕ) (news : List Bot) → ((b : Bot) → In b bots → P b) → ((b : Bot) → In b news → P b) → (b : Bot) → In b (replaced bots bids news) → P b
+pub all_replaced : (P : Bot → Type 0) (bots : List Bot) (bids : List ℕ) (news : List Bot)
+    → ((b : Bot) → In b bots → P b) → ((b : Bot) → In b news → P b) → (b : Bot) → In b (replaced bots bids news) → P b
 all_replaced P bots bids news h k b i = by (in_either b news (without bots bids) (order_in (news ++ without bots bids) b i))
   where
     by : In b news ⊎ In b (without bots bids) → P b
@@ -105,15 +106,19 @@ module _ (r : ℕ) (bots : List Bot) (within : (b : Bot) → In b bots → IsInS
   two n m w v b (inl e) = subst (λ (c : Bot). IsInSpace r c.pos) (sym e) w
   two n m w v b (inr i) = one m v b i
 
-  joined : (partner : ℕ) (bids : List ℕ) (fuse : Bot → Bot) → ((other : Bot) → In other bots → IsInSpace r (fuse other).pos) → (b : Bot) → In b (with_partner bots partner (λ other. replaced bots bids (fuse other ∷ []))) → IsInSpace r b.pos
+  joined : (partner : ℕ) (bids : List ℕ) (fuse : Bot → Bot)
+      → ((other : Bot) → In other bots → IsInSpace r (fuse other).pos) → (b : Bot)
+      → In b (with_partner bots partner (λ other. replaced bots bids (fuse other ∷ []))) → IsInSpace r b.pos
   joined partner bids fuse h b = by (bot_of bots partner) refl
     where
-      by : (o : Option Bot) → bot_of bots partner ≡ o → In b (unwrap_or (option_map (λ other. replaced bots bids (fuse other ∷ [])) o) bots) → IsInSpace r b.pos
+      by : (o : Option Bot) → bot_of bots partner ≡ o
+          → In b (unwrap_or (option_map (λ other. replaced bots bids (fuse other ∷ [])) o) bots) → IsInSpace r b.pos
       by None e i = within b i
       by (Some other) e i = all_replaced (λ (c : Bot). IsInSpace r c.pos) bots bids (fuse other ∷ []) within (one (fuse other) (h other (found_in (λ c. c.bid == partner) bots other e).0)) b i
 
   -- the bots after a turn stand in space
-  pub after_within : (partner : ℕ) (command : Command) → stays_in_space r (act bot command) ≡ true → (b : Bot) → In b (bots_after_turn bots bot partner command) → IsInSpace r b.pos
+  pub after_within : (partner : ℕ) (command : Command) → stays_in_space r (act bot command) ≡ true → (b : Bot)
+      → In b (bots_after_turn bots bot partner command) → IsInSpace r b.pos
   after_within partner Halt e b i = absurd i
   after_within partner (SMove d) e b i = all_replaced (λ (c : Bot). IsInSpace r c.pos) bots (bot.bid ∷ []) (moved bot (plus (point bot.pos) d) ∷ []) within (one (moved bot (plus (point bot.pos) d)) (space_is r (plus (point bot.pos) d) (first_of_two (in_space r (plus (point bot.pos) d)) true e)).0) b i
   after_within partner (LMove d f) e b i = all_replaced (λ (c : Bot). IsInSpace r c.pos) bots (bot.bid ∷ []) (moved bot (plus (plus (point bot.pos) d) f) ∷ []) within (one (moved bot (plus (plus (point bot.pos) d) f)) (space_is r (plus (plus (point bot.pos) d) f) (first_of_two (in_space r (plus (plus (point bot.pos) d) f)) true (second_of_two (in_space r (plus (point bot.pos) d)) (in_space r (plus (plus (point bot.pos) d) f) && true) e))).0) b i
@@ -127,7 +132,10 @@ module _ (r : ℕ) (bots : List Bot) (within : (b : Bot) → In b bots → IsInS
 halted : (bot : Bot) → in_rising_order (without (bot ∷ []) (bot.bid ∷ [])) ≡ []
 halted bot = ap (λ t. in_rising_order (cond (not (t || false)) (bot ∷ []) [])) (eq-eqb bot.bid bot.bid refl)
 
-pub alone_bots : (bots : List Bot) (bot : Bot) (partner : ℕ) (command : Command) → is_alone command ≡ true → Rising bots → In bot bots → (command ≡ Halt → bots ≡ bot ∷ []) → replaced bots (bot.bid ∷ []) (successors (act bot command ∷ []) (act bot command) command ++ []) ≡ bots_after_turn bots bot partner command
+pub alone_bots : (bots : List Bot) (bot : Bot) (partner : ℕ) (command : Command) → is_alone command ≡ true → Rising bots
+    → In bot bots → (command ≡ Halt → bots ≡ bot ∷ [])
+    → replaced bots (bot.bid ∷ []) (successors (act bot command ∷ []) (act bot command) command ++ [])
+    ≡ bots_after_turn bots bot partner command
 alone_bots bots bot partner command h rising i lone = by command h lone
   where
     still : replaced bots (bot.bid ∷ []) (bot ∷ []) ≡ bots
@@ -137,7 +145,9 @@ alone_bots bots bot partner command h rising i lone = by command h lone
         own b (inl e) = subst (λ (c : Bot). In c bots) (sym e) i
         own b (inr j) = absurd j
 
-    by : (c : Command) → is_alone c ≡ true → (c ≡ Halt → bots ≡ bot ∷ []) → replaced bots (bot.bid ∷ []) (successors (act bot c ∷ []) (act bot c) c ++ []) ≡ bots_after_turn bots bot partner c
+    by : (c : Command) → is_alone c ≡ true → (c ≡ Halt → bots ≡ bot ∷ [])
+        → replaced bots (bot.bid ∷ []) (successors (act bot c ∷ []) (act bot c) c ++ [])
+        ≡ bots_after_turn bots bot partner c
     by Halt e l = ap (λ (bs : List Bot). in_rising_order (without bs (bot.bid ∷ []))) (l refl) ∙ halted bot
     by (SMove d) e l = refl
     by (LMove d f) e l = refl
@@ -153,5 +163,7 @@ alone_bots bots bot partner command h rising i lone = by command h lone
 pub in_all : (r : ℕ) (bots : List Bot) → All (λ b. IsInSpace r b.pos) bots → (b : Bot) → In b bots → IsInSpace r b.pos
 in_all r bots h b i = let p = in_place b b bots i in subst (λ (c : Bot). IsInSpace r c.pos) p.2 (h p.0 b p.1)
 
-pub turn_within : (r : ℕ) (bots : List Bot) (bot : Bot) (partner : ℕ) (command : Command) → All (λ b. IsInSpace r b.pos) bots → MayTake r bots bot partner command → All (λ b. IsInSpace r b.pos) (bots_after_turn bots bot partner command)
+pub turn_within : (r : ℕ) (bots : List Bot) (bot : Bot) (partner : ℕ) (command : Command)
+    → All (λ b. IsInSpace r b.pos) bots → MayTake r bots bot partner command
+    → All (λ b. IsInSpace r b.pos) (bots_after_turn bots bot partner command)
 turn_within r bots bot partner command h may = λ k d l. after_within r bots (in_all r bots h) bot may.within partner command may.stays (get_or (bots_after_turn bots bot partner command) k d) (place_in d (bots_after_turn bots bot partner command) k l)

@@ -30,7 +30,9 @@ use Rattle.system_state.proofs.TurnTaken.{found_there, itself_in, may_take, turn
 use Rattle.step_groups.specs.Groups.{bid_of}
 
 -- a list whose keys are these has parts with these keys
-split_keys : (key : Act → ℕ) (ys : List Act) (xs : List ℕ) (k : ℕ) (zs : List ℕ) → map key ys ≡ xs ++ k ∷ zs → (before : List Act) × (l : Act) × (rest : List Act) × (ys ≡ before ++ l ∷ rest) × (map key before ≡ xs) × (key l ≡ k)
+split_keys : (key : Act → ℕ) (ys : List Act) (xs : List ℕ) (k : ℕ) (zs : List ℕ) → map key ys ≡ xs ++ k ∷ zs
+    → (before : List Act) × (l : Act) × (rest : List Act) × (ys ≡ before ++ l ∷ rest) × (map key before ≡ xs)
+    × (key l ≡ k)
 split_keys key [] [] k zs e = cc
 split_keys key [] (x ∷ xs) k zs e = cc
 split_keys key (y ∷ ys) [] k zs e = let f : key y ≡ k = cc in ([], y, ys, refl, refl, f)
@@ -40,7 +42,8 @@ split_keys key (y ∷ ys) (x ∷ xs) k zs e =
     let r = split_keys key ys xs k zs g in
     (y ∷ r.0, r.1, r.2, ap (λ (more : List Act). y ∷ more) r.3, (λ i. f i ∷ r.4 i), r.5)
 
-of_map : (f : ℕ → List Act) (xs : List Act) → ((x : Act) → In x xs → f (bid_of x) ≡ x ∷ []) → flat_map f (map bid_of xs) ≡ xs
+of_map : (f : ℕ → List Act) (xs : List Act) → ((x : Act) → In x xs → f (bid_of x) ≡ x ∷ [])
+    → flat_map f (map bid_of xs) ≡ xs
 of_map f [] h = refl
 of_map f (x ∷ xs) h = λ i. h x (inl refl) i ++ of_map f xs (λ y j. h y (inr j)) i
 
@@ -52,7 +55,8 @@ module _ (s : State) (commands : List Command) (step : ℕ) (ready : IsReady s) 
   leads_all a i = (filter_in (is_leader (acts s.bots commands)) a (acts s.bots commands) i).0
 
   -- the acts of some leaders, by their bids
-  acts_are : (xs : List Act) → ((a : Act) → In a xs → In a (leaders (acts s.bots commands))) → acts_of (acts s.bots commands) (map bid_of xs) ≡ xs
+  acts_are : (xs : List Act) → ((a : Act) → In a xs → In a (leaders (acts s.bots commands)))
+      → acts_of (acts s.bots commands) (map bid_of xs) ≡ xs
   acts_are xs lead = of_map (λ k. filter (λ (a : Act). a.bot.bid == k) (acts s.bots commands)) xs (λ a i.
       let j = leads_all a (lead a i) in
       filter_only (λ (x : Act). x.bot.bid) (λ (x : Act). x.bot.bid == a.bot.bid) a (acts s.bots commands) (differ_acts (acts s.bots commands) good.rising) j (eq-eqb a.bot.bid a.bot.bid refl)
@@ -60,17 +64,20 @@ module _ (s : State) (commands : List Command) (step : ℕ) (ready : IsReady s) 
 
   module _ (turns : List Turn) (are : AreTurns (acts s.bots commands) (leaders (acts s.bots commands)) turns) (leader : ℕ) where
     -- the leader has a turn
-    pub has_one : (before rest : List ℕ) (bots : List Bot) → FollowsOn s commands before leader rest bots → Contains (map leader_of turns) leader
+    pub has_one : (before rest : List ℕ) (bots : List Bot) → FollowsOn s commands before leader rest bots
+        → Contains (map leader_of turns) leader
     has_one before rest bots f =
         let i = listed (leader_bids (acts s.bots commands)) (before ++ leader ∷ rest) f.leaders leader (in_right leader before (leader ∷ rest) (inl refl)) in
         let p = in_place leader leader (map leader_of turns) (subst (λ (ks : List ℕ). In leader ks) (sym (leaders_are (acts s.bots commands) (leaders (acts s.bots commands)) turns are)) i) in
         (p.0, p.1, p.2)
 
     module _ (t : Turn) (first : t.leader ≡ leader) (among : Contains turns t) (turn_of : OfTurns TurnOf) (before rest : List ℕ) (bots : List Bot) (f : FollowsOn s commands before leader rest bots) (crew : IsCrew bots) (space : All (λ b. IsInSpace s.matrix.resolution b.pos) bots) where
-      ordered : (ys : List Act) × IsPermutation (leaders (acts s.bots commands)) ys × (map bid_of ys ≡ before ++ leader ∷ rest)
+      ordered : (ys : List Act) × IsPermutation (leaders (acts s.bots commands)) ys
+          × (map bid_of ys ≡ before ++ leader ∷ rest)
       ordered = in_order_of bid_of (leaders (acts s.bots commands)) (before ++ leader ∷ rest) f.leaders
 
-      parts : (done : List Act) × (l : Act) × (left : List Act) × (ordered.0 ≡ done ++ l ∷ left) × (map bid_of done ≡ before) × (bid_of l ≡ leader)
+      parts : (done : List Act) × (l : Act) × (left : List Act) × (ordered.0 ≡ done ++ l ∷ left)
+          × (map bid_of done ≡ before) × (bid_of l ≡ leader)
       parts = split_keys bid_of ordered.0 before leader rest ordered.2
 
       perm : IsPermutation (leaders (acts s.bots commands)) (parts.0 ++ parts.1 ∷ parts.2)
@@ -109,10 +116,12 @@ module _ (s : State) (commands : List Command) (step : ℕ) (ready : IsReady s) 
       law : TurnOf s (acts s.bots commands) parts.0 parts.1
       law = turn_of s commands step ready keep parts.0 parts.2 parts.1 perm
 
-      within_there : (b : Bot) → In b (after_some s (acts s.bots commands) parts.0).bots → IsInSpace s.matrix.resolution b.pos
+      within_there : (b : Bot) → In b (after_some s (acts s.bots commands) parts.0).bots
+          → IsInSpace s.matrix.resolution b.pos
       within_there b j = let p = in_place b b bots (subst (λ (bs : List Bot). In b bs) (sym taken) j) in subst (λ (c : Bot). IsInSpace s.matrix.resolution c.pos) p.2 (space p.0 b p.1)
 
-      apart_there : (x y : Bot) → In x (successors (members (acts s.bots commands) parts.1) parts.1 parts.1.command) → In y (after_some s (acts s.bots commands) parts.0).bots → x.pos ≡ y.pos → y ≡ parts.1.bot
+      apart_there : (x y : Bot) → In x (successors (members (acts s.bots commands) parts.1) parts.1 parts.1.command)
+          → In y (after_some s (acts s.bots commands) parts.0).bots → x.pos ≡ y.pos → y ≡ parts.1.bot
       apart_there x y j k e = law.places x y (contained x _ j) (contained y _ k) e
 
       pub place_there : t.place < length commands
@@ -135,7 +144,8 @@ module _ (s : State) (commands : List Command) (step : ℕ) (ready : IsReady s) 
           clash : Some parts.1.bot ≡ None → ⊥
           clash h = cc
 
-      pub may : (bot : Bot) (command : Command) → bot_of bots leader ≡ Some bot → command ≡ get_or commands t.place command → MayTake s.matrix.resolution bots bot t.partner command
+      pub may : (bot : Bot) (command : Command) → bot_of bots leader ≡ Some bot
+          → command ≡ get_or commands t.place command → MayTake s.matrix.resolution bots bot t.partner command
       may bot command o e =
           let b : parts.1.bot ≡ bot = same (sym found ∙ o) in
           subst (λ (x : Bot). MayTake s.matrix.resolution bots x t.partner command) b
@@ -148,7 +158,9 @@ module _ (s : State) (commands : List Command) (step : ℕ) (ready : IsReady s) 
           same : Some parts.1.bot ≡ Some bot → parts.1.bot ≡ bot
           same h = cc
 
-      pub moved_on : Replaces → (bot : Bot) (command : Command) (new : List Bot) → bot_of bots leader ≡ Some bot → command ≡ get_or commands t.place command → new ≡ bots_after_turn bots bot t.partner command → new ≡ bots_after_some s commands (before ++ leader ∷ [])
+      pub moved_on : Replaces → (bot : Bot) (command : Command) (new : List Bot) → bot_of bots leader ≡ Some bot
+          → command ≡ get_or commands t.place command → new ≡ bots_after_turn bots bot t.partner command
+          → new ≡ bots_after_some s commands (before ++ leader ∷ [])
       moved_on replaces bot command new o e is =
           let b : bot ≡ parts.1.bot = same (sym o ∙ found) in
           is

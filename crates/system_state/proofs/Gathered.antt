@@ -13,7 +13,8 @@ use Rattle.system_state.specs.Turns.{AreTurns, IsTurn}
 
 -- ---- one turn more
 
-pub turn_more : (all leaders : List Act) (turns : List Turn) (a : Act) (t : Turn) → AreTurns all leaders turns → IsTurn all a t → AreTurns all (leaders ++ a ∷ []) (turns ++ t ∷ [])
+pub turn_more : (all leaders : List Act) (turns : List Turn) (a : Act) (t : Turn) → AreTurns all leaders turns
+    → IsTurn all a t → AreTurns all (leaders ++ a ∷ []) (turns ++ t ∷ [])
 turn_more all [] [] a t h k = (k, tt)
 turn_more all [] (x ∷ turns) a t h k = absurd h
 turn_more all (b ∷ leaders) [] a t h k = absurd h
@@ -33,7 +34,8 @@ leaders_most all = fewer (is_leader all) all
     fewer p [] = omega arith
     fewer p (x ∷ xs) = by (p x) (fewer p xs)
       where
-        by : (b : Bool) → length (filter p xs) ≤ length xs → length (cond b (x ∷ filter p xs) (filter p xs)) ≤ length (x ∷ xs)
+        by : (b : Bool) → length (filter p xs) ≤ length xs
+            → length (cond b (x ∷ filter p xs) (filter p xs)) ≤ length (x ∷ xs)
         by true h = omega arith
         by false h = omega arith
 
@@ -45,7 +47,10 @@ acts_most (b ∷ bots) (c ∷ commands) = let r = acts_most bots commands in ome
 -- ---- bots each of which is a group of its own
 
 -- the act at a place
-act_here : (bots : List Bot) (commands : List Command) (i : ℕ) (b : Bot) → length commands ≡ length bots → i < length bots → b ≡ get_or bots i b → (a : Act) × (a.bot.bid ≡ b.bid) × (slice_get (acts bots commands) i ≡ Some a) × In a (acts bots commands) × (take (i + 1) (acts bots commands) ≡ take i (acts bots commands) ++ a ∷ [])
+act_here : (bots : List Bot) (commands : List Command) (i : ℕ) (b : Bot) → length commands ≡ length bots
+    → i < length bots → b ≡ get_or bots i b → (a : Act) × (a.bot.bid ≡ b.bid)
+    × (slice_get (acts bots commands) i ≡ Some a) × In a (acts bots commands)
+    × (take (i + 1) (acts bots commands) ≡ take i (acts bots commands) ++ a ∷ [])
 act_here [] commands i b e l h = absurd (omega arith)
 act_here (x ∷ bots) [] i b e l h = absurd (omega arith)
 act_here (x ∷ bots) (k ∷ commands) zero b e l h = (record { bot = x; command = k }, ap (λ (y : Bot). y.bid) (sym h), refl, inl refl, refl)
@@ -53,7 +58,11 @@ act_here (x ∷ bots) (k ∷ commands) (suc i) b e l h =
     let w = act_here bots commands i b (omega arith) (omega arith) h in
     (w.0, w.1, w.2, inr w.3, ap (λ n. take n (acts (x ∷ bots) (k ∷ commands))) (let f : suc i + 1 ≡ suc (i + 1) = omega arith in f) ∙ ap (λ (xs : List Act). record { bot = x; command = k } ∷ xs) w.4)
 
-pub lone_turn_more : (bots : List Bot) (commands : List Command) (turns : List Turn) (i : ℕ) (b : Bot) → length commands ≡ length bots → i < length bots → b ≡ get_or bots i b → All (λ a. members (acts bots commands) a ≡ a ∷ []) (acts bots commands) → AreTurns (acts bots commands) (take i (acts bots commands)) turns → AreTurns (acts bots commands) (take (i + 1) (acts bots commands)) (turns ++ record { leader = b.bid; place = i; partner = 0 } ∷ [])
+pub lone_turn_more : (bots : List Bot) (commands : List Command) (turns : List Turn) (i : ℕ) (b : Bot)
+    → length commands ≡ length bots → i < length bots → b ≡ get_or bots i b
+    → All (λ a. members (acts bots commands) a ≡ a ∷ []) (acts bots commands)
+    → AreTurns (acts bots commands) (take i (acts bots commands)) turns → AreTurns (acts bots commands)
+    (take (i + 1) (acts bots commands)) (turns ++ record { leader = b.bid; place = i; partner = 0 } ∷ [])
 lone_turn_more bots commands turns i b e l h alone so_far =
     let all = acts bots commands in
     let w = act_here bots commands i b e l h in

@@ -20,7 +20,9 @@ use Rattle.system_state.proofs.Gathered.{turn_more}
 use Rattle.step_groups.specs.Groups.{bid_of}
 
 -- the act of a bot and its command at a place
-act_there : (bots : List Bot) (commands : List Command) (i : ℕ) (b : Bot) (k : Command) → i < length bots → length commands ≡ length bots → b ≡ get_or bots i b → k ≡ get_or commands i k → slice_get (acts bots commands) i ≡ Some (act b k)
+act_there : (bots : List Bot) (commands : List Command) (i : ℕ) (b : Bot) (k : Command) → i < length bots
+    → length commands ≡ length bots → b ≡ get_or bots i b → k ≡ get_or commands i k
+    → slice_get (acts bots commands) i ≡ Some (act b k)
 act_there [] commands i b k h e f g = absurd (omega arith)
 act_there (x ∷ bots) [] i b k h e f g = absurd (omega arith)
 act_there (x ∷ bots) (y ∷ commands) zero b k h e f g = λ n. Some (act (sym f n) (sym g n))
@@ -48,15 +50,27 @@ module _ (bots : List Bot) (commands : List Command) (i : ℕ) (b : Bot) (k : Co
   leads_here : is_leader (acts bots commands) (act b k) ≡ not (list_any (are_together (act b k)) xs)
   leads_here = ap (λ (zs : List Act). is_leader zs (act b k)) whole ∙ leads xs ys (act b k) up
 
-  leaders_are : (t : Bool) → list_any (are_together (act b k)) xs ≡ t → filter (is_leader all) more ≡ filter (is_leader all) xs ++ cond (not t) (act b k ∷ []) []
+  leaders_are : (t : Bool) → list_any (are_together (act b k)) xs ≡ t
+      → filter (is_leader all) more ≡ filter (is_leader all) xs ++ cond (not t) (act b k ∷ []) []
   leaders_are t e = ap (filter (is_leader all)) (take_more bots commands i b k lt lengths bi ki) ∙ with_leader all xs (act b k) (not t) (leads_here ∙ ap not e)
 
   -- a bot with a mate before it leads no group
-  pub no_turn_more : (turns : List Turn) → list_any (are_together (act b k)) (acts (take i bots) (take i commands)) ≡ true → AreTurns (acts bots commands) (filter (is_leader (acts bots commands)) (acts (take i bots) (take i commands))) turns → AreTurns (acts bots commands) (filter (is_leader (acts bots commands)) (acts (take (i + 1) bots) (take (i + 1) commands))) turns
+  pub no_turn_more : (turns : List Turn)
+      → list_any (are_together (act b k)) (acts (take i bots) (take i commands)) ≡ true → AreTurns (acts bots commands)
+      (filter (is_leader (acts bots commands)) (acts (take i bots) (take i commands))) turns
+      → AreTurns (acts bots commands)
+      (filter (is_leader (acts bots commands)) (acts (take (i + 1) bots) (take (i + 1) commands))) turns
   no_turn_more turns e h = subst (λ (ls : List Act). AreTurns all ls turns) (sym (leaders_are true e ∙ append_none (filter (is_leader all) xs))) h
 
   -- a bot without one leads the group of those after it
-  pub leader_more : (turns next : List Turn) (partner : ℕ) → next ≡ turns ++ record { leader = b.bid; place = i; partner = partner } ∷ [] → list_any (are_together (act b k)) (acts (take i bots) (take i commands)) ≡ false → partner ≡ first_mate (act b k) (acts (drop (i + 1) bots) (drop (i + 1) commands)) → AreTurns (acts bots commands) (filter (is_leader (acts bots commands)) (acts (take i bots) (take i commands))) turns → AreTurns (acts bots commands) (filter (is_leader (acts bots commands)) (acts (take (i + 1) bots) (take (i + 1) commands))) next
+  pub leader_more : (turns next : List Turn) (partner : ℕ)
+      → next ≡ turns ++ record { leader = b.bid; place = i; partner = partner } ∷ []
+      → list_any (are_together (act b k)) (acts (take i bots) (take i commands)) ≡ false
+      → partner ≡ first_mate (act b k) (acts (drop (i + 1) bots) (drop (i + 1) commands))
+      → AreTurns (acts bots commands)
+      (filter (is_leader (acts bots commands)) (acts (take i bots) (take i commands))) turns
+      → AreTurns (acts bots commands)
+      (filter (is_leader (acts bots commands)) (acts (take (i + 1) bots) (take (i + 1) commands))) next
   leader_more turns next partner f e second h =
       let t : Turn = record { leader = b.bid; place = i; partner = partner } in
       let mates : members all (act b k) ≡ act b k ∷ filter (are_together (act b k)) ys = ap (λ (zs : List Act). members zs (act b k)) whole ∙ group xs ys (act b k) up e in

@@ -48,7 +48,9 @@ module _ (t : State) (group : List Act) (keeps : keeps_rules t group ≡ true) (
 
 -- a bot that is met as it was found is active as it is
 module _ (t : State) (bot : Bot) (met : bot_in t.bots bot ≡ bot) (active : is_active t bot ≡ true) where
-  find_step : (p : Bot → Bool) (b : Bot) (bs : List Bot) (v : Bool) → p b ≡ v → (list_any p bs ≡ true → find p bs ≡ Some (unwrap_or (find p bs) bot)) → (v || list_any p bs) ≡ true → cond v (Some b) (find p bs) ≡ Some (unwrap_or (cond v (Some b) (find p bs)) bot)
+  find_step : (p : Bot → Bool) (b : Bot) (bs : List Bot) (v : Bool) → p b ≡ v
+      → (list_any p bs ≡ true → find p bs ≡ Some (unwrap_or (find p bs) bot)) → (v || list_any p bs) ≡ true
+      → cond v (Some b) (find p bs) ≡ Some (unwrap_or (cond v (Some b) (find p bs)) bot)
   find_step p b bs true e h k = refl
   find_step p b bs false e h k = h k
 

@@ -29,7 +29,9 @@ is_group _ = false
 
 -- ---- a filter that passes two
 
-two_pass : (p : Act → Bool) (l b : Act) (xs : List Act) → Rising (map (λ (a : Act). a.bot) xs) → l.bot.bid < b.bot.bid → In l xs → In b xs → p l ≡ true → p b ≡ true → ((a : Act) → In a xs → p a ≡ true → (a ≡ l) ⊎ (a ≡ b)) → filter p xs ≡ l ∷ b ∷ []
+two_pass : (p : Act → Bool) (l b : Act) (xs : List Act) → Rising (map (λ (a : Act). a.bot) xs) → l.bot.bid < b.bot.bid
+    → In l xs → In b xs → p l ≡ true → p b ≡ true → ((a : Act) → In a xs → p a ≡ true → (a ≡ l) ⊎ (a ≡ b))
+    → filter p xs ≡ l ∷ b ∷ []
 two_pass p l b [] up less i j e f h = absurd i
 two_pass p l b (x ∷ xs) up less (inl i) j e f h = on (p x) refl
   where
@@ -81,7 +83,8 @@ module _ (s : State) (all : List Act) (good : IsGood s all) (l : Act) (leads : I
       (λ a i e. good.apart.bids a l i leader_in (sym ((Decides-eqb l.bot.bid a.bot.bid).0 e)))
 
   -- the leader of a fusion and its partner
-  pub couple : is_fusion l.command ≡ true → (b : Act) × (are_partners l b ≡ true) × (l.bot.bid < b.bot.bid) × (members all l ≡ l ∷ b ∷ [])
+  pub couple : is_fusion l.command ≡ true
+      → (b : Act) × (are_partners l b ≡ true) × (l.bot.bid < b.bot.bid) × (members all l ≡ l ∷ b ∷ [])
   couple h =
       let w = any_in (are_partners l) all partner_is in
       (w.0, w.2, before w.0 w.1 w.2, two_pass (are_together l) l w.0 all good.rising (before w.0 w.1 w.2) leader_in w.1 (is_together l l (itself refl)) (is_together l w.0 (partners w.2)) (λ a i e. which w.0 w.1 w.2 a i (together_is l a e)))
@@ -112,13 +115,15 @@ module _ (s : State) (all : List Act) (good : IsGood s all) (l : Act) (leads : I
       which b i e a j (shares k) = absurd (no_share (position l) l.command (position a) a.command h k)
 
   -- the members of a group command
-  pub shared : is_group l.command ≡ true → (a : Act) → In a (members all l) → (a ≡ l) ⊎ (share_region (position l) l.command (position a) a.command ≡ true)
+  pub shared : is_group l.command ≡ true → (a : Act) → In a (members all l)
+      → (a ≡ l) ⊎ (share_region (position l) l.command (position a) a.command ≡ true)
   shared h a i = by (together_is l a k.1)
     where
       k : In a all × (are_together l a ≡ true)
       k = filter_in (are_together l) a all i
 
-      no_fusion : (p : Point) (c : Command) (q : Point) (e : Command) → is_group c ≡ true → (fuse p c q e ≡ true) ⊎ (fuse q e p c ≡ true) → ⊥
+      no_fusion : (p : Point) (c : Command) (q : Point) (e : Command) → is_group c ≡ true
+          → (fuse p c q e ≡ true) ⊎ (fuse q e p c ≡ true) → ⊥
       no_fusion p (FusionP d) q e h u = cc
       no_fusion p (GFill d f) q e h (inl u) = cc
       no_fusion p (GVoid d f) q e h (inl u) = cc

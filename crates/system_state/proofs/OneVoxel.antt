@@ -20,12 +20,14 @@ use Rattle.system_state.specs.Painting.{met_count}
 use Rattle.system_state.specs.Edited.{edit_cost}
 use Rattle.system_state.proofs.OnlyBot.{cost_is, fill_cost, matrix_filled, matrix_voided, of_point, one_only, void_cost}
 
-pub names_in_space : (r : ℕ) (b : Bot) (d : Diff) (full : Bool) → IsTrue (stays_in_space r (act b (edit_of full d))) → in_space r (plus (point b.pos) d) ≡ true
+pub names_in_space : (r : ℕ) (b : Bot) (d : Diff) (full : Bool) → IsTrue (stays_in_space r (act b (edit_of full d)))
+    → in_space r (plus (point b.pos) d) ≡ true
 names_in_space r b d true h = first_of_two (in_space r (plus (point b.pos) d)) true h
 names_in_space r b d false h = first_of_two (in_space r (plus (point b.pos) d)) true h
 
 -- one voxel is met
-one_there : (m : Matrix) (b : Bot) (d : Diff) → in_space m.resolution (plus (point b.pos) d) ≡ true → 1 ≤ count_by (λ c. is_within (just (plus (point b.pos) d)) (point c) || false) (coordinates m.resolution)
+one_there : (m : Matrix) (b : Bot) (d : Diff) → in_space m.resolution (plus (point b.pos) d) ≡ true
+    → 1 ≤ count_by (λ c. is_within (just (plus (point b.pos) d)) (point c) || false) (coordinates m.resolution)
 one_there m b d i =
     let q = of_point m.resolution (plus (point b.pos) d) i in
     let there : Coord = coordinate (plus (point b.pos) d) in
@@ -34,12 +36,16 @@ one_there m b d i =
     let n = length-filter (λ c. is_within (just (plus (point b.pos) d)) (point c) || false) (coordinates m.resolution) in
     omega (arith, n, e)
 
-pub one_met : (m : Matrix) (b : Bot) (d : Diff) (full : Bool) → in_space m.resolution (plus (point b.pos) d) ≡ true → 1 ≤ met_count m b (edit_of full d)
+pub one_met : (m : Matrix) (b : Bot) (d : Diff) (full : Bool) → in_space m.resolution (plus (point b.pos) d) ≡ true
+    → 1 ≤ met_count m b (edit_of full d)
 one_met m b d true i = one_there m b d i
 one_met m b d false i = one_there m b d i
 
 -- the state after the turn
-pub edited_turn : (s : State) (b : Bot) (partner : ℕ) (d : Diff) (full : Bool) (at : Coord) (energy : ℤ) → in_space s.matrix.resolution (plus (point b.pos) d) ≡ true → at ≡ coordinate (plus (point b.pos) d) → energy ≡ s.energy +ℤ edit_cost full (is_full s.matrix at) → record s { matrix = with_voxel s.matrix at full; energy = energy } ≡ after_turn s b partner (edit_of full d)
+pub edited_turn : (s : State) (b : Bot) (partner : ℕ) (d : Diff) (full : Bool) (at : Coord) (energy : ℤ)
+    → in_space s.matrix.resolution (plus (point b.pos) d) ≡ true → at ≡ coordinate (plus (point b.pos) d)
+    → energy ≡ s.energy +ℤ edit_cost full (is_full s.matrix at)
+    → record s { matrix = with_voxel s.matrix at full; energy = energy } ≡ after_turn s b partner (edit_of full d)
 edited_turn s b partner d true at energy i e paid =
     let matrix = ap (λ (c : Coord). with_voxel s.matrix c true) e ∙ sym (matrix_filled s.matrix b d i) in
     let cost = paid ∙ (ap (λ (c : Coord). s.energy +ℤ cond (is_full s.matrix c) (pos 6) (pos 12)) e ∙ ap (λ z. s.energy +ℤ z) (sym (fill_cost s.matrix b d i) ∙ cost_is s.matrix b (Fill d))) in

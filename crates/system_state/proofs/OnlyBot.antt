@@ -63,11 +63,13 @@ set_void true false = refl
 set_void false full = and_true full
 
 module _ (m : Matrix) where
-  pub untouched : (a : Act) → IsWhole m → filled (position a) a.command ≡ [] → voided (position a) a.command ≡ [] → matrix_after m (a ∷ []) ≡ m
+  pub untouched : (a : Act) → IsWhole m → filled (position a) a.command ≡ [] → voided (position a) a.command ≡ []
+      → matrix_after m (a ∷ []) ≡ m
   untouched a w f v = matrix_same m.resolution _ (is_full m) (λ c s. rw (f, v) (and_true (is_full m c))) ∙ as_it_is m w.voxels
 
   module _ (b : Bot) (d : Diff) (i : in_space m.resolution (plus (point b.pos) d) ≡ true) where
-    here : (c : Coord) → is_within (just (plus (point b.pos) d)) (point c) ≡ same_point (point c) (point (coordinate (plus (point b.pos) d)))
+    here : (c : Coord) → is_within (just (plus (point b.pos) d)) (point c)
+        ≡ same_point (point c) (point (coordinate (plus (point b.pos) d)))
     here c = within_just (plus (point b.pos) d) (point c) ∙ ap (same_point (point c)) (sym (of_point m.resolution (plus (point b.pos) d) i).0)
 
     pub matrix_filled : matrix_after m (lone b (Fill d) ∷ []) ≡ with_voxel m (coordinate (plus (point b.pos) d)) true
@@ -114,7 +116,8 @@ same_self p = λ i. itself p.x i && itself p.y i && itself p.z i
     itself : (z : ℤ) → (int_le z z && int_le z z) ≡ true
     itself z = grind (arith, ints)
 
-pub one_only : (r : ℕ) (p : Coord) → IsInSpace r p → filter (λ c. is_within (just (point p)) (point c)) (coordinates r) ≡ p ∷ []
+pub one_only : (r : ℕ) (p : Coord) → IsInSpace r p
+    → filter (λ c. is_within (just (point p)) (point c)) (coordinates r) ≡ p ∷ []
 one_only r p i =
     ap (λ (test : Coord → Bool). filter test (coordinates r)) (λ j c. within_just (point p) (point c) j)
     ∙ filter_only (place r) (λ c. same_point (point c) (point p)) p (coordinates r) (numbers_differ r (r * r * r) 0) (in_coordinates r p i) (same_self (point p)) (λ c k e. coordinate_is c p (point_is (point c) (point p) e))
@@ -122,17 +125,21 @@ one_only r p i =
     coordinate_is : (c d : Coord) → point c ≡ point d → c ≡ d
     coordinate_is c d e = ap coordinate e
 
-price_just : (m : Matrix) (p : Coord) (a b : ℤ) → IsInSpace m.resolution p → price m (just (point p)) a b ≡ cond (is_full m p) b a
+price_just : (m : Matrix) (p : Coord) (a b : ℤ) → IsInSpace m.resolution p
+    → price m (just (point p)) a b ≡ cond (is_full m p) b a
 price_just m p a b i = ap (λ cs. total (map (λ c. cond (is_full m c) b a) cs)) (one_only m.resolution p i) ∙ integer_plus_none (cond (is_full m p) b a)
 
 module _ (m : Matrix) (b : Bot) (d : Diff) (i : in_space m.resolution (plus (point b.pos) d) ≡ true) where
-  beside_cost : (if_void if_full : ℤ) → price m (just (plus (point b.pos) d)) if_void if_full ≡ cond (is_full m (coordinate (plus (point b.pos) d))) if_full if_void
+  beside_cost : (if_void if_full : ℤ) → price m (just (plus (point b.pos) d)) if_void if_full
+      ≡ cond (is_full m (coordinate (plus (point b.pos) d))) if_full if_void
   beside_cost if_void if_full =
       let q = of_point m.resolution (plus (point b.pos) d) i in
       ap (λ (s : Point). price m (just s) if_void if_full) (sym q.0) ∙ price_just m (coordinate (plus (point b.pos) d)) if_void if_full q.1
 
-  pub fill_cost : groups_cost m (lone b (Fill d) ∷ []) ≡ cond (is_full m (coordinate (plus (point b.pos) d))) (pos 6) (pos 12)
+  pub fill_cost :
+      groups_cost m (lone b (Fill d) ∷ []) ≡ cond (is_full m (coordinate (plus (point b.pos) d))) (pos 6) (pos 12)
   fill_cost = cost_is m b (Fill d) ∙ beside_cost (pos 12) (pos 6)
 
-  pub void_cost : groups_cost m (lone b (Void d) ∷ []) ≡ cond (is_full m (coordinate (plus (point b.pos) d))) (negsuc 11) (pos 3)
+  pub void_cost :
+      groups_cost m (lone b (Void d) ∷ []) ≡ cond (is_full m (coordinate (plus (point b.pos) d))) (negsuc 11) (pos 3)
   void_cost = cost_is m b (Void d) ∙ beside_cost (pos 3) (negsuc 11)

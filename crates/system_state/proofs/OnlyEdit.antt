@@ -27,26 +27,35 @@ module _ (s : State) (b : Bot) (d : Diff) (only : s.bots ≡ b ∷ []) (i : in_s
   same : start ≡ s
   same = λ j. record s { bots = sym only j }
 
-  filled_on : record s { matrix = with_voxel s.matrix there true; energy = (s.energy +ℤ upkeep s) +ℤ cond (is_full s.matrix there) (pos 6) (pos 12) } ≡ after s (Fill d ∷ [])
+  filled_on :
+      record s { matrix = with_voxel s.matrix there true; energy = (s.energy +ℤ upkeep s) +ℤ cond (is_full s.matrix there) (pos 6) (pos 12) }
+      ≡ after s (Fill d ∷ [])
   filled_on =
       let matrix = sym (matrix_filled s.matrix b d i) in
       let cost = sym (fill_cost s.matrix b d i) in
       subst (λ (t : State). record t { matrix = with_voxel t.matrix there true; energy = (t.energy +ℤ upkeep t) +ℤ cond (is_full t.matrix there) (pos 6) (pos 12) } ≡ after t (Fill d ∷ [])) same
       (λ j. record { matrix = matrix j; harmonics = s.harmonics; bots = b ∷ []; energy = (s.energy +ℤ upkeep start) +ℤ cost j; profile = s.profile })
 
-  voided_on : record s { matrix = with_voxel s.matrix there false; energy = (s.energy +ℤ upkeep s) +ℤ cond (is_full s.matrix there) (negsuc 11) (pos 3) } ≡ after s (Void d ∷ [])
+  voided_on :
+      record s { matrix = with_voxel s.matrix there false; energy = (s.energy +ℤ upkeep s) +ℤ cond (is_full s.matrix there) (negsuc 11) (pos 3) }
+      ≡ after s (Void d ∷ [])
   voided_on =
       let matrix = sym (matrix_voided s.matrix b d i) in
       let cost = sym (void_cost s.matrix b d i) in
       subst (λ (t : State). record t { matrix = with_voxel t.matrix there false; energy = (t.energy +ℤ upkeep t) +ℤ cond (is_full t.matrix there) (negsuc 11) (pos 3) } ≡ after t (Void d ∷ [])) same
       (λ j. record { matrix = matrix j; harmonics = s.harmonics; bots = b ∷ []; energy = (s.energy +ℤ upkeep start) +ℤ cost j; profile = s.profile })
 
-  changed_on : (full : Bool) → record s { matrix = with_voxel s.matrix there full; energy = (s.energy +ℤ upkeep s) +ℤ edit_cost full (is_full s.matrix there) } ≡ after s (edit_of full d ∷ [])
+  changed_on : (full : Bool)
+      → record s { matrix = with_voxel s.matrix there full; energy = (s.energy +ℤ upkeep s) +ℤ edit_cost full (is_full s.matrix there) }
+      ≡ after s (edit_of full d ∷ [])
   changed_on true = filled_on
   changed_on false = voided_on
 
 -- the state after the voxel at a coordinate was filled, or else voided
-pub edited_on : (s : State) (b : Bot) (d : Diff) (at : Coord) (full : Bool) → s.bots ≡ b ∷ [] → IsInSpace s.matrix.resolution at → point at ≡ plus (point b.pos) d → record s { matrix = with_voxel s.matrix at full; energy = (s.energy +ℤ upkeep s) +ℤ edit_cost full (is_full s.matrix at) } ≡ after s (edit_of full d ∷ [])
+pub edited_on : (s : State) (b : Bot) (d : Diff) (at : Coord) (full : Bool) → s.bots ≡ b ∷ []
+    → IsInSpace s.matrix.resolution at → point at ≡ plus (point b.pos) d
+    → record s { matrix = with_voxel s.matrix at full; energy = (s.energy +ℤ upkeep s) +ℤ edit_cost full (is_full s.matrix at) }
+    ≡ after s (edit_of full d ∷ [])
 edited_on s b d at full only stays named =
     let i : in_space s.matrix.resolution (plus (point b.pos) d) ≡ true = subst (λ (p : Point). in_space s.matrix.resolution p ≡ true) named (in_space_is s.matrix.resolution at stays) in
     subst (λ (c : Coord). record s { matrix = with_voxel s.matrix c full; energy = (s.energy +ℤ upkeep s) +ℤ edit_cost full (is_full s.matrix c) } ≡ after s (edit_of full d ∷ [])) (sym (ap coordinate named)) (changed_on s b d only i full)

@@ -16,7 +16,10 @@ use Rattle.system_state.proofs.OnlyBot.{cost_is, untouched}
 use Rattle.step_groups.specs.Judging.{act}
 
 -- the state after the move
-pub moved_on : (s : State) (b : Bot) (d : Diff) (to : Coord) → s.bots ≡ b ∷ [] → IsWhole s.matrix → point to ≡ plus (point b.pos) d → record s { energy = (s.energy +ℤ upkeep s) +ℤ pos (2 * mlen d); bots = moved b (point to) ∷ [] } ≡ after s (SMove d ∷ [])
+pub moved_on : (s : State) (b : Bot) (d : Diff) (to : Coord) → s.bots ≡ b ∷ [] → IsWhole s.matrix
+    → point to ≡ plus (point b.pos) d
+    → record s { energy = (s.energy +ℤ upkeep s) +ℤ pos (2 * mlen d); bots = moved b (point to) ∷ [] }
+    ≡ after s (SMove d ∷ [])
 moved_on s b d to only whole there =
     let start : State = record s { bots = b ∷ [] } in
     let same : start ≡ s = λ i. record s { bots = sym only i } in

@@ -22,7 +22,11 @@ use Rattle.system_state.specs.Edited.{IsEditedRegion}
 
 module _ (r : ℕ) (bot : Bot) (near far : Coord) (full together : Bool) (region : Corners) (corners_are : region ≡ corners near far) (ordered : IsOrdered region) where
   -- the region between two points that the command names
-  between_named : (k : Command) (p q : Point) (filling : Bool) → near ≡ coordinate p → far ≡ coordinate q → full ≡ filling → IsTrue (in_space r p) → IsTrue (in_space r q) → size (between p q) ≤ 29791 → filled (point bot.pos) k ≡ cond filling (between p q ∷ []) [] → voided (point bot.pos) k ≡ cond filling [] (between p q ∷ []) → IsEditedRegion r bot k (record { region = region; full = full })
+  between_named : (k : Command) (p q : Point) (filling : Bool) → near ≡ coordinate p → far ≡ coordinate q
+      → full ≡ filling → IsTrue (in_space r p) → IsTrue (in_space r q) → size (between p q) ≤ 29791
+      → filled (point bot.pos) k ≡ cond filling (between p q ∷ []) []
+      → voided (point bot.pos) k ≡ cond filling [] (between p q ∷ [])
+      → IsEditedRegion r bot k (record { region = region; full = full })
   between_named k p q filling near_is far_is full_is in_p in_q small fills voids =
       let low = ap point near_is ∙ point_of r p in_p in
       let high = ap point far_is ∙ point_of r q in_q in
@@ -38,7 +42,8 @@ module _ (r : ℕ) (bot : Bot) (near far : Coord) (full together : Bool) (region
         small = small;
       }
 
-  pub is_edited_region : (k : Command) → IsCommand k → IsDeed r bot k (Edits near far full together) → IsEditedRegion r bot k (record { region = region; full = full })
+  pub is_edited_region : (k : Command) → IsCommand k → IsDeed r bot k (Edits near far full together)
+      → IsEditedRegion r bot k (record { region = region; full = full })
   is_edited_region (Fill d) known h =
       let p : Point = plus (point bot.pos) d in
       let in_p = only_named (in_space r p) h.stays in

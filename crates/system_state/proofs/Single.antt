@@ -7,11 +7,14 @@ use Rattle.vox_geom.specs.Space.{IsInSpace, coordinate_at, coordinates, numbers_
 use Rattle.vox_geom.proofs.Places.{coordinate_at-place, place-coordinate_at}
 use Rattle.vox_geom.proofs.Firsts.{place_below}
 
-none_passes : (test : Coord → Bool) (f : ℕ → Coord) (n a : ℕ) → ((j : ℕ) → a ≤ j → test (f j) ≡ false) → filter test (map f (numbers_from a n)) ≡ []
+none_passes : (test : Coord → Bool) (f : ℕ → Coord) (n a : ℕ) → ((j : ℕ) → a ≤ j → test (f j) ≡ false)
+    → filter test (map f (numbers_from a n)) ≡ []
 none_passes test f zero a h = refl
 none_passes test f (suc n) a h = let e : test (f a) ≡ false = h a (omega arith) in rw e (none_passes test f n (a + 1) (λ j l. h j (omega arith)))
 
-only_at : (test : Coord → Bool) (f : ℕ → Coord) (n a k : ℕ) → a ≤ k → k < a + n → ((j : ℕ) → (j ≡ k → ⊥) → test (f j) ≡ false) → filter test (map f (numbers_from a n)) ≡ cond (test (f k)) (f k ∷ []) []
+only_at : (test : Coord → Bool) (f : ℕ → Coord) (n a k : ℕ) → a ≤ k → k < a + n
+    → ((j : ℕ) → (j ≡ k → ⊥) → test (f j) ≡ false)
+    → filter test (map f (numbers_from a n)) ≡ cond (test (f k)) (f k ∷ []) []
 only_at test f zero a k l m h = absurd (omega arith)
 only_at test f (suc n) a k l m h = elim (cases_eq a k) [
   | inl e ↦
@@ -21,7 +24,8 @@ only_at test f (suc n) a k l m h = elim (cases_eq a k) [
 ]
 
 -- a test that passes at one coordinate alone
-pub only_one : (r : ℕ) (test : Coord → Bool) (c : Coord) → IsInSpace r c → ((d : Coord) → (d ≡ c → ⊥) → test d ≡ false) → filter test (coordinates r) ≡ cond (test c) (c ∷ []) []
+pub only_one : (r : ℕ) (test : Coord → Bool) (c : Coord) → IsInSpace r c → ((d : Coord) → (d ≡ c → ⊥) → test d ≡ false)
+    → filter test (coordinates r) ≡ cond (test c) (c ∷ []) []
 only_one r test c s h =
     let e : coordinate_at r (place r c) ≡ c = coordinate_at-place r c s in
     let b : place r c < r * r * r = place_below r c s in

@@ -48,7 +48,8 @@ module _ (m : Matrix) (k : Corners) (s : Span) (same : (p : Point) → is_within
   both_states : void_in m s + full_in m s ≡ size_in m s
   both_states = voids-and-fulls m (λ c. is_within s (point c)) (all_of m)
 
-  pub void_met : (full : Bool) (others size : ℕ) → others ≡ other_count m k full → size ≡ count_by (λ c. is_within (span k) (point c)) (all_of m) → cond full others (size - others) ≡ void_in m s
+  pub void_met : (full : Bool) (others size : ℕ) → others ≡ other_count m k full
+      → size ≡ count_by (λ c. is_within (span k) (point c)) (all_of m) → cond full others (size - others) ≡ void_in m s
   void_met true others size h e = h ∙ others_void
   void_met false others size h e =
       let a : others ≡ full_in m s = h ∙ others_full in
@@ -56,7 +57,8 @@ module _ (m : Matrix) (k : Corners) (s : Span) (same : (p : Point) → is_within
       let c : void_in m s + full_in m s ≡ size_in m s = both_states in
       omega arith
 
-  pub full_met : (full : Bool) (others size : ℕ) → others ≡ other_count m k full → size ≡ count_by (λ c. is_within (span k) (point c)) (all_of m) → cond full (size - others) others ≡ full_in m s
+  pub full_met : (full : Bool) (others size : ℕ) → others ≡ other_count m k full
+      → size ≡ count_by (λ c. is_within (span k) (point c)) (all_of m) → cond full (size - others) others ≡ full_in m s
   full_met false others size h e = h ∙ others_full
   full_met true others size h e =
       let a : others ≡ void_in m s = h ∙ others_void in
@@ -86,25 +88,30 @@ module _ (m : Matrix) (bot : Bot) (command : Command) where
   full_by : List Span → List Span → Coord → Bool
   full_by fill void c = (list_any (λ r. is_within r (point c)) fill || false) || (is_full m c && not (list_any (λ r. is_within r (point c)) void || false))
 
-  pub after_work : (s : Span) (full : Bool) → filled (point bot.pos) command ≡ cond full (s ∷ []) [] → voided (point bot.pos) command ≡ cond full [] (s ∷ []) → with_span m s full ≡ matrix_after m (act bot command ∷ [])
+  pub after_work : (s : Span) (full : Bool) → filled (point bot.pos) command ≡ cond full (s ∷ []) []
+      → voided (point bot.pos) command ≡ cond full [] (s ∷ [])
+      → with_span m s full ≡ matrix_after m (act bot command ∷ [])
   unfolding full_by
   after_work s true h k = matrix_same m.resolution (λ d. cond (is_within s (point d)) true (is_full m d)) (full_by (filled (point bot.pos) command) (voided (point bot.pos) command)) (λ c w.
       filled_or_not (is_within s (point c)) (is_full m c) ∙ (λ i. full_by (sym h i) (sym k i) c))
   after_work s false h k = matrix_same m.resolution (λ d. cond (is_within s (point d)) false (is_full m d)) (full_by (filled (point bot.pos) command) (voided (point bot.pos) command)) (λ c w.
       voided_or_not (is_within s (point c)) (is_full m c) ∙ (λ i. full_by (sym h i) (sym k i) c))
 
-  pub after_none : length m.voxels ≡ m.resolution * m.resolution * m.resolution → filled (point bot.pos) command ≡ [] → voided (point bot.pos) command ≡ [] → m ≡ matrix_after m (act bot command ∷ [])
+  pub after_none : length m.voxels ≡ m.resolution * m.resolution * m.resolution → filled (point bot.pos) command ≡ []
+      → voided (point bot.pos) command ≡ [] → m ≡ matrix_after m (act bot command ∷ [])
   unfolding full_by
   after_none e h k =
       sym (as_it_is m e)
       ∙ matrix_same m.resolution (is_full m) (full_by (filled (point bot.pos) command) (voided (point bot.pos) command)) (λ c w.
       sym (untouched (is_full m c)) ∙ (λ i. full_by (sym h i) (sym k i) c))
 
-  met_is : (s : Span) (full : Bool) → filled (point bot.pos) command ≡ cond full (s ∷ []) [] → voided (point bot.pos) command ≡ cond full [] (s ∷ []) → met (point bot.pos) command ≡ s ∷ []
+  met_is : (s : Span) (full : Bool) → filled (point bot.pos) command ≡ cond full (s ∷ []) []
+      → voided (point bot.pos) command ≡ cond full [] (s ∷ []) → met (point bot.pos) command ≡ s ∷ []
   met_is s true h k = λ i. h i ++ k i
   met_is s false h k = λ i. h i ++ k i
 
-  met_none : filled (point bot.pos) command ≡ [] → voided (point bot.pos) command ≡ [] → met (point bot.pos) command ≡ []
+  met_none : filled (point bot.pos) command ≡ [] → voided (point bot.pos) command ≡ []
+      → met (point bot.pos) command ≡ []
   met_none h k = λ i. h i ++ k i
 
   module _ (s : Span) (full : Bool) (h : filled (point bot.pos) command ≡ cond full (s ∷ []) []) (k : voided (point bot.pos) command ≡ cond full [] (s ∷ [])) where
@@ -128,8 +135,10 @@ module _ (m : Matrix) (bot : Bot) (command : Command) where
       let e : count_by (λ c. false) (x ∷ xs) ≡ 0 + count_by (λ c. false) xs = sum_by-cons (λ (c : Coord). cond false 1 0) x xs in
       omega arith
 
-  pub no_void : filled (point bot.pos) command ≡ [] → voided (point bot.pos) command ≡ [] → 0 ≡ void_count m (point bot.pos) command
+  pub no_void : filled (point bot.pos) command ≡ [] → voided (point bot.pos) command ≡ []
+      → 0 ≡ void_count m (point bot.pos) command
   no_void h k = none_of (all_of m) ∙ (λ i. count_by (λ c. is_met (sym (met_none h k) i) c && not (is_full m c)) (all_of m))
 
-  pub no_full : filled (point bot.pos) command ≡ [] → voided (point bot.pos) command ≡ [] → 0 ≡ met_full_count m (point bot.pos) command
+  pub no_full : filled (point bot.pos) command ≡ [] → voided (point bot.pos) command ≡ []
+      → 0 ≡ met_full_count m (point bot.pos) command
   no_full h k = none_of (all_of m) ∙ (λ i. count_by (λ c. is_met (sym (met_none h k) i) c && is_full m c) (all_of m))

@@ -66,7 +66,8 @@ fuse_first : (p : Point) (c : Command) (q : Point) (e : Command) → fuse q e p 
 fuse_first p c q (FusionP d) h = refl
 fuse_first p c q e h = cc
 
-partner_fuses : (p : Point) (c : Command) (q : Point) (e : Command) → (fuse p c q e ≡ true) ⊎ (fuse q e p c ≡ true) → is_fusion e ≡ true
+partner_fuses : (p : Point) (c : Command) (q : Point) (e : Command) → (fuse p c q e ≡ true) ⊎ (fuse q e p c ≡ true)
+    → is_fusion e ≡ true
 partner_fuses p c q e (inl h) = fuse_second p c q e h
 partner_fuses p c q e (inr h) = fuse_first p c q e h
 
@@ -97,17 +98,20 @@ shares_group p c q e h = cc
 of_or : (b : Bool) → (b || false) ≡ true → b ≡ true
 of_or b e = sym (or_false b) ∙ e
 
-shared_filled : (p : Point) (c : Command) (q : Point) (e : Command) (x : Point) → share_region p c q e ≡ true → list_any (λ s. is_within s x) (filled p c) ≡ true → list_any (λ s. is_within s x) (filled q e) ≡ true
+shared_filled : (p : Point) (c : Command) (q : Point) (e : Command) (x : Point) → share_region p c q e ≡ true
+    → list_any (λ s. is_within s x) (filled p c) ≡ true → list_any (λ s. is_within s x) (filled q e) ≡ true
 shared_filled p (GFill d f) q (GFill e g) x h k = or_by_first _ false (region_on (between (plus p d) (plus (plus p d) f)) (between (plus q e) (plus (plus q e) g)) x h (of_or _ k))
 shared_filled p c q e x h k = cc
 
-shared_voided : (p : Point) (c : Command) (q : Point) (e : Command) (x : Point) → share_region p c q e ≡ true → list_any (λ s. is_within s x) (voided p c) ≡ true → list_any (λ s. is_within s x) (voided q e) ≡ true
+shared_voided : (p : Point) (c : Command) (q : Point) (e : Command) (x : Point) → share_region p c q e ≡ true
+    → list_any (λ s. is_within s x) (voided p c) ≡ true → list_any (λ s. is_within s x) (voided q e) ≡ true
 shared_voided p (GVoid d f) q (GVoid e g) x h k = or_by_first _ false (region_on (between (plus p d) (plus (plus p d) f)) (between (plus q e) (plus (plus q e) g)) x h (of_or _ k))
 shared_voided p c q e x h k = cc
 
 -- ---- flips
 
-none_flips : (xs : List Act) → ((a : Act) → In a xs → is_flip a.command ≡ false) → count_by (λ (a : Act). is_flip a.command) xs ≡ 0
+none_flips : (xs : List Act) → ((a : Act) → In a xs → is_flip a.command ≡ false)
+    → count_by (λ (a : Act). is_flip a.command) xs ≡ 0
 none_flips [] h = refl
 none_flips (x ∷ xs) h =
     let e : count_by (λ (a : Act). is_flip a.command) (x ∷ xs) ≡ cond (is_flip x.command) 1 0 + count_by (λ (a : Act). is_flip a.command) xs = sum_by-cons (λ (a : Act). cond (is_flip a.command) 1 0) x xs in
@@ -147,7 +151,8 @@ module _ (s : State) (all : List Act) (good : IsGood s all) (l : Act) (leads : I
 
   -- ---- what the turn needs
 
-  comes : (c : Command) → l.command ≡ c → (x : Bot) → In x (successors (members all l) l c) → (y : Bot) → In y t.bots → y.pos ≡ x.pos → y ≡ l.bot
+  comes : (c : Command) → l.command ≡ c → (x : Bot) → In x (successors (members all l) l c) → (y : Bot) → In y t.bots
+      → y.pos ≡ x.pos → y ≡ l.bot
   comes c e x i y j k = apart x y (subst (λ (d : Command). In x (successors (members all l) l d)) (sym e) i) j (sym k)
 
   in_space_of : (c : Command) → l.command ≡ c → list_all (in_space t.matrix.resolution) (named_points (position l) c) ≡ true
@@ -156,7 +161,8 @@ module _ (s : State) (all : List Act) (good : IsGood s all) (l : Act) (leads : I
   is_active_partner : (b : Act) → members all l ≡ l ∷ b ∷ [] → IsSome (bot_of t.bots partner)
   is_active_partner b e = subst (λ (o : Option Bot). IsSome o) (sym (partner_there b e)) (search rules)
 
-  needs : is_command l.command ≡ true → (c : Command) → l.command ≡ c → Needs t.bots l.bot partner (deed_by (point l.bot.pos) c)
+  needs : is_command l.command ≡ true → (c : Command) → l.command ≡ c
+      → Needs t.bots l.bot partner (deed_by (point l.bot.pos) c)
   needs known Halt e =
       let few : length t.bots ≤ 1 = at_most_one (length t.bots) (halts_alone t (members all l) keeps l itself_in e) in
       let some : 1 ≤ length t.bots = some_of l.bot t.bots (bot_there l itself_in) in
@@ -198,7 +204,9 @@ module _ (s : State) (all : List Act) (good : IsGood s all) (l : Act) (leads : I
       (λ h. let w = any_in (λ (a : Act). list_any (λ r. is_within r (point x)) (work (position a) a.command)) (members all l) h in by w.0 w.2 (shared s all good l leads g w.0 w.1))
       (λ h. in_any (λ (a : Act). list_any (λ r. is_within r (point x)) (work (position a) a.command)) l (members all l) itself_in (of_or _ h))
     where
-      by : (a : Act) → list_any (λ r. is_within r (point x)) (work (position a) a.command) ≡ true → (a ≡ l) ⊎ (share_region (position l) l.command (position a) a.command ≡ true) → (list_any (λ r. is_within r (point x)) (work (position l) l.command) || false) ≡ true
+      by : (a : Act) → list_any (λ r. is_within r (point x)) (work (position a) a.command) ≡ true
+          → (a ≡ l) ⊎ (share_region (position l) l.command (position a) a.command ≡ true)
+          → (list_any (λ r. is_within r (point x)) (work (position l) l.command) || false) ≡ true
       by a h (inl e) = ap (λ v. v || false) (sym (ap (λ (b : Act). list_any (λ r. is_within r (point x)) (work (position b) b.command)) e) ∙ h)
       by a h (inr e) = ap (λ v. v || false) (share (position a) a.command (position l) l.command (point x) (share_back (position l) l.command (position a) a.command e) h)
 
@@ -214,7 +222,8 @@ module _ (s : State) (all : List Act) (good : IsGood s all) (l : Act) (leads : I
   same_filled : (x : Coord) → is_filled (members all l) x ≡ is_filled (l ∷ []) x
   same_filled x = by (kind l.command)
     where
-      by : (is_alone l.command ≡ true) ⊎ ((is_fusion l.command ≡ true) ⊎ (is_group l.command ≡ true)) → is_filled (members all l) x ≡ is_filled (l ∷ []) x
+      by : (is_alone l.command ≡ true) ⊎ ((is_fusion l.command ≡ true) ⊎ (is_group l.command ≡ true))
+          → is_filled (members all l) x ≡ is_filled (l ∷ []) x
       by (inl h) = ap (λ (xs : List Act). is_filled xs x) (alone_is s all good l leads h)
       by (inr (inl h)) = let w = couple s all good l leads h in couple_any filled (λ p c k. (no_work p c k).0) w.0 (mate_fuses w.0 w.1) w.3 x
       by (inr (inr h)) = shared_any filled shared_filled h x
@@ -222,7 +231,8 @@ module _ (s : State) (all : List Act) (good : IsGood s all) (l : Act) (leads : I
   same_voided : (x : Coord) → is_voided (members all l) x ≡ is_voided (l ∷ []) x
   same_voided x = by (kind l.command)
     where
-      by : (is_alone l.command ≡ true) ⊎ ((is_fusion l.command ≡ true) ⊎ (is_group l.command ≡ true)) → is_voided (members all l) x ≡ is_voided (l ∷ []) x
+      by : (is_alone l.command ≡ true) ⊎ ((is_fusion l.command ≡ true) ⊎ (is_group l.command ≡ true))
+          → is_voided (members all l) x ≡ is_voided (l ∷ []) x
       by (inl h) = ap (λ (xs : List Act). is_voided xs x) (alone_is s all good l leads h)
       by (inr (inl h)) = let w = couple s all good l leads h in couple_any voided (λ p c k. (no_work p c k).1) w.0 (mate_fuses w.0 w.1) w.3 x
       by (inr (inr h)) = shared_any voided shared_voided h x
@@ -239,7 +249,8 @@ module _ (s : State) (all : List Act) (good : IsGood s all) (l : Act) (leads : I
       one h a (inl e) = ap (λ (b : Act). is_flip b.command) e ∙ no_flip l.command h
       one h a (inr i) = absurd i
 
-      couple_still : (b : Act) → is_fusion l.command ≡ true → is_fusion b.command ≡ true → members all l ≡ l ∷ b ∷ [] → (a : Act) → In a (members all l) → is_flip a.command ≡ false
+      couple_still : (b : Act) → is_fusion l.command ≡ true → is_fusion b.command ≡ true → members all l ≡ l ∷ b ∷ []
+          → (a : Act) → In a (members all l) → is_flip a.command ≡ false
       couple_still b h k e a i = of (subst (λ (xs : List Act). In a xs) e i)
         where
           of : In a (l ∷ b ∷ []) → is_flip a.command ≡ false
@@ -254,7 +265,8 @@ module _ (s : State) (all : List Act) (good : IsGood s all) (l : Act) (leads : I
           of (inl e) = ap (λ (c : Act). is_flip c.command) e ∙ no_flip l.command (group_not_alone l.command h)
           of (inr e) = no_flip a.command (group_not_alone a.command (shares_group (position l) l.command (position a) a.command e))
 
-      by : (is_alone l.command ≡ true) ⊎ ((is_fusion l.command ≡ true) ⊎ (is_group l.command ≡ true)) → harmonics_after t.harmonics (members all l) ≡ harmonics_after t.harmonics (l ∷ [])
+      by : (is_alone l.command ≡ true) ⊎ ((is_fusion l.command ≡ true) ⊎ (is_group l.command ≡ true))
+          → harmonics_after t.harmonics (members all l) ≡ harmonics_after t.harmonics (l ∷ [])
       by (inl h) = ap (harmonics_after t.harmonics) (alone_is s all good l leads h)
       by (inr (inl h)) = let w = couple s all good l leads h in harmonics_stay t.harmonics (members all l) (couple_still w.0 h (mate_fuses w.0 w.1) w.3) ∙ sym (harmonics_stay t.harmonics (l ∷ []) (one (fusion_not_alone l.command h)))
       by (inr (inr h)) = harmonics_stay t.harmonics (members all l) (group_still h) ∙ sym (harmonics_stay t.harmonics (l ∷ []) (one (group_not_alone l.command h)))
@@ -308,7 +320,8 @@ module _ (s : State) (all : List Act) (good : IsGood s all) (l : Act) (leads : I
       no_itself p (FusionP d) h = cc
       no_itself p c h = cc
 
-  with_second : (b : Act) (e : members all l ≡ l ∷ b ∷ []) (change : Bot → List Bot) → with_partner t.bots partner change ≡ change b.bot
+  with_second : (b : Act) (e : members all l ≡ l ∷ b ∷ []) (change : Bot → List Bot)
+      → with_partner t.bots partner change ≡ change b.bot
   with_second b e change = ap (λ (o : Option Bot). unwrap_or (option_map change o) t.bots) (partner_there b e)
 
   swapped : (j k : ℕ) (news : List Bot) → replaced t.bots (j ∷ k ∷ []) news ≡ replaced t.bots (k ∷ j ∷ []) news
@@ -320,7 +333,8 @@ module _ (s : State) (all : List Act) (good : IsGood s all) (l : Act) (leads : I
       turned false true = refl
       turned false false = refl
 
-  couple_bots : (c : Command) → l.command ≡ c → is_fusion c ≡ true → (b : Act) → are_partners l b ≡ true → members all l ≡ l ∷ b ∷ [] → Come (l ∷ b ∷ []) ≡ bots_after_turn t.bots l.bot partner c
+  couple_bots : (c : Command) → l.command ≡ c → is_fusion c ≡ true → (b : Act) → are_partners l b ≡ true
+      → members all l ≡ l ∷ b ∷ [] → Come (l ∷ b ∷ []) ≡ bots_after_turn t.bots l.bot partner c
   unfolding Come
   couple_bots (FusionP d) e h b q m =
       (λ i. replaced t.bots (l.bot.bid ∷ b.bot.bid ∷ []) (first_comes i ++ (second_comes i ++ [])))
@@ -339,7 +353,8 @@ module _ (s : State) (all : List Act) (good : IsGood s all) (l : Act) (leads : I
           gone : (c : Command) → fuse (position l) l.command (position b) c ≡ true → successors (l ∷ b ∷ []) b c ≡ []
           gone c k = by c (sym (ap (λ (f : Command). fuse (position l) f (position b) c) e) ∙ k)
             where
-              by : (c : Command) → fuse (position l) (FusionP d) (position b) c ≡ true → successors (l ∷ b ∷ []) b c ≡ []
+              by : (c : Command) → fuse (position l) (FusionP d) (position b) c ≡ true
+                  → successors (l ∷ b ∷ []) b c ≡ []
               by (FusionS f) u = refl
               by c u = cc
   couple_bots (FusionS d) e h b q m =
@@ -354,23 +369,27 @@ module _ (s : State) (all : List Act) (good : IsGood s all) (l : Act) (leads : I
       second_comes : successors (l ∷ b ∷ []) b b.command ≡ fused b.bot l.bot ∷ []
       second_comes = comes_of b.command (pair_second b d e q)
         where
-          comes_of : (c : Command) → fuse (position b) c (position l) l.command ≡ true → successors (l ∷ b ∷ []) b c ≡ fused b.bot l.bot ∷ []
+          comes_of : (c : Command) → fuse (position b) c (position l) l.command ≡ true
+              → successors (l ∷ b ∷ []) b c ≡ fused b.bot l.bot ∷ []
           comes_of (FusionP f) k = ap (λ (v : Bool). after_fusion b.bot (cond v (Some l) (cond (is_pair b b) (Some b) None)) ∷ []) (pair_second b d e q)
           comes_of c k = cc
   couple_bots c e h b q m = cc
 
-  group_bots : (c : Command) → l.command ≡ c → is_group c ≡ true → Come (members all l) ≡ bots_after_turn t.bots l.bot partner c
+  group_bots : (c : Command) → l.command ≡ c → is_group c ≡ true
+      → Come (members all l) ≡ bots_after_turn t.bots l.bot partner c
   unfolding Come
   group_bots c e h =
       (λ i. replaced t.bots (bids_are (members all l) i) ((flat_same (λ (a : Act). successors (members all l) a a.command) (λ (a : Act). a.bot ∷ []) (members all l) stay ∙ flat_map_single (λ (a : Act). a.bot) (members all l)) i))
       ∙ (replaced_itself t.bots rising (map (λ (a : Act). a.bot) (members all l)) (apart_bots (members all l) (differ_filter (λ (a : Act). a.bot.bid) (are_together l) all (differ_acts all good.rising))) there
       ∙ same c h)
     where
-      bids_are : (xs : List Act) → map (λ (a : Act). a.bot.bid) xs ≡ map (λ (b : Bot). b.bid) (map (λ (a : Act). a.bot) xs)
+      bids_are : (xs : List Act) → map (λ (a : Act). a.bot.bid) xs ≡ map (λ (b : Bot). b.bid)
+          (map (λ (a : Act). a.bot) xs)
       bids_are [] = refl
       bids_are (x ∷ xs) = ap (λ ks. x.bot.bid ∷ ks) (bids_are xs)
 
-      apart_bots : (xs : List Act) → Differ (λ (a : Act). a.bot.bid) xs → Differ (λ (b : Bot). b.bid) (map (λ (a : Act). a.bot) xs)
+      apart_bots : (xs : List Act) → Differ (λ (a : Act). a.bot.bid) xs → Differ (λ (b : Bot). b.bid)
+          (map (λ (a : Act). a.bot) xs)
       apart_bots [] d = tt
       apart_bots (x ∷ xs) d = ((λ b i k. let w = map_in (λ (a : Act). a.bot) b xs i in d.0 w.0 w.1 (k ∙ ap (λ (z : Bot). z.bid) w.2)), apart_bots xs d.1)
 
@@ -385,7 +404,8 @@ module _ (s : State) (all : List Act) (good : IsGood s all) (l : Act) (leads : I
       stay : (a : Act) → In a (members all l) → successors (members all l) a a.command ≡ a.bot ∷ []
       stay a i = of (shared s all good l leads (ap is_group e ∙ h) a i)
         where
-          of : (a ≡ l) ⊎ (share_region (position l) l.command (position a) a.command ≡ true) → successors (members all l) a a.command ≡ a.bot ∷ []
+          of : (a ≡ l) ⊎ (share_region (position l) l.command (position a) a.command ≡ true)
+              → successors (members all l) a a.command ≡ a.bot ∷ []
           of (inl k) = still_there a a.command (ap (λ (b : Act). is_group b.command) k ∙ (ap is_group e ∙ h))
           of (inr k) = still_there a a.command (shares_group (position l) l.command (position a) a.command k)
 
@@ -398,13 +418,17 @@ module _ (s : State) (all : List Act) (good : IsGood s all) (l : Act) (leads : I
   unfolding Come
   same_bots = by (kind l.command)
     where
-      by : (is_alone l.command ≡ true) ⊎ ((is_fusion l.command ≡ true) ⊎ (is_group l.command ≡ true)) → Come (members all l) ≡ bots_after_turn t.bots l.bot partner l.command
+      by : (is_alone l.command ≡ true) ⊎ ((is_fusion l.command ≡ true) ⊎ (is_group l.command ≡ true))
+          → Come (members all l) ≡ bots_after_turn t.bots l.bot partner l.command
       by (inl h) = ap Come (alone_is s all good l leads h) ∙ alone_bots t.bots l.bot partner l.command h rising (bot_there l itself_in) lone_halt
       by (inr (inl h)) = let w = couple s all good l leads h in ap Come w.3 ∙ couple_bots l.command refl h w.0 w.1 w.3
       by (inr (inr h)) = group_bots l.command refl h
 
   -- the turn leads where the group's acts do
-  pub turn_is_group : ((u : State) (group : List Act) → (after_group u group).bots ≡ replaced u.bots (map (λ (a : Act). a.bot.bid) group) (flat_map (λ (a : Act). successors group a a.command) group)) → after_turn t l.bot partner l.command ≡ after_group t (members all l)
+  pub turn_is_group : ((u : State) (group : List Act) → (after_group u group).bots
+      ≡ replaced u.bots (map (λ (a : Act). a.bot.bid) group)
+      (flat_map (λ (a : Act). successors group a a.command) group))
+      → after_turn t l.bot partner l.command ≡ after_group t (members all l)
   unfolding Come
   turn_is_group law = λ i. record {
     matrix = sym same_matrix i;

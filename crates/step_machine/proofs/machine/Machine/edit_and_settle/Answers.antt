@@ -48,13 +48,17 @@ returns-in-Err-settle_one g c = λ began declined.
     began (sym c.judge_edit.ensures.value ∙ ap rule_broken c.in-Ok.is) (omega arith) c.in-Err-settle_one.unsettled c.settle_one.new.steps
     (subst (λ (k : Command). IsUnsettled s (k ∷ []) (c.self.inside.steps + 1) c.in-Err-settle_one.unsettled began c.settle_one.new.steps) c.edit.ensures (c.in-Err-settle_one.ensures.unsettled began few))
 
-keeps : (g : Over) (c : goal.After-self-2-1 g) → broken c.self.inside.system (edit_of (full_of g) c.args.d ∷ []) (c.self.inside.steps + 1) ≡ None
+keeps : (g : Over) (c : goal.After-self-2-1 g)
+    → broken c.self.inside.system (edit_of (full_of g) c.args.d ∷ []) (c.self.inside.steps + 1) ≡ None
 keeps g c = sym c.judge_edit.ensures.value ∙ ap rule_broken c.in-Ok.is
 
-settled : (g : Over) (c : goal.After-self-2-1 g) (began : ℕ) → c.args.steps.now ≤ began + 9 → IsSettled c.self.inside.system (edit_of (full_of g) c.args.d ∷ []) (c.self.inside.steps + 1) c.settle_one.new.forest began c.settle_one.new.steps
+settled : (g : Over) (c : goal.After-self-2-1 g) (began : ℕ) → c.args.steps.now ≤ began + 9
+    → IsSettled c.self.inside.system (edit_of (full_of g) c.args.d ∷ [])
+    (c.self.inside.steps + 1) c.settle_one.new.forest began c.settle_one.new.steps
 settled g c began few = subst (λ (k : Command). IsSettled c.self.inside.system (k ∷ []) (c.self.inside.steps + 1) c.settle_one.new.forest began c.settle_one.new.steps) c.edit.ensures (c.in-Ok-settle_one.ensures.settled began few)
 
-changed : (g : Over) (c : goal.After-self-2-1 g) → c.edit_alone.new.self ≡ after c.self.inside.system (edit_of (full_of g) c.args.d ∷ [])
+changed : (g : Over) (c : goal.After-self-2-1 g)
+    → c.edit_alone.new.self ≡ after c.self.inside.system (edit_of (full_of g) c.args.d ∷ [])
 changed g c =
     let o = only_bot c.self.inside.system.bots (ap (λ (v : Situation). length v.state.bots) c.self.view_is ∙ c.requires.one) in
     c.edit_alone.ensures.value o.0 c.args.d o.1 (c.in-Ok.ensures.named o.0 o.1)

@@ -18,13 +18,16 @@ use Rattle.step_machine.proofs.machine.Machine.edit_at_once.Goals as goal
 abbrev full_of : Over → Bool
 full_of g = not (eqb g.row.FULL 0)
 
-keeps : (g : Over) (c : goal.After-self-1 g) → broken c.self.inside.system (edit_of (full_of g) c.args.d ∷ []) (c.self.inside.steps + 1) ≡ None
+keeps : (g : Over) (c : goal.After-self-1 g)
+    → broken c.self.inside.system (edit_of (full_of g) c.args.d ∷ []) (c.self.inside.steps + 1) ≡ None
 keeps g c = sym c.judge_edit.ensures.value ∙ ap rule_broken c.in-Ok.is
 
-settled : (g : Over) (c : goal.After-self-1 g) → IsSettled c.self.inside.system (edit_of (full_of g) c.args.d ∷ []) (c.self.inside.steps + 1) c.settle_at_once.new.forest c.args.steps.now c.settle_at_once.new.steps
+settled : (g : Over) (c : goal.After-self-1 g) → IsSettled c.self.inside.system (edit_of (full_of g) c.args.d ∷ [])
+    (c.self.inside.steps + 1) c.settle_at_once.new.forest c.args.steps.now c.settle_at_once.new.steps
 settled g c = subst (λ (k : Command). IsSettled c.self.inside.system (k ∷ []) (c.self.inside.steps + 1) c.settle_at_once.new.forest c.args.steps.now c.settle_at_once.new.steps) c.edit.ensures c.in-Some.ensures.settled
 
-changed : (g : Over) (c : goal.After-self-1 g) → c.edit_alone.new.self ≡ after c.self.inside.system (edit_of (full_of g) c.args.d ∷ [])
+changed : (g : Over) (c : goal.After-self-1 g)
+    → c.edit_alone.new.self ≡ after c.self.inside.system (edit_of (full_of g) c.args.d ∷ [])
 changed g c =
     let o = only_bot c.self.inside.system.bots (ap (λ (v : Situation). length v.state.bots) c.self.view_is ∙ c.requires.one) in
     c.edit_alone.ensures.value o.0 c.args.d o.1 (c.in-Ok.ensures.named o.0 o.1)

@@ -12,7 +12,8 @@ use Rattle.step_machine.proofs.Still.{still}
 use Rattle.step_machine.proofs.machine.Machine.move_at_once.Given.{Over}
 use Rattle.step_machine.proofs.machine.Machine.move_at_once.Goals as goal
 
-settled : (g : Over) (c : goal.After-self-1 g) → IsSettled c.self.inside.system (SMove c.args.d ∷ []) (c.self.inside.steps + 1) c.self.inside.forest c.move_at_once.new.steps c.move_at_once.new.steps
+settled : (g : Over) (c : goal.After-self-1 g) → IsSettled c.self.inside.system (SMove c.args.d ∷ [])
+    (c.self.inside.steps + 1) c.self.inside.forest c.move_at_once.new.steps c.move_at_once.new.steps
 settled g c =
     let stands : c.self.inside.spent ≡ false = ap (λ (v : Situation). v.spent) c.self.view_is ∙ c.requires.stands in
     still c.self.inside.system c.args.d (ap (λ (v : Situation). length v.state.bots) c.self.view_is ∙ c.requires.one) c.recall.ensures.whole (c.self.inside.steps + 1) c.self.inside.forest c.move_at_once.new.steps

@@ -26,7 +26,8 @@ returns-in-Some-clause-stepped g c = λ began touched.
     (broken_at_start s (SMove c.args.d ∷ []) c.self.inside.steps c.self.inside.spent c.args.self.now c.self.view_is stands began
     c.in-Some.broken c.move_alone.new.steps (sym c.move_alone.ensures.value ∙ c.in-Some.is) (omega (arith, few, c.move_alone.ensures.touches)) (λ lacks. absurd (omega (arith, one, lacks))))
 
-settled : (g : Over) (c : goal.After-self-1 g) → IsSettled c.self.inside.system (SMove c.args.d ∷ []) (c.self.inside.steps + 1) c.self.inside.forest c.move_alone.new.steps c.move_alone.new.steps
+settled : (g : Over) (c : goal.After-self-1 g) → IsSettled c.self.inside.system (SMove c.args.d ∷ [])
+    (c.self.inside.steps + 1) c.self.inside.forest c.move_alone.new.steps c.move_alone.new.steps
 settled g c =
     let stands : c.self.inside.spent ≡ false = ap (λ (v : Situation). v.spent) c.self.view_is ∙ c.requires.stands in
     still c.self.inside.system c.args.d (ap (λ (v : Situation). length v.state.bots) c.self.view_is ∙ c.requires.one) c.recall.ensures.whole (c.self.inside.steps + 1) c.self.inside.forest c.move_alone.new.steps
