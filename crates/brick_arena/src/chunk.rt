@@ -36,36 +36,36 @@ impl Model for Words {
 }
 
 /// The right to give the chunk at `at` back to `alloc`. It takes no bytes.
-pub(crate) struct Deed<A: Allocator> {
+pub(crate) struct Title<A: Allocator> {
     marker: PhantomData<A>,
     pub(crate) ghost alloc: { A },
     pub(crate) ghost at: { Ptr },
 }
 
-impl<A: Allocator> Model for Deed<A> {
+impl<A: Allocator> Model for Title<A> {
     ghost also_owns = { λ d. A.dealloc_token d.alloc chunk_type d.at };
 }
 
 /// Room for a chunk, of which no place is written yet.
-pub(crate) fn allocate<A: Allocator>(alloc: &A) -> Option<(Words, Deed<A>)>
+pub(crate) fn allocate<A: Allocator>(alloc: &A) -> Option<(Words, Title<A>)>
     ensures { IfSome result (λ r. (r.0.words ≡ no_words) × (r.1.alloc ≡ alloc.now) × (r.1.at ≡ r.0.at)) }
 {
     match alloc.allocate(CHUNK_BYTES, 4) {
         Ok(block) => {
             let at = block as *mut u32;
             let marker = PhantomData;
-            Some((Words { at }, Deed { marker }))
+            Some((Words { at }, Title { marker }))
         }
         Err(_) => None,
     }
 }
 
 /// Gives a chunk's memory back.
-pub(crate) fn free<A: Allocator>(words: Words, deed: Deed<A>, alloc: &A)
-    requires { (deed.alloc ≡ alloc.now) × (deed.at ≡ words.at) }
+pub(crate) fn free<A: Allocator>(words: Words, title: Title<A>, alloc: &A)
+    requires { (title.alloc ≡ alloc.now) × (title.at ≡ words.at) }
 {
     let Words { at } = words;
-    let Deed { marker: _ } = deed;
+    let Title { marker: _ } = title;
     unsafe { alloc.deallocate(at as *mut u8, CHUNK_BYTES, 4) }
 }
 
@@ -118,7 +118,7 @@ impl Words {
 /// A chunk, which gives its memory back at its end.
 pub struct Chunk {
     words: Words,
-    deed: Deed<Global>,
+    title: Title<Global>,
     alloc: Global,
 }
 
@@ -130,7 +130,7 @@ impl Model for Chunk {
 
     ghost view = { λ c. known c.words.words };
 
-    ghost invariant = { λ c. AllFilled c.words.words × (c.deed.alloc ≡ c.alloc) × (c.deed.at ≡ c.words.at) };
+    ghost invariant = { λ c. AllFilled c.words.words × (c.title.alloc ≡ c.alloc) × (c.title.at ≡ c.words.at) };
 }
 
 impl Chunk {
@@ -138,11 +138,11 @@ impl Chunk {
     pub(crate) fn new(alloc: Global) -> Result<Chunk, Memory>
         ensures { IfOk result IsBlank }
     {
-        let Some((mut words, deed)) = allocate(&alloc) else {
+        let Some((mut words, title)) = allocate(&alloc) else {
             return Err(Memory);
         };
         words.set_zeros(0, CHUNK_WORDS / ROW_WORDS);
-        Ok(Chunk { words, deed, alloc })
+        Ok(Chunk { words, title, alloc })
     }
 
     /// The word at a place, where the caller counts the touch.
@@ -203,7 +203,7 @@ impl Chunk {
 
 impl Drop for Chunk {
     fn drop(self) {
-        let Chunk { words, deed, alloc } = self;
-        free(words, deed, &alloc)
+        let Chunk { words, title, alloc } = self;
+        free(words, title, &alloc)
     }
 }
