@@ -24,7 +24,7 @@ use Rattle.step_order.proofs.Lists.{In, in_map, any_in}
 use Rattle.step_order.proofs.Together.{point_is}
 use Rattle.step_order.proofs.Judgements.{all_bots}
 use Rattle.step_groups.specs.Groups.{AreJudged}
-use Rattle.step_groups.specs.Judging.{act, first_fault, judge_bot, judge_each, later_rules}
+use Rattle.step_groups.specs.Judging.{act, judge_bot, judge_each}
 use Rattle.step_groups.proofs.Joined.{bot_in, in_all}
 use Rattle.step_groups.proofs.Mates.{no_filter}
 
@@ -43,14 +43,6 @@ unbroken s all step (x ∷ xs) e a rule (inl f) j =
     subst (λ (y : Act). fault s all y rule ≡ None) (sym f)
     (nothing (λ (c : Coord). record { step = step; bid = x.bot.bid; rule = rule; at = c }) (fault s all x rule) (no_first (map judged rules_of_bots) (judged rule) h (in_map judged rule rules_of_bots j)))
 unbroken s all step (x ∷ xs) e a rule (inr i) j = unbroken s all step xs (none_or (judge_bot s all step x) (judge_each s all step xs) e).1 a rule i j
-
--- so the command of a bot that breaks no later rule stays in space
-pub stays_if : (s : State) (all : List Act) (step : ℕ) (a : Act) → first_fault s all step a later_rules ≡ None
-    → IsTrue (stays_in_space s.matrix.resolution a)
-stays_if s all step a e =
-    let judged = λ (r : Rule). broken_by step r a.bot.bid (fault s all a r) in
-    not_is_false (stays_in_space s.matrix.resolution a) (here_false a (not (stays_in_space s.matrix.resolution a))
-    (nothing (λ (c : Coord). record { step = step; bid = a.bot.bid; rule = OutOfSpace; at = c }) (fault s all a OutOfSpace) (no_first (map judged later_rules) (judged OutOfSpace) e (inr (inr (inr (inl refl)))))))
 
 -- ---- how many members a group has
 

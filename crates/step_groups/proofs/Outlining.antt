@@ -7,7 +7,7 @@ use Rattle.vox_geom.specs.declared.difference.Diff.{Diff}
 use Rattle.vox_geom.specs.Point.{Point, point, plus}
 use Rattle.vox_geom.specs.Region.{Corners, IsOrdered, between, is_between, is_within, just, span}
 use Rattle.vox_geom.proofs.Truths.{first_of_two, or_false, second_of_two}
-use Rattle.nano_spec.specs.declared.commands.Command.TheVariants.{Fill, LMove, SMove, Wait}
+use Rattle.nano_spec.specs.declared.commands.Command.TheVariants.{Fill, LMove, SMove}
 use Rattle.nano_spec.specs.declared.system.Bot.{Bot}
 use Rattle.nano_spec.specs.Act.{Act}
 use Rattle.step_groups.specs.declared.one_pass.Outline.{Outline}
@@ -31,11 +31,6 @@ inside_box k c o t =
     let ey = ends k.low.y k.high.y c.y o.y (second_of_two x y (first_of_two (x && y) z t)) in
     let ez = ends k.low.z k.high.z c.z o.z (second_of_two (x && y) z t) in
     record { from_x = ex.0; from_y = ey.0; from_z = ez.0; to_x = ex.1; to_y = ey.1; to_z = ez.1 }
-
--- the box takes in also what is less
-pub takes_less : (P Q : Coord → Type 0) (old new : Outline) → ((c : Coord) → Q c → P c) → TakesIn P old new
-    → TakesIn Q old new
-takes_less P Q old new f h = record { keeps = h.keeps; takes = λ c q. h.takes c (f c q); was = h.was; beside = λ e c q. h.beside e c (f c q) }
 
 -- ---- what is volatile for one bot lies within the box between where it stands and what it names
 
@@ -76,10 +71,6 @@ ways_within bot d e mid to k l all half whole first second f g c h =
     either (is_within (between p m) (point c)) (is_within (between m q) (point c)) (is_within (span all) (point c))
     (λ t. f c (first (point c) ∙ (ap (λ (w : Point). is_within (between p w) (point c)) half ∙ t)))
     (λ t. g c (second (point c) ∙ ((λ i. is_within (between (half i) (end i)) (point c)) ∙ t))) h
-
-pub wait_within : (bot : Bot) (k : Corners) → ((p : Point) → is_within (span k) p ≡ is_within (just (point bot.pos)) p)
-    → (c : Coord) → IsVolatileFor (act bot Wait) c → IsTrue (is_within (span k) (point c))
-wait_within bot k around c h = around (point c) ∙ (sym (or_false (is_within (just (point bot.pos)) (point c))) ∙ h)
 
 -- ---- one bot more
 

@@ -101,19 +101,10 @@ pub fn deed_of(r: u16, bot: Bot, command: &Command) -> Option<Deed>
             let to = bot.pos.plus(d.diff(), r)?;
             Some(Deed::Splits { to, seeds: *m })
         }
-        Command::FusionP(d) => {
+        Command::FusionP(d) | Command::FusionS(d) => {
             let partner = bot.pos.plus(d.diff(), r)?;
-            Some(Deed::Fuses {
-                partner,
-                primary: true,
-            })
-        }
-        Command::FusionS(d) => {
-            let partner = bot.pos.plus(d.diff(), r)?;
-            Some(Deed::Fuses {
-                partner,
-                primary: false,
-            })
+            let primary = matches!(command, Command::FusionP(_));
+            Some(Deed::Fuses { partner, primary })
         }
         Command::Fill(d) => edit_voxel(r, bot, *d, true),
         Command::Void(d) => edit_voxel(r, bot, *d, false),

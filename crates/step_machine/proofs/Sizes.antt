@@ -96,10 +96,6 @@ edits_of m a = edit_count m true a + edit_count m false a
 abbrev Fits : Act → ℕ → Type 0
 Fits a n = (list_any (λ s. not (n == 2 ^ dimension s)) (group_regions (position a) a.command) ≡ false) × (1 ≤ n)
 
-one_most : (m : Matrix) (s : Span) (n : ℕ) → 8 * size s ≤ 29791 * n
-    → 8 * (0 + count_by (λ c. is_within s (point c) || false) (all_of m)) ≤ 29791 * n
-one_most m s n h = let l = count_one m s in omega arith
-
 none_most : (m : Matrix) (n : ℕ) → 8 * (count_by (λ c. false) (all_of m) + count_by (λ c. false) (all_of m)) ≤ 29791 * n
 none_most m n = let e = count_none (all_of m) in omega (arith, e)
 

@@ -16,7 +16,7 @@ use Rattle.nano_spec.specs.First.{first_value}
 use Rattle.nano_spec.specs.Grounded.{FirstUngrounded}
 use Rattle.nano_spec.specs.Group.{leaders}
 use Rattle.nano_spec.specs.Matrix.{Matrix}
-use Rattle.nano_spec.specs.Next.{Breaks, Goes, Next, Outcome, accepts, leaves_floating, ungrounded_at}
+use Rattle.nano_spec.specs.Next.{Breaks, Goes, Next, accepts, leaves_floating, ungrounded_at}
 use Rattle.nano_spec.specs.Rules.{broken, broken_by, clash, fault, judge_bots, judge_pairs, judge_trace, rules_of_bots}
 use Rattle.nano_spec.specs.State.{IsWellFormed, State, is_high}
 use Rattle.nano_spec.specs.Step.{after, flipped}
@@ -161,14 +161,6 @@ paid_on e f steps p up down = record { above = omega (arith, ints, p.above, up);
 -- a machine's parts and what is seen of them
 abbrev pub seen : State → ℕ → Bool → Situation
 seen s steps spent = record { state = s; steps = steps; spent = spent }
-
-pub next_seen : (s : State) (steps : ℕ) (spent : Bool) (v : Situation) (commands : List Command) (outcome : Outcome)
-    → seen s steps spent ≡ v → Next s commands (steps + 1) outcome → Next v.state commands (v.steps + 1) outcome
-next_seen s steps spent v commands outcome e n = subst (λ (w : Situation). Next w.state commands (w.steps + 1) outcome) e n
-
-pub few_seen : (s : State) (steps : ℕ) (spent : Bool) (v : Situation) (commands : List Command) → seen s steps spent ≡ v
-    → length commands ≤ length v.state.bots → length commands ≤ length s.bots
-few_seen s steps spent v commands e h = subst (λ (w : Situation). length commands ≤ length w.state.bots) (sym e) h
 
 few_steps : (s : State) (steps : ℕ) (spent : Bool) (v : Situation) → seen s steps spent ≡ v → v.steps < 1073741824
     → steps + 1 ≤ 1073741824

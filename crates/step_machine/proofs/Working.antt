@@ -15,7 +15,6 @@ use Rattle.nano_spec.specs.declared.system.Bot.{Bot}
 use Rattle.nano_spec.specs.Act.{Act, acts, stays_in_space}
 use Rattle.nano_spec.specs.Group.{are_together, is_leader, leaders, members}
 use Rattle.nano_spec.specs.Matrix.{Matrix, all_of, differ_at, is_full}
-use Rattle.nano_spec.specs.Model.{volume}
 use Rattle.nano_spec.specs.Rules.{broken, judge_bots, judge_pairs, judge_trace, rules_of_bots}
 use Rattle.nano_spec.specs.State.{IsReady, State}
 use Rattle.nano_spec.specs.Step.{after, is_filled, is_voided, matrix_after}
@@ -32,8 +31,7 @@ use Rattle.step_machine.proofs.Acting.{leader_stays}
 use Rattle.step_machine.proofs.Changed.{cell_of, cells_apart, edits_own, one_way, void_state}
 use Rattle.step_machine.proofs.Regions.{empties, other_edit}
 use Rattle.step_machine.proofs.Sizes.{count_none, no_more}
-use Rattle.step_machine.proofs.Stepping.{bots_rule, first_in, pairs_rule, seen}
-use Rattle.step_machine.specs.Situation.{Situation}
+use Rattle.step_machine.proofs.Stepping.{bots_rule, first_in, pairs_rule}
 
 -- ---- what the groups name is volatile
 
@@ -223,11 +221,3 @@ pub acts_work : (s : State) (commands : List Command) (step n : ℕ) → broken 
 acts_work s commands step n e w = subst (λ o. WorkOfJudged s (acts s.bots commands) o n) e w
 
 -- ---- the step of a machine
-
-pub work_seen : (s : State) (steps : ℕ) (spent : Bool) (v : Situation) (commands : List Command) (n : ℕ)
-    → seen s steps spent ≡ v → WorkOfStep v.state commands (v.steps + 1) n → WorkOfStep s commands (steps + 1) n
-work_seen s steps spent v commands n e w = subst (λ (x : Situation). WorkOfStep x.state commands (x.steps + 1) n) (sym e) w
-
-pub volume_seen : (s : State) (steps : ℕ) (spent : Bool) (v : Situation) (commands : List Command) (m : Matrix)
-    → seen s steps spent ≡ v → m ≡ (after s commands).matrix → volume m.resolution ≡ volume v.state.matrix.resolution
-volume_seen s steps spent v commands m e f = ap (λ (x : Matrix). volume x.resolution) f ∙ ap (λ (x : Situation). volume x.state.matrix.resolution) e

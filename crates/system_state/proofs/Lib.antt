@@ -1,6 +1,5 @@
 pub mod Painted
 pub mod Spans
-pub mod Sizes
 pub mod Single
 pub mod Bots
 pub mod Members
