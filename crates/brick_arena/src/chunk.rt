@@ -142,7 +142,11 @@ impl Chunk {
             return Err(Memory);
         };
         words.set_zeros(0, CHUNK_WORDS / ROW_WORDS);
-        Ok(Chunk { words, title, alloc })
+        Ok(Chunk {
+            words,
+            title,
+            alloc,
+        })
     }
 
     /// The word at a place, where the caller counts the touch.
@@ -203,7 +207,11 @@ impl Chunk {
 
 impl Drop for Chunk {
     fn drop(self) {
-        let Chunk { words, title, alloc } = self;
+        let Chunk {
+            words,
+            title,
+            alloc,
+        } = self;
         free(words, title, &alloc)
     }
 }

@@ -7,8 +7,8 @@ use crate::models::{at, model, put};
 use low_planner::LowFault;
 use model_file::legal;
 use plan_choice::{
-    backwards, build_attached, choose_group_plan, choose_layer_plan, choose_low_plan, choose_swarm_plan,
-    choose_void_plan,
+    backwards, build_attached, choose_group_plan, choose_layer_plan, choose_low_plan,
+    choose_swarm_plan, choose_void_plan,
 };
 use plan_tape::Plan;
 use std::alloc::Global;
